@@ -1,19 +1,18 @@
 -- Closed sets, their rows, and what sources make alone and together.
-use Rattle.std.proofs.Common.{◌≡◌, ℕ, Bool, true, false, ◌||◌, inl, inr, List, [], ◌∷◌, Result, Ok, Err, refl, sym, ap, subst, ◌∙◌}
+use Rattle.std.proofs.Common.{◌≡◌, Bool, ◌||◌, inl, inr, List, [], ◌∷◌, Result, Ok, Err, refl, sym, ap, subst, ◌∙◌}
 use Rattle.std.specs.Prelude.{IsOk}
 use Rattle.std.specs.FinMap.{entries}
 use Rattle.std.specs.FinSet as set
 use Rattle.std.specs.FinSet.{contains-union, contains-intersection, is_subset-contains, contains-is_subset, same_set}
 use Rattle.gtid_text.specs.declared.Gtid.{Gtid}
 use Rattle.gtid_text.specs.Gtids.{gtid_cmp}
-use Rattle.rows.specs.declared.change.Transaction.{Transaction}
 use Rattle.rows.specs.declared.change.RowFault.{RowFault}
 use Rattle.rows.specs.declared.schema.Table.{Table}
-use Rattle.rows.specs.Apply.{Rows, ◌>>=◌, apply}
+use Rattle.rows.specs.Apply.{Rows, apply}
 use Rattle.rows.specs.Carriers.{AreCarriers}
 use Rattle.rows.proofs.Local.{bind_ok}
 use Rattle.rows.proofs.Carriers.{apply_keeps_carriers}
-use Rattle.source_history.specs.World.{World, Entry, apply_all, content, rows_of, entries_in, of_source, AreKeysSound, IsSound, IsClosed}
+use Rattle.source_history.specs.World.{World, Entry, apply_all, rows_of, entries_in, of_source, IsClosed}
 use Rattle.source_history.specs.Join.{join, either, both, JoinLaws}
 use Rattle.source_history.specs.Laws.{ClosedSetsApply, AloneOrTogether, RowsAreCarriers, ClosedUnderUnion, ClosedUnderIntersection, ClosedSetsAreALattice}
 use Rattle.source_history.proofs.Tests.{or_either, or_left, or_right, and_both, both_and, or_swapped, or_grouped, or_itself}
@@ -31,7 +30,7 @@ pub alone_or_together : AloneOrTogether
 alone_or_together world keys = (
   λ alone. let h = all_histories world (record { keys = keys; alone = alone }) in is_ok_of (apply_all world.schema (entries world.contents) world.opening_rows) h.0 h.1,
   λ all s. let end = got (apply_all world.schema (entries world.contents) world.opening_rows) all in
-  let h = alone_from_all world end.0 s keys end.1 in is_ok_of (rows_of world (of_source s)) h.0 h.1,
+      let h = alone_from_all world end.0 s keys end.1 in is_ok_of (rows_of world (of_source s)) h.0 h.1,
 )
 
 -- ---- no key has a second row

@@ -5,14 +5,14 @@ use Rattle.std.specs.List.{filter, AllByRecursion}
 use Rattle.std.specs.FinMap.{entries}
 use Rattle.rows.specs.declared.change.Transaction.{Transaction}
 use Rattle.rows.specs.declared.change.RowFault.{RowFault}
-use Rattle.rows.specs.Apply.{Rows, ◌>>=◌, apply}
+use Rattle.rows.specs.Apply.{Rows, ◌>>=◌}
 use Rattle.gtid_text.specs.declared.Gtid.{Gtid}
 use Rattle.source_history.specs.World.{World, Entry, apply_all, content, is_opened, rows_of, AreKeysSound, IsSound, IsClosed}
 use Rattle.source_history.specs.Commits.{with_one, with_each, apply_known, rows_after, IsCommitOrder}
 use Rattle.source_history.specs.Laws.{CommitOrderIsFree, CommitOrdersAgree, LateCommit, EarlyCommit, OpeningIsClosed}
 use Rattle.source_history.proofs.Tests.{not_both}
 use Rattle.source_history.proofs.Gtids.{same_gtid_self, same_gtid_other}
-use Rattle.source_history.proofs.Placing.{AddsOne, all_map, same_chosen}
+use Rattle.source_history.proofs.Placing.{AddsOne, all_map}
 use Rattle.source_history.proofs.Entries.{found}
 use Rattle.source_history.proofs.Merging.{late_commit, early_commit}
 

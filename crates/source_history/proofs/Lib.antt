@@ -8,3 +8,4 @@ pub mod Merging
 pub mod Writing
 pub mod Committing
 pub mod Closing
+pub mod Small

@@ -11,11 +11,10 @@ use Rattle.rows.specs.declared.schema.Table.{Table}
 use Rattle.rows.specs.Apply.{Rows, apply}
 use Rattle.rows.specs.WriteSet.{touches, left_by}
 use Rattle.rows.proofs.Local.{bind_ok, after_apply, left-touches}
-use Rattle.source_history.specs.World.{World, Entry, content, entries_in, apply_all, rows_of, AreKeysSound}
-use Rattle.source_history.specs.LastWriter.{later_of, latest, left_or_opening, last_writer}
+use Rattle.source_history.specs.World.{World, Entry, content, entries_in, apply_all, AreKeysSound}
+use Rattle.source_history.specs.LastWriter.{later_of, latest, left_or_opening}
 use Rattle.source_history.specs.Laws.{LastWriterStands}
 use Rattle.gtid_text.specs.Gtids.{gtid_cmp}
-use Rattle.gtid_text.specs.declared.Gtid.{Gtid}
 use Rattle.source_history.proofs.Gtids.{number_less}
 use Rattle.source_history.proofs.Commuting.{not_touched}
 use Rattle.source_history.proofs.Placing.{kept, all_map, all_map_two}

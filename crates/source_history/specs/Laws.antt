@@ -1,5 +1,5 @@
 -- The laws of what several sources committed.
-use Rattle.std.specs.Prelude.{◌≡◌, ℕ, Bool, true, false, List, Option, Some, Result, Ok, Err, IsOk, ◌↔◌}
+use Rattle.std.specs.Prelude.{◌≡◌, ℕ, Bool, false, List, Some, Result, Ok, Err, IsOk, ◌↔◌}
 use Rattle.std.specs.FinMap.{get, entries}
 use Rattle.std.specs.FinSet.{FinSet, union, intersection, contains}
 use Rattle.gtid_text.specs.declared.Gtid.{Gtid}

@@ -1,6 +1,7 @@
 //! The laws of what several sources committed. Each function's contract is a law, and its body is
 //! empty.
 ghost use Rattle.source_history.specs.Join.{JoinLaws};
+ghost use Rattle.source_history.specs.SmallWorld.{SoundWorldsExist};
 ghost use Rattle.source_history.specs.Laws.{UntouchedStays, TouchedDecides, ApartCommute, CommitOrderIsFree, CommitOrdersAgree, LateCommit, EarlyCommit, OpeningIsClosed, ClosedSetsApply, AloneOrTogether, LastWriterStands, RowsAreCarriers, ClosedUnderUnion, ClosedUnderIntersection, ClosedSetsAreALattice};
 
 /// A transaction leaves what stands under the keys that it does not touch.
@@ -88,4 +89,10 @@ pub fn closed_sets_are_a_lattice()
 /// idempotent.
 pub fn join_laws()
     ensures { JoinLaws }
+{}
+
+/// There is a sound world with two sources, with a closed set, a set that is not closed, and two
+/// commit orders of all.
+pub fn sound_worlds_exist()
+    ensures { SoundWorldsExist }
 {}

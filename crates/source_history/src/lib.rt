@@ -8,6 +8,6 @@ mod laws;
 pub use laws::{
     alone_or_together, apart_commute, closed_sets_apply, closed_sets_are_a_lattice,
     closed_under_intersection, closed_under_union, commit_order_is_free, commit_orders_agree,
-    early_commit, join_laws, last_writer_stands, late_commit, opening_is_closed,
-    rows_are_carriers, touched_decides, untouched_stays,
+    early_commit, join_laws, last_writer_stands, late_commit, opening_is_closed, rows_are_carriers,
+    sound_worlds_exist, touched_decides, untouched_stays,
 };
