@@ -22,13 +22,3 @@ first_word (b ∷ bs) = if b == 32 then [] else b ∷ first_word bs
 abbrev pub others : List ℕ → Option (List ℕ)
 others [] = None
 others (b ∷ bs) = if b == 32 then Some bs else others bs
-
--- a lower-case letter, a digit or an underscore
-abbrev pub is_name_byte : ℕ → Bool
-is_name_byte b = is_ascii_digit b || (b == 95) || (nat_le 97 b && nat_le b 122)
-
--- 1 to 64 of these, the first no digit
-abbrev pub is_name : List ℕ → Bool
-is_name word =
-    if (length word == 0) || nat_lt 64 (length word) || is_ascii_digit (slice_index word 0) then false
-    else list_all is_name_byte word

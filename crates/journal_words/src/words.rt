@@ -1,8 +1,8 @@
 //! Words and counts.
-ghost use Rattle.std.specs.Prelude.{◌≡◌, ◌&&◌, ◌||◌, ◌≤◌, option_map};
+ghost use Rattle.std.specs.Prelude.{◌≡◌, option_map};
 ghost use Rattle.std.specs.List.{list_all};
 ghost use Rattle.std.specs.Char.{is_ascii_digit};
-ghost use Rattle.journal_words.specs.Words.{is_count, count_of, first_word, others, is_name_byte, is_name};
+ghost use Rattle.journal_words.specs.Words.{is_count, count_of, first_word, others};
 
 fn all_digits(word: &[u8]) -> bool
     ensures { result ≡ list_all is_ascii_digit word.now }
@@ -45,27 +45,4 @@ pub fn cut(line: &[u8]) -> (&[u8], Option<&[u8]>)
         }
     }
     (line, None)
-}
-
-fn is_name_byte(b: u8) -> bool
-    ensures { result ≡ is_name_byte b }
-{
-    b.is_ascii_digit() || b == b'_' || (b'a' <= b && b <= b'z')
-}
-
-fn all_name_bytes(word: &[u8]) -> bool
-    ensures { result ≡ list_all is_name_byte word.now }
-{
-    word.iter().all(|b| is_name_byte(*b))
-}
-
-/// Whether the word is a name: 1 to 64 lower-case letters, digits and `_`, the first no digit.
-pub fn is_name(word: &[u8]) -> bool
-    ensures { result ≡ is_name word.now }
-{
-    if word.is_empty() || word.len() > 64 || word[0].is_ascii_digit() {
-        false
-    } else {
-        all_name_bytes(word)
-    }
 }

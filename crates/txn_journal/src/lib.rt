@@ -13,3 +13,6 @@ mod reader;
 
 pub use fault::{Cause, JournalFault};
 pub use reader::{Reader, decode};
+
+#[cfg(test)]
+mod tests;

@@ -31,7 +31,7 @@ pub enum Keyword {
 }
 
 /// The keyword that a word is.
-pub fn keyword(word: &[u8]) -> Option<Keyword> {
+pub fn keyword_at(word: &[u8]) -> Option<Keyword> {
     match word {
         b"journal" => Some(Keyword::Journal),
         b"previous" => Some(Keyword::Previous),
