@@ -1,12 +1,12 @@
 -- One entry more, and entries taken away: each GTID stays new.
-use Rattle.std.proofs.Common.{◌≡◌, ℕ, ◌+◌, Bool, true, false, ◌||◌, ◌&&◌, List, [], ◌∷◌, ◌++◌, map, take, drop, refl, sym, ap, subst, ◌∙◌, zero, suc}
+use Rattle.std.proofs.Common.{◌≡◌, ℕ, Bool, true, false, ◌||◌, ◌&&◌, List, [], ◌∷◌, ◌++◌, map, take, drop, refl, sym, ap, subst, ◌∙◌, zero, suc}
 use Rattle.std.specs.Ordering.{eq_by_cmp}
 use Rattle.std.specs.List.{list_all, list_any}
 use Rattle.std.specs.FinSet as set
 use Rattle.gtid_text.specs.declared.Gtid.{Gtid}
 use Rattle.gtid_text.specs.Gtids.{gtid_cmp, same_gtid}
 use Rattle.gtid_set.specs.Sets.{Gtids}
-use Rattle.gtid_set.proofs.SetLemmas.{set_push, union_empty, union_insert, same_members, gtid_total, gtid_tied}
+use Rattle.gtid_set.proofs.SetLemmas.{set_push, union_empty, same_members, gtid_total, gtid_tied}
 use Rattle.journal.specs.declared.Entry.{Entry}
 use Rattle.journal.specs.Writing.{is_writable}
 use Rattle.journal.specs.Journals.{gtids_of, AreNew, IsJournal}
