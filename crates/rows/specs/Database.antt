@@ -1,17 +1,12 @@
 -- A schema, and the rows of its tables.
-use Rattle.std.specs.Prelude.{◌≡◌, ℕ, List, [], ◌∷◌, Option, Some, None, refl}
-use Rattle.std.specs.FinMap.{get}
+use Rattle.std.specs.Prelude.{ℕ, List, [], ◌∷◌, refl}
 use Rattle.std.specs.Coded.{Coded, code_by, coded×, coded_ℕ, coded_list}
 use Rattle.rows.specs.declared.schema.Table.{Table}
 use Rattle.rows.specs.declared.change.Change.TheVariants.{Insert}
-use Rattle.rows.specs.declared.change.Key.{Key}
 use Rattle.rows.specs.declared.change.Transaction.{Transaction}
 use Rattle.rows.specs.declared.value.Value.{Value}
 use Rattle.rows.specs.Apply.{Rows}
 use Rattle.rows.specs.Coding.{rows_code}
-use Rattle.rows.specs.Keys.{table_named}
-use Rattle.rows.specs.Carriers.{AreCarriers}
-use Rattle.rows.specs.Fits.{Fits}
 
 pub record Database : Type 0 where
   pub schema : List Table
