@@ -55,7 +55,8 @@ fn are_values_writable(values: &[Value]) -> bool
     values.iter().all(|value| is_value_writable(value))
 }
 
-fn is_image_writable(image: &Row) -> bool
+/// Whether an image can be written: 1 to 64 values of at most 65,535 bytes (our own limits).
+pub fn is_image_writable(image: &Row) -> bool
     ensures { result ≡ is_image_writable image.now }
 {
     let values = image.values();

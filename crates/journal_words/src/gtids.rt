@@ -20,10 +20,11 @@ fn as_source(alloc: Global, word: &[u8], source: SourceId) -> Result<Option<Sour
 
 /// The GTID, where its one spelling is the word.
 fn as_gtid(alloc: Global, word: &[u8], gtid: Gtid) -> Result<Option<Gtid>, AllocError> {
+    let Gtid { source, number } = gtid;
     let mut text = String::new(alloc);
-    write_gtid(&mut text, gtid)?;
+    write_gtid(&mut text, Gtid { source, number })?;
     if text.as_bytes() == word {
-        Ok(Some(gtid))
+        Ok(Some(Gtid { source, number }))
     } else {
         Ok(None)
     }

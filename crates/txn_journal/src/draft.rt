@@ -1,5 +1,6 @@
 //! A journal as far as its lines have come.
 ghost use Rattle.std.specs.Prelude.{◌≡◌};
+ghost use Rattle.txn_journal.specs.declared.fault.Cause.{Cause};
 
 use crate::fault::{Cause, LineFault};
 use crate::images::{image, table_at, two_images};
@@ -39,13 +40,6 @@ pub struct Draft {
 /// What a line does not say.
 fn wrong<T>(cause: Cause) -> Result<T, LineFault> {
     Err(LineFault::Wrong(cause))
-}
-
-fn nothing_after(rest: Option<&[u8]>) -> Result<(), LineFault> {
-    match rest {
-        None => Ok(()),
-        Some(_) => wrong(Cause::Body),
-    }
 }
 
 /// The version that a header names, where it is known.
@@ -193,9 +187,14 @@ impl Draft {
     }
 
     fn open(&mut self, rest: Option<&[u8]>) -> Result<(), LineFault> {
-        self.version = version_in(self.due, rest)?;
-        self.place = Place::Previous;
-        Ok(())
+        match version_in(self.due, rest) {
+            Ok(version) => {
+                self.version = version;
+                self.place = Place::Previous;
+                Ok(())
+            }
+            Err(fault) => Err(fault),
+        }
     }
 
     fn follow(&mut self, alloc: Global, rest: Option<&[u8]>) -> Result<(), LineFault> {
@@ -241,7 +240,9 @@ impl Draft {
     }
 
     fn end(&mut self, alloc: Global, rest: Option<&[u8]>) -> Result<(), LineFault> {
-        nothing_after(rest)?;
+        if rest.is_some() {
+            return wrong(Cause::Body);
+        }
         let changes = mem::replace(&mut self.changes, Vec::new(alloc));
         let entry = Entry {
             gtid: self.gtid,
@@ -257,7 +258,9 @@ impl Draft {
     }
 
     fn close(&mut self, rest: Option<&[u8]>) -> Result<(), LineFault> {
-        nothing_after(rest)?;
+        if rest.is_some() {
+            return wrong(Cause::Body);
+        }
         self.place = Place::Ended;
         Ok(())
     }

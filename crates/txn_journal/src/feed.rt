@@ -34,16 +34,17 @@ impl<T> Feed<T> {
         }
     }
 
-    /// The error that the reading stopped at.
-    pub fn stopped(&self) -> Option<JournalFault> {
-        self.stopped
+    /// The error that the reading stopped at, if it did.
+    pub fn answer(&self) -> Result<(), JournalFault> {
+        match self.stopped {
+            None => Ok(()),
+            Some(fault) => Err(fault),
+        }
     }
 
     /// What is wrong with the text as a whole.
     pub fn end(&self, is_ended: bool) -> Result<(), JournalFault> {
-        if let Some(fault) = self.stopped {
-            return Err(fault);
-        }
+        self.answer()?;
         let line = self.lines.saturating_add(1);
         if !is_ended {
             return Err(JournalFault::Truncated { line });
@@ -61,16 +62,11 @@ impl<T> Feed<T> {
 impl<T: TakeLine> Feed<T> {
     /// Takes the next piece. After an error every later call answers that error.
     pub fn feed(&mut self, alloc: Global, piece: &[u8]) -> Result<(), JournalFault> {
-        if let Some(fault) = self.stopped {
-            return Err(fault);
+        self.answer()?;
+        if let Err(fault) = self.take_piece(alloc, piece) {
+            self.stopped = Some(fault);
         }
-        match self.take_piece(alloc, piece) {
-            Ok(()) => Ok(()),
-            Err(fault) => {
-                self.stopped = Some(fault);
-                Err(fault)
-            }
-        }
+        self.answer()
     }
 
     fn take_piece(&mut self, alloc: Global, piece: &[u8]) -> Result<(), JournalFault> {

@@ -1,5 +1,5 @@
 //! Names, each allocated once.
-ghost use Rattle.std.specs.Prelude.{◌≡◌, ◌<◌, ◌≤◌, IfOk, IfSome, OnOk, length};
+ghost use Rattle.std.specs.Prelude.{◌≡◌, ◌<◌, ◌≤◌, IfOk, IfErr, length};
 ghost use Rattle.txn_journal.specs.Words.{name_of};
 
 use rows::{Name, NameFault};

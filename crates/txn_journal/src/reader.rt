@@ -46,9 +46,7 @@ impl Reader {
 
     /// The whole entries so far that were not taken, in order.
     pub fn take_entries(&mut self, alloc: Global) -> Result<Vec<Entry>, JournalFault> {
-        if let Some(fault) = self.feed.stopped() {
-            return Err(fault);
-        }
+        self.feed.answer()?;
         Ok(self.feed.made.draft.take_entries(alloc))
     }
 
