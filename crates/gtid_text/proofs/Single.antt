@@ -1,10 +1,9 @@
 -- A text of one source, and a text of one GTID: what is spelled is read, what is read is spelled, and where it is refused.
-use Rattle.std.proofs.Common.{◌≡◌, ℕ, ◌+◌, ◌<◌, Bool, true, false, eqb, List, [], ◌∷◌, ◌++◌, length, take, Option, Some, None, Result, Ok, Err, refl, sym, ap, subst, ◌∙◌, append_assoc, arith, inl, inr}
+use Rattle.std.proofs.Common.{◌≡◌, ℕ, ◌<◌, Bool, false, eqb, List, [], ◌∷◌, ◌++◌, length, Some, Ok, Err, refl, sym, ap, subst, ◌∙◌, append_assoc, arith, inl, inr}
 use Rattle.std.specs.Prelude.{codes}
-use Rattle.std.specs.List.{list_all}
 use Rattle.std.specs.Char.{is_ascii_digit}
 use Rattle.std.proofs.lemmas.List.{append-nil}
-use Rattle.gtid_text.specs.Scan.{is_blank, is_uuid_byte, run, past, ◌>>=◌, refuse, source_of, source_at, number_at, colon_at, end_at}
+use Rattle.gtid_text.specs.Scan.{is_blank, is_uuid_byte, run, past, ◌>>=◌, source_of, source_at, number_at, colon_at, end_at}
 use Rattle.gtid_text.specs.Reading.{source_in, gtid_in}
 use Rattle.gtid_text.specs.Grammar.{Number, number_text, IsGap, IsNumber, IsUuid, SpellsSource, IsSourceText, SpellsGtid, IsGtidText}
 use Rattle.gtid_text.specs.Canonical.{source_text}
@@ -16,8 +15,8 @@ use Rattle.gtid_text.specs.declared.scan.Kind.TheVariants as kinds
 use Rattle.gtid_text.proofs.Tokens.{run_passes}
 use Rattle.gtid_text.proofs.Turns.{bind_ok, ok_is, run_past, found_source_ok}
 use Rattle.gtid_text.proofs.Spelled.{starts, starts_gap, starts_blank, past_cut, past_front, past_gap, run_front, number_reads, source_reads, uuid_some}
-use Rattle.gtid_text.proofs.Found.{past_starts, gap_of, gap_alone, split, FoundNumber, number_found, colon_is}
-use Rattle.gtid_text.proofs.Stuck.{bind_err, NumberErr, number_err, found_source_err, colon_err, colon_none, same_starts, starts_behind, past_same, same_some, one_is}
+use Rattle.gtid_text.proofs.Found.{past_starts, gap_of, gap_alone, split, number_found, colon_is}
+use Rattle.gtid_text.proofs.Stuck.{bind_err, number_err, found_source_err, colon_err, colon_none, same_starts, starts_behind, past_same, same_some, one_is}
 use Rattle.gtid_text.proofs.RoundTrip.{source_bytes, source_again}
 
 -- ---- what is spelled is read
@@ -337,13 +336,15 @@ begun text x rest h k =
     record {
       front = front;
       text_is = f.text ∙ ap (λ (z : List ℕ). f.gap ++ (f.uuid ++ z)) (split x.1 ∙ ap (λ (z : List ℕ). g ++ z) (colon_is (past is_blank x.1) rest k)) ∙ sym (regroup rest);
-      source = λ more.
-          (g ++ 58 ∷ more,
-            ap (λ (t : List ℕ). source_at (past is_blank t)) (regroup more) ∙ uuid_reads f.gap f.uuid (g ++ 58 ∷ more) x.0 f.blank f.is (starts_gap is_uuid_byte g (58 ∷ more) refl refl refl refl (gap_of x.1) refl),
-            colon_reads g more (gap_of x.1));
-      spelled = λ more n after value is says blank.
-          (record { source = x.0; number = value },
-            record { gap = f.gap; uuid = f.uuid; behind = g; number = n; after = after; text_is = regroup more ∙ ap (λ (z : List ℕ). f.gap ++ (f.uuid ++ (g ++ 58 ∷ z))) is; gaps = (f.blank, gap_of x.1, blank); is_uuid = f.is; is_number = says });
+      source = λ more. (
+        g ++ 58 ∷ more,
+        ap (λ (t : List ℕ). source_at (past is_blank t)) (regroup more) ∙ uuid_reads f.gap f.uuid (g ++ 58 ∷ more) x.0 f.blank f.is (starts_gap is_uuid_byte g (58 ∷ more) refl refl refl refl (gap_of x.1) refl),
+        colon_reads g more (gap_of x.1),
+      );
+      spelled = λ more n after value is says blank. (
+        record { source = x.0; number = value },
+        record { gap = f.gap; uuid = f.uuid; behind = g; number = n; after = after; text_is = regroup more ∙ ap (λ (z : List ℕ). f.gap ++ (f.uuid ++ (g ++ 58 ∷ z))) is; gaps = (f.blank, gap_of x.1, blank); is_uuid = f.is; is_number = says },
+      );
     }
 
 stuck_number : (text : List ℕ) (id : SourceId) (rest : List ℕ) (r : Refusal) → Begun text id rest → number_at (past is_blank rest) ≡ Err r → IsStuck IsGtidText text r

@@ -17,7 +17,7 @@ use Rattle.gtid_text.proofs.Tokens.{run_passes}
 use Rattle.gtid_text.proofs.Turns.{chosen, run_past, number_ok, found_source_ok, some_is, left_of, left_of-end}
 use Rattle.gtid_text.specs.Canonical.{source_text}
 use Rattle.gtid_text.proofs.RoundTrip.{source_bytes, source_again}
-use Rattle.gtid_text.proofs.Spelled.{both, run_front, starts, starts_gap, starts_blank, past_cut, past_front, number_reads, source_reads, interval_reads_at, NoDash, is_dash, is_comma, past_gap, ends_last, turn_end, uuid_some, uuid_no_comma, reads_intervals, named_reads}
+use Rattle.gtid_text.proofs.Spelled.{both, run_front, starts, starts_gap, starts_blank, past_cut, past_front, number_reads, source_reads, interval_reads_at, NoDash, is_dash, is_comma, ends_last, turn_end, uuid_some, uuid_no_comma, reads_intervals, named_reads}
 use Rattle.gtid_text.proofs.Found.{past_starts, gap_of, split, number_found, interval_found}
 
 abbrev refused : {A : Type 0} → Refusal → Result A Refusal
@@ -351,10 +351,13 @@ refusing_source rest r some c e =
       text = split rest;
       left = refl;
       met = f.0;
-      on = (zero ++ 58 ∷ codes "1", span id 1 1 ∷ [],
+      on = (
+        zero ++ 58 ∷ codes "1",
+        span id 1 1 ∷ [],
         ap (left_of None) (ap (λ (z : List ℕ). g ++ (zero ++ z)) (sym (append-nil (58 ∷ codes "1"))) ∙ sym (append-nil (named_text n)))
-        ∙ named_reads n (span id 1 1 ∷ []) [] [] named (ends_last [] refl)
-        ∙ ap (with_front (span id 1 1 ∷ [])) (left_of-end None [] (turn_end [] refl)));
+            ∙ named_reads n (span id 1 1 ∷ []) [] [] named (ends_last [] refl)
+            ∙ ap (with_front (span id 1 1 ∷ [])) (left_of-end None [] (turn_end [] refl)),
+      );
       due = (id, ap source_of (run_front is_uuid_byte zero (58 ∷ codes "1") bytes refl) ∙ names);
       stuck = λ more same.
           let bad : Refusal = record { kind = kinds.BadUuid; left = length more } in

@@ -1,5 +1,5 @@
 -- Where a text is refused: at the first token at which no continuation is one of the texts that are read.
-use Rattle.std.specs.Prelude.{◌≡◌, ◌⊎◌, ℕ, ◌<◌, Bool, false, List, [], ◌∷◌, ◌++◌, length, take, Option, Some, None}
+use Rattle.std.specs.Prelude.{◌≡◌, ◌⊎◌, ℕ, ◌<◌, Bool, false, List, [], ◌∷◌, ◌++◌, length, take, Some, None}
 use Rattle.std.specs.Char.{is_ascii_digit}
 use Rattle.gtid_text.specs.Scan.{is_uuid_byte, run, source_of, number_of}
 use Rattle.gtid_text.specs.Reading.{fault_in}
