@@ -1,2 +1,3 @@
 pub mod Cuts
-pub mod NameLemmas
+pub mod Seen
+pub mod LineCuts

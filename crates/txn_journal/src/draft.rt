@@ -1,5 +1,9 @@
 //! A journal as far as its lines have come.
-ghost use Rattle.std.specs.Prelude.{◌≡◌};
+ghost use Rattle.std.specs.Prelude.{◌≡◌, true};
+ghost use Rattle.journal.specs.Writing.{is_number};
+ghost use Rattle.txn_journal.specs.Kept.{IsSeen, IsOpenNew, AreWritable};
+ghost use Rattle.txn_journal.specs.Due.{is_due};
+ghost use Rattle.txn_journal.specs.declared.lines.Place.TheVariants.{Within};
 ghost use Rattle.txn_journal.specs.declared.fault.Cause.{Cause};
 
 use crate::fault::{Cause, LineFault};
@@ -8,7 +12,7 @@ use crate::lines::{Keyword, Place, Version, keyword_at};
 use crate::names::Names;
 use gtid_set::GtidSet;
 use gtid_text::{Gtid, SourceId};
-use journal::{Entry, Journal, is_change_writable};
+use journal::{Entry, GREATEST, Journal, is_change_writable};
 use journal_words::{cut, gtid_word, is_count, set_word};
 use rows::{Change, Changes, Name, Row, Schema, Table, Transaction, Value};
 use std::alloc::{AllocError, Global};
@@ -35,6 +39,9 @@ pub struct Draft {
     /// The entry that is open.
     gtid: Gtid,
     changes: Vec<Change>,
+    ghost seen_all: { IsSeen journal seen },
+    ghost open_new: { IsOpenNew place seen count gtid },
+    ghost writable: { AreWritable changes.items },
 }
 
 /// What a line does not say.
@@ -96,6 +103,14 @@ fn fits(schema: Option<&Schema>, change: &Change) -> bool {
     }
 }
 
+/// Whether a transaction may have this number.
+#[tactic(auto, unfolding(gtid_set::specs::Sets::greatest))]
+fn is_number(number: u64) -> bool
+    ensures { result ≡ is_number number }
+{
+    1 <= number && number <= GREATEST
+}
+
 impl Draft {
     /// Before the first line.
     pub fn start(alloc: Global, due: Option<Version>) -> Draft {
@@ -154,7 +169,9 @@ impl Draft {
         names: &mut Names,
         keyword: Keyword,
         rest: Option<&[u8]>,
-    ) -> Result<(), LineFault> {
+    ) -> Result<(), LineFault>
+        requires { is_due self.old.place keyword ≡ true }
+    {
         match keyword {
             Keyword::Journal => self.open(rest),
             Keyword::Previous => self.follow(alloc, rest),
@@ -217,6 +234,9 @@ impl Draft {
         let Some(gtid) = gtid_word(alloc, word)? else {
             return wrong(Cause::Body);
         };
+        if !is_number(gtid.number) {
+            return wrong(Cause::Body);
+        }
         if self.count >= MAX_ENTRIES {
             return wrong(Cause::Limit);
         }
@@ -239,10 +259,13 @@ impl Draft {
         Ok(())
     }
 
-    fn end(&mut self, alloc: Global, rest: Option<&[u8]>) -> Result<(), LineFault> {
+    fn end(&mut self, alloc: Global, rest: Option<&[u8]>) -> Result<(), LineFault>
+        requires { self.old.place ≡ Within }
+    {
         if rest.is_some() {
             return wrong(Cause::Body);
         }
+        self.place = Place::Between;
         let changes = mem::replace(&mut self.changes, Vec::new(alloc));
         let entry = Entry {
             gtid: self.gtid,
@@ -253,7 +276,6 @@ impl Draft {
         self.seen.add(self.gtid)?;
         self.journal.push(entry)?;
         self.count += 1;
-        self.place = Place::Between;
         Ok(())
     }
 

@@ -1,9 +1,25 @@
 //! Lines out of pieces.
-ghost use Rattle.std.specs.Prelude.{◌≡◌};
+ghost use Rattle.std.specs.Prelude.{◌≡◌, IfSome, IfNone};
+ghost use Rattle.txn_journal.specs.Words.{IsOneLine, BeginsWithLine};
 
 use crate::fault::{Cause, JournalFault, LineFault};
 use memchr::memchr;
 use std::alloc::Global;
+
+/// The first line of a text, and what follows its line feed.
+fn cut_line(text: &[u8]) -> Option<(&[u8], &[u8])>
+    ensures found { IfSome result (λ r. BeginsWithLine text.now r.0.now r.1.now) }
+    ensures none { IfNone result (IsOneLine text.now) }
+{
+    let Some(at) = memchr(b'\n', text) else {
+        return None;
+    };
+    let (line, rest) = text.split_at(at);
+    match rest {
+        [_, after @ ..] => Some((line, after)),
+        [] => None,
+    }
+}
 
 /// What the lines of a text make, one after another.
 pub trait TakeLine {
@@ -72,10 +88,10 @@ impl<T: TakeLine> Feed<T> {
     fn take_piece(&mut self, alloc: Global, piece: &[u8]) -> Result<(), JournalFault> {
         let mut left = piece;
         'lines: loop {
-            match memchr(b'\n', left) {
-                Some(at) => {
-                    self.take_line(alloc, &left[..at])?;
-                    left = &left[at + 1..];
+            match cut_line(left) {
+                Some((line, after)) => {
+                    self.take_line(alloc, line)?;
+                    left = after;
                 }
                 None => {
                     self.rest.extend_from_slice(left)?;

@@ -46,8 +46,12 @@ pub fn keyword_at(word: &[u8]) -> Option<Keyword> {
 }
 
 impl Place {
+    ghost use Rattle.txn_journal.specs.Due.{is_due};
+
     /// Whether a line of this keyword may stand here.
-    pub fn takes(self, keyword: Keyword) -> bool {
+    pub fn takes(self, keyword: Keyword) -> bool
+        ensures { result ≡ is_due self keyword }
+    {
         match self {
             Place::Header => matches!(keyword, Keyword::Journal),
             Place::Previous => matches!(keyword, Keyword::Previous),
