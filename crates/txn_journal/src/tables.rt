@@ -1,5 +1,5 @@
 //! Tables as words.
-ghost use Rattle.std.specs.Prelude.{◌≡◌, ◌≤◌, option_map};
+ghost use Rattle.std.specs.Prelude.{◌≡◌, ◌≤◌, option_map, IfOk};
 ghost use Rattle.txn_journal.specs.Words.{before, behind};
 
 use crate::fault::{Cause, LineFault};
@@ -123,7 +123,9 @@ pub fn table_words<'a>(
 }
 
 /// The columns that a text names, where each is below the count.
-fn columns_below(alloc: Global, limit: u64, text: &[u8]) -> Result<Columns, LineFault> {
+fn columns_below(alloc: Global, limit: u64, text: &[u8]) -> Result<Columns, LineFault>
+    requires { limit ≤ 64 }
+{
     let mut columns = Vec::new(alloc);
     for word in parts(alloc, b',', text)? {
         match count(word) {
@@ -136,7 +138,9 @@ fn columns_below(alloc: Global, limit: u64, text: &[u8]) -> Result<Columns, Line
 
 impl TableWords<'_> {
     /// How many columns the table has, where that is within the limits.
-    pub fn columns(&self) -> Result<u64, LineFault> {
+    pub fn columns(&self) -> Result<u64, LineFault>
+        ensures { IfOk result (λ columns. columns ≤ 64) }
+    {
         if self.uniques.len() > MAX_UNIQUES {
             return Err(LineFault::Wrong(Cause::Limit));
         }
