@@ -1,9 +1,12 @@
 -- What a transaction that fits keeps to.
-use Rattle.std.proofs.Common.{arith, ◌≡◌, ℕ, ◌+◌, ◌≤◌, ◌<◌, nat_le, Bool, true, false, cond, List, [], ◌∷◌, length, Option, Some, None}
+use Rattle.std.proofs.Common.{arith, ◌≡◌, ℕ, ◌+◌, ◌≤◌, ◌<◌, nat_le, Bool, true, false, cond, List, [], ◌∷◌, length, Option, Some, None, ap}
 use Rattle.std.proofs.lemmas.Bool.Decides.{nat_tests}
 use Rattle.rows.specs.Keys.{table_named}
 use Rattle.rows.specs.Fits.{rank, first_cause, table_of, misfit_in, count_misfit, change_misfit, or_later, misfit_from, misfit}
+use Rattle.rows.specs.Database.{opening}
+use Rattle.rows.specs.declared.value.Value.{Value}
 use Rattle.rows.specs.declared.change.Change.{Change}
+use Rattle.rows.specs.declared.change.Change.TheVariants.{Insert}
 use Rattle.rows.specs.declared.change.Misfit.{Misfit}
 use Rattle.rows.specs.declared.change.Misfit.TheVariants.{TooMany}
 use Rattle.rows.specs.declared.change.NotInSchema.{NotInSchema}
@@ -39,3 +42,13 @@ few_from schema n (change ∷ changes) e h =
 -- a transaction that fits has at most 65536 changes
 pub few_changes : (schema : List Table) (txn : Transaction) → misfit schema txn ≡ None → length txn.changes ≤ 65536
 few_changes schema txn e = omega (arith, few_from schema 0 txn.changes e (omega arith))
+
+-- ---- the insert of one row
+
+first_alone : (a : Option Misfit) → first_cause a None ≡ a
+first_alone None = λ _. None
+first_alone (Some a) = λ _. Some a
+
+-- an opening row is refused for its own sake alone
+pub misfit-opening : (schema : List Table) (table : List ℕ) (row : List Value) → misfit schema (opening table row) ≡ or_later (misfit_in (table_named table schema) (Insert table row)) 0 None
+misfit-opening schema table row = ap (λ m. or_later m 0 None) (first_alone (misfit_in (table_named table schema) (Insert table row)))
