@@ -1,5 +1,5 @@
 -- Rows in order.
-use Rattle.std.specs.Prelude.{ℕ, ◌==◌, if◌then◌else◌, List, [], ◌∷◌}
+use Rattle.std.specs.Prelude.{◌==◌, if◌then◌else◌, List, [], ◌∷◌}
 use Rattle.std.specs.FinMap.{entries}
 use Rattle.rows.specs.declared.value.Value.{Value}
 use Rattle.rows.specs.declared.change.Key.{Key}

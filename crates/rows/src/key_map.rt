@@ -188,6 +188,7 @@ impl KeyMap {
     fn delete_row(&mut self, keys: &[Key], row: &Row, change: u32) -> Result<(), RowFault>
         ensures ok { OnOk result (deleted change keys.now row.now self.old ≡ Ok self.new) }
         ensures refused { IfErr result (λ fault. deleted change keys.now row.now self.old ≡ Err fault) }
+        ensures err { OnErr result (self.new ≡ self.old) }
     {
         self.holds(keys, row, change)?;
         self.clear(keys);
@@ -213,7 +214,8 @@ impl KeyMap {
         }
     }
 
-    fn delete_image(
+    /// Takes away the row of a table under its keys, if it stands there.
+    pub(crate) fn delete_image(
         &mut self,
         alloc: Global,
         schema: &Schema,
@@ -223,6 +225,7 @@ impl KeyMap {
     ) -> Result<(), PrepareFault>
         ensures ok { OnOk result (deleted change (keys_carried schema.now table.now row.now) row.now self.old ≡ Ok self.new) }
         ensures refused { Refuses result (deleted change (keys_carried schema.now table.now row.now) row.now self.old) }
+        ensures err { OnErr result (self.new ≡ self.old) }
     {
         match carried(alloc, schema, table, row) {
             Ok(keys) => match self.delete_row(&keys, row, change) {

@@ -9,7 +9,7 @@ ghost use Rattle.rows.specs.declared.change.RowFault.{RowFault};
 ghost use Rattle.rows.specs.Apply.{apply};
 ghost use Rattle.rows.specs.Fits.{misfit, Fits};
 ghost use Rattle.rows.specs.Listing.{rows_listed};
-ghost use Rattle.rows.specs.Database.{opening};
+ghost use Rattle.rows.specs.Database.{opening, AreRowsOf, LeavesImages, NoTwoCarry};
 
 use crate::change::{ApplyFault, Key, PrepareFault, TableRow, Transaction};
 use crate::fitting::{fits, fits_row};
@@ -28,8 +28,7 @@ pub struct Rows {
 }
 
 impl Model for Rows {
-    ghost use Rattle.rows.specs.Database.{Database, database_code};
-    ghost use Rattle.rows.specs.Carriers.{AreCarriers};
+    ghost use Rattle.rows.specs.Database.{Database, database_code, AreRowsOf};
 
     ghost Value = { Database };
 
@@ -37,7 +36,7 @@ impl Model for Rows {
 
     ghost view = { λ a. record { schema = a.schema; rows = a.carriers } };
 
-    ghost invariant = { λ a. AreCarriers a.schema a.carriers };
+    ghost invariant = { λ a. AreRowsOf a.schema a.carriers };
 }
 
 impl Rows {
@@ -53,7 +52,8 @@ impl Rows {
 
     /// The schema of these rows.
     pub fn schema(&self) -> &Schema
-        ensures { result.now ≡ self.now.schema }
+        ensures value { result.now ≡ self.now.schema }
+        ensures kept { AreRowsOf self.now.schema self.now.rows }
     {
         &self.schema
     }
@@ -126,6 +126,8 @@ impl Rows {
     pub fn apply(&mut self, alloc: Global, txn: &Transaction) -> Result<(), ApplyFault>
         ensures ok { OnOk result (apply self.old.schema txn.now self.old.rows ≡ Ok self.new.rows) }
         ensures fits { OnOk result (Fits self.old.schema txn.now) }
+        ensures left { OnOk result (LeavesImages self.old.schema txn.now self.old.rows self.new.rows) }
+        ensures no_two { NoTwoCarry self.new.schema self.new.rows }
         ensures same { self.new.schema ≡ self.old.schema }
         ensures not_in_schema { (fault : NotInSchema) → result ≡ Err (ApplyFault.NotInSchema fault) → misfit self.old.schema txn.now ≡ Some fault }
         ensures refused { (fault : RowFault) → result ≡ Err (ApplyFault.Row fault) → apply self.old.schema txn.now self.old.rows ≡ Err fault }
