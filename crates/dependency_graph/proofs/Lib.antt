@@ -1,0 +1,4 @@
+pub mod Entries
+pub mod Linked
+pub mod Least
+pub mod Kept

@@ -1,0 +1,1 @@
+use Rattle.dependency_graph.proofs.chains.Chains.reserve.Goals as goal
