@@ -2,3 +2,4 @@ pub mod Entries
 pub mod Linked
 pub mod Least
 pub mod Kept
+pub mod Chained

@@ -1,0 +1,2 @@
+use Rattle.dependency_graph.proofs.Chained.{kept_is_sound}
+use Rattle.dependency_graph.proofs.graph.Graph.len.Goals as goal
