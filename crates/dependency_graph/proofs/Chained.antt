@@ -12,7 +12,7 @@ use Rattle.dependency_graph.specs.declared.graph.Node.{Node}
 use Rattle.dependency_graph.specs.declared.chains.Chains.{Chains}
 use Rattle.dependency_graph.proofs.Linked.{first_is}
 
-not_true : (b : Bool) → b ≡ false → b ≡ true → ⊥
+pub not_true : (b : Bool) → b ≡ false → b ≡ true → ⊥
 not_true true h e = cc
 not_true false h e = cc
 
@@ -35,7 +35,7 @@ least_some p at (x ∷ xs) (suc n) lt h before =
     least_cond_some (p x) at (least p (suc at) xs) (Some (at + suc n)) (before zero (omega arith))
       (least_some p (suc at) xs n (omega (lt, arith)) h (λ m less. before (suc m) (omega (less, arith))) ∙ ap Some same)
 
-or_cases : (b c : Bool) → (b || c) ≡ true → (b ≡ true) ⊎ (c ≡ true)
+pub or_cases : (b c : Bool) → (b || c) ≡ true → (b ≡ true) ⊎ (c ≡ true)
 or_cases true c h = inl refl
 or_cases false c h = inr h
 

@@ -3,3 +3,4 @@ pub mod Linked
 pub mod Least
 pub mod Kept
 pub mod Chained
+pub mod Popping

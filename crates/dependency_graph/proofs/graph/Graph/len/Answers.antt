@@ -1,2 +1,3 @@
 use Rattle.dependency_graph.proofs.Chained.{kept_is_sound}
+use Rattle.dependency_graph.proofs.Popping.{chained_popped}
 use Rattle.dependency_graph.proofs.graph.Graph.len.Goals as goal
