@@ -4,3 +4,4 @@ pub mod Least
 pub mod Kept
 pub mod Chained
 pub mod Popping
+pub mod Marking

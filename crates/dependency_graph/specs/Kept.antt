@@ -1,5 +1,5 @@
 -- What a graph keeps: its nodes behind those that were dropped, and the chains of their keys.
-use Rattle.std.specs.Prelude.{ℕ, suc, ◌+◌, ◌≡◌, ◌<◌, ◌≤◌, ◌⊎◌, ⊤, Bool, true, false, cond, nat_lt, nat_eq, List, [], ◌∷◌, ◌++◌, map, length, replicate, slice_index_or, Option}
+use Rattle.std.specs.Prelude.{ℕ, suc, ◌+◌, ◌-◌, ◌≡◌, ◌<◌, ◌≤◌, ◌⊎◌, ⊤, Bool, true, false, cond, nat_lt, nat_eq, List, [], ◌∷◌, ◌++◌, map, length, replicate, slice_index_or, slice_set, Option, Some}
 use Rattle.std.specs.Option.{option_map_or}
 use Rattle.std.specs.List.{list_any, AllByRecursion, IsDistinct}
 use Rattle.rows.specs.declared.change.Key.{Key}
@@ -68,3 +68,23 @@ pub record IsKept (before : ℕ) (nodes : List Node) (c : Chains) (late : List K
   pub distinct : (i : ℕ) (n : Node) → i < length nodes → n ≡ slice_index_or nodes i n → IsDistinct key_eq n.keys.items
   pub chained : IsChained (points before nodes) chain late
   pub counted : IsCounted before nodes chain
+
+-- the keys of the node in this place
+abbrev pub keys_at : List Node → ℕ → List Key
+keys_at nodes i = (point_at (map point_of nodes) i).keys
+
+-- the first node of the first of these keys is unfinished
+abbrev pub IsFrontOpen : List Point → Chains → List Key → Type 0
+IsFrontOpen ps c [] = ⊤
+IsFrontOpen ps c (k ∷ ks) = (n : ℕ) → first_of c k ≡ Some n → is_finished_at ps n ≡ false
+
+-- this node counts one key less
+pub record LowersAt (before : ℕ) (old new : List Node) (n : ℕ) : Type 0 where
+  pub node : Node
+  pub at : node ≡ slice_index_or old (n - before) node
+  pub is : new ≡ slice_set old (n - before) (record node { waits = node.waits - 1 })
+
+-- an unfinished node that comes to the front of a chain counts one key less
+pub record Releases (before : ℕ) (old new : List Node) (first : Option ℕ) : Type 0 where
+  pub unfinished : (n : ℕ) → first ≡ Some n → is_finished_at (points before old) n ≡ false → LowersAt before old new n
+  pub others : ((n : ℕ) → first ≡ Some n → is_finished_at (points before old) n ≡ true) → new ≡ old
