@@ -58,7 +58,7 @@ ends_opened s t key h none k =
 pub no_keys : (t : BTreeMap Key (Option Ends)) → t.entries ≡ [] → (k : Key) → unwrap_or (get key_cmp t k) None ≡ None
 no_keys t h k = ap (λ es. unwrap_or (lookup (is_at (key_cmp k)) es) None) h
 
-some_key : Key
+pub some_key : Key
 some_key = record { table = []; index = 0; values = [] }
 
 pub new_holds : (c : Chains) → c.table.entries ≡ [] → Holds c (λ k. [])

@@ -5,3 +5,4 @@ pub mod Kept
 pub mod Chained
 pub mod Popping
 pub mod Marking
+pub mod Settling

@@ -7,7 +7,8 @@ use Rattle.rows.specs.declared.change.Key.{Key}
 use Rattle.rows.specs.Order.{key_cmp, key_eq}
 use Rattle.rows.specs.Total.{key_eq_same, key_eq_self}
 use Rattle.rows.specs.WriteSet.{is_among}
-use Rattle.dependency_graph.specs.Chains.{Link, number_of, head_of, last_of, ends_of, IsLinked, IsRising, ends_at, edge_at, IsWhole, Holds, with_chain, with_node, first_number, first_of, first_or, IsSame, HasLast, Pushes, Pops}
+use Rattle.dependency_graph.specs.Chains.{Link, number_of, head_of, last_of, ends_of, IsLinked, IsRising, ends_at, edge_at, IsWhole, Holds, with_chain, with_node, first_number, first_of, first_or, IsSame, HasLast, Pushes, Pops, PopsFirst}
+use Rattle.slab.specs.Slab as slots
 use Rattle.dependency_graph.specs.declared.chains.Chains.{Chains}
 use Rattle.dependency_graph.specs.declared.chains.Edge.{Edge}
 use Rattle.dependency_graph.specs.declared.chains.Ends.{Ends}
@@ -304,3 +305,11 @@ some_number (l ∷ ls) = refl
 
 pub had_one_is : (c : Chains) (f : Key → List ℕ) → Holds c f → (key : Key) → is_some (ends_at c key) ≡ is_some (first_number (f key))
 had_one_is c f h key = ap is_some (h.whole.ends key) ∙ some_number (h.lists key) ∙ ap (λ ns. is_some (first_number ns)) (h.numbers key)
+
+fewer_by : (old new : Chains) (key : Key) (f : Key → List ℕ) (n : ℕ) (h : Holds old f) → first_number (f key) ≡ Some n → (xs : List Link) → h.lists key ≡ xs → PopsFirst old new key → slots.slab_len new.edges + 1 ≡ slots.slab_len old.edges
+fewer_by old new key f n h is [] lists_is pops = let bad : None ≡ Some n = ap (λ xs. first_number (map number_of xs)) (sym lists_is) ∙ ap first_number (h.numbers key) ∙ is in cc
+fewer_by old new key f n h is (l ∷ ls) lists_is pops =
+    (pops (record { first = l.at; last = last_of l ls }) (record { node = l.node; after = head_of ls }) (h.whole.ends key ∙ ap ends_of lists_is) (subst (IsLinked (edge_at old)) lists_is (h.whole.linked key)).0).fewer
+
+pub pop_fewer : (old new : Chains) (key : Key) (f : Key → List ℕ) (n : ℕ) → Holds old f → first_number (f key) ≡ Some n → PopsFirst old new key → slots.slab_len new.edges + 1 ≡ slots.slab_len old.edges
+pop_fewer old new key f n h is pops = fewer_by old new key f n h is (h.lists key) refl pops

@@ -1,5 +1,5 @@
 -- How the edges of the keys' chains are linked by index.
-use Rattle.std.specs.Prelude.{ℕ, suc, ◌≡◌, ◌<◌, ⊤, Bool, cond, List, [], ◌∷◌, ◌++◌, map, length, Option, Some, None, IsSome}
+use Rattle.std.specs.Prelude.{ℕ, suc, ◌+◌, ◌≡◌, ◌<◌, ⊤, Bool, cond, List, [], ◌∷◌, ◌++◌, map, length, Option, Some, None, IsSome}
 use Rattle.std.specs.List.{AllByRecursion}
 use Rattle.std.specs.BTreeMap as tree
 use Rattle.std.specs.Option.{unwrap_or, option_map, option_map_or, option_and_then}
@@ -118,6 +118,7 @@ pub record Pushes (old new : Chains) (key : Key) (node : ℕ) : Type 0 where
 
 -- the key's chain begins with the edge behind its first one
 pub record Pops (old new : Chains) (key : Key) (e : Ends) (edge : Edge) : Type 0 where
+  pub fewer : slots.slab_len new.edges + 1 ≡ slots.slab_len old.edges
   pub same : (j : ℕ) → (j ≡ e.first → ⊥) → edge_at new j ≡ edge_at old j
   pub ends : (k : Key) → ends_at new k ≡ cond (key_eq k key) (option_map (λ first. record { first = first; last = e.last }) edge.after) (ends_at old k)
 

@@ -17,6 +17,10 @@ point_code = code_by (Bool × List Key) (coded× coded_bool (coded_list key_code
 abbrev pub gone : Point
 gone = record { finished = true; keys = [] }
 
+-- a node that was just added
+abbrev pub unfinished : List Key → Point
+unfinished keys = record { finished = false; keys = keys }
+
 -- the first that passes, where the first of the list has this number
 abbrev pub least : (Point → Bool) → ℕ → List Point → Option ℕ
 least p at [] = None
@@ -54,6 +58,10 @@ abbrev pub dropped : List Point → List Point
 dropped [] = []
 dropped (p ∷ ps) = cond p.finished (gone ∷ dropped ps) (p ∷ ps)
 
+-- with this node finished
+abbrev pub marked_at : List Point → ℕ → List Point
+marked_at ps n = slice_set ps n (record (point_at ps n) { finished = true })
+
 -- once this node is finished
 abbrev pub finished_at : List Point → ℕ → List Point
-finished_at ps n = dropped (slice_set ps n (record (point_at ps n) { finished = true }))
+finished_at ps n = dropped (marked_at ps n)

@@ -6,7 +6,7 @@ use Rattle.rows.specs.declared.change.Key.{Key}
 use Rattle.rows.specs.Order.{key_eq}
 use Rattle.rows.specs.WriteSet.{is_among}
 use Rattle.dependency_graph.specs.Graphs.{Point, gone, least, is_open_at, point_at}
-use Rattle.dependency_graph.specs.Chains.{Holds, IsRising, first_number, first_of}
+use Rattle.dependency_graph.specs.Chains.{Holds, IsRising, with_node, first_number, first_of}
 use Rattle.dependency_graph.specs.declared.graph.Node.{Node}
 use Rattle.dependency_graph.specs.declared.chains.Chains.{Chains}
 
@@ -84,7 +84,22 @@ pub record LowersAt (before : ℕ) (old new : List Node) (n : ℕ) : Type 0 wher
   pub at : node ≡ slice_index_or old (n - before) node
   pub is : new ≡ slice_set old (n - before) (record node { waits = node.waits - 1 })
 
+-- an unfinished node that comes to the front of a chain counts that key
+abbrev pub CanRelease : ℕ → List Node → Option ℕ → Type 0
+CanRelease before nodes first = (n : ℕ) (x : Node) → first ≡ Some n → is_finished_at (points before nodes) n ≡ false → x ≡ slice_index_or nodes (n - before) x → 1 ≤ x.waits
+
 -- an unfinished node that comes to the front of a chain counts one key less
 pub record Releases (before : ℕ) (old new : List Node) (first : Option ℕ) : Type 0 where
   pub unfinished : (n : ℕ) → first ≡ Some n → is_finished_at (points before old) n ≡ false → LowersAt before old new n
   pub others : ((n : ℕ) → first ≡ Some n → is_finished_at (points before old) n ≡ true) → new ≡ old
+
+abbrev pub IsBelow : (Key → List ℕ) → ℕ → Type 0
+IsBelow f node = (k : Key) → AllByRecursion (λ n. n < node) (f k)
+
+-- the chains of these keys end with the node
+abbrev pub LinksAll : Chains → Chains → List Key → ℕ → Type 0
+LinksAll old new keys node = (f : Key → List ℕ) → Holds old f → IsBelow f node → Holds new (with_node f keys node)
+
+-- so many of these keys have an earlier node
+abbrev pub CountsAll : Chains → List Key → ℕ → ℕ → Type 0
+CountsAll old keys node waits = (f : Key → List ℕ) → Holds old f → IsBelow f node → waits ≡ waiting (λ k. first_number (f k)) node keys
