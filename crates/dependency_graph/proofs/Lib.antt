@@ -6,3 +6,4 @@ pub mod Chained
 pub mod Popping
 pub mod Marking
 pub mod Settling
+pub mod Adding

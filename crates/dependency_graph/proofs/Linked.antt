@@ -22,11 +22,11 @@ all_of : {X : Type 0} (P : X → Type 0) (xs : List X) → ((x : X) → P x) →
 all_of P [] h = tt
 all_of P (x ∷ xs) h = (h x, all_of P xs h)
 
-all_both : {X : Type 0} (P Q R : X → Type 0) (xs : List X) → ((x : X) → P x → Q x → R x) → AllByRecursion P xs → AllByRecursion Q xs → AllByRecursion R xs
+pub all_both : {X : Type 0} (P Q R : X → Type 0) (xs : List X) → ((x : X) → P x → Q x → R x) → AllByRecursion P xs → AllByRecursion Q xs → AllByRecursion R xs
 all_both P Q R [] f h g = tt
 all_both P Q R (x ∷ xs) f h g = (f x h.0 g.0, all_both P Q R xs f h.1 g.1)
 
-all_push : {X : Type 0} (P : X → Type 0) (xs : List X) (y : X) → AllByRecursion P xs → P y → AllByRecursion P (xs ++ y ∷ [])
+pub all_push : {X : Type 0} (P : X → Type 0) (xs : List X) (y : X) → AllByRecursion P xs → P y → AllByRecursion P (xs ++ y ∷ [])
 all_push P [] y h g = (g, tt)
 all_push P (x ∷ xs) y h g = (h.0, all_push P xs y h.1 g)
 
@@ -75,7 +75,7 @@ last_push : (l : Link) (ls : List Link) (x : Link) → last_of l (ls ++ x ∷ []
 last_push l [] x = refl
 last_push l (m ∷ ms) x = last_push m ms x
 
-rising_push : (ns : List ℕ) (n : ℕ) → AllByRecursion (λ m. m < n) ns → IsRising ns → IsRising (ns ++ n ∷ [])
+pub rising_push : (ns : List ℕ) (n : ℕ) → AllByRecursion (λ m. m < n) ns → IsRising ns → IsRising (ns ++ n ∷ [])
 rising_push [] n less h = (tt, tt)
 rising_push (m ∷ ms) n less h = (all_push (λ k. m < k) ms n h.0 less.0, rising_push ms n less.1 h.1)
 

@@ -1,5 +1,5 @@
 -- The steps of a finish: a chain loses its first node, and a node counts one key less.
-use Rattle.std.proofs.Common.{◌≡◌, ℕ, ◌+◌, ◌-◌, ◌<◌, ◌≤◌, ◌||◌, Bool, true, false, cond, List, [], ◌∷◌, ◌++◌, map, length, replicate, Option, Some, None, refl, sym, ap, subst, ◌∙◌, arith, drop}
+use Rattle.std.proofs.Common.{◌≡◌, ℕ, zero, suc, ◌+◌, ◌-◌, ◌<◌, ◌≤◌, ◌||◌, Bool, true, false, cond, List, [], ◌∷◌, ◌++◌, map, length, replicate, Option, Some, None, refl, sym, ap, subst, ◌∙◌, arith, drop}
 use Rattle.std.proofs.lemmas.List.{drop_more}
 use Rattle.std.specs.Prelude.{slice_index_or, slice_set}
 use Rattle.rows.specs.declared.change.Key.{Key}
@@ -105,3 +105,12 @@ marked_is d nodes now at x read lt same =
     ap (λ qs. replicate d gone ++ qs) same
     ∙ points_set d at nodes (record x { finished = true })
     ∙ ap (λ (p : Point). slice_set (points d nodes) (d + at) (record p { finished = true })) (sym (kept_at d at nodes x (sym read) lt))
+
+pub at_within : (nodes : List Node) (at i : ℕ) → i < length (keys_at nodes at) → at < length nodes
+at_within [] at i lt = absurd (omega (lt, arith))
+at_within (n ∷ nodes) zero i lt = omega arith
+at_within (n ∷ nodes) (suc at) i lt = let far = at_within nodes at i lt in omega (far, arith)
+
+pub key_inside : (nodes : List Node) (at i : ℕ) (x : Node) (k : Key) → i < length (keys_at nodes at) → x ≡ slice_index_or nodes at x → k ≡ slice_index_or x.keys.items i k → is_among (drop i (keys_at nodes at)) k ≡ true
+key_inside nodes at i x k lt node key =
+    late_here (keys_at nodes at) i k (key ∙ ap (λ ks. slice_index_or ks i k) (sym (keys_here nodes at x node (at_within nodes at i lt)))) lt
