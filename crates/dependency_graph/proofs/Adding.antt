@@ -1,7 +1,7 @@
 -- A node is added behind the others, and linked at each of its keys.
 use Rattle.std.proofs.Common.{◌≡◌, ℕ, zero, suc, ◌+◌, ◌-◌, ◌<◌, ◌≤◌, ◌⊎◌, Bool, true, false, not, ◌&&◌, ◌||◌, cond, List, [], ◌∷◌, ◌++◌, map, length, replicate, Option, Some, None, is_some, refl, sym, ap, subst, ◌∙◌, ⊎_elim, inl, inr, arith, take, drop, append_assoc, nat_eq, nat_lt, eq-eqb}
 use Rattle.std.proofs.lemmas.Bool.{lt-ltb, le-ltb, cases_lt, cases_eq}
-use Rattle.std.proofs.lemmas.List.{take_more, drop_more, map-append, get_or_append_left, get_or_push, get_or_past}
+use Rattle.std.proofs.lemmas.List.{take_more, drop_more, map-append, length_push, get_or_append_left, get_or_push, get_or_past}
 use Rattle.std.specs.Prelude.{slice_index_or, slice_set}
 use Rattle.std.specs.List.{AllByRecursion, IsDistinct, list_any}
 use Rattle.slab.specs.Slab.{HasRoomFor}
@@ -10,12 +10,12 @@ use Rattle.rows.specs.Order.{key_eq}
 use Rattle.rows.specs.Total.{key_eq_same, key_eq_self}
 use Rattle.rows.specs.WriteSet.{is_among}
 use Rattle.dependency_graph.specs.Graphs.{Point, gone, point_at, is_open_at, unfinished}
-use Rattle.dependency_graph.specs.Chains.{Holds, HasEntry, HasLast, HasRoom, KeepsRoom, Pushes, IsRising, ends_at, with_chain, with_node, first_number}
+use Rattle.dependency_graph.specs.Chains.{Holds, HasEntry, HasLast, HasRoom, KeepsRoom, Pushes, IsSame, IsRising, ends_at, with_chain, with_node, first_number}
 use Rattle.dependency_graph.specs.Kept.{points, point_of, is_below, waiting, is_finished_at, Has, StartsOpen, IsChained, IsCounted, IsKept, IsBelow, LinksAll, CountsAll}
 use Rattle.dependency_graph.specs.declared.graph.Node.{Node}
 use Rattle.dependency_graph.specs.declared.chains.Chains.{Chains}
 use Rattle.dependency_graph.proofs.Entries.{flip, all_stay}
-use Rattle.dependency_graph.proofs.Linked.{push_holds, has_last, had_one_is, holds_alike, rising_push, all_both, all_push}
+use Rattle.dependency_graph.proofs.Linked.{push_holds, same_holds, has_last, had_one_is, holds_alike, rising_push, all_both, all_push}
 use Rattle.dependency_graph.proofs.Chained.{not_true, waiting_same}
 use Rattle.dependency_graph.proofs.Popping.{open_parts, open_made}
 use Rattle.dependency_graph.proofs.Kept.{length_points}
@@ -98,7 +98,7 @@ counts_more c0 c1 ks i k node waits now had d lt at links counts had_is is = λ 
     let one : had ≡ is_below node (first_number (f k)) =
       had_is ∙ had_one_is c1 g held k ∙ ap (λ ns. is_some (first_number ns)) (key_free f (take i ks) k node out) ∙ sym (below_some node (f k) (below k)) in
     let so_far = counts f h below in
-    let bit : cond had 1 0 ≡ cond (is_below node (first_number (f k))) 1 0 = ap (λ b. cond b 1 0) one in
+    let bit : ◌≡◌ {A = ℕ} (cond had 1 0) (cond (is_below node (first_number (f k))) 1 0) = ap (λ b. cond b 1 0) one in
     let pushed = waiting_push (λ q. first_number (f q)) node (take i ks) k in
     let sum : now ≡ waiting (λ q. first_number (f q)) node (take i ks ++ k ∷ []) = omega (is, so_far, bit, pushed, arith) in
     sum ∙ ap (λ xs. waiting (λ q. first_number (f q)) node (take i ks ++ xs ∷ [])) at ∙ ap (waiting (λ q. first_number (f q)) node) (sym (take_more ks i k lt))
@@ -129,14 +129,141 @@ set_last [] x y (suc at) e = absurd (omega (e, arith))
 set_last (n ∷ nodes) x y zero e = absurd (omega (e, arith))
 set_last (n ∷ nodes) x y (suc at) e = ap (λ ns. n ∷ ns) (set_last nodes x y at (omega (e, arith)))
 
+has_by : (n m : ℕ) (ns : List ℕ) (b : Bool) → (Has ns m → Has (ns ++ n ∷ []) m) → (b || list_any (λ j. nat_eq j m) ns) ≡ true → (b || list_any (λ j. nat_eq j m) (ns ++ n ∷ [])) ≡ true
+has_by n m ns true more e = refl
+has_by n m ns false more e = more e
+
 has_push : (ns : List ℕ) (n m : ℕ) → Has ns m → Has (ns ++ n ∷ []) m
 has_push [] n m h = absurd (not_true false refl h)
-has_push (x ∷ ns) n m h = by (nat_eq x m) h
-  where
-  by : (b : Bool) → (b || list_any (λ j. nat_eq j m) ns) ≡ true → (b || list_any (λ j. nat_eq j m) (ns ++ n ∷ [])) ≡ true
-  by true e = refl
-  by false e = has_push ns n m e
+has_push (x ∷ ns) n m h = has_by n m ns (nat_eq x m) (has_push ns n m) h
 
 has_last_one : (ns : List ℕ) (n : ℕ) → Has (ns ++ n ∷ []) n
 has_last_one [] n = ap (λ b. b || false) (eq-eqb n n refl)
 has_last_one (x ∷ ns) n = ap (λ b. nat_eq x n || b) (has_last_one ns n) ∙ or_true (nat_eq x n)
+
+no_later : (n m : ℕ) (ns : List ℕ) (b : Bool) → m ≤ n → is_below m (first_number (cond b (ns ++ n ∷ []) ns)) ≡ is_below m (first_number ns)
+no_later n m [] true le = le-ltb n m le
+no_later n m (x ∷ ns) true le = refl
+no_later n m ns false le = refl
+
+-- a node more, in each of the chains of its keys
+module _ (d : ℕ) (nodes : List Node) (c new : Chains) (kept : IsKept d nodes c []) (keys : List Key) (n : ℕ) (n_is : n ≡ d + length nodes) (few : n < 4294967294)
+    (distinct : IsDistinct key_eq keys) (links : LinksAll c new keys n) (waits : ℕ) (counts : CountsAll c keys n waits)
+    (x : Node) (open_one : x.finished ≡ false) (waits_is : x.waits ≡ waits) (keys_are : x.keys.items ≡ keys) where
+  abbrev ps : List Point
+  ps = points d nodes
+
+  abbrev qs : List Point
+  qs = points d nodes ++ point_of x ∷ []
+
+  size : n ≡ length ps
+  size = n_is ∙ sym (length_points d nodes)
+
+  below : IsBelow kept.chain n
+  below k = subst (λ m. AllByRecursion (λ j. j < m) (kept.chain k)) (sym size) (kept.chained.below k)
+
+  older : (m : ℕ) → m < n → point_at qs m ≡ point_at ps m
+  older m lt = get_or_append_left ps (point_of x ∷ []) gone m (let s = size in omega (s, lt, arith))
+
+  newest : point_at qs n ≡ point_of x
+  newest = get_or_push ps (point_of x) gone n (sym size)
+
+  past : (m : ℕ) → n < m → point_at qs m ≡ gone
+  past m lt = get_or_past qs m gone (let s = size in let more = length_push ps (point_of x) in omega (s, lt, more, arith))
+
+  below_both : (k : Key) (P : ℕ → Type 0) → AllByRecursion P (kept.chain k) → P n → (b : Bool) → AllByRecursion P (cond b (kept.chain k ++ n ∷ []) (kept.chain k))
+  below_both k P h g true = all_push P (kept.chain k) n h g
+  below_both k P h g false = h
+
+  rising_added : (k : Key) (b : Bool) → IsRising (cond b (kept.chain k ++ n ∷ []) (kept.chain k))
+  rising_added k true = rising_push (kept.chain k) n (below k) (kept.chained.rising k)
+  rising_added k false = kept.chained.rising k
+
+  below_added : (k : Key) → AllByRecursion (λ m. m < length qs) (kept.chain k)
+  below_added k =
+      all_both (λ m. m < n) (λ m. m < n) (λ m. m < length qs) (kept.chain k)
+        (λ m lt again. let s = size in let more = length_push ps (point_of x) in omega (s, lt, more, arith)) (below k) (below k)
+
+  abbrev Fits : Key → ℕ → Type 0
+  Fits k m = is_finished_at qs m ≡ false → is_open_at k (point_at qs m) ≡ true
+
+  members_older : (k : Key) → AllByRecursion (Fits k) (kept.chain k)
+  members_older k =
+      all_both (λ m. m < n) (λ m. is_finished_at ps m ≡ false → is_open_at k (point_at ps m) ≡ true) (Fits k) (kept.chain k)
+        (λ m lt h unfinished_one. ap (is_open_at k) (older m lt) ∙ h (sym (ap (λ (p : Point). p.finished) (older m lt)) ∙ unfinished_one)) (below k) (kept.chained.members k)
+
+  members_added : (k : Key) (b : Bool) → is_among keys k ≡ b → AllByRecursion (Fits k) (cond b (kept.chain k ++ n ∷ []) (kept.chain k))
+  members_added k true e =
+      all_push (Fits k) (kept.chain k) n (members_older k)
+        (λ unfinished_one. open_made k (point_at qs n) unfinished_one (ap (λ (p : Point). is_among p.keys k) newest ∙ ap (λ ks. is_among ks k) keys_are ∙ e))
+  members_added k false e = members_older k
+
+  has_both : (k : Key) (m : ℕ) → Has (kept.chain k) m → (b : Bool) → Has (cond b (kept.chain k ++ n ∷ []) (kept.chain k)) m
+  has_both k m h true = has_push (kept.chain k) n m h
+  has_both k m h false = h
+
+  has_newest : (k : Key) (b : Bool) → is_among keys k ≡ b → is_among keys k ≡ true → Has (cond b (kept.chain k ++ n ∷ []) (kept.chain k)) n
+  has_newest k true e h = has_last_one (kept.chain k) n
+  has_newest k false e h = absurd (not_true (is_among keys k) e h)
+
+  found_added : (k : Key) (m : ℕ) → is_open_at k (point_at qs m) ≡ true → Has (with_node kept.chain keys n k) m
+  found_added k m h =
+      ⊎_elim (λ lt. has_both k m (kept.chained.found k m (ap (is_open_at k) (sym (older m lt)) ∙ h)) (is_among keys k))
+        (λ le. ⊎_elim (λ far. absurd (not_true (is_open_at k gone) refl (ap (is_open_at k) (sym (past m far)) ∙ h)))
+          (λ near.
+            let same : m ≡ n = omega (le, near, arith) in
+            let inside : is_among keys k ≡ true =
+              ap (λ ks. is_among ks k) (sym keys_are) ∙ (open_parts k (point_of x) (ap (is_open_at k) (sym newest) ∙ ap (λ j. is_open_at k (point_at qs j)) (sym same) ∙ h)).1 in
+            subst (Has (with_node kept.chain keys n k)) (sym same) (has_newest k (is_among keys k) refl inside))
+          (cases_lt n m))
+        (cases_lt m n)
+
+  starts_by : (ns : List ℕ) → AllByRecursion (λ m. m < n) ns → StartsOpen ps false ns → (b : Bool) → StartsOpen qs false (cond b (ns ++ n ∷ []) ns)
+  starts_by [] less h true = inl (ap (λ (p : Point). p.finished) newest ∙ open_one)
+  starts_by [] less h false = tt
+  starts_by (m ∷ ns) less h true = ⊎_elim (λ e. inl (ap (λ (p : Point). p.finished) (older m less.0) ∙ e)) inr h
+  starts_by (m ∷ ns) less h false = ⊎_elim (λ e. inl (ap (λ (p : Point). p.finished) (older m less.0) ∙ e)) inr h
+
+  chained_added : IsChained qs (with_node kept.chain keys n) []
+  chained_added = record {
+    rising = λ k. rising_added k (is_among keys k);
+    below = λ k. below_both k (λ m. m < length qs) (below_added k) (let s = size in let more = length_push ps (point_of x) in omega (s, more, arith)) (is_among keys k);
+    members = λ k. members_added k (is_among keys k) refl;
+    found = found_added;
+    starts = λ k. starts_by (kept.chain k) (below k) (kept.chained.starts k) (is_among keys k) }
+
+  old_or_new : (i : ℕ) (y : Node) → i < length (nodes ++ x ∷ []) → y ≡ slice_index_or (nodes ++ x ∷ []) i y → ((i < length nodes) × (y ≡ slice_index_or nodes i y)) ⊎ ((i ≡ length nodes) × (y ≡ x))
+  old_or_new i y lt at =
+      ⊎_elim (λ less. inl (less, at ∙ get_or_append_left nodes (x ∷ []) y i less))
+        (λ le. let more = length_push nodes x in let same : i ≡ length nodes = omega (le, more, lt, arith) in inr (same, at ∙ get_or_push nodes x y i (sym same))) (cases_lt i (length nodes))
+
+  counts_same : (m : ℕ) → m ≤ n → (ks : List Key) → waiting (λ k. first_number (kept.chain k)) m ks ≡ waiting (λ k. first_number (with_node kept.chain keys n k)) m ks
+  counts_same m le ks = waiting_same (λ k. first_number (kept.chain k)) (λ k. first_number (with_node kept.chain keys n k)) m (λ k. sym (no_later n m (kept.chain k) (is_among keys k) le)) ks
+
+  pub kept_added : IsKept d (nodes ++ x ∷ []) new []
+  kept_added = record {
+    chain = with_node kept.chain keys n;
+    holds = links kept.chain kept.holds below;
+    small = let more = length_push nodes x in let is = n_is in omega (more, is, few, arith);
+    distinct = λ i y lt at.
+      ⊎_elim (λ old. kept.distinct i y old.0 old.1) (λ last. subst (λ (z : Node). IsDistinct key_eq z.keys.items) (sym last.1) (subst (IsDistinct key_eq) (sym keys_are) distinct)) (old_or_new i y lt at);
+    chained = subst (λ rs. IsChained rs (with_node kept.chain keys n) []) (sym (points_push d nodes x)) chained_added;
+    counted = λ i y lt at unfinished_one.
+      ⊎_elim (λ old. kept.counted i y old.0 old.1 unfinished_one ∙ counts_same (d + i) (let is = n_is in let less = old.0 in omega (is, less, arith)) y.keys.items)
+        (λ last.
+          let itself : n ≤ n = omega arith in
+          let here : n ≡ d + i = let is = n_is in let same = last.0 in omega (is, same, arith) in
+          subst (λ (z : Node). z.waits ≡ waiting (λ k. first_number (with_node kept.chain keys n k)) (d + i) z.keys.items) (sym last.1)
+            (waits_is ∙ counts kept.chain kept.holds below ∙ counts_same n itself keys
+              ∙ ap (waiting (λ k. first_number (with_node kept.chain keys n k)) n) (sym keys_are)
+              ∙ ap (λ m. waiting (λ k. first_number (with_node kept.chain keys n k)) m x.keys.items) here))
+        (old_or_new i y lt at) }
+
+pub kept_reserved : (d : ℕ) (nodes : List Node) (c new : Chains) → IsSame c new → IsKept d nodes c [] → IsKept d nodes new []
+kept_reserved d nodes c new same kept = record {
+  chain = kept.chain;
+  holds = same_holds c new same kept.chain kept.holds;
+  small = kept.small;
+  distinct = kept.distinct;
+  chained = kept.chained;
+  counted = kept.counted }
