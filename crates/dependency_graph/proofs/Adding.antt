@@ -267,3 +267,34 @@ kept_reserved d nodes c new same kept = record {
   distinct = kept.distinct;
   chained = kept.chained;
   counted = kept.counted }
+
+pub read_last : (nodes now : List Node) (x y : Node) (at : ℕ) → at ≡ length nodes → now ≡ nodes ++ x ∷ [] → y ≡ slice_index_or now at y → y ≡ x
+read_last nodes now x y at at_is now_is read = read ∙ ap (λ ns. slice_index_or ns at y) now_is ∙ get_or_push nodes x y at (sym at_is)
+
+module _ (d : ℕ) (nodes now : List Node) (x y : Node) (at : ℕ) (keys : List Key) (waits : ℕ) (at_is : at ≡ length nodes) (now_is : now ≡ nodes ++ x ∷ [])
+    (read : y ≡ slice_index_or now at y) (open_one : x.finished ≡ false) (keys_are : x.keys.items ≡ keys) where
+  abbrev counting : Node
+  counting = record y { waits = waits }
+
+  pushed_here : y ≡ x
+  pushed_here = read_last nodes now x y at at_is now_is read
+
+  set_now : slice_set now at counting ≡ nodes ++ counting ∷ []
+  set_now = ap (λ ns. slice_set ns at counting) now_is ∙ set_last nodes x counting at at_is
+
+  open_now : y.finished ≡ false
+  open_now = ap (λ (n : Node). n.finished) pushed_here ∙ open_one
+
+  keys_now : y.keys.items ≡ keys
+  keys_now = ap (λ (n : Node). n.keys.items) pushed_here ∙ keys_are
+
+  pub kept_pushed : (mid new : Chains) → IsKept d nodes mid [] → d + at < 4294967294 → IsDistinct key_eq keys → LinksAll mid new keys (d + at) → CountsAll mid keys (d + at) waits → IsKept d (slice_set now at counting) new []
+  kept_pushed mid new kept few distinct links counts =
+      let here : d + at ≡ d + length nodes = ap (λ j. d + j) at_is in
+      subst (λ ns. IsKept d ns new []) (sym set_now) (kept_added d nodes mid new kept keys (d + at) here few distinct links waits counts counting open_now refl keys_now)
+
+  pub points_pushed : points d (slice_set now at counting) ≡ points d nodes ++ unfinished keys ∷ []
+  points_pushed =
+      ap (points d) set_now ∙ points_push d nodes counting
+      ∙ ap (λ b. points d nodes ++ (record { finished = b; keys = y.keys.items }) ∷ []) open_now
+      ∙ ap (λ ks. points d nodes ++ (unfinished ks) ∷ []) keys_now
