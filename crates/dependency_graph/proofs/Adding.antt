@@ -37,14 +37,14 @@ not_before (x ∷ ks) (suc i) k d lt at =
 among_push : (ks : List Key) (k q : Key) → is_among (ks ++ k ∷ []) q ≡ (is_among ks q || key_eq q k)
 among_push [] k q = or_false (key_eq q k)
   where
-  or_false : (b : Bool) → (b || false) ≡ b
-  or_false true = refl
-  or_false false = refl
+    or_false : (b : Bool) → (b || false) ≡ b
+    or_false true = refl
+    or_false false = refl
 among_push (x ∷ ks) k q = ap (λ b. key_eq q x || b) (among_push ks k q) ∙ or_assoc (key_eq q x) (is_among ks q) (key_eq q k)
   where
-  or_assoc : (a b c : Bool) → (a || (b || c)) ≡ ((a || b) || c)
-  or_assoc true b c = refl
-  or_assoc false b c = refl
+    or_assoc : (a b c : Bool) → (a || (b || c)) ≡ ((a || b) || c)
+    or_assoc true b c = refl
+    or_assoc false b c = refl
 
 or_true : (b : Bool) → (b || true) ≡ true
 or_true true = refl
@@ -77,7 +77,7 @@ links_more c0 c1 c2 ks i k node d lt at links push = λ f h below.
     let less : AllByRecursion (λ n. n < node) (g k) = subst (λ ns. AllByRecursion (λ n. n < node) ns) (sym free) (below k) in
     let pushed = push_holds c1 c2 k node g (push (has_last c1 g held k)) held less in
     let all : with_node f (take i ks ++ k ∷ []) node ≡ with_node f (take (i + 1) ks) node =
-      ap (λ xs. with_node f (take i ks ++ xs ∷ []) node) at ∙ ap (λ xs. with_node f xs node) (sym (take_more ks i k lt)) in
+    ap (λ xs. with_node f (take i ks ++ xs ∷ []) node) at ∙ ap (λ xs. with_node f xs node) (sym (take_more ks i k lt)) in
     subst (Holds c2) all (holds_alike c2 (with_chain g k (g k ++ node ∷ [])) (with_node f (take i ks ++ k ∷ []) node) (more_same f (take i ks) k node out) pushed)
 
 waiting_push : (first : Key → Option ℕ) (n : ℕ) (ks : List Key) (k : Key) → waiting first n (ks ++ k ∷ []) ≡ waiting first n ks + cond (is_below n (first k)) 1 0
@@ -96,7 +96,7 @@ counts_more c0 c1 ks i k node waits now had d lt at links counts had_is is = λ 
     let g : Key → List ℕ = with_node f (take i ks) node in
     let held : Holds c1 g = links f h below in
     let one : had ≡ is_below node (first_number (f k)) =
-      had_is ∙ had_one_is c1 g held k ∙ ap (λ ns. is_some (first_number ns)) (key_free f (take i ks) k node out) ∙ sym (below_some node (f k) (below k)) in
+    had_is ∙ had_one_is c1 g held k ∙ ap (λ ns. is_some (first_number ns)) (key_free f (take i ks) k node out) ∙ sym (below_some node (f k) (below k)) in
     let so_far = counts f h below in
     let bit : ◌≡◌ {A = ℕ} (cond had 1 0) (cond (is_below node (first_number (f k))) 1 0) = ap (λ b. cond b 1 0) one in
     let pushed = waiting_push (λ q. first_number (f q)) node (take i ks) k in
@@ -109,7 +109,8 @@ room_more c1 c2 ks i d lt keeps room =
     let all : HasRoom c1 (slice_index_or ks i d ∷ drop (i + 1) ks) = subst (HasRoom c1) parts room in
     record {
       edges = keeps.edges (length (drop (i + 1) ks)) all.edges;
-      entries = all_stay c1 c2 keeps.entries (drop (i + 1) ks) all.entries.1 }
+      entries = all_stay c1 c2 keeps.entries (drop (i + 1) ks) all.entries.1;
+    }
 
 pub room_here : (c : Chains) (ks : List Key) (i : ℕ) (k : Key) → i < length ks → k ≡ slice_index_or ks i k → HasRoom c (drop i ks) → HasRoom c (k ∷ [])
 room_here c ks i k lt at room =
@@ -117,7 +118,8 @@ room_here c ks i k lt at room =
     let all : HasRoom c (slice_index_or ks i k ∷ drop (i + 1) ks) = subst (HasRoom c) parts room in
     record {
       edges = let edges = all.edges in omega (edges, arith);
-      entries = (subst (HasEntry c) (sym at) all.entries.0, tt) }
+      entries = (subst (HasEntry c) (sym at) all.entries.0, tt);
+    }
 
 -- ---- the node
 pub points_push : (d : ℕ) (nodes : List Node) (x : Node) → points d (nodes ++ x ∷ []) ≡ points d nodes ++ point_of x ∷ []
@@ -182,7 +184,7 @@ module _ (d : ℕ) (nodes : List Node) (c new : Chains) (kept : IsKept d nodes c
   below_added : (k : Key) → AllByRecursion (λ m. m < length qs) (kept.chain k)
   below_added k =
       all_both (λ m. m < n) (λ m. m < n) (λ m. m < length qs) (kept.chain k)
-        (λ m lt again. let s = size in let more = length_push ps (point_of x) in omega (s, lt, more, arith)) (below k) (below k)
+      (λ m lt again. let s = size in let more = length_push ps (point_of x) in omega (s, lt, more, arith)) (below k) (below k)
 
   abbrev Fits : Key → ℕ → Type 0
   Fits k m = is_finished_at qs m ≡ false → is_open_at k (point_at qs m) ≡ true
@@ -190,12 +192,12 @@ module _ (d : ℕ) (nodes : List Node) (c new : Chains) (kept : IsKept d nodes c
   members_older : (k : Key) → AllByRecursion (Fits k) (kept.chain k)
   members_older k =
       all_both (λ m. m < n) (λ m. is_finished_at ps m ≡ false → is_open_at k (point_at ps m) ≡ true) (Fits k) (kept.chain k)
-        (λ m lt h unfinished_one. ap (is_open_at k) (older m lt) ∙ h (sym (ap (λ (p : Point). p.finished) (older m lt)) ∙ unfinished_one)) (below k) (kept.chained.members k)
+      (λ m lt h unfinished_one. ap (is_open_at k) (older m lt) ∙ h (sym (ap (λ (p : Point). p.finished) (older m lt)) ∙ unfinished_one)) (below k) (kept.chained.members k)
 
   members_added : (k : Key) (b : Bool) → is_among keys k ≡ b → AllByRecursion (Fits k) (cond b (kept.chain k ++ n ∷ []) (kept.chain k))
   members_added k true e =
       all_push (Fits k) (kept.chain k) n (members_older k)
-        (λ unfinished_one. open_made k (point_at qs n) unfinished_one (ap (λ (p : Point). is_among p.keys k) newest ∙ ap (λ ks. is_among ks k) keys_are ∙ e))
+      (λ unfinished_one. open_made k (point_at qs n) unfinished_one (ap (λ (p : Point). is_among p.keys k) newest ∙ ap (λ ks. is_among ks k) keys_are ∙ e))
   members_added k false e = members_older k
 
   has_both : (k : Key) (m : ℕ) → Has (kept.chain k) m → (b : Bool) → Has (cond b (kept.chain k ++ n ∷ []) (kept.chain k)) m
@@ -209,14 +211,14 @@ module _ (d : ℕ) (nodes : List Node) (c new : Chains) (kept : IsKept d nodes c
   found_added : (k : Key) (m : ℕ) → is_open_at k (point_at qs m) ≡ true → Has (with_node kept.chain keys n k) m
   found_added k m h =
       ⊎_elim (λ lt. has_both k m (kept.chained.found k m (ap (is_open_at k) (sym (older m lt)) ∙ h)) (is_among keys k))
-        (λ le. ⊎_elim (λ far. absurd (not_true (is_open_at k gone) refl (ap (is_open_at k) (sym (past m far)) ∙ h)))
-          (λ near.
-            let same : m ≡ n = omega (le, near, arith) in
-            let inside : is_among keys k ≡ true =
-              ap (λ ks. is_among ks k) (sym keys_are) ∙ (open_parts k (point_of x) (ap (is_open_at k) (sym newest) ∙ ap (λ j. is_open_at k (point_at qs j)) (sym same) ∙ h)).1 in
-            subst (Has (with_node kept.chain keys n k)) (sym same) (has_newest k (is_among keys k) refl inside))
-          (cases_lt n m))
-        (cases_lt m n)
+      (λ le. ⊎_elim (λ far. absurd (not_true (is_open_at k gone) refl (ap (is_open_at k) (sym (past m far)) ∙ h)))
+      (λ near.
+      let same : m ≡ n = omega (le, near, arith) in
+      let inside : is_among keys k ≡ true =
+      ap (λ ks. is_among ks k) (sym keys_are) ∙ (open_parts k (point_of x) (ap (is_open_at k) (sym newest) ∙ ap (λ j. is_open_at k (point_at qs j)) (sym same) ∙ h)).1 in
+      subst (Has (with_node kept.chain keys n k)) (sym same) (has_newest k (is_among keys k) refl inside))
+      (cases_lt n m))
+      (cases_lt m n)
 
   starts_by : (ns : List ℕ) → AllByRecursion (λ m. m < n) ns → StartsOpen ps false ns → (b : Bool) → StartsOpen qs false (cond b (ns ++ n ∷ []) ns)
   starts_by [] less h true = inl (ap (λ (p : Point). p.finished) newest ∙ open_one)
@@ -230,12 +232,13 @@ module _ (d : ℕ) (nodes : List Node) (c new : Chains) (kept : IsKept d nodes c
     below = λ k. below_both k (λ m. m < length qs) (below_added k) (let s = size in let more = length_push ps (point_of x) in omega (s, more, arith)) (is_among keys k);
     members = λ k. members_added k (is_among keys k) refl;
     found = found_added;
-    starts = λ k. starts_by (kept.chain k) (below k) (kept.chained.starts k) (is_among keys k) }
+    starts = λ k. starts_by (kept.chain k) (below k) (kept.chained.starts k) (is_among keys k);
+  }
 
   old_or_new : (i : ℕ) (y : Node) → i < length (nodes ++ x ∷ []) → y ≡ slice_index_or (nodes ++ x ∷ []) i y → ((i < length nodes) × (y ≡ slice_index_or nodes i y)) ⊎ ((i ≡ length nodes) × (y ≡ x))
   old_or_new i y lt at =
       ⊎_elim (λ less. inl (less, at ∙ get_or_append_left nodes (x ∷ []) y i less))
-        (λ le. let more = length_push nodes x in let same : i ≡ length nodes = omega (le, more, lt, arith) in inr (same, at ∙ get_or_push nodes x y i (sym same))) (cases_lt i (length nodes))
+      (λ le. let more = length_push nodes x in let same : i ≡ length nodes = omega (le, more, lt, arith) in inr (same, at ∙ get_or_push nodes x y i (sym same))) (cases_lt i (length nodes))
 
   counts_same : (m : ℕ) → m ≤ n → (ks : List Key) → waiting (λ k. first_number (kept.chain k)) m ks ≡ waiting (λ k. first_number (with_node kept.chain keys n k)) m ks
   counts_same m le ks = waiting_same (λ k. first_number (kept.chain k)) (λ k. first_number (with_node kept.chain keys n k)) m (λ k. sym (no_later n m (kept.chain k) (is_among keys k) le)) ks
@@ -246,18 +249,19 @@ module _ (d : ℕ) (nodes : List Node) (c new : Chains) (kept : IsKept d nodes c
     holds = links kept.chain kept.holds below;
     small = let more = length_push nodes x in let is = n_is in omega (more, is, few, arith);
     distinct = λ i y lt at.
-      ⊎_elim (λ old. kept.distinct i y old.0 old.1) (λ last. subst (λ (z : Node). IsDistinct key_eq z.keys.items) (sym last.1) (subst (IsDistinct key_eq) (sym keys_are) distinct)) (old_or_new i y lt at);
+        ⊎_elim (λ old. kept.distinct i y old.0 old.1) (λ last. subst (λ (z : Node). IsDistinct key_eq z.keys.items) (sym last.1) (subst (IsDistinct key_eq) (sym keys_are) distinct)) (old_or_new i y lt at);
     chained = subst (λ rs. IsChained rs (with_node kept.chain keys n) []) (sym (points_push d nodes x)) chained_added;
     counted = λ i y lt at unfinished_one.
-      ⊎_elim (λ old. kept.counted i y old.0 old.1 unfinished_one ∙ counts_same (d + i) (let is = n_is in let less = old.0 in omega (is, less, arith)) y.keys.items)
+        ⊎_elim (λ old. kept.counted i y old.0 old.1 unfinished_one ∙ counts_same (d + i) (let is = n_is in let less = old.0 in omega (is, less, arith)) y.keys.items)
         (λ last.
-          let itself : n ≤ n = omega arith in
-          let here : n ≡ d + i = let is = n_is in let same = last.0 in omega (is, same, arith) in
-          subst (λ (z : Node). z.waits ≡ waiting (λ k. first_number (with_node kept.chain keys n k)) (d + i) z.keys.items) (sym last.1)
-            (waits_is ∙ counts kept.chain kept.holds below ∙ counts_same n itself keys
-              ∙ ap (waiting (λ k. first_number (with_node kept.chain keys n k)) n) (sym keys_are)
-              ∙ ap (λ m. waiting (λ k. first_number (with_node kept.chain keys n k)) m x.keys.items) here))
-        (old_or_new i y lt at) }
+        let itself : n ≤ n = omega arith in
+        let here : n ≡ d + i = let is = n_is in let same = last.0 in omega (is, same, arith) in
+        subst (λ (z : Node). z.waits ≡ waiting (λ k. first_number (with_node kept.chain keys n k)) (d + i) z.keys.items) (sym last.1)
+        (waits_is ∙ counts kept.chain kept.holds below ∙ counts_same n itself keys
+        ∙ ap (waiting (λ k. first_number (with_node kept.chain keys n k)) n) (sym keys_are)
+        ∙ ap (λ m. waiting (λ k. first_number (with_node kept.chain keys n k)) m x.keys.items) here))
+        (old_or_new i y lt at);
+  }
 
 pub kept_reserved : (d : ℕ) (nodes : List Node) (c new : Chains) → IsSame c new → IsKept d nodes c [] → IsKept d nodes new []
 kept_reserved d nodes c new same kept = record {
@@ -266,7 +270,8 @@ kept_reserved d nodes c new same kept = record {
   small = kept.small;
   distinct = kept.distinct;
   chained = kept.chained;
-  counted = kept.counted }
+  counted = kept.counted;
+}
 
 pub read_last : (nodes now : List Node) (x y : Node) (at : ℕ) → at ≡ length nodes → now ≡ nodes ++ x ∷ [] → y ≡ slice_index_or now at y → y ≡ x
 read_last nodes now x y at at_is now_is read = read ∙ ap (λ ns. slice_index_or ns at y) now_is ∙ get_or_push nodes x y at (sym at_is)

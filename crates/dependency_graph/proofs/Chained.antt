@@ -19,6 +19,7 @@ not_true false h e = cc
 least_cond_none : (b : Bool) (at : ℕ) (o : Option ℕ) → (b ≡ true → ⊥) → o ≡ None → cond b (Some at) o ≡ None
 least_cond_none true at o h e = absurd (h refl)
 least_cond_none false at o h e = e
+
 least_none : (p : Point → Bool) (at : ℕ) (xs : List Point) → ((n : ℕ) → p (point_at xs n) ≡ true → ⊥) → least p at xs ≡ None
 least_none p at [] h = refl
 least_none p at (x ∷ xs) h = least_cond_none (p x) at (least p (suc at) xs) (h zero) (least_none p (suc at) xs (λ n. h (suc n)))
@@ -33,7 +34,7 @@ least_some p at (x ∷ xs) zero lt h before = let same : at ≡ at + 0 = omega a
 least_some p at (x ∷ xs) (suc n) lt h before =
     let same : suc at + n ≡ at + suc n = omega arith in
     least_cond_some (p x) at (least p (suc at) xs) (Some (at + suc n)) (before zero (omega arith))
-      (least_some p (suc at) xs n (omega (lt, arith)) h (λ m less. before (suc m) (omega (less, arith))) ∙ ap Some same)
+    (least_some p (suc at) xs n (omega (lt, arith)) h (λ m less. before (suc m) (omega (less, arith))) ∙ ap Some same)
 
 pub or_cases : (b c : Bool) → (b || c) ≡ true → (b ≡ true) ⊎ (c ≡ true)
 or_cases true c h = inl refl
@@ -56,7 +57,7 @@ chain_front ps k (n ∷ ns) rising below members found starts =
     let open_one : is_finished_at ps n ≡ false = ⊎_elim (λ e. e) (λ e. absurd (not_true false refl e)) starts in
     let same : 0 + n ≡ n = omega arith in
     sym (least_some (is_open_at k) 0 ps n below.0 (members.0 open_one)
-      (λ m less e. ⊎_elim (λ is. omega (is, less, arith)) (λ in_rest. let far = all_has (λ j. n < j) ns m rising.0 in_rest in omega (far, less, arith)) (has_cases m n ns (found m e))) ∙ ap Some same)
+    (λ m less e. ⊎_elim (λ is. omega (is, less, arith)) (λ in_rest. let far = all_has (λ j. n < j) ns m rising.0 in_rest in omega (far, less, arith)) (has_cases m n ns (found m e))) ∙ ap Some same)
 
 pub waiting_same : (f g : Key → Option ℕ) (n : ℕ) → ((k : Key) → is_below n (f k) ≡ is_below n (g k)) → (ks : List Key) → waiting f n ks ≡ waiting g n ks
 waiting_same f g n h [] = refl
@@ -64,8 +65,9 @@ waiting_same f g n h (k ∷ ks) = ap (λ b. cond b 1 0 + waiting f n ks) (h k) �
 
 pub kept_is_sound : (before : ℕ) (nodes : List Node) (c : Chains) → IsKept before nodes c [] → IsSound before nodes c
 kept_is_sound before nodes c kept = record {
-    small = kept.small;
-    front = λ k. first_is c kept.chain kept.holds k
+  small = kept.small;
+  front = λ k. first_is c kept.chain kept.holds k
       ∙ chain_front (points before nodes) k (kept.chain k) (kept.chained.rising k) (kept.chained.below k) (kept.chained.members k) (kept.chained.found k) (kept.chained.starts k);
-    counted = λ i n lt at open_one. kept.counted i n lt at open_one
-      ∙ waiting_same (λ k. first_number (kept.chain k)) (first_of c) (before + i) (λ k. ap (is_below (before + i)) (sym (first_is c kept.chain kept.holds k))) n.keys.items }
+  counted = λ i n lt at open_one. kept.counted i n lt at open_one
+      ∙ waiting_same (λ k. first_number (kept.chain k)) (first_of c) (before + i) (λ k. ap (is_below (before + i)) (sym (first_is c kept.chain kept.holds k))) n.keys.items;
+}

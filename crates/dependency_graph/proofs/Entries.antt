@@ -53,7 +53,7 @@ pub ends_opened : (s t : BTreeMap Key (Option Ends)) (key : Key) → ((q : Key) 
 ends_opened s t key h none k =
     ends_updated s t key (Some None) h k
     ∙ same_cond (key_eq k key) None (unwrap_or (get key_cmp s k) None)
-      (λ e. ap (λ q. unwrap_or (get key_cmp s q) None) (key_eq_same k key e) ∙ no_entry (get key_cmp s key) none)
+    (λ e. ap (λ q. unwrap_or (get key_cmp s q) None) (key_eq_same k key e) ∙ no_entry (get key_cmp s key) none)
 
 pub no_keys : (t : BTreeMap Key (Option Ends)) → t.entries ≡ [] → (k : Key) → unwrap_or (get key_cmp t k) None ≡ None
 no_keys t h k = ap (λ es. unwrap_or (lookup (is_at (key_cmp k)) es) None) h
@@ -66,7 +66,8 @@ new_holds c h = record {
   lists = λ k. [];
   owner = λ j. some_key;
   whole = record { ends = no_keys c.table h; linked = λ k. tt; rising = λ k. tt; owned = λ k. tt };
-  numbers = λ k. refl }
+  numbers = λ k. refl;
+}
 
 pub all_stay : (c new : Chains) → ((k : Key) → HasEntry c k → HasEntry new k) → (ks : List Key) → AllByRecursion (HasEntry c) ks → AllByRecursion (HasEntry new) ks
 all_stay c new h [] g = tt

@@ -56,7 +56,7 @@ pub key_more : (ks : List Key) (k : Key) (n : ℕ) (ps : List Point) → least (
 key_more ks k n ps =
     let same : 0 + n ≡ n = omega arith in
     least_alike (holds_back (ks ++ k ∷ [])) (λ e. holds_back ks e || is_open_at k e) 0 (take n ps)
-      (λ e. list_any-append (λ k. is_open_at k e) ks (k ∷ []) ∙ ap (λ b. holds_back ks e || b) (or_false (is_open_at k e)))
+    (λ e. list_any-append (λ k. is_open_at k e) ks (k ∷ []) ∙ ap (λ b. holds_back ks e || b) (or_false (is_open_at k e)))
     ∙ least_either (holds_back ks) (is_open_at k) 0 n ps
     ∙ ap (λ m. earlier m (least (holds_back ks) 0 (take n ps)) (least (is_open_at k) 0 ps)) same
 
@@ -101,7 +101,7 @@ ready_count first n ps h (k ∷ ks) =
     let same : 0 + n ≡ n = omega arith in
     none_either (is_open_at k) (holds_back ks) 0 (take n ps)
     ∙ ap (λ b. b && is_none (least (holds_back ks) 0 (take n ps)))
-        (none_before (is_open_at k) 0 n ps ∙ ap (λ m. not (is_below m (least (is_open_at k) 0 ps))) same ∙ ap (λ o. not (is_below n o)) (sym (h k)))
+    (none_before (is_open_at k) 0 n ps ∙ ap (λ m. not (is_below m (least (is_open_at k) 0 ps))) same ∙ ap (λ o. not (is_below n o)) (sym (h k)))
     ∙ count_one (is_below n (first k)) (waiting first n ks) (is_none (least (holds_back ks) 0 (take n ps))) (ready_count first n ps h ks)
 
 pub earlier_takes : (n f : ℕ) (best o l : Option ℕ) → o ≡ Some f → f < unwrap_or best n → l ≡ Some f → l ≡ earlier n best o

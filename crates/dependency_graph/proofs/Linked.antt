@@ -46,12 +46,13 @@ some_here e h = cc
 
 off_later : (es : ℕ → Option Edge) (l : Link) (e : Edge) → e.node ≡ l.node → es l.at ≡ Some e → (ls : List Link) → AllByRecursion (λ n. l.node < n) (map number_of ls) → IsLinked es ls → IsOff l.at ls
 off_later es l e n h [] less linked = tt
-off_later es l e n h (m ∷ ms) less linked =
-    ( (λ same.
-        let both : Some e ≡ Some (record { node = m.node; after = head_of ms }) = sym h ∙ ap es (sym same) ∙ linked.0 in
-        let nodes : e.node ≡ m.node = ap (λ o. option_map_or (λ (x : Edge). x.node) o 0) both in
-        omega (arith, less.0, nodes, n))
-    , off_later es l e n h ms less.1 linked.1 )
+off_later es l e n h (m ∷ ms) less linked = (
+  (λ same.
+      let both : Some e ≡ Some (record { node = m.node; after = head_of ms }) = sym h ∙ ap es (sym same) ∙ linked.0 in
+      let nodes : e.node ≡ m.node = ap (λ o. option_map_or (λ (x : Edge). x.node) o 0) both in
+      omega (arith, less.0, nodes, n)),
+  off_later es l e n h ms less.1 linked.1,
+)
 
 apart_is : (es : ℕ → Option Edge) (ls : List Link) → IsRising (map number_of ls) → IsLinked es ls → IsApart ls
 apart_is es [] rising linked = tt
@@ -115,10 +116,10 @@ pushed_linked : (es new : ℕ → Option Edge) (ls : List Link) (x : Link)
 pushed_linked es new [] x here link same free apart h = (here, tt)
 pushed_linked es new (l ∷ ls) x here link same free apart h =
     linked_push es new l ls x here (λ edge is. link (record { first = l.at; last = last_of l ls }) edge refl is)
-      (all_both (λ (m : Link). m.at ≡ x.at → ⊥) (λ (m : Link). m.at ≡ x.at → ⊥) (λ (m : Link). (last_of l ls ≡ m.at → ⊥) → new m.at ≡ es m.at) (l ∷ ls)
-        (λ m off again far. same m.at off (λ e is. λ at. far (ap (λ (o : Option Ends). option_map_or (λ (y : Ends). y.last) o e.last) is ∙ at)))
-        (taken_off es x.at (l ∷ ls) free h) (taken_off es x.at (l ∷ ls) free h))
-      apart h
+    (all_both (λ (m : Link). m.at ≡ x.at → ⊥) (λ (m : Link). m.at ≡ x.at → ⊥) (λ (m : Link). (last_of l ls ≡ m.at → ⊥) → new m.at ≡ es m.at) (l ∷ ls)
+    (λ m off again far. same m.at off (λ e is. λ at. far (ap (λ (o : Option Ends). option_map_or (λ (y : Ends). y.last) o e.last) is ∙ at)))
+    (taken_off es x.at (l ∷ ls) free h) (taken_off es x.at (l ∷ ls) free h))
+    apart h
 
 module _ (old new : Chains) (key : Key) (node : ℕ) (nodes : Key → List ℕ) (p : Pushes old new key node) (h : Holds old nodes) (less : AllByRecursion (λ n. n < node) (nodes key)) where
   more : List Link
@@ -134,7 +135,7 @@ module _ (old new : Chains) (key : Key) (node : ℕ) (nodes : Key → List ℕ) 
   owned_still : (k : Key) → AllByRecursion (λ (l : Link). owner_now l.at ≡ k) (h.lists k)
   owned_still k =
       all_both (λ (l : Link). l.at ≡ p.at → ⊥) (λ (l : Link). h.owner l.at ≡ k) (λ (l : Link). owner_now l.at ≡ k) (h.lists k)
-        (λ l off is. kept_owner l.at off ∙ is) (taken_off (edge_at old) p.at (h.lists k) p.fresh (h.whole.linked k)) (h.whole.owned k)
+      (λ l off is. kept_owner l.at off ∙ is) (taken_off (edge_at old) p.at (h.lists k) p.fresh (h.whole.linked k)) (h.whole.owned k)
 
   ends_push : (k : Key) (b : Bool) → key_eq k key ≡ b → cond b (Some (record { first = first_or p.at (ends_at old key); last = p.at })) (ends_at old k) ≡ ends_of (cond b more (h.lists k))
   unfolding more
@@ -145,15 +146,15 @@ module _ (old new : Chains) (key : Key) (node : ℕ) (nodes : Key → List ℕ) 
   unfolding more
   linked_now k true e =
       pushed_linked (edge_at old) (edge_at new) (h.lists key) (record { at = p.at; node = node }) p.here
-        (λ x edge is. p.link x edge (h.whole.ends key ∙ is))
-        (λ j off far. p.same j off (λ x is. far x (sym (h.whole.ends key) ∙ is)))
-        p.fresh (apart_is (edge_at old) (h.lists key) (h.whole.rising key) (h.whole.linked key)) (h.whole.linked key)
+      (λ x edge is. p.link x edge (h.whole.ends key ∙ is))
+      (λ j off far. p.same j off (λ x is. far x (sym (h.whole.ends key) ∙ is)))
+      p.fresh (apart_is (edge_at old) (h.lists key) (h.whole.rising key) (h.whole.linked key)) (h.whole.linked key)
   linked_now k false e =
       linked_elsewhere (edge_at old) (edge_at new) (h.lists k)
-        (all_both (λ (l : Link). l.at ≡ p.at → ⊥) (λ (l : Link). h.owner l.at ≡ k) (λ (l : Link). edge_at new l.at ≡ edge_at old l.at) (h.lists k)
-          (λ l off is. p.same l.at off (λ x ends at. other_key k key e (sym is ∙ ap h.owner (sym at) ∙ end_owned h.owner key (h.lists key) x (h.whole.owned key) (sym (h.whole.ends key) ∙ ends))))
-          (taken_off (edge_at old) p.at (h.lists k) p.fresh (h.whole.linked k)) (h.whole.owned k))
-        (h.whole.linked k)
+      (all_both (λ (l : Link). l.at ≡ p.at → ⊥) (λ (l : Link). h.owner l.at ≡ k) (λ (l : Link). edge_at new l.at ≡ edge_at old l.at) (h.lists k)
+      (λ l off is. p.same l.at off (λ x ends at. other_key k key e (sym is ∙ ap h.owner (sym at) ∙ end_owned h.owner key (h.lists key) x (h.whole.owned key) (sym (h.whole.ends key) ∙ ends))))
+      (taken_off (edge_at old) p.at (h.lists k) p.fresh (h.whole.linked k)) (h.whole.owned k))
+      (h.whole.linked k)
 
   numbers_now : (k : Key) (b : Bool) → key_eq k key ≡ b → map number_of (cond b more (h.lists k)) ≡ cond b (nodes key ++ node ∷ []) (nodes k)
   unfolding more
@@ -164,7 +165,7 @@ module _ (old new : Chains) (key : Key) (node : ℕ) (nodes : Key → List ℕ) 
   unfolding more
   rising_now k true e =
       subst IsRising (sym (map-append number_of (h.lists key) ((record { at = p.at; node = node }) ∷ [])))
-        (rising_push (map number_of (h.lists key)) node (subst (λ ns. AllByRecursion (λ n. n < node) ns) (sym (h.numbers key)) less) (h.whole.rising key))
+      (rising_push (map number_of (h.lists key)) node (subst (λ ns. AllByRecursion (λ n. n < node) ns) (sym (h.numbers key)) less) (h.whole.rising key))
   rising_now k false e = h.whole.rising k
 
   owned_now : (k : Key) (b : Bool) → key_eq k key ≡ b → AllByRecursion (λ (l : Link). owner_now l.at ≡ k) (cond b more (h.lists k))
@@ -172,8 +173,8 @@ module _ (old new : Chains) (key : Key) (node : ℕ) (nodes : Key → List ℕ) 
   owned_now k true e =
       let same : key ≡ k = sym (key_eq_same k key e) in
       all_push (λ (l : Link). owner_now l.at ≡ k) (h.lists key) (record { at = p.at; node = node })
-        (all_both (λ (l : Link). owner_now l.at ≡ key) (λ (l : Link). owner_now l.at ≡ key) (λ (l : Link). owner_now l.at ≡ k) (h.lists key) (λ l is again. is ∙ same) (owned_still key) (owned_still key))
-        (ap (λ b. cond b key (h.owner p.at)) (eq-eqb p.at p.at refl) ∙ same)
+      (all_both (λ (l : Link). owner_now l.at ≡ key) (λ (l : Link). owner_now l.at ≡ key) (λ (l : Link). owner_now l.at ≡ k) (h.lists key) (λ l is again. is ∙ same) (owned_still key) (owned_still key))
+      (ap (λ b. cond b key (h.owner p.at)) (eq-eqb p.at p.at refl) ∙ same)
   owned_now k false e = owned_still k
 
   pub push_holds : Holds new (with_chain nodes key (nodes key ++ node ∷ []))
@@ -184,8 +185,10 @@ module _ (old new : Chains) (key : Key) (node : ℕ) (nodes : Key → List ℕ) 
       ends = λ k. p.ends k ∙ ends_push k (key_eq k key) refl;
       linked = λ k. linked_now k (key_eq k key) refl;
       rising = λ k. rising_now k (key_eq k key) refl;
-      owned = λ k. owned_now k (key_eq k key) refl };
-    numbers = λ k. numbers_now k (key_eq k key) refl }
+      owned = λ k. owned_now k (key_eq k key) refl;
+    };
+    numbers = λ k. numbers_now k (key_eq k key) refl;
+  }
 
 -- ---- one node less
 module _ (old new : Chains) (key : Key) (nodes : Key → List ℕ) (h : Holds old nodes) (l : Link) (ls : List Link) (lists_is : h.lists key ≡ l ∷ ls)
@@ -210,15 +213,15 @@ module _ (old new : Chains) (key : Key) (nodes : Key → List ℕ) (h : Holds ol
   linked_pop : (k : Key) (b : Bool) → key_eq k key ≡ b → IsLinked (edge_at new) (cond b ls (h.lists k))
   linked_pop k true e =
       linked_elsewhere (edge_at old) (edge_at new) ls
-        (all_both (λ (m : Link). m.at ≡ l.at → ⊥) (λ (m : Link). m.at ≡ l.at → ⊥) (λ (m : Link). edge_at new m.at ≡ edge_at old m.at) ls (λ m off again. p.same m.at off)
-          (apart_is (edge_at old) (l ∷ ls) rising_key whole_key).0 (apart_is (edge_at old) (l ∷ ls) rising_key whole_key).0)
-        whole_key.1
+      (all_both (λ (m : Link). m.at ≡ l.at → ⊥) (λ (m : Link). m.at ≡ l.at → ⊥) (λ (m : Link). edge_at new m.at ≡ edge_at old m.at) ls (λ m off again. p.same m.at off)
+      (apart_is (edge_at old) (l ∷ ls) rising_key whole_key).0 (apart_is (edge_at old) (l ∷ ls) rising_key whole_key).0)
+      whole_key.1
   linked_pop k false e =
       linked_elsewhere (edge_at old) (edge_at new) (h.lists k)
-        (all_both (λ (m : Link). h.owner m.at ≡ k) (λ (m : Link). h.owner m.at ≡ k) (λ (m : Link). edge_at new m.at ≡ edge_at old m.at) (h.lists k)
-          (λ m is again. p.same m.at (λ at. other_key k key e (sym is ∙ ap h.owner at ∙ owned_key.0)))
-          (h.whole.owned k) (h.whole.owned k))
-        (h.whole.linked k)
+      (all_both (λ (m : Link). h.owner m.at ≡ k) (λ (m : Link). h.owner m.at ≡ k) (λ (m : Link). edge_at new m.at ≡ edge_at old m.at) (h.lists k)
+      (λ m is again. p.same m.at (λ at. other_key k key e (sym is ∙ ap h.owner at ∙ owned_key.0)))
+      (h.whole.owned k) (h.whole.owned k))
+      (h.whole.linked k)
 
   rising_pop : (k : Key) (b : Bool) → IsRising (map number_of (cond b ls (h.lists k)))
   rising_pop k true = rising_key.1
@@ -240,8 +243,10 @@ module _ (old new : Chains) (key : Key) (nodes : Key → List ℕ) (h : Holds ol
       ends = λ k. p.ends k ∙ ends_pop k (key_eq k key) refl;
       linked = λ k. linked_pop k (key_eq k key) refl;
       rising = λ k. rising_pop k (key_eq k key);
-      owned = λ k. owned_pop k (key_eq k key) refl };
-    numbers = λ k. numbers_pop ns is k (key_eq k key) }
+      owned = λ k. owned_pop k (key_eq k key) refl;
+    };
+    numbers = λ k. numbers_pop ns is k (key_eq k key);
+  }
 
 rest_of : List ℕ → List ℕ
 rest_of [] = []
@@ -254,8 +259,8 @@ by_links old new key nodes n ns h is (l ∷ ls) lists_is pops =
     let both : l.node ∷ map number_of ls ≡ n ∷ ns = ap (map number_of) (sym lists_is) ∙ h.numbers key ∙ is in
     let tail : map number_of ls ≡ ns = cc in
     popped old new key nodes h l ls lists_is
-      (pops (record { first = l.at; last = last_of l ls }) (record { node = l.node; after = head_of ls }) (h.whole.ends key ∙ ap ends_of lists_is) (subst (IsLinked (edge_at old)) lists_is (h.whole.linked key)).0)
-      ns tail
+    (pops (record { first = l.at; last = last_of l ls }) (record { node = l.node; after = head_of ls }) (h.whole.ends key ∙ ap ends_of lists_is) (subst (IsLinked (edge_at old)) lists_is (h.whole.linked key)).0)
+    ns tail
 
 pub pop_holds : (old new : Chains) (key : Key) → ((e : Ends) (edge : Edge) → ends_at old key ≡ Some e → edge_at old e.first ≡ Some edge → Pops old new key e edge)
     → (nodes : Key → List ℕ) (n : ℕ) (ns : List ℕ) → Holds old nodes → nodes key ≡ n ∷ ns → Holds new (with_chain nodes key ns)
@@ -270,8 +275,10 @@ same_holds old new s nodes h = record {
     ends = λ k. s.ends k ∙ h.whole.ends k;
     linked = λ k. linked_elsewhere (edge_at old) (edge_at new) (h.lists k) (all_of (λ (l : Link). edge_at new l.at ≡ edge_at old l.at) (h.lists k) (λ l. s.edges l.at)) (h.whole.linked k);
     rising = h.whole.rising;
-    owned = h.whole.owned };
-  numbers = h.numbers }
+    owned = h.whole.owned;
+  };
+  numbers = h.numbers;
+}
 
 pub holds_alike : (c : Chains) (f g : Key → List ℕ) → ((k : Key) → f k ≡ g k) → Holds c f → Holds c g
 holds_alike c f g same h = record { lists = h.lists; owner = h.owner; whole = h.whole; numbers = λ k. h.numbers k ∙ same k }

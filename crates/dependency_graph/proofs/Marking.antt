@@ -32,11 +32,12 @@ module _ (ps qs : List Point) (n : ℕ) (mark : IsMarked ps qs n) (chain : Key �
   all_marked : (k : Key) (ns : List ℕ) → AllByRecursion (λ m. is_finished_at ps m ≡ false → is_open_at k (point_at ps m) ≡ true) ns
       → AllByRecursion (λ m. is_finished_at qs m ≡ false → is_open_at k (point_at qs m) ≡ true) ns
   all_marked k [] h = tt
-  all_marked k (m ∷ ns) h =
-      ( (λ open_one.
-          let same = mark.others m (other m open_one) in
-          ap (is_open_at k) same ∙ h.0 (sym (ap (λ (p : Point). p.finished) same) ∙ open_one))
-      , all_marked k ns h.1 )
+  all_marked k (m ∷ ns) h = (
+    (λ open_one.
+        let same = mark.others m (other m open_one) in
+        ap (is_open_at k) same ∙ h.0 (sym (ap (λ (p : Point). p.finished) same) ∙ open_one)),
+    all_marked k ns h.1,
+  )
 
   starts_marked : (k : Key) (ns : List ℕ) → StartsOpen ps false ns
       → AllByRecursion (λ m. is_finished_at ps m ≡ false → is_open_at k (point_at ps m) ≡ true) ns → StartsOpen qs (is_among (point_at ps n).keys k) ns
@@ -44,7 +45,7 @@ module _ (ps qs : List Point) (n : ℕ) (mark : IsMarked ps qs n) (chain : Key �
   starts_marked k (m ∷ ns) h members =
       let open_one : is_finished_at ps m ≡ false = ⊎_elim (λ e. e) (λ e. absurd (not_true false refl e)) h in
       ⊎_elim (λ same. inr (ap (λ j. is_among (point_at ps j).keys k) (sym same) ∙ (open_parts k (point_at ps m) (members.0 open_one)).1))
-        (λ far. inl (ap (λ (p : Point). p.finished) (mark.others m far) ∙ open_one)) (cases_eq m n)
+      (λ far. inl (ap (λ (p : Point). p.finished) (mark.others m far) ∙ open_one)) (cases_eq m n)
 
   chained_marked : IsChained qs chain (point_at ps n).keys
   chained_marked = record {
@@ -52,7 +53,8 @@ module _ (ps qs : List Point) (n : ℕ) (mark : IsMarked ps qs n) (chain : Key �
     below = λ k. subst (λ size. AllByRecursion (λ m. m < size) (chain k)) (sym mark.size) (chained.below k);
     members = λ k. all_marked k (chain k) (chained.members k);
     found = λ k m h. chained.found k m (ap (is_open_at k) (sym (mark.others m (other m (open_parts k (point_at qs m) h).0))) ∙ h);
-    starts = λ k. starts_marked k (chain k) (chained.starts k) (chained.members k) }
+    starts = λ k. starts_marked k (chain k) (chained.starts k) (chained.members k);
+  }
 
 points_set_kept : (nodes : List Node) (i : ℕ) (x : Node) → map point_of (slice_set nodes i x) ≡ slice_set (map point_of nodes) i (point_of x)
 points_set_kept [] i x = refl
@@ -90,13 +92,14 @@ module _ (d : ℕ) (nodes : List Node) (c : Chains) (kept : IsKept d nodes c [])
   is_marked = record {
     size = let a = length_points d nodes in let b = length_points d (slice_set nodes i marked) in let e = length_set nodes i marked in omega (a, b, e, arith);
     here = ap (λ qs. (point_at qs (d + i)).finished) (points_set d i nodes marked) ∙ ap (λ (p : Point). p.finished) (get_or-set_same (points d nodes) (d + i) (point_of marked) gone size_now);
-    others = λ m far. ap (λ qs. point_at qs m) (points_set d i nodes marked) ∙ get_or-set_other (points d nodes) (d + i) m (point_of marked) gone far }
+    others = λ m far. ap (λ qs. point_at qs m) (points_set d i nodes marked) ∙ get_or-set_other (points d nodes) (d + i) m (point_of marked) gone far;
+  }
 
   counted_marked : IsCounted d (slice_set nodes i marked) kept.chain
   counted_marked j y in_range read unfinished =
       let size = length_set nodes i marked in
       ⊎_elim (λ here. absurd (not_true y.finished unfinished (ap (λ (z : Node). z.finished) here.1)))
-        (λ far. kept.counted j y (omega (in_range, size, arith)) far.1 unfinished) (node_in_set nodes i j marked y lt read)
+      (λ far. kept.counted j y (omega (in_range, size, arith)) far.1 unfinished) (node_in_set nodes i j marked y lt read)
 
   pub kept_marked : IsKept d (slice_set nodes i marked) c (keys_at (slice_set nodes i marked) i)
   kept_marked =
@@ -109,11 +112,12 @@ module _ (d : ℕ) (nodes : List Node) (c : Chains) (kept : IsKept d nodes c [])
         holds = kept.holds;
         small = let old = kept.small in omega (size, old, arith);
         distinct = λ j y in_range read.
-          ⊎_elim (λ here. subst (λ (z : Node). IsDistinct key_eq z.keys.items) (sym here.1) (kept.distinct i x lt at))
+            ⊎_elim (λ here. subst (λ (z : Node). IsDistinct key_eq z.keys.items) (sym here.1) (kept.distinct i x lt at))
             (λ far. kept.distinct j y (omega (in_range, size, arith)) far.1) (node_in_set nodes i j marked y lt read);
         chained = subst (IsChained (points d (slice_set nodes i marked)) kept.chain) (keys_old ∙ sym keys_now)
-          (chained_marked (points d nodes) (points d (slice_set nodes i marked)) (d + i) is_marked kept.chain kept.chained);
-        counted = counted_marked }
+            (chained_marked (points d nodes) (points d (slice_set nodes i marked)) (d + i) is_marked kept.chain kept.chained);
+        counted = counted_marked;
+      }
 
 -- ---- a key is settled
 starts_settled : (ps : List Point) (ns : List ℕ) (b c : Bool) → ((n : ℕ) → b ≡ true → first_number ns ≡ Some n → is_finished_at ps n ≡ false) → StartsOpen ps (b || c) ns → StartsOpen ps c ns
@@ -133,8 +137,10 @@ kept_settled d nodes c k late kept front = record {
     members = kept.chained.members;
     found = kept.chained.found;
     starts = λ q. starts_settled (points d nodes) (kept.chain q) (key_eq q k) (is_among late q)
-      (λ n e first. front n (first_is c kept.chain kept.holds k ∙ ap (λ x. first_number (kept.chain x)) (sym (key_eq_same q k e)) ∙ first)) (kept.chained.starts q) };
-  counted = kept.counted }
+        (λ n e first. front n (first_is c kept.chain kept.holds k ∙ ap (λ x. first_number (kept.chain x)) (sym (key_eq_same q k e)) ∙ first)) (kept.chained.starts q);
+  };
+  counted = kept.counted;
+}
 
 -- ---- the finished beginning
 one_gone : (d : ℕ) (ps : List Point) → replicate (suc d) gone ++ ps ≡ replicate d gone ++ gone ∷ ps
@@ -190,7 +196,8 @@ module _ (ps qs : List Point) (a : IsAlike ps qs) (chain : Key → List ℕ) (la
     below = λ k. subst (λ size. AllByRecursion (λ m. m < size) (chain k)) (sym a.size) (chained.below k);
     members = λ k. all_alike k (chain k) (chained.members k);
     found = λ k m h. chained.found k m (sym (a.open_at k m) ∙ h);
-    starts = λ k. starts_alike (is_among late k) (chain k) (chained.starts k) }
+    starts = λ k. starts_alike (is_among late k) (chain k) (chained.starts k);
+  }
 
 finished_swap : (xs : List Point) (p q : Point) (zs : List Point) → q.finished ≡ p.finished → (m : ℕ) → is_finished_at (xs ++ q ∷ zs) m ≡ is_finished_at (xs ++ p ∷ zs) m
 finished_swap [] p q zs e zero = e
@@ -218,15 +225,17 @@ kept_without d n rest c e kept = record {
   small = let old = kept.small in omega (old, arith);
   distinct = λ i x lt read. kept.distinct (suc i) x (omega (lt, arith)) read;
   chained = subst (λ qs. IsChained qs kept.chain []) (sym (more_gone d (map point_of rest)))
-    (chained_alike (points d (n ∷ rest)) (replicate d gone ++ gone ∷ map point_of rest)
+      (chained_alike (points d (n ∷ rest)) (replicate d gone ++ gone ∷ map point_of rest)
       (record {
         size = size_swap (replicate d gone) (point_of n) gone (map point_of rest);
         finished = finished_swap (replicate d gone) (point_of n) gone (map point_of rest) (sym e);
-        open_at = λ k. open_swap k (replicate d gone) (point_of n) gone (map point_of rest) (not_open k (point_of n) e) })
+        open_at = λ k. open_swap k (replicate d gone) (point_of n) gone (map point_of rest) (not_open k (point_of n) e);
+      })
       kept.chain [] kept.chained);
   counted = λ i x lt read unfinished.
-    let same : d + suc i ≡ d + 1 + i = omega arith in
-    kept.counted (suc i) x (omega (lt, arith)) read unfinished ∙ ap (λ j. waiting (λ k. first_number (kept.chain k)) j x.keys.items) same }
+      let same : d + suc i ≡ d + 1 + i = omega arith in
+      kept.counted (suc i) x (omega (lt, arith)) read unfinished ∙ ap (λ j. waiting (λ k. first_number (kept.chain k)) j x.keys.items) same;
+}
 
 pub drop_kept : (d : ℕ) (nodes new : List Node) (c : Chains) → is_finished_first nodes ≡ true → new ≡ drop 1 nodes → IsKept d nodes c [] → IsKept (d + 1) new c []
 drop_kept d [] new c e is s = cc

@@ -61,6 +61,7 @@ once_by f g n k h x ks d true e inside rest =
     let same : k ≡ x = key_eq_same k x e in
     once_here f g n k x ks same (waiting_apart f g n k h ks (ap (is_among ks) same ∙ distinct_first x ks d))
 once_by f g n k h x ks d false e inside rest = once_later f g n k x ks (h x (flip x k ∙ e)) (rest inside)
+
 waiting_once : (f g : Key → Option ℕ) (n : ℕ) (k : Key) → ((q : Key) → key_eq q k ≡ false → g q ≡ f q) → (ks : List Key) → IsDistinct key_eq ks → is_among ks k ≡ true → waiting f n ks + bit n (g k) ≡ waiting g n ks + bit n (f k)
 waiting_once f g n k h [] d inside = absurd (not_true false refl inside)
 waiting_once f g n k h (x ∷ ks) d inside = once_by f g n k h x ks d (key_eq k x) refl inside (waiting_once f g n k h ks (distinct_rest x ks d))
@@ -101,7 +102,7 @@ module _ (ps : List Point) (chain : Key → List ℕ) (late : List Key) (chained
   found_rest : (m : ℕ) → is_open_at k (point_at ps m) ≡ true → Has ns m
   found_rest m h =
       ⊎_elim (λ same. absurd (not_true (is_finished_at ps m) (open_parts k (point_at ps m) h).0 (ap (is_finished_at ps) same ∙ done))) (λ e. e)
-        (has_cases m n ns (subst (λ xs. Has xs m) is (chained.found k m h)))
+      (has_cases m n ns (subst (λ xs. Has xs m) is (chained.found k m h)))
 
   first_in : (P : ℕ → Type 0) (m : ℕ) (xs : List ℕ) → first_number xs ≡ Some m → AllByRecursion P xs → P m
   first_in P m [] e h = cc
@@ -126,15 +127,17 @@ module _ (ps : List Point) (chain : Key → List ℕ) (late : List Key) (chained
         let open_key : is_open_at k (point_at ps m) ≡ true = open_made k (point_at ps m) open_one (ap (λ xs. is_among xs k) keys ∙ inside) in
         let rest : Has ns m = found_rest m open_key in
         let once : waiting before m ks + bit m (after k) ≡ waiting after m ks + bit m (before k) = waiting_once before after m k apart ks distinct inside in
-        let old : bit m (before k) ≡ 1 = ap (λ xs. bit m (first_number xs)) is ∙ ap (λ b. cond b 1 0) (lt-ltb n m (all_has (λ j. n < j) ns m key_rising.0 rest)) in
-        ( (λ first. let new : bit m (after k) ≡ 0 = here_bit m (after k) (at_key ∙ first) in omega (once, old, new, arith))
-        , (λ other. let new : bit m (after k) ≡ 1 = ap (bit m) at_key ∙ rest_bit m ns rest key_rising.1 other in omega (once, old, new, arith)) )
+        let old : bit m (before k) ≡ 1 = ap (λ xs. bit m (first_number xs)) is ∙ ap (λ b. cond b 1 0) (lt-ltb n m (all_has (λ j. n < j) ns m key_rising.0 rest)) in (
+          (λ first. let new : bit m (after k) ≡ 0 = here_bit m (after k) (at_key ∙ first) in omega (once, old, new, arith)),
+          (λ other. let new : bit m (after k) ≡ 1 = ap (bit m) at_key ∙ rest_bit m ns rest key_rising.1 other in omega (once, old, new, arith)),
+        )
 
     apart_step : is_among ks k ≡ false → Steps
-    apart_step out =
-        ( (λ first. absurd (not_true (is_among ks k) out
-            (ap (λ xs. is_among xs k) (sym keys) ∙ (open_parts k (point_at ps m) (first_in (λ j. is_finished_at ps j ≡ false → is_open_at k (point_at ps j) ≡ true) m ns first key_members.1 open_one)).1)))
-        , (λ other. waiting_apart before after m k apart ks out) )
+    apart_step out = (
+      (λ first. absurd (not_true (is_among ks k) out
+          (ap (λ xs. is_among xs k) (sym keys) ∙ (open_parts k (point_at ps m) (first_in (λ j. is_finished_at ps j ≡ false → is_open_at k (point_at ps j) ≡ true) m ns first key_members.1 open_one)).1))),
+      (λ other. waiting_apart before after m k apart ks out),
+    )
 
     by_among : (b : Bool) → is_among ks k ≡ b → Steps
     by_among true e = among_step e
@@ -174,13 +177,14 @@ module _ (ps : List Point) (chain : Key → List ℕ) (late : List Key) (chained
     below = λ q. below_popped (key_eq q k) q;
     members = λ q. members_popped (key_eq q k) q refl;
     found = λ q. found_popped (key_eq q k) q refl;
-    starts = λ q. starts_popped l (key_eq q k) q refl }
+    starts = λ q. starts_popped l (key_eq q k) q refl;
+  }
 
 -- ---- the nodes
 pub node_in_set : (nodes : List Node) (j i : ℕ) (x y : Node) → j < length nodes → y ≡ slice_index_or (slice_set nodes j x) i y → ((i ≡ j) × (y ≡ x)) ⊎ ((i ≡ j → ⊥) × (y ≡ slice_index_or nodes i y))
 node_in_set nodes j i x y lt h =
     ⊎_elim (λ same. inl (same, h ∙ ap (λ n. slice_index_or (slice_set nodes j x) n y) same ∙ get_or-set_same nodes j x y lt))
-      (λ other. inr (other, h ∙ get_or-set_other nodes j i x y other)) (cases_eq i j)
+    (λ other. inr (other, h ∙ get_or-set_other nodes j i x y other)) (cases_eq i j)
 
 pub length_set : (nodes : List Node) (j : ℕ) (x : Node) → length (slice_set nodes j x) ≡ length nodes
 length_set [] j x = refl
@@ -198,6 +202,7 @@ unfinished_by d nodes m (inr le) (inl lt) e = (le, lt)
 unfinished_by d nodes m (inr le) (inr past) e =
     let size = length_points d nodes in
     absurd (not_true (is_finished_at (points d nodes) m) e (ap (λ (p : Point). p.finished) (get_or_past (points d nodes) m gone (omega (size, past, le, arith)))))
+
 pub unfinished_kept : (d : ℕ) (nodes : List Node) (m : ℕ) → is_finished_at (points d nodes) m ≡ false → (d ≤ m) × ((m - d) < length nodes)
 unfinished_kept d nodes m e = unfinished_by d nodes m (cases_lt m d) (cases_lt (m - d) (length nodes)) e
 
@@ -212,11 +217,11 @@ module _ (d : ℕ) (nodes : List Node) (c new : Chains) (late : List Key) (kept 
 
   steps : (i : ℕ) (x : Node) → i < length nodes → x ≡ slice_index_or nodes i x → x.finished ≡ false
       → (first_number ns ≡ Some (d + i) → waiting old_first (d + i) x.keys.items ≡ waiting new_first (d + i) x.keys.items + 1)
-        × ((first_number ns ≡ Some (d + i) → ⊥) → waiting old_first (d + i) x.keys.items ≡ waiting new_first (d + i) x.keys.items)
+      × ((first_number ns ≡ Some (d + i) → ⊥) → waiting old_first (d + i) x.keys.items ≡ waiting new_first (d + i) x.keys.items)
   steps i x lt at open_one =
       let here : point_at (points d nodes) (d + i) ≡ point_of x = kept_at d i nodes x (sym at) lt in
       count_step (points d nodes) kept.chain late kept.chained k n ns is done (d + i) x.keys.items (kept.distinct i x lt at)
-        (ap (λ (p : Point). p.finished) here ∙ open_one) (ap (λ (p : Point). p.keys) here)
+      (ap (λ (p : Point). p.finished) here ∙ open_one) (ap (λ (p : Point). p.keys) here)
 
   pub waits_one : (m : ℕ) (x : Node) → first_number ns ≡ Some m → is_finished_at (points d nodes) m ≡ false → x ≡ slice_index_or nodes (m - d) x → 1 ≤ x.waits
   waits_one m x first open_one at =
@@ -236,9 +241,10 @@ module _ (d : ℕ) (nodes : List Node) (c new : Chains) (late : List Key) (kept 
     distinct = kept.distinct;
     chained = chained_popped (points d nodes) kept.chain late kept.chained k n ns is done inside;
     counted = λ i x lt at open_one.
-      kept.counted i x lt at open_one
-      ∙ (steps i x lt at open_one).1 (λ first. not_true (is_finished_at (points d nodes) (d + i))
-          (ap (λ (p : Point). p.finished) (kept_at d i nodes x (sym at) lt) ∙ open_one) (all_done (d + i) first)) }
+        kept.counted i x lt at open_one
+        ∙ (steps i x lt at open_one).1 (λ first. not_true (is_finished_at (points d nodes) (d + i))
+        (ap (λ (p : Point). p.finished) (kept_at d i nodes x (sym at) lt) ∙ open_one) (all_done (d + i) first));
+  }
 
   module _ (m : ℕ) (x : Node) (first : first_number ns ≡ Some m) (open_one : is_finished_at (points d nodes) m ≡ false) (at : x ≡ slice_index_or nodes (m - d) x) where
     abbrev lowered : Node
@@ -271,14 +277,15 @@ module _ (d : ℕ) (nodes : List Node) (c new : Chains) (late : List Key) (kept 
       holds = holds;
       small = let size = length_set nodes (m - d) lowered in let old = kept.small in omega (size, old, arith);
       distinct = λ i y lt read.
-        let size = length_set nodes (m - d) lowered in
-        let lt_old : i < length nodes = omega (lt, size, arith) in
-        ⊎_elim (λ here. subst (λ (z : Node). IsDistinct key_eq z.keys.items) (sym here.1) (kept.distinct (m - d) x within.1 at))
+          let size = length_set nodes (m - d) lowered in
+          let lt_old : i < length nodes = omega (lt, size, arith) in
+          ⊎_elim (λ here. subst (λ (z : Node). IsDistinct key_eq z.keys.items) (sym here.1) (kept.distinct (m - d) x within.1 at))
           (λ other. kept.distinct i y lt_old other.1) (node_in_set nodes (m - d) i lowered y within.1 read);
       chained = subst (λ qs. IsChained qs (with_chain kept.chain k ns) late) (sym points_same) (chained_popped (points d nodes) kept.chain late kept.chained k n ns is done inside);
       counted = λ i y lt read unfinished.
-        let size = length_set nodes (m - d) lowered in
-        let lt_old : i < length nodes = omega (lt, size, arith) in
-        ⊎_elim (λ here. subst (λ (z : Node). z.waits ≡ waiting new_first (d + i) z.keys.items) (sym here.1)
-            (counted_here i here.0 (sym (ap (λ (z : Node). z.finished) here.1) ∙ unfinished)))
-          (λ other. counted_other i y other.0 lt_old other.1 unfinished) (node_in_set nodes (m - d) i lowered y within.1 read) }
+          let size = length_set nodes (m - d) lowered in
+          let lt_old : i < length nodes = omega (lt, size, arith) in
+          ⊎_elim (λ here. subst (λ (z : Node). z.waits ≡ waiting new_first (d + i) z.keys.items) (sym here.1)
+          (counted_here i here.0 (sym (ap (λ (z : Node). z.finished) here.1) ∙ unfinished)))
+          (λ other. counted_other i y other.0 lt_old other.1 unfinished) (node_in_set nodes (m - d) i lowered y within.1 read);
+    }

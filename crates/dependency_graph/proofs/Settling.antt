@@ -26,12 +26,14 @@ pub releases_at : (d : ℕ) (old : List Node) (x : Node) (node : ℕ) (first : O
     → Releases d old (slice_set old (node - d) (record x { waits = x.waits - 1 })) first
 releases_at d old x node first is at open_one = record {
   unfinished = λ n e unf.
-    let same : n ≡ node = some_same n node (sym e ∙ is) in
-    record {
-      node = x;
-      at = at ∙ ap (λ m. slice_index_or old (m - d) x) (sym same);
-      is = ap (λ m. slice_set old (m - d) (record x { waits = x.waits - 1 })) (sym same) };
-  others = λ h. absurd (not_true (is_finished_at (points d old) node) open_one (h node is)) }
+      let same : n ≡ node = some_same n node (sym e ∙ is) in
+      record {
+        node = x;
+        at = at ∙ ap (λ m. slice_index_or old (m - d) x) (sym same);
+        is = ap (λ m. slice_set old (m - d) (record x { waits = x.waits - 1 })) (sym same);
+      };
+  others = λ h. absurd (not_true (is_finished_at (points d old) node) open_one (h node is));
+}
 
 first_rest : (n : ℕ) (xs : List ℕ) → first_number xs ≡ Some n → (ns : List ℕ) × (xs ≡ n ∷ ns)
 first_rest n [] e = cc
@@ -63,15 +65,17 @@ module _ (d : ℕ) (nodes : List Node) (c new : Chains) (late : List Key) (kept 
       Goes = IsKept d now new late × (map point_of now ≡ map point_of nodes)
 
       stays : now ≡ nodes → ((m : ℕ) → first_number rest.0 ≡ Some m → is_finished_at (points d nodes) m ≡ true) → Goes
-      stays e all_done =
-          ( subst (λ ns. IsKept d ns new late) (sym e) (popped_same d nodes c new late kept k n rest.0 rest.1 done inside holds_now all_done)
-          , ap (map point_of) e )
+      stays e all_done = (
+        subst (λ ns. IsKept d ns new late) (sym e) (popped_same d nodes c new late kept k n rest.0 rest.1 done inside holds_now all_done),
+        ap (map point_of) e,
+      )
 
       lowers : (m : ℕ) → first_number rest.0 ≡ Some m → is_finished_at (points d nodes) m ≡ false → Goes
       lowers m e open_one =
-          let l = r.unfinished m (is ∙ next_is ∙ e) open_one in
-          ( subst (λ ns. IsKept d ns new late) (sym l.is) (popped_less d nodes c new late kept k n rest.0 rest.1 done inside holds_now m l.node e open_one l.at)
-          , ap (map point_of) l.is ∙ same_points nodes (m - d) l.node (record l.node { waits = l.node.waits - 1 }) l.at (unfinished_kept d nodes m open_one).1 refl )
+          let l = r.unfinished m (is ∙ next_is ∙ e) open_one in (
+            subst (λ ns. IsKept d ns new late) (sym l.is) (popped_less d nodes c new late kept k n rest.0 rest.1 done inside holds_now m l.node e open_one l.at),
+            ap (map point_of) l.is ∙ same_points nodes (m - d) l.node (record l.node { waits = l.node.waits - 1 }) l.at (unfinished_kept d nodes m open_one).1 refl,
+          )
 
       by_flag : (m : ℕ) → first_number rest.0 ≡ Some m → (b : Bool) → is_finished_at (points d nodes) m ≡ b → Goes
       by_flag m e true f =

@@ -122,12 +122,24 @@ impl Chains {
         let at = self.edges.insert_reserved(Edge { node, after: None });
         match ends {
             None => {
-                self.put_ends(key, Ends { first: at, last: at });
+                self.put_ends(
+                    key,
+                    Ends {
+                        first: at,
+                        last: at,
+                    },
+                );
                 false
             }
             Some(ends) => {
                 self.link(ends.last, at);
-                self.put_ends(key, Ends { first: ends.first, last: at });
+                self.put_ends(
+                    key,
+                    Ends {
+                        first: ends.first,
+                        last: at,
+                    },
+                );
                 true
             }
         }
@@ -144,7 +156,13 @@ impl Chains {
             return;
         };
         match edge.after {
-            Some(first) => self.put_ends(key, Ends { first, last: ends.last }),
+            Some(first) => self.put_ends(
+                key,
+                Ends {
+                    first,
+                    last: ends.last,
+                },
+            ),
             None => self.close(key),
         }
     }

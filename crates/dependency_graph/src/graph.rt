@@ -95,13 +95,7 @@ fn pop_finished(
 }
 
 /// Takes all finished nodes off the front of the chain of a node's i-th key.
-fn settle(
-    dropped: usize,
-    nodes: &mut VecDeque<Node>,
-    chains: &mut Chains,
-    at: usize,
-    i: usize,
-)
+fn settle(dropped: usize, nodes: &mut VecDeque<Node>, chains: &mut Chains, at: usize, i: usize)
     requires in_range { i < length (keys_at nodes.old.items at) }
     requires kept { IsKept dropped nodes.old.items chains.old (drop i (keys_at nodes.old.items at)) }
     ensures kept { IsKept dropped nodes.new.items chains.new (drop (i + 1) (keys_at nodes.new.items at)) }
@@ -254,7 +248,11 @@ impl Graph {
     pub fn next_ready(&self, from: usize) -> Option<usize>
         ensures { IsNextReady self.now from result }
     {
-        let start = if from < self.dropped { self.dropped } else { from };
+        let start = if from < self.dropped {
+            self.dropped
+        } else {
+            from
+        };
         for node in start..self.len() {
             let here = &self.nodes[node - self.dropped];
             if !here.finished && here.waits == 0 {

@@ -8,4 +8,5 @@ invariant-loop-key l = record {
   few : l.waits ≤ l.key-index;
   room : HasRoom l.chains (drop l.key-index l.keys);
   links : LinksAll l.fn.chains l.chains (take l.key-index l.keys) l.node;
-  counts : CountsAll l.fn.chains (take l.key-index l.keys) l.node l.waits }
+  counts : CountsAll l.fn.chains (take l.key-index l.keys) l.node l.waits;
+}

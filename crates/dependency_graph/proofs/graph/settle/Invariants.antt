@@ -6,7 +6,8 @@ use Rattle.dependency_graph.proofs.graph.settle.Given as goal
 abbrev pub invariant-settling : goal.invariant-settling
 invariant-settling l = record {
   kept : IsKept l.dropped l.nodes.items l.chains (drop l.i (keys_at l.nodes.items l.at));
-  same : map point_of l.nodes.items ≡ map point_of l.initial.nodes.items }
+  same : map point_of l.nodes.items ≡ map point_of l.initial.nodes.items;
+}
 
 abbrev pub decreases-settling : goal.decreases-settling
 decreases-settling l = slab_len l.chains.edges

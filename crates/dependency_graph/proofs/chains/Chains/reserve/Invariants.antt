@@ -8,4 +8,5 @@ abbrev pub invariant-loop-key : goal.invariant-loop-key
 invariant-loop-key l = record {
   same : IsSame l.fn.self l.self;
   edges : HasRoomFor l.self.edges (length l.keys);
-  entries : AllByRecursion (HasEntry l.self) (take l.key-index l.keys) }
+  entries : AllByRecursion (HasEntry l.self) (take l.key-index l.keys);
+}

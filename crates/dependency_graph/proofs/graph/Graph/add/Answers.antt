@@ -12,7 +12,7 @@ invariant_of-self c = kept_reserved c.self.inside.dropped c.self.inside.nodes.it
 pub invariant_of-self-in_err-push_back : goal.invariant_of-self-in_err-push_back
 invariant_of-self-in_err-push_back c =
     subst (λ ns. IsKept c.self.inside.dropped ns c.reserve.new.self []) (sym c.in_err-push_back.ensures.items)
-      (kept_reserved c.self.inside.dropped c.self.inside.nodes.items c.self.inside.chains c.reserve.new.self c.reserve.ensures.same c.self.invariant)
+    (kept_reserved c.self.inside.dropped c.self.inside.nodes.items c.self.inside.chains c.reserve.new.self c.reserve.ensures.same c.self.invariant)
 
 pub invariant_of-self-2 : goal.invariant_of-self-2
 invariant_of-self-2 c =
@@ -26,10 +26,10 @@ invariant_of-self-2 c =
     let same = ap length c.self.view_is in
     let few : d + c.len-at.result < 4294967294 = omega (at, size, same, c.requires.room, arith) in
     kept_pushed d nodes c.push_back.new.self.items node c.index_mut.result.now c.len-at.result c.args.keys.items c.link-waits.result at pushed c.index_mut.ensures.value refl refl
-      c.reserve.new.self c.link-waits.new.chains
-      (kept_reserved d nodes c.self.inside.chains c.reserve.new.self c.reserve.ensures.same c.self.invariant) few c.requires.distinct
-      (subst (λ ks. LinksAll c.reserve.new.self c.link-waits.new.chains ks (d + c.len-at.result)) keys c.link-waits.ensures.holds)
-      (subst (λ ks. CountsAll c.reserve.new.self ks (d + c.len-at.result) c.link-waits.result) keys c.link-waits.ensures.waits)
+    c.reserve.new.self c.link-waits.new.chains
+    (kept_reserved d nodes c.self.inside.chains c.reserve.new.self c.reserve.ensures.same c.self.invariant) few c.requires.distinct
+    (subst (λ ks. LinksAll c.reserve.new.self c.link-waits.new.chains ks (d + c.len-at.result)) keys c.link-waits.ensures.holds)
+    (subst (λ ks. CountsAll c.reserve.new.self ks (d + c.len-at.result) c.link-waits.result) keys c.link-waits.ensures.waits)
 
 pub returns-clause-added : goal.returns-clause-added
 returns-clause-added c =

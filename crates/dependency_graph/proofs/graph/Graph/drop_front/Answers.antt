@@ -10,7 +10,8 @@ loop-self-preserved c =
     let first = sym c.starts_finished.ensures ∙ c.loop-self-test.true in
     record {
       goes = drop_goes d nodes c.pop_front.new.self.items first c.pop_front.ensures.rest ∙ c.loop-self.invariant.goes;
-      kept = drop_kept d nodes c.pop_front.new.self.items c.loop-self.self-inside.chains first c.pop_front.ensures.rest c.loop-self.invariant.kept }
+      kept = drop_kept d nodes c.pop_front.new.self.items c.loop-self.self-inside.chains first c.pop_front.ensures.rest c.loop-self.invariant.kept;
+    }
 
 pub returns : goal.returns
 returns c =

@@ -9,10 +9,17 @@ use Rattle.dependency_graph.proofs.graph.Graph.next_ready.Goals.{then-from-self,
 
 pub loop-node-init : goal.loop-node-init
 loop-node-init c = elim c.if-from-self.branch [
-    then-from-self w ↦ (omega (w.start-is, arith), omega (w.start-is, w.if-from-self.true, arith),
-        λ m le lt. ap (λ ps. may_go ps m) (sym c.self.view_is) ∙ gone_stays c.self.inside.dropped m (map point_of c.self.inside.nodes.items) (omega (w.start-is, lt, arith)))
-  | else-from-self w ↦ (omega (w.start-is, w.if-from-self.false, arith), omega (w.start-is, arith),
-        λ m le lt. absurd (omega (w.start-is, le, lt, arith))) ]
+  | then-from-self w ↦ (
+    omega (w.start-is, arith),
+    omega (w.start-is, w.if-from-self.true, arith),
+    λ m le lt. ap (λ ps. may_go ps m) (sym c.self.view_is) ∙ gone_stays c.self.inside.dropped m (map point_of c.self.inside.nodes.items) (omega (w.start-is, lt, arith)),
+  )
+  | else-from-self w ↦ (
+    omega (w.start-is, w.if-from-self.false, arith),
+    omega (w.start-is, arith),
+    λ m le lt. absurd (omega (w.start-is, le, lt, arith)),
+  )
+]
 
 pub loop-node-preserved : goal.loop-node-preserved
 loop-node-preserved c =
@@ -27,8 +34,9 @@ loop-node-preserved c =
     let below : node - d < length nodes = omega (size, same, c.loop-node-test.true, c.len-node-end.ensures, kept, arith) in
     let is = ap (λ ps. may_go ps node) (sym c.self.view_is) ∙ may_go_kept d nodes c.self.inside.chains (kept_is_sound d nodes c.self.inside.chains c.self.invariant) node here kept below c.index-here.ensures in
     let not_here : (not here.finished && nat_eq here.waits 0) ≡ false = elim c.else-not-here.branch [
-        else-not-here-via-then-not-here+else-here-eq0 w ↦ waits_on here.finished here.waits w.if-here-eq0.false
-      | else-not-here-via-else-not-here w ↦ ap (λ b. not b && nat_eq here.waits 0) w.if-not-here.false ] in
+      | else-not-here-via-then-not-here+else-here-eq0 w ↦ waits_on here.finished here.waits w.if-here-eq0.false
+      | else-not-here-via-else-not-here w ↦ ap (λ b. not b && nat_eq here.waits 0) w.if-not-here.false
+    ] in
     (omega (kept, arith), omega (before, arith), fails_more (may_go c.args.self.now) c.args.from node c.loop-node.invariant.2 (is ∙ not_here))
 
 pub returns-then-here-eq0 : goal.returns-then-here-eq0
