@@ -112,8 +112,9 @@ module _ (d : ℕ) (nodes : List Node) (c : Chains) (kept : IsKept d nodes c [])
         holds = kept.holds;
         small = let old = kept.small in omega (size, old, arith);
         distinct = λ j y in_range read.
-            ⊎_elim (λ here. subst (λ (z : Node). IsDistinct key_eq z.keys.items) (sym here.1) (kept.distinct i x lt at))
-            (λ far. kept.distinct j y (omega (in_range, size, arith)) far.1) (node_in_set nodes i j marked y lt read);
+          let in_old : j < length nodes = omega (in_range, size, arith) in
+          ⊎_elim (λ here. subst (λ (z : Node). IsDistinct key_eq z.keys.items) (sym here.1) (kept.distinct i x lt at))
+            (λ far. kept.distinct j y in_old far.1) (node_in_set nodes i j marked y lt read);
         chained = subst (IsChained (points d (slice_set nodes i marked)) kept.chain) (keys_old ∙ sym keys_now)
             (chained_marked (points d nodes) (points d (slice_set nodes i marked)) (d + i) is_marked kept.chain kept.chained);
         counted = counted_marked;

@@ -1,8 +1,9 @@
 //! Worked rows, and a long chain.
 
-ghost use Rattle.std.specs.Prelude.{IfOk};
+ghost use Rattle.std.specs.Prelude.{◌≡◌, IfOk};
 ghost use Rattle.std.specs.List.{IsDistinct};
 ghost use Rattle.rows.specs.Order.{key_eq};
+ghost use Rattle.rows.specs.WriteSet.{is_among};
 
 use super::Graph;
 use rows::{Key, Name, Row, Value};
@@ -22,6 +23,12 @@ fn key(alloc: Global, number: i64) -> Result<Key, Fail> {
     })
 }
 
+fn is_among(keys: &[Key], key: &Key) -> bool
+    ensures { result ≡ is_among keys.now key.now }
+{
+    keys.iter().any(|other| *key == *other)
+}
+
 /// The keys of these rows, each once.
 fn keys(alloc: Global, numbers: &[i64]) -> Result<Vec<Key>, Fail>
     ensures { IfOk result (λ keys. IsDistinct key_eq keys.items) }
@@ -29,7 +36,7 @@ fn keys(alloc: Global, numbers: &[i64]) -> Result<Vec<Key>, Fail>
     let mut keys: Vec<Key> = Vec::new(alloc);
     for number in numbers {
         let key = key(alloc, *number)?;
-        if !keys.contains(&key) {
+        if !is_among(&keys, &key) {
             keys.push(key)?;
         }
     }
@@ -103,24 +110,23 @@ fn finished_out_of_order(rt: HostRuntime) -> Result<(), Fail> {
     Ok(())
 }
 
-/// Adds a long chain on one row and finishes it in order: how many nodes were finished.
-fn finished_in_order(alloc: Global, length: usize) -> Result<usize, Fail> {
+/// Whether the nodes of a long chain on one row come in order, one by one.
+fn comes_in_order(alloc: Global, length: usize) -> Result<bool, Fail> {
     let mut graph = Graph::start(alloc);
     for _ in 0..length {
         let _ = add(alloc, &mut graph, &[7])?;
     }
-    let mut finished = 0usize;
-    for _ in 0..length {
-        if let Some(node) = graph.next_ready(0) {
-            finish(&mut graph, node);
-            finished += 1;
+    for node in 0..length {
+        if graph.next_ready(0) != Some(node) {
+            return Ok(false);
         }
+        finish(&mut graph, node);
     }
-    Ok(finished)
+    Ok(graph.next_ready(0).is_none())
 }
 
 #[test]
 fn long_chain(rt: HostRuntime) -> Result<(), Fail> {
-    assert_eq!(rt; finished_in_order(rt.alloc(), 50_000)?, 50_000);
+    assert!(rt; comes_in_order(rt.alloc(), 50_000)?);
     Ok(())
 }
