@@ -1,17 +1,16 @@
 -- A node is added behind the others, and linked at each of its keys.
-use Rattle.std.proofs.Common.{◌≡◌, ℕ, zero, suc, ◌+◌, ◌-◌, ◌<◌, ◌≤◌, ◌⊎◌, Bool, true, false, not, ◌&&◌, ◌||◌, cond, List, [], ◌∷◌, ◌++◌, map, length, replicate, Option, Some, None, is_some, refl, sym, ap, subst, ◌∙◌, ⊎_elim, inl, inr, arith, take, drop, append_assoc, nat_eq, nat_lt, eq-eqb}
-use Rattle.std.proofs.lemmas.Bool.{lt-ltb, le-ltb, cases_lt, cases_eq}
+use Rattle.std.proofs.Common.{◌≡◌, ℕ, zero, suc, ◌+◌, ◌<◌, ◌≤◌, ◌⊎◌, Bool, true, false, ◌||◌, cond, List, [], ◌∷◌, ◌++◌, map, length, replicate, Option, is_some, refl, sym, ap, subst, ◌∙◌, ⊎_elim, inl, inr, arith, take, drop, append_assoc, nat_eq, eq-eqb}
+use Rattle.std.proofs.lemmas.Bool.{lt-ltb, le-ltb, cases_lt}
 use Rattle.std.proofs.lemmas.List.{take_more, drop_more, map-append, length_push, get_or_append_left, get_or_push, get_or_past}
 use Rattle.std.specs.Prelude.{slice_index_or, slice_set}
 use Rattle.std.specs.List.{AllByRecursion, IsDistinct, list_any}
-use Rattle.slab.specs.Slab.{HasRoomFor}
 use Rattle.rows.specs.declared.change.Key.{Key}
 use Rattle.rows.specs.Order.{key_eq}
-use Rattle.rows.specs.Total.{key_eq_same, key_eq_self}
+use Rattle.rows.specs.Total.{key_eq_same}
 use Rattle.rows.specs.WriteSet.{is_among}
 use Rattle.dependency_graph.specs.Graphs.{Point, gone, point_at, is_open_at, unfinished}
 use Rattle.dependency_graph.specs.Chains.{Holds, HasEntry, HasLast, HasRoom, KeepsRoom, Pushes, IsSame, IsRising, ends_at, with_chain, with_node, first_number}
-use Rattle.dependency_graph.specs.Kept.{points, point_of, is_below, waiting, is_finished_at, Has, StartsOpen, IsChained, IsCounted, IsKept, IsBelow, LinksAll, CountsAll}
+use Rattle.dependency_graph.specs.Kept.{points, point_of, is_below, waiting, is_finished_at, Has, StartsOpen, IsChained, IsKept, IsBelow, LinksAll, CountsAll}
 use Rattle.dependency_graph.specs.declared.graph.Node.{Node}
 use Rattle.dependency_graph.specs.declared.chains.Chains.{Chains}
 use Rattle.dependency_graph.proofs.Entries.{flip, all_stay}

@@ -1,13 +1,11 @@
 -- What the chains say of the unfinished nodes.
-use Rattle.std.proofs.Common.{◌≡◌, ℕ, zero, suc, ◌+◌, ◌<◌, ◌≤◌, ◌⊎◌, Bool, true, false, not, ◌&&◌, ◌||◌, cond, List, [], ◌∷◌, ◌++◌, map, length, Option, Some, None, refl, sym, ap, subst, ◌∙◌, ⊎_elim, inl, inr, arith, nat_eq, eq-eqb, ne_eqb}
+use Rattle.std.proofs.Common.{◌≡◌, ℕ, zero, suc, ◌+◌, ◌<◌, ◌⊎◌, Bool, true, false, ◌||◌, cond, List, [], ◌∷◌, length, Option, Some, None, refl, sym, ap, subst, ◌∙◌, ⊎_elim, inl, inr, arith, nat_eq}
 use Rattle.std.proofs.lemmas.Bool.{eqb-true}
-use Rattle.std.specs.Prelude.{slice_index_or}
 use Rattle.std.specs.List.{AllByRecursion, list_any}
 use Rattle.rows.specs.declared.change.Key.{Key}
-use Rattle.rows.specs.WriteSet.{is_among}
-use Rattle.dependency_graph.specs.Graphs.{Point, gone, point_at, least, is_open_at}
-use Rattle.dependency_graph.specs.Chains.{Holds, IsRising, first_number, first_of}
-use Rattle.dependency_graph.specs.Kept.{points, is_below, waiting, is_finished_at, Has, StartsOpen, IsChained, IsSound, IsKept}
+use Rattle.dependency_graph.specs.Graphs.{Point, point_at, least, is_open_at}
+use Rattle.dependency_graph.specs.Chains.{IsRising, first_number, first_of}
+use Rattle.dependency_graph.specs.Kept.{points, is_below, waiting, is_finished_at, Has, StartsOpen, IsSound, IsKept}
 use Rattle.dependency_graph.specs.declared.graph.Node.{Node}
 use Rattle.dependency_graph.specs.declared.chains.Chains.{Chains}
 use Rattle.dependency_graph.proofs.Linked.{first_is}

@@ -1,5 +1,5 @@
 -- The table of the keys' ends, and the edges, after one change.
-use Rattle.std.proofs.Common.{◌≡◌, ℕ, suc, ◌+◌, ◌≤◌, Bool, true, false, cond, List, [], ◌∷◌, map, length, Option, Some, None, is_some, refl, sym, ap, subst, ◌∙◌, arith}
+use Rattle.std.proofs.Common.{◌≡◌, Bool, true, false, cond, List, [], ◌∷◌, Option, Some, None, is_some, refl, sym, ap, ◌∙◌}
 use Rattle.std.specs.Option.{unwrap_or}
 use Rattle.std.specs.Map.{lookup}
 use Rattle.std.specs.BTreeMap.{BTreeMap, get, is_at}
@@ -7,9 +7,8 @@ use Rattle.std.specs.List.{AllByRecursion}
 use Rattle.rows.specs.declared.change.Key.{Key}
 use Rattle.rows.specs.Order.{key_cmp, key_eq}
 use Rattle.rows.specs.Total.{key_eq_same, key_eq_self}
-use Rattle.dependency_graph.specs.Chains.{Link, ends_at, edge_at, IsWhole, Holds, HasEntry}
+use Rattle.dependency_graph.specs.Chains.{Holds, HasEntry}
 use Rattle.dependency_graph.specs.declared.chains.Chains.{Chains}
-use Rattle.dependency_graph.specs.declared.chains.Edge.{Edge}
 use Rattle.dependency_graph.specs.declared.chains.Ends.{Ends}
 
 flip_at : (a b : Key) (x y : Bool) → key_eq a b ≡ x → key_eq b a ≡ y → x ≡ y

@@ -8,7 +8,7 @@ use Rattle.std.proofs.lemmas.List.{take_more}
 use Rattle.rows.specs.declared.change.Key.{Key}
 use Rattle.dependency_graph.specs.Graphs.{Point, gone, point_at, least, holds_back, is_open_at, is_ready, may_go, blocker}
 use Rattle.dependency_graph.specs.Chains.{first_of}
-use Rattle.dependency_graph.specs.Kept.{points, point_of, waiting, IsSound}
+use Rattle.dependency_graph.specs.Kept.{points, point_of, IsSound}
 use Rattle.dependency_graph.specs.declared.chains.Chains.{Chains}
 use Rattle.dependency_graph.proofs.Least.{ready_count, none_at, key_more, earlier}
 use Rattle.dependency_graph.specs.declared.graph.Node.{Node}

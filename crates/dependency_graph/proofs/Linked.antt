@@ -1,13 +1,12 @@
 -- The links of a chain while edges change elsewhere, at its end and at its front.
-use Rattle.std.proofs.Common.{◌≡◌, ℕ, zero, suc, ◌+◌, ◌<◌, Bool, true, false, cond, List, [], ◌∷◌, ◌++◌, map, length, Option, Some, None, refl, sym, ap, subst, ◌∙◌, arith, nat_eq, eq-eqb, ne_eqb, is_some}
-use Rattle.std.specs.Option.{option_map, option_map_or, option_and_then, unwrap_or}
+use Rattle.std.proofs.Common.{◌≡◌, ℕ, ◌+◌, ◌<◌, Bool, true, false, cond, List, [], ◌∷◌, ◌++◌, map, Option, Some, None, refl, sym, ap, subst, ◌∙◌, arith, nat_eq, eq-eqb, ne_eqb, is_some}
+use Rattle.std.specs.Option.{option_map, option_map_or, option_and_then}
 use Rattle.std.specs.List.{AllByRecursion}
 use Rattle.std.proofs.lemmas.List.{map-append}
 use Rattle.rows.specs.declared.change.Key.{Key}
-use Rattle.rows.specs.Order.{key_cmp, key_eq}
+use Rattle.rows.specs.Order.{key_eq}
 use Rattle.rows.specs.Total.{key_eq_same, key_eq_self}
-use Rattle.rows.specs.WriteSet.{is_among}
-use Rattle.dependency_graph.specs.Chains.{Link, number_of, head_of, last_of, ends_of, IsLinked, IsRising, ends_at, edge_at, IsWhole, Holds, with_chain, with_node, first_number, first_of, first_or, IsSame, HasLast, Pushes, Pops, PopsFirst}
+use Rattle.dependency_graph.specs.Chains.{Link, number_of, head_of, last_of, ends_of, IsLinked, IsRising, ends_at, edge_at, Holds, with_chain, first_number, first_of, first_or, IsSame, HasLast, Pushes, Pops, PopsFirst}
 use Rattle.slab.specs.Slab as slots
 use Rattle.dependency_graph.specs.declared.chains.Chains.{Chains}
 use Rattle.dependency_graph.specs.declared.chains.Edge.{Edge}

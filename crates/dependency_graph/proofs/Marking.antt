@@ -1,20 +1,20 @@
 -- A node is marked as finished, its keys are settled one by one, and the finished beginning is dropped.
-use Rattle.std.proofs.Common.{◌≡◌, ℕ, zero, suc, ◌+◌, ◌-◌, ◌<◌, ◌≤◌, ◌⊎◌, Bool, true, false, not, ◌&&◌, ◌||◌, cond, List, [], ◌∷◌, ◌++◌, map, length, replicate, Option, Some, None, refl, sym, ap, subst, ◌∙◌, ⊎_elim, inl, inr, arith, drop}
-use Rattle.std.proofs.lemmas.Bool.{cases_eq, cases_lt}
+use Rattle.std.proofs.Common.{◌≡◌, ℕ, zero, suc, ◌+◌, ◌<◌, Bool, true, false, not, ◌&&◌, ◌||◌, cond, List, [], ◌∷◌, ◌++◌, map, length, replicate, Some, refl, sym, ap, subst, ◌∙◌, ⊎_elim, inl, inr, arith, drop}
+use Rattle.std.proofs.lemmas.Bool.{cases_eq}
 use Rattle.std.proofs.lemmas.List.{get_or-set_same, get_or-set_other}
 use Rattle.std.specs.Prelude.{slice_index_or, slice_set}
 use Rattle.std.specs.List.{AllByRecursion, IsDistinct}
 use Rattle.rows.specs.declared.change.Key.{Key}
 use Rattle.rows.specs.Order.{key_eq}
-use Rattle.rows.specs.Total.{key_eq_same, key_eq_self}
+use Rattle.rows.specs.Total.{key_eq_same}
 use Rattle.rows.specs.WriteSet.{is_among}
-use Rattle.dependency_graph.specs.Graphs.{Point, gone, point_at, least, is_open_at, dropped}
-use Rattle.dependency_graph.specs.Chains.{Holds, IsRising, first_number, first_of}
-use Rattle.dependency_graph.specs.Kept.{points, point_of, is_below, waiting, is_finished_at, is_finished_first, Has, StartsOpen, IsChained, IsCounted, IsKept, keys_at, IsFrontOpen}
+use Rattle.dependency_graph.specs.Graphs.{Point, gone, point_at, is_open_at, dropped}
+use Rattle.dependency_graph.specs.Chains.{first_number}
+use Rattle.dependency_graph.specs.Kept.{points, point_of, waiting, is_finished_at, is_finished_first, StartsOpen, IsChained, IsCounted, IsKept, keys_at, IsFrontOpen}
 use Rattle.dependency_graph.specs.declared.graph.Node.{Node}
 use Rattle.dependency_graph.specs.declared.chains.Chains.{Chains}
 use Rattle.dependency_graph.proofs.Linked.{first_is}
-use Rattle.dependency_graph.proofs.Chained.{not_true, or_cases}
+use Rattle.dependency_graph.proofs.Chained.{not_true}
 use Rattle.dependency_graph.proofs.Popping.{open_parts, node_in_set, length_set}
 use Rattle.dependency_graph.proofs.Kept.{kept_at, length_points}
 
@@ -112,8 +112,8 @@ module _ (d : ℕ) (nodes : List Node) (c : Chains) (kept : IsKept d nodes c [])
         holds = kept.holds;
         small = let old = kept.small in omega (size, old, arith);
         distinct = λ j y in_range read.
-          let in_old : j < length nodes = omega (in_range, size, arith) in
-          ⊎_elim (λ here. subst (λ (z : Node). IsDistinct key_eq z.keys.items) (sym here.1) (kept.distinct i x lt at))
+            let in_old : j < length nodes = omega (in_range, size, arith) in
+            ⊎_elim (λ here. subst (λ (z : Node). IsDistinct key_eq z.keys.items) (sym here.1) (kept.distinct i x lt at))
             (λ far. kept.distinct j y in_old far.1) (node_in_set nodes i j marked y lt read);
         chained = subst (IsChained (points d (slice_set nodes i marked)) kept.chain) (keys_old ∙ sym keys_now)
             (chained_marked (points d nodes) (points d (slice_set nodes i marked)) (d + i) is_marked kept.chain kept.chained);

@@ -1,20 +1,20 @@
 -- A finished node leaves the front of a chain.
-use Rattle.std.proofs.Common.{◌≡◌, ℕ, zero, suc, ◌+◌, ◌-◌, ◌<◌, ◌≤◌, ◌⊎◌, Bool, true, false, not, ◌&&◌, ◌||◌, cond, List, [], ◌∷◌, ◌++◌, map, length, replicate, Option, Some, None, refl, sym, ap, subst, ◌∙◌, ⊎_elim, inl, inr, arith, nat_eq, nat_lt}
+use Rattle.std.proofs.Common.{◌≡◌, ℕ, zero, suc, ◌+◌, ◌-◌, ◌<◌, ◌≤◌, ◌⊎◌, Bool, true, false, not, ◌&&◌, ◌||◌, cond, List, [], ◌∷◌, ◌++◌, map, length, replicate, Option, Some, refl, sym, ap, subst, ◌∙◌, ⊎_elim, inl, inr, arith}
 use Rattle.std.proofs.lemmas.Bool.{lt-ltb, le-ltb, cases_eq, cases_lt}
 use Rattle.std.proofs.lemmas.List.{get_or-set_same, get_or-set_other, get_or_past}
 use Rattle.std.specs.Prelude.{slice_index_or, slice_set}
-use Rattle.std.specs.List.{AllByRecursion, IsDistinct, list_any}
+use Rattle.std.specs.List.{AllByRecursion, IsDistinct}
 use Rattle.rows.specs.declared.change.Key.{Key}
 use Rattle.rows.specs.Order.{key_eq}
 use Rattle.rows.specs.Total.{key_eq_same, key_eq_self}
 use Rattle.rows.specs.WriteSet.{is_among}
-use Rattle.dependency_graph.specs.Graphs.{Point, gone, point_at, least, is_open_at}
+use Rattle.dependency_graph.specs.Graphs.{Point, gone, point_at, is_open_at}
 use Rattle.dependency_graph.specs.Chains.{Holds, IsRising, first_number, with_chain}
-use Rattle.dependency_graph.specs.Kept.{points, point_of, is_below, waiting, is_finished_at, Has, StartsOpen, IsChained, IsCounted, IsKept}
+use Rattle.dependency_graph.specs.Kept.{points, point_of, is_below, waiting, is_finished_at, Has, StartsOpen, IsChained, IsKept}
 use Rattle.dependency_graph.specs.declared.graph.Node.{Node}
 use Rattle.dependency_graph.specs.declared.chains.Chains.{Chains}
 use Rattle.dependency_graph.proofs.Entries.{flip}
-use Rattle.dependency_graph.proofs.Chained.{not_true, or_cases, has_cases, all_has}
+use Rattle.dependency_graph.proofs.Chained.{not_true, has_cases, all_has}
 use Rattle.dependency_graph.proofs.Kept.{kept_at, gone_at, length_points}
 
 -- ---- what one key counts

@@ -1,5 +1,5 @@
 -- The steps of a finish: a chain loses its first node, and a node counts one key less.
-use Rattle.std.proofs.Common.{◌≡◌, ℕ, zero, suc, ◌+◌, ◌-◌, ◌<◌, ◌≤◌, ◌||◌, Bool, true, false, cond, List, [], ◌∷◌, ◌++◌, map, length, replicate, Option, Some, None, refl, sym, ap, subst, ◌∙◌, arith, drop}
+use Rattle.std.proofs.Common.{◌≡◌, ℕ, zero, suc, ◌+◌, ◌-◌, ◌<◌, ◌||◌, Bool, true, false, cond, List, [], ◌∷◌, ◌++◌, map, length, replicate, Option, Some, None, refl, sym, ap, subst, ◌∙◌, arith, drop}
 use Rattle.std.proofs.lemmas.List.{drop_more}
 use Rattle.std.specs.Prelude.{slice_index_or, slice_set}
 use Rattle.rows.specs.declared.change.Key.{Key}
@@ -7,9 +7,9 @@ use Rattle.rows.specs.Order.{key_eq}
 use Rattle.rows.specs.Total.{key_eq_self}
 use Rattle.rows.specs.WriteSet.{is_among}
 use Rattle.slab.specs.Slab.{slab_len}
-use Rattle.dependency_graph.specs.Graphs.{Point, gone, point_at, marked_at}
+use Rattle.dependency_graph.specs.Graphs.{Point, gone, marked_at}
 use Rattle.dependency_graph.specs.Chains.{Holds, with_chain, first_number, first_of, PopsFirst}
-use Rattle.dependency_graph.specs.Kept.{points, point_of, is_finished_at, IsKept, keys_at, IsFrontOpen, LowersAt, Releases, CanRelease}
+use Rattle.dependency_graph.specs.Kept.{points, point_of, is_finished_at, IsKept, keys_at, IsFrontOpen, Releases, CanRelease}
 use Rattle.dependency_graph.specs.declared.graph.Node.{Node}
 use Rattle.dependency_graph.specs.declared.chains.Chains.{Chains}
 use Rattle.dependency_graph.proofs.Entries.{some_key}

@@ -1,4 +1,4 @@
-use Rattle.std.proofs.Common.{◌<◌, ◌∙◌, ap, length, arith, subst, sym}
+use Rattle.std.proofs.Common.{◌<◌, ◌∙◌, ap, length, arith}
 use Rattle.dependency_graph.specs.Graphs.{point_at}
 use Rattle.dependency_graph.specs.Kept.{keys_at}
 use Rattle.dependency_graph.proofs.Settling.{settled}

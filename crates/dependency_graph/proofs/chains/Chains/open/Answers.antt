@@ -1,6 +1,5 @@
-use Rattle.std.proofs.Common.{refl, sym, ap, ◌∙◌, ◌≡◌, is_some, cond, Some, None}
+use Rattle.std.proofs.Common.{refl, sym, ap, ◌∙◌, cond, Some, None}
 use Rattle.std.specs.BTreeMap.{get}
-use Rattle.rows.specs.declared.change.Key.{Key}
 use Rattle.rows.specs.Order.{key_cmp, key_eq}
 use Rattle.dependency_graph.proofs.Entries.{ends_opened, entry_stays}
 use Rattle.dependency_graph.proofs.chains.Chains.open.Goals as goal

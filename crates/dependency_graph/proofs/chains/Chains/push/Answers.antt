@@ -1,4 +1,4 @@
-use Rattle.std.proofs.Common.{◌≡◌, true, ◌+◌, ◌≤◌, sym, ap, subst, is_some, arith}
+use Rattle.std.proofs.Common.{◌≡◌, true, sym, subst, is_some, arith}
 use Rattle.slab.specs.Slab.{HasRoomFor}
 use Rattle.std.specs.BTreeMap.{get}
 use Rattle.rows.specs.Order.{key_cmp}

@@ -1,1 +1,0 @@
-use Rattle.dependency_graph.proofs.chains.Chains.reserve.Goals as goal

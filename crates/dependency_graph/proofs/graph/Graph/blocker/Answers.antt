@@ -1,4 +1,4 @@
-use Rattle.std.proofs.Common.{rules, refl, sym, ap, ◌∙◌, ◌≡◌, ◌-◌, ◌<◌, ◌+◌, map, take, length, arith}
+use Rattle.std.proofs.Common.{sym, ap, ◌∙◌, ◌≡◌, ◌-◌, ◌<◌, map, take, length, arith}
 use Rattle.std.proofs.lemmas.List.{take_all}
 use Rattle.dependency_graph.specs.Graphs.{Point, least, holds_back, blocker, point_at}
 use Rattle.dependency_graph.proofs.Least.{none_at, earlier, earlier_takes, earlier_keeps, earlier_none}

@@ -1,4 +1,4 @@
-use Rattle.std.proofs.Common.{◌≡◌, ◌≤◌, take}
+use Rattle.std.proofs.Common.{◌≡◌, take}
 use Rattle.dependency_graph.specs.Graphs.{least, holds_back}
 use Rattle.dependency_graph.proofs.graph.Graph.blocker.Given as goal
 

@@ -1,2 +1,0 @@
-use Rattle.dependency_graph.proofs.Adding.{links_more}
-use Rattle.dependency_graph.proofs.graph.Graph.len.Goals as goal

@@ -1,7 +1,7 @@
-use Rattle.std.proofs.Common.{rules, refl, sym, ap, ◌∙◌, ◌≡◌, ◌-◌, ◌<◌, ◌≤◌, ◌+◌, ℕ, map, length, false, true, not, ◌&&◌, arith}
+use Rattle.std.proofs.Common.{sym, ap, ◌∙◌, ◌≡◌, ◌-◌, ◌<◌, map, length, false, not, ◌&&◌, arith}
 use Rattle.std.specs.Prelude.{nat_eq}
 use Rattle.dependency_graph.specs.Graphs.{may_go}
-use Rattle.dependency_graph.specs.Kept.{point_of, points}
+use Rattle.dependency_graph.specs.Kept.{point_of}
 use Rattle.dependency_graph.proofs.Kept.{gone_stays, length_points, may_go_kept, fails_more, waits_on, goes_now}
 use Rattle.dependency_graph.proofs.Chained.{kept_is_sound}
 use Rattle.dependency_graph.proofs.graph.Graph.next_ready.Goals as goal
