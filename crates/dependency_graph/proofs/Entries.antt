@@ -3,7 +3,9 @@ use Rattle.std.proofs.Common.{◌≡◌, Bool, true, false, cond, List, [], ◌�
 use Rattle.std.specs.Option.{unwrap_or}
 use Rattle.std.specs.Map.{lookup}
 use Rattle.std.specs.BTreeMap.{BTreeMap, get, is_at}
-use Rattle.std.specs.List.{AllByRecursion}
+use Rattle.std.specs.List.{AllByRecursion, AllPairs, IsDistinct}
+use Rattle.std.proofs.lemmas.Map.Keys.{IsDistinct-from_apart, apart_from_distinct}
+use Rattle.std.specs.Prelude.{slice_index_or, ◌≢◌}
 use Rattle.rows.specs.declared.change.Key.{Key}
 use Rattle.rows.specs.Order.{key_cmp, key_eq}
 use Rattle.rows.specs.Total.{key_eq_same, key_eq_self}
@@ -71,3 +73,17 @@ new_holds c h = record {
 pub all_stay : (c new : Chains) → ((k : Key) → HasEntry c k → HasEntry new k) → (ks : List Key) → AllByRecursion (HasEntry c) ks → AllByRecursion (HasEntry new) ks
 all_stay c new h [] g = tt
 all_stay c new h (k ∷ ks) g = (h k g.0, all_stay c new h ks g.1)
+
+-- ---- keys named once
+by_test : (a b : Key) (t : Bool) → key_eq a b ≡ t → (a ≡ b → ⊥) → key_eq a b ≡ false
+by_test a b true e apart = absurd (apart (key_eq_same a b e))
+by_test a b false e apart = e
+
+pub distinct_of : (ks : List Key) → AllPairs (λ a b. a ≢ b) ks → IsDistinct key_eq ks
+distinct_of ks h = IsDistinct-from_apart key_eq ks (λ i j d lt in_range. let a = slice_index_or ks i d in let b = slice_index_or ks j d in by_test a b (key_eq a b) refl (h i j d lt in_range))
+
+pub pairs_of : (ks : List Key) → IsDistinct key_eq ks → AllPairs (λ a b. a ≢ b) ks
+pairs_of ks h = λ i j d lt in_range. λ same.
+    let apart : key_eq (slice_index_or ks i d) (slice_index_or ks j d) ≡ false = apart_from_distinct key_eq ks i j d h lt in_range in
+    let equal : key_eq (slice_index_or ks i d) (slice_index_or ks j d) ≡ true = ap (key_eq (slice_index_or ks i d)) (sym same) ∙ key_eq_self (slice_index_or ks i d) in
+    cc

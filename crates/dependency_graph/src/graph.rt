@@ -1,8 +1,7 @@
 //! The nodes, above the chains of their keys.
 
-ghost use Rattle.std.specs.Prelude.{◌≡◌, ◌+◌, ◌<◌, [], ◌∷◌, ◌++◌, length, map, drop, IfOk, OnOk, OnErr};
-ghost use Rattle.std.specs.List.{IsDistinct};
-ghost use Rattle.rows.specs.Order.{key_eq};
+ghost use Rattle.std.specs.Prelude.{◌≡◌, ◌≢◌, ◌+◌, ◌<◌, [], ◌∷◌, ◌++◌, length, map, drop, IfOk, OnOk, OnErr};
+ghost use Rattle.std.specs.List.{AllPairs};
 ghost use Rattle.std.specs.Bool.{OnTrue, OnFalse};
 ghost use Rattle.slab.specs.Slab.{slab_len};
 ghost use Rattle.dependency_graph.specs.Graphs.{blocker, is_ready, IsNextReady, dropped, finished_at, marked_at, unfinished};
@@ -120,7 +119,7 @@ fn mark(dropped: usize, nodes: &mut VecDeque<Node>, chains: &mut Chains, at: usi
 /// Puts the node, later than all, into the chain of each key: how many of the keys have an earlier node.
 fn link(chains: &mut Chains, keys: &[Key], node: usize) -> usize
     requires room { HasRoom chains.old keys.now }
-    requires distinct { IsDistinct key_eq keys.now }
+    requires distinct { AllPairs (λ a b. a ≢ b) keys.now }
     ensures holds { LinksAll chains.old chains.new keys.now node }
     ensures waits { CountsAll chains.old keys.now node result }
 {
@@ -170,7 +169,7 @@ impl Graph {
     /// Adds a node that touches these keys, each named once: its number.
     pub fn add(&mut self, keys: Vec<Key>) -> Result<usize, AllocError>
         requires room { length self.old < 4294967294 }
-        requires distinct { IsDistinct key_eq keys.items }
+        requires distinct { AllPairs (λ a b. a ≢ b) keys.items }
         ensures added { OnOk result (self.new ≡ self.old ++ unfinished keys.items ∷ []) }
         ensures number { IfOk result (λ node. node ≡ length self.old) }
         ensures err { OnErr result (self.new ≡ self.old) }

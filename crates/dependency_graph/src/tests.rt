@@ -1,8 +1,7 @@
 //! Worked rows, and a long chain.
 
-ghost use Rattle.std.specs.Prelude.{◌≡◌, IfOk};
-ghost use Rattle.std.specs.List.{IsDistinct};
-ghost use Rattle.rows.specs.Order.{key_eq};
+ghost use Rattle.std.specs.Prelude.{◌≡◌, ◌≢◌, IfOk};
+ghost use Rattle.std.specs.List.{AllPairs};
 ghost use Rattle.rows.specs.WriteSet.{is_among};
 
 use super::Graph;
@@ -31,7 +30,7 @@ fn is_among(keys: &[Key], key: &Key) -> bool
 
 /// The keys of these rows, each once.
 fn keys(alloc: Global, numbers: &[i64]) -> Result<Vec<Key>, Fail>
-    ensures { IfOk result (λ keys. IsDistinct key_eq keys.items) }
+    ensures { IfOk result (λ keys. AllPairs (λ a b. a ≢ b) keys.items) }
 {
     let mut keys: Vec<Key> = Vec::new(alloc);
     for number in numbers {

@@ -2,6 +2,7 @@ use Rattle.std.proofs.Common.{◌≡◌, ◌+◌, ◌≤◌, cond, sym, ap, ◌�
 use Rattle.std.proofs.lemmas.List.{take_all}
 use Rattle.dependency_graph.specs.Chains.{first_number}
 use Rattle.dependency_graph.specs.Kept.{waiting}
+use Rattle.dependency_graph.proofs.Entries.{distinct_of}
 use Rattle.dependency_graph.proofs.Adding.{links_more, counts_more, room_more}
 use Rattle.dependency_graph.proofs.graph.link.Goals as goal
 use Rattle.dependency_graph.proofs.graph.link.Goals.{then-push, else-push}
@@ -23,8 +24,8 @@ loop-key-preserved c =
     record {
       few = few;
       room = room_more c.loop-key.chains c.push.new.self keys i k c.loop-key-test.true c.push.ensures.room old.room;
-      links = links_more c.args.chains.now c.loop-key.chains c.push.new.self keys i k c.args.node c.requires.distinct c.loop-key-test.true c.key-item.is old.links c.push.ensures.pushes;
-      counts = counts_more c.args.chains.now c.loop-key.chains keys i k c.args.node c.loop-key.waits c.if-push.waits c.push.result c.requires.distinct c.loop-key-test.true c.key-item.is old.links old.counts c.push.ensures.had_one sum;
+      links = links_more c.args.chains.now c.loop-key.chains c.push.new.self keys i k c.args.node (distinct_of keys c.requires.distinct) c.loop-key-test.true c.key-item.is old.links c.push.ensures.pushes;
+      counts = counts_more c.args.chains.now c.loop-key.chains keys i k c.args.node c.loop-key.waits c.if-push.waits c.push.result (distinct_of keys c.requires.distinct) c.loop-key-test.true c.key-item.is old.links old.counts c.push.ensures.had_one sum;
     }
 
 pub returns-clause-waits : goal.returns-clause-waits

@@ -5,6 +5,7 @@ use Rattle.std.proofs.lemmas.Map.Keys.{IsDistinct-push}
 use Rattle.rows.specs.Order.{key_eq}
 use Rattle.rows.specs.Total.{key_total}
 use Rattle.rows.specs.WriteSet.{is_among}
+use Rattle.dependency_graph.proofs.Entries.{pairs_of}
 use Rattle.dependency_graph.proofs.tests.keys.Goals as goal
 use Rattle.dependency_graph.proofs.tests.keys.Goals.{then-not-is_among+in_ok-push, else-not-is_among}
 
@@ -21,3 +22,6 @@ loop-number-preserved c = elim c.if-not-is_among.branch [
       (IsDistinct-push (eq_by_cmp_equiv key_total) c.loop-number.keys.items c.in_ok-key.key c.loop-number.invariant out)))
   | else-not-is_among w ↦ (let same = w.keys-is in subst (λ v. IsDistinct key_eq v.items) (sym same) c.loop-number.invariant)
 ]
+
+pub returns : goal.returns
+returns c = pairs_of c.loop-number.keys.items c.loop-number.invariant

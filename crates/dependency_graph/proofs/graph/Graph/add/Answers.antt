@@ -2,6 +2,7 @@ use Rattle.std.proofs.Common.{rules, ◌≡◌, ◌∷◌, ◌++◌, [], ◌+◌
 use Rattle.dependency_graph.specs.Graphs.{unfinished}
 use Rattle.dependency_graph.specs.Kept.{IsKept, LinksAll, CountsAll}
 use Rattle.dependency_graph.proofs.Kept.{length_points}
+use Rattle.dependency_graph.proofs.Entries.{distinct_of}
 use Rattle.dependency_graph.proofs.Adding.{kept_reserved, kept_pushed, points_pushed, read_last}
 use Rattle.dependency_graph.specs.declared.graph.Node.{Node}
 use Rattle.dependency_graph.proofs.graph.Graph.add.Goals as goal
@@ -27,7 +28,7 @@ invariant_of-self-2 c =
     let few : d + c.len-at.result < 4294967294 = omega (at, size, same, c.requires.room, arith) in
     kept_pushed d nodes c.push_back.new.self.items node c.index_mut.result.now c.len-at.result c.args.keys.items c.link-waits.result at pushed c.index_mut.ensures.value refl refl
     c.reserve.new.self c.link-waits.new.chains
-    (kept_reserved d nodes c.self.inside.chains c.reserve.new.self c.reserve.ensures.same c.self.invariant) few c.requires.distinct
+    (kept_reserved d nodes c.self.inside.chains c.reserve.new.self c.reserve.ensures.same c.self.invariant) few (distinct_of c.args.keys.items c.requires.distinct)
     (subst (λ ks. LinksAll c.reserve.new.self c.link-waits.new.chains ks (d + c.len-at.result)) keys c.link-waits.ensures.holds)
     (subst (λ ks. CountsAll c.reserve.new.self ks (d + c.len-at.result) c.link-waits.result) keys c.link-waits.ensures.waits)
 
