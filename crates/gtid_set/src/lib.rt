@@ -6,8 +6,11 @@ ghost use Rattle.std.specs.FinSet as set;
 ghost use Rattle.std.specs.List.{list_any};
 ghost use Rattle.gtid_set.specs.Sets.{covers, least_unused};
 
+mod fault;
+
+pub use fault::SetFault;
 use gtid_text::{Gtid, SourceId, Span};
-use std::alloc::{AllocError, Global};
+use std::alloc::Global;
 use std::marker::Model;
 
 /// Whether a span has a GTID in it.
@@ -57,7 +60,7 @@ impl GtidSet {
         any_covers(&self.spans, gtid)
     }
 
-    pub fn add(&mut self, gtid: Gtid) -> Result<(), AllocError>
+    pub fn add(&mut self, gtid: Gtid) -> Result<(), SetFault>
         ensures ok { OnOk result (self.new ≡ set.insert self.old gtid) }
         ensures err { OnErr result (self.new ≡ self.old) }
     {
@@ -69,7 +72,7 @@ impl GtidSet {
         Ok(())
     }
 
-    pub fn copy(&self, alloc: Global) -> Result<GtidSet, AllocError>
+    pub fn copy(&self, alloc: Global) -> Result<GtidSet, SetFault>
         ensures { IfOk result (λ s. s ≡ self.now) }
     {
         let mut spans = Vec::new(alloc);
@@ -80,7 +83,7 @@ impl GtidSet {
     }
 
     /// The GTIDs of both sets.
-    pub fn union(&self, alloc: Global, other: &GtidSet) -> Result<GtidSet, AllocError>
+    pub fn union(&self, alloc: Global, other: &GtidSet) -> Result<GtidSet, SetFault>
         ensures { IfOk result (λ s. s ≡ set.union self.now other.now) }
     {
         let mut spans = Vec::new(alloc);

@@ -1,0 +1,35 @@
+ghost use Rattle.std.specs.Prelude.{◌≡◌};
+ghost use Rattle.gtid_set.specs.declared.fault.SetFault.TheVariants.{Memory};
+
+use std::alloc::{AllocError, AllocFailed};
+use thiserror::Error;
+
+/// Why a set was not made or changed. The limits are our own rule.
+#[derive(Clone, Copy, Debug, PartialEq, Eq, Error)]
+pub enum SetFault {
+    /// A growth of memory was refused.
+    #[error("out of memory")]
+    Memory,
+    /// The pool of intervals has no room left.
+    #[error("too many intervals")]
+    PoolFull,
+    /// The set would have more than 65,536 sources.
+    #[error("too many sources")]
+    SourcesFull,
+}
+
+impl From<AllocError> for SetFault {
+    ghost from_gives = { λ _ e. e ≡ Memory };
+
+    fn from(_e: AllocError) -> SetFault {
+        SetFault::Memory
+    }
+}
+
+impl<T: Drop> From<AllocFailed<T>> for SetFault {
+    ghost from_gives = { λ _ e. e ≡ Memory };
+
+    fn from(_e: AllocFailed<T>) -> SetFault {
+        SetFault::Memory
+    }
+}

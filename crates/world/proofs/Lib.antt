@@ -1,0 +1,10 @@
+pub mod Finding
+pub mod Same
+pub mod Contents
+pub mod Meanings
+pub mod Standing
+pub mod Saying
+pub mod OnePass
+pub mod Touching
+pub mod Gaps
+pub mod Leasts

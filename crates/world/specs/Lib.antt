@@ -1,0 +1,7 @@
+pub mod Search
+pub mod Equal
+pub mod Audit
+pub mod Cases
+pub mod Meaning
+pub mod Folds
+pub mod Least
