@@ -7,6 +7,7 @@ ghost use Rattle.std.specs.List.{list_any};
 ghost use Rattle.gtid_set.specs.Sets.{covers, least_unused};
 
 mod fault;
+mod sweep;
 
 pub use fault::SetFault;
 use gtid_text::{Gtid, SourceId, Span};
