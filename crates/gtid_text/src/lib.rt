@@ -1,11 +1,23 @@
-//! GTIDs: a source and a number.
+//! GTIDs, and the text of GTID sets.
 #![tactic(auto)]
+
+mod fault;
+mod scan;
+mod set_text;
+mod write;
+
+pub use fault::TextFault;
+pub use set_text::{parse_gtid, parse_source, parse_spans};
+pub use write::{write_gtid, write_next_span, write_source, write_span};
+
+#[cfg(test)]
+mod tests;
 
 ghost use Rattle.std.specs.Prelude.{◌≡◌, ℕ};
 
 use std::marker::Model;
 
-/// The UUID of a server, as a 128-bit number.
+/// The UUID of a server, which contracts see as a number below 2^128.
 #[derive(Clone, Copy, Debug, PartialEq, Eq, PartialOrd, Ord, Hash, Drop)]
 pub struct SourceId {
     bits: u128,
@@ -20,12 +32,14 @@ impl Model for SourceId {
 }
 
 impl SourceId {
+    /// The UUID whose 16 bytes are this number, high byte first.
     pub fn from_bits(bits: u128) -> Self
         ensures { result ≡ bits }
     {
         SourceId { bits }
     }
 
+    /// The 16 bytes of the UUID as one number, high byte first.
     pub fn bits(self) -> u128
         ensures { result ≡ self }
     {
@@ -33,14 +47,16 @@ impl SourceId {
     }
 }
 
-/// A transaction's name: the server that first committed it, and its number there.
+/// The identifier of a transaction: the server that first committed it, and its number there, from 1 on.
+///
+/// The order is by source and then by number. From the MySQL 8.0 Reference Manual, "GTID Format and Storage".
 #[derive(Clone, Copy, Debug, PartialEq, Eq, PartialOrd, Ord, Hash, Drop)]
 pub struct Gtid {
     pub source: SourceId,
     pub number: u64,
 }
 
-/// The transactions of a source from one number to another.
+/// The transactions of a source from one number to another, both among them.
 #[derive(Clone, Copy, Debug, PartialEq, Eq, Drop)]
 pub struct Span {
     pub source: SourceId,

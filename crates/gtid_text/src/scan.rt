@@ -1,0 +1,171 @@
+ghost use Rattle.std.specs.Prelude.{◌≡◌, ◌<◌, true, length};
+ghost use Rattle.std.specs.Char.{is_ascii_digit};
+ghost use Rattle.std.specs.List.{list_all};
+ghost use Rattle.gtid_text.specs.Scan.{is_blank, is_uuid_byte, run, past, number_of, small_value, source_of, source_at, number_at, colon_at, end_at, Sees};
+
+use crate::SourceId;
+use uuid::Uuid;
+
+/// The greatest number of a transaction.
+pub const MAX_NUMBER: u64 = 9223372036854775807;
+
+/// What is wrong with a text.
+#[derive(Clone, Copy, Debug, PartialEq, Eq)]
+pub enum Kind {
+    BadUuid,
+    NoInterval,
+    BadNumber,
+    NumberRange,
+    Reversed,
+    Stray,
+}
+
+/// What is wrong, and how many bytes are left there.
+#[derive(Clone, Copy, Debug, PartialEq, Eq)]
+pub struct Refusal {
+    pub kind: Kind,
+    pub left: usize,
+}
+
+fn is_blank(byte: u8) -> bool
+    ensures { result ≡ is_blank byte }
+{
+    byte == b' ' || byte == b'\t' || byte == b'\r' || byte == b'\n'
+}
+
+fn is_uuid_byte(byte: u8) -> bool
+    ensures { result ≡ is_uuid_byte byte }
+{
+    byte.is_ascii_hexdigit() || byte == b'-'
+}
+
+/// What follows the blanks at the front.
+pub fn skip(rest: &[u8]) -> &[u8]
+    ensures { result.now ≡ past is_blank rest.now }
+{
+    for (i, b) in rest.iter().enumerate() {
+        if !is_blank(*b) {
+            return &rest[i..];
+        }
+    }
+    &rest[rest.len()..]
+}
+
+fn uuid_run(rest: &[u8]) -> (&[u8], &[u8])
+    ensures run { result.0.now ≡ run is_uuid_byte rest.now }
+    ensures past { result.1.now ≡ past is_uuid_byte rest.now }
+{
+    for (i, b) in rest.iter().enumerate() {
+        if !is_uuid_byte(*b) {
+            return rest.split_at(i);
+        }
+    }
+    rest.split_at(rest.len())
+}
+
+fn digit_run(rest: &[u8]) -> (&[u8], &[u8])
+    ensures run { result.0.now ≡ run is_ascii_digit rest.now }
+    ensures past { result.1.now ≡ past is_ascii_digit rest.now }
+{
+    for (i, b) in rest.iter().enumerate() {
+        if !b.is_ascii_digit() {
+            return rest.split_at(i);
+        }
+    }
+    rest.split_at(rest.len())
+}
+
+/// The source that a hyphenated UUID names.
+fn source_id(text: &[u8]) -> Option<SourceId>
+    ensures { result ≡ source_of text.now }
+{
+    if text.len() != 36 {
+        return None;
+    }
+    match Uuid::try_parse_ascii(text) {
+        Ok(id) => Some(SourceId::from_bits(id.as_u128())),
+        Err(_) => None,
+    }
+}
+
+/// The UUID at the front, and what follows it.
+pub fn source(rest: &[u8]) -> Result<(SourceId, &[u8]), Refusal>
+    ensures { Sees (λ x. (x.0, x.1.now)) result (source_at rest.now) }
+{
+    let (run, after) = uuid_run(rest);
+    match source_id(run) {
+        Some(id) => Ok((id, after)),
+        None => Err(Refusal {
+            kind: Kind::BadUuid,
+            left: rest.len(),
+        }),
+    }
+}
+
+/// The number that digits spell, where it is below 2 ^ 64.
+fn parsed(digits: &[u8]) -> Option<u64>
+    requires digits { list_all is_ascii_digit digits.now ≡ true }
+    requires some { 0 < length digits.now }
+    ensures { result ≡ small_value digits.now }
+{
+    match std::str::from_utf8(digits) {
+        Ok(text) => text.parse().ok(),
+        Err(_) => None,
+    }
+}
+
+/// The number that digits spell, where a transaction may have it.
+fn value(digits: &[u8]) -> Option<u64>
+    requires digits { list_all is_ascii_digit digits.now ≡ true }
+    requires some { 0 < length digits.now }
+    ensures { result ≡ number_of digits.now }
+{
+    match parsed(digits) {
+        Some(number) if number >= 1 && number <= MAX_NUMBER => Some(number),
+        _ => None,
+    }
+}
+
+/// The number of a transaction at the front, and what follows it.
+pub fn number(rest: &[u8]) -> Result<(u64, &[u8]), Refusal>
+    ensures { Sees (λ x. (x.0, x.1.now)) result (number_at rest.now) }
+{
+    let (digits, after) = digit_run(rest);
+    if digits.is_empty() {
+        return Err(Refusal {
+            kind: Kind::BadNumber,
+            left: rest.len(),
+        });
+    }
+    match value(digits) {
+        Some(number) => Ok((number, after)),
+        None => Err(Refusal {
+            kind: Kind::NumberRange,
+            left: rest.len(),
+        }),
+    }
+}
+
+pub fn colon(rest: &[u8]) -> Result<&[u8], Refusal>
+    ensures { Sees (λ x. x.now) result (colon_at rest.now) }
+{
+    match rest {
+        [b':', after @ ..] => Ok(after),
+        _ => Err(Refusal {
+            kind: Kind::NoInterval,
+            left: rest.len(),
+        }),
+    }
+}
+
+pub fn end(rest: &[u8]) -> Result<(), Refusal>
+    ensures { Sees (λ x. x) result (end_at rest.now) }
+{
+    if !rest.is_empty() {
+        return Err(Refusal {
+            kind: Kind::Stray,
+            left: rest.len(),
+        });
+    }
+    Ok(())
+}

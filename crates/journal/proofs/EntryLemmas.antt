@@ -1,0 +1,97 @@
+-- One entry more, and entries taken away: each GTID stays new.
+use Rattle.std.proofs.Common.{◌≡◌, ℕ, Bool, true, false, ◌||◌, ◌&&◌, List, [], ◌∷◌, ◌++◌, map, take, drop, refl, sym, ap, subst, ◌∙◌, zero, suc}
+use Rattle.std.specs.Ordering.{eq_by_cmp}
+use Rattle.std.specs.List.{list_all, list_any}
+use Rattle.std.specs.FinSet as set
+use Rattle.gtid_text.specs.declared.Gtid.{Gtid}
+use Rattle.gtid_text.specs.Gtids.{gtid_cmp, same_gtid}
+use Rattle.gtid_set.specs.Sets.{Gtids}
+use Rattle.gtid_set.proofs.SetLemmas.{set_push, union_empty, same_members, gtid_total, gtid_tied}
+use Rattle.journal.specs.declared.Entry.{Entry}
+use Rattle.journal.specs.Writing.{is_writable}
+use Rattle.journal.specs.Journals.{gtids_of, AreNew, IsJournal}
+
+map_push : (es : List Entry) (e : Entry) → map (λ (e : Entry). e.gtid) (es ++ e ∷ []) ≡ map (λ (e : Entry). e.gtid) es ++ e.gtid ∷ []
+map_push [] e = refl
+map_push (x ∷ es) e = ap (λ gs. x.gtid ∷ gs) (map_push es e)
+
+-- one entry more at the end
+pub gtids_of-push : (es : List Entry) (e : Entry) → gtids_of (es ++ e ∷ []) ≡ set.insert (gtids_of es) e.gtid
+gtids_of-push es e = ap set.from_list (map_push es e) ∙ set_push (map (λ (e : Entry). e.gtid) es) e.gtid
+
+swapped : (a b c : Bool) → ((a || b) || c) ≡ (b || (a || c))
+swapped true true c = refl
+swapped true false c = refl
+swapped false b c = refl
+
+-- the first entry belongs to the set that was seen before the others
+pub union-gtids_of-cons : (seen : Gtids) (e : Entry) (es : List Entry) → set.union (set.insert seen e.gtid) (gtids_of es) ≡ set.union seen (gtids_of (e ∷ es))
+union-gtids_of-cons seen e es = same_members _ _ (λ q.
+    set.contains-union gtid_total (set.insert seen e.gtid) (gtids_of es) q
+    ∙ (λ i. set.contains-insert gtid_total seen e.gtid q i || set.contains-from_list gtid_total (map (λ (e : Entry). e.gtid) es) q i)
+    ∙ swapped (eq_by_cmp gtid_cmp q e.gtid) (set.contains seen q) _
+    ∙ sym (set.contains-union gtid_total seen (gtids_of (e ∷ es)) q ∙ ap (λ b. set.contains seen q || b) (set.contains-from_list gtid_total (map (λ (e : Entry). e.gtid) (e ∷ es)) q)))
+
+-- new entries, and one more that is new to all of them
+new_push : (seen : Gtids) (es : List Entry) (e : Entry) → AreNew seen es → set.contains (set.union seen (gtids_of es)) e.gtid ≡ false → AreNew seen (es ++ e ∷ [])
+new_push seen [] e new h = (ap (λ s. set.contains s e.gtid) (union_empty seen) ∙ h, tt)
+new_push seen (x ∷ es) e new h =
+    (new.0, new_push (set.insert seen x.gtid) es e new.1 (ap (λ s. set.contains s e.gtid) (union-gtids_of-cons seen x es) ∙ h))
+
+new_take : (n : ℕ) (seen : Gtids) (es : List Entry) → AreNew seen es → AreNew seen (take n es)
+new_take zero seen es new = tt
+new_take (suc n) seen [] new = tt
+new_take (suc n) seen (x ∷ es) new = (new.0, new_take n (set.insert seen x.gtid) es new.1)
+
+new_drop : (n : ℕ) (seen : Gtids) (es : List Entry) → AreNew seen es → AreNew (set.union seen (gtids_of (take n es))) (drop n es)
+new_drop zero seen es new = subst (λ s. AreNew s es) (union_empty seen) new
+new_drop (suc n) seen [] new = tt
+new_drop (suc n) seen (x ∷ es) new =
+    subst (λ s. AreNew s (drop n es)) (union-gtids_of-cons seen x (take n es)) (new_drop n (set.insert seen x.gtid) es new.1)
+
+both : (a b : Bool) → (a && b) ≡ true → (a ≡ true) × (b ≡ true)
+both true b h = (refl, h)
+both false b h = absurd (cc h)
+
+all_push : {X : Type 0} (p : X → Bool) (xs : List X) (x : X) → list_all p xs ≡ true → p x ≡ true → list_all p (xs ++ x ∷ []) ≡ true
+all_push p [] x all h = ap (λ b. b && true) h
+all_push p (y ∷ ys) x all h =
+    let now = both (p y) (list_all p ys) all in
+    ap (λ b. b && list_all p (ys ++ x ∷ [])) now.0 ∙ all_push p ys x now.1 h
+
+all_take : {X : Type 0} (p : X → Bool) (n : ℕ) (xs : List X) → list_all p xs ≡ true → list_all p (take n xs) ≡ true
+all_take p zero xs all = refl
+all_take p (suc n) [] all = refl
+all_take p (suc n) (x ∷ xs) all =
+    let now = both (p x) (list_all p xs) all in
+    ap (λ b. b && list_all p (take n xs)) now.0 ∙ all_take p n xs now.1
+
+all_drop : {X : Type 0} (p : X → Bool) (n : ℕ) (xs : List X) → list_all p xs ≡ true → list_all p (drop n xs) ≡ true
+all_drop p zero xs all = all
+all_drop p (suc n) [] all = refl
+all_drop p (suc n) (x ∷ xs) all = all_drop p n xs (both (p x) (list_all p xs) all).1
+
+-- a journal with one entry more
+pub journal_push : (previous : Gtids) (es : List Entry) (e : Entry) → IsJournal previous es → set.contains (set.union previous (gtids_of es)) e.gtid ≡ false → is_writable e ≡ true → IsJournal previous (es ++ e ∷ [])
+journal_push previous es e kept new writable = record {
+  new = new_push previous es e kept.new new;
+  writable = all_push is_writable es e kept.writable writable;
+}
+
+-- ... with its first entries alone
+pub journal_take : (n : ℕ) (previous : Gtids) (es : List Entry) → IsJournal previous es → IsJournal previous (take n es)
+journal_take n previous es kept = record { new = new_take n previous es kept.new; writable = all_take is_writable n es kept.writable }
+
+-- ... and with its first entries in the previous set
+pub journal_drop : (n : ℕ) (previous : Gtids) (es : List Entry) → IsJournal previous es → IsJournal (set.union previous (gtids_of (take n es))) (drop n es)
+journal_drop n previous es kept = record { new = new_drop n previous es kept.new; writable = all_drop is_writable n es kept.writable }
+
+any_same : (g : Gtid) (es : List Entry) → list_any (eq_by_cmp gtid_cmp g) (map (λ (e : Entry). e.gtid) es) ≡ list_any (λ (e : Entry). same_gtid g e.gtid) es
+any_same g [] = refl
+any_same g (e ∷ es) = λ i. gtid_tied g e.gtid i || any_same g es i
+
+-- a GTID is in a journal's whole set where it is in the previous set or that of an entry
+pub contains-whole : (previous : Gtids) (es : List Entry) (g : Gtid) → set.contains (set.union previous (gtids_of es)) g ≡ (set.contains previous g || list_any (λ (e : Entry). same_gtid g e.gtid) es)
+contains-whole previous es g =
+    set.contains-union gtid_total previous (gtids_of es) g
+    ∙ ap (λ b. set.contains previous g || b) (set.contains-from_list gtid_total (map (λ (e : Entry). e.gtid) es) g ∙ any_same g es)

@@ -1,0 +1,29 @@
+-- A journal: the set executed before it, and its entries in order. (MySQL 8.0 Reference Manual, "GTID Life Cycle".)
+use Rattle.std.specs.Prelude.{◌≡◌, true, false, List, [], ◌∷◌, map}
+use Rattle.std.specs.List.{list_all}
+use Rattle.std.specs.FinSet as set
+use Rattle.gtid_set.specs.Sets.{Gtids}
+use Rattle.journal.specs.declared.Entry.{Entry}
+use Rattle.journal.specs.Writing.{is_writable}
+
+pub record JournalValue : Type 0 where
+  pub previous : Gtids
+  pub entries : List Entry
+
+-- the GTIDs of entries
+abbrev pub gtids_of : List Entry → Gtids
+gtids_of entries = set.from_list (map (λ e. e.gtid) entries)
+
+-- all that was executed: the previous set with the GTIDs of the entries
+abbrev pub whole : JournalValue → Gtids
+whole journal = set.union journal.previous (gtids_of journal.entries)
+
+-- each GTID is new: neither in this set nor that of an earlier entry
+abbrev pub AreNew : Gtids → List Entry → Type 0
+AreNew seen [] = Unit {0}
+AreNew seen (entry ∷ entries) = (set.contains seen entry.gtid ≡ false) × AreNew (set.insert seen entry.gtid) entries
+
+-- what a journal keeps: no GTID stands twice or in the previous set, and each entry can be written
+pub record IsJournal (previous : Gtids) (entries : List Entry) : Type 0 where
+  pub new : AreNew previous entries
+  pub writable : list_all is_writable entries ≡ true

@@ -1,0 +1,256 @@
+//! Journals: what a server executed, in order.
+#![tactic(auto)]
+
+ghost use Rattle.std.specs.Prelude.{◌≡◌, ◌-◌, [], ◌∷◌, ◌++◌, true, false, OnOk, OnErr, IfOk, length, take, ◌==◌};
+ghost use Rattle.std.specs.List.{list_all, list_any};
+ghost use Rattle.gtid_text.specs.Gtids.{same_gtid};
+ghost use Rattle.std.specs.FinSet as set;
+ghost use Rattle.journal.specs.Journals.{whole};
+ghost use Rattle.journal.specs.Writing.{is_value_writable, is_image_writable, is_change_writable, is_txn_writable, is_writable, is_number};
+
+use gtid_set::GtidSet;
+use gtid_text::Gtid;
+use rows::{Change, Row, Transaction, Value};
+use std::alloc::{AllocError, Global};
+use std::marker::Model;
+
+/// The greatest transaction number.
+pub const GREATEST: u64 = 9_223_372_036_854_775_807;
+
+/// A transaction with its GTID. A clone shares the changes.
+#[derive(Drop)]
+pub struct Entry {
+    pub gtid: Gtid,
+    pub txn: Transaction,
+}
+
+impl Clone for Entry {
+    ghost use Rattle.std.specs.Prelude.{◌≡◌};
+
+    ghost is_clone = { λ a b. b ≡ a };
+
+    fn clone(&self) -> Result<Entry, AllocError> {
+        let txn = self.txn.clone()?;
+        Ok(Entry {
+            gtid: self.gtid,
+            txn,
+        })
+    }
+}
+
+fn is_value_writable(value: &Value) -> bool
+    ensures { result ≡ is_value_writable value.now }
+{
+    match value {
+        Value::Null => true,
+        Value::Int(_) => true,
+        Value::Bytes(bytes) => bytes.as_slice().len() <= 65_535,
+    }
+}
+
+fn are_values_writable(values: &[Value]) -> bool
+    ensures { result ≡ list_all is_value_writable values.now }
+{
+    values.iter().all(|value| is_value_writable(value))
+}
+
+fn is_image_writable(image: &Row) -> bool
+    ensures { result ≡ is_image_writable image.now }
+{
+    let values = image.values();
+    1 <= values.len() && values.len() <= 64 && are_values_writable(values)
+}
+
+fn is_change_writable(change: &Change) -> bool
+    ensures { result ≡ is_change_writable change.now }
+{
+    match change {
+        Change::Insert { table: _, after } => is_image_writable(after),
+        Change::Delete { table: _, before } => is_image_writable(before),
+        Change::Update {
+            table: _,
+            before,
+            after,
+        } => is_image_writable(before) && is_image_writable(after),
+    }
+}
+
+fn are_changes_writable(changes: &[Change]) -> bool
+    ensures { result ≡ list_all is_change_writable changes.now }
+{
+    changes.iter().all(|change| is_change_writable(change))
+}
+
+/// Whether a transaction can be written: at most 65,536 changes, images of 1 to 64 values, and
+/// values of at most 65,535 bytes (our own limits).
+pub fn is_txn_writable(txn: &Transaction) -> bool
+    ensures { result ≡ is_txn_writable txn.now }
+{
+    let changes = txn.changes.as_slice();
+    changes.len() <= 65_536 && are_changes_writable(changes)
+}
+
+/// Whether a transaction number is in range.
+#[tactic(auto, unfolding(gtid_set::specs::Sets::greatest))]
+fn is_number(number: u64) -> bool
+    ensures { result ≡ is_number number }
+{
+    1 <= number && number <= GREATEST
+}
+
+impl Entry {
+    /// Whether the entry can be written: its number is 1 to 9223372036854775807 ("GTID Format and
+    /// Storage"; the greatest number is our own) and its transaction can be written.
+    pub fn is_writable(&self) -> bool
+        ensures { result ≡ is_writable self.now }
+    {
+        is_number(self.gtid.number) && is_txn_writable(&self.txn)
+    }
+}
+
+/// Whether one of the entries has this GTID.
+fn any_has(entries: &[Entry], gtid: &Gtid) -> bool
+    ensures { result ≡ list_any (λ e. same_gtid gtid.now e.gtid) entries.now }
+{
+    entries.iter().any(|entry| is_same(gtid, &entry.gtid))
+}
+
+fn is_same(a: &Gtid, b: &Gtid) -> bool
+    ensures { result ≡ same_gtid a.now b.now }
+{
+    a.source == b.source && a.number == b.number
+}
+
+/// What was executed before, and the entries after it in order. No GTID stands twice or in the
+/// previous set, and each entry can be written.
+#[derive(Drop)]
+pub struct Journal {
+    previous: GtidSet,
+    entries: Vec<Entry>,
+}
+
+impl Model for Journal {
+    ghost use Rattle.journal.specs.Journals.{JournalValue};
+    ghost use Rattle.std.specs.Coded.{codes};
+    ghost use Rattle.gtid_set.specs.Sets.{gtids_code};
+
+    ghost Value = { JournalValue };
+
+    ghost coded = { Prim.hlevel (codes, gtids_code) };
+
+    ghost use Rattle.journal.specs.Journals.{IsJournal};
+
+    ghost view = { λ j. record { previous = j.previous; entries = j.entries.items } };
+
+    ghost invariant = { λ j. IsJournal j.previous j.entries.items };
+}
+
+impl Journal {
+    /// A journal without entries after this set.
+    pub fn start(alloc: Global, previous: GtidSet) -> Journal
+        ensures { result ≡ record { previous = previous; entries = [] } }
+    {
+        Journal {
+            previous,
+            entries: Vec::new(alloc),
+        }
+    }
+
+    /// Puts an entry at the end.
+    pub fn push(&mut self, entry: Entry) -> Result<(), AllocError>
+        requires new { set.contains (whole self.old) entry.gtid ≡ false }
+        requires writable { is_writable entry ≡ true }
+        ensures ok { OnOk result (self.new ≡ record self.old { entries = self.old.entries ++ entry ∷ [] }) }
+        ensures err { OnErr result (self.new ≡ self.old) }
+    {
+        self.entries.push(entry)?;
+        Ok(())
+    }
+
+    /// Whether a GTID is in the previous set or that of an entry, by looking at each entry.
+    pub fn contains(&self, gtid: &Gtid) -> bool
+        ensures { result ≡ set.contains (whole self.now) gtid.now }
+    {
+        self.previous.contains(gtid) || any_has(&self.entries, gtid)
+    }
+
+    /// Takes the last entry away, if there is one.
+    pub fn pop(&mut self)
+        ensures { self.new ≡ record self.old { entries = take (length self.old.entries - 1) self.old.entries } }
+    {
+        let kept = self.entries.len().saturating_sub(1);
+        self.entries.truncate(kept);
+    }
+
+    /// The set executed before the entries.
+    pub fn previous(&self) -> &GtidSet
+        ensures { result.now ≡ self.now.previous }
+    {
+        &self.previous
+    }
+
+    /// The entries in order.
+    pub fn entries(&self) -> &[Entry]
+        ensures { result.now ≡ self.now.entries }
+    {
+        &self.entries
+    }
+
+    /// How many entries there are.
+    pub fn len(&self) -> usize
+        ensures { result ≡ length self.now.entries }
+    {
+        self.entries.len()
+    }
+
+    /// Whether there is no entry.
+    pub fn is_empty(&self) -> bool
+        ensures { result ≡ (length self.now.entries == 0) }
+    {
+        self.entries.is_empty()
+    }
+}
+
+#[cfg(test)]
+mod tests {
+    use super::*;
+    use gtid_text::SourceId;
+    use rows::Changes;
+    use std::test::Fail;
+
+    fn entry(alloc: Global, number: u64) -> Result<Entry, AllocError>
+        ensures { IfOk result (λ e. e.gtid.number ≡ number) }
+    {
+        let changes = Changes::new(Vec::new(alloc))?;
+        let gtid = Gtid {
+            source: SourceId::from_bits(7),
+            number,
+        };
+        Ok(Entry {
+            gtid,
+            txn: Transaction { changes },
+        })
+    }
+
+    #[test]
+    fn an_entry_is_put_and_taken_away(rt: HostRuntime) -> Result<(), Fail> {
+        let alloc = rt.alloc();
+        let mut journal = Journal::start(alloc, GtidSet::empty(alloc));
+        let first = entry(alloc, 1)?;
+        assert!(rt; journal.is_empty() && first.is_writable() && !journal.contains(&first.gtid));
+        journal.push(first.clone()?)?;
+        assert_eq!(rt; journal.len(), 1);
+        assert!(rt; journal.contains(&first.gtid) && !journal.previous().contains(&first.gtid));
+        assert_eq!(rt; journal.entries()[0].gtid, first.gtid);
+        journal.pop();
+        assert!(rt; journal.is_empty());
+        Ok(())
+    }
+
+    #[test]
+    fn number_zero_is_not_written(rt: HostRuntime) -> Result<(), Fail> {
+        let none = entry(rt.alloc(), 0)?;
+        assert!(rt; !none.is_writable());
+        Ok(())
+    }
+}
