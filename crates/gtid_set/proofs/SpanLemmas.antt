@@ -1,15 +1,16 @@
 -- Merged lists of spans: what comes first, what follows, and a span at the end.
-use Rattle.std.proofs.Common.{Some, length, suc, get_or, set, ◌≡◌, ◌≤◌, ◌<◌, ◌+◌, ◌-◌, ℕ, Bool, true, false, not, ◌&&◌, ◌||◌, nat_le, nat_lt, List, [], ◌∷◌, ◌++◌, refl, sym, ap, subst, ◌∙◌, arith, max}
+use Rattle.std.proofs.Common.{zero, take, drop, Some, length, suc, get_or, set, ◌≡◌, ◌≤◌, ◌<◌, ◌+◌, ◌-◌, ℕ, Bool, true, false, not, ◌&&◌, ◌||◌, nat_le, nat_lt, List, [], ◌∷◌, ◌++◌, refl, sym, ap, subst, ◌∙◌, arith, max}
 use Rattle.std.specs.Prelude.{◌==◌}
-use Rattle.std.specs.List.{list_all, list_any, slice_get}
-use Rattle.std.proofs.lemmas.List.{get_or_at, set_at}
+use Rattle.std.specs.List.{list_all, list_any, slice_get, AllWithin}
+use Rattle.std.specs.List.Sorted.{IsPartitionedBy, IsPartitionPoint}
+use Rattle.std.proofs.lemmas.List.{get_or_at, set_at, append_assoc, length-drop, length-append, drop-drop, drop_at, take-append-drop}
 use Rattle.std.proofs.lemmas.Bool.Decides.{nat_tests}
 use Rattle.std.proofs.lemmas.List.Folds.{list_any-append, list_all-append}
 use Rattle.gtid_text.specs.declared.Gtid.{Gtid}
 use Rattle.gtid_text.specs.declared.Span.{Span}
-use Rattle.gtid_set.specs.Sets.{gtid, covers}
+use Rattle.gtid_set.specs.Sets.{gtid}
 use Rattle.gtid_set.specs.Spans.{is_before, ends_before, is_merged, has}
-use Rattle.gtid_set.specs.Sweep.{IsRest, Joins, AddsFront, front_of, Cuts, Overlaps, common_of, all_before_common, is_inside, Meets, TakesFirst, all_start_by, all_before, all_reach, rises, is_met, IsListOf, IsWithin, IsNotWithin, AreApart, HaveCommon, sources_in, start_of, within, is_from}
+use Rattle.gtid_set.specs.Sweep.{IsRest, Joins, AddsFront, front_of, common_of, all_before_common, is_inside, Meets, TakesFirst, all_start_by, all_before, all_reach, all_touch, rises, is_met, IsListOf, Absorbs, IsPlace, hull, IsWithin, IsNotWithin, HasSpan, KnowsSource, start_of, within, is_from}
 
 pub both : (a b : Bool) → (a && b) ≡ true → (a ≡ true) × (b ≡ true)
 both true b h = (refl, h)
@@ -99,7 +100,7 @@ merged_pushed (s ∷ ss) t m =
     record {
       merged = merged_cons s ss (record { filled = h.filled; after = a.0; tail = r.merged });
       before = and_of (is_before s t) (all_before ss t) a.1 r.before;
-      filled = r.filled
+      filled = r.filled;
     }
 
 pub has_push : (ss : List Span) (t : Span) (q : Gtid) → has (ss ++ t ∷ []) q ≡ (has ss q || within t q)
@@ -132,7 +133,7 @@ reach_all first t more m e =
     reaches : (s : Span) → nat_le s.lo s.hi ≡ true → is_before first s ≡ true → ends_before (start_of t) first ≡ false → not (ends_before (start_of t) s) ≡ true
     reaches s f b e = grind (arith, nat_tests)
 
-or_assoc : (a b c : Bool) → (a || (b || c)) ≡ ((a || b) || c)
+pub or_assoc : (a b c : Bool) → (a || (b || c)) ≡ ((a || b) || c)
 or_assoc true b c = refl
 or_assoc false b c = refl
 
@@ -152,7 +153,7 @@ pub joins_end : (ss : List Span) (t : Span) → is_merged ss ≡ true → all_be
 joins_end ss t m b f o = record {
   merged = merged_push ss t m b f;
   order = all_push (λ s. is_from (start_of s) (start_of t)) ss t o (from_itself (start_of t));
-  has = λ q. has_push ss t q
+  has = λ q. has_push ss t q;
 }
 
 -- the last span made longer
@@ -168,10 +169,10 @@ joins_last ss l t m o f b =
       merged = merged_push ss (longer l (max l.hi t.hi)) p.merged p.before (at_most l.lo l.hi t.hi p.filled);
       order = all_push (λ s. is_from (start_of s) (start_of t)) ss (longer l (max l.hi t.hi)) v.0 v.1;
       has = λ q.
-        has_push ss (longer l (max l.hi t.hi)) q
-        ∙ ap (λ b. has ss q || b) (one_more l t q v.1 b f p.filled)
-        ∙ or_assoc (has ss q) (within l q) (within t q)
-        ∙ ap (λ b. b || within t q) (sym (has_push ss l q))
+          has_push ss (longer l (max l.hi t.hi)) q
+          ∙ ap (λ b. has ss q || b) (one_more l t q v.1 b f p.filled)
+          ∙ or_assoc (has ss q) (within l q) (within t q)
+          ∙ ap (λ b. b || within t q) (sym (has_push ss l q));
     }
   where
     at_most : (lo hi n : ℕ) → lo ≤ hi → lo ≤ max hi n
@@ -206,7 +207,7 @@ joins_set xs front l x t k hi e at read top m o f b =
     let same : x ≡ l = read ∙ ap (λ zs. get_or zs k x) e ∙ get_or_at front l [] x k (sym at) in
     let made = joins_last front l t (sym (ap is_merged e) ∙ m) (sym (ap (λ zs. all_start_by zs t) e) ∙ o) f b in
     joins_at xs (front ++ l ∷ []) (set xs k (longer x hi)) (front ++ longer l (max l.hi t.hi) ∷ []) t e
-      ((λ i. set (e i) k (longer (same i) (top i))) ∙ set_at front l [] (longer l (max l.hi t.hi)) k (sym at)) made
+    ((λ i. set (e i) k (longer (same i) (top i))) ∙ set_at front l [] (longer l (max l.hi t.hi)) k (sym at)) made
 
 -- nothing of a span is in a list that it reaches and whose first it doesn't meet
 pub apart_after : (spans : List Span) (first t : Span) (more : List Span) → spans ≡ first ∷ more → is_merged spans ≡ true → all_reach t spans ≡ true → is_met first t ≡ false
@@ -235,7 +236,7 @@ pub all_later : (g : Gtid) (s : Span) (ss : List Span) → is_from g (start_of s
 all_later g s ss a r =
     let v = both (list_all (λ t. is_from (start_of s) (start_of t)) ss) (rises ss) r in
     and_of (is_from g (start_of s)) (list_all (λ t. is_from g (start_of t)) ss) a
-      (all_weaker (λ t. is_from (start_of s) (start_of t)) (λ t. is_from g (start_of t)) ss (λ t h. from_trans g (start_of s) (start_of t) a h) v.0)
+    (all_weaker (λ t. is_from (start_of s) (start_of t)) (λ t. is_from g (start_of t)) ss (λ t h. from_trans g (start_of s) (start_of t) a h) v.0)
 
 or_swap : (a b c : Bool) → (a || (b || c)) ≡ (b || (a || c))
 or_swap true true c = refl
@@ -252,7 +253,7 @@ takes_left left right a more e l r later =
       right_rises = r;
       left_later = v.0;
       right_later = later;
-      shorter = omega (arith, long)
+      shorter = omega (arith, long);
     }
 
 pub takes_right : (left right : List Span) (b : Span) (more : List Span) → right ≡ b ∷ more → rises left ≡ true → rises right ≡ true → list_all (λ t. is_from (start_of b) (start_of t)) left ≡ true → TakesFirst left right b left more
@@ -265,7 +266,7 @@ takes_right left right b more e l r later =
       right_rises = v.1;
       left_later = later;
       right_later = v.0;
-      shorter = omega (arith, long)
+      shorter = omega (arith, long);
     }
 
 pub all_true : {X : Type 0} (p : X → Bool) (xs : List X) → ((x : X) → p x ≡ true) → list_all p xs ≡ true
@@ -308,14 +309,14 @@ nothing out e = record {
   merged = ap is_merged e;
   starts = λ ss. all_true (all_start_by out) ss (λ s. ap (λ o. all_start_by o s) e);
   before = λ ss. all_true (all_before out) ss (λ s. ap (λ o. all_before o s) e);
-  none = λ q. ap (λ o. has o q) e
+  none = λ q. ap (λ o. has o q) e;
 }
 
 -- what starts by a span starts by the later ones
 pub starts_later : (out : List Span) (x : Span) (ss : List Span) → all_start_by out x ≡ true → list_all (λ t. is_from (start_of x) (start_of t)) ss ≡ true → list_all (all_start_by out) ss ≡ true
 starts_later out x ss o later =
     all_weaker (λ t. is_from (start_of x) (start_of t)) (all_start_by out) ss
-      (λ t h. all_weaker (λ s. is_from (start_of s) (start_of x)) (λ s. is_from (start_of s) (start_of t)) out (λ s k. from_trans (start_of s) (start_of x) (start_of t) k h) o) later
+    (λ t h. all_weaker (λ s. is_from (start_of s) (start_of x)) (λ s. is_from (start_of s) (start_of t)) out (λ s k. from_trans (start_of s) (start_of x) (start_of t) k h) o) later
 
 -- a span goes from the lists to the result
 pub moved : (o o' w a b l r g : Bool) → o' ≡ (o || w) → (a || b) ≡ (w || (l || r)) → (o || (a || b)) ≡ g → (o' || (l || r)) ≡ g
@@ -326,7 +327,7 @@ pub adds_front : (old new : List Span) (t hole : Span) → new ≡ old ++ front_
 adds_front old new t hole e m b met lt = record {
   merged = ap is_merged e ∙ merged_push old (front_of t hole) m b (omega arith);
   later = λ u f a. ap (λ ss. all_before ss u) e ∙ all_push (λ s. is_before s u) old (front_of t hole) a (f lt);
-  has = λ q. ap (λ ss. has ss q) e ∙ has_push old (front_of t hole) q ∙ ap (λ b. has old q || b) (front q met lt)
+  has = λ q. ap (λ ss. has ss q) e ∙ has_push old (front_of t hole) q ∙ ap (λ b. has old q || b) (front q met lt);
 }
   where
     front : (q : Gtid) → is_met hole t ≡ true → t.lo < hole.lo → within (front_of t hole) q ≡ (within t q && nat_lt q.number hole.lo)
@@ -501,10 +502,16 @@ uncovered spans t first more e f m r i = cases (within first (start_of t)) refl
     start_from a = grind (arith, nat_tests)
 
     cases : (b : Bool) → within first (start_of t) ≡ b → IsNotWithin (within t) (has spans)
-    cases true w = (gtid t.source (first.hi + 1), next_within f i w,
-      ap (λ ss. has ss (gtid t.source (first.hi + 1))) e ∙ ap (λ b. b || has more (gtid t.source (first.hi + 1))) (next_past (first.hi + 1) w refl) ∙ has_later first more (gtid t.source (first.hi + 1)) head.after (next_from w))
-    cases false w = (start_of t, start_within t f,
-      ap (λ ss. has ss (start_of t)) e ∙ ap (λ b. b || has more (start_of t)) w ∙ has_later first more (start_of t) head.after (start_from reached))
+    cases true w = (
+      gtid t.source (first.hi + 1),
+      next_within f i w,
+      ap (λ ss. has ss (gtid t.source (first.hi + 1))) e ∙ ap (λ b. b || has more (gtid t.source (first.hi + 1))) (next_past (first.hi + 1) w refl) ∙ has_later first more (gtid t.source (first.hi + 1)) head.after (next_from w),
+    )
+    cases false w = (
+      start_of t,
+      start_within t f,
+      ap (λ ss. has ss (start_of t)) e ∙ ap (λ b. b || has more (start_of t)) w ∙ has_later first more (start_of t) head.after (start_from reached),
+    )
 
 pub all_before_head : (out left : List Span) (t : Span) (more : List Span) → left ≡ t ∷ more → list_all (all_before out) left ≡ true → all_before out t ≡ true
 all_before_head out left t more e b = (both (all_before out t) (list_all (all_before out) more) (sym (ap (list_all (all_before out)) e) ∙ b)).0
@@ -531,3 +538,335 @@ looked left t more q P e m first none = cases (within t q) refl
 -- a GTID that two spans have in common, where one meets the other
 pub common_gtid : (t s : Span) → t.lo ≤ t.hi → s.lo ≤ s.hi → is_met s t ≡ true → not (ends_before (start_of t) s) ≡ true → (within t (gtid t.source (max t.lo s.lo)) ≡ true) × (within s (gtid t.source (max t.lo s.lo)) ≡ true)
 common_gtid t s f g m r = (grind (arith, nat_tests), grind (arith, nat_tests))
+
+-- one list is the end of another
+pub record IsTail (spans rest : List Span) : Type 0 where
+  pub front : List Span
+  pub parts : spans ≡ front ++ rest
+
+pub tail_itself : (spans : List Span) → IsTail spans spans
+tail_itself spans = record { front = []; parts = refl }
+
+pub tail_more : (spans rest : List Span) (s : Span) (more : List Span) → rest ≡ s ∷ more → IsTail spans rest → IsTail spans more
+tail_more spans rest s more e t = record { front = t.front ++ s ∷ []; parts = t.parts ∙ ap (λ r. t.front ++ r) e ∙ sym (append_assoc t.front (s ∷ []) more) }
+
+pub all_tail : (p : Span → Bool) (front rest : List Span) → list_all p (front ++ rest) ≡ true → list_all p rest ≡ true
+all_tail p [] rest h = h
+all_tail p (s ∷ ss) rest h = all_tail p ss rest (both (p s) (list_all p (ss ++ rest)) h).1
+
+-- two filled spans that touch, as the first of what is left does
+pub record DoTouch (t s : Span) : Type 0 where
+  pub mine : t.lo ≤ t.hi
+  pub theirs : s.lo ≤ s.hi
+  pub not_before : not (is_before s t) ≡ true
+  pub not_after : is_before t s ≡ false
+
+pub within_hull : (t s : Span) (q : Gtid) → DoTouch t s → within (hull t s) q ≡ (within t q || within s q)
+within_hull t s q d = all_of d.mine d.theirs d.not_before d.not_after
+  where
+    all_of : t.lo ≤ t.hi → s.lo ≤ s.hi → not (is_before s t) ≡ true → is_before t s ≡ false → within (hull t s) q ≡ (within t q || within s q)
+    all_of a b e f = grind (arith, nat_tests)
+
+pub before_hull : (u t s : Span) → DoTouch t s → is_before u t ≡ true → is_before u s ≡ true → is_before u (hull t s) ≡ true
+before_hull u t s d a b = all_of d.mine d.theirs d.not_before d.not_after a b
+  where
+    all_of : t.lo ≤ t.hi → s.lo ≤ s.hi → not (is_before s t) ≡ true → is_before t s ≡ false → is_before u t ≡ true → is_before u s ≡ true → is_before u (hull t s) ≡ true
+    all_of a b e f g h = grind (arith, nat_tests)
+
+pub hull_filled : (t s : Span) → t.lo ≤ t.hi → (hull t s).lo ≤ (hull t s).hi
+hull_filled t s h = grind (arith, nat_tests)
+
+pub touch_hull : (t s : Span) (more : List Span) → all_touch t (s ∷ more) ≡ true → all_touch (hull t s) more ≡ true
+touch_hull t s more h = all_weaker (λ u. not (is_before u t)) (λ u. not (is_before u (hull t s))) more wider (both (not (is_before s t)) (all_touch t more) h).1
+  where
+    wider : (u : Span) → not (is_before u t) ≡ true → not (is_before u (hull t s)) ≡ true
+    wider u h = grind (arith, nat_tests)
+
+-- what is before a span and all of a list is before the first of what is left of it
+pub all_first : (p : Span → Bool) (spans rest : List Span) (s : Span) (more : List Span) → IsTail spans rest → rest ≡ s ∷ more → list_all p spans ≡ true → p s ≡ true
+all_first p spans rest s more t e h = (both (p s) (list_all p more) (sym (ap (list_all p) e) ∙ all_tail p t.front rest (sym (ap (list_all p) t.parts) ∙ h))).0
+
+-- all of a merged list is after what its first is after
+pub all_after : (t s : Span) (more : List Span) → IsHead s more → is_before t s ≡ true → list_all (is_before t) (s ∷ more) ≡ true
+all_after t s more h b =
+    let f = h.filled in
+    let le : nat_le s.lo s.hi ≡ true = grind (arith, nat_tests) in
+    and_of (is_before t s) (list_all (is_before t) more) b (all_weaker (is_before s) (is_before t) more (λ u k. before_trans t s u b le k) h.after)
+
+pub all_at : {X : Type 0} (p : X → Bool) (xs : List X) (i : ℕ) (d : X) → list_all p xs ≡ true → i < length xs → p (get_or xs i d) ≡ true
+all_at p [] i d h lt = absurd (omega arith)
+all_at p (x ∷ xs) zero d h lt = (both (p x) (list_all p xs) h).0
+all_at p (x ∷ xs) (suc i) d h lt = all_at p xs i d (both (p x) (list_all p xs) h).1 (omega arith)
+
+-- the front of a list before a partition point passes, and the back fails
+pub all_take : {X : Type 0} (p : X → Bool) (xs : List X) (i : ℕ) → i ≤ length xs → AllWithin (λ y. p y ≡ true) xs 0 i → list_all p (take i xs) ≡ true
+all_take p xs zero le h = refl
+all_take p [] (suc i) le h = refl
+all_take p (x ∷ xs) (suc i) le h = and_of (p x) (list_all p (take i xs)) (h 0 x (omega arith) (omega arith)) (all_take p xs i (omega arith) (λ k d a b. h (suc k) d (omega arith) (omega arith)))
+
+pub all_drop : {X : Type 0} (p : X → Bool) (xs : List X) (i : ℕ) → AllWithin (λ y. p y ≡ false) xs i (length xs) → list_all (λ y. not (p y)) (drop i xs) ≡ true
+all_drop p [] zero h = refl
+all_drop p [] (suc i) h = refl
+all_drop p (x ∷ xs) zero h = and_of (not (p x)) (list_all (λ y. not (p y)) xs) (ap not (h 0 x (omega arith) (omega arith))) (all_drop p xs zero (λ k d a b. h (suc k) d (omega arith) (omega arith)))
+all_drop p (x ∷ xs) (suc i) h = all_drop p xs i (λ k d a b. h (suc k) d (omega arith) (omega arith))
+
+-- a test that fails from some span of a merged list on
+pub parted : (p : Span → Bool) → ((s t : Span) → is_before s t ≡ true → nat_le t.lo t.hi ≡ true → p t ≡ true → p s ≡ true) → (ss : List Span) → is_merged ss ≡ true → IsPartitionedBy p ss
+parted p falls [] m i j d le lt e = absurd (omega arith)
+parted p falls (s ∷ ss) m zero zero d le lt e = e
+parted p falls (s ∷ ss) m zero (suc j) d le lt e =
+    let h = merged_head s ss m in
+    falls s (get_or ss j d) (all_at (is_before s) ss j d h.after (omega arith)) (all_at (λ s. nat_le s.lo s.hi) ss j d (merged_filled ss h.tail) (omega arith)) e
+parted p falls (s ∷ ss) m (suc i) zero d le lt e = absurd (omega arith)
+parted p falls (s ∷ ss) m (suc i) (suc j) d le lt e = parted p falls ss (merged_head s ss m).tail i j d (omega arith) (omega arith) e
+
+pub all_parts : {X : Type 0} (p : X → Bool) (xs ys : List X) → list_all p (xs ++ ys) ≡ true → (list_all p xs ≡ true) × (list_all p ys ≡ true)
+all_parts p xs ys h = both (list_all p xs) (list_all p ys) (sym (list_all-append p xs ys) ∙ h)
+
+pub all_joined : {X : Type 0} (p : X → Bool) (xs ys : List X) → list_all p xs ≡ true → list_all p ys ≡ true → list_all p (xs ++ ys) ≡ true
+all_joined p xs ys a b = list_all-append p xs ys ∙ and_of (list_all p xs) (list_all p ys) a b
+
+-- the parts of a merged list
+pub merged_front : (xs ys : List Span) → is_merged (xs ++ ys) ≡ true → is_merged xs ≡ true
+merged_front [] ys m = refl
+merged_front (x ∷ xs) ys m =
+    let h = merged_head x (xs ++ ys) m in
+    merged_cons x xs (record { filled = h.filled; after = (all_parts (is_before x) xs ys h.after).0; tail = merged_front xs ys h.tail })
+
+pub merged_back : (xs ys : List Span) → is_merged (xs ++ ys) ≡ true → is_merged ys ≡ true
+merged_back [] ys m = m
+merged_back (x ∷ xs) ys m = merged_back xs ys (merged_head x (xs ++ ys) m).tail
+
+-- a front is before the back of a merged list
+pub front_before_back : (xs ys : List Span) → is_merged (xs ++ ys) ≡ true → list_all (λ x. list_all (is_before x) ys) xs ≡ true
+front_before_back [] ys m = refl
+front_before_back (x ∷ xs) ys m =
+    let h = merged_head x (xs ++ ys) m in
+    and_of (list_all (is_before x) ys) (list_all (λ x. list_all (is_before x) ys) xs) (all_parts (is_before x) xs ys h.after).1 (front_before_back xs ys h.tail)
+
+-- a span between a front and a back
+pub merged_mid : (xs : List Span) (t : Span) (ys : List Span) → is_merged xs ≡ true → is_merged ys ≡ true → t.lo ≤ t.hi → all_before xs t ≡ true → list_all (is_before t) ys ≡ true → is_merged (xs ++ t ∷ ys) ≡ true
+merged_mid [] t ys a b f c d = merged_cons t ys (record { filled = f; after = d; tail = b })
+merged_mid (x ∷ xs) t ys a b f c d =
+    let h = merged_head x xs a in
+    let w = both (is_before x t) (all_before xs t) c in
+    let le : nat_le t.lo t.hi ≡ true = grind (arith, nat_tests) in
+    merged_cons x (xs ++ t ∷ ys) (record {
+      filled = h.filled;
+      after = all_joined (is_before x) xs (t ∷ ys) h.after (and_of (is_before x t) (list_all (is_before x) ys) w.0 (all_weaker (is_before t) (is_before x) ys (λ s k. before_trans x t s w.0 le k) d));
+      tail = merged_mid xs t ys h.tail b f w.1 d;
+    })
+
+-- what is left of a list behind a place and a front
+pub drop_rest : (xs front rest : List Span) (at : ℕ) → at ≤ length xs → drop at xs ≡ front ++ rest → drop (length xs - length rest) xs ≡ rest
+drop_rest xs front rest at le e =
+    let counted : length (drop at xs) ≡ length xs - at = length-drop at xs in
+    let parts : length (drop at xs) ≡ length front + length rest = ap length e ∙ length-append front rest in
+    let place : length xs - length rest ≡ at + length front = omega (arith, counted, parts) in
+    ap (λ n. drop n xs) place ∙ sym (drop-drop (length front) at xs) ∙ ap (drop (length front)) e ∙ drop_at front rest (length front) refl
+
+-- a span joined to a list at its place
+pub added : (xs : List Span) (at : ℕ) (t joined : Span) (rest new : List Span) → at ≤ length xs → is_merged xs ≡ true → all_before (take at xs) t ≡ true → Absorbs t (drop at xs) joined rest
+    → new ≡ take at xs ++ joined ∷ drop (length xs - length rest) xs → IsListOf (λ q. within t q || has xs q) new
+added xs at t joined rest new le m before a e =
+    let split = take-append-drop at xs in
+    let whole : is_merged (take at xs ++ drop at xs) ≡ true = ap is_merged split ∙ m in
+    let front = take at xs in
+    let all : new ≡ front ++ joined ∷ rest = e ∙ ap (λ r. front ++ joined ∷ r) (drop_rest xs a.front rest at le a.parts) in
+    let crosses = front_before_back front (drop at xs) whole in
+    record {
+      merged = ap is_merged all ∙ merged_mid front joined rest (merged_front front (drop at xs) whole) a.merged a.filled
+          (all_weaker2 (λ x. is_before x t) (λ x. list_all (is_before x) (drop at xs)) (λ x. is_before x joined) front (λ x b c. a.lower x b c) before crosses) a.after;
+      has = λ q. ap (λ ss. has ss q) all ∙ list_any-append (λ s. within s q) front (joined ∷ rest) ∙ ap (λ b. has front q || b) (a.has q)
+          ∙ or_swap (has front q) (within t q) (has (drop at xs) q) ∙ ap (λ b. within t q || b) (sym (list_any-append (λ s. within s q) front (drop at xs)) ∙ ap (λ ss. has ss q) split);
+    }
+
+-- the place of a span in a merged list
+pub placed : (xs : List Span) (t : Span) (at : ℕ) (rest : List Span) → is_merged xs ≡ true → at ≤ length xs → rest ≡ drop at xs → IsPartitionPoint (λ s. is_before s t ≡ true) (λ s. is_before s t ≡ false) xs at → IsPlace xs t at rest
+placed xs t at rest m le e part = record {
+  bound = le;
+  back = e;
+  before = all_take (λ s. is_before s t) xs at le part.0;
+  touched = ap (all_touch t) e ∙ all_drop (λ s. is_before s t) xs at part.1;
+  merged = ap is_merged e ∙ merged_back (take at xs) (drop at xs) (ap is_merged (take-append-drop at xs) ∙ m);
+}
+
+pub before_falls : (t : Span) (s u : Span) → is_before s u ≡ true → nat_le u.lo u.hi ≡ true → is_before u t ≡ true → is_before s t ≡ true
+before_falls t s u a b c = before_trans s u t a b c
+
+-- a list as it was, with what was joined to it
+pub added_at : (xs : List Span) (at : ℕ) (t : Span) (back : List Span) (joined : Span) (rest new : List Span) → is_merged xs ≡ true → IsPlace xs t at back → Absorbs t back joined rest
+    → new ≡ take at xs ++ joined ∷ drop (length xs - length rest) xs → IsListOf (λ q. within t q || has xs q) new
+added_at xs at t back joined rest new m place a e = added xs at t joined rest new place.bound m place.before (subst (λ b. Absorbs t b joined rest) place.back a) e
+
+pub ends_falls : (t s u : Span) → is_before s u ≡ true → nat_le u.lo u.hi ≡ true → ends_before (start_of t) u ≡ true → ends_before (start_of t) s ≡ true
+ends_falls t s u a b c = grind (arith, nat_tests)
+
+-- the spans from a partition point on
+pub sought : (xs : List Span) (t : Span) (at : ℕ) (rest : List Span) → is_merged xs ≡ true → at ≤ length xs → rest ≡ drop at xs
+    → IsPartitionPoint (λ s. ends_before (start_of t) s ≡ true) (λ s. ends_before (start_of t) s ≡ false) xs at → IsRest t xs rest
+sought xs t at rest m le e part = record {
+  merged = ap is_merged e ∙ merged_back (take at xs) (drop at xs) (ap is_merged (take-append-drop at xs) ∙ m);
+  reach = ap (all_reach t) e ∙ all_drop (ends_before (start_of t)) xs at part.1;
+  same = λ q f. ap (λ ss. has ss q) e ∙ sym (
+      ap (λ ss. has ss q) (sym (take-append-drop at xs)) ∙ list_any-append (λ s. within s q) (take at xs) (drop at xs)
+      ∙ ap (λ b. b || has (drop at xs) q) (any_none (λ s. within s q) (ends_before (start_of t)) (take at xs) (λ s b. outside s q b f) (all_take (ends_before (start_of t)) xs at le part.0)));
+}
+  where
+    outside : (s : Span) (q : Gtid) → ends_before (start_of t) s ≡ true → is_from (start_of t) q ≡ true → within s q ≡ false
+    outside s q b f = grind (arith, nat_tests)
+
+-- of the spans that reach a GTID only the first can have it
+abbrev pub one : Gtid → Span
+one q = record { source = q.source; lo = q.number; hi = q.number }
+
+only_first : (first : Span) (more : List Span) (q : Gtid) → IsHead first more → not (ends_before q first) ≡ true → has more q ≡ false
+only_first first more q h r = has_later first more q h.after (start r)
+  where
+    start : not (ends_before q first) ≡ true → is_from q (gtid first.source (first.hi + 1)) ≡ true
+    start r = grind (arith, nat_tests)
+
+pub record IsReached (spans rest : List Span) (t first : Span) (more : List Span) : Type 0 where
+  pub head : IsHead first more
+  pub parts : rest ≡ first ∷ more
+  pub reached : not (ends_before (start_of t) first) ≡ true
+
+pub reached_at : (spans rest : List Span) (t first : Span) (more : List Span) → IsRest t spans rest → rest ≡ first ∷ more → IsReached spans rest t first more
+reached_at spans rest t first more r e = record {
+  head = merged_head first more (sym (ap is_merged e) ∙ r.merged);
+  parts = e;
+  reached = (both (not (ends_before (start_of t) first)) (all_reach t more) (sym (ap (all_reach t) e) ∙ r.reach)).0;
+}
+
+pub not_found : (spans rest : List Span) (q : Gtid) (first : Span) (more : List Span) → IsRest (one q) spans rest → rest ≡ first ∷ more → is_inside (one q) first ≡ false → has spans q ≡ false
+not_found spans rest q first more r e i =
+    let at = reached_at spans rest (one q) first more r e in
+    sym (r.same q (from_itself q)) ∙ ap (λ ss. has ss q) e ∙ ap (λ b. b || has more q) (outside i) ∙ only_first first more q at.head at.reached
+  where
+    outside : is_inside (one q) first ≡ false → within first q ≡ false
+    outside i = grind (arith, nat_tests)
+
+pub found_span : (spans rest : List Span) (q : Gtid) (first : Span) (more : List Span) → is_merged spans ≡ true → IsRest (one q) spans rest → rest ≡ first ∷ more → is_inside (one q) first ≡ true → HasSpan spans q first
+found_span spans rest q first more m r e i =
+    let at = reached_at spans rest (one q) first more r e in
+    record {
+      reaches = last i;
+      all = λ n a b. sym (r.same (gtid q.source n) (from n a)) ∙ has_first rest first more (gtid q.source n) e (inside n i a b);
+      ended = sym (r.same (gtid q.source (first.hi + 1)) (from_next i)) ∙ ap (λ ss. has ss (gtid q.source (first.hi + 1))) e
+          ∙ ap (λ b. b || has more (gtid q.source (first.hi + 1))) (past (first.hi + 1) i refl)
+          ∙ has_later first more (gtid q.source (first.hi + 1)) at.head.after (next i);
+    }
+  where
+    last : is_inside (one q) first ≡ true → q.number ≤ first.hi
+    last i = grind (arith, nat_tests)
+
+    from : (n : ℕ) → q.number ≤ n → is_from q (gtid q.source n) ≡ true
+    from n a = grind (arith, nat_tests)
+
+    from_next : is_inside (one q) first ≡ true → is_from q (gtid q.source (first.hi + 1)) ≡ true
+    from_next i = grind (arith, nat_tests)
+
+    inside : (n : ℕ) → is_inside (one q) first ≡ true → q.number ≤ n → n ≤ first.hi → within first (gtid q.source n) ≡ true
+    inside n i a b = grind (arith, nat_tests)
+
+    past : (n : ℕ) → is_inside (one q) first ≡ true → n ≡ first.hi + 1 → within first (gtid q.source n) ≡ false
+    past n i e = grind (arith, nat_tests)
+
+    next : is_inside (one q) first ≡ true → is_from (gtid q.source (first.hi + 1)) (gtid first.source (first.hi + 1)) ≡ true
+    next i = grind (arith, nat_tests)
+
+pub knows_none : (spans rest : List Span) (source : ℕ) → IsRest (record { source = source; lo = 0; hi = 0 }) spans rest → rest ≡ [] → (n : ℕ) → has spans (gtid source n) ≡ false
+knows_none spans rest source r e n = sym (r.same (gtid source n) (from_zero n)) ∙ ap (λ ss. has ss (gtid source n)) e
+  where
+    from_zero : (n : ℕ) → is_from (gtid source 0) (gtid source n) ≡ true
+    from_zero n = grind (arith, nat_tests)
+
+pub knows_first : (spans rest : List Span) (source : ℕ) (first : Span) (more : List Span) → IsRest (record { source = source; lo = 0; hi = 0 }) spans rest → rest ≡ first ∷ more → KnowsSource (first.source == source) spans source
+knows_first spans rest source first more r e = cases (first.source == source) refl
+  where
+    zero_span : Span
+    zero_span = record { source = source; lo = 0; hi = 0 }
+
+    from_zero : (n : ℕ) → is_from (gtid source 0) (gtid source n) ≡ true
+    from_zero n = grind (arith, nat_tests)
+
+    inside : first.lo ≤ first.hi → (first.source == source) ≡ true → within first (gtid source first.lo) ≡ true
+    inside f k = grind (arith, nat_tests)
+
+    outside : (n : ℕ) → (first.source == source) ≡ false → within first (gtid source n) ≡ false
+    outside n k = grind (arith, nat_tests)
+
+    start : (n : ℕ) → (first.source == source) ≡ false → not (ends_before (gtid source 0) first) ≡ true → is_from (gtid source n) (gtid first.source (first.hi + 1)) ≡ true
+    start n k a = grind (arith, nat_tests)
+
+    cases : (b : Bool) → (first.source == source) ≡ b → KnowsSource b spans source
+    cases true k =
+        let at = reached_at spans rest (record { source = source; lo = 0; hi = 0 }) first more r e in
+        (first.lo, sym (r.same (gtid source first.lo) (from_zero first.lo)) ∙ has_first rest first more (gtid source first.lo) e (inside at.head.filled k))
+    cases false k =
+        let at = reached_at spans rest (record { source = source; lo = 0; hi = 0 }) first more r e in
+        λ n. sym (r.same (gtid source n) (from_zero n)) ∙ ap (λ ss. has ss (gtid source n)) e ∙ ap (λ b. b || has more (gtid source n)) (outside n k)
+        ∙ has_later first more (gtid source n) at.head.after (start n k at.reached)
+
+-- a merged list rises
+pub merged_rises : (ss : List Span) → is_merged ss ≡ true → rises ss ≡ true
+merged_rises [] m = refl
+merged_rises (s ∷ ss) m =
+    let h = merged_head s ss m in
+    and_of (list_all (λ t. is_from (start_of s) (start_of t)) ss) (rises ss) (all_weaker (is_before s) (λ t. is_from (start_of s) (start_of t)) ss (λ t b. later t b h.filled) h.after) (merged_rises ss h.tail)
+  where
+    later : (t : Span) → is_before s t ≡ true → s.lo ≤ s.hi → is_from (start_of s) (start_of t) ≡ true
+    later t b f = grind (arith, nat_tests)
+
+-- the common parts of a span with others
+pub common_start : (out : List Span) (t : Span) (others : List Span) → all_before out t ≡ true → all_reach t others ≡ true → all_before_common out t others ≡ true
+common_start out t others b r =
+    all_weaker (λ s. not (ends_before (start_of t) s)) (λ s. all_before out (common_of t s)) others
+    (λ s k. all_weaker (λ u. is_before u t) (λ u. is_before u (common_of t s)) out (λ u h. later s u k h) b) r
+  where
+    later : (s u : Span) → not (ends_before (start_of t) s) ≡ true → is_before u t ≡ true → is_before u (common_of t s) ≡ true
+    later s u k h = grind (arith, nat_tests)
+
+overlap_on : (o w c v m : Bool) → c ≡ (w && v) → ((o || c) || (w && m)) ≡ (o || (w && (v || m)))
+overlap_on true w c v m e = refl
+overlap_on false true c true m e = ap (λ x. x || m) e
+overlap_on false true c false m e = ap (λ x. x || m) e
+overlap_on false false c v m e = ap (λ x. x || false) e
+
+-- the step of an overlap
+pub overlap_step : (old new rest : List Span) (t other : Span) (more : List Span) (q : Gtid) → IsHole rest t other more → new ≡ old ++ common_of t other ∷ []
+    → (has new q || (within t q && has more q)) ≡ (has old q || (within t q && has rest q))
+overlap_step old new rest t other more q h e =
+    ap (λ b. b || (within t q && has more q)) (ap (λ ss. has ss q) e ∙ has_push old (common_of t other) q)
+    ∙ overlap_on (has old q) (within t q) (within (common_of t other) q) (within other q) (has more q) (both_in h.met)
+    ∙ ap (λ ss. has old q || (within t q && has ss q)) (sym h.parts)
+  where
+    both_in : is_met other t ≡ true → within (common_of t other) q ≡ (within t q && within other q)
+    both_in m = grind (arith, nat_tests)
+
+-- a common part is filled, before the next ones, and before what is after the span
+pub common_filled : (rest : List Span) (t other : Span) (more : List Span) → t.lo ≤ t.hi → IsHole rest t other more → (common_of t other).lo ≤ (common_of t other).hi
+common_filled rest t other more f h = filled f h.head.filled h.met h.reached
+  where
+    filled : t.lo ≤ t.hi → other.lo ≤ other.hi → is_met other t ≡ true → not (ends_before (start_of t) other) ≡ true → (common_of t other).lo ≤ (common_of t other).hi
+    filled a b c d = grind (arith, nat_tests)
+
+pub common_next : (old new rest : List Span) (t other : Span) (more : List Span) → IsHole rest t other more → new ≡ old ++ common_of t other ∷ [] → all_before_common old t rest ≡ true → all_before_common new t more ≡ true
+common_next old new rest t other more h e b =
+    all_weaker2 (is_before other) (λ s. all_before old (common_of t s)) (λ s. all_before new (common_of t s)) more
+    (λ s k a. ap (λ ss. all_before ss (common_of t s)) e ∙ all_push (λ u. is_before u (common_of t s)) old (common_of t other) a (apart s k h.met))
+    h.head.after (both (all_before old (common_of t other)) (all_before_common old t more) (sym (ap (all_before_common old t) h.parts) ∙ b)).1
+  where
+    apart : (s : Span) → is_before other s ≡ true → is_met other t ≡ true → is_before (common_of t other) (common_of t s) ≡ true
+    apart s k m = grind (arith, nat_tests)
+
+pub common_first : (old rest : List Span) (t other : Span) (more : List Span) → rest ≡ other ∷ more → all_before_common old t rest ≡ true → all_before old (common_of t other) ≡ true
+common_first old rest t other more e b = (both (all_before old (common_of t other)) (all_before_common old t more) (sym (ap (all_before_common old t) e) ∙ b)).0
+
+pub common_before : (t other u : Span) → is_met other t ≡ true → is_before t u ≡ true → is_before (common_of t other) u ≡ true
+common_before t other u m b = grind (arith, nat_tests)
+
+pub overlap_end : (o w m g : Bool) → (w ≡ true → m ≡ false) → (o || (w && m)) ≡ g → o ≡ g
+overlap_end true w m g h e = e
+overlap_end false true m g h e = sym (h refl) ∙ e
+overlap_end false false m g h e = e

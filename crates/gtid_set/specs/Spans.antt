@@ -1,10 +1,10 @@
 -- What a list of spans stands for: the union of its intervals. A set is kept as the one merged list that stands for it.
-use Rattle.std.specs.Prelude.{ℕ, ◌+◌, Bool, true, ◌&&◌, ◌||◌, ◌==◌, nat_le, nat_lt, List, [], ◌∷◌}
+use Rattle.std.specs.Prelude.{◌+◌, Bool, true, ◌&&◌, ◌||◌, ◌==◌, nat_le, nat_lt, List, [], ◌∷◌}
 use Rattle.std.specs.List.{list_any, list_all}
 use Rattle.std.specs.FinSet as set
 use Rattle.gtid_text.specs.declared.Gtid.{Gtid}
 use Rattle.gtid_text.specs.declared.Span.{Span}
-use Rattle.gtid_set.specs.Sets.{Gtids, gtid, interval, covers}
+use Rattle.gtid_set.specs.Sets.{Gtids, interval, covers}
 
 abbrev pub set_of : List Span → Gtids
 set_of [] = set.empty

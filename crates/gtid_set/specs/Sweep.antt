@@ -1,5 +1,5 @@
 -- What one pass over lists of spans keeps.
-use Rattle.std.specs.Prelude.{◌≡◌, ℕ, Bool, true, false, not, ◌&&◌, ◌||◌, ◌==◌, ◌≤◌, ◌+◌, ◌-◌, ◌<◌, max, min, length, map, nat_le, nat_lt, List, [], ◌∷◌, ◌++◌}
+use Rattle.std.specs.Prelude.{◌≡◌, ℕ, Bool, true, false, not, ◌&&◌, ◌||◌, ◌==◌, ◌≤◌, ◌+◌, ◌-◌, ◌<◌, max, min, length, take, drop, map, nat_le, nat_lt, List, [], ◌∷◌, ◌++◌, Option, Some, None, MatchBool}
 use Rattle.std.specs.List.{list_all, list_any}
 use Rattle.std.specs.FinSet as set
 use Rattle.std.specs.Ordering.{nat_cmp}
@@ -31,6 +31,10 @@ all_before ss t = list_all (λ s. is_before s t) ss
 -- none ends before the span
 abbrev pub all_reach : Span → List Span → Bool
 all_reach t ss = list_all (λ s. not (ends_before (start_of t) s)) ss
+
+-- none ends with a number missing before the span
+abbrev pub all_touch : Span → List Span → Bool
+all_touch t ss = list_all (λ s. not (is_before s t)) ss
 
 -- each starts by the later ones
 abbrev pub rises : List Span → Bool
@@ -66,7 +70,7 @@ pub record Cuts (old : List Span) (t : Span) (holes new : List Span) : Type 0 wh
 
 -- what two spans of one source have in common
 abbrev pub common_of : Span → Span → Span
-common_of t s = record { source = t.source; lo = max t.lo s.lo; hi = min t.hi s.hi }
+common_of t s = record { source = s.source; lo = max t.lo s.lo; hi = min t.hi s.hi }
 
 -- what was before a span's common parts with others
 abbrev pub all_before_common : List Span → Span → List Span → Bool
@@ -121,6 +125,43 @@ AreApart p q = (g : Gtid) → p g ≡ true → q g ≡ false
 abbrev pub HaveCommon : (Gtid → Bool) → (Gtid → Bool) → Type 0
 HaveCommon p q = (g : Gtid) × (p g ≡ true) × (q g ≡ true)
 
+-- the least span with all of two that touch
+abbrev pub hull : Span → Span → Span
+hull t s = record { source = t.source; lo = min t.lo s.lo; hi = max t.hi s.hi }
+
+-- the place of a span: what ends before it stands in front, and what may touch it behind
+pub record IsPlace (spans : List Span) (t : Span) (at : ℕ) (rest : List Span) : Type 0 where
+  pub bound : at ≤ length spans
+  pub back : rest ≡ drop at spans
+  pub before : all_before (take at spans) t ≡ true
+  pub touched : all_touch t rest ≡ true
+  pub merged : is_merged rest ≡ true
+
+-- a span joined with those that it touches, and the spans behind
+pub record Absorbs (t : Span) (spans : List Span) (joined : Span) (rest : List Span) : Type 0 where
+  pub front : List Span
+  pub parts : spans ≡ front ++ rest
+  pub merged : is_merged rest ≡ true
+  pub filled : joined.lo ≤ joined.hi
+  pub after : list_all (is_before joined) rest ≡ true
+  pub lower : (u : Span) → is_before u t ≡ true → list_all (is_before u) spans ≡ true → is_before u joined ≡ true
+  pub has : (q : Gtid) → (within joined q || has rest q) ≡ (within t q || has spans q)
+
 -- the different sources of spans
 abbrev pub sources_in : List Span → set.FinSet nat_cmp
 sources_in ss = set.from_list (map (λ s. s.source) ss)
+
+-- whether a source is not the one before
+abbrev pub is_new : Option ℕ → ℕ → Bool
+is_new None source = true
+is_new (Some last) source = not (last == source)
+
+-- whether one of the spans has a number of the source
+abbrev pub KnowsSource : Bool → List Span → ℕ → Type 0
+KnowsSource known spans source = MatchBool known ((n : ℕ) × (has spans (gtid source n) ≡ true)) ((n : ℕ) → has spans (gtid source n) ≡ false)
+
+-- the list has the numbers from a GTID on to the last of a span, and not the next
+pub record HasSpan (spans : List Span) (q : Gtid) (s : Span) : Type 0 where
+  pub reaches : q.number ≤ s.hi
+  pub all : (n : ℕ) → q.number ≤ n → n ≤ s.hi → has spans (gtid q.source n) ≡ true
+  pub ended : has spans (gtid q.source (s.hi + 1)) ≡ false

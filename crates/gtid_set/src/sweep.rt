@@ -1,12 +1,12 @@
 //! One pass over merged lists of spans.
-ghost use Rattle.std.specs.Prelude.{◌≡◌, true, false, ◌&&◌, ◌||◌, not, IsTrue, OnOk, IfOk, MatchOption, MatchBool, IfSome, length, ◌∷◌, ◌++◌, [], ◌≤◌};
+ghost use Rattle.std.specs.Prelude.{◌≡◌, true, false, ◌&&◌, ◌||◌, not, IsTrue, OnOk, IfOk, MatchOption, MatchBool, IfSome, OnErr, ◌+◌, ◌-◌, take, drop, length, ◌∷◌, ◌++◌, [], ◌≤◌, ◌<◌, if◌then◌else◌};
 ghost use Rattle.std.specs.FinSet as set;
 ghost use Rattle.gtid_text.specs.declared.Gtid.{Gtid};
 ghost use Rattle.gtid_set.specs.Sets.{gtid};
 ghost use Rattle.gtid_set.specs.Spans.{ends_before, is_before, is_merged, has};
-ghost use Rattle.gtid_set.specs.Sweep.{IsRest, Joins, AddsFront, Cuts, Overlaps, Meets, TakesFirst, IsListOf, IsWithin, IsNotWithin, AreApart, HaveCommon, sources_in, all_start_by, all_before, all_reach, rises, is_met, is_inside, start_of, within, is_from};
+ghost use Rattle.gtid_set.specs.Sweep.{IsRest, Joins, AddsFront, Cuts, Overlaps, Meets, TakesFirst, IsListOf, Absorbs, IsPlace, HasSpan, hull, IsWithin, IsNotWithin, AreApart, HaveCommon, sources_in, is_new, KnowsSource, all_start_by, all_before, all_reach, all_touch, rises, is_met, is_inside, start_of, within, is_from};
 
-use gtid_text::Span;
+use gtid_text::{Gtid, SourceId, Span};
 use std::alloc::{AllocError, Global};
 
 /// Whether a span ends before another starts.
@@ -20,7 +20,8 @@ pub fn ends_before(span: &Span, next: &Span) -> bool
 pub fn is_before(span: &Span, next: &Span) -> bool
     ensures { result ≡ is_before span.now next.now }
 {
-    span.source < next.source || span.source == next.source && span.hi < next.lo && next.lo - span.hi > 1
+    span.source < next.source
+        || span.source == next.source && span.hi < next.lo && next.lo - span.hi > 1
 }
 
 /// Whether a span starts by the start of another.
@@ -94,7 +95,10 @@ pub fn meeting<'a>(spans: &'a [Span], span: &Span) -> Option<(&'a Span, &'a [Spa
 }
 
 /// The span of two lists that starts first, with what is left of both.
-pub fn first_of<'a>(left: &'a [Span], right: &'a [Span]) -> Option<(&'a Span, &'a [Span], &'a [Span])>
+pub fn first_of<'a>(
+    left: &'a [Span],
+    right: &'a [Span],
+) -> Option<(&'a Span, &'a [Span], &'a [Span])>
     requires left { rises left.now ≡ true }
     requires right { rises right.now ≡ true }
     ensures none { result ≡ None → (left.now ≡ []) × (right.now ≡ []) }
@@ -130,21 +134,41 @@ pub fn union_of(alloc: Global, left: &[Span], right: &[Span]) -> Result<Vec<Span
     Ok(out)
 }
 
+/// Whether a source is not the one before.
+fn is_new(last: Option<SourceId>, source: SourceId) -> bool
+    ensures { result ≡ is_new last source }
+{
+    match last {
+        None => true,
+        Some(id) => id != source,
+    }
+}
+
+/// A count of spans without one that repeats the source before.
+fn without_repeat(count: u128, last: Option<SourceId>, source: SourceId) -> u128
+    requires { 0 < count }
+    ensures { result ≡ (if is_new last source then count else count - 1) }
+{
+    if is_new(last, source) {
+        count
+    } else {
+        count - 1
+    }
+}
+
 /// How many sources the spans of two lists have together.
-pub fn count_sources(left: &[Span], right: &[Span]) -> u128
+pub fn count_sources<'a>(left: &'a [Span], right: &'a [Span]) -> u128
     requires left { rises left.now ≡ true }
     requires right { rises right.now ≡ true }
     ensures { result ≡ set.len (sources_in (left.now ++ right.now)) }
 {
-    let mut count = 0;
+    let mut count = left.len() as u128 + right.len() as u128;
     let mut last = None;
     let mut left = left;
     let mut right = right;
     while let Some((span, more_left, more_right)) = first_of(left, right) {
-        if last != Some(span.source) {
-            count += 1;
-            last = Some(span.source);
-        }
+        count = without_repeat(count, last, span.source);
+        last = Some(span.source);
         left = more_left;
         right = more_right;
     }
@@ -221,7 +245,7 @@ pub fn overlap(out: &mut Vec<Span>, span: &Span, others: &[Span]) -> Result<(), 
     let mut rest = others;
     while let Some((other, more)) = meeting(rest, span) {
         out.push(Span {
-            source: span.source,
+            source: other.source,
             lo: span.lo.max(other.lo),
             hi: span.hi.min(other.hi),
         })?;
@@ -231,7 +255,11 @@ pub fn overlap(out: &mut Vec<Span>, span: &Span, others: &[Span]) -> Result<(), 
 }
 
 /// The merged list of what both lists have.
-pub fn intersection_of(alloc: Global, left: &[Span], right: &[Span]) -> Result<Vec<Span>, AllocError>
+pub fn intersection_of(
+    alloc: Global,
+    left: &[Span],
+    right: &[Span],
+) -> Result<Vec<Span>, AllocError>
     requires left { is_merged left.now ≡ true }
     requires right { is_merged right.now ≡ true }
     ensures { IfOk result (λ v. IsListOf (λ q. has left.now q && has right.now q) v.items) }
@@ -302,4 +330,149 @@ pub fn are_apart(left: &[Span], right: &[Span]) -> bool
         left = more;
     }
     true
+}
+
+/// The least span with all of two spans that touch.
+fn hull(span: Span, other: &Span) -> Span
+    ensures { result ≡ hull span other.now }
+{
+    Span {
+        source: span.source,
+        lo: span.lo.min(other.lo),
+        hi: span.hi.max(other.hi),
+    }
+}
+
+/// A span joined with the spans that it touches, which stand first, and the spans behind them.
+fn absorb(span: Span, spans: &[Span]) -> (Span, &[Span])
+    requires filled { span.lo ≤ span.hi }
+    requires merged { is_merged spans.now ≡ true }
+    requires touched { all_touch span spans.now ≡ true }
+    ensures { Absorbs span spans.now result.0 result.1.now }
+{
+    let mut joined = span;
+    let mut rest = spans;
+    while let Some((first, more)) = rest.split_first() {
+        if is_before(&joined, first) {
+            return (joined, rest);
+        }
+        joined = hull(joined, first);
+        rest = more;
+    }
+    (joined, rest)
+}
+
+/// The spans before one place, a span, and the spans from another place on.
+fn spliced(
+    alloc: Global,
+    spans: &[Span],
+    at: usize,
+    end: usize,
+    span: Span,
+) -> Result<Vec<Span>, AllocError>
+    requires order { at ≤ end }
+    requires range { end ≤ length spans.now }
+    ensures { IfOk result (λ v. v.items ≡ take at spans.now ++ span ∷ drop end spans.now) }
+{
+    let mut new = Vec::new(alloc);
+    new.extend_from_slice(&spans[..at])?;
+    new.push(span)?;
+    new.extend_from_slice(&spans[end..])?;
+    Ok(new)
+}
+
+/// Puts a span in place of those from one place up to another.
+fn replace(spans: &mut Vec<Span>, at: usize, end: usize, span: Span) -> Result<(), AllocError>
+    requires order { at ≤ end }
+    requires range { end ≤ length spans.old.items }
+    ensures ok { OnOk result (spans.new.items ≡ take at spans.old.items ++ span ∷ drop end spans.old.items) }
+    ensures err { OnErr result (spans.new.items ≡ spans.old.items) }
+{
+    match end - at {
+        0 => {
+            spans.insert(at, span)?;
+            Ok(())
+        }
+        1 => {
+            spans[at] = span;
+            Ok(())
+        }
+        2 => {
+            spans[at] = span;
+            spans.remove(at + 1);
+            Ok(())
+        }
+        _ => {
+            let alloc = *spans.allocator();
+            *spans = spliced(alloc, spans, at, end, span)?;
+            Ok(())
+        }
+    }
+}
+
+/// The place of a span in a merged list, with the spans from there on.
+fn place<'a>(spans: &'a [Span], span: &Span) -> (usize, &'a [Span])
+    requires { is_merged spans.now ≡ true }
+    ensures { IsPlace spans.now span.now result.0 result.1.now }
+{
+    let at = spans.partition_point(|s| is_before(s, span));
+    let (_, rest) = spans.split_at(at);
+    (at, rest)
+}
+
+/// Joins a span to a merged list.
+pub fn add_to(spans: &mut Vec<Span>, span: Span) -> Result<(), AllocError>
+    requires filled { span.lo ≤ span.hi }
+    requires merged { is_merged spans.old.items ≡ true }
+    ensures ok { OnOk result (IsListOf (λ q. within span q || has spans.old.items q) spans.new.items) }
+    ensures err { OnErr result (spans.new.items ≡ spans.old.items) }
+{
+    let (at, rest) = place(spans, &span);
+    let (joined, rest) = absorb(span, rest);
+    let end = spans.len() - rest.len();
+    replace(spans, at, end, joined)
+}
+
+/// The spans from the first on that doesn't end before a span starts, found by halves.
+fn seek<'a>(spans: &'a [Span], span: &Span) -> &'a [Span]
+    requires { is_merged spans.now ≡ true }
+    ensures { IsRest span.now spans.now result.now }
+{
+    let at = spans.partition_point(|s| ends_before(s, span));
+    let (_, rest) = spans.split_at(at);
+    rest
+}
+
+/// The span that has a GTID, if there is one.
+pub fn span_with<'a>(spans: &'a [Span], gtid: &Gtid) -> Option<&'a Span>
+    requires { is_merged spans.now ≡ true }
+    ensures none { result ≡ None → has spans.now gtid.now ≡ false }
+    ensures some { IfSome result (λ s. HasSpan spans.now gtid.now s.now) }
+{
+    let one = Span {
+        source: gtid.source,
+        lo: gtid.number,
+        hi: gtid.number,
+    };
+    match seek(spans, &one).split_first() {
+        None => None,
+        Some((first, _)) if is_inside(&one, first) => Some(first),
+        Some(_) => None,
+    }
+}
+
+/// Whether one of the spans has a number of a source.
+pub fn has_source(spans: &[Span], source: SourceId) -> bool
+    requires { is_merged spans.now ≡ true }
+    ensures { KnowsSource result spans.now source }
+{
+    let first_number = Span {
+        source,
+        lo: 0,
+        hi: 0,
+    };
+    match seek(spans, &first_number).split_first() {
+        None => false,
+        Some((first, _)) => first.source == source,
+    }
 }

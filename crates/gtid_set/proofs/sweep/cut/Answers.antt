@@ -1,4 +1,4 @@
-use Rattle.std.proofs.Common.{◌≡◌, ◌≤◌, ◌<◌, true, ap, sym, ◌∙◌, refl, arith, ◌++◌, [], ◌∷◌}
+use Rattle.std.proofs.Common.{ap, ◌∙◌, refl, arith}
 use Rattle.gtid_set.specs.Spans.{is_merged, is_before}
 use Rattle.gtid_set.specs.Sweep.{all_before}
 use Rattle.gtid_set.proofs.SpanLemmas.{hole_of, cut_step, cut_end, cut_rest, behind_reach, behind_before, front_before, merged_push, all_push, full_before}

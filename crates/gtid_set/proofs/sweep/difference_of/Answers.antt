@@ -2,7 +2,7 @@ use Rattle.std.proofs.Common.{ap, sym, ◌∙◌, not, ◌&&◌, ◌||◌}
 use Rattle.std.specs.List.{list_all}
 use Rattle.gtid_set.specs.Spans.{has, is_merged}
 use Rattle.gtid_set.specs.Sweep.{all_before, within}
-use Rattle.gtid_set.proofs.SpanLemmas.{nothing, merged_head, within_from, more_from, before_later, kept_less, both, all_before_head}
+use Rattle.gtid_set.proofs.SpanLemmas.{nothing, merged_head, within_from, more_from, before_later, kept_less, all_before_head}
 use Rattle.gtid_set.proofs.sweep.difference_of.Goals as goal
 
 pub loop-span-init : goal.loop-span-init
@@ -43,6 +43,6 @@ loop-span-preserved c =
       merged = made.merged;
       before = before_later out new span more made.later head.after (sym (ap (list_all (all_before out)) parts) ∙ inv.before);
       has = λ q. kept_less (has out q) (has new q) (within span q) (has more q) (has right q) (has rest q) _ (made.has q)
-        (λ w. skips.same q (within_from span q w)) (λ m. skips.same q (more_from span more q head m))
-        (ap (λ ss. has out q || (has ss q && not (has right q))) (sym parts) ∙ inv.has q);
+          (λ w. skips.same q (within_from span q w)) (λ m. skips.same q (more_from span more q head m))
+          (ap (λ ss. has out q || (has ss q && not (has right q))) (sym parts) ∙ inv.has q);
     }

@@ -22,6 +22,6 @@ loop-span-preserved c =
       still = λ q m. inv.still q (has_more left span more q parts m);
       same = λ q m. skips.same q (more_from span more q head m) ∙ inv.same q (has_more left span more q parts m);
       done = λ q a m. looked left span more q (has c.args.right.now q ≡ true) parts m
-        (λ w. sym (inv.same q (has_first left span more q parts w)) ∙ sym (skips.same q (within_from span q w)) ∙ all q w)
-        (λ none. inv.done q a none);
+          (λ w. sym (inv.same q (has_first left span more q parts w)) ∙ sym (skips.same q (within_from span q w)) ∙ all q w)
+          (λ none. inv.done q a none);
     }

@@ -1,4 +1,4 @@
-use Rattle.std.proofs.Common.{ap, sym, refl, ◌∙◌, ◌||◌}
+use Rattle.std.proofs.Common.{ap, ◌||◌}
 use Rattle.gtid_set.specs.Spans.{has}
 use Rattle.gtid_set.specs.Sweep.{all_start_by, within}
 use Rattle.gtid_set.proofs.SpanLemmas.{nothing, takes_all, starts_later, moved}
@@ -20,7 +20,7 @@ pub join-requires-clause-order : goal.join-requires-clause-order
 join-requires-clause-order c =
     let takes = c.in-Some.ensures.some in
     (takes_all c.loop-span.left.now c.loop-span.right.now c.in-Some.span.now c.in-Some.more_left.now c.in-Some.more_right.now takes
-      (all_start_by c.loop-span.out.items) c.loop-span.invariant.left_order c.loop-span.invariant.right_order).0
+    (all_start_by c.loop-span.out.items) c.loop-span.invariant.left_order c.loop-span.invariant.right_order).0
 
 pub loop-span-preserved : goal.loop-span-preserved
 loop-span-preserved c =
@@ -40,5 +40,5 @@ loop-span-preserved c =
       left_order = starts_later new span more_left joins.order takes.left_later;
       right_order = starts_later new span more_right joins.order takes.right_later;
       has = λ q. moved (has out q) (has new q) (within span q) (has left q) (has right q) (has more_left q) (has more_right q) (has c.args.left.now q || has c.args.right.now q)
-        (joins.has q) (takes.any (λ s. within s q)) (c.loop-span.invariant.has q);
+          (joins.has q) (takes.any (λ s. within s q)) (c.loop-span.invariant.has q);
     }
