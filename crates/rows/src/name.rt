@@ -7,6 +7,7 @@ ghost use Rattle.rows.specs.Names.{has_name_length, is_name_byte, begins_with_di
 
 use std::alloc::AllocError;
 use std::cmp::Ordering;
+use std::hash::{Hash, Hasher};
 use std::marker::Model;
 use std::sync::ArcStr;
 
@@ -79,6 +80,20 @@ impl Ord for Name {
 
     fn cmp(&self, other: &Name) -> Ordering {
         self.text.cmp(&other.text)
+    }
+}
+
+impl Hash for Name {
+    ghost use Rattle.std.specs.Hash as fed;
+    ghost use Rattle.std.specs.FinMap.{nat_cmp-IsAntisymmetric, slice_cmp-IsAntisymmetric};
+    ghost use Rattle.rows.specs.Hashing.{alike_by};
+
+    ghost hash_input = { fed.str };
+
+    ghost respects_eq = { alike_by fed.str (slice_cmp-IsAntisymmetric nat_cmp-IsAntisymmetric) };
+
+    fn hash<H: Hasher>(&self, state: &mut H) {
+        self.text.hash(state);
     }
 }
 

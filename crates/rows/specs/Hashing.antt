@@ -1,0 +1,24 @@
+-- What values and keys feed a hasher.
+use Rattle.std.specs.Prelude.{◌≡◌, List, ◌++◌, IsTrue}
+use Rattle.std.proofs.Common.{ap}
+use Rattle.std.specs.declared.cmp.Ordering.{Ordering}
+use Rattle.std.specs.FinMap.{IsAntisymmetric}
+use Rattle.std.specs.Hash as fed
+use Rattle.std.specs.Hash.{HashWrites}
+use Rattle.std.specs.Ordering.{eq_by_cmp}
+use Rattle.rows.specs.declared.value.Value.{Value}
+use Rattle.rows.specs.declared.value.Value.TheVariants.{Null, Int, Bytes}
+use Rattle.rows.specs.Total.{eq_of_test}
+
+-- the kind of a value, and then its number or its bytes
+abbrev pub value_writes : Value → HashWrites
+value_writes Null = fed.u8 0
+value_writes (Int n) = fed.u8 1 ++ fed.i64 n
+value_writes (Bytes b) = fed.u8 2 ++ fed.slice fed.u8 b
+
+abbrev pub row_writes : List Value → HashWrites
+row_writes row = fed.slice value_writes row
+
+-- What an exact order ties is fed alike.
+pub alike_by : {A : Type 0} (f : A → HashWrites) {R : A → A → Ordering} → IsAntisymmetric R → (x y : A) → IsTrue (eq_by_cmp R x y) → f x ≡ f y
+alike_by f {R} exact x y e = ap f (exact x y (eq_of_test (R x y) e))

@@ -1,0 +1,88 @@
+-- What is inserted into a set key by key.
+use Rattle.std.proofs.Common.{◌≡◌, ◌≢◌, Bool, true, false, not, cond, ◌&&◌, ◌||◌, List, [], ◌∷◌, ◌++◌, filter, append_assoc, append-nil, refl, sym, ap, ◌∙◌}
+use Rattle.std.specs.Bool.{Decides, one_answer}
+use Rattle.std.specs.List.{list_any, fold, AllPairs}
+use Rattle.std.proofs.lemmas.List.Elements.{filter_agree}
+use Rattle.std.proofs.lemmas.List.Folds.{list_any-append}
+use Rattle.std.proofs.lemmas.Map.Views.{any-filter_same}
+use Rattle.indexmap.specs.IndexSet.{insert_key, insert_all}
+use Rattle.rows.specs.declared.change.Key.{Key}
+use Rattle.rows.specs.Order.{key_eq}
+use Rattle.rows.specs.Total.{key_eq_same, key_eq_self}
+use Rattle.rows.specs.WriteSet.{is_among}
+use Rattle.rows.proofs.Equal.{key_test, keys-Decide}
+use Rattle.write_set.specs.FirstTouch.{each_once}
+
+-- the two tests of keys agree
+pub same_tests : (a b : Key) → key_test a b ≡ key_eq a b
+same_tests a b = one_answer (key_test a b) (key_eq a b) (keys-Decide a b) (key_eq_same a b, λ e. ap (key_eq a) (sym e) ∙ key_eq_self a)
+
+pub tested : (key : Key) (keys : List Key) → list_any (key_test key) keys ≡ is_among keys key
+tested key [] = refl
+tested key (x ∷ keys) = λ i. same_tests key x i || tested key keys i
+
+one_more : (p : Key → Bool) (a : Bool) (x : Key) (found rest : List Key) → filter p found ≡ rest → filter p (cond a (x ∷ found) found) ≡ cond (a && p x) (x ∷ rest) rest
+one_more p true x found rest e = ap (λ r. cond (p x) (x ∷ r) r) e
+one_more p false x found rest e = e
+
+filter_twice : (p q : Key → Bool) (keys : List Key) → filter p (filter q keys) ≡ filter (λ k. q k && p k) keys
+filter_twice p q [] = refl
+filter_twice p q (x ∷ keys) = one_more p (q x) x (filter q keys) (filter (λ k. q k && p k) keys) (filter_twice p q keys)
+
+agree_seen : (seen : List Key) (x k : Key) (b : Bool) → key_eq k x ≡ b → is_among seen x ≡ true → not (is_among seen k) ≡ (not b && not (is_among seen k))
+agree_seen seen x k true e i = ap (λ q. not (is_among seen q)) (key_eq_same k x e) ∙ ap not i
+agree_seen seen x k false e i = refl
+
+not_either : (a b : Bool) → not (a || (b || false)) ≡ (not b && not a)
+not_either true true = refl
+not_either true false = refl
+not_either false true = refl
+not_either false false = refl
+
+agree_new : (seen : List Key) (x k : Key) → not (is_among (seen ++ x ∷ []) k) ≡ (not (key_eq k x) && not (is_among seen k))
+agree_new seen x k = ap not (list_any-append (key_eq k) seen (x ∷ [])) ∙ not_either (is_among seen k) (key_eq k x)
+
+step : (b : Bool) (x : Key) (seen keys : List Key) → is_among seen x ≡ b
+    → ((s : List Key) → insert_all key_test s keys ≡ s ++ filter (λ k. not (is_among s k)) (each_once keys))
+    → insert_all key_test (cond b seen (seen ++ x ∷ [])) keys
+    ≡ seen ++ cond (not b) (x ∷ filter (λ k. not (is_among seen k)) (filter (λ k. not (key_eq k x)) (each_once keys))) (filter (λ k. not (is_among seen k)) (filter (λ k. not (key_eq k x)) (each_once keys)))
+step true x seen keys e each =
+    each seen
+    ∙ ap (λ ks. seen ++ ks)
+    (filter_agree (λ k. not (is_among seen k)) (λ k. not (key_eq k x) && not (is_among seen k)) (λ k. agree_seen seen x k (key_eq k x) refl e) (each_once keys)
+    ∙ sym (filter_twice (λ k. not (is_among seen k)) (λ k. not (key_eq k x)) (each_once keys)))
+step false x seen keys e each =
+    each (seen ++ x ∷ [])
+    ∙ append_assoc seen (x ∷ []) (filter (λ k. not (is_among (seen ++ x ∷ []) k)) (each_once keys))
+    ∙ ap (λ ks. seen ++ x ∷ ks)
+    (filter_agree (λ k. not (is_among (seen ++ x ∷ []) k)) (λ k. not (key_eq k x) && not (is_among seen k)) (agree_new seen x) (each_once keys)
+    ∙ sym (filter_twice (λ k. not (is_among seen k)) (λ k. not (key_eq k x)) (each_once keys)))
+
+-- keys that are inserted one after another stand in the order of their first places
+pub inserted_once : (keys seen : List Key) → insert_all key_test seen keys ≡ seen ++ filter (λ k. not (is_among seen k)) (each_once keys)
+inserted_once [] seen = sym (append-nil seen)
+inserted_once (x ∷ keys) seen =
+    ap (λ b. insert_all key_test (cond b seen (seen ++ x ∷ [])) keys) (tested x seen)
+    ∙ step (is_among seen x) x seen keys refl (λ s. inserted_once keys s)
+
+none_left : (keys : List Key) → filter (λ k. not (is_among [] k)) keys ≡ keys
+none_left [] = refl
+none_left (x ∷ keys) = ap (λ ks. x ∷ ks) (none_left keys)
+
+pub all_inserted : (keys : List Key) → insert_all key_test [] keys ≡ each_once keys
+all_inserted keys = inserted_once keys [] ∙ none_left (each_once keys)
+
+-- ---- the members
+
+or_not : (a b : Bool) → (a || (not a && b)) ≡ (a || b)
+or_not true b = refl
+or_not false b = refl
+
+-- each of them is a member, and no other
+pub same_members : (keys : List Key) (k : Key) → is_among (each_once keys) k ≡ is_among keys k
+same_members [] k = refl
+same_members (x ∷ keys) k =
+    ap (λ b. key_eq k x || b)
+    (any-filter_same (key_eq k) (λ q. not (key_eq q x)) (not (key_eq k x)) (λ q e. ap (λ r. not (key_eq r x)) (sym (key_eq_same k q e))) (each_once keys)
+    ∙ ap (λ b. not (key_eq k x) && b) (same_members keys k))
+    ∙ or_not (key_eq k x) (is_among keys k)
