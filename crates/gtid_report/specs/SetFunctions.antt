@@ -38,5 +38,5 @@ of_source_named name =
 abbrev pub function_named : List ℕ → Option Function
 function_named name =
     option_map_or (λ f. Some (One f)) (one_set_named name)
-      (option_map_or (λ f. Some (Two f)) (two_sets_named name)
-        (option_map Source (of_source_named name)))
+    (option_map_or (λ f. Some (Two f)) (two_sets_named name)
+    (option_map Source (of_source_named name)))

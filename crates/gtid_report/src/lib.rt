@@ -4,7 +4,12 @@
 mod fault;
 mod refusal;
 mod set_function;
+mod verdict;
 
 pub use fault::Fault;
 pub use refusal::{LineCause, Refusal, render_fault};
 pub use set_function::{Function, OfSource, OneSet, TwoSets};
+pub use verdict::render_does_not_apply;
+
+#[cfg(test)]
+mod tests;
