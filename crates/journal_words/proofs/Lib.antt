@@ -1,0 +1,4 @@
+pub mod Numerals
+pub mod Counts
+pub mod ValueLemmas
+pub mod Cuts
