@@ -2,3 +2,4 @@ pub mod Faults
 pub mod Refusals
 pub mod SetFunctions
 pub mod Verdicts
+pub mod State

@@ -4,6 +4,7 @@
 mod fault;
 mod refusal;
 mod set_function;
+mod state;
 mod verdict;
 
 pub use fault::Fault;
