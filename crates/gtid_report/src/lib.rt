@@ -2,6 +2,7 @@
 #![tactic(auto)]
 
 mod fault;
+mod from_journal;
 mod refusal;
 mod set_function;
 mod state;
@@ -10,6 +11,7 @@ mod verdict;
 pub use fault::Fault;
 pub use refusal::{LineCause, Refusal, render_fault};
 pub use set_function::{Function, OfSource, OneSet, TwoSets};
+pub use state::render_rows;
 pub use verdict::render_does_not_apply;
 
 #[cfg(test)]

@@ -33,3 +33,10 @@ fn push_rows(alloc: Global, out: &mut String, rows: &[TableRow]) -> Result<(), A
     }
     Ok(())
 }
+
+/// The line of each row, in the order of the list.
+pub fn render_rows(alloc: Global, out: &mut String, rows: &[TableRow]) -> Result<(), AllocError>
+    ensures { OnOk result (string_bytes out.new ≡ string_bytes out.old ++ flat_map row_line rows.now) }
+{
+    push_rows(alloc, out, rows)
+}

@@ -16,7 +16,9 @@ pub enum Command<'a> {
         second: Option<&'a str>,
     },
     /// A bundle from standard input is applied by 1 to 64 workers.
-    Apply { workers: u8 },
+    Apply {
+        workers: u8,
+    },
 }
 
 /// Why the words are no command: memory, or the text that is shown.
@@ -26,7 +28,8 @@ pub enum LineFault {
     Line(String),
 }
 
-const SET_EXAMPLE: &str = "Functions of one set: normalize, count. Of two sets: union, intersect, subtract, symmetric,
+const SET_EXAMPLE: &str =
+    "Functions of one set: normalize, count. Of two sets: union, intersect, subtract, symmetric,
 subset, equal, disjoint. Of a set and a UUID: only, without.
 
 Example:
@@ -34,7 +37,8 @@ Example:
 
 Status: 0 the answer is printed, 1 an argument is refused, 2 the command line, 3 memory, 4 writing failed.";
 
-const APPLY_EXAMPLE: &str = "Prints the executed set and the rows, or the line that says why the bundle does not apply.
+const APPLY_EXAMPLE: &str =
+    "Prints the executed set and the rows, or the line that says why the bundle does not apply.
 
 Example:
   gtidrep apply --workers 4 < examples/first.bundle

@@ -4,6 +4,7 @@
 ghost use Rattle.std.specs.Prelude.{◌≡◌};
 ghost use Rattle.gtidrep.specs.Edge.{status_of};
 
+mod applying;
 mod edge;
 #[cfg(test)]
 mod fake;
