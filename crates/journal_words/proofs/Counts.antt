@@ -119,9 +119,9 @@ count_found w n e =
     elim (chosen (is_count w && ltb (digits_value 10 w) (2 ^ 64)) (Some (digits_value 10 w)) None (Some n) e) [
       | inr p ↦ absurd cc
       | inl p ↦
-        let q = both (is_count w) (ltb (digits_value 10 w) (2 ^ 64)) p.0 in
-        let d = digits_in w q.0 in
-        let lt : digits_value 10 w < 2 ^ 64 = ltb-true _ _ q.1 in
-        let v : digits_value 10 w ≡ n = some_is _ _ p.1 in
-        (sym (decimal-digits_value own w d.1 d.0 (zero_alone w q.0) lt) ∙ ap decimal v, rw (← v) lt)
+          let q = both (is_count w) (ltb (digits_value 10 w) (2 ^ 64)) p.0 in
+          let d = digits_in w q.0 in
+          let lt : digits_value 10 w < 2 ^ 64 = ltb-true _ _ q.1 in
+          let v : digits_value 10 w ≡ n = some_is _ _ p.1 in
+          (sym (decimal-digits_value own w d.1 d.0 (zero_alone w q.0) lt) ∙ ap decimal v, rw (← v) lt)
     ]

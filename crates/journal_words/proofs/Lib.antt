@@ -2,3 +2,4 @@ pub mod Numerals
 pub mod Counts
 pub mod ValueLemmas
 pub mod Cuts
+pub mod ValueLaws

@@ -2,9 +2,12 @@
 ghost use Rattle.std.specs.Prelude.{◌≡◌, ◌++◌, IfOk, OnOk, decimal};
 ghost use Rattle.std.specs.String.{string_bytes};
 
-use itoa::Buffer;
 use gtid_set::{GtidSet, SetFault};
-use gtid_text::{Gtid, SourceId, Span, TextFault, parse_gtid, parse_source, parse_spans, write_gtid, write_source, write_span};
+use gtid_text::{
+    Gtid, SourceId, Span, TextFault, parse_gtid, parse_source, parse_spans, write_gtid,
+    write_source, write_span,
+};
+use itoa::Buffer;
 use std::alloc::{AllocError, Global};
 
 /// The source, where its one spelling is the word.

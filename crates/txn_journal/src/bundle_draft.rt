@@ -9,9 +9,10 @@ use crate::images::{image, table_at};
 use crate::lines::Version;
 use crate::names::Names;
 use crate::tables::table_words;
+use gtid_set::SetFault;
 use gtid_text::SourceId;
 use journal_words::{cut, source_word};
-use rows::{ApplyFault, Change, Changes, Name, Row, Rows, Schema, SchemaFault, TableFault, Transaction};
+use rows::{ApplyFault, Name, Row, Rows, Schema, SchemaFault, TableFault};
 use std::alloc::Global;
 use std::mem;
 
@@ -87,25 +88,17 @@ fn wrong<T>(cause: Cause) -> Result<T, LineFault> {
 }
 
 /// Puts an opening row.
-fn put(alloc: Global, rows: &mut Rows, table: Name, row: Row) -> Result<(), LineFault> {
-    let mut changes = Vec::new(alloc);
-    changes.push(Change::Insert { table, after: row })?;
-    let txn = Transaction {
-        changes: Changes::new(changes)?,
-    };
-    match rows.apply(alloc, &txn) {
+fn put(alloc: Global, rows: &mut Rows, table: &Name, row: &Row) -> Result<(), LineFault> {
+    match rows.put(alloc, table, row) {
         Ok(()) => Ok(()),
-        Err(ApplyFault::Memory) => Err(LineFault::Set(gtid_set::SetFault::Memory)),
-        Err(_) => wrong(Cause::Schema),
+        Err(ApplyFault::Memory) => Err(LineFault::Set(SetFault::Memory)),
+        Err(ApplyFault::NotInSchema(_)) => wrong(Cause::Schema),
+        Err(ApplyFault::Row(_)) => wrong(Cause::Schema),
     }
 }
 
 /// A channel's name, and whether it preserves order.
-fn channel_in(
-    alloc: Global,
-    names: &mut Names,
-    rest: Option<&[u8]>,
-) -> Result<Channel, LineFault> {
+fn channel_in(alloc: Global, names: &mut Names, rest: Option<&[u8]>) -> Result<Channel, LineFault> {
     let Some(text) = rest else {
         return wrong(Cause::Body);
     };
@@ -138,7 +131,11 @@ impl BundleDraft {
             version: Version::One,
             names: Names::start(alloc),
             schema: Schema::empty(alloc),
-            bundle: Bundle::open(alloc, SourceId::from_bits(0), Rows::open(alloc, Schema::empty(alloc))),
+            bundle: Bundle::open(
+                alloc,
+                SourceId::from_bits(0),
+                Rows::open(alloc, Schema::empty(alloc)),
+            ),
             channel: None,
             draft: Draft::start(alloc, None),
         }
@@ -155,12 +152,7 @@ impl BundleDraft {
     }
 
     /// Takes a line of the bundle's own.
-    fn take(
-        &mut self,
-        alloc: Global,
-        word: Word,
-        rest: Option<&[u8]>,
-    ) -> Result<(), LineFault> {
+    fn take(&mut self, alloc: Global, word: Word, rest: Option<&[u8]>) -> Result<(), LineFault> {
         match word {
             Word::Bundle => {
                 self.version = version_in(None, rest)?;
@@ -207,7 +199,7 @@ impl BundleDraft {
         let table = words.table(alloc, columns)?;
         match self.schema.add(table) {
             Ok(()) => Ok(()),
-            Err(SchemaFault::Memory) => Err(LineFault::Set(gtid_set::SetFault::Memory)),
+            Err(SchemaFault::Memory) => Err(LineFault::Set(SetFault::Memory)),
             Err(SchemaFault::Table(TableFault::Body)) => wrong(Cause::Body),
             Err(SchemaFault::Table(TableFault::Limit)) => wrong(Cause::Limit),
             Err(SchemaFault::Table(TableFault::Schema)) => wrong(Cause::Schema),
@@ -231,7 +223,7 @@ impl BundleDraft {
             return wrong(Cause::Limit);
         }
         self.leave_tables(alloc);
-        put(alloc, self.bundle.rows_mut(), table, row)
+        put(alloc, self.bundle.rows_mut(), &table, &row)
     }
 
     fn open_channel(&mut self, alloc: Global, rest: Option<&[u8]>) -> Result<(), LineFault> {
