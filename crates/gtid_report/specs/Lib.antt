@@ -1,0 +1,5 @@
+pub mod Faults
+pub mod Refusals
+pub mod SetFunctions
+pub mod Verdicts
+pub mod State

@@ -1,0 +1,61 @@
+//! The program `gtidrep`: set functions, and a bundle applied.
+#![tactic(auto)]
+
+ghost use Rattle.std.specs.Prelude.{◌≡◌};
+ghost use Rattle.gtidrep.specs.Edge.{status_of};
+
+mod applying;
+mod edge;
+#[cfg(test)]
+mod fake;
+mod line;
+#[cfg(test)]
+mod tests;
+mod wrap;
+
+use crate::edge::{Outcome, RunFault, apply_bundle};
+use crate::line::{Command, LineFault, parse_line};
+use crate::wrap::{StdSink, StdSource};
+use std::process::ExitCode;
+use std::{env, io};
+
+/// The status that the program ends with.
+pub fn exit_status(ended: &Result<Outcome, RunFault>) -> u8
+    ensures { result ≡ status_of ended.now }
+{
+    match ended {
+        Ok(Outcome::Done) => 0,
+        Ok(Outcome::Refused) => 1,
+        Err(RunFault::Memory) => 3,
+        Err(RunFault::Read) => 4,
+        Err(RunFault::Write) => 4,
+    }
+}
+
+fn run(rt: &HostRuntime, words: &[String]) -> u8 {
+    let alloc = rt.alloc();
+    match parse_line(alloc, words) {
+        Ok(Command::Apply { workers }) => {
+            let mut reader = StdSource::new(rt.reader());
+            let mut writer = StdSink::new(io::writer(rt));
+            exit_status(&apply_bundle(alloc, &mut reader, &mut writer, workers))
+        }
+        Ok(_) => 0,
+        Err(LineFault::Memory) => 3,
+        Err(LineFault::Line(text)) => {
+            let _ = eprint!(rt; "{text}");
+            2
+        }
+    }
+}
+
+fn main(rt: HostRuntime) -> ExitCode {
+    let Ok(args) = env::args(&rt) else {
+        return ExitCode::from(4);
+    };
+    let words: Vec<String> = match args.skip(1).collect(rt.alloc()) {
+        Ok(words) => words,
+        Err(_) => return ExitCode::from(3),
+    };
+    ExitCode::from(run(&rt, words.as_slice()))
+}
