@@ -1,6 +1,6 @@
 -- What the reading of a set's text says.
-use Rattle.std.proofs.Common.{◌≡◌, ℕ, cond, ◌++◌, List, Result, Ok, Err, refl, sym, ap, ◌∙◌, inl, inr}
-use Rattle.std.specs.Prelude.{IfOk, IfErr, OnOk, is_ok, length}
+use Rattle.std.proofs.Common.{◌≡◌, ℕ, List, Result, Ok, Err, refl, sym, ap, ◌∙◌, inl, inr}
+use Rattle.std.specs.Prelude.{IfOk, IfErr, length}
 use Rattle.gtid_text.specs.Reading.{answer, fault_in, GivesText, spans_in}
 use Rattle.gtid_text.specs.Grammar.{Spells}
 use Rattle.gtid_text.specs.declared.Span.{Span}
@@ -19,11 +19,6 @@ pub is_only : {X : Type 0} (view : X → List Span) (text : List ℕ) (r : Resul
 is_only view text (Ok v) len h spans s = sym (spells_read text spans s) ∙ h
 is_only view text (Err f) len (inl e) spans s = inl e
 is_only view text (Err f) len (inr e) spans s = inr (ap (answer len) (sym (spells_read text spans s)) ∙ e)
-
--- a text that was appended, by another name
-pub appended : {T E : Type 0} (r : Result T E) (new old t u : List ℕ) → new ≡ cond (is_ok r) (old ++ t) old → t ≡ u → OnOk r (new ≡ old ++ u)
-appended (Ok x) new old t u e f = e ∙ ap (λ (z : List ℕ). old ++ z) f
-appended (Err y) new old t u e f = tt
 
 fault_is : {A : Type 0} (len : ℕ) (read : Result A Refusal) (f : TextFault) → answer len read ≡ Err f → (r : Refusal) × (read ≡ Err r) × (f ≡ fault_in len r)
 fault_is len (Ok x) f e = absurd cc

@@ -8,7 +8,7 @@ mod write;
 
 pub use fault::TextFault;
 pub use set_text::{parse_gtid, parse_source, parse_spans};
-pub use write::{write_gtid, write_source, write_span};
+pub use write::{write_gtid, write_next_span, write_source, write_span};
 
 #[cfg(test)]
 mod tests;

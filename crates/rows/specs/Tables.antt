@@ -1,0 +1,55 @@
+-- Which tables stand together in a schema.
+use Rattle.std.specs.Prelude.{◌≡◌, ◌≤◌, ℕ, Bool, true, not, ◌&&◌, ◌||◌, ◌==◌, nat_le, nat_lt, if◌then◌else◌, List, [], ◌∷◌, length, Option, Some, None, is_some}
+use Rattle.std.specs.List.{list_any, list_all}
+use Rattle.rows.specs.declared.schema.Table.{Table}
+use Rattle.rows.specs.declared.schema.TableFault.{TableFault}
+use Rattle.rows.specs.declared.schema.TableFault.TheVariants.{Body, Limit, Schema}
+use Rattle.rows.specs.Keys.{table_named}
+
+-- no column stands twice
+abbrev pub are_distinct : List ℕ → Bool
+are_distinct [] = true
+are_distinct (c ∷ columns) = not (list_any (λ x. x == c) columns) && are_distinct columns
+
+-- the columns of a key: one or more, none of them twice
+abbrev pub is_column_list : List ℕ → Bool
+is_column_list columns = nat_le 1 (length columns) && are_distinct columns
+
+abbrev pub has_column_lists : Table → Bool
+has_column_lists table = is_column_list table.primary && list_all is_column_list table.uniques
+
+-- 1 to 64 columns, and at most 8 unique keys
+abbrev pub is_within_limits : Table → Bool
+is_within_limits table = nat_le 1 table.columns && nat_le table.columns 64 && nat_le (length table.uniques) 8
+
+-- each column of a list is one of so many
+abbrev pub are_below : ℕ → List ℕ → Bool
+are_below count columns = list_all (λ c. nat_lt c count) columns
+
+abbrev pub has_its_columns : Table → Bool
+has_its_columns table = are_below table.columns table.primary && list_all (are_below table.columns) table.uniques
+
+abbrev pub is_table : Table → Bool
+is_table table = has_column_lists table && is_within_limits table && has_its_columns table
+
+abbrev pub is_taken : List ℕ → List Table → Bool
+is_taken name tables = is_some (table_named name tables)
+
+-- Why a table can't come after these: its lists of columns are asked first, then the limits, and then what it names.
+abbrev pub table_fault : List Table → Table → Option TableFault
+table_fault tables table =
+    if not (has_column_lists table) then Some Body
+    else if not (is_within_limits table && nat_lt (length tables) 256) then Some Limit
+    else if is_taken table.name tables || not (has_its_columns table) then Some Schema
+    else None
+
+-- no name stands twice
+abbrev pub are_named_once : List Table → Bool
+are_named_once [] = true
+are_named_once (table ∷ tables) = not (is_taken table.name tables) && are_named_once tables
+
+-- what the tables of a schema keep to
+pub record AreTables (tables : List Table) : Type 0 where
+  pub count : length tables ≤ 256
+  pub each : list_all is_table tables ≡ true
+  pub once : are_named_once tables ≡ true

@@ -1,0 +1,126 @@
+//! Which transactions a schema takes.
+
+ghost use Rattle.std.specs.Prelude.{◌≡◌, ◌≤◌, length, OnOk, IfErr, None, Some, slice_index_or};
+ghost use Rattle.std.specs.List.{list_any};
+ghost use Rattle.rows.specs.declared.value.Value.TheVariants.{Null};
+ghost use Rattle.rows.specs.Keys.{is_null, table_named};
+ghost use Rattle.rows.specs.Fits.{is_too_long, has_primary_null, row_misfit, rank, first_cause, images_misfit, table_of, misfit_in, change_misfit, misfit};
+
+use crate::change::{Change, Misfit, NotInSchema, Transaction};
+use crate::name::Name;
+use crate::schema::{Schema, Table};
+use crate::value::{Row, Value};
+
+/// Whether a schema takes a transaction; else the first change that it does not take.
+pub fn fits(schema: &Schema, txn: &Transaction) -> Result<(), NotInSchema>
+    ensures ok { OnOk result (misfit schema.now txn.now ≡ None) }
+    ensures refused { IfErr result (λ fault. misfit schema.now txn.now ≡ Some fault) }
+{
+    for (n, change) in txn.changes.as_slice().iter().enumerate() {
+        if let Some(cause) = change_misfit(schema, n, change) {
+            return Err(NotInSchema {
+                change: n as u32,
+                cause,
+            });
+        }
+    }
+    Ok(())
+}
+
+/// Why a schema does not take the n-th change.
+fn change_misfit(schema: &Schema, n: usize, change: &Change) -> Option<Misfit>
+    ensures { result ≡ change_misfit schema.now n change.now }
+{
+    let cause = match schema.find(change.table()) {
+        Some(table) => images_misfit(table, change),
+        None => Some(Misfit::NoTable),
+    };
+    if n < 65_536 {
+        cause
+    } else {
+        Some(cause.unwrap_or(Misfit::TooMany))
+    }
+}
+
+fn images_misfit(table: &Table, change: &Change) -> Option<Misfit>
+    ensures { result ≡ images_misfit table.now change.now }
+{
+    match change {
+        Change::Insert { after, .. } => row_misfit(table, after),
+        Change::Delete { before, .. } => row_misfit(table, before),
+        Change::Update { before, after, .. } => {
+            first_cause(row_misfit(table, before), row_misfit(table, after))
+        }
+    }
+}
+
+/// The cause that is asked first.
+fn first_cause(a: Option<Misfit>, b: Option<Misfit>) -> Option<Misfit>
+    ensures { result ≡ first_cause a b }
+{
+    match (a, b) {
+        (None, b) => b,
+        (a, None) => a,
+        (Some(a), Some(b)) => { if rank(a) <= rank(b) { Some(a) } else { Some(b) } }
+    }
+}
+
+/// The place of a cause in the order in which they are asked.
+fn rank(cause: Misfit) -> u8
+    ensures { result ≡ rank cause }
+{
+    match cause {
+        Misfit::NoTable => 0,
+        Misfit::Columns => 1,
+        Misfit::NullInPrimary => 2,
+        Misfit::TooLong => 3,
+        Misfit::TooMany => 4,
+    }
+}
+
+/// Why this is no row of a table.
+fn row_misfit(table: &Table, row: &Row) -> Option<Misfit>
+    ensures { result ≡ row_misfit table.now row.now }
+{
+    let values = row.values();
+    if values.len() != table.columns as usize {
+        return Some(Misfit::Columns);
+    }
+    if has_null_at(table.primary.as_slice(), values) {
+        return Some(Misfit::NullInPrimary);
+    }
+    if has_long_value(values) {
+        return Some(Misfit::TooLong);
+    }
+    None
+}
+
+fn is_too_long(value: &Value) -> bool
+    ensures { result ≡ is_too_long value.now }
+{
+    match value {
+        Value::Bytes(bytes) => bytes.as_slice().len() > 65_535,
+        _ => false,
+    }
+}
+
+fn has_long_value(values: &[Value]) -> bool
+    ensures { result ≡ list_any is_too_long values.now }
+{
+    values.iter().any(|value| is_too_long(value))
+}
+
+fn is_null_at(values: &[Value], column: u32) -> bool
+    ensures { result ≡ is_null (slice_index_or values.now column Null) }
+{
+    match values.get(column as usize) {
+        Some(value) => matches!(value, Value::Null),
+        None => true,
+    }
+}
+
+fn has_null_at(columns: &[u32], values: &[Value]) -> bool
+    ensures { result ≡ list_any (λ column. is_null (slice_index_or values.now column Null)) columns.now }
+{
+    columns.iter().any(|column| is_null_at(values, *column))
+}

@@ -1,0 +1,243 @@
+//! From each key to the row that carries it.
+ghost use Rattle.std.specs.Prelude.{◌≡◌, ◌≤◌, ◌<◌, ◌+◌, ◌^◌, OnOk, OnErr, IfOk, IfErr, Ok, Err, None, length};
+ghost use Rattle.std.specs.Option.{option_copied};
+ghost use Rattle.std.specs.FinMap as map;
+ghost use Rattle.rows.specs.Apply.{taken, stored, with_row, without_keys, inserted, deleted, apply_change, apply_from};
+ghost use Rattle.rows.specs.Keys.{keys_carried};
+ghost use Rattle.rows.specs.Refusal.{Refuses};
+
+use crate::change::{Change, Key, PrepareFault, RowFault};
+use crate::keys::carried;
+use crate::name::Name;
+use crate::schema::Schema;
+use crate::value::Row;
+use std::alloc::{AllocError, Global};
+use std::collections::BTreeMap;
+use std::marker::Model;
+
+/// From each key to the row that carries it.
+#[derive(Drop)]
+pub(crate) struct KeyMap {
+    carriers: BTreeMap<Key, Row>,
+}
+
+impl Model for KeyMap {
+    ghost use Rattle.std.specs.FinMap as map;
+    ghost use Rattle.rows.specs.Apply.{Rows};
+    ghost use Rattle.rows.specs.Coding.{rows_code};
+
+    ghost Value = { Rows };
+
+    ghost coded = { rows_code };
+
+    ghost view = { λ a. map.from_entries a.carriers.entries };
+}
+
+impl KeyMap {
+    pub(crate) fn new(alloc: Global) -> Self
+        ensures { result ≡ map.empty }
+    {
+        KeyMap {
+            carriers: BTreeMap::new(alloc),
+        }
+    }
+
+    /// The row that carries a key.
+    pub(crate) fn carrier(&self, key: &Key) -> Option<&Row>
+        ensures { option_copied result ≡ map.get self.now key.now }
+    {
+        self.carriers.get(key)
+    }
+
+    /// Puts a row under one key.
+    pub(crate) fn put_at(&mut self, key: Key, row: Row) -> Result<(), AllocError>
+        ensures ok { OnOk result (self.new ≡ map.insert self.old key row) }
+        ensures err { OnErr result (self.new ≡ self.old) }
+        ensures absent { OnErr result (map.get self.old key ≡ None) }
+    {
+        match self.carriers.insert(key, row) {
+            Ok(_) => Ok(()),
+            Err(_) => Err(AllocError),
+        }
+    }
+
+    /// Puts a copy of a row under a copy of a key.
+    pub(crate) fn put_copy(&mut self, key: &Key, row: &Row) -> Result<(), AllocError>
+        ensures { OnOk result (self.new ≡ map.insert self.old key.now row.now) }
+    {
+        let key = key.copied()?;
+        let row = row.copied()?;
+        self.put_at(key, row)
+    }
+
+    /// Takes away what stands under a key.
+    pub(crate) fn take_at(&mut self, key: &Key)
+        ensures { self.new ≡ map.remove self.old key.now }
+    {
+        self.carriers.remove(key);
+    }
+
+    /// The number of the first of these keys that a row carries.
+    fn taken(&self, keys: &[Key]) -> Option<u32>
+        ensures { result ≡ taken keys.now self.now }
+    {
+        for key in keys {
+            if self.carrier(key).is_some() {
+                return Some(key.index);
+            }
+        }
+        None
+    }
+
+    /// Puts a row under each of these keys.
+    fn place(&mut self, keys: &[Key], row: &Row) -> Result<(), AllocError>
+        ensures { OnOk result (self.new ≡ with_row keys.now row.now self.old) }
+    {
+        let mut left = keys.len();
+        while left > 0 {
+            left -= 1;
+            self.put_copy(&keys[left], row)?;
+        }
+        Ok(())
+    }
+
+    /// Takes away what stands under each of these keys.
+    fn clear(&mut self, keys: &[Key])
+        ensures { self.new ≡ without_keys keys.now self.old }
+    {
+        let mut left = keys.len();
+        while left > 0 {
+            left -= 1;
+            self.take_at(&keys[left]);
+        }
+    }
+
+    /// The row under the first of these keys.
+    fn stored(&self, keys: &[Key]) -> Option<&Row>
+        ensures { option_copied result ≡ stored keys.now self.now }
+    {
+        match keys.first() {
+            Some(key) => self.carrier(key),
+            None => None,
+        }
+    }
+
+    fn insert_row(&mut self, keys: &[Key], row: &Row, change: u32) -> Result<(), PrepareFault>
+        ensures ok { OnOk result (inserted change keys.now row.now self.old ≡ Ok self.new) }
+        ensures refused { Refuses result (inserted change keys.now row.now self.old) }
+    {
+        if let Some(key) = self.taken(keys) {
+            return Err(PrepareFault::Row(RowFault::DuplicateKey { change, key }));
+        }
+        match self.place(keys, row) {
+            Ok(()) => Ok(()),
+            Err(_) => Err(PrepareFault::Memory),
+        }
+    }
+
+    fn holds(&self, keys: &[Key], row: &Row, change: u32) -> Result<(), RowFault>
+        ensures ok { OnOk result (deleted change keys.now row.now self.now ≡ Ok (without_keys keys.now self.now)) }
+        ensures refused { IfErr result (λ fault. deleted change keys.now row.now self.now ≡ Err fault) }
+    {
+        match self.stored(keys) {
+            None => Err(RowFault::RowMissing { change, key: 0 }),
+            Some(found) => {
+                if *found == *row {
+                    Ok(())
+                } else {
+                    Err(RowFault::RowDiffers { change, key: 0 })
+                }
+            }
+        }
+    }
+
+    fn delete_row(&mut self, keys: &[Key], row: &Row, change: u32) -> Result<(), RowFault>
+        ensures ok { OnOk result (deleted change keys.now row.now self.old ≡ Ok self.new) }
+        ensures refused { IfErr result (λ fault. deleted change keys.now row.now self.old ≡ Err fault) }
+    {
+        self.holds(keys, row, change)?;
+        self.clear(keys);
+        Ok(())
+    }
+
+    fn insert_image(
+        &mut self,
+        alloc: Global,
+        schema: &Schema,
+        change: u32,
+        table: &Name,
+        row: &Row,
+    ) -> Result<(), PrepareFault>
+        ensures ok { OnOk result (inserted change (keys_carried schema.now table.now row.now) row.now self.old ≡ Ok self.new) }
+        ensures refused { Refuses result (inserted change (keys_carried schema.now table.now row.now) row.now self.old) }
+    {
+        match carried(alloc, schema, table, row) {
+            Ok(keys) => self.insert_row(&keys, row, change),
+            Err(_) => Err(PrepareFault::Memory),
+        }
+    }
+
+    fn delete_image(
+        &mut self,
+        alloc: Global,
+        schema: &Schema,
+        change: u32,
+        table: &Name,
+        row: &Row,
+    ) -> Result<(), PrepareFault>
+        ensures ok { OnOk result (deleted change (keys_carried schema.now table.now row.now) row.now self.old ≡ Ok self.new) }
+        ensures refused { Refuses result (deleted change (keys_carried schema.now table.now row.now) row.now self.old) }
+    {
+        match carried(alloc, schema, table, row) {
+            Ok(keys) => match self.delete_row(&keys, row, change) {
+                Ok(()) => Ok(()),
+                Err(fault) => Err(PrepareFault::Row(fault)),
+            },
+            Err(_) => Err(PrepareFault::Memory),
+        }
+    }
+
+    /// Makes one change. After want of memory nothing is said of the rows.
+    fn make(
+        &mut self,
+        alloc: Global,
+        schema: &Schema,
+        n: u32,
+        change: &Change,
+    ) -> Result<(), PrepareFault>
+        ensures ok { OnOk result (apply_change schema.now n change.now self.old ≡ Ok self.new) }
+        ensures refused { Refuses result (apply_change schema.now n change.now self.old) }
+    {
+        match change {
+            Change::Insert { table, after } => self.insert_image(alloc, schema, n, table, after),
+            Change::Delete { table, before } => self.delete_image(alloc, schema, n, table, before),
+            Change::Update {
+                table,
+                before,
+                after,
+            } => {
+                match self.delete_image(alloc, schema, n, table, before) {
+                    Ok(()) => self.insert_image(alloc, schema, n, table, after),
+                    Err(fault) => Err(fault),
+                }
+            }
+        }
+    }
+
+    /// Makes changes in order. After want of memory nothing is said of the rows.
+    pub(crate) fn make_all(
+        &mut self,
+        alloc: Global,
+        schema: &Schema,
+        changes: &[Change],
+    ) -> Result<(), PrepareFault>
+        requires { length changes.now ≤ 65536 }
+        ensures ok { OnOk result (apply_from schema.now 0 changes.now self.old ≡ Ok self.new) }
+        ensures refused { Refuses result (apply_from schema.now 0 changes.now self.old) }
+    {
+        for (n, change) in changes.iter().enumerate() {
+            self.make(alloc, schema, n as u32, change)?;
+        }
+        Ok(())
+    }
+}

@@ -1,0 +1,103 @@
+-- Closed sets, their rows, and what sources make alone and together.
+use Rattle.std.proofs.Common.{◌≡◌, Bool, ◌||◌, inl, inr, List, [], ◌∷◌, Result, Ok, Err, refl, sym, ap, subst, ◌∙◌}
+use Rattle.std.specs.Prelude.{IsOk}
+use Rattle.std.specs.FinMap.{entries}
+use Rattle.std.specs.FinSet as set
+use Rattle.std.specs.FinSet.{contains-union, contains-intersection, is_subset-contains, contains-is_subset, same_set}
+use Rattle.gtid_text.specs.declared.Gtid.{Gtid}
+use Rattle.gtid_text.specs.Gtids.{gtid_cmp}
+use Rattle.rows.specs.declared.change.RowFault.{RowFault}
+use Rattle.rows.specs.declared.schema.Table.{Table}
+use Rattle.rows.specs.Apply.{Rows, apply}
+use Rattle.rows.specs.Carriers.{AreCarriers}
+use Rattle.rows.proofs.Local.{bind_ok}
+use Rattle.rows.proofs.Carriers.{apply_keeps_carriers}
+use Rattle.source_history.specs.World.{World, Entry, apply_all, rows_of, entries_in, of_source, IsClosed}
+use Rattle.source_history.specs.Join.{join, either, both, JoinLaws}
+use Rattle.source_history.specs.Laws.{ClosedSetsApply, AloneOrTogether, RowsAreCarriers, ClosedUnderUnion, ClosedUnderIntersection, ClosedSetsAreALattice}
+use Rattle.source_history.proofs.Tests.{or_either, or_left, or_right, and_both, both_and, or_swapped, or_grouped, or_itself}
+use Rattle.source_history.proofs.Gtids.{gtid_total, gtid_exact}
+use Rattle.source_history.proofs.Merging.{got, closed_applies, all_histories, alone_from_all}
+
+is_ok_of : {A E : Type 0} (r : Result A E) (a : A) → r ≡ Ok a → IsOk r
+is_ok_of (Ok x) a e = refl
+is_ok_of (Err d) a e = cc
+
+pub closed_sets_apply : ClosedSetsApply
+closed_sets_apply world S sound closed = let h = closed_applies world S sound closed in is_ok_of (rows_of world S) h.0 h.1
+
+pub alone_or_together : AloneOrTogether
+alone_or_together world keys = (
+  λ alone. let h = all_histories world (record { keys = keys; alone = alone }) in is_ok_of (apply_all world.schema (entries world.contents) world.opening_rows) h.0 h.1,
+  λ all s. let end = got (apply_all world.schema (entries world.contents) world.opening_rows) all in
+      let h = alone_from_all world end.0 s keys end.1 in is_ok_of (rows_of world (of_source s)) h.0 h.1,
+)
+
+-- ---- no key has a second row
+
+ok_same : (a b : Rows) → ◌≡◌ {A = Result Rows RowFault} (Ok a) (Ok b) → a ≡ b
+ok_same a b e = cc
+
+carriers_after : (schema : List Table) (es : List Entry) (rows new : Rows) → AreCarriers schema rows → apply_all schema es rows ≡ Ok new → AreCarriers schema new
+carriers_after schema [] rows new h e = subst (AreCarriers schema) (ok_same rows new e) h
+carriers_after schema (x ∷ es) rows new h e =
+    let first = bind_ok (apply schema x.1 rows) (apply_all schema es) new e in
+    carriers_after schema es first.0 new (apply_keeps_carriers schema x.1 rows first.0 h first.1) first.2
+
+pub rows_are_carriers : RowsAreCarriers
+rows_are_carriers world S rows opening e = carriers_after world.schema (entries_in world S) world.opening_rows rows opening e
+
+-- ---- closed sets
+
+pub closed_under_union : ClosedUnderUnion
+closed_under_union world S U c d = record {
+  opened = λ g e. or_left (S g) (U g) (c.opened g e);
+  known = λ g e. elim (or_either (S g) (U g) e) [ inl p ↦ c.known g p | inr q ↦ d.known g q ];
+  earlier = λ g h t u f k s l m e. elim (or_either (S h) (U h) e) [
+    | inl p ↦ or_left (S g) (U g) (c.earlier g h t u f k s l m p)
+    | inr q ↦ or_right (S g) (U g) (d.earlier g h t u f k s l m q)
+  ];
+}
+
+pub closed_under_intersection : ClosedUnderIntersection
+closed_under_intersection world S U c d = record {
+  opened = λ g e. both_and (S g) (U g) (c.opened g e) (d.opened g e);
+  known = λ g e. c.known g (and_both (S g) (U g) e).0;
+  earlier = λ g h t u f k s l m e. let two = and_both (S h) (U h) e in both_and (S g) (U g) (c.earlier g h t u f k s l m two.0) (d.earlier g h t u f k s l m two.1);
+}
+
+-- a set that is equal to a closed one is closed
+pub closed_same : (world : World) (S U : Gtid → Bool) → ((g : Gtid) → U g ≡ S g) → IsClosed world S → IsClosed world U
+closed_same world S U same c = record {
+  opened = λ g e. same g ∙ c.opened g e;
+  known = λ g e. c.known g (sym (same g) ∙ e);
+  earlier = λ g h t u f k s l m e. same g ∙ c.earlier g h t u f k s l m (sym (same h) ∙ e);
+}
+
+pub closed_sets_are_a_lattice : ClosedSetsAreALattice
+closed_sets_are_a_lattice = record {
+  join = λ world a b c d. closed_same world (either (set.contains a) (set.contains b)) (set.contains (set.union a b)) (contains-union gtid_total a b) (closed_under_union world (set.contains a) (set.contains b) c d);
+  meet = λ world a b c d. closed_same world (both (set.contains a) (set.contains b)) (set.contains (set.intersection a b)) (contains-intersection gtid_total a b) (closed_under_intersection world (set.contains a) (set.contains b) c d);
+}
+
+-- ---- the join
+
+in_join : (a b : set.FinSet gtid_cmp) (g : Gtid) → set.contains (join a b) g ≡ (set.contains a g || set.contains b g)
+in_join a b g = contains-union gtid_total a b g
+
+pub join_laws : JoinLaws
+join_laws = record {
+  commutative = λ a b. same_set gtid_total gtid_exact _ _ (λ g. in_join a b g ∙ (or_swapped (set.contains a g) (set.contains b g) ∙ sym (in_join b a g)));
+  associative = λ a b c. same_set gtid_total gtid_exact _ _ (λ g.
+      in_join (join a b) c g ∙ (ap (λ x. x || set.contains c g) (in_join a b g)
+      ∙ (or_grouped (set.contains a g) (set.contains b g) (set.contains c g)
+      ∙ (ap (λ x. set.contains a g || x) (sym (in_join b c g)) ∙ sym (in_join a (join b c) g)))));
+  idempotent = λ a. same_set gtid_total gtid_exact _ _ (λ g. in_join a a g ∙ or_itself (set.contains a g));
+  above_left = λ a b. contains-is_subset gtid_total a (join a b) (λ g h. in_join a b g ∙ or_left (set.contains a g) (set.contains b g) h);
+  above_right = λ a b. contains-is_subset gtid_total b (join a b) (λ g h. in_join a b g ∙ or_right (set.contains a g) (set.contains b g) h);
+  least = λ a b c p q. contains-is_subset gtid_total (join a b) c (λ g h.
+      elim (or_either (set.contains a g) (set.contains b g) (sym (in_join a b g) ∙ h)) [
+        | inl i ↦ is_subset-contains gtid_total a c p g i
+        | inr j ↦ is_subset-contains gtid_total b c q g j
+      ]);
+}

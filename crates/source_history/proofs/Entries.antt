@@ -1,0 +1,143 @@
+-- The entries of a world, in their order.
+use Rattle.std.proofs.Common.{◌≡◌, ◌≢◌, ℕ, Bool, true, false, cond, ◌&&◌, T, inl, inr, List, [], ◌∷◌, Some, refl, sym, ap, ◌∙◌, eqb}
+use Rattle.std.specs.declared.cmp.Ordering.{Ordering}
+use Rattle.std.specs.declared.cmp.Ordering.TheVariants.{Less, Equal, Greater}
+use Rattle.std.specs.Ordering.{is_lt, is_eq, ordering_reverse}
+use Rattle.std.specs.List.{AllByRecursion}
+use Rattle.std.specs.FinMap.{entries, entries_sorted, get-entries, find, is_sorted}
+use Rattle.std.specs.FinMap.Entries.{below_all}
+use Rattle.std.proofs.lemmas.Bool.{eqb-true, eq-eqb}
+use Rattle.std.proofs.lemmas.Cmp.{tied_itself}
+use Rattle.rows.specs.declared.change.Transaction.{Transaction}
+use Rattle.rows.specs.WriteSet.{shares_key}
+use Rattle.gtid_text.specs.declared.Gtid.{Gtid}
+use Rattle.gtid_text.specs.Gtids.{gtid_cmp}
+use Rattle.source_history.specs.World.{World, Entry, content, of_source, AreKeysSound, IsClosed}
+use Rattle.source_history.proofs.Tests.{true_or_false, not_both}
+use Rattle.source_history.proofs.Gtids.{gtid_total, gtid_exact, number_less}
+use Rattle.source_history.proofs.Commuting.{AreApart, apart_from_test}
+use Rattle.source_history.proofs.Placing.{IsClosedIn, AreDistinct, AreSourcesApart, IsIn, all_map, all_map_two}
+
+abbrev pub IsRising : List Entry → Type 0
+IsRising [] = Unit {0}
+IsRising (e ∷ es) = AllByRecursion (λ f. gtid_cmp e.0 f.0 ≡ Less) es × IsRising es
+
+first : (a b : Bool) → T (a && b) → T a
+first true b p = tt
+first false b p = p
+
+second : (a b : Bool) → T (a && b) → T b
+second true b p = p
+second false b p = absurd p
+
+less : (o : Ordering) → T (is_lt o) → o ≡ Less
+less Less p = refl
+less Equal p = absurd p
+less Greater p = absurd p
+
+all_below : (g : Gtid) (es : List Entry) → T (below_all gtid_cmp g es) → AllByRecursion (λ f. gtid_cmp g f.0 ≡ Less) es
+all_below g [] h = tt
+all_below g (e ∷ es) h = (less _ (first (is_lt (gtid_cmp g e.0)) (below_all gtid_cmp g es) h), all_below g es (second (is_lt (gtid_cmp g e.0)) (below_all gtid_cmp g es) h))
+
+rising_from : (es : List Entry) → T (is_sorted gtid_cmp es) → IsRising es
+rising_from [] h = tt
+rising_from (e ∷ es) h = (all_below e.0 es (first (below_all gtid_cmp e.0 es) (is_sorted gtid_cmp es) h), rising_from es (second (below_all gtid_cmp e.0 es) (is_sorted gtid_cmp es) h))
+
+pub rising : (world : World) → IsRising (entries world.contents)
+rising world = rising_from (entries world.contents) (entries_sorted world.contents)
+
+not_equal : (g h : Gtid) → gtid_cmp g h ≡ Less → g ≢ h
+not_equal g h l e = let tied : gtid_cmp g h ≡ Equal = ap (gtid_cmp g) (sym e) ∙ tied_itself gtid_total g in cc
+
+pub distinct : (es : List Entry) → IsRising es → AreDistinct es
+distinct [] h = tt
+distinct (e ∷ es) h = (all_map (λ f. gtid_cmp e.0 f.0 ≡ Less) (λ f. e.0 ≢ f.0) es (λ f l. not_equal e.0 f.0 l) h.0, distinct es h.1)
+
+-- what the list has at each of its entries
+abbrev pub AreFound : World → List Entry → Type 0
+AreFound world es = AllByRecursion (λ e. content world e.0 ≡ Some e.1) es
+
+greater_no : (r s : Ordering) → r ≡ ordering_reverse s → s ≡ Less → is_eq r ≡ false
+greater_no r s e l = ap is_eq (e ∙ ap ordering_reverse l)
+
+find_later : (g : Gtid) (e : Entry) (es : List Entry) → gtid_cmp e.0 g ≡ Less → find gtid_cmp g (e ∷ es) ≡ find gtid_cmp g es
+find_later g e es l = ap (λ b. cond b (Some e.1) (find gtid_cmp g es)) (greater_no (gtid_cmp g e.0) (gtid_cmp e.0 g) (gtid_total.antisymm g e.0) l)
+
+find_first : (e : Entry) (es : List Entry) → find gtid_cmp e.0 (e ∷ es) ≡ Some e.1
+find_first e es = ap (λ r. cond (is_eq r) (Some e.1) (find gtid_cmp e.0 es)) (tied_itself gtid_total e.0)
+
+all_found : (es : List Entry) → IsRising es → AllByRecursion (λ e. find gtid_cmp e.0 es ≡ Some e.1) es
+all_found [] h = tt
+all_found (e ∷ es) h = (
+  find_first e es,
+  all_map_two (λ f. gtid_cmp e.0 f.0 ≡ Less) (λ f. find gtid_cmp f.0 es ≡ Some f.1) (λ f. find gtid_cmp f.0 (e ∷ es) ≡ Some f.1) es (λ f l g. find_later f.0 e es l ∙ g) h.0 (all_found es h.1),
+)
+
+pub found : (world : World) → AreFound world (entries world.contents)
+found world =
+    all_map (λ e. find gtid_cmp e.0 (entries world.contents) ≡ Some e.1) (λ e. content world e.0 ≡ Some e.1) (entries world.contents)
+    (λ e f. get-entries world.contents e.0 ∙ f) (all_found (entries world.contents) (rising world))
+
+is_in_by : (g : Gtid) (t : Transaction) (e : Entry) (es : List Entry) (r : Ordering) → gtid_cmp g e.0 ≡ r → (find gtid_cmp g es ≡ Some t → IsIn (g, t) es) → cond (is_eq r) (Some e.1) (find gtid_cmp g es) ≡ Some t → IsIn (g, t) (e ∷ es)
+is_in_by g t e es Less c h f = inr (h f)
+is_in_by g t e es Equal c h f =
+    let same : g ≡ e.0 = gtid_exact g e.0 c in
+    let there : e.1 ≡ t = some_same e.1 t f in
+    inl (λ i. (sym same i, there i))
+  where
+    some_same : (x y : Transaction) → Some x ≡ Some y → x ≡ y
+    some_same x y p = cc
+is_in_by g t e es Greater c h f = inr (h f)
+
+is_in_from : (g : Gtid) (t : Transaction) (es : List Entry) → find gtid_cmp g es ≡ Some t → IsIn (g, t) es
+is_in_from g t [] f = cc
+is_in_from g t (e ∷ es) f = is_in_by g t e es (gtid_cmp g e.0) refl (is_in_from g t es) f
+
+pub is_in : (world : World) (g : Gtid) (t : Transaction) → content world g ≡ Some t → IsIn (g, t) (entries world.contents)
+is_in world g t f = is_in_from g t (entries world.contents) (sym (get-entries world.contents g) ∙ f)
+
+-- ---- what soundness and closedness say of the list
+
+pub apart_sources : (world : World) → AreKeysSound world → (g h : Gtid) (t u : Transaction) → content world g ≡ Some t → content world h ≡ Some u → g.source ≢ h.source → AreApart world.schema t u
+apart_sources world sound g h t u f k n = apart_from_test world.schema t u (sound.apart g h t u f k n)
+
+source_differs : (s t : ℕ) → eqb s t ≡ false → t ≢ s
+source_differs s t n e = not_both (eqb s t) (eq-eqb s t (sym e)) n
+
+pub sources_apart : (world : World) → AreKeysSound world → (es : List Entry) → AreFound world es → AreSourcesApart world.schema es
+sources_apart world sound [] h = tt
+sources_apart world sound (e ∷ es) h = (
+  all_map (λ f. content world f.0 ≡ Some f.1) (λ f. of_source f.0.source e.0 ≡ false → AreApart world.schema e.1 f.1) es
+      (λ f k n. apart_sources world sound e.0 f.0 e.1 f.1 h.0 k (source_differs f.0.source e.0.source n)) h.1,
+  sources_apart world sound es h.1,
+)
+
+-- one that is left out, and a later one that is in the set
+apart_left_out : (world : World) (S : Gtid → Bool) → AreKeysSound world → IsClosed world S → (g h : Gtid) (t u : Transaction) → content world g ≡ Some t → content world h ≡ Some u → gtid_cmp g h ≡ Less → S g ≡ false → S h ≡ true → AreApart world.schema t u
+apart_left_out world S sound closed g h t u f k l n y =
+    elim (true_or_false (eqb g.source h.source)) [
+      | inl same ↦
+          let s : g.source ≡ h.source = eqb-true g.source h.source same in
+          elim (true_or_false (shares_key world.schema t u)) [
+            | inl shares ↦ not_both (S g) (closed.earlier g h t u f k s (number_less g h l s) shares y) n
+            | inr none ↦ apart_from_test world.schema t u none
+          ]
+      | inr other ↦ apart_sources world sound g h t u f k (λ e. not_both (eqb g.source h.source) (eq-eqb g.source h.source e) other)
+    ]
+
+pub closed_in : (world : World) (S : Gtid → Bool) → AreKeysSound world → IsClosed world S → (es : List Entry) → IsRising es → AreFound world es → IsClosedIn world.schema S es
+closed_in world S sound closed [] r h = tt
+closed_in world S sound closed (e ∷ es) r h = (
+  λ n. all_map_two (λ f. gtid_cmp e.0 f.0 ≡ Less) (λ f. content world f.0 ≡ Some f.1) (λ f. S f.0 ≡ true → AreApart world.schema e.1 f.1) es
+      (λ f l k y. apart_left_out world S sound closed e.0 f.0 e.1 f.1 h.0 k l n y) r.0 h.1,
+  closed_in world S sound closed es r.1 h.1,
+)
+
+-- the transactions of one source, of a list: those that are left out are another's
+pub source_closed : (world : World) → AreKeysSound world → (s : ℕ) (es : List Entry) → AreFound world es → IsClosedIn world.schema (of_source s) es
+source_closed world sound s [] h = tt
+source_closed world sound s (e ∷ es) h = (
+  λ n. all_map (λ f. content world f.0 ≡ Some f.1) (λ f. of_source s f.0 ≡ true → AreApart world.schema e.1 f.1) es
+      (λ f k y. apart_sources world sound e.0 f.0 e.1 f.1 h.0 k (λ same. not_both (of_source s e.0) (ap (eqb s) same ∙ y) n)) h.1,
+  source_closed world sound s es h.1,
+)

@@ -1,0 +1,11 @@
+pub mod Tests
+pub mod Gtids
+pub mod Commuting
+pub mod Framing
+pub mod Placing
+pub mod Entries
+pub mod Merging
+pub mod Writing
+pub mod Committing
+pub mod Closing
+pub mod Small

@@ -1,0 +1,5 @@
+use Rattle.source_history.proofs.Closing.{alone_or_together}
+use Rattle.source_history.proofs.laws.alone_or_together.Goals as goal
+
+pub returns : goal.returns
+returns c = alone_or_together

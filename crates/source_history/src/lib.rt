@@ -1,0 +1,13 @@
+//! What several sources committed, and the rows that a set of their transactions stands for.
+//!
+//! Order doesn't matter where no key is shared, and each source's own order is kept where it is.
+#![tactic(auto)]
+
+mod laws;
+
+pub use laws::{
+    alone_or_together, apart_commute, closed_sets_apply, closed_sets_are_a_lattice,
+    closed_under_intersection, closed_under_union, commit_order_is_free, commit_orders_agree,
+    early_commit, join_laws, last_writer_stands, late_commit, opening_is_closed, rows_are_carriers,
+    sound_worlds_exist, touched_decides, untouched_stays,
+};
