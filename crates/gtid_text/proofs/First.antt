@@ -6,7 +6,7 @@ use Rattle.std.proofs.lemmas.Bool.{eqb-false}
 use Rattle.std.proofs.lemmas.List.{length-append}
 use Rattle.gtid_text.specs.Scan.{is_blank, is_uuid_byte, run, past, ◌>>=◌, source_of, colon_at}
 use Rattle.gtid_text.specs.Reading.{interval_at, separator_at, element_at, Turn, turn_at, with_front, gone_on, spans_at, spans_in}
-use Rattle.gtid_text.specs.Grammar.{Number, interval_text, IsGap}
+use Rattle.gtid_text.specs.Grammar.{Number, interval_text, IsGap, IsSetText}
 use Rattle.gtid_text.specs.Refused.{IsStuck}
 use Rattle.gtid_text.specs.declared.SourceId.{SourceId}
 use Rattle.gtid_text.specs.declared.Span.{Span}
@@ -134,7 +134,9 @@ behind_turn inside rest t r l f =
       bad = f.bad;
       text = l.text ∙ ap (λ (z : List ℕ). l.front ++ z) f.text ∙ sym (append_assoc l.front f.front f.bad);
       left = f.left;
+      met = f.met;
       on = (f.on.0, option_to_list t.0 ++ f.on.1, regroup f.on.0 ∙ ap (with_front (option_to_list t.0)) f.on.2);
+      due = f.due;
       stuck = λ more same. let a = f.stuck more same in (a.0, regroup more ∙ ap (with_front (option_to_list t.0)) a.1);
     }
 
@@ -175,7 +177,7 @@ refusing (suc k) inside rest r e =
     ]
 
 -- the refusal stands at the first token at which no continuation spells a set
-pub is_stuck : (text : List ℕ) (r : Refusal) → spans_in text ≡ Err r → IsStuck text r
+pub is_stuck : (text : List ℕ) (r : Refusal) → spans_in text ≡ Err r → IsStuck IsSetText text r
 unfolding spans_in left_of
 is_stuck text r e =
     let f = refusing (suc (length text)) None text r e in
@@ -184,6 +186,9 @@ is_stuck text r e =
       rest = f.bad;
       parts = f.text;
       left = f.left;
-      viable = (f.on.0, f.on.1, read_spells (f.front ++ f.on.0) f.on.1 f.on.2);
-      stuck = λ more spans same h. let a = f.stuck more same in let k = sym a.1 ∙ spells_read (f.front ++ more) spans h in absurd cc;
+      met = f.met;
+      more = f.on.0;
+      due = f.due;
+      viable = (f.on.1, read_spells (f.front ++ f.on.0) f.on.1 f.on.2);
+      stuck = λ more same spelled. let a = f.stuck more same in let k = sym a.1 ∙ spells_read (f.front ++ more) spelled.0 spelled.1 in absurd cc;
     }

@@ -200,7 +200,7 @@ nothing_spelled : (spans : List Span) → Spells [] spans → spans ≡ []
 unfolding spans_in turn_at
 nothing_spelled spans h = let k = spells_read [] spans h in cc
 
-gap_alone : (rest : List ℕ) → past is_blank rest ≡ [] → IsGap rest
+pub gap_alone : (rest : List ℕ) → past is_blank rest ≡ [] → IsGap rest
 gap_alone rest e = subst IsGap (sym (split rest ∙ ap (λ (z : List ℕ). run is_blank rest ++ z) e ∙ append-nil (run is_blank rest))) (gap_of rest)
 
 abbrev Known : List ℕ → (Option SourceId → List ℕ → Result (List Span) Refusal) → Type 0

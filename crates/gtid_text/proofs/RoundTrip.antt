@@ -3,9 +3,8 @@ use Rattle.std.proofs.Common.{◌≡◌, ℕ, zero, suc, ◌^◌, ◌<◌, ◌�
 use Rattle.std.specs.Prelude.{◌&&◌, option_map, decimal}
 use Rattle.std.specs.List.{list_all}
 use Rattle.std.specs.Int.{w128, from_be_bytes, to_be_bytes, bytes_high_first}
-use Rattle.std.proofs.lemmas.Fmt.{digits_decimal, digits_value-decimal, decimal_nonempty}
-use Rattle.std.proofs.lemmas.Bool.{le-leb, eqb-true}
-use Rattle.std.proofs.lemmas.List.{append-nil}
+use Rattle.std.proofs.lemmas.Fmt.{digits_value-decimal}
+use Rattle.std.proofs.lemmas.Bool.{le-leb}
 use Rattle.std.proofs.lemmas.List.Elements.{All-from_recursion}
 use Rattle.std.specs.List.{AllByRecursion}
 use Rattle.std.proofs.lemmas.Bool.Decides.{nat_tests}
@@ -14,10 +13,8 @@ use Rattle.uuid.proofs.TextLemmas.{by_index_length, nibble_small}
 use Rattle.uuid.proofs.RoundTrips.{parses_hyphenated_text}
 use Rattle.uuid.proofs.OrderLemmas.{from_be_bytes-to_be_bytes_16}
 use Rattle.gtid_text.specs.Scan.{is_uuid_byte, source_of, number_of}
-use Rattle.gtid_text.specs.Canonical.{source_text, numbers_text, span_text}
-use Rattle.gtid_text.specs.Grammar.{Number, Interval, Named, interval_text, named_text, IsNumber, IsInterval, Spells}
+use Rattle.gtid_text.specs.Canonical.{source_text}
 use Rattle.gtid_text.specs.declared.SourceId.{SourceId}
-use Rattle.gtid_text.specs.declared.Span.{Span}
 use Rattle.gtid_text.proofs.Tokens.{own, if_yes}
 
 list_all-more : (p : ℕ → Bool) (xs : List ℕ) (x : ℕ) → list_all p xs ≡ true → p x ≡ true → list_all p (xs ++ x ∷ []) ≡ true
@@ -66,47 +63,3 @@ source_again id fits =
 
 pub number_again : (n : ℕ) → 1 ≤ n → n ≤ 9223372036854775807 → number_of (decimal n) ≡ Some n
 number_again n low high = rw (digits_value-decimal own n (omega arith), le-leb _ _ low, le-leb _ _ high) refl
-
--- what a written interval is
-pub record FitsSpan (s : Span) : Type 0 where
-  pub bits : s.source < 2 ^ 128
-  pub low : 1 ≤ s.lo
-  pub ordered : s.lo ≤ s.hi
-  pub high : s.hi ≤ 9223372036854775807
-
-abbrev plain : ℕ → Number
-plain n = record { gap = []; digits = decimal n }
-
-plain_is : (n : ℕ) → 1 ≤ n → n ≤ 9223372036854775807 → IsNumber (plain n) n
-plain_is n low high = record { gap = refl; digits = digits_decimal own n (omega arith); some = decimal_nonempty n (omega arith); spells = number_again n low high }
-
-record Written (s : Span) : Type 0 where
-  i : Interval
-  text : numbers_text s.lo s.hi ≡ interval_text i
-  says : IsInterval i s.source s
-
-written : (s : Span) → FitsSpan s → Written s
-written s f =
-    elim (eqb s.lo s.hi) as (λ b. eqb s.lo s.hi ≡ b → Written s) [
-      | true ↦ λ h. record {
-        i = record { lo = plain s.lo; upper = None };
-        text = rw h (sym (append-nil (decimal s.lo)));
-        says = record { source = refl; lo = plain_is s.lo f.low (omega (arith, f.ordered, f.high)); upper = sym (eqb-true _ _ h) };
-      }
-      | false ↦ λ h. record {
-        i = record { lo = plain s.lo; upper = Some ([], plain s.hi) };
-        text = rw h refl;
-        says = record { source = refl; lo = plain_is s.lo f.low (omega (arith, f.ordered, f.high)); upper = (refl, plain_is s.hi (omega (arith, f.low, f.ordered)) f.high, f.ordered) };
-      }
-    ] refl
-
--- an interval that is written is read again
-pub span_again : (s : Span) → FitsSpan s → Spells (span_text s) (s ∷ [])
-span_again s f =
-    let w = written s f in
-    let n : Named = record { gap = []; uuid = source_text s.source; first = ([], w.i); more = [] } in
-    record {
-      elements = (Some n, []) ∷ [];
-      text_is = ap (λ (t : List ℕ). source_text s.source ++ 58 ∷ t) (w.text ∙ sym (append-nil (interval_text w.i))) ∙ sym (append-nil (named_text n));
-      says = (s ∷ [], [], refl, (refl, record { id = s.source; gap = refl; bytes = source_bytes s.source; uuid = source_again s.source f.bits; intervals = (refl, w.says, tt) }), refl);
-    }

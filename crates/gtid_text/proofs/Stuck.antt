@@ -8,14 +8,16 @@ use Rattle.std.proofs.lemmas.List.{append-nil, length-append}
 use Rattle.gtid_text.specs.Scan.{is_blank, is_uuid_byte, run, past, ◌>>=◌, refuse, source_of, found_source, source_at, number_of, found_number, number_at, colon_at}
 use Rattle.gtid_text.specs.Reading.{span, ordered, upper_at, interval_at, separator_at, element_at, turn_at, with_front}
 use Rattle.gtid_text.specs.Grammar.{Number, Interval, Named, number_text, interval_text, named_text, IsGap, IsNumber, IsInterval, IsNamed}
-use Rattle.gtid_text.specs.Refused.{SameToken}
+use Rattle.gtid_text.specs.Refused.{IsDue, IsMet, SameToken}
 use Rattle.gtid_text.specs.declared.SourceId.{SourceId}
 use Rattle.gtid_text.specs.declared.Span.{Span}
 use Rattle.gtid_text.specs.declared.scan.Kind.TheVariants as kinds
 use Rattle.gtid_text.specs.declared.scan.Refusal.{Refusal}
 use Rattle.gtid_text.proofs.Tokens.{run_passes}
 use Rattle.gtid_text.proofs.Turns.{chosen, run_past, number_ok, found_source_ok, some_is, left_of, left_of-end}
-use Rattle.gtid_text.proofs.Spelled.{both, starts, starts_gap, starts_blank, past_cut, past_front, number_reads, source_reads, interval_reads_at, NoDash, is_dash, is_comma, past_gap, ends_last, turn_end, uuid_some, uuid_no_comma, reads_intervals, named_reads}
+use Rattle.gtid_text.specs.Canonical.{source_text}
+use Rattle.gtid_text.proofs.RoundTrip.{source_bytes, source_again}
+use Rattle.gtid_text.proofs.Spelled.{both, run_front, starts, starts_gap, starts_blank, past_cut, past_front, number_reads, source_reads, interval_reads_at, NoDash, is_dash, is_comma, ends_last, turn_end, uuid_some, uuid_no_comma, reads_intervals, named_reads}
 use Rattle.gtid_text.proofs.Found.{past_starts, gap_of, split, number_found, interval_found}
 
 abbrev refused : {A : Type 0} → Refusal → Result A Refusal
@@ -31,41 +33,47 @@ starts_take : (p : ℕ → Bool) (xs : List ℕ) → starts p xs ≡ starts p (t
 starts_take p [] = refl
 starts_take p (x ∷ xs) = refl
 
-same_starts : (p : ℕ → Bool) (a b : List ℕ) → take 1 a ≡ take 1 b → starts p a ≡ starts p b
+pub same_starts : (p : ℕ → Bool) (a b : List ℕ) → take 1 a ≡ take 1 b → starts p a ≡ starts p b
 same_starts p a b e = starts_take p a ∙ ap (starts p) e ∙ sym (starts_take p b)
 
-starts_behind : (p : ℕ → Bool) (g a b : List ℕ) → take 1 a ≡ take 1 b → starts p (g ++ a) ≡ starts p (g ++ b)
+pub starts_behind : (p : ℕ → Bool) (g a b : List ℕ) → take 1 a ≡ take 1 b → starts p (g ++ a) ≡ starts p (g ++ b)
 starts_behind p [] a b e = same_starts p a b e
 starts_behind p (x ∷ xs) a b e = refl
 
 -- what stands behind blanks, where it begins with none
-past_same : (g more bad : List ℕ) → IsGap g → take 1 more ≡ take 1 (past is_blank bad) → past is_blank (g ++ more) ≡ more
+pub past_same : (g more bad : List ℕ) → IsGap g → take 1 more ≡ take 1 (past is_blank bad) → past is_blank (g ++ more) ≡ more
 past_same g more bad gap e = past_front is_blank g more gap ∙ past_cut is_blank more (same_starts is_blank more (past is_blank bad) e ∙ past_starts is_blank bad)
 
 -- ---- a number
 
 -- a number is refused alike, by its digits
-record NumberErr (y : List ℕ) (r : Refusal) : Type 0 where
-  left : r.left ≡ length y
-  again : (more : List ℕ) → SameToken r.kind more y → (e : Refusal) × (number_at more ≡ Err e)
+pub record NumberErr (y : List ℕ) (r : Refusal) : Type 0 where
+  pub left : r.left ≡ length y
+  pub met : IsMet r.kind y
+  pub due : (more : List ℕ) → 0 < length (run is_ascii_digit more) → IsDue r.kind more
+  pub again : (more : List ℕ) → SameToken r.kind more y → (e : Refusal) × (number_at more ≡ Err e)
 
 found_number_err : (o : Option ℕ) (y after : List ℕ) (r : Refusal) → found_number o y after ≡ Err r → (o ≡ None) × ((record { kind = kinds.NumberRange; left = length y }) ≡ r)
 found_number_err None y after r e = (refl, cc)
 found_number_err (Some n) y after r e = absurd cc
 
-number_err : (y : List ℕ) (r : Refusal) → number_at y ≡ Err r → NumberErr y r
+pub number_err : (y : List ℕ) (r : Refusal) → number_at y ≡ Err r → NumberErr y r
 number_err y r e =
     elim (chosen (eqb (length (run is_ascii_digit y)) 0) (refuse kinds.BadNumber y) (found_number (number_of (run is_ascii_digit y)) y (past is_ascii_digit y)) (Err r) e) [
       | inl p ↦
           let k : (record { kind = kinds.BadNumber; left = length y }) ≡ r = cc in
           subst (NumberErr y) k (record {
             left = refl;
+            met = eqb-true (length (run is_ascii_digit y)) 0 p.0;
+            due = λ more some. some;
             again = λ more same. (record { kind = kinds.BadNumber; left = length more }, rw (same.runs, p.0) refl);
           })
       | inr p ↦
           let f = found_number_err (number_of (run is_ascii_digit y)) y (past is_ascii_digit y) r p.1 in
           subst (NumberErr y) f.1 (record {
             left = refl;
+            met = (let ne = eqb-false (length (run is_ascii_digit y)) 0 p.0 in omega arith, f.0);
+            due = λ more some. some;
             again = λ more same. (record { kind = kinds.NumberRange; left = length more }, rw (same.runs, p.0, f.0) refl);
           })
     ]
@@ -77,7 +85,9 @@ pub record Refusing (inside : Option SourceId) (rest : List ℕ) (r : Refusal) :
   pub bad : List ℕ
   pub text : rest ≡ front ++ bad
   pub left : r.left ≡ length bad
+  pub met : IsMet r.kind bad
   pub on : (more : List ℕ) × (spans : List Span) × (left_of inside (front ++ more) ≡ Ok spans)
+  pub due : IsDue r.kind on.0
   pub stuck : (more : List ℕ) → SameToken r.kind more bad → (e : Refusal) × (left_of inside (front ++ more) ≡ Err e)
 
 left_of_err : (inside : Option SourceId) (rest : List ℕ) (e : Refusal) → turn_at inside rest ≡ Err e → left_of inside rest ≡ Err e
@@ -107,7 +117,7 @@ single id i s gap h g = reads_intervals id i s [] [] gap [] h tt (ends_last gap 
 single_bare : (id : SourceId) (i : Interval) (s : Span) → IsInterval i id s → left_of (Some id) (interval_text i) ≡ Ok (s ∷ [])
 single_bare id i s h = ap (left_of (Some id)) (sym (append-nil (interval_text i))) ∙ single id i s [] h refl
 
-one_is : (gap : List ℕ) → IsGap gap → IsNumber (record { gap = gap; digits = codes "1" }) 1
+pub one_is : (gap : List ℕ) → IsGap gap → IsNumber (record { gap = gap; digits = codes "1" }) 1
 one_is gap g = record { gap = g; digits = refl; some = omega arith; spells = refl }
 
 abbrev greatest : ℕ
@@ -138,7 +148,9 @@ refusing_low id rest r e =
       bad = y;
       text = split rest;
       left = n.left;
+      met = n.met;
       on = (codes "1", span id 1 1 ∷ [], ap (left_of (Some id)) (sym (append-nil (g ++ codes "1"))) ∙ single_bare id i (span id 1 1) (record { source = refl; lo = one_is g (gap_of rest); upper = refl }));
+      due = n.due (codes "1") (omega arith);
       stuck = λ more same.
           let a = n.again more same in
           (a.0, left_of_err (Some id) (g ++ more) a.0 (turn_interval_err id (g ++ more) a.0 (interval_number_err id (g ++ more) a.0 (ap number_at (past_same g more rest (gap_of rest) same.first) ∙ a.1))));
@@ -149,6 +161,8 @@ record UpperErr (id : SourceId) (lo : ℕ) (y : List ℕ) (r : Refusal) : Type 0
   bs : List ℕ
   dash : y ≡ 45 ∷ bs
   left : r.left ≡ length (past is_blank bs)
+  met : IsMet r.kind (past is_blank bs)
+  due : (more : List ℕ) → 0 < length (run is_ascii_digit more) → IsDue r.kind more
   again : (g more : List ℕ) → IsGap g → SameToken r.kind more (past is_blank bs) → (e : Refusal) × (upper_at id lo (45 ∷ (g ++ more)) ≡ Err e)
 
 upper_number_err : (id : SourceId) (lo : ℕ) (bs : List ℕ) (e : Refusal) → number_at (past is_blank bs) ≡ Err e → upper_at id lo (45 ∷ bs) ≡ Err e
@@ -186,6 +200,8 @@ upper_err id lo (b ∷ bs) r e =
                   bs = bs;
                   dash = ap (λ (m : ℕ). m ∷ bs) c;
                   left = n.left;
+                  met = n.met;
+                  due = n.due;
                   again = λ g more gap same. let a = n.again more same in (a.0, upper_number_err id lo (g ++ more) a.0 (ap number_at (past_same g more bs gap same.first) ∙ a.1));
                 }
             | inr q ↦
@@ -194,6 +210,8 @@ upper_err id lo (b ∷ bs) r e =
                   bs = bs;
                   dash = ap (λ (m : ℕ). m ∷ bs) c;
                   left = refl;
+                  met = (q.0.0, (number_ok y q.0 q.1).number);
+                  due = λ more some. some;
                   again = λ g more gap same. upper_ordered_err id lo (g ++ more) (q.0.0, past is_ascii_digit more) (ap number_at (past_same g more bs gap same.first) ∙ number_again y more q.0 q.1 same.runs) o.0;
                 })
           ]
@@ -216,7 +234,9 @@ refusing_upper id rest lo r e h =
       bad = y;
       text = f.text ∙ ap (λ (z : List ℕ). number_text f.n ++ z) (split lo.1 ∙ ap (λ (z : List ℕ). g2 ++ z) (u.dash ∙ ap (λ (z : List ℕ). 45 ∷ z) (split u.bs))) ∙ sym (regroup y);
       left = u.left;
+      met = u.met;
       on = (codes "9223372036854775807", span id lo.0 greatest ∷ [], ap (left_of (Some id)) (regroup (codes "9223372036854775807")) ∙ single_bare id i (span id lo.0 greatest) says);
+      due = u.due (codes "9223372036854775807") (omega arith);
       stuck = λ more same.
           let tail = g2 ++ 45 ∷ (g3 ++ more) in
           let a = u.again g3 more (gap_of u.bs) same in
@@ -243,7 +263,7 @@ unfolding separator_at
 separator_stray id [] some c d = absurd (omega arith)
 separator_stray id (b ∷ bs) some c d = rw (c, d) refl
 
-same_some : (a b : List ℕ) → take 1 a ≡ take 1 b → 0 < length b → 0 < length a
+pub same_some : (a b : List ℕ) → take 1 a ≡ take 1 b → 0 < length b → 0 < length a
 same_some [] [] e some = absurd (omega arith)
 same_some [] (y ∷ ys) e some = absurd cc
 same_some (x ∷ xs) b e some = omega arith
@@ -263,7 +283,9 @@ refusing_separator id rest x r e h =
       bad = y;
       text = f.text ∙ ap (λ (z : List ℕ). interval_text f.i ++ z) (split f.tail) ∙ sym (append_assoc (interval_text f.i) g y);
       left = ap length f.left;
+      met = subst (λ (z : List ℕ). 0 < length z) f.left s.0;
       on = ([], x.0 ∷ [], ap (left_of (Some id)) (append-nil (interval_text f.i ++ g)) ∙ single id f.i x.0 g f.says (gap_of f.tail));
+      due = refl;
       stuck = λ more same.
           let bad : Refusal = record { kind = kinds.Stray; left = length more } in
           let cut : starts is_ascii_digit (g ++ more) ≡ false = starts_behind is_ascii_digit g more y same.first ∙ ap (starts is_ascii_digit) (sym (split f.tail)) ∙ f.cut in
@@ -307,7 +329,7 @@ unfolding element_at
 element_colon_err [] after id e some c h k = absurd (omega arith)
 element_colon_err (b ∷ bs) after id e some c h k = rw (c, h, k) refl
 
-found_source_err : (o : Option SourceId) (y after : List ℕ) (r : Refusal) → found_source o y after ≡ Err r → (o ≡ None) × ((record { kind = kinds.BadUuid; left = length y }) ≡ r)
+pub found_source_err : (o : Option SourceId) (y after : List ℕ) (r : Refusal) → found_source o y after ≡ Err r → (o ≡ None) × ((record { kind = kinds.BadUuid; left = length y }) ≡ r)
 found_source_err None y after r e = (refl, cc)
 found_source_err (Some id) y after r e = absurd cc
 
@@ -316,12 +338,27 @@ refusing_source rest r some c e =
     let y = past is_blank rest in
     let g = run is_blank rest in
     let f = found_source_err (source_of (run is_uuid_byte y)) y (past is_uuid_byte y) r e in
+    let id : SourceId = 0 in
+    let zero = source_text id in
+    let bytes = source_bytes id in
+    let names = source_again id (omega arith) in
+    let i : Interval = record { lo = record { gap = []; digits = codes "1" }; upper = None } in
+    let n : Named = record { gap = g; uuid = zero; first = ([], i); more = [] } in
+    let named : IsNamed n (span id 1 1 ∷ []) = record { id = id; gap = gap_of rest; bytes = bytes; uuid = names; intervals = (refl, record { source = refl; lo = one_is [] refl; upper = refl }, tt) } in
     subst (Refusing None rest) f.1 (record {
       front = g;
       bad = y;
       text = split rest;
       left = refl;
-      on = ([], [], ap (left_of None) (append-nil g) ∙ left_of-end None g (turn_end g (past_gap g (gap_of rest))));
+      met = f.0;
+      on = (
+        zero ++ 58 ∷ codes "1",
+        span id 1 1 ∷ [],
+        ap (left_of None) (ap (λ (z : List ℕ). g ++ (zero ++ z)) (sym (append-nil (58 ∷ codes "1"))) ∙ sym (append-nil (named_text n)))
+            ∙ named_reads n (span id 1 1 ∷ []) [] [] named (ends_last [] refl)
+            ∙ ap (with_front (span id 1 1 ∷ [])) (left_of-end None [] (turn_end [] refl)),
+      );
+      due = (id, ap source_of (run_front is_uuid_byte zero (58 ∷ codes "1") bytes refl) ∙ names);
       stuck = λ more same.
           let bad : Refusal = record { kind = kinds.BadUuid; left = length more } in
           let left : past is_blank (g ++ more) ≡ more = past_same g more rest (gap_of rest) same.first in
@@ -331,7 +368,7 @@ refusing_source rest r some c e =
           (bad, left_of_err None (g ++ more) bad (turn_element_err (g ++ more) bad (omega (arith, long, ap length left)) (ap element_at left ∙ found)));
     })
 
-colon_err : (y : List ℕ) (r : Refusal) → colon_at y ≡ Err r → (starts (λ b. eqb b 58) y ≡ false) × ((record { kind = kinds.NoInterval; left = length y }) ≡ r)
+pub colon_err : (y : List ℕ) (r : Refusal) → colon_at y ≡ Err r → (starts (λ b. eqb b 58) y ≡ false) × ((record { kind = kinds.NoInterval; left = length y }) ≡ r)
 colon_err [] r e = (refl, cc)
 colon_err (b ∷ bs) r e =
     elim (chosen (eqb b 58) (Ok bs) (refuse kinds.NoInterval (b ∷ bs)) (Err r) e) [
@@ -339,7 +376,7 @@ colon_err (b ∷ bs) r e =
       | inr p ↦ (p.0, cc)
     ]
 
-colon_none : (y : List ℕ) → starts (λ b. eqb b 58) y ≡ false → colon_at y ≡ Err (record { kind = kinds.NoInterval; left = length y })
+pub colon_none : (y : List ℕ) → starts (λ b. eqb b 58) y ≡ false → colon_at y ≡ Err (record { kind = kinds.NoInterval; left = length y })
 colon_none [] e = refl
 colon_none (b ∷ bs) e = rw e refl
 
@@ -365,6 +402,7 @@ refusing_colon rest after id r e h =
       bad = y;
       text = split rest ∙ ap (λ (z : List ℕ). g ++ z) (sym (run_past is_uuid_byte xs) ∙ ap (λ (z : List ℕ). uuid ++ z) (s.1 ∙ split after)) ∙ sym (regroup y);
       left = refl;
+      met = tt;
       on = (
         58 ∷ codes "1",
         span id 1 1 ∷ [],
@@ -372,6 +410,7 @@ refusing_colon rest after id r e h =
             ∙ named_reads n (span id 1 1 ∷ []) [] [] named (ends_last [] refl)
             ∙ ap (with_front (span id 1 1 ∷ [])) (left_of-end None [] (turn_end [] refl)),
       );
+      due = refl;
       stuck = λ more same.
           let bad : Refusal = record { kind = kinds.NoInterval; left = length more } in
           let tail = g2 ++ more in

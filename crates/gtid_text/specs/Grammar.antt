@@ -4,6 +4,7 @@ use Rattle.std.specs.List.{list_all, flat_map}
 use Rattle.std.specs.Char.{is_ascii_digit}
 use Rattle.gtid_text.specs.Scan.{is_blank, is_uuid_byte, source_of, number_of}
 use Rattle.gtid_text.specs.declared.SourceId.{SourceId}
+use Rattle.gtid_text.specs.declared.Gtid.{Gtid}
 use Rattle.gtid_text.specs.declared.Span.{Span}
 
 -- ---- what is written
@@ -105,3 +106,41 @@ pub record Spells (text : List ℕ) (spans : List Span) : Type 0 where
   pub elements : List Element
   pub text_is : text ≡ set_text elements
   pub says : AreElements elements spans
+
+-- a text that spells some set
+abbrev pub IsSetText : List ℕ → Type 0
+IsSetText text = (spans : List Span) × Spells text spans
+
+-- ---- one source, one GTID
+
+-- bytes of a UUID that names this source
+pub record IsUuid (uuid : List ℕ) (id : SourceId) : Type 0 where
+  pub bytes : list_all is_uuid_byte uuid ≡ true
+  pub names : source_of uuid ≡ Some id
+
+-- a UUID between blanks
+pub record SpellsSource (text : List ℕ) (id : SourceId) : Type 0 where
+  pub gap : List ℕ
+  pub uuid : List ℕ
+  pub after : List ℕ
+  pub text_is : text ≡ gap ++ (uuid ++ after)
+  pub gaps : IsGap gap × IsGap after
+  pub is_uuid : IsUuid uuid id
+
+abbrev pub IsSourceText : List ℕ → Type 0
+IsSourceText text = (id : SourceId) × SpellsSource text id
+
+-- a UUID, a colon and a number, with blanks around each
+pub record SpellsGtid (text : List ℕ) (gtid : Gtid) : Type 0 where
+  pub gap : List ℕ
+  pub uuid : List ℕ
+  pub behind : List ℕ
+  pub number : Number
+  pub after : List ℕ
+  pub text_is : text ≡ gap ++ (uuid ++ (behind ++ 58 ∷ (number_text number ++ after)))
+  pub gaps : IsGap gap × IsGap behind × IsGap after
+  pub is_uuid : IsUuid uuid gtid.source
+  pub is_number : IsNumber number gtid.number
+
+abbrev pub IsGtidText : List ℕ → Type 0
+IsGtidText text = (gtid : Gtid) × SpellsGtid text gtid

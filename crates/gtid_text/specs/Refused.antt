@@ -1,10 +1,8 @@
--- Where a set text is refused: at the first token at which no continuation spells a set.
-use Rattle.std.specs.Prelude.{◌≡◌, ◌⊎◌, ℕ, Bool, false, List, ◌++◌, length, take}
+-- Where a text is refused: at the first token at which no continuation is one of the texts that are read.
+use Rattle.std.specs.Prelude.{◌≡◌, ◌⊎◌, ℕ, ◌<◌, Bool, false, List, [], ◌∷◌, ◌++◌, length, take, Some, None}
 use Rattle.std.specs.Char.{is_ascii_digit}
-use Rattle.gtid_text.specs.Scan.{is_uuid_byte, run}
+use Rattle.gtid_text.specs.Scan.{is_uuid_byte, run, source_of, number_of}
 use Rattle.gtid_text.specs.Reading.{fault_in}
-use Rattle.gtid_text.specs.Grammar.{Spells}
-use Rattle.gtid_text.specs.declared.Span.{Span}
 use Rattle.gtid_text.specs.declared.scan.Kind.{Kind}
 use Rattle.gtid_text.specs.declared.scan.Kind.TheVariants as kinds
 use Rattle.gtid_text.specs.declared.scan.Refusal.{Refusal}
@@ -20,20 +18,45 @@ token_byte kinds.Reversed = is_ascii_digit
 token_byte kinds.NoInterval = λ b. false
 token_byte kinds.Stray = λ b. false
 
+-- what is due where a refusal of this kind stands: a UUID, a colon, digits, or the end
+abbrev pub IsDue : Kind → List ℕ → Type 0
+IsDue kinds.BadUuid more = (id : ℕ) × (source_of (run is_uuid_byte more) ≡ Some id)
+IsDue kinds.NoInterval more = take 1 more ≡ 58 ∷ []
+IsDue kinds.BadNumber more = 0 < length (run is_ascii_digit more)
+IsDue kinds.NumberRange more = 0 < length (run is_ascii_digit more)
+IsDue kinds.Reversed more = 0 < length (run is_ascii_digit more)
+IsDue kinds.Stray more = more ≡ []
+
+-- what stands there in its place: no UUID, no digits, a number that no transaction has, or one that some transaction has
+abbrev pub IsMet : Kind → List ℕ → Type 0
+IsMet kinds.BadUuid rest = source_of (run is_uuid_byte rest) ≡ None
+IsMet kinds.NoInterval rest = Unit {0}
+IsMet kinds.BadNumber rest = length (run is_ascii_digit rest) ≡ 0
+IsMet kinds.NumberRange rest = (0 < length (run is_ascii_digit rest)) × (number_of (run is_ascii_digit rest) ≡ None)
+IsMet kinds.Reversed rest = (n : ℕ) × (number_of (run is_ascii_digit rest) ≡ Some n)
+IsMet kinds.Stray rest = 0 < length rest
+
 -- two texts begin with the same token; a token that is no run is one byte, or the end
 pub record SameToken (kind : Kind) (a b : List ℕ) : Type 0 where
   pub runs : run (token_byte kind) a ≡ run (token_byte kind) b
   pub first : take 1 a ≡ take 1 b
 
--- The bytes before the refusal can be gone on with, and with its token they can't.
-pub record IsStuck (text : List ℕ) (r : Refusal) : Type 0 where
+-- What stands before the refusal can be gone on with, by what is due; with the token that stands there it can't.
+pub record IsStuck (IsRead : List ℕ → Type 0) (text : List ℕ) (r : Refusal) : Type 0 where
   pub front : List ℕ
   pub rest : List ℕ
   pub parts : text ≡ front ++ rest
   pub left : r.left ≡ length rest
-  pub viable : (more : List ℕ) × (spans : List Span) × Spells (front ++ more) spans
-  pub stuck : (more : List ℕ) (spans : List Span) → SameToken r.kind more rest → Spells (front ++ more) spans → ⊥
+  pub met : IsMet r.kind rest
+  pub more : List ℕ
+  pub due : IsDue r.kind more
+  pub viable : IsRead (front ++ more)
+  pub stuck : (other : List ℕ) → SameToken r.kind other rest → IsRead (front ++ other) → ⊥
 
--- what a fault says of the text
-abbrev pub Refuses : TextFault → List ℕ → Type 0
-Refuses fault text = (fault ≡ faults.Memory) ⊎ ((r : Refusal) × (fault ≡ fault_in (length text) r) × IsStuck text r)
+-- a fault says what is wrong with the text, and at which byte
+abbrev pub Refuses : (List ℕ → Type 0) → TextFault → List ℕ → Type 0
+Refuses IsRead fault text = (r : Refusal) × (fault ≡ fault_in (length text) r) × IsStuck IsRead text r
+
+-- memory ran out, or the text is refused
+abbrev pub FailsText : (List ℕ → Type 0) → TextFault → List ℕ → Type 0
+FailsText IsRead fault text = (fault ≡ faults.Memory) ⊎ Refuses IsRead fault text

@@ -1,7 +1,8 @@
-ghost use Rattle.std.specs.Prelude.{◌≡◌, ◌++◌, option_map, option_to_list, length, List, Ok, OnOk, IfOk, IfErr};
+ghost use Rattle.std.specs.Prelude.{◌≡◌, ℕ, ◌++◌, option_map, option_to_list, length, List, Ok, OnOk, IfOk, IfErr};
 ghost use Rattle.gtid_text.specs.Scan.{Sees};
-ghost use Rattle.gtid_text.specs.Grammar.{Spells};
-ghost use Rattle.gtid_text.specs.Refused.{Refuses};
+ghost use Rattle.gtid_text.specs.Grammar.{Spells, IsSetText, SpellsSource, IsSourceText, SpellsGtid, IsGtidText};
+ghost use Rattle.gtid_text.specs.Refused.{Refuses, FailsText};
+ghost use Rattle.gtid_text.specs.declared.Gtid.{Gtid};
 ghost use Rattle.gtid_text.specs.declared.Span.{Span};
 ghost use Rattle.gtid_text.specs.declared.set_text.ScanError.TheVariants.{Memory, Refused};
 ghost use Rattle.gtid_text.specs.Reading.{fault_in, source_in, gtid_in, upper_at, interval_at, separator_at, element_at, turn_at, spans_in, Gives, answer, GivesText};
@@ -207,8 +208,7 @@ fn whole_spans(alloc: Global, bytes: &[u8]) -> Result<Vec<Span>, ScanError>
     }
 }
 
-/// The source that a text names, with blanks around it.
-pub fn parse_source(text: &str) -> Result<SourceId, TextFault>
+fn source_of_text(text: &str) -> Result<SourceId, TextFault>
     ensures { result ≡ answer (length text.now) (source_in text.now) }
 {
     match whole_source(text.as_bytes()) {
@@ -217,14 +217,41 @@ pub fn parse_source(text: &str) -> Result<SourceId, TextFault>
     }
 }
 
-/// The GTID that a text names, with blanks between its tokens.
-pub fn parse_gtid(text: &str) -> Result<Gtid, TextFault>
+fn gtid_of_text(text: &str) -> Result<Gtid, TextFault>
     ensures { result ≡ answer (length text.now) (gtid_in text.now) }
 {
     match whole_gtid(text.as_bytes()) {
         Ok(gtid) => Ok(gtid),
         Err(refusal) => Err(refusal.in_text(text.len())),
     }
+}
+
+/// The source that a text names, with blanks around it.
+pub fn parse_source(text: &str) -> Result<SourceId, TextFault>
+    // What is read is spelled so.
+    ensures found { IfOk result (λ id. SpellsSource text.now id) }
+    // What is spelled so is read.
+    ensures only { (id : ℕ) → SpellsSource text.now id → result ≡ Ok id }
+    // It is refused at the first token at which no continuation spells a source.
+    ensures refused { IfErr result (λ fault. Refuses IsSourceText fault text.now) }
+    // Which refusal it is.
+    ensures exact { result ≡ answer (length text.now) (source_in text.now) }
+{
+    source_of_text(text)
+}
+
+/// The GTID that a text names, with blanks between its tokens.
+pub fn parse_gtid(text: &str) -> Result<Gtid, TextFault>
+    // What is read is spelled so.
+    ensures found { IfOk result (λ gtid. SpellsGtid text.now gtid) }
+    // What is spelled so is read.
+    ensures only { (gtid : Gtid) → SpellsGtid text.now gtid → result ≡ Ok gtid }
+    // It is refused at the first token at which no continuation spells a GTID.
+    ensures refused { IfErr result (λ fault. Refuses IsGtidText fault text.now) }
+    // Which refusal it is.
+    ensures exact { result ≡ answer (length text.now) (gtid_in text.now) }
+{
+    gtid_of_text(text)
 }
 
 fn spans_of(alloc: Global, text: &str) -> Result<Vec<Span>, TextFault>
@@ -244,7 +271,7 @@ pub fn parse_spans(alloc: Global, text: &str) -> Result<Vec<Span>, TextFault>
     // What is spelled so is read, unless memory runs out.
     ensures only { (spans : List Span) → Spells text.now spans → GivesText (λ v. v.items) result (length text.now) (Ok spans) }
     // It is refused at the first token at which no continuation spells a set.
-    ensures refused { IfErr result (λ fault. Refuses fault text.now) }
+    ensures refused { IfErr result (λ fault. FailsText IsSetText fault text.now) }
     // Which refusal it is.
     ensures exact { GivesText (λ v. v.items) result (length text.now) (spans_in text.now) }
 {

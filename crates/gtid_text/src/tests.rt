@@ -1,60 +1,164 @@
 use super::*;
 use std::test::*;
 
-const A: &str = "aaaaaaaa-aaaa-aaaa-aaaa-aaaaaaaaaaaa";
+const A: SourceId = SourceId {
+    bits: 0xaaaaaaaa_aaaa_aaaa_aaaa_aaaaaaaaaaaa,
+};
 
-fn answer(
-    alloc: std::alloc::Global,
-    tail: &str,
-) -> Result<Result<usize, TextFault>, std::alloc::AllocError> {
-    let mut text = String::from_str(alloc, A)?;
-    text.push_str(tail)?;
-    Ok(match parse_spans(alloc, text.as_str()) {
-        Ok(spans) => Ok(spans.len()),
-        Err(fault) => Err(fault),
-    })
+const B: SourceId = SourceId {
+    bits: 0xbbbbbbbb_bbbb_bbbb_bbbb_bbbbbbbbbbbb,
+};
+
+const fn span(source: SourceId, lo: u64, hi: u64) -> Span {
+    Span { source, lo, hi }
 }
 
 #[test]
-fn rows(rt: HostRuntime) -> Result<(), Fail> {
-    let a = rt.alloc();
-    assert_eq!(rt; answer(a, ":007")?, Ok(1));
-    assert_eq!(rt; answer(a, ":1-2:3")?, Ok(2));
-    assert_eq!(rt; answer(a, " : 1 - 2")?, Ok(1));
-    assert_eq!(rt; answer(a, ":1 B:1")?, Err(TextFault::Stray(39)));
-    assert_eq!(rt; answer(a, ":1x")?, Err(TextFault::Stray(38)));
-    assert_eq!(rt; answer(a, ":1-")?, Err(TextFault::BadNumber(39)));
-    assert_eq!(rt; answer(a, ":0")?, Err(TextFault::NumberRange(37)));
-    assert_eq!(rt;
-        answer(a, ":9223372036854775808")?,
-        Err(TextFault::NumberRange(37))
-    );
-    assert_eq!(rt;
-        answer(a, ":99999999999999999999999")?,
-        Err(TextFault::NumberRange(37))
-    );
-    assert_eq!(rt; answer(a, ":3-2")?, Err(TextFault::Reversed(39)));
-    assert_eq!(rt; answer(a, "")?, Err(TextFault::NoInterval(36)));
-    assert_eq!(rt; answer(a, "a:1")?, Err(TextFault::BadUuid(0)));
-    assert_eq!(rt; answer(a, ":1,,")?, Ok(1));
+fn sets_that_are_read(rt: HostRuntime) -> Result<(), Fail> {
+    let rows: [(&str, &[Span]); 9] = [
+        ("", &[]),
+        (",,", &[]),
+        (" \t\r\n", &[]),
+        ("aaaaaaaa-aaaa-aaaa-aaaa-aaaaaaaaaaaa:007", &[span(A, 7, 7)]),
+        (
+            "aaaaaaaa-aaaa-aaaa-aaaa-aaaaaaaaaaaa:1-2:3",
+            &[span(A, 1, 2), span(A, 3, 3)],
+        ),
+        (
+            "AAAAAAAA-aaaa-AAAA-aaaa-aaaaaaaaAAAA : 1 - 2",
+            &[span(A, 1, 2)],
+        ),
+        (
+            "aaaaaaaa-aaaa-aaaa-aaaa-aaaaaaaaaaaa:9223372036854775807",
+            &[span(A, 9223372036854775807, 9223372036854775807)],
+        ),
+        (
+            "aaaaaaaa-aaaa-aaaa-aaaa-aaaaaaaaaaaa:1-3,\nbbbbbbbb-bbbb-bbbb-bbbb-bbbbbbbbbbbb:7",
+            &[span(A, 1, 3), span(B, 7, 7)],
+        ),
+        (
+            "bbbbbbbb-bbbb-bbbb-bbbb-bbbbbbbbbbbb:1, aaaaaaaa-aaaa-aaaa-aaaa-aaaaaaaaaaaa:3:1-2,,aaaaaaaa-aaaa-aaaa-aaaa-aaaaaaaaaaaa:2-5",
+            &[span(B, 1, 1), span(A, 3, 3), span(A, 1, 2), span(A, 2, 5)],
+        ),
+    ];
+    for (text, spans) in rows {
+        let read = parse_spans(rt.alloc(), text)?;
+        assert_eq!(rt; read.as_slice(), spans, "{text}");
+    }
     Ok(())
 }
 
 #[test]
-fn short_rows(rt: HostRuntime) -> Result<(), Fail> {
-    let a = rt.alloc();
-    assert_eq!(rt; parse_spans(a, "x").err(), Some(TextFault::BadUuid(0)));
-    assert_eq!(rt; parse_spans(a, " ,, ").ok().ok_or("blanks")?.len(), 0);
+fn sets_that_are_refused(rt: HostRuntime) {
+    let rows = [
+        ("x", TextFault::BadUuid(0)),
+        (
+            "aaaaaaaa-aaaa-aaaa-aaaa-aaaaaaaaaaaaa:1",
+            TextFault::BadUuid(0),
+        ),
+        ("aaaaaaaaaaaaaaaaaaaaaaaaaaaaaaaa:1", TextFault::BadUuid(0)),
+        (
+            "aaaaaaaa-aaaa-aaaa-aaaa-aaaaaaaaaaaa:1,-",
+            TextFault::BadUuid(39),
+        ),
+        (
+            "aaaaaaaa-aaaa-aaaa-aaaa-aaaaaaaaaaaa",
+            TextFault::NoInterval(36),
+        ),
+        (
+            "aaaaaaaa-aaaa-aaaa-aaaa-aaaaaaaaaaaag",
+            TextFault::NoInterval(36),
+        ),
+        (
+            "aaaaaaaa-aaaa-aaaa-aaaa-aaaaaaaaaaaa:",
+            TextFault::BadNumber(37),
+        ),
+        (
+            "aaaaaaaa-aaaa-aaaa-aaaa-aaaaaaaaaaaa:1-",
+            TextFault::BadNumber(39),
+        ),
+        (
+            "aaaaaaaa-aaaa-aaaa-aaaa-aaaaaaaaaaaa:0",
+            TextFault::NumberRange(37),
+        ),
+        (
+            "aaaaaaaa-aaaa-aaaa-aaaa-aaaaaaaaaaaa:9223372036854775808",
+            TextFault::NumberRange(37),
+        ),
+        (
+            "aaaaaaaa-aaaa-aaaa-aaaa-aaaaaaaaaaaa:99999999999999999999999",
+            TextFault::NumberRange(37),
+        ),
+        (
+            "aaaaaaaa-aaaa-aaaa-aaaa-aaaaaaaaaaaa:5-4",
+            TextFault::Reversed(39),
+        ),
+        (
+            "aaaaaaaa-aaaa-aaaa-aaaa-aaaaaaaaaaaa:1x",
+            TextFault::Stray(38),
+        ),
+        (
+            "aaaaaaaa-aaaa-aaaa-aaaa-aaaaaaaaaaaa:1 bbbbbbbb-bbbb-bbbb-bbbb-bbbbbbbbbbbb:1",
+            TextFault::Stray(39),
+        ),
+    ];
+    for (text, fault) in rows {
+        assert_eq!(rt; parse_spans(rt.alloc(), text).err(), Some(fault), "{text}");
+    }
+}
+
+#[test]
+fn one_source_and_one_gtid(rt: HostRuntime) {
+    let text = " aaaaaaaa-aaaa-aaaa-aaaa-aaaaaaaaaaaa ";
+    assert_eq!(rt; parse_source(text), Ok(A));
+    assert_eq!(rt; parse_source(""), Err(TextFault::BadUuid(0)));
+    assert_eq!(rt; parse_source("  "), Err(TextFault::BadUuid(2)));
+    assert_eq!(rt;
+        parse_source("aaaaaaaa-aaaa-aaaa-aaaa-aaaaaaaaaaaa:"),
+        Err(TextFault::Stray(36))
+    );
+    let text = "bbbbbbbb-bbbb-bbbb-bbbb-bbbbbbbbbbbb : 07\n";
+    assert_eq!(rt;
+        parse_gtid(text),
+        Ok(Gtid {
+            source: B,
+            number: 7
+        })
+    );
     assert_eq!(rt; parse_gtid(""), Err(TextFault::BadUuid(0)));
     assert_eq!(rt;
-        parse_gtid(" aaaaaaaa-aaaa-aaaa-aaaa-aaaaaaaaaaaa : 7 x"),
-        Err(TextFault::Stray(42))
+        parse_gtid("bbbbbbbb-bbbb-bbbb-bbbb-bbbbbbbbbbbb"),
+        Err(TextFault::NoInterval(36))
     );
-    let gtid = parse_gtid("AAAAAAAA-aaaa-aaaa-aaaa-aaaaaaaaaaaa:7")
-        .ok()
-        .ok_or("a GTID")?;
-    let mut out = String::new(a);
-    write_gtid(&mut out, gtid)?;
-    assert_eq!(rt; out.as_str(), "aaaaaaaa-aaaa-aaaa-aaaa-aaaaaaaaaaaa:7");
+    assert_eq!(rt;
+        parse_gtid("bbbbbbbb-bbbb-bbbb-bbbb-bbbbbbbbbbbb:7-8"),
+        Err(TextFault::Stray(38))
+    );
+}
+
+#[test]
+fn texts_that_are_written(rt: HostRuntime) -> Result<(), Fail> {
+    let mut out = String::new(rt.alloc());
+    write_source(&mut out, A)?;
+    out.push_str(" ")?;
+    write_gtid(
+        &mut out,
+        Gtid {
+            source: B,
+            number: 9223372036854775807,
+        },
+    )?;
+    assert_eq!(rt;
+        out.as_str(),
+        "aaaaaaaa-aaaa-aaaa-aaaa-aaaaaaaaaaaa bbbbbbbb-bbbb-bbbb-bbbb-bbbbbbbbbbbb:9223372036854775807"
+    );
+    out.clear();
+    write_span(&mut out, span(A, 1, 5))?;
+    write_next_span(&mut out, Some(A), span(A, 7, 7))?;
+    write_next_span(&mut out, Some(A), span(B, 1, 1))?;
+    assert_eq!(rt;
+        out.as_str(),
+        "aaaaaaaa-aaaa-aaaa-aaaa-aaaaaaaaaaaa:1-5:7,bbbbbbbb-bbbb-bbbb-bbbb-bbbbbbbbbbbb:1"
+    );
     Ok(())
 }

@@ -1,14 +1,25 @@
 -- What a transaction that fits keeps to.
-use Rattle.std.proofs.Common.{arith, ◌≡◌, ℕ, ◌+◌, ◌≤◌, ◌<◌, nat_le, Bool, true, false, cond, List, [], ◌∷◌, length, Option, Some, None}
+use Rattle.std.proofs.Common.{arith, ◌≡◌, ℕ, ◌+◌, ◌≤◌, ◌<◌, nat_le, Bool, true, false, cond, ◌⊎◌, inl, inr, List, [], ◌∷◌, length, Option, Some, None, Ok, sym, ap, subst, ◌∙◌}
+use Rattle.std.specs.FinMap.{get, empty, get-empty}
+use Rattle.std.specs.Option.{unwrap_or}
 use Rattle.std.proofs.lemmas.Bool.Decides.{nat_tests}
-use Rattle.rows.specs.Keys.{table_named}
-use Rattle.rows.specs.Fits.{rank, first_cause, table_of, misfit_in, count_misfit, change_misfit, or_later, misfit_from, misfit}
+use Rattle.rows.specs.declared.value.Value.{Value}
 use Rattle.rows.specs.declared.change.Change.{Change}
+use Rattle.rows.specs.declared.change.Change.TheVariants.{Insert, Delete, Update}
+use Rattle.rows.specs.declared.change.Key.{Key}
 use Rattle.rows.specs.declared.change.Misfit.{Misfit}
 use Rattle.rows.specs.declared.change.Misfit.TheVariants.{TooMany}
 use Rattle.rows.specs.declared.change.NotInSchema.{NotInSchema}
 use Rattle.rows.specs.declared.change.Transaction.{Transaction}
 use Rattle.rows.specs.declared.schema.Table.{Table}
+use Rattle.rows.specs.Order.{key_cmp}
+use Rattle.rows.specs.Apply.{Rows, apply}
+use Rattle.rows.specs.Database.{AreRowsOf, NoTwoCarry}
+use Rattle.rows.specs.Fits.{row_misfit, row_misfit_in, IsRowOf, rank, first_cause, table_of, misfit_in, count_misfit, change_misfit, or_later, misfit_from, misfit, Fits}
+use Rattle.rows.specs.Keys.{table_named, keys_carried}
+use Rattle.rows.specs.WriteSet.{is_among, left_by_change, or_earlier, left_by_changes, left_by}
+use Rattle.rows.proofs.Local.{after_apply}
+use Rattle.rows.proofs.Carriers.{carried_table, none_some, apply_keeps_carriers, no_carriers}
 
 some_by : (p : Bool) (a b : Misfit) → cond p (Some a) (Some b) ≡ None → ⊥
 some_by true a b e = cc
@@ -39,3 +50,77 @@ few_from schema n (change ∷ changes) e h =
 -- a transaction that fits has at most 65536 changes
 pub few_changes : (schema : List Table) (txn : Transaction) → misfit schema txn ≡ None → length txn.changes ≤ 65536
 few_changes schema txn e = omega (arith, few_from schema 0 txn.changes e (omega arith))
+
+-- ---- what a transaction that fits leaves
+
+some_same : {A : Type 0} (x y : A) → Some x ≡ Some y → x ≡ y
+some_same x y e = cc
+
+left_row : (b : Bool) (after row : List Value) (rest : Option (Option (List Value))) → cond b (Some (Some after)) rest ≡ Some (Some row) → ((b ≡ true) × (after ≡ row)) ⊎ (rest ≡ Some (Some row))
+left_row true after row rest e = inl (λ _. true, some_same after row (some_same (Some after) (Some row) e))
+left_row false after row rest e = inr e
+
+no_row : (b : Bool) (row : List Value) → cond b (Some None) None ≡ Some (Some row) → ⊥
+no_row true row e = cc
+no_row false row e = cc
+
+insert_fits : (o : Option Table) (name : List ℕ) (after : List Value) → misfit_in o (Insert name after) ≡ None → row_misfit_in o after ≡ None
+insert_fits None name after e = cc
+insert_fits (Some table) name after e = e
+
+update_fits : (o : Option Table) (name : List ℕ) (before after : List Value) → misfit_in o (Update name before after) ≡ None → row_misfit_in o after ≡ None
+update_fits None name before after e = cc
+update_fits (Some table) name before after e = (no_cause (row_misfit table before) (row_misfit table after) e).1
+
+-- a row that carries a key is a row of its table
+at_key : (schema : List Table) (name : List ℕ) (after row : List Value) (k : Key) → is_among (keys_carried schema name after) k ≡ true → after ≡ row → IsRowOf schema name after → IsRowOf schema k.table row
+at_key schema name after row k i e fit =
+    subst (λ (r : List Value). IsRowOf schema k.table r) e (subst (λ (n : List ℕ). IsRowOf schema n after) (sym (carried_table schema name after k i)) fit)
+
+left_one : (schema : List Table) (change : Change) (k : Key) (row : List Value) → misfit_in (table_named (table_of change) schema) change ≡ None → left_by_change schema change k ≡ Some (Some row) → IsRowOf schema k.table row
+left_one schema (Insert table after) k row fit e =
+    elim (left_row (is_among (keys_carried schema table after) k) after row None e) [
+      | inl here ↦ at_key schema table after row k here.0 here.1 (insert_fits (table_named table schema) table after fit)
+      | inr none ↦ cc
+    ]
+left_one schema (Delete table before) k row fit e = absurd (no_row (is_among (keys_carried schema table before) k) row e)
+left_one schema (Update table before after) k row fit e =
+    elim (left_row (is_among (keys_carried schema table after) k) after row (cond (is_among (keys_carried schema table before) k) (Some None) None) e) [
+      | inl here ↦ at_key schema table after row k here.0 here.1 (update_fits (table_named table schema) table before after fit)
+      | inr rest ↦ absurd (no_row (is_among (keys_carried schema table before) k) row rest)
+    ]
+
+which : (later here : Option (Option (List Value))) (row : List Value) → or_earlier later here ≡ Some (Some row) → (later ≡ Some (Some row)) ⊎ (here ≡ Some (Some row))
+which (Some image) here row e = inl e
+which None here row e = inr e
+
+left_fits : (schema : List Table) (n : ℕ) (changes : List Change) (k : Key) (row : List Value) → misfit_from schema n changes ≡ None → left_by_changes schema changes k ≡ Some (Some row) → IsRowOf schema k.table row
+left_fits schema n [] k row fit e = cc
+left_fits schema n (change ∷ changes) k row fit e =
+    let parts = none_later (change_misfit schema n change) n (misfit_from schema (n + 1) changes) fit in
+    elim (which (left_by_changes schema changes k) (left_by_change schema change k) row e) [
+      | inl later ↦ left_fits schema (n + 1) changes k row parts.1 later
+      | inr here ↦ left_one schema change k row (no_cause (misfit_in (table_named (table_of change) schema) change) (count_misfit n) parts.0).0 here
+    ]
+
+stands : (left : Option (Option (List Value))) (before : Option (List Value)) (row : List Value) → unwrap_or left before ≡ Some row → (left ≡ Some (Some row)) ⊎ (before ≡ Some row)
+stands (Some image) before row e = inl (ap Some e)
+stands None before row e = inr e
+
+-- a transaction that fits leaves rows of the schema's tables
+pub keeps_rows : (schema : List Table) (txn : Transaction) (rows new : Rows) → Fits schema txn → AreRowsOf schema rows → apply schema txn rows ≡ Ok new → AreRowsOf schema new
+keeps_rows schema txn rows new fit h e = record {
+  carriers = apply_keeps_carriers schema txn rows new h.carriers e;
+  fitting = λ k row there. elim (stands (left_by schema txn k) (get rows k) row (sym (after_apply schema txn rows new e k) ∙ there)) [
+    | inl left ↦ left_fits schema 0 txn.changes k row fit left
+    | inr old ↦ h.fitting k row old
+  ];
+}
+
+pub no_rows : (schema : List Table) → AreRowsOf schema empty
+no_rows schema = record { carriers = no_carriers schema; fitting = λ k row e. none_some row (sym (get-empty key_cmp k) ∙ e) }
+
+-- where each row stands under all its keys, no two rows carry one key
+pub no_two_carry : (schema : List Table) (rows : Rows) → AreRowsOf schema rows → NoTwoCarry schema rows
+no_two_carry schema rows h p q k a b there_a there_b by_a by_b =
+    some_same a b (sym (h.carriers.everywhere p k a there_a by_a) ∙ h.carriers.everywhere q k b there_b by_b)

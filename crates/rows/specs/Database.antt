@@ -1,16 +1,39 @@
 -- A schema, and the rows of its tables.
-use Rattle.std.specs.Prelude.{ℕ, List, [], ◌∷◌, refl}
+use Rattle.std.specs.Prelude.{◌≡◌, ℕ, true, List, [], ◌∷◌, Some, unwrap_or, refl}
+use Rattle.std.specs.FinMap.{get}
 use Rattle.std.specs.Coded.{Coded, code_by, coded×, coded_ℕ, coded_list}
-use Rattle.rows.specs.declared.schema.Table.{Table}
 use Rattle.rows.specs.declared.change.Change.TheVariants.{Insert}
+use Rattle.rows.specs.declared.change.Key.{Key}
 use Rattle.rows.specs.declared.change.Transaction.{Transaction}
+use Rattle.rows.specs.declared.schema.Table.{Table}
 use Rattle.rows.specs.declared.value.Value.{Value}
 use Rattle.rows.specs.Apply.{Rows}
+use Rattle.rows.specs.Carriers.{AreCarriers}
 use Rattle.rows.specs.Coding.{rows_code}
+use Rattle.rows.specs.Fits.{IsRowOf}
+use Rattle.rows.specs.Keys.{keys_carried}
+use Rattle.rows.specs.WriteSet.{is_among, left_by}
 
 pub record Database : Type 0 where
   pub schema : List Table
   pub rows : Rows
+
+-- what the rows of a schema keep to
+pub record AreRowsOf (schema : List Table) (rows : Rows) : Type 0 where
+  -- Under each key stands a row that carries it, and each row stands under every key that it carries.
+  pub carriers : AreCarriers schema rows
+  -- Each of them is a row of its key's table.
+  pub fitting : (k : Key) (row : List Value) → get rows k ≡ Some row → IsRowOf schema k.table row
+
+-- Rows that carry one key are one row.
+abbrev pub NoTwoCarry : List Table → Rows → Type 0
+NoTwoCarry schema rows =
+    (p q k : Key) (a b : List Value) → get rows p ≡ Some a → get rows q ≡ Some b
+    → is_among (keys_carried schema p.table a) k ≡ true → is_among (keys_carried schema q.table b) k ≡ true → a ≡ b
+
+-- Under each key stands the after image of the last change that touches it, if that carries the key; else no row; and where no change touches it, what stood there.
+abbrev pub LeavesImages : List Table → Transaction → Rows → Rows → Type 0
+LeavesImages schema txn old new = (k : Key) → get new k ≡ unwrap_or (left_by schema txn k) (get old k)
 
 abbrev pub table_code : Coded Table
 table_code =

@@ -4,6 +4,7 @@ ghost use Rattle.std.specs.Prelude.{◌≡◌, ◌≤◌, length, OnOk, IfErr, N
 ghost use Rattle.std.specs.List.{list_any};
 ghost use Rattle.rows.specs.declared.value.Value.TheVariants.{Null};
 ghost use Rattle.rows.specs.Keys.{is_null, table_named};
+ghost use Rattle.rows.specs.Database.{opening};
 ghost use Rattle.rows.specs.Fits.{is_too_long, has_primary_null, row_misfit, rank, first_cause, images_misfit, table_of, misfit_in, change_misfit, misfit};
 
 use crate::change::{Change, Misfit, NotInSchema, Transaction};
@@ -25,6 +26,26 @@ pub fn fits(schema: &Schema, txn: &Transaction) -> Result<(), NotInSchema>
         }
     }
     Ok(())
+}
+
+/// Whether a schema takes the insert of one row as a transaction.
+pub(crate) fn fits_row(schema: &Schema, table: &Name, row: &Row) -> Result<(), NotInSchema>
+    ensures ok { OnOk result (misfit schema.now (opening table.now row.now) ≡ None) }
+    ensures refused { IfErr result (λ fault. misfit schema.now (opening table.now row.now) ≡ Some fault) }
+{
+    match insert_misfit(schema, table, row) {
+        Some(cause) => Err(NotInSchema { change: 0, cause }),
+        None => Ok(()),
+    }
+}
+
+fn insert_misfit(schema: &Schema, table: &Name, row: &Row) -> Option<Misfit>
+    ensures { result ≡ misfit_in (table_named table.now schema.now) (Change.Insert table.now row.now) }
+{
+    match schema.find(table) {
+        Some(table) => row_misfit(table, row),
+        None => Some(Misfit::NoTable),
+    }
 }
 
 /// Why a schema does not take the n-th change.

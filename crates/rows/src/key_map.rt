@@ -1,12 +1,16 @@
 //! From each key to the row that carries it.
-ghost use Rattle.std.specs.Prelude.{◌≡◌, ◌≤◌, ◌<◌, ◌+◌, ◌^◌, OnOk, OnErr, IfOk, IfErr, Ok, Err, None, length};
+ghost use Rattle.std.specs.Prelude.{◌≡◌, ◌≤◌, ◌<◌, ◌+◌, ◌^◌, ℕ, drop, OnOk, OnErr, IfOk, IfErr, Ok, Err, None, length};
+ghost use Rattle.std.specs.Bool.{Decides};
 ghost use Rattle.std.specs.Option.{option_copied};
+ghost use Rattle.std.specs.BTreeMap.{IsOrdered};
 ghost use Rattle.std.specs.FinMap as map;
 ghost use Rattle.rows.specs.Apply.{taken, stored, with_row, without_keys, inserted, deleted, apply_change, apply_from};
 ghost use Rattle.rows.specs.Keys.{keys_carried};
+ghost use Rattle.rows.specs.Listing.{primary_rows, rows_listed};
+ghost use Rattle.rows.specs.Order.{key_cmp};
 ghost use Rattle.rows.specs.Refusal.{Refuses};
 
-use crate::change::{Change, Key, PrepareFault, RowFault};
+use crate::change::{Change, Key, PrepareFault, RowFault, TableRow};
 use crate::keys::carried;
 use crate::name::Name;
 use crate::schema::Schema;
@@ -22,6 +26,7 @@ pub(crate) struct KeyMap {
 }
 
 impl Model for KeyMap {
+    ghost use Rattle.std.specs.BTreeMap.{IsOrdered};
     ghost use Rattle.std.specs.FinMap as map;
     ghost use Rattle.rows.specs.Apply.{Rows};
     ghost use Rattle.rows.specs.Coding.{rows_code};
@@ -40,6 +45,28 @@ impl KeyMap {
         KeyMap {
             carriers: BTreeMap::new(alloc),
         }
+    }
+
+    /// A map of its own with the same rows, which it shares.
+    pub(crate) fn copy(&self) -> Result<KeyMap, AllocError>
+        ensures { IfOk result (λ copy. copy ≡ self.now) }
+    {
+        let carriers = self.carriers.clone()?;
+        Ok(KeyMap { carriers })
+    }
+
+    /// Whether both have the same row under each key.
+    pub(crate) fn is_equal(&self, other: &KeyMap) -> bool
+        ensures { Decides result (self.now ≡ other.now) }
+    {
+        self.carriers.len() == other.carriers.len() && self.carriers == other.carriers
+    }
+
+    /// The rows under primary keys, by table name, and then by the values of the key.
+    pub(crate) fn list_primary(&self, alloc: Global) -> Result<Vec<TableRow>, AllocError>
+        ensures { IfOk result (λ list. list.items ≡ rows_listed self.now) }
+    {
+        primary_rows(alloc, &self.carriers)
     }
 
     /// The row that carries a key.
@@ -63,7 +90,8 @@ impl KeyMap {
 
     /// Puts a copy of a row under a copy of a key.
     pub(crate) fn put_copy(&mut self, key: &Key, row: &Row) -> Result<(), AllocError>
-        ensures { OnOk result (self.new ≡ map.insert self.old key.now row.now) }
+        ensures ok { OnOk result (self.new ≡ map.insert self.old key.now row.now) }
+        ensures err { OnErr result (self.new ≡ self.old) }
     {
         let key = key.copied()?;
         let row = row.copied()?;
@@ -89,9 +117,10 @@ impl KeyMap {
         None
     }
 
-    /// Puts a row under each of these keys.
+    /// Puts a row under each of these keys, the last first. After want of memory it stands under some last keys.
     fn place(&mut self, keys: &[Key], row: &Row) -> Result<(), AllocError>
-        ensures { OnOk result (self.new ≡ with_row keys.now row.now self.old) }
+        ensures ok { OnOk result (self.new ≡ with_row keys.now row.now self.old) }
+        ensures err { OnErr result ((n : ℕ) × (self.new ≡ with_row (drop n keys.now) row.now self.old)) }
     {
         let mut left = keys.len();
         while left > 0 {
@@ -122,16 +151,21 @@ impl KeyMap {
         }
     }
 
+    /// Puts a row under its keys, if each of them is free.
     fn insert_row(&mut self, keys: &[Key], row: &Row, change: u32) -> Result<(), PrepareFault>
         ensures ok { OnOk result (inserted change keys.now row.now self.old ≡ Ok self.new) }
         ensures refused { Refuses result (inserted change keys.now row.now self.old) }
+        ensures err { OnErr result (self.new ≡ self.old) }
     {
         if let Some(key) = self.taken(keys) {
             return Err(PrepareFault::Row(RowFault::DuplicateKey { change, key }));
         }
         match self.place(keys, row) {
             Ok(()) => Ok(()),
-            Err(_) => Err(PrepareFault::Memory),
+            Err(_) => {
+                self.clear(keys);
+                Err(PrepareFault::Memory)
+            }
         }
     }
 
@@ -154,13 +188,15 @@ impl KeyMap {
     fn delete_row(&mut self, keys: &[Key], row: &Row, change: u32) -> Result<(), RowFault>
         ensures ok { OnOk result (deleted change keys.now row.now self.old ≡ Ok self.new) }
         ensures refused { IfErr result (λ fault. deleted change keys.now row.now self.old ≡ Err fault) }
+        ensures err { OnErr result (self.new ≡ self.old) }
     {
         self.holds(keys, row, change)?;
         self.clear(keys);
         Ok(())
     }
 
-    fn insert_image(
+    /// Puts a row of a table under its keys, if each of them is free.
+    pub(crate) fn insert_image(
         &mut self,
         alloc: Global,
         schema: &Schema,
@@ -170,6 +206,7 @@ impl KeyMap {
     ) -> Result<(), PrepareFault>
         ensures ok { OnOk result (inserted change (keys_carried schema.now table.now row.now) row.now self.old ≡ Ok self.new) }
         ensures refused { Refuses result (inserted change (keys_carried schema.now table.now row.now) row.now self.old) }
+        ensures err { OnErr result (self.new ≡ self.old) }
     {
         match carried(alloc, schema, table, row) {
             Ok(keys) => self.insert_row(&keys, row, change),
@@ -177,7 +214,8 @@ impl KeyMap {
         }
     }
 
-    fn delete_image(
+    /// Takes away the row of a table under its keys, if it stands there.
+    pub(crate) fn delete_image(
         &mut self,
         alloc: Global,
         schema: &Schema,
@@ -187,6 +225,7 @@ impl KeyMap {
     ) -> Result<(), PrepareFault>
         ensures ok { OnOk result (deleted change (keys_carried schema.now table.now row.now) row.now self.old ≡ Ok self.new) }
         ensures refused { Refuses result (deleted change (keys_carried schema.now table.now row.now) row.now self.old) }
+        ensures err { OnErr result (self.new ≡ self.old) }
     {
         match carried(alloc, schema, table, row) {
             Ok(keys) => match self.delete_row(&keys, row, change) {
@@ -240,4 +279,20 @@ impl KeyMap {
         }
         Ok(())
     }
+}
+
+/// The rows under primary keys, in the order of the keys.
+fn primary_rows(alloc: Global, carriers: &BTreeMap<Key, Row>) -> Result<Vec<TableRow>, AllocError>
+    ensures rows { IfOk result (λ list. list.items ≡ primary_rows carriers.now.entries) }
+    ensures ordered { IsOrdered key_cmp carriers.now }
+{
+    let mut list = Vec::new(alloc);
+    for (key, row) in carriers.iter() {
+        if key.index == 0 {
+            let table = key.table.clone()?;
+            let row = row.clone()?;
+            list.push(TableRow { table, row })?;
+        }
+    }
+    Ok(list)
 }

@@ -1,21 +1,23 @@
 //! The rows of tables.
 
-ghost use Rattle.std.specs.Prelude.{◌≡◌, OnOk, OnErr, Ok, Err, None, Some};
+ghost use Rattle.std.specs.Prelude.{◌≡◌, OnOk, OnErr, IfOk, Ok, Err, None, Some};
+ghost use Rattle.std.specs.Bool.{Decides};
 ghost use Rattle.std.specs.Option.{option_copied};
 ghost use Rattle.std.specs.FinMap as map;
 ghost use Rattle.rows.specs.declared.change.NotInSchema.{NotInSchema};
 ghost use Rattle.rows.specs.declared.change.RowFault.{RowFault};
 ghost use Rattle.rows.specs.Apply.{apply};
-ghost use Rattle.rows.specs.Fits.{misfit};
-ghost use Rattle.rows.specs.Database.{opening};
+ghost use Rattle.rows.specs.Fits.{misfit, Fits};
+ghost use Rattle.rows.specs.Listing.{rows_listed};
+ghost use Rattle.rows.specs.Database.{opening, AreRowsOf, LeavesImages, NoTwoCarry};
 
-use crate::change::{ApplyFault, Change, Changes, Key, PrepareFault, Transaction};
-use crate::fitting::fits;
+use crate::change::{ApplyFault, Key, PrepareFault, TableRow, Transaction};
+use crate::fitting::{fits, fits_row};
 use crate::key_map::KeyMap;
 use crate::name::Name;
 use crate::schema::Schema;
 use crate::value::Row;
-use std::alloc::Global;
+use std::alloc::{AllocError, Global};
 use std::marker::Model;
 
 /// The rows of a schema's tables. Each row stands under every key that it carries, and under no other.
@@ -26,8 +28,7 @@ pub struct Rows {
 }
 
 impl Model for Rows {
-    ghost use Rattle.rows.specs.Database.{Database, database_code};
-    ghost use Rattle.rows.specs.Carriers.{AreCarriers};
+    ghost use Rattle.rows.specs.Database.{Database, database_code, AreRowsOf};
 
     ghost Value = { Database };
 
@@ -35,7 +36,7 @@ impl Model for Rows {
 
     ghost view = { λ a. record { schema = a.schema; rows = a.carriers } };
 
-    ghost invariant = { λ a. AreCarriers a.schema a.carriers };
+    ghost invariant = { λ a. AreRowsOf a.schema a.carriers };
 }
 
 impl Rows {
@@ -51,7 +52,8 @@ impl Rows {
 
     /// The schema of these rows.
     pub fn schema(&self) -> &Schema
-        ensures { result.now ≡ self.now.schema }
+        ensures value { result.now ≡ self.now.schema }
+        ensures kept { AreRowsOf self.now.schema self.now.rows }
     {
         &self.schema
     }
@@ -75,10 +77,57 @@ impl Rows {
         self.carrier(&key)
     }
 
+    /// Puts a row that stands there from the start, as a transaction of one insert would. After a refusal nothing has changed.
+    pub fn put(&mut self, alloc: Global, table: &Name, row: &Row) -> Result<(), ApplyFault>
+        ensures ok { OnOk result (apply self.old.schema (opening table.now row.now) self.old.rows ≡ Ok self.new.rows) }
+        ensures fits { OnOk result (Fits self.old.schema (opening table.now row.now)) }
+        ensures same { self.new.schema ≡ self.old.schema }
+        ensures not_in_schema { (fault : NotInSchema) → result ≡ Err (ApplyFault.NotInSchema fault) → misfit self.old.schema (opening table.now row.now) ≡ Some fault }
+        ensures refused { (fault : RowFault) → result ≡ Err (ApplyFault.Row fault) → apply self.old.schema (opening table.now row.now) self.old.rows ≡ Err fault }
+        ensures err { OnErr result (self.new ≡ self.old) }
+    {
+        if let Err(fault) = fits_row(&self.schema, table, row) {
+            return Err(ApplyFault::NotInSchema(fault));
+        }
+        match self
+            .carriers
+            .insert_image(alloc, &self.schema, 0, table, row)
+        {
+            Ok(()) => Ok(()),
+            Err(PrepareFault::Row(fault)) => Err(ApplyFault::Row(fault)),
+            Err(PrepareFault::Memory) => Err(ApplyFault::Memory),
+        }
+    }
+
+    /// Each row once, by table name, and then by the values of its primary key.
+    pub fn list_sorted(&self, alloc: Global) -> Result<Vec<TableRow>, AllocError>
+        ensures { IfOk result (λ list. list.items ≡ rows_listed self.now.rows) }
+    {
+        self.carriers.list_primary(alloc)
+    }
+
+    /// The same rows, whose values both share.
+    pub fn copy(&self) -> Result<Rows, AllocError>
+        ensures { IfOk result (λ copy. copy ≡ self.now) }
+    {
+        let schema = self.schema.clone()?;
+        let carriers = self.carriers.copy()?;
+        Ok(Rows { schema, carriers })
+    }
+
+    /// Whether both have the same schema and the same rows.
+    pub fn is_equal(&self, other: &Rows) -> bool
+        ensures { Decides result (self.now ≡ other.now) }
+    {
+        self.schema.is_equal(&other.schema) && self.carriers.is_equal(&other.carriers)
+    }
+
     /// Applies a transaction wholly, or not at all.
     pub fn apply(&mut self, alloc: Global, txn: &Transaction) -> Result<(), ApplyFault>
         ensures ok { OnOk result (apply self.old.schema txn.now self.old.rows ≡ Ok self.new.rows) }
-        ensures fits { OnOk result (misfit self.old.schema txn.now ≡ None) }
+        ensures fits { OnOk result (Fits self.old.schema txn.now) }
+        ensures left { OnOk result (LeavesImages self.old.schema txn.now self.old.rows self.new.rows) }
+        ensures no_two { NoTwoCarry self.new.schema self.new.rows }
         ensures same { self.new.schema ≡ self.old.schema }
         ensures not_in_schema { (fault : NotInSchema) → result ≡ Err (ApplyFault.NotInSchema fault) → misfit self.old.schema txn.now ≡ Some fault }
         ensures refused { (fault : RowFault) → result ≡ Err (ApplyFault.Row fault) → apply self.old.schema txn.now self.old.rows ≡ Err fault }

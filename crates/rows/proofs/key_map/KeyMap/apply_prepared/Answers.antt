@@ -2,7 +2,7 @@ use Rattle.std.proofs.Common.{Ok, Err, sym, ap, subst}
 use Rattle.rows.specs.Patch.{IsAsSeen, SeesAll}
 use Rattle.rows.proofs.Patching.{sees_all, seen_here, err_same}
 use Rattle.rows.specs.WriteSet.{write_set}
-use Rattle.rows.proofs.key_map.KeyMap.apply.Goals as goal
+use Rattle.rows.proofs.key_map.KeyMap.apply_prepared.Goals as goal
 
 pub prepare-requires-clause-all : goal.prepare-requires-clause-all
 prepare-requires-clause-all c =

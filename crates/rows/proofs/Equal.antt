@@ -1,0 +1,92 @@
+-- When tests of equality tell that values are equal.
+use Rattle.std.proofs.Common.{◌≡◌, ℕ, Bool, true, false, ◌&&◌, ◌==◌, nat_eq, map, List, refl, sym, ap, ◌∙◌}
+use Rattle.std.specs.Bool.{Decides}
+use Rattle.std.specs.declared.cmp.Ordering.{Ordering}
+use Rattle.std.specs.declared.cmp.Ordering.TheVariants.{Less, Equal, Greater}
+use Rattle.std.specs.FinMap.{from_entries, entries, nat_cmp-IsAntisymmetric, slice_cmp-IsAntisymmetric}
+use Rattle.std.specs.List.Sorted.{IsStrictlySortedBy}
+use Rattle.std.specs.Ordering.{nat_cmp, is_eq, eq_by_cmp}
+use Rattle.std.specs.Cmp.{unsigned_Decides}
+use Rattle.std.specs.Cmp.Lexicographic.{slice_cmp, pointwise, nat_list_cmp_total}
+use Rattle.std.proofs.lemmas.Cmp.{tied_itself}
+use Rattle.std.proofs.lemmas.Slice.Eq.{slice_eq-Decides}
+use Rattle.rows.specs.declared.value.Value.{Value}
+use Rattle.rows.specs.declared.change.Key.{Key}
+use Rattle.rows.specs.declared.schema.Table.{Table}
+use Rattle.rows.specs.Order.{key_cmp, row_eq}
+use Rattle.rows.specs.Total.{row_eq_same, row_eq_self}
+use Rattle.rows.proofs.Stored.{entries-stored}
+
+both : (p q : Bool) → (p && q) ≡ true → (p ≡ true) × (q ≡ true)
+both true q e = (refl, e)
+both false q e = cc
+
+and_true : (p q : Bool) → p ≡ true → q ≡ true → (p && q) ≡ true
+and_true true q e f = f
+and_true false q e f = cc
+
+eq_of : (r : Ordering) → is_eq r ≡ true → r ≡ Equal
+eq_of Less e = cc
+eq_of Equal e = refl
+eq_of Greater e = cc
+
+names-Decide : (a b : List ℕ) → Decides (eq_by_cmp (slice_cmp nat_cmp) a b) (a ≡ b)
+names-Decide a b = (
+  λ e. slice_cmp-IsAntisymmetric nat_cmp-IsAntisymmetric a b (eq_of (slice_cmp nat_cmp a b) e),
+  λ e. ap (eq_by_cmp (slice_cmp nat_cmp) a) (sym e) ∙ ap is_eq (tied_itself nat_list_cmp_total a),
+)
+
+pub rows-Decide : (a b : List Value) → Decides (row_eq a b) (a ≡ b)
+rows-Decide a b = (row_eq_same a b, λ e. ap (row_eq a) (sym e) ∙ row_eq_self a)
+
+columns-Decide : (a b : List ℕ) → Decides (pointwise nat_eq a b) (a ≡ b)
+columns-Decide a b = slice_eq-Decides unsigned_Decides a b (pointwise nat_eq a b) refl
+
+lists-Decide : (a b : List (List ℕ)) → Decides (pointwise (pointwise nat_eq) a b) (a ≡ b)
+lists-Decide a b = slice_eq-Decides columns-Decide a b (pointwise (pointwise nat_eq) a b) refl
+
+abbrev pub key_test : Key → Key → Bool
+key_test a b = eq_by_cmp (slice_cmp nat_cmp) a.table b.table && (a.index == b.index && row_eq a.values b.values)
+
+pub keys-Decide : (a b : Key) → Decides (key_test a b) (a ≡ b)
+keys-Decide a b =
+    let same : key_test a b ≡ true → a ≡ b = λ e.
+    let p = both (eq_by_cmp (slice_cmp nat_cmp) a.table b.table) (a.index == b.index && row_eq a.values b.values) e in
+    let q = both (a.index == b.index) (row_eq a.values b.values) p.1 in
+    let t = (names-Decide a.table b.table).0 p.0 in
+    let i = (unsigned_Decides a.index b.index).0 q.0 in
+    let v = (rows-Decide a.values b.values).0 q.1 in
+    λ j. record { table = t j; index = i j; values = v j } in (
+      same,
+      λ e. and_true (eq_by_cmp (slice_cmp nat_cmp) a.table b.table) (a.index == b.index && row_eq a.values b.values)
+          ((names-Decide a.table b.table).1 (ap (λ (k : Key). k.table) e))
+          (and_true (a.index == b.index) (row_eq a.values b.values) ((unsigned_Decides a.index b.index).1 (ap (λ (k : Key). k.index) e)) ((rows-Decide a.values b.values).1 (ap (λ (k : Key). k.values) e))),
+    )
+
+abbrev pub table_test : Table → Table → Bool
+table_test a b = eq_by_cmp (slice_cmp nat_cmp) a.name b.name && (a.columns == b.columns && (pointwise nat_eq a.primary b.primary && pointwise (pointwise nat_eq) a.uniques b.uniques))
+
+pub tables-Decide : (a b : Table) → Decides (table_test a b) (a ≡ b)
+tables-Decide a b =
+    let n = eq_by_cmp (slice_cmp nat_cmp) a.name b.name in
+    let c = a.columns == b.columns in
+    let p = pointwise nat_eq a.primary b.primary in
+    let u = pointwise (pointwise nat_eq) a.uniques b.uniques in
+    let same : table_test a b ≡ true → a ≡ b = λ e.
+    let x = both n (c && (p && u)) e in
+    let y = both c (p && u) x.1 in
+    let z = both p u y.1 in
+    let name = (names-Decide a.name b.name).0 x.0 in
+    let columns = (unsigned_Decides a.columns b.columns).0 y.0 in
+    let primary = (columns-Decide a.primary b.primary).0 z.0 in
+    let uniques = (lists-Decide a.uniques b.uniques).0 z.1 in
+    λ j. record { name = name j; columns = columns j; primary = primary j; uniques = uniques j } in (
+      same,
+      λ e. and_true n (c && (p && u)) ((names-Decide a.name b.name).1 (ap (λ (t : Table). t.name) e))
+          (and_true c (p && u) ((unsigned_Decides a.columns b.columns).1 (ap (λ (t : Table). t.columns) e))
+          (and_true p u ((columns-Decide a.primary b.primary).1 (ap (λ (t : Table). t.primary) e)) ((lists-Decide a.uniques b.uniques).1 (ap (λ (t : Table). t.uniques) e)))),
+    )
+
+-- entries in order are the same where their maps are
+pub stored_same : (es fs : List (Key × List Value)) → IsStrictlySortedBy key_cmp (map (λ e. e.0) es) → IsStrictlySortedBy key_cmp (map (λ e. e.0) fs) → from_entries {R = key_cmp} es ≡ from_entries fs → es ≡ fs
+stored_same es fs h g e = sym (entries-stored es h) ∙ ap entries e ∙ entries-stored fs g

@@ -1,0 +1,5 @@
+pub mod Search
+pub mod Equal
+pub mod Audit
+pub mod Cases
+pub mod Meaning
