@@ -81,6 +81,18 @@ with_received e c = record c { received = c.received ++ e ∷ [] }
 abbrev pub received_as : Bool → Entry → Received
 received_as executed entry = record { gtid = entry.gtid; txn = (if executed then None else Some entry.txn) }
 
+-- a channel with one entry more, executed or not
+abbrev pub with_entry : Bool → Entry → Keyed → Keyed
+with_entry executed entry k = record k { channel = with_received (received_as executed entry) k.channel }
+
+-- a channel that is stopped, or not
+abbrev pub with_stopped : Bool → ChannelValue → ChannelValue
+with_stopped flag c = record c { stopped = flag }
+
+-- a channel that has asked with a set
+abbrev pub with_asked : Gtids → ChannelValue → ChannelValue
+with_asked asked c = record c { asked = Some asked }
+
 -- the GTIDs of a channel's own list
 abbrev pub received_gtids : List Received → Gtids
 received_gtids received = set.from_list (map (λ e. e.gtid) received)

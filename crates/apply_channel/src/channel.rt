@@ -2,8 +2,7 @@
 ghost use Rattle.std.specs.Prelude.{◌≡◌, ◌≤◌, ◌<◌, ◌↔◌, ℕ, OnOk, OnErr, IfOk, Some, None, length, MatchOption, true, ◌==◌};
 ghost use Rattle.std.specs.Option.{option_copied};
 ghost use Rattle.std.specs.FinSet as set;
-ghost use Rattle.rows.specs.Fits.{Fits};
-ghost use Rattle.apply_channel.specs.Channels.{opened, blocker, next_ready, first_waiting, settled, with_received, received_gtids, IsPlace, IsNoPlace, received_as, is_full};
+ghost use Rattle.apply_channel.specs.Channels.{opened, blocker, next_ready, first_waiting, settled, received_gtids, IsPlace, IsNoPlace, is_full, with_stopped, with_asked, with_entry};
 ghost use Rattle.apply_channel.specs.Full.{IsFull};
 
 use crate::slot::{Slot, first_holding_back, first_open, new_slot, settle_slots};
@@ -101,8 +100,7 @@ impl Channel {
 
     /// Stops the channel, or lets it run.
     pub fn set_stopped(&mut self, flag: bool)
-        ensures channel { self.new.channel ≡ record self.old.channel { stopped = flag } }
-        ensures schema { self.new.schema ≡ self.old.schema }
+        ensures { self.new ≡ record self.old { channel = with_stopped flag self.old.channel } }
     {
         self.stopped = flag;
     }
@@ -116,8 +114,7 @@ impl Channel {
 
     /// Keeps the set that it asks with.
     pub fn set_ask(&mut self, asked: GtidSet)
-        ensures channel { self.new.channel ≡ record self.old.channel { asked = Some asked } }
-        ensures schema { self.new.schema ≡ self.old.schema }
+        ensures { self.new ≡ record self.old { channel = with_asked asked self.old.channel } }
     {
         self.asked = Some(asked);
     }
@@ -171,11 +168,9 @@ impl Channel {
         entry: &Entry,
         executed: bool,
     ) -> Result<usize, ReceiveFault>
-        requires { Fits self.old.schema entry.now.txn }
         ensures place { IfOk result (λ place. place ≡ length self.old.channel.received) }
-        ensures put { OnOk result (self.new.channel ≡ with_received (received_as executed entry.now) self.old.channel) }
+        ensures put { OnOk result (self.new ≡ with_entry executed entry.now self.old) }
         ensures full { IsFull result ↔ (is_full self.old.channel ≡ true) }
-        ensures schema { self.new.schema ≡ self.old.schema }
         ensures err { OnErr result (self.new ≡ self.old) }
     {
         let place = self.len();
@@ -190,8 +185,7 @@ impl Channel {
 
     /// Puts an entry at the next place.
     fn put(&mut self, alloc: Global, entry: &Entry, executed: bool) -> Result<(), SetFault>
-        ensures put { OnOk result (self.new.channel ≡ with_received (received_as executed entry.now) self.old.channel) }
-        ensures schema { self.new.schema ≡ self.old.schema }
+        ensures put { OnOk result (self.new ≡ with_entry executed entry.now self.old) }
         ensures err { OnErr result (self.new ≡ self.old) }
     {
         let place = self.slots.len();
@@ -208,8 +202,7 @@ impl Channel {
 
     /// Drops the transactions of a GTID that is executed now, at all its places. Takes no memory.
     pub fn mark_executed(&mut self, gtid: &Gtid)
-        ensures channel { self.new.channel ≡ settled gtid.now self.old.channel }
-        ensures schema { self.new.schema ≡ self.old.schema }
+        ensures { self.new ≡ record self.old { channel = settled gtid.now self.old.channel } }
     {
         settle_slots(&mut self.slots, gtid);
     }

@@ -14,8 +14,9 @@ use Rattle.rows.specs.Fits.{misfit}
 use Rattle.rows.specs.WriteSet.{shares_key}
 use Rattle.journal.specs.declared.Entry.{Entry}
 use Rattle.journal.specs.Journals.{purged}
+use Rattle.journal.specs.Writing.{is_number}
 use Rattle.relay.specs.Own.{with_last, purged_to}
-use Rattle.apply_channel.specs.Channels.{ChannelValue, Received, opened, settled, with_received, received_as, received_gtids, same_name, is_full}
+use Rattle.apply_channel.specs.Channels.{ChannelValue, Received, with_stopped, with_asked, opened, settled, with_received, received_as, received_gtids, same_name, is_full}
 use Rattle.replica_core.specs.declared.event.Spot.{Spot}
 use Rattle.replica_core.specs.declared.event.Event.{Event}
 use Rattle.replica_core.specs.declared.event.Event.TheVariants as event
@@ -53,6 +54,10 @@ blocking schema s channel place t = position (is_in_the_way schema s t) (take pl
 abbrev pub open_before : State → ChannelValue → ℕ → Option ℕ
 open_before s channel place = position (is_open s) (take place channel.received)
 
+-- an element changed, where it is there
+abbrev pub changed_at : {X : Type 0} → ℕ → (X → X) → List X → List X
+changed_at i f xs = option_map_or (λ x. slice_set xs i (f x)) (slice_get xs i) xs
+
 abbrev pub with_channel : State → ℕ → ChannelValue → State
 with_channel s c channel = record s { channels = slice_set s.channels c channel }
 
@@ -87,7 +92,7 @@ abbrev pub at_channel : State → ℕ → (ChannelValue → Step) → Step
 at_channel s c f = option_map_or f (slice_get s.channels c) (NoChannel, s)
 
 abbrev pub position_on : ℕ → State → Step
-position_on c s = at_channel s c (λ channel. (Ask (ask s channel), with_channel s c (record channel { asked = Some (ask s channel) })))
+position_on c s = at_channel s c (λ channel. (Ask (ask s channel), with_channel s c (with_asked (ask s channel) channel)))
 
 abbrev pub receive : Site → ℕ → Entry → State → Step
 receive site c entry s = at_channel s c (λ channel.
@@ -137,23 +142,12 @@ at_seat s seat f =
     if not (is_seat seat) then (NoSeat, s) else
     option_map_or f (held s seat) (SeatIdle, s)
 
--- a channel is stopped
-abbrev pub stopped_at : ℕ → List ChannelValue → List ChannelValue
-stopped_at c channels = option_map_or (λ channel. slice_set channels c (record channel { stopped = true })) (slice_get channels c) channels
-
-abbrev pub running_at : ℕ → List ChannelValue → List ChannelValue
-running_at c channels = option_map_or (λ channel. slice_set channels c (record channel { stopped = false })) (slice_get channels c) channels
-
--- a channel has asked with a set
-abbrev pub asked_at : ℕ → Gtids → List ChannelValue → List ChannelValue
-asked_at c asked channels = option_map_or (λ channel. slice_set channels c (record channel { asked = Some asked })) (slice_get channels c) channels
-
--- a channel has received an entry
-abbrev pub received_at : ℕ → Received → List ChannelValue → List ChannelValue
-received_at c e channels = option_map_or (λ channel. slice_set channels c (with_received e channel)) (slice_get channels c) channels
+-- a channel is stopped, or runs again
+abbrev pub stopped_at : Bool → ℕ → List ChannelValue → List ChannelValue
+stopped_at flag c channels = changed_at c (with_stopped flag) channels
 
 abbrev pub stopping : ℕ → State → State
-stopping c s = record s { channels = stopped_at c s.channels }
+stopping c s = record s { channels = stopped_at true c s.channels }
 
 abbrev pub commit_answer : Gtid → Transaction → ℕ → ℕ → State → Result Rows RowFault → Step
 commit_answer g t seat c s (Ok rows) = (Committed g, executing (without_seat s seat) g t rows)
@@ -171,7 +165,7 @@ abbrev pub rollback : ℕ → State → Step
 rollback seat s = at_seat s seat (λ h. (RolledBack h.gtid, without_seat s seat))
 
 abbrev pub restart : ℕ → State → Step
-restart c s = at_channel s c (λ channel. (Restarted, with_channel s c (record channel { stopped = false })))
+restart c s = at_channel s c (λ channel. (Restarted, with_channel s c (with_stopped false channel)))
 
 -- a number of the own UUID that is neither executed nor owned now
 abbrev pub is_free : Site → State → ℕ → Bool
@@ -227,3 +221,18 @@ replies site s (e ∷ es) = (step site s e).0 ∷ replies site (step site s e).1
 abbrev pub after : Site → State → List Event → State
 after site s [] = s
 after site s (e ∷ es) = after site (step site s e).1 es
+
+-- ---- what may be handed in
+
+-- the number of a received GTID is in range
+abbrev pub is_numbered : Event → Bool
+is_numbered (event.OpenChannel name preserve) = true
+is_numbered (event.Position c) = true
+is_numbered (event.Receive c entry) = is_number entry.gtid.number
+is_numbered (event.Take seat c p) = true
+is_numbered (event.Commit seat) = true
+is_numbered (event.Rollback seat) = true
+is_numbered (event.Restart c) = true
+is_numbered (event.Local changes) = true
+is_numbered (event.Purge k) = true
+is_numbered event.Look = true
