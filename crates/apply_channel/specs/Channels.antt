@@ -1,6 +1,6 @@
 -- A channel: what a replica has received from one source, in places from 0. (MySQL 8.0 Reference Manual, "MySQL Multi-Source Replication".)
 use Rattle.std.specs.Prelude.{◌≡◌, ℕ, Bool, false, ◌&&◌, nat_le, cond, List, [], ◌∷◌, ◌++◌, Option, Some, None, map, take, length, slice_get, position, find, is_none, is_some, option_and_then, if◌then◌else◌}
-use Rattle.std.specs.List.{range_with_len}
+use Rattle.std.specs.List.{list_all, range_with_len}
 use Rattle.std.specs.Option.{option_map_or}
 use Rattle.std.specs.Ordering.{nat_cmp, eq_by_cmp}
 use Rattle.std.specs.Cmp.Lexicographic.{slice_cmp}
@@ -64,6 +64,10 @@ next_ready schema received from = find (λ place. nat_le from place && is_ready 
 -- the least earlier place that is not executed
 abbrev pub first_waiting : List Received → ℕ → Option ℕ
 first_waiting received place = position (λ e. is_some e.txn) (take place received)
+
+-- every entry is executed
+abbrev pub are_settled : List Received → Bool
+are_settled received = list_all (λ e. is_none e.txn) received
 
 -- an entry once a GTID is executed
 abbrev pub settle : Gtid → Received → Received

@@ -1,5 +1,5 @@
 -- How a channel keeps what it has received.
-use Rattle.std.specs.Prelude.{◌≡◌, All, Bool, ◌&&◌, cond, is_some, List, Option, Some, None, map}
+use Rattle.std.specs.Prelude.{◌≡◌, All, Bool, ◌&&◌, cond, is_some, is_none, List, Option, Some, None, map}
 use Rattle.std.specs.List.{list_any}
 use Rattle.rows.specs.declared.schema.Table.{Table}
 use Rattle.rows.specs.declared.change.Key.{Key}
@@ -21,6 +21,10 @@ entries_of slots = map received_of slots
 -- a slot that is not executed
 abbrev pub is_open : Slot → Bool
 is_open slot = is_some slot.txn
+
+-- ... and one that is
+abbrev pub is_settled : Slot → Bool
+is_settled slot = is_none slot.txn
 
 -- a key of one that is among those of the other
 abbrev pub have_common : List Key → List Key → Bool

@@ -2,10 +2,10 @@
 ghost use Rattle.std.specs.Prelude.{◌≡◌, ◌≤◌, ◌<◌, ◌↔◌, ℕ, OnOk, OnErr, IfOk, Some, None, length, MatchOption, true, ◌==◌};
 ghost use Rattle.std.specs.Option.{option_copied};
 ghost use Rattle.std.specs.FinSet as set;
-ghost use Rattle.apply_channel.specs.Channels.{opened, blocker, next_ready, first_waiting, settled, received_gtids, IsPlace, IsNoPlace, is_full, with_stopped, with_asked, with_entry};
+ghost use Rattle.apply_channel.specs.Channels.{opened, blocker, next_ready, first_waiting, are_settled, settled, received_gtids, IsPlace, IsNoPlace, is_full, with_stopped, with_asked, with_entry};
 ghost use Rattle.apply_channel.specs.Full.{IsFull};
 
-use crate::slot::{Slot, first_holding_back, first_open, new_slot, settle_slots};
+use crate::slot::{Slot, are_settled, first_holding_back, first_open, new_slot, settle_slots};
 use gtid_set::{GtidSet, SetFault};
 use gtid_text::Gtid;
 use journal::Entry;
@@ -225,5 +225,12 @@ impl Channel {
         ensures { result ≡ first_waiting self.now.channel.received place }
     {
         first_open(&self.slots[..place])
+    }
+
+    /// Whether every received GTID is executed.
+    pub fn is_settled(&self) -> bool
+        ensures { result ≡ are_settled self.now.channel.received }
+    {
+        are_settled(&self.slots)
     }
 }

@@ -1,10 +1,10 @@
 //! Received entries with their keys.
 ghost use Rattle.std.specs.Prelude.{◌≡◌, ◌≤◌, ℕ, None, is_some, map, position, take, IfOk, Some, if◌then◌else◌};
-ghost use Rattle.std.specs.List.{list_any};
+ghost use Rattle.std.specs.List.{list_all, list_any};
 ghost use Rattle.std.specs.FinSet as set;
 ghost use Rattle.gtid_text.specs.Gtids.{same_gtid};
 ghost use Rattle.rows.specs.WriteSet.{is_among, write_set};
-ghost use Rattle.apply_channel.specs.Kept.{have_common, slot_holds_back, settle_slot, is_open, received_of, AreKeysOf};
+ghost use Rattle.apply_channel.specs.Kept.{have_common, slot_holds_back, settle_slot, is_open, is_settled, received_of, AreKeysOf};
 ghost use Rattle.apply_channel.specs.Channels.{received_as};
 
 use gtid_text::Gtid;
@@ -79,6 +79,12 @@ impl Slot {
         self.txn.is_some()
     }
 
+    fn is_settled(&self) -> bool
+        ensures { result ≡ is_settled self.now }
+    {
+        self.txn.is_none()
+    }
+
     /// Drops the transaction where the GTID is this one.
     fn settle(&mut self, gtid: &Gtid)
         ensures { self.new ≡ settle_slot gtid.now self.old }
@@ -101,6 +107,13 @@ pub(crate) fn first_open(slots: &[Slot]) -> Option<usize>
     ensures { result ≡ position is_open slots.now }
 {
     slots.iter().position(|slot| slot.is_open())
+}
+
+/// Whether each slot is executed.
+pub(crate) fn are_settled(slots: &[Slot]) -> bool
+    ensures { result ≡ list_all is_settled slots.now }
+{
+    slots.iter().all(|slot| slot.is_settled())
 }
 
 /// Drops the transactions of a GTID.

@@ -13,6 +13,7 @@ use gtid_text::Gtid;
 use rows::{Change, Row, Transaction, Value};
 use std::alloc::{AllocError, Global};
 use std::marker::Model;
+use std::mem;
 
 /// The greatest transaction number.
 pub const GREATEST: u64 = 9_223_372_036_854_775_807;
@@ -54,14 +55,16 @@ fn are_values_writable(values: &[Value]) -> bool
     values.iter().all(|value| is_value_writable(value))
 }
 
-fn is_image_writable(image: &Row) -> bool
+/// Whether an image can be written: 1 to 64 values of at most 65,535 bytes (our own limits).
+pub fn is_image_writable(image: &Row) -> bool
     ensures { result ≡ is_image_writable image.now }
 {
     let values = image.values();
     1 <= values.len() && values.len() <= 64 && are_values_writable(values)
 }
 
-fn is_change_writable(change: &Change) -> bool
+/// Whether a change can be written: each image has 1 to 64 values of at most 65,535 bytes (our own limits).
+pub fn is_change_writable(change: &Change) -> bool
     ensures { result ≡ is_change_writable change.now }
 {
     match change {
@@ -216,6 +219,14 @@ impl Journal {
     {
         drop_front(&mut self.entries, count);
         self.previous = previous;
+    }
+
+    /// Takes the entries out, in order. The previous set stays.
+    pub fn take_entries(&mut self, alloc: Global) -> Vec<Entry>
+        ensures taken { result.items ≡ self.old.entries }
+        ensures left { self.new ≡ record self.old { entries = [] } }
+    {
+        mem::replace(&mut self.entries, Vec::new(alloc))
     }
 
     /// The set executed before the entries.

@@ -1,7 +1,7 @@
 -- A received entry has its transaction exactly where its GTID is not executed: so a channel knows by itself what is in the way.
 use Rattle.std.proofs.Common.{◌≡◌, ℕ, ◌+◌, ◌<◌, suc, Bool, true, false, cond, not, ◌&&◌, List, [], ◌∷◌, ◌++◌, refl, sym, ap, subst, ◌∙◌, arith, length, take, inl, inr, Bor, map, ◌||◌}
-use Rattle.std.specs.Prelude.{Option, Some, None, All, position, slice_get, option_and_then, is_some, nat_lt, slice_set}
-use Rattle.std.specs.List.{prefix_len}
+use Rattle.std.specs.Prelude.{Option, Some, None, All, position, slice_get, option_and_then, is_some, is_none, nat_lt, slice_set}
+use Rattle.std.specs.List.{prefix_len, list_all}
 use Rattle.std.specs.Option.{option_map_or}
 use Rattle.std.specs.FinSet as set
 use Rattle.std.proofs.lemmas.Option.{get_or_from_slice_get, slice_get_cases}
@@ -15,7 +15,7 @@ use Rattle.gtid_text.specs.declared.Gtid.{Gtid}
 use Rattle.gtid_text.specs.Gtids.{same_gtid}
 use Rattle.gtid_set.specs.Sets.{Gtids}
 use Rattle.gtid_set.proofs.SetLemmas.{gtid_total, gtid_tied}
-use Rattle.apply_channel.specs.Channels.{ChannelValue, Received, blocker, first_waiting, holds_back, settle, settled, with_stopped, with_asked, with_received, received_as}
+use Rattle.apply_channel.specs.Channels.{ChannelValue, Received, blocker, first_waiting, are_settled, holds_back, settle, settled, with_stopped, with_asked, with_received, received_as}
 use Rattle.replica_core.specs.State.{State}
 use Rattle.replica_core.specs.Machine.{is_in_the_way, is_open, blocking, open_before, changed_at}
 use Rattle.replica_core.specs.Kept.{FitsIf, IsKept, AreKept}
@@ -131,3 +131,21 @@ pub kept_received : (schema : List Table) (executed : Gtids) (c : ℕ) (e : Rece
 kept_received schema executed c e channels keeps kept =
     All-changed_at (λ (x : ChannelValue). All (IsKept schema executed) x.received) c (with_received e) channels
     (λ x all. All-append (IsKept schema executed) x.received (e ∷ []) all (All-cons (IsKept schema executed) e [] keeps (All-nil (IsKept schema executed)))) kept
+
+-- ---- all are executed
+
+alike : {X : Type 0} (p q : X → Bool) (xs : List X) → All (λ x. p x ≡ q x) xs → list_all p xs ≡ list_all q xs
+alike p q [] all = refl
+alike p q (x ∷ xs) all = λ i. all 0 x (omega arith) i && alike p q xs (λ k d h. all (suc k) d (omega arith)) i
+
+gone_by : {X : Type 0} (o : Option X) (b : Bool) → is_some o ≡ not b → is_none o ≡ b
+gone_by None true h = refl
+gone_by None false h = absurd (cc h)
+gone_by (Some x) true h = absurd (cc h)
+gone_by (Some x) false h = refl
+
+-- the entries without a transaction are those that are executed
+pub settled_is : (schema : List Table) (executed : Gtids) (channels : List ChannelValue) → AreKept schema executed channels → list_all (λ (c : ChannelValue). are_settled c.received) channels ≡ list_all (λ (c : ChannelValue). list_all (λ (e : Received). set.contains executed e.gtid) c.received) channels
+settled_is schema executed channels kept =
+    alike (λ (c : ChannelValue). are_settled c.received) (λ (c : ChannelValue). list_all (λ (e : Received). set.contains executed e.gtid) c.received) channels
+    (λ k d h. alike (λ (e : Received). is_none e.txn) (λ (e : Received). set.contains executed e.gtid) _ (λ j e l. gone_by _ _ (kept k d h j e l).waits))

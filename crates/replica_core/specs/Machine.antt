@@ -222,6 +222,12 @@ abbrev pub after : Site → State → List Event → State
 after site s [] = s
 after site s (e ∷ es) = after site (step site s e).1 es
 
+-- ---- queries
+
+-- every received GTID is executed
+abbrev pub drained : State → Bool
+drained s = list_all (λ channel. list_all (λ e. set.contains s.executed e.gtid) channel.received) s.channels
+
 -- ---- what may be handed in
 
 -- the number of a received GTID is in range

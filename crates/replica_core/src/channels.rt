@@ -1,7 +1,7 @@
 //! The channels of a replica, all with one schema.
 ghost use Rattle.std.specs.Prelude.{◌≡◌, ◌<◌, ◌↔◌, ℕ, OnOk, OnErr, IfOk, [], ◌∷◌, ◌++◌, true, length, map, MatchOption};
-ghost use Rattle.std.specs.List.{list_any};
-ghost use Rattle.apply_channel.specs.Channels.{opened, settled, same_name, with_stopped, with_asked, with_received, with_entry, received_as};
+ghost use Rattle.std.specs.List.{list_all, list_any};
+ghost use Rattle.apply_channel.specs.Channels.{are_settled, opened, settled, same_name, with_stopped, with_asked, with_received, with_entry, received_as};
 ghost use Rattle.replica_core.specs.Machine.{changed_at};
 ghost use Rattle.replica_core.specs.Keyed.{keyed_settled, keyed_stopped, keyed_asked, keyed_len_at, keyed_full_at, len_at, full_at, changed, IsAt, IsNotAt};
 ghost use Rattle.apply_channel.specs.Full.{IsFull};
@@ -91,6 +91,12 @@ fn any_named(channels: &[Channel], name: &Name) -> bool
     channels.iter().any(|channel| is_named(channel, name))
 }
 
+fn all_settled(channels: &[Channel]) -> bool
+    ensures { result ≡ list_all (λ k. are_settled k.channel.received) channels.now }
+{
+    channels.iter().all(|channel| channel.is_settled())
+}
+
 fn is_named(channel: &Channel, name: &Name) -> bool
     ensures { result ≡ same_name channel.now.channel.name name.now }
 {
@@ -175,5 +181,12 @@ impl Channels {
         ensures err { OnErr result (self.new ≡ self.old) }
     {
         receive_one(&mut self.list, alloc, channel, entry, executed)
+    }
+
+    /// Whether every received GTID is executed.
+    pub(crate) fn are_settled(&self) -> bool
+        ensures { result ≡ list_all (λ c. are_settled c.received) self.now.list }
+    {
+        all_settled(&self.list)
     }
 }

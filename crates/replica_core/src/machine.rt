@@ -4,7 +4,7 @@ ghost use Rattle.std.specs.FinMap as finmap;
 ghost use Rattle.replica_core.specs.State.{gtid_at, owned_by, owner, owns};
 ghost use Rattle.replica_core.specs.Slots.{seats_of};
 ghost use Rattle.replica_core.specs.Core.{opened};
-ghost use Rattle.replica_core.specs.Machine.{is_seat, taking, without_seat, stopping};
+ghost use Rattle.replica_core.specs.Machine.{drained, is_seat, taking, without_seat, stopping};
 
 use crate::channels::Channels;
 use crate::event::Spot;
@@ -96,6 +96,14 @@ impl Core {
         ensures schema { result.now.schema ≡ self.now.site.schema }
     {
         &self.rows
+    }
+
+    /// Whether every received GTID is executed.
+    pub fn drained(&self) -> bool
+        ensures { result ≡ drained self.now.state }
+    {
+        let _ = &self.own;
+        self.channels.are_settled()
     }
 
     /// The place that a seat took.

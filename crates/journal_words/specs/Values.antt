@@ -1,0 +1,66 @@
+-- The one spelling of a value, and the value that a word spells.
+use Rattle.std.specs.Prelude.{ℕ, ◌^◌, ℤ, pos, negsuc, zero, suc, ◌==◌, nat_lt, Bool, List, [], ◌∷◌, Option, Some, None, option_map, Result, Ok, Err, codes, if◌then◌else◌}
+use Rattle.std.specs.Int.{w64}
+use Rattle.std.specs.Prelude.{FitsSigned}
+use Rattle.std.specs.Fmt.{signed_decimal}
+use Rattle.std.specs.Str.{bytes_eq}
+use Rattle.std.specs.Str.Parse.{digits_value}
+use Rattle.hex.specs.Hex.{IsBytes, encode_lower, decode_of}
+use Rattle.hex.specs.declared.error.FromHexError.{FromHexError}
+use Rattle.rows.specs.declared.value.Value.{Value}
+use Rattle.rows.specs.declared.value.Value.TheVariants.{Null, Int, Bytes}
+
+-- `null`, a decimal number, or `x` and two lower-case digits for each byte
+abbrev pub value_text : Value → List ℕ
+value_text Null = codes "null"
+value_text (Int n) = signed_decimal n
+value_text (Bytes bytes) = 120 ∷ encode_lower bytes
+
+-- what is found, where its text is the word again
+abbrev pub where_same : {A : Type 0} → (A → List ℕ) → List ℕ → A → Option A
+where_same text word x = if bytes_eq (text x) word then Some x else None
+
+-- ---- numbers
+
+-- the number of a sign and digits
+abbrev pub below_zero : ℕ → ℤ
+below_zero zero = pos 0
+below_zero (suc n) = negsuc n
+
+abbrev pub signed_value : List ℕ → ℤ
+signed_value [] = pos 0
+signed_value (b ∷ bs) = if b == 45 then below_zero (digits_value 10 bs) else pos (digits_value 10 (b ∷ bs))
+
+-- from -9223372036854775808 to 9223372036854775807
+abbrev pub is_small : ℤ → Bool
+is_small (pos n) = nat_lt n (2 ^ 63)
+is_small (negsuc n) = nat_lt n (2 ^ 63)
+
+abbrev pub int_of : List ℕ → Option ℤ
+int_of word = if is_small (signed_value word) then where_same signed_decimal word (signed_value word) else None
+
+-- ---- bytes
+
+abbrev pub bytes_found : List ℕ → Result (List ℕ) FromHexError → Option (List ℕ)
+bytes_found digits (Ok bytes) = where_same encode_lower digits bytes
+bytes_found digits (Err e) = None
+
+-- the bytes that lower-case digits spell
+abbrev pub bytes_of : List ℕ → Option (List ℕ)
+bytes_of digits = bytes_found digits (decode_of digits)
+
+-- ---- values
+
+abbrev pub other_value : List ℕ → Option Value
+other_value [] = option_map Int (int_of [])
+other_value (b ∷ bs) = if b == 120 then option_map Bytes (bytes_of bs) else option_map Int (int_of (b ∷ bs))
+
+-- the value that a word spells
+abbrev pub value_of : List ℕ → Option Value
+value_of word = if bytes_eq word (codes "null") then Some Null else other_value word
+
+-- a number of 64 bits, and bytes
+abbrev pub FitsValue : Value → Type 0
+FitsValue Null = Unit {0}
+FitsValue (Int n) = FitsSigned w64 n
+FitsValue (Bytes bytes) = IsBytes bytes

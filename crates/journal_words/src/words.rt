@@ -1,0 +1,48 @@
+//! Words and counts.
+ghost use Rattle.std.specs.Prelude.{◌≡◌, option_map};
+ghost use Rattle.std.specs.List.{list_all};
+ghost use Rattle.std.specs.Char.{is_ascii_digit};
+ghost use Rattle.journal_words.specs.Words.{is_count, count_of, first_word, others};
+
+fn all_digits(word: &[u8]) -> bool
+    ensures { result ≡ list_all is_ascii_digit word.now }
+{
+    word.iter().all(|b| b.is_ascii_digit())
+}
+
+/// Whether the word is a number in its one decimal spelling, however large.
+pub fn is_count(word: &[u8]) -> bool
+    ensures { result ≡ is_count word.now }
+{
+    if word.is_empty() || (word.len() > 1 && word[0] == b'0') {
+        false
+    } else {
+        all_digits(word)
+    }
+}
+
+/// The number below 2^64 that the word is the one decimal spelling of.
+pub fn count(word: &[u8]) -> Option<u64>
+    ensures { result ≡ count_of word.now }
+{
+    if !is_count(word) {
+        return None;
+    }
+    match std::str::from_utf8(word) {
+        Ok(text) => text.parse().ok(),
+        Err(_) => None,
+    }
+}
+
+/// The first word of a line, and what follows the blank behind it.
+pub fn cut(line: &[u8]) -> (&[u8], Option<&[u8]>)
+    ensures word { result.0.now ≡ first_word line.now }
+    ensures rest { option_map (λ r. r.now) result.1 ≡ others line.now }
+{
+    for (i, b) in line.iter().enumerate() {
+        if *b == b' ' {
+            return (&line[..i], Some(&line[i + 1..]));
+        }
+    }
+    (line, None)
+}

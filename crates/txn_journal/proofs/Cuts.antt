@@ -1,0 +1,11 @@
+-- What follows a separator is shorter than the text.
+use Rattle.std.proofs.Common.{◌≡◌, ℕ, ◌+◌, ◌<◌, eqb, cond, List, [], ◌∷◌, length, Option, Some, None, ap, arith, inl, inr}
+use Rattle.txn_journal.specs.Words.{behind}
+use Rattle.journal_words.proofs.Counts.{chosen, some_is}
+
+pub behind-shorter : (separator : ℕ) (text rest : List ℕ) → behind separator text ≡ Some rest → length rest < length text
+behind-shorter separator [] rest e = absurd cc
+behind-shorter separator (b ∷ bs) rest e = elim (chosen (eqb b separator) (Some bs) (behind separator bs) (Some rest) e) [
+  | inl p ↦ let k = ap (λ (x : List ℕ). length x) (some_is bs rest p.1) in omega arith
+  | inr p ↦ let k = behind-shorter separator bs rest p.1 in omega arith
+]

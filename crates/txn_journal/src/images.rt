@@ -1,0 +1,69 @@
+//! Images of rows as words.
+ghost use Rattle.std.specs.Prelude.{◌≡◌};
+
+use crate::fault::{Cause, LineFault};
+use crate::names::Names;
+use journal_words::{cut, value_word};
+use rows::{Change, Name, Row};
+use std::alloc::Global;
+
+/// The values up to a bar or the end of the line, and what follows the blank behind the bar.
+fn values(alloc: Global, text: &[u8]) -> Result<(Row, Option<&[u8]>), LineFault> {
+    let mut values = Vec::new(alloc);
+    let mut left = text;
+    'words: loop {
+        let (word, more) = cut(left);
+        if word == b"|".as_slice() {
+            if values.is_empty() || more.is_none() {
+                return Err(LineFault::Wrong(Cause::Body));
+            }
+            return Ok((Row::new(values)?, more));
+        }
+        match value_word(alloc, word)? {
+            Some(value) => values.push(value)?,
+            None => return Err(LineFault::Wrong(Cause::Body)),
+        }
+        match more {
+            Some(after) => left = after,
+            None => return Ok((Row::new(values)?, None)),
+        }
+    }
+}
+
+/// The image that a text spells.
+pub fn image(alloc: Global, text: &[u8]) -> Result<Row, LineFault> {
+    match values(alloc, text)? {
+        (row, None) => Ok(row),
+        (_, Some(_)) => Err(LineFault::Wrong(Cause::Body)),
+    }
+}
+
+/// The two images that a text spells, with a bar between.
+pub fn two_images(alloc: Global, text: &[u8]) -> Result<(Row, Row), LineFault> {
+    match values(alloc, text)? {
+        (before, Some(rest)) => {
+            let after = image(alloc, rest)?;
+            Ok((before, after))
+        }
+        (_, None) => Err(LineFault::Wrong(Cause::Body)),
+    }
+}
+
+/// The table's name at the front of a line's rest, and what follows it.
+pub fn table_at<'a>(
+    names: &mut Names,
+    alloc: Global,
+    rest: Option<&'a [u8]>,
+) -> Result<(Name, &'a [u8]), LineFault> {
+    let Some(text) = rest else {
+        return Err(LineFault::Wrong(Cause::Body));
+    };
+    let (word, more) = cut(text);
+    let Some(text) = more else {
+        return Err(LineFault::Wrong(Cause::Body));
+    };
+    match names.read(alloc, word)? {
+        Some(name) => Ok((name, text)),
+        None => Err(LineFault::Wrong(Cause::Body)),
+    }
+}
