@@ -69,36 +69,38 @@ fn execute_bundle(alloc: Global, applied: &mut Applied, bundle: &Bundle) -> Resu
     Ok(())
 }
 
+/// The interval of one GTID.
+fn alone(gtid: &Gtid) -> Span {
+    Span {
+        source: gtid.source,
+        lo: gtid.number,
+        hi: gtid.number,
+    }
+}
+
+/// Whether an interval goes on where another ends.
+fn goes_on(span: &Span, next: &Span) -> bool {
+    span.source == next.source && span.hi.saturating_add(1) == next.lo
+}
+
 /// The set's text, `-` where it is empty.
 fn push_set(out: &mut String, gtids: &[Gtid]) -> Result<(), AllocError> {
+    let Some((first, others)) = gtids.split_first() else {
+        return out.push_str("-");
+    };
     let mut before = None;
-    let mut open: Option<Span> = None;
-    for gtid in gtids {
-        let next = Span {
-            source: gtid.source,
-            lo: gtid.number,
-            hi: gtid.number,
-        };
-        match open {
-            None => open = Some(next),
-            Some(span) if span.source == next.source && span.hi.saturating_add(1) == next.lo => {
-                open = Some(Span {
-                    source: span.source,
-                    lo: span.lo,
-                    hi: next.hi,
-                });
-            }
-            Some(span) => {
-                write_next_span(out, before, span)?;
-                before = Some(span.source);
-                open = Some(next);
-            }
+    let mut span = alone(first);
+    for gtid in others {
+        let next = alone(gtid);
+        if goes_on(&span, &next) {
+            span.hi = next.hi;
+        } else {
+            write_next_span(out, before, span)?;
+            before = Some(span.source);
+            span = next;
         }
     }
-    match open {
-        Some(span) => write_next_span(out, before, span),
-        None => out.push_str("-"),
-    }
+    write_next_span(out, before, span)
 }
 
 fn state_text(alloc: Global, applied: &mut Applied) -> Result<String, AllocError> {

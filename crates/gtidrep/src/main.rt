@@ -1,4 +1,4 @@
-//! The program `gtidrep`: set functions, and a bundle applied.
+//! The program `gtidrep`: a bundle is applied.
 #![tactic(auto)]
 
 ghost use Rattle.std.specs.Prelude.{◌≡◌};
@@ -40,7 +40,6 @@ fn run(rt: &HostRuntime, words: &[String]) -> u8 {
             let mut writer = StdSink::new(io::writer(rt));
             exit_status(&apply_bundle(alloc, &mut reader, &mut writer, workers))
         }
-        Ok(_) => 0,
         Err(LineFault::Memory) => 3,
         Err(LineFault::Line(text)) => {
             let _ = eprint!(rt; "{text}");
