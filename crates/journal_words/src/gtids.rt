@@ -123,13 +123,7 @@ fn tidy_spans(alloc: Global, text: &str) -> Result<Option<Vec<Span>>, AllocError
 }
 
 fn add_span(set: &mut GtidSet, span: Span) -> Result<(), SetFault> {
-    for number in span.lo..=span.hi {
-        set.add(Gtid {
-            source: span.source,
-            number,
-        })?;
-    }
-    Ok(())
+    set.add_span(span)
 }
 
 fn set_of(alloc: Global, spans: &[Span]) -> Result<GtidSet, SetFault> {
