@@ -56,9 +56,9 @@ impl Core {
         ensures site { self.new.site ≡ self.old.site }
     {
         match self.may_take(seat, channel, place) {
-            Ok(gtid) => {
+            Ok(taken) => {
                 self.put_seat(seat, Spot { channel, place });
-                Reply::Taken(gtid)
+                Reply::Taken(taken)
             }
             Err(reply) => reply,
         }
