@@ -6,6 +6,7 @@ ghost use Rattle.std.specs.FinSet as set;
 ghost use Rattle.gtid_set.specs.declared.fault.SetFault.TheVariants.{Memory, SourcesFull};
 ghost use Rattle.gtid_set.specs.Sets.{interval, least_unused, most_sources, source_count, sources_of};
 ghost use Rattle.gtid_set.specs.Spans.{set_of, is_merged};
+ghost use Rattle.gtid_set.specs.Runs.{runs};
 ghost use Rattle.gtid_set.specs.Full.{IsFullExactly, IsKept};
 
 mod fault;
@@ -13,7 +14,7 @@ mod sweep;
 
 pub use fault::SetFault;
 use gtid_text::{Gtid, SourceId, Span};
-use std::alloc::Global;
+use std::alloc::{AllocError, Global};
 use std::marker::Model;
 
 /// The most sources that a set may have. Our own rule.
@@ -226,5 +227,16 @@ impl GtidSet {
             Some(span) if span.hi < GREATEST => Some(span.hi + 1),
             Some(_) => None,
         }
+    }
+
+    /// The longest runs of numbers of the set, by source and number.
+    pub fn spans(&self, alloc: Global) -> Result<Vec<Span>, AllocError>
+        ensures runs { IfOk result (λ v. v.items ≡ runs self.now) }
+        ensures merged { IfOk result (λ v. is_merged v.items ≡ true) }
+        ensures stand { IfOk result (λ v. set_of v.items ≡ self.now) }
+    {
+        let mut spans = Vec::new(alloc);
+        spans.extend_from_slice(&self.spans)?;
+        Ok(spans)
     }
 }
