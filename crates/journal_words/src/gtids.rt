@@ -1,17 +1,41 @@
 //! Sources, GTIDs and sets of them as words.
-ghost use Rattle.std.specs.Prelude.{◌≡◌, ◌++◌, IfOk, OnOk, decimal};
+ghost use Rattle.std.specs.Prelude.{◌≡◌, ◌++◌, true, false, IfOk, OnOk, IfSome, IfNone, decimal};
 ghost use Rattle.std.specs.String.{string_bytes};
+ghost use Rattle.std.specs.List.{list_all};
+ghost use Rattle.gtid_text.specs.Canonical.{source_text, gtid_text};
+ghost use Rattle.journal_words.specs.Values.{where_same};
+ghost use Rattle.journal_words.specs.Gtids.{is_ascii_byte, source_of_word, gtid_of_word, is_behind};
 
 use gtid_set::{GtidSet, SetFault};
-use gtid_text::{
-    Gtid, SourceId, Span, TextFault, parse_gtid, parse_source, parse_spans, write_gtid,
-    write_source, write_span,
-};
+use gtid_text::{Gtid, SourceId, Span, TextFault, parse_gtid, parse_source, parse_spans, write_gtid, write_source, write_span};
 use itoa::Buffer;
 use std::alloc::{AllocError, Global};
 
+fn is_ascii(word: &[u8]) -> bool
+    ensures { result ≡ list_all is_ascii_byte word.now }
+{
+    word.iter().all(|b| *b < 128)
+}
+
+/// The word as text, where it is ASCII.
+fn ascii_text(word: &[u8]) -> Option<&str>
+    ensures found { IfSome result (λ text. text.now ≡ word.now) }
+    ensures ascii { IfSome result (λ text. list_all is_ascii_byte word.now ≡ true) }
+    ensures none { IfNone result (list_all is_ascii_byte word.now ≡ false) }
+{
+    if !is_ascii(word) {
+        return None;
+    }
+    match std::str::from_utf8(word) {
+        Ok(text) => Some(text),
+        Err(_) => unreachable!(),
+    }
+}
+
 /// The source, where its one spelling is the word.
-fn as_source(alloc: Global, word: &[u8], source: SourceId) -> Result<Option<SourceId>, AllocError> {
+fn as_source(alloc: Global, word: &[u8], source: SourceId) -> Result<Option<SourceId>, AllocError>
+    ensures { IfOk result (λ found. found ≡ where_same source_text word.now source) }
+{
     let mut text = String::new(alloc);
     write_source(&mut text, source)?;
     if text.as_bytes() == word {
@@ -22,7 +46,9 @@ fn as_source(alloc: Global, word: &[u8], source: SourceId) -> Result<Option<Sour
 }
 
 /// The GTID, where its one spelling is the word.
-fn as_gtid(alloc: Global, word: &[u8], gtid: Gtid) -> Result<Option<Gtid>, AllocError> {
+fn as_gtid(alloc: Global, word: &[u8], gtid: Gtid) -> Result<Option<Gtid>, AllocError>
+    ensures { IfOk result (λ found. found ≡ where_same gtid_text word.now gtid) }
+{
     let Gtid { source, number } = gtid;
     let mut text = String::new(alloc);
     write_gtid(&mut text, Gtid { source, number })?;
@@ -34,8 +60,10 @@ fn as_gtid(alloc: Global, word: &[u8], gtid: Gtid) -> Result<Option<Gtid>, Alloc
 }
 
 /// The source that the word spells.
-pub fn source_word(alloc: Global, word: &[u8]) -> Result<Option<SourceId>, AllocError> {
-    let Ok(text) = std::str::from_utf8(word) else {
+pub fn source_word(alloc: Global, word: &[u8]) -> Result<Option<SourceId>, AllocError>
+    ensures { IfOk result (λ found. found ≡ source_of_word word.now) }
+{
+    let Some(text) = ascii_text(word) else {
         return Ok(None);
     };
     match parse_source(text) {
@@ -45,8 +73,10 @@ pub fn source_word(alloc: Global, word: &[u8]) -> Result<Option<SourceId>, Alloc
 }
 
 /// The GTID that the word spells.
-pub fn gtid_word(alloc: Global, word: &[u8]) -> Result<Option<Gtid>, AllocError> {
-    let Ok(text) = std::str::from_utf8(word) else {
+pub fn gtid_word(alloc: Global, word: &[u8]) -> Result<Option<Gtid>, AllocError>
+    ensures { IfOk result (λ found. found ≡ gtid_of_word word.now) }
+{
+    let Some(text) = ascii_text(word) else {
         return Ok(None);
     };
     match parse_gtid(text) {
@@ -56,7 +86,9 @@ pub fn gtid_word(alloc: Global, word: &[u8]) -> Result<Option<Gtid>, AllocError>
 }
 
 /// Whether a span stands behind another, with a gap between where both are of one source.
-fn is_behind(span: &Span, earlier: &Span) -> bool {
+fn is_behind(earlier: &Span, span: &Span) -> bool
+    ensures { result ≡ is_behind earlier.now span.now }
+{
     earlier.source < span.source
         || (earlier.source == span.source && earlier.hi < span.lo && 1 < span.lo - earlier.hi)
 }
@@ -64,13 +96,12 @@ fn is_behind(span: &Span, earlier: &Span) -> bool {
 /// Whether the spans rise and no two of them touch.
 fn are_tidy(spans: &[Span]) -> bool {
     for (i, span) in spans.iter().enumerate() {
-        if i + 1 < spans.len() && !is_behind(&spans[i + 1], span) {
+        if i + 1 < spans.len() && !is_behind(span, &spans[i + 1]) {
             return false;
         }
     }
     true
 }
-
 /// The canonical text of tidy spans.
 fn write_spans(out: &mut String, spans: &[Span]) -> Result<(), AllocError> {
     for (i, span) in spans.iter().enumerate() {

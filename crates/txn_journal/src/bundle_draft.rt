@@ -266,6 +266,8 @@ impl BundleDraft {
 }
 
 impl TakeLine for BundleDraft {
+    ghost judge = { λ s line. ? };
+
     fn take_line(&mut self, alloc: Global, line: &[u8]) -> Result<(), LineFault> {
         if self.part == Part::Journal {
             return self.take_inside(alloc, line);

@@ -1,5 +1,11 @@
 //! A journal as far as its lines have come.
-ghost use Rattle.std.specs.Prelude.{◌≡◌, true};
+ghost use Rattle.std.specs.Prelude.{◌≡◌, true, option_map, slice_index_or};
+ghost use Rattle.std.specs.List.{list_any};
+ghost use Rattle.rows.specs.declared.value.Value.TheVariants.{Null};
+ghost use Rattle.rows.specs.Keys.{is_null};
+ghost use Rattle.txn_journal.specs.Stream.{Finds};
+ghost use Rattle.txn_journal.specs.Lines.{version_in};
+ghost use Rattle.txn_journal.specs.Machine.{is_row_of, are_rows_of, fits};
 ghost use Rattle.journal.specs.Writing.{is_number};
 ghost use Rattle.txn_journal.specs.Kept.{IsSeen, IsOpenNew, AreWritable};
 ghost use Rattle.txn_journal.specs.Due.{is_due};
@@ -50,7 +56,9 @@ fn wrong<T>(cause: Cause) -> Result<T, LineFault> {
 }
 
 /// The version that a header names, where it is known.
-pub fn version_in(due: Option<Version>, rest: Option<&[u8]>) -> Result<Version, LineFault> {
+pub fn version_in(due: Option<Version>, rest: Option<&[u8]>) -> Result<Version, LineFault>
+    ensures { Finds (λ v. v) result (version_in due (option_map (λ r. r.now) rest.entry)) }
+{
     let Some(word) = rest else {
         return wrong(Cause::Body);
     };
@@ -64,23 +72,31 @@ pub fn version_in(due: Option<Version>, rest: Option<&[u8]>) -> Result<Version, 
 }
 
 /// Whether a row has the columns of its table, and no null in its primary key.
-fn is_row_of(table: &Table, row: &Row) -> bool {
+fn is_row_of(table: &Table, row: &Row) -> bool
+    ensures { result ≡ is_row_of table.now row.now }
+{
     let values = row.values();
     values.len() == table.columns as usize && !has_null_at(table.primary.as_slice(), values)
 }
 
-fn is_null_at(values: &[Value], column: u32) -> bool {
+fn is_null_at(values: &[Value], column: u32) -> bool
+    ensures { result ≡ is_null (slice_index_or values.now column Null) }
+{
     match values.get(column as usize) {
         Some(value) => matches!(value, Value::Null),
         None => true,
     }
 }
 
-fn has_null_at(columns: &[u32], values: &[Value]) -> bool {
+fn has_null_at(columns: &[u32], values: &[Value]) -> bool
+    ensures { result ≡ list_any (λ column. is_null (slice_index_or values.now column Null)) columns.now }
+{
     columns.iter().any(|column| is_null_at(values, *column))
 }
 
-fn are_rows_of(table: &Table, change: &Change) -> bool {
+fn are_rows_of(table: &Table, change: &Change) -> bool
+    ensures { result ≡ are_rows_of table.now change.now }
+{
     match change {
         Change::Insert { table: _, after } => is_row_of(table, after),
         Change::Delete { table: _, before } => is_row_of(table, before),
@@ -93,7 +109,9 @@ fn are_rows_of(table: &Table, change: &Change) -> bool {
 }
 
 /// Whether the schema, where there is one, takes the images of a change.
-fn fits(schema: Option<&Schema>, change: &Change) -> bool {
+fn fits(schema: Option<&Schema>, change: &Change) -> bool
+    ensures { result ≡ fits (option_map (λ tables. tables.now) schema.entry) change.now }
+{
     match schema {
         None => true,
         Some(schema) => match schema.find(change.table()) {
@@ -112,8 +130,15 @@ fn is_number(number: u64) -> bool
 }
 
 impl Draft {
+    ghost use Rattle.std.specs.Prelude.{option_map, [], Ok};
+    ghost use Rattle.txn_journal.specs.Stream.{TakesLine};
+    ghost use Rattle.txn_journal.specs.Machine.{Standing, empty, add, opened, followed, begun, ended, finished, step, judge};
+    ghost use Rattle.txn_journal.specs.Drafts.{standing};
+
     /// Before the first line.
-    pub fn start(alloc: Global, due: Option<Version>) -> Draft {
+    pub fn start(alloc: Global, due: Option<Version>) -> Draft
+        ensures { standing result ≡ empty due }
+    {
         Draft {
             place: Place::Header,
             due,
@@ -144,6 +169,7 @@ impl Draft {
         self.journal
     }
 
+    #[tactic(auto, unfolding(crate::specs::Machine::judge))]
     /// Takes the next line, or says the first thing that is wrong with it.
     pub fn take_line(
         &mut self,
@@ -151,7 +177,9 @@ impl Draft {
         schema: Option<&Schema>,
         names: &mut Names,
         line: &[u8],
-    ) -> Result<(), LineFault> {
+    ) -> Result<(), LineFault>
+        ensures { TakesLine result (judge (option_map (λ tables. tables.now) schema.entry) (standing self.old) line.now) (standing self.new) }
+    {
         let (word, rest) = cut(line);
         match keyword_at(word) {
             Some(keyword) if self.place.takes(keyword) => {
@@ -161,6 +189,7 @@ impl Draft {
         }
     }
 
+    #[tactic(auto, unfolding(crate::specs::Machine::step))]
     /// Takes the line of a keyword that is due.
     fn take(
         &mut self,
@@ -171,6 +200,7 @@ impl Draft {
         rest: Option<&[u8]>,
     ) -> Result<(), LineFault>
         requires { is_due self.old.place keyword ≡ true }
+        ensures { TakesLine result (step (option_map (λ tables. tables.now) schema.entry) (standing self.old) keyword (option_map (λ r. r.now) rest.entry)) (standing self.new) }
     {
         match keyword {
             Keyword::Journal => self.open(rest),
@@ -203,7 +233,10 @@ impl Draft {
         }
     }
 
-    fn open(&mut self, rest: Option<&[u8]>) -> Result<(), LineFault> {
+    #[tactic(auto, unfolding(crate::specs::Machine::opened))]
+    fn open(&mut self, rest: Option<&[u8]>) -> Result<(), LineFault>
+        ensures { TakesLine result (opened (standing self.old) (option_map (λ r. r.now) rest.entry)) (standing self.new) }
+    {
         match version_in(self.due, rest) {
             Ok(version) => {
                 self.version = version;
@@ -214,7 +247,10 @@ impl Draft {
         }
     }
 
-    fn follow(&mut self, alloc: Global, rest: Option<&[u8]>) -> Result<(), LineFault> {
+    #[tactic(auto, unfolding(crate::specs::Machine::followed))]
+    fn follow(&mut self, alloc: Global, rest: Option<&[u8]>) -> Result<(), LineFault>
+        ensures { TakesLine result (followed (standing self.old) (option_map (λ r. r.now) rest.entry)) (standing self.new) }
+    {
         let Some(word) = rest else {
             return wrong(Cause::Body);
         };
@@ -227,7 +263,10 @@ impl Draft {
         Ok(())
     }
 
-    fn begin(&mut self, alloc: Global, rest: Option<&[u8]>) -> Result<(), LineFault> {
+    #[tactic(auto, unfolding(crate::specs::Machine::begun, crate::specs::Machine::begin))]
+    fn begin(&mut self, alloc: Global, rest: Option<&[u8]>) -> Result<(), LineFault>
+        ensures { TakesLine result (begun (standing self.old) (option_map (λ r. r.now) rest.entry)) (standing self.new) }
+    {
         let Some(word) = rest else {
             return wrong(Cause::Body);
         };
@@ -248,7 +287,10 @@ impl Draft {
         Ok(())
     }
 
-    fn add(&mut self, schema: Option<&Schema>, change: Change) -> Result<(), LineFault> {
+    #[tactic(auto, unfolding(crate::specs::Machine::add))]
+    fn add(&mut self, schema: Option<&Schema>, change: Change) -> Result<(), LineFault>
+        ensures { TakesLine result (add (option_map (λ tables. tables.now) schema.entry) (standing self.old) change) (standing self.new) }
+    {
         if self.changes.len() >= MAX_CHANGES || !is_change_writable(&change) {
             return wrong(Cause::Limit);
         }
@@ -259,8 +301,10 @@ impl Draft {
         Ok(())
     }
 
+    #[tactic(auto, unfolding(crate::specs::Machine::ended))]
     fn end(&mut self, alloc: Global, rest: Option<&[u8]>) -> Result<(), LineFault>
         requires { self.old.place ≡ Within }
+        ensures { TakesLine result (ended (standing self.old) (option_map (λ r. r.now) rest.entry)) (standing self.new) }
     {
         if rest.is_some() {
             return wrong(Cause::Body);
@@ -279,7 +323,10 @@ impl Draft {
         Ok(())
     }
 
-    fn close(&mut self, rest: Option<&[u8]>) -> Result<(), LineFault> {
+    #[tactic(auto, unfolding(crate::specs::Machine::finished))]
+    fn close(&mut self, rest: Option<&[u8]>) -> Result<(), LineFault>
+        ensures { TakesLine result (finished (standing self.old) (option_map (λ r. r.now) rest.entry)) (standing self.new) }
+    {
         if rest.is_some() {
             return wrong(Cause::Body);
         }

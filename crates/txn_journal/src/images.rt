@@ -1,5 +1,7 @@
 //! Images of rows as words.
-ghost use Rattle.std.specs.Prelude.{◌≡◌};
+ghost use Rattle.std.specs.Prelude.{◌≡◌, [], option_map};
+ghost use Rattle.txn_journal.specs.Stream.{Finds};
+ghost use Rattle.txn_journal.specs.Lines.{words_of, values_from, some_or_body, image_in, images_in, table_in};
 
 use crate::fault::{Cause, LineFault};
 use crate::names::Names;
@@ -8,7 +10,9 @@ use rows::{Change, Name, Row};
 use std::alloc::Global;
 
 /// The values up to a bar or the end of the line, and what follows the blank behind the bar.
-fn values(alloc: Global, text: &[u8]) -> Result<(Row, Option<&[u8]>), LineFault> {
+fn values(alloc: Global, text: &[u8]) -> Result<(Row, Option<&[u8]>), LineFault>
+    ensures { Finds (λ r. (r.0, option_map (λ t. words_of t.now) r.1)) result (some_or_body (values_from [] (words_of text.now))) }
+{
     let mut values = Vec::new(alloc);
     let mut left = text;
     'words: loop {
@@ -31,7 +35,9 @@ fn values(alloc: Global, text: &[u8]) -> Result<(Row, Option<&[u8]>), LineFault>
 }
 
 /// The image that a text spells.
-pub fn image(alloc: Global, text: &[u8]) -> Result<Row, LineFault> {
+pub fn image(alloc: Global, text: &[u8]) -> Result<Row, LineFault>
+    ensures { Finds (λ r. r) result (image_in text.now) }
+{
     match values(alloc, text)? {
         (row, None) => Ok(row),
         (_, Some(_)) => Err(LineFault::Wrong(Cause::Body)),
@@ -39,7 +45,9 @@ pub fn image(alloc: Global, text: &[u8]) -> Result<Row, LineFault> {
 }
 
 /// The two images that a text spells, with a bar between.
-pub fn two_images(alloc: Global, text: &[u8]) -> Result<(Row, Row), LineFault> {
+pub fn two_images(alloc: Global, text: &[u8]) -> Result<(Row, Row), LineFault>
+    ensures { Finds (λ r. r) result (images_in text.now) }
+{
     match values(alloc, text)? {
         (before, Some(rest)) => {
             let after = image(alloc, rest)?;
@@ -54,7 +62,9 @@ pub fn table_at<'a>(
     names: &mut Names,
     alloc: Global,
     rest: Option<&'a [u8]>,
-) -> Result<(Name, &'a [u8]), LineFault> {
+) -> Result<(Name, &'a [u8]), LineFault>
+    ensures { Finds (λ r. (r.0, r.1.now)) result (table_in (option_map (λ r. r.now) rest.entry)) }
+{
     let Some(text) = rest else {
         return Err(LineFault::Wrong(Cause::Body));
     };

@@ -7,6 +7,7 @@ use crate::feed::{Feed, TakeLine};
 use crate::names::Names;
 use journal::{Entry, Journal};
 use std::alloc::Global;
+use std::marker::Model;
 
 /// A journal that stands alone, as far as its lines have come.
 #[derive(Drop)]
@@ -15,7 +16,26 @@ struct Alone {
     names: Names,
 }
 
+impl Model for Alone {
+    ghost use Rattle.txn_journal.specs.Machine.{Standing};
+    ghost use Rattle.std.specs.Coded.{codes};
+    ghost use Rattle.gtid_set.specs.Sets.{gtids_code};
+
+    ghost Value = { Standing };
+
+    ghost coded = { Prim.hlevel (codes, gtids_code) };
+
+    ghost use Rattle.txn_journal.specs.Drafts.{standing};
+
+    ghost view = { λ a. standing a.draft };
+}
+
 impl TakeLine for Alone {
+    ghost use Rattle.std.specs.Prelude.{None};
+    ghost use Rattle.txn_journal.specs.Machine.{judge};
+
+    ghost judge = { judge None };
+
     fn take_line(&mut self, alloc: Global, line: &[u8]) -> Result<(), LineFault> {
         self.draft.take_line(alloc, None, &mut self.names, line)
     }
