@@ -3,3 +3,4 @@ pub mod Seen
 pub mod LineCuts
 pub mod Pieces
 pub mod NameLemmas
+pub mod ValueSteps

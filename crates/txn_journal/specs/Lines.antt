@@ -94,6 +94,10 @@ abbrev pub stop_at : List Value → List (List ℕ) → Option Image
 stop_at [] words = None
 stop_at (v ∷ vs) words = Some (v ∷ vs, Some words)
 
+abbrev pub stopped : List Value → Option (List (List ℕ)) → Option Image
+stopped before None = None
+stopped before (Some words) = stop_at before words
+
 abbrev pub and_value : List Value → Option Value → (List Value → Option Image) → Option Image
 and_value before None more = None
 and_value before (Some v) more = more (before ++ v ∷ [])

@@ -47,6 +47,15 @@ empty due = record {
   changes = [];
 }
 
+-- the last line has come
+abbrev pub is_last : Place → Bool
+is_last places.Ended = true
+is_last _ = false
+
+-- its entries were taken
+abbrev pub emptied : Standing → Standing
+emptied s = record s { journal = record s.journal { entries = [] } }
+
 -- ---- what a schema takes
 
 -- a row has its table's columns, and no null in the primary key

@@ -58,6 +58,10 @@ abbrev pub answer : {S : Type 0} → Progress S → Result (Unit {0}) JournalFau
 answer (Reading s n rest) = Ok tt
 answer (Stopped fault) = Err fault
 
+abbrev pub answer_of : Option JournalFault → Result (Unit {0}) JournalFault
+answer_of None = Ok tt
+answer_of (Some fault) = Err fault
+
 -- the end of the text, where its last line has come or has not
 abbrev pub ended : Bool → List ℕ → ℕ → Result (Unit {0}) JournalFault
 ended false rest n = Err (faults.Truncated (next_number n))
@@ -70,3 +74,7 @@ TakesPiece (Ok _) new after = after ≡ new
 TakesPiece (Err (faults.Set fault)) new after = Unit {0}
 TakesPiece (Err (faults.Line n cause)) new after = after ≡ Stopped (faults.Line n cause)
 TakesPiece (Err (faults.Truncated n)) new after = ⊥
+
+abbrev pub end_of : {S : Type 0} → Bool → Progress S → Result (Unit {0}) JournalFault
+end_of is_last (Reading s n rest) = ended is_last rest n
+end_of is_last (Stopped fault) = Err fault

@@ -50,24 +50,19 @@ pub struct Draft {
     ghost writable: { AreWritable changes.items },
 }
 
-/// What a line does not say.
-fn wrong<T>(cause: Cause) -> Result<T, LineFault> {
-    Err(LineFault::Wrong(cause))
-}
-
 /// The version that a header names, where it is known.
 pub fn version_in(due: Option<Version>, rest: Option<&[u8]>) -> Result<Version, LineFault>
     ensures { Finds (λ v. v) result (version_in due (option_map (λ r. r.now) rest.entry)) }
 {
     let Some(word) = rest else {
-        return wrong(Cause::Body);
+        return Err(LineFault::Wrong(Cause::Body));
     };
     if !is_count(word) {
-        return wrong(Cause::Body);
+        return Err(LineFault::Wrong(Cause::Body));
     }
     match (word, due) {
         (b"1", None | Some(Version::One)) => Ok(Version::One),
-        _ => wrong(Cause::Version),
+        _ => Err(LineFault::Wrong(Cause::Version)),
     }
 }
 
@@ -132,7 +127,7 @@ fn is_number(number: u64) -> bool
 impl Draft {
     ghost use Rattle.std.specs.Prelude.{option_map, [], Ok};
     ghost use Rattle.txn_journal.specs.Stream.{TakesLine};
-    ghost use Rattle.txn_journal.specs.Machine.{Standing, empty, add, opened, followed, begun, ended, finished, step, judge};
+    ghost use Rattle.txn_journal.specs.Machine.{Standing, empty, is_last, emptied, add, opened, followed, begun, ended, finished, step, judge};
     ghost use Rattle.txn_journal.specs.Drafts.{standing};
 
     /// Before the first line.
@@ -155,17 +150,24 @@ impl Draft {
     }
 
     /// Whether the last line has come.
-    pub fn is_ended(&self) -> bool {
+    pub fn is_ended(&self) -> bool
+        ensures { result ≡ is_last (standing self.now).place }
+    {
         self.place == Place::Ended
     }
 
     /// The entries that were not taken yet.
-    pub fn take_entries(&mut self, alloc: Global) -> Vec<Entry> {
+    pub fn take_entries(&mut self, alloc: Global) -> Vec<Entry>
+        ensures taken { result.items ≡ (standing self.old).journal.entries }
+        ensures left { standing self.new ≡ emptied (standing self.old) }
+    {
         self.journal.take_entries(alloc)
     }
 
     /// The journal, with the entries that were not taken.
-    pub fn into_journal(self) -> Journal {
+    pub fn into_journal(self) -> Journal
+        ensures { result ≡ (standing self).journal }
+    {
         self.journal
     }
 
@@ -185,7 +187,7 @@ impl Draft {
             Some(keyword) if self.place.takes(keyword) => {
                 self.take(alloc, schema, names, keyword, rest)
             }
-            _ => wrong(Cause::Keyword),
+            _ => Err(LineFault::Wrong(Cause::Keyword)),
         }
     }
 
@@ -252,10 +254,10 @@ impl Draft {
         ensures { TakesLine result (followed (standing self.old) (option_map (λ r. r.now) rest.entry)) (standing self.new) }
     {
         let Some(word) = rest else {
-            return wrong(Cause::Body);
+            return Err(LineFault::Wrong(Cause::Body));
         };
         let Some(previous) = set_word(alloc, word)? else {
-            return wrong(Cause::Body);
+            return Err(LineFault::Wrong(Cause::Body));
         };
         self.seen = previous.copy(alloc)?;
         self.journal = Journal::start(alloc, previous);
@@ -268,19 +270,19 @@ impl Draft {
         ensures { TakesLine result (begun (standing self.old) (option_map (λ r. r.now) rest.entry)) (standing self.new) }
     {
         let Some(word) = rest else {
-            return wrong(Cause::Body);
+            return Err(LineFault::Wrong(Cause::Body));
         };
         let Some(gtid) = gtid_word(alloc, word)? else {
-            return wrong(Cause::Body);
+            return Err(LineFault::Wrong(Cause::Body));
         };
         if !is_number(gtid.number) {
-            return wrong(Cause::Body);
+            return Err(LineFault::Wrong(Cause::Body));
         }
         if self.count >= MAX_ENTRIES {
-            return wrong(Cause::Limit);
+            return Err(LineFault::Wrong(Cause::Limit));
         }
         if self.seen.contains(&gtid) {
-            return wrong(Cause::Twice(gtid));
+            return Err(LineFault::Wrong(Cause::Twice(gtid)));
         }
         self.gtid = gtid;
         self.place = Place::Within;
@@ -292,10 +294,10 @@ impl Draft {
         ensures { TakesLine result (add (option_map (λ tables. tables.now) schema.entry) (standing self.old) change) (standing self.new) }
     {
         if self.changes.len() >= MAX_CHANGES || !is_change_writable(&change) {
-            return wrong(Cause::Limit);
+            return Err(LineFault::Wrong(Cause::Limit));
         }
         if !fits(schema, &change) {
-            return wrong(Cause::Schema);
+            return Err(LineFault::Wrong(Cause::Schema));
         }
         self.changes.push(change)?;
         Ok(())
@@ -307,7 +309,7 @@ impl Draft {
         ensures { TakesLine result (ended (standing self.old) (option_map (λ r. r.now) rest.entry)) (standing self.new) }
     {
         if rest.is_some() {
-            return wrong(Cause::Body);
+            return Err(LineFault::Wrong(Cause::Body));
         }
         self.place = Place::Between;
         let changes = mem::replace(&mut self.changes, Vec::new(alloc));
@@ -328,7 +330,7 @@ impl Draft {
         ensures { TakesLine result (finished (standing self.old) (option_map (λ r. r.now) rest.entry)) (standing self.new) }
     {
         if rest.is_some() {
-            return wrong(Cause::Body);
+            return Err(LineFault::Wrong(Cause::Body));
         }
         self.place = Place::Ended;
         Ok(())

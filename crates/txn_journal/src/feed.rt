@@ -8,7 +8,7 @@ use memchr::memchr;
 use std::alloc::Global;
 
 /// The first line of a text, and what follows its line feed.
-fn cut_line(text: &[u8]) -> Option<(&[u8], &[u8])>
+pub fn cut_line(text: &[u8]) -> Option<(&[u8], &[u8])>
     ensures found { IfSome result (λ r. BeginsWithLine text.now r.0.now r.1.now) }
     ensures none { IfNone result (IsOneLine text.now) }
 {
@@ -45,7 +45,7 @@ pub struct Feed<T> {
 
 impl<T> Feed<T> {
     ghost use Rattle.std.specs.Prelude.{[]};
-    ghost use Rattle.txn_journal.specs.Stream.{Reading, answer};
+    ghost use Rattle.txn_journal.specs.Stream.{Reading, answer, end_of};
     ghost use Rattle.txn_journal.specs.Feeds.{progress};
 
     /// Before the first byte.
@@ -71,7 +71,9 @@ impl<T> Feed<T> {
     }
 
     /// What is wrong with the text as a whole.
-    pub fn end(&self, is_ended: bool) -> Result<(), JournalFault> {
+    pub fn end(&self, is_ended: bool) -> Result<(), JournalFault>
+        ensures { result ≡ end_of is_ended (progress self.now) }
+    {
         self.answer()?;
         let line = self.lines.saturating_add(1);
         if !is_ended {

@@ -1,13 +1,34 @@
 //! Images of rows as words.
 ghost use Rattle.std.specs.Prelude.{◌≡◌, [], option_map};
 ghost use Rattle.txn_journal.specs.Stream.{Finds};
-ghost use Rattle.txn_journal.specs.Lines.{words_of, values_from, some_or_body, image_in, images_in, table_in};
+ghost use Rattle.txn_journal.specs.Lines.{words_of, is_bar, stopped, values_from, some_or_body, image_in, images_in, table_in};
 
 use crate::fault::{Cause, LineFault};
 use crate::names::Names;
 use journal_words::{cut, value_word};
-use rows::{Change, Name, Row};
+use rows::{Name, Row, Value};
 use std::alloc::Global;
+
+fn is_bar(word: &[u8]) -> bool
+    ensures { result ≡ is_bar word.now }
+{
+    word == b"|".as_slice()
+}
+
+/// The image before a bar, and what follows the bar.
+fn before_bar(values: Vec<Value>, more: Option<&[u8]>) -> Result<(Row, Option<&[u8]>), LineFault>
+    ensures { Finds (λ r. (r.0, option_map (λ t. words_of t.now) r.1)) result (some_or_body (stopped values.items (option_map (λ t. words_of t.now) more.entry))) }
+{
+    match more {
+        None => Err(LineFault::Wrong(Cause::Body)),
+        Some(after) => {
+            if values.is_empty() {
+                return Err(LineFault::Wrong(Cause::Body));
+            }
+            Ok((Row::new(values)?, Some(after)))
+        }
+    }
+}
 
 /// The values up to a bar or the end of the line, and what follows the blank behind the bar.
 fn values(alloc: Global, text: &[u8]) -> Result<(Row, Option<&[u8]>), LineFault>
@@ -17,11 +38,8 @@ fn values(alloc: Global, text: &[u8]) -> Result<(Row, Option<&[u8]>), LineFault>
     let mut left = text;
     'words: loop {
         let (word, more) = cut(left);
-        if word == b"|".as_slice() {
-            if values.is_empty() || more.is_none() {
-                return Err(LineFault::Wrong(Cause::Body));
-            }
-            return Ok((Row::new(values)?, more));
+        if is_bar(word) {
+            return before_bar(values, more);
         }
         match value_word(alloc, word)? {
             Some(value) => values.push(value)?,
