@@ -104,11 +104,27 @@ fn names_the_first_faulty_line(rt: HostRuntime) -> Result<(), Fail> {
         (1, "journal 01", line(1, Cause::Body)),
         (1, "journal", line(1, Cause::Body)),
         (1, "journal 1 2", line(1, Cause::Body)),
-        (2, "previous aaaaaaaa-aaaa-aaaa-aaaa-aaaaaaaaaaaa:1", twice(3)),
-        (2, "previous aaaaaaaa-aaaa-aaaa-aaaa-aaaaaaaaaaaa:2-1", line(2, Cause::Body)),
-        (2, "previous aaaaaaaa-aaaa-aaaa-aaaa-aaaaaaaaaaaa:0", line(2, Cause::Body)),
+        (
+            2,
+            "previous aaaaaaaa-aaaa-aaaa-aaaa-aaaaaaaaaaaa:1",
+            twice(3),
+        ),
+        (
+            2,
+            "previous aaaaaaaa-aaaa-aaaa-aaaa-aaaaaaaaaaaa:2-1",
+            line(2, Cause::Body),
+        ),
+        (
+            2,
+            "previous aaaaaaaa-aaaa-aaaa-aaaa-aaaaaaaaaaaa:0",
+            line(2, Cause::Body),
+        ),
         (2, "previous ", line(2, Cause::Body)),
-        (3, "txn aaaaaaaa-aaaa-aaaa-aaaa-aaaaaaaaaaaa:0", line(3, Cause::Body)),
+        (
+            3,
+            "txn aaaaaaaa-aaaa-aaaa-aaaa-aaaaaaaaaaaa:0",
+            line(3, Cause::Body),
+        ),
         (4, "ins t 01 x61 null", line(4, Cause::Body)),
         (4, "ins t 1 x6A null", line(4, Cause::Body)),
         (4, "ins t  1 x61 null", line(4, Cause::Body)),
@@ -131,10 +147,20 @@ fn names_the_first_faulty_line(rt: HostRuntime) -> Result<(), Fail> {
     ];
     for (at, change, fault) in changes {
         let text = text_with(rt.alloc(), &V3, at, change)?;
-        assert_eq!(rt; journal_fault(rt.alloc(), text.as_str()), Some(fault), "line {at}: {change}");
+        assert_eq!(rt;
+            journal_fault(rt.alloc(), text.as_str()),
+            Some(fault),
+            "line {at}: {change}"
+        );
     }
-    assert_eq!(rt; journal_fault(rt.alloc(), ""), Some(JournalFault::Truncated { line: 1 }));
-    assert_eq!(rt; journal_fault(rt.alloc(), "journal 1\nprevious -\nclose\nx"), Some(line(4, Cause::Keyword)));
+    assert_eq!(rt;
+        journal_fault(rt.alloc(), ""),
+        Some(JournalFault::Truncated { line: 1 })
+    );
+    assert_eq!(rt;
+        journal_fault(rt.alloc(), "journal 1\nprevious -\nclose\nx"),
+        Some(line(4, Cause::Keyword))
+    );
     Ok(())
 }
 
@@ -150,15 +176,31 @@ fn names_the_first_faulty_line_of_a_bundle(rt: HostRuntime) -> Result<(), Fail> 
         (3, "table t 3 pk 3", line(3, Cause::Schema)),
         (3, "table t 65 pk 0", line(3, Cause::Limit)),
         (3, "table t 0 pk 0", line(3, Cause::Limit)),
-        (3, "table t 99999999999999999999 pk 0", line(3, Cause::Limit)),
-        (3, "table t 3 pk 99999999999999999999", line(3, Cause::Schema)),
+        (
+            3,
+            "table t 99999999999999999999 pk 0",
+            line(3, Cause::Limit),
+        ),
+        (
+            3,
+            "table t 3 pk 99999999999999999999",
+            line(3, Cause::Schema),
+        ),
         (3, "table t 3 pk 0,0", line(3, Cause::Body)),
         (3, "table t 3 pk 00", line(3, Cause::Body)),
         (3, "table t 3 pk", line(3, Cause::Body)),
         (3, "table t 3 uk 0", line(3, Cause::Body)),
-        (3, "table t 1 pk 0 uk 0 uk 0 uk 0 uk 0 uk 0 uk 0 uk 0 uk 0 uk 0", line(3, Cause::Limit)),
+        (
+            3,
+            "table t 1 pk 0 uk 0 uk 0 uk 0 uk 0 uk 0 uk 0 uk 0 uk 0 uk 0",
+            line(3, Cause::Limit),
+        ),
         (3, "table t 3 pk 0\ntable t 3 pk 0", line(4, Cause::Schema)),
-        (3, "table t 3 pk 0 uk 1\nrow t 1 x61 null\nrow t 2 x61 null", line(5, Cause::Schema)),
+        (
+            3,
+            "table t 3 pk 0 uk 1\nrow t 1 x61 null\nrow t 2 x61 null",
+            line(5, Cause::Schema),
+        ),
         (3, "table t 3 pk 0\nrow t 1 x61", line(4, Cause::Schema)),
         (4, "channel x preserved", line(4, Cause::Body)),
         (5, "journal 2", line(5, Cause::Version)),
@@ -173,7 +215,11 @@ fn names_the_first_faulty_line_of_a_bundle(rt: HostRuntime) -> Result<(), Fail> 
     ];
     for (at, change, fault) in changes {
         let text = text_with(rt.alloc(), &V2, at, change)?;
-        assert_eq!(rt; bundle_fault(rt.alloc(), text.as_str()), Some(fault), "line {at}: {change}");
+        assert_eq!(rt;
+            bundle_fault(rt.alloc(), text.as_str()),
+            Some(fault),
+            "line {at}: {change}"
+        );
     }
     Ok(())
 }
@@ -202,7 +248,13 @@ fn reads_alike_however_it_is_cut(rt: HostRuntime) -> Result<(), Fail> {
     let bytes = text.as_bytes();
     for at in 0..bytes.len() {
         let read = read_in_two(rt.alloc(), &bytes[..at], &bytes[at..]);
-        let first = if at < 85 { 0 } else if at < 162 { 1 } else { 2 };
+        let first = if at < 85 {
+            0
+        } else if at < 162 {
+            1
+        } else {
+            2
+        };
         assert_eq!(rt; read, Ok((first, 2)), "at {at}");
     }
     assert_eq!(rt; read_bytes(rt.alloc(), bytes), Ok(2));
