@@ -9,7 +9,10 @@ ghost use Rattle.std.specs.FinSet as set;
 ghost use Rattle.journal_words.specs.Gtids.{is_ascii_byte, source_of_word, gtid_of_word, is_behind, are_tidy_behind, some_tidy, spans_of_word, set_with, set_of_word};
 
 use gtid_set::{GtidSet, SetFault};
-use gtid_text::{Gtid, SourceId, Span, TextFault, parse_gtid, parse_source, parse_spans, write_gtid, write_next_span, write_source};
+use gtid_text::{
+    Gtid, SourceId, Span, TextFault, parse_gtid, parse_source, parse_spans, write_gtid,
+    write_next_span, write_source,
+};
 use std::alloc::{AllocError, Global};
 
 fn is_ascii(word: &[u8]) -> bool
@@ -100,7 +103,9 @@ fn are_tidy(spans: &[Span]) -> bool
 {
     let mut before: Option<&Span> = None;
     for span in spans {
-        if let Some(earlier) = before && !is_behind(earlier, span) {
+        if let Some(earlier) = before
+            && !is_behind(earlier, span)
+        {
             return false;
         }
         before = Some(span);
