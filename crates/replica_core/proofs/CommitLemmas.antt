@@ -1,10 +1,10 @@
 -- What a commit leaves, field by field.
 use Rattle.std.proofs.Common.{◌≡◌, ℕ, List, sym, ap, subst, ◌∙◌, map}
-use Rattle.std.specs.Prelude.{Ok, Err}
+use Rattle.std.specs.Prelude.{Ok}
 use Rattle.std.specs.FinSet as set
 use Rattle.rows.specs.declared.schema.Table.{Table}
 use Rattle.rows.specs.declared.change.Transaction.{Transaction}
-use Rattle.rows.specs.Apply.{Rows, apply}
+use Rattle.rows.specs.Apply.{apply}
 use Rattle.rows.specs.Database.{Database}
 use Rattle.gtid_set.specs.Sets.{Gtids}
 use Rattle.journal.specs.declared.Entry.{Entry}
@@ -12,8 +12,7 @@ use Rattle.journal.specs.Journals.{JournalValue, whole}
 use Rattle.relay.specs.Own.{with_last}
 use Rattle.relay.proofs.OwnLemmas.{whole-with_last}
 use Rattle.apply_channel.specs.Channels.{ChannelValue, settled}
-use Rattle.replica_core.specs.State.{Seats, State, Replica}
-use Rattle.replica_core.specs.Machine.{executing}
+use Rattle.replica_core.specs.State.{Seats}
 use Rattle.replica_core.specs.Kept.{ChannelsValue, AreKept}
 use Rattle.replica_core.specs.Keyed.{changed}
 use Rattle.replica_core.specs.Core.{IsCore}
@@ -29,8 +28,8 @@ core_executed e rows new_rows channels new_channels journal new_journal core sam
     record {
       same = ap (λ (v : ChannelsValue). v.schema) settles ∙ core.same ∙ sym same;
       kept = subst (λ (schema : List Table). AreKept schema (whole new_journal) new_channels.list) (sym same)
-      (subst (λ (s : Gtids). AreKept rows.schema s new_channels.list) (sym executed)
-      (subst (λ (cs : List ChannelValue). AreKept rows.schema (set.insert (whole journal) e.gtid) cs) (sym (ap (λ (v : ChannelsValue). v.list) settles)) kept));
+          (subst (λ (s : Gtids). AreKept rows.schema s new_channels.list) (sym executed)
+          (subst (λ (cs : List ChannelValue). AreKept rows.schema (set.insert (whole journal) e.gtid) cs) (sym (ap (λ (v : ChannelsValue). v.list) settles)) kept));
     }
 
 -- an entry was executed

@@ -5,15 +5,13 @@ use Rattle.std.specs.Option.{MatchOption}
 use Rattle.std.specs.FinSet as set
 use Rattle.std.specs.FinMap as finmap
 use Rattle.rows.specs.Database.{Database}
-use Rattle.gtid_set.specs.Sets.{Gtids}
 use Rattle.gtid_set.proofs.SetLemmas.{union_empty}
 use Rattle.journal.specs.Journals.{JournalValue, whole}
 use Rattle.apply_channel.specs.Channels.{ChannelValue}
 use Rattle.replica_core.specs.declared.event.Spot.{Spot}
-use Rattle.replica_core.specs.State.{Seats, State, Site, Replica}
+use Rattle.replica_core.specs.State.{Seats, Replica}
 use Rattle.replica_core.specs.Slots.{seats_of}
 use Rattle.apply_channel.specs.Channels.{Keyed}
-use Rattle.rows.specs.declared.schema.Table.{Table}
 use Rattle.replica_core.specs.Kept.{ChannelsValue, IsKept, AreKept}
 use Rattle.replica_core.specs.Keyed.{IsAt, IsNotAt}
 use Rattle.replica_core.specs.Core.{opened, IsAtCore, IsNotAtCore}

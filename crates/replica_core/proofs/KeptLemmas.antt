@@ -1,5 +1,5 @@
 -- A received entry has its transaction exactly where its GTID is not executed: so a channel knows by itself what is in the way.
-use Rattle.std.proofs.Common.{◌≡◌, ℕ, ◌+◌, ◌<◌, suc, Bool, true, false, cond, not, ◌&&◌, List, [], ◌∷◌, ◌++◌, refl, sym, ap, subst, ◌∙◌, arith, length, take, inl, inr, Bor, map, ◌||◌}
+use Rattle.std.proofs.Common.{◌≡◌, ℕ, ◌+◌, ◌<◌, suc, Bool, true, false, cond, not, ◌&&◌, List, [], ◌∷◌, refl, sym, ap, subst, ◌∙◌, arith, length, take, inl, inr, map, ◌||◌}
 use Rattle.std.specs.Prelude.{Option, Some, None, All, position, slice_get, option_and_then, is_some, is_none, nat_lt, slice_set}
 use Rattle.std.specs.List.{prefix_len, list_all}
 use Rattle.std.specs.Option.{option_map_or}
@@ -84,9 +84,9 @@ still_fits schema false e fits = fits
 settle_kept : (schema : List Table) (executed : Gtids) (g : Gtid) (e : Received) → IsKept schema executed e → IsKept schema (set.insert executed g) (settle g e)
 settle_kept schema executed g e kept = record {
   waits =
-    dropped (same_gtid e.gtid g) (set.contains executed e.gtid) e kept.waits
-    ∙ sym (ap (λ h. not (set.contains (set.insert executed g) h)) (same_name (same_gtid e.gtid g) e)
-    ∙ ap not (set.contains-insert gtid_total executed g e.gtid ∙ ap (λ b. b || set.contains executed e.gtid) (gtid_tied e.gtid g)));
+      dropped (same_gtid e.gtid g) (set.contains executed e.gtid) e kept.waits
+      ∙ sym (ap (λ h. not (set.contains (set.insert executed g) h)) (same_name (same_gtid e.gtid g) e)
+      ∙ ap not (set.contains-insert gtid_total executed g e.gtid ∙ ap (λ b. b || set.contains executed e.gtid) (gtid_tied e.gtid g)));
   fits = still_fits schema (same_gtid e.gtid g) e kept.fits;
   number = ap (λ (h : Gtid). is_number h.number) (same_name (same_gtid e.gtid g) e) ∙ kept.number;
 }

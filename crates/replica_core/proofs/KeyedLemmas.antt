@@ -1,6 +1,6 @@
 -- Channels with their schema, and the channels alone.
 use Rattle.std.proofs.Common.{◌≡◌, ℕ, zero, suc, Bool, false, ◌||◌, List, [], ◌∷◌, ◌++◌, map, length, refl, sym, ap, ◌∙◌}
-use Rattle.std.specs.Prelude.{Option, Some, None, Result, Ok, Err, OnOk, All, slice_get, slice_set, option_map}
+use Rattle.std.specs.Prelude.{Option, Some, None, Result, Ok, Err, OnOk, slice_get, slice_set, option_map}
 use Rattle.std.specs.List.{list_any}
 use Rattle.std.specs.Option.{option_map_or}
 use Rattle.std.proofs.lemmas.List.Elements.{All-map, All-append, All-cons, All-nil}
@@ -10,7 +10,7 @@ use Rattle.gtid_text.specs.declared.Gtid.{Gtid}
 use Rattle.gtid_set.specs.Sets.{Gtids}
 use Rattle.journal.specs.declared.Entry.{Entry}
 use Rattle.apply_channel.specs.Channels.{Keyed, ChannelValue, settled, same_name, with_stopped, with_asked, with_received, with_entry, received_as, is_full}
-use Rattle.replica_core.specs.Kept.{ChannelsValue, AreOf}
+use Rattle.replica_core.specs.Kept.{AreOf}
 use Rattle.replica_core.specs.Keyed.{keyed_settled, keyed_stopped, keyed_asked, keyed_len_at, keyed_full_at, len_at, full_at}
 use Rattle.replica_core.specs.Machine.{changed_at}
 use Rattle.replica_core.proofs.KeptLemmas.{All-changed_at}

@@ -1,10 +1,8 @@
 -- The owner, seat by seat.
-use Rattle.std.proofs.Common.{◌≡◌, ℕ, ◌+◌, suc, false, cond, refl, sym, ap}
+use Rattle.std.proofs.Common.{◌≡◌, ℕ, ◌+◌, suc, cond, refl, sym, ap}
 use Rattle.std.specs.Prelude.{Option, Some, None, find}
 use Rattle.std.specs.List.{range_with_len}
-use Rattle.std.specs.Option.{option_map_or}
 use Rattle.gtid_text.specs.declared.Gtid.{Gtid}
-use Rattle.gtid_text.specs.Gtids.{same_gtid}
 use Rattle.replica_core.specs.State.{State, owns, owner, seat_numbers}
 
 unfoldable pub owner_from : State → Gtid → ℕ → ℕ → Option ℕ

@@ -1,6 +1,6 @@
 -- What a Receive and a Local leave.
-use Rattle.std.proofs.Common.{◌≡◌, ℕ, ◌+◌, ◌≤◌, ◌<◌, zero, suc, Bool, true, false, not, ◌&&◌, cond, Bor, List, ◌∷◌, [], refl, sym, ap, subst, ◌∙◌, arith, length, nat_le}
-use Rattle.std.specs.Prelude.{Option, Some, None, slice_get, slice_set, is_none, is_some, option_copied, find}
+use Rattle.std.proofs.Common.{◌≡◌, ℕ, ◌+◌, ◌≤◌, ◌<◌, zero, suc, Bool, true, false, not, ◌&&◌, cond, Bor, List, refl, sym, ap, subst, ◌∙◌, arith, length}
+use Rattle.std.specs.Prelude.{Option, Some, None, slice_get, is_none, is_some, option_copied, find}
 use Rattle.std.specs.Option.{option_map_or}
 use Rattle.std.specs.List.{range_with_len}
 use Rattle.std.specs.FinSet as set
@@ -8,15 +8,13 @@ use Rattle.std.proofs.lemmas.Bool.Decides.{nat_tests}
 use Rattle.rows.specs.declared.schema.Table.{Table}
 use Rattle.rows.specs.Fits.{misfit, Fits}
 use Rattle.gtid_set.specs.Sets.{Gtids, gtid, greatest, least_number}
-use Rattle.gtid_set.proofs.SetLemmas.{least_from, least_first}
 use Rattle.journal.specs.declared.Entry.{Entry}
 use Rattle.journal.specs.Writing.{is_number}
-use Rattle.apply_channel.specs.Channels.{ChannelValue, Received, with_received, received_as, is_full}
-use Rattle.replica_core.specs.declared.event.Reply.{Reply}
+use Rattle.apply_channel.specs.Channels.{ChannelValue, with_received, received_as, is_full}
 use Rattle.replica_core.specs.declared.event.Reply.TheVariants as reply
-use Rattle.replica_core.specs.State.{Site, State, Replica}
+use Rattle.replica_core.specs.State.{Site, State}
 use Rattle.replica_core.specs.Machine.{Step, receive, changed_at, is_free, next_number}
-use Rattle.replica_core.specs.Kept.{ChannelsValue, FitsIf}
+use Rattle.replica_core.specs.Kept.{ChannelsValue}
 use Rattle.replica_core.specs.Keyed.{changed, len_at, full_at}
 use Rattle.replica_core.specs.Core.{IsCore}
 use Rattle.replica_core.proofs.KeptLemmas.{kept_entry, kept_received}

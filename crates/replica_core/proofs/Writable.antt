@@ -1,5 +1,5 @@
 -- What a schema takes can be written.
-use Rattle.std.proofs.Common.{◌≡◌, ℕ, ◌+◌, ◌≤◌, Bool, true, false, not, ◌&&◌, ◌||◌, List, [], ◌∷◌, length, refl, sym, ap, subst, ◌∙◌, arith, nat_le, nat_lt, cond}
+use Rattle.std.proofs.Common.{◌≡◌, ℕ, ◌+◌, ◌≤◌, Bool, true, false, not, ◌&&◌, ◌||◌, List, [], ◌∷◌, length, refl, sym, subst, arith, nat_le, nat_lt, cond}
 use Rattle.std.specs.Prelude.{Option, Some, None, ◌==◌}
 use Rattle.std.specs.List.{list_all, list_any}
 use Rattle.std.specs.Ordering.{nat_cmp, eq_by_cmp}
@@ -11,10 +11,9 @@ use Rattle.rows.specs.declared.change.Change.{Change}
 use Rattle.rows.specs.declared.change.Change.TheVariants.{Insert, Delete, Update}
 use Rattle.rows.specs.declared.change.Transaction.{Transaction}
 use Rattle.rows.specs.declared.schema.Table.{Table}
-use Rattle.rows.specs.declared.change.Misfit.{Misfit}
 use Rattle.rows.specs.Keys.{table_named}
 use Rattle.rows.specs.Tables.{AreTables, is_table, is_within_limits, has_column_lists, has_its_columns}
-use Rattle.rows.specs.Fits.{Fits, misfit, misfit_from, change_misfit, misfit_in, images_misfit, row_misfit, is_too_long, has_primary_null, table_of, count_misfit}
+use Rattle.rows.specs.Fits.{Fits, misfit_from, change_misfit, misfit_in, images_misfit, row_misfit, is_too_long, has_primary_null, table_of, count_misfit}
 use Rattle.rows.proofs.FitLemmas.{no_cause, none_later, few_changes}
 use Rattle.journal.specs.Writing.{is_txn_writable, is_change_writable, is_image_writable, is_value_writable}
 

@@ -1,8 +1,7 @@
 -- Committing an entry.
-use Rattle.std.specs.Prelude.{◌≡◌, ℕ, true, false, Ok, Err}
+use Rattle.std.specs.Prelude.{◌≡◌, true, false, Ok, Err}
 use Rattle.std.specs.FinSet as set
 use Rattle.rows.specs.declared.change.RowFault.{RowFault}
-use Rattle.rows.specs.declared.change.Transaction.{Transaction}
 use Rattle.rows.specs.Apply.{apply}
 use Rattle.rows.specs.Fits.{Fits}
 use Rattle.journal.specs.declared.Entry.{Entry}

@@ -1,9 +1,10 @@
 -- A replica as it is opened, and what it keeps.
-use Rattle.std.specs.Prelude.{◌≡◌, ℕ, true, List, Some, None, All, slice_get}
+use Rattle.std.specs.Prelude.{◌≡◌, ℕ, true, List, Option, Some, None, All, slice_get}
 use Rattle.rows.specs.declared.schema.Table.{Table}
 use Rattle.rows.specs.Database.{Database}
+use Rattle.rows.specs.declared.change.Transaction.{Transaction}
 use Rattle.gtid_set.specs.Sets.{Gtids}
-use Rattle.replica_core.specs.State.{State, Replica}
+use Rattle.replica_core.specs.State.{State, Replica, entry_at}
 use Rattle.replica_core.specs.Kept.{ChannelsValue, IsKept, AreKept}
 use Rattle.replica_core.specs.Machine.{Step, opening, is_seat, take_place, taking}
 use Rattle.gtid_text.specs.declared.Gtid.{Gtid}
@@ -37,3 +38,10 @@ Takes r seat channel place g =
 -- an event that changes nothing, with this reply
 abbrev pub Refuses : (State → Step) → Replica → Reply → Type 0
 Refuses event r reply = event r.state ≡ (reply, r.state)
+
+-- a GTID stands at a place of a channel, with its transaction where it is not executed
+abbrev pub IsEntryAt : Replica → ℕ → ℕ → Gtid → Option Transaction → Type 0
+IsEntryAt r channel place g t = entry_at r.state (record { channel = channel; place = place }) ≡ Some (record { gtid = g; txn = t })
+
+abbrev pub IsNoEntry : Replica → ℕ → ℕ → Type 0
+IsNoEntry r channel place = entry_at r.state (record { channel = channel; place = place }) ≡ None

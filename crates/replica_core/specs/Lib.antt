@@ -6,3 +6,4 @@ pub mod Machine
 pub mod Core
 pub mod Committing
 pub mod Ready
+pub mod Replies

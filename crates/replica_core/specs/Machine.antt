@@ -1,7 +1,7 @@
 -- The machine of a replica: one event, one reply and a new state. The replies stand in the order in which they are tested.
-use Rattle.std.specs.Prelude.{ℕ, Bool, true, false, not, ◌&&◌, nat_le, nat_lt, List, [], ◌∷◌, ◌++◌, map, length, take, drop, slice_get, slice_set, position, Option, Some, None, option_map, option_and_then, is_none, Result, Ok, Err, if◌then◌else◌}
+use Rattle.std.specs.Prelude.{◌≡◌, All, ℕ, Bool, true, false, not, ◌&&◌, nat_le, nat_lt, List, [], ◌∷◌, ◌++◌, map, length, take, slice_get, slice_set, position, Option, None, option_map, option_and_then, is_none, Result, Ok, Err, if◌then◌else◌}
 use Rattle.std.specs.List.{list_any, list_all}
-use Rattle.std.specs.Option.{option_map_or, is_some}
+use Rattle.std.specs.Option.{option_map_or}
 use Rattle.std.specs.FinSet as set
 use Rattle.std.specs.FinMap as finmap
 use Rattle.gtid_text.specs.declared.Gtid.{Gtid}
@@ -242,3 +242,6 @@ is_numbered (event.Restart c) = true
 is_numbered (event.Local changes) = true
 is_numbered (event.Purge k) = true
 is_numbered event.Look = true
+
+abbrev pub AreNumbered : List Event → Type 0
+AreNumbered events = All (λ e. is_numbered e ≡ true) events

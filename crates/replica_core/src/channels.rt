@@ -135,13 +135,19 @@ impl Channels {
     }
 
     /// Opens one more.
-    pub(crate) fn push(&mut self, alloc: Global, name: &Name, preserve: bool) -> Result<(), SetFault>
+    pub(crate) fn push(
+        &mut self,
+        alloc: Global,
+        name: &Name,
+        preserve: bool,
+    ) -> Result<(), SetFault>
         ensures ok { OnOk result (self.new ≡ changed (self.old.list ++ opened name.now preserve ∷ []) self.old) }
         ensures err { OnErr result (self.new ≡ self.old) }
     {
         let name = name.clone()?;
         let schema = self.schema.clone()?;
-        self.list.push(Channel::open(alloc, schema, name, preserve))?;
+        self.list
+            .push(Channel::open(alloc, schema, name, preserve))?;
         Ok(())
     }
 

@@ -7,6 +7,7 @@ mod event;
 mod feed;
 mod local;
 mod machine;
+mod query;
 mod step;
 mod take;
 

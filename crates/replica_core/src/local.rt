@@ -52,12 +52,7 @@ impl Core {
     }
 
     /// Commits a transaction of the server's own under a number.
-    fn local_as(
-        &mut self,
-        alloc: Global,
-        number: u64,
-        txn: &Transaction,
-    ) -> Result<Reply, SetFault>
+    fn local_as(&mut self, alloc: Global, number: u64, txn: &Transaction) -> Result<Reply, SetFault>
         requires may { next_number self.old.site self.old.state ≡ Some number }
         requires fits { misfit self.old.site.schema txn.now ≡ None }
         ensures ok { IfOk result (λ r. (r, self.new.state) ≡ local self.old.site txn.now self.old.state) }

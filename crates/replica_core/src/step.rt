@@ -1,6 +1,7 @@
 //! One event, and events in turn.
-ghost use Rattle.std.specs.Prelude.{◌≡◌, IfOk, OnErr, true};
-ghost use Rattle.replica_core.specs.Machine.{purge, look, step, is_numbered};
+ghost use Rattle.std.specs.Prelude.{◌≡◌, ◌<◌, ◌∷◌, [], ◌++◌, IfOk, OnErr, None, true, length, vec_len, vec_capacity};
+ghost use Rattle.replica_core.specs.Machine.{purge, look, step, is_numbered, AreNumbered, replies, after};
+ghost use Rattle.replica_core.specs.Replies.{answered};
 
 use crate::event::{Event, Reply};
 use crate::machine::Core;
@@ -50,5 +51,39 @@ impl Core {
             Event::Local(changes) => self.local(alloc, changes),
             Event::Purge(count) => self.purge(alloc, *count),
         }
+    }
+}
+
+/// Puts a reply at the end, where there is room.
+fn put(told: &mut Vec<Reply>, reply: Reply)
+    requires { vec_len told.old < vec_capacity told.old }
+    ensures { told.new.items ≡ told.old.items ++ reply ∷ [] }
+{
+    if told.push(reply).is_err() {
+        unreachable!()
+    }
+}
+
+impl Core {
+    /// Events in turn: the replies up to the first error, and that error. What came before it stays.
+    /// Room for each reply is made before its step.
+    pub fn run(&mut self, alloc: Global, events: &[Event]) -> (Vec<Reply>, Option<SetFault>)
+        requires { AreNumbered events.now }
+        ensures told { result.0.items ≡ replies self.old.site self.old.state (answered result.0.items events.now) }
+        ensures state { self.new.state ≡ after self.old.site self.old.state (answered result.0.items events.now) }
+        ensures whole { result.1 ≡ None → length result.0.items ≡ length events.now }
+        ensures site { self.new.site ≡ self.old.site }
+    {
+        let mut told = Vec::new(alloc);
+        for event in events {
+            if told.reserve(1).is_err() {
+                return (told, Some(SetFault::Memory));
+            }
+            match self.step(alloc, event) {
+                Ok(reply) => put(&mut told, reply),
+                Err(fault) => return (told, Some(fault)),
+            }
+        }
+        (told, None)
     }
 }

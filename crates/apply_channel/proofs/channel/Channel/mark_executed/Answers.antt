@@ -1,5 +1,5 @@
 use Rattle.std.proofs.Common.{ap, ◌∙◌, List}
-use Rattle.apply_channel.specs.Channels.{Keyed, ChannelValue, Received, settled}
+use Rattle.apply_channel.specs.Channels.{Keyed, Received, settled}
 use Rattle.apply_channel.specs.Kept.{entries_of}
 use Rattle.apply_channel.proofs.Slots.{entries_of-settle, kept_settle}
 use Rattle.apply_channel.proofs.channel.Channel.mark_executed.Goals as goal

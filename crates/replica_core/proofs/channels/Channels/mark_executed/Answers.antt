@@ -2,7 +2,6 @@ use Rattle.std.proofs.Common.{ap, ◌∙◌, List, map}
 use Rattle.apply_channel.specs.Channels.{settled, ChannelValue}
 use Rattle.replica_core.specs.Kept.{ChannelsValue}
 use Rattle.replica_core.specs.Keyed.{changed}
-use Rattle.replica_core.specs.Machine.{changed_at}
 use Rattle.replica_core.proofs.KeyedLemmas.{channel_of, settled_as, of_settled}
 use Rattle.replica_core.proofs.channels.Channels.mark_executed.Goals as goal
 

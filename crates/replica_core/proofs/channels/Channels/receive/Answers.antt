@@ -1,5 +1,5 @@
 use Rattle.std.proofs.Common.{◌≡◌, true, subst, ap, ◌∙◌, List, map}
-use Rattle.apply_channel.specs.Channels.{Keyed, ChannelValue, with_received, with_entry, received_as}
+use Rattle.apply_channel.specs.Channels.{ChannelValue, with_received, with_entry, received_as}
 use Rattle.apply_channel.specs.Full.{IsFull}
 use Rattle.replica_core.specs.Kept.{ChannelsValue}
 use Rattle.replica_core.specs.Keyed.{changed, full_at}

@@ -1,13 +1,6 @@
-use Rattle.std.proofs.Common.{◌≡◌, true, ◌&&◌, ap, sym, subst, ◌∙◌, List, map}
-use Rattle.std.specs.FinSet as set
-use Rattle.rows.specs.declared.schema.Table.{Table}
+use Rattle.std.proofs.Common.{◌&&◌, ap, subst, ◌∙◌}
 use Rattle.rows.specs.Tables.{AreTables}
-use Rattle.rows.specs.Fits.{Fits}
-use Rattle.journal.specs.Journals.{JournalValue, whole}
-use Rattle.relay.proofs.OwnLemmas.{whole-with_last}
-use Rattle.apply_channel.specs.Channels.{settled}
 use Rattle.replica_core.specs.State.{Replica}
-use Rattle.replica_core.specs.Kept.{ChannelsValue}
 use Rattle.replica_core.proofs.Writable.{fits_writable}
 use Rattle.replica_core.proofs.CommitLemmas.{core_executed, executed_is}
 use Rattle.replica_core.specs.Slots.{seats_of}

@@ -1,4 +1,4 @@
-use Rattle.std.proofs.Common.{◌≡◌, false, ap, sym, subst, ◌∙◌}
+use Rattle.std.proofs.Common.{ap, sym, subst, ◌∙◌}
 use Rattle.std.specs.FinSet as set
 use Rattle.gtid_set.specs.Sets.{gtid}
 use Rattle.rows.specs.declared.change.Transaction.{Transaction}

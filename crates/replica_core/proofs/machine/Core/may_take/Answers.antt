@@ -1,4 +1,4 @@
-use Rattle.std.proofs.Common.{◌≡◌, sym, ap, ◌∙◌, rules, arith, List}
+use Rattle.std.proofs.Common.{sym, ap, ◌∙◌, rules, arith, List}
 use Rattle.std.proofs.lemmas.Grind.{common_steps}
 use Rattle.rows.specs.declared.schema.Table.{Table}
 use Rattle.apply_channel.specs.Channels.{blocker}

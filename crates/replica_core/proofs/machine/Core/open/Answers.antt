@@ -1,4 +1,4 @@
-use Rattle.std.proofs.Common.{ap, sym, ◌∙◌, []}
+use Rattle.std.proofs.Common.{ap, ◌∙◌, []}
 use Rattle.gtid_set.specs.Sets.{Gtids}
 use Rattle.journal.specs.Journals.{JournalValue}
 use Rattle.replica_core.specs.Kept.{ChannelsValue}

@@ -1,4 +1,4 @@
-use Rattle.std.proofs.Common.{◌≡◌, false, ap, sym, subst, ◌∙◌, List, Option, None}
+use Rattle.std.proofs.Common.{ap, sym, ◌∙◌, List}
 use Rattle.std.specs.Prelude.{is_none}
 use Rattle.std.specs.FinSet as set
 use Rattle.rows.specs.declared.schema.Table.{Table}
