@@ -13,6 +13,7 @@ use Rattle.std.proofs.lemmas.Slice.Eq.{slice_eq-Decides}
 use Rattle.rows.specs.declared.value.Value.{Value}
 use Rattle.rows.specs.declared.change.Key.{Key}
 use Rattle.rows.specs.declared.schema.Table.{Table}
+use Rattle.rows.specs.Prepared.{table_eq}
 use Rattle.rows.specs.Order.{key_cmp, row_eq}
 use Rattle.rows.specs.Total.{row_eq_same, row_eq_self}
 use Rattle.rows.proofs.Stored.{entries-stored}
@@ -63,16 +64,13 @@ keys-Decide a b =
           (and_true (a.index == b.index) (row_eq a.values b.values) ((unsigned_Decides a.index b.index).1 (ap (λ (k : Key). k.index) e)) ((rows-Decide a.values b.values).1 (ap (λ (k : Key). k.values) e))),
     )
 
-abbrev pub table_test : Table → Table → Bool
-table_test a b = eq_by_cmp (slice_cmp nat_cmp) a.name b.name && (a.columns == b.columns && (pointwise nat_eq a.primary b.primary && pointwise (pointwise nat_eq) a.uniques b.uniques))
-
-pub tables-Decide : (a b : Table) → Decides (table_test a b) (a ≡ b)
+pub tables-Decide : (a b : Table) → Decides (table_eq a b) (a ≡ b)
 tables-Decide a b =
     let n = eq_by_cmp (slice_cmp nat_cmp) a.name b.name in
     let c = a.columns == b.columns in
     let p = pointwise nat_eq a.primary b.primary in
     let u = pointwise (pointwise nat_eq) a.uniques b.uniques in
-    let same : table_test a b ≡ true → a ≡ b = λ e.
+    let same : table_eq a b ≡ true → a ≡ b = λ e.
     let x = both n (c && (p && u)) e in
     let y = both c (p && u) x.1 in
     let z = both p u y.1 in
