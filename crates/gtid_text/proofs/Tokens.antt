@@ -1,36 +1,74 @@
 -- The tokens of set text.
-use Rattle.std.proofs.Common.{◌≡◌, ℕ, ◌^◌, ◌<◌, Bool, true, false, cond, eqb, List, [], ◌∷◌, length, Option, Some, None, Result, Ok, Err, refl, sym, ap, ◌∙◌, inl, inr, rules, eq-eqb}
+use Rattle.std.proofs.Common.{◌≡◌, ℕ, ◌+◌, ◌-◌, ◌*◌, ◌^◌, ◌<◌, ◌≤◌, Bool, take, get_or, subst, arith, true, false, cond, eqb, List, [], ◌∷◌, length, Option, Some, None, refl, sym, ap, ◌∙◌, inl, inr, rules, eq-eqb}
 use Rattle.std.specs.List.{list_all}
 use Rattle.std.specs.Char.{is_ascii_digit}
-use Rattle.std.specs.Str.{IsUtf8}
-use Rattle.std.specs.Str.Parse.{digits_value, ParsesUnsigned}
-use Rattle.std.specs.Result.{OkIff, result_ok}
-use Rattle.std.proofs.lemmas.Str.{IsUtf8-from_ascii}
-use Rattle.std.proofs.lemmas.Str.Parse.{IsNumeralModel, numerals_by_value, parse_digits}
-use Rattle.std.proofs.lemmas.Fmt.{IsAscii-from_digits}
+use Rattle.std.specs.Str.Parse.{digits_value}
+use Rattle.std.proofs.lemmas.Str.Parse.{IsNumeralModel, numerals_by_value}
 use Rattle.std.proofs.lemmas.Bool.{cases_lt, le-ltb, lt-ltb}
 use Rattle.std.specs.Prelude.{option_map}
 use Rattle.std.specs.Int.{w128, from_be_bytes}
 use Rattle.uuid.specs.Text.{parsed, parsed_hyphenated}
 use Rattle.gtid_text.specs.declared.SourceId.{SourceId}
-use Rattle.gtid_text.specs.Scan.{run, small_value, source_of}
+use Rattle.std.specs.Char.{digit_value}
+use Rattle.std.proofs.lemmas.List.{take_all}
+use Rattle.std.proofs.lemmas.List.Folds.{list_all_at}
+use Rattle.std.proofs.lemmas.Int.Digits.{digits_value_more}
+use Rattle.std.proofs.lemmas.Str.Parse.{digits_value-take-le}
+use Rattle.std.proofs.lemmas.Bool.Decides.{nat_tests}
+use Rattle.gtid_text.specs.Scan.{run, small, source_of}
 
 pub own : IsNumeralModel (λ ds. list_all is_ascii_digit ds ≡ true) (digits_value 10)
 own = numerals_by_value _ (search rules)
 
-pub utf8_in : (digits : List ℕ) → list_all is_ascii_digit digits ≡ true → IsUtf8 digits
-utf8_in digits e = IsUtf8-from_ascii digits (IsAscii-from_digits digits (own.to digits e))
-
-pub parsed_small : {E : Type 0} (digits : List ℕ) (r : Result ℕ E) → list_all is_ascii_digit digits ≡ true → 0 < length digits → ParsesUnsigned 64 10 digits r → result_ok r ≡ small_value digits
-parsed_small {E} digits (Ok n) d some h =
-    let p : OkIff {E = E} (Ok n) ((0 < length digits) × (digits_value 10 digits < 2 ^ 64)) (digits_value 10 digits) = parse_digits own {E = E} 64 digits (Ok n) h d in
-    ap Some p.1 ∙ sym (rw (lt-ltb _ _ p.0.1) refl)
-parsed_small {E} digits (Err f) d some h =
-    let p = parse_digits own {E = E} 64 digits (Err f) h d in
-    elim (cases_lt (digits_value 10 digits) (2 ^ 64)) [
-      | inl lt ↦ absurd (p (some, lt))
-      | inr le ↦ sym (rw (le-ltb _ _ le) refl)
+small_some : (n k : ℕ) → Some k ≡ small n → k ≡ n
+small_some n k e =
+    elim (cases_lt n (2 ^ 64)) [
+      | inl lt ↦ let h : Some k ≡ Some n = e ∙ rw (lt-ltb _ _ lt) refl in cc
+      | inr le ↦ let h : Some k ≡ None = e ∙ rw (le-ltb _ _ le) refl in absurd cc
     ]
+
+pub small_fits : (n k : ℕ) → Some k ≡ small n → k < 2 ^ 64
+small_fits n k e =
+    elim (cases_lt n (2 ^ 64)) [
+      | inl lt ↦ subst (λ (m : ℕ). m < 2 ^ 64) (sym (small_some n k e)) lt
+      | inr le ↦ let h : Some k ≡ None = e ∙ rw (le-ltb _ _ le) refl in absurd cc
+    ]
+
+small_none : (n : ℕ) → None ≡ small n → 2 ^ 64 ≤ n
+small_none n e =
+    elim (cases_lt n (2 ^ 64)) [
+      | inl lt ↦ let h : None ≡ Some n = e ∙ rw (lt-ltb _ _ lt) refl in absurd cc
+      | inr le ↦ le
+    ]
+
+pub digit_at : (digits : List ℕ) (i : ℕ) → list_all is_ascii_digit digits ≡ true → i < length digits → is_ascii_digit (get_or digits i 0) ≡ true
+digit_at digits i all within =
+    elim (is_ascii_digit (get_or digits i 0)) as (λ b. is_ascii_digit (get_or digits i 0) ≡ b → b ≡ true) [
+      | true ↦ λ e. refl
+      | false ↦ λ e. let k = sym all ∙ list_all_at is_ascii_digit digits i 0 within e in absurd cc
+    ] refl
+
+digit_is : (c : ℕ) → is_ascii_digit c ≡ true → digit_value c ≡ c - 48
+digit_is c e = grind (arith, nat_tests)
+
+-- one digit more
+one_more : (digits : List ℕ) (i n : ℕ) → list_all is_ascii_digit digits ≡ true → i < length digits → n ≡ digits_value 10 (take i digits) → n * 10 + (get_or digits i 0 - 48) ≡ digits_value 10 (take (i + 1) digits)
+one_more digits i n all within is =
+    sym (digits_value_more 10 digits i within ∙ ap (λ (m : ℕ). m * 10 + digit_value (get_or digits i 0)) (sym is) ∙ ap (λ (d : ℕ). n * 10 + d) (digit_is (get_or digits i 0) (digit_at digits i all within)))
+
+pub digit_read : (digits : List ℕ) (i n m : ℕ) → list_all is_ascii_digit digits ≡ true → i < length digits → n ≡ digits_value 10 (take i digits) → Some m ≡ small (n * 10 + (get_or digits i 0 - 48)) → m ≡ digits_value 10 (take (i + 1) digits)
+digit_read digits i n m all within is e = small_some (n * 10 + (get_or digits i 0 - 48)) m e ∙ one_more digits i n all within is
+
+pub too_great : (digits : List ℕ) (i n : ℕ) → list_all is_ascii_digit digits ≡ true → i < length digits → n ≡ digits_value 10 (take i digits) → None ≡ small (n * 10 + (get_or digits i 0 - 48)) → None ≡ small (digits_value 10 digits)
+too_great digits i n all within is e =
+    let great = small_none (n * 10 + (get_or digits i 0 - 48)) e in
+    let le : 2 ^ 64 ≤ digits_value 10 digits = omega (arith, great, one_more digits i n all within is, digits_value-take-le 10 digits (i + 1) (omega arith)) in
+    sym (rw (le-ltb _ _ le) refl)
+
+pub all_read : (digits : List ℕ) (i n : ℕ) → length digits ≤ i → n < 2 ^ 64 → n ≡ digits_value 10 (take i digits) → Some n ≡ small (digits_value 10 digits)
+all_read digits i n past fits is =
+    let whole : n ≡ digits_value 10 digits = is ∙ ap (digits_value 10) (take_all i digits past) in
+    ap Some whole ∙ sym (rw (lt-ltb _ _ (subst (λ (m : ℕ). m < 2 ^ 64) whole fits)) refl)
 
 pub run_passes : (p : ℕ → Bool) (xs : List ℕ) → list_all p (run p xs) ≡ true
 run_passes p [] = refl

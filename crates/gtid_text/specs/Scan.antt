@@ -50,9 +50,9 @@ found_source (Some id) rest after = Ok (id, after)
 abbrev pub source_at : List ℕ → Result (SourceId × List ℕ) Refusal
 source_at rest = found_source (source_of (run is_uuid_byte rest)) rest (past is_uuid_byte rest)
 
--- the number that digits spell, below 2 ^ 64
-abbrev pub small_value : List ℕ → Option ℕ
-small_value digits = if nat_lt (digits_value 10 digits) (2 ^ 64) then Some (digits_value 10 digits) else None
+-- a number below 2 ^ 64
+abbrev pub small : ℕ → Option ℕ
+small n = if nat_lt n (2 ^ 64) then Some n else None
 
 -- the number that digits spell, where a transaction may have it
 abbrev pub number_of : List ℕ → Option ℕ

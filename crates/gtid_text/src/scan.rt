@@ -1,7 +1,8 @@
-ghost use Rattle.std.specs.Prelude.{◌≡◌, ◌<◌, true, length};
+ghost use Rattle.std.specs.Prelude.{◌≡◌, ◌+◌, ◌-◌, ◌*◌, true};
 ghost use Rattle.std.specs.Char.{is_ascii_digit};
 ghost use Rattle.std.specs.List.{list_all};
-ghost use Rattle.gtid_text.specs.Scan.{is_blank, is_uuid_byte, run, past, number_of, small_value, source_of, source_at, number_at, colon_at, end_at, Sees};
+ghost use Rattle.std.specs.Str.Parse.{digits_value};
+ghost use Rattle.gtid_text.specs.Scan.{is_blank, is_uuid_byte, run, past, number_of, small, source_of, source_at, number_at, colon_at, end_at, Sees};
 
 use crate::SourceId;
 use uuid::Uuid;
@@ -102,22 +103,32 @@ pub fn source(rest: &[u8]) -> Result<(SourceId, &[u8]), Refusal>
     }
 }
 
+/// A number and one digit more, where the number is below 2 ^ 64.
+fn with_digit(number: u64, digit: u8) -> Option<u64>
+    requires { is_ascii_digit digit ≡ true }
+    ensures { result ≡ small (number * 10 + (digit - 48)) }
+{
+    number.checked_mul(10)?.checked_add(u64::from(digit - b'0'))
+}
+
 /// The number that digits spell, where it is below 2 ^ 64.
 fn parsed(digits: &[u8]) -> Option<u64>
-    requires digits { list_all is_ascii_digit digits.now ≡ true }
-    requires some { 0 < length digits.now }
-    ensures { result ≡ small_value digits.now }
+    requires { list_all is_ascii_digit digits.now ≡ true }
+    ensures { result ≡ small (digits_value 10 digits.now) }
 {
-    match std::str::from_utf8(digits) {
-        Ok(text) => text.parse().ok(),
-        Err(_) => None,
+    let mut number = 0;
+    'digits: for digit in digits {
+        let Some(more) = with_digit(number, *digit) else {
+            return None;
+        };
+        number = more;
     }
+    Some(number)
 }
 
 /// The number that digits spell, where a transaction may have it.
 fn value(digits: &[u8]) -> Option<u64>
-    requires digits { list_all is_ascii_digit digits.now ≡ true }
-    requires some { 0 < length digits.now }
+    requires { list_all is_ascii_digit digits.now ≡ true }
     ensures { result ≡ number_of digits.now }
 {
     match parsed(digits) {

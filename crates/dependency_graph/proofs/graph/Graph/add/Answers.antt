@@ -1,0 +1,42 @@
+use Rattle.std.proofs.Common.{rules, ◌≡◌, ◌∷◌, ◌++◌, [], ◌+◌, ◌<◌, refl, sym, ap, ◌∙◌, subst, length, false, arith}
+use Rattle.dependency_graph.specs.Graphs.{unfinished}
+use Rattle.dependency_graph.specs.Kept.{IsKept, LinksAll, CountsAll}
+use Rattle.dependency_graph.proofs.Kept.{length_points}
+use Rattle.dependency_graph.proofs.Entries.{distinct_of}
+use Rattle.dependency_graph.proofs.Adding.{kept_reserved, kept_pushed, points_pushed, read_last}
+use Rattle.dependency_graph.specs.declared.graph.Node.{Node}
+use Rattle.dependency_graph.proofs.graph.Graph.add.Goals as goal
+
+pub invariant_of-self : goal.invariant_of-self
+invariant_of-self c = kept_reserved c.self.inside.dropped c.self.inside.nodes.items c.self.inside.chains c.reserve.new.self c.reserve.ensures.same c.self.invariant
+
+pub invariant_of-self-in_err-push_back : goal.invariant_of-self-in_err-push_back
+invariant_of-self-in_err-push_back c =
+    subst (λ ns. IsKept c.self.inside.dropped ns c.reserve.new.self []) (sym c.in_err-push_back.ensures.items)
+    (kept_reserved c.self.inside.dropped c.self.inside.nodes.items c.self.inside.chains c.reserve.new.self c.reserve.ensures.same c.self.invariant)
+
+pub invariant_of-self-2 : goal.invariant_of-self-2
+invariant_of-self-2 c =
+    let d = c.self.inside.dropped in
+    let nodes = c.self.inside.nodes.items in
+    let node : Node = record { finished = false; waits = 0; keys = c.args.keys } in
+    let at : c.len-at.result ≡ length nodes = search rules in
+    let pushed = c.in_ok-push_back.ensures.items in
+    let keys : c.deref-2.result.now ≡ c.args.keys.items = c.deref-2.ensures.value ∙ ap (λ (n : Node). n.keys.items) (read_last nodes c.push_back.new.self.items node c.index.result.now c.len-at.result at pushed c.index.ensures) in
+    let size = length_points d nodes in
+    let same = ap length c.self.view_is in
+    let few : d + c.len-at.result < 4294967294 = omega (at, size, same, c.requires.room, arith) in
+    kept_pushed d nodes c.push_back.new.self.items node c.index_mut.result.now c.len-at.result c.args.keys.items c.link-waits.result at pushed c.index_mut.ensures.value refl refl
+    c.reserve.new.self c.link-waits.new.chains
+    (kept_reserved d nodes c.self.inside.chains c.reserve.new.self c.reserve.ensures.same c.self.invariant) few (distinct_of c.args.keys.items c.requires.distinct)
+    (subst (λ ks. LinksAll c.reserve.new.self c.link-waits.new.chains ks (d + c.len-at.result)) keys c.link-waits.ensures.holds)
+    (subst (λ ks. CountsAll c.reserve.new.self ks (d + c.len-at.result) c.link-waits.result) keys c.link-waits.ensures.waits)
+
+pub returns-clause-added : goal.returns-clause-added
+returns-clause-added c =
+    let d = c.self.inside.dropped in
+    let nodes = c.self.inside.nodes.items in
+    let node : Node = record { finished = false; waits = 0; keys = c.args.keys } in
+    let at : c.len-at.result ≡ length nodes = search rules in
+    points_pushed d nodes c.push_back.new.self.items node c.index_mut.result.now c.len-at.result c.args.keys.items c.link-waits.result at c.in_ok-push_back.ensures.items c.index_mut.ensures.value refl refl
+    ∙ ap (λ ps. ps ++ unfinished c.args.keys.items ∷ []) c.self.view_is

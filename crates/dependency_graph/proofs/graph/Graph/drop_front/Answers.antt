@@ -1,0 +1,19 @@
+use Rattle.std.proofs.Common.{sym, ap, ◌∙◌}
+use Rattle.dependency_graph.specs.Graphs.{dropped}
+use Rattle.dependency_graph.proofs.Marking.{drop_goes, drop_kept, nothing_goes}
+use Rattle.dependency_graph.proofs.graph.Graph.drop_front.Goals as goal
+
+pub loop-self-preserved : goal.loop-self-preserved
+loop-self-preserved c =
+    let d = c.loop-self.self-inside.dropped in
+    let nodes = c.loop-self.self-inside.nodes.items in
+    let first = sym c.starts_finished.ensures ∙ c.loop-self-test.true in
+    record {
+      goes = drop_goes d nodes c.pop_front.new.self.items first c.pop_front.ensures.rest ∙ c.loop-self.invariant.goes;
+      kept = drop_kept d nodes c.pop_front.new.self.items c.loop-self.self-inside.chains first c.pop_front.ensures.rest c.loop-self.invariant.kept;
+    }
+
+pub returns : goal.returns
+returns c =
+    nothing_goes c.loop-self.self-inside.dropped c.loop-self.self-inside.nodes.items (sym c.starts_finished.ensures ∙ c.loop-self-test.false)
+    ∙ c.loop-self.invariant.goes ∙ ap dropped c.self.view_is

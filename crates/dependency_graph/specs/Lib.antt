@@ -1,0 +1,3 @@
+pub mod Graphs
+pub mod Chains
+pub mod Kept

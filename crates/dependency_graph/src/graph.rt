@@ -1,0 +1,263 @@
+//! The nodes, above the chains of their keys.
+
+ghost use Rattle.std.specs.Prelude.{◌≡◌, ◌≢◌, ◌+◌, ◌<◌, [], ◌∷◌, ◌++◌, length, map, drop, IfOk, OnOk, OnErr};
+ghost use Rattle.std.specs.List.{AllPairs};
+ghost use Rattle.std.specs.Bool.{OnTrue, OnFalse};
+ghost use Rattle.slab.specs.Slab.{slab_len};
+ghost use Rattle.dependency_graph.specs.Graphs.{blocker, is_ready, IsNextReady, dropped, finished_at, marked_at, unfinished};
+ghost use Rattle.dependency_graph.specs.Chains.{HasRoom};
+ghost use Rattle.dependency_graph.specs.Kept.{is_finished_first, is_finished_at, points, point_of, keys_at, IsKept, IsFrontOpen, CanRelease, Releases, LinksAll, CountsAll};
+
+use crate::chains::Chains;
+use rows::Key;
+use std::alloc::{AllocError, Global};
+use std::collections::VecDeque;
+use std::marker::Model;
+
+/// A node with its keys. An unfinished one counts the keys whose chain begins with an earlier node.
+#[derive(Drop)]
+struct Node {
+    finished: bool,
+    waits: usize,
+    keys: Vec<Key>,
+}
+
+/// Nodes from 0 on, each finished or not. The first `dropped` are finished, and the next is not.
+#[derive(Drop)]
+pub struct Graph {
+    dropped: usize,
+    nodes: VecDeque<Node>,
+    chains: Chains,
+}
+
+/// The first node is finished.
+fn starts_finished(nodes: &VecDeque<Node>) -> bool
+    ensures { result ≡ is_finished_first nodes.now.items }
+{
+    match nodes.front() {
+        Some(node) => node.finished,
+        None => false,
+    }
+}
+
+/// The node is finished. So is each number where no node stands.
+fn is_finished(dropped: usize, nodes: &VecDeque<Node>, node: usize) -> bool
+    ensures { result ≡ is_finished_at (points dropped nodes.now.items) node }
+{
+    if node < dropped {
+        return true;
+    }
+    match nodes.get(node - dropped) {
+        Some(here) => here.finished,
+        None => true,
+    }
+}
+
+/// An unfinished node that comes to the front of a chain waits for one key less.
+fn release(dropped: usize, nodes: &mut VecDeque<Node>, first: Option<usize>)
+    requires { CanRelease dropped nodes.old.items first }
+    ensures { Releases dropped nodes.old.items nodes.new.items first }
+{
+    if let Some(node) = first {
+        if !is_finished(dropped, nodes, node) {
+            nodes[node - dropped].waits -= 1;
+        }
+    }
+}
+
+/// Takes a finished node off the front of the chain of a node's i-th key: whether one stood there.
+fn pop_finished(
+    dropped: usize,
+    nodes: &mut VecDeque<Node>,
+    chains: &mut Chains,
+    at: usize,
+    i: usize,
+) -> bool
+    requires in_range { i < length (keys_at nodes.old.items at) }
+    requires kept { IsKept dropped nodes.old.items chains.old (drop i (keys_at nodes.old.items at)) }
+    ensures kept { IsKept dropped nodes.new.items chains.new (drop i (keys_at nodes.new.items at)) }
+    ensures same { map point_of nodes.new.items ≡ map point_of nodes.old.items }
+    ensures fewer { OnTrue result (slab_len chains.new.edges < slab_len chains.old.edges) }
+    ensures front { OnFalse result (IsFrontOpen (points dropped nodes.new.items) chains.new (drop i (keys_at nodes.new.items at))) }
+{
+    let key = &nodes[at].keys[i];
+    let Some(first) = chains.first(key) else {
+        return false;
+    };
+    if !is_finished(dropped, nodes, first) {
+        return false;
+    }
+    chains.pop(key);
+    let next = chains.first(key);
+    release(dropped, nodes, next);
+    true
+}
+
+/// Takes all finished nodes off the front of the chain of a node's i-th key.
+fn settle(dropped: usize, nodes: &mut VecDeque<Node>, chains: &mut Chains, at: usize, i: usize)
+    requires in_range { i < length (keys_at nodes.old.items at) }
+    requires kept { IsKept dropped nodes.old.items chains.old (drop i (keys_at nodes.old.items at)) }
+    ensures kept { IsKept dropped nodes.new.items chains.new (drop (i + 1) (keys_at nodes.new.items at)) }
+    ensures same { map point_of nodes.new.items ≡ map point_of nodes.old.items }
+{
+    'settling: while pop_finished(dropped, nodes, chains, at, i) {}
+}
+
+/// Marks a node as finished.
+fn mark(dropped: usize, nodes: &mut VecDeque<Node>, chains: &mut Chains, at: usize)
+    requires in_range { at < length nodes.old.items }
+    requires kept { IsKept dropped nodes.old.items chains.old [] }
+    ensures kept { IsKept dropped nodes.new.items chains.new [] }
+    ensures marked { points dropped nodes.new.items ≡ marked_at (points dropped nodes.old.items) (dropped + at) }
+{
+    nodes[at].finished = true;
+    for i in 0..nodes[at].keys.len() {
+        settle(dropped, nodes, chains, at, i);
+    }
+}
+
+/// Puts the node, later than all, into the chain of each key: how many of the keys have an earlier node.
+fn link(chains: &mut Chains, keys: &[Key], node: usize) -> usize
+    requires room { HasRoom chains.old keys.now }
+    requires distinct { AllPairs (λ a b. a ≢ b) keys.now }
+    ensures holds { LinksAll chains.old chains.new keys.now node }
+    ensures waits { CountsAll chains.old keys.now node result }
+{
+    let mut waits = 0;
+    for key in keys {
+        if chains.push(key, node) {
+            waits += 1;
+        }
+    }
+    waits
+}
+
+impl Model for Graph {
+    ghost use Rattle.std.specs.Prelude.{List, []};
+    ghost use Rattle.std.specs.Coded.{coded_list};
+    ghost use Rattle.dependency_graph.specs.Graphs.{Point, point_code};
+    ghost use Rattle.dependency_graph.specs.Kept.{points, IsKept};
+
+    ghost Value = { List Point };
+
+    ghost coded = { coded_list point_code };
+
+    ghost view = { λ g. points g.dropped g.nodes.items };
+
+    ghost invariant = { λ g. IsKept g.dropped g.nodes.items g.chains [] };
+}
+
+impl Graph {
+    /// No nodes.
+    pub fn start(alloc: Global) -> Graph
+        ensures { result ≡ [] }
+    {
+        Graph {
+            dropped: 0,
+            nodes: VecDeque::new(alloc),
+            chains: Chains::new(alloc),
+        }
+    }
+
+    /// The number of nodes.
+    pub fn len(&self) -> usize
+        ensures { result ≡ length self.now }
+    {
+        self.dropped + self.nodes.len()
+    }
+
+    /// Adds a node that touches these keys, each named once: its number.
+    pub fn add(&mut self, keys: Vec<Key>) -> Result<usize, AllocError>
+        requires room { length self.old < 4294967294 }
+        requires distinct { AllPairs (λ a b. a ≢ b) keys.items }
+        ensures added { OnOk result (self.new ≡ self.old ++ unfinished keys.items ∷ []) }
+        ensures number { IfOk result (λ node. node ≡ length self.old) }
+        ensures err { OnErr result (self.new ≡ self.old) }
+    {
+        self.chains.reserve(&keys)?;
+        let at = self.nodes.len();
+        let number = self.dropped + at;
+        let node = Node {
+            finished: false,
+            waits: 0,
+            keys,
+        };
+        self.nodes.push_back(node)?;
+        let waits = link(&mut self.chains, &self.nodes[at].keys, number);
+        self.nodes[at].waits = waits;
+        Ok(number)
+    }
+
+    /// The node is finished, and the longest finished beginning is dropped.
+    pub fn finish(&mut self, node: usize)
+        requires { node < length self.old }
+        ensures { self.new ≡ finished_at self.old node }
+    {
+        if node >= self.dropped {
+            let at = node - self.dropped;
+            mark(self.dropped, &mut self.nodes, &mut self.chains, at);
+        }
+        self.drop_front();
+    }
+
+    fn drop_front(&mut self)
+        ensures { self.new ≡ dropped self.old }
+    {
+        while starts_finished(&self.nodes) {
+            let _ = self.nodes.pop_front();
+            self.dropped += 1;
+        }
+    }
+
+    /// The least earlier unfinished node with a common key.
+    pub fn blocker(&self, node: usize) -> Option<usize>
+        requires { node < length self.now }
+        ensures { result ≡ blocker self.now node }
+    {
+        let mut least = None;
+        if node < self.dropped {
+            return None;
+        }
+        for key in &self.nodes[node - self.dropped].keys {
+            if let Some(first) = self.chains.first(key) {
+                if first < least.unwrap_or(node) {
+                    least = Some(first);
+                }
+            }
+        }
+        least
+    }
+
+    /// No earlier unfinished node has a common key.
+    pub fn is_ready(&self, node: usize) -> bool
+        requires { node < length self.now }
+        ensures { result ≡ is_ready self.now node }
+    {
+        if node < self.dropped {
+            return true;
+        }
+        let here = &self.nodes[node - self.dropped];
+        if here.finished {
+            return self.blocker(node).is_none();
+        }
+        here.waits == 0
+    }
+
+    /// The least unfinished ready node from there.
+    pub fn next_ready(&self, from: usize) -> Option<usize>
+        ensures { IsNextReady self.now from result }
+    {
+        let start = if from < self.dropped {
+            self.dropped
+        } else {
+            from
+        };
+        for node in start..self.len() {
+            let here = &self.nodes[node - self.dropped];
+            if !here.finished && here.waits == 0 {
+                return Some(node);
+            }
+        }
+        None
+    }
+}
