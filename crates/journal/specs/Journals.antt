@@ -1,5 +1,5 @@
 -- A journal: the set executed before it, and its entries in order. (MySQL 8.0 Reference Manual, "GTID Life Cycle".)
-use Rattle.std.specs.Prelude.{◌≡◌, true, false, List, [], ◌∷◌, map}
+use Rattle.std.specs.Prelude.{◌≡◌, true, false, List, [], ◌∷◌, map, ℕ, take}
 use Rattle.std.specs.List.{list_all}
 use Rattle.std.specs.FinSet as set
 use Rattle.gtid_set.specs.Sets.{Gtids}
@@ -17,6 +17,10 @@ gtids_of entries = set.from_list (map (λ e. e.gtid) entries)
 -- all that was executed: the previous set with the GTIDs of the entries
 abbrev pub whole : JournalValue → Gtids
 whole journal = set.union journal.previous (gtids_of journal.entries)
+
+-- the previous set once the first entries are purged
+abbrev pub purged : ℕ → JournalValue → Gtids
+purged count journal = set.union journal.previous (gtids_of (take count journal.entries))
 
 -- each GTID is new: neither in this set nor that of an earlier entry
 abbrev pub AreNew : Gtids → List Entry → Type 0

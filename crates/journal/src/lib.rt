@@ -1,14 +1,14 @@
 //! Journals: what a server executed, in order.
 #![tactic(auto)]
 
-ghost use Rattle.std.specs.Prelude.{◌≡◌, ◌-◌, [], ◌∷◌, ◌++◌, true, false, OnOk, OnErr, IfOk, length, take, ◌==◌};
+ghost use Rattle.std.specs.Prelude.{◌≡◌, ◌-◌, [], ◌∷◌, ◌++◌, true, false, OnOk, OnErr, IfOk, length, take, drop, ◌==◌, ◌≤◌};
 ghost use Rattle.std.specs.List.{list_all, list_any};
 ghost use Rattle.gtid_text.specs.Gtids.{same_gtid};
 ghost use Rattle.std.specs.FinSet as set;
-ghost use Rattle.journal.specs.Journals.{whole};
+ghost use Rattle.journal.specs.Journals.{gtids_of, purged, whole};
 ghost use Rattle.journal.specs.Writing.{is_value_writable, is_image_writable, is_change_writable, is_txn_writable, is_writable, is_number};
 
-use gtid_set::GtidSet;
+use gtid_set::{GtidSet, SetFault};
 use gtid_text::Gtid;
 use rows::{Change, Row, Transaction, Value};
 use std::alloc::{AllocError, Global};
@@ -124,6 +124,22 @@ fn is_same(a: &Gtid, b: &Gtid) -> bool
     a.source == b.source && a.number == b.number
 }
 
+fn add_gtids(known: &mut GtidSet, entries: &[Entry]) -> Result<(), SetFault>
+    ensures { OnOk result (known.new ≡ set.union known.old (gtids_of entries.now)) }
+{
+    for entry in entries {
+        known.add(entry.gtid)?;
+    }
+    Ok(())
+}
+
+fn drop_front(entries: &mut Vec<Entry>, count: usize)
+    requires { count ≤ length entries.old.items }
+    ensures { entries.new.items ≡ drop count entries.old.items }
+{
+    entries.drain(..count);
+}
+
 /// What was executed before, and the entries after it in order. No GTID stands twice or in the
 /// previous set, and each entry can be written.
 #[derive(Drop)]
@@ -183,6 +199,26 @@ impl Journal {
     {
         let kept = self.entries.len().saturating_sub(1);
         self.entries.truncate(kept);
+    }
+
+    /// The previous set once the first entries are purged.
+    pub fn purged(&self, alloc: Global, count: usize) -> Result<GtidSet, SetFault>
+        requires { count ≤ length self.now.entries }
+        ensures { IfOk result (λ s. s ≡ purged count self.now) }
+    {
+        let mut previous = self.previous.copy(alloc)?;
+        add_gtids(&mut previous, &self.entries[..count])?;
+        Ok(previous)
+    }
+
+    /// Takes the first entries away, and their GTIDs into the previous set.
+    pub fn purge(&mut self, count: usize, previous: GtidSet)
+        requires count { count ≤ length self.old.entries }
+        requires previous { previous ≡ purged count self.old }
+        ensures { self.new ≡ record { previous = previous; entries = drop count self.old.entries } }
+    {
+        drop_front(&mut self.entries, count);
+        self.previous = previous;
     }
 
     /// Takes the entries out, in order. The previous set stays.

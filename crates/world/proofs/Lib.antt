@@ -4,3 +4,7 @@ pub mod Contents
 pub mod Meanings
 pub mod Standing
 pub mod Saying
+pub mod OnePass
+pub mod Touching
+pub mod Gaps
+pub mod Leasts

@@ -15,7 +15,6 @@ use Rattle.rows.specs.Total.{key_eq_same, key_eq_self}
 use Rattle.rows.specs.Apply.{Rows, apply, ◌>>=◌}
 use Rattle.rows.specs.WriteSet.{write_set, touches, shares_key}
 use Rattle.gtid_text.specs.declared.Gtid.{Gtid}
-use Rattle.gtid_text.specs.Gtids.{same_gtid}
 use Rattle.gtid_set.specs.Sets.{Gtids, greatest}
 use Rattle.journal.specs.declared.Entry.{Entry}
 use Rattle.journal.specs.Writing.{is_writable, is_number, is_txn_writable}
@@ -23,20 +22,20 @@ use Rattle.journal.specs.Journals.{JournalValue, IsJournal}
 use Rattle.source_history.specs.World.{World, content, is_opened, of_source, entries_in, apply_all, rows_of, HasNumber, IsClosed, AreKeysSound, IsSound}
 use Rattle.source_history.specs.World as history
 use Rattle.source_history.proofs.Tests.{true_or_false, not_both, or_either, or_left, or_right, and_both}
-use Rattle.source_history.proofs.Gtids.{gtid_total, gtid_same}
+use Rattle.source_history.proofs.Gtids.{gtid_total}
 use Rattle.source_history.proofs.Commuting.{AreApart, apart_back}
 use Rattle.faithful_journals.specs.Faithful.{IsFaithful}
 use Rattle.faithful_journals.proofs.Lists.{same_some, not_none, map_some, get_map, get_take, all_at, all_from}
-use Rattle.faithful_journals.proofs.Covering.{is_entry, covered, front, in_entries, to_fronts}
+use Rattle.faithful_journals.proofs.Covering.{is_entry, covered, front, to_fronts}
 use Rattle.world.specs.declared.verdict.Verdict.{Verdict}
 use Rattle.world.specs.declared.verdict.Verdict.TheVariants.{Unequal, Purged, Missing, Shared, NotClosed, DoesNotApply, Sound}
 use Rattle.world.specs.Search.{or_next, when, first_at}
 use Rattle.world.specs.Equal.{txn_eq}
 use Rattle.world.specs.Audit.{all_entries, world_of, is_content, is_unequal, unequal, purged, present, is_absent, below, missing, shared, is_left_out, not_closed, fault_after, first_fault, does_not_apply, found_in_keys}
 use Rattle.world.specs.Meaning.{AreJournals, SoundMeansSound, KeysSoundMeans}
-use Rattle.world.proofs.Finding.{below_test, next_none, next_some, when_none, when_some, first_none, first_some, any_at, any_from, is_false, is_true, and_true, not_true, taken, get_range, left_by_filter}
+use Rattle.world.proofs.Finding.{below_test, next_none, next_some, when_none, when_some, first_none, first_some, any_at, any_from, is_false, is_true, and_true, not_true, taken, get_range}
 use Rattle.world.proofs.Same.{txn_same}
-use Rattle.world.proofs.Contents.{in_items, entry_at, entry_from, in_all, content_at, some_of, is_some_of, contents_outside, contents_entry, entry_content}
+use Rattle.world.proofs.Contents.{entry_at, entry_from, in_all, content_at, some_of, is_some_of, contents_outside, contents_entry, entry_content}
 
 -- ---- nothing that is found is called Sound
 
@@ -57,7 +56,7 @@ pub keys_not : (world : World) (journals : List JournalValue) → found_in_keys 
 keys_not world journals =
     next_not (unequal world journals) _ (first_not _ journals (λ i j. first_not _ j.entries (λ k e. when_not _ (Unequal e.gtid) (λ p. cc))))
     (next_not (purged world journals) _ (first_not _ journals (λ i j. when_not _ (Purged i (set.difference j.previous world.opening_set)) (λ p. cc)))
-    (next_not (missing world journals) _ (first_not _ (set.items (present world journals)) (λ i g. first_not _ (below g) (λ k h. when_not _ (Missing h) (λ p. cc))))
+    (next_not (missing world journals) _ (first_not _ (present world journals) (λ i g. first_not _ (below g.0) (λ k h. when_not _ (Missing h) (λ p. cc))))
     (next_not (shared world) (not_closed world journals)
     (first_not _ (finmap.entries world.contents) (λ i h. first_not _ (write_set world.schema h.1) (λ k key. first_not _ (finmap.entries world.contents) (λ l g. when_not _ (Shared g.0 h.0 key) (λ p. cc)))))
     (first_not _ journals (λ i j. first_not _ j.entries (λ k e. first_not _ (finmap.entries world.contents) (λ l h. when_not _ (NotClosed e.gtid h.0) (λ p. cc))))))))
@@ -69,7 +68,7 @@ applies_not world = first_not _ (finmap.entries world.contents) (λ i e p.
 
 -- ---- what is not found does not stand
 
-content_is_by : (t : Transaction) (o : Option Transaction) → option_map_or (txn_eq t) o false ≡ true → o ≡ Some t
+pub content_is_by : (t : Transaction) (o : Option Transaction) → option_map_or (txn_eq t) o false ≡ true → o ≡ Some t
 content_is_by t None e = cc
 content_is_by t (Some u) e = ap Some (sym (txn_same t u e))
 
@@ -151,23 +150,15 @@ module _ (schema : List Table) (opened : Gtids) (rows : Rows) (journals : List J
         let b = entry_at a.1.entries g a.3 in
         subst (λ (x : Gtid). 0 < x.number) b.3 (numbered a.1.entries b.0 b.1 (journal_at a.0 a.1 a.2).writable b.2)
 
-    in_present : (g : Gtid) (t : Transaction) → content w g ≡ Some t → (i : ℕ) × (slice_get (set.items (present w journals)) i ≡ Some g)
-    in_present g t h =
-        let out = contents_outside opened (all_entries journals) g t h in
-        let p : Entry → Bool = λ e. not (is_opened w e.gtid) in
-        let a = entry_at (all_entries journals) g (contents_entry opened (all_entries journals) g t h) in
-        let b = left_by_filter p (all_entries journals) a.0 a.1 a.2 (not_true (is_opened w a.1.gtid) (ap (is_opened w) a.3 ∙ out)) in
-        let c : is_entry (filter p (all_entries journals)) g ≡ true = subst (λ (x : Gtid). is_entry (filter p (all_entries journals)) x ≡ true) a.3 (entry_from (filter p (all_entries journals)) b.0 a.1 b.1) in
-        let d = in_entries (filter p (all_entries journals)) g ∙ c in
-        let r = any_at (same_gtid g) (set.items (present w journals)) (sym (in_items (present w journals) g) ∙ d) in
-        (r.0, r.2 ∙ ap Some (sym (gtid_same g r.1 r.3)))
+    in_present : (g : Gtid) (t : Transaction) → content w g ≡ Some t → (i : ℕ) × (slice_get (present w journals) i ≡ Some (g, t))
+    in_present g t h = content_at w g t h
 
     lower_stands : (s m k : ℕ) → 0 < m → m < k → (t : Transaction) → content w (record { source = s; number = k }) ≡ Some t → (is_opened w (record { source = s; number = m }) ≡ true) ⊎ IsSome (content w (record { source = s; number = m }))
     lower_stands s m k pos less t there =
         let g : Gtid = record { source = s; number = k } in
         let h : Gtid = record { source = s; number = m } in
         let a = in_present g t there in
-        let inner = first_none _ (set.items (present w journals)) n.missing_none a.0 g a.1 in
+        let inner = first_none _ (present w journals) n.missing_none a.0 (g, t) a.1 in
         let at : slice_get (below g) (m - 1) ≡ Some (record { source = s; number = 1 + (m - 1) }) = get_map (λ (x : ℕ). record { source = s; number = x }) (range_with_len 1 (k - 1)) (m - 1) (1 + (m - 1)) (get_range 1 (k - 1) (m - 1) (omega arith)) in
         let is_h : slice_get (below g) (m - 1) ≡ Some h = at ∙ ap (λ (x : ℕ). Some (record { source = s; number = x })) (one_and m pos) in
         let test : is_absent w journals h ≡ false = when_none (is_absent w journals h) (Missing h) (first_none _ (below g) inner (m - 1) h is_h) in
@@ -297,15 +288,18 @@ none_mapped : {A B : Type 0} (f : A → B) (o : Option A) → option_map f o ≡
 none_mapped f None e = refl
 none_mapped f (Some x) e = cc
 
-pub alone_here : (world : World) → does_not_apply world ≡ None → (s : ℕ) → IsOk (rows_of world (of_source s))
-alone_here world none s = elim (nothing_chosen (λ e. of_source s e.0) (finmap.entries world.contents)) [
+-- where nothing of a source fails, what it committed applies alone
+pub alone_from_none : (world : World) (s : ℕ) → ((i : ℕ) (e : history.Entry) → slice_get (finmap.entries world.contents) i ≡ Some e → e.0.source ≡ s → option_map (λ (fault : Gtid × RowFault). DoesNotApply fault.0 fault.1) (first_fault world.schema (entries_in world (of_source e.0.source)) world.opening_rows) ≡ None) → IsOk (rows_of world (of_source s))
+alone_from_none world s none = elim (nothing_chosen (λ e. of_source s e.0) (finmap.entries world.contents)) [
   | inl r ↦
       let is_s : r.1.0.source ≡ s = sym (eqb-true s r.1.0.source r.3) in
-      let m = first_none _ (finmap.entries world.contents) none r.0 r.1 r.2 in
-      let f = none_mapped (λ (fault : Gtid × RowFault). DoesNotApply fault.0 fault.1) (first_fault world.schema (entries_in world (of_source r.1.0.source)) world.opening_rows) m in
+      let f = none_mapped (λ (fault : Gtid × RowFault). DoesNotApply fault.0 fault.1) (first_fault world.schema (entries_in world (of_source r.1.0.source)) world.opening_rows) (none r.0 r.1 r.2 is_s) in
       subst (λ (x : ℕ). IsOk (rows_of world (of_source x))) is_s (no_fault world.schema (entries_in world (of_source r.1.0.source)) world.opening_rows f)
   | inr empty ↦ subst (λ (es : List history.Entry). IsOk (apply_all world.schema es world.opening_rows)) (sym empty) refl
 ]
+
+pub alone_here : (world : World) → does_not_apply world ≡ None → (s : ℕ) → IsOk (rows_of world (of_source s))
+alone_here world none s = alone_from_none world s (λ i e h is. first_none _ (finmap.entries world.contents) none i e h)
 
 pub keys_sound_mean : KeysSoundMeans
 keys_sound_mean schema opened rows journals are e =

@@ -1,7 +1,7 @@
 -- In a sound world with faithful journals nothing is found.
-use Rattle.std.proofs.Common.{◌≡◌, ◌≢◌, ℕ, suc, ◌<◌, ◌-◌, Bool, true, false, not, ◌&&◌, inl, inr, List, [], ◌∷◌, take, length, Some, None, Result, Ok, Err, refl, sym, ap, ◌∙◌, subst, arith}
+use Rattle.std.proofs.Common.{◌≡◌, ◌≢◌, ℕ, suc, ◌<◌, ◌-◌, true, false, not, ◌&&◌, inl, inr, List, [], ◌∷◌, take, length, Some, None, Result, Ok, Err, refl, sym, ap, ◌∙◌, subst, arith}
 use Rattle.std.specs.Prelude.{slice_get, IsSome, IsOk, nat_lt, ◌==◌}
-use Rattle.std.specs.List.{list_any, filter, range_with_len, AllByRecursion}
+use Rattle.std.specs.List.{range_with_len, AllByRecursion}
 use Rattle.std.specs.Option.{option_map, option_map_or, unwrap_or}
 use Rattle.std.specs.FinMap as finmap
 use Rattle.std.specs.FinSet as set
@@ -12,24 +12,22 @@ use Rattle.rows.specs.Apply.{Rows, apply}
 use Rattle.rows.specs.WriteSet.{write_set, touches, shares_key}
 use Rattle.rows.proofs.Local.{bind_ok}
 use Rattle.gtid_text.specs.declared.Gtid.{Gtid}
-use Rattle.gtid_text.specs.Gtids.{same_gtid}
 use Rattle.gtid_set.specs.Sets.{Gtids}
 use Rattle.journal.specs.declared.Entry.{Entry}
 use Rattle.journal.specs.Journals.{JournalValue}
 use Rattle.source_history.specs.World.{World, content, is_opened, of_source, entries_in, apply_all, rows_of, HasNumber, IsClosed, AreKeysSound, IsSound}
 use Rattle.source_history.specs.World as history
 use Rattle.source_history.proofs.Tests.{not_both, or_either, or_left, or_right, and_both}
-use Rattle.source_history.proofs.Gtids.{same_gtid_self}
 use Rattle.faithful_journals.specs.Faithful.{IsFaithful}
 use Rattle.faithful_journals.proofs.Lists.{same_some, from_not, get_map_cases, get_take, get_below, all_at}
-use Rattle.faithful_journals.proofs.Covering.{is_entry, covered, front, in_entries, fronts_of}
+use Rattle.faithful_journals.proofs.Covering.{is_entry, covered, front, fronts_of}
 use Rattle.world.specs.declared.verdict.Verdict.TheVariants.{Unequal, Purged, Missing, Shared, NotClosed, DoesNotApply, Sound}
 use Rattle.world.specs.Equal.{txn_eq}
 use Rattle.world.specs.Audit.{all_entries, world_of, is_content, is_unequal, unequal, purged, present, is_absent, below, missing, shared, is_left_out, not_closed, fault_after, first_fault, does_not_apply, found_in_keys}
 use Rattle.world.specs.Meaning.{SoundIsSaid}
-use Rattle.world.proofs.Finding.{none_next, none_when, none_first, any_from, is_false, not_false, taken, filtered, range_above}
+use Rattle.world.proofs.Finding.{none_next, none_when, none_first, any_from, is_false, not_false, taken, range_above}
 use Rattle.world.proofs.Same.{txn_self}
-use Rattle.world.proofs.Contents.{in_items, entry_at, entry_from, at_content, some_of, is_some_of, contents_entry, entry_content}
+use Rattle.world.proofs.Contents.{entry_at, entry_from, at_content, some_of, is_some_of, contents_entry}
 
 less_of : (a b : ℕ) → nat_lt a b ≡ true → a < b
 less_of a b h = grind arith
@@ -49,24 +47,17 @@ module _ (schema : List Table) (opened : Gtids) (rows : Rows) (journals : List J
     purged_none = none_first _ journals (λ i j hj. none_when (not (set.is_subset j.previous opened)) (Purged i (set.difference j.previous opened)) (not_false (set.is_subset j.previous opened) (all_at (λ (x : JournalValue). set.is_subset x.previous opened ≡ true) journals i j within hj)))
 
     -- what is present has a content
-    present_content : (i : ℕ) (g : Gtid) → slice_get (set.items (present w journals)) i ≡ Some g → IsSome (content w g)
-    present_content i g h =
-        let p : Entry → Bool = λ e. not (is_opened w e.gtid) in
-        let a : list_any (same_gtid g) (set.items (present w journals)) ≡ true = any_from (same_gtid g) (set.items (present w journals)) i g h (same_gtid_self g) in
-        let b = sym (in_entries (filter p (all_entries journals)) g) ∙ (in_items (present w journals) g ∙ a) in
-        let c = entry_at (filter p (all_entries journals)) g b in
-        let d = filtered p (all_entries journals) c.0 c.1 c.2 in
-        let there = subst (λ (x : Gtid). is_entry (all_entries journals) x ≡ true) c.3 (entry_from (all_entries journals) d.1 c.1 d.2) in
-        entry_content opened (all_entries journals) g there (ap (is_opened w) (sym c.3) ∙ from_not (is_opened w c.1.gtid) d.0)
+    present_content : (i : ℕ) (g : history.Entry) → slice_get (present w journals) i ≡ Some g → IsSome (content w g.0)
+    present_content i g h = is_some_of (content w g.0) g.1 (at_content w i g h)
 
     missing_none : missing w journals ≡ None
-    missing_none = none_first _ (set.items (present w journals)) (λ i g hg. none_first _ (below g) (λ k h hh. none_when (is_absent w journals h) (Missing h) (is_false (is_absent w journals h) (λ t.
+    missing_none = none_first _ (present w journals) (λ i g hg. none_first _ (below g.0) (λ k h hh. none_when (is_absent w journals h) (Missing h) (is_false (is_absent w journals h) (λ t.
         let p = and_both (not (is_opened w h)) (not (is_entry (all_entries journals) h)) t in
-        let r = get_map_cases (λ (n : ℕ). record { source = g.source; number = n }) (range_with_len 1 (g.number - 1)) k h hh in
-        let b = range_above 1 (g.number - 1) k r.0 r.1 in
-        let low : Gtid = record { source = g.source; number = r.0 } in
+        let r = get_map_cases (λ (n : ℕ). record { source = g.0.source; number = n }) (range_with_len 1 (g.0.number - 1)) k h hh in
+        let b = range_above 1 (g.0.number - 1) k r.0 r.1 in
+        let low : Gtid = record { source = g.0.source; number = r.0 } in
         let is_h : low ≡ h = r.2 in
-        elim (sound.without_gap g r.0 (omega arith) (omega arith) (present_content i g hg)) [
+        elim (sound.without_gap g.0 r.0 (omega arith) (omega arith) (present_content i g hg)) [
           | inl o ↦ not_both (is_opened w h) (ap (is_opened w) (sym is_h) ∙ o) (from_not (is_opened w h) p.0)
           | inr c ↦
               let u = some_of (content w low) c in
@@ -121,7 +112,7 @@ ok_of : {A E : Type 0} (r : Result A E) → IsOk r → (x : A) × (r ≡ Ok x)
 ok_of (Ok x) h = (x, refl)
 ok_of (Err e) h = cc
 
-is_ok_of : {A E : Type 0} (r : Result A E) (a : A) → r ≡ Ok a → IsOk r
+pub is_ok_of : {A E : Type 0} (r : Result A E) (a : A) → r ≡ Ok a → IsOk r
 is_ok_of (Ok x) a e = refl
 is_ok_of (Err d) a e = cc
 

@@ -14,23 +14,21 @@ use Rattle.rows.specs.Total.{key_eq_self}
 use Rattle.rows.specs.Apply.{Rows, apply, ◌>>=◌}
 use Rattle.rows.specs.WriteSet.{write_set, touches, shares_key}
 use Rattle.gtid_text.specs.declared.Gtid.{Gtid}
-use Rattle.gtid_text.specs.Gtids.{same_gtid}
 use Rattle.journal.specs.Journals.{JournalValue}
 use Rattle.source_history.specs.World.{World, content, is_opened, of_source, entries_in, apply_all, rows_of, HasNumber, IsClosed, AreKeysSound, IsSound}
 use Rattle.source_history.specs.World as history
 use Rattle.source_history.proofs.Tests.{not_both, and_both}
-use Rattle.source_history.proofs.Gtids.{same_gtid_self}
 use Rattle.faithful_journals.proofs.Lists.{same_some, not_none, map_some, from_not, get_map_cases}
 use Rattle.faithful_journals.proofs.Covering.{is_entry, covered}
 use Rattle.world.specs.declared.verdict.Verdict.{Verdict}
 use Rattle.world.specs.declared.verdict.Verdict.TheVariants.{Unequal, Purged, Missing, Shared, NotClosed, DoesNotApply, Sound}
 use Rattle.world.specs.Search.{or_next}
 use Rattle.world.specs.Equal.{txn_eq}
-use Rattle.world.specs.Audit.{all_entries, is_content, is_unequal, unequal, purged, present, is_absent, below, missing, shared, is_left_out, not_closed, fault_after, first_fault, does_not_apply, found_in_keys}
+use Rattle.world.specs.Audit.{all_entries, world_of, is_content, is_unequal, unequal, purged, present, is_absent, below, missing, shared, is_left_out, not_closed, fault_after, first_fault, does_not_apply, found_in_keys}
 use Rattle.world.specs.Cases.{Stands, VerdictsStand}
 use Rattle.world.proofs.Finding.{next_some, when_some, first_some, any_from, range_above}
 use Rattle.world.proofs.Same.{txn_self}
-use Rattle.world.proofs.Contents.{in_items, at_content}
+use Rattle.world.proofs.Contents.{at_content, contents_outside, contents_entry}
 
 less_of : (a b : ℕ) → nat_lt a b ≡ true → a < b
 less_of a b h = grind arith
@@ -58,20 +56,22 @@ module _ (world : World) (journals : List JournalValue) where
 
   missing_stands : (v : Verdict) → missing world journals ≡ Some v → Stands world journals v
   missing_stands v f =
-      let a = first_some _ (set.items (present world journals)) v f in
-      let b = first_some _ (below a.element) v a.gives in
+      let a = first_some _ (present world journals) v f in
+      let there = at_content (world_of world.schema world.opening_set world.opening_rows journals) a.place a.element a.there in
+      let b = first_some _ (below a.element.0) v a.gives in
       let h = b.element in
       let c = when_some (is_absent world journals h) (Missing h) v b.gives in
       let p = and_both (not (is_opened world h)) (not (is_entry (all_entries journals) h)) c.0 in
-      let r = get_map_cases (λ (n : ℕ). record { source = a.element.source; number = n }) (range_with_len 1 (a.element.number - 1)) b.place h b.there in
-      let q = range_above 1 (a.element.number - 1) b.place r.0 r.1 in
+      let r = get_map_cases (λ (n : ℕ). record { source = a.element.0.source; number = n }) (range_with_len 1 (a.element.0.number - 1)) b.place h b.there in
+      let q = range_above 1 (a.element.0.number - 1) b.place r.0 r.1 in
       let is_number : r.0 ≡ h.number = ap (λ (x : Gtid). x.number) r.2 in
       subst (Stands world journals) c.1 (record {
         new = from_not (is_opened world h) p.0;
         absent = from_not (is_entry (all_entries journals) h) p.1;
         positive = omega arith;
-        greater = a.element;
-        there = in_items (present world journals) a.element ∙ any_from (same_gtid a.element) (set.items (present world journals)) a.place a.element a.there (same_gtid_self a.element);
+        greater = a.element.0;
+        beyond = contents_outside world.opening_set (all_entries journals) a.element.0 a.element.1 there;
+        there = contents_entry world.opening_set (all_entries journals) a.element.0 a.element.1 there;
         same = ap (λ (x : Gtid). x.source) r.2;
         below = omega arith;
       })
@@ -115,14 +115,14 @@ module _ (world : World) (journals : List JournalValue) where
         left_out = from_not (covered a.element.previous (take b.place a.element.entries) g.element.0) s.1;
       })
 
-record FailsIn (schema : List Table) (es : List history.Entry) (rows : Rows) (g : Gtid) (fault : RowFault) : Type 0 where
-  before : List history.Entry
-  later : List history.Entry
-  t : Transaction
-  reached_rows : Rows
-  parts : es ≡ before ++ (g, t) ∷ later
-  reached : apply_all schema before rows ≡ Ok reached_rows
-  refused : apply schema t reached_rows ≡ Err fault
+pub record FailsIn (schema : List Table) (es : List history.Entry) (rows : Rows) (g : Gtid) (fault : RowFault) : Type 0 where
+  pub before : List history.Entry
+  pub later : List history.Entry
+  pub t : Transaction
+  pub reached_rows : Rows
+  pub parts : es ≡ before ++ (g, t) ∷ later
+  pub reached : apply_all schema before rows ≡ Ok reached_rows
+  pub refused : apply schema t reached_rows ≡ Err fault
 
 fault_some : (schema : List Table) (e : history.Entry) (es : List history.Entry) (rows : Rows) (f : Gtid × RowFault) (r : Result Rows RowFault) → apply schema e.1 rows ≡ r → ((new : Rows) → first_fault schema es new ≡ Some f → FailsIn schema es new f.0 f.1) → fault_after e r (first_fault schema es) ≡ Some f → FailsIn schema (e ∷ es) rows f.0 f.1
 fault_some schema e es rows f (Ok new) a h g =
@@ -132,7 +132,7 @@ fault_some schema e es rows f (Err fault) a h g =
     let same : (e.0, fault) ≡ f = same_some (e.0, fault) f g in
     subst (λ (x : Gtid × RowFault). FailsIn schema (e ∷ es) rows x.0 x.1) same (record { before = []; later = es; t = e.1; reached_rows = rows; parts = refl; reached = refl; refused = a })
 
-fails_in : (schema : List Table) (es : List history.Entry) (rows : Rows) (f : Gtid × RowFault) → first_fault schema es rows ≡ Some f → FailsIn schema es rows f.0 f.1
+pub fails_in : (schema : List Table) (es : List history.Entry) (rows : Rows) (f : Gtid × RowFault) → first_fault schema es rows ≡ Some f → FailsIn schema es rows f.0 f.1
 fails_in schema [] rows f h = not_none f h
 fails_in schema (e ∷ es) rows f h = fault_some schema e es rows f (apply schema e.1 rows) refl (λ new g. fails_in schema es new f g) h
 

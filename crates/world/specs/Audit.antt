@@ -1,6 +1,6 @@
 -- The world of a list of journals, and what an audit finds in them.
 use Rattle.std.specs.Prelude.{ℕ, Bool, false, not, ◌&&◌, ◌||◌, ◌==◌, ◌-◌, map, nat_lt, if◌then◌else◌, List, [], ◌∷◌, take, Option, Some, None, Result, Ok, Err}
-use Rattle.std.specs.List.{filter, flat_map, list_any, range_with_len}
+use Rattle.std.specs.List.{flat_map, list_any, range_with_len}
 use Rattle.std.specs.Option.{option_map, option_map_or, unwrap_or}
 use Rattle.std.specs.FinMap as finmap
 use Rattle.std.specs.FinSet as set
@@ -13,7 +13,7 @@ use Rattle.rows.specs.declared.schema.Table.{Table}
 use Rattle.rows.specs.Apply.{Rows, apply}
 use Rattle.rows.specs.WriteSet.{write_set, touches, shares_key}
 use Rattle.journal.specs.declared.Entry.{Entry}
-use Rattle.journal.specs.Journals.{JournalValue, gtids_of}
+use Rattle.journal.specs.Journals.{JournalValue}
 use Rattle.source_history.specs.World.{World, content, is_opened, of_source, entries_in}
 use Rattle.source_history.specs.World as history
 use Rattle.world.specs.declared.verdict.Verdict.{Verdict}
@@ -65,9 +65,9 @@ purged world journals =
 abbrev pub stands_in : List Entry → Gtid → Bool
 stands_in entries g = list_any (λ (e : Entry). same_gtid g e.gtid) entries
 
--- the GTIDs beyond the opening set that stand in the journals
-abbrev pub present : World → List JournalValue → Gtids
-present world journals = gtids_of (filter (λ (e : Entry). not (is_opened world e.gtid)) (all_entries journals))
+-- what stands in the journals beyond the opening set, in the order of GTIDs
+abbrev pub present : World → List JournalValue → List history.Entry
+present world journals = finmap.entries (first_contents world.opening_set (all_entries journals))
 
 abbrev pub is_absent : World → List JournalValue → Gtid → Bool
 is_absent world journals g = not (is_opened world g) && not (stands_in (all_entries journals) g)
@@ -78,7 +78,7 @@ below g = map (gtid g.source) (range_with_len 1 (g.number - 1))
 
 -- the least GTID that is in no journal though a greater number of its source is
 abbrev pub missing : World → List JournalValue → Option Verdict
-missing world journals = first (λ g. first (λ h. when (is_absent world journals h) (Missing h)) (below g)) (set.items (present world journals))
+missing world journals = first (λ (g : history.Entry). first (λ h. when (is_absent world journals h) (Missing h)) (below g.0)) (present world journals)
 
 -- ---- Shared
 

@@ -14,7 +14,7 @@ use Rattle.source_history.specs.World.{World, content, is_opened, of_source, ent
 use Rattle.source_history.specs.World as history
 use Rattle.world.specs.declared.verdict.Verdict.{Verdict}
 use Rattle.world.specs.declared.verdict.Verdict.TheVariants.{Unequal, Purged, Missing, Shared, NotClosed, DoesNotApply, Sound}
-use Rattle.world.specs.Audit.{all_entries, stands_in, stands_before, present, verdict}
+use Rattle.world.specs.Audit.{all_entries, stands_in, stands_before, verdict}
 
 -- an entry of a journal
 pub record IsEntryOf (journals : List JournalValue) (e : Entry) : Type 0 where
@@ -45,7 +45,8 @@ pub record IsMissing (world : World) (journals : List JournalValue) (g : Gtid) :
   pub absent : stands_in (all_entries journals) g ≡ false
   pub positive : 0 < g.number
   pub greater : Gtid
-  pub there : set.contains (present world journals) greater ≡ true
+  pub beyond : is_opened world greater ≡ false
+  pub there : stands_in (all_entries journals) greater ≡ true
   pub same : greater.source ≡ g.source
   pub below : g.number < greater.number
 

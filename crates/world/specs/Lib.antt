@@ -3,3 +3,5 @@ pub mod Equal
 pub mod Audit
 pub mod Cases
 pub mod Meaning
+pub mod Folds
+pub mod Least

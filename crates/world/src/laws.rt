@@ -1,5 +1,7 @@
 //! What the verdicts mean. Each function's contract is a law, and its body is empty.
 ghost use Rattle.world.specs.Cases.{VerdictsStand};
+ghost use Rattle.world.specs.Folds.{OnePassApplies, OnePassShares, OnePassCloses};
+ghost use Rattle.world.specs.Least.{MissingIsLeast, SharedIsLeast, FirstSourceFails};
 ghost use Rattle.world.specs.Meaning.{SoundMeansSound, SoundIsSaid, KeysSoundMeans};
 
 /// Where the audit of journals says Sound, their world is sound and each journal is faithful.
@@ -22,4 +24,38 @@ pub fn keys_sound_mean()
 /// Each verdict but Sound names a case that stands.
 pub fn verdicts_stand()
     ensures { VerdictsStand }
+{}
+
+/// Where the keys are sound, one pass over all transactions, in the order of GTIDs, finds the first
+/// that fails in its own source's list taken alone.
+pub fn one_pass_applies()
+    ensures { OnePassApplies }
+{}
+
+/// One pass over all transactions, in the order of GTIDs, finds the first pair that shares a key.
+pub fn one_pass_shares()
+    ensures { OnePassShares }
+{}
+
+/// Where the world is that of the journals and nothing was purged, the last toucher of each key is
+/// enough to find that something is left out of a journal.
+pub fn one_pass_closes()
+    ensures { OnePassCloses }
+{}
+
+/// No GTID less than the one that is said Missing is missing.
+pub fn missing_is_least()
+    ensures { MissingIsLeast }
+{}
+
+/// Of what is said Shared the greater GTID is the least that shares a key with a smaller source, the
+/// key is its first that is so shared, and the lesser GTID is the least that touches it.
+pub fn shared_is_least()
+    ensures { SharedIsLeast }
+{}
+
+/// What each source smaller than that of the GTID which is said not to apply committed applies
+/// alone.
+pub fn first_source_fails()
+    ensures { FirstSourceFails }
 {}

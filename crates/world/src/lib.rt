@@ -4,5 +4,8 @@
 mod laws;
 mod verdict;
 
-pub use laws::{keys_sound_mean, sound_is_said, sound_means_sound, verdicts_stand};
+pub use laws::{
+    first_source_fails, keys_sound_mean, missing_is_least, one_pass_applies, one_pass_closes,
+    one_pass_shares, shared_is_least, sound_is_said, sound_means_sound, verdicts_stand,
+};
 pub use verdict::Verdict;

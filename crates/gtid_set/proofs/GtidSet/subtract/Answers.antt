@@ -1,0 +1,11 @@
+use Rattle.std.proofs.Common.{◌∙◌}
+use Rattle.std.specs.FinSet as set
+use Rattle.std.proofs.lemmas.Result.{IfOk-weaker}
+use Rattle.gtid_set.specs.Spans.{set_of}
+use Rattle.gtid_set.proofs.GtidSet.subtract.Goals as goal
+
+pub returns-clause-ok : goal.returns-clause-ok
+returns-clause-ok c =
+    IfOk-weaker c.reduced.result _ _
+    (λ s e. e ∙ (λ i. set.difference (set_of (c.deref.ensures.value i)) (set_of (c.deref-2.ensures.value i))) ∙ (λ i. set.difference (c.self.view_is i) (c.other.view_is i)))
+    c.reduced.ensures.ok

@@ -1,0 +1,21 @@
+use Rattle.std.proofs.Common.{◌++◌, [], ap, ◌∙◌, arith}
+use Rattle.std.specs.FinSet as set
+use Rattle.gtid_set.specs.Sweep.{rises, sources_in}
+use Rattle.gtid_set.proofs.SpanLemmas.{merged_rises}
+use Rattle.gtid_set.proofs.SetSources.{counted_one}
+use Rattle.gtid_set.proofs.made.Goals as goal
+
+pub count_sources-sources-requires-clause-left : goal.count_sources-sources-requires-clause-left
+count_sources-sources-requires-clause-left c = ap rises c.deref.ensures.value ∙ merged_rises c.args.spans.items c.requires.merged
+
+pub overflow_cast-sources : goal.overflow_cast-sources
+overflow_cast-sources c =
+    let count = c.count_sources-sources.ensures ∙ ap (λ ss. set.len (sources_in (ss ++ []))) c.deref.ensures.value ∙ counted_one c.args.spans.items c.requires.merged in
+    let fits = c.requires.fits in
+    omega (arith, count, fits)
+
+pub invariant_of-result : goal.invariant_of-result
+invariant_of-result c =
+    let count = c.count_sources-sources.ensures ∙ ap (λ ss. set.len (sources_in (ss ++ []))) c.deref.ensures.value ∙ counted_one c.args.spans.items c.requires.merged in
+    let fits = c.requires.fits in
+    record { merged = c.requires.merged; counted = count; fits = omega (arith, count, fits) }

@@ -1,0 +1,54 @@
+use Rattle.std.proofs.Common.{ap, ◌∙◌, refl, arith}
+use Rattle.gtid_set.specs.Spans.{is_merged, is_before}
+use Rattle.gtid_set.specs.Sweep.{all_before}
+use Rattle.gtid_set.proofs.SpanLemmas.{hole_of, cut_step, cut_end, cut_rest, behind_reach, behind_before, front_before, merged_push, all_push, full_before}
+use Rattle.gtid_set.proofs.sweep.cut.Goals as goal
+
+pub returns-then-span-hole : goal.returns-then-span-hole
+returns-then-span-hole c =
+    let t = c.loop-hole.left in
+    let hole = c.in-Some.hole.now in
+    let inv = c.loop-hole.invariant in
+    let adds = c.in_ok-push_front.ensures in
+    let h = hole_of c.loop-hole.rest.now t hole c.in-Some.more.now c.in-Some.ensures.found inv.rest inv.reach in
+    record {
+      merged = adds.merged;
+      later = λ u b a. adds.later u (λ lt. front_before c.args.span.now t hole u inv.source inv.hi h.met lt b) (inv.later u b a);
+      has = λ q. cut_end c.loop-hole.out.items c.push_front.new.out.items c.loop-hole.rest.now t hole c.in-Some.more.now q h adds (omega arith) ∙ inv.has q;
+    }
+
+pub loop-hole-preserved : goal.loop-hole-preserved
+loop-hole-preserved c =
+    let t = c.loop-hole.left in
+    let hole = c.in-Some.hole.now in
+    let more = c.in-Some.more.now in
+    let inv = c.loop-hole.invariant in
+    let adds = c.in_ok-push_front.ensures in
+    let old = c.loop-hole.out.items in
+    let new = c.push_front.new.out.items in
+    let rest = c.loop-hole.rest.now in
+    let h = hole_of rest t hole more c.in-Some.ensures.found inv.rest inv.reach in
+    record {
+      rest = h.head.tail;
+      reach = behind_reach rest t hole more h;
+      source = inv.source;
+      hi = inv.hi;
+      filled = omega arith;
+      merged = adds.merged;
+      before = behind_before old new rest t hole more h adds inv.before;
+      later = λ u b a. adds.later u (λ lt. front_before c.args.span.now t hole u inv.source inv.hi h.met lt b) (inv.later u b a);
+      has = λ q. cut_step old new rest t hole more q h adds (omega arith) ∙ inv.has q;
+    }
+
+pub returns : goal.returns
+returns c =
+    let t = c.loop-hole.left in
+    let inv = c.loop-hole.invariant in
+    let old = c.loop-hole.out.items in
+    let new = c.push.new.self.items in
+    let e = c.in_ok-push.ensures.items in
+    record {
+      merged = ap is_merged e ∙ merged_push old t inv.merged inv.before inv.filled;
+      later = λ u b a. ap (λ ss. all_before ss u) e ∙ all_push (λ s. is_before s u) old t (inv.later u b a) (full_before c.args.span.now t u inv.source inv.hi b);
+      has = λ q. cut_rest old new c.loop-hole.rest.now t q e (c.in_default.ensures.apart refl) ∙ inv.has q;
+    }

@@ -1,0 +1,46 @@
+use Rattle.std.proofs.Common.{◌≡◌, ap, ◌∙◌, refl, ◌++◌, ◌∷◌, []}
+use Rattle.gtid_set.specs.Spans.{has, is_merged, is_before}
+use Rattle.gtid_set.specs.Sweep.{all_before, within, common_of}
+use Rattle.gtid_set.proofs.SpanLemmas.{hole_of, common_start, overlap_step, common_filled, common_next, common_first, common_before, overlap_end, merged_push, all_push}
+use Rattle.gtid_set.proofs.sweep.overlap.Goals as goal
+
+pub loop-other-init : goal.loop-other-init
+loop-other-init c = record {
+  rest = c.requires.others;
+  reach = c.requires.reach;
+  merged = c.requires.merged;
+  before = common_start c.args.out.now.items c.args.span.now c.args.others.now c.requires.before c.requires.reach;
+  later = λ u a b. b;
+  has = λ q. refl;
+}
+
+pub loop-other-preserved : goal.loop-other-preserved
+loop-other-preserved c =
+    let t = c.args.span.now in
+    let other = c.in-Some.other.now in
+    let more = c.in-Some.more.now in
+    let inv = c.loop-other.invariant in
+    let old = c.loop-other.out.items in
+    let new = c.push.new.self.items in
+    let rest = c.loop-other.rest.now in
+    let h = hole_of rest t other more c.in-Some.ensures.found inv.rest inv.reach in
+    let e : new ≡ old ++ common_of t other ∷ [] =
+    c.in_ok-push.ensures.items ∙ (λ i. old ++ (record { source = other.source; lo = c.max.ensures i; hi = c.min.ensures i }) ∷ []) in
+    record {
+      rest = h.head.tail;
+      reach = h.reach;
+      merged = ap is_merged e ∙ merged_push old (common_of t other) inv.merged (common_first old rest t other more h.parts inv.before) (common_filled rest t other more c.requires.filled h);
+      before = common_next old new rest t other more h e inv.before;
+      later = λ u b a. ap (λ ss. all_before ss u) e ∙ all_push (λ s. is_before s u) old (common_of t other) (inv.later u b a) (common_before t other u h.met b);
+      has = λ q. overlap_step old new rest t other more q h e ∙ inv.has q;
+    }
+
+pub returns : goal.returns
+returns c =
+    let t = c.args.span.now in
+    let inv = c.loop-other.invariant in
+    record {
+      merged = inv.merged;
+      later = inv.later;
+      has = λ q. overlap_end (has c.loop-other.out.items q) (within t q) (has c.loop-other.rest.now q) _ (c.in_default.ensures.apart refl q) (inv.has q);
+    }

@@ -1,0 +1,14 @@
+use Rattle.std.proofs.Common.{◌≡◌, ap, ◌∙◌}
+use Rattle.relay.specs.declared.Known.{Known}
+use Rattle.relay.specs.Known.{ahead_by}
+use Rattle.relay.specs.Own.{with_last}
+use Rattle.relay.proofs.OwnLemmas.{own_appended}
+use Rattle.relay.proofs.OwnJournal.append.Goals as goal
+
+pub invariant_of-self-in-Ok : goal.invariant_of-self-in-Ok
+invariant_of-self-in-Ok c =
+    let g = c.args.entry.gtid in
+    let known = c.self.inside.known in
+    let put : c.push.new.self ≡ with_last c.args.entry c.self.inside.journal = c.in_ok-push.ensures.ok in
+    let advanced : c.advance.new.self ≡ ahead_by g known.executed = c.in-Ok.ensures.ok ∙ ap (λ (k : Known). ahead_by g k.executed) c.in_ok-catch_up.ensures.ok in
+    rw (put, advanced) (own_appended c.args.entry c.self.inside.journal known c.self.invariant)

@@ -1,0 +1,284 @@
+//! A server's own journal: what it executed, in the order of the commits.
+#![tactic(auto)]
+
+ghost use Rattle.std.specs.Prelude.{◌≡◌, ◌≤◌, ◌<◌, ◌↔◌, [], ◌∷◌, ◌++◌, true, false, ℕ, OnOk, OnErr, IfOk, IfErr, Err, Ok, length, take, drop, slice_get};
+ghost use Rattle.std.specs.Option.{option_copied};
+ghost use Rattle.std.specs.FinSet as set;
+ghost use Rattle.journal.specs.Journals.{purged, whole};
+ghost use Rattle.journal.specs.Writing.{is_writable};
+ghost use Rattle.relay.specs.Own.{without_last, with_last, purged_to, IsTooMany};
+ghost use Rattle.relay.specs.declared.PurgeFault.TheVariants.{TooMany, Set};
+
+use gtid_set::{GtidSet, SetFault};
+use gtid_text::Gtid;
+use journal::{Entry, Journal};
+use std::alloc::Global;
+use std::marker::Model;
+use std::mem;
+use thiserror::Error;
+
+/// How the spare set differs from the executed set.
+#[derive(Clone, Copy, Drop)]
+enum Behind {
+    /// They are equal.
+    Equal,
+    /// The spare set lacks the last entry's GTID.
+    ByLast(Gtid),
+    /// The spare set lacks this GTID.
+    By(Gtid),
+    /// The spare set has this GTID besides.
+    Ahead(Gtid),
+}
+
+/// The executed set, and a spare set at most one GTID away from it.
+#[derive(Drop)]
+struct Known {
+    executed: GtidSet,
+    spare: GtidSet,
+    behind: Behind,
+}
+
+impl Known {
+    ghost use Rattle.relay.specs.Known.{IsNear, equal_to, ahead_by, stepped_back, lasting};
+
+    /// Makes the spare set equal to the executed set.
+    fn catch_up(&mut self, alloc: Global) -> Result<(), SetFault>
+        requires { IsNear self.old }
+        ensures ok { OnOk result (self.new ≡ equal_to self.old.executed) }
+        ensures err { OnErr result (self.new ≡ self.old) }
+    {
+        match self.behind {
+            Behind::Equal => {}
+            Behind::ByLast(gtid) => self.spare.add(gtid)?,
+            Behind::By(gtid) => self.spare.add(gtid)?,
+            Behind::Ahead(_) => self.spare = self.executed.copy(alloc)?,
+        }
+        self.behind = Behind::Equal;
+        Ok(())
+    }
+
+    /// Adds a GTID, and leaves the spare set one step behind.
+    fn advance(&mut self, gtid: &Gtid) -> Result<(), SetFault>
+        requires { self.old.spare ≡ self.old.executed }
+        ensures ok { OnOk result (self.new ≡ ahead_by gtid.now self.old.executed) }
+        ensures err { OnErr result (self.new ≡ self.old) }
+    {
+        self.spare.add(*gtid)?;
+        mem::swap(&mut self.executed, &mut self.spare);
+        self.behind = Behind::ByLast(*gtid);
+        Ok(())
+    }
+
+    /// Takes the last step back.
+    fn step_back(&mut self)
+        ensures { self.new ≡ stepped_back self.old }
+    {
+        if let Behind::ByLast(gtid) = self.behind {
+            mem::swap(&mut self.executed, &mut self.spare);
+            self.behind = Behind::Ahead(gtid);
+        }
+    }
+
+    /// From now on the last step cannot be taken back.
+    fn settle(&mut self)
+        ensures { self.new ≡ lasting self.old }
+    {
+        if let Behind::ByLast(gtid) = self.behind {
+            self.behind = Behind::By(gtid);
+        }
+    }
+}
+
+/// Why entries were not purged.
+#[derive(Clone, Copy, Debug, PartialEq, Eq, Error)]
+pub enum PurgeFault {
+    /// There are fewer entries than were to be purged: this many.
+    #[error("only {0} entries")]
+    TooMany(usize),
+    /// A set could not be made.
+    #[error("{0}")]
+    Set(SetFault),
+}
+
+impl From<SetFault> for PurgeFault {
+    ghost from_gives = { λ f e. e ≡ Set f };
+
+    fn from(fault: SetFault) -> PurgeFault {
+        PurgeFault::Set(fault)
+    }
+}
+
+/// A server's own journal with the set that it has executed. The previous set of the journal is
+/// the purged set. (MySQL 8.0 Reference Manual, "GTID Life Cycle".)
+///
+/// Two sets are kept, one of them at most one GTID away from the other, so that a commit
+/// copies no set and its entry can be taken back without memory.
+#[derive(Drop)]
+pub struct OwnJournal {
+    journal: Journal,
+    known: Known,
+}
+
+impl Model for OwnJournal {
+    ghost use Rattle.std.specs.Coded.{codes};
+    ghost use Rattle.gtid_set.specs.Sets.{gtids_code};
+    ghost use Rattle.relay.specs.Own.{OwnValue};
+
+    ghost Value = { OwnValue };
+
+    ghost coded = { Prim.hlevel (codes, gtids_code) };
+
+    ghost use Rattle.relay.specs.Known.{is_undoable};
+    ghost use Rattle.relay.specs.Own.{IsOwn};
+
+    ghost view = { λ o. record { journal = o.journal; undoable = is_undoable o.known.behind } };
+
+    ghost invariant = { λ o. IsOwn o.journal o.known };
+}
+
+impl OwnJournal {
+    /// An own journal without entries, after this purged set.
+    pub fn start(alloc: Global, purged: GtidSet) -> Result<OwnJournal, SetFault>
+        ensures { IfOk result (λ o. o.journal ≡ record { previous = purged; entries = [] }) }
+    {
+        let executed = purged.copy(alloc)?;
+        let spare = purged.copy(alloc)?;
+        Ok(OwnJournal {
+            journal: Journal::start(alloc, purged),
+            known: Known {
+                executed,
+                spare,
+                behind: Behind::Equal,
+            },
+        })
+    }
+
+    /// The executed set: the purged set with the GTIDs of the entries.
+    pub fn executed(&self) -> &GtidSet
+        ensures { result.now ≡ whole self.now.journal }
+    {
+        &self.known.executed
+    }
+
+    /// The purged set: the executed GTIDs that no entry has any more.
+    pub fn purged(&self) -> &GtidSet
+        ensures { result.now ≡ self.now.journal.previous }
+    {
+        self.journal.previous()
+    }
+
+    /// The entry at this place, from 0.
+    pub fn entry(&self, place: usize) -> Option<&Entry>
+        ensures { option_copied result ≡ slice_get self.now.journal.entries place }
+    {
+        self.journal.entries().get(place)
+    }
+
+    /// The journal itself.
+    pub fn as_journal(&self) -> &Journal
+        ensures { result.now ≡ self.now.journal }
+    {
+        &self.journal
+    }
+
+    /// Puts an entry at the end. It can be taken back until something else changes.
+    pub fn append(&mut self, alloc: Global, entry: Entry) -> Result<(), SetFault>
+        requires new { set.contains (whole self.old.journal) entry.gtid ≡ false }
+        requires writable { is_writable entry ≡ true }
+        ensures ok { OnOk result (self.new.journal ≡ with_last entry self.old.journal) }
+        ensures undoable { OnOk result (self.new.undoable ≡ true) }
+        ensures err { OnErr result (self.new.journal ≡ self.old.journal) }
+    {
+        let gtid = entry.gtid;
+        self.known.catch_up(alloc)?;
+        self.journal.push(entry)?;
+        match self.known.advance(&gtid) {
+            Ok(()) => Ok(()),
+            Err(fault) => {
+                self.journal.pop();
+                Err(fault)
+            }
+        }
+    }
+
+    /// Takes the entry that was appended last back, as if it had never been there. Takes no memory.
+    pub fn take_back(&mut self)
+        requires { self.old.undoable ≡ true }
+        ensures { self.new.journal ≡ without_last self.old.journal }
+    {
+        self.known.step_back();
+        self.journal.pop();
+    }
+
+    /// Takes the first entries away, and their GTIDs into the purged set, which is handed out.
+    /// The executed set stays.
+    pub fn purge(&mut self, alloc: Global, count: usize) -> Result<GtidSet, PurgeFault>
+        ensures ok { IfOk result (λ s. s ≡ purged count self.old.journal) }
+        ensures rest { OnOk result (self.new.journal ≡ purged_to count self.old.journal) }
+        ensures many { IsTooMany result ↔ (length self.old.journal.entries < count) }
+        ensures len { (n : ℕ) → result ≡ Err (TooMany n) → n ≡ length self.old.journal.entries }
+        ensures executed { whole self.new.journal ≡ whole self.old.journal }
+        ensures err { OnErr result (self.new.journal ≡ self.old.journal) }
+    {
+        let there = self.journal.len();
+        if there < count {
+            return Err(PurgeFault::TooMany(there));
+        }
+        let previous = self.journal.purged(alloc, count)?;
+        let shown = previous.copy(alloc)?;
+        self.known.settle();
+        self.journal.purge(count, previous);
+        Ok(shown)
+    }
+}
+
+#[cfg(test)]
+mod tests {
+    use super::*;
+    use gtid_text::SourceId;
+    use rows::{Changes, Transaction};
+    use std::alloc::AllocError;
+    use std::test::Fail;
+
+    fn entry(alloc: Global, number: u64) -> Result<Entry, AllocError> {
+        let changes = Changes::new(Vec::new(alloc))?;
+        let gtid = Gtid {
+            source: SourceId::from_bits(7),
+            number,
+        };
+        Ok(Entry {
+            gtid,
+            txn: Transaction { changes },
+        })
+    }
+
+    #[test]
+    fn an_entry_is_appended_purged_and_stays_executed(rt: HostRuntime) -> Result<(), Fail> {
+        let alloc = rt.alloc();
+        let mut own = OwnJournal::start(alloc, GtidSet::empty(alloc))?;
+        let first = entry(alloc, 1)?;
+        let gtid = first.gtid;
+        assert!(rt; !own.executed().contains(&gtid) && first.is_writable());
+        own.append(alloc, first)?;
+        assert!(rt; own.executed().contains(&gtid) && !own.purged().contains(&gtid));
+        assert_eq!(rt; own.as_journal().len(), 1);
+        let shown = own.purge(alloc, 1)?;
+        assert!(rt; shown.contains(&gtid) && own.executed().contains(&gtid));
+        assert!(rt; own.entry(0).is_none());
+        assert!(rt; matches!(own.purge(alloc, 2), Err(PurgeFault::TooMany(0))));
+        Ok(())
+    }
+
+    #[test]
+    fn an_entry_is_taken_back(rt: HostRuntime) -> Result<(), Fail> {
+        let alloc = rt.alloc();
+        let mut own = OwnJournal::start(alloc, GtidSet::empty(alloc))?;
+        let first = entry(alloc, 1)?;
+        let gtid = first.gtid;
+        assert!(rt; !own.executed().contains(&gtid) && first.is_writable());
+        own.append(alloc, first)?;
+        own.take_back();
+        assert!(rt; !own.executed().contains(&gtid));
+        Ok(())
+    }
+}
