@@ -1,21 +1,23 @@
 -- The GTIDs of the source's own, and what the journal has a record of.
-use Rattle.std.proofs.Common.{◌≡◌, ℕ, zero, suc, ◌+◌, ◌<◌, Bool, true, false, cond, not, eqb, nat_eq, ◌&&◌, ◌||◌, List, [], ◌∷◌, ◌++◌, length, map, take, take-suc, get_or, ◌≤◌, Option, Some, None, Result, Ok, Err, refl, sym, ap, subst, ◌∙◌, arith}
+use Rattle.std.proofs.Common.{◌≡◌, ℕ, zero, suc, ◌+◌, ◌<◌, Bool, true, false, cond, not, eqb, nat_eq, ◌&&◌, ◌||◌, List, [], ◌∷◌, ◌++◌, length, map, take, take-suc, drop, nat_le, get_or, ◌≤◌, Option, Some, None, Result, Ok, Err, refl, sym, ap, subst, ◌∙◌, arith}
 use Rattle.std.specs.Prelude.{◌==◌, IfOk}
 use Rattle.std.specs.List.{filter, list_any}
 use Rattle.std.specs.List.Sorted.{IsPermutation}
 use Rattle.std.proofs.lemmas.List.Sorted.{list_any-IsPermutation}
 use Rattle.std.proofs.lemmas.Bool.{eqb-true, eqb-false}
-use Rattle.std.proofs.lemmas.List.{map-append, take_all}
+use Rattle.std.proofs.lemmas.List.{map-append, take_all, drop_more, drop_all}
 use Rattle.std.proofs.lemmas.Bool.Decides.{nat_tests}
 use Rattle.std.specs.Ordering.{eq_by_cmp}
 use Rattle.std.specs.FinSet as set
 use Rattle.gtid_text.specs.declared.Gtid.{Gtid}
 use Rattle.gtid_text.specs.Gtids.{gtid_cmp}
-use Rattle.gtid_set.specs.Sets.{Gtids, gtid, only}
-use Rattle.gtid_set.proofs.SetLemmas.{gtid_total, gtid_same, same_members, gtid_tied}
+use Rattle.gtid_text.specs.declared.Span.{Span}
+use Rattle.gtid_set.specs.Sets.{Gtids, gtid, only, interval, covers}
+use Rattle.gtid_set.specs.Spans.{set_of}
+use Rattle.gtid_set.proofs.SetLemmas.{gtid_total, gtid_same, same_members, gtid_tied, contains-interval}
 use Rattle.journal.specs.declared.Entry.{Entry}
 use Rattle.journal.specs.Journals.{JournalValue, gtids_of, whole}
-use Rattle.auto_position.specs.Sending.{numbers_of, own_of, is_wanted, sent}
+use Rattle.auto_position.specs.Sending.{numbers_of, own_of, is_wanted, taken_up, sent}
 use Rattle.auto_position.specs.declared.PositionFault.TheVariants.{ReplicaHasMore}
 
 -- the members of one source
@@ -168,6 +170,95 @@ sent_more journal ask own more kept is some =
 
 pub known_own : (journal : JournalValue) (ask : Gtids) (own : ℕ) (more : Gtids) → more ≡ set.difference (only ask own) (whole journal) → set.is_subset more set.empty ≡ true → set.is_subset (own_of ask (Some own)) (whole journal) ≡ true
 known_own journal ask own more is none = subset_from_empty (only ask own) (whole journal) (ap (λ (s : Gtids). set.is_subset s set.empty) (sym is) ∙ none)
+
+-- ---- the loop that takes the spans of one source
+
+taken : (o q r a b : Bool) → q ≡ o → ((a || (q && r)) || (b && o)) ≡ (a || ((b || (q && r)) && o))
+taken o q r a b e = rw e (both o r a b)
+  where
+    both : (o r a b : Bool) → ((a || (o && r)) || (b && o)) ≡ (a || ((b || (o && r)) && o))
+    both o r true b = refl
+    both true true false true = refl
+    both true true false false = refl
+    both true false false true = refl
+    both true false false false = refl
+    both false r false true = refl
+    both false r false false = refl
+
+skipped : (o q r a b : Bool) → (q && o) ≡ false → (a || (b && o)) ≡ (a || ((b || (q && r)) && o))
+skipped o q r true b e = refl
+skipped true true r false b e = absurd cc
+skipped true false r false true e = refl
+skipped true false r false false e = refl
+skipped false q r false true e = refl
+skipped false true true false false e = refl
+skipped false true false false false e = refl
+skipped false false r false false e = refl
+
+pub asked_first : (spans : List Span) (source : ℕ) (asked : Gtids) → asked ≡ set.empty → set.union asked (only (set_of spans) source) ≡ only (set_of spans) source
+asked_first spans source asked e =
+    same_members (set.union asked (only (set_of spans) source)) (only (set_of spans) source) (λ g.
+        set.contains-union gtid_total asked (only (set_of spans) source) g
+        ∙ ap (λ (b : Bool). b || set.contains (only (set_of spans) source) g) (ap (λ (s : Gtids). set.contains s g) e ∙ set.contains-empty gtid_cmp g))
+
+contains_more : (s : Span) (ss : List Span) (source : ℕ) (g : Gtid) → set.contains (only (set_of (s ∷ ss)) source) g ≡ ((set.contains (set_of ss) g || covers s.source s.lo s.hi g) && (g.source == source))
+contains_more s ss source g =
+    contains-only (set_of (s ∷ ss)) source g
+    ∙ ap (λ (b : Bool). b && (g.source == source)) (set.contains-union gtid_total (set_of ss) (interval s.source s.lo s.hi) g ∙ ap (λ (b : Bool). set.contains (set_of ss) g || b) (contains-interval s.source s.lo s.hi g))
+
+take_span : (s : Span) (ss : List Span) (source : ℕ) (asked next : Gtids) → (s.source == source) ≡ true → next ≡ set.union asked (interval s.source s.lo s.hi) → set.union next (only (set_of ss) source) ≡ set.union asked (only (set_of (s ∷ ss)) source)
+take_span s ss source asked next own is =
+    same_members (set.union next (only (set_of ss) source)) (set.union asked (only (set_of (s ∷ ss)) source)) (λ g.
+        let same : s.source ≡ source = eqb-true s.source source own in
+        let r = nat_le s.lo g.number && nat_le g.number s.hi in
+        set.contains-union gtid_total next (only (set_of ss) source) g
+        ∙ ap (λ (b : Bool). b || set.contains (only (set_of ss) source) g) (ap (λ (x : Gtids). set.contains x g) is ∙ set.contains-union gtid_total asked (interval s.source s.lo s.hi) g ∙ ap (λ (b : Bool). set.contains asked g || b) (contains-interval s.source s.lo s.hi g))
+        ∙ ap (λ (b : Bool). (set.contains asked g || covers s.source s.lo s.hi g) || b) (contains-only (set_of ss) source g)
+        ∙ taken (g.source == source) (g.source == s.source) r (set.contains asked g) (set.contains (set_of ss) g) (ap (λ (n : ℕ). g.source == n) same)
+        ∙ ap (λ (b : Bool). set.contains asked g || b) (sym (contains_more s ss source g))
+        ∙ sym (set.contains-union gtid_total asked (only (set_of (s ∷ ss)) source) g))
+
+two_sources : (n a b : ℕ) → (a == b) ≡ false → ((n == a) && (n == b)) ≡ false
+two_sources n a b apart = grind (arith, nat_tests, apart)
+
+skip_span : (s : Span) (ss : List Span) (source : ℕ) (asked : Gtids) → (s.source == source) ≡ false → set.union asked (only (set_of ss) source) ≡ set.union asked (only (set_of (s ∷ ss)) source)
+skip_span s ss source asked other =
+    same_members (set.union asked (only (set_of ss) source)) (set.union asked (only (set_of (s ∷ ss)) source)) (λ g.
+        let r = nat_le s.lo g.number && nat_le g.number s.hi in
+        set.contains-union gtid_total asked (only (set_of ss) source) g
+        ∙ ap (λ (b : Bool). set.contains asked g || b) (contains-only (set_of ss) source g)
+        ∙ skipped (g.source == source) (g.source == s.source) r (set.contains asked g) (set.contains (set_of ss) g) (two_sources g.source s.source source other)
+        ∙ ap (λ (b : Bool). set.contains asked g || b) (sym (contains_more s ss source g))
+        ∙ sym (set.contains-union gtid_total asked (only (set_of (s ∷ ss)) source) g))
+
+take_up_next : (s : Span) (ss : List Span) (source : ℕ) (asked : Gtids) → set.union (taken_up asked source s) (only (set_of ss) source) ≡ set.union asked (only (set_of (s ∷ ss)) source)
+take_up_next s ss source asked =
+    elim (eqb s.source source) as (λ b. eqb s.source source ≡ b → set.union (cond b (set.union asked (interval s.source s.lo s.hi)) asked) (only (set_of ss) source) ≡ set.union asked (only (set_of (s ∷ ss)) source)) [
+      | true ↦ λ own. take_span s ss source asked (set.union asked (interval s.source s.lo s.hi)) own refl
+      | false ↦ λ other. skip_span s ss source asked other
+    ] refl
+
+pub asked_next : (spans : List Span) (i : ℕ) (d : Span) (source : ℕ) (asked next total : Gtids) → i < length spans → next ≡ taken_up asked source (get_or spans i d)
+    → set.union asked (only (set_of (drop i spans)) source) ≡ total → set.union next (only (set_of (drop (i + 1) spans)) source) ≡ total
+asked_next spans i d source asked next total within is known =
+    ap (λ (x : Gtids). set.union x (only (set_of (drop (i + 1) spans)) source)) is
+    ∙ take_up_next (get_or spans i d) (drop (i + 1) spans) source asked
+    ∙ ap (λ (ss : List Span). set.union asked (only (set_of ss) source)) (sym (drop_more spans i d within)) ∙ known
+
+pub asked_last : (spans : List Span) (i : ℕ) (source : ℕ) (asked ask : Gtids) → length spans ≤ i → set_of spans ≡ ask → set.union asked (only (set_of (drop i spans)) source) ≡ only (set_of spans) source → asked ≡ only ask source
+asked_last spans i source asked ask past is known =
+    same_members asked (set.union asked (only (set_of (drop i spans)) source)) (λ g.
+        alone (set.contains asked g)
+        ∙ ap (λ (b : Bool). set.contains asked g || b) (sym (none_left g))
+        ∙ sym (set.contains-union gtid_total asked (only (set_of (drop i spans)) source) g))
+    ∙ known
+    ∙ ap (λ (s : Gtids). only s source) is
+  where
+    alone : (b : Bool) → b ≡ (b || false)
+    alone true = refl
+    alone false = refl
+    none_left : (g : Gtid) → set.contains (only (set_of (drop i spans)) source) g ≡ false
+    none_left g = ap (λ (ss : List Span). set.contains (only (set_of ss) source) g) (drop_all i spans past) ∙ contains-only set.empty source g ∙ ap (λ (b : Bool). b && (g.source == source)) (set.contains-empty gtid_cmp g)
 
 -- ---- the loop that builds a set of rising numbers
 

@@ -3,7 +3,8 @@ use Rattle.std.specs.Prelude.{◌≡◌, ℕ, ◌+◌, Bool, not, ◌==◌, map,
 use Rattle.std.specs.List.{filter}
 use Rattle.std.specs.List.Sorted.{IsStrictlyIncreasing}
 use Rattle.std.specs.FinSet as set
-use Rattle.gtid_set.specs.Sets.{Gtids, only}
+use Rattle.gtid_set.specs.Sets.{Gtids, only, interval}
+use Rattle.gtid_text.specs.declared.Span.{Span}
 use Rattle.journal.specs.declared.Entry.{Entry}
 use Rattle.journal.specs.Journals.{JournalValue, whole}
 use Rattle.auto_position.specs.declared.PositionFault.{PositionFault}
@@ -26,6 +27,10 @@ places_from test place (e ∷ es) = if test e then place ∷ places_from test (p
 -- the numbers of the entries of a source, in journal order
 abbrev pub numbers_of : ℕ → List Entry → List ℕ
 numbers_of source entries = map (λ e. e.gtid.number) (filter (λ e. e.gtid.source == source) entries)
+
+-- a set with the GTIDs of a span, where it is of this source
+abbrev pub taken_up : Gtids → ℕ → Span → Gtids
+taken_up s source span = if span.source == source then set.union s (interval span.source span.lo span.hi) else s
 
 -- What is sent: nothing where what is missing was purged, nor where the replica has GTIDs of this source that it has no record of
 -- (that these are named, and are tested second, is our own); else the entries that aren't asked with, in journal order.

@@ -1,14 +1,14 @@
 //! Auto-positioning: which entries of its journal a source sends to a replica that asks with a set of GTIDs.
 #![tactic(auto)]
 
-ghost use Rattle.std.specs.Prelude.{◌≡◌, ◌==◌, IfOk, IfErr};
+ghost use Rattle.std.specs.Prelude.{◌≡◌, IfOk, IfErr, OnOk};
 ghost use Rattle.std.specs.FinSet as set;
 ghost use Rattle.gtid_set.specs.Sets.{only};
 ghost use Rattle.journal.specs.Journals.{whole, gtids_of};
-ghost use Rattle.auto_position.specs.Sending.{is_wanted, numbers_of, places_from, sent, IsPlan, IsRefusal};
+ghost use Rattle.auto_position.specs.Sending.{is_wanted, numbers_of, taken_up, places_from, sent, IsPlan, IsRefusal};
 
 use gtid_set::{GtidSet, SetFault};
-use gtid_text::{Gtid, SourceId};
+use gtid_text::{Gtid, SourceId, Span};
 use journal::{Entry, Journal};
 use std::alloc::{AllocError, AllocFailed, Global};
 
@@ -73,11 +73,33 @@ fn recorded(alloc: Global, source: SourceId, entries: &[Entry]) -> Result<GtidSe
     Ok(recorded)
 }
 
+/// Takes up a span, where it is of this source.
+fn take_up(asked: &mut GtidSet, source: SourceId, span: &Span) -> Result<(), SetFault>
+    ensures { OnOk result (asked.new ≡ taken_up asked.old source span.now) }
+{
+    if span.source != source {
+        return Ok(());
+    }
+    asked.add_span(*span)
+}
+
+/// The GTIDs of a source that are asked with.
+fn asked_of(alloc: Global, source: SourceId, ask: &GtidSet) -> Result<GtidSet, SetFault>
+    ensures { IfOk result (λ s. s ≡ only ask.now source) }
+{
+    let spans = ask.spans(alloc)?;
+    let mut asked = GtidSet::empty(alloc);
+    'all: for span in &spans {
+        take_up(&mut asked, source, span)?;
+    }
+    Ok(asked)
+}
+
 /// The GTIDs of the source's own that are asked with and that the journal has no record of.
 fn unknown(alloc: Global, own: SourceId, journal: &Journal, ask: &GtidSet) -> Result<GtidSet, SetFault>
     ensures { IfOk result (λ s. s ≡ set.difference (only ask.now own) (whole journal.now)) }
 {
-    let asked = ask.only(alloc, own)?;
+    let asked = asked_of(alloc, own, ask)?;
     let unpurged = asked.subtract(alloc, journal.previous())?;
     let recorded = recorded(alloc, own, journal.entries())?;
     unpurged.subtract(alloc, &recorded)
