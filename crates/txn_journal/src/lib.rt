@@ -17,3 +17,6 @@ pub use bundle::{Bundle, Channel};
 pub use bundle_reader::{BundleReader, decode_bundle};
 pub use fault::{Cause, JournalFault};
 pub use reader::{Reader, decode};
+
+#[cfg(test)]
+mod tests;
