@@ -7,12 +7,12 @@ use Rattle.journal_words.specs.Words.{first_word, others}
 use Rattle.journal_words.specs.Values.{value_of}
 use Rattle.txn_journal.specs.Lines.{cons_head, words_of, Image, stop_at, and_value, is_bar, stopped, values_from}
 
-abbrev more_words : Option (List ℕ) → List (List ℕ)
+abbrev pub more_words : Option (List ℕ) → List (List ℕ)
 more_words None = []
 more_words (Some r) = words_of r
 
 -- the words of a text are its first word and those behind it
-words_cut : (t : List ℕ) → words_of t ≡ first_word t ∷ more_words (others t)
+pub words_cut : (t : List ℕ) → words_of t ≡ first_word t ∷ more_words (others t)
 unfolding words_of
 words_cut [] = refl
 words_cut (b ∷ bs) =
