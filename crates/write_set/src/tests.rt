@@ -1,3 +1,4 @@
+//! Keys of transactions, and the rows that they leave. Rows are tested here, so that their crate is proved once.
 use super::*;
 use rows::{
     ApplyFault, ByteString, Change, Changes, ColumnLists, Columns, Name, Row, RowFault, Rows,
@@ -15,12 +16,11 @@ fn name(alloc: Global) -> Result<Name, Fail> {
 
 /// Table `t` of three columns: column 0 is the primary key, and column 1 a unique key.
 fn schema(alloc: Global) -> Result<Schema, Fail> {
-    let primary = Columns::new(vec![in alloc; 0]?)?;
     let unique = Columns::new(vec![in alloc; 1]?)?;
     let table = Table {
         name: name(alloc)?,
         columns: 3,
-        primary,
+        primary: Columns::new(vec![in alloc; 0]?)?,
         uniques: ColumnLists::new(vec![in alloc; unique]?)?,
     };
     let mut schema = Schema::empty(alloc);
@@ -28,195 +28,168 @@ fn schema(alloc: Global) -> Result<Schema, Fail> {
     Ok(schema)
 }
 
-/// A row of `t`, in which 0 stands for null.
-fn row(alloc: Global, id: i64, letter: u8, last: i64) -> Result<Row, AllocError> {
-    let letter = match letter {
-        0 => Value::Null,
-        _ => Value::Bytes(ByteString::new(vec![in alloc; letter]?)?),
+/// The number and the letter of a row of `t`, whose third value is null.
+type Short = (i64, Option<u8>);
+
+fn row(alloc: Global, short: Short) -> Result<Row, AllocError> {
+    let letter = match short.1 {
+        None => Value::Null,
+        Some(letter) => Value::Bytes(ByteString::new(vec![in alloc; letter]?)?),
     };
-    let last = match last {
-        0 => Value::Null,
-        _ => Value::Int(last),
-    };
-    Row::new(vec![in alloc; Value::Int(id), letter, last]?)
+    Row::new(vec![in alloc; Value::Int(short.0), letter, Value::Null]?)
 }
 
-fn insert(alloc: Global, id: i64, letter: u8) -> Result<Change, Fail> {
-    Ok(Change::Insert {
-        table: name(alloc)?,
-        after: row(alloc, id, letter, 0)?,
-    })
-}
-
-fn delete(alloc: Global, id: i64, letter: u8) -> Result<Change, Fail> {
-    Ok(Change::Delete {
-        table: name(alloc)?,
-        before: row(alloc, id, letter, 0)?,
-    })
-}
-
-fn update(alloc: Global, before: Row, after: Row) -> Result<Change, Fail> {
-    Ok(Change::Update {
-        table: name(alloc)?,
-        before,
-        after,
-    })
-}
-
-fn alone(alloc: Global, change: Change) -> Result<Transaction, Fail> {
+fn alone(alloc: Global, change: Change) -> Result<Transaction, AllocError> {
     let changes = Changes::new(vec![in alloc; change]?)?;
     Ok(Transaction { changes })
 }
 
-/// An opening row, an insert or a delete, and the answer.
-#[derive(Clone, Copy)]
-struct Case {
-    opening: Option<(i64, u8)>,
-    is_insert: bool,
-    id: i64,
-    letter: u8,
-    fault: Option<RowFault>,
+fn insert(alloc: Global, after: Short) -> Result<Transaction, Fail> {
+    let table = name(alloc)?;
+    let after = row(alloc, after)?;
+    Ok(alone(alloc, Change::Insert { table, after })?)
 }
 
-const CASES: [Case; 7] = [
-    Case {
-        opening: None,
-        is_insert: true,
-        id: 1,
-        letter: b'a',
-        fault: None,
-    },
-    Case {
-        opening: Some((1, b'a')),
-        is_insert: true,
-        id: 1,
-        letter: b'b',
-        fault: Some(RowFault::DuplicateKey { change: 0, key: 0 }),
-    },
-    Case {
-        opening: Some((2, b'a')),
-        is_insert: true,
-        id: 1,
-        letter: b'a',
-        fault: Some(RowFault::DuplicateKey { change: 0, key: 1 }),
-    },
-    Case {
-        opening: Some((1, 0)),
-        is_insert: true,
-        id: 2,
-        letter: 0,
-        fault: None,
-    },
-    Case {
-        opening: None,
-        is_insert: false,
-        id: 9,
-        letter: b'a',
-        fault: Some(RowFault::RowMissing { change: 0, key: 0 }),
-    },
-    Case {
-        opening: Some((9, b'b')),
-        is_insert: false,
-        id: 9,
-        letter: b'a',
-        fault: Some(RowFault::RowDiffers { change: 0, key: 0 }),
-    },
-    Case {
-        opening: Some((9, b'a')),
-        is_insert: false,
-        id: 9,
-        letter: b'a',
-        fault: None,
-    },
+fn delete(alloc: Global, before: Short) -> Result<Transaction, Fail> {
+    let table = name(alloc)?;
+    let before = row(alloc, before)?;
+    Ok(alone(alloc, Change::Delete { table, before })?)
+}
+
+fn update(alloc: Global, before: Short, after: Short) -> Result<Transaction, Fail> {
+    let change = Change::Update {
+        table: name(alloc)?,
+        before: row(alloc, before)?,
+        after: row(alloc, after)?,
+    };
+    Ok(alone(alloc, change)?)
+}
+
+/// A row that is deleted, a row that is inserted, and the number of the first key that both carry.
+const SHARED: [(Short, Short, Option<u32>); 5] = [
+    ((1, Some(b'a')), (2, Some(b'a')), Some(1)),
+    ((1, None), (2, None), None),
+    ((1, Some(b'a')), (1, Some(b'b')), Some(0)),
+    ((1, Some(b'a')), (1, Some(b'a')), Some(0)),
+    ((1, Some(b'a')), (2, Some(b'b')), None),
 ];
 
 #[test]
-fn one_change_on_one_row(rt: HostRuntime) -> Result<(), Fail> {
+fn first_key_of_two_transactions(rt: HostRuntime) -> Result<(), Fail> {
     let alloc = rt.alloc();
-    for case in CASES {
-        let mut rows = Rows::open(alloc, schema(alloc)?);
-        if let Some((id, letter)) = case.opening {
-            let opening = row(alloc, id, letter, 0)?;
-            assert_eq!(rt; rows.put(alloc, &name(alloc)?, &opening), Ok(()));
-        }
-        let change = if case.is_insert {
-            insert(alloc, case.id, case.letter)?
-        } else {
-            delete(alloc, case.id, case.letter)?
-        };
-        let answer = rows.apply(alloc, &alone(alloc, change)?);
-        assert_eq!(rt; answer.err(), case.fault.map(ApplyFault::Row));
+    let schema = schema(alloc)?;
+    for (deleted, inserted, want) in SHARED {
+        let a = keys_of(alloc, &schema, &delete(alloc, deleted)?)?;
+        let b = keys_of(alloc, &schema, &insert(alloc, inserted)?)?;
+        let shared = share_key(&a, &b).map(|key| key.index);
+        assert_eq!(rt; shared, want);
     }
     Ok(())
 }
 
+/// The letter of a unique key; 0 for a primary key.
+fn letter(key: &Key) -> u8 {
+    match key.values.values().first() {
+        Some(Value::Bytes(bytes)) => bytes.as_slice().first().copied().unwrap_or(0),
+        _ => 0,
+    }
+}
+
 #[test]
-fn rows_in_order(rt: HostRuntime) -> Result<(), Fail> {
+fn an_update_touches_the_old_keys_first(rt: HostRuntime) -> Result<(), Fail> {
     let alloc = rt.alloc();
+    let txn = update(alloc, (1, Some(b'b')), (1, Some(b'a')))?;
+    let touched = keys_of(alloc, &schema(alloc)?, &txn)?;
+    assert_eq!(rt; touched.len(), 3);
+    for (key, want) in touched.iter().zip([0, b'b', b'a']) {
+        assert_eq!(rt; letter(key), want);
+    }
+    Ok(())
+}
+
+fn opened(alloc: Global, opening: Short) -> Result<Rows, Fail> {
     let mut rows = Rows::open(alloc, schema(alloc)?);
-    for id in [3, 1, 2] {
-        let opening = row(alloc, id, 0, 0)?;
-        assert_eq!(rt; rows.put(alloc, &name(alloc)?, &opening), Ok(()));
-    }
-    let mut changed = rows.copy()?;
-    assert!(rt; changed.is_equal(&rows));
-    let change = update(alloc, row(alloc, 1, 0, 0)?, row(alloc, 1, 0, 5)?)?;
-    assert_eq!(rt; changed.apply(alloc, &alone(alloc, change)?), Ok(()));
-    assert!(rt; !changed.is_equal(&rows));
-    let mut ids = 1;
-    for listed in changed.list_sorted(alloc)? {
-        let last = if ids == 1 { 5 } else { 0 };
-        assert!(rt; listed.row == row(alloc, ids, 0, last)?);
-        ids += 1;
-    }
-    assert_eq!(rt; ids, 4);
-    let key = Row::new(vec![in alloc; Value::Int(1)]?)?;
-    assert!(rt; rows.get(name(alloc)?, key).is_some());
-    Ok(())
+    let opening = row(alloc, opening)?;
+    rows.put(alloc, &name(alloc)?, &opening)
+        .ok()
+        .ok_or("an opening row")?;
+    Ok(rows)
 }
 
-/// Two transactions of one change each, and the number of the first key that they share.
-fn shared(alloc: Global, schema: &Schema, a: Change, b: Change) -> Result<Option<u32>, Fail> {
-    let a = keys_of(alloc, schema, &alone(alloc, a)?)?;
-    let b = keys_of(alloc, schema, &alone(alloc, b)?)?;
-    Ok(share_key(&a, &b).map(|key| key.index))
-}
+/// An opening row, and what an insert of the second row is answered.
+const INSERTED: [(Short, Short, Option<RowFault>); 4] = [
+    (
+        (1, Some(b'a')),
+        (1, Some(b'b')),
+        Some(RowFault::DuplicateKey { change: 0, key: 0 }),
+    ),
+    (
+        (2, Some(b'a')),
+        (1, Some(b'a')),
+        Some(RowFault::DuplicateKey { change: 0, key: 1 }),
+    ),
+    ((1, None), (2, None), None),
+    ((1, Some(b'a')), (2, Some(b'b')), None),
+];
 
-#[test]
-fn keys_that_two_share(rt: HostRuntime) -> Result<(), Fail> {
-    let alloc = rt.alloc();
-    let schema = schema(alloc)?;
-    let unique = shared(
-        alloc,
-        &schema,
-        delete(alloc, 1, b'a')?,
-        insert(alloc, 2, b'a')?,
-    )?;
-    assert_eq!(rt; unique, Some(1));
-    let nulls = shared(alloc, &schema, insert(alloc, 1, 0)?, insert(alloc, 2, 0)?)?;
-    assert_eq!(rt; nulls, None);
-    let primary = shared(
-        alloc,
-        &schema,
-        insert(alloc, 1, b'a')?,
-        insert(alloc, 1, b'b')?,
-    )?;
-    assert_eq!(rt; primary, Some(0));
-    Ok(())
+/// An opening row, and what a delete of the second row is answered.
+const DELETED: [(Short, Short, Option<RowFault>); 3] = [
+    (
+        (1, Some(b'b')),
+        (9, Some(b'a')),
+        Some(RowFault::RowMissing { change: 0, key: 0 }),
+    ),
+    (
+        (9, Some(b'b')),
+        (9, Some(b'a')),
+        Some(RowFault::RowDiffers { change: 0, key: 0 }),
+    ),
+    ((9, Some(b'a')), (9, Some(b'a')), None),
+];
+
+/// The answer to a transaction, and whether it left the rows as they were.
+fn answer(alloc: Global, rows: &mut Rows, txn: &Transaction) -> (Option<ApplyFault>, bool) {
+    let Ok(before) = rows.copy() else {
+        return (Some(ApplyFault::Memory), true);
+    };
+    let fault = rows.apply(alloc, txn).err();
+    (fault, rows.is_equal(&before))
 }
 
 #[test]
-fn order_of_first_touch(rt: HostRuntime) -> Result<(), Fail> {
+fn inserts_over_one_row(rt: HostRuntime) -> Result<(), Fail> {
     let alloc = rt.alloc();
-    let schema = schema(alloc)?;
-    let change = update(alloc, row(alloc, 1, b'a', 0)?, row(alloc, 1, b'b', 0)?)?;
-    let keys = keys_of(alloc, &schema, &alone(alloc, change)?)?;
-    assert_eq!(rt; keys.len(), 3);
-    for (key, (index, letter)) in keys.iter().zip([(0, 0), (1, b'a'), (1, b'b')]) {
-        assert_eq!(rt; key.index, index);
-        if let Some(Value::Bytes(bytes)) = key.values.values().first() {
-            assert_eq!(rt; bytes.as_slice().first(), Some(&letter));
-        }
+    for (opening, after, fault) in INSERTED {
+        let mut rows = opened(alloc, opening)?;
+        let txn = insert(alloc, after)?;
+        let answered = answer(alloc, &mut rows, &txn);
+        assert_eq!(rt; answered, (fault.map(ApplyFault::Row), fault.is_some()));
     }
+    Ok(())
+}
+
+#[test]
+fn deletes_over_one_row(rt: HostRuntime) -> Result<(), Fail> {
+    let alloc = rt.alloc();
+    for (opening, before, fault) in DELETED {
+        let mut rows = opened(alloc, opening)?;
+        let txn = delete(alloc, before)?;
+        let answered = answer(alloc, &mut rows, &txn);
+        assert_eq!(rt; answered, (fault.map(ApplyFault::Row), fault.is_some()));
+    }
+    Ok(())
+}
+
+#[test]
+fn a_deleted_row_frees_its_letter(rt: HostRuntime) -> Result<(), Fail> {
+    let alloc = rt.alloc();
+    let mut rows = opened(alloc, (1, Some(b'a')))?;
+    assert_eq!(rt; rows.apply(alloc, &delete(alloc, (1, Some(b'a')))?), Ok(()));
+    assert_eq!(rt; rows.apply(alloc, &insert(alloc, (2, Some(b'a')))?), Ok(()));
+    for listed in rows.list_sorted(alloc)? {
+        assert!(rt; listed.row == row(alloc, (2, Some(b'a')))?);
+    }
+    let one = Row::new(vec![in alloc; Value::Int(1)]?)?;
+    assert!(rt; rows.get(name(alloc)?, one).is_none());
     Ok(())
 }
