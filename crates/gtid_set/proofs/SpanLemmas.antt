@@ -1,6 +1,6 @@
 -- Merged lists of spans: what comes first, what follows, and a span at the end.
 use Rattle.std.proofs.Common.{zero, take, drop, Some, length, suc, get_or, set, ◌≡◌, ◌≤◌, ◌<◌, ◌+◌, ◌-◌, ℕ, Bool, true, false, not, ◌&&◌, ◌||◌, nat_le, nat_lt, List, [], ◌∷◌, ◌++◌, refl, sym, ap, subst, ◌∙◌, arith, max}
-use Rattle.std.specs.Prelude.{◌==◌}
+use Rattle.std.specs.Prelude.{◌==◌, if◌then◌else◌}
 use Rattle.std.specs.List.{list_all, list_any, slice_get, AllWithin}
 use Rattle.std.specs.List.Sorted.{IsPartitionedBy, IsPartitionPoint}
 use Rattle.std.proofs.lemmas.List.{get_or_at, set_at, append_assoc, length-drop, length-append, drop-drop, drop_at, take-append-drop}
@@ -870,3 +870,46 @@ pub overlap_end : (o w m g : Bool) → (w ≡ true → m ≡ false) → (o || (w
 overlap_end true w m g h e = e
 overlap_end false true m g h e = sym (h refl) ∙ e
 overlap_end false false m g h e = e
+
+-- a span of a merged list that goes to the result, or not
+pub record IsKeptStep (old new : List Span) (source : ℕ) (wanted : Bool) (span : Span) (more : List Span) : Type 0 where
+  pub merged : is_merged new ≡ true
+  pub before : list_all (all_before new) more ≡ true
+  pub has : (q : Gtid) → (has new q || (has more q && is_kept source wanted q.source)) ≡ (has old q || (has (span ∷ more) q && is_kept source wanted q.source))
+
+-- the numbers of a span have its source
+within_source : (span : Span) (source : ℕ) (wanted : Bool) (q : Gtid) → within span q ≡ true → is_kept source wanted q.source ≡ is_kept source wanted span.source
+within_source span source wanted q w = ap (is_kept source wanted) (same w)
+  where
+    same : within span q ≡ true → q.source ≡ span.source
+    same w = grind (arith, nat_tests)
+
+kept_has : (o w m t : Bool) → (w ≡ true → t ≡ true) → ((o || w) || (m && t)) ≡ (o || ((w || m) && t))
+kept_has true w m t h = refl
+kept_has false true m t h = sym (h refl)
+kept_has false false m t h = refl
+
+left_has : (o w m t : Bool) → (w ≡ true → t ≡ false) → (o || (m && t)) ≡ (o || ((w || m) && t))
+left_has true w m t h = refl
+left_has false true true t h = refl
+left_has false true false t h = sym (h refl)
+left_has false false m t h = refl
+
+pub kept_step : (old new : List Span) (source : ℕ) (wanted : Bool) (span : Span) (more : List Span) (keep : Bool) → IsHead span more → list_all (all_before old) (span ∷ more) ≡ true → is_merged old ≡ true
+    → new ≡ (if keep then old ++ span ∷ [] else old) → keep ≡ is_kept source wanted span.source → IsKeptStep old new source wanted span more
+kept_step old new source wanted span more true h b m e k =
+    let w = both (all_before old span) (list_all (all_before old) more) b in
+    record {
+      merged = ap is_merged e ∙ merged_push old span m w.0 h.filled;
+      before = ap (λ ss. list_all (all_before ss) more) e
+        ∙ all_weaker2 (is_before span) (all_before old) (all_before (old ++ span ∷ [])) more (λ u c d. all_push (λ s. is_before s u) old span d c) h.after w.1;
+      has = λ q. ap (λ ss. has ss q || (has more q && is_kept source wanted q.source)) e
+        ∙ ap (λ x. x || (has more q && is_kept source wanted q.source)) (has_push old span q)
+        ∙ kept_has (has old q) (within span q) (has more q) (is_kept source wanted q.source) (λ v. within_source span source wanted q v ∙ sym k)
+    }
+kept_step old new source wanted span more false h b m e k = record {
+  merged = ap is_merged e ∙ m;
+  before = ap (λ ss. list_all (all_before ss) more) e ∙ (both (all_before old span) (list_all (all_before old) more) b).1;
+  has = λ q. ap (λ ss. has ss q || (has more q && is_kept source wanted q.source)) e
+    ∙ left_has (has old q) (within span q) (has more q) (is_kept source wanted q.source) (λ v. within_source span source wanted q v ∙ sym k)
+}
