@@ -5,12 +5,10 @@ ghost use Rattle.std.specs.Prelude.{◌≡◌, ◌≤◌, ◌<◌, ◌↔◌, �
 ghost use Rattle.std.specs.List.{list_all};
 ghost use Rattle.std.specs.FinSet as set;
 ghost use Rattle.gtid_set.specs.declared.fault.SetFault.TheVariants.{Memory, SourcesFull};
-ghost use Rattle.gtid_set.specs.Sets.{interval, only, without, kept_sources, least_unused, most_sources, source_count, sources_of};
+ghost use Rattle.gtid_set.specs.Sets.{Gtids, interval, only, without, kept_sources, least_unused, most_sources, source_count, sources_of};
 ghost use Rattle.gtid_set.specs.Spans.{set_of, is_merged};
 ghost use Rattle.gtid_set.specs.Runs.{runs, canonical};
-ghost use Rattle.gtid_text.specs.Grammar.{Spells};
-ghost use Rattle.gtid_text.specs.declared.Span.{Span};
-ghost use Rattle.gtid_set.specs.Texts.{SpellsSet, RefusesSet, IsReadAs};
+ghost use Rattle.gtid_set.specs.Texts.{SpellsSet, RefusesSet, IsReadAs, GivesSet, set_in};
 ghost use Rattle.gtid_set.specs.Sweep.{rises};
 ghost use Rattle.gtid_set.specs.Full.{IsFullExactly, IsKept};
 
@@ -292,9 +290,11 @@ impl GtidSet {
         // What is read is spelled so.
         ensures found { IfOk result (λ s. SpellsSet text.now s) }
         // What is spelled so is read, if memory and its sources allow.
-        ensures only { (spans : List Span) → Spells text.now spans → IsReadAs result (set_of spans) }
+        ensures only { (s : Gtids) → SpellsSet text.now s → IsReadAs result s }
         // It is refused where the text spells no set, or one with too many sources.
         ensures refused { IfErr result (λ fault. RefusesSet fault text.now) }
+        // Which refusal it is.
+        ensures exact { GivesSet result (set_in text.now) }
     {
         let mut spans = match parse_spans(alloc, text) {
             Ok(spans) => spans,

@@ -6,8 +6,8 @@ use Rattle.gtid_set.specs.Sweep.{size_of}
 use Rattle.gtid_set.proofs.SpanLemmas.{merged_head}
 use Rattle.gtid_set.proofs.sweep.count_numbers.Goals as goal
 
-pub overflow_sub-from : goal.overflow_sub-from
-overflow_sub-from c = (merged_head c.in-Some.span.now c.in-Some.more.now (sym (ap is_merged c.in-Some.ensures.cases.0) ∙ c.loop-span.invariant.merged)).filled
+pub overflow_sub-span : goal.overflow_sub-span
+overflow_sub-span c = (merged_head c.in-Some.span.now c.in-Some.more.now (sym (ap is_merged c.in-Some.ensures.cases.0) ∙ c.loop-span.invariant.merged)).filled
 
 pub loop-span-preserved : goal.loop-span-preserved
 loop-span-preserved c =
