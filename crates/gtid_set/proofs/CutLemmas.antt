@@ -311,14 +311,14 @@ kept_step old new source wanted span more true h b m e k =
     record {
       merged = ap is_merged e ∙ merged_push old span m w.0 h.filled;
       before = ap (λ ss. list_all (all_before ss) more) e
-        ∙ all_weaker2 (is_before span) (all_before old) (all_before (old ++ span ∷ [])) more (λ u c d. all_push (λ s. is_before s u) old span d c) h.after w.1;
+          ∙ all_weaker2 (is_before span) (all_before old) (all_before (old ++ span ∷ [])) more (λ u c d. all_push (λ s. is_before s u) old span d c) h.after w.1;
       has = λ q. ap (λ ss. has ss q || (has more q && is_kept source wanted q.source)) e
-        ∙ ap (λ x. x || (has more q && is_kept source wanted q.source)) (has_push old span q)
-        ∙ kept_has (has old q) (within span q) (has more q) (is_kept source wanted q.source) (λ v. within_source span source wanted q v ∙ sym k)
+          ∙ ap (λ x. x || (has more q && is_kept source wanted q.source)) (has_push old span q)
+          ∙ kept_has (has old q) (within span q) (has more q) (is_kept source wanted q.source) (λ v. within_source span source wanted q v ∙ sym k);
     }
 kept_step old new source wanted span more false h b m e k = record {
   merged = ap is_merged e ∙ m;
   before = ap (λ ss. list_all (all_before ss) more) e ∙ (both (all_before old span) (list_all (all_before old) more) b).1;
   has = λ q. ap (λ ss. has ss q || (has more q && is_kept source wanted q.source)) e
-    ∙ left_has (has old q) (within span q) (has more q) (is_kept source wanted q.source) (λ v. within_source span source wanted q v ∙ sym k)
+      ∙ left_has (has old q) (within span q) (has more q) (is_kept source wanted q.source) (λ v. within_source span source wanted q v ∙ sym k);
 }

@@ -1,5 +1,5 @@
 -- A merged list is the list of the longest runs of its set.
-use Rattle.std.proofs.Common.{◌≡◌, ◌≤◌, ◌<◌, ◌+◌, ◌-◌, ℕ, zero, suc, Bool, true, false, not, cond, ◌&&◌, ◌||◌, nat_le, nat_lt, List, [], ◌∷◌, ◌++◌, map, refl, sym, ap, subst, ◌∙◌, arith}
+use Rattle.std.proofs.Common.{◌≡◌, ◌≤◌, ◌<◌, ◌+◌, ◌-◌, ℕ, zero, suc, Bool, true, false, cond, ◌&&◌, ◌||◌, nat_le, nat_lt, List, [], ◌∷◌, ◌++◌, map, refl, sym, ap, subst, ◌∙◌, arith}
 use Rattle.std.specs.Prelude.{◌==◌}
 use Rattle.std.specs.List.{list_all, list_any, range_with_len}
 use Rattle.std.specs.FinSet as set
@@ -9,12 +9,11 @@ use Rattle.std.proofs.lemmas.List.Folds.{list_any-append}
 use Rattle.gtid_text.specs.declared.Gtid.{Gtid}
 use Rattle.gtid_text.specs.declared.Span.{Span}
 use Rattle.gtid_text.specs.Gtids.{gtid_cmp, same_gtid}
-use Rattle.gtid_set.specs.Sets.{Gtids, gtid, covers}
+use Rattle.gtid_set.specs.Sets.{Gtids, gtid}
 use Rattle.gtid_set.specs.Spans.{set_of, has, is_merged, is_before}
 use Rattle.gtid_set.specs.Runs.{is_less, place, in_order, run_before, runs_of, runs}
-use Rattle.gtid_set.specs.Sweep.{within}
 use Rattle.gtid_set.proofs.SetLemmas.{gtid_tied, contains-set_of, any-numbers}
-use Rattle.gtid_set.proofs.SpanLemmas.{IsHead, merged_head, both, and_of}
+use Rattle.gtid_set.proofs.SpanLemmas.{merged_head, both, and_of}
 
 -- a GTID less than the first of others
 abbrev pub less_first : Gtid → List Gtid → Bool

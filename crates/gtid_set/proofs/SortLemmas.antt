@@ -1,6 +1,5 @@
 -- Spans in the order of their starts.
-use Rattle.std.proofs.Common.{◌≡◌, ◌≤◌, ◌<◌, ◌+◌, ℕ, zero, suc, Bool, true, false, not, ◌&&◌, ◌||◌, nat_le, nat_lt, List, [], ◌∷◌, length, get_or, refl, sym, ap, ◌∙◌, arith}
-use Rattle.std.specs.Prelude.{◌==◌}
+use Rattle.std.proofs.Common.{◌≡◌, ◌≤◌, ◌<◌, ℕ, suc, Bool, true, false, not, ◌||◌, nat_le, List, [], ◌∷◌, length, get_or, refl, sym, ap, ◌∙◌, arith}
 use Rattle.std.specs.List.{list_all, list_any}
 use Rattle.std.specs.List.Sorted.{IsPermutation, IsSortedByKey}
 use Rattle.std.specs.Ordering.{is_lt}
@@ -9,7 +8,7 @@ use Rattle.std.proofs.lemmas.List.Sorted.{ranks_by, sorted_far, list_any-IsPermu
 use Rattle.gtid_text.specs.declared.Gtid.{Gtid}
 use Rattle.gtid_text.specs.declared.Span.{Span}
 use Rattle.gtid_text.specs.Gtids.{gtid_cmp}
-use Rattle.gtid_set.specs.Spans.{set_of, has}
+use Rattle.gtid_set.specs.Spans.{set_of}
 use Rattle.gtid_set.specs.Sweep.{start_of, is_from, rises, within}
 use Rattle.gtid_set.proofs.SetLemmas.{gtid_total, same_members, contains-set_of}
 use Rattle.gtid_set.proofs.SpanLemmas.{and_of, any_none}
@@ -25,8 +24,8 @@ rises_far : (ss : List Span) → ((i j : ℕ) (d : Span) → i ≤ j → j < len
 rises_far [] h = refl
 rises_far (s ∷ ss) h =
     and_of (list_all (λ t. is_from (start_of s) (start_of t)) ss) (rises ss)
-      (all_far (λ t. is_from (start_of s) (start_of t)) ss (λ j d lt. h 0 (suc j) d (omega arith) (omega arith)))
-      (rises_far ss (λ i j d le lt. h (suc i) (suc j) d (omega arith) (omega arith)))
+    (all_far (λ t. is_from (start_of s) (start_of t)) ss (λ j d lt. h 0 (suc j) d (omega arith) (omega arith)))
+    (rises_far ss (λ i j d le lt. h (suc i) (suc j) d (omega arith) (omega arith)))
 
 pub rises_sorted : (ss : List Span) → IsSortedByKey start_of gtid_cmp ss → rises ss ≡ true
 rises_sorted ss up = rises_far ss (λ i j d le lt.

@@ -1,24 +1,23 @@
 -- The spans that a text spells are filled, and sorted they are of the set that it spells.
-use Rattle.std.proofs.Common.{◌≡◌, ◌⊎◌, ◌≤◌, ◌<◌, ℕ, Bool, true, false, cond, ◌&&◌, nat_le, nat_lt, List, [], ◌∷◌, ◌++◌, length, refl, sym, ap, subst, ◌∙◌, arith, inl, inr}
+use Rattle.std.proofs.Common.{◌≡◌, ◌⊎◌, ◌≤◌, ◌<◌, ℕ, Bool, true, false, cond, nat_le, nat_lt, List, [], ◌∷◌, length, refl, sym, ap, ◌∙◌, arith, inl, inr}
 use Rattle.std.specs.Prelude.{Option, Some, None, Result, Ok, Err}
 use Rattle.std.specs.List.{list_all}
 use Rattle.std.specs.List.Sorted.{IsPermutation}
 use Rattle.std.proofs.lemmas.Bool.Decides.{nat_tests}
 use Rattle.gtid_text.specs.declared.Span.{Span}
 use Rattle.gtid_text.specs.declared.SourceId.{SourceId}
-use Rattle.gtid_text.specs.Grammar.{Number, Interval, Element, IsUpper, IsInterval, AreIntervals, IsElement, AreElements, Spells}
+use Rattle.gtid_text.specs.Grammar.{Number, Interval, Element, IsUpper, AreIntervals, IsElement, AreElements, Spells}
 use Rattle.gtid_text.specs.Reading.{answer, spans_in}
 use Rattle.gtid_text.specs.declared.scan.Refusal.{Refusal}
 use Rattle.gtid_text.specs.declared.fault.TextFault.{TextFault}
 use Rattle.gtid_text.specs.declared.fault.TextFault.TheVariants as faults
 use Rattle.gtid_set.specs.declared.fault.SetFault.{SetFault}
 use Rattle.gtid_set.specs.declared.fault.SetFault.TheVariants.{Memory, PoolFull, SourcesFull}
-use Rattle.gtid_set.specs.declared.fault.SetTextFault.{SetTextFault}
 use Rattle.gtid_set.specs.declared.fault.SetTextFault.TheVariants.{Text, Set}
 use Rattle.gtid_set.specs.Sets.{Gtids, source_count, most_sources}
 use Rattle.gtid_set.specs.Spans.{set_of}
 use Rattle.gtid_set.specs.Full.{IsFullExactly}
-use Rattle.gtid_set.specs.Texts.{SpellsSet, GivesSet, set_from, set_in}
+use Rattle.gtid_set.specs.Texts.{set_from, set_in}
 use Rattle.gtid_set.proofs.SortLemmas.{same_set_sorted}
 use Rattle.gtid_set.proofs.SpanLemmas.{and_of, all_joined}
 

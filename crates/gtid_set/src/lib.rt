@@ -148,7 +148,12 @@ fn are_equal(left: &[Span], right: &[Span]) -> bool
 }
 
 /// The set of one source's GTIDs in a merged list of spans, or of the others.
-fn of_source(alloc: Global, spans: &[Span], source: SourceId, wanted: bool) -> Result<GtidSet, SetFault>
+fn of_source(
+    alloc: Global,
+    spans: &[Span],
+    source: SourceId,
+    wanted: bool,
+) -> Result<GtidSet, SetFault>
     requires merged { is_merged spans.now ≡ true }
     requires fits { source_count (set_of spans.now) ≤ most_sources }
     ensures ok { IfOk result (λ s. s ≡ kept_sources (set_of spans.now) source wanted) }

@@ -1,4 +1,3 @@
-use Rattle.std.proofs.Common.{Bool, subst}
 use Rattle.std.proofs.lemmas.Bool.Decides.{when_true, when_false}
 use Rattle.gtid_set.specs.Spans.{has}
 use Rattle.gtid_set.specs.Sweep.{IsWithin, IsNotWithin}

@@ -1,9 +1,5 @@
-use Rattle.std.proofs.Common.{◌≡◌, ◌≤◌, ap, sym, ◌∙◌, ◌||◌, arith, []}
-use Rattle.std.specs.FinSet as set
-use Rattle.std.proofs.lemmas.List.{append-nil}
+use Rattle.std.proofs.Common.{ap, ◌∙◌, arith}
 use Rattle.gtid_set.specs.Sets.{source_count}
-use Rattle.gtid_set.specs.Spans.{set_of}
-use Rattle.gtid_set.specs.Sweep.{sources_in}
 use Rattle.gtid_set.proofs.SetSources.{counted_filled, set_of_gathered}
 use Rattle.gtid_set.proofs.gathered.Goals as goal
 

@@ -1,4 +1,4 @@
-use Rattle.std.proofs.Common.{◌∙◌, ◌&&◌}
+use Rattle.std.proofs.Common.{◌∙◌}
 use Rattle.gtid_set.specs.Spans.{has}
 use Rattle.gtid_set.proofs.SetSources.{fewer_listed, first_of_and, kept_held}
 use Rattle.gtid_set.proofs.of_source.Goals as goal

@@ -1,7 +1,5 @@
-use Rattle.std.proofs.Common.{◌≡◌, ◌≤◌, nat_le, true, ap, sym, subst, ◌∙◌, length, Err, List, ◌⊎◌}
+use Rattle.std.proofs.Common.{◌≤◌, nat_le, ap, sym, subst, ◌∙◌, length, Err}
 use Rattle.std.specs.List.{list_all}
-use Rattle.std.specs.List.Sorted.{IsPermutation}
-use Rattle.gtid_text.specs.declared.Span.{Span}
 use Rattle.gtid_set.specs.Sets.{Gtids, source_count}
 use Rattle.gtid_set.specs.Spans.{set_of}
 use Rattle.gtid_set.specs.Full.{IsFullExactly}

@@ -1,5 +1,4 @@
-use Rattle.std.proofs.Common.{◌≡◌, ap, ◌∙◌, ◌++◌, []}
-use Rattle.gtid_set.specs.Spans.{set_of, is_merged}
+use Rattle.std.proofs.Common.{◌≡◌, ◌∙◌, ◌++◌}
 use Rattle.gtid_set.proofs.RunLemmas.{runs_held}
 use Rattle.gtid_set.proofs.GtidSet.spans.Goals as goal
 

@@ -1,7 +1,7 @@
-use Rattle.std.proofs.Common.{◌≡◌, true, ap, sym, ◌∙◌, ◌&&◌, ◌||◌}
+use Rattle.std.proofs.Common.{ap, sym, ◌∙◌, ◌&&◌, ◌||◌}
 use Rattle.std.specs.List.{list_all}
 use Rattle.gtid_set.specs.Spans.{has, is_merged}
-use Rattle.gtid_set.specs.Sweep.{all_before, within, is_kept}
+use Rattle.gtid_set.specs.Sweep.{all_before, is_kept}
 use Rattle.gtid_set.proofs.CutLemmas.{kept_step}
 use Rattle.gtid_set.proofs.SpanLemmas.{nothing, merged_head}
 use Rattle.gtid_set.proofs.sweep.of_source.Goals as goal
