@@ -1,5 +1,5 @@
 -- What the words of a line say.
-use Rattle.std.specs.Prelude.{ℕ, Bool, true, false, List, [], ◌∷◌, ◌++◌, Option, Some, None, Result, Ok, Err, codes, if◌then◌else◌}
+use Rattle.std.specs.Prelude.{ℕ, ◌==◌, Bool, true, false, List, [], ◌∷◌, ◌++◌, Option, Some, None, Result, Ok, Err, codes, if◌then◌else◌}
 use Rattle.std.specs.Str.{bytes_eq}
 use Rattle.gtid_text.specs.declared.Gtid.{Gtid}
 use Rattle.gtid_set.specs.Sets.{Gtids}
@@ -84,7 +84,7 @@ cons_head b (w ∷ ws) = (b ∷ w) ∷ ws
 -- the words between blanks
 unfoldable pub words_of : List ℕ → List (List ℕ)
 words_of [] = [] ∷ []
-words_of (b ∷ bs) = if bytes_eq (b ∷ []) (codes " ") then [] ∷ words_of bs else cons_head b (words_of bs)
+words_of (b ∷ bs) = if b == 32 then [] ∷ words_of bs else cons_head b (words_of bs)
 
 -- values up to a bar or the end, and the words behind the bar
 abbrev pub Image : Type 0

@@ -7,6 +7,8 @@ use Rattle.txn_journal.specs.declared.fault.JournalFault.{JournalFault}
 use Rattle.txn_journal.specs.declared.fault.JournalFault.TheVariants as faults
 use Rattle.txn_journal.specs.Stream.{Progress, Reading, Stopped, eats, ended}
 use Rattle.txn_journal.specs.Machine.{Standing, empty, is_last, emptied, judge}
+use Rattle.txn_journal.specs.declared.lines.Place.{Place}
+use Rattle.txn_journal.specs.declared.lines.Place.TheVariants as places
 
 -- before the first byte
 abbrev pub before_first : Progress Standing
@@ -49,3 +51,13 @@ behind_entries front (Stopped fault) = Stopped fault
 abbrev pub with_front : List Entry → Result JournalValue JournalFault → Result JournalValue JournalFault
 with_front front (Ok journal) = Ok (in_front front journal)
 with_front front (Err fault) = Err fault
+
+-- the lines of a journal's opening have come, so that entries may
+abbrev pub has_begun : Place → Bool
+has_begun places.Header = false
+has_begun places.Previous = false
+has_begun _ = true
+
+abbrev pub HasBegun : Progress Standing → Type 0
+HasBegun (Reading s n rest) = has_begun s.place ≡ true
+HasBegun (Stopped fault) = Unit {0}

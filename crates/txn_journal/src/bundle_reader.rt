@@ -20,6 +20,22 @@ pub struct BundleReader {
     stopped: Option<JournalFault>,
 }
 
+/// Takes the line that begins with the bytes so far and ends with these.
+fn take_whole(
+    alloc: Global,
+    draft: &mut BundleDraft,
+    rest: &mut Vec<u8>,
+    bytes: &[u8],
+) -> Result<(), LineFault> {
+    if rest.is_empty() {
+        return draft.take_line(alloc, bytes);
+    }
+    rest.extend_from_slice(bytes)?;
+    draft.take_line(alloc, rest)?;
+    rest.clear();
+    Ok(())
+}
+
 impl BundleReader {
     /// Before the first byte.
     pub fn start(alloc: Global) -> BundleReader {
@@ -92,13 +108,7 @@ impl BundleReader {
     fn make(&mut self, alloc: Global, bytes: &[u8]) -> Result<(), LineFault>
         ensures { self.new.stopped ≡ self.old.stopped }
     {
-        if self.rest.is_empty() {
-            return self.draft.take_line(alloc, bytes);
-        }
-        self.rest.extend_from_slice(bytes)?;
-        self.draft.take_line(alloc, &self.rest)?;
-        self.rest.clear();
-        Ok(())
+        take_whole(alloc, &mut self.draft, &mut self.rest, bytes)
     }
 
     /// What is wrong with the text as a whole.

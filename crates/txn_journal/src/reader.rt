@@ -1,5 +1,8 @@
 //! The reader of journals.
-ghost use Rattle.std.specs.Prelude.{◌≡◌, ◌++◌, ℕ, List};
+ghost use Rattle.std.specs.Prelude.{◌≡◌, ◌++◌, ℕ, List, IfOk, IfErr};
+ghost use Rattle.journal.specs.Journals.{JournalValue};
+ghost use Rattle.txn_journal.specs.Spelling.{Writes};
+ghost use Rattle.txn_journal.specs.Refused.{Refuses, IsRead};
 ghost use Rattle.txn_journal.specs.Stream.{Progress};
 ghost use Rattle.txn_journal.specs.Machine.{Standing};
 ghost use Rattle.txn_journal.specs.Reading.{before_first, eats_alone, closing, IsWhole};
@@ -136,7 +139,14 @@ fn read_whole(alloc: Global, bytes: &[u8]) -> Result<Journal, JournalFault>
 
 /// The journal that the bytes spell, all of the bytes.
 pub fn decode(alloc: Global, bytes: &[u8]) -> Result<Journal, JournalFault>
-    ensures { IsWhole result (closing (eats_alone before_first bytes.now)) }
+    // What is read is spelled so.
+    ensures found { IfOk result (λ j. Writes bytes.now j) }
+    // What is spelled so is read, if memory and the sources of a set allow.
+    ensures only { (j : JournalValue) → Writes bytes.now j → IsRead result j }
+    // Which line is the first that is faulty, and what is wrong with it.
+    ensures refused { IfErr result (λ fault. Refuses fault bytes.now) }
+    // The same, by the fold over the bytes.
+    ensures exact { IsWhole result (closing (eats_alone before_first bytes.now)) }
 {
     read_whole(alloc, bytes)
 }
