@@ -153,17 +153,17 @@ read_cause s line c e =
     elim (bind_err (due_word s.place (keyword_of (first_word line))) (λ word. body_of s.due word (others line)) c e) [
       | inl p ↦ let d = due_err s.place (keyword_of (first_word line)) c p in subst (HasCause s line) d.0 d.1
       | inr p ↦
-        let d = due_found s.place (keyword_of (first_word line)) p.0 p.1 in
-        let body : causes.Body ≡ c → HasCause s line c = λ h. subst (HasCause s line) h (p.0, d.0, d.1, nothing_said s line c e) in
-        elim (body_err s.due p.0 (others line) c p.2) [
-          | inl h ↦ body h
-          | inr j ↦ elim j.1 [
+          let d = due_found s.place (keyword_of (first_word line)) p.0 p.1 in
+          let body : causes.Body ≡ c → HasCause s line c = λ h. subst (HasCause s line) h (p.0, d.0, d.1, nothing_said s line c e) in
+          elim (body_err s.due p.0 (others line) c p.2) [
             | inl h ↦ body h
-            | inr v ↦
-              let first : first_word line ≡ codes "journal" = keyword_found (first_word line) keywords.Journal (d.0 ∙ ap Some j.0) in
-              subst (HasCause s line) v.3 (v.0, word_and_more line v.0 v.1 ∙ ap (λ (w : List ℕ). w ++ 32 ∷ v.0) first, v.2, ap (is_due s.place) (sym j.0) ∙ d.1, nothing_said s line c e)
+            | inr j ↦ elim j.1 [
+              | inl h ↦ body h
+              | inr v ↦
+                  let first : first_word line ≡ codes "journal" = keyword_found (first_word line) keywords.Journal (d.0 ∙ ap Some j.0) in
+                  subst (HasCause s line) v.3 (v.0, word_and_more line v.0 v.1 ∙ ap (λ (w : List ℕ). w ++ 32 ∷ v.0) first, v.2, ap (is_due s.place) (sym j.0) ∙ d.1, nothing_said s line c e)
+            ]
           ]
-        ]
     ]
 
 either : (a b : Bool) → (a || b) ≡ true → (a ≡ true) ⊎ (b ≡ true)

@@ -54,15 +54,18 @@ closes_at places.Previous due version j seen count g cs n rest bytes h e = front
 closes_at places.Between due version j seen count g cs n rest bytes h e = front bytes (at places.Between due version j seen count g cs) n rest h e
 closes_at places.Within due version j seen count g cs n rest bytes h e = front bytes (at places.Within due version j seen count g cs) n rest h e
 closes_at places.Ended due One j seen count g cs n [] bytes h e = (whole_written j seen count h.sound.0, h.parts ∙ append-nil (spelling j))
-closes_at places.Ended due One j seen count g cs n (b ∷ bs) bytes h e = inr ((record {
-  journal = j;
-  rest = b ∷ bs;
-  fits = whole_written j seen count h.sound.0;
-  parts = h.parts;
-  part = h.part;
-  some = omega arith;
-  number = omega (arith, h.number);
-}, refl))
+closes_at places.Ended due One j seen count g cs n (b ∷ bs) bytes h e = inr ((
+  record {
+    journal = j;
+    rest = b ∷ bs;
+    fits = whole_written j seen count h.sound.0;
+    parts = h.parts;
+    part = h.part;
+    some = omega arith;
+    number = omega (arith, h.number);
+  },
+  refl,
+))
 
 closes_told : (bytes : List ℕ) (p : Progress Standing) → eats_alone before_first bytes ≡ p → Tells bytes p → Closes bytes (closing p)
 unfolding closing

@@ -15,4 +15,3 @@ pub mod CauseLines
 pub mod TellLines
 pub mod DecodedLines
 pub mod TakenLines
-pub mod WriteLemmas

@@ -53,8 +53,8 @@ put_behind front s (Begin g) b e =
     let third : Result Standing Cause = cond (set.contains s.seen g) (Err (causes.Twice g)) last in
     let second : Result Standing Cause = cond (leb 4294967294 s.count) (Err causes.Limit) third in
     behind_cond front (not (is_number g.number)) causes.Body second _
-      (behind_cond front (leb 4294967294 s.count) causes.Limit third _
-        (behind_cond front (set.contains s.seen g) (causes.Twice g) last _ refl))
+    (behind_cond front (leb 4294967294 s.count) causes.Limit third _
+    (behind_cond front (set.contains s.seen g) (causes.Twice g) last _ refl))
 put_behind front s (Makes c) b e =
     let last : Result Standing Cause = Ok (record s { changes = s.changes ++ c ∷ [] }) in
     behind_cond front (leb 65536 (length s.changes) || not (is_change_writable c)) causes.Limit last _ refl

@@ -90,11 +90,11 @@ tells_line before s t n rest h e =
     let k = judge_found None s t rest h.sound e in
     record {
       parts = ap (λ (x : List ℕ). x ++ 10 ∷ []) h.parts
-        ∙ append_assoc (lines_text (said s)) rest (10 ∷ [])
-        ∙ ap (λ (x : List ℕ). lines_text (said s) ++ (x ++ 10 ∷ [])) k.text
-        ∙ sym (texts-more (said s) k.l)
-        ∙ ap lines_text (sym k.keeps.says)
-        ∙ sym (append-nil (lines_text (said t)));
+          ∙ append_assoc (lines_text (said s)) rest (10 ∷ [])
+          ∙ ap (λ (x : List ℕ). lines_text (said s) ++ (x ++ 10 ∷ [])) k.text
+          ∙ sym (texts-more (said s) k.l)
+          ∙ ap lines_text (sym k.keeps.says)
+          ∙ sym (append-nil (lines_text (said t)));
       part = refl;
       number = omega (arith, h.number, ap length k.keeps.says, length-append (said s) (k.l ∷ []));
       sound = k.keeps.sound;
@@ -152,13 +152,13 @@ unfolding eat
 tells_one before b (Reading s n rest) e h =
     elim (eqb b 10) as (λ v. eqb b 10 ≡ v → eats_alone before_first (before ++ b ∷ []) ≡ cond v (judged (judge None s rest) (next_number n)) (Reading s n (rest ++ b ∷ [])) → Tells (before ++ b ∷ []) (cond v (judged (judge None s rest) (next_number n)) (Reading s n (rest ++ b ∷ [])))) [
       | true ↦ λ v k. let ten : b ≡ 10 = eqb-true b 10 v in
-        subst (λ (x : ℕ). Tells (before ++ x ∷ []) (judged (judge None s rest) (next_number n))) (sym ten) (judged_tells before s n rest (judge None s rest) refl h (subst (λ (x : ℕ). eats_alone before_first (before ++ x ∷ []) ≡ judged (judge None s rest) (next_number n)) ten k))
+          subst (λ (x : ℕ). Tells (before ++ x ∷ []) (judged (judge None s rest) (next_number n))) (sym ten) (judged_tells before s n rest (judge None s rest) refl h (subst (λ (x : ℕ). eats_alone before_first (before ++ x ∷ []) ≡ judged (judge None s rest) (next_number n)) ten k))
       | false ↦ λ v k. record {
-          parts = ap (λ (x : List ℕ). x ++ b ∷ []) h.parts ∙ append_assoc (lines_text (said s)) rest (b ∷ []);
-          part = lacks_more rest b v h.part;
-          number = h.number;
-          sound = h.sound;
-        }
+        parts = ap (λ (x : List ℕ). x ++ b ∷ []) h.parts ∙ append_assoc (lines_text (said s)) rest (b ∷ []);
+        part = lacks_more rest b v h.part;
+        number = h.number;
+        sound = h.sound;
+      }
     ] refl (eaten_last before b (Reading s n rest) e)
 tells_one before b (Stopped (faults.Line n cause)) e h = faulty_more before n b cause h
 tells_one before b (Stopped (faults.Truncated n)) e h = h

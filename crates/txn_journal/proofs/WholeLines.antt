@@ -59,7 +59,7 @@ change_one (Insert table after) fits = table_one table (values_text after) (name
 change_one (Delete table before) fits = table_one table (values_text before) (name_no_feed table fits.0) (values_one before fits.1)
 change_one (Update table before after) fits =
     table_one table (values_text before ++ 32 ∷ (124 ∷ 32 ∷ values_text after)) (name_no_feed table fits.0)
-      (joins (λ c. not (eqb c 10)) (values_text before) (32 ∷ (124 ∷ 32 ∷ values_text after)) (values_one before fits.1) (values_one after fits.2))
+    (joins (λ c. not (eqb c 10)) (values_text before) (32 ∷ (124 ∷ 32 ∷ values_text after)) (values_one before fits.1) (values_one after fits.2))
 
 pub line_one : (l : Line) → FitsLine l → lacks 10 (line_text l) ≡ true
 line_one (Header One) fits = refl
@@ -83,16 +83,16 @@ leads_none s = record { reads = λ n. (n, refl) }
 leads_then : (s t u : Standing) (xs ys : List ℕ) → Leads s xs t → Leads t ys u → Leads s (xs ++ ys) u
 leads_then s t u xs ys a b = record {
   reads = λ n.
-    let p = a.reads n in
-    let q = b.reads p.0 in
-    (q.0, eats_append alone (Reading s n []) xs ys ∙ ap (λ (x : Progress Standing). eats alone x ys) p.1 ∙ q.1);
+      let p = a.reads n in
+      let q = b.reads p.0 in
+      (q.0, eats_append alone (Reading s n []) xs ys ∙ ap (λ (x : Progress Standing). eats alone x ys) p.1 ∙ q.1);
 }
 
 leads_line : (s t : Standing) (l : Line) → is_due s.place (word_for l) ≡ true → FitsLine l → HasImages l → IsDueVersion s.due l → put None s l ≡ Ok t → Leads s (ended_line l) t
 leads_line s t l is fit images version step = record {
   reads = λ n.
-    let taken : judge None s (line_text l) ≡ Ok t = judge_reads None s (line_text l) ∙ ap (λ (r : Result Line Cause). r >>= put None s) (read_again s.due s.place l is fit images version) ∙ step in
-    (next_number n, eats_line alone s n [] (line_text l) (line_one l fit) ∙ ap (λ (r : Result Standing Cause). judged r (next_number n)) taken);
+      let taken : judge None s (line_text l) ≡ Ok t = judge_reads None s (line_text l) ∙ ap (λ (r : Result Line Cause). r >>= put None s) (read_again s.due s.place l is fit images version) ∙ step in
+      (next_number n, eats_line alone s n [] (line_text l) (line_one l fit) ∙ ap (λ (r : Result Standing Cause). judged r (next_number n)) taken);
 }
 
 leads_more : (s t u : Standing) (l : Line) (ls : List Line) → Leads s (ended_line l) t → Leads t (lines_text ls) u → Leads s (lines_text (l ∷ ls)) u
@@ -202,7 +202,7 @@ leads_entries due version j seen count g (e ∷ es) fit all new few =
     record {
       last = more.last;
       leads = subst (λ (x : Standing). Leads s (lines_text (flat_map entry_lines (e ∷ es))) x) (λ i. at places.Between due version (record j { entries = same i }) (seen_after (set.insert seen e.gtid) es) (counted i) more.last [])
-        (leads_both s t u (entry_lines e) (flat_map entry_lines es) one more.leads);
+          (leads_both s t u (entry_lines e) (flat_map entry_lines es) one more.leads);
     }
 
 -- ---- the whole

@@ -20,18 +20,30 @@ pub struct BundleReader {
     stopped: Option<JournalFault>,
 }
 
+/// What the lines of a text make, one after another.
+trait TakeText {
+    /// Takes the next line, or says the first thing that is wrong with it.
+    fn take_text(&mut self, alloc: Global, line: &[u8]) -> Result<(), LineFault>;
+}
+
+impl TakeText for BundleDraft {
+    fn take_text(&mut self, alloc: Global, line: &[u8]) -> Result<(), LineFault> {
+        self.take_line(alloc, line)
+    }
+}
+
 /// Takes the line that begins with the bytes so far and ends with these.
-fn take_whole(
+fn take_whole<T: TakeText>(
     alloc: Global,
-    draft: &mut BundleDraft,
+    draft: &mut T,
     rest: &mut Vec<u8>,
     bytes: &[u8],
 ) -> Result<(), LineFault> {
     if rest.is_empty() {
-        return draft.take_line(alloc, bytes);
+        return draft.take_text(alloc, bytes);
     }
     rest.extend_from_slice(bytes)?;
-    draft.take_line(alloc, rest)?;
+    draft.take_text(alloc, rest)?;
     rest.clear();
     Ok(())
 }
