@@ -172,21 +172,25 @@ module _ (world : World) (site : Site) (s : State) (since : Since) (e : Event) (
   waits_next : Waits world site s (e ∷ es) k → Phase world site s' since' es k
   waits_next w = elim (waits_on e es w.2.served.before w.2.served.later w.2.served.parts) [
     | inl here ↦ inr (inl (starts w here.0 here.1 here.2))
-    | inr later ↦ inl (w.0, w.1, record {
-      served = record {
-        own = w.2.served.own;
-        before = later.0;
-        later = w.2.served.later;
-        ask = w.2.served.ask;
-        all = w.2.served.all;
-        parts = later.2;
-        nothing_before = idle_at later.0 (ap (received_on k site s) (sym later.1) ∙ w.2.served.nothing_before);
-        asked = ap (λ xs. (step site (after site s xs) (Position k)).0) (sym later.1) ∙ w.2.served.asked;
-        all_sent = w.2.served.all_sent;
-        all_received = ap (λ xs. received_on k site (step site (after site s xs) (Position k)).1 w.2.served.later) (sym later.1) ∙ w.2.served.all_received;
-      };
-      once = w.2.once;
-    })
+    | inr later ↦ inl (
+      w.0,
+      w.1,
+      record {
+        served = record {
+          own = w.2.served.own;
+          before = later.0;
+          later = w.2.served.later;
+          ask = w.2.served.ask;
+          all = w.2.served.all;
+          parts = later.2;
+          nothing_before = idle_at later.0 (ap (received_on k site s) (sym later.1) ∙ w.2.served.nothing_before);
+          asked = ap (λ xs. (step site (after site s xs) (Position k)).0) (sym later.1) ∙ w.2.served.asked;
+          all_sent = w.2.served.all_sent;
+          all_received = ap (λ xs. received_on k site (step site (after site s xs) (Position k)).1 w.2.served.later) (sym later.1) ∙ w.2.served.all_received;
+        };
+        once = w.2.once;
+      },
+    )
   ]
     where
       idle_at : (rest : List Event) → received_on k site s (e ∷ rest) ≡ [] → received_on k site s' rest ≡ []
