@@ -1,5 +1,6 @@
 pub mod Faults
 pub mod Refusals
 pub mod SetFunctions
+pub mod SetAnswers
 pub mod Verdicts
 pub mod State

@@ -2,14 +2,14 @@
 use Rattle.std.specs.Prelude.{ℕ, List, Option, Some, None, codes, if◌then◌else◌}
 use Rattle.std.specs.Option.{option_map, option_map_or}
 use Rattle.std.specs.Str.{bytes_eq}
-use Rattle.gtid_report.specs.declared.set_function.OneSet.{OneSet}
-use Rattle.gtid_report.specs.declared.set_function.OneSet.TheVariants.{Normalize, Count}
-use Rattle.gtid_report.specs.declared.set_function.TwoSets.{TwoSets}
-use Rattle.gtid_report.specs.declared.set_function.TwoSets.TheVariants.{Union, Intersect, Subtract, Symmetric, Subset, Equal, Disjoint}
-use Rattle.gtid_report.specs.declared.set_function.OfSource.{OfSource}
-use Rattle.gtid_report.specs.declared.set_function.OfSource.TheVariants.{Only, Without}
-use Rattle.gtid_report.specs.declared.set_function.Function.{Function}
-use Rattle.gtid_report.specs.declared.set_function.Function.TheVariants.{One, Two, Source}
+use Rattle.gtid_report.specs.declared.functions.OneSet.{OneSet}
+use Rattle.gtid_report.specs.declared.functions.OneSet.TheVariants.{Normalize, Count}
+use Rattle.gtid_report.specs.declared.functions.TwoSets.{TwoSets}
+use Rattle.gtid_report.specs.declared.functions.TwoSets.TheVariants.{Union, Intersect, Subtract, Symmetric, Subset, Equal, Disjoint}
+use Rattle.gtid_report.specs.declared.functions.OfSource.{OfSource}
+use Rattle.gtid_report.specs.declared.functions.OfSource.TheVariants.{Only, Without}
+use Rattle.gtid_report.specs.declared.functions.Function.{Function}
+use Rattle.gtid_report.specs.declared.functions.Function.TheVariants.{One, Two, Source}
 
 abbrev pub one_set_named : List ℕ → Option OneSet
 one_set_named name =

@@ -3,14 +3,14 @@
 
 mod fault;
 mod from_journal;
+mod functions;
 mod refusal;
-mod set_function;
 mod state;
 mod verdict;
 
 pub use fault::Fault;
+pub use functions::{Function, OfSource, OneSet, TwoSets, set_function};
 pub use refusal::{LineCause, Refusal, render_fault};
-pub use set_function::{Function, OfSource, OneSet, TwoSets};
 pub use state::render_rows;
 pub use verdict::render_does_not_apply;
 

@@ -1,6 +1,7 @@
-use crate::{LineCause, Refusal, render_does_not_apply, render_fault};
+use crate::{Fault, LineCause, Refusal, render_does_not_apply, render_fault, set_function};
 use gtid_text::{Gtid, SourceId};
 use rows::RowFault;
+use std::alloc::{AllocError, Global};
 use std::test::Fail;
 
 /// The printed lines of the journal's and the command line's refusals.
@@ -39,5 +40,91 @@ fn prints_what_does_not_apply(rt: HostRuntime) -> Result<(), Fail> {
     let line = render_does_not_apply(rt.alloc(), Gtid { source, number: 1 }, fault)?;
     let want = "does-not-apply aaaaaaaa-aaaa-aaaa-aaaa-aaaaaaaaaaaa:1 E12 change 0 key 1";
     assert_eq!(rt; line.as_str(), want);
+    Ok(())
+}
+
+/// A text in which A and B stand for two UUIDs.
+fn spelled(alloc: Global, short: &str) -> Result<String, AllocError> {
+    let mut text = String::new(alloc);
+    for letter in short.chars() {
+        match letter {
+            'A' => text.push_str("aaaaaaaa-aaaa-aaaa-aaaa-aaaaaaaaaaaa")?,
+            'B' => text.push_str("bbbbbbbb-bbbb-bbbb-bbbb-bbbbbbbbbbbb")?,
+            other => text.push(other)?,
+        }
+    }
+    Ok(text)
+}
+
+/// The line that is printed: the answer or the refusal.
+fn printed(alloc: Global, name: &str, a: &str, b: Option<&str>) -> Result<String, AllocError> {
+    match set_function(alloc, name, a, b) {
+        Ok(line) => Ok(line),
+        Err(Fault::Refused(refusal)) => render_fault(alloc, &refusal),
+        Err(Fault::Memory) => Err(AllocError),
+    }
+}
+
+/// The functions of one set.
+#[test]
+fn answers_of_one_set(rt: HostRuntime) -> Result<(), Fail> {
+    let alloc = rt.alloc();
+    let rows = [
+        ("normalize", "B:1, A:3:1-2,,A:2-5", "A:1-5,B:1"),
+        (
+            "normalize",
+            "A:9223372036854775807",
+            "A:9223372036854775807",
+        ),
+        (
+            "normalize",
+            "A:9223372036854775808",
+            "refused E5 number-range at 37",
+        ),
+        ("normalize", "A:0", "refused E5 number-range at 37"),
+        ("normalize", "A:5-4", "refused E6 reversed at 39"),
+        ("normalize", "A", "refused E3 no-interval at 36"),
+        ("normalize", "A:", "refused E4 bad-number at 37"),
+        ("normalize", "A:1-3,\nB:7", "A:1-3,B:7"),
+        ("normalize", ",,", ""),
+        ("count", "A:1-9223372036854775807", "9223372036854775807"),
+        ("union", "A:1", "refused E30 usage"),
+        ("nothing", "x", "refused E30 usage"),
+    ];
+    for (name, word, want) in &rows {
+        let a = spelled(alloc, word)?;
+        let want = spelled(alloc, want)?;
+        let line = printed(alloc, name, &a, None)?;
+        assert_eq!(rt; line.as_str(), want.as_str());
+    }
+    Ok(())
+}
+
+/// The functions of two words.
+#[test]
+fn answers_of_two_words(rt: HostRuntime) -> Result<(), Fail> {
+    let alloc = rt.alloc();
+    let rows = [
+        ("subtract", "A:1-10", "A:3:5-6", "A:1-2:4:7-10"),
+        ("subtract", "A:1", "A:1", ""),
+        ("subset", "", "A:1", "1"),
+        ("subset", "A:1", "", "0"),
+        ("symmetric", "A:1-5", "A:4-8,B:2", "A:1-3:6-8,B:2"),
+        ("union", "A:1-2", "A:3", "A:1-3"),
+        ("intersect", "A:1-5", "A:4-8,B:2", "A:4-5"),
+        ("equal", "A:1-2", "A:1:2", "1"),
+        ("disjoint", "A:1-2", "A:2,B:1", "0"),
+        ("only", "A:1-3,B:2", "B", "B:2"),
+        ("without", "A:1-3,B:2", "B", "A:1-3"),
+        ("count", "A:1", "A:2", "refused E30 usage"),
+        ("union", "A:0", "x", "refused E5 number-range at 37"),
+    ];
+    for (name, first, second, want) in &rows {
+        let a = spelled(alloc, first)?;
+        let b = spelled(alloc, second)?;
+        let want = spelled(alloc, want)?;
+        let line = printed(alloc, name, &a, Some(b.as_str()))?;
+        assert_eq!(rt; line.as_str(), want.as_str());
+    }
     Ok(())
 }

@@ -7,10 +7,18 @@ use clap::{Arg, ArgAction, ArgMatches, Error};
 use std::alloc::{AllocError, Global};
 
 /// One line of the program's commands, with its values.
-#[derive(Clone, Copy, Debug, PartialEq, Eq, Drop)]
-pub enum Command {
+#[derive(Debug, Drop)]
+pub enum Command<'a> {
+    /// A set function with one set or two words.
+    Set {
+        function: &'a str,
+        first: &'a str,
+        second: Option<&'a str>,
+    },
     /// A bundle from standard input is applied by 1 to 64 workers.
-    Apply { workers: u8 },
+    Apply {
+        workers: u8,
+    },
 }
 
 /// Why the words are no command: memory, or the text that is shown.
@@ -20,6 +28,15 @@ pub enum LineFault {
     Line(String),
 }
 
+const SET_EXAMPLE: &str =
+    "Functions of one set: normalize, count. Of two sets: union, intersect, subtract, symmetric,
+subset, equal, disjoint. Of a set and a UUID: only, without.
+
+Example:
+  gtidrep set subtract aaaaaaaa-aaaa-aaaa-aaaa-aaaaaaaaaaaa:1-10 aaaaaaaa-aaaa-aaaa-aaaa-aaaaaaaaaaaa:3:5-6
+
+Status: 0 the answer is printed, 1 an argument is refused, 2 the command line, 3 memory, 4 writing failed.";
+
 const APPLY_EXAMPLE: &str =
     "Prints the executed set and the rows, or the line that says why the bundle does not apply.
 
@@ -27,6 +44,25 @@ Example:
   gtidrep apply --workers 4 < examples/first.bundle
 
 Status: 0 applied, 1 refused, 2 the command line, 3 memory, 4 reading or writing failed.";
+
+fn value<'a>(alloc: Global, id: &'a str, help: &'a str) -> Arg<'a> {
+    Arg::new(alloc, id)
+        .required(true)
+        .action(ArgAction::Set)
+        .help(help)
+}
+
+fn set_command<'a>(alloc: Global) -> Result<clap::Command<'a>, AllocError> {
+    let second = Arg::new(alloc, "b")
+        .action(ArgAction::Set)
+        .help("the second set, or a UUID");
+    clap::Command::new(alloc, "set")
+        .about("Computes with GTID sets: set union <a> <b>")
+        .after_help(SET_EXAMPLE)
+        .arg(value(alloc, "function", "what is computed"))?
+        .arg(value(alloc, "a", "the first set"))?
+        .arg(second)
+}
 
 fn apply_command<'a>(alloc: Global) -> Result<clap::Command<'a>, AllocError> {
     let workers = Arg::new(alloc, "workers")
@@ -45,6 +81,7 @@ fn all_commands<'a>(alloc: Global) -> Result<clap::Command<'a>, AllocError> {
     clap::Command::new(alloc, "gtidrep")
         .about("The replica side of GTID replication, over files of journals.")
         .subcommand_required(true)
+        .subcommand(set_command(alloc)?)?
         .subcommand(apply_command(alloc)?)
 }
 
@@ -59,9 +96,16 @@ fn workers_of(matches: &ArgMatches) -> Option<u8>
     }
 }
 
-fn command_of(matches: &ArgMatches) -> Option<Command>
+fn command_of<'a>(name: &str, matches: &ArgMatches<'a>) -> Option<Command<'a>>
     ensures { MatchOption result (Unit {0}) IsForOneToMost }
 {
+    if name == "set" {
+        return Some(Command::Set {
+            function: matches.get_str("function")?,
+            first: matches.get_str("a")?,
+            second: matches.get_str("b"),
+        });
+    }
     Some(Command::Apply {
         workers: workers_of(matches)?,
     })
@@ -78,7 +122,7 @@ fn fault_of(alloc: Global, error: Error) -> LineFault {
 }
 
 /// Reads the words after the program's name.
-pub fn parse_line(alloc: Global, words: &[String]) -> Result<Command, LineFault>
+pub fn parse_line<'a>(alloc: Global, words: &'a [String]) -> Result<Command<'a>, LineFault>
     ensures { IfOk result IsForOneToMost }
 {
     let Ok(commands) = all_commands(alloc) else {
@@ -86,8 +130,8 @@ pub fn parse_line(alloc: Global, words: &[String]) -> Result<Command, LineFault>
     };
     match commands.no_binary_name(true).try_get_matches_from(words) {
         Ok(matches) => {
-            if let Some((_, inner)) = matches.subcommand() {
-                if let Some(command) = command_of(inner) {
+            if let Some((name, inner)) = matches.subcommand() {
+                if let Some(command) = command_of(name, inner) {
                     return Ok(command);
                 }
             }

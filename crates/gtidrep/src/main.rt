@@ -1,4 +1,4 @@
-//! The program `gtidrep`: a bundle is applied.
+//! The program `gtidrep`: set functions, and a bundle applied.
 #![tactic(auto)]
 
 ghost use Rattle.std.specs.Prelude.{◌≡◌};
@@ -9,12 +9,14 @@ mod edge;
 #[cfg(test)]
 mod fake;
 mod line;
+mod set_command;
 #[cfg(test)]
 mod tests;
 mod wrap;
 
 use crate::edge::{Outcome, RunFault, apply_bundle};
 use crate::line::{Command, LineFault, parse_line};
+use crate::set_command::run_set;
 use crate::wrap::{StdSink, StdSource};
 use std::process::ExitCode;
 use std::{env, io};
@@ -26,6 +28,7 @@ pub fn exit_status(ended: &Result<Outcome, RunFault>) -> u8
     match ended {
         Ok(Outcome::Done) => 0,
         Ok(Outcome::Refused) => 1,
+        Ok(Outcome::Misused) => 2,
         Err(RunFault::Memory) => 3,
         Err(RunFault::Read) => 4,
         Err(RunFault::Write) => 4,
@@ -39,6 +42,14 @@ fn run(rt: &HostRuntime, words: &[String]) -> u8 {
             let mut reader = StdSource::new(rt.reader());
             let mut writer = StdSink::new(io::writer(rt));
             exit_status(&apply_bundle(alloc, &mut reader, &mut writer, workers))
+        }
+        Ok(Command::Set {
+            function,
+            first,
+            second,
+        }) => {
+            let mut writer = StdSink::new(io::writer(rt));
+            exit_status(&run_set(alloc, function, first, second, &mut writer))
         }
         Err(LineFault::Memory) => 3,
         Err(LineFault::Line(text)) => {
