@@ -13,6 +13,7 @@ ghost use Rattle.gtid_set.specs.Sweep.{rises};
 ghost use Rattle.gtid_set.specs.Full.{IsFullExactly, IsKept};
 
 mod fault;
+pub mod laws;
 mod sweep;
 mod text;
 
