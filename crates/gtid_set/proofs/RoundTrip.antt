@@ -1,30 +1,34 @@
 -- A set's canonical text spells it.
 use Rattle.std.proofs.Common.{◌≡◌, ◌≤◌, ℕ, Bool, true, false, cond, ◌&&◌, ◌||◌, nat_le, List, [], ◌∷◌, ◌++◌, refl, sym, ap, subst, ◌∙◌, arith}
-use Rattle.std.specs.Prelude.{Option, Some, None}
+use Rattle.std.specs.Prelude.{Option, Some, None, Result, Ok, Err, length, nat_lt, ◌<◌}
 use Rattle.std.specs.FinSet as set
 use Rattle.std.specs.Str.Parse.{digits_value}
 use Rattle.std.proofs.lemmas.Bool.Decides.{nat_tests}
-use Rattle.std.proofs.lemmas.List.Folds.{list_any-append}
 use Rattle.gtid_text.specs.Scan.{number_of}
-use Rattle.gtid_text.specs.Grammar.{Number, Interval, Element, IsUpper, IsInterval, AreIntervals, IsElement, AreElements, Spells}
+use Rattle.gtid_text.specs.Grammar.{Number, Interval, Element, IsUpper, AreIntervals, IsElement, AreElements, Spells}
 use Rattle.gtid_text.specs.Written.{IsNumbered, IsUsable, spans_tokens, joined}
 use Rattle.gtid_text.specs.Written.{AreUsable as AreUsableSpans}
 use Rattle.gtid_text.specs.declared.Gtid.{Gtid}
 use Rattle.gtid_text.specs.declared.Span.{Span}
 use Rattle.gtid_text.specs.declared.SourceId.{SourceId}
+use Rattle.gtid_text.specs.Reading.{answer, spans_in}
 use Rattle.gtid_text.proofs.Spelled.{spells_read}
+use Rattle.gtid_text.proofs.Found.{read_spells}
 use Rattle.gtid_text.proofs.Shown.{spans_shown, joined_spans, spaced_joined}
-use Rattle.gtid_set.specs.Sets.{Gtids, gtid}
+use Rattle.gtid_set.specs.declared.fault.SetFault.TheVariants.{SourcesFull}
+use Rattle.gtid_set.specs.declared.fault.SetTextFault.{SetTextFault}
+use Rattle.gtid_set.specs.declared.fault.SetTextFault.TheVariants.{Set}
+use Rattle.gtid_set.specs.Sets.{Gtids, gtid, source_count, most_sources}
 use Rattle.gtid_set.specs.Spans.{set_of, has, is_merged}
 use Rattle.gtid_set.specs.Sweep.{within}
 use Rattle.gtid_set.specs.Runs.{runs, canonical}
-use Rattle.gtid_set.specs.Texts.{SpellsSet}
+use Rattle.gtid_set.specs.Texts.{SpellsSet, set_from, set_in}
 use Rattle.gtid_set.specs.Laws.{AreUsable, HaveSources}
 use Rattle.gtid_set.proofs.SetLemmas.{contains-set_of}
 use Rattle.gtid_set.proofs.SpanLemmas.{merged_head}
 use Rattle.gtid_set.proofs.SetSources.{or_left, or_right}
 use Rattle.gtid_set.proofs.RunLemmas.{runs_are_merged, set_of_runs}
-use Rattle.gtid_set.proofs.TextLemmas.{same_read}
+use Rattle.gtid_set.proofs.TextLemmas.{ReadSpans, same_read, given_set, given_full}
 
 -- a filled span has its first number and its last
 has_low : (s : Span) → s.lo ≤ s.hi → within s (gtid s.source s.lo) ≡ true
@@ -39,9 +43,10 @@ usable_spans [] m u = tt
 usable_spans (s ∷ ss) m u =
     let h = merged_head s ss m in
     let low = u (gtid s.source s.lo) (or_left (within s (gtid s.source s.lo)) (has ss (gtid s.source s.lo)) (has_low s h.filled)) in
-    let high = u (gtid s.source s.hi) (or_left (within s (gtid s.source s.hi)) (has ss (gtid s.source s.hi)) (has_high s h.filled)) in
-    (record { source = low.source; low = low.number; high = high.number; ordered = h.filled },
-    usable_spans ss h.tail (λ q e. u q (or_right (within s q) (has ss q) e)))
+    let high = u (gtid s.source s.hi) (or_left (within s (gtid s.source s.hi)) (has ss (gtid s.source s.hi)) (has_high s h.filled)) in (
+      record { source = low.source; low = low.number; high = high.number; ordered = h.filled },
+      usable_spans ss h.tail (λ q e. u q (or_right (within s q) (has ss q) e)),
+    )
 
 pub canonical_spells : (s : Gtids) → AreUsable s → SpellsSet (canonical s) s
 canonical_spells s u =
@@ -121,3 +126,33 @@ spelled_again text s sources h =
       source = sources g e;
       number = member_numbered h.0 g (elements_numbered h.1.elements h.0 h.1.says) (sym (contains-set_of h.0 g) ∙ ap (λ t. set.contains t g) h.2 ∙ e);
     })
+
+-- ---- the answer to a text
+
+abbrev pub as_set : Gtids → Result Gtids SetTextFault
+as_set s = Ok s
+
+made_of : (t s : Gtids) (b : Bool) → nat_lt most_sources (source_count t) ≡ b → cond b (Err (Set SourcesFull)) (as_set t) ≡ as_set s → (t ≡ s) × (source_count s ≤ most_sources)
+made_of t s true e h = absurd cc
+made_of t s false e h =
+    let same : t ≡ s = cc in
+    (same, subst (λ s. source_count s ≤ most_sources) same (small (source_count t) e))
+  where
+    small : (n : ℕ) → nat_lt most_sources n ≡ false → n ≤ most_sources
+    small n e = grind (arith, nat_tests)
+
+answered_by : (text : List ℕ) (s : Gtids) (r : ReadSpans) → spans_in text ≡ r → set_from (answer (length text) r) ≡ as_set s → SpellsSet text s × (source_count s ≤ most_sources)
+answered_by text s (Ok spans) e h =
+    let made = made_of (set_of spans) s (nat_lt most_sources (source_count (set_of spans))) refl h in
+    ((spans, read_spells text spans e, made.0), made.1)
+answered_by text s (Err f) e h = absurd cc
+
+pub answers_spelled : (text : List ℕ) (s : Gtids) → set_in text ≡ as_set s → SpellsSet text s × (source_count s ≤ most_sources)
+unfolding set_in
+answers_spelled text s e = answered_by text s (spans_in text) refl e
+
+pub spelled_answered : (text : List ℕ) (s : Gtids) → SpellsSet text s → source_count s ≤ most_sources → set_in text ≡ as_set s
+spelled_answered text s h fits = given_set text h.0 s (spells_read text h.0 h.1) fits h.2
+
+pub spelled_full : (text : List ℕ) (s : Gtids) → SpellsSet text s → most_sources < source_count s → set_in text ≡ Err (Set SourcesFull)
+spelled_full text s h over = given_full text h.0 (spells_read text h.0 h.1) (subst (λ t. most_sources < source_count t) (sym h.2) over)
