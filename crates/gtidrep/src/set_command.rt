@@ -41,8 +41,8 @@ fn refusal_text(alloc: Global, refusal: &Refusal) -> Result<String, AllocError>
 
 /// What is printed for a function of sets.
 fn set_answer(alloc: Global, function: &str, a: &str, b: Option<&str>) -> Result<Answer, AllocError>
-    ensures text { IfOk result (λ x. string_bytes x.text ≡ printed (function_line function.now a.now (option_map (λ w. w.now) b))) }
-    ensures ending { IfOk result (λ x. x.outcome ≡ ending (function_line function.now a.now (option_map (λ w. w.now) b))) }
+    ensures text { IfOk result (λ x. string_bytes x.text ≡ printed (function_line function.now a.now (option_map (λ w. w.now) b.entry))) }
+    ensures ending { IfOk result (λ x. x.outcome ≡ ending (function_line function.now a.now (option_map (λ w. w.now) b.entry))) }
 {
     match set_function(alloc, function, a, b) {
         Ok(line) => Ok(Answer {
@@ -66,8 +66,8 @@ pub fn run_set<W: Sink>(
     writer: &mut W,
 ) -> Result<Outcome, RunFault>
     ensures done { OnOk result (Appends (W.written writer.old) (W.written writer.new)
-        (printed (function_line function.now a.now (option_map (λ w. w.now) b)))) }
-    ensures ending { IfOk result (λ outcome. outcome ≡ ending (function_line function.now a.now (option_map (λ w. w.now) b))) }
+        (printed (function_line function.now a.now (option_map (λ w. w.now) b.entry)))) }
+    ensures ending { IfOk result (λ outcome. outcome ≡ ending (function_line function.now a.now (option_map (λ w. w.now) b.entry))) }
     ensures read { IfErr result (λ f. f ≡ RunFault.Read → ⊥) }
     ensures write { IfErr result (λ f. f ≡ RunFault.Write → (W.failed writer.new ≡ one_more (W.failed writer.old))
         × Grows (W.written writer.old) (W.written writer.new)) }
