@@ -66,14 +66,17 @@ last_before g es fs n p None same gone last h = λ i lt. elim (three i p) [
 ]
 last_before g es fs n p (Some q) same gone last h =
     let below = h.0 in
-    let within = last.0 in
-    (omega (below, within, arith), same q (λ e. absurd (omega (e, below, arith))) ∙ h.1, λ i far lt. elim (three i p) [
-      | inl less ↦ same i (λ e. absurd (omega (e, less, arith))) ∙ h.2 i far less
-      | inr rest ↦ elim rest [
-        | inl here ↦ ap (is_open_at g fs) here ∙ gone
-        | inr more ↦ same i (λ e. absurd (omega (e, more, arith))) ∙ last.2 i more lt
-      ]
-    ])
+    let within = last.0 in (
+      omega (below, within, arith),
+      same q (λ e. absurd (omega (e, below, arith))) ∙ h.1,
+      λ i far lt. elim (three i p) [
+        | inl less ↦ same i (λ e. absurd (omega (e, less, arith))) ∙ h.2 i far less
+        | inr rest ↦ elim rest [
+          | inl here ↦ ap (is_open_at g fs) here ∙ gone
+          | inr more ↦ same i (λ e. absurd (omega (e, more, arith))) ∙ last.2 i more lt
+        ]
+      ],
+    )
 
 pub below_of : (g : Gtid) (es : List Received) (n : ℕ) (o : Option ℕ) → IsLastOpen es g n o → option_map_or suc o 0 ≤ n
 below_of g es n None h = omega arith
@@ -100,7 +103,7 @@ pub linked_push : (slots : List Slot) (s : Slot) → AreLinked slots → IsLastO
 linked_push slots s linked last = λ i t is there. elim (push_cases slots s i t is) [
   | inl old ↦ (let below = get_below slots i t old in last_alike t.gtid (entries_of slots) (entries_of (slots ++ s ∷ [])) i t.earlier (λ j lt. open_push t.gtid slots s j (omega (lt, below, arith))) (linked i t old there))
   | inr new ↦ subst (λ (x : Slot). IsLastOpen (entries_of (slots ++ s ∷ [])) x.gtid i x.earlier) new.1
-    (subst (λ m. IsLastOpen (entries_of (slots ++ s ∷ [])) s.gtid m s.earlier) (sym new.0)
+      (subst (λ m. IsLastOpen (entries_of (slots ++ s ∷ [])) s.gtid m s.earlier) (sym new.0)
       (last_alike s.gtid (entries_of slots) (entries_of (slots ++ s ∷ [])) (length slots) s.earlier (λ j lt. open_push s.gtid slots s j lt) last))
 ]
 
@@ -109,8 +112,8 @@ more slots s g o last shut =
     let longer : length (slots ++ s ∷ []) ≡ length slots + 1 = let more = length_push slots s in omega (more, arith) in
     subst (λ n. IsLastOpen (entries_of (slots ++ s ∷ [])) g n o) (sym longer)
     (last_more g (entries_of (slots ++ s ∷ [])) (length slots) o
-      (last_alike g (entries_of slots) (entries_of (slots ++ s ∷ [])) (length slots) o (λ j lt. open_push g slots s j lt) last)
-      (open_end g slots s ∙ shut))
+    (last_alike g (entries_of slots) (entries_of (slots ++ s ∷ [])) (length slots) o (λ j lt. open_push g slots s j lt) last)
+    (open_end g slots s ∙ shut))
 
 pub last_push_done : (slots : List Slot) (s : Slot) (last : Gtid → Option ℕ) → is_some s.txn ≡ false → AreLast slots last → AreLast (slots ++ s ∷ []) last
 last_push_done slots s last done h = λ g. more slots s g (last g) (h g) (ap (λ b. b && same_gtid s.gtid g) done)
@@ -175,19 +178,19 @@ module _ (g : Gtid) (slots : List Slot) (p : ℕ) (s : Slot) (done : is_some s.t
   linked_settle = λ i t is there. elim (set_cases slots p s i t is) [
     | inl same ↦ absurd (true≢false (sym there ∙ sym (ap (λ (x : Slot). is_some x.txn) same) ∙ done))
     | inr old ↦ last_alike t.gtid (entries_of slots) (entries_of (slice_set slots p s)) i t.earlier
-      (λ j lt. elim (three j p) [
-        | inl less ↦ open_other t.gtid slots p s j (λ e. absurd (omega (e, less, arith)))
-        | inr rest ↦ elim rest [
-          | inl here ↦ ap (is_open_at t.gtid (entries_of (slice_set slots p s))) here ∙ open_here t.gtid slots p s done
-            ∙ sym (ap (is_open_at t.gtid (entries_of slots)) here ∙ is_false (is_open_at t.gtid (entries_of slots) p) (λ opens.
-            let same : t.gtid ≡ g = open_gtid t.gtid g (slice_get (entries_of slots) p) opens is_last.1 in
-            let holds : is_open_at g (entries_of slots) i ≡ true = open_slot g slots i t old.1 ∙ ap (λ b. b && same_gtid t.gtid g) there ∙ ap (λ k. same_gtid k g) same ∙ same_itself g in
-            let shut : is_open_at g (entries_of slots) i ≡ false = is_last.2 i (omega (lt, here, arith)) (get_below slots i t old.1) in
-            true≢false (sym holds ∙ shut)))
-          | inr more ↦ open_other t.gtid slots p s j (λ e. absurd (omega (e, more, arith)))
-        ]
-      ])
-      (linked i t old.1 there)
+        (λ j lt. elim (three j p) [
+          | inl less ↦ open_other t.gtid slots p s j (λ e. absurd (omega (e, less, arith)))
+          | inr rest ↦ elim rest [
+            | inl here ↦ ap (is_open_at t.gtid (entries_of (slice_set slots p s))) here ∙ open_here t.gtid slots p s done
+                ∙ sym (ap (is_open_at t.gtid (entries_of slots)) here ∙ is_false (is_open_at t.gtid (entries_of slots) p) (λ opens.
+                let same : t.gtid ≡ g = open_gtid t.gtid g (slice_get (entries_of slots) p) opens is_last.1 in
+                let holds : is_open_at g (entries_of slots) i ≡ true = open_slot g slots i t old.1 ∙ ap (λ b. b && same_gtid t.gtid g) there ∙ ap (λ k. same_gtid k g) same ∙ same_itself g in
+                let shut : is_open_at g (entries_of slots) i ≡ false = is_last.2 i (omega (lt, here, arith)) (get_below slots i t old.1) in
+                true≢false (sym holds ∙ shut)))
+            | inr more ↦ open_other t.gtid slots p s j (λ e. absurd (omega (e, more, arith)))
+          ]
+        ])
+        (linked i t old.1 there)
   ]
 
   pub before_last : (x : Slot) → slice_get slots p ≡ Some x → IsLastOpen (entries_of slots) g p x.earlier
@@ -207,17 +210,17 @@ module _ (g : Gtid) (slots : List Slot) (p : ℕ) (s : Slot) (done : is_some s.t
   left_by last x is h k false e =
       subst (λ n. IsLastOpen (entries_of (slice_set slots p s)) k n (last k)) (sym (set_length slots p s))
       (last_alike k (entries_of slots) (entries_of (slice_set slots p s)) (length slots) (last k)
-        (λ j lt. elim (three j p) [
-          | inl less ↦ open_other k slots p s j (λ e. absurd (omega (e, less, arith)))
-          | inr rest ↦ elim rest [
-            | inl here ↦ ap (is_open_at k (entries_of (slice_set slots p s))) here ∙ open_here k slots p s done
+      (λ j lt. elim (three j p) [
+        | inl less ↦ open_other k slots p s j (λ e. absurd (omega (e, less, arith)))
+        | inr rest ↦ elim rest [
+          | inl here ↦ ap (is_open_at k (entries_of (slice_set slots p s))) here ∙ open_here k slots p s done
               ∙ sym (ap (is_open_at k (entries_of slots)) here ∙ is_false (is_open_at k (entries_of slots) p) (λ opens.
               let same : k ≡ g = open_gtid k g (slice_get (entries_of slots) p) opens is_last.1 in
               true≢false (sym (ap (λ q. same_gtid q g) same ∙ same_itself g) ∙ e)))
-            | inr more ↦ open_other k slots p s j (λ e. absurd (omega (e, more, arith)))
-          ]
-        ])
-        (h k))
+          | inr more ↦ open_other k slots p s j (λ e. absurd (omega (e, more, arith)))
+        ]
+      ])
+      (h k))
 
   pub last_settle : (last next : Gtid → Option ℕ) (x : Slot) → slice_get slots p ≡ Some x → ((k : Gtid) → next k ≡ cond (same_gtid k g) x.earlier (last k)) → AreLast slots last → AreLast (slice_set slots p s) next
   last_settle last next x is new h = λ k. subst (λ o. IsLastOpen (entries_of (slice_set slots p s)) k (length (slice_set slots p s)) o) (sym (new k)) (left_by last x is h k (same_gtid k g) refl)

@@ -71,7 +71,7 @@ nodes_done schema ps es keys e n at is h =
     let marked : marked_at (ps ++ unfinished keys ∷ []) n ≡ ps ++ (record { finished = true; keys = keys }) ∷ [] = ap (marked_at (ps ++ unfinished keys ∷ [])) at ∙ marked_last ps (unfinished keys) in
     subst (λ qs. AreNodesOf schema (dropped qs) (es ++ e ∷ [])) (sym marked)
     (nodes_dropped schema (ps ++ (record { finished = true; keys = keys }) ∷ []) (es ++ e ∷ [])
-      (nodes_push schema ps es (record { finished = true; keys = keys }) e h (record { finished = sym (ap is_none is); keys = keys_by schema keys e.txn (ap is_none is) })))
+    (nodes_push schema ps es (record { finished = true; keys = keys }) e h (record { finished = sym (ap is_none is); keys = keys_by schema keys e.txn (ap is_none is) })))
 
 -- ---- who shares a key
 
@@ -234,14 +234,14 @@ pub next_is : (schema : List Table) (ps : List Point) (es : List Received) → A
 next_is schema ps es h from None next =
     let size = nodes_length schema ps es h in
     sym (find_none (λ place. nat_le from place && is_ready schema es place) 0 (length es)
-      (λ m le lt. test_by (nat_le from m) from m (is_ready schema es m) refl (λ far. sym (goes schema ps es h m (omega (lt, arith))) ∙ next m far (omega (lt, size, arith)))))
+    (λ m le lt. test_by (nat_le from m) from m (is_ready schema es m) refl (λ far. sym (goes schema ps es h m (omega (lt, arith))) ∙ next m far (omega (lt, size, arith)))))
 next_is schema ps es h from (Some n) next =
     let size = nodes_length schema ps es h in
     let far = next.0 in
     let below = next.1 in
     sym (find_some (λ place. nat_le from place && is_ready schema es place) 0 (length es) n (omega arith) (omega (below, size, arith))
-      (ap (λ c. c && is_ready schema es n) (le-leb from n far) ∙ sym (goes schema ps es h n (omega (below, size, arith))) ∙ next.2)
-      (λ m le lt. test_by (nat_le from m) from m (is_ready schema es m) refl (λ to. sym (goes schema ps es h m (omega (lt, below, size, arith))) ∙ next.3 m to lt)))
+    (ap (λ c. c && is_ready schema es n) (le-leb from n far) ∙ sym (goes schema ps es h n (omega (below, size, arith))) ∙ next.2)
+    (λ m le lt. test_by (nat_le from m) from m (is_ready schema es m) refl (λ to. sym (goes schema ps es h m (omega (lt, below, size, arith))) ∙ next.3 m to lt)))
 
 -- ---- the front
 
@@ -368,7 +368,7 @@ module _ (schema : List Table) (ps : List Point) (es : List Received) (h : AreNo
   first_waits place n next lt =
       let there = open_there n next in
       sym (position_at (λ (e : Received). is_some e.txn) (take place es) n there.0 (take_there place es n there.0 lt there.1) there.2
-        (λ i e less is. done_before n next i e less (take_back place es i e is).1))
+      (λ i e less is. done_before n next i e less (take_back place es i e is).1))
 
   pub later_waits : (place n : ℕ) → IsNextReady ps 0 (Some n) → place ≤ n → None ≡ first_waiting es place
   unfolding AreExecuted

@@ -24,9 +24,8 @@ unfolding most_received
 room_left n h = leb-false 4294967294 n h
 
 module _ (schema : List Table) (slots : List Slot) (places opened : BTreeMap Gtid (Option ℕ)) (graph : List Point) (received : Gtids) (kept : IsKept schema slots places graph received)
-  (same : (g : Gtid) → place_of opened g ≡ place_of places g) (y : Slot) (before : y.earlier ≡ place_of opened y.gtid) (items : List Slot) (is : items ≡ slots ++ y ∷ []) (n : ℕ) (at : n ≡ length slots)
-  (keys : List Key) (all : Gtids) (more : all ≡ set.insert received y.gtid) where
-
+    (same : (g : Gtid) → place_of opened g ≡ place_of places g) (y : Slot) (before : y.earlier ≡ place_of opened y.gtid) (items : List Slot) (is : items ≡ slots ++ y ∷ []) (n : ℕ) (at : n ≡ length slots)
+    (keys : List Key) (all : Gtids) (more : all ≡ set.insert received y.gtid) where
   entries : entries_of items ≡ entries_of slots ++ received_of y ∷ []
   entries = ap entries_of is ∙ entries_of-push slots y
 
@@ -50,7 +49,7 @@ module _ (schema : List Table) (slots : List Slot) (places opened : BTreeMap Gti
   pub kept_done : (after : List Point) → after ≡ finished_at (graph ++ unfinished keys ∷ []) n → y.txn ≡ None → IsKept schema items opened after all
   kept_done after finished done = record {
     nodes = subst (λ (es : List Received). AreNodesOf schema after es) (sym entries)
-      (subst (λ (ps : List Point). AreNodesOf schema ps (entries_of slots ++ received_of y ∷ [])) (sym finished) (nodes_done schema graph (entries_of slots) keys (received_of y) n nodes_at done kept.nodes));
+        (subst (λ (ps : List Point). AreNodesOf schema ps (entries_of slots ++ received_of y ∷ [])) (sym finished) (nodes_done schema graph (entries_of slots) keys (received_of y) n nodes_at done kept.nodes));
     linked = linked_now;
     last = subst (λ (xs : List Slot). AreLast xs (place_of opened)) (sym is) (last_push_done slots y (place_of opened) (ap is_some done) last_opened);
     gtids = gtids_now;
@@ -61,9 +60,9 @@ module _ (schema : List Table) (slots : List Slot) (places opened : BTreeMap Gti
       → ((g : Gtid) → place_of put g ≡ cond (same_gtid g y.gtid) (Some n) (place_of opened g)) → IsKept schema items put after all
   kept_open after t put pushed there keyed new = record {
     nodes = subst (λ (es : List Received). AreNodesOf schema after es) (sym entries)
-      (subst (λ (ps : List Point). AreNodesOf schema ps (entries_of slots ++ received_of y ∷ [])) (sym pushed) (nodes_open schema graph (entries_of slots) keys (received_of y) t there keyed kept.nodes));
+        (subst (λ (ps : List Point). AreNodesOf schema ps (entries_of slots ++ received_of y ∷ [])) (sym pushed) (nodes_open schema graph (entries_of slots) keys (received_of y) t there keyed kept.nodes));
     linked = linked_now;
     last = subst (λ (xs : List Slot). AreLast xs (place_of put)) (sym is)
-      (last_push_open slots y (place_of opened) (place_of put) (ap is_some there) last_opened (λ g. new g ∙ ap (λ m. cond (same_gtid g y.gtid) (Some m) (place_of opened g)) at));
+        (last_push_open slots y (place_of opened) (place_of put) (ap is_some there) last_opened (λ g. new g ∙ ap (λ m. cond (same_gtid g y.gtid) (Some m) (place_of opened g)) at));
     gtids = gtids_now;
   }

@@ -207,13 +207,7 @@ impl Channel {
             txn,
             earlier,
         })?;
-        match put_node(
-            alloc,
-            &mut self.graph,
-            &mut self.received,
-            keys,
-            entry.gtid,
-        ) {
+        match put_node(alloc, &mut self.graph, &mut self.received, keys, entry.gtid) {
             Ok(()) => {}
             Err(fault) => {
                 self.slots.truncate(place);

@@ -48,7 +48,10 @@ pub(crate) fn keys_unless(
 }
 
 /// A transaction that shares its changes, unless it is not wanted.
-pub(crate) fn copy_unless(unless: bool, txn: &Transaction) -> Result<Option<Transaction>, AllocError>
+pub(crate) fn copy_unless(
+    unless: bool,
+    txn: &Transaction,
+) -> Result<Option<Transaction>, AllocError>
     ensures { IfOk result (λ r. r ≡ (if unless then None else Some txn.now)) }
 {
     if unless {

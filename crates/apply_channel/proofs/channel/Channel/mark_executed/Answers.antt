@@ -13,9 +13,9 @@ settling-preserved c =
     record {
       last = c.settle-next.ensures.last;
       settles =
-        ap (λ (k : Keyed). settled g k.channel) c.settle-next.ensures.settled
-        ∙ ap (λ (rs : List Received). let r : ChannelValue = record now { received = rs } in r) (settle_again g now.received p last.1)
-        ∙ c.settling.invariant.settles;
+          ap (λ (k : Keyed). settled g k.channel) c.settle-next.ensures.settled
+          ∙ ap (λ (rs : List Received). let r : ChannelValue = record now { received = rs } in r) (settle_again g now.received p last.1)
+          ∙ c.settling.invariant.settles;
       schema = ap (λ (k : Keyed). k.schema) c.settle-next.ensures.settled ∙ c.settling.invariant.schema;
     }
 

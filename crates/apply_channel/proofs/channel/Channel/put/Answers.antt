@@ -22,7 +22,7 @@ finish-requires c =
     let at : c.len-place.result ≡ length s.slots.items = search rules in
     subst (λ (ps : List Point). c.len-place.result < length ps) (sym c.in-Ok.ensures.graph)
     (below_more s.schema s.slots.items s.places c.open_place.new.places s.graph s.received c.self.invariant c.open_place.ensures.same y c.last_place-earlier.ensures
-      c.push.new.self.items c.in_ok-push.ensures.items c.len-place.result at c.in_ok-keys.keys.items c.put_node.new.received c.in-Ok.ensures.received)
+    c.push.new.self.items c.in_ok-push.ensures.items c.len-place.result at c.in_ok-keys.keys.items c.put_node.new.received c.in-Ok.ensures.received)
 
 pub invariant_of-self-then-executed : goal.invariant_of-self-then-executed
 invariant_of-self-then-executed c =
@@ -31,8 +31,8 @@ invariant_of-self-then-executed c =
     let at : c.len-place.result ≡ length s.slots.items = search rules in
     let done : c.in_ok-txn.txn ≡ None = c.in_ok-txn.ensures ∙ ap (λ b. if b then None else Some c.args.entry.now.txn) c.if-executed.true in
     kept_done s.schema s.slots.items s.places c.open_place.new.places s.graph s.received c.self.invariant c.open_place.ensures.same y c.last_place-earlier.ensures
-      c.push.new.self.items c.in_ok-push.ensures.items c.len-place.result at c.in_ok-keys.keys.items c.put_node.new.received c.in-Ok.ensures.received
-      c.finish.new.self (c.finish.ensures ∙ ap (λ (ps : List Point). finished_at ps c.len-place.result) c.in-Ok.ensures.graph) done
+    c.push.new.self.items c.in_ok-push.ensures.items c.len-place.result at c.in_ok-keys.keys.items c.put_node.new.received c.in-Ok.ensures.received
+    c.finish.new.self (c.finish.ensures ∙ ap (λ (ps : List Point). finished_at ps c.len-place.result) c.in-Ok.ensures.graph) done
 
 pub invariant_of-self-2 : goal.invariant_of-self-2
 invariant_of-self-2 c =
@@ -41,7 +41,7 @@ invariant_of-self-2 c =
     let at : c.len-place.result ≡ length s.slots.items = search rules in
     let there : c.in_ok-txn.txn ≡ Some c.args.entry.now.txn = c.in_ok-txn.ensures ∙ ap (λ b. if b then None else Some c.args.entry.now.txn) c.if-executed.false in
     kept_open s.schema s.slots.items s.places c.open_place.new.places s.graph s.received c.self.invariant c.open_place.ensures.same y c.last_place-earlier.ensures
-      c.push.new.self.items c.in_ok-push.ensures.items c.len-place.result at c.in_ok-keys.keys.items c.put_node.new.received c.in-Ok.ensures.received
-      c.put_node.new.graph c.args.entry.now.txn c.put_place.new.places c.in-Ok.ensures.graph there
-      (subst (λ (o : Option Transaction). AreKeysOf s.schema c.in_ok-keys.keys.items o) (sym c.in_ok-txn.ensures) c.in_ok-keys.ensures.keys)
-      c.put_place.ensures
+    c.push.new.self.items c.in_ok-push.ensures.items c.len-place.result at c.in_ok-keys.keys.items c.put_node.new.received c.in-Ok.ensures.received
+    c.put_node.new.graph c.args.entry.now.txn c.put_place.new.places c.in-Ok.ensures.graph there
+    (subst (λ (o : Option Transaction). AreKeysOf s.schema c.in_ok-keys.keys.items o) (sym c.in_ok-txn.ensures) c.in_ok-keys.ensures.keys)
+    c.put_place.ensures
