@@ -1,0 +1,195 @@
+//! Keys of transactions, and the rows that they leave. Rows are tested here, so that their crate is proved once.
+use super::*;
+use rows::{
+    ApplyFault, ByteString, Change, Changes, ColumnLists, Columns, Name, Row, RowFault, Rows,
+    Table, Value,
+};
+use std::test::*;
+
+fn name(alloc: Global) -> Result<Name, Fail> {
+    Ok(
+        Name::new(String::from_str(alloc, "t")?)
+            .ok()
+            .ok_or("a name")?,
+    )
+}
+
+/// Table `t` of three columns: column 0 is the primary key, and column 1 a unique key.
+fn schema(alloc: Global) -> Result<Schema, Fail> {
+    let unique = Columns::new(vec![in alloc; 1]?)?;
+    let table = Table {
+        name: name(alloc)?,
+        columns: 3,
+        primary: Columns::new(vec![in alloc; 0]?)?,
+        uniques: ColumnLists::new(vec![in alloc; unique]?)?,
+    };
+    let mut schema = Schema::empty(alloc);
+    schema.add(table).ok().ok_or("a table")?;
+    Ok(schema)
+}
+
+/// The number and the letter of a row of `t`, whose third value is null.
+type Short = (i64, Option<u8>);
+
+fn row(alloc: Global, short: Short) -> Result<Row, AllocError> {
+    let letter = match short.1 {
+        None => Value::Null,
+        Some(letter) => Value::Bytes(ByteString::new(vec![in alloc; letter]?)?),
+    };
+    Row::new(vec![in alloc; Value::Int(short.0), letter, Value::Null]?)
+}
+
+fn alone(alloc: Global, change: Change) -> Result<Transaction, AllocError> {
+    let changes = Changes::new(vec![in alloc; change]?)?;
+    Ok(Transaction { changes })
+}
+
+fn insert(alloc: Global, after: Short) -> Result<Transaction, Fail> {
+    let table = name(alloc)?;
+    let after = row(alloc, after)?;
+    Ok(alone(alloc, Change::Insert { table, after })?)
+}
+
+fn delete(alloc: Global, before: Short) -> Result<Transaction, Fail> {
+    let table = name(alloc)?;
+    let before = row(alloc, before)?;
+    Ok(alone(alloc, Change::Delete { table, before })?)
+}
+
+fn update(alloc: Global, before: Short, after: Short) -> Result<Transaction, Fail> {
+    let change = Change::Update {
+        table: name(alloc)?,
+        before: row(alloc, before)?,
+        after: row(alloc, after)?,
+    };
+    Ok(alone(alloc, change)?)
+}
+
+/// A row that is deleted, a row that is inserted, and the number of the first key that both carry.
+const SHARED: [(Short, Short, Option<u32>); 5] = [
+    ((1, Some(b'a')), (2, Some(b'a')), Some(1)),
+    ((1, None), (2, None), None),
+    ((1, Some(b'a')), (1, Some(b'b')), Some(0)),
+    ((1, Some(b'a')), (1, Some(b'a')), Some(0)),
+    ((1, Some(b'a')), (2, Some(b'b')), None),
+];
+
+#[test]
+fn first_key_of_two_transactions(rt: HostRuntime) -> Result<(), Fail> {
+    let alloc = rt.alloc();
+    let schema = schema(alloc)?;
+    for (deleted, inserted, want) in SHARED {
+        let a = keys_of(alloc, &schema, &delete(alloc, deleted)?)?;
+        let b = keys_of(alloc, &schema, &insert(alloc, inserted)?)?;
+        let shared = share_key(&a, &b).map(|key| key.index);
+        assert_eq!(rt; shared, want);
+    }
+    Ok(())
+}
+
+/// The letter of a unique key; 0 for a primary key.
+fn letter(key: &Key) -> u8 {
+    match key.values.values().first() {
+        Some(Value::Bytes(bytes)) => bytes.as_slice().first().copied().unwrap_or(0),
+        _ => 0,
+    }
+}
+
+#[test]
+fn an_update_touches_the_old_keys_first(rt: HostRuntime) -> Result<(), Fail> {
+    let alloc = rt.alloc();
+    let txn = update(alloc, (1, Some(b'b')), (1, Some(b'a')))?;
+    let touched = keys_of(alloc, &schema(alloc)?, &txn)?;
+    assert_eq!(rt; touched.len(), 3);
+    for (key, want) in touched.iter().zip([0, b'b', b'a']) {
+        assert_eq!(rt; letter(key), want);
+    }
+    Ok(())
+}
+
+fn opened(alloc: Global, opening: Short) -> Result<Rows, Fail> {
+    let mut rows = Rows::open(alloc, schema(alloc)?);
+    let opening = row(alloc, opening)?;
+    rows.put(alloc, &name(alloc)?, &opening)
+        .ok()
+        .ok_or("an opening row")?;
+    Ok(rows)
+}
+
+/// An opening row, and what an insert of the second row is answered.
+const INSERTED: [(Short, Short, Option<RowFault>); 4] = [
+    (
+        (1, Some(b'a')),
+        (1, Some(b'b')),
+        Some(RowFault::DuplicateKey { change: 0, key: 0 }),
+    ),
+    (
+        (2, Some(b'a')),
+        (1, Some(b'a')),
+        Some(RowFault::DuplicateKey { change: 0, key: 1 }),
+    ),
+    ((1, None), (2, None), None),
+    ((1, Some(b'a')), (2, Some(b'b')), None),
+];
+
+/// An opening row, and what a delete of the second row is answered.
+const DELETED: [(Short, Short, Option<RowFault>); 3] = [
+    (
+        (1, Some(b'b')),
+        (9, Some(b'a')),
+        Some(RowFault::RowMissing { change: 0, key: 0 }),
+    ),
+    (
+        (9, Some(b'b')),
+        (9, Some(b'a')),
+        Some(RowFault::RowDiffers { change: 0, key: 0 }),
+    ),
+    ((9, Some(b'a')), (9, Some(b'a')), None),
+];
+
+/// The answer to a transaction, and whether it left the rows as they were.
+fn answer(alloc: Global, rows: &mut Rows, txn: &Transaction) -> (Option<ApplyFault>, bool) {
+    let Ok(before) = rows.copy() else {
+        return (Some(ApplyFault::Memory), true);
+    };
+    let fault = rows.apply(alloc, txn).err();
+    (fault, rows.is_equal(&before))
+}
+
+#[test]
+fn inserts_over_one_row(rt: HostRuntime) -> Result<(), Fail> {
+    let alloc = rt.alloc();
+    for (opening, after, fault) in INSERTED {
+        let mut rows = opened(alloc, opening)?;
+        let txn = insert(alloc, after)?;
+        let answered = answer(alloc, &mut rows, &txn);
+        assert_eq!(rt; answered, (fault.map(ApplyFault::Row), fault.is_some()));
+    }
+    Ok(())
+}
+
+#[test]
+fn deletes_over_one_row(rt: HostRuntime) -> Result<(), Fail> {
+    let alloc = rt.alloc();
+    for (opening, before, fault) in DELETED {
+        let mut rows = opened(alloc, opening)?;
+        let txn = delete(alloc, before)?;
+        let answered = answer(alloc, &mut rows, &txn);
+        assert_eq!(rt; answered, (fault.map(ApplyFault::Row), fault.is_some()));
+    }
+    Ok(())
+}
+
+#[test]
+fn a_deleted_row_frees_its_letter(rt: HostRuntime) -> Result<(), Fail> {
+    let alloc = rt.alloc();
+    let mut rows = opened(alloc, (1, Some(b'a')))?;
+    assert_eq!(rt; rows.apply(alloc, &delete(alloc, (1, Some(b'a')))?), Ok(()));
+    assert_eq!(rt; rows.apply(alloc, &insert(alloc, (2, Some(b'a')))?), Ok(()));
+    for listed in rows.list_sorted(alloc)? {
+        assert!(rt; listed.row == row(alloc, (2, Some(b'a')))?);
+    }
+    let one = Row::new(vec![in alloc; Value::Int(1)]?)?;
+    assert!(rt; rows.get(name(alloc)?, one).is_none());
+    Ok(())
+}
