@@ -5,7 +5,7 @@ ghost use Rattle.std.specs.Prelude.{◌≡◌, ◌-◌, [], ◌∷◌, ◌++◌,
 ghost use Rattle.std.specs.List.{list_all, list_any};
 ghost use Rattle.gtid_text.specs.Gtids.{same_gtid};
 ghost use Rattle.std.specs.FinSet as set;
-ghost use Rattle.journal.specs.Journals.{gtids_of, purged, whole};
+ghost use Rattle.journal.specs.Journals.{gtids_of, purged, whole, IsJournal};
 ghost use Rattle.journal.specs.Writing.{is_value_writable, is_image_writable, is_change_writable, is_txn_writable, is_writable, is_number};
 
 use gtid_set::{GtidSet, SetFault};
@@ -241,6 +241,14 @@ impl Journal {
         ensures { result.now ≡ self.now.entries }
     {
         &self.entries
+    }
+
+    /// A journal keeps to its rules: no GTID stands twice or in the previous set, and each entry can
+    /// be written. It does nothing; a proof calls it for its contract.
+    pub fn keeps_rules(&self)
+        ensures { IsJournal self.now.previous self.now.entries }
+    {
+        let _ = &self.entries;
     }
 
     /// How many entries there are.

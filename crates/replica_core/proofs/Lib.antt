@@ -7,3 +7,8 @@ pub mod Writable
 pub mod CommitLemmas
 pub mod RunLemmas
 pub mod ReceiveLemmas
+pub mod SeatLemmas
+pub mod LeastLemmas
+pub mod OwnedLemmas
+pub mod OrderLemmas
+pub mod TakeLemmas

@@ -12,12 +12,15 @@ use Rattle.journal.specs.declared.Entry.{Entry}
 use Rattle.journal.specs.Writing.{is_number}
 use Rattle.apply_channel.specs.Channels.{ChannelValue, with_received, received_as, is_full}
 use Rattle.replica_core.specs.declared.event.Reply.TheVariants as reply
-use Rattle.replica_core.specs.State.{Site, State}
+use Rattle.replica_core.specs.State.{Site, State, Seats}
 use Rattle.replica_core.specs.Machine.{Step, receive, changed_at, is_free, next_number}
 use Rattle.replica_core.specs.Kept.{ChannelsValue}
 use Rattle.replica_core.specs.Keyed.{changed, len_at, full_at}
+use Rattle.replica_core.specs.Seated.{AreSeated, IsUnowned}
 use Rattle.replica_core.specs.Core.{IsCore}
+use Rattle.replica_core.proofs.OwnerLemmas.{unowned_is}
 use Rattle.replica_core.proofs.KeptLemmas.{kept_entry, kept_received}
+use Rattle.replica_core.proofs.SeatLemmas.{seated_changed, keeps_front}
 
 -- ---- Receive
 
@@ -43,10 +46,11 @@ pub was_asked : (channel : ChannelValue) → is_none channel.asked ≡ false →
 was_asked channel h = some_of channel.asked h
 
 -- what is kept, with one entry more
-pub core_received : (schema : List Table) (channels new_channels : ChannelsValue) (executed : Gtids) (c : ℕ) (e : Entry) → IsCore schema channels executed → Fits schema e.txn → is_number e.gtid.number ≡ true → new_channels ≡ changed (changed_at c (with_received (received_as (set.contains executed e.gtid) e)) channels.list) channels → IsCore schema new_channels executed
-core_received schema channels new_channels executed c e core fits number more =
+pub core_received : (schema : List Table) (channels new_channels : ChannelsValue) (executed : Gtids) (seats : Seats) (c : ℕ) (e : Entry) → IsCore schema channels executed seats → Fits schema e.txn → is_number e.gtid.number ≡ true → new_channels ≡ changed (changed_at c (with_received (received_as (set.contains executed e.gtid) e)) channels.list) channels → IsCore schema new_channels executed seats
+core_received schema channels new_channels executed seats c e core fits number more =
     let kept = kept_received schema executed c (received_as (set.contains executed e.gtid) e) channels.list (kept_entry schema executed e fits number) core.kept in
-    subst (λ (v : ChannelsValue). IsCore schema v executed) (sym more) (record { same = core.same; kept = kept })
+    let seated = seated_changed (with_received (received_as (set.contains executed e.gtid) e)) c channels.list seats (keeps_front (received_as (set.contains executed e.gtid) e)) core.seated in
+    subst (λ (v : ChannelsValue). IsCore schema v executed seats) (sym more) (record { same = core.same; kept = kept; seated = seated })
 
 -- ---- Local
 
@@ -84,6 +88,20 @@ front false b h = refl
 -- the least free number is not executed
 pub next_is_new : (site : Site) (s : State) (n : ℕ) → next_number site s ≡ Some n → set.contains s.executed (gtid site.own n) ≡ false
 next_is_new site s n at = front (set.contains s.executed (gtid site.own n)) _ (least_passes (is_free site s) n at)
+
+none_by : (a b : Bool) → (not a && b) ≡ true → b ≡ true
+none_by true b h = absurd (cc h)
+none_by false b h = h
+
+is_none_of : (o : Option ℕ) → is_none o ≡ true → o ≡ None
+is_none_of None h = refl
+is_none_of (Some n) h = absurd (cc h)
+
+-- and no seat has a place of it
+pub next_is_unowned : (site : Site) (s : State) (n own : ℕ) → own ≡ site.own → next_number site s ≡ Some n → AreSeated s.channels s.seats → IsUnowned s.channels s.seats (gtid own n)
+next_is_unowned site s n own same at seated =
+    subst (λ (o : ℕ). IsUnowned s.channels s.seats (gtid o n)) (sym same)
+    (unowned_is s (gtid site.own n) (is_none_of _ (none_by (set.contains s.executed (gtid site.own n)) _ (least_passes (is_free site s) n at))) seated)
 
 -- a reference that is there points to something
 pub there_is : {X : Type 0} (o : Option (Bor X)) (b : Bool) → is_some o ≡ not b → b ≡ false → is_none (option_copied o) ≡ false

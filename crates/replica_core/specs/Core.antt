@@ -4,7 +4,8 @@ use Rattle.rows.specs.declared.schema.Table.{Table}
 use Rattle.rows.specs.Database.{Database}
 use Rattle.rows.specs.declared.change.Transaction.{Transaction}
 use Rattle.gtid_set.specs.Sets.{Gtids}
-use Rattle.replica_core.specs.State.{State, Replica, entry_at}
+use Rattle.replica_core.specs.State.{State, Seats, Replica, entry_at}
+use Rattle.replica_core.specs.Seated.{AreSeated, MayHave}
 use Rattle.replica_core.specs.Kept.{ChannelsValue, IsKept, AreKept}
 use Rattle.replica_core.specs.Machine.{Step, opening, is_seat, take_place, taking}
 use Rattle.gtid_text.specs.declared.Gtid.{Gtid}
@@ -13,9 +14,10 @@ use Rattle.replica_core.specs.declared.event.Reply.{Reply}
 use Rattle.replica_core.specs.declared.event.Reply.TheVariants.{Taken}
 
 -- what a replica keeps
-pub record IsCore (schema : List Table) (channels : ChannelsValue) (executed : Gtids) : Type 0 where
+pub record IsCore (schema : List Table) (channels : ChannelsValue) (executed : Gtids) (seats : Seats) : Type 0 where
   pub same : channels.schema ≡ schema
   pub kept : AreKept schema executed channels.list
+  pub seated : AreSeated channels.list seats
 
 -- a replica with these rows and nothing else
 abbrev pub opened : ℕ → Database → Replica
@@ -33,7 +35,7 @@ pub record IsAtCore (r : Replica) (channel : ℕ) (k : Keyed) : Type 0 where
 -- a Take that takes this GTID
 abbrev pub Takes : Replica → ℕ → ℕ → ℕ → Gtid → Type 0
 Takes r seat channel place g =
-    (take_place r.site seat channel place r.state ≡ (Taken g, taking seat channel place r.state)) × (is_seat seat ≡ true)
+    (take_place r.site seat channel place r.state ≡ (Taken g, taking seat channel place r.state)) × (is_seat seat ≡ true) × MayHave r.state.channels r.state.seats (record { channel = channel; place = place })
 
 -- an event that changes nothing, with this reply
 abbrev pub Refuses : (State → Step) → Replica → Reply → Type 0

@@ -3,7 +3,9 @@ pub mod Slots
 pub mod Kept
 pub mod Keyed
 pub mod Machine
+pub mod Seated
 pub mod Core
 pub mod Committing
 pub mod Ready
 pub mod Replies
+pub mod Laws

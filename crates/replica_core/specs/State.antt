@@ -1,6 +1,6 @@
 -- The state of a replica.
 use Rattle.std.specs.Prelude.{ℕ, Bool, false, List, Option, slice_get, find, option_map, option_and_then}
-use Rattle.std.specs.List.{range_with_len}
+use Rattle.std.specs.List.{range_with_len, filter_map}
 use Rattle.std.specs.Option.{option_map_or}
 use Rattle.std.specs.Ordering.{nat_cmp}
 use Rattle.std.specs.FinMap as map
@@ -55,3 +55,11 @@ seat_numbers = range_with_len 1 64
 -- the seat that owns a GTID
 abbrev pub owner : State → Gtid → Option ℕ
 owner s gtid = find (owns s gtid) seat_numbers
+
+-- a seat with the GTID that it owns
+abbrev pub with_gtid : State → ℕ → Option (ℕ × Gtid)
+with_gtid s seat = option_map (λ g. (seat, g)) (owned_by s seat)
+
+-- what the seats own, seats rising
+abbrev pub owned : State → List (ℕ × Gtid)
+owned s = filter_map (with_gtid s) seat_numbers

@@ -7,7 +7,7 @@ ghost use Rattle.replica_core.specs.Committing.{IsCommittable, Executes, Refused
 ghost use Rattle.replica_core.specs.Ready.{IsReady};
 
 use crate::event::{Reply, Spot};
-use crate::machine::{Core, is_seat};
+use crate::machine::{Core, free, is_seat};
 use apply_channel::Channel;
 use gtid_set::SetFault;
 use gtid_text::Gtid;
@@ -67,16 +67,18 @@ impl Core {
         Ok(Ok(Ready { spot, entry, txn }))
     }
 
-    /// Executes an entry, or says why its transaction does not apply; then nothing has changed.
+    /// Executes an entry and lets go of the seat that had it, or says why its transaction does not
+    /// apply; then nothing has changed.
     pub(crate) fn execute(
         &mut self,
         alloc: Global,
+        freed: Option<u8>,
         entry: Entry,
         txn: &Transaction,
     ) -> Result<Result<(), RowFault>, SetFault>
-        requires may { IsCommittable self.old entry }
+        requires may { IsCommittable self.old freed entry }
         requires same { txn.now ≡ entry.txn }
-        ensures ok { IfOk result (λ r. MatchResult r (λ done. Executes self.old entry self.new) (RefusedBy self.old entry self.new)) }
+        ensures ok { IfOk result (λ r. MatchResult r (λ done. Executes self.old freed entry self.new) (RefusedBy self.old entry self.new)) }
         ensures err { OnErr result (self.new ≡ self.old) }
     {
         let gtid = entry.gtid;
@@ -85,6 +87,7 @@ impl Core {
         match self.rows.apply(alloc, txn) {
             Ok(()) => {
                 self.channels.mark_executed(&gtid);
+                free(&mut self.seats, freed);
                 return Ok(Ok(()));
             }
             Err(ApplyFault::Row(fault)) => {
@@ -108,11 +111,8 @@ impl Core {
     {
         let Ready { spot, entry, txn } = ready;
         let gtid = entry.gtid;
-        match self.execute(alloc, entry, &txn) {
-            Ok(Ok(())) => {
-                self.clear_seat(seat);
-                return Ok(Reply::Committed(gtid));
-            }
+        match self.execute(alloc, Some(seat), entry, &txn) {
+            Ok(Ok(())) => return Ok(Reply::Committed(gtid)),
             Ok(Err(fault)) => {
                 self.clear_seat(seat);
                 self.stop(spot.channel);

@@ -5,6 +5,7 @@ mod channels;
 mod commit;
 mod event;
 mod feed;
+pub mod laws;
 mod local;
 mod machine;
 mod query;

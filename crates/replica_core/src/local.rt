@@ -23,11 +23,14 @@ impl Core {
         !self.executed().contains(&gtid) && self.owner(&gtid).is_none()
     }
 
-    /// The least such number.
+    /// The least such number: the least one that is not executed, or else the next that is free.
     fn next_number(&self) -> Option<u64>
         ensures { result ≡ next_number self.now.site self.now.state }
     {
-        for number in 1..9_223_372_036_854_775_808u64 {
+        let Some(first) = self.executed().least_unused(self.own) else {
+            return None;
+        };
+        for number in first..9_223_372_036_854_775_808u64 {
             if self.is_free(number) {
                 return Some(number);
             }
@@ -67,7 +70,7 @@ impl Core {
             txn: txn.clone()?,
         };
         let gtid = entry.gtid;
-        match self.execute(alloc, entry, txn) {
+        match self.execute(alloc, None, entry, txn) {
             Ok(Ok(())) => return Ok(Reply::Committed(gtid)),
             Ok(Err(fault)) => return Ok(Reply::LocalRefused(fault)),
             Err(fault) => return Err(fault),

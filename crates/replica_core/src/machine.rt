@@ -4,6 +4,7 @@ ghost use Rattle.std.specs.FinMap as finmap;
 ghost use Rattle.replica_core.specs.State.{gtid_at, owned_by, owner, owns};
 ghost use Rattle.replica_core.specs.Slots.{seats_of};
 ghost use Rattle.replica_core.specs.Core.{opened};
+ghost use Rattle.replica_core.specs.Seated.{MayHave, IsFreeable, freed_of};
 ghost use Rattle.replica_core.specs.Machine.{drained, is_seat, taking, without_seat, stopping};
 
 use crate::channels::Channels;
@@ -50,7 +51,7 @@ impl Model for Core {
       };
     } };
 
-    ghost invariant = { λ c. IsCore c.rows.schema c.channels (whole c.journal.journal) };
+    ghost invariant = { λ c. IsCore c.rows.schema c.channels (whole c.journal.journal) (seats_of c.seats) };
 }
 
 /// Whether a seat is one of the 64.
@@ -58,6 +59,16 @@ pub(crate) fn is_seat(seat: u8) -> bool
     ensures { result ≡ is_seat seat }
 {
     1 <= seat && seat <= 64
+}
+
+/// Lets go of a seat's place, where one is named.
+pub(crate) fn free(seats: &mut [Option<Spot>; 64], freed: Option<u8>)
+    requires { IsFreeable freed }
+    ensures { seats_of seats.new ≡ freed_of freed (seats_of seats.old) }
+{
+    if let Some(seat) = freed {
+        seats[seat as usize - 1] = None;
+    }
 }
 
 /// No seat has taken a place.
@@ -119,6 +130,7 @@ impl Core {
     pub(crate) fn put_seat(&mut self, seat: u8, spot: Spot)
         requires low { 1 ≤ seat }
         requires high { seat ≤ 64 }
+        requires may { MayHave self.old.state.channels self.old.state.seats spot }
         ensures state { self.new.state ≡ taking seat spot.channel spot.place self.old.state }
         ensures site { self.new.site ≡ self.old.site }
     {

@@ -1,6 +1,8 @@
 //! What a replica shows.
 ghost use Rattle.std.specs.Prelude.{◌≡◌, IfOk, MatchOption, option_map, slice_get, None};
 ghost use Rattle.std.specs.Option.{option_copied};
+ghost use Rattle.replica_core.specs.State.{owned};
+ghost use Rattle.replica_core.specs.Seated.{AreSeated};
 ghost use Rattle.replica_core.specs.Machine.{ask};
 ghost use Rattle.replica_core.specs.Core.{IsAtCore, IsNotAtCore, IsEntryAt, IsNoEntry};
 
@@ -10,7 +12,7 @@ use gtid_set::{GtidSet, SetFault};
 use gtid_text::Gtid;
 use relay::OwnJournal;
 use rows::Transaction;
-use std::alloc::Global;
+use std::alloc::{AllocError, Global};
 
 impl Core {
     /// The purged set: the executed GTIDs that no entry of the own journal has any more.
@@ -56,5 +58,25 @@ impl Core {
             return None;
         };
         Some((gtid, txn))
+    }
+
+    /// What the seats own: each busy seat with its GTID, seats rising.
+    pub fn owned(&self, alloc: Global) -> Result<Vec<(u8, Gtid)>, AllocError>
+        ensures { IfOk result (λ pairs. pairs.items ≡ owned self.now.state) }
+    {
+        let mut owned = Vec::new(alloc);
+        for seat in 1..65u8 {
+            if let Some(gtid) = self.owned_by(seat) {
+                owned.push((seat, gtid))?;
+            }
+        }
+        Ok(owned)
+    }
+
+    /// A busy seat is one of the 64 and its place has its transaction, and no GTID is at two seats.
+    pub fn one_seat_each(&self)
+        ensures { AreSeated self.now.state.channels self.now.state.seats }
+    {
+        let _ = self.kept_channel(0);
     }
 }

@@ -1,5 +1,5 @@
 //! One event, and events in turn.
-ghost use Rattle.std.specs.Prelude.{◌≡◌, ◌<◌, ◌∷◌, [], ◌++◌, IfOk, OnErr, None, true, length, vec_len, vec_capacity};
+ghost use Rattle.std.specs.Prelude.{◌≡◌, ◌<◌, ◌∷◌, [], ◌++◌, IfOk, IfSome, OnErr, None, true, length, vec_len, vec_capacity};
 ghost use Rattle.replica_core.specs.Machine.{purge, look, step, is_numbered, AreNumbered, replies, after};
 ghost use Rattle.replica_core.specs.Replies.{answered};
 
@@ -72,6 +72,7 @@ impl Core {
         ensures told { result.0.items ≡ replies self.old.site self.old.state (answered result.0.items events.now) }
         ensures state { self.new.state ≡ after self.old.site self.old.state (answered result.0.items events.now) }
         ensures whole { result.1 ≡ None → length result.0.items ≡ length events.now }
+        ensures cut { IfSome result.1 (λ fault. length result.0.items < length events.now) }
         ensures site { self.new.site ≡ self.old.site }
     {
         let mut told = Vec::new(alloc);

@@ -3,6 +3,7 @@ ghost use Rattle.std.specs.Prelude.{◌≡◌, MatchResult, MatchOption, IfSome,
 ghost use Rattle.replica_core.specs.declared.event.Reply.TheVariants.{Taken};
 ghost use Rattle.replica_core.specs.Machine.{is_seat, take_place, taking};
 ghost use Rattle.replica_core.specs.Kept.{IsKept};
+ghost use Rattle.replica_core.specs.Seated.{AreSeated};
 ghost use Rattle.replica_core.specs.Core.{IsNotAtCore, IsAtCore, Takes, Refuses};
 
 use crate::event::{Reply, Spot};
@@ -13,7 +14,8 @@ use gtid_text::Gtid;
 impl Core {
     /// The channel of a number, with what the replica keeps of it.
     pub(crate) fn kept_channel(&self, channel: usize) -> Option<&Channel>
-        ensures { MatchOption result (IsNotAtCore self.now channel) (λ k. IsAtCore self.now channel k.now) }
+        ensures found { MatchOption result (IsNotAtCore self.now channel) (λ k. IsAtCore self.now channel k.now) }
+        ensures seated { AreSeated self.now.state.channels self.now.state.seats }
     {
         let _ = &self.own;
         self.channels.get(channel)

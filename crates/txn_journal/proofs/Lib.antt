@@ -1,3 +1,17 @@
 pub mod Cuts
 pub mod Seen
 pub mod LineCuts
+pub mod Pieces
+pub mod NameLemmas
+pub mod ValueSteps
+pub mod WholeReads
+pub mod ImageLaws
+pub mod LineReads
+pub mod SoundLines
+pub mod GtidLaws
+pub mod SetLaws
+pub mod WholeLines
+pub mod CauseLines
+pub mod TellLines
+pub mod DecodedLines
+pub mod TakenLines

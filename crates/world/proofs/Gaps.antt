@@ -151,7 +151,7 @@ module _ (schema : List Table) (opened : Gtids) (rows : Rows) (journals : List J
     outside : (g : Gtid) (t : Transaction) → content w g ≡ Some t → is_opened w g ≡ false
     outside g t h = contents_outside opened (all_entries journals) g t h
 
-    content_here : (i : ℕ) (j : JournalValue) (k : ℕ) (e : Entry) → slice_get journals i ≡ Some j → slice_get j.entries k ≡ Some e → is_opened w e.gtid ≡ false → content w e.gtid ≡ Some e.txn
+    pub content_here : (i : ℕ) (j : JournalValue) (k : ℕ) (e : Entry) → slice_get journals i ≡ Some j → slice_get j.entries k ≡ Some e → is_opened w e.gtid ≡ false → content w e.gtid ≡ Some e.txn
     content_here i j k e hj he out =
         let test : is_unequal w e ≡ false = when_none (is_unequal w e) (Unequal e.gtid) (first_none _ j.entries (first_none _ journals equal i j hj) k e he) in
         content_is_by e.txn (content w e.gtid) (is_true (is_content w e) (λ no.
@@ -211,7 +211,7 @@ module _ (schema : List Table) (opened : Gtids) (rows : Rows) (journals : List J
           and_false true b x y = y
           and_false false b x y = cc
 
-      nothing_left_out : least_left_out w j place e ≡ None
+      pub nothing_left_out : least_left_out w j place e ≡ None
       nothing_left_out = none_first _ (finmap.entries w.contents) (λ l h hl. none_when (is_left_out w j place e h) (NotClosed e.gtid h.0) (is_false (is_left_out w j place e h) (λ t.
           let a = and_both (not (is_opened w e.gtid)) _ t in
           let b = and_both (h.0.source == e.gtid.source) _ a.1 in
@@ -224,7 +224,7 @@ module _ (schema : List Table) (opened : Gtids) (rows : Rows) (journals : List J
     of_journal : (i : ℕ) (j : JournalValue) → slice_get journals i ≡ Some j → first_at (least_left_out w j) j.entries ≡ first_at (λ place e. cond (has_gap w j place e) (least_left_out w j place e) None) j.entries
     of_journal i j hj = guarded (least_left_out w j) (has_gap w j) j.entries (λ place e he before shut. nothing_left_out i j hj place e he before shut)
 
-firsts_same : (f g : JournalValue → Option Verdict) (js : List JournalValue) → ((i : ℕ) (j : JournalValue) → slice_get js i ≡ Some j → f j ≡ g j) → first f js ≡ first g js
+pub firsts_same : (f g : JournalValue → Option Verdict) (js : List JournalValue) → ((i : ℕ) (j : JournalValue) → slice_get js i ≡ Some j → f j ≡ g j) → first f js ≡ first g js
 firsts_same f g [] h = refl
 firsts_same f g (j ∷ js) h = λ i. or_next (h zero j refl i) (firsts_same f g js (λ k x e. h (suc k) x e) i)
 

@@ -1,11 +1,25 @@
-use Rattle.std.proofs.Common.{◌≡◌, ap, ◌∙◌, rules, arith, ◌<◌, ◌-◌, ◌+◌, length}
+use Rattle.std.proofs.Common.{◌≡◌, sym, ap, subst, ◌∙◌, rules, arith, ◌<◌, ◌-◌, ◌+◌, length}
 use Rattle.std.specs.FinMap as finmap
 use Rattle.journal.specs.Journals.{whole}
 use Rattle.replica_core.specs.Machine.{without_seat}
 use Rattle.replica_core.specs.State.{Seats, State, Replica}
 use Rattle.replica_core.specs.Slots.{seats_of}
+use Rattle.replica_core.specs.Seated.{AreSeated}
+use Rattle.replica_core.proofs.SeatLemmas.{seated_cleared}
 use Rattle.replica_core.proofs.SlotLemmas.{seats_of-clear}
 use Rattle.replica_core.proofs.machine.Core.clear_seat.Goals as goal
+
+pub invariant_of-self : goal.invariant_of-self
+invariant_of-self c =
+    let core = c.self.inside in
+    let low = c.requires.low in
+    let there : c.args.seat - 1 < length core.seats = search rules in
+    let seats = seats_of-clear core.seats (c.args.seat - 1) there in
+    record {
+      same = c.self.invariant.same;
+      kept = c.self.invariant.kept;
+      seated = subst (AreSeated core.channels.list) (sym seats) (seated_cleared core.channels.list (seats_of core.seats) (c.args.seat - 1 + 1) c.self.invariant.seated);
+    }
 
 pub returns-clause-state : goal.returns-clause-state
 returns-clause-state c =

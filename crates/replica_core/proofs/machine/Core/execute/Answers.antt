@@ -1,9 +1,10 @@
-use Rattle.std.proofs.Common.{◌&&◌, ap, subst, ◌∙◌}
+use Rattle.std.proofs.Common.{◌&&◌, sym, ap, subst, ◌∙◌}
 use Rattle.rows.specs.Tables.{AreTables}
 use Rattle.replica_core.specs.State.{Replica}
 use Rattle.replica_core.proofs.Writable.{fits_writable}
 use Rattle.replica_core.proofs.CommitLemmas.{core_executed, executed_is}
 use Rattle.replica_core.specs.Slots.{seats_of}
+use Rattle.replica_core.specs.Seated.{IsUnowned, freed_of}
 use Rattle.replica_core.specs.Committing.{Executes}
 use Rattle.replica_core.proofs.CoreLemmas.{replica_of}
 use Rattle.replica_core.proofs.machine.Core.execute.Goals as goal
@@ -16,10 +17,13 @@ append-requires-clause-writable c =
     λ i. c.requires.may.number i && fits_writable c.args.self.now.site.schema e.txn tables c.requires.may.fits i
 
 pub invariant_of-self-in-Ok : goal.invariant_of-self-in-Ok
-invariant_of-self-in-Ok c = core_executed c.args.entry c.self.inside.rows c.apply.new.self c.self.inside.channels c.mark_executed.new.self c.self.inside.journal.journal c.append.new.self.journal c.self.invariant c.in-Ok.ensures.same c.mark_executed.ensures c.in_ok-append.ensures.ok
+invariant_of-self-in-Ok c =
+    let core = c.self.inside in
+    let alone = subst (λ (r : Replica). IsUnowned r.state.channels (freed_of c.args.freed r.state.seats) c.args.entry.gtid) (sym c.self.view_is) c.requires.may.alone in
+    core_executed c.args.entry core.rows c.apply.new.self core.channels c.mark_executed.new.self (seats_of core.seats) (seats_of c.free.new.seats) c.args.freed core.journal.journal c.append.new.self.journal c.self.invariant alone c.free.ensures c.in-Ok.ensures.same c.mark_executed.ensures c.in_ok-append.ensures.ok
 
 pub returns-in-Ok-clause-ok : goal.returns-in-Ok-clause-ok
 returns-in-Ok-clause-ok c =
     let core = c.self.inside in
-    let done = executed_is c.args.entry core.own core.rows c.apply.new.self (seats_of core.seats) core.channels c.mark_executed.new.self core.journal.journal c.append.new.self.journal c.args.txn.now c.requires.same c.in-Ok.ensures.ok c.in-Ok.ensures.same c.mark_executed.ensures c.in_ok-append.ensures.ok in
-    subst (λ (r : Replica). Executes r c.args.entry (replica_of core.own c.apply.new.self (seats_of core.seats) c.mark_executed.new.self.list c.append.new.self.journal)) c.self.view_is done
+    let done = executed_is c.args.entry core.own core.rows c.apply.new.self (seats_of core.seats) (seats_of c.free.new.seats) c.args.freed core.channels c.mark_executed.new.self core.journal.journal c.append.new.self.journal c.args.txn.now c.requires.same c.in-Ok.ensures.ok c.in-Ok.ensures.same c.mark_executed.ensures c.in_ok-append.ensures.ok c.free.ensures in
+    subst (λ (r : Replica). Executes r c.args.freed c.args.entry (replica_of core.own c.apply.new.self (seats_of c.free.new.seats) c.mark_executed.new.self.list c.append.new.self.journal)) c.self.view_is done

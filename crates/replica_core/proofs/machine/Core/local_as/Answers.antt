@@ -5,7 +5,8 @@ use Rattle.rows.specs.declared.change.Transaction.{Transaction}
 use Rattle.rows.specs.Fits.{Fits}
 use Rattle.replica_core.specs.State.{Replica}
 use Rattle.replica_core.specs.Machine.{is_free}
-use Rattle.replica_core.proofs.ReceiveLemmas.{next_is_new, least_is_number}
+use Rattle.replica_core.specs.Seated.{AreSeated}
+use Rattle.replica_core.proofs.ReceiveLemmas.{next_is_new, next_is_unowned, least_is_number}
 use Rattle.replica_core.proofs.machine.Core.local_as.Goals as goal
 
 pub execute-requires-clause-may : goal.execute-requires-clause-may
@@ -13,9 +14,12 @@ execute-requires-clause-may c =
     let r = c.args.self.now in
     let own = ap (λ (r : Replica). r.site.own) c.self.view_is in
     let new = next_is_new r.site r.state c.args.number c.requires.may in
+    let seated = subst (λ (r : Replica). AreSeated r.state.channels r.state.seats) c.self.view_is c.self.invariant.seated in
     let txn = c.in_ok-clone.ensures.cases in
     record {
       new = ap (λ o. set.contains r.state.executed (gtid o c.args.number)) own ∙ new;
       fits = subst (λ (t : Transaction). Fits r.site.schema t) (sym txn) c.requires.fits;
       number = least_is_number (is_free r.site r.state) c.args.number c.requires.may;
+      seat = tt;
+      alone = next_is_unowned r.site r.state c.args.number c.self.inside.own own c.requires.may seated;
     }

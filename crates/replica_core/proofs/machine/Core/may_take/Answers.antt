@@ -2,13 +2,16 @@ use Rattle.std.proofs.Common.{sym, ap, ◌∙◌, rules, arith, List}
 use Rattle.std.proofs.lemmas.Grind.{common_steps}
 use Rattle.rows.specs.declared.schema.Table.{Table}
 use Rattle.apply_channel.specs.Channels.{blocker}
+use Rattle.std.specs.FinSet as set
+use Rattle.gtid_set.specs.Sets.{Gtids}
 use Rattle.replica_core.proofs.KeptLemmas.{blocker_is}
+use Rattle.replica_core.proofs.TakeLemmas.{may_have}
 use Rattle.replica_core.proofs.machine.Core.may_take.Goals as goal
 
 pub returns-in-Some-blocker : goal.returns-in-Some-blocker
 returns-in-Some-blocker c =
     let r = c.args.self.now in
-    let at = c.in-Some-kept_channel.ensures in
+    let at = c.in-Some-kept_channel.ensures.found in
     let channel = c.in-Some-kept_channel.from.now.channel in
     let way = blocker_is r.site.schema r.state channel c.args.place _ at.kept c.in-Some-entry.ensures in
     let found = sym way ∙ ap (λ (schema : List Table). blocker schema channel.received c.args.place) (sym at.schema) ∙ sym c.blocker.ensures ∙ c.in-Some-blocker.is in
@@ -17,8 +20,10 @@ returns-in-Some-blocker c =
 pub returns : goal.returns
 returns c =
     let r = c.args.self.now in
-    let at = c.in-Some-kept_channel.ensures in
+    let at = c.in-Some-kept_channel.ensures.found in
     let channel = c.in-Some-kept_channel.from.now.channel in
     let way = blocker_is r.site.schema r.state channel c.args.place _ at.kept c.in-Some-entry.ensures in
     let found = sym way ∙ ap (λ (schema : List Table). blocker schema channel.received c.args.place) (sym at.schema) ∙ sym c.blocker.ensures ∙ c.in_default-blocker.is in
-    (grind (arith, common_steps, found), search rules)
+    let new = ap (λ (s : Gtids). set.contains s c.in-Some-entry.gtid) (sym c.executed.ensures) ∙ sym c.contains.ensures ∙ c.if-contains.false in
+    let may = may_have r c.args.channel c.args.place channel _ at.value c.in-Some-entry.ensures at.kept new (sym c.owner.ensures ∙ c.in_default-owner.is) c.kept_channel.ensures.seated in
+    (grind (arith, common_steps, found), search rules, may)

@@ -1,3 +1,6 @@
+use Rattle.apply_channel.specs.Channels.{with_asked}
+use Rattle.replica_core.specs.Slots.{seats_of}
+use Rattle.replica_core.proofs.SeatLemmas.{seated_changed}
 use Rattle.journal.specs.Journals.{whole}
 use Rattle.replica_core.proofs.KeptLemmas.{kept_asked}
 use Rattle.replica_core.proofs.machine.Core.position.Goals as goal
@@ -6,4 +9,5 @@ pub invariant_of-self : goal.invariant_of-self
 invariant_of-self c =
     let core = c.self.inside in
     let kept = kept_asked core.rows.schema (whole core.journal.journal) c.args.channel c.in_ok-asked.asked core.channels.list c.self.invariant.kept in
-    rw c.set_ask.ensures (record { same = c.self.invariant.same; kept = kept })
+    let seated = seated_changed (with_asked c.in_ok-asked.asked) c.args.channel core.channels.list (seats_of core.seats) (λ x i e at. at) c.self.invariant.seated in
+    rw c.set_ask.ensures (record { same = c.self.invariant.same; kept = kept; seated = seated })

@@ -22,7 +22,7 @@ invariant_of-self c =
     let known = c.contains-executed.ensures ∙ ap (λ (s : Gtids). set.contains s e.gtid) c.executed.ensures in
     let put = c.in-Ok.ensures.put ∙ ap (λ b. changed (changed_at c.args.channel (with_received (received_as b e)) core.channels.list) core.channels) known in
     let fits = ap (λ (schema : List Table). misfit schema e.txn) (sym c.schema.ensures.value) ∙ c.in_default-fits.ensures.ok in
-    core_received core.rows.schema core.channels c.receive.new.self (whole core.journal.journal) c.args.channel e c.self.invariant fits c.requires put
+    core_received core.rows.schema core.channels c.receive.new.self (whole core.journal.journal) (seats_of core.seats) c.args.channel e c.self.invariant fits c.requires put
 
 pub returns-in-Ok-clause-ok : goal.returns-in-Ok-clause-ok
 returns-in-Ok-clause-ok c =

@@ -1,0 +1,4 @@
+pub mod Sent
+pub mod Faithful
+pub mod Served
+pub mod Whole
