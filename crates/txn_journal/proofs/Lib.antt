@@ -15,3 +15,4 @@ pub mod CauseLines
 pub mod TellLines
 pub mod DecodedLines
 pub mod TakenLines
+pub mod WriteLemmas
