@@ -1,1 +1,5 @@
 pub mod Slots
+pub mod Nodes
+pub mod LastPlaces
+pub mod Table
+pub mod Receiving

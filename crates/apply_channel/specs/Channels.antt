@@ -1,5 +1,5 @@
 -- A channel: what a replica has received from one source, in places from 0. (MySQL 8.0 Reference Manual, "MySQL Multi-Source Replication".)
-use Rattle.std.specs.Prelude.{◌≡◌, ℕ, Bool, false, ◌&&◌, nat_le, cond, List, [], ◌∷◌, ◌++◌, Option, Some, None, map, take, length, slice_get, position, find, is_none, is_some, option_and_then, if◌then◌else◌}
+use Rattle.std.specs.Prelude.{◌≡◌, ℕ, zero, suc, Bool, false, ◌&&◌, nat_le, cond, List, [], ◌∷◌, ◌++◌, Option, Some, None, map, take, length, slice_get, position, find, is_none, is_some, option_and_then, if◌then◌else◌}
 use Rattle.std.specs.List.{list_all, range_with_len}
 use Rattle.std.specs.Option.{option_map_or}
 use Rattle.std.specs.Ordering.{nat_cmp, eq_by_cmp}
@@ -73,9 +73,23 @@ are_settled received = list_all (λ e. is_none e.txn) received
 abbrev pub settle : Gtid → Received → Received
 settle gtid e = cond (same_gtid e.gtid gtid) (record e { txn = None }) e
 
+-- the list with the element at a place changed
+abbrev pub map_at : {X : Type 0} → ℕ → (X → X) → List X → List X
+map_at n f [] = []
+map_at zero f (x ∷ xs) = f x ∷ xs
+map_at (suc n) f (x ∷ xs) = x ∷ map_at n f xs
+
 -- a channel once a GTID is executed
 abbrev pub settled : Gtid → ChannelValue → ChannelValue
 settled gtid c = record c { received = map (settle gtid) c.received }
+
+-- an entry without its transaction
+abbrev pub executed_one : Received → Received
+executed_one e = record e { txn = None }
+
+-- a channel once the entry at a place is executed
+abbrev pub settled_at : ℕ → ChannelValue → ChannelValue
+settled_at place c = record c { received = map_at place executed_one c.received }
 
 -- a channel with one entry more
 abbrev pub with_received : Received → ChannelValue → ChannelValue

@@ -1,13 +1,15 @@
 -- How a channel keeps what it has received.
-use Rattle.std.specs.Prelude.{◌≡◌, All, Bool, ◌&&◌, cond, is_some, is_none, List, Option, Some, None, map}
-use Rattle.std.specs.List.{list_any}
+use Rattle.std.specs.Prelude.{◌≡◌, ◌<◌, ℕ, Bool, true, false, ◌&&◌, is_some, is_none, IsSome, length, List, [], ◌∷◌, Option, Some, None, map, slice_get}
+use Rattle.std.specs.BTreeMap as tree
+use Rattle.std.specs.Option.{unwrap_or, option_map_or}
 use Rattle.rows.specs.declared.schema.Table.{Table}
 use Rattle.rows.specs.declared.change.Key.{Key}
 use Rattle.rows.specs.declared.change.Transaction.{Transaction}
-use Rattle.rows.specs.WriteSet.{is_among, write_set}
+use Rattle.rows.specs.WriteSet.{is_among, touches}
 use Rattle.gtid_text.specs.declared.Gtid.{Gtid}
-use Rattle.gtid_text.specs.Gtids.{same_gtid}
+use Rattle.gtid_text.specs.Gtids.{gtid_cmp, same_gtid}
 use Rattle.gtid_set.specs.Sets.{Gtids}
+use Rattle.dependency_graph.specs.Graphs.{Point}
 use Rattle.apply_channel.specs.declared.slot.Slot.{Slot}
 use Rattle.apply_channel.specs.Channels.{Received, received_gtids}
 
@@ -18,31 +20,55 @@ received_of slot = record { gtid = slot.gtid; txn = slot.txn }
 abbrev pub entries_of : List Slot → List Received
 entries_of slots = map received_of slots
 
--- a slot that is not executed
-abbrev pub is_open : Slot → Bool
-is_open slot = is_some slot.txn
-
--- ... and one that is
-abbrev pub is_settled : Slot → Bool
-is_settled slot = is_none slot.txn
-
--- a key of one that is among those of the other
-abbrev pub have_common : List Key → List Key → Bool
-have_common a b = list_any (is_among b) a
-
--- a slot that is not executed and has one of these keys
-abbrev pub slot_holds_back : List Key → Slot → Bool
-slot_holds_back keys slot = is_some slot.txn && have_common slot.keys keys
-
--- a slot once a GTID is executed
-abbrev pub settle_slot : Gtid → Slot → Slot
-settle_slot gtid slot = cond (same_gtid slot.gtid gtid) (record slot { txn = None }) slot
-
+-- the keys that a transaction touches; of an executed one any
 abbrev pub AreKeysOf : List Table → List Key → Option Transaction → Type 0
 AreKeysOf schema keys None = Unit {0}
-AreKeysOf schema keys (Some txn) = keys ≡ write_set schema txn
+AreKeysOf schema keys (Some txn) = (k : Key) → is_among keys k ≡ touches schema txn k
 
--- each slot has the keys of its transaction, and the received set is that of the entries
-pub record IsKept (schema : List Table) (slots : List Slot) (received : Gtids) : Type 0 where
-  pub keys : All (λ (s : Slot). AreKeysOf schema s.keys s.txn) slots
+-- a node of an entry: finished where it is executed, and else with the keys of its transaction
+pub record IsNodeOf (schema : List Table) (p : Point) (e : Received) : Type 0 where
+  pub finished : p.finished ≡ is_none e.txn
+  pub keys : AreKeysOf schema p.keys e.txn
+
+-- each entry has its node
+abbrev pub AreNodesOf : List Table → List Point → List Received → Type 0
+AreNodesOf schema [] [] = Unit {0}
+AreNodesOf schema [] (e ∷ es) = ⊥
+AreNodesOf schema (p ∷ ps) [] = ⊥
+AreNodesOf schema (p ∷ ps) (e ∷ es) = IsNodeOf schema p e × AreNodesOf schema ps es
+
+-- an entry of a GTID that is not executed
+abbrev pub is_open_of : Gtid → Received → Bool
+is_open_of g e = is_some e.txn && same_gtid e.gtid g
+
+-- ... at a place
+abbrev pub is_open_at : Gtid → List Received → ℕ → Bool
+is_open_at g es place = option_map_or (is_open_of g) (slice_get es place) false
+
+-- the last place below this one where a GTID stands that is not executed
+abbrev pub IsLastOpen : List Received → Gtid → ℕ → Option ℕ → Type 0
+IsLastOpen es g end None = (i : ℕ) → i < end → is_open_at g es i ≡ false
+IsLastOpen es g end (Some place) = (place < end) × (is_open_at g es place ≡ true) × ((i : ℕ) → place < i → i < end → is_open_at g es i ≡ false)
+
+-- the last place of a GTID in the table of places
+abbrev pub place_of : tree.BTreeMap Gtid (Option ℕ) → Gtid → Option ℕ
+place_of places g = unwrap_or (tree.get gtid_cmp places g) None
+
+-- the GTID has an entry in the table
+abbrev pub HasPlace : tree.BTreeMap Gtid (Option ℕ) → Gtid → Type 0
+HasPlace places g = IsSome (tree.get gtid_cmp places g)
+
+-- each slot that is not executed knows the place before with its GTID
+abbrev pub AreLinked : List Slot → Type 0
+AreLinked slots = (i : ℕ) (s : Slot) → slice_get slots i ≡ Some s → is_some s.txn ≡ true → IsLastOpen (entries_of slots) s.gtid i s.earlier
+
+-- the table knows the last place of each GTID that is not executed
+abbrev pub AreLast : List Slot → (Gtid → Option ℕ) → Type 0
+AreLast slots last = (g : Gtid) → IsLastOpen (entries_of slots) g (length slots) (last g)
+
+-- each place has its node; the places of a GTID are linked; the received set is that of the entries
+pub record IsKept (schema : List Table) (slots : List Slot) (places : tree.BTreeMap Gtid (Option ℕ)) (graph : List Point) (received : Gtids) : Type 0 where
+  pub nodes : AreNodesOf schema graph (entries_of slots)
+  pub linked : AreLinked slots
+  pub last : AreLast slots (place_of places)
   pub gtids : received ≡ received_gtids (entries_of slots)

@@ -1,16 +1,20 @@
 //! A channel.
-ghost use Rattle.std.specs.Prelude.{◌≡◌, ◌≤◌, ◌<◌, ◌↔◌, ℕ, OnOk, OnErr, IfOk, Some, None, length, MatchOption, true, ◌==◌};
-ghost use Rattle.std.specs.Option.{option_copied};
+ghost use Rattle.std.specs.Prelude.{◌≡◌, ◌≤◌, ◌<◌, ◌↔◌, suc, OnOk, OnErr, IfOk, Some, None, length, MatchOption, true, false, ◌==◌};
+ghost use Rattle.std.specs.Option.{option_copied, option_map_or};
 ghost use Rattle.std.specs.FinSet as set;
-ghost use Rattle.apply_channel.specs.Channels.{opened, blocker, next_ready, first_waiting, are_settled, settled, received_gtids, IsPlace, IsNoPlace, is_full, with_stopped, with_asked, with_entry};
+ghost use Rattle.apply_channel.specs.Channels.{opened, blocker, next_ready, first_waiting, are_settled, settled, settled_at, received_gtids, IsPlace, IsNoPlace, is_full, with_stopped, with_asked, with_entry};
+ghost use Rattle.apply_channel.specs.Kept.{IsLastOpen};
 ghost use Rattle.apply_channel.specs.Full.{IsFull};
 
-use crate::slot::{Slot, are_settled, first_holding_back, first_open, new_slot, settle_slots};
+use crate::places::{last_place, open_place, put_node, put_place};
+use crate::slot::{Slot, copy_unless, keys_unless};
+use dependency_graph::Graph;
 use gtid_set::{GtidSet, SetFault};
 use gtid_text::Gtid;
 use journal::Entry;
 use rows::{Name, Schema, Transaction};
 use std::alloc::Global;
+use std::collections::BTreeMap;
 use std::marker::Model;
 use thiserror::Error;
 
@@ -38,6 +42,8 @@ pub struct Channel {
     stopped: bool,
     asked: Option<GtidSet>,
     slots: Vec<Slot>,
+    places: BTreeMap<Gtid, Option<usize>>,
+    graph: Graph,
     received: GtidSet,
 }
 
@@ -57,7 +63,7 @@ impl Model for Channel {
       channel = record { name = c.name; preserve = c.preserve; stopped = c.stopped; asked = c.asked; received = entries_of c.slots.items };
     } };
 
-    ghost invariant = { λ c. IsKept c.schema c.slots.items c.received };
+    ghost invariant = { λ c. IsKept c.schema c.slots.items c.places c.graph c.received };
 }
 
 impl Channel {
@@ -72,6 +78,8 @@ impl Channel {
             stopped: false,
             asked: None,
             slots: Vec::new(alloc),
+            places: BTreeMap::new(alloc),
+            graph: Graph::start(alloc),
             received: GtidSet::empty(alloc),
         }
     }
@@ -185,26 +193,67 @@ impl Channel {
 
     /// Puts an entry at the next place.
     fn put(&mut self, alloc: Global, entry: &Entry, executed: bool) -> Result<(), SetFault>
+        requires { is_full self.old.channel ≡ false }
         ensures put { OnOk result (self.new ≡ with_entry executed entry.now self.old) }
         ensures err { OnErr result (self.new ≡ self.old) }
     {
+        let keys = keys_unless(alloc, executed, &self.schema, &entry.txn)?;
+        let txn = copy_unless(executed, &entry.txn)?;
+        open_place(&mut self.places, &entry.gtid)?;
+        let earlier = last_place(&self.places, &entry.gtid);
         let place = self.slots.len();
-        let slot = new_slot(alloc, &self.schema, entry, executed)?;
-        self.slots.push(slot)?;
-        match self.received.add(entry.gtid) {
-            Ok(()) => Ok(()),
+        self.slots.push(Slot {
+            gtid: entry.gtid,
+            txn,
+            earlier,
+        })?;
+        match put_node(alloc, &mut self.graph, &mut self.received, keys, entry.gtid) {
+            Ok(()) => {}
             Err(fault) => {
                 self.slots.truncate(place);
-                Err(fault)
+                return Err(fault);
             }
         }
+        if executed {
+            self.graph.finish(place);
+            return Ok(());
+        }
+        put_place(&mut self.places, &entry.gtid, Some(place));
+        Ok(())
+    }
+}
+
+impl Channel {
+    /// Drops the transaction at the last place of a GTID that is not executed: the place of the GTID before that one.
+    fn settle(&mut self, gtid: &Gtid, place: usize) -> Option<usize>
+        requires { IsLastOpen self.old.channel.received gtid.now (length self.old.channel.received) (Some place) }
+        ensures settled { self.new ≡ record self.old { channel = settled_at place self.old.channel } }
+        ensures last { IsLastOpen self.new.channel.received gtid.now (length self.new.channel.received) result }
+        ensures below { option_map_or suc result 0 ≤ place }
+    {
+        let slot = &mut self.slots[place];
+        slot.txn = None;
+        let earlier = slot.earlier;
+        put_place(&mut self.places, gtid, earlier);
+        self.graph.finish(place);
+        earlier
+    }
+
+    /// The last place of a GTID that is not executed.
+    fn last_open(&self, gtid: &Gtid) -> Option<usize>
+        ensures { IsLastOpen self.now.channel.received gtid.now (length self.now.channel.received) result }
+    {
+        last_place(&self.places, gtid)
     }
 
     /// Drops the transactions of a GTID that is executed now, at all its places. Takes no memory.
     pub fn mark_executed(&mut self, gtid: &Gtid)
         ensures { self.new ≡ record self.old { channel = settled gtid.now self.old.channel } }
     {
-        settle_slots(&mut self.slots, gtid);
+        let mut next = self.last_open(gtid);
+        'settling: while let Some(place) = next {
+            next = self.settle(gtid, place);
+        }
     }
 
     /// The least earlier place that is not executed and shares a key with this one.
@@ -212,11 +261,17 @@ impl Channel {
         requires { place < length self.now.channel.received }
         ensures { result ≡ blocker self.now.schema self.now.channel.received place }
     {
-        let slot = &self.slots[place];
-        match &slot.txn {
-            Some(_) => first_holding_back(&self.slots[..place], slot.keys.as_slice()),
+        match &self.slots[place].txn {
+            Some(_) => self.graph.blocker(place),
             None => None,
         }
+    }
+
+    /// The least place from this number on that is not executed and that no earlier place holds back.
+    pub fn next_ready(&self, from: usize) -> Option<usize>
+        ensures { result ≡ next_ready self.now.schema self.now.channel.received from }
+    {
+        self.graph.next_ready(from)
     }
 
     /// The least earlier place that is not executed.
@@ -224,13 +279,19 @@ impl Channel {
         requires { place ≤ length self.now.channel.received }
         ensures { result ≡ first_waiting self.now.channel.received place }
     {
-        first_open(&self.slots[..place])
+        let Some(first) = self.graph.next_ready(0) else {
+            return None;
+        };
+        if first < place {
+            return Some(first);
+        }
+        None
     }
 
     /// Whether every received GTID is executed.
     pub fn is_settled(&self) -> bool
         ensures { result ≡ are_settled self.now.channel.received }
     {
-        are_settled(&self.slots)
+        self.graph.next_ready(0).is_none()
     }
 }

@@ -2,6 +2,7 @@
 #![tactic(auto)]
 
 mod channel;
+mod places;
 mod slot;
 
 pub use channel::{Channel, ReceiveFault};

@@ -1,15 +1,29 @@
-use Rattle.std.proofs.Common.{ap, ◌∙◌, List}
-use Rattle.apply_channel.specs.Channels.{Keyed, Received, settled}
-use Rattle.apply_channel.specs.Kept.{entries_of}
-use Rattle.apply_channel.proofs.Slots.{entries_of-settle, kept_settle}
+use Rattle.std.proofs.Common.{◌≡◌, List, length, sym, ap, subst, ◌∙◌}
+use Rattle.apply_channel.specs.Channels.{Keyed, ChannelValue, Received, settled}
+use Rattle.apply_channel.specs.Kept.{IsLastOpen}
+use Rattle.apply_channel.proofs.LastPlaces.{settle_again, settle_nothing}
 use Rattle.apply_channel.proofs.channel.Channel.mark_executed.Goals as goal
 
-pub invariant_of-self : goal.invariant_of-self
-invariant_of-self c = rw c.settle_slots.ensures (kept_settle c.self.inside.schema c.self.inside.slots.items c.self.inside.received c.args.gtid.now c.self.invariant)
+pub settling-preserved : goal.settling-preserved
+settling-preserved c =
+    let g = c.args.gtid.now in
+    let now = c.settling.self.channel in
+    let p = c.in-Some.place in
+    let last = subst (λ o. IsLastOpen now.received g (length now.received) o) c.in-Some.is c.settling.invariant.last in
+    record {
+      last = c.settle-next.ensures.last;
+      settles =
+          ap (λ (k : Keyed). settled g k.channel) c.settle-next.ensures.settled
+          ∙ ap (λ (rs : List Received). let r : ChannelValue = record now { received = rs } in r) (settle_again g now.received p last.1)
+          ∙ c.settling.invariant.settles;
+      schema = ap (λ (k : Keyed). k.schema) c.settle-next.ensures.settled ∙ c.settling.invariant.schema;
+    }
 
 pub returns : goal.returns
 returns c =
-    let s = c.self.inside in
-    let entries = ap entries_of c.settle_slots.ensures ∙ entries_of-settle c.args.gtid.now s.slots.items in
-    ap (λ (rs : List Received). let r : Keyed = record { schema = s.schema; channel = record { name = s.name; preserve = s.preserve; stopped = s.stopped; asked = s.asked; received = rs } } in r) entries
-    ∙ ap (λ (k : Keyed). let r : Keyed = record k { channel = settled c.args.gtid.now k.channel } in r) c.self.view_is
+    let g = c.args.gtid.now in
+    let now = c.settling.self.channel in
+    let none = subst (λ o. IsLastOpen now.received g (length now.received) o) c.in_default.is c.settling.invariant.last in
+    let nothing : settled g now ≡ now = ap (λ (rs : List Received). let r : ChannelValue = record now { received = rs } in r) (settle_nothing g now.received none) in
+    let channel = sym nothing ∙ c.settling.invariant.settles in
+    λ i. record { schema = c.settling.invariant.schema i; channel = channel i }

@@ -1,12 +1,47 @@
-use Rattle.std.proofs.Common.{◌≡◌, ap, sym, ◌∙◌}
-use Rattle.std.specs.FinSet as set
-use Rattle.apply_channel.specs.Channels.{Received}
-use Rattle.apply_channel.proofs.Slots.{kept_push}
+use Rattle.std.proofs.Common.{rules, ◌≡◌, ◌<◌, false, List, length, sym, ap, subst, ◌∙◌}
+use Rattle.std.specs.Prelude.{Option, Some, None, if◌then◌else◌}
+use Rattle.dependency_graph.specs.Graphs.{Point, finished_at}
+use Rattle.rows.specs.declared.change.Transaction.{Transaction}
+use Rattle.apply_channel.specs.declared.slot.Slot.{Slot}
+use Rattle.apply_channel.specs.Channels.{Keyed, is_full}
+use Rattle.apply_channel.specs.Kept.{entries_of, AreKeysOf}
+use Rattle.apply_channel.proofs.Nodes.{nodes_length}
+use Rattle.apply_channel.proofs.Receiving.{room_left, below_more, kept_done, kept_open}
 use Rattle.apply_channel.proofs.channel.Channel.put.Goals as goal
 
-pub invariant_of-self-in-Ok : goal.invariant_of-self-in-Ok
-invariant_of-self-in-Ok c =
-    let slot = c.in_ok-slot.slot in
-    let gtid : slot.gtid ≡ c.args.entry.now.gtid = ap (λ (r : Received). r.gtid) c.in_ok-slot.ensures.entry in
-    let added : c.add.new.self ≡ set.insert c.self.inside.received slot.gtid = c.in-Ok.ensures.ok ∙ ap (set.insert c.self.inside.received) (sym gtid) in
-    rw (c.in_ok-push.ensures.items, added) (kept_push c.self.inside.schema c.self.inside.slots.items c.self.inside.received slot c.self.invariant c.in_ok-slot.ensures.keys)
+pub put_node-requires-clause-room : goal.put_node-requires-clause-room
+put_node-requires-clause-room c =
+    let s = c.self.inside in
+    let left : length (entries_of s.slots.items) < 4294967294 = room_left (length (entries_of s.slots.items)) (subst (λ (k : Keyed). is_full k.channel ≡ false) (sym c.self.view_is) c.requires) in
+    subst (λ n. n < 4294967294) (sym (nodes_length s.schema s.graph (entries_of s.slots.items) c.self.invariant.nodes)) left
+
+pub finish-requires : goal.finish-requires
+finish-requires c =
+    let s = c.self.inside in
+    let y : Slot = record { gtid = c.args.entry.now.gtid; txn = c.in_ok-txn.txn; earlier = c.last_place-earlier.result } in
+    let at : c.len-place.result ≡ length s.slots.items = search rules in
+    subst (λ (ps : List Point). c.len-place.result < length ps) (sym c.in-Ok.ensures.graph)
+    (below_more s.schema s.slots.items s.places c.open_place.new.places s.graph s.received c.self.invariant c.open_place.ensures.same y c.last_place-earlier.ensures
+    c.push.new.self.items c.in_ok-push.ensures.items c.len-place.result at c.in_ok-keys.keys.items c.put_node.new.received c.in-Ok.ensures.received)
+
+pub invariant_of-self-then-executed : goal.invariant_of-self-then-executed
+invariant_of-self-then-executed c =
+    let s = c.self.inside in
+    let y : Slot = record { gtid = c.args.entry.now.gtid; txn = c.in_ok-txn.txn; earlier = c.last_place-earlier.result } in
+    let at : c.len-place.result ≡ length s.slots.items = search rules in
+    let done : c.in_ok-txn.txn ≡ None = c.in_ok-txn.ensures ∙ ap (λ b. if b then None else Some c.args.entry.now.txn) c.if-executed.true in
+    kept_done s.schema s.slots.items s.places c.open_place.new.places s.graph s.received c.self.invariant c.open_place.ensures.same y c.last_place-earlier.ensures
+    c.push.new.self.items c.in_ok-push.ensures.items c.len-place.result at c.in_ok-keys.keys.items c.put_node.new.received c.in-Ok.ensures.received
+    c.finish.new.self (c.finish.ensures ∙ ap (λ (ps : List Point). finished_at ps c.len-place.result) c.in-Ok.ensures.graph) done
+
+pub invariant_of-self-2 : goal.invariant_of-self-2
+invariant_of-self-2 c =
+    let s = c.self.inside in
+    let y : Slot = record { gtid = c.args.entry.now.gtid; txn = c.in_ok-txn.txn; earlier = c.last_place-earlier.result } in
+    let at : c.len-place.result ≡ length s.slots.items = search rules in
+    let there : c.in_ok-txn.txn ≡ Some c.args.entry.now.txn = c.in_ok-txn.ensures ∙ ap (λ b. if b then None else Some c.args.entry.now.txn) c.if-executed.false in
+    kept_open s.schema s.slots.items s.places c.open_place.new.places s.graph s.received c.self.invariant c.open_place.ensures.same y c.last_place-earlier.ensures
+    c.push.new.self.items c.in_ok-push.ensures.items c.len-place.result at c.in_ok-keys.keys.items c.put_node.new.received c.in-Ok.ensures.received
+    c.put_node.new.graph c.args.entry.now.txn c.put_place.new.places c.in-Ok.ensures.graph there
+    (subst (λ (o : Option Transaction). AreKeysOf s.schema c.in_ok-keys.keys.items o) (sym c.in_ok-txn.ensures) c.in_ok-keys.ensures.keys)
+    c.put_place.ensures

@@ -1,0 +1,73 @@
+use Rattle.std.proofs.Common.{◌≡◌, ◌<◌, ◌≤◌, List, length, map, refl, sym, ap, subst, ◌∙◌}
+use Rattle.std.specs.Prelude.{Some, None, slice_get, slice_set}
+use Rattle.std.specs.FinSet as set
+use Rattle.dependency_graph.specs.Graphs.{Point, finished_at}
+use Rattle.apply_channel.specs.declared.slot.Slot.{Slot}
+use Rattle.apply_channel.specs.Channels.{Keyed, Received, map_at, executed_one, settled_at}
+use Rattle.apply_channel.specs.Kept.{entries_of, place_of, IsLastOpen, AreNodesOf}
+use Rattle.apply_channel.proofs.Nodes.{nodes_length, nodes_finished}
+use Rattle.apply_channel.proofs.Slots.{entries_length, slot_at}
+use Rattle.apply_channel.proofs.LastPlaces.{linked_settle, last_settle, last_left, before_last, below_of, entries_settled, gtids_kept}
+use Rattle.apply_channel.proofs.channel.Channel.settle.Goals as goal
+
+pub finish-requires : goal.finish-requires
+finish-requires c =
+    let s = c.self.inside in
+    let p = c.args.place in
+    let last = subst (λ (k : Keyed). IsLastOpen k.channel.received c.args.gtid.now (length k.channel.received) (Some p)) (sym c.self.view_is) c.requires in
+    subst (λ n. p < n) (sym (nodes_length s.schema s.graph (entries_of s.slots.items) c.self.invariant.nodes)) last.0
+
+pub invariant_of-self : goal.invariant_of-self
+invariant_of-self c =
+    let s = c.self.inside in
+    let p = c.args.place in
+    let slots = s.slots.items in
+    let x = c.index_mut-slot.result.now in
+    let y : Slot = record { gtid = x.gtid; txn = None; earlier = x.earlier } in
+    let here = subst (λ (k : Keyed). IsLastOpen k.channel.received c.args.gtid.now (length k.channel.received) (Some p)) (sym c.self.view_is) c.requires in
+    let last : IsLastOpen (entries_of slots) c.args.gtid.now (length slots) (Some p) = subst (λ n. IsLastOpen (entries_of slots) c.args.gtid.now n (Some p)) (entries_length slots) here in
+    let is : slice_get slots p ≡ Some x = slot_at slots p x last.0 c.index_mut-slot.ensures.value in
+    let entries : entries_of (slice_set slots p y) ≡ map_at p executed_one (entries_of slots) = entries_settled slots p x y is refl refl in
+    record {
+      nodes = subst (λ (es : List Received). AreNodesOf s.schema c.finish.new.self es) (sym entries)
+          (subst (λ (ps : List Point). AreNodesOf s.schema ps (map_at p executed_one (entries_of slots))) (sym c.finish.ensures) (nodes_finished s.schema s.graph (entries_of slots) p c.self.invariant.nodes));
+      linked = linked_settle c.args.gtid.now slots p y refl c.self.invariant.linked last;
+      last = last_settle c.args.gtid.now slots p y refl c.self.invariant.linked last (place_of s.places) (place_of c.put_place.new.places) x is c.put_place.ensures c.self.invariant.last;
+      gtids = c.self.invariant.gtids ∙ sym (ap set.from_list (ap (map (λ (e : Received). e.gtid)) entries ∙ gtids_kept (entries_of slots) p));
+    }
+
+pub returns-clause-settled : goal.returns-clause-settled
+returns-clause-settled c =
+    let s = c.self.inside in
+    let p = c.args.place in
+    let slots = s.slots.items in
+    let x = c.index_mut-slot.result.now in
+    let y : Slot = record { gtid = x.gtid; txn = None; earlier = x.earlier } in
+    let here = subst (λ (k : Keyed). IsLastOpen k.channel.received c.args.gtid.now (length k.channel.received) (Some p)) (sym c.self.view_is) c.requires in
+    let last : IsLastOpen (entries_of slots) c.args.gtid.now (length slots) (Some p) = subst (λ n. IsLastOpen (entries_of slots) c.args.gtid.now n (Some p)) (entries_length slots) here in
+    let entries : entries_of (slice_set slots p y) ≡ map_at p executed_one (entries_of slots) = entries_settled slots p x y (slot_at slots p x last.0 c.index_mut-slot.ensures.value) refl refl in
+    ap (λ (rs : List Received). let r : Keyed = record { schema = s.schema; channel = record { name = s.name; preserve = s.preserve; stopped = s.stopped; asked = s.asked; received = rs } } in r) entries
+    ∙ ap (λ (k : Keyed). let r : Keyed = record k { channel = settled_at p k.channel } in r) c.self.view_is
+
+pub returns-clause-last : goal.returns-clause-last
+returns-clause-last c =
+    let s = c.self.inside in
+    let p = c.args.place in
+    let slots = s.slots.items in
+    let x = c.index_mut-slot.result.now in
+    let y : Slot = record { gtid = x.gtid; txn = None; earlier = x.earlier } in
+    let here = subst (λ (k : Keyed). IsLastOpen k.channel.received c.args.gtid.now (length k.channel.received) (Some p)) (sym c.self.view_is) c.requires in
+    let last : IsLastOpen (entries_of slots) c.args.gtid.now (length slots) (Some p) = subst (λ n. IsLastOpen (entries_of slots) c.args.gtid.now n (Some p)) (entries_length slots) here in
+    subst (λ n. IsLastOpen (entries_of (slice_set slots p y)) c.args.gtid.now n x.earlier) (sym (entries_length (slice_set slots p y)))
+    (last_left c.args.gtid.now slots p y refl c.self.invariant.linked last x (slot_at slots p x last.0 c.index_mut-slot.ensures.value))
+
+pub returns-clause-below : goal.returns-clause-below
+returns-clause-below c =
+    let s = c.self.inside in
+    let p = c.args.place in
+    let slots = s.slots.items in
+    let x = c.index_mut-slot.result.now in
+    let y : Slot = record { gtid = x.gtid; txn = None; earlier = x.earlier } in
+    let here = subst (λ (k : Keyed). IsLastOpen k.channel.received c.args.gtid.now (length k.channel.received) (Some p)) (sym c.self.view_is) c.requires in
+    let last : IsLastOpen (entries_of slots) c.args.gtid.now (length slots) (Some p) = subst (λ n. IsLastOpen (entries_of slots) c.args.gtid.now n (Some p)) (entries_length slots) here in
+    below_of c.args.gtid.now (entries_of slots) p x.earlier (before_last c.args.gtid.now slots p y refl c.self.invariant.linked last x (slot_at slots p x last.0 c.index_mut-slot.ensures.value))
