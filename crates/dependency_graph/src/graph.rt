@@ -1,6 +1,6 @@
 //! The nodes, above the chains of their keys.
 
-ghost use Rattle.std.specs.Prelude.{◌≡◌, ◌≢◌, ◌+◌, ◌<◌, [], ◌∷◌, ◌++◌, length, map, drop, IfOk, OnOk, OnErr};
+ghost use Rattle.std.specs.Prelude.{◌≡◌, ◌≢◌, ◌+◌, ◌<◌, [], ◌∷◌, ◌++◌, length, map, drop, IfOk, IfErr, OnOk, OnErr};
 ghost use Rattle.std.specs.List.{AllPairs};
 ghost use Rattle.std.specs.Bool.{OnTrue, OnFalse};
 ghost use Rattle.slab.specs.Slab.{slab_len};
@@ -259,5 +259,104 @@ impl Graph {
             }
         }
         None
+    }
+}
+
+/// A graph with room for one node more, which can then be added, or not, without memory.
+#[derive(Drop)]
+pub struct Reserved {
+    dropped: usize,
+    nodes: VecDeque<Node>,
+    chains: Chains,
+}
+
+impl Model for Reserved {
+    ghost use Rattle.dependency_graph.specs.Graphs.{Awaiting, awaiting_code};
+    ghost use Rattle.dependency_graph.specs.Kept.{awaiting_of, IsReserved};
+
+    ghost Value = { Awaiting };
+
+    ghost coded = { awaiting_code };
+
+    ghost view = { λ r. awaiting_of r.dropped r.nodes.items };
+
+    ghost invariant = { λ r. IsReserved r.dropped r.nodes.items r.chains };
+}
+
+impl Graph {
+    /// Makes room for a node that touches these keys, each named once. Without memory the graph comes back.
+    pub fn reserve(self, keys: Vec<Key>) -> Result<Reserved, Graph>
+        requires room { length self < 4294967294 }
+        requires distinct { AllPairs (λ a b. a ≢ b) keys.items }
+        ensures ok { IfOk result (λ r. r ≡ record { nodes = self; keys = keys.items }) }
+        ensures err { IfErr result (λ graph. graph ≡ self) }
+    {
+        let Graph {
+            dropped,
+            mut nodes,
+            mut chains,
+        } = self;
+        let Ok(()) = chains.reserve(&keys) else {
+            return Err(Graph {
+                dropped,
+                nodes,
+                chains,
+            });
+        };
+        let node = Node {
+            finished: false,
+            waits: 0,
+            keys,
+        };
+        let Ok(()) = nodes.push_back(node) else {
+            return Err(Graph {
+                dropped,
+                nodes,
+                chains,
+            });
+        };
+        Ok(Reserved {
+            dropped,
+            nodes,
+            chains,
+        })
+    }
+}
+
+impl Reserved {
+    /// Adds the node.
+    pub fn add(self) -> Graph
+        ensures { result ≡ self.nodes ++ unfinished self.keys ∷ [] }
+    {
+        let Reserved {
+            dropped,
+            mut nodes,
+            mut chains,
+        } = self;
+        let at = nodes.len() - 1;
+        let waits = link(&mut chains, &nodes[at].keys, dropped + at);
+        nodes[at].waits = waits;
+        Graph {
+            dropped,
+            nodes,
+            chains,
+        }
+    }
+
+    /// Leaves the node out.
+    pub fn cancel(self) -> Graph
+        ensures { result ≡ self.nodes }
+    {
+        let Reserved {
+            dropped,
+            mut nodes,
+            chains,
+        } = self;
+        let _ = nodes.pop_back();
+        Graph {
+            dropped,
+            nodes,
+            chains,
+        }
     }
 }

@@ -3,3 +3,4 @@ pub mod Counts
 pub mod ValueLemmas
 pub mod Cuts
 pub mod ValueLaws
+pub mod AsciiLemmas

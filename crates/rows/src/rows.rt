@@ -1,15 +1,14 @@
 //! The rows of tables.
 
-ghost use Rattle.std.specs.Prelude.{◌≡◌, OnOk, OnErr, IfOk, Ok, Err, None, Some};
+ghost use Rattle.std.specs.Prelude.{◌≡◌, OnOk, OnErr, IfOk, Ok};
 ghost use Rattle.std.specs.Bool.{Decides};
 ghost use Rattle.std.specs.Option.{option_copied};
 ghost use Rattle.std.specs.FinMap as map;
-ghost use Rattle.rows.specs.declared.change.NotInSchema.{NotInSchema};
-ghost use Rattle.rows.specs.declared.change.RowFault.{RowFault};
 ghost use Rattle.rows.specs.Apply.{apply};
 ghost use Rattle.rows.specs.Fits.{misfit, Fits};
 ghost use Rattle.rows.specs.Listing.{rows_listed};
 ghost use Rattle.rows.specs.Database.{opening, AreRowsOf, LeavesImages, NoTwoCarry};
+ghost use Rattle.rows.specs.Refusal.{NamesMisfit, NamesRowFault};
 
 use crate::change::{ApplyFault, Key, PrepareFault, TableRow, Transaction};
 use crate::fitting::{fits, fits_row};
@@ -82,8 +81,8 @@ impl Rows {
         ensures ok { OnOk result (apply self.old.schema (opening table.now row.now) self.old.rows ≡ Ok self.new.rows) }
         ensures fits { OnOk result (Fits self.old.schema (opening table.now row.now)) }
         ensures same { self.new.schema ≡ self.old.schema }
-        ensures not_in_schema { (fault : NotInSchema) → result ≡ Err (ApplyFault.NotInSchema fault) → misfit self.old.schema (opening table.now row.now) ≡ Some fault }
-        ensures refused { (fault : RowFault) → result ≡ Err (ApplyFault.Row fault) → apply self.old.schema (opening table.now row.now) self.old.rows ≡ Err fault }
+        ensures not_in_schema { NamesMisfit result (misfit self.old.schema (opening table.now row.now)) }
+        ensures refused { NamesRowFault result (apply self.old.schema (opening table.now row.now) self.old.rows) }
         ensures err { OnErr result (self.new ≡ self.old) }
     {
         if let Err(fault) = fits_row(&self.schema, table, row) {
@@ -129,8 +128,8 @@ impl Rows {
         ensures left { OnOk result (LeavesImages self.old.schema txn.now self.old.rows self.new.rows) }
         ensures no_two { NoTwoCarry self.new.schema self.new.rows }
         ensures same { self.new.schema ≡ self.old.schema }
-        ensures not_in_schema { (fault : NotInSchema) → result ≡ Err (ApplyFault.NotInSchema fault) → misfit self.old.schema txn.now ≡ Some fault }
-        ensures refused { (fault : RowFault) → result ≡ Err (ApplyFault.Row fault) → apply self.old.schema txn.now self.old.rows ≡ Err fault }
+        ensures not_in_schema { NamesMisfit result (misfit self.old.schema txn.now) }
+        ensures refused { NamesRowFault result (apply self.old.schema txn.now self.old.rows) }
         ensures err { OnErr result (self.new ≡ self.old) }
     {
         if let Err(fault) = fits(&self.schema, txn) {

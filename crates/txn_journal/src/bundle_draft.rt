@@ -4,7 +4,6 @@ ghost use Rattle.std.specs.Prelude.{◌≡◌};
 use crate::bundle::{Bundle, Channel};
 use crate::draft::{Draft, version_in};
 use crate::fault::{Cause, LineFault};
-use crate::feed::TakeLine;
 use crate::images::{image, table_at};
 use crate::lines::Version;
 use crate::names::Names;
@@ -265,8 +264,9 @@ impl BundleDraft {
     }
 }
 
-impl TakeLine for BundleDraft {
-    fn take_line(&mut self, alloc: Global, line: &[u8]) -> Result<(), LineFault> {
+impl BundleDraft {
+    /// Takes the next line, or says the first thing that is wrong with it.
+    pub fn take_line(&mut self, alloc: Global, line: &[u8]) -> Result<(), LineFault> {
         if self.part == Part::Journal {
             return self.take_inside(alloc, line);
         }

@@ -1,5 +1,11 @@
 //! A journal as far as its lines have come.
-ghost use Rattle.std.specs.Prelude.{◌≡◌, true};
+ghost use Rattle.std.specs.Prelude.{◌≡◌, true, option_map, slice_index_or};
+ghost use Rattle.std.specs.List.{list_any};
+ghost use Rattle.rows.specs.declared.value.Value.TheVariants.{Null};
+ghost use Rattle.rows.specs.Keys.{is_null};
+ghost use Rattle.txn_journal.specs.Stream.{Finds};
+ghost use Rattle.txn_journal.specs.Lines.{version_in};
+ghost use Rattle.txn_journal.specs.Machine.{is_row_of, are_rows_of, fits};
 ghost use Rattle.journal.specs.Writing.{is_number};
 ghost use Rattle.txn_journal.specs.Kept.{IsSeen, IsOpenNew, AreWritable};
 ghost use Rattle.txn_journal.specs.Due.{is_due};
@@ -44,43 +50,48 @@ pub struct Draft {
     ghost writable: { AreWritable changes.items },
 }
 
-/// What a line does not say.
-fn wrong<T>(cause: Cause) -> Result<T, LineFault> {
-    Err(LineFault::Wrong(cause))
-}
-
 /// The version that a header names, where it is known.
-pub fn version_in(due: Option<Version>, rest: Option<&[u8]>) -> Result<Version, LineFault> {
+pub fn version_in(due: Option<Version>, rest: Option<&[u8]>) -> Result<Version, LineFault>
+    ensures { Finds (λ v. v) result (version_in due (option_map (λ r. r.now) rest.entry)) }
+{
     let Some(word) = rest else {
-        return wrong(Cause::Body);
+        return Err(LineFault::Wrong(Cause::Body));
     };
     if !is_count(word) {
-        return wrong(Cause::Body);
+        return Err(LineFault::Wrong(Cause::Body));
     }
     match (word, due) {
         (b"1", None | Some(Version::One)) => Ok(Version::One),
-        _ => wrong(Cause::Version),
+        _ => Err(LineFault::Wrong(Cause::Version)),
     }
 }
 
 /// Whether a row has the columns of its table, and no null in its primary key.
-fn is_row_of(table: &Table, row: &Row) -> bool {
+fn is_row_of(table: &Table, row: &Row) -> bool
+    ensures { result ≡ is_row_of table.now row.now }
+{
     let values = row.values();
     values.len() == table.columns as usize && !has_null_at(table.primary.as_slice(), values)
 }
 
-fn is_null_at(values: &[Value], column: u32) -> bool {
+fn is_null_at(values: &[Value], column: u32) -> bool
+    ensures { result ≡ is_null (slice_index_or values.now column Null) }
+{
     match values.get(column as usize) {
         Some(value) => matches!(value, Value::Null),
         None => true,
     }
 }
 
-fn has_null_at(columns: &[u32], values: &[Value]) -> bool {
+fn has_null_at(columns: &[u32], values: &[Value]) -> bool
+    ensures { result ≡ list_any (λ column. is_null (slice_index_or values.now column Null)) columns.now }
+{
     columns.iter().any(|column| is_null_at(values, *column))
 }
 
-fn are_rows_of(table: &Table, change: &Change) -> bool {
+fn are_rows_of(table: &Table, change: &Change) -> bool
+    ensures { result ≡ are_rows_of table.now change.now }
+{
     match change {
         Change::Insert { table: _, after } => is_row_of(table, after),
         Change::Delete { table: _, before } => is_row_of(table, before),
@@ -93,7 +104,9 @@ fn are_rows_of(table: &Table, change: &Change) -> bool {
 }
 
 /// Whether the schema, where there is one, takes the images of a change.
-fn fits(schema: Option<&Schema>, change: &Change) -> bool {
+fn fits(schema: Option<&Schema>, change: &Change) -> bool
+    ensures { result ≡ fits (option_map (λ tables. tables.now) schema.entry) change.now }
+{
     match schema {
         None => true,
         Some(schema) => match schema.find(change.table()) {
@@ -112,8 +125,15 @@ fn is_number(number: u64) -> bool
 }
 
 impl Draft {
+    ghost use Rattle.std.specs.Prelude.{option_map, [], Ok};
+    ghost use Rattle.txn_journal.specs.Stream.{TakesLine};
+    ghost use Rattle.txn_journal.specs.Machine.{Standing, empty, is_last, emptied, add, opened, followed, begun, ended, finished, step, judge};
+    ghost use Rattle.txn_journal.specs.Drafts.{standing};
+
     /// Before the first line.
-    pub fn start(alloc: Global, due: Option<Version>) -> Draft {
+    pub fn start(alloc: Global, due: Option<Version>) -> Draft
+        ensures { standing result ≡ empty due }
+    {
         Draft {
             place: Place::Header,
             due,
@@ -130,20 +150,28 @@ impl Draft {
     }
 
     /// Whether the last line has come.
-    pub fn is_ended(&self) -> bool {
+    pub fn is_ended(&self) -> bool
+        ensures { result ≡ is_last (standing self.now).place }
+    {
         self.place == Place::Ended
     }
 
     /// The entries that were not taken yet.
-    pub fn take_entries(&mut self, alloc: Global) -> Vec<Entry> {
+    pub fn take_entries(&mut self, alloc: Global) -> Vec<Entry>
+        ensures taken { result.items ≡ (standing self.old).journal.entries }
+        ensures left { standing self.new ≡ emptied (standing self.old) }
+    {
         self.journal.take_entries(alloc)
     }
 
     /// The journal, with the entries that were not taken.
-    pub fn into_journal(self) -> Journal {
+    pub fn into_journal(self) -> Journal
+        ensures { result ≡ (standing self).journal }
+    {
         self.journal
     }
 
+    #[tactic(auto, unfolding(crate::specs::Machine::judge))]
     /// Takes the next line, or says the first thing that is wrong with it.
     pub fn take_line(
         &mut self,
@@ -151,16 +179,19 @@ impl Draft {
         schema: Option<&Schema>,
         names: &mut Names,
         line: &[u8],
-    ) -> Result<(), LineFault> {
+    ) -> Result<(), LineFault>
+        ensures { TakesLine result (judge (option_map (λ tables. tables.now) schema.entry) (standing self.old) line.now) (standing self.new) }
+    {
         let (word, rest) = cut(line);
         match keyword_at(word) {
             Some(keyword) if self.place.takes(keyword) => {
                 self.take(alloc, schema, names, keyword, rest)
             }
-            _ => wrong(Cause::Keyword),
+            _ => Err(LineFault::Wrong(Cause::Keyword)),
         }
     }
 
+    #[tactic(auto, unfolding(crate::specs::Machine::step))]
     /// Takes the line of a keyword that is due.
     fn take(
         &mut self,
@@ -171,6 +202,7 @@ impl Draft {
         rest: Option<&[u8]>,
     ) -> Result<(), LineFault>
         requires { is_due self.old.place keyword ≡ true }
+        ensures { TakesLine result (step (option_map (λ tables. tables.now) schema.entry) (standing self.old) keyword (option_map (λ r. r.now) rest.entry)) (standing self.new) }
     {
         match keyword {
             Keyword::Journal => self.open(rest),
@@ -203,7 +235,10 @@ impl Draft {
         }
     }
 
-    fn open(&mut self, rest: Option<&[u8]>) -> Result<(), LineFault> {
+    #[tactic(auto, unfolding(crate::specs::Machine::opened))]
+    fn open(&mut self, rest: Option<&[u8]>) -> Result<(), LineFault>
+        ensures { TakesLine result (opened (standing self.old) (option_map (λ r. r.now) rest.entry)) (standing self.new) }
+    {
         match version_in(self.due, rest) {
             Ok(version) => {
                 self.version = version;
@@ -214,12 +249,15 @@ impl Draft {
         }
     }
 
-    fn follow(&mut self, alloc: Global, rest: Option<&[u8]>) -> Result<(), LineFault> {
+    #[tactic(auto, unfolding(crate::specs::Machine::followed))]
+    fn follow(&mut self, alloc: Global, rest: Option<&[u8]>) -> Result<(), LineFault>
+        ensures { TakesLine result (followed (standing self.old) (option_map (λ r. r.now) rest.entry)) (standing self.new) }
+    {
         let Some(word) = rest else {
-            return wrong(Cause::Body);
+            return Err(LineFault::Wrong(Cause::Body));
         };
         let Some(previous) = set_word(alloc, word)? else {
-            return wrong(Cause::Body);
+            return Err(LineFault::Wrong(Cause::Body));
         };
         self.seen = previous.copy(alloc)?;
         self.journal = Journal::start(alloc, previous);
@@ -227,43 +265,51 @@ impl Draft {
         Ok(())
     }
 
-    fn begin(&mut self, alloc: Global, rest: Option<&[u8]>) -> Result<(), LineFault> {
+    #[tactic(auto, unfolding(crate::specs::Machine::begun, crate::specs::Machine::begin))]
+    fn begin(&mut self, alloc: Global, rest: Option<&[u8]>) -> Result<(), LineFault>
+        ensures { TakesLine result (begun (standing self.old) (option_map (λ r. r.now) rest.entry)) (standing self.new) }
+    {
         let Some(word) = rest else {
-            return wrong(Cause::Body);
+            return Err(LineFault::Wrong(Cause::Body));
         };
         let Some(gtid) = gtid_word(alloc, word)? else {
-            return wrong(Cause::Body);
+            return Err(LineFault::Wrong(Cause::Body));
         };
         if !is_number(gtid.number) {
-            return wrong(Cause::Body);
+            return Err(LineFault::Wrong(Cause::Body));
         }
         if self.count >= MAX_ENTRIES {
-            return wrong(Cause::Limit);
+            return Err(LineFault::Wrong(Cause::Limit));
         }
         if self.seen.contains(&gtid) {
-            return wrong(Cause::Twice(gtid));
+            return Err(LineFault::Wrong(Cause::Twice(gtid)));
         }
         self.gtid = gtid;
         self.place = Place::Within;
         Ok(())
     }
 
-    fn add(&mut self, schema: Option<&Schema>, change: Change) -> Result<(), LineFault> {
+    #[tactic(auto, unfolding(crate::specs::Machine::add))]
+    fn add(&mut self, schema: Option<&Schema>, change: Change) -> Result<(), LineFault>
+        ensures { TakesLine result (add (option_map (λ tables. tables.now) schema.entry) (standing self.old) change) (standing self.new) }
+    {
         if self.changes.len() >= MAX_CHANGES || !is_change_writable(&change) {
-            return wrong(Cause::Limit);
+            return Err(LineFault::Wrong(Cause::Limit));
         }
         if !fits(schema, &change) {
-            return wrong(Cause::Schema);
+            return Err(LineFault::Wrong(Cause::Schema));
         }
         self.changes.push(change)?;
         Ok(())
     }
 
+    #[tactic(auto, unfolding(crate::specs::Machine::ended))]
     fn end(&mut self, alloc: Global, rest: Option<&[u8]>) -> Result<(), LineFault>
         requires { self.old.place ≡ Within }
+        ensures { TakesLine result (ended (standing self.old) (option_map (λ r. r.now) rest.entry)) (standing self.new) }
     {
         if rest.is_some() {
-            return wrong(Cause::Body);
+            return Err(LineFault::Wrong(Cause::Body));
         }
         self.place = Place::Between;
         let changes = mem::replace(&mut self.changes, Vec::new(alloc));
@@ -279,9 +325,12 @@ impl Draft {
         Ok(())
     }
 
-    fn close(&mut self, rest: Option<&[u8]>) -> Result<(), LineFault> {
+    #[tactic(auto, unfolding(crate::specs::Machine::finished))]
+    fn close(&mut self, rest: Option<&[u8]>) -> Result<(), LineFault>
+        ensures { TakesLine result (finished (standing self.old) (option_map (λ r. r.now) rest.entry)) (standing self.new) }
+    {
         if rest.is_some() {
-            return wrong(Cause::Body);
+            return Err(LineFault::Wrong(Cause::Body));
         }
         self.place = Place::Ended;
         Ok(())

@@ -1,13 +1,14 @@
 //! Lines out of pieces.
 ghost use Rattle.std.specs.Prelude.{◌≡◌, IfSome, IfNone};
 ghost use Rattle.txn_journal.specs.Words.{IsOneLine, BeginsWithLine};
+ghost use Rattle.txn_journal.specs.Stream.{Judge, TakesLine};
 
 use crate::fault::{Cause, JournalFault, LineFault};
 use memchr::memchr;
 use std::alloc::Global;
 
 /// The first line of a text, and what follows its line feed.
-fn cut_line(text: &[u8]) -> Option<(&[u8], &[u8])>
+pub fn cut_line(text: &[u8]) -> Option<(&[u8], &[u8])>
     ensures found { IfSome result (λ r. BeginsWithLine text.now r.0.now r.1.now) }
     ensures none { IfNone result (IsOneLine text.now) }
 {
@@ -23,8 +24,11 @@ fn cut_line(text: &[u8]) -> Option<(&[u8], &[u8])>
 
 /// What the lines of a text make, one after another.
 pub trait TakeLine {
+    ghost judge: { Judge Self };
+
     /// Takes the next line, or says the first thing that is wrong with it.
-    fn take_line(&mut self, alloc: Global, line: &[u8]) -> Result<(), LineFault>;
+    fn take_line(&mut self, alloc: Global, line: &[u8]) -> Result<(), LineFault>
+        ensures { TakesLine result (judge self.old line.now) self.new };
 }
 
 /// A text that comes in pieces, as far as it has come.
@@ -40,8 +44,14 @@ pub struct Feed<T> {
 }
 
 impl<T> Feed<T> {
+    ghost use Rattle.std.specs.Prelude.{[]};
+    ghost use Rattle.txn_journal.specs.Stream.{Reading, answer, end_of};
+    ghost use Rattle.txn_journal.specs.Feeds.{progress};
+
     /// Before the first byte.
-    pub fn start(alloc: Global, made: T) -> Feed<T> {
+    pub fn start(alloc: Global, made: T) -> Feed<T>
+        ensures { progress result ≡ Reading made 0 [] }
+    {
         Feed {
             made,
             lines: 0,
@@ -51,7 +61,9 @@ impl<T> Feed<T> {
     }
 
     /// The error that the reading stopped at, if it did.
-    pub fn answer(&self) -> Result<(), JournalFault> {
+    pub fn answer(&self) -> Result<(), JournalFault>
+        ensures { result ≡ answer (progress self.now) }
+    {
         match self.stopped {
             None => Ok(()),
             Some(fault) => Err(fault),
@@ -59,7 +71,9 @@ impl<T> Feed<T> {
     }
 
     /// What is wrong with the text as a whole.
-    pub fn end(&self, is_ended: bool) -> Result<(), JournalFault> {
+    pub fn end(&self, is_ended: bool) -> Result<(), JournalFault>
+        ensures { result ≡ end_of is_ended (progress self.now) }
+    {
         self.answer()?;
         let line = self.lines.saturating_add(1);
         if !is_ended {
@@ -76,23 +90,36 @@ impl<T> Feed<T> {
 }
 
 impl<T: TakeLine> Feed<T> {
+    ghost use Rattle.std.specs.Prelude.{[], ◌∷◌, ◌++◌, None, OnOk};
+    ghost use Rattle.txn_journal.specs.Stream.{eats, IsAfter, TakesPiece, answer};
+    ghost use Rattle.txn_journal.specs.Feeds.{progress};
+
     /// Takes the next piece. After an error every later call answers that error.
-    pub fn feed(&mut self, alloc: Global, piece: &[u8]) -> Result<(), JournalFault> {
-        self.answer()?;
+    pub fn feed(&mut self, alloc: Global, piece: &[u8]) -> Result<(), JournalFault>
+        ensures next { IsAfter (progress self.new) (eats T.judge (progress self.old) piece.now) }
+        ensures answer { result ≡ answer (progress self.new) }
+    {
+        if let Err(fault) = self.answer() {
+            return Err(fault);
+        }
         if let Err(fault) = self.take_piece(alloc, piece) {
             self.stopped = Some(fault);
         }
         self.answer()
     }
 
-    fn take_piece(&mut self, alloc: Global, piece: &[u8]) -> Result<(), JournalFault> {
+    fn take_piece(&mut self, alloc: Global, piece: &[u8]) -> Result<(), JournalFault>
+        requires { self.old.stopped ≡ None }
+        ensures next { TakesPiece result (progress self.new) (eats T.judge (progress self.old) piece.now) }
+        ensures goes { self.new.stopped ≡ None }
+    {
         let mut left = piece;
         'lines: loop {
             match cut_line(left) {
-                Some((line, after)) => {
-                    self.take_line(alloc, line)?;
-                    left = after;
-                }
+                Some((line, after)) => match self.take_line(alloc, line) {
+                    Ok(()) => left = after,
+                    Err(fault) => return Err(fault),
+                },
                 None => {
                     self.rest.extend_from_slice(left)?;
                     return Ok(());
@@ -102,7 +129,12 @@ impl<T: TakeLine> Feed<T> {
     }
 
     /// Takes the line whose last bytes are these.
-    fn take_line(&mut self, alloc: Global, bytes: &[u8]) -> Result<(), JournalFault> {
+    fn take_line(&mut self, alloc: Global, bytes: &[u8]) -> Result<(), JournalFault>
+        requires goes { self.old.stopped ≡ None }
+        requires whole { IsOneLine bytes.now }
+        ensures next { TakesPiece result (progress self.new) (eats T.judge (progress self.old) (bytes.now ++ 10 ∷ [])) }
+        ensures goes { self.new.stopped ≡ None }
+    {
         self.lines = self.lines.saturating_add(1);
         match self.make(alloc, bytes) {
             Ok(()) => Ok(()),
@@ -114,7 +146,12 @@ impl<T: TakeLine> Feed<T> {
         }
     }
 
-    fn make(&mut self, alloc: Global, bytes: &[u8]) -> Result<(), LineFault> {
+    fn make(&mut self, alloc: Global, bytes: &[u8]) -> Result<(), LineFault>
+        ensures made { TakesLine result (T.judge self.old.made (self.old.rest.items ++ bytes.now)) self.new.made }
+        ensures rest { OnOk result (self.new.rest.items ≡ []) }
+        ensures lines { self.new.lines ≡ self.old.lines }
+        ensures stopped { self.new.stopped ≡ self.old.stopped }
+    {
         if self.rest.is_empty() {
             return self.made.take_line(alloc, bytes);
         }

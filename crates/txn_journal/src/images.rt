@@ -1,23 +1,45 @@
 //! Images of rows as words.
-ghost use Rattle.std.specs.Prelude.{◌≡◌};
+ghost use Rattle.std.specs.Prelude.{◌≡◌, [], option_map};
+ghost use Rattle.txn_journal.specs.Stream.{Finds};
+ghost use Rattle.txn_journal.specs.Lines.{words_of, is_bar, stopped, values_from, some_or_body, image_in, images_in, table_in};
 
 use crate::fault::{Cause, LineFault};
 use crate::names::Names;
 use journal_words::{cut, value_word};
-use rows::{Change, Name, Row};
+use rows::{Name, Row, Value};
 use std::alloc::Global;
 
+fn is_bar(word: &[u8]) -> bool
+    ensures { result ≡ is_bar word.now }
+{
+    word == b"|".as_slice()
+}
+
+/// The image before a bar, and what follows the bar.
+fn before_bar(values: Vec<Value>, more: Option<&[u8]>) -> Result<(Row, Option<&[u8]>), LineFault>
+    ensures { Finds (λ r. (r.0, option_map (λ t. words_of t.now) r.1)) result (some_or_body (stopped values.items (option_map (λ t. words_of t.now) more.entry))) }
+{
+    match more {
+        None => Err(LineFault::Wrong(Cause::Body)),
+        Some(after) => {
+            if values.is_empty() {
+                return Err(LineFault::Wrong(Cause::Body));
+            }
+            Ok((Row::new(values)?, Some(after)))
+        }
+    }
+}
+
 /// The values up to a bar or the end of the line, and what follows the blank behind the bar.
-fn values(alloc: Global, text: &[u8]) -> Result<(Row, Option<&[u8]>), LineFault> {
+fn values(alloc: Global, text: &[u8]) -> Result<(Row, Option<&[u8]>), LineFault>
+    ensures { Finds (λ r. (r.0, option_map (λ t. words_of t.now) r.1)) result (some_or_body (values_from [] (words_of text.now))) }
+{
     let mut values = Vec::new(alloc);
     let mut left = text;
     'words: loop {
         let (word, more) = cut(left);
-        if word == b"|".as_slice() {
-            if values.is_empty() || more.is_none() {
-                return Err(LineFault::Wrong(Cause::Body));
-            }
-            return Ok((Row::new(values)?, more));
+        if is_bar(word) {
+            return before_bar(values, more);
         }
         match value_word(alloc, word)? {
             Some(value) => values.push(value)?,
@@ -31,7 +53,9 @@ fn values(alloc: Global, text: &[u8]) -> Result<(Row, Option<&[u8]>), LineFault>
 }
 
 /// The image that a text spells.
-pub fn image(alloc: Global, text: &[u8]) -> Result<Row, LineFault> {
+pub fn image(alloc: Global, text: &[u8]) -> Result<Row, LineFault>
+    ensures { Finds (λ r. r) result (image_in text.now) }
+{
     match values(alloc, text)? {
         (row, None) => Ok(row),
         (_, Some(_)) => Err(LineFault::Wrong(Cause::Body)),
@@ -39,7 +63,9 @@ pub fn image(alloc: Global, text: &[u8]) -> Result<Row, LineFault> {
 }
 
 /// The two images that a text spells, with a bar between.
-pub fn two_images(alloc: Global, text: &[u8]) -> Result<(Row, Row), LineFault> {
+pub fn two_images(alloc: Global, text: &[u8]) -> Result<(Row, Row), LineFault>
+    ensures { Finds (λ r. r) result (images_in text.now) }
+{
     match values(alloc, text)? {
         (before, Some(rest)) => {
             let after = image(alloc, rest)?;
@@ -54,7 +80,9 @@ pub fn table_at<'a>(
     names: &mut Names,
     alloc: Global,
     rest: Option<&'a [u8]>,
-) -> Result<(Name, &'a [u8]), LineFault> {
+) -> Result<(Name, &'a [u8]), LineFault>
+    ensures { Finds (λ r. (r.0, r.1.now)) result (table_in (option_map (λ r. r.now) rest.entry)) }
+{
     let Some(text) = rest else {
         return Err(LineFault::Wrong(Cause::Body));
     };

@@ -8,12 +8,16 @@ mod draft;
 mod fault;
 mod feed;
 mod images;
+mod laws;
 mod lines;
 mod names;
 mod reader;
 mod tables;
+mod writer;
 
 pub use bundle::{Bundle, Channel};
 pub use bundle_reader::{BundleReader, decode_bundle};
 pub use fault::{Cause, JournalFault};
-pub use reader::{Reader, decode};
+pub use laws::{one_spelling, taken_in_front};
+pub use reader::{Reader, any_cut, decode};
+pub use writer::encode;

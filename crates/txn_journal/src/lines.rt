@@ -1,5 +1,6 @@
 //! The lines of a journal: which word is due where.
 ghost use Rattle.std.specs.Prelude.{◌≡◌};
+ghost use Rattle.txn_journal.specs.Lines.{keyword_of};
 
 /// A version of the format.
 #[derive(Clone, Copy, Debug, PartialEq, Eq)]
@@ -31,17 +32,27 @@ pub enum Keyword {
 }
 
 /// The keyword that a word is.
-pub fn keyword_at(word: &[u8]) -> Option<Keyword> {
-    match word {
-        b"journal" => Some(Keyword::Journal),
-        b"previous" => Some(Keyword::Previous),
-        b"txn" => Some(Keyword::Txn),
-        b"ins" => Some(Keyword::Ins),
-        b"upd" => Some(Keyword::Upd),
-        b"del" => Some(Keyword::Del),
-        b"end" => Some(Keyword::End),
-        b"close" => Some(Keyword::Close),
-        _ => None,
+pub fn keyword_at(word: &[u8]) -> Option<Keyword>
+    ensures { result ≡ keyword_of word.now }
+{
+    if word == b"journal".as_slice() {
+        Some(Keyword::Journal)
+    } else if word == b"previous".as_slice() {
+        Some(Keyword::Previous)
+    } else if word == b"txn".as_slice() {
+        Some(Keyword::Txn)
+    } else if word == b"ins".as_slice() {
+        Some(Keyword::Ins)
+    } else if word == b"upd".as_slice() {
+        Some(Keyword::Upd)
+    } else if word == b"del".as_slice() {
+        Some(Keyword::Del)
+    } else if word == b"end".as_slice() {
+        Some(Keyword::End)
+    } else if word == b"close".as_slice() {
+        Some(Keyword::Close)
+    } else {
+        None
     }
 }
 

@@ -1,5 +1,6 @@
 //! Names, each allocated once.
 ghost use Rattle.std.specs.Prelude.{◌≡◌, ◌<◌, ◌≤◌, IfOk, IfErr, length};
+ghost use Rattle.txn_journal.specs.Words.{name_of};
 
 use rows::{Name, NameFault};
 use std::alloc::{AllocError, Global};
@@ -13,7 +14,9 @@ pub struct Names {
     kept: Vec<Name>,
 }
 
-fn new_name(alloc: Global, word: &[u8]) -> Result<Option<Name>, AllocError> {
+fn new_name(alloc: Global, word: &[u8]) -> Result<Option<Name>, AllocError>
+    ensures { IfOk result (λ found. found ≡ name_of word.now) }
+{
     let Ok(text) = std::str::from_utf8(word) else {
         return Ok(None);
     };
@@ -40,7 +43,9 @@ impl Names {
     }
 
     /// The name that the word is, shared with the one that was read before.
-    pub fn read(&mut self, alloc: Global, word: &[u8]) -> Result<Option<Name>, AllocError> {
+    pub fn read(&mut self, alloc: Global, word: &[u8]) -> Result<Option<Name>, AllocError>
+        ensures { IfOk result (λ found. found ≡ name_of word.now) }
+    {
         match place_of(&self.kept, word) {
             Ok(place) => {
                 let name = &self.kept[place];

@@ -1,5 +1,11 @@
 //! The reader of journals.
-ghost use Rattle.std.specs.Prelude.{◌≡◌};
+ghost use Rattle.std.specs.Prelude.{◌≡◌, ◌++◌, ℕ, List, IfOk, IfErr};
+ghost use Rattle.journal.specs.Journals.{JournalValue};
+ghost use Rattle.txn_journal.specs.Spelling.{Writes};
+ghost use Rattle.txn_journal.specs.Refused.{Refuses, IsRead};
+ghost use Rattle.txn_journal.specs.Stream.{Progress};
+ghost use Rattle.txn_journal.specs.Machine.{Standing};
+ghost use Rattle.txn_journal.specs.Reading.{before_first, eats_alone, closing, IsWhole};
 
 use crate::draft::Draft;
 use crate::fault::{JournalFault, LineFault};
@@ -7,6 +13,7 @@ use crate::feed::{Feed, TakeLine};
 use crate::names::Names;
 use journal::{Entry, Journal};
 use std::alloc::Global;
+use std::marker::Model;
 
 /// A journal that stands alone, as far as its lines have come.
 #[derive(Drop)]
@@ -15,7 +22,49 @@ struct Alone {
     names: Names,
 }
 
+impl Model for Alone {
+    ghost use Rattle.txn_journal.specs.Machine.{Standing};
+    ghost use Rattle.std.specs.Coded.{codes};
+    ghost use Rattle.gtid_set.specs.Sets.{gtids_code};
+
+    ghost Value = { Standing };
+
+    ghost coded = { Prim.hlevel (codes, gtids_code) };
+
+    ghost use Rattle.txn_journal.specs.Drafts.{standing};
+
+    ghost view = { λ a. standing a.draft };
+}
+
+impl Alone {
+    ghost use Rattle.txn_journal.specs.Machine.{is_last, emptied};
+
+    fn is_ended(&self) -> bool
+        ensures { result ≡ is_last self.now.place }
+    {
+        self.draft.is_ended()
+    }
+
+    fn take_entries(&mut self, alloc: Global) -> Vec<Entry>
+        ensures taken { result.items ≡ self.old.journal.entries }
+        ensures left { self.new ≡ emptied self.old }
+    {
+        self.draft.take_entries(alloc)
+    }
+
+    fn into_journal(self) -> Journal
+        ensures { result ≡ self.journal }
+    {
+        self.draft.into_journal()
+    }
+}
+
 impl TakeLine for Alone {
+    ghost use Rattle.std.specs.Prelude.{None};
+    ghost use Rattle.txn_journal.specs.Machine.{judge};
+
+    ghost judge = { judge None };
+
     fn take_line(&mut self, alloc: Global, line: &[u8]) -> Result<(), LineFault> {
         self.draft.take_line(alloc, None, &mut self.names, line)
     }
@@ -28,8 +77,15 @@ pub struct Reader {
 }
 
 impl Reader {
+    ghost use Rattle.std.specs.Prelude.{Ok, Err, IfOk, IfErr, OnOk};
+    ghost use Rattle.txn_journal.specs.Stream.{IsAfter, answer};
+    ghost use Rattle.txn_journal.specs.Reading.{before_first, eats_alone, entries_of, without_entries, closing};
+    ghost use Rattle.txn_journal.specs.Readers.{reading};
+
     /// Before the first byte.
-    pub fn start(alloc: Global) -> Reader {
+    pub fn start(alloc: Global) -> Reader
+        ensures { reading result ≡ before_first }
+    {
         let made = Alone {
             draft: Draft::start(alloc, None),
             names: Names::start(alloc),
@@ -40,26 +96,62 @@ impl Reader {
     }
 
     /// Takes the next piece. After an error every later call answers that error.
-    pub fn feed(&mut self, alloc: Global, piece: &[u8]) -> Result<(), JournalFault> {
+    pub fn feed(&mut self, alloc: Global, piece: &[u8]) -> Result<(), JournalFault>
+        ensures next { IsAfter (reading self.new) (eats_alone (reading self.old) piece.now) }
+        ensures answer { result ≡ answer (reading self.new) }
+    {
         self.feed.feed(alloc, piece)
     }
 
     /// The whole entries so far that were not taken, in order.
-    pub fn take_entries(&mut self, alloc: Global) -> Result<Vec<Entry>, JournalFault> {
-        self.feed.answer()?;
-        Ok(self.feed.made.draft.take_entries(alloc))
+    pub fn take_entries(&mut self, alloc: Global) -> Result<Vec<Entry>, JournalFault>
+        ensures entries { IfOk result (λ entries. entries.items ≡ entries_of (reading self.old)) }
+        ensures ok { OnOk result (reading self.new ≡ without_entries (reading self.old)) }
+        ensures err { IfErr result (λ e. (Err e ≡ answer (reading self.old)) × (reading self.new ≡ reading self.old)) }
+    {
+        match self.feed.answer() {
+            Ok(()) => Ok(self.feed.made.take_entries(alloc)),
+            Err(fault) => Err(fault),
+        }
     }
 
     /// The journal, where its last line has come, with the entries that were not taken.
-    pub fn finish(self) -> Result<Journal, JournalFault> {
-        self.feed.end(self.feed.made.draft.is_ended())?;
-        Ok(self.feed.made.draft.into_journal())
+    #[tactic(auto, unfolding(crate::specs::Reading::closing))]
+    pub fn finish(self) -> Result<Journal, JournalFault>
+        ensures { result ≡ closing (reading self) }
+    {
+        match self.feed.end(self.feed.made.is_ended()) {
+            Ok(()) => Ok(self.feed.made.into_journal()),
+            Err(fault) => Err(fault),
+        }
+    }
+}
+
+fn read_whole(alloc: Global, bytes: &[u8]) -> Result<Journal, JournalFault>
+    ensures { IsWhole result (closing (eats_alone before_first bytes.now)) }
+{
+    let mut reader = Reader::start(alloc);
+    match reader.feed(alloc, bytes) {
+        Ok(()) => reader.finish(),
+        Err(fault) => Err(fault),
     }
 }
 
 /// The journal that the bytes spell, all of the bytes.
-pub fn decode(alloc: Global, bytes: &[u8]) -> Result<Journal, JournalFault> {
-    let mut reader = Reader::start(alloc);
-    reader.feed(alloc, bytes)?;
-    reader.finish()
+pub fn decode(alloc: Global, bytes: &[u8]) -> Result<Journal, JournalFault>
+    // What is read is spelled so.
+    ensures found { IfOk result (λ j. Writes bytes.now j) }
+    // What is spelled so is read, if memory and the sources of a set allow.
+    ensures only { (j : JournalValue) → Writes bytes.now j → IsRead result j }
+    // Which line is the first that is faulty, and what is wrong with it.
+    ensures refused { IfErr result (λ fault. Refuses fault bytes.now) }
+    // The same, by the fold over the bytes.
+    ensures exact { IsWhole result (closing (eats_alone before_first bytes.now)) }
+{
+    read_whole(alloc, bytes)
 }
+
+/// A text is read alike however it is cut.
+pub fn any_cut()
+    ensures { (p : Progress Standing) (front back : List ℕ) → eats_alone p (front ++ back) ≡ eats_alone (eats_alone p front) back }
+{}

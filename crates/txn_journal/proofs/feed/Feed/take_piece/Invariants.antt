@@ -1,5 +1,13 @@
-use Rattle.std.proofs.Common.{length}
+use Rattle.std.proofs.Common.{◌≡◌, None, length}
+use Rattle.txn_journal.specs.Stream.{eats}
+use Rattle.txn_journal.specs.Feeds.{progress}
 use Rattle.txn_journal.proofs.feed.Feed.take_piece.Given as goal
+
+abbrev pub invariant-lines : goal.invariant-lines
+invariant-lines g l = record {
+  goes : l.self.stopped ≡ None;
+  so_far : eats g.T.TakeLine.judge (progress l.self) l.left ≡ eats g.T.TakeLine.judge (progress l.fn.self) l.fn.piece;
+}
 
 abbrev pub decreases-lines : goal.decreases-lines
 decreases-lines g l = length l.left

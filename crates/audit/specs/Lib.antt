@@ -1,0 +1,5 @@
+pub mod Contents
+pub mod Worlds
+pub mod Gaps
+pub mod Missing
+pub mod Passing

@@ -1,0 +1,32 @@
+-- What a world keeps, and which world is that of journals.
+use Rattle.std.specs.Prelude.{◌≡◌, ℕ, All, List, Some, slice_get}
+use Rattle.gtid_text.specs.declared.Gtid.{Gtid}
+use Rattle.rows.specs.declared.change.NotInSchema.{NotInSchema}
+use Rattle.rows.specs.declared.schema.Table.{Table}
+use Rattle.rows.specs.Fits.{misfit, Fits}
+use Rattle.journal.specs.declared.Entry.{Entry}
+use Rattle.journal.specs.Journals.{JournalValue}
+use Rattle.source_history.specs.World.{World}
+use Rattle.world.specs.Audit.{world_of}
+use Rattle.audit.specs.Contents.{Contents, in_order}
+
+-- The world of these journals: what they brought first under each GTID beyond the opening set.
+abbrev pub IsWorldOf : World → List JournalValue → Type 0
+IsWorldOf world journals = world ≡ world_of world.schema world.opening_set world.opening_rows journals
+
+-- the schema takes each transaction
+abbrev pub AllFit : List Table → List Entry → Type 0
+AllFit schema entries = All (λ e. Fits schema e.txn) entries
+
+-- what a world keeps: its transactions listed in the order of GTIDs, and each of them fits the schema
+pub record IsKept (schema : List Table) (contents : Contents) (entries : List Entry) : Type 0 where
+  pub listed : entries ≡ in_order contents
+  pub fitting : AllFit schema entries
+
+-- one of these has this GTID, and this is why the schema does not take it
+pub record IsMisfit (schema : List Table) (entries : List Entry) (g : Gtid) (fault : NotInSchema) : Type 0 where
+  pub place : ℕ
+  pub entry : Entry
+  pub there : slice_get entries place ≡ Some entry
+  pub named : entry.gtid ≡ g
+  pub unfit : misfit schema entry.txn ≡ Some fault

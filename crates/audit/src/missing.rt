@@ -1,0 +1,86 @@
+//! Numbers that no journal brings.
+ghost use Rattle.std.specs.Prelude.{◌≡◌, ◌+◌, ◌-◌, not, find, map, None};
+ghost use Rattle.std.specs.List.{range_with_len};
+ghost use Rattle.std.specs.FinSet as set;
+ghost use Rattle.gtid_set.specs.Sets.{gtid};
+ghost use Rattle.world.specs.Audit.{missing};
+ghost use Rattle.audit.specs.Contents.{as_pair};
+ghost use Rattle.audit.specs.Missing.{number_before, next_absent, missing_between, missing_from};
+ghost use Rattle.audit.specs.Worlds.{IsWorldOf};
+
+use crate::sources::World;
+use gtid_set::GtidSet;
+use gtid_text::{Gtid, SourceId};
+use journal::{Entry, Journal};
+use world::Verdict;
+
+/// The number of the last GTID, if it is of this source, else 0.
+fn number_before(last: Option<Gtid>, source: SourceId) -> u64
+    ensures { result ≡ number_before last source }
+{
+    match last {
+        Some(gtid) => {
+            if gtid.source == source {
+                gtid.number
+            } else {
+                0
+            }
+        }
+        None => 0,
+    }
+}
+
+/// The least number of a source between two others that a set has not got.
+fn next_absent(opened: &GtidSet, source: SourceId, after: u64, below: u64) -> Option<u64>
+    ensures { result ≡ next_absent opened.now source after below }
+{
+    if after >= below {
+        return None;
+    }
+    for number in after + 1..below {
+        if !opened.contains(&Gtid { source, number }) {
+            return Some(number);
+        }
+    }
+    None
+}
+
+/// The least GTID that is missing between two.
+fn missing_between(opened: &GtidSet, last: Option<Gtid>, gtid: Gtid) -> Option<Verdict>
+    ensures { result ≡ missing_between opened.now last gtid }
+{
+    let after = number_before(last, gtid.source);
+    match next_absent(opened, gtid.source, after, gtid.number) {
+        Some(number) => Some(Verdict::Missing(Gtid {
+            source: gtid.source,
+            number,
+        })),
+        None => None,
+    }
+}
+
+/// The least GTID that is missing before some entries.
+fn first_missing(opened: &GtidSet, entries: &[Entry]) -> Option<Verdict>
+    ensures { result ≡ missing_from opened.now None (map as_pair entries.now) }
+{
+    let mut last = None;
+    for entry in entries {
+        let found = missing_between(opened, last, entry.gtid);
+        if found.is_some() {
+            return found;
+        }
+        last = Some(entry.gtid);
+    }
+    None
+}
+
+impl World {
+    /// The least GTID that is in no journal though a greater number of its source is.
+    pub(crate) fn missing(&self, journals: &[Journal]) -> Option<Verdict>
+        requires { IsWorldOf self.now journals.now }
+        ensures { result ≡ missing self.now journals.now }
+    {
+        let _ = journals;
+        first_missing(self.opened(), self.in_order())
+    }
+}

@@ -1,0 +1,100 @@
+//! What each transaction must not come before.
+ghost use Rattle.std.specs.Prelude.{◌≡◌, IfOk, OnOk, map};
+ghost use Rattle.std.specs.Option.{option_copied};
+ghost use Rattle.std.specs.FinMap as finmap;
+ghost use Rattle.audit.specs.Contents.{as_pair};
+ghost use Rattle.audit.specs.Gaps.{needs_over};
+
+use crate::touches::Touches;
+use gtid_text::Gtid;
+use journal::Entry;
+use rows::{Schema, keys_touched};
+use std::alloc::{AllocError, Global};
+use std::collections::BTreeMap;
+use std::marker::Model;
+
+/// Some GTIDs.
+#[derive(Drop)]
+pub(crate) struct GtidList {
+    gtids: Vec<Gtid>,
+}
+
+impl Model for GtidList {
+    ghost use Rattle.std.specs.Prelude.{List};
+    ghost use Rattle.gtid_text.specs.declared.Gtid.{Gtid};
+
+    ghost Value = { List Gtid };
+
+    ghost view = { λ a. a.gtids.items };
+}
+
+impl GtidList {
+    /// The GTIDs, in order.
+    pub(crate) fn as_slice(&self) -> &[Gtid]
+        ensures { result.now ≡ self.now }
+    {
+        &self.gtids
+    }
+}
+
+/// For each GTID the earlier ones of its source that touched its keys last.
+#[derive(Drop)]
+pub(crate) struct Needs {
+    tree: BTreeMap<Gtid, GtidList>,
+}
+
+impl Model for Needs {
+    ghost use Rattle.std.specs.FinMap as finmap;
+    ghost use Rattle.audit.specs.Gaps.{Needs, needs_code};
+
+    ghost Value = { Needs };
+
+    ghost coded = { needs_code };
+
+    ghost view = { λ a. finmap.from_entries a.tree.entries };
+}
+
+impl Needs {
+    fn new(alloc: Global) -> Self
+        ensures { result ≡ finmap.empty }
+    {
+        Needs {
+            tree: BTreeMap::new(alloc),
+        }
+    }
+
+    /// What a GTID needs.
+    pub(crate) fn get(&self, gtid: &Gtid) -> Option<&GtidList>
+        ensures { option_copied result ≡ finmap.get self.now gtid.now }
+    {
+        self.tree.get(gtid)
+    }
+
+    fn put(&mut self, gtid: Gtid, gtids: Vec<Gtid>) -> Result<(), AllocError>
+        ensures { OnOk result (self.new ≡ finmap.insert self.old gtid gtids.items) }
+    {
+        match self.tree.insert(gtid, GtidList { gtids }) {
+            Ok(_) => Ok(()),
+            Err(_) => Err(AllocError),
+        }
+    }
+}
+
+/// What each of these entries needs.
+pub(crate) fn needs_of(
+    alloc: Global,
+    schema: &Schema,
+    entries: &[Entry],
+) -> Result<Needs, AllocError>
+    ensures { IfOk result (λ needs. needs ≡ needs_over schema.now finmap.empty finmap.empty (map as_pair entries.now)) }
+{
+    let mut last = Touches::new(alloc);
+    let mut needs = Needs::new(alloc);
+    for entry in entries {
+        let keys = keys_touched(alloc, schema, &entry.txn)?;
+        let earlier = last.last_of_keys(alloc, &entry.gtid, &keys)?;
+        needs.put(entry.gtid, earlier)?;
+        last.touch_last(&entry.gtid, keys)?;
+    }
+    Ok(needs)
+}

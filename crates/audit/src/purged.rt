@@ -1,0 +1,40 @@
+//! Journals that begin behind the opening set.
+ghost use Rattle.std.specs.Prelude.{◌≡◌, IfOk};
+ghost use Rattle.world.specs.Audit.{purged};
+ghost use Rattle.audit.specs.Passing.{first_from, purged_at};
+
+use crate::sources::World;
+use journal::Journal;
+use std::alloc::{AllocError, Global};
+use world::Verdict;
+
+impl World {
+    /// The first journal whose previous set is not within the opening set, with what is missing.
+    pub(crate) fn purged(
+        &self,
+        alloc: Global,
+        journals: &[Journal],
+    ) -> Result<Option<Verdict>, AllocError>
+        ensures { IfOk result (λ found. found ≡ purged self.now journals.now) }
+    {
+        self.first_purged(alloc, journals)
+    }
+
+    fn first_purged(
+        &self,
+        alloc: Global,
+        journals: &[Journal],
+    ) -> Result<Option<Verdict>, AllocError>
+        ensures { IfOk result (λ found. found ≡ first_from (purged_at self.now) 0 journals.now) }
+    {
+        for (i, journal) in journals.iter().enumerate() {
+            if !journal.previous().is_subset(self.opened()) {
+                let Ok(missing) = journal.previous().subtract(alloc, self.opened()) else {
+                    return Err(AllocError);
+                };
+                return Ok(Some(Verdict::Purged(i, missing)));
+            }
+        }
+        Ok(None)
+    }
+}

@@ -1,0 +1,42 @@
+//! Keys that transactions of two sources touch.
+ghost use Rattle.std.specs.Prelude.{◌≡◌, IfOk, map};
+ghost use Rattle.std.specs.FinMap as finmap;
+ghost use Rattle.world.specs.Audit.{shared};
+ghost use Rattle.world.specs.Folds.{shared_from};
+ghost use Rattle.audit.specs.Contents.{as_pair};
+
+use crate::sources::World;
+use crate::touches::Touches;
+use journal::Entry;
+use rows::{Schema, keys_touched};
+use std::alloc::{AllocError, Global};
+use world::Verdict;
+
+/// The first of these entries that has a key which a smaller source touched.
+fn first_shared(
+    alloc: Global,
+    schema: &Schema,
+    entries: &[Entry],
+) -> Result<Option<Verdict>, AllocError>
+    ensures { IfOk result (λ found. found ≡ shared_from schema.now finmap.empty (map as_pair entries.now)) }
+{
+    let mut seen = Touches::new(alloc);
+    for entry in entries {
+        let keys = keys_touched(alloc, schema, &entry.txn)?;
+        let found = seen.shared_key(entry.gtid, &keys)?;
+        if found.is_some() {
+            return Ok(found);
+        }
+        seen.touch_first(&entry.gtid, keys)?;
+    }
+    Ok(None)
+}
+
+impl World {
+    /// The least GTID that shares a key with a smaller source, with the least that touches it.
+    pub(crate) fn shared(&self, alloc: Global) -> Result<Option<Verdict>, AllocError>
+        ensures { IfOk result (λ found. found ≡ shared self.now) }
+    {
+        first_shared(alloc, self.rows().schema(), self.in_order())
+    }
+}

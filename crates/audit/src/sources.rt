@@ -1,0 +1,145 @@
+//! What sources committed, as their journals bring it.
+ghost use Rattle.std.specs.Prelude.{◌≡◌, Err, IfOk, OnOk};
+ghost use Rattle.gtid_text.specs.declared.Gtid.{Gtid};
+ghost use Rattle.rows.specs.declared.change.NotInSchema.{NotInSchema};
+ghost use Rattle.world.specs.Audit.{all_entries, first_contents, world_of};
+ghost use Rattle.audit.specs.Contents.{in_order};
+ghost use Rattle.audit.specs.Worlds.{AllFit, IsKept, IsMisfit, IsWorldOf};
+
+use crate::contents::Contents;
+use gtid_set::GtidSet;
+use gtid_text::Gtid;
+use journal::{Entry, Journal};
+use rows::{NotInSchema, Rows, Schema, fits};
+use std::alloc::{AllocError, Global};
+use std::marker::Model;
+
+/// The opening set and rows of a replica, and for each GTID beyond that set the first transaction
+/// that some journals bring. Each transaction fits the schema of the rows.
+#[derive(Drop)]
+pub struct World {
+    opened: GtidSet,
+    rows: Rows,
+    contents: Contents,
+    in_order: Vec<Entry>,
+}
+
+impl Model for World {
+    ghost use Rattle.source_history.specs.World.{World};
+    ghost use Rattle.audit.specs.Contents.{world_code};
+    ghost use Rattle.audit.specs.Worlds.{IsKept};
+
+    ghost Value = { World };
+
+    ghost coded = { world_code };
+
+    ghost view = { λ a. record { schema = a.rows.schema; opening_set = a.opened; opening_rows = a.rows.rows; contents = a.contents } };
+
+    ghost invariant = { λ a. IsKept a.rows.schema a.contents a.in_order.items };
+}
+
+impl World {
+    /// The set that was executed from the start.
+    pub(crate) fn opened(&self) -> &GtidSet
+        ensures { result.now ≡ self.now.opening_set }
+    {
+        &self.opened
+    }
+
+    /// The opening rows.
+    pub(crate) fn rows(&self) -> &Rows
+        ensures schema { result.now.schema ≡ self.now.schema }
+        ensures rows { result.now.rows ≡ self.now.opening_rows }
+    {
+        &self.rows
+    }
+
+    /// The transactions.
+    pub(crate) fn contents(&self) -> &Contents
+        ensures { result.now ≡ self.now.contents }
+    {
+        &self.contents
+    }
+
+    /// The transactions, in the order of GTIDs.
+    pub(crate) fn in_order(&self) -> &[Entry]
+        ensures { IsKept self.now.schema self.now.contents result.now }
+    {
+        &self.in_order
+    }
+}
+
+/// Why journals have no world.
+#[derive(Clone, Copy, Debug, Drop, PartialEq, Eq)]
+pub enum WorldFault {
+    /// Memory was refused.
+    Memory,
+    /// The schema does not take the transaction of this GTID.
+    NotInSchema(Gtid, NotInSchema),
+}
+
+/// The world of journals over an opening set and rows: for each GTID beyond that set the first
+/// transaction, in order of journals and entries.
+pub fn world_of(
+    alloc: Global,
+    opened: &GtidSet,
+    rows: &Rows,
+    journals: &[Journal],
+) -> Result<World, WorldFault>
+    ensures ok { IfOk result (λ world. world ≡ world_of rows.now.schema opened.now rows.now.rows journals.now) }
+    ensures of_journals { IfOk result (λ world. IsWorldOf world journals.now) }
+    ensures unfit { (g : Gtid) (fault : NotInSchema) → result ≡ Err (WorldFault.NotInSchema g fault) → IsMisfit rows.now.schema (in_order (first_contents opened.now (all_entries journals.now))) g fault }
+{
+    let Ok(contents) = contents_of(alloc, opened, journals) else {
+        return Err(WorldFault::Memory);
+    };
+    let Ok(in_order) = contents.list(alloc) else {
+        return Err(WorldFault::Memory);
+    };
+    if let Err((gtid, fault)) = all_fit(rows.schema(), &in_order) {
+        return Err(WorldFault::NotInSchema(gtid, fault));
+    }
+    let Ok(opened) = opened.copy(alloc) else {
+        return Err(WorldFault::Memory);
+    };
+    let Ok(rows) = rows.copy() else {
+        return Err(WorldFault::Memory);
+    };
+    Ok(World {
+        opened,
+        rows,
+        contents,
+        in_order,
+    })
+}
+
+/// For each GTID beyond a set the first transaction of these journals.
+fn contents_of(
+    alloc: Global,
+    opened: &GtidSet,
+    journals: &[Journal],
+) -> Result<Contents, AllocError>
+    ensures { IfOk result (λ contents. contents ≡ first_contents opened.now (all_entries journals.now)) }
+{
+    let mut contents = Contents::new(alloc);
+    let mut left = journals.len();
+    while left > 0 {
+        left -= 1;
+        let journal = &journals[left];
+        contents.put_entries(opened, journal.entries())?;
+    }
+    Ok(contents)
+}
+
+/// Whether a schema takes each transaction; else the first that it does not take, and why.
+fn all_fit(schema: &Schema, entries: &[Entry]) -> Result<(), (Gtid, NotInSchema)>
+    ensures ok { OnOk result (AllFit schema.now entries.now) }
+    ensures unfit { (g : Gtid) (fault : NotInSchema) → result ≡ Err (g, fault) → IsMisfit schema.now entries.now g fault }
+{
+    for entry in entries {
+        if let Err(fault) = fits(schema, &entry.txn) {
+            return Err((entry.gtid, fault));
+        }
+    }
+    Ok(())
+}

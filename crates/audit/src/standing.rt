@@ -1,0 +1,50 @@
+//! GTIDs that stand in a journal.
+ghost use Rattle.std.specs.Prelude.{◌≡◌, OnOk};
+ghost use Rattle.std.specs.FinSet as set;
+
+use gtid_text::Gtid;
+use std::alloc::{AllocError, Global};
+use std::collections::BTreeSet;
+use std::marker::Model;
+
+/// A set of single GTIDs, of any number of sources.
+#[derive(Drop)]
+pub(crate) struct Standing {
+    tree: BTreeSet<Gtid>,
+}
+
+impl Model for Standing {
+    ghost use Rattle.std.specs.FinSet as set;
+    ghost use Rattle.gtid_set.specs.Sets.{Gtids, gtids_code};
+
+    ghost Value = { Gtids };
+
+    ghost coded = { gtids_code };
+
+    ghost view = { λ a. set.from_list a.tree.keys };
+}
+
+impl Standing {
+    pub(crate) fn new(alloc: Global) -> Self
+        ensures { result ≡ set.empty }
+    {
+        Standing {
+            tree: BTreeSet::new(alloc),
+        }
+    }
+
+    pub(crate) fn has(&self, gtid: &Gtid) -> bool
+        ensures { result ≡ set.contains self.now gtid.now }
+    {
+        self.tree.contains(gtid)
+    }
+
+    pub(crate) fn put(&mut self, gtid: Gtid) -> Result<(), AllocError>
+        ensures { OnOk result (self.new ≡ set.insert self.old gtid) }
+    {
+        let Ok(_) = self.tree.insert(gtid) else {
+            return Err(AllocError);
+        };
+        Ok(())
+    }
+}

@@ -1,0 +1,136 @@
+//! Auto-positioning: which entries of its journal a source sends to a replica that asks with a set of GTIDs.
+#![tactic(auto)]
+
+ghost use Rattle.std.specs.Prelude.{◌≡◌, ◌==◌, IfOk, IfErr};
+ghost use Rattle.std.specs.FinSet as set;
+ghost use Rattle.gtid_set.specs.Sets.{only};
+ghost use Rattle.journal.specs.Journals.{whole, gtids_of};
+ghost use Rattle.auto_position.specs.Sending.{is_wanted, numbers_of, places_from, sent, IsPlan, IsRefusal};
+
+use gtid_set::{GtidSet, SetFault};
+use gtid_text::{Gtid, SourceId};
+use journal::{Entry, Journal};
+use std::alloc::{AllocError, AllocFailed, Global};
+
+/// Why a source refuses to send.
+#[derive(Drop)]
+pub enum PositionFault {
+    /// GTIDs that the replica lacks and that the journal has purged.
+    PurgedRequired(GtidSet),
+    /// GTIDs of this source that the replica has and the journal has no record of.
+    ReplicaHasMore(GtidSet),
+    /// A set or the list of places could not be made.
+    Set(SetFault),
+}
+
+impl From<SetFault> for PositionFault {
+    ghost use Rattle.auto_position.specs.declared.PositionFault.TheVariants.{Set};
+
+    ghost from_gives = { λ f e. e ≡ Set f };
+
+    fn from(fault: SetFault) -> PositionFault {
+        PositionFault::Set(fault)
+    }
+}
+
+impl From<AllocError> for PositionFault {
+    ghost use Rattle.gtid_set.specs.declared.fault.SetFault.TheVariants.{Memory};
+    ghost use Rattle.auto_position.specs.declared.PositionFault.TheVariants.{Set};
+
+    ghost from_gives = { λ _ e. e ≡ Set Memory };
+
+    fn from(_e: AllocError) -> PositionFault {
+        PositionFault::Set(SetFault::Memory)
+    }
+}
+
+/// The numbers of the entries of a source, in journal order.
+fn numbers_of(alloc: Global, source: SourceId, entries: &[Entry]) -> Result<Vec<u64>, AllocError>
+    ensures { IfOk result (λ v. v.items ≡ numbers_of source entries.now) }
+{
+    let mut numbers = Vec::new(alloc);
+    'entries: for entry in entries {
+        if entry.gtid.source == source {
+            numbers.push(entry.gtid.number)?;
+        }
+    }
+    Ok(numbers)
+}
+
+/// The GTIDs of a source among the entries. The set is built with its numbers rising.
+fn recorded(alloc: Global, source: SourceId, entries: &[Entry]) -> Result<GtidSet, SetFault>
+    ensures { IfOk result (λ s. s ≡ only (gtids_of entries.now) source) }
+{
+    let mut numbers = numbers_of(alloc, source, entries)?;
+    numbers.sort_unstable();
+    let mut recorded = GtidSet::empty(alloc);
+    'numbers: for number in &numbers {
+        recorded.add(Gtid {
+            source,
+            number: *number,
+        })?;
+    }
+    Ok(recorded)
+}
+
+/// The GTIDs of the source's own that are asked with and that the journal has no record of.
+fn unknown(
+    alloc: Global,
+    own: SourceId,
+    journal: &Journal,
+    ask: &GtidSet,
+) -> Result<GtidSet, SetFault>
+    ensures { IfOk result (λ s. s ≡ set.difference (only ask.now own) (whole journal.now)) }
+{
+    let asked = ask.only(alloc, own)?;
+    let unpurged = asked.subtract(alloc, journal.previous())?;
+    let recorded = recorded(alloc, own, journal.entries())?;
+    unpurged.subtract(alloc, &recorded)
+}
+
+/// The places in the journal, rising, of the entries that the source sends to a replica that asks with a set:
+/// those whose GTID is not in it. `own` is the source's own UUID, where it has one.
+///
+/// It refuses where an entry that should be sent was purged, and else where the replica has GTIDs of this source
+/// that the journal has no record of. From the MySQL 8.0 Reference Manual, "GTID Auto-Positioning"; the order of
+/// the refusals, and that the second names the GTIDs, are our own. It takes n log n steps at worst.
+pub fn plan(
+    alloc: Global,
+    own: Option<SourceId>,
+    journal: &Journal,
+    ask: &GtidSet,
+) -> Result<Vec<u64>, PositionFault>
+    ensures plan { IfOk result (λ p. IsPlan journal.now.entries p.items (sent journal.now ask.now own)) }
+    ensures refusal { IfErr result (λ f. IsRefusal f (sent journal.now ask.now own)) }
+{
+    let kept = journal.previous().is_subset(ask);
+    if !kept {
+        let purged = journal.previous().subtract(alloc, ask)?;
+        return Err(PositionFault::PurgedRequired(purged));
+    }
+    if let Some(own) = own {
+        let more = unknown(alloc, own, journal, ask)?;
+        let known = more.is_subset(&GtidSet::empty(alloc));
+        if !known {
+            return Err(PositionFault::ReplicaHasMore(more));
+        }
+    }
+    let places = places(alloc, journal.entries(), ask)?;
+    Ok(places)
+}
+
+/// The places of the entries that aren't asked with.
+fn places(alloc: Global, entries: &[Entry], ask: &GtidSet) -> Result<Vec<u64>, AllocError>
+    ensures { IfOk result (λ v. v.items ≡ places_from (is_wanted ask.now) 0 entries.now) }
+{
+    let mut places = Vec::new(alloc);
+    'entries: for (place, entry) in entries.iter().enumerate() {
+        if !ask.contains(&entry.gtid) {
+            places.push(place as u64)?;
+        }
+    }
+    Ok(places)
+}
+
+#[cfg(test)]
+mod tests;

@@ -1,0 +1,95 @@
+-- Reading byte by byte, line by line and piece by piece.
+use Rattle.std.proofs.Common.{◌≡◌, ℕ, ◌<◌, ◌⊎◌, Bool, true, false, eqb, not, List, [], ◌∷◌, ◌++◌, length, Option, Some, None, Result, Ok, Err, refl, sym, ap, ◌∙◌, append_assoc, inl, inr, arith}
+use Rattle.std.specs.Prelude.{◌&&◌}
+use Rattle.std.specs.List.{list_all}
+use Rattle.std.proofs.lemmas.List.{append-nil}
+use Rattle.gtid_set.specs.declared.fault.SetFault.{SetFault}
+use Rattle.txn_journal.specs.declared.fault.Cause.{Cause}
+use Rattle.txn_journal.specs.declared.fault.LineFault.{LineFault}
+use Rattle.txn_journal.specs.declared.fault.LineFault.TheVariants as wrong
+use Rattle.txn_journal.specs.declared.fault.JournalFault.{JournalFault}
+use Rattle.txn_journal.specs.declared.fault.JournalFault.TheVariants as faults
+use Rattle.txn_journal.specs.Words.{IsOneLine}
+use Rattle.txn_journal.specs.Stream.{Judge, TakesLine, Progress, Reading, Stopped, unless_stopped, next_number, judged, eat, eats, IsAfter, TakesPiece, answer}
+
+pub stopped_stays : {S : Type 0} (judge : Judge S) (f : JournalFault) (bs : List ℕ) → eats judge (Stopped f) bs ≡ Stopped f
+unfolding eat
+stopped_stays judge f [] = refl
+stopped_stays judge f (b ∷ bs) = stopped_stays judge f bs
+
+-- It doesn't matter where a text is cut.
+pub eats_append : {S : Type 0} (judge : Judge S) (p : Progress S) (xs ys : List ℕ) → eats judge p (xs ++ ys) ≡ eats judge (eats judge p xs) ys
+eats_append judge p [] ys = refl
+eats_append judge p (x ∷ xs) ys = eats_append judge (eat judge p x) xs ys
+
+both : (a b : Bool) → (a && b) ≡ true → (a ≡ true) × (b ≡ true)
+both true b e = (refl, e)
+both false b e = absurd cc
+
+no_feed : (b : ℕ) → not (eqb b 10) ≡ true → eqb b 10 ≡ false
+no_feed b = elim (eqb b 10) as (λ v. not v ≡ true → v ≡ false) [ true ↦ λ h. absurd cc | false ↦ λ h. refl ]
+
+-- the bytes of a line are kept until its line feed
+pub eats_rest : {S : Type 0} (judge : Judge S) (s : S) (n : ℕ) (rest bs : List ℕ) → IsOneLine bs → eats judge (Reading s n rest) bs ≡ Reading s n (rest ++ bs)
+unfolding eat
+eats_rest judge s n rest [] one = ap (Reading s n) (sym (append-nil rest))
+eats_rest judge s n rest (b ∷ bs) one =
+    let p = both (not (eqb b 10)) (list_all (λ c. not (eqb c 10)) bs) one in
+    rw (no_feed b p.0) (eats_rest judge s n (rest ++ b ∷ []) bs p.1 ∙ ap (Reading s n) (append_assoc rest (b ∷ []) bs))
+
+pub eats_line : {S : Type 0} (judge : Judge S) (s : S) (n : ℕ) (rest line : List ℕ) → IsOneLine line → eats judge (Reading s n rest) (line ++ 10 ∷ []) ≡ judged (judge s (rest ++ line)) (next_number n)
+unfolding eat
+eats_line {S} judge s n rest line one =
+    eats_append judge (Reading s n rest) line (10 ∷ []) ∙ ap (λ (p : Progress S). eat judge p 10) (eats_rest judge s n rest line one)
+
+-- ---- what each step of the code leaves
+
+pub line_ok : {S : Type 0} (judge : Judge S) (o q : Option JournalFault) (s t : S) (n m : ℕ) (rest new line : List ℕ)
+    → o ≡ None → q ≡ o → IsOneLine line → judge s (rest ++ line) ≡ Ok t → new ≡ [] → m ≡ next_number n
+    → eats judge (unless_stopped o (Reading s n rest)) (line ++ 10 ∷ []) ≡ unless_stopped q (Reading t m new)
+line_ok {S} judge o q s t n m rest new line goes same one made none next =
+    ap (λ (k : Option JournalFault). eats judge (unless_stopped k (Reading s n rest)) (line ++ 10 ∷ [])) goes
+    ∙ eats_line judge s n rest line one
+    ∙ ap (λ (r : Result S Cause). judged r (next_number n)) made
+    ∙ sym (λ i. unless_stopped ((same ∙ goes) i) (Reading t (next i) (none i)))
+
+pub line_wrong : {S : Type 0} (judge : Judge S) (o : Option JournalFault) (s : S) (n m : ℕ) (rest line : List ℕ) (cause : Cause)
+    → o ≡ None → IsOneLine line → judge s (rest ++ line) ≡ Err cause → m ≡ next_number n
+    → eats judge (unless_stopped o (Reading s n rest)) (line ++ 10 ∷ []) ≡ Stopped (faults.Line m cause)
+line_wrong {S} judge o s n m rest line cause goes one made next =
+    ap (λ (k : Option JournalFault). eats judge (unless_stopped k (Reading s n rest)) (line ++ 10 ∷ [])) goes
+    ∙ eats_line judge s n rest line one
+    ∙ ap (λ (r : Result S Cause). judged r (next_number n)) made
+    ∙ sym (λ i. Stopped (faults.Line (next i) cause))
+
+-- a line in front of what is left
+after_line : {S : Type 0} (judge : Judge S) (now then total : Progress S) (left line after : List ℕ)
+    → left ≡ line ++ 10 ∷ after → eats judge now (line ++ 10 ∷ []) ≡ then → eats judge now left ≡ total → eats judge then after ≡ total
+after_line {S} judge now then total left line after parts took so_far =
+    sym (ap (λ (p : Progress S). eats judge p after) took)
+    ∙ sym (eats_append judge now (line ++ 10 ∷ []) after)
+    ∙ sym (ap (eats judge now) (parts ∙ sym (append_assoc line (10 ∷ []) after)))
+    ∙ so_far
+
+pub line_fails : {S : Type 0} (judge : Judge S) (fault : JournalFault) (now new newer total : Progress S) (left line after : List ℕ)
+    → left ≡ line ++ 10 ∷ after → TakesPiece (Err fault) new (eats judge now (line ++ 10 ∷ [])) → eats judge now left ≡ total → TakesPiece (Err fault) newer total
+line_fails judge (faults.Set fault) now new newer total left line after parts took so_far = tt
+line_fails judge (faults.Line n cause) now new newer total left line after parts took so_far =
+    sym (after_line judge now _ total left line after parts took so_far) ∙ stopped_stays judge (faults.Line n cause) after
+line_fails judge (faults.Truncated n) now new newer total left line after parts took so_far = absurd took
+
+pub line_taken : {S : Type 0} (judge : Judge S) (now new total : Progress S) (left line after : List ℕ)
+    → left ≡ line ++ 10 ∷ after → eats judge now (line ++ 10 ∷ []) ≡ new → eats judge now left ≡ total → eats judge new after ≡ total
+line_taken judge now new total left line after parts took so_far = after_line judge now new total left line after parts took so_far
+
+pub rest_kept : {S : Type 0} (judge : Judge S) (o : Option JournalFault) (s : S) (n : ℕ) (rest new left : List ℕ) (total : Progress S)
+    → o ≡ None → IsOneLine left → new ≡ rest ++ left → eats judge (unless_stopped o (Reading s n rest)) left ≡ total → total ≡ unless_stopped o (Reading s n new)
+rest_kept {S} judge o s n rest new left total goes one kept so_far =
+    sym so_far
+    ∙ ap (λ (k : Option JournalFault). eats judge (unless_stopped k (Reading s n rest)) left) goes
+    ∙ eats_rest judge s n rest left one
+    ∙ sym (λ i. unless_stopped (goes i) (Reading s n (kept i)))
+
+pub stopped_at : {S : Type 0} (judge : Judge S) (p : Progress S) (f : JournalFault) (bs : List ℕ) → answer p ≡ Err f → IsAfter p (eats judge p bs)
+stopped_at judge (Reading s n rest) f bs e = absurd cc
+stopped_at judge (Stopped g) f bs e = inr (sym (stopped_stays judge g bs))

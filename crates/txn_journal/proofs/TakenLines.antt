@@ -1,0 +1,165 @@
+-- Entries that were taken are those that would have come in front.
+use Rattle.std.proofs.Common.{◌≡◌, ℕ, Bool, true, false, not, cond, eqb, leb, List, [], ◌∷◌, ◌++◌, length, Option, Some, None, Result, Ok, Err, refl, sym, ap, subst, ◌∙◌, append_assoc, arith}
+use Rattle.std.specs.Prelude.{◌||◌}
+use Rattle.std.specs.FinSet as set
+use Rattle.std.proofs.lemmas.List.{append-nil}
+use Rattle.rows.specs.declared.change.Change.{Change}
+use Rattle.gtid_text.specs.declared.Gtid.{Gtid}
+use Rattle.journal.specs.declared.Entry.{Entry}
+use Rattle.journal.specs.Journals.{JournalValue}
+use Rattle.journal.specs.Writing.{is_number, is_change_writable}
+use Rattle.txn_journal.specs.Due.{is_due}
+use Rattle.txn_journal.specs.Lines.{◌>>=◌}
+use Rattle.txn_journal.specs.Machine.{Standing, is_last, emptied, closed, add, begin, judge}
+use Rattle.txn_journal.specs.Stream.{Progress, Reading, Stopped, judged, next_number, eat, eats, ended}
+use Rattle.txn_journal.specs.Reading.{eats_alone, entries_of, without_entries, whole_journal, closing, in_front, behind_entries, with_front, has_begun, HasBegun}
+use Rattle.txn_journal.specs.Spelling.{Line, Header, Previous, Begin, Makes, End, Close}
+use Rattle.txn_journal.specs.Causes.{word_for}
+use Rattle.txn_journal.specs.declared.fault.Cause.{Cause}
+use Rattle.txn_journal.specs.declared.fault.Cause.TheVariants as causes
+use Rattle.txn_journal.specs.declared.fault.JournalFault.{JournalFault}
+use Rattle.txn_journal.specs.declared.lines.Place.{Place}
+use Rattle.txn_journal.specs.declared.lines.Place.TheVariants as places
+use Rattle.txn_journal.specs.declared.lines.Keyword.TheVariants as keywords
+use Rattle.txn_journal.proofs.LineReads.{bind_ok, ok_is, put, read_line, read_found, judge_reads}
+
+abbrev with_taken : List Entry → Standing → Standing
+with_taken front s = record s { journal = in_front front s.journal }
+
+abbrev ok_standing : Standing → Result Standing Cause
+ok_standing s = Ok s
+
+abbrev behind_ok : List Entry → Result Standing Cause → Result Standing Cause
+behind_ok front (Ok s) = Ok (with_taken front s)
+behind_ok front (Err c) = Err c
+
+behind_cond : (front : List Entry) (b : Bool) (c : Cause) (x : Result Standing Cause) (y : Result Standing Cause) → y ≡ behind_ok front x → cond b (Err c) y ≡ behind_ok front (cond b (Err c) x)
+behind_cond front true c x y e = refl
+behind_cond front false c x y e = e
+
+no_previous : (place : Place) → has_begun place ≡ true → is_due place keywords.Previous ≡ true → ⊥
+no_previous places.Header b e = absurd cc
+no_previous places.Previous b e = absurd cc
+no_previous places.Between b e = absurd cc
+no_previous places.Within b e = absurd cc
+no_previous places.Ended b e = absurd cc
+
+put_behind : (front : List Entry) (s : Standing) (l : Line) → has_begun s.place ≡ true → is_due s.place (word_for l) ≡ true → put None (with_taken front s) l ≡ behind_ok front (put None s l)
+unfolding put begin add
+put_behind front s (Header v) b e = refl
+put_behind front s (Previous p) b e = absurd (no_previous s.place b e)
+put_behind front s (Begin g) b e =
+    let last : Result Standing Cause = Ok (record s { place = places.Within; gtid = g }) in
+    let third : Result Standing Cause = cond (set.contains s.seen g) (Err (causes.Twice g)) last in
+    let second : Result Standing Cause = cond (leb 4294967294 s.count) (Err causes.Limit) third in
+    behind_cond front (not (is_number g.number)) causes.Body second _
+    (behind_cond front (leb 4294967294 s.count) causes.Limit third _
+    (behind_cond front (set.contains s.seen g) (causes.Twice g) last _ refl))
+put_behind front s (Makes c) b e =
+    let last : Result Standing Cause = Ok (record s { changes = s.changes ++ c ∷ [] }) in
+    behind_cond front (leb 65536 (length s.changes) || not (is_change_writable c)) causes.Limit last _ refl
+put_behind front s End b e =
+    let one : Entry = record { gtid = s.gtid; txn = record { changes = s.changes } } in
+    ap (λ (es : List Entry). ok_standing (record (closed s) { journal = record s.journal { entries = es } })) (append_assoc front s.journal.entries (one ∷ []))
+put_behind front s Close b e = refl
+
+then_behind : (front : List Entry) (s : Standing) (line : List ℕ) (r : Result Line Cause) → has_begun s.place ≡ true → read_line s.due s.place line ≡ r → (r >>= put None (with_taken front s)) ≡ behind_ok front (r >>= put None s)
+then_behind front s line (Ok l) b e = put_behind front s l b (read_found s.due s.place line l e).due_there
+then_behind front s line (Err c) b e = refl
+
+judge_behind : (front : List Entry) (s : Standing) (line : List ℕ) → has_begun s.place ≡ true → judge None (with_taken front s) line ≡ behind_ok front (judge None s line)
+judge_behind front s line b =
+    judge_reads None (with_taken front s) line
+    ∙ then_behind front s line (read_line s.due s.place line) b refl
+    ∙ ap (behind_ok front) (sym (judge_reads None s line))
+
+-- ---- a journal that has begun stays so
+
+begun_last : (s t : Standing) → has_begun s.place ≡ true → s.place ≡ t.place → has_begun t.place ≡ true
+begun_last s t b e = ap has_begun (sym e) ∙ b
+
+at_begun : (s t : Standing) (place : Place) → has_begun place ≡ true → (record s { place = place }) ≡ t → has_begun t.place ≡ true
+at_begun s t place b e = ap (λ (u : Standing). has_begun u.place) (sym e) ∙ b
+
+begin_begun : (s t : Standing) (g : Gtid) → begin s g ≡ Ok t → has_begun t.place ≡ true
+unfolding begin
+begin_begun s t g e =
+    elim (not (is_number g.number)) as (λ v. cond v (Err causes.Body) (cond (leb 4294967294 s.count) (Err causes.Limit) (cond (set.contains s.seen g) (Err (causes.Twice g)) (Ok (record s { place = places.Within; gtid = g })))) ≡ Ok t → has_begun t.place ≡ true) [
+      | true ↦ λ h. absurd cc
+      | false ↦ elim (leb 4294967294 s.count) as (λ v. cond v (Err causes.Limit) (cond (set.contains s.seen g) (Err (causes.Twice g)) (Ok (record s { place = places.Within; gtid = g }))) ≡ Ok t → has_begun t.place ≡ true) [
+        | true ↦ λ h. absurd cc
+        | false ↦ elim (set.contains s.seen g) as (λ v. cond v (Err (causes.Twice g)) (Ok (record s { place = places.Within; gtid = g })) ≡ Ok t → has_begun t.place ≡ true) [
+          | true ↦ λ h. absurd cc
+          | false ↦ λ h. ap (λ (u : Standing). has_begun u.place) (sym (ok_is (record s { place = places.Within; gtid = g }) t h))
+        ]
+      ]
+    ] e
+
+add_begun : (s t : Standing) (c : Change) → has_begun s.place ≡ true → add None s c ≡ Ok t → has_begun t.place ≡ true
+unfolding add
+add_begun s t c b e =
+    elim (leb 65536 (length s.changes) || not (is_change_writable c)) as (λ v. cond v (Err causes.Limit) (Ok (record s { changes = s.changes ++ c ∷ [] })) ≡ Ok t → has_begun t.place ≡ true) [
+      | true ↦ λ h. absurd cc
+      | false ↦ λ h. ap (λ (u : Standing). has_begun u.place) (sym (ok_is (record s { changes = s.changes ++ c ∷ [] }) t h)) ∙ b
+    ] e
+
+no_header : (place : Place) → has_begun place ≡ true → is_due place keywords.Journal ≡ true → ⊥
+no_header places.Header b e = absurd cc
+no_header places.Previous b e = absurd cc
+no_header places.Between b e = absurd cc
+no_header places.Within b e = absurd cc
+no_header places.Ended b e = absurd cc
+
+put_begun : (s t : Standing) (l : Line) → has_begun s.place ≡ true → is_due s.place (word_for l) ≡ true → put None s l ≡ Ok t → has_begun t.place ≡ true
+unfolding put
+put_begun s t (Header v) b due e = absurd (no_header s.place b due)
+put_begun s t (Previous p) b due e = absurd (no_previous s.place b due)
+put_begun s t (Begin g) b due e = begin_begun s t g e
+put_begun s t (Makes c) b due e = add_begun s t c b e
+put_begun s t End b due e = ap (λ (u : Standing). has_begun u.place) (sym (ok_is (closed s) t e))
+put_begun s t Close b due e = ap (λ (u : Standing). has_begun u.place) (sym (ok_is (record s { place = places.Ended }) t e))
+
+judge_begun : (s t : Standing) (line : List ℕ) → has_begun s.place ≡ true → judge None s line ≡ Ok t → has_begun t.place ≡ true
+judge_begun s t line b e =
+    let k = bind_ok (read_line s.due s.place line) (put None s) t (sym (judge_reads None s line) ∙ e) in
+    put_begun s t k.0 b (read_found s.due s.place line k.0 k.1).due_there k.2
+
+-- ---- bytes
+
+judged_behind : (front : List Entry) (r : Result Standing Cause) (n : ℕ) → judged (behind_ok front r) n ≡ behind_entries front (judged r n)
+judged_behind front (Ok s) n = refl
+judged_behind front (Err c) n = refl
+
+judged_begun : (s : Standing) (line : List ℕ) (r : Result Standing Cause) (n : ℕ) → has_begun s.place ≡ true → judge None s line ≡ r → HasBegun (judged r n)
+judged_begun s line (Ok t) n b e = judge_begun s t line b e
+judged_begun s line (Err c) n b e = tt
+
+eat_behind : (front : List Entry) (p : Progress Standing) (b : ℕ) → HasBegun p → (eat (judge None) (behind_entries front p) b ≡ behind_entries front (eat (judge None) p b)) × HasBegun (eat (judge None) p b)
+unfolding eat
+eat_behind front (Reading s n rest) b h =
+    elim (eqb b 10) as (λ v. (cond v (judged (judge None (with_taken front s) rest) (next_number n)) (Reading (with_taken front s) n (rest ++ b ∷ [])) ≡ behind_entries front (cond v (judged (judge None s rest) (next_number n)) (Reading s n (rest ++ b ∷ [])))) × HasBegun (cond v (judged (judge None s rest) (next_number n)) (Reading s n (rest ++ b ∷ [])))) [
+      | true ↦ (ap (λ (r : Result Standing Cause). judged r (next_number n)) (judge_behind front s rest h) ∙ judged_behind front (judge None s rest) (next_number n), judged_begun s rest (judge None s rest) (next_number n) h refl)
+      | false ↦ (refl, h)
+    ]
+eat_behind front (Stopped f) b h = (refl, tt)
+
+pub eats_behind : (front : List Entry) (p : Progress Standing) (bytes : List ℕ) → HasBegun p → eats_alone (behind_entries front p) bytes ≡ behind_entries front (eats_alone p bytes)
+eats_behind front p [] h = refl
+eats_behind front p (b ∷ bs) h =
+    let one = eat_behind front p b h in
+    ap (λ (q : Progress Standing). eats_alone q bs) one.0 ∙ eats_behind front (eat (judge None) p b) bs one.1
+
+-- ---- the whole
+
+pub taken_behind : (p : Progress Standing) → behind_entries (entries_of p) (without_entries p) ≡ p
+taken_behind (Reading s n rest) = ap (λ (es : List Entry). Reading (record s { journal = record s.journal { entries = es } }) n rest) (append-nil s.journal.entries)
+taken_behind (Stopped f) = refl
+
+whole_behind : (front : List Entry) (r : Result (Unit {0}) JournalFault) (j : JournalValue) → whole_journal r (in_front front j) ≡ with_front front (whole_journal r j)
+whole_behind front (Ok u) j = refl
+whole_behind front (Err f) j = refl
+
+pub closing_behind : (front : List Entry) (p : Progress Standing) → closing (behind_entries front p) ≡ with_front front (closing p)
+unfolding closing
+closing_behind front (Reading s n rest) = whole_behind front (ended (is_last s.place) rest n) s.journal
+closing_behind front (Stopped f) = refl

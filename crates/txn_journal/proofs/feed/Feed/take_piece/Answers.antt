@@ -1,0 +1,17 @@
+use Rattle.txn_journal.specs.Feeds.{progress}
+use Rattle.txn_journal.proofs.Pieces.{line_fails, line_taken, rest_kept}
+use Rattle.txn_journal.proofs.feed.Feed.take_piece.Goals as goal
+
+pub returns-in-Err-clause-next : goal.returns-in-Err-clause-next
+returns-in-Err-clause-next g c =
+    line_fails g.T.TakeLine.judge c.in-Err.fault (progress c.lines.self) (progress c.take_line.new.self) (progress c.take_line.new.self) _ c.lines.left.now c.in-Some.line.now c.in-Some.after.now c.in-Some.ensures.found.parts c.in-Err.ensures.next c.lines.invariant.so_far
+
+pub lines-preserved : goal.lines-preserved
+lines-preserved g c = record {
+  goes = c.take_line.ensures.goes;
+  so_far = line_taken g.T.TakeLine.judge (progress c.lines.self) (progress c.take_line.new.self) _ c.lines.left.now c.in-Some.line.now c.in-Some.after.now c.in-Some.ensures.found.parts c.in-Ok.ensures.next c.lines.invariant.so_far;
+}
+
+pub returns-in-None-clause-next : goal.returns-in-None-clause-next
+returns-in-None-clause-next g c =
+    rest_kept g.T.TakeLine.judge c.lines.self.stopped c.lines.self.made c.lines.self.lines c.lines.self.rest.items c.extend_from_slice.new.self.items c.lines.left.now _ c.lines.invariant.goes c.in-None.ensures.none c.in_ok-extend_from_slice-in-None.ensures.items c.lines.invariant.so_far

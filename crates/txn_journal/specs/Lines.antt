@@ -1,0 +1,139 @@
+-- What the words of a line say.
+use Rattle.std.specs.Prelude.{ℕ, ◌==◌, Bool, true, false, List, [], ◌∷◌, ◌++◌, Option, Some, None, Result, Ok, Err, codes, if◌then◌else◌}
+use Rattle.std.specs.Str.{bytes_eq}
+use Rattle.gtid_text.specs.declared.Gtid.{Gtid}
+use Rattle.gtid_set.specs.Sets.{Gtids}
+use Rattle.rows.specs.declared.value.Value.{Value}
+use Rattle.journal_words.specs.Words.{is_count, first_word, others}
+use Rattle.journal_words.specs.Values.{value_of}
+use Rattle.journal_words.specs.Gtids.{gtid_of_word, set_of_word}
+use Rattle.txn_journal.specs.Words.{name_of}
+use Rattle.txn_journal.specs.Due.{is_due}
+use Rattle.txn_journal.specs.declared.fault.Cause.{Cause}
+use Rattle.txn_journal.specs.declared.fault.Cause.TheVariants as causes
+use Rattle.txn_journal.specs.declared.lines.Place.{Place}
+use Rattle.txn_journal.specs.declared.lines.Keyword.{Keyword}
+use Rattle.txn_journal.specs.declared.lines.Keyword.TheVariants as keywords
+use Rattle.txn_journal.specs.declared.lines.Version.{Version}
+use Rattle.txn_journal.specs.declared.lines.Version.TheVariants.{One}
+
+-- ---- steps that may fail
+
+infixl 10 ◌>>=◌
+abbrev pub ◌>>=◌ : {A B : Type 0} → Result A Cause → (A → Result B Cause) → Result B Cause
+(Ok x) >>= f = f x
+(Err e) >>= f = Err e
+
+abbrev pub some_or_body : {A : Type 0} → Option A → Result A Cause
+some_or_body (Some x) = Ok x
+some_or_body None = Err causes.Body
+
+-- ---- keywords
+
+abbrev pub keyword_of : List ℕ → Option Keyword
+keyword_of word =
+    if bytes_eq word (codes "journal") then Some keywords.Journal
+    else if bytes_eq word (codes "previous") then Some keywords.Previous
+    else if bytes_eq word (codes "txn") then Some keywords.Txn
+    else if bytes_eq word (codes "ins") then Some keywords.Ins
+    else if bytes_eq word (codes "upd") then Some keywords.Upd
+    else if bytes_eq word (codes "del") then Some keywords.Del
+    else if bytes_eq word (codes "end") then Some keywords.End
+    else if bytes_eq word (codes "close") then Some keywords.Close
+    else None
+
+-- the word is due, or it is the wrong word
+abbrev pub due_word : Place → Option Keyword → Result Keyword Cause
+due_word place None = Err causes.Keyword
+due_word place (Some word) = if is_due place word then Ok word else Err causes.Keyword
+
+-- ---- versions
+
+-- a version may stand where it is due, or where any is
+abbrev pub takes_one : Option Version → Bool
+takes_one None = true
+takes_one (Some One) = true
+
+abbrev pub known : Option Version → List ℕ → Result Version Cause
+known due word = if bytes_eq word (codes "1") then (if takes_one due then Ok One else Err causes.Version) else Err causes.Version
+
+abbrev pub version_in : Option Version → Option (List ℕ) → Result Version Cause
+version_in due None = Err causes.Body
+version_in due (Some word) = if is_count word then known due word else Err causes.Body
+
+-- ---- GTIDs and sets
+
+abbrev pub gtid_in : Option (List ℕ) → Result Gtid Cause
+gtid_in None = Err causes.Body
+gtid_in (Some word) = some_or_body (gtid_of_word word)
+
+abbrev pub set_in : Option (List ℕ) → Result Gtids Cause
+set_in None = Err causes.Body
+set_in (Some word) = some_or_body (set_of_word word)
+
+abbrev pub nothing_in : Option (List ℕ) → Result (Unit {0}) Cause
+nothing_in None = Ok tt
+nothing_in (Some text) = Err causes.Body
+
+-- ---- images
+
+abbrev pub cons_head : ℕ → List (List ℕ) → List (List ℕ)
+cons_head b [] = (b ∷ []) ∷ []
+cons_head b (w ∷ ws) = (b ∷ w) ∷ ws
+
+-- the words between blanks
+unfoldable pub words_of : List ℕ → List (List ℕ)
+words_of [] = [] ∷ []
+words_of (b ∷ bs) = if b == 32 then [] ∷ words_of bs else cons_head b (words_of bs)
+
+-- values up to a bar or the end, and the words behind the bar
+abbrev pub Image : Type 0
+Image = List Value × Option (List (List ℕ))
+
+abbrev pub stop_at : List Value → List (List ℕ) → Option Image
+stop_at [] words = None
+stop_at (v ∷ vs) words = Some (v ∷ vs, Some words)
+
+abbrev pub stopped : List Value → Option (List (List ℕ)) → Option Image
+stopped before None = None
+stopped before (Some words) = stop_at before words
+
+abbrev pub and_value : List Value → Option Value → (List Value → Option Image) → Option Image
+and_value before None more = None
+and_value before (Some v) more = more (before ++ v ∷ [])
+
+abbrev pub is_bar : List ℕ → Bool
+is_bar word = bytes_eq word (codes "|")
+
+unfoldable pub values_from : List Value → List (List ℕ) → Option Image
+values_from before [] = None
+values_from before (w ∷ []) = if is_bar w then None else and_value before (value_of w) (λ vs. Some (vs, None))
+values_from before (w ∷ x ∷ ws) = if is_bar w then stop_at before (x ∷ ws) else and_value before (value_of w) (λ vs. values_from vs (x ∷ ws))
+
+abbrev pub one_image : Option Image → Result (List Value) Cause
+one_image None = Err causes.Body
+one_image (Some (vs, None)) = Ok vs
+one_image (Some (vs, Some words)) = Err causes.Body
+
+abbrev pub with_after : List Value → Result (List Value) Cause → Result (List Value × List Value) Cause
+with_after before (Ok after) = Ok (before, after)
+with_after before (Err e) = Err e
+
+abbrev pub both_images : Option Image → Result (List Value × List Value) Cause
+both_images None = Err causes.Body
+both_images (Some (vs, None)) = Err causes.Body
+both_images (Some (vs, Some words)) = with_after vs (one_image (values_from [] words))
+
+abbrev pub image_in : List ℕ → Result (List Value) Cause
+image_in text = one_image (values_from [] (words_of text))
+
+abbrev pub images_in : List ℕ → Result (List Value × List Value) Cause
+images_in text = both_images (values_from [] (words_of text))
+
+-- a table's name, and the text behind it
+abbrev pub table_in : Option (List ℕ) → Result (List ℕ × List ℕ) Cause
+table_in None = Err causes.Body
+table_in (Some text) = do
+  rest ← some_or_body (others text)
+  name ← some_or_body (name_of (first_word text))
+  Ok (name, rest)

@@ -1,0 +1,152 @@
+-- A journal as far as its lines have come.
+use Rattle.std.specs.Prelude.{ℕ, ◌+◌, Bool, true, false, not, ◌&&◌, ◌||◌, ◌==◌, nat_le, List, [], ◌∷◌, ◌++◌, length, Option, Some, None, Result, Ok, Err, slice_index_or, if◌then◌else◌}
+use Rattle.std.specs.FinSet as set
+use Rattle.gtid_text.specs.declared.Gtid.{Gtid}
+use Rattle.gtid_set.specs.Sets.{Gtids}
+use Rattle.rows.specs.declared.value.Value.{Value}
+use Rattle.rows.specs.declared.change.Change.{Change}
+use Rattle.rows.specs.declared.change.Change.TheVariants.{Insert, Delete, Update}
+use Rattle.rows.specs.declared.schema.Table.{Table}
+use Rattle.rows.specs.Keys.{table_named}
+use Rattle.rows.specs.Fits.{has_primary_null, table_of}
+use Rattle.journal.specs.Journals.{JournalValue}
+use Rattle.journal.specs.Writing.{is_number, is_change_writable}
+use Rattle.journal_words.specs.Words.{first_word, others}
+use Rattle.txn_journal.specs.Lines.{◌>>=◌, keyword_of, due_word, version_in, gtid_in, set_in, nothing_in, table_in, image_in, images_in}
+use Rattle.txn_journal.specs.declared.fault.Cause.{Cause}
+use Rattle.txn_journal.specs.declared.fault.Cause.TheVariants as causes
+use Rattle.txn_journal.specs.declared.lines.Place.{Place}
+use Rattle.txn_journal.specs.declared.lines.Place.TheVariants as places
+use Rattle.txn_journal.specs.declared.lines.Keyword.{Keyword}
+use Rattle.txn_journal.specs.declared.lines.Keyword.TheVariants as keywords
+use Rattle.txn_journal.specs.declared.lines.Version.{Version}
+use Rattle.txn_journal.specs.declared.lines.Version.TheVariants.{One}
+
+-- What the lines so far have said. `due` is the version that is due, if not each known one is; `seen` has the GTIDs of the previous set and of all
+-- `count` entries, those that were taken too.
+pub record Standing : Type 0 where
+  pub place : Place
+  pub due : Option Version
+  pub version : Version
+  pub journal : JournalValue
+  pub seen : Gtids
+  pub count : ℕ
+  pub gtid : Gtid
+  pub changes : List Change
+
+-- before the first line
+abbrev pub empty : Option Version → Standing
+empty due = record {
+  place = places.Header;
+  due = due;
+  version = One;
+  journal = record { previous = set.empty; entries = [] };
+  seen = set.empty;
+  count = 0;
+  gtid = record { source = 0; number = 0 };
+  changes = [];
+}
+
+-- the last line has come
+abbrev pub is_last : Place → Bool
+is_last places.Ended = true
+is_last _ = false
+
+-- its entries were taken
+abbrev pub emptied : Standing → Standing
+emptied s = record s { journal = record s.journal { entries = [] } }
+
+-- ---- what a schema takes
+
+-- a row has its table's columns, and no null in the primary key
+abbrev pub is_row_of : Table → List Value → Bool
+is_row_of table row = (length row == table.columns) && not (has_primary_null table row)
+
+abbrev pub are_rows_of : Table → Change → Bool
+are_rows_of table (Insert name after) = is_row_of table after
+are_rows_of table (Delete name before) = is_row_of table before
+are_rows_of table (Update name before after) = is_row_of table before && is_row_of table after
+
+abbrev pub takes_change : Option Table → Change → Bool
+takes_change None change = false
+takes_change (Some table) change = are_rows_of table change
+
+-- a journal that stands alone has no schema
+abbrev pub fits : Option (List Table) → Change → Bool
+fits None change = true
+fits (Some tables) change = takes_change (table_named (table_of change) tables) change
+
+-- ---- one line more
+
+unfoldable pub add : Option (List Table) → Standing → Change → Result Standing Cause
+add schema s change =
+    if nat_le 65536 (length s.changes) || not (is_change_writable change) then Err causes.Limit
+    else if not (fits schema change) then Err causes.Schema
+    else Ok (record s { changes = s.changes ++ change ∷ [] })
+
+unfoldable pub begin : Standing → Gtid → Result Standing Cause
+begin s gtid =
+    if not (is_number gtid.number) then Err causes.Body
+    else if nat_le 4294967294 s.count then Err causes.Limit
+    else if set.contains s.seen gtid then Err (causes.Twice gtid)
+    else Ok (record s { place = places.Within; gtid = gtid })
+
+-- the entry that is open joins the others
+abbrev pub closed : Standing → Standing
+closed s = record s {
+  place = places.Between;
+  journal = record s.journal { entries = s.journal.entries ++ (record { gtid = s.gtid; txn = record { changes = s.changes } }) ∷ [] };
+  seen = set.insert s.seen s.gtid;
+  count = s.count + 1;
+  changes = [];
+}
+
+unfoldable pub opened : Standing → Option (List ℕ) → Result Standing Cause
+opened s rest = do
+  version ← version_in s.due rest
+  Ok (record s { place = places.Previous; version = version })
+
+unfoldable pub followed : Standing → Option (List ℕ) → Result Standing Cause
+followed s rest = do
+  previous ← set_in rest
+  Ok (record s { place = places.Between; journal = record { previous = previous; entries = [] }; seen = previous })
+
+unfoldable pub begun : Standing → Option (List ℕ) → Result Standing Cause
+begun s rest = do
+  gtid ← gtid_in rest
+  begin s gtid
+
+unfoldable pub ended : Standing → Option (List ℕ) → Result Standing Cause
+ended s rest = do
+  nothing ← nothing_in rest
+  Ok (closed s)
+
+unfoldable pub finished : Standing → Option (List ℕ) → Result Standing Cause
+finished s rest = do
+  nothing ← nothing_in rest
+  Ok (record s { place = places.Ended })
+
+unfoldable pub step : Option (List Table) → Standing → Keyword → Option (List ℕ) → Result Standing Cause
+step schema s keywords.Journal rest = opened s rest
+step schema s keywords.Previous rest = followed s rest
+step schema s keywords.Txn rest = begun s rest
+step schema s keywords.Ins rest = do
+  table ← table_in rest
+  after ← image_in table.1
+  add schema s (Insert table.0 after)
+step schema s keywords.Del rest = do
+  table ← table_in rest
+  before ← image_in table.1
+  add schema s (Delete table.0 before)
+step schema s keywords.Upd rest = do
+  table ← table_in rest
+  images ← images_in table.1
+  add schema s (Update table.0 images.0 images.1)
+step schema s keywords.End rest = ended s rest
+step schema s keywords.Close rest = finished s rest
+
+-- a line at the place where it stands
+unfoldable pub judge : Option (List Table) → Standing → List ℕ → Result Standing Cause
+judge schema s line = do
+  word ← due_word s.place (keyword_of (first_word line))
+  step schema s word (others line)

@@ -1,0 +1,63 @@
+-- A journal that comes in pieces.
+use Rattle.std.specs.Prelude.{◌≡◌, ◌⊎◌, ℕ, Bool, true, false, List, [], ◌∷◌, ◌++◌, Option, Some, None, Result, Ok, Err}
+use Rattle.gtid_set.specs.declared.fault.SetFault.{SetFault}
+use Rattle.journal.specs.declared.Entry.{Entry}
+use Rattle.journal.specs.Journals.{JournalValue}
+use Rattle.txn_journal.specs.declared.fault.JournalFault.{JournalFault}
+use Rattle.txn_journal.specs.declared.fault.JournalFault.TheVariants as faults
+use Rattle.txn_journal.specs.Stream.{Progress, Reading, Stopped, eats, ended}
+use Rattle.txn_journal.specs.Machine.{Standing, empty, is_last, emptied, judge}
+use Rattle.txn_journal.specs.declared.lines.Place.{Place}
+use Rattle.txn_journal.specs.declared.lines.Place.TheVariants as places
+
+-- before the first byte
+abbrev pub before_first : Progress Standing
+before_first = Reading (empty None) 0 []
+
+-- a journal that stands alone, byte by byte
+abbrev pub eats_alone : Progress Standing → List ℕ → Progress Standing
+eats_alone p bytes = eats (judge None) p bytes
+
+-- the whole entries so far that were not taken
+abbrev pub entries_of : Progress Standing → List Entry
+entries_of (Reading s n rest) = s.journal.entries
+entries_of (Stopped fault) = []
+
+abbrev pub without_entries : Progress Standing → Progress Standing
+without_entries (Reading s n rest) = Reading (emptied s) n rest
+without_entries (Stopped fault) = Stopped fault
+
+-- the end of the text
+abbrev pub whole_journal : Result (Unit {0}) JournalFault → JournalValue → Result JournalValue JournalFault
+whole_journal (Ok _) journal = Ok journal
+whole_journal (Err fault) journal = Err fault
+
+unfoldable pub closing : Progress Standing → Result JournalValue JournalFault
+closing (Reading s n rest) = whole_journal (ended (is_last s.place) rest n) s.journal
+closing (Stopped fault) = Err fault
+
+-- it is this, unless memory ran out or a set was full
+abbrev pub IsWhole : Result JournalValue JournalFault → Result JournalValue JournalFault → Type 0
+IsWhole result whole = ((fault : SetFault) × (result ≡ Err (faults.Set fault))) ⊎ (result ≡ whole)
+
+-- the same reading with these entries in front
+abbrev pub in_front : List Entry → JournalValue → JournalValue
+in_front front journal = record journal { entries = front ++ journal.entries }
+
+abbrev pub behind_entries : List Entry → Progress Standing → Progress Standing
+behind_entries front (Reading s n rest) = Reading (record s { journal = in_front front s.journal }) n rest
+behind_entries front (Stopped fault) = Stopped fault
+
+abbrev pub with_front : List Entry → Result JournalValue JournalFault → Result JournalValue JournalFault
+with_front front (Ok journal) = Ok (in_front front journal)
+with_front front (Err fault) = Err fault
+
+-- the lines of a journal's opening have come, so that entries may
+abbrev pub has_begun : Place → Bool
+has_begun places.Header = false
+has_begun places.Previous = false
+has_begun _ = true
+
+abbrev pub HasBegun : Progress Standing → Type 0
+HasBegun (Reading s n rest) = has_begun s.place ≡ true
+HasBegun (Stopped fault) = Unit {0}

@@ -1,0 +1,80 @@
+-- A text that comes byte by byte. S is what its whole lines have made.
+use Rattle.std.specs.Prelude.{◌≡◌, ◌⊎◌, ℕ, ◌+◌, ◌-◌, ◌^◌, min, Bool, true, false, ◌==◌, List, [], ◌∷◌, ◌++◌, Option, Some, None, Result, Ok, Err, if◌then◌else◌}
+use Rattle.gtid_set.specs.declared.fault.SetFault.{SetFault}
+use Rattle.txn_journal.specs.declared.fault.Cause.{Cause}
+use Rattle.txn_journal.specs.declared.fault.Cause.TheVariants as causes
+use Rattle.txn_journal.specs.declared.fault.LineFault.{LineFault}
+use Rattle.txn_journal.specs.declared.fault.LineFault.TheVariants as wrong
+use Rattle.txn_journal.specs.declared.fault.JournalFault.{JournalFault}
+use Rattle.txn_journal.specs.declared.fault.JournalFault.TheVariants as faults
+
+-- what a line makes of what the lines before it have made, or the first thing that is wrong with it
+abbrev pub Judge : Type 0 → Type 0
+Judge S = S → List ℕ → Result S Cause
+
+-- What a call did with a line is what judging it gives, unless memory ran out or a set was full.
+abbrev pub TakesLine : {S : Type 0} → Result (Unit {0}) LineFault → Result S Cause → S → Type 0
+TakesLine (Ok _) judged new = judged ≡ Ok new
+TakesLine (Err (wrong.Wrong cause)) judged new = judged ≡ Err cause
+TakesLine (Err (wrong.Set fault)) judged new = Unit {0}
+
+-- What a call found in a part of a line, seen by view, is what reading it gives, unless memory ran out or a set was full.
+abbrev pub Finds : {X Y : Type 0} → (X → Y) → Result X LineFault → Result Y Cause → Type 0
+Finds view (Ok x) read = read ≡ Ok (view x)
+Finds view (Err (wrong.Wrong cause)) read = read ≡ Err cause
+Finds view (Err (wrong.Set fault)) read = Unit {0}
+
+-- How far the reading has come: so many whole lines, and the bytes of the next; or it has stopped.
+pub data Progress (S : Type 0) : Type 0 where
+  Reading : S → ℕ → List ℕ → Progress S
+  Stopped : JournalFault → Progress S
+
+abbrev pub unless_stopped : {S : Type 0} → Option JournalFault → Progress S → Progress S
+unless_stopped None p = p
+unless_stopped (Some fault) p = Stopped fault
+
+-- lines count up to the largest number
+abbrev pub next_number : ℕ → ℕ
+next_number n = min (n + 1) (2 ^ 64 - 1)
+
+abbrev pub judged : {S : Type 0} → Result S Cause → ℕ → Progress S
+judged (Ok s) n = Reading s n []
+judged (Err cause) n = Stopped (faults.Line n cause)
+
+-- a line feed ends a line
+unfoldable pub eat : {S : Type 0} → Judge S → Progress S → ℕ → Progress S
+eat judge (Reading s n rest) b = if b == 10 then judged (judge s rest) (next_number n) else Reading s n (rest ++ b ∷ [])
+eat judge (Stopped fault) b = Stopped fault
+
+abbrev pub eats : {S : Type 0} → Judge S → Progress S → List ℕ → Progress S
+eats judge p [] = p
+eats judge p (b ∷ bs) = eats judge (eat judge p b) bs
+
+-- it is this, unless memory ran out or a set was full
+abbrev pub IsAfter : {S : Type 0} → Progress S → Progress S → Type 0
+IsAfter new after = ((fault : SetFault) × (new ≡ Stopped (faults.Set fault))) ⊎ (new ≡ after)
+
+abbrev pub answer : {S : Type 0} → Progress S → Result (Unit {0}) JournalFault
+answer (Reading s n rest) = Ok tt
+answer (Stopped fault) = Err fault
+
+abbrev pub answer_of : Option JournalFault → Result (Unit {0}) JournalFault
+answer_of None = Ok tt
+answer_of (Some fault) = Err fault
+
+-- the end of the text, where its last line has come or has not
+abbrev pub ended : Bool → List ℕ → ℕ → Result (Unit {0}) JournalFault
+ended false rest n = Err (faults.Truncated (next_number n))
+ended true [] n = Ok tt
+ended true (b ∷ bs) n = Err (faults.Line (next_number n) causes.Keyword)
+
+-- What a call did with bytes is what eating them gives, unless memory ran out or a set was full.
+abbrev pub TakesPiece : {S : Type 0} → Result (Unit {0}) JournalFault → Progress S → Progress S → Type 0
+TakesPiece (Ok _) new after = after ≡ new
+TakesPiece (Err (faults.Set fault)) new after = Unit {0}
+TakesPiece (Err (faults.Line n cause)) new after = after ≡ Stopped (faults.Line n cause)
+TakesPiece (Err (faults.Truncated n)) new after = ⊥
+
+abbrev pub end_of : {S : Type 0} → Bool → Progress S → Result (Unit {0}) JournalFault
+end_of is_last (Reading s n rest) = ended is_last rest n
+end_of is_last (Stopped fault) = Err fault

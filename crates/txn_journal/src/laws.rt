@@ -1,0 +1,21 @@
+//! Laws of journals' texts.
+ghost use Rattle.std.specs.Prelude.{◌≡◌, ◌++◌, ℕ, List};
+ghost use Rattle.journal.specs.declared.Entry.{Entry};
+ghost use Rattle.journal.specs.Journals.{JournalValue};
+ghost use Rattle.txn_journal.specs.Machine.{Standing};
+ghost use Rattle.txn_journal.specs.Stream.{Progress};
+ghost use Rattle.txn_journal.specs.Reading.{eats_alone, entries_of, without_entries, behind_entries, closing, with_front, HasBegun};
+ghost use Rattle.txn_journal.specs.Spelling.{Writes};
+
+/// A journal has one text, and a text is that of one journal at most.
+pub fn one_spelling()
+    ensures text { (j : JournalValue) (a b : List ℕ) → Writes a j → Writes b j → a ≡ b }
+    ensures journal { (bytes : List ℕ) (i j : JournalValue) → Writes bytes i → Writes bytes j → i ≡ j }
+{}
+
+/// Entries that were taken are those that would have come in front.
+pub fn taken_in_front()
+    ensures taken { (p : Progress Standing) → behind_entries (entries_of p) (without_entries p) ≡ p }
+    ensures eats { (front : List Entry) (p : Progress Standing) (bytes : List ℕ) → HasBegun p → eats_alone (behind_entries front p) bytes ≡ behind_entries front (eats_alone p bytes) }
+    ensures closing { (front : List Entry) (p : Progress Standing) → closing (behind_entries front p) ≡ with_front front (closing p) }
+{}
