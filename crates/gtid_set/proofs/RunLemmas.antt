@@ -12,8 +12,10 @@ use Rattle.gtid_text.specs.Gtids.{gtid_cmp, same_gtid}
 use Rattle.gtid_set.specs.Sets.{Gtids, gtid}
 use Rattle.gtid_set.specs.Spans.{set_of, has, is_merged, is_before}
 use Rattle.gtid_set.specs.Runs.{is_less, place, in_order, run_before, runs_of, runs}
-use Rattle.gtid_set.proofs.SetLemmas.{gtid_tied, contains-set_of, any-numbers}
-use Rattle.gtid_set.proofs.SpanLemmas.{merged_head, both, and_of}
+use Rattle.gtid_set.specs.Sweep.{within}
+use Rattle.gtid_set.proofs.SetLemmas.{same_members, gtid_tied, contains-set_of, any-numbers}
+use Rattle.gtid_set.proofs.PlaceLemmas.{all_after}
+use Rattle.gtid_set.proofs.SpanLemmas.{merged_head, merged_cons, both, and_of}
 
 -- a GTID less than the first of others
 abbrev pub less_first : Gtid → List Gtid → Bool
@@ -247,3 +249,86 @@ runs_held ss s m view = sym (runs_merged ss m) ∙ ap runs view
 -- equal sets have equal lists
 pub equal_lists : (xs ys : List Span) → is_merged xs ≡ true → is_merged ys ≡ true → set_of xs ≡ set_of ys → xs ≡ ys
 equal_lists xs ys m n e = sym (runs_merged xs m) ∙ ap runs e ∙ runs_merged ys n
+
+-- the start of the first of spans is greater than a GTID
+abbrev pub less_start : Gtid → List Span → Bool
+less_start g [] = true
+less_start g (s ∷ ss) = is_less g (gtid s.source s.lo)
+
+-- the runs of GTIDs are a merged list of those GTIDs
+pub record AreRuns (gs : List Gtid) (ss : List Span) : Type 0 where
+  pub merged : is_merged ss ≡ true
+  pub has : (q : Gtid) → has ss q ≡ among q gs
+  pub later : (g : Gtid) → less_first g gs ≡ true → less_start g ss ≡ true
+
+abbrev pub single : Gtid → Span
+single g = record { source = g.source; lo = g.number; hi = g.number }
+
+abbrev pub longer_front : Gtid → Span → Span
+longer_front g s = record { source = s.source; lo = g.number; hi = s.hi }
+
+within_single : (g q : Gtid) → within (single g) q ≡ same_gtid q g
+within_single g q = grind (arith, nat_tests)
+
+within_front : (g q : Gtid) (s : Span) → s.lo ≤ s.hi → ((s.source == g.source) && (s.lo == g.number + 1)) ≡ true → within (longer_front g s) q ≡ (same_gtid q g || within s q)
+within_front g q s f e = grind (arith, nat_tests)
+
+or_group : (a b c : Bool) → ((a || b) || c) ≡ (a || (b || c))
+or_group true b c = refl
+or_group false b c = refl
+
+number_itself : (n : ℕ) → n ≤ n
+number_itself n = omega arith
+
+single_merged : (g : Gtid) → is_merged (single g ∷ []) ≡ true
+single_merged g = merged_cons (single g) [] (record { filled = number_itself g.number; after = refl; tail = refl })
+
+-- one GTID more, before the others
+run_step : (g : Gtid) (gs : List Gtid) (s : Span) (ss : List Span) (b : Bool) → ((s.source == g.source) && (s.lo == g.number + 1)) ≡ b → less_first g gs ≡ true → AreRuns gs (s ∷ ss)
+    → AreRuns (g ∷ gs) (cond b (longer_front g s ∷ ss) (single g ∷ s ∷ ss))
+run_step g gs s ss true e first r =
+    let h = merged_head s ss r.merged in
+    record {
+      merged = merged_cons (longer_front g s) ss (record { filled = below h.filled e; after = h.after; tail = h.tail });
+      has = λ q. ap (λ b. b || has ss q) (within_front g q s h.filled e) ∙ or_group (same_gtid q g) (within s q) (has ss q) ∙ ap (λ b. same_gtid q g || b) (r.has q);
+      later = λ k less. start k less e;
+    }
+  where
+    below : s.lo ≤ s.hi → ((s.source == g.source) && (s.lo == g.number + 1)) ≡ true → g.number ≤ s.hi
+    below f e = grind (arith, nat_tests)
+
+    start : (k : Gtid) → is_less k g ≡ true → ((s.source == g.source) && (s.lo == g.number + 1)) ≡ true → is_less k (gtid s.source g.number) ≡ true
+    start k less e = grind (arith, nat_tests)
+run_step g gs s ss false e first r =
+    let h = merged_head s ss r.merged in
+    record {
+      merged = merged_cons (single g) (s ∷ ss) (record { filled = number_itself g.number; after = all_after (single g) s ss h (apart (r.later g first) e); tail = r.merged });
+      has = λ q. (λ i. within_single g q i || r.has q i);
+      later = λ k less. less;
+    }
+  where
+    apart : is_less g (gtid s.source s.lo) ≡ true → ((s.source == g.source) && (s.lo == g.number + 1)) ≡ false → is_before (single g) s ≡ true
+    apart a e = grind (arith, nat_tests)
+
+run_added : (g : Gtid) (gs : List Gtid) (ss : List Span) → less_first g gs ≡ true → AreRuns gs ss → AreRuns (g ∷ gs) (run_before g ss)
+run_added g gs [] first r = record {
+  merged = single_merged g;
+  has = λ q. (λ i. within_single g q i || r.has q i);
+  later = λ k less. less;
+}
+run_added g gs (s ∷ ss) first r = run_step g gs s ss ((s.source == g.source) && (s.lo == g.number + 1)) refl first r
+
+runs_are : (gs : List Gtid) → climbs gs ≡ true → AreRuns gs (runs_of gs)
+runs_are [] c = record { merged = refl; has = λ q. refl; later = λ g e. refl }
+runs_are (g ∷ gs) c = let w = both (less_first g gs) (climbs gs) c in run_added g gs (runs_of gs) w.0 (runs_are gs w.1)
+
+-- the runs of a set are merged, and are of that set
+pub runs_are_merged : (s : Gtids) → is_merged (runs s) ≡ true
+unfolding runs
+runs_are_merged s = (runs_are (in_order (set.items s)) (climbs_order (set.items s))).merged
+
+pub set_of_runs : (s : Gtids) → set_of (runs s) ≡ s
+unfolding runs
+set_of_runs s = same_members (set_of (runs_of (in_order (set.items s)))) s (λ q.
+    contains-set_of (runs_of (in_order (set.items s))) q ∙ (runs_are (in_order (set.items s)) (climbs_order (set.items s))).has q
+    ∙ among_order q (set.items s) ∙ sym (any_tied q (set.items s)) ∙ sym (set.contains-items s q))

@@ -13,6 +13,8 @@ ghost use Rattle.gtid_set.specs.Sweep.{rises};
 ghost use Rattle.gtid_set.specs.Full.{IsFullExactly, IsKept};
 
 mod fault;
+pub mod laws;
+mod single;
 mod sweep;
 mod text;
 
@@ -159,7 +161,7 @@ fn of_source(
     ensures ok { IfOk result (λ s. s ≡ kept_sources (set_of spans.now) source wanted) }
     ensures fault { IsOkUnless result Memory }
 {
-    let Ok(spans) = sweep::of_source(alloc, spans, source, wanted) else {
+    let Ok(spans) = single::of_source(alloc, spans, source, wanted) else {
         return Err(SetFault::Memory);
     };
     Ok(made(spans))
@@ -346,6 +348,6 @@ impl GtidSet {
     pub fn count(&self) -> u128
         ensures { result ≡ set.len self.now }
     {
-        sweep::count_numbers(&self.spans)
+        single::count_numbers(&self.spans)
     }
 }

@@ -4,7 +4,7 @@ use Rattle.gtid_set.specs.Spans.{has, is_merged}
 use Rattle.gtid_set.specs.Sweep.{all_before, is_kept}
 use Rattle.gtid_set.proofs.CutLemmas.{kept_step}
 use Rattle.gtid_set.proofs.SpanLemmas.{nothing, merged_head}
-use Rattle.gtid_set.proofs.sweep.of_source.Goals as goal
+use Rattle.gtid_set.proofs.single.of_source.Goals as goal
 
 pub loop-span-init : goal.loop-span-init
 loop-span-init c =

@@ -4,7 +4,7 @@ use Rattle.std.proofs.lemmas.List.Sums.{sum_by-cons}
 use Rattle.gtid_set.specs.Spans.{is_merged}
 use Rattle.gtid_set.specs.Sweep.{size_of}
 use Rattle.gtid_set.proofs.SpanLemmas.{merged_head}
-use Rattle.gtid_set.proofs.sweep.count_numbers.Goals as goal
+use Rattle.gtid_set.proofs.single.count_numbers.Goals as goal
 
 pub overflow_sub-span : goal.overflow_sub-span
 overflow_sub-span c = (merged_head c.in-Some.span.now c.in-Some.more.now (sym (ap is_merged c.in-Some.ensures.cases.0) ∙ c.loop-span.invariant.merged)).filled

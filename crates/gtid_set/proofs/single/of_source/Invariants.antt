@@ -3,7 +3,7 @@ use Rattle.std.specs.List.{list_all}
 use Rattle.gtid_text.specs.declared.Gtid.{Gtid}
 use Rattle.gtid_set.specs.Spans.{is_merged, has}
 use Rattle.gtid_set.specs.Sweep.{all_before, is_kept}
-use Rattle.gtid_set.proofs.sweep.of_source.Given as goal
+use Rattle.gtid_set.proofs.single.of_source.Given as goal
 
 abbrev pub invariant-loop-span : goal.invariant-loop-span
 invariant-loop-span l = record {

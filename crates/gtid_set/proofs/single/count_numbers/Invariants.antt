@@ -2,7 +2,7 @@ use Rattle.std.proofs.Common.{length, ◌≡◌, ◌≤◌, ◌<◌, ◌+◌, �
 use Rattle.std.specs.Prelude.{sum_by}
 use Rattle.gtid_set.specs.Spans.{is_merged}
 use Rattle.gtid_set.specs.Sweep.{size_of}
-use Rattle.gtid_set.proofs.sweep.count_numbers.Given as goal
+use Rattle.gtid_set.proofs.single.count_numbers.Given as goal
 
 abbrev pub invariant-loop-span : goal.invariant-loop-span
 invariant-loop-span l = record {

@@ -1,0 +1,85 @@
+-- Laws of sets of GTIDs and of their text, as they are stated by public functions.
+use Rattle.std.specs.Prelude.{◌≡◌, ℕ, ◌<◌, ◌≤◌, true, List, Ok, Err}
+use Rattle.std.specs.FinSet as set
+use Rattle.gtid_text.specs.declared.Gtid.{Gtid}
+use Rattle.gtid_text.specs.Written.{IsSource, IsUsable}
+use Rattle.gtid_set.specs.declared.fault.SetFault.TheVariants.{SourcesFull}
+use Rattle.gtid_set.specs.declared.fault.SetTextFault.TheVariants.{Set}
+use Rattle.gtid_set.specs.Sets.{Gtids, source_count, most_sources}
+use Rattle.gtid_set.specs.Runs.{canonical}
+use Rattle.gtid_set.specs.Texts.{SpellsSet, set_in}
+
+-- ---- union
+
+abbrev pub UnionCommutes : Type 0
+UnionCommutes = (a b : Gtids) → set.union a b ≡ set.union b a
+
+abbrev pub UnionAssociates : Type 0
+UnionAssociates = (a b c : Gtids) → set.union (set.union a b) c ≡ set.union a (set.union b c)
+
+abbrev pub UnionRepeats : Type 0
+UnionRepeats = (a : Gtids) → set.union a a ≡ a
+
+-- both sets are parts of their union
+abbrev pub UnionIsUpper : Type 0
+UnionIsUpper = (a b : Gtids) → (set.is_subset a (set.union a b) ≡ true) × (set.is_subset b (set.union a b) ≡ true)
+
+-- what has both sets as parts has their union
+abbrev pub UnionIsLeast : Type 0
+UnionIsLeast = (a b c : Gtids) → set.is_subset a c ≡ true → set.is_subset b c ≡ true → set.is_subset (set.union a b) c ≡ true
+
+-- ---- difference
+
+abbrev pub UnionLess : Type 0
+UnionLess = (a b c : Gtids) → set.difference (set.union a b) c ≡ set.union (set.difference a c) (set.difference b c)
+
+abbrev pub LessUnion : Type 0
+LessUnion = (a b c : Gtids) → set.difference a (set.union b c) ≡ set.difference (set.difference a b) c
+
+abbrev pub LessBoth : Type 0
+LessBoth = (a b c : Gtids) → set.difference a (set.intersection b c) ≡ set.union (set.difference a b) (set.difference a c)
+
+-- ---- intersection
+
+abbrev pub BothOfUnion : Type 0
+BothOfUnion = (a b c : Gtids) → set.intersection (set.union a b) c ≡ set.union (set.intersection a c) (set.intersection b c)
+
+abbrev pub BothOfLess : Type 0
+BothOfLess = (a b c : Gtids) → set.intersection (set.difference a b) c ≡ set.difference (set.intersection a c) b
+
+-- ---- text
+
+-- each member is a GTID that some transaction may have
+abbrev pub AreUsable : Gtids → Type 0
+AreUsable s = (g : Gtid) → set.contains s g ≡ true → IsUsable g
+
+-- each member's source is one, whatever its number
+abbrev pub HaveSources : Gtids → Type 0
+HaveSources s = (g : Gtid) → set.contains s g ≡ true → IsSource g.source
+
+-- a text spells one set at most
+abbrev pub SpellsOne : Type 0
+SpellsOne = (text : List ℕ) (s t : Gtids) → SpellsSet text s → SpellsSet text t → s ≡ t
+
+-- the canonical text of a set spells it
+abbrev pub CanonicalSpells : Type 0
+CanonicalSpells = (s : Gtids) → AreUsable s → SpellsSet (canonical s) s
+
+-- what is spelled can be spelled canonically
+abbrev pub SpelledAgain : Type 0
+SpelledAgain = (text : List ℕ) (s : Gtids) → HaveSources s → SpellsSet text s → SpellsSet (canonical s) s
+
+-- sets with one canonical text are one
+abbrev pub CanonicalTells : Type 0
+CanonicalTells = (s t : Gtids) → AreUsable s → AreUsable t → canonical s ≡ canonical t → s ≡ t
+
+-- the answer to a text is a set that it spells
+abbrev pub AnswersSpelled : Type 0
+AnswersSpelled = (text : List ℕ) (s : Gtids) → set_in text ≡ Ok s → SpellsSet text s × (source_count s ≤ most_sources)
+
+-- a text that spells a set is answered that set, or that it has too many sources
+abbrev pub SpelledIsAnswered : Type 0
+SpelledIsAnswered = (text : List ℕ) (s : Gtids) → SpellsSet text s → source_count s ≤ most_sources → set_in text ≡ Ok s
+
+abbrev pub SpelledIsFull : Type 0
+SpelledIsFull = (text : List ℕ) (s : Gtids) → SpellsSet text s → most_sources < source_count s → set_in text ≡ Err (Set SourcesFull)

@@ -1,0 +1,45 @@
+//! Laws of sets of GTIDs and of their text.
+//!
+//! Each law is the contract of a function that does nothing.
+ghost use Rattle.gtid_set.specs.Laws.{UnionCommutes, UnionAssociates, UnionRepeats, UnionIsUpper, UnionIsLeast, UnionLess, LessUnion, LessBoth, BothOfUnion, BothOfLess, SpellsOne, CanonicalSpells, SpelledAgain, CanonicalTells, AnswersSpelled, SpelledIsAnswered, SpelledIsFull};
+
+/// Union depends neither on the order of the sets nor on how often one is named.
+pub fn union_is_free()
+    ensures commutes { UnionCommutes }
+    ensures associates { UnionAssociates }
+    ensures repeats { UnionRepeats }
+{}
+
+/// The union is the least set that has both sets as parts.
+pub fn union_is_least()
+    ensures upper { UnionIsUpper }
+    ensures least { UnionIsLeast }
+{}
+
+/// How difference goes with union and intersection.
+pub fn subtract_distributes()
+    ensures of_union { UnionLess }
+    ensures by_union { LessUnion }
+    ensures by_intersection { LessBoth }
+{}
+
+/// How intersection goes with union and difference.
+pub fn intersect_distributes()
+    ensures of_union { BothOfUnion }
+    ensures of_difference { BothOfLess }
+{}
+
+/// A text spells one set at most. The canonical text of a set spells it, and tells it from every other.
+pub fn text_reads_back()
+    ensures one { SpellsOne }
+    ensures spells { CanonicalSpells }
+    ensures again { SpelledAgain }
+    ensures tells { CanonicalTells }
+{}
+
+/// The one answer to a text is the set that it spells, where that has not too many sources, and is a set for no other text.
+pub fn text_is_answered()
+    ensures found { AnswersSpelled }
+    ensures only { SpelledIsAnswered }
+    ensures full { SpelledIsFull }
+{}
