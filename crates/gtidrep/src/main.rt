@@ -43,11 +43,13 @@ fn run(rt: &HostRuntime, words: &[String]) -> u8 {
             let mut writer = StdSink::new(io::writer(rt));
             exit_status(&apply_bundle(alloc, &mut reader, &mut writer, workers))
         }
-        Ok(Command::Set {
-            function,
-            first,
-            second,
-        }) => {
+        Ok(
+            Command::Set {
+                function,
+                first,
+                second,
+            },
+        ) => {
             let mut writer = StdSink::new(io::writer(rt));
             exit_status(&run_set(alloc, function, first, second, &mut writer))
         }
