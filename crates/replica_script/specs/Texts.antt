@@ -1,0 +1,68 @@
+-- The text of a journal, and the answer to a query. The words and their order are our own.
+use Rattle.std.specs.Prelude.{ℕ, Bool, true, false, List, [], ◌∷◌, ◌++◌, length, flat_map, slice_get, Option, Some, None, option_map, codes, decimal}
+use Rattle.gtid_text.specs.declared.Gtid.{Gtid}
+use Rattle.gtid_text.specs.Canonical.{gtid_text}
+use Rattle.gtid_set.specs.Sets.{Gtids}
+use Rattle.rows.specs.declared.change.Change.{Change}
+use Rattle.rows.specs.declared.change.Change.TheVariants.{Insert, Delete, Update}
+use Rattle.rows.specs.declared.change.Transaction.{Transaction}
+use Rattle.rows.specs.Listing.{rows_listed}
+use Rattle.journal.specs.declared.Entry.{Entry}
+use Rattle.journal.specs.Journals.{JournalValue}
+use Rattle.apply_channel.specs.Channels.{Received}
+use Rattle.gtid_report.specs.State.{values_text, row_line}
+use Rattle.replica_core.specs.State.{Replica, State, entry_at}
+use Rattle.replica_core.specs.Machine.{ask, drained}
+use Rattle.replica_script.specs.declared.question.Query.{Query}
+use Rattle.replica_script.specs.declared.question.Query.TheVariants as query
+use Rattle.replica_script.specs.Replies.{ended, set_text}
+
+-- ---- a journal
+
+abbrev pub change_text : Change → List ℕ
+change_text (Insert table after) = codes "ins " ++ table ++ values_text after ++ codes "\n"
+change_text (Delete table before) = codes "del " ++ table ++ values_text before ++ codes "\n"
+change_text (Update table before after) =
+    codes "upd " ++ table ++ values_text before ++ codes " |" ++ values_text after ++ codes "\n"
+
+abbrev pub entry_text : Entry → List ℕ
+entry_text e = codes "txn " ++ gtid_text e.gtid ++ codes "\n" ++ flat_map change_text e.txn.changes ++ codes "end\n"
+
+abbrev pub journal_text : JournalValue → List ℕ
+journal_text j =
+    codes "journal 1\nprevious " ++ set_text j.previous ++ codes "\n" ++ flat_map entry_text j.entries ++ codes "close\n"
+
+-- ---- queries
+
+-- a set, where there is one
+abbrev pub set_or_none : Option Gtids → List ℕ
+set_or_none None = codes "none"
+set_or_none (Some s) = set_text s
+
+-- how many changes a transaction has; one that is executed is gone
+abbrev pub changes_or_gone : Option Transaction → List ℕ
+changes_or_gone None = codes "gone"
+changes_or_gone (Some txn) = decimal (length txn.changes)
+
+-- an entry, where there is one
+abbrev pub entry_or_none : Option Received → List ℕ
+entry_or_none None = codes "none"
+entry_or_none (Some e) = gtid_text e.gtid ++ codes " " ++ changes_or_gone e.txn
+
+abbrev pub truth : Bool → List ℕ
+truth true = codes "true"
+truth false = codes "false"
+
+-- the set with which a channel would ask now, where there is that channel
+abbrev pub asks : State → ℕ → Option Gtids
+asks s channel = option_map (ask s) (slice_get s.channels channel)
+
+-- the lines that answer a query
+abbrev pub query_text : State → Query → List ℕ
+query_text s query.Rows = flat_map row_line (rows_listed s.rows)
+query_text s query.Executed = ended (set_text s.executed)
+query_text s query.Purged = ended (set_text s.journal.previous)
+query_text s query.Journal = journal_text s.journal
+query_text s query.Drained = ended (truth (drained s))
+query_text s (query.Ask channel) = ended (set_or_none (asks s channel))
+query_text s (query.Entry channel place) = ended (entry_or_none (entry_at s (record { channel = channel; place = place })))

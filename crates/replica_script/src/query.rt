@@ -1,0 +1,103 @@
+//! Answers to queries.
+ghost use Rattle.std.specs.Prelude.{◌≡◌, ◌++◌, IfOk, OnOk, string_bytes};
+ghost use Rattle.std.specs.Option.{option_copied};
+ghost use Rattle.replica_core.specs.State.{entry_at};
+ghost use Rattle.replica_script.specs.Replies.{ended, set_text};
+ghost use Rattle.replica_script.specs.Texts.{asks, changes_or_gone, entry_or_none, query_text, set_or_none, truth};
+
+use crate::own_journal::push_journal;
+use crate::question::Query;
+use crate::reply::{push_number, push_set};
+use gtid_report::render_rows;
+use gtid_set::{GtidSet, SetFault};
+use gtid_text::write_gtid;
+use replica_core::Core;
+use rows::Transaction;
+use std::alloc::{AllocError, Global};
+
+fn set_line(alloc: Global, set: &GtidSet) -> Result<String, AllocError>
+    ensures { IfOk result (λ text. string_bytes text ≡ ended (set_text set.now)) }
+{
+    let mut text = String::new(alloc);
+    push_set(alloc, &mut text, set)?;
+    text.push_str("\n")?;
+    Ok(text)
+}
+
+fn truth_line(alloc: Global, holds: bool) -> Result<String, AllocError>
+    ensures { IfOk result (λ text. string_bytes text ≡ ended (truth holds)) }
+{
+    if holds {
+        String::from_str(alloc, "true\n")
+    } else {
+        String::from_str(alloc, "false\n")
+    }
+}
+
+fn rows_text(alloc: Global, core: &Core) -> Result<String, AllocError>
+    ensures { IfOk result (λ text. string_bytes text ≡ query_text core.now.state Query.Rows) }
+{
+    let rows = core.rows().list_sorted(alloc)?;
+    let mut text = String::new(alloc);
+    render_rows(alloc, &mut text, &rows)?;
+    Ok(text)
+}
+
+fn journal_text(alloc: Global, core: &Core) -> Result<String, AllocError>
+    ensures { IfOk result (λ text. string_bytes text ≡ query_text core.now.state Query.Journal) }
+{
+    let mut text = String::new(alloc);
+    push_journal(alloc, &mut text, core.journal().as_journal())?;
+    Ok(text)
+}
+
+/// The line of the set with which a channel would ask now.
+fn ask_line(alloc: Global, core: &Core, channel: usize) -> Result<String, SetFault>
+    ensures { IfOk result (λ text. string_bytes text ≡ ended (set_or_none (asks core.now.state channel))) }
+{
+    match core.ask(alloc, channel)? {
+        Some(set) => Ok(set_line(alloc, &set)?),
+        None => Ok(String::from_str(alloc, "none\n")?),
+    }
+}
+
+fn push_changes(out: &mut String, txn: Option<&Transaction>) -> Result<(), AllocError>
+    ensures { OnOk result (string_bytes out.new ≡ string_bytes out.old ++ changes_or_gone (option_copied txn)) }
+{
+    match txn {
+        Some(txn) => push_number(out, txn.changes.as_slice().len() as u64),
+        None => out.push_str("gone"),
+    }
+}
+
+/// The line of the entry at a place of a channel.
+fn entry_line(alloc: Global, core: &Core, channel: usize, place: usize) -> Result<String, AllocError>
+    ensures { IfOk result (λ text. string_bytes text ≡ ended (entry_or_none (entry_at core.now.state (record { channel = channel; place = place })))) }
+{
+    let mut text = String::new(alloc);
+    match core.entry(channel, place) {
+        Some((gtid, txn)) => {
+            write_gtid(&mut text, gtid)?;
+            text.push_str(" ")?;
+            push_changes(&mut text, txn)?;
+        }
+        None => text.push_str("none")?,
+    }
+    text.push_str("\n")?;
+    Ok(text)
+}
+
+/// The lines that answer a query.
+pub fn query_text(alloc: Global, core: &Core, query: Query) -> Result<String, SetFault>
+    ensures { IfOk result (λ text. string_bytes text ≡ query_text core.now.state query) }
+{
+    match query {
+        Query::Rows => Ok(rows_text(alloc, core)?),
+        Query::Executed => Ok(set_line(alloc, core.executed())?),
+        Query::Purged => Ok(set_line(alloc, core.purged())?),
+        Query::Journal => Ok(journal_text(alloc, core)?),
+        Query::Drained => Ok(truth_line(alloc, core.drained())?),
+        Query::Ask(channel) => ask_line(alloc, core, channel),
+        Query::Entry(channel, place) => Ok(entry_line(alloc, core, channel, place)?),
+    }
+}
