@@ -3,6 +3,7 @@ use Rattle.std.specs.Prelude.{ℕ, Bool, true, false, List, [], ◌∷◌, ◌++
 use Rattle.gtid_text.specs.declared.Gtid.{Gtid}
 use Rattle.gtid_text.specs.Canonical.{gtid_text}
 use Rattle.gtid_set.specs.Sets.{Gtids}
+use Rattle.rows.specs.declared.value.Value.{Value}
 use Rattle.rows.specs.declared.change.Change.{Change}
 use Rattle.rows.specs.declared.change.Change.TheVariants.{Insert, Delete, Update}
 use Rattle.rows.specs.declared.change.Transaction.{Transaction}
@@ -19,11 +20,17 @@ use Rattle.replica_script.specs.Replies.{ended, set_text}
 
 -- ---- a journal
 
+-- the line of a change with one image, and of one with two
+abbrev pub image_line : List ℕ → List ℕ → List Value → List ℕ
+image_line word table image = word ++ table ++ values_text image ++ codes "\n"
+
+abbrev pub update_line : List ℕ → List Value → List Value → List ℕ
+update_line table before after = codes "upd " ++ table ++ values_text before ++ codes " |" ++ values_text after ++ codes "\n"
+
 abbrev pub change_text : Change → List ℕ
-change_text (Insert table after) = codes "ins " ++ table ++ values_text after ++ codes "\n"
-change_text (Delete table before) = codes "del " ++ table ++ values_text before ++ codes "\n"
-change_text (Update table before after) =
-    codes "upd " ++ table ++ values_text before ++ codes " |" ++ values_text after ++ codes "\n"
+change_text (Insert table after) = image_line (codes "ins ") table after
+change_text (Delete table before) = image_line (codes "del ") table before
+change_text (Update table before after) = update_line table before after
 
 abbrev pub entry_text : Entry → List ℕ
 entry_text e = codes "txn " ++ gtid_text e.gtid ++ codes "\n" ++ flat_map change_text e.txn.changes ++ codes "end\n"
@@ -44,10 +51,13 @@ abbrev pub changes_or_gone : Option Transaction → List ℕ
 changes_or_gone None = codes "gone"
 changes_or_gone (Some txn) = decimal (length txn.changes)
 
+abbrev pub shown_entry : Gtid → Option Transaction → List ℕ
+shown_entry gtid txn = gtid_text gtid ++ codes " " ++ changes_or_gone txn
+
 -- an entry, where there is one
 abbrev pub entry_or_none : Option Received → List ℕ
 entry_or_none None = codes "none"
-entry_or_none (Some e) = gtid_text e.gtid ++ codes " " ++ changes_or_gone e.txn
+entry_or_none (Some e) = shown_entry e.gtid e.txn
 
 abbrev pub truth : Bool → List ℕ
 truth true = codes "true"

@@ -1,13 +1,13 @@
 //! A journal as text.
 ghost use Rattle.std.specs.Prelude.{◌≡◌, ◌++◌, OnOk, flat_map, string_bytes};
 ghost use Rattle.gtid_report.specs.State.{values_text};
-ghost use Rattle.replica_script.specs.Texts.{change_text, entry_text, journal_text};
+ghost use Rattle.replica_script.specs.Texts.{change_text, entry_text, image_line, journal_text, update_line};
 
 use crate::reply::push_set;
 use gtid_text::write_gtid;
 use journal::{Entry, Journal};
 use journal_words::write_value;
-use rows::{Change, Value};
+use rows::{Change, Name, Row, Value};
 use std::alloc::{AllocError, Global};
 
 /// The words of values, each behind a blank.
@@ -21,33 +21,50 @@ fn push_values(alloc: Global, out: &mut String, values: &[Value]) -> Result<(), 
     Ok(())
 }
 
+fn one_image(
+    alloc: Global,
+    out: &mut String,
+    word: &str,
+    table: &Name,
+    image: &Row,
+) -> Result<(), AllocError>
+    ensures { OnOk result (string_bytes out.new ≡ string_bytes out.old ++ image_line word.now table.now image.now) }
+{
+    out.push_str(word)?;
+    out.push_str(table.as_str())?;
+    push_values(alloc, out, image.values())?;
+    out.push_str("\n")
+}
+
+fn two_images(
+    alloc: Global,
+    out: &mut String,
+    table: &Name,
+    before: &Row,
+    after: &Row,
+) -> Result<(), AllocError>
+    ensures { OnOk result (string_bytes out.new ≡ string_bytes out.old ++ update_line table.now before.now after.now) }
+{
+    out.push_str("upd ")?;
+    out.push_str(table.as_str())?;
+    push_values(alloc, out, before.values())?;
+    out.push_str(" |")?;
+    push_values(alloc, out, after.values())?;
+    out.push_str("\n")
+}
+
 fn push_change(alloc: Global, out: &mut String, change: &Change) -> Result<(), AllocError>
     ensures { OnOk result (string_bytes out.new ≡ string_bytes out.old ++ change_text change.now) }
 {
     match change {
-        Change::Insert { table, after } => {
-            out.push_str("ins ")?;
-            out.push_str(table.as_str())?;
-            push_values(alloc, out, after.values())?;
-        }
-        Change::Delete { table, before } => {
-            out.push_str("del ")?;
-            out.push_str(table.as_str())?;
-            push_values(alloc, out, before.values())?;
-        }
+        Change::Insert { table, after } => one_image(alloc, out, "ins ", table, after),
+        Change::Delete { table, before } => one_image(alloc, out, "del ", table, before),
         Change::Update {
             table,
             before,
             after,
-        } => {
-            out.push_str("upd ")?;
-            out.push_str(table.as_str())?;
-            push_values(alloc, out, before.values())?;
-            out.push_str(" |")?;
-            push_values(alloc, out, after.values())?;
-        }
+        } => two_images(alloc, out, table, before, after),
     }
-    out.push_str("\n")
 }
 
 fn push_changes(alloc: Global, out: &mut String, changes: &[Change]) -> Result<(), AllocError>

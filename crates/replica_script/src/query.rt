@@ -1,16 +1,15 @@
 //! Answers to queries.
 ghost use Rattle.std.specs.Prelude.{◌≡◌, ◌++◌, IfOk, OnOk, string_bytes};
 ghost use Rattle.std.specs.Option.{option_copied};
-ghost use Rattle.replica_core.specs.State.{entry_at};
 ghost use Rattle.replica_script.specs.Replies.{ended, set_text};
-ghost use Rattle.replica_script.specs.Texts.{asks, changes_or_gone, entry_or_none, query_text, set_or_none, truth};
+ghost use Rattle.replica_script.specs.Texts.{changes_or_gone, query_text, shown_entry, truth};
 
 use crate::own_journal::push_journal;
 use crate::question::Query;
 use crate::reply::{push_number, push_set};
 use gtid_report::render_rows;
 use gtid_set::{GtidSet, SetFault};
-use gtid_text::write_gtid;
+use gtid_text::{Gtid, write_gtid};
 use replica_core::Core;
 use rows::Transaction;
 use std::alloc::{AllocError, Global};
@@ -53,7 +52,7 @@ fn journal_text(alloc: Global, core: &Core) -> Result<String, AllocError>
 
 /// The line of the set with which a channel would ask now.
 fn ask_line(alloc: Global, core: &Core, channel: usize) -> Result<String, SetFault>
-    ensures { IfOk result (λ text. string_bytes text ≡ ended (set_or_none (asks core.now.state channel))) }
+    ensures { IfOk result (λ text. string_bytes text ≡ query_text core.now.state (Query.Ask channel)) }
 {
     match core.ask(alloc, channel)? {
         Some(set) => Ok(set_line(alloc, &set)?),
@@ -62,7 +61,7 @@ fn ask_line(alloc: Global, core: &Core, channel: usize) -> Result<String, SetFau
 }
 
 fn push_changes(out: &mut String, txn: Option<&Transaction>) -> Result<(), AllocError>
-    ensures { OnOk result (string_bytes out.new ≡ string_bytes out.old ++ changes_or_gone (option_copied txn)) }
+    ensures { OnOk result (string_bytes out.new ≡ string_bytes out.old ++ changes_or_gone (option_copied txn.entry)) }
 {
     match txn {
         Some(txn) => push_number(out, txn.changes.as_slice().len() as u64),
@@ -70,21 +69,25 @@ fn push_changes(out: &mut String, txn: Option<&Transaction>) -> Result<(), Alloc
     }
 }
 
-/// The line of the entry at a place of a channel.
-fn entry_line(alloc: Global, core: &Core, channel: usize, place: usize) -> Result<String, AllocError>
-    ensures { IfOk result (λ text. string_bytes text ≡ ended (entry_or_none (entry_at core.now.state (record { channel = channel; place = place })))) }
+fn shown_line(alloc: Global, gtid: Gtid, txn: Option<&Transaction>) -> Result<String, AllocError>
+    ensures { IfOk result (λ text. string_bytes text ≡ ended (shown_entry gtid (option_copied txn.entry))) }
 {
     let mut text = String::new(alloc);
-    match core.entry(channel, place) {
-        Some((gtid, txn)) => {
-            write_gtid(&mut text, gtid)?;
-            text.push_str(" ")?;
-            push_changes(&mut text, txn)?;
-        }
-        None => text.push_str("none")?,
-    }
+    write_gtid(&mut text, gtid)?;
+    text.push_str(" ")?;
+    push_changes(&mut text, txn)?;
     text.push_str("\n")?;
     Ok(text)
+}
+
+/// The line of the entry at a place of a channel.
+fn entry_line(alloc: Global, core: &Core, channel: usize, place: usize) -> Result<String, AllocError>
+    ensures { IfOk result (λ text. string_bytes text ≡ query_text core.now.state (Query.Entry channel place)) }
+{
+    let Some((gtid, txn)) = core.entry(channel, place) else {
+        return String::from_str(alloc, "none\n");
+    };
+    shown_line(alloc, gtid, txn)
 }
 
 /// The lines that answer a query.
