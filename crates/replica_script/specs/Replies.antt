@@ -51,8 +51,12 @@ row_fault_text fault =
 abbrev pub not_in_schema_text : NotInSchema → List ℕ
 not_in_schema_text fault = codes "NotInSchema(" ++ decimal fault.change ++ codes " " ++ misfit_word fault.cause ++ codes ")"
 
+-- a GTID with the fault of its transaction
+abbrev pub refusal_text : Gtid → RowFault → List ℕ
+refusal_text gtid fault = gtid_text gtid ++ codes " " ++ row_fault_text fault
+
 abbrev pub row_refused_text : Gtid → RowFault → List ℕ
-row_refused_text gtid fault = codes "RowRefused(" ++ gtid_text gtid ++ codes " " ++ row_fault_text fault ++ codes ")"
+row_refused_text gtid fault = codes "RowRefused(" ++ refusal_text gtid fault ++ codes ")"
 
 abbrev pub refused_text : RowFault → List ℕ
 refused_text fault = codes "Refused(" ++ row_fault_text fault ++ codes ")"

@@ -1,7 +1,7 @@
 //! Replies as lines.
 ghost use Rattle.std.specs.Prelude.{◌≡◌, ◌++◌, IfOk, OnOk, string_bytes, decimal};
 ghost use Rattle.gtid_text.specs.Canonical.{gtid_text};
-ghost use Rattle.replica_script.specs.Replies.{ended, set_text, within, misfit_word, row_fault_name, row_fault_place, row_fault_text, not_in_schema_text, row_refused_text, refused_text, reply_line};
+ghost use Rattle.replica_script.specs.Replies.{ended, set_text, within, misfit_word, row_fault_name, row_fault_place, row_fault_text, not_in_schema_text, refusal_text, row_refused_text, refused_text, reply_line};
 
 use gtid_set::GtidSet;
 use gtid_text::{Gtid, write_gtid};
@@ -108,13 +108,19 @@ fn not_in_schema(out: &mut String, fault: NotInSchema) -> Result<(), AllocError>
     out.push_str(")")
 }
 
+fn push_refusal(out: &mut String, gtid: Gtid, fault: RowFault) -> Result<(), AllocError>
+    ensures { OnOk result (string_bytes out.new ≡ string_bytes out.old ++ refusal_text gtid fault) }
+{
+    write_gtid(out, gtid)?;
+    out.push_str(" ")?;
+    push_row_fault(out, fault)
+}
+
 fn row_refused(out: &mut String, gtid: Gtid, fault: RowFault) -> Result<(), AllocError>
     ensures { OnOk result (string_bytes out.new ≡ string_bytes out.old ++ row_refused_text gtid fault) }
 {
     out.push_str("RowRefused(")?;
-    write_gtid(out, gtid)?;
-    out.push_str(" ")?;
-    push_row_fault(out, fault)?;
+    push_refusal(out, gtid, fault)?;
     out.push_str(")")
 }
 
