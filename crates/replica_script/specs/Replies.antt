@@ -52,11 +52,8 @@ abbrev pub not_in_schema_text : NotInSchema → List ℕ
 not_in_schema_text fault = codes "NotInSchema(" ++ decimal fault.change ++ codes " " ++ misfit_word fault.cause ++ codes ")"
 
 -- a GTID with the fault of its transaction
-abbrev pub refusal_text : Gtid → RowFault → List ℕ
+unfoldable pub refusal_text : Gtid → RowFault → List ℕ
 refusal_text gtid fault = gtid_text gtid ++ codes " " ++ row_fault_text fault
-
-abbrev pub row_refused_text : Gtid → RowFault → List ℕ
-row_refused_text gtid fault = codes "RowRefused(" ++ refusal_text gtid fault ++ codes ")"
 
 abbrev pub refused_text : RowFault → List ℕ
 refused_text fault = codes "Refused(" ++ row_fault_text fault ++ codes ")"
@@ -82,7 +79,7 @@ reply_line (reply.Blocked place) = within (codes "Blocked") (decimal place)
 reply_line (reply.Taken gtid) = within (codes "Taken") (gtid_text gtid)
 reply_line reply.SeatIdle = codes "SeatIdle"
 reply_line (reply.Early place) = within (codes "Early") (decimal place)
-reply_line (reply.RowRefused gtid fault) = row_refused_text gtid fault
+reply_line (reply.RowRefused gtid fault) = within (codes "RowRefused") (refusal_text gtid fault)
 reply_line (reply.Committed gtid) = within (codes "Committed") (gtid_text gtid)
 reply_line (reply.RolledBack gtid) = within (codes "RolledBack") (gtid_text gtid)
 reply_line reply.Restarted = codes "Restarted"

@@ -35,12 +35,12 @@ change_text (Update table before after) = update_line table before after
 abbrev pub entry_text : Entry → List ℕ
 entry_text e = codes "txn " ++ gtid_text e.gtid ++ codes "\n" ++ flat_map change_text e.txn.changes ++ codes "end\n"
 
--- the lines that stand before the entries
-abbrev pub head_lines : Gtids → List ℕ
-head_lines previous = codes "journal 1\nprevious " ++ set_text previous ++ codes "\n"
+-- the lines of a journal, behind its first bytes
+abbrev pub lines_behind : List ℕ → JournalValue → List ℕ
+lines_behind beginning j = beginning ++ set_text j.previous ++ codes "\n" ++ flat_map entry_text j.entries ++ codes "close\n"
 
 abbrev pub journal_text : JournalValue → List ℕ
-journal_text j = head_lines j.previous ++ flat_map entry_text j.entries ++ codes "close\n"
+journal_text j = lines_behind (codes "journal 1\nprevious ") j
 
 -- ---- queries
 

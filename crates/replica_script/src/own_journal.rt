@@ -1,10 +1,9 @@
 //! A journal as text.
 ghost use Rattle.std.specs.Prelude.{◌≡◌, ◌++◌, OnOk, flat_map, string_bytes};
 ghost use Rattle.gtid_report.specs.State.{values_text};
-ghost use Rattle.replica_script.specs.Texts.{change_text, entry_text, head_lines, image_line, journal_text, update_line};
+ghost use Rattle.replica_script.specs.Texts.{change_text, entry_text, image_line, journal_text, lines_behind, update_line};
 
 use crate::reply::push_set;
-use gtid_set::GtidSet;
 use gtid_text::write_gtid;
 use journal::{Entry, Journal};
 use journal_words::write_value;
@@ -96,20 +95,25 @@ fn push_entries(alloc: Global, out: &mut String, entries: &[Entry]) -> Result<()
     Ok(())
 }
 
-/// The lines that stand before a journal's entries.
-fn push_head(alloc: Global, out: &mut String, previous: &GtidSet) -> Result<(), AllocError>
-    ensures { OnOk result (string_bytes out.new ≡ string_bytes out.old ++ head_lines previous.now) }
+/// Appends the lines of a journal whose first bytes, up to its previous set, are these.
+fn push_lines(
+    alloc: Global,
+    out: &mut String,
+    beginning: &str,
+    journal: &Journal,
+) -> Result<(), AllocError>
+    ensures { OnOk result (string_bytes out.new ≡ string_bytes out.old ++ lines_behind beginning.now journal.now) }
 {
-    out.push_str("journal 1\nprevious ")?;
-    push_set(alloc, out, previous)?;
-    out.push_str("\n")
+    out.push_str(beginning)?;
+    push_set(alloc, out, journal.previous())?;
+    out.push_str("\n")?;
+    push_entries(alloc, out, journal.entries())?;
+    out.push_str("close\n")
 }
 
 /// Appends the lines of a journal.
 pub fn push_journal(alloc: Global, out: &mut String, journal: &Journal) -> Result<(), AllocError>
     ensures { OnOk result (string_bytes out.new ≡ string_bytes out.old ++ journal_text journal.now) }
 {
-    push_head(alloc, out, journal.previous())?;
-    push_entries(alloc, out, journal.entries())?;
-    out.push_str("close\n")
+    push_lines(alloc, out, "journal 1\nprevious ", journal)
 }

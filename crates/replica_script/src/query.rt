@@ -81,7 +81,12 @@ fn shown_line(alloc: Global, gtid: Gtid, txn: Option<&Transaction>) -> Result<St
 }
 
 /// The line of the entry at a place of a channel.
-fn entry_line(alloc: Global, core: &Core, channel: usize, place: usize) -> Result<String, AllocError>
+fn entry_line(
+    alloc: Global,
+    core: &Core,
+    channel: usize,
+    place: usize,
+) -> Result<String, AllocError>
     ensures { IfOk result (λ text. string_bytes text ≡ query_text core.now.state (Query.Entry channel place)) }
 {
     let Some((gtid, txn)) = core.entry(channel, place) else {

@@ -1,7 +1,7 @@
 //! Replies as lines.
 ghost use Rattle.std.specs.Prelude.{◌≡◌, ◌++◌, IfOk, OnOk, string_bytes, decimal};
 ghost use Rattle.gtid_text.specs.Canonical.{gtid_text};
-ghost use Rattle.replica_script.specs.Replies.{ended, set_text, within, misfit_word, row_fault_name, row_fault_place, row_fault_text, not_in_schema_text, refusal_text, row_refused_text, refused_text, reply_line};
+ghost use Rattle.replica_script.specs.Replies.{ended, set_text, within, misfit_word, row_fault_name, row_fault_place, row_fault_text, not_in_schema_text, refusal_text, refused_text, reply_line};
 
 use gtid_set::GtidSet;
 use gtid_text::{Gtid, write_gtid};
@@ -108,6 +108,7 @@ fn not_in_schema(out: &mut String, fault: NotInSchema) -> Result<(), AllocError>
     out.push_str(")")
 }
 
+#[tactic(auto, unfolding(crate::specs::Replies::refusal_text))]
 fn push_refusal(out: &mut String, gtid: Gtid, fault: RowFault) -> Result<(), AllocError>
     ensures { OnOk result (string_bytes out.new ≡ string_bytes out.old ++ refusal_text gtid fault) }
 {
@@ -116,10 +117,11 @@ fn push_refusal(out: &mut String, gtid: Gtid, fault: RowFault) -> Result<(), All
     push_row_fault(out, fault)
 }
 
-fn row_refused(out: &mut String, gtid: Gtid, fault: RowFault) -> Result<(), AllocError>
-    ensures { OnOk result (string_bytes out.new ≡ string_bytes out.old ++ row_refused_text gtid fault) }
+fn with_refusal(out: &mut String, name: &str, gtid: Gtid, fault: RowFault) -> Result<(), AllocError>
+    ensures { OnOk result (string_bytes out.new ≡ string_bytes out.old ++ within name.now (refusal_text gtid fault)) }
 {
-    out.push_str("RowRefused(")?;
+    out.push_str(name)?;
+    out.push_str("(")?;
     push_refusal(out, gtid, fault)?;
     out.push_str(")")
 }
@@ -156,7 +158,7 @@ fn push_reply(alloc: Global, out: &mut String, reply: &Reply) -> Result<(), Allo
         Reply::Taken(gtid) => with_gtid(out, "Taken", *gtid),
         Reply::SeatIdle => out.push_str("SeatIdle"),
         Reply::Early(place) => numbered(out, "Early", *place as u64),
-        Reply::RowRefused(gtid, fault) => row_refused(out, *gtid, *fault),
+        Reply::RowRefused(gtid, fault) => with_refusal(out, "RowRefused", *gtid, *fault),
         Reply::Committed(gtid) => with_gtid(out, "Committed", *gtid),
         Reply::RolledBack(gtid) => with_gtid(out, "RolledBack", *gtid),
         Reply::Restarted => out.push_str("Restarted"),

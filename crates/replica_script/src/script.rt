@@ -288,7 +288,12 @@ impl Stage {
     }
 
     /// Takes a line of a transaction, and asks the event with its last one.
-    fn take_change(&mut self, alloc: Global, pending: Pending, line: &[u8]) -> Result<String, Stop> {
+    fn take_change(
+        &mut self,
+        alloc: Global,
+        pending: Pending,
+        line: &[u8],
+    ) -> Result<String, Stop> {
         let mut pending = pending;
         feed_reader(alloc, &mut pending.reader, line)?;
         if line != b"end".as_slice() {
