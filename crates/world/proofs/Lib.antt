@@ -4,6 +4,7 @@ pub mod Contents
 pub mod Meanings
 pub mod Standing
 pub mod Saying
+pub mod Deciding
 pub mod OnePass
 pub mod Touching
 pub mod Gaps

@@ -1,5 +1,6 @@
 //! What the verdicts mean. Each function's contract is a law, and its body is empty.
 ghost use Rattle.world.specs.Cases.{VerdictsStand};
+ghost use Rattle.world.specs.Deciding.{WorkersDecide, ServedHoldsAll};
 ghost use Rattle.world.specs.Folds.{OnePassApplies, OnePassShares, OnePassCloses};
 ghost use Rattle.world.specs.Least.{MissingIsLeast, SharedIsLeast, FirstSourceFails};
 ghost use Rattle.world.specs.Meaning.{SoundMeansSound, SoundIsSaid, KeysSoundMeans};
@@ -24,6 +25,18 @@ pub fn keys_sound_mean()
 /// Each verdict but Sound names a case that stands.
 pub fn verdicts_stand()
     ensures { VerdictsStand }
+{}
+
+/// Where the audit of keys says Sound, a run that was served all journals and whose every channel is
+/// stopped or done has executed all that it received exactly where the audit says Sound.
+pub fn workers_decide()
+    ensures { WorkersDecide }
+{}
+
+/// Where it has executed all that it received, it has executed the opening set with all journals,
+/// and holds the rows that these stand for.
+pub fn served_holds_all()
+    ensures { ServedHoldsAll }
 {}
 
 /// Where the keys are sound, one pass over all transactions, in the order of GTIDs, finds the first

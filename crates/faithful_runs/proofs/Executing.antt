@@ -1,0 +1,85 @@
+-- A transaction is executed.
+use Rattle.std.proofs.Common.{◌≡◌, ◌≢◌, Bool, true, false, ◌||◌, inl, inr, Option, Some, None, Ok, refl, sym, ap, ◌∙◌, subst}
+use Rattle.std.specs.Prelude.{IsSome}
+use Rattle.std.specs.FinSet as set
+use Rattle.rows.specs.declared.change.Transaction.{Transaction}
+use Rattle.rows.specs.Apply.{Rows, apply}
+use Rattle.gtid_text.specs.declared.Gtid.{Gtid}
+use Rattle.gtid_text.specs.Gtids.{same_gtid}
+use Rattle.replica_core.specs.State.{State, Seats}
+use Rattle.replica_core.specs.Machine.{executing}
+use Rattle.source_history.specs.World.{World, content, is_opened, rows_of, AreKeysSound, IsClosed}
+use Rattle.source_history.specs.Commits.{with_one}
+use Rattle.source_history.proofs.Tests.{or_either, or_left, or_right}
+use Rattle.source_history.proofs.Gtids.{same_gtid_self, gtid_same, same_gtid_other}
+use Rattle.source_history.proofs.Closing.{closed_same}
+use Rattle.source_history.proofs.Committing.{adds_one}
+use Rattle.source_history.proofs.Merging.{late_commit, early_commit}
+use Rattle.faithful_runs.specs.Faithful.{Since}
+use Rattle.faithful_journals.proofs.Covering.{has, in_insert}
+use Rattle.faithful_journals.proofs.Keeping.{covered_push, journal_push}
+use Rattle.faithful_runs.proofs.Receiving.{all_settled, put_settled}
+use Rattle.faithful_runs.proofs.Seats.{IsFree, seats_over, seats_after}
+use Rattle.faithful_runs.proofs.Invariant.{AllApply, Needs, AreSeated, Invariant}
+
+-- sets with the same members stand for the same rows
+rows_of_same : (world : World) (S U : Gtid → Bool) → ((g : Gtid) → U g ≡ S g) → rows_of world U ≡ rows_of world S
+rows_of_same world S U same = λ i. rows_of world (λ g. same g i)
+
+is_some_of : {A : Type 0} (o : Option A) (x : A) → o ≡ Some x → IsSome o
+is_some_of (Some y) x e = refl
+is_some_of None x e = cc
+
+-- a closed set with one more, of which all that it needs is there
+pub closed_more : (world : World) (S : Gtid → Bool) (g : Gtid) (t : Transaction) → content world g ≡ Some t → ((h : Gtid) → Needs world h g → S h ≡ true) → IsClosed world S → IsClosed world (with_one S g)
+closed_more world S g t there needs c = record {
+  opened = λ h e. or_right (same_gtid h g) (S h) (c.opened h e);
+  known = λ h e. elim (or_either (same_gtid h g) (S h) e) [
+    | inl same ↦ inr (subst (λ (x : Gtid). IsSome (content world x)) (sym (gtid_same h g same)) (is_some_of (content world g) t there))
+    | inr old ↦ c.known h old
+  ];
+  earlier = λ a b x y f k s l m e. elim (or_either (same_gtid b g) (S b) e) [
+    | inl same ↦
+        let is_g : b ≡ g = gtid_same b g same in
+        or_right (same_gtid a g) (S a) (needs a (subst (Needs world a) is_g (record { t = x; u = y; content_h = f; content_g = k; source = s; number = l; shares = m })))
+    | inr old ↦ or_right (same_gtid a g) (S a) (c.earlier a b x y f k s l m old)
+  ];
+}
+
+pub absorb : (p q : Bool) → (p ≡ true → q ≡ true) → (p || q) ≡ q
+absorb true q h = sym (h refl)
+absorb false q h = refl
+
+pub executed_more : (s : State) (g h : Gtid) → set.contains (set.insert s.executed g) h ≡ with_one (set.contains s.executed) g h
+executed_more s g h = in_insert s.executed g h
+
+-- Where no history fails, a transaction whose needs are executed applies.
+pub must_apply : (world : World) (s : State) (since : Since) (g : Gtid) (t : Transaction) → AreKeysSound world → AllApply world → Invariant world s since
+    → content world g ≡ Some t → set.contains s.executed g ≡ false → ((h : Gtid) → Needs world h g → set.contains s.executed h ≡ true)
+    → (rows : Rows) × (apply world.schema t s.rows ≡ Ok rows)
+must_apply world s since g t sound all inv there new needs =
+    let S : Gtid → Bool = set.contains s.executed in
+    let step = late_commit world S (with_one S g) g t s.rows (record { keys = sound; alone = all }) inv.closed (closed_more world S g t there needs inv.closed) (adds_one S g new) there inv.rows in
+    (step.0, step.1)
+
+-- Where a transaction whose needs are executed applies, the state after it has the invariant.
+pub executing_keeps : (world : World) (s : State) (since : Since) (seats : Seats) (g : Gtid) (t : Transaction) → AreKeysSound world → Invariant world s since → AreSeated world (set.contains s.executed) s.channels seats → IsFree s.channels seats g
+    → content world g ≡ Some t → set.contains s.executed g ≡ false → ((h : Gtid) → Needs world h g → set.contains s.executed h ≡ true)
+    → (rows : Rows) → apply world.schema t s.rows ≡ Ok rows → Invariant world (executing (record { executed = s.executed; rows = s.rows; seats = seats; channels = s.channels; journal = s.journal }) g t rows) since
+executing_keeps world s since seats g t sound inv seated free there new needs rows applied =
+    let S : Gtid → Bool = set.contains s.executed in
+    let closed : IsClosed world (with_one S g) = closed_more world S g t there needs inv.closed in
+    let step = early_commit world S (with_one S g) g t s.rows rows sound inv.closed (adds_one S g new) there inv.rows applied in
+    let S' : Gtid → Bool = set.contains (set.insert s.executed g) in
+    let same : (h : Gtid) → S' h ≡ with_one S g h = executed_more s g in
+    let more : (h : Gtid) → S h ≡ true → S' h ≡ true = λ h e. same h ∙ or_right (same_gtid h g) (S h) e in
+    let others : (h : Gtid) → h ≢ g → S' h ≡ S h = λ h n. same h ∙ ap (λ b. b || S h) (same_gtid_other h g n) in
+    let now : S' g ≡ true = same g ∙ or_left (same_gtid g g) (S g) (same_gtid_self g) in
+    record {
+      closed = closed_same world (with_one S g) S' same closed;
+      rows = rows_of_same world (with_one S g) S' same ∙ step;
+      channels = all_settled world S S' since s.channels g more now inv.channels;
+      seats = seats_over world S' s.channels _ seats (put_settled s.channels g) (seats_after world S S' s.channels seats g more others free seated);
+      journal = journal_push world s.journal g t inv.journal there (inv.recorded g ∙ new) (closed_same world (with_one S g) (λ h. same_gtid h g || (is_opened world h || has s.journal h)) (λ h. ap (λ b. same_gtid h g || b) (ap (λ b. is_opened world h || b) (inv.recorded h) ∙ absorb (is_opened world h) (S h) (inv.closed.opened h))) closed);
+      recorded = λ h. covered_push s.journal.previous s.journal.entries g t h ∙ (ap (λ b. same_gtid h g || b) (inv.recorded h) ∙ sym (same h));
+    }

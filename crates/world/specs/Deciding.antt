@@ -1,0 +1,57 @@
+-- Runs that are served the journals of a bundle, and what they say of the audit.
+use Rattle.std.specs.Prelude.{◌≡◌, ℕ, true, ◌⊎◌, ◌↔◌, List, [], ◌∷◌, Some, None, Ok, slice_get}
+use Rattle.std.specs.FinSet as set
+use Rattle.gtid_set.specs.Sets.{Gtids}
+use Rattle.rows.specs.declared.schema.Table.{Table}
+use Rattle.rows.specs.Apply.{Rows}
+use Rattle.journal.specs.Journals.{JournalValue, whole}
+use Rattle.apply_channel.specs.Channels.{ChannelValue, Received}
+use Rattle.replica_core.specs.declared.event.Event.{Event}
+use Rattle.replica_core.specs.State.{State, Site}
+use Rattle.replica_core.specs.Machine.{after}
+use Rattle.source_history.specs.World.{rows_of}
+use Rattle.source_history.specs.Join.{join}
+use Rattle.faithful_runs.specs.Faithful.{start_with}
+use Rattle.faithful_runs.specs.Served.{IsDrained, NoLocalCommits, received_on}
+use Rattle.faithful_runs.specs.Whole.{WasServedOnce}
+use Rattle.world.specs.declared.verdict.Verdict.TheVariants.{Sound}
+use Rattle.world.specs.Audit.{world_of, verdict_of_keys, verdict}
+use Rattle.world.specs.Meaning.{AreJournals}
+
+-- The run serves each journal whole on the channel of its number, once; no other channel receives anything, and nothing commits here.
+pub record ServesAll (site : Site) (s : State) (journals : List JournalValue) (events : List Event) : Type 0 where
+  pub no_local : NoLocalCommits site s events
+  pub served : (c : ℕ) (journal : JournalValue) → slice_get journals c ≡ Some journal → WasServedOnce site s events c journal
+  pub nothing_else : (c : ℕ) → slice_get journals c ≡ None → received_on c site s events ≡ []
+
+-- each channel is stopped, or has all that it received executed
+abbrev pub AreStoppedOrDone : State → Type 0
+AreStoppedOrDone s = (c : ℕ) (channel : ChannelValue) → slice_get s.channels c ≡ Some channel
+    → (channel.stopped ≡ true) ⊎ ((p : ℕ) (e : Received) → slice_get channel.received p ≡ Some e → set.contains s.executed e.gtid ≡ true)
+
+-- Where the audit of keys says Sound, a run from the opening that was served each journal whole, and whose every channel is
+-- stopped or done, has executed all that it received exactly where the audit says Sound. The world may fail to apply.
+abbrev pub WorkersDecide : Type 0
+WorkersDecide = (site : Site) (opened : Gtids) (rows : Rows) (journals : List JournalValue) (events : List Event) → AreJournals journals
+    → verdict_of_keys (world_of site.schema opened rows journals) journals ≡ Sound
+    → ServesAll site (start_with opened rows) journals events
+    → AreStoppedOrDone (after site (start_with opened rows) events)
+    → IsDrained (after site (start_with opened rows) events) ↔ (verdict (world_of site.schema opened rows journals) journals ≡ Sound)
+
+-- the opening set with all that the journals have a record of
+abbrev pub all_of : Gtids → List JournalValue → Gtids
+all_of opened [] = opened
+all_of opened (j ∷ journals) = join (whole j) (all_of opened journals)
+
+-- the executed set and the rows of a state are those of all journals together
+pub record HoldsAll (schema : List Table) (opened : Gtids) (rows : Rows) (journals : List JournalValue) (s : State) : Type 0 where
+  pub executed : s.executed ≡ all_of opened journals
+  pub rows_are : rows_of (world_of schema opened rows journals) (set.contains (all_of opened journals)) ≡ Ok s.rows
+
+-- Where it has executed all that it received, it holds what all journals together stand for.
+abbrev pub ServedHoldsAll : Type 0
+ServedHoldsAll = (site : Site) (opened : Gtids) (rows : Rows) (journals : List JournalValue) (events : List Event) → AreJournals journals
+    → verdict_of_keys (world_of site.schema opened rows journals) journals ≡ Sound
+    → ServesAll site (start_with opened rows) journals events
+    → IsDrained (after site (start_with opened rows) events)
+    → HoldsAll site.schema opened rows journals (after site (start_with opened rows) events)
