@@ -14,3 +14,6 @@ mod take;
 
 pub use event::{Event, Reply, Spot};
 pub use machine::Core;
+
+#[cfg(test)]
+mod tests;
