@@ -4,5 +4,7 @@
 mod channel;
 mod places;
 mod slot;
+#[cfg(test)]
+mod tests;
 
 pub use channel::{Channel, ReceiveFault};
