@@ -2,8 +2,10 @@
 use Rattle.std.specs.Prelude.{ℕ, List, ◌++◌, codes, decimal}
 use Rattle.gtid_text.specs.declared.Gtid.{Gtid}
 use Rattle.gtid_text.specs.Canonical.{gtid_text}
+use Rattle.gtid_set.specs.Sets.{Gtids}
 use Rattle.rows.specs.declared.change.RowFault.{RowFault}
 use Rattle.rows.specs.declared.change.RowFault.TheVariants.{RowMissing, RowDiffers, DuplicateKey}
+use Rattle.gtid_report.specs.State.{set_word}
 
 -- a row fault's number
 abbrev pub row_fault_name : RowFault → List ℕ
@@ -21,3 +23,7 @@ abbrev pub does_not_apply_line : Gtid → RowFault → List ℕ
 does_not_apply_line gtid fault =
     codes "does-not-apply " ++ gtid_text gtid ++ row_fault_name fault ++ decimal (row_fault_place fault).0
     ++ codes " key " ++ decimal (row_fault_place fault).1
+
+-- a journal, counted from 0, and the GTIDs of its previous set that are missing
+abbrev pub purged_line : ℕ → Gtids → List ℕ
+purged_line journal missing = codes "purged " ++ decimal journal ++ codes " " ++ set_word missing

@@ -11,8 +11,8 @@ mod verdict;
 pub use fault::Fault;
 pub use refusal::{LineCause, Refusal, render_fault};
 pub use set_function::{Function, OfSource, OneSet, TwoSets};
-pub use state::render_rows;
-pub use verdict::render_does_not_apply;
+pub use state::render_state;
+pub use verdict::{render_does_not_apply, render_purged};
 
 #[cfg(test)]
 mod tests;

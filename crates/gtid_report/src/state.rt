@@ -1,8 +1,11 @@
-ghost use Rattle.std.specs.Prelude.{◌≡◌, ◌++◌, OnOk, flat_map, string_bytes};
-ghost use Rattle.gtid_report.specs.State.{values_text, row_line};
+ghost use Rattle.std.specs.Prelude.{◌≡◌, ◌++◌, IfOk, OnOk, flat_map, string_bytes};
+ghost use Rattle.gtid_text.specs.Canonical.{spans_text};
+ghost use Rattle.gtid_report.specs.State.{spans_word, set_word, values_text, row_line, state_text};
 
+use gtid_set::GtidSet;
+use gtid_text::{Span, write_next_span};
 use journal_words::write_value;
-use rows::{TableRow, Value};
+use rows::{Rows, TableRow, Value};
 use std::alloc::{AllocError, Global};
 
 /// The words of values, each behind a blank.
@@ -34,9 +37,44 @@ fn push_rows(alloc: Global, out: &mut String, rows: &[TableRow]) -> Result<(), A
     Ok(())
 }
 
-/// The line of each row, in the order of the list.
-pub fn render_rows(alloc: Global, out: &mut String, rows: &[TableRow]) -> Result<(), AllocError>
-    ensures { OnOk result (string_bytes out.new ≡ string_bytes out.old ++ flat_map row_line rows.now) }
+/// Intervals, each behind the one before.
+fn push_spans(out: &mut String, spans: &[Span]) -> Result<(), AllocError>
+    ensures { OnOk result (string_bytes out.new ≡ string_bytes out.old ++ spans_text spans.now) }
 {
-    push_rows(alloc, out, rows)
+    let mut before = None;
+    for span in spans {
+        write_next_span(out, before, *span)?;
+        before = Some(span.source);
+    }
+    Ok(())
+}
+
+fn push_word(out: &mut String, spans: &[Span]) -> Result<(), AllocError>
+    ensures { OnOk result (string_bytes out.new ≡ string_bytes out.old ++ spans_word spans.now) }
+{
+    if spans.is_empty() {
+        return out.push_str("-");
+    }
+    push_spans(out, spans)
+}
+
+/// Appends the word of a set: its canonical text, or `-` where it is empty.
+pub(crate) fn push_set(alloc: Global, out: &mut String, set: &GtidSet) -> Result<(), AllocError>
+    ensures { OnOk result (string_bytes out.new ≡ string_bytes out.old ++ set_word set.now) }
+{
+    let spans = set.spans(alloc)?;
+    push_word(out, &spans)
+}
+
+/// The printed lines of a state: the executed set, and each row.
+pub fn render_state(alloc: Global, executed: &GtidSet, rows: &Rows) -> Result<String, AllocError>
+    ensures { IfOk result (λ text. string_bytes text ≡ state_text executed.now rows.now.rows) }
+{
+    let mut text = String::new(alloc);
+    text.push_str("executed ")?;
+    push_set(alloc, &mut text, executed)?;
+    text.push_str("\n")?;
+    let list = rows.list_sorted(alloc)?;
+    push_rows(alloc, &mut text, &list)?;
+    Ok(text)
 }

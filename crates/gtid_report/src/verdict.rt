@@ -1,7 +1,9 @@
 ghost use Rattle.std.specs.Prelude.{◌≡◌, ◌++◌, IfOk, OnOk, string_bytes};
-ghost use Rattle.gtid_report.specs.Verdicts.{row_fault_name, row_fault_place, does_not_apply_line};
+ghost use Rattle.gtid_report.specs.Verdicts.{row_fault_name, row_fault_place, does_not_apply_line, purged_line};
 
 use crate::refusal::push_number;
+use crate::state::push_set;
+use gtid_set::GtidSet;
 use gtid_text::{Gtid, write_gtid};
 use rows::RowFault;
 use std::alloc::{AllocError, Global};
@@ -43,5 +45,17 @@ pub fn render_does_not_apply(
     push_number(&mut line, u64::from(change))?;
     line.push_str(" key ")?;
     push_number(&mut line, u64::from(key))?;
+    Ok(line)
+}
+
+/// The printed line of a journal, counted from 0, whose previous set lacks these GTIDs in the opening set, without the line feed.
+pub fn render_purged(alloc: Global, journal: usize, missing: &GtidSet) -> Result<String, AllocError>
+    ensures { IfOk result (λ line. string_bytes line ≡ purged_line journal missing.now) }
+{
+    let mut line = String::new(alloc);
+    line.push_str("purged ")?;
+    push_number(&mut line, journal as u64)?;
+    line.push_str(" ")?;
+    push_set(alloc, &mut line, missing)?;
     Ok(line)
 }

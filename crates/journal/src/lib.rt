@@ -243,6 +243,13 @@ impl Journal {
         &self.entries
     }
 
+    /// Each entry of a journal can be written.
+    pub fn entries_are_writable(&self)
+        ensures { list_all is_writable self.now.entries ≡ true }
+    {
+        let _ = &self.entries;
+    }
+
     /// How many entries there are.
     pub fn len(&self) -> usize
         ensures { result ≡ length self.now.entries }
