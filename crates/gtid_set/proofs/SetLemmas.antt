@@ -47,14 +47,14 @@ none : (b : Bool) (n a : ℕ) → false ≡ (b && (nat_le a n && nat_lt n (a + 0
 none true n a = grind (arith, nat_tests)
 none false n a = refl
 
-any-numbers : (source : ℕ) (g : Gtid) (a n : ℕ) → list_any (eq_by_cmp gtid_cmp g) (map (gtid source) (range_with_len a n)) ≡ ((g.source == source) && (nat_le a g.number && nat_lt g.number (a + n)))
+pub any-numbers : (source : ℕ) (g : Gtid) (a n : ℕ) → list_any (eq_by_cmp gtid_cmp g) (map (gtid source) (range_with_len a n)) ≡ ((g.source == source) && (nat_le a g.number && nat_lt g.number (a + n)))
 any-numbers source g a zero = none (g.source == source) g.number a
 any-numbers source g a (suc n) =
     (λ i. gtid_tied g (gtid source a) i || any-numbers source g (a + 1) n i)
     ∙ both_or (g.source == source) (g.number == a) _
     ∙ ap (λ b. (g.source == source) && b) (next g.number a n)
 
-ends : (n lo hi : ℕ) → (nat_le lo n && nat_lt n (lo + (hi + 1 - lo))) ≡ (nat_le lo n && nat_le n hi)
+pub ends : (n lo hi : ℕ) → (nat_le lo n && nat_lt n (lo + (hi + 1 - lo))) ≡ (nat_le lo n && nat_le n hi)
 ends n lo hi = grind (arith, nat_tests)
 
 pub contains-interval : (source lo hi : ℕ) (g : Gtid) → set.contains (interval source lo hi) g ≡ covers source lo hi g

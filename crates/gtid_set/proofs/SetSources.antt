@@ -4,17 +4,19 @@ use Rattle.std.specs.Prelude.{◌==◌, MatchBool, IsTrue, ◌↔◌}
 use Rattle.std.specs.List.{list_all, list_any}
 use Rattle.std.specs.FinSet as set
 use Rattle.std.specs.Ordering.{nat_cmp, eq_by_cmp}
+use Rattle.std.specs.declared.cmp.Ordering.TheVariants.{Equal}
 use Rattle.std.specs.Cmp.{nat_cmp_total, unsigned_tied}
 use Rattle.std.proofs.lemmas.Bool.Decides.{nat_tests}
 use Rattle.std.proofs.lemmas.List.{append-nil}
 use Rattle.gtid_text.specs.declared.Gtid.{Gtid}
 use Rattle.gtid_text.specs.declared.Span.{Span}
 use Rattle.gtid_text.specs.Gtids.{gtid_cmp}
-use Rattle.gtid_set.specs.Sets.{Gtids, gtid, interval, covers, sources_of, source_count, most_sources}
+use Rattle.gtid_set.specs.Sets.{Gtids, gtid, interval, covers, only, without, kept_sources, sources_of, source_count, most_sources}
 use Rattle.gtid_set.specs.Spans.{set_of, has, is_merged}
-use Rattle.gtid_set.specs.Sweep.{IsListOf, IsWithin, IsNotWithin, AreApart, HaveCommon, KnowsSource, sources_in, within}
-use Rattle.gtid_set.proofs.SetLemmas.{same_members, gtid_total, gtid_tied, contains-set_of, contains-interval, set_of-append}
-use Rattle.gtid_set.proofs.SpanLemmas.{both, merged_filled, all_joined}
+use Rattle.gtid_set.specs.Sweep.{IsListOf, IsWithin, IsNotWithin, AreApart, HaveCommon, KnowsSource, is_kept, is_from, sources_in, within}
+use Rattle.gtid_set.proofs.SetLemmas.{same_members, gtid_total, gtid_tied, gtid_same, contains-set_of, contains-interval, set_of-append}
+use Rattle.gtid_set.proofs.SetLemmas.{AreApart as AreDisjoint}
+use Rattle.gtid_set.proofs.SpanLemmas.{both, merged_filled, all_joined, merged_head, has_later}
 use Rattle.gtid_set.proofs.SourceLemmas.{same_numbers, contains-sources_in, len_besides}
 
 pub same_bool : (a b : Bool) → (a ≡ true → b ≡ true) → (b ≡ true → a ≡ true) → a ≡ b
@@ -365,3 +367,55 @@ disjoint_held false xs ys m = (
       let empty = ap (λ s. set.contains s m.0) none ∙ set.contains-empty gtid_cmp m.0 in
       absurd cc,
 )
+
+-- two lists of one set, and of two
+pub differ_held : (xs ys : List Span) → IsNotWithin (has xs) (has ys) → set_of xs ≡ set_of ys → ⊥
+differ_held xs ys m e =
+    let there = sym (contains-set_of ys m.0) ∙ ap (λ s. set.contains s m.0) (sym e) ∙ contains-set_of xs m.0 ∙ m.1 in
+    let none = m.2 in
+    absurd cc
+
+pub equal_held : (b : Bool) (xs ys : List Span) → IsWithin (has xs) (has ys) → MatchBool b (IsWithin (has ys) (has xs)) (IsNotWithin (has ys) (has xs)) → IsTrue b ↔ (set_of xs ≡ set_of ys)
+equal_held true xs ys w m = (λ _. same_members (set_of xs) (set_of ys) (λ q. contains-set_of xs q ∙ same_bool (has xs q) (has ys q) (w q) (m q) ∙ sym (contains-set_of ys q)), λ _. refl)
+equal_held false xs ys w m = (λ h. absurd cc, λ e. absurd (differ_held ys xs m (sym e)))
+
+-- the sets of one source's spans, and of the others
+same_source_test : (q x : Gtid) → gtid_cmp q x ≡ Equal → q ≡ x
+same_source_test q x e = gtid_same q x e
+
+only_kept : (a b : Bool) → (a && cond b true (not true)) ≡ (a && b)
+only_kept a true = refl
+only_kept a false = refl
+
+without_kept : (a b : Bool) → (a && cond b false (not false)) ≡ (a && not b)
+without_kept a true = refl
+without_kept a false = refl
+
+pub kept_held : (ss new : List Span) (source : ℕ) (wanted : Bool) → IsListOf (λ q. has ss q && is_kept source wanted q.source) new → set_of new ≡ kept_sources (set_of ss) source wanted
+unfolding only without
+kept_held ss new source true l = set_of_list (λ q. has ss q && is_kept source true q.source) new (only (set_of ss) source) l (λ q.
+    set.contains-retain (set_of ss) (λ g. g.source == source) q (λ x e. ap (λ g. g.source == source) (sym (same_source_test q x e)))
+    ∙ ap (λ b. b && (q.source == source)) (contains-set_of ss q) ∙ sym (only_kept (has ss q) (q.source == source)))
+kept_held ss new source false l = set_of_list (λ q. has ss q && is_kept source false q.source) new (without (set_of ss) source) l (λ q.
+    set.contains-retain (set_of ss) (λ g. not (g.source == source)) q (λ x e. ap (λ g. not (g.source == source)) (sym (same_source_test q x e)))
+    ∙ ap (λ b. b && not (q.source == source)) (contains-set_of ss q) ∙ sym (without_kept (has ss q) (q.source == source)))
+
+-- a merged list's spans are apart, so their lengths add up
+pub apart_merged : (ss : List Span) → is_merged ss ≡ true → AreDisjoint ss
+apart_merged [] m = tt
+apart_merged (s ∷ ss) m =
+    let h = merged_head s ss m in
+    (λ n lo hi. contains-set_of ss (gtid s.source n) ∙ has_later s ss (gtid s.source n) h.after (from n hi), apart_merged ss h.tail)
+  where
+    from : (n : ℕ) → n ≤ s.hi → is_from (gtid s.source n) (gtid s.source (s.hi + 1)) ≡ true
+    from n hi = grind (arith, nat_tests)
+
+pub counted_filled : (xs : List Span) → list_all (λ s. nat_le s.lo s.hi) xs ≡ true → set.len (sources_in (xs ++ [])) ≡ source_count (set_of xs)
+counted_filled xs f = ap (λ ss. set.len (sources_in ss)) (append-nil xs) ∙ sym (ap set.len (sources_of-set_of xs f))
+
+pub set_of_gathered : (xs new : List Span) → IsListOf (λ q. has xs q || has [] q) new → set_of new ≡ set_of xs
+set_of_gathered xs new l = set_of_list (λ q. has xs q || has [] q) new (set_of xs) l (λ q. contains-set_of xs q ∙ or-false (has xs q))
+  where
+    or-false : (a : Bool) → a ≡ (a || false)
+    or-false true = refl
+    or-false false = refl

@@ -1,5 +1,5 @@
 -- What one pass over lists of spans keeps.
-use Rattle.std.specs.Prelude.{◌≡◌, ℕ, Bool, true, false, not, ◌&&◌, ◌||◌, ◌==◌, ◌≤◌, ◌+◌, ◌-◌, ◌<◌, max, min, length, take, drop, map, nat_le, nat_lt, List, [], ◌∷◌, ◌++◌, Option, Some, None, MatchBool}
+use Rattle.std.specs.Prelude.{◌≡◌, ℕ, Bool, true, false, not, ◌&&◌, ◌||◌, ◌==◌, ◌≤◌, ◌+◌, ◌-◌, ◌<◌, max, min, length, take, drop, map, nat_le, nat_lt, List, [], ◌∷◌, ◌++◌, Option, Some, None, MatchBool, if◌then◌else◌}
 use Rattle.std.specs.List.{list_all, list_any}
 use Rattle.std.specs.FinSet as set
 use Rattle.std.specs.Ordering.{nat_cmp}
@@ -165,3 +165,11 @@ pub record HasSpan (spans : List Span) (q : Gtid) (s : Span) : Type 0 where
   pub reaches : q.number ≤ s.hi
   pub all : (n : ℕ) → q.number ≤ n → n ≤ s.hi → has spans (gtid q.source n) ≡ true
   pub ended : has spans (gtid q.source (s.hi + 1)) ≡ false
+
+-- whether a source is the wanted one, or one of the others
+abbrev pub is_kept : ℕ → Bool → ℕ → Bool
+is_kept source wanted other = if other == source then wanted else not wanted
+
+-- how many numbers a span has
+abbrev pub size_of : Span → ℕ
+size_of s = s.hi + 1 - s.lo

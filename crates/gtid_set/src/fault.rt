@@ -1,6 +1,7 @@
 ghost use Rattle.std.specs.Prelude.{◌≡◌};
 ghost use Rattle.gtid_set.specs.declared.fault.SetFault.TheVariants.{Memory};
 
+use gtid_text::TextFault;
 use std::alloc::{AllocError, AllocFailed};
 use thiserror::Error;
 
@@ -32,4 +33,15 @@ impl<T: Drop> From<AllocFailed<T>> for SetFault {
     fn from(_e: AllocFailed<T>) -> SetFault {
         SetFault::Memory
     }
+}
+
+/// Why a text was not read as a set.
+#[derive(Clone, Copy, Debug, PartialEq, Eq, Error)]
+pub enum SetTextFault {
+    /// The text spells no set, or a growth of memory was refused while it was read.
+    #[error("{0}")]
+    Text(TextFault),
+    /// The set could not be made.
+    #[error("{0}")]
+    Set(SetFault),
 }

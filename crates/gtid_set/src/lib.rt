@@ -1,19 +1,24 @@
 //! Sets of GTIDs.
 #![tactic(auto)]
 
-ghost use Rattle.std.specs.Prelude.{◌≡◌, ◌≤◌, ◌<◌, ◌↔◌, ℕ, IsTrue, true, IfOk, IfErr, IfSome, IfNone, OnOk, OnErr, IsOkUnless, MatchResult};
+ghost use Rattle.std.specs.Prelude.{◌≡◌, ◌≤◌, ◌<◌, ◌↔◌, ℕ, IsTrue, true, IfOk, IfErr, IfSome, IfNone, OnOk, OnErr, IsOkUnless, string_bytes, true, List, nat_le, MatchResult};
+ghost use Rattle.std.specs.List.{list_all};
 ghost use Rattle.std.specs.FinSet as set;
 ghost use Rattle.gtid_set.specs.declared.fault.SetFault.TheVariants.{Memory, SourcesFull};
-ghost use Rattle.gtid_set.specs.Sets.{interval, least_unused, most_sources, source_count, sources_of};
+ghost use Rattle.gtid_set.specs.Sets.{Gtids, interval, only, without, kept_sources, least_unused, most_sources, source_count, sources_of};
 ghost use Rattle.gtid_set.specs.Spans.{set_of, is_merged};
+ghost use Rattle.gtid_set.specs.Runs.{runs, canonical};
+ghost use Rattle.gtid_set.specs.Texts.{SpellsSet, RefusesSet, IsReadAs, GivesSet, set_in};
+ghost use Rattle.gtid_set.specs.Sweep.{rises};
 ghost use Rattle.gtid_set.specs.Full.{IsFullExactly, IsKept};
 
 mod fault;
 mod sweep;
+mod text;
 
-pub use fault::SetFault;
-use gtid_text::{Gtid, SourceId, Span};
-use std::alloc::Global;
+pub use fault::{SetFault, SetTextFault};
+use gtid_text::{Gtid, SourceId, Span, parse_spans};
+use std::alloc::{AllocError, Global};
 use std::marker::Model;
 
 /// The most sources that a set may have. Our own rule.
@@ -109,6 +114,52 @@ fn common(alloc: Global, left: &[Span], right: &[Span]) -> Result<GtidSet, SetFa
     ensures fault { IsOkUnless result Memory }
 {
     let Ok(spans) = sweep::intersection_of(alloc, left, right) else {
+        return Err(SetFault::Memory);
+    };
+    Ok(made(spans))
+}
+
+/// The set of spans that are sorted by where they start, none of them reversed.
+fn gathered(alloc: Global, spans: &[Span]) -> Result<GtidSet, SetFault>
+    requires rises { rises spans.now ≡ true }
+    requires filled { list_all (λ s. nat_le s.lo s.hi) spans.now ≡ true }
+    ensures ok { IfOk result (λ s. s ≡ set_of spans.now) }
+    ensures full { IsFullExactly result (set_of spans.now) }
+{
+    if sweep::count_sources(spans, &[]) > u128::from(MOST_SOURCES) {
+        return Err(SetFault::SourcesFull);
+    }
+    let Ok(merged) = sweep::union_of(alloc, spans, &[]) else {
+        return Err(SetFault::Memory);
+    };
+    Ok(made(merged))
+}
+
+/// Whether two merged lists of spans are of one set.
+fn are_equal(left: &[Span], right: &[Span]) -> bool
+    requires left { is_merged left.now ≡ true }
+    requires right { is_merged right.now ≡ true }
+    ensures { IsTrue result ↔ (set_of left.now ≡ set_of right.now) }
+{
+    if !sweep::is_within(left, right) {
+        return false;
+    }
+    sweep::is_within(right, left)
+}
+
+/// The set of one source's GTIDs in a merged list of spans, or of the others.
+fn of_source(
+    alloc: Global,
+    spans: &[Span],
+    source: SourceId,
+    wanted: bool,
+) -> Result<GtidSet, SetFault>
+    requires merged { is_merged spans.now ≡ true }
+    requires fits { source_count (set_of spans.now) ≤ most_sources }
+    ensures ok { IfOk result (λ s. s ≡ kept_sources (set_of spans.now) source wanted) }
+    ensures fault { IsOkUnless result Memory }
+{
+    let Ok(spans) = sweep::of_source(alloc, spans, source, wanted) else {
         return Err(SetFault::Memory);
     };
     Ok(made(spans))
@@ -226,5 +277,75 @@ impl GtidSet {
             Some(span) if span.hi < GREATEST => Some(span.hi + 1),
             Some(_) => None,
         }
+    }
+
+    /// The longest runs of numbers of the set, by source and number.
+    pub fn spans(&self, alloc: Global) -> Result<Vec<Span>, AllocError>
+        ensures runs { IfOk result (λ v. v.items ≡ runs self.now) }
+        ensures merged { IfOk result (λ v. is_merged v.items ≡ true) }
+        ensures stand { IfOk result (λ v. set_of v.items ≡ self.now) }
+    {
+        let mut list = Vec::new(alloc);
+        list.extend_from_slice(&self.spans)?;
+        Ok(list)
+    }
+
+    /// Reads the text of a set, whatever the order of its intervals.
+    pub fn from_text(alloc: Global, text: &str) -> Result<GtidSet, SetTextFault>
+        // What is read is spelled so.
+        ensures found { IfOk result (λ s. SpellsSet text.now s) }
+        // What is spelled so is read, if memory and its sources allow.
+        ensures only { (s : Gtids) → SpellsSet text.now s → IsReadAs result s }
+        // It is refused where the text spells no set, or one with too many sources.
+        ensures refused { IfErr result (λ fault. RefusesSet fault text.now) }
+        // Which refusal it is.
+        ensures exact { GivesSet result (set_in text.now) }
+    {
+        let mut spans = match parse_spans(alloc, text) {
+            Ok(spans) => spans,
+            Err(fault) => return Err(SetTextFault::Text(fault)),
+        };
+        text::sort_by_start(&mut spans);
+        match gathered(alloc, &spans) {
+            Ok(set) => Ok(set),
+            Err(fault) => Err(SetTextFault::Set(fault)),
+        }
+    }
+
+    /// The canonical text: sources in lower case and rising, the longest runs rising, one comma and nothing else between sources. Our own rule.
+    pub fn to_text(&self, alloc: Global) -> Result<String, AllocError>
+        ensures { IfOk result (λ t. string_bytes t ≡ canonical self.now) }
+    {
+        text::written(alloc, &self.spans)
+    }
+
+    /// Whether the sets have the same GTIDs.
+    pub fn is_equal(&self, other: &GtidSet) -> bool
+        ensures { IsTrue result ↔ (self.now ≡ other.now) }
+    {
+        are_equal(&self.spans, &other.spans)
+    }
+
+    /// The GTIDs of one source.
+    pub fn only(&self, alloc: Global, source: SourceId) -> Result<GtidSet, SetFault>
+        ensures ok { IfOk result (λ s. s ≡ only self.now source) }
+        ensures fault { IsOkUnless result Memory }
+    {
+        of_source(alloc, &self.spans, source, true)
+    }
+
+    /// The GTIDs of all sources but one.
+    pub fn without(&self, alloc: Global, source: SourceId) -> Result<GtidSet, SetFault>
+        ensures ok { IfOk result (λ s. s ≡ without self.now source) }
+        ensures fault { IsOkUnless result Memory }
+    {
+        of_source(alloc, &self.spans, source, false)
+    }
+
+    /// How many GTIDs the set has.
+    pub fn count(&self) -> u128
+        ensures { result ≡ set.len self.now }
+    {
+        sweep::count_numbers(&self.spans)
     }
 }

@@ -1,10 +1,10 @@
 //! One pass over merged lists of spans.
-ghost use Rattle.std.specs.Prelude.{◌≡◌, true, false, ◌&&◌, ◌||◌, not, IsTrue, OnOk, IfOk, MatchOption, MatchBool, IfSome, OnErr, ◌+◌, ◌-◌, take, drop, length, ◌∷◌, ◌++◌, [], ◌≤◌, ◌<◌, if◌then◌else◌};
+ghost use Rattle.std.specs.Prelude.{◌≡◌, true, false, ◌&&◌, ◌||◌, not, IsTrue, OnOk, IfOk, MatchOption, MatchBool, IfSome, OnErr, ◌+◌, ◌-◌, take, drop, length, ◌∷◌, ◌++◌, [], ◌≤◌, ◌<◌, if◌then◌else◌, sum_by};
 ghost use Rattle.std.specs.FinSet as set;
 ghost use Rattle.gtid_text.specs.declared.Gtid.{Gtid};
 ghost use Rattle.gtid_set.specs.Sets.{gtid};
 ghost use Rattle.gtid_set.specs.Spans.{ends_before, is_before, is_merged, has};
-ghost use Rattle.gtid_set.specs.Sweep.{IsRest, Joins, AddsFront, Cuts, Overlaps, Meets, TakesFirst, IsListOf, Absorbs, IsPlace, HasSpan, hull, IsWithin, IsNotWithin, AreApart, HaveCommon, sources_in, is_new, KnowsSource, all_start_by, all_before, all_reach, all_touch, rises, is_met, is_inside, start_of, within, is_from};
+ghost use Rattle.gtid_set.specs.Sweep.{IsRest, Joins, AddsFront, Cuts, Overlaps, Meets, TakesFirst, IsListOf, Absorbs, IsPlace, HasSpan, hull, IsWithin, IsNotWithin, AreApart, HaveCommon, sources_in, is_new, KnowsSource, is_kept, size_of, all_start_by, all_before, all_reach, all_touch, rises, is_met, is_inside, start_of, within, is_from};
 
 use gtid_text::{Gtid, SourceId, Span};
 use std::alloc::{AllocError, Global};
@@ -439,8 +439,8 @@ fn seek<'a>(spans: &'a [Span], span: &Span) -> &'a [Span]
     ensures { IsRest span.now spans.now result.now }
 {
     let at = spans.partition_point(|s| ends_before(s, span));
-    let (_, rest) = spans.split_at(at);
-    rest
+    let (_, found) = spans.split_at(at);
+    found
 }
 
 /// The span that has a GTID, if there is one.
@@ -475,4 +475,55 @@ pub fn has_source(spans: &[Span], source: SourceId) -> bool
         None => false,
         Some((first, _)) => first.source == source,
     }
+}
+
+/// Adds a span at the end where it is wanted.
+fn push_if(out: &mut Vec<Span>, span: &Span, wanted: bool) -> Result<(), AllocError>
+    ensures { OnOk result (out.new.items ≡ (if wanted then out.old.items ++ span.now ∷ [] else out.old.items)) }
+{
+    if wanted {
+        out.push(*span)?;
+        return Ok(());
+    }
+    Ok(())
+}
+
+/// The merged list of the spans of one source, or of all others.
+pub fn of_source(
+    alloc: Global,
+    spans: &[Span],
+    source: SourceId,
+    wanted: bool,
+) -> Result<Vec<Span>, AllocError>
+    requires { is_merged spans.now ≡ true }
+    ensures { IfOk result (λ v. IsListOf (λ q. has spans.now q && is_kept source wanted q.source) v.items) }
+{
+    let mut out = Vec::new(alloc);
+    let mut rest = spans;
+    while let Some((span, more)) = rest.split_first() {
+        push_if(&mut out, span, is_kept(source, wanted, span.source))?;
+        rest = more;
+    }
+    Ok(out)
+}
+
+/// Whether a source is the wanted one, or one of the others.
+fn is_kept(source: SourceId, wanted: bool, other: SourceId) -> bool
+    ensures { result ≡ is_kept source wanted other }
+{
+    if other == source { wanted } else { !wanted }
+}
+
+/// How many numbers the spans have.
+pub fn count_numbers(spans: &[Span]) -> u128
+    requires { is_merged spans.now ≡ true }
+    ensures { result ≡ sum_by size_of spans.now }
+{
+    let mut count = spans.len() as u128;
+    let mut rest = spans;
+    while let Some((span, more)) = rest.split_first() {
+        count += u128::from(span.hi - span.lo);
+        rest = more;
+    }
+    count
 }

@@ -4,7 +4,7 @@ use Rattle.gtid_text.specs.declared.Gtid.{Gtid}
 use Rattle.gtid_text.specs.declared.Span.{Span}
 use Rattle.gtid_set.specs.Spans.{is_before, is_merged, has}
 use Rattle.gtid_set.specs.Sweep.{within, all_touch}
-use Rattle.gtid_set.proofs.SpanLemmas.{IsTail}
+use Rattle.gtid_set.proofs.PlaceLemmas.{IsTail}
 use Rattle.gtid_set.proofs.sweep.absorb.Given as goal
 
 abbrev pub invariant-loop-first : goal.invariant-loop-first

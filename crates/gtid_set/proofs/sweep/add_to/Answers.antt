@@ -2,7 +2,7 @@ use Rattle.std.proofs.Common.{◌≡◌, ◌-◌, length, drop, take, ◌++◌, 
 use Rattle.std.proofs.lemmas.Result.{on_ok_weaker}
 use Rattle.gtid_text.specs.declared.Span.{Span}
 use Rattle.gtid_set.specs.Sweep.{IsPlace}
-use Rattle.gtid_set.proofs.SpanLemmas.{added_at}
+use Rattle.gtid_set.proofs.PlaceLemmas.{added_at}
 use Rattle.gtid_set.proofs.sweep.add_to.Goals as goal
 
 pub returns-clause-ok : goal.returns-clause-ok

@@ -1,7 +1,8 @@
 use Rattle.std.proofs.Common.{◌≡◌, false, max, ap, sym, ◌∙◌, refl}
 use Rattle.gtid_set.specs.Sets.{gtid}
 use Rattle.gtid_set.specs.Spans.{has, is_merged}
-use Rattle.gtid_set.proofs.SpanLemmas.{merged_head, within_from, more_from, has_first, has_more, looked, hole_of, common_gtid}
+use Rattle.gtid_set.proofs.CutLemmas.{within_from, more_from, has_first, has_more, looked, hole_of, common_gtid}
+use Rattle.gtid_set.proofs.SpanLemmas.{merged_head}
 use Rattle.gtid_set.proofs.sweep.are_apart.Goals as goal
 
 pub loop-span-preserved : goal.loop-span-preserved

@@ -1,7 +1,8 @@
 use Rattle.std.proofs.Common.{ap, ◌∙◌, refl, arith}
 use Rattle.gtid_set.specs.Spans.{is_merged, is_before}
 use Rattle.gtid_set.specs.Sweep.{all_before}
-use Rattle.gtid_set.proofs.SpanLemmas.{hole_of, cut_step, cut_end, cut_rest, behind_reach, behind_before, front_before, merged_push, all_push, full_before}
+use Rattle.gtid_set.proofs.CutLemmas.{hole_of, cut_step, cut_end, cut_rest, behind_reach, behind_before, front_before, full_before}
+use Rattle.gtid_set.proofs.SpanLemmas.{merged_push, all_push}
 use Rattle.gtid_set.proofs.sweep.cut.Goals as goal
 
 pub returns-then-span-hole : goal.returns-then-span-hole

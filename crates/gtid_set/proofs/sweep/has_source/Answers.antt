@@ -1,6 +1,6 @@
 use Rattle.std.proofs.Common.{Bool, sym, subst}
 use Rattle.gtid_set.specs.Sweep.{KnowsSource}
-use Rattle.gtid_set.proofs.SpanLemmas.{knows_first}
+use Rattle.gtid_set.proofs.PlaceLemmas.{knows_first}
 use Rattle.gtid_set.proofs.sweep.has_source.Goals as goal
 
 pub returns-in-Some : goal.returns-in-Some

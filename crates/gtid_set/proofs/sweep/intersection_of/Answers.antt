@@ -2,7 +2,8 @@ use Rattle.std.proofs.Common.{ap, sym, ◌∙◌, ◌&&◌, ◌||◌}
 use Rattle.std.specs.List.{list_all}
 use Rattle.gtid_set.specs.Spans.{has, is_merged}
 use Rattle.gtid_set.specs.Sweep.{all_before, within}
-use Rattle.gtid_set.proofs.SpanLemmas.{nothing, merged_head, within_from, more_from, before_later, kept_more, all_before_head}
+use Rattle.gtid_set.proofs.CutLemmas.{within_from, more_from, before_later, kept_more, all_before_head}
+use Rattle.gtid_set.proofs.SpanLemmas.{nothing, merged_head}
 use Rattle.gtid_set.proofs.sweep.intersection_of.Goals as goal
 
 pub loop-span-init : goal.loop-span-init

@@ -2,7 +2,8 @@ use Rattle.std.proofs.Common.{◌≡◌, true, ap, sym, ◌∙◌}
 use Rattle.std.proofs.lemmas.Bool.Decides.{when_true}
 use Rattle.gtid_set.specs.Spans.{has, is_merged}
 use Rattle.gtid_set.specs.Sweep.{within, IsWithin, IsNotWithin}
-use Rattle.gtid_set.proofs.SpanLemmas.{merged_head, within_from, more_from, has_first, has_more, looked}
+use Rattle.gtid_set.proofs.CutLemmas.{within_from, more_from, has_first, has_more, looked}
+use Rattle.gtid_set.proofs.SpanLemmas.{merged_head}
 use Rattle.gtid_set.proofs.sweep.is_within.Goals as goal
 
 pub loop-span-preserved : goal.loop-span-preserved

@@ -1,7 +1,8 @@
 use Rattle.std.proofs.Common.{◌≡◌, ap, ◌∙◌, refl, ◌++◌, ◌∷◌, []}
 use Rattle.gtid_set.specs.Spans.{has, is_merged, is_before}
 use Rattle.gtid_set.specs.Sweep.{all_before, within, common_of}
-use Rattle.gtid_set.proofs.SpanLemmas.{hole_of, common_start, overlap_step, common_filled, common_next, common_first, common_before, overlap_end, merged_push, all_push}
+use Rattle.gtid_set.proofs.CutLemmas.{hole_of, common_start, overlap_step, common_filled, common_next, common_first, common_before, overlap_end}
+use Rattle.gtid_set.proofs.SpanLemmas.{merged_push, all_push}
 use Rattle.gtid_set.proofs.sweep.overlap.Goals as goal
 
 pub loop-other-init : goal.loop-other-init

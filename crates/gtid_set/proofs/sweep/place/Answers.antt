@@ -1,7 +1,7 @@
 use Rattle.std.proofs.Common.{rules}
 use Rattle.std.proofs.lemmas.List.Sorted.{IsPartitionPoint-from_clause}
 use Rattle.gtid_set.specs.Spans.{is_before}
-use Rattle.gtid_set.proofs.SpanLemmas.{parted, before_falls, placed}
+use Rattle.gtid_set.proofs.PlaceLemmas.{parted, before_falls, placed}
 use Rattle.gtid_set.proofs.sweep.place.Goals as goal
 
 pub returns : goal.returns

@@ -1,5 +1,5 @@
 use Rattle.std.proofs.Common.{arith}
-use Rattle.gtid_set.proofs.SpanLemmas.{adds_front}
+use Rattle.gtid_set.proofs.CutLemmas.{adds_front}
 use Rattle.gtid_set.proofs.sweep.push_front.Goals as goal
 
 pub returns-then-span-hole : goal.returns-then-span-hole

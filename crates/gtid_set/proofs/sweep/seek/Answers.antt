@@ -2,7 +2,7 @@ use Rattle.std.proofs.Common.{rules}
 use Rattle.std.proofs.lemmas.List.Sorted.{IsPartitionPoint-from_clause}
 use Rattle.gtid_set.specs.Spans.{ends_before}
 use Rattle.gtid_set.specs.Sweep.{start_of}
-use Rattle.gtid_set.proofs.SpanLemmas.{parted, ends_falls, sought}
+use Rattle.gtid_set.proofs.PlaceLemmas.{parted, ends_falls, sought}
 use Rattle.gtid_set.proofs.sweep.seek.Goals as goal
 
 pub returns : goal.returns

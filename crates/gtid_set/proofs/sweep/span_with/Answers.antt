@@ -1,5 +1,5 @@
 use Rattle.std.proofs.Common.{sym, ◌∙◌}
-use Rattle.gtid_set.proofs.SpanLemmas.{found_span, not_found}
+use Rattle.gtid_set.proofs.PlaceLemmas.{found_span, not_found}
 use Rattle.gtid_set.proofs.sweep.span_with.Goals as goal
 
 pub returns-in-Some-clause-some : goal.returns-in-Some-clause-some

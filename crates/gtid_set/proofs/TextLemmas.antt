@@ -1,0 +1,99 @@
+-- The spans that a text spells are filled, and sorted they are of the set that it spells.
+use Rattle.std.proofs.Common.{◌≡◌, ◌⊎◌, ◌≤◌, ◌<◌, ℕ, Bool, true, false, cond, nat_le, nat_lt, List, [], ◌∷◌, length, refl, sym, ap, ◌∙◌, arith, inl, inr}
+use Rattle.std.specs.Prelude.{Option, Some, None, Result, Ok, Err}
+use Rattle.std.specs.List.{list_all}
+use Rattle.std.specs.List.Sorted.{IsPermutation}
+use Rattle.std.proofs.lemmas.Bool.Decides.{nat_tests}
+use Rattle.gtid_text.specs.declared.Span.{Span}
+use Rattle.gtid_text.specs.declared.SourceId.{SourceId}
+use Rattle.gtid_text.specs.Grammar.{Number, Interval, Element, IsUpper, AreIntervals, IsElement, AreElements, Spells}
+use Rattle.gtid_text.specs.Reading.{answer, spans_in}
+use Rattle.gtid_text.specs.declared.scan.Refusal.{Refusal}
+use Rattle.gtid_text.specs.declared.fault.TextFault.{TextFault}
+use Rattle.gtid_text.specs.declared.fault.TextFault.TheVariants as faults
+use Rattle.gtid_set.specs.declared.fault.SetFault.{SetFault}
+use Rattle.gtid_set.specs.declared.fault.SetFault.TheVariants.{Memory, PoolFull, SourcesFull}
+use Rattle.gtid_set.specs.declared.fault.SetTextFault.TheVariants.{Text, Set}
+use Rattle.gtid_set.specs.Sets.{Gtids, source_count, most_sources}
+use Rattle.gtid_set.specs.Spans.{set_of}
+use Rattle.gtid_set.specs.Full.{IsFullExactly}
+use Rattle.gtid_set.specs.Texts.{set_from, set_in}
+use Rattle.gtid_set.proofs.SortLemmas.{same_set_sorted}
+use Rattle.gtid_set.proofs.SpanLemmas.{and_of, all_joined}
+
+abbrev pub are_filled : List Span → Bool
+are_filled ss = list_all (λ s. nat_le s.lo s.hi) ss
+
+upper_filled : (u : Option (List ℕ × Number)) (s : Span) → IsUpper u s → nat_le s.lo s.hi ≡ true
+upper_filled None s h = let le : s.lo ≤ s.hi = omega (arith, h) in grind (arith, nat_tests)
+upper_filled (Some u) s h = let le = h.2 in grind (arith, nat_tests)
+
+intervals_filled : (id : SourceId) (ps : List (List ℕ × Interval)) (ss : List Span) → AreIntervals id ps ss → are_filled ss ≡ true
+intervals_filled id [] [] h = refl
+intervals_filled id [] (s ∷ ss) h = absurd h
+intervals_filled id (p ∷ ps) [] h = refl
+intervals_filled id (p ∷ ps) (s ∷ ss) h = and_of (nat_le s.lo s.hi) (are_filled ss) (upper_filled p.1.upper s h.1.upper) (intervals_filled id ps ss h.2)
+
+element_filled : (e : Element) (ss : List Span) → IsElement e ss → are_filled ss ≡ true
+element_filled (None, gap) ss h = ap are_filled h.1
+element_filled (Some n, gap) ss h = intervals_filled h.1.id (n.first ∷ n.more) ss h.1.intervals
+
+elements_filled : (es : List Element) (ss : List Span) → AreElements es ss → are_filled ss ≡ true
+elements_filled [] ss h = ap are_filled h
+elements_filled (e ∷ es) ss h = ap are_filled h.2 ∙ all_joined (λ s. nat_le s.lo s.hi) h.0 h.1 (element_filled e h.0 h.3) (elements_filled es h.1 h.4)
+
+pub spelled_filled : (text : List ℕ) (ss : List Span) → Spells text ss → are_filled ss ≡ true
+spelled_filled text ss h = elements_filled h.elements ss h.says
+
+-- what reading answers
+abbrev pub ReadSpans : Type 0
+ReadSpans = Result (List Span) Refusal
+
+abbrev pub as_read : List Span → ReadSpans
+as_read spans = Ok spans
+
+pub same_read : (spans read : List Span) → as_read spans ≡ as_read read → spans ≡ read
+same_read spans read e = cc
+
+-- intervals that are read want no fault but memory
+pub memory_alone : (spans : List Span) (len : ℕ) (f : TextFault) → (f ≡ faults.Memory) ⊎ (answer len (as_read spans) ≡ Err f) → f ≡ faults.Memory
+memory_alone spans len f (inl e) = e
+memory_alone spans len f (inr e) = absurd cc
+
+-- the set of what was read is that of any reading
+pub set_read : (spans read sorted : List Span) (s : Gtids) → as_read spans ≡ as_read read → IsPermutation read sorted → set_of spans ≡ s → set_of sorted ≡ s
+set_read spans read sorted s e p view = same_set_sorted read sorted p ∙ ap set_of (sym (same_read spans read e)) ∙ view
+
+-- the answer, where intervals were read
+counted : (spans : List Span) (b : Bool) → nat_lt most_sources (source_count (set_of spans)) ≡ b → (len : ℕ) → set_from (answer len (as_read spans)) ≡ cond b (Err (Set SourcesFull)) (Ok (set_of spans))
+counted spans b e len = ap (λ b. cond b (Err (Set SourcesFull)) (Ok (set_of spans))) e
+
+pub given_set : (text : List ℕ) (spans : List Span) (s : Gtids) → spans_in text ≡ as_read spans → source_count s ≤ most_sources → set_of spans ≡ s → set_in text ≡ Ok s
+unfolding set_in
+given_set text spans s e fits view =
+    ap (λ r. set_from (answer (length text) r)) e
+    ∙ counted spans false (ap (λ s. nat_lt most_sources (source_count s)) view ∙ small (source_count s) fits) (length text)
+    ∙ (λ i. Ok (view i))
+  where
+    small : (n : ℕ) → n ≤ most_sources → nat_lt most_sources n ≡ false
+    small n le = grind (arith, nat_tests)
+
+pub given_full : (text : List ℕ) (spans : List Span) → spans_in text ≡ as_read spans → most_sources < source_count (set_of spans) → set_in text ≡ Err (Set SourcesFull)
+unfolding set_in
+given_full text spans e over =
+    ap (λ r. set_from (answer (length text) r)) e ∙ counted spans true (great (source_count (set_of spans)) over) (length text)
+  where
+    great : (n : ℕ) → most_sources < n → nat_lt most_sources n ≡ true
+    great n lt = grind (arith, nat_tests)
+
+-- the answer, where the set was not made
+pub given_fault : (text : List ℕ) (spans : List Span) (f : SetFault) → spans_in text ≡ as_read spans → IsFullExactly {T = Unit {0}} (Err f) (set_of spans) → (f ≡ Memory) ⊎ (set_in text ≡ Err (Set f))
+given_fault text spans Memory e full = inl refl
+given_fault text spans PoolFull e full = absurd full
+given_fault text spans SourcesFull e full = inr (given_full text spans e full)
+
+-- the answer, where the text was refused
+pub given_refusal : (text : List ℕ) (f : TextFault) → (f ≡ faults.Memory) ⊎ (answer (length text) (spans_in text) ≡ Err f) → (f ≡ faults.Memory) ⊎ (set_in text ≡ Err (Text f))
+unfolding set_in
+given_refusal text f (inl e) = inl e
+given_refusal text f (inr e) = inr (ap set_from e)

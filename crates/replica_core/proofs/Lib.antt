@@ -1,0 +1,9 @@
+pub mod SlotLemmas
+pub mod OwnerLemmas
+pub mod KeptLemmas
+pub mod KeyedLemmas
+pub mod CoreLemmas
+pub mod Writable
+pub mod CommitLemmas
+pub mod RunLemmas
+pub mod ReceiveLemmas

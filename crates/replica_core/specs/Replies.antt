@@ -1,0 +1,8 @@
+-- The events that were answered.
+use Rattle.std.specs.Prelude.{List, length, take}
+use Rattle.replica_core.specs.declared.event.Event.{Event}
+use Rattle.replica_core.specs.declared.event.Reply.{Reply}
+
+-- as many events as there are replies
+abbrev pub answered : List Reply → List Event → List Event
+answered replies events = take (length replies) events

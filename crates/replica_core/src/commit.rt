@@ -1,0 +1,172 @@
+//! The events Commit, Rollback and Local.
+ghost use Rattle.std.specs.Prelude.{◌≡◌, ◌≤◌, MatchResult, IfOk, OnErr, IfErr, option_map, if◌then◌else◌, None, All, ◌<◌, length};
+ghost use Rattle.replica_core.specs.Machine.{commit, rollback, open_before, held, commit_answer};
+ghost use Rattle.replica_core.specs.Kept.{IsKept};
+ghost use Rattle.replica_core.specs.Core.{Refuses};
+ghost use Rattle.replica_core.specs.Committing.{IsCommittable, Executes, RefusedBy};
+ghost use Rattle.replica_core.specs.Ready.{IsReady};
+
+use crate::event::{Reply, Spot};
+use crate::machine::{Core, is_seat};
+use apply_channel::Channel;
+use gtid_set::SetFault;
+use gtid_text::Gtid;
+use journal::Entry;
+use rows::{ApplyFault, RowFault, Transaction};
+use std::alloc::{AllocError, Global};
+
+/// What a Commit commits, made before anything changes.
+#[derive(Drop)]
+struct Ready {
+    spot: Spot,
+    entry: Entry,
+    txn: Transaction,
+}
+
+impl Core {
+    /// The least earlier place that is not executed, where the channel preserves its order.
+    fn early(&self, channel: &Channel, place: usize) -> Option<usize>
+        requires kept { All (IsKept self.now.site.schema self.now.state.executed) channel.now.channel.received }
+        requires there { place < length channel.now.channel.received }
+        ensures { result ≡ (if channel.now.channel.preserve then open_before self.now.state channel.now.channel place else None) }
+    {
+        if channel.preserves() {
+            channel.first_waiting(place)
+        } else {
+            None
+        }
+    }
+
+    /// What a Commit commits, or the reply that keeps it from that.
+    fn may_commit(&self, seat: u8) -> Result<Result<Ready, Reply>, AllocError>
+        ensures { IfOk result (λ r. MatchResult r (IsReady self.now seat) (Refuses (commit self.now.site seat) self.now)) }
+    {
+        if !is_seat(seat) {
+            return Ok(Err(Reply::NoSeat));
+        }
+        let Some(spot) = self.spot(seat) else {
+            return Ok(Err(Reply::SeatIdle));
+        };
+        let Some(channel) = self.kept_channel(spot.channel) else {
+            return Ok(Err(Reply::SeatIdle));
+        };
+        let Some((gtid, held)) = channel.entry(spot.place) else {
+            return Ok(Err(Reply::SeatIdle));
+        };
+        let Some(txn) = held else {
+            return Ok(Err(Reply::SeatIdle));
+        };
+        if let Some(earlier) = self.early(channel, spot.place) {
+            return Ok(Err(Reply::Early(earlier)));
+        }
+        let entry = Entry {
+            gtid,
+            txn: txn.clone()?,
+        };
+        let txn = txn.clone()?;
+        Ok(Ok(Ready { spot, entry, txn }))
+    }
+
+    /// Executes an entry, or says why its transaction does not apply; then nothing has changed.
+    pub(crate) fn execute(
+        &mut self,
+        alloc: Global,
+        entry: Entry,
+        txn: &Transaction,
+    ) -> Result<Result<(), RowFault>, SetFault>
+        requires may { IsCommittable self.old entry }
+        requires same { txn.now ≡ entry.txn }
+        ensures ok { IfOk result (λ r. MatchResult r (λ done. Executes self.old entry self.new) (RefusedBy self.old entry self.new)) }
+        ensures err { OnErr result (self.new ≡ self.old) }
+    {
+        let gtid = entry.gtid;
+        let _ = self.rows.schema().tables();
+        self.journal.append(alloc, entry)?;
+        match self.rows.apply(alloc, txn) {
+            Ok(()) => {
+                self.channels.mark_executed(&gtid);
+                return Ok(Ok(()));
+            }
+            Err(ApplyFault::Row(fault)) => {
+                self.journal.take_back();
+                return Ok(Err(fault));
+            }
+            Err(ApplyFault::Memory) => {
+                self.journal.take_back();
+                return Err(SetFault::Memory);
+            }
+            Err(ApplyFault::NotInSchema(_)) => unreachable!(),
+        }
+    }
+
+    /// Makes the Commit for which all is ready.
+    fn finish(&mut self, alloc: Global, seat: u8, ready: Ready) -> Result<Reply, SetFault>
+        requires { IsReady self.old seat ready }
+        ensures ok { IfOk result (λ r. (r, self.new.state) ≡ commit self.old.site seat self.old.state) }
+        ensures site { self.new.site ≡ self.old.site }
+        ensures err { OnErr result (self.new ≡ self.old) }
+    {
+        let Ready { spot, entry, txn } = ready;
+        let gtid = entry.gtid;
+        match self.execute(alloc, entry, &txn) {
+            Ok(Ok(())) => {
+                self.clear_seat(seat);
+                return Ok(Reply::Committed(gtid));
+            }
+            Ok(Err(fault)) => {
+                self.clear_seat(seat);
+                self.stop(spot.channel);
+                return Ok(Reply::RowRefused(gtid, fault));
+            }
+            Err(fault) => return Err(fault),
+        }
+    }
+
+    /// The event Commit.
+    pub(crate) fn commit(&mut self, alloc: Global, seat: u8) -> Result<Reply, SetFault>
+        ensures ok { IfOk result (λ r. (r, self.new.state) ≡ commit self.old.site seat self.old.state) }
+        ensures site { self.new.site ≡ self.old.site }
+        ensures err { OnErr result (self.new ≡ self.old) }
+    {
+        match self.may_commit(seat) {
+            Err(_) => Err(SetFault::Memory),
+            Ok(Err(reply)) => Ok(reply),
+            Ok(Ok(ready)) => self.finish(alloc, seat, ready),
+        }
+    }
+
+    /// The GTID that a seat holds.
+    fn held_gtid(&self, seat: u8) -> Option<Gtid>
+        requires low { 1 ≤ seat }
+        requires high { seat ≤ 64 }
+        ensures { result ≡ option_map (λ h. h.gtid) (held self.now.state seat) }
+    {
+        let Some(spot) = self.spot(seat) else {
+            return None;
+        };
+        let Some(channel) = self.kept_channel(spot.channel) else {
+            return None;
+        };
+        let Some((gtid, txn)) = channel.entry(spot.place) else {
+            return None;
+        };
+        if txn.is_some() { Some(gtid) } else { None }
+    }
+
+    /// The event Rollback. Takes no memory.
+    pub(crate) fn rollback(&mut self, seat: u8) -> Reply
+        ensures made { (result, self.new.state) ≡ rollback seat self.old.state }
+        ensures site { self.new.site ≡ self.old.site }
+    {
+        if !is_seat(seat) {
+            return Reply::NoSeat;
+        }
+        match self.held_gtid(seat) {
+            Some(gtid) => {
+                self.clear_seat(seat);
+                Reply::RolledBack(gtid)
+            }
+            None => Reply::SeatIdle,
+        }
+    }
+}

@@ -1,0 +1,95 @@
+//! The events of channels: OpenChannel, Position, Receive and Restart.
+ghost use Rattle.std.specs.Prelude.{◌≡◌, IfOk, OnErr, true};
+ghost use Rattle.journal.specs.Writing.{is_number};
+ghost use Rattle.replica_core.specs.Machine.{open_channel, position_on, receive, restart};
+
+use crate::event::Reply;
+use crate::machine::Core;
+use apply_channel::ReceiveFault;
+use gtid_set::SetFault;
+use journal::Entry;
+use rows::{Name, fits};
+use std::alloc::Global;
+
+impl Core {
+    /// The event OpenChannel.
+    pub(crate) fn open_channel(
+        &mut self,
+        alloc: Global,
+        name: &Name,
+        preserve: bool,
+    ) -> Result<Reply, SetFault>
+        ensures ok { IfOk result (λ r. (r, self.new.state) ≡ open_channel name.now preserve self.old.state) }
+        ensures site { self.new.site ≡ self.old.site }
+        ensures err { OnErr result (self.new ≡ self.old) }
+    {
+        if self.channels.has_name(name) {
+            return Ok(Reply::NameTaken);
+        }
+        let opened = self.channels.len();
+        if 256 <= opened {
+            return Ok(Reply::ChannelsFull);
+        }
+        match self.channels.push(alloc, name, preserve) {
+            Ok(()) => return Ok(Reply::Opened(opened)),
+            Err(fault) => return Err(fault),
+        }
+    }
+
+    /// The event Position: the executed set with what the channel itself has received.
+    /// (MySQL 8.0 Reference Manual, "GTID Auto-Positioning".)
+    pub(crate) fn position(&mut self, alloc: Global, channel: usize) -> Result<Reply, SetFault>
+        ensures ok { IfOk result (λ r. (r, self.new.state) ≡ position_on channel self.old.state) }
+        ensures site { self.new.site ≡ self.old.site }
+        ensures err { OnErr result (self.new ≡ self.old) }
+    {
+        let Some(one) = self.channels.get(channel) else {
+            return Ok(Reply::NoChannel);
+        };
+        let asked = self.journal.executed().union(alloc, one.received())?;
+        let shown = asked.copy(alloc)?;
+        self.channels.set_ask(channel, asked);
+        Ok(Reply::Ask(shown))
+    }
+
+    /// The event Receive.
+    pub(crate) fn receive(
+        &mut self,
+        alloc: Global,
+        channel: usize,
+        entry: &Entry,
+    ) -> Result<Reply, SetFault>
+        requires { is_number entry.now.gtid.number ≡ true }
+        ensures ok { IfOk result (λ r. (r, self.new.state) ≡ receive self.old.site channel entry.now self.old.state) }
+        ensures site { self.new.site ≡ self.old.site }
+        ensures err { OnErr result (self.new ≡ self.old) }
+    {
+        let Some(one) = self.channels.get(channel) else {
+            return Ok(Reply::NoChannel);
+        };
+        if one.last_ask().is_none() {
+            return Ok(Reply::NotPositioned);
+        }
+        if let Err(fault) = fits(self.rows.schema(), &entry.txn) {
+            return Ok(Reply::NotInSchema(fault));
+        }
+        let executed = self.journal.executed().contains(&entry.gtid);
+        match self.channels.receive(alloc, channel, entry, executed) {
+            Ok(place) => return Ok(Reply::Received(place)),
+            Err(ReceiveFault::Full) => return Ok(Reply::ChannelFull),
+            Err(ReceiveFault::Set(fault)) => return Err(fault),
+        }
+    }
+
+    /// The event Restart. Takes no memory.
+    pub(crate) fn restart(&mut self, channel: usize) -> Reply
+        ensures made { (result, self.new.state) ≡ restart channel self.old.state }
+        ensures site { self.new.site ≡ self.old.site }
+    {
+        if channel < self.channels.len() {
+            self.channels.set_stopped(channel, false);
+            return Reply::Restarted;
+        }
+        Reply::NoChannel
+    }
+}

@@ -1,0 +1,89 @@
+//! One event, and events in turn.
+ghost use Rattle.std.specs.Prelude.{◌≡◌, ◌<◌, ◌∷◌, [], ◌++◌, IfOk, OnErr, None, true, length, vec_len, vec_capacity};
+ghost use Rattle.replica_core.specs.Machine.{purge, look, step, is_numbered, AreNumbered, replies, after};
+ghost use Rattle.replica_core.specs.Replies.{answered};
+
+use crate::event::{Event, Reply};
+use crate::machine::Core;
+use gtid_set::SetFault;
+use relay::PurgeFault;
+use std::alloc::Global;
+
+impl Core {
+    /// The event Purge.
+    fn purge(&mut self, alloc: Global, count: usize) -> Result<Reply, SetFault>
+        ensures ok { IfOk result (λ r. (r, self.new.state) ≡ purge count self.old.state) }
+        ensures site { self.new.site ≡ self.old.site }
+        ensures err { OnErr result (self.new ≡ self.old) }
+    {
+        match self.journal.purge(alloc, count) {
+            Ok(purged) => return Ok(Reply::Purged(purged)),
+            Err(PurgeFault::TooMany(there)) => return Ok(Reply::TooMany(there)),
+            Err(PurgeFault::Set(fault)) => return Err(fault),
+        }
+    }
+
+    /// The event Look.
+    fn look(&self, alloc: Global) -> Result<Reply, SetFault>
+        ensures { IfOk result (λ r. (r, self.now.state) ≡ look self.now.state) }
+    {
+        let shown = self.executed().copy(alloc)?;
+        Ok(Reply::Shown(shown))
+    }
+
+    /// One event: its reply, and the state that it leaves. After an error nothing has changed.
+    /// The numbers of received GTIDs are 1 to 9223372036854775807.
+    pub fn step(&mut self, alloc: Global, event: &Event) -> Result<Reply, SetFault>
+        requires { is_numbered event.now ≡ true }
+        ensures ok { IfOk result (λ r. (r, self.new.state) ≡ step self.old.site self.old.state event.now) }
+        ensures site { self.new.site ≡ self.old.site }
+        ensures err { OnErr result (self.new ≡ self.old) }
+    {
+        match event {
+            Event::Take(seat, channel, place) => Ok(self.take(*seat, *channel, *place)),
+            Event::Commit(seat) => self.commit(alloc, *seat),
+            Event::Rollback(seat) => Ok(self.rollback(*seat)),
+            Event::Restart(channel) => Ok(self.restart(*channel)),
+            Event::Look => self.look(alloc),
+            Event::OpenChannel(name, preserve) => self.open_channel(alloc, name, *preserve),
+            Event::Position(channel) => self.position(alloc, *channel),
+            Event::Receive(channel, entry) => self.receive(alloc, *channel, entry),
+            Event::Local(changes) => self.local(alloc, changes),
+            Event::Purge(count) => self.purge(alloc, *count),
+        }
+    }
+}
+
+/// Puts a reply at the end, where there is room.
+fn put(told: &mut Vec<Reply>, reply: Reply)
+    requires { vec_len told.old < vec_capacity told.old }
+    ensures { told.new.items ≡ told.old.items ++ reply ∷ [] }
+{
+    if told.push(reply).is_err() {
+        unreachable!()
+    }
+}
+
+impl Core {
+    /// Events in turn: the replies up to the first error, and that error. What came before it stays.
+    /// Room for each reply is made before its step.
+    pub fn run(&mut self, alloc: Global, events: &[Event]) -> (Vec<Reply>, Option<SetFault>)
+        requires { AreNumbered events.now }
+        ensures told { result.0.items ≡ replies self.old.site self.old.state (answered result.0.items events.now) }
+        ensures state { self.new.state ≡ after self.old.site self.old.state (answered result.0.items events.now) }
+        ensures whole { result.1 ≡ None → length result.0.items ≡ length events.now }
+        ensures site { self.new.site ≡ self.old.site }
+    {
+        let mut told = Vec::new(alloc);
+        for event in events {
+            if told.reserve(1).is_err() {
+                return (told, Some(SetFault::Memory));
+            }
+            match self.step(alloc, event) {
+                Ok(reply) => put(&mut told, reply),
+                Err(fault) => return (told, Some(fault)),
+            }
+        }
+        (told, None)
+    }
+}
