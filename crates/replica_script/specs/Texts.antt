@@ -1,0 +1,52 @@
+-- The answer to a query. The words and their order are our own.
+use Rattle.std.specs.Prelude.{ℕ, Bool, true, false, List, ◌++◌, length, flat_map, slice_get, Option, Some, None, option_map, codes, decimal}
+use Rattle.gtid_text.specs.declared.Gtid.{Gtid}
+use Rattle.gtid_text.specs.Canonical.{gtid_text}
+use Rattle.gtid_set.specs.Sets.{Gtids}
+use Rattle.rows.specs.declared.change.Transaction.{Transaction}
+use Rattle.rows.specs.Listing.{rows_listed}
+use Rattle.apply_channel.specs.Channels.{Received}
+use Rattle.txn_journal.specs.WrittenSets.{set_text}
+use Rattle.txn_journal.specs.Spelling.{spelling}
+use Rattle.gtid_report.specs.State.{row_line}
+use Rattle.replica_core.specs.State.{State, entry_at}
+use Rattle.replica_core.specs.Machine.{ask, drained}
+use Rattle.replica_script.specs.declared.question.Query.{Query}
+use Rattle.replica_script.specs.declared.question.Query.TheVariants as query
+use Rattle.replica_script.specs.Replies.{ended}
+
+-- a set, where there is one
+abbrev pub set_or_none : Option Gtids → List ℕ
+set_or_none None = codes "none"
+set_or_none (Some s) = set_text s
+
+-- how many changes a transaction has; one that is executed is gone
+abbrev pub changes_or_gone : Option Transaction → List ℕ
+changes_or_gone None = codes "gone"
+changes_or_gone (Some txn) = decimal (length txn.changes)
+
+abbrev pub shown_entry : Gtid → Option Transaction → List ℕ
+shown_entry gtid txn = gtid_text gtid ++ codes " " ++ changes_or_gone txn
+
+-- an entry, where there is one
+abbrev pub entry_or_none : Option Received → List ℕ
+entry_or_none None = codes "none"
+entry_or_none (Some e) = shown_entry e.gtid e.txn
+
+abbrev pub truth : Bool → List ℕ
+truth true = codes "true"
+truth false = codes "false"
+
+-- the set with which a channel would ask now, where there is that channel
+abbrev pub asks : State → ℕ → Option Gtids
+asks s channel = option_map (ask s) (slice_get s.channels channel)
+
+-- the lines that answer a query
+abbrev pub query_text : State → Query → List ℕ
+query_text s query.Rows = flat_map row_line (rows_listed s.rows)
+query_text s query.Executed = ended (set_text s.executed)
+query_text s query.Purged = ended (set_text s.journal.previous)
+query_text s query.Journal = spelling s.journal
+query_text s query.Drained = ended (truth (drained s))
+query_text s (query.Ask channel) = ended (set_or_none (asks s channel))
+query_text s (query.Entry channel place) = ended (entry_or_none (entry_at s (record { channel = channel; place = place })))
