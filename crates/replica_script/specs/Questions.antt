@@ -36,7 +36,9 @@ with_one word number =
 -- ... and two numbers: a channel and a place
 abbrev pub with_two : List ℕ → ℕ → ℕ → Option Question
 with_two word channel place =
-    if bytes_eq word (codes "entry") then Some (Query (query.Entry channel place)) else None
+    if bytes_eq word (codes "entry") then Some (Query (query.Entry channel place))
+    else if bytes_eq word (codes "next") then Some (Query (query.Next channel place))
+    else None
 
 -- ... and three: a seat, a channel and a place
 abbrev pub with_three : List ℕ → ℕ → ℕ → ℕ → Option Question

@@ -31,7 +31,7 @@ IsAnswer old event new text = IsMade old event new text ⊎ (IsFullLine text × 
 
 -- a query was answered, or the set would be too large
 abbrev pub IsShown : Replica → Query → List ℕ → Type 0
-IsShown r query text = (text ≡ query_text r.state query) ⊎ IsFullLine text
+IsShown r query text = (text ≡ query_text r query) ⊎ IsFullLine text
 
 -- the answer to a question; a query changes nothing
 abbrev pub Answers : Replica → Question → Replica → List ℕ → Type 0

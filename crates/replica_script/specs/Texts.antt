@@ -9,8 +9,8 @@ use Rattle.apply_channel.specs.Channels.{Received}
 use Rattle.txn_journal.specs.WrittenSets.{set_text}
 use Rattle.txn_journal.specs.Spelling.{spelling}
 use Rattle.gtid_report.specs.State.{row_line}
-use Rattle.replica_core.specs.State.{State, entry_at}
-use Rattle.replica_core.specs.Machine.{ask, drained}
+use Rattle.replica_core.specs.State.{Replica, State, entry_at}
+use Rattle.replica_core.specs.Machine.{ask, drained, next_ready}
 use Rattle.replica_script.specs.declared.question.Query.{Query}
 use Rattle.replica_script.specs.declared.question.Query.TheVariants as query
 use Rattle.replica_script.specs.Replies.{ended}
@@ -41,12 +41,18 @@ truth false = codes "false"
 abbrev pub asks : State → ℕ → Option Gtids
 asks s channel = option_map (ask s) (slice_get s.channels channel)
 
+-- a place, where there is one
+abbrev pub place_or_none : Option ℕ → List ℕ
+place_or_none None = codes "none"
+place_or_none (Some place) = decimal place
+
 -- the lines that answer a query
-abbrev pub query_text : State → Query → List ℕ
-query_text s query.Rows = flat_map row_line (rows_listed s.rows)
-query_text s query.Executed = ended (set_text s.executed)
-query_text s query.Purged = ended (set_text s.journal.previous)
-query_text s query.Journal = spelling s.journal
-query_text s query.Drained = ended (truth (drained s))
-query_text s (query.Ask channel) = ended (set_or_none (asks s channel))
-query_text s (query.Entry channel place) = ended (entry_or_none (entry_at s (record { channel = channel; place = place })))
+abbrev pub query_text : Replica → Query → List ℕ
+query_text r query.Rows = flat_map row_line (rows_listed r.state.rows)
+query_text r query.Executed = ended (set_text r.state.executed)
+query_text r query.Purged = ended (set_text r.state.journal.previous)
+query_text r query.Journal = spelling r.state.journal
+query_text r query.Drained = ended (truth (drained r.state))
+query_text r (query.Ask channel) = ended (set_or_none (asks r.state channel))
+query_text r (query.Next channel from) = ended (place_or_none (next_ready r.site r.state channel from))
+query_text r (query.Entry channel place) = ended (entry_or_none (entry_at r.state (record { channel = channel; place = place })))

@@ -23,6 +23,8 @@ pub enum Query {
     Drained,
     /// The set with which this channel would ask now.
     Ask(usize),
+    /// The least place of this channel from this number on that a seat may take: channel, number.
+    Next(usize, usize),
     /// The entry at this place of this channel: channel, place.
     Entry(usize, usize),
 }
@@ -89,6 +91,8 @@ fn with_two(word: &[u8], channel: usize, place: usize) -> Option<Question>
 {
     if word == b"entry".as_slice() {
         Some(Question::Query(Query::Entry(channel, place)))
+    } else if word == b"next".as_slice() {
+        Some(Question::Query(Query::Next(channel, place)))
     } else {
         None
     }
