@@ -20,15 +20,15 @@ use Rattle.txn_journal.specs.declared.lines.Place.TheVariants as places
 use Rattle.txn_journal.specs.declared.lines.Version.{Version}
 use Rattle.txn_journal.specs.declared.lines.Version.TheVariants.{One}
 use Rattle.txn_journal.proofs.SoundLines.{at, Sound_at, whole_written}
-use Rattle.txn_journal.proofs.WholeLines.{reads_all}
+use Rattle.txn_journal.proofs.WholeLines.{reads_text}
 use Rattle.txn_journal.proofs.TellLines.{Heard, Tells, tells, begins}
 
 -- what is spelled is read
 pub reads_spelling : (bytes : List ℕ) (j : JournalValue) → Writes bytes j → closing (eats_alone before_first bytes) ≡ Ok j
 unfolding closing
 reads_spelling bytes j w =
-    let r = (reads_all j w.0).leads.reads 0 in
-    ap closing (ap (eats_alone before_first) w.1 ∙ r.1)
+    let r = reads_text j w.0 in
+    ap closing (ap (eats_alone before_first) w.1 ∙ r.reads) ∙ (λ i. whole_journal (ended (is_last (r.place i)) [] r.count) (r.journal i))
 
 abbrev pub Closes : List ℕ → Result JournalValue JournalFault → Type 0
 Closes bytes (Ok j) = Writes bytes j

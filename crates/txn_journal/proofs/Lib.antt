@@ -16,3 +16,4 @@ pub mod TellLines
 pub mod DecodedLines
 pub mod TakenLines
 pub mod WriteLemmas
+pub mod LineRuns

@@ -29,7 +29,7 @@ use Rattle.txn_journal.proofs.SetLaws.{none_written}
 use Rattle.txn_journal.proofs.Pieces.{eats_append, stopped_stays}
 use Rattle.txn_journal.proofs.CauseLines.{judge_cause}
 use Rattle.txn_journal.proofs.SoundLines.{Sound_at, IsSound, with_entry, entry_of, whole_more, ended_entry, whole_written, judge_found}
-use Rattle.txn_journal.proofs.WholeLines.{reads_all}
+use Rattle.txn_journal.proofs.WholeLines.{reads_text}
 
 -- ---- what has been read can be gone on with
 
@@ -79,10 +79,9 @@ refused before f e b =
     let j = b.0 in
     let more = b.1 in
     let w = b.2 in
-    let all = reads_all j w.0 in
-    let r = all.leads.reads 0 in
+    let r = reads_text j w.0 in
     let one : eats_alone before_first (before ++ more) ≡ Stopped f = eats_append (judge None) before_first before more ∙ ap (λ (p : Progress Standing). eats_alone p more) e ∙ stopped_stays (judge None) f more in
-    let two = sym one ∙ ap (eats_alone before_first) w.1 ∙ r.1 in
+    let two = sym one ∙ ap (eats_alone before_first) w.1 ∙ r.reads in
     absurd cc
 
 tells_line : (before : List ℕ) (s t : Standing) (n : ℕ) (rest : List ℕ) → Heard before s n rest → judge None s rest ≡ Ok t → Heard (before ++ 10 ∷ []) t (next_number n) []
@@ -114,7 +113,7 @@ tells_fault before s n rest cause h j e =
       faulty = λ b. refused (before ++ 10 ∷ []) (faults.Line (next_number n) cause) e (subst Begins (sym parts) b);
       standing = s;
       heard = refl;
-      has_cause = judge_cause s rest cause j;
+      has_cause = judge_cause None s rest cause j;
     }
 
 lacks_more : (rest : List ℕ) (b : ℕ) → eqb b 10 ≡ false → IsOneLine rest → IsOneLine (rest ++ b ∷ [])
