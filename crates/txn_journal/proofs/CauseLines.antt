@@ -31,10 +31,10 @@ use Rattle.txn_journal.specs.declared.lines.Version.{Version}
 use Rattle.txn_journal.specs.declared.lines.Version.TheVariants.{One}
 use Rattle.txn_journal.proofs.LineReads.{body_of, put, read_line, judge_reads, keyword_found, due_found, read_found, read_again}
 
-abbrev wrong : {A : Type 0} → Cause → Result A Cause
+abbrev pub wrong : {A : Type 0} → Cause → Result A Cause
 wrong c = Err c
 
-wrong_is : {A : Type 0} (c d : Cause) → wrong {A = A} c ≡ wrong {A = A} d → c ≡ d
+pub wrong_is : {A : Type 0} (c d : Cause) → wrong {A = A} c ≡ wrong {A = A} d → c ≡ d
 wrong_is c d e = cc
 
 pub bind_err : {A B : Type 0} (r : Result A Cause) (f : A → Result B Cause) (c : Cause) → (r >>= f) ≡ Err c → (r ≡ Err c) ⊎ ((x : A) × (r ≡ Ok x) × (f x ≡ Err c))
@@ -42,13 +42,13 @@ bind_err (Ok x) f c e = inr (x, refl, e)
 bind_err {A = A} (Err d) f c e = inl (let k : d ≡ c = cc in ap (λ (y : Cause). wrong {A = A} y) k)
 
 -- what only makes a line of what was read does not fail
-made_err : {A : Type 0} (r : Result A Cause) (mk : A → Line) (c : Cause) → (r >>= λ x. Ok (mk x)) ≡ Err c → r ≡ Err c
+pub made_err : {A : Type 0} (r : Result A Cause) (mk : A → Line) (c : Cause) → (r >>= λ x. Ok (mk x)) ≡ Err c → r ≡ Err c
 made_err (Ok x) mk c e = absurd cc
 made_err {A = A} (Err d) mk c e = let k : d ≡ c = cc in ap (λ (y : Cause). wrong {A = A} y) k
 
 -- ---- the body
 
-some_or_body_err : {A : Type 0} (o : Option A) (c : Cause) → some_or_body o ≡ Err c → causes.Body ≡ c
+pub some_or_body_err : {A : Type 0} (o : Option A) (c : Cause) → some_or_body o ≡ Err c → causes.Body ≡ c
 some_or_body_err (Some x) c e = absurd cc
 some_or_body_err None c e = cc
 
@@ -60,11 +60,11 @@ gtid_err : (rest : Option (List ℕ)) (c : Cause) → gtid_in rest ≡ Err c →
 gtid_err None c e = cc
 gtid_err (Some w) c e = some_or_body_err (gtid_of_word w) c e
 
-nothing_err : (rest : Option (List ℕ)) (c : Cause) → nothing_in rest ≡ Err c → causes.Body ≡ c
+pub nothing_err : (rest : Option (List ℕ)) (c : Cause) → nothing_in rest ≡ Err c → causes.Body ≡ c
 nothing_err None c e = absurd cc
 nothing_err (Some t) c e = cc
 
-table_err : (rest : Option (List ℕ)) (c : Cause) → table_in rest ≡ Err c → causes.Body ≡ c
+pub table_err : (rest : Option (List ℕ)) (c : Cause) → table_in rest ≡ Err c → causes.Body ≡ c
 table_err None c e = cc
 table_err (Some text) c e =
     elim (bind_err (some_or_body (others text)) (λ rest. some_or_body (name_of (first_word text)) >>= λ name. Ok (name, rest)) c e) [
@@ -75,7 +75,7 @@ table_err (Some text) c e =
       ]
     ]
 
-one_err : (o : Option Image) (c : Cause) → one_image o ≡ Err c → causes.Body ≡ c
+pub one_err : (o : Option Image) (c : Cause) → one_image o ≡ Err c → causes.Body ≡ c
 one_err None c e = cc
 one_err (Some (vs, None)) c e = absurd cc
 one_err (Some (vs, Some words)) c e = cc
@@ -90,7 +90,7 @@ both_err (Some (vs, None)) c e = cc
 both_err (Some (vs, Some words)) c e = one_err (values_from [] words) c (after_err vs (one_image (values_from [] words)) c e)
 
 -- a count that is no version known
-VersionErr : Option (List ℕ) → Cause → Type 0
+unfoldable pub VersionErr : Option (List ℕ) → Cause → Type 0
 VersionErr rest c = (causes.Body ≡ c) ⊎ ((w : List ℕ) × (rest ≡ Some w) × (is_count w ≡ true) × (causes.Version ≡ c))
 
 known_err : (due : Option Version) (w : List ℕ) (c : Cause) → known due w ≡ Err c → causes.Version ≡ c
@@ -103,7 +103,7 @@ known_err due w c e =
       | inr p ↦ wrong_is {A = Version} causes.Version c p.1
     ]
 
-version_err : (due : Option Version) (rest : Option (List ℕ)) (c : Cause) → version_in due rest ≡ Err c → VersionErr rest c
+pub version_err : (due : Option Version) (rest : Option (List ℕ)) (c : Cause) → version_in due rest ≡ Err c → VersionErr rest c
 unfolding VersionErr
 version_err due None c e = inl cc
 version_err due (Some w) c e =

@@ -128,13 +128,13 @@ not_false : (a : Bool) → not a ≡ false → a ≡ true
 not_false true e = refl
 not_false false e = absurd cc
 
-record Begun (s : Standing) (g : Gtid) (t : Standing) : Type 0 where
-  number : is_number g.number ≡ true
-  room : s.count < 4294967294
-  unseen : set.contains s.seen g ≡ false
-  after : (record s { place = places.Within; gtid = g }) ≡ t
+pub record Begun (s : Standing) (g : Gtid) (t : Standing) : Type 0 where
+  pub number : is_number g.number ≡ true
+  pub room : s.count < 4294967294
+  pub unseen : set.contains s.seen g ≡ false
+  pub after : (record s { place = places.Within; gtid = g }) ≡ t
 
-begin_found : (s t : Standing) (g : Gtid) → begin s g ≡ Ok t → Begun s g t
+pub begin_found : (s t : Standing) (g : Gtid) → begin s g ≡ Ok t → Begun s g t
 unfolding begin
 begin_found s t g e =
     let last : Result Standing Cause = Ok (record s { place = places.Within; gtid = g }) in
@@ -151,13 +151,13 @@ begin_found s t g e =
       ]
     ]
 
-record Added (schema : Option (List Table)) (s : Standing) (c : Change) (t : Standing) : Type 0 where
-  room : length s.changes < 65536
-  writable : is_change_writable c ≡ true
-  taken : fits schema c ≡ true
-  after : (record s { changes = s.changes ++ c ∷ [] }) ≡ t
+pub record Added (schema : Option (List Table)) (s : Standing) (c : Change) (t : Standing) : Type 0 where
+  pub room : length s.changes < 65536
+  pub writable : is_change_writable c ≡ true
+  pub taken : fits schema c ≡ true
+  pub after : (record s { changes = s.changes ++ c ∷ [] }) ≡ t
 
-add_found : (schema : Option (List Table)) (s t : Standing) (c : Change) → add schema s c ≡ Ok t → Added schema s c t
+pub add_found : (schema : Option (List Table)) (s t : Standing) (c : Change) → add schema s c ≡ Ok t → Added schema s c t
 unfolding add
 add_found schema s t c e =
     let last : Result Standing Cause = Ok (record s { changes = s.changes ++ c ∷ [] }) in

@@ -36,10 +36,10 @@ use Rattle.txn_journal.proofs.WholeLines.{reads_text}
 completes : (ls more : List Line) (j : JournalValue) → IsWritten j → journal_lines One j ≡ ls ++ more → Begins (lines_text ls)
 completes ls more j fits e = (j, lines_text more, (fits, sym (flat_map-append ended_line ls more) ∙ ap lines_text (sym e)))
 
-abbrev no_entries : JournalValue
+abbrev pub no_entries : JournalValue
 no_entries = record { previous = set.empty; entries = [] }
 
-no_entries_fit : IsWritten no_entries
+pub no_entries_fit : IsWritten no_entries
 no_entries_fit = record { keeps = record { new = tt; writable = refl }; few = omega arith; previous = none_written; entries = tt }
 
 begins_at : (place : Place) (version : Version) (j : JournalValue) (seen : Gtids) (count : ℕ) (g : Gtid) (cs : List Change) → Sound_at place j seen count g cs → Begins (lines_text (said_at place version j g cs))
@@ -116,7 +116,7 @@ tells_fault before s n rest cause h j e =
       has_cause = judge_cause None s rest cause j;
     }
 
-lacks_more : (rest : List ℕ) (b : ℕ) → eqb b 10 ≡ false → IsOneLine rest → IsOneLine (rest ++ b ∷ [])
+pub lacks_more : (rest : List ℕ) (b : ℕ) → eqb b 10 ≡ false → IsOneLine rest → IsOneLine (rest ++ b ∷ [])
 lacks_more [] b ne h = rw ne refl
 lacks_more (c ∷ cs) b ne h =
     elim (eqb c 10) as (λ v. (not v && list_all (λ x. not (eqb x 10)) cs) ≡ true → (not v && list_all (λ x. not (eqb x 10)) (cs ++ b ∷ [])) ≡ true) [

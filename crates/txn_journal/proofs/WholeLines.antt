@@ -47,12 +47,12 @@ use Rattle.txn_journal.proofs.SoundLines.{at, seen_after, entry_of, with_entry}
 no_feed : ℕ → Bool
 no_feed b = not (eqb b 10)
 
-values_one : (vs : List Value) → AreValues vs → lacks 10 (values_text vs) ≡ true
+pub values_one : (vs : List Value) → AreValues vs → lacks 10 (values_text vs) ≡ true
 values_one [] fits = refl
 values_one (v ∷ []) fits = value_lacks 10 v feed_is_none fits.0
 values_one (v ∷ w ∷ vs) fits = joins (λ b. not (eqb b 10)) (value_text v) (32 ∷ values_text (w ∷ vs)) (value_lacks 10 v feed_is_none fits.0) (values_one (w ∷ vs) fits.1)
 
-table_one : (table text : List ℕ) → lacks 10 table ≡ true → lacks 10 text ≡ true → lacks 10 (table ++ 32 ∷ text) ≡ true
+pub table_one : (table text : List ℕ) → lacks 10 table ≡ true → lacks 10 text ≡ true → lacks 10 (table ++ 32 ∷ text) ≡ true
 table_one table text a b = joins (λ c. not (eqb c 10)) table (32 ∷ text) a b
 
 change_one : (c : Change) → FitsChange c → lacks 10 (change_text c) ≡ true

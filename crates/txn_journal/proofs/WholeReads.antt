@@ -8,7 +8,7 @@ use Rattle.txn_journal.specs.Reading.{closing, IsWhole}
 use Rattle.txn_journal.specs.declared.fault.JournalFault.{JournalFault}
 use Rattle.txn_journal.specs.declared.fault.JournalFault.TheVariants as faults
 
-abbrev stops : JournalFault → Result (Unit {0}) JournalFault
+abbrev pub stops : JournalFault → Result (Unit {0}) JournalFault
 stops e = Err e
 
 abbrev fails : JournalFault → Result JournalValue JournalFault
@@ -17,7 +17,7 @@ fails e = Err e
 abbrev stop : JournalFault → Progress Standing
 stop e = Stopped e
 
-same_fault : (e f : JournalFault) → stops e ≡ stops f → e ≡ f
+pub same_fault : (e f : JournalFault) → stops e ≡ stops f → e ≡ f
 same_fault e f h = cc
 
 same_stop : (e f : JournalFault) → stop e ≡ stop f → e ≡ f

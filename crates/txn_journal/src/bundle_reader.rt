@@ -1,5 +1,8 @@
 //! The reader of bundles.
-ghost use Rattle.std.specs.Prelude.{◌≡◌};
+ghost use Rattle.std.specs.Prelude.{◌≡◌, IfOk, IfErr};
+ghost use Rattle.txn_journal.specs.BundleStates.{BundleValue};
+ghost use Rattle.txn_journal.specs.BundleText.{WritesBundle};
+ghost use Rattle.txn_journal.specs.BundleRefused.{RefusesBundle, IsReadBundle};
 ghost use Rattle.txn_journal.specs.BundleReading.{bundle_start, eats_bundle, closing_bundle, IsWholeBundle};
 
 use crate::bundle::Bundle;
@@ -110,7 +113,13 @@ fn read_bundle(alloc: Global, bytes: &[u8]) -> Result<Bundle, JournalFault>
 
 /// The bundle that the bytes spell, all of the bytes.
 pub fn decode_bundle(alloc: Global, bytes: &[u8]) -> Result<Bundle, JournalFault>
-    // What the fold over the bytes gives, if memory and the sources of a set allow.
+    // What is read is spelled so.
+    ensures found { IfOk result (λ b. WritesBundle bytes.now b) }
+    // What is spelled so is read, if memory and the sources of a set allow.
+    ensures only { (b : BundleValue) → WritesBundle bytes.now b → IsReadBundle result b }
+    // Which line is the first that is faulty, and what is wrong with it.
+    ensures refused { IfErr result (λ fault. RefusesBundle fault bytes.now) }
+    // The same, by the fold over the bytes.
     ensures exact { IsWholeBundle result (closing_bundle (eats_bundle bundle_start bytes.now)) }
 {
     read_bundle(alloc, bytes)

@@ -7,7 +7,7 @@ ghost use Rattle.journal_words.specs.Words.{is_count};
 ghost use Rattle.txn_journal.specs.Words.{before, behind};
 ghost use Rattle.txn_journal.specs.Stream.{Finds, TakesLine};
 ghost use Rattle.txn_journal.specs.Splits.{parts_of, are_new_to, are_columns, is_columns_text};
-ghost use Rattle.txn_journal.specs.Shapes.{uniques_from, is_head, shape_in, width_of, columns_in, keys_from, table_of, after_fault, with_table, added_table};
+ghost use Rattle.txn_journal.specs.Shapes.{uniques_from, is_head, shape_in, width_of, numbers_from, columns_in, keys_from, table_of, after_fault, with_table, added_table};
 ghost use Rattle.txn_journal.specs.Shaped.{shape};
 
 use crate::fault::{Cause, LineFault};
@@ -77,6 +77,7 @@ fn are_counts(words: &[&[u8]]) -> bool
 }
 
 /// Whether each word is new, and not one that came earlier.
+#[tactic(auto, unfolding(crate::specs::Splits::are_new_to))]
 fn are_new(alloc: Global, words: &[&[u8]]) -> Result<bool, AllocError>
     ensures { IfOk result (λ are. are ≡ are_new_to (λ v. false) (map (λ w. w.now) words.now)) }
 {
@@ -111,6 +112,7 @@ fn is_unique(alloc: Global, key: &[u8], columns: &[u8]) -> Result<bool, AllocErr
 }
 
 /// The columns of each unique key.
+#[tactic(auto, unfolding(crate::specs::Shapes::uniques_from))]
 fn uniques_in<'a>(alloc: Global, words: &[&'a [u8]]) -> Result<Vec<&'a [u8]>, LineFault>
     ensures { Finds (λ us. map (λ u. u.now) us.items) result (uniques_from [] (map (λ w. w.now) words.now)) }
 {
@@ -174,30 +176,51 @@ fn table_words<'a>(
     })
 }
 
-/// The columns that a text names, where each is below the count.
-fn columns_below(alloc: Global, limit: u64, text: &[u8]) -> Result<Columns, LineFault>
+/// The numbers of columns, where each is below the count.
+#[tactic(auto, unfolding(crate::specs::Shapes::numbers_from))]
+fn numbers_below(alloc: Global, limit: u64, words: &[&[u8]]) -> Result<Vec<u32>, LineFault>
     requires { limit ≤ 64 }
-    ensures { Finds (λ c. c) result (columns_in limit text.now) }
+    ensures { Finds (λ c. c.items) result (numbers_from limit [] (map (λ w. w.now) words.now)) }
 {
     let mut columns = Vec::new(alloc);
-    for word in parts(alloc, b',', text)? {
+    for word in words {
         match count(word) {
             Some(number) if number < limit => columns.push(number as u32)?,
             _ => return Err(LineFault::Wrong(Cause::Schema)),
         }
     }
+    Ok(columns)
+}
+
+/// The columns that a text names, where each is below the count.
+#[tactic(auto, unfolding(crate::specs::Shapes::columns_in))]
+fn columns_below(alloc: Global, limit: u64, text: &[u8]) -> Result<Columns, LineFault>
+    requires { limit ≤ 64 }
+    ensures { Finds (λ c. c) result (columns_in limit text.now) }
+{
+    let words = parts(alloc, b',', text)?;
+    let columns = numbers_below(alloc, limit, &words)?;
     Ok(Columns::new(columns)?)
 }
 
 /// The columns of each key, where each is below the count.
-fn keys_below(alloc: Global, limit: u64, texts: &[&[u8]]) -> Result<ColumnLists, LineFault>
+#[tactic(auto, unfolding(crate::specs::Shapes::keys_from))]
+fn lists_below(alloc: Global, limit: u64, texts: &[&[u8]]) -> Result<Vec<Columns>, LineFault>
     requires { limit ≤ 64 }
-    ensures { Finds (λ c. c) result (keys_from limit [] (map (λ t. t.now) texts.now)) }
+    ensures { Finds (λ k. k.items) result (keys_from limit [] (map (λ t. t.now) texts.now)) }
 {
     let mut keys = Vec::new(alloc);
     for text in texts {
         keys.push(columns_below(alloc, limit, text)?)?;
     }
+    Ok(keys)
+}
+
+fn keys_below(alloc: Global, limit: u64, texts: &[&[u8]]) -> Result<ColumnLists, LineFault>
+    requires { limit ≤ 64 }
+    ensures { Finds (λ c. c) result (keys_from limit [] (map (λ t. t.now) texts.now)) }
+{
+    let keys = lists_below(alloc, limit, texts)?;
     Ok(ColumnLists::new(keys)?)
 }
 
