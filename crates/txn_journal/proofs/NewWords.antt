@@ -86,13 +86,14 @@ take_all : {X : Type 0} (xs : List X) → take (length xs) xs ≡ xs
 take_all [] = refl
 take_all (x ∷ xs) = ap (λ t. x ∷ t) (take_all xs)
 
-pub pair_step : (before : List (List ℕ)) (left : List Word) (d e : Word) (all : Result (List (List ℕ)) Cause) → 2 ≤ length left → uniques_from before (texts left) ≡ all → (bytes_eq (get_or left 0 d).now (codes "uk") && is_columns_text (get_or left 1 e).now) ≡ true → uniques_from (before ++ (get_or left 1 e).now ∷ []) (texts (take (length left - 2) (drop 2 left))) ≡ all
+pub pair_step : (before pushed : List (List ℕ)) (left : List Word) (d e : Word) (all : Result (List (List ℕ)) Cause) → pushed ≡ before ++ (get_or left 1 e).now ∷ [] → 2 ≤ length left → uniques_from before (texts left) ≡ all → (bytes_eq (get_or left 0 d).now (codes "uk") && is_columns_text (get_or left 1 e).now) ≡ true → uniques_from pushed (texts (take (length left - 2) (drop 2 left))) ≡ all
 unfolding uniques_from
-pair_step before [] d e all two so_far is = absurd (omega arith)
-pair_step before (x ∷ []) d e all two so_far is = absurd (omega arith)
-pair_step before (x ∷ y ∷ zs) d e all two so_far is =
+pair_step before pushed [] d e all is_pushed two so_far is = absurd (omega arith)
+pair_step before pushed (x ∷ []) d e all is_pushed two so_far is = absurd (omega arith)
+pair_step before pushed (x ∷ y ∷ zs) d e all is_pushed two so_far is =
     let n : length (x ∷ y ∷ zs) - 2 ≡ length zs = omega arith in
-    ap (λ (k : ℕ). uniques_from (before ++ y.now ∷ []) (texts (take k zs))) n
+    ap (λ (us : List (List ℕ)). uniques_from us (texts (take (length (x ∷ y ∷ zs) - 2) zs))) is_pushed
+    ∙ ap (λ (k : ℕ). uniques_from (before ++ y.now ∷ []) (texts (take k zs))) n
     ∙ ap (λ (t : List Word). uniques_from (before ++ y.now ∷ []) (texts t)) (take_all zs)
     ∙ sym (ap (λ (b : Bool). cond b (uniques_from (before ++ y.now ∷ []) (texts zs)) (Err causes.Body)) is)
     ∙ so_far

@@ -13,6 +13,7 @@ use Rattle.rows.specs.Fits.{misfit}
 use Rattle.rows.specs.Database.{Database, opening}
 use Rattle.rows.specs.declared.change.TableRow.{TableRow}
 use Rattle.rows.specs.declared.change.NotInSchema.{NotInSchema}
+use Rattle.rows.specs.declared.change.ApplyFault.{ApplyFault}
 use Rattle.rows.specs.declared.change.RowFault.{RowFault}
 use Rattle.txn_journal.specs.Words.{before, behind}
 use Rattle.txn_journal.specs.Splits.{parts_of, are_new_to}
@@ -54,6 +55,10 @@ row_misfits d r cause e = rw e refl
 pub row_refused : (d : Database) (r : TableRow) (fault : RowFault) → apply d.schema (opening r.table r.row) d.rows ≡ Err fault → with_opening d r ≡ Err causes.Schema
 unfolding with_opening
 row_refused d r fault e = rw e (elim (is_some (misfit d.schema (opening r.table r.row))) as (λ b. cond b (Err causes.Schema) (ok_rows (Err fault)) ≡ Err causes.Schema) [ true ↦ refl | false ↦ refl ])
+
+-- what a row that is not put answers
+abbrev pub put_fails : ApplyFault → Result (Unit {0}) ApplyFault
+put_fails fault = Err fault
 
 -- ---- a line of the open journal
 

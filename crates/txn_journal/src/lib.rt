@@ -15,6 +15,7 @@ mod reader;
 mod tables;
 mod writer;
 
+
 pub use bundle::{Bundle, Channel};
 pub use bundle_reader::{BundleReader, decode_bundle};
 pub use fault::{Cause, JournalFault};
