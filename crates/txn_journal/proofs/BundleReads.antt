@@ -1,6 +1,5 @@
 -- What one feed and finish of a bundle give is what the whole text gives.
-use Rattle.std.proofs.Common.{◌≡◌, ℕ, ◌⊎◌, inl, inr, List, Result, Ok, Err, refl, sym, ap, ◌∙◌}
-use Rattle.gtid_set.specs.declared.fault.SetFault.{SetFault}
+use Rattle.std.proofs.Common.{◌≡◌, inl, inr, Result, Err, refl, sym, ap, ◌∙◌}
 use Rattle.txn_journal.specs.Stream.{Progress, Reading, Stopped, IsAfter, answer}
 use Rattle.txn_journal.specs.BundleStates.{BundleValue, BundleStanding}
 use Rattle.txn_journal.specs.BundleReading.{closing_bundle, IsWholeBundle}

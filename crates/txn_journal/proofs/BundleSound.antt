@@ -1,9 +1,7 @@
 -- What the lines of a bundle have said is kept by one line more.
-use Rattle.std.proofs.Common.{◌≡◌, ℕ, suc, ◌+◌, ◌<◌, ◌≤◌, ◌⊎◌, inl, inr, Bool, true, false, not, cond, leb, List, [], ◌∷◌, ◌++◌, length, map, Option, Some, None, Result, Ok, Err, refl, sym, ap, subst, ◌∙◌, append_assoc, arith}
-use Rattle.std.specs.Prelude.{◌&&◌, ◌||◌}
-use Rattle.std.specs.List.{list_all, flat_map, AllByRecursion}
+use Rattle.std.proofs.Common.{◌≡◌, ℕ, ◌<◌, inl, inr, true, false, cond, leb, List, [], ◌∷◌, ◌++◌, length, map, Option, Some, None, Result, Ok, Err, refl, sym, ap, subst, ◌∙◌, append_assoc, arith}
+use Rattle.std.specs.List.{list_all, AllByRecursion}
 use Rattle.std.specs.FinMap as map_of
-use Rattle.std.specs.FinSet as set
 use Rattle.std.proofs.lemmas.Bool.{leb-false}
 use Rattle.std.proofs.lemmas.List.{append-nil, length-append}
 use Rattle.gtid_text.specs.Written.{IsSource}
@@ -13,29 +11,22 @@ use Rattle.rows.specs.Apply.{Rows}
 use Rattle.rows.specs.Database.{Database}
 use Rattle.rows.specs.Tables.{table_fault}
 use Rattle.rows.specs.declared.schema.Table.{Table}
-use Rattle.rows.specs.declared.change.Change.{Change}
 use Rattle.rows.specs.declared.change.TableRow.{TableRow}
-use Rattle.journal.specs.declared.Entry.{Entry}
 use Rattle.journal.specs.Journals.{JournalValue}
 use Rattle.journal.specs.Writing.{is_image_writable}
-use Rattle.journal_words.proofs.Numerals.{both}
 use Rattle.journal_words.proofs.Counts.{chosen}
-use Rattle.txn_journal.specs.Due.{is_due}
 use Rattle.txn_journal.specs.Lines.{◌>>=◌}
-use Rattle.txn_journal.specs.Machine.{Standing, empty, is_last, fits, closed, add, begin, judge}
+use Rattle.txn_journal.specs.Machine.{Standing, empty, is_last, fits, closed, judge}
 use Rattle.txn_journal.specs.Heard.{said}
-use Rattle.txn_journal.specs.Causes.{word_for}
-use Rattle.txn_journal.specs.Spelling.{Line, Header, Previous, Begin, Makes, End, Close, line_text, journal_lines, front_lines, IsWritten}
+use Rattle.txn_journal.specs.Spelling.{Line, Header, Previous, Begin, Makes, End, Close, journal_lines, IsWritten}
 use Rattle.txn_journal.specs.Shapes.{Shape, with_table, shape_for}
-use Rattle.txn_journal.specs.BundleStates.{BundleValue, BundleStanding, bare, no_bundle, is_due_in, opened_rows, behind_tables, with_opening, put_row, has_channel, joined_channel, with_journal, closed_channel, after_inner, judge_own, judge_inner, judge_part, judge_bundle}
-use Rattle.txn_journal.specs.BundleText.{OwnLine, BundleLine, Own, Inner, Heads, Names, Has, Puts, Opens, Done, own_text, bundle_line_text, table_lines, row_lines, channel_lines, channels_lines, tables_lines, start_lines, bundle_front, bundle_lines, FitsRow, AreAdded, put_all, AreOpening, AreNamed, entry_fits, IsWrittenIn, AreBrought, IsWrittenBundle}
+use Rattle.txn_journal.specs.BundleStates.{BundleValue, BundleStanding, bare, is_due_in, behind_tables, with_opening, put_row, has_channel, joined_channel, with_journal, closed_channel, after_inner, judge_own, judge_inner, judge_part, judge_bundle}
+use Rattle.txn_journal.specs.BundleText.{OwnLine, BundleLine, Own, Inner, Heads, Names, Has, Puts, Opens, Done, bundle_line_text, table_lines, row_lines, channel_lines, channels_lines, tables_lines, start_lines, bundle_front, FitsRow, AreAdded, put_all, AreNamed, entry_fits, IsWrittenIn, AreBrought, IsWrittenBundle}
 use Rattle.txn_journal.specs.BundleHeard.{inner_said, bundle_said_at, bundle_said}
-use Rattle.txn_journal.specs.BundleCauses.{own_word, FitsOwn, SaysOwn}
+use Rattle.txn_journal.specs.BundleCauses.{own_word, FitsOwn}
 use Rattle.txn_journal.specs.declared.bundle.Channel.{Channel}
 use Rattle.txn_journal.specs.declared.bundle_draft.Part.{Part}
 use Rattle.txn_journal.specs.declared.bundle_draft.Part.TheVariants as parts
-use Rattle.txn_journal.specs.declared.bundle_draft.Word.{Word}
-use Rattle.txn_journal.specs.declared.bundle_draft.Word.TheVariants as words
 use Rattle.txn_journal.specs.declared.fault.Cause.{Cause}
 use Rattle.txn_journal.specs.declared.fault.Cause.TheVariants as causes
 use Rattle.txn_journal.specs.declared.lines.Place.{Place}
@@ -43,9 +34,9 @@ use Rattle.txn_journal.specs.declared.lines.Place.TheVariants as places
 use Rattle.txn_journal.specs.declared.lines.Version.{Version}
 use Rattle.txn_journal.specs.declared.lines.Version.TheVariants.{One}
 use Rattle.txn_journal.proofs.LineRuns.{all_join}
-use Rattle.txn_journal.proofs.LineReads.{bind_ok, ok_is, put, read_line, read_found, judge_reads}
-use Rattle.txn_journal.proofs.SoundLines.{IsSound, Sound_at, whole_written, Added, add_found, Begun, begin_found, Keeps, Taken, judge_found}
-use Rattle.txn_journal.proofs.ShapeLaws.{Adds, with_found}
+use Rattle.txn_journal.proofs.LineReads.{bind_ok, ok_is, put, read_line, judge_reads}
+use Rattle.txn_journal.proofs.SoundLines.{IsSound, Sound_at, whole_written, add_found, begin_found, judge_found}
+use Rattle.txn_journal.proofs.ShapeLaws.{with_found}
 use Rattle.txn_journal.proofs.OwnReads.{own_put, read_own, own_reads}
 use Rattle.txn_journal.proofs.OwnLaws.{own_found}
 

@@ -1,15 +1,13 @@
 -- What the reading of a bundle's text tells of it.
-use Rattle.std.proofs.Common.{◌≡◌, ℕ, zero, suc, ◌+◌, ◌-◌, ◌^◌, ◌<◌, ◌≤◌, ◌⊎◌, inl, inr, Bool, true, false, cond, eqb, not, List, [], ◌∷◌, ◌++◌, length, map, Option, Some, None, Result, Ok, Err, refl, sym, ap, subst, ◌∙◌, append_assoc, arith}
-use Rattle.std.specs.Prelude.{◌&&◌, min, IfOk, IfErr}
-use Rattle.std.specs.List.{list_all, flat_map, AllByRecursion}
+use Rattle.std.proofs.Common.{◌≡◌, ℕ, ◌+◌, inl, inr, true, false, cond, eqb, List, [], ◌∷◌, ◌++◌, length, map, Option, Some, None, Result, Ok, Err, refl, sym, ap, subst, ◌∙◌, append_assoc, arith}
+use Rattle.std.specs.Prelude.{IfOk, IfErr}
+use Rattle.std.specs.List.{list_all}
 use Rattle.std.specs.FinSet as set
-use Rattle.std.specs.FinMap as map_of
 use Rattle.std.proofs.lemmas.List.{append-nil, length-append}
 use Rattle.std.proofs.lemmas.List.Concat.{flat_map-append}
 use Rattle.std.proofs.lemmas.Bool.{eqb-true}
 use Rattle.gtid_text.specs.declared.Gtid.{Gtid}
 use Rattle.gtid_set.specs.Sets.{Gtids}
-use Rattle.gtid_set.specs.declared.fault.SetFault.{SetFault}
 use Rattle.gtid_set.proofs.SpanLemmas.{all_push}
 use Rattle.rows.specs.declared.change.Change.{Change}
 use Rattle.rows.specs.declared.change.TableRow.{TableRow}
@@ -17,17 +15,17 @@ use Rattle.rows.specs.declared.schema.Table.{Table}
 use Rattle.journal.specs.Journals.{JournalValue}
 use Rattle.txn_journal.specs.Words.{IsOneLine}
 use Rattle.txn_journal.specs.Machine.{Standing, is_last, judge}
-use Rattle.txn_journal.specs.Stream.{Progress, Reading, Stopped, judged, next_number, eat, eats, ended}
-use Rattle.txn_journal.specs.Spelling.{Line, Header, Previous, Begin, Makes, End, Close, front_lines, journal_lines, IsWritten}
+use Rattle.txn_journal.specs.Stream.{Progress, Reading, Stopped, judged, next_number, eat, ended}
+use Rattle.txn_journal.specs.Spelling.{Line, Previous, Begin, Makes, End, Close, front_lines, journal_lines}
 use Rattle.txn_journal.specs.Heard.{said_at, said}
 use Rattle.txn_journal.specs.Refused.{capped}
 use Rattle.rows.specs.Names.{is_name}
-use Rattle.txn_journal.specs.BundleStates.{BundleValue, BundleStanding, bare, no_bundle, is_done, has_channel, after_inner, judge_own, judge_inner, judge_part, judge_bundle}
+use Rattle.txn_journal.specs.BundleStates.{BundleValue, BundleStanding, bare, is_done, has_channel, after_inner, judge_inner, judge_part, judge_bundle}
 use Rattle.txn_journal.specs.BundleReading.{bundle_start, eats_bundle, whole_bundle, closing_bundle, IsWholeBundle}
-use Rattle.txn_journal.specs.BundleText.{OwnLine, BundleLine, Own, Inner, Heads, Names, Opens, Done, bundle_line_text, ended_bundle_line, bundle_text, table_lines, row_lines, channel_lines, channels_lines, tables_lines, start_lines, bundle_front, bundle_lines, bundle_spelling, AreAdded, AreNamed, IsWrittenIn, entry_fits, AreBrought, IsWrittenBundle, WritesBundle}
-use Rattle.txn_journal.specs.BundleHeard.{inner_said, bundle_said_at, bundle_said}
+use Rattle.txn_journal.specs.BundleText.{BundleLine, Own, Inner, Heads, Names, Opens, Done, ended_bundle_line, bundle_text, channel_lines, channels_lines, tables_lines, start_lines, bundle_front, bundle_lines, bundle_spelling, IsWrittenIn, entry_fits, IsWrittenBundle, WritesBundle}
+use Rattle.txn_journal.specs.BundleHeard.{bundle_said_at, bundle_said}
 use Rattle.txn_journal.specs.BundleCauses.{bundle_cause_at, HasBundleCause}
-use Rattle.txn_journal.specs.BundleRefused.{BundleBegins, IsBundleFirstFaulty, IsBundleFront, IsBundleTrailing, RefusesBundle, IsReadBundle}
+use Rattle.txn_journal.specs.BundleRefused.{BundleBegins, IsBundleFirstFaulty, RefusesBundle, IsReadBundle}
 use Rattle.txn_journal.specs.declared.bundle.Channel.{Channel}
 use Rattle.txn_journal.specs.declared.bundle_draft.Part.{Part}
 use Rattle.txn_journal.specs.declared.bundle_draft.Part.TheVariants as parts
@@ -41,10 +39,10 @@ use Rattle.txn_journal.specs.declared.lines.Version.TheVariants.{One}
 use Rattle.txn_journal.proofs.Pieces.{eats_append, stopped_stays}
 use Rattle.txn_journal.proofs.CauseLines.{bind_err, judge_cause}
 use Rattle.txn_journal.proofs.OwnCauses.{own_cause}
-use Rattle.txn_journal.proofs.SoundLines.{Sound_at, IsSound, with_entry, entry_of, whole_more, ended_entry, whole_written}
+use Rattle.txn_journal.proofs.SoundLines.{Sound_at, with_entry, entry_of, whole_more, ended_entry, whole_written}
 use Rattle.txn_journal.proofs.TellLines.{no_entries, no_entries_fit, lacks_more}
-use Rattle.txn_journal.proofs.BundleSound.{FitsDraft, NoChannel, OpenChannel, SoundAt, IsBundleSound, channels_more, tables_written, tables_front, named_more, brought_more, KeepsBundle, InnerTaken, bundle_taken}
-use Rattle.txn_journal.proofs.BundleWhole.{ReadsBundle, reads_bundle}
+use Rattle.txn_journal.proofs.BundleSound.{OpenChannel, SoundAt, IsBundleSound, channels_more, tables_written, tables_front, named_more, brought_more, bundle_taken}
+use Rattle.txn_journal.proofs.BundleWhole.{reads_bundle}
 
 -- ---- what has been read can be gone on with
 

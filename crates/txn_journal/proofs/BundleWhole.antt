@@ -1,18 +1,12 @@
 -- What a bundle spells is read to its end.
-use Rattle.std.proofs.Common.{◌≡◌, ℕ, suc, ◌+◌, ◌<◌, ◌≤◌, ◌⊎◌, inl, inr, Bool, true, false, not, cond, leb, List, [], ◌∷◌, ◌++◌, length, map, Option, Some, None, Result, Ok, Err, refl, sym, ap, subst, ◌∙◌, append_assoc, arith}
+use Rattle.std.proofs.Common.{◌≡◌, ℕ, ◌+◌, ◌<◌, ◌≤◌, Bool, true, false, cond, List, [], ◌∷◌, ◌++◌, length, map, Option, Some, None, Result, Ok, Err, refl, sym, ap, subst, ◌∙◌, append_assoc, arith}
 use Rattle.std.specs.List.{list_all, flat_map, AllByRecursion}
-use Rattle.std.specs.FinMap as map_of
-use Rattle.std.specs.FinSet as set
 use Rattle.std.proofs.lemmas.Bool.{lt-leb}
 use Rattle.std.proofs.lemmas.List.{append-nil, length-append}
-use Rattle.gtid_text.specs.Written.{IsSource}
 use Rattle.rows.specs.Names.{is_name}
 use Rattle.rows.specs.Apply.{Rows}
-use Rattle.rows.specs.Database.{Database}
-use Rattle.rows.specs.Tables.{table_fault}
 use Rattle.rows.specs.declared.schema.Table.{Table}
 use Rattle.rows.specs.declared.change.TableRow.{TableRow}
-use Rattle.journal.specs.declared.Entry.{Entry}
 use Rattle.journal.specs.Journals.{JournalValue}
 use Rattle.journal.specs.Writing.{is_image_writable}
 use Rattle.journal_words.proofs.Numerals.{both}
@@ -21,17 +15,16 @@ use Rattle.txn_journal.specs.Due.{is_due}
 use Rattle.journal_words.specs.Words.{first_word, others}
 use Rattle.txn_journal.specs.Lines.{◌>>=◌, keyword_of, due_word}
 use Rattle.txn_journal.specs.Machine.{Standing, empty, is_last, step, judge}
-use Rattle.txn_journal.specs.Stream.{Progress, Reading, eats}
+use Rattle.txn_journal.specs.Stream.{Reading, eats}
 use Rattle.txn_journal.specs.Spelling.{Line, line_text, journal_lines}
-use Rattle.txn_journal.specs.Shapes.{Shape, with_table, shape_for}
-use Rattle.txn_journal.specs.BundleStates.{BundleValue, BundleStanding, bare, no_bundle, is_due_in, is_done, opened_rows, behind_tables, with_opening, put_row, has_channel, joined_channel, with_journal, closed_channel, after_inner, judge_own, judge_inner, judge_part, judge_bundle}
+use Rattle.txn_journal.specs.Shapes.{shape_for}
+use Rattle.txn_journal.specs.BundleStates.{BundleValue, BundleStanding, bare, no_bundle, is_due_in, is_done, opened_rows, behind_tables, with_opening, put_row, has_channel, joined_channel, closed_channel, after_inner, judge_own, judge_inner, judge_part, judge_bundle}
 use Rattle.txn_journal.specs.BundleReading.{bundle_start, eats_bundle}
-use Rattle.txn_journal.specs.BundleText.{OwnLine, BundleLine, Own, Inner, Heads, Names, Has, Puts, Opens, Done, own_text, bundle_line_text, ended_bundle_line, bundle_text, table_lines, row_lines, channel_lines, channels_lines, tables_lines, start_lines, bundle_front, bundle_lines, bundle_spelling, FitsRow, AreAdded, put_all, AreOpening, AreNamed, entry_fits, IsWrittenIn, AreBrought, IsWrittenBundle}
+use Rattle.txn_journal.specs.BundleText.{OwnLine, BundleLine, Own, Inner, Heads, Names, Has, Puts, Opens, Done, own_text, bundle_line_text, ended_bundle_line, bundle_text, table_lines, row_lines, channel_lines, channels_lines, tables_lines, start_lines, bundle_lines, bundle_spelling, FitsRow, AreAdded, put_all, AreNamed, IsWrittenIn, AreBrought, IsWrittenBundle}
 use Rattle.txn_journal.specs.BundleCauses.{own_word, FitsOwn}
 use Rattle.txn_journal.specs.declared.bundle.Channel.{Channel}
 use Rattle.txn_journal.specs.declared.bundle_draft.Part.{Part}
 use Rattle.txn_journal.specs.declared.bundle_draft.Part.TheVariants as parts
-use Rattle.txn_journal.specs.declared.bundle_draft.Word.{Word}
 use Rattle.txn_journal.specs.declared.bundle_draft.Word.TheVariants as words
 use Rattle.txn_journal.specs.declared.fault.Cause.{Cause}
 use Rattle.txn_journal.specs.declared.fault.Cause.TheVariants as causes
@@ -39,13 +32,12 @@ use Rattle.txn_journal.specs.declared.lines.Place.{Place}
 use Rattle.txn_journal.specs.declared.lines.Place.TheVariants as places
 use Rattle.txn_journal.specs.declared.lines.Keyword.{Keyword}
 use Rattle.txn_journal.specs.declared.lines.Keyword.TheVariants as keywords
-use Rattle.txn_journal.specs.declared.lines.Version.{Version}
 use Rattle.txn_journal.specs.declared.lines.Version.TheVariants.{One}
 use Rattle.txn_journal.proofs.LineRuns.{runs, runs_then, fed, eats_runs, all_join}
 use Rattle.txn_journal.proofs.SoundLines.{at}
 use Rattle.txn_journal.proofs.WholeLines.{texts_of, reads_all}
 use Rattle.txn_journal.proofs.ShapeLaws.{allowed, shape_fits, with_again}
-use Rattle.txn_journal.proofs.OwnReads.{own_put, read_own, own_reads}
+use Rattle.txn_journal.proofs.OwnReads.{own_put, own_reads}
 use Rattle.txn_journal.proofs.OwnLaws.{own_again, own_one}
 
 abbrev state : Part → List Table → BundleValue → Option Channel → Standing → BundleStanding

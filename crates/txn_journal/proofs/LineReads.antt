@@ -1,5 +1,5 @@
 -- Lines: what is read is spelled so, and what is spelled so is read.
-use Rattle.std.proofs.Common.{◌≡◌, ℕ, ◌<◌, ◌⊎◌, inl, inr, Bool, true, false, cond, List, [], ◌∷◌, ◌++◌, length, Option, Some, None, Result, Ok, Err, refl, sym, ap, subst, ◌∙◌, arith}
+use Rattle.std.proofs.Common.{◌≡◌, ℕ, inl, inr, true, cond, List, [], ◌∷◌, ◌++◌, Option, Some, None, Result, Ok, Err, refl, sym, ap, subst, ◌∙◌}
 use Rattle.std.specs.Prelude.{codes}
 use Rattle.std.specs.Str.{bytes_eq}
 use Rattle.std.proofs.lemmas.Slice.Eq.{bytes_eq-Decides}
@@ -7,22 +7,20 @@ use Rattle.gtid_text.specs.declared.Gtid.{Gtid}
 use Rattle.gtid_text.specs.Written.{IsUsable}
 use Rattle.gtid_text.specs.Canonical.{gtid_text}
 use Rattle.gtid_set.specs.Sets.{Gtids}
-use Rattle.rows.specs.declared.value.Value.{Value}
-use Rattle.rows.specs.declared.change.Change.{Change}
 use Rattle.rows.specs.declared.change.Change.TheVariants.{Insert, Delete, Update}
 use Rattle.rows.specs.declared.schema.Table.{Table}
 use Rattle.rows.specs.Names.{is_name}
 use Rattle.journal_words.specs.Words.{is_count, first_word, others}
 use Rattle.journal_words.specs.Gtids.{gtid_of_word, set_of_word}
 use Rattle.txn_journal.specs.WrittenSets.{set_text, IsWrittenSet}
-use Rattle.journal_words.proofs.Counts.{chosen, some_is, lacks, word_alone, word_and_more, first_word-front, others-front}
+use Rattle.journal_words.proofs.Counts.{chosen, some_is, word_alone, word_and_more, first_word-front, others-front}
 use Rattle.txn_journal.proofs.GtidLaws.{gtid_found, gtid_again}
 use Rattle.txn_journal.proofs.SetLaws.{set_found, set_again}
 use Rattle.txn_journal.specs.Words.{name_of}
 use Rattle.txn_journal.specs.Due.{is_due}
 use Rattle.txn_journal.specs.Lines.{◌>>=◌, some_or_body, keyword_of, due_word, takes_one, known, version_in, gtid_in, set_in, nothing_in, image_in, images_in, table_in}
 use Rattle.txn_journal.specs.Machine.{Standing, closed, add, begin, opened, followed, begun, ended, finished, step, judge}
-use Rattle.txn_journal.specs.Spelling.{Line, Header, Previous, Begin, Makes, End, Close, version_text, values_text, image_text, change_text, line_text, AreValues, FitsChange}
+use Rattle.txn_journal.specs.Spelling.{Line, Header, Previous, Begin, Makes, End, Close, version_text, values_text, line_text}
 use Rattle.txn_journal.specs.Causes.{word_for, FitsLine, HasImages, IsDueVersion}
 use Rattle.txn_journal.specs.declared.fault.Cause.{Cause}
 use Rattle.txn_journal.specs.declared.fault.Cause.TheVariants as causes

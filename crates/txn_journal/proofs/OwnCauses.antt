@@ -1,8 +1,8 @@
 -- What is wrong with a bundle's own line that is not taken.
-use Rattle.std.proofs.Common.{◌≡◌, ℕ, suc, ◌<◌, ◌≤◌, ◌⊎◌, inl, inr, Bool, true, false, not, cond, leb, eqb, ltb, List, [], ◌∷◌, ◌++◌, length, Option, Some, None, Result, Ok, Err, refl, sym, ap, subst, ◌∙◌, append_assoc, arith}
-use Rattle.std.specs.Prelude.{◌&&◌, ◌||◌, codes, is_some, decimal}
+use Rattle.std.proofs.Common.{◌≡◌, ℕ, ◌<◌, ◌≤◌, ◌⊎◌, inl, inr, Bool, true, false, not, cond, leb, ltb, List, [], ◌∷◌, ◌++◌, length, Option, Some, None, Result, Ok, Err, refl, sym, ap, subst, ◌∙◌, arith}
+use Rattle.std.specs.Prelude.{◌&&◌, ◌||◌, codes, is_some}
 use Rattle.std.specs.Str.{bytes_eq}
-use Rattle.std.proofs.lemmas.Bool.{leb-true, leb-false, le-leb, ltb-true, lt-leb, lt-ltb}
+use Rattle.std.proofs.lemmas.Bool.{leb-true, leb-false, le-leb, ltb-true, lt-ltb}
 use Rattle.rows.specs.Apply.{Rows, apply}
 use Rattle.rows.specs.Database.{Database, opening}
 use Rattle.rows.specs.Fits.{misfit}
@@ -13,7 +13,7 @@ use Rattle.rows.specs.declared.schema.TableFault.TheVariants as table_faults
 use Rattle.rows.specs.Tables.{has_column_lists, is_within_limits, has_its_columns, is_taken, table_fault}
 use Rattle.rows.specs.declared.change.TableRow.{TableRow}
 use Rattle.journal.specs.Writing.{is_image_writable}
-use Rattle.journal_words.specs.Words.{is_count, count_of, first_word, others}
+use Rattle.journal_words.specs.Words.{count_of, first_word, others}
 use Rattle.journal_words.specs.Gtids.{source_of_word}
 use Rattle.journal_words.proofs.Counts.{chosen, some_is, word_and_more, count_again}
 use Rattle.txn_journal.specs.Words.{name_of}
@@ -22,8 +22,8 @@ use Rattle.txn_journal.specs.Machine.{empty}
 use Rattle.txn_journal.specs.Shapes.{Shape, FitsShape, uniques_from, is_head, shape_with, shape_of, shape_in, few_columns, width_of, column_below, numbers_from, columns_in, keys_from, table_of, shape_for, fault_cause, after_fault, with_table}
 use Rattle.txn_journal.specs.Splits.{parts_of, is_columns_text}
 use Rattle.txn_journal.specs.BundleStates.{BundleStanding, word_of, is_due_in, due_in, replica_in, preserve_in, channel_in, behind_tables, ok_rows, with_opening, put_row, has_channel, joined_channel, judge_own}
-use Rattle.txn_journal.specs.BundleText.{OwnLine, Heads, Names, Has, Puts, Opens, Done, own_text}
-use Rattle.txn_journal.specs.BundleCauses.{own_word, FitsOwn, SaysOwn, HasWidth, PassesOwnLimit, Clashes, HasOwnCause}
+use Rattle.txn_journal.specs.BundleText.{OwnLine, Heads, Names, Has, Puts, Opens, Done}
+use Rattle.txn_journal.specs.BundleCauses.{SaysOwn, HasWidth, HasOwnCause}
 use Rattle.txn_journal.specs.declared.bundle.Channel.{Channel}
 use Rattle.txn_journal.specs.declared.bundle_draft.Part.{Part}
 use Rattle.txn_journal.specs.declared.bundle_draft.Part.TheVariants as parts
@@ -32,7 +32,7 @@ use Rattle.txn_journal.specs.declared.bundle_draft.Word.TheVariants as words
 use Rattle.txn_journal.specs.declared.fault.Cause.{Cause}
 use Rattle.txn_journal.specs.declared.fault.Cause.TheVariants as causes
 use Rattle.txn_journal.proofs.LineReads.{ok_is}
-use Rattle.txn_journal.proofs.CauseLines.{wrong, bind_err, wrong_is, made_err, some_or_body_err, nothing_err, table_err, one_err, VersionErr, version_err}
+use Rattle.txn_journal.proofs.CauseLines.{bind_err, wrong_is, some_or_body_err, nothing_err, table_err, one_err, VersionErr, version_err}
 use Rattle.txn_journal.proofs.ShapeLaws.{bounds_of, allowed, table_again, table_found, width_found, WidthFound}
 use Rattle.txn_journal.proofs.OwnReads.{shape_behind, own_body, own_put, read_own, own_reads}
 use Rattle.txn_journal.proofs.OwnLaws.{word_found, due_found, own_found, own_again}

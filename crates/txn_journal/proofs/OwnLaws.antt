@@ -1,58 +1,41 @@
 -- A bundle's own lines: what is read is spelled so, what is spelled so is read, and the cause of what is not taken.
-use Rattle.std.proofs.Common.{◌≡◌, ℕ, suc, ◌<◌, ◌≤◌, ◌⊎◌, inl, inr, Bool, true, false, not, cond, leb, eqb, ltb, List, [], ◌∷◌, ◌++◌, length, Option, Some, None, Result, Ok, Err, refl, sym, ap, subst, ◌∙◌, append_assoc, arith}
-use Rattle.std.specs.Prelude.{◌&&◌, ◌||◌, codes, is_some, decimal}
+use Rattle.std.proofs.Common.{◌≡◌, ℕ, inl, inr, Bool, true, false, not, cond, eqb, List, [], ◌∷◌, ◌++◌, Option, Some, None, Ok, Err, refl, sym, ap, subst, ◌∙◌}
+use Rattle.std.specs.Prelude.{codes}
 use Rattle.std.specs.List.{list_all}
 use Rattle.std.specs.Str.{bytes_eq}
-use Rattle.std.proofs.lemmas.Bool.{leb-true, leb-false, le-leb, ltb-true, lt-leb, lt-ltb}
 use Rattle.std.proofs.lemmas.List.{append-nil}
 use Rattle.std.proofs.lemmas.Slice.Eq.{bytes_eq-Decides}
 use Rattle.gtid_text.specs.Canonical.{source_text}
 use Rattle.gtid_text.specs.Written.{IsSource, IsSpaced, source_tokens}
 use Rattle.gtid_text.specs.Reading.{source_in}
 use Rattle.gtid_text.specs.Grammar.{SpellsSource}
-use Rattle.gtid_text.proofs.RoundTrip.{source_bytes}
 use Rattle.gtid_text.proofs.Shown.{source_shown, spaced_joined}
 use Rattle.gtid_text.proofs.Single.{source_reads_back, source_spelled}
 use Rattle.gtid_set.proofs.SpanLemmas.{all_weaker}
 use Rattle.rows.specs.Names.{is_name}
-use Rattle.rows.specs.Apply.{Rows}
-use Rattle.rows.specs.declared.schema.Table.{Table}
-use Rattle.rows.specs.declared.schema.TableFault.{TableFault}
-use Rattle.rows.specs.declared.schema.TableFault.TheVariants as table_faults
-use Rattle.rows.specs.Tables.{table_fault}
-use Rattle.rows.specs.declared.change.TableRow.{TableRow}
-use Rattle.rows.specs.declared.value.Value.{Value}
-use Rattle.journal.specs.Writing.{is_image_writable}
-use Rattle.journal_words.specs.Words.{is_count, count_of, first_word, others}
-use Rattle.journal_words.specs.Values.{where_same}
-use Rattle.journal_words.specs.Gtids.{is_ascii_byte, same_or_none, if_ascii, source_of_word}
-use Rattle.journal_words.proofs.Numerals.{both}
+use Rattle.journal_words.specs.Words.{first_word, others}
+use Rattle.journal_words.specs.Gtids.{is_ascii_byte, same_or_none, source_of_word}
 use Rattle.journal_words.proofs.Counts.{chosen, some_is, lacks, word_alone, word_and_more, first_word-front, others-front, first_word-whole, others-whole}
 use Rattle.journal_words.proofs.ValueLaws.{where_same-again}
 use Rattle.txn_journal.specs.Words.{name_of}
-use Rattle.txn_journal.specs.Lines.{◌>>=◌, some_or_body, takes_one, known, version_in, nothing_in, words_of, values_from, table_in, image_in}
-use Rattle.txn_journal.specs.Shapes.{Shape, shape_text, FitsShape, shape_of, shape_in, shape_with, uniques_from, is_head, few_columns, width_of, column_below, numbers_from, columns_in, keys_from, table_of, shape_for, fault_cause, after_fault, with_table}
-use Rattle.txn_journal.specs.Splits.{parts_of}
-use Rattle.txn_journal.specs.BundleStates.{BundleStanding, bare, word_of, is_due_in, due_in, replica_in, preserve_in, channel_in, behind_tables, ok_rows, with_opening, put_row, has_channel, joined_channel, judge_own}
-use Rattle.txn_journal.specs.BundleText.{OwnLine, Heads, Names, Has, Puts, Opens, Done, preserve_text, own_text, FitsRow}
-use Rattle.txn_journal.specs.BundleCauses.{own_word, FitsOwn, SaysOwn, HasWidth, PassesOwnLimit, Clashes, HasOwnCause}
+use Rattle.txn_journal.specs.Lines.{◌>>=◌, some_or_body, version_in, nothing_in, table_in, image_in}
+use Rattle.txn_journal.specs.Shapes.{Shape, shape_text, FitsShape}
+use Rattle.txn_journal.specs.BundleStates.{word_of, is_due_in, due_in, replica_in, preserve_in, channel_in}
+use Rattle.txn_journal.specs.BundleText.{OwnLine, Heads, Names, Has, Puts, Opens, Done, preserve_text, own_text}
+use Rattle.txn_journal.specs.BundleCauses.{own_word, FitsOwn, SaysOwn}
 use Rattle.txn_journal.specs.Spelling.{version_text, values_text}
 use Rattle.txn_journal.specs.declared.bundle.Channel.{Channel}
 use Rattle.txn_journal.specs.declared.bundle_draft.Part.{Part}
-use Rattle.txn_journal.specs.declared.bundle_draft.Part.TheVariants as parts
 use Rattle.txn_journal.specs.declared.bundle_draft.Word.{Word}
 use Rattle.txn_journal.specs.declared.bundle_draft.Word.TheVariants as words
-use Rattle.txn_journal.specs.declared.fault.Cause.{Cause}
 use Rattle.txn_journal.specs.declared.fault.Cause.TheVariants as causes
-use Rattle.txn_journal.specs.declared.lines.Version.{Version}
 use Rattle.txn_journal.specs.declared.lines.Version.TheVariants.{One}
 use Rattle.txn_journal.proofs.NameLemmas.{name_no_blank, name_no_feed}
 use Rattle.txn_journal.proofs.GtidLaws.{is_set_byte, set_ascii, set_no_feed, source_set, source_small, same_found, ascii_found, joins}
 use Rattle.txn_journal.proofs.ImageLaws.{image_found, image_again}
 use Rattle.txn_journal.proofs.LineReads.{bind_ok, ok_is, some_or_body_ok, version_found, nothing_found, name_found, table_found, table_again, with_more, with_none, with_table as table_line}
-use Rattle.txn_journal.proofs.CauseLines.{bind_err, wrong_is, made_err, some_or_body_err, nothing_err, table_err, one_err, VersionErr, version_err}
-use Rattle.txn_journal.proofs.ShapeLaws.{shape_found, shape_again, shape_one, width_found, Adds, with_found}
-use Rattle.txn_journal.proofs.OwnReads.{shape_behind, own_body, own_put, read_own, own_reads}
+use Rattle.txn_journal.proofs.ShapeLaws.{shape_found, shape_again, shape_one}
+use Rattle.txn_journal.proofs.OwnReads.{shape_behind, own_body, read_own}
 use Rattle.txn_journal.proofs.WholeLines.{values_one, table_one}
 
 -- ---- the first word

@@ -1,7 +1,5 @@
 -- A bundle's own lines are read, and then they act.
-use Rattle.std.proofs.Common.{◌≡◌, ℕ, Bool, true, false, not, cond, leb, List, [], ◌∷◌, ◌++◌, length, Option, Some, None, Result, Ok, Err, refl, sym, ap, subst, ◌∙◌}
-use Rattle.rows.specs.declared.schema.Table.{Table}
-use Rattle.rows.specs.declared.change.TableRow.{TableRow}
+use Rattle.std.proofs.Common.{◌≡◌, ℕ, cond, List, [], Option, Some, None, Result, Ok, Err, refl}
 use Rattle.journal.specs.Writing.{is_image_writable}
 use Rattle.journal_words.specs.Words.{first_word, others}
 use Rattle.txn_journal.specs.Lines.{◌>>=◌, version_in, nothing_in, table_in, image_in}

@@ -1,10 +1,10 @@
 -- A table's line: what is read is spelled so, and what is spelled so is read.
-use Rattle.std.proofs.Common.{◌≡◌, ℕ, suc, ◌<◌, ◌≤◌, ◌^◌, ◌⊎◌, inl, inr, Bool, true, false, not, cond, eqb, leb, ltb, List, [], ◌∷◌, ◌++◌, length, map, Option, Some, None, Result, Ok, Err, refl, sym, ap, subst, ◌∙◌, append_assoc, arith}
+use Rattle.std.proofs.Common.{◌≡◌, ℕ, ◌<◌, ◌≤◌, inl, inr, Bool, true, false, not, cond, leb, ltb, List, [], ◌∷◌, ◌++◌, length, map, Option, Some, None, Result, Ok, Err, refl, sym, ap, subst, ◌∙◌, append_assoc, arith}
 use Rattle.std.specs.Prelude.{◌&&◌, ◌||◌, codes, decimal}
-use Rattle.std.specs.List.{list_all, AllByRecursion}
+use Rattle.std.specs.List.{list_all}
 use Rattle.std.specs.Str.{bytes_eq}
-use Rattle.std.proofs.lemmas.Bool.{leb-true, leb-false, le-leb, lt-leb, ltb-true, lt-ltb, le-ltb, ltb-false}
-use Rattle.std.proofs.lemmas.List.{append-nil, length-append, length-map}
+use Rattle.std.proofs.lemmas.Bool.{leb-true, le-leb, lt-leb, ltb-true, le-ltb}
+use Rattle.std.proofs.lemmas.List.{append-nil, length-map}
 use Rattle.std.proofs.lemmas.Slice.Eq.{bytes_eq-Decides}
 use Rattle.rows.specs.Names.{is_name}
 use Rattle.rows.specs.declared.schema.Table.{Table}
@@ -13,11 +13,11 @@ use Rattle.rows.specs.declared.schema.TableFault.TheVariants as table_faults
 use Rattle.rows.specs.Tables.{are_distinct, is_column_list, has_column_lists, is_within_limits, are_below, has_its_columns, is_taken, table_fault}
 use Rattle.journal_words.specs.Words.{is_count, count_of}
 use Rattle.journal_words.proofs.Numerals.{both}
-use Rattle.journal_words.proofs.Counts.{chosen, some_is, lacks, is_count_decimal, count_again, count_found}
+use Rattle.journal_words.proofs.Counts.{chosen, lacks, is_count_decimal, count_again, count_found}
 use Rattle.txn_journal.specs.Words.{name_of}
 use Rattle.txn_journal.specs.Lines.{◌>>=◌, some_or_body}
 use Rattle.txn_journal.specs.Splits.{parts_of, joined_by, are_new_to, are_columns, is_columns_text, column_words, columns_text}
-use Rattle.txn_journal.specs.Shapes.{Shape, unique_words, shape_words, shape_text, FitsShape, uniques_from, is_head, shape_with, shape_of, shape_in, few_columns, width_of, column_below, numbers_from, columns_in, keys_from, table_of, shape_for, fault_cause, after_fault, with_table}
+use Rattle.txn_journal.specs.Shapes.{Shape, unique_words, shape_words, shape_text, FitsShape, uniques_from, is_head, shape_with, shape_of, shape_in, few_columns, width_of, column_below, numbers_from, columns_in, keys_from, table_of, shape_for, after_fault, with_table}
 use Rattle.txn_journal.specs.declared.fault.Cause.{Cause}
 use Rattle.txn_journal.specs.declared.fault.Cause.TheVariants as causes
 use Rattle.txn_journal.proofs.NameLemmas.{name_no_blank, name_no_feed}

@@ -1,18 +1,17 @@
 -- Parts of a text: joined they are the text again.
-use Rattle.std.proofs.Common.{◌≡◌, ℕ, ◌<◌, ◌^◌, ◌⊎◌, inl, inr, Bool, true, false, not, cond, eqb, List, [], ◌∷◌, ◌++◌, length, map, Option, Some, None, refl, sym, ap, subst, ◌∙◌, append_assoc, arith}
-use Rattle.std.specs.Prelude.{◌&&◌, ◌||◌, decimal}
+use Rattle.std.proofs.Common.{◌≡◌, ℕ, ◌<◌, ◌^◌, Bool, true, false, not, cond, eqb, List, [], ◌∷◌, ◌++◌, length, Option, Some, None, refl, sym, ap, subst, ◌∙◌, arith}
+use Rattle.std.specs.Prelude.{◌||◌, decimal}
 use Rattle.std.specs.List.{list_all, list_any, AllByRecursion}
 use Rattle.std.specs.Char.{is_ascii_digit}
 use Rattle.std.specs.Str.{bytes_eq}
 use Rattle.std.proofs.lemmas.Bool.{eqb-true, eq-eqb}
 use Rattle.std.proofs.lemmas.Bool.Decides.{nat_tests}
-use Rattle.std.proofs.lemmas.List.{append-nil}
 use Rattle.std.proofs.lemmas.Slice.Eq.{bytes_eq-Decides}
 use Rattle.gtid_set.proofs.SpanLemmas.{all_weaker}
 use Rattle.rows.specs.Tables.{are_distinct}
 use Rattle.journal_words.specs.Words.{is_count, count_of}
 use Rattle.journal_words.proofs.Numerals.{digits_in, both}
-use Rattle.journal_words.proofs.Counts.{chosen, some_is, lacks, is_count_decimal, count_again}
+use Rattle.journal_words.proofs.Counts.{some_is, lacks, is_count_decimal, count_again}
 use Rattle.txn_journal.specs.Words.{before, behind}
 use Rattle.txn_journal.specs.Lines.{cons_head}
 use Rattle.txn_journal.specs.Splits.{parts_of, joined_by, are_new_to, are_columns, is_columns_text, column_words, columns_text}

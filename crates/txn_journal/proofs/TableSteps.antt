@@ -1,13 +1,6 @@
 -- The words of a table's line, step by step.
-use Rattle.std.proofs.Common.{◌≡◌, ℕ, Bool, true, false, not, cond, eqb, ltb, leb, List, [], ◌∷◌, ◌++◌, length, map, Option, Some, None, Result, Ok, Err, refl, sym, ap, subst, ◌∙◌, append_assoc, inl, inr, arith}
-use Rattle.std.specs.Prelude.{◌&&◌, ◌||◌, is_some}
-use Rattle.std.specs.List.{list_all, list_any}
-use Rattle.std.specs.Str.{bytes_eq}
-use Rattle.std.specs.Ordering.{nat_cmp, eq_by_cmp, match_ordering}
-use Rattle.std.specs.Cmp.Lexicographic.{slice_cmp}
-use Rattle.std.specs.BTreeSet.{insert_key}
-use Rattle.std.proofs.lemmas.List.{append-nil}
-use Rattle.std.proofs.lemmas.Slice.Eq.{bytes_eq-Decides}
+use Rattle.std.proofs.Common.{◌≡◌, ℕ, Bool, true, false, cond, List, [], ◌∷◌, ◌++◌, map, Option, Some, None, Result, Ok, Err, refl, sym, ap, subst, ◌∙◌, append_assoc}
+use Rattle.std.specs.Prelude.{is_some}
 use Rattle.rows.specs.Apply.{Rows, apply}
 use Rattle.rows.specs.Fits.{misfit}
 use Rattle.rows.specs.Database.{Database, opening}
@@ -16,7 +9,7 @@ use Rattle.rows.specs.declared.change.NotInSchema.{NotInSchema}
 use Rattle.rows.specs.declared.change.ApplyFault.{ApplyFault}
 use Rattle.rows.specs.declared.change.RowFault.{RowFault}
 use Rattle.txn_journal.specs.Words.{before, behind}
-use Rattle.txn_journal.specs.Splits.{parts_of, are_new_to}
+use Rattle.txn_journal.specs.Splits.{parts_of}
 use Rattle.rows.specs.declared.schema.Table.{Table}
 use Rattle.txn_journal.specs.Lines.{◌>>=◌}
 use Rattle.txn_journal.specs.Stream.{TakesLine}

@@ -1,21 +1,20 @@
 -- What the reading of a text tells of it.
-use Rattle.std.proofs.Common.{◌≡◌, ℕ, zero, suc, ◌+◌, ◌-◌, ◌^◌, ◌<◌, ◌≤◌, Bool, true, false, cond, eqb, not, List, [], ◌∷◌, ◌++◌, length, map, Option, Some, None, Result, Ok, Err, refl, sym, ap, subst, ◌∙◌, append_assoc, arith}
-use Rattle.std.specs.Prelude.{◌&&◌, min}
-use Rattle.std.specs.List.{list_all, flat_map}
+use Rattle.std.proofs.Common.{◌≡◌, ℕ, ◌+◌, true, false, cond, eqb, not, List, [], ◌∷◌, ◌++◌, length, map, None, Result, Ok, Err, refl, sym, ap, subst, ◌∙◌, append_assoc, arith}
+use Rattle.std.specs.Prelude.{◌&&◌}
+use Rattle.std.specs.List.{list_all}
 use Rattle.std.specs.FinSet as set
 use Rattle.std.proofs.lemmas.List.{append-nil, length-append}
 use Rattle.std.proofs.lemmas.List.Concat.{flat_map-append}
 use Rattle.std.proofs.lemmas.Bool.{eqb-true}
 use Rattle.gtid_text.specs.declared.Gtid.{Gtid}
 use Rattle.gtid_set.specs.Sets.{Gtids}
-use Rattle.gtid_set.specs.Spans.{set_of}
 use Rattle.rows.specs.declared.change.Change.{Change}
 use Rattle.journal.specs.Journals.{JournalValue}
 use Rattle.txn_journal.specs.Words.{IsOneLine}
-use Rattle.txn_journal.specs.Machine.{Standing, empty, judge}
-use Rattle.txn_journal.specs.Stream.{Progress, Reading, Stopped, judged, next_number, eat, eats}
+use Rattle.txn_journal.specs.Machine.{Standing, judge}
+use Rattle.txn_journal.specs.Stream.{Progress, Reading, Stopped, judged, next_number, eat}
 use Rattle.txn_journal.specs.Reading.{before_first, eats_alone}
-use Rattle.txn_journal.specs.Spelling.{Line, Header, Previous, Begin, Makes, End, Close, ended_line, lines_text, front_lines, journal_lines, spelling, IsWritten, Writes}
+use Rattle.txn_journal.specs.Spelling.{Line, Header, Previous, Begin, Makes, End, Close, ended_line, lines_text, front_lines, journal_lines, IsWritten}
 use Rattle.txn_journal.specs.Heard.{said_at, said}
 use Rattle.txn_journal.specs.Refused.{Begins, capped, IsFirstFaulty}
 use Rattle.txn_journal.specs.declared.fault.Cause.{Cause}

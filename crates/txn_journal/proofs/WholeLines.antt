@@ -1,11 +1,9 @@
 -- What is spelled is read to its end.
-use Rattle.std.proofs.Common.{◌≡◌, ℕ, suc, ◌+◌, ◌<◌, ◌≤◌, Bool, true, false, not, cond, eqb, leb, List, [], ◌∷◌, ◌++◌, length, map, Option, Some, None, Result, Ok, Err, refl, sym, ap, subst, ◌∙◌, append_assoc, arith}
-use Rattle.std.specs.Prelude.{◌&&◌, ◌||◌, codes}
+use Rattle.std.proofs.Common.{◌≡◌, ℕ, ◌+◌, ◌<◌, ◌≤◌, Bool, true, false, not, eqb, leb, List, [], ◌∷◌, ◌++◌, length, map, Option, None, Result, Ok, refl, sym, ap, subst, ◌∙◌, append_assoc, arith}
 use Rattle.std.specs.List.{list_all, flat_map, AllByRecursion}
 use Rattle.std.specs.FinSet as set
 use Rattle.std.proofs.lemmas.Bool.{lt-leb}
 use Rattle.std.proofs.lemmas.List.{append-nil, length-append}
-use Rattle.std.proofs.lemmas.List.Concat.{flat_map-append}
 use Rattle.gtid_text.specs.declared.Gtid.{Gtid}
 use Rattle.gtid_text.specs.Written.{IsUsable}
 use Rattle.gtid_text.specs.Canonical.{gtid_text}
@@ -18,18 +16,16 @@ use Rattle.rows.specs.declared.schema.Table.{Table}
 use Rattle.journal.specs.declared.Entry.{Entry}
 use Rattle.journal.specs.Journals.{JournalValue, AreNew}
 use Rattle.journal.specs.Writing.{is_number, is_image_writable, is_change_writable, is_txn_writable, is_writable}
-use Rattle.journal_words.specs.Values.{value_text, FitsValue}
+use Rattle.journal_words.specs.Values.{value_text}
 use Rattle.journal_words.proofs.Numerals.{both}
 use Rattle.journal_words.proofs.Counts.{lacks}
 use Rattle.journal_words.proofs.ValueLaws.{value_lacks, feed_is_none}
 use Rattle.txn_journal.specs.Due.{is_due}
 use Rattle.txn_journal.specs.Lines.{◌>>=◌, takes_one}
-use Rattle.txn_journal.specs.Machine.{Standing, empty, fits, closed, add, begin, judge}
-use Rattle.txn_journal.specs.Stream.{Judge, Progress, Reading, judged, next_number, eat, eats}
-use Rattle.txn_journal.specs.WrittenSets.{set_text, IsWrittenSet}
-use Rattle.txn_journal.specs.Spelling.{Line, Header, Previous, Begin, Makes, End, Close, version_text, values_text, change_text, line_text, ended_line, lines_text, entry_lines, front_lines, journal_lines, spelling, AreValues, FitsChange, FitsEntry, IsWritten}
+use Rattle.txn_journal.specs.Machine.{Standing, empty, fits, add, begin, judge}
+use Rattle.txn_journal.specs.Stream.{Reading, eats}
+use Rattle.txn_journal.specs.Spelling.{Line, Header, Previous, Begin, Makes, End, Close, values_text, change_text, line_text, ended_line, lines_text, entry_lines, front_lines, journal_lines, spelling, AreValues, FitsChange, FitsEntry, IsWritten}
 use Rattle.txn_journal.specs.declared.fault.Cause.{Cause}
-use Rattle.txn_journal.specs.declared.lines.Place.{Place}
 use Rattle.txn_journal.specs.declared.lines.Place.TheVariants as places
 use Rattle.txn_journal.specs.declared.lines.Version.{Version}
 use Rattle.txn_journal.specs.declared.lines.Version.TheVariants.{One}
@@ -39,8 +35,8 @@ use Rattle.txn_journal.proofs.SetLaws.{set_no_feeds}
 use Rattle.txn_journal.proofs.LineRuns.{runs, runs_then, fed, eats_runs, all_join}
 use Rattle.txn_journal.specs.Words.{IsOneLine}
 use Rattle.txn_journal.specs.Causes.{word_for, FitsLine, HasImages, IsDueVersion}
-use Rattle.txn_journal.proofs.LineReads.{put, read_line, read_again, judge_reads}
-use Rattle.txn_journal.proofs.SoundLines.{at, seen_after, entry_of, with_entry}
+use Rattle.txn_journal.proofs.LineReads.{put, read_again, judge_reads}
+use Rattle.txn_journal.proofs.SoundLines.{at, seen_after, with_entry}
 
 -- ---- no line feed stands in a line
 

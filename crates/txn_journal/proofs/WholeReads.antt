@@ -1,6 +1,5 @@
 -- What one feed and finish give is what the whole text gives.
-use Rattle.std.proofs.Common.{◌≡◌, ℕ, ◌⊎◌, inl, inr, List, Result, Ok, Err, refl, sym, ap, ◌∙◌}
-use Rattle.gtid_set.specs.declared.fault.SetFault.{SetFault}
+use Rattle.std.proofs.Common.{◌≡◌, inl, inr, Result, Err, refl, sym, ap, ◌∙◌}
 use Rattle.journal.specs.Journals.{JournalValue}
 use Rattle.txn_journal.specs.Machine.{Standing}
 use Rattle.txn_journal.specs.Stream.{Progress, Reading, Stopped, IsAfter, answer}

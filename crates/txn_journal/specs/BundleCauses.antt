@@ -1,5 +1,5 @@
 -- What is wrong with a line of a bundle, said of its words and not of the way in which it is read.
-use Rattle.std.specs.Prelude.{◌≡◌, ◌⊎◌, ℕ, ◌<◌, ◌≤◌, true, false, List, ◌∷◌, ◌++◌, length, Option, Some, None, Result, Ok, codes}
+use Rattle.std.specs.Prelude.{◌≡◌, ◌⊎◌, ℕ, ◌<◌, ◌≤◌, true, false, List, ◌∷◌, ◌++◌, length, Some, None, Ok, codes}
 use Rattle.gtid_text.specs.Written.{IsSource}
 use Rattle.rows.specs.declared.schema.Table.{Table}
 use Rattle.rows.specs.Apply.{Rows}
@@ -17,7 +17,6 @@ use Rattle.txn_journal.specs.declared.bundle_draft.Word.{Word}
 use Rattle.txn_journal.specs.declared.bundle_draft.Word.TheVariants as words
 use Rattle.txn_journal.specs.declared.fault.Cause.{Cause}
 use Rattle.txn_journal.specs.declared.fault.Cause.TheVariants as causes
-use Rattle.txn_journal.specs.declared.lines.Version.{Version}
 
 -- the first word of a line
 abbrev pub own_word : OwnLine → Word

@@ -1,9 +1,9 @@
 -- The lines of a bundle that have come, by what they have said.
-use Rattle.std.specs.Prelude.{◌≡◌, ℕ, List, [], ◌∷◌, ◌++◌, map, Option, Some, None}
+use Rattle.std.specs.Prelude.{List, [], ◌∷◌, ◌++◌, map, Option, Some, None}
 use Rattle.rows.specs.declared.change.TableRow.{TableRow}
 use Rattle.rows.specs.declared.schema.Table.{Table}
 use Rattle.txn_journal.specs.BundleStates.{BundleValue, BundleStanding}
-use Rattle.txn_journal.specs.BundleText.{BundleLine, OwnLine, Own, Inner, Heads, Opens, Done, tables_lines, bundle_front}
+use Rattle.txn_journal.specs.BundleText.{BundleLine, Own, Inner, Heads, Opens, Done, tables_lines, bundle_front}
 use Rattle.txn_journal.specs.Heard.{said}
 use Rattle.txn_journal.specs.Machine.{Standing}
 use Rattle.txn_journal.specs.declared.bundle.Channel.{Channel}

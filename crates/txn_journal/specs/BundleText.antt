@@ -1,10 +1,9 @@
 -- The text of a bundle: its lines, each ended by a line feed. Only the order of its `row` lines is free.
-use Rattle.std.specs.Prelude.{◌≡◌, ℕ, ◌≤◌, ◌<◌, Bool, true, false, List, [], ◌∷◌, ◌++◌, length, map, Option, Some, None, Result, Ok, Err, codes}
+use Rattle.std.specs.Prelude.{◌≡◌, ℕ, ◌≤◌, ◌<◌, Bool, true, false, List, [], ◌∷◌, ◌++◌, length, map, Some, None, Result, Ok, codes}
 use Rattle.std.specs.List.{list_all, flat_map, AllByRecursion}
 use Rattle.std.specs.FinMap as map_of
 use Rattle.gtid_text.specs.Canonical.{source_text}
 use Rattle.gtid_text.specs.Written.{IsSource}
-use Rattle.rows.specs.declared.value.Value.{Value}
 use Rattle.rows.specs.declared.change.TableRow.{TableRow}
 use Rattle.rows.specs.declared.schema.Table.{Table}
 use Rattle.rows.specs.Apply.{Rows}
@@ -16,9 +15,9 @@ use Rattle.journal.specs.Journals.{JournalValue}
 use Rattle.journal.specs.Writing.{is_image_writable}
 use Rattle.txn_journal.specs.Lines.{◌>>=◌}
 use Rattle.txn_journal.specs.Machine.{fits}
-use Rattle.txn_journal.specs.Shapes.{Shape, shape_text, FitsShape, shape_for}
+use Rattle.txn_journal.specs.Shapes.{Shape, shape_text, shape_for}
 use Rattle.txn_journal.specs.BundleStates.{BundleValue, has_channel, with_opening}
-use Rattle.txn_journal.specs.Spelling.{Line, version_text, values_text, image_text, line_text, journal_lines, AreValues, IsWritten}
+use Rattle.txn_journal.specs.Spelling.{Line, version_text, image_text, line_text, journal_lines, AreValues, IsWritten}
 use Rattle.txn_journal.specs.declared.bundle.Channel.{Channel}
 use Rattle.txn_journal.specs.declared.fault.Cause.{Cause}
 use Rattle.txn_journal.specs.declared.lines.Version.{Version}

@@ -1,5 +1,5 @@
 -- What is wrong with a line, said of its words and not of the way in which it is read.
-use Rattle.std.specs.Prelude.{◌≡◌, ◌⊎◌, ℕ, ◌<◌, ◌≤◌, true, false, List, ◌∷◌, ◌++◌, length, Option, Some, None, codes}
+use Rattle.std.specs.Prelude.{◌≡◌, ◌⊎◌, ℕ, ◌<◌, ◌≤◌, true, false, List, ◌∷◌, ◌++◌, length, Option, Some, codes}
 use Rattle.std.specs.FinSet as set
 use Rattle.gtid_text.specs.Written.{IsUsable}
 use Rattle.rows.specs.declared.change.Change.{Change}

@@ -13,6 +13,8 @@ mod lines;
 mod names;
 mod reader;
 mod tables;
+#[cfg(test)]
+mod tests;
 mod writer;
 
 

@@ -1,4 +1,4 @@
-use Rattle.std.proofs.Common.{◌≡◌, [], map, drop, false, length}
+use Rattle.std.proofs.Common.{◌≡◌, map, drop}
 use Rattle.std.specs.List.{list_all}
 use Rattle.journal_words.specs.Words.{is_count}
 use Rattle.txn_journal.proofs.tables.are_counts.Given as goal

@@ -1,4 +1,4 @@
-use Rattle.std.proofs.Common.{◌≡◌, [], map, drop, false, length}
+use Rattle.std.proofs.Common.{◌≡◌, map, drop, false}
 use Rattle.std.specs.List.{list_any}
 use Rattle.std.specs.Str.{bytes_eq}
 use Rattle.txn_journal.specs.Splits.{are_new_to}

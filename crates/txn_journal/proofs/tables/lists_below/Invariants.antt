@@ -1,4 +1,4 @@
-use Rattle.std.proofs.Common.{◌≡◌, [], map, drop, false, length}
+use Rattle.std.proofs.Common.{◌≡◌, [], map, drop}
 use Rattle.txn_journal.specs.Shapes.{keys_from}
 use Rattle.txn_journal.proofs.tables.lists_below.Given as goal
 

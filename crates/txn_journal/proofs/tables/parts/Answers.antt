@@ -1,4 +1,4 @@
-use Rattle.std.proofs.Common.{◌≡◌, ◌∷◌, ◌++◌, [], map, Some, None, List, ℕ, Bor, option_map, sym, ap, ◌∙◌}
+use Rattle.std.proofs.Common.{◌≡◌, ◌++◌, map, Some, List, ℕ, Bor, option_map, sym, ap, ◌∙◌}
 use Rattle.txn_journal.specs.Words.{behind}
 use Rattle.txn_journal.specs.Splits.{parts_of}
 use Rattle.txn_journal.proofs.Cuts.{behind-shorter}

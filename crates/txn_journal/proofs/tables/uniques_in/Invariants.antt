@@ -1,4 +1,4 @@
-use Rattle.std.proofs.Common.{◌≡◌, [], map, drop, false, length}
+use Rattle.std.proofs.Common.{◌≡◌, [], map, length}
 use Rattle.txn_journal.specs.Shapes.{uniques_from}
 use Rattle.txn_journal.proofs.tables.uniques_in.Given as goal
 
