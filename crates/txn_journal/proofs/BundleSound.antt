@@ -160,25 +160,28 @@ row_keeps_in version tables rows b r channel draft old t f none fit writable e =
     let w = f.written in
     let o = w.opening in
     let lines : bundle_front version (rows ++ r ∷ []) c ≡ old ++ Own (Puts r) ∷ [] =
-        (λ i. (tables_lines version b.replica b.start.schema ++ map_more (λ x. Own (Puts x)) rows r i) ++ channels_lines version (none.channels i) b.journals)
-        ∙ append-nil (tables_lines version b.replica b.start.schema ++ (row_lines rows ++ Own (Puts r) ∷ []))
-        ∙ sym (append_assoc (tables_lines version b.replica b.start.schema) (row_lines rows) (Own (Puts r) ∷ []))
-        ∙ ap (λ (ls : List BundleLine). ls ++ Own (Puts r) ∷ []) (sym (append-nil (start_lines version b.replica b.start.schema rows)) ∙ (λ i. start_lines version b.replica b.start.schema rows ++ channels_lines version (sym none.channels i) b.journals) ∙ sym f.lines) in
+    (λ i. (tables_lines version b.replica b.start.schema ++ map_more (λ x. Own (Puts x)) rows r i) ++ channels_lines version (none.channels i) b.journals)
+    ∙ append-nil (tables_lines version b.replica b.start.schema ++ (row_lines rows ++ Own (Puts r) ∷ []))
+    ∙ sym (append_assoc (tables_lines version b.replica b.start.schema) (row_lines rows) (Own (Puts r) ∷ []))
+    ∙ ap (λ (ls : List BundleLine). ls ++ Own (Puts r) ∷ []) (sym (append-nil (start_lines version b.replica b.start.schema rows)) ∙ (λ i. start_lines version b.replica b.start.schema rows ++ channels_lines version (sym none.channels i) b.journals) ∙ sym f.lines) in
     subst (KeepsBundle old (Own (Puts r))) (ok_is (state parts.Rows version tables c channel draft) t a.2) (record {
       rows = rows ++ r ∷ [];
       says = lines;
-      sound = (record {
-        replica = w.replica;
-        tables = w.tables;
-        opening = record {
-          fit = all_join_one FitsRow rows r o.fit fit;
-          writable = all_push (λ x. is_image_writable x.row) rows r o.writable writable;
-          put = put_more (record { schema = b.start.schema; rows = map_of.empty }) rows r b.start.rows a.0 o.put a.1;
-        };
-        named = w.named;
-        few = w.few;
-        brought = w.brought;
-      }, record { channels = none.channels; journals = none.journals });
+      sound = (
+        record {
+          replica = w.replica;
+          tables = w.tables;
+          opening = record {
+            fit = all_join_one FitsRow rows r o.fit fit;
+            writable = all_push (λ x. is_image_writable x.row) rows r o.writable writable;
+            put = put_more (record { schema = b.start.schema; rows = map_of.empty }) rows r b.start.rows a.0 o.put a.1;
+          };
+          named = w.named;
+          few = w.few;
+          brought = w.brought;
+        },
+        record { channels = none.channels; journals = none.journals },
+      );
     })
   where
     all_join_one : {A : Type 0} (P : A → Type 0) (xs : List A) (x : A) → AllByRecursion P xs → P x → AllByRecursion P (xs ++ x ∷ [])
@@ -345,10 +348,10 @@ keeps_inner version tables rows b (Some c) draft t line w o e =
     let fitting = fits_judged b.start.schema draft d line o.fitting a.1 in
     let old = bundle_front version rows b ++ (Own (Opens c) ∷ map Inner (said draft)) in
     let keeps : KeepsBundle old (Inner k.l) (after_inner s d) =
-        elim (is_last d.place) as (λ v. is_last d.place ≡ v → KeepsBundle old (Inner k.l) (cond v (closed_channel s d) (record s { draft = d }))) [
-          | true ↦ λ last. closed_keeps version tables rows b c draft d k.l w o k.keeps.says k.keeps.sound fitting last
-          | false ↦ λ more. open_still version tables rows b c draft d k.l w o k.keeps.says k.keeps.sound fitting more
-        ] refl in
+    elim (is_last d.place) as (λ v. is_last d.place ≡ v → KeepsBundle old (Inner k.l) (cond v (closed_channel s d) (record s { draft = d }))) [
+      | true ↦ λ last. closed_keeps version tables rows b c draft d k.l w o k.keeps.says k.keeps.sound fitting last
+      | false ↦ λ more. open_still version tables rows b c draft d k.l w o k.keeps.says k.keeps.sound fitting more
+    ] refl in
     record { l = Inner k.l; text = k.text; keeps = subst (KeepsBundle old (Inner k.l)) (ok_is (after_inner s d) t a.2) keeps }
 
 own_taken : (part : Part) (version : Version) (tables : List Table) (rows : List TableRow) (b : BundleValue) (channel : Option Channel) (draft : Standing) (t : BundleStanding) (line : List ℕ) → SoundAt part tables rows b channel draft → judge_own (state part version tables b channel draft) line ≡ Ok t → InnerTaken (bundle_said_at part version tables rows b channel draft) line t

@@ -92,9 +92,9 @@ begins_inside rows b c draft w o =
     let inside = Own (Opens c) ∷ map Inner (said draft) in
     let channel : channel_lines One c j ≡ inside ++ map Inner k.more = ap (λ (ls : List Line). Own (Opens c) ∷ map Inner ls) k.whole ∙ ap (λ (ls : List BundleLine). Own (Opens c) ∷ ls) (map_join (said draft) k.more) in
     let lines : bundle_lines One rows e ≡ (front ++ inside) ++ more =
-        ap (λ (ls : List BundleLine). (start ++ ls) ++ Own Done ∷ []) (channels_more One b.start.schema b.channels b.journals c j w.brought ∙ ap (λ (ls : List BundleLine). channels_lines One b.channels b.journals ++ ls) channel)
-        ∙ ap (λ (ls : List BundleLine). ls ++ Own Done ∷ []) (sym (append_assoc start (channels_lines One b.channels b.journals) (inside ++ map Inner k.more)) ∙ sym (append_assoc front inside (map Inner k.more)))
-        ∙ append_assoc (front ++ inside) (map Inner k.more) (Own Done ∷ []) in
+    ap (λ (ls : List BundleLine). (start ++ ls) ++ Own Done ∷ []) (channels_more One b.start.schema b.channels b.journals c j w.brought ∙ ap (λ (ls : List BundleLine). channels_lines One b.channels b.journals ++ ls) channel)
+    ∙ ap (λ (ls : List BundleLine). ls ++ Own Done ∷ []) (sym (append_assoc start (channels_lines One b.channels b.journals) (inside ++ map Inner k.more)) ∙ sym (append_assoc front inside (map Inner k.more)))
+    ∙ append_assoc (front ++ inside) (map Inner k.more) (Own Done ∷ []) in
     goes_on (front ++ inside) more rows e (record {
       replica = w.replica;
       tables = w.tables;

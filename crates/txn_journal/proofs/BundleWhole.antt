@@ -361,9 +361,9 @@ reads_bundle rows b w =
     let base : BundleValue = with_rows (bare b.replica ts) b.start.rows in
     let four = state parts.Rows [] base None d in
     let heads : Goes start (Own (Heads One) ∷ Own (Names b.replica) ∷ []) two =
-        goes_both start one two (Own (Heads One) ∷ []) (Own (Names b.replica) ∷ [])
-        (goes_own start one (Heads One) (λ x line. refl) refl tt refl)
-        (goes_own one two (Names b.replica) (λ x line. refl) refl w.replica refl) in
+    goes_both start one two (Own (Heads One) ∷ []) (Own (Names b.replica) ∷ [])
+    (goes_own start one (Heads One) (λ x line. refl) refl tt refl)
+    (goes_own one two (Names b.replica) (λ x line. refl) refl w.replica refl) in
     let tables : Goes two (table_lines ts) three = goes_tables (bare b.replica []) d [] ts w.tables in
     let put : Goes behind (row_lines rows) four = goes_rows (bare b.replica ts) d rows b.start.rows w.opening.fit w.opening.writable w.opening.put in
     let channels = goes_channels parts.Rows base d b.channels b.journals rows_late w.named (omega (arith, w.few)) w.brought in
@@ -374,8 +374,8 @@ reads_bundle rows b w =
     let later : Goes behind (row_lines rows ++ (channels_lines One b.channels b.journals ++ Own Done ∷ [])) six = goes_both behind four six (row_lines rows) (channels_lines One b.channels b.journals ++ Own Done ∷ []) put last in
     let rest : Goes three (row_lines rows ++ (channels_lines One b.channels b.journals ++ Own Done ∷ [])) six = behind_all b.replica ts d rows ts b.channels b.journals six w.opening.fit w.named w.brought later in
     let whole : Goes start ((Own (Heads One) ∷ Own (Names b.replica) ∷ []) ++ (table_lines ts ++ (row_lines rows ++ (channels_lines One b.channels b.journals ++ Own Done ∷ [])))) six =
-        goes_both start two six (Own (Heads One) ∷ Own (Names b.replica) ∷ []) (table_lines ts ++ (row_lines rows ++ (channels_lines One b.channels b.journals ++ Own Done ∷ []))) heads
-        (goes_both two three six (table_lines ts) (row_lines rows ++ (channels_lines One b.channels b.journals ++ Own Done ∷ [])) tables rest) in
+    goes_both start two six (Own (Heads One) ∷ Own (Names b.replica) ∷ []) (table_lines ts ++ (row_lines rows ++ (channels_lines One b.channels b.journals ++ Own Done ∷ []))) heads
+    (goes_both two three six (table_lines ts) (row_lines rows ++ (channels_lines One b.channels b.journals ++ Own Done ∷ [])) tables rest) in
     let all : Goes start (bundle_lines One rows b) six = subst (λ (ls : List BundleLine). Goes start ls six) (sym (parts_of_lines rows b)) whole in
     let eaten = eats_runs judge_bundle start six (lines_of (bundle_lines One rows b)) 0 all.one all.run in
     record { last = six; done = refl; bundle = refl; count = eaten.0; reads = ap (eats judge_bundle (Reading start 0 [])) (text_fed (bundle_lines One rows b)) ∙ eaten.1 }

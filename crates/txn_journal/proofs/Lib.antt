@@ -28,3 +28,4 @@ pub mod BundleWhole
 pub mod BundleTells
 pub mod BundleReads
 pub mod NewWords
+pub mod OneBundle

@@ -35,11 +35,12 @@ EatsTo judge s n ls t = (m : ℕ) × (eats judge (Reading s n []) (flat_map fed 
 
 eats_on : {S : Type 0} (judge : Judge S) (s t : S) (l : List ℕ) (ls : List (List ℕ)) (n : ℕ) (r : Result S Cause) → IsOneLine l → ((u : S) → runs judge u ls ≡ Ok t → EatsTo judge u (next_number n) ls t) → judge s l ≡ r → (r >>= λ u. runs judge u ls) ≡ Ok t → EatsTo judge s n (l ∷ ls) t
 eats_on {S} judge s t l ls n (Ok u) one more j h =
-    let k = more u h in
-    (k.0,
-    eats_append judge (Reading s n []) (fed l) (flat_map fed ls)
-    ∙ ap (λ (p : Progress S). eats judge p (flat_map fed ls)) (eats_line judge s n [] l one ∙ ap (λ (r : Result S Cause). judged r (next_number n)) j)
-    ∙ k.1)
+    let k = more u h in (
+      k.0,
+      eats_append judge (Reading s n []) (fed l) (flat_map fed ls)
+          ∙ ap (λ (p : Progress S). eats judge p (flat_map fed ls)) (eats_line judge s n [] l one ∙ ap (λ (r : Result S Cause). judged r (next_number n)) j)
+          ∙ k.1,
+    )
 eats_on judge s t l ls n (Err c) one more j h = absurd cc
 
 pub eats_runs : {S : Type 0} (judge : Judge S) (s t : S) (ls : List (List ℕ)) (n : ℕ) → AllByRecursion IsOneLine ls → runs judge s ls ≡ Ok t → EatsTo judge s n ls t

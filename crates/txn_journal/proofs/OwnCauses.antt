@@ -273,15 +273,20 @@ with_cause tables s c f e =
                   let limits : is_within_limits t ≡ true = within_t t (ap (leb 1) h.1 ∙ w.some) (ap (λ (x : ℕ). leb x 64) h.1 ∙ w.few) (ap (λ (x : ℕ). ltb 8 x) h.2 ∙ w.few_uniques) in
                   let a = fault_after (table_fault tables t) (tables ++ t ∷ []) c q.2 in
                   let schema = only_schema tables t a.0 h.0.lists limits (not_leb (length tables) r.0) a.1 in
-                  inr (ap fault_cause schema ∙ a.2, within_of tables s n w r.0, λ u same free.
-                      let one : t ≡ u = ok_is t u (sym r.1 ∙ read_table tables s n u w.written same free) in
-                      let k = sym (ap (table_fault tables) one ∙ free) ∙ a.1 in cc)
+                  inr (
+                    ap fault_cause schema ∙ a.2,
+                    within_of tables s n w r.0,
+                    λ u same free.
+                        let one : t ≡ u = ok_is t u (sym r.1 ∙ read_table tables s n u w.written same free) in
+                        let k = sym (ap (table_fault tables) one ∙ free) ∙ a.1 in cc,
+                  )
             ]
           ]
     ]
   where
     few_of : (n : ℕ) → ltb 8 n ≡ false → leb n 8 ≡ true
     few_of n e = grind arith
+
     within_t : (t : Table) → leb 1 t.columns ≡ true → leb t.columns 64 ≡ true → ltb 8 (length t.uniques) ≡ false → is_within_limits t ≡ true
     within_t t a b c = rw (a, b, few_of (length t.uniques) c) refl
 

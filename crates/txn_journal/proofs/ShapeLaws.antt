@@ -362,9 +362,10 @@ pub table_again : (tables : List Table) (t : Table) → Allowed tables t → (wi
 unfolding width_of table_of
 table_again tables t a =
     let b = bounds tables t a in
-    let few = leb-true t.columns 64 b.few in
-    (rw (length-map t.uniques columns_text, few_ltb (length t.uniques) b.uniques, count_again t.columns (omega (arith, few)), b.some, b.few) refl,
-    rw (columns_again t.columns t.primary few b.primary_below b.primary_list, keys_again t.columns [] t.uniques few b.uniques_below b.unique_lists) refl)
+    let few = leb-true t.columns 64 b.few in (
+      rw (length-map t.uniques columns_text, few_ltb (length t.uniques) b.uniques, count_again t.columns (omega (arith, few)), b.some, b.few) refl,
+      rw (columns_again t.columns t.primary few b.primary_below b.primary_list, keys_again t.columns [] t.uniques few b.uniques_below b.unique_lists) refl,
+    )
 
 room_leb : (n : ℕ) → ltb n 256 ≡ true → leb 256 n ≡ false
 room_leb n e = let k = ltb-true n 256 e in lt-leb 256 n k

@@ -134,12 +134,7 @@ fn uniques_in<'a>(alloc: Global, words: &[&'a [u8]]) -> Result<Vec<&'a [u8]>, Li
 }
 
 /// Whether these are a number of columns, the word before the primary key, and its columns.
-fn is_head(
-    alloc: Global,
-    columns: &[u8],
-    key: &[u8],
-    primary: &[u8],
-) -> Result<bool, AllocError>
+fn is_head(alloc: Global, columns: &[u8], key: &[u8], primary: &[u8]) -> Result<bool, AllocError>
     ensures { IfOk result (λ is. is ≡ is_head columns.now key.now primary.now) }
 {
     if !is_count(columns) || key != b"pk".as_slice() {

@@ -5,10 +5,12 @@ use std::alloc::Global;
 use std::test::Fail;
 
 /// Two entries of one source.
-const TWO: &[u8] = b"journal 1\nprevious -\ntxn aaaaaaaa-aaaa-aaaa-aaaa-aaaaaaaaaaaa:1\nins t 1 x61 null\nend\ntxn aaaaaaaa-aaaa-aaaa-aaaa-aaaaaaaaaaaa:2\nupd t 1 x61 null | 1 x62 null\nend\nclose\n";
+const TWO: &[u8] =
+    b"journal 1\nprevious -\ntxn aaaaaaaa-aaaa-aaaa-aaaa-aaaaaaaaaaaa:1\nins t 1 x61 null\nend\ntxn aaaaaaaa-aaaa-aaaa-aaaa-aaaaaaaaaaaa:2\nupd t 1 x61 null | 1 x62 null\nend\nclose\n";
 
 /// One table, and one channel with one entry.
-const ONE: &[u8] = b"bundle 1\nreplica cccccccc-cccc-cccc-cccc-cccccccccccc\ntable t 3 pk 0 uk 1\nchannel x\njournal 1\nprevious -\ntxn aaaaaaaa-aaaa-aaaa-aaaa-aaaaaaaaaaaa:1\nins t 1 x61 null\nend\nclose\ndone\n";
+const ONE: &[u8] =
+    b"bundle 1\nreplica cccccccc-cccc-cccc-cccc-cccccccccccc\ntable t 3 pk 0 uk 1\nchannel x\njournal 1\nprevious -\ntxn aaaaaaaa-aaaa-aaaa-aaaa-aaaaaaaaaaaa:1\nins t 1 x61 null\nend\nclose\ndone\n";
 
 fn line(line: u64, cause: Cause) -> Option<JournalFault> {
     Some(JournalFault::Line { line, cause })
@@ -66,17 +68,44 @@ fn headers_and_sets(rt: HostRuntime) -> Result<(), Fail> {
     let alloc = rt.alloc();
     assert_eq!(rt; fault(alloc, b"journal 7\n"), line(1, Cause::Version));
     assert_eq!(rt; fault(alloc, b"journals\n"), line(1, Cause::Keyword));
-    assert_eq!(rt; fault(alloc, b"journal 1\nprevious aaaaaaaa-aaaa-aaaa-aaaa-aaaaaaaaaaaa:2-1\n"), line(2, Cause::Body));
-    assert_eq!(rt; fault(alloc, b""), Some(JournalFault::Truncated { line: 1 }));
+    assert_eq!(rt;
+        fault(
+            alloc,
+            b"journal 1\nprevious aaaaaaaa-aaaa-aaaa-aaaa-aaaaaaaaaaaa:2-1\n"
+        ),
+        line(2, Cause::Body)
+    );
+    assert_eq!(rt;
+        fault(alloc, b""),
+        Some(JournalFault::Truncated { line: 1 })
+    );
     Ok(())
 }
 
 #[test]
 fn values_have_one_spelling(rt: HostRuntime) -> Result<(), Fail> {
     let alloc = rt.alloc();
-    assert_eq!(rt; fault(alloc, b"journal 1\nprevious -\ntxn aaaaaaaa-aaaa-aaaa-aaaa-aaaaaaaaaaaa:1\nins t 01 x61 null\n"), line(4, Cause::Body));
-    assert_eq!(rt; fault(alloc, b"journal 1\nprevious -\ntxn aaaaaaaa-aaaa-aaaa-aaaa-aaaaaaaaaaaa:1\nins t 1 x6A null\n"), line(4, Cause::Body));
-    assert_eq!(rt; fault(alloc, b"journal 1\nprevious -\ntxn aaaaaaaa-aaaa-aaaa-aaaa-aaaaaaaaaaaa:1\nins t  1 x61 null\n"), line(4, Cause::Body));
+    assert_eq!(rt;
+        fault(
+            alloc,
+            b"journal 1\nprevious -\ntxn aaaaaaaa-aaaa-aaaa-aaaa-aaaaaaaaaaaa:1\nins t 01 x61 null\n"
+        ),
+        line(4, Cause::Body)
+    );
+    assert_eq!(rt;
+        fault(
+            alloc,
+            b"journal 1\nprevious -\ntxn aaaaaaaa-aaaa-aaaa-aaaa-aaaaaaaaaaaa:1\nins t 1 x6A null\n"
+        ),
+        line(4, Cause::Body)
+    );
+    assert_eq!(rt;
+        fault(
+            alloc,
+            b"journal 1\nprevious -\ntxn aaaaaaaa-aaaa-aaaa-aaaa-aaaaaaaaaaaa:1\nins t  1 x61 null\n"
+        ),
+        line(4, Cause::Body)
+    );
     Ok(())
 }
 
@@ -87,17 +116,47 @@ fn a_gtid_stands_once(rt: HostRuntime) -> Result<(), Fail> {
         source: SourceId::from_bits(0xaaaaaaaaaaaaaaaaaaaaaaaaaaaaaaaa),
         number: 1,
     });
-    assert_eq!(rt; fault(alloc, b"journal 1\nprevious aaaaaaaa-aaaa-aaaa-aaaa-aaaaaaaaaaaa:1\ntxn aaaaaaaa-aaaa-aaaa-aaaa-aaaaaaaaaaaa:1\n"), line(3, twice));
-    assert_eq!(rt; fault(alloc, b"journal 1\nprevious -\ntxn aaaaaaaa-aaaa-aaaa-aaaa-aaaaaaaaaaaa:1\nins t 1 x61 null\nend\ntxn aaaaaaaa-aaaa-aaaa-aaaa-aaaaaaaaaaaa:1\n"), line(6, twice));
+    assert_eq!(rt;
+        fault(
+            alloc,
+            b"journal 1\nprevious aaaaaaaa-aaaa-aaaa-aaaa-aaaaaaaaaaaa:1\ntxn aaaaaaaa-aaaa-aaaa-aaaa-aaaaaaaaaaaa:1\n"
+        ),
+        line(3, twice)
+    );
+    assert_eq!(rt;
+        fault(
+            alloc,
+            b"journal 1\nprevious -\ntxn aaaaaaaa-aaaa-aaaa-aaaa-aaaaaaaaaaaa:1\nins t 1 x61 null\nend\ntxn aaaaaaaa-aaaa-aaaa-aaaa-aaaaaaaaaaaa:1\n"
+        ),
+        line(6, twice)
+    );
     Ok(())
 }
 
 #[test]
 fn the_end_is_the_last_line(rt: HostRuntime) -> Result<(), Fail> {
     let alloc = rt.alloc();
-    assert_eq!(rt; fault(alloc, b"journal 1\nprevious -\ntxn aaaaaaaa-aaaa-aaaa-aaaa-aaaaaaaaaaaa:1\nins t 1 x61 null\nend\ntxn aaaaaaaa-aaaa-aaaa-aaaa-aaaaaaaaaaaa:2\nupd t 1 x61 null | 1 x62 null\nclose\n"), line(8, Cause::Keyword));
-    assert_eq!(rt; fault(alloc, b"journal 1\nprevious -\ntxn aaaaaaaa-aaaa-aaaa-aaaa-aaaaaaaaaaaa:1\nins t 1 x61 null\nend\ntxn aaaaaaaa-aaaa-aaaa-aaaa-aaaaaaaaaaaa:2\nupd t 1 x61 null | 1 x62 null\nend\n"), Some(JournalFault::Truncated { line: 9 }));
-    assert_eq!(rt; fault(alloc, b"journal 1\nprevious -\ntxn aaaaaaaa-aaaa-aaaa-aaaa-aaaaaaaaaaaa:1\nins t 1 x61 null\nend\ntxn aaaaaaaa-aaaa-aaaa-aaaa-aaaaaaaaaaaa:2\nupd t 1 x61 null | 1 x62 null\nend\nclose\nclose\n"), line(10, Cause::Keyword));
+    assert_eq!(rt;
+        fault(
+            alloc,
+            b"journal 1\nprevious -\ntxn aaaaaaaa-aaaa-aaaa-aaaa-aaaaaaaaaaaa:1\nins t 1 x61 null\nend\ntxn aaaaaaaa-aaaa-aaaa-aaaa-aaaaaaaaaaaa:2\nupd t 1 x61 null | 1 x62 null\nclose\n"
+        ),
+        line(8, Cause::Keyword)
+    );
+    assert_eq!(rt;
+        fault(
+            alloc,
+            b"journal 1\nprevious -\ntxn aaaaaaaa-aaaa-aaaa-aaaa-aaaaaaaaaaaa:1\nins t 1 x61 null\nend\ntxn aaaaaaaa-aaaa-aaaa-aaaa-aaaaaaaaaaaa:2\nupd t 1 x61 null | 1 x62 null\nend\n"
+        ),
+        Some(JournalFault::Truncated { line: 9 })
+    );
+    assert_eq!(rt;
+        fault(
+            alloc,
+            b"journal 1\nprevious -\ntxn aaaaaaaa-aaaa-aaaa-aaaa-aaaaaaaaaaaa:1\nins t 1 x61 null\nend\ntxn aaaaaaaa-aaaa-aaaa-aaaa-aaaaaaaaaaaa:2\nupd t 1 x61 null | 1 x62 null\nend\nclose\nclose\n"
+        ),
+        line(10, Cause::Keyword)
+    );
     Ok(())
 }
 
@@ -121,9 +180,33 @@ fn a_bundle_is_read_in_pieces(rt: HostRuntime) -> Result<(), Fail> {
 #[test]
 fn the_schema_is_kept(rt: HostRuntime) -> Result<(), Fail> {
     let alloc = rt.alloc();
-    assert_eq!(rt; bundle_fault(alloc, b"bundle 1\nreplica cccccccc-cccc-cccc-cccc-cccccccccccc\ntable t 3 pk 3\n"), line(3, Cause::Schema));
-    assert_eq!(rt; bundle_fault(alloc, b"bundle 1\nreplica cccccccc-cccc-cccc-cccc-cccccccccccc\ntable t 65 pk 0\n"), line(3, Cause::Limit));
-    assert_eq!(rt; bundle_fault(alloc, b"bundle 1\nreplica cccccccc-cccc-cccc-cccc-cccccccccccc\ntable t 3 pk 0 uk 1\nchannel x\njournal 1\nprevious -\ntxn aaaaaaaa-aaaa-aaaa-aaaa-aaaaaaaaaaaa:1\nins t 1 x61 null\nend\nclose\nchannel x\n"), line(11, Cause::Schema));
-    assert_eq!(rt; bundle_fault(alloc, b"bundle 1\nreplica cccccccc-cccc-cccc-cccc-cccccccccccc\ntable t 3 pk 0 uk 1\nchannel x\njournal 1\nprevious -\ntxn aaaaaaaa-aaaa-aaaa-aaaa-aaaaaaaaaaaa:1\nins t 1 x61 null\nend\nclose\nchannel y\njournal 1\nprevious -\ntxn bbbbbbbb-bbbb-bbbb-bbbb-bbbbbbbbbbbb:1\nins t null x62 null\n"), line(15, Cause::Schema));
+    assert_eq!(rt;
+        bundle_fault(
+            alloc,
+            b"bundle 1\nreplica cccccccc-cccc-cccc-cccc-cccccccccccc\ntable t 3 pk 3\n"
+        ),
+        line(3, Cause::Schema)
+    );
+    assert_eq!(rt;
+        bundle_fault(
+            alloc,
+            b"bundle 1\nreplica cccccccc-cccc-cccc-cccc-cccccccccccc\ntable t 65 pk 0\n"
+        ),
+        line(3, Cause::Limit)
+    );
+    assert_eq!(rt;
+        bundle_fault(
+            alloc,
+            b"bundle 1\nreplica cccccccc-cccc-cccc-cccc-cccccccccccc\ntable t 3 pk 0 uk 1\nchannel x\njournal 1\nprevious -\ntxn aaaaaaaa-aaaa-aaaa-aaaa-aaaaaaaaaaaa:1\nins t 1 x61 null\nend\nclose\nchannel x\n"
+        ),
+        line(11, Cause::Schema)
+    );
+    assert_eq!(rt;
+        bundle_fault(
+            alloc,
+            b"bundle 1\nreplica cccccccc-cccc-cccc-cccc-cccccccccccc\ntable t 3 pk 0 uk 1\nchannel x\njournal 1\nprevious -\ntxn aaaaaaaa-aaaa-aaaa-aaaa-aaaaaaaaaaaa:1\nins t 1 x61 null\nend\nclose\nchannel y\njournal 1\nprevious -\ntxn bbbbbbbb-bbbb-bbbb-bbbb-bbbbbbbbbbbb:1\nins t null x62 null\n"
+        ),
+        line(15, Cause::Schema)
+    );
     Ok(())
 }
