@@ -1,19 +1,17 @@
 -- A bundle has one text but for the order of its `row` lines.
-use Rattle.std.proofs.Common.{◌≡◌, ℕ, ◌+◌, ◌⊎◌, inl, inr, Bool, true, false, cond, List, [], ◌∷◌, ◌++◌, Option, Some, None, Result, Ok, Err, refl, sym, ap, subst, ◌∙◌, arith}
-use Rattle.std.specs.Prelude.{◌||◌, is_some}
+use Rattle.std.proofs.Common.{◌≡◌, ℕ, ◌⊎◌, inl, inr, Bool, true, false, cond, List, [], ◌∷◌, Option, Some, None, Result, Ok, Err, refl, sym, ap, subst, ◌∙◌}
+use Rattle.std.specs.Prelude.{is_some}
 use Rattle.std.specs.FinMap.{get, empty, get-empty}
 use Rattle.rows.specs.declared.change.Change.TheVariants.{Insert}
 use Rattle.rows.specs.declared.change.Key.{Key}
-use Rattle.rows.specs.declared.change.RowFault.{RowFault}
 use Rattle.rows.specs.declared.change.TableRow.{TableRow}
-use Rattle.rows.specs.declared.change.Misfit.{Misfit}
 use Rattle.rows.specs.declared.change.NotInSchema.{NotInSchema}
 use Rattle.rows.specs.declared.schema.Table.{Table}
 use Rattle.rows.specs.declared.value.Value.{Value}
 use Rattle.rows.specs.Apply.{Rows, ◌>>=◌ as ◌andthen◌, with_row, taken, insert_if_free, apply_from, apply}
 use Rattle.rows.specs.Database.{Database, opening}
 use Rattle.rows.specs.Fits.{misfit, misfit_in, first_cause, count_misfit, or_later}
-use Rattle.rows.specs.Keys.{keys_of_row, keys_in, keys_carried, table_named, values_in}
+use Rattle.rows.specs.Keys.{keys_in, keys_carried, table_named, values_in}
 use Rattle.rows.specs.Order.{key_cmp}
 use Rattle.rows.specs.WriteSet.{is_among}
 use Rattle.rows.specs.Total.{key_eq_self}
@@ -22,8 +20,8 @@ use Rattle.rows.proofs.Local.{get-with_row}
 use Rattle.journal_words.proofs.Counts.{chosen}
 use Rattle.txn_journal.specs.Lines.{◌>>=◌}
 use Rattle.txn_journal.specs.BundleStates.{BundleValue, ok_rows, with_opening}
-use Rattle.txn_journal.specs.BundleText.{put_all, AreOpening, WritesBundle}
-use Rattle.txn_journal.specs.RowOrders.{IsOneOf, AreOnce, AreReordered, DifferInOrder}
+use Rattle.txn_journal.specs.BundleText.{put_all, WritesBundle}
+use Rattle.txn_journal.specs.RowOrders.{IsOneOf, AreOnce, DifferInOrder}
 use Rattle.txn_journal.specs.declared.fault.Cause.{Cause}
 use Rattle.txn_journal.specs.declared.fault.Cause.TheVariants as causes
 use Rattle.txn_journal.specs.declared.fault.JournalFault.{JournalFault}
