@@ -13,8 +13,6 @@ mod lines;
 mod names;
 mod reader;
 mod tables;
-#[cfg(test)]
-mod tests;
 mod writer;
 
 pub use bundle::{Bundle, Channel};
