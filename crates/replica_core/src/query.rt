@@ -1,9 +1,10 @@
 //! What a replica shows.
-ghost use Rattle.std.specs.Prelude.{◌≡◌, IfOk, MatchOption, option_map, slice_get, All};
+ghost use Rattle.std.specs.Prelude.{◌≡◌, IfOk, IfErr, MatchOption, All};
 ghost use Rattle.std.specs.Option.{option_copied};
 ghost use Rattle.replica_core.specs.State.{owned};
 ghost use Rattle.replica_core.specs.Seated.{AreSeated};
-ghost use Rattle.replica_core.specs.Machine.{ask, next_ready, ready_from};
+ghost use Rattle.replica_core.specs.Machine.{next_ready, ready_from};
+ghost use Rattle.replica_core.specs.Faults.{asking, IsFaultIn};
 ghost use Rattle.replica_core.specs.Kept.{IsKept};
 ghost use Rattle.replica_core.specs.Core.{IsAtCore, IsNotAtCore, IsEntryAt, IsNoEntry};
 
@@ -39,7 +40,8 @@ impl Core {
 
     /// The set that a Position of a channel would answer now, where there is that channel.
     pub fn ask(&self, alloc: Global, channel: usize) -> Result<Option<GtidSet>, SetFault>
-        ensures { IfOk result (λ asked. asked ≡ option_map (ask self.now.state) (slice_get self.now.state.channels channel)) }
+        ensures ok { IfOk result (λ asked. asked ≡ asking channel self.now.state) }
+        ensures fault { IfErr result (λ f. IsFaultIn f (asking channel self.now.state)) }
     {
         let Some(one) = self.channels.get(channel) else {
             return Ok(None);
