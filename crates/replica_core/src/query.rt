@@ -3,6 +3,7 @@ ghost use Rattle.std.specs.Prelude.{◌≡◌, IfOk, MatchOption, option_map, sl
 ghost use Rattle.std.specs.Option.{option_copied};
 ghost use Rattle.replica_core.specs.State.{owned};
 ghost use Rattle.replica_core.specs.Seated.{AreSeated};
+ghost use Rattle.replica_core.specs.Kept.{AreKept};
 ghost use Rattle.replica_core.specs.Machine.{ask};
 ghost use Rattle.replica_core.specs.Core.{IsAtCore, IsNotAtCore, IsEntryAt, IsNoEntry};
 
@@ -78,5 +79,13 @@ impl Core {
         ensures { AreSeated self.now.state.channels self.now.state.seats }
     {
         let _ = self.kept_channel(0);
+    }
+
+    /// A received entry has its transaction exactly where its GTID is not executed; the schema takes
+    /// it, and its number is in range. It does nothing; a proof calls it for its contract.
+    pub fn entries_are_kept(&self)
+        ensures { AreKept self.now.site.schema self.now.state.executed self.now.state.channels }
+    {
+        let _ = &self.own;
     }
 }
