@@ -1,10 +1,11 @@
 //! A channel.
-ghost use Rattle.std.specs.Prelude.{◌≡◌, ◌≤◌, ◌<◌, ◌↔◌, suc, OnOk, OnErr, IfOk, Some, None, length, MatchOption, true, false, ◌==◌};
+ghost use Rattle.std.specs.Prelude.{◌≡◌, ◌≤◌, ◌<◌, ◌↔◌, suc, OnOk, OnErr, IfOk, IfErr, Some, None, length, MatchOption, true, false, ◌==◌};
 ghost use Rattle.std.specs.Option.{option_copied, option_map_or};
 ghost use Rattle.std.specs.FinSet as set;
 ghost use Rattle.apply_channel.specs.Channels.{opened, blocker, next_ready, first_waiting, are_settled, settled, settled_at, received_gtids, IsPlace, IsNoPlace, is_full, with_stopped, with_asked, with_entry};
 ghost use Rattle.apply_channel.specs.Kept.{IsLastOpen};
-ghost use Rattle.apply_channel.specs.Full.{IsFull};
+ghost use Rattle.apply_channel.specs.Full.{IsFull, gtids_with, IsReceiveFault};
+ghost use Rattle.journal.specs.Faults.{IsFaultOf};
 
 use crate::places::{last_place, open_place, put_node, put_place};
 use crate::slot::{Slot, copy_unless, keys_unless};
@@ -179,6 +180,7 @@ impl Channel {
         ensures place { IfOk result (λ place. place ≡ length self.old.channel.received) }
         ensures put { OnOk result (self.new ≡ with_entry executed entry.now self.old) }
         ensures full { IsFull result ↔ (is_full self.old.channel ≡ true) }
+        ensures fault { IfErr result (λ f. IsReceiveFault f (gtids_with entry.now self.old.channel)) }
         ensures err { OnErr result (self.new ≡ self.old) }
     {
         let place = self.len();
@@ -195,6 +197,7 @@ impl Channel {
     fn put(&mut self, alloc: Global, entry: &Entry, executed: bool) -> Result<(), SetFault>
         requires { is_full self.old.channel ≡ false }
         ensures put { OnOk result (self.new ≡ with_entry executed entry.now self.old) }
+        ensures fault { IfErr result (λ f. IsFaultOf f (gtids_with entry.now self.old.channel)) }
         ensures err { OnErr result (self.new ≡ self.old) }
     {
         let keys = keys_unless(alloc, executed, &self.schema, &entry.txn)?;

@@ -1,5 +1,6 @@
 //! The table of the last places of GTIDs, and the node of a new place.
-ghost use Rattle.std.specs.Prelude.{◌≡◌, ◌≢◌, ◌<◌, ◌++◌, [], ◌∷◌, cond, length, AllPairs, OnOk, OnErr};
+ghost use Rattle.std.specs.Prelude.{◌≡◌, ◌≢◌, ◌<◌, ◌++◌, [], ◌∷◌, cond, length, AllPairs, OnOk, OnErr, IfErr};
+ghost use Rattle.journal.specs.Faults.{IsFaultOf};
 ghost use Rattle.std.specs.FinSet as set;
 ghost use Rattle.gtid_text.specs.declared.Gtid.{Gtid as GtidValue};
 ghost use Rattle.gtid_text.specs.Gtids.{same_gtid};
@@ -64,6 +65,7 @@ pub(crate) fn put_node(
     requires distinct { AllPairs (λ a b. a ≢ b) keys.items }
     ensures graph { OnOk result (graph.new ≡ graph.old ++ unfinished keys.items ∷ []) }
     ensures received { OnOk result (received.new ≡ set.insert received.old gtid) }
+    ensures fault { IfErr result (λ f. IsFaultOf f (set.insert received.old gtid)) }
     ensures same_graph { OnErr result (graph.new ≡ graph.old) }
     ensures same_received { OnErr result (received.new ≡ received.old) }
 {

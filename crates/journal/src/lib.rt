@@ -1,11 +1,12 @@
 //! Journals: what a server executed, in order.
 #![tactic(auto)]
 
-ghost use Rattle.std.specs.Prelude.{◌≡◌, ◌-◌, [], ◌∷◌, ◌++◌, true, false, OnOk, OnErr, IfOk, length, take, drop, ◌==◌, ◌≤◌};
+ghost use Rattle.std.specs.Prelude.{◌≡◌, ◌-◌, [], ◌∷◌, ◌++◌, true, false, OnOk, OnErr, IfOk, IfErr, length, take, drop, ◌==◌, ◌≤◌};
 ghost use Rattle.std.specs.List.{list_all, list_any};
 ghost use Rattle.gtid_text.specs.Gtids.{same_gtid};
 ghost use Rattle.std.specs.FinSet as set;
 ghost use Rattle.journal.specs.Journals.{gtids_of, purged, whole, IsJournal};
+ghost use Rattle.journal.specs.Faults.{IsFaultOf};
 ghost use Rattle.journal.specs.Writing.{is_value_writable, is_image_writable, is_change_writable, is_txn_writable, is_writable, is_number};
 
 use gtid_set::{GtidSet, SetFault};
@@ -125,10 +126,14 @@ fn is_same(a: &Gtid, b: &Gtid) -> bool
 }
 
 fn add_gtids(known: &mut GtidSet, entries: &[Entry]) -> Result<(), SetFault>
-    ensures { OnOk result (known.new ≡ set.union known.old (gtids_of entries.now)) }
+    ensures ok { OnOk result (known.new ≡ set.union known.old (gtids_of entries.now)) }
+    ensures fault { IfErr result (λ f. IsFaultOf f (set.union known.old (gtids_of entries.now))) }
 {
     for entry in entries {
-        known.add(entry.gtid)?;
+        match known.add(entry.gtid) {
+            Ok(()) => {}
+            Err(fault) => return Err(fault),
+        }
     }
     Ok(())
 }
@@ -204,7 +209,8 @@ impl Journal {
     /// The previous set once the first entries are purged.
     pub fn purged(&self, alloc: Global, count: usize) -> Result<GtidSet, SetFault>
         requires { count ≤ length self.now.entries }
-        ensures { IfOk result (λ s. s ≡ purged count self.now) }
+        ensures ok { IfOk result (λ s. s ≡ purged count self.now) }
+        ensures fault { IfErr result (λ f. IsFaultOf f (purged count self.now)) }
     {
         let mut previous = self.previous.copy(alloc)?;
         add_gtids(&mut previous, &self.entries[..count])?;

@@ -1,7 +1,7 @@
 -- The executed set, as entries are put, taken away and purged.
-use Rattle.std.proofs.Common.{◌≡◌, ℕ, ◌-◌, true, List, [], ◌∷◌, ◌++◌, take, drop, length, refl, sym, ap, subst, ◌∙◌, zero, suc, arith, length-append, true≢false}
+use Rattle.std.proofs.Common.{◌≡◌, ◌≤◌, ℕ, ◌-◌, true, List, [], ◌∷◌, ◌++◌, take, drop, length, refl, sym, ap, subst, ◌∙◌, zero, suc, arith, length-append, true≢false}
 use Rattle.std.specs.FinSet as set
-use Rattle.gtid_set.specs.Sets.{Gtids}
+use Rattle.gtid_set.specs.Sets.{Gtids, source_count, most_sources}
 use Rattle.gtid_set.proofs.SetLemmas.{union_empty, union_insert}
 use Rattle.journal.specs.declared.Entry.{Entry}
 use Rattle.journal.specs.Journals.{JournalValue, gtids_of, whole}
@@ -70,10 +70,10 @@ pub own_start : (s : Gtids) (j : JournalValue) → j ≡ record { previous = s; 
 own_start s j is = record { whole_set = union_empty s ∙ sym (ap whole is); near = refl; before = tt }
 
 -- ... with one entry more
-pub own_appended : (e : Entry) (j : JournalValue) (known : Known) → IsOwn j known → IsOwn (with_last e j) (ahead_by e.gtid known.executed)
-own_appended e j known own = record {
+pub own_appended : (e : Entry) (j : JournalValue) (known : Known) → source_count (set.insert known.executed e.gtid) ≤ most_sources → IsOwn j known → IsOwn (with_last e j) (ahead_by e.gtid known.executed)
+own_appended e j known fits own = record {
   whole_set = ap (λ s. set.insert s e.gtid) own.whole_set ∙ sym (whole-with_last e j);
-  near = refl;
+  near = (refl, fits);
   before = own.whole_set ∙ sym (ap whole (without_last-with_last e j));
 }
 

@@ -1,8 +1,8 @@
 -- The executed set, and a spare set at most one GTID away from it.
-use Rattle.std.specs.Prelude.{◌≡◌, Bool, true, false}
+use Rattle.std.specs.Prelude.{◌≡◌, ◌≤◌, Bool, true, false}
 use Rattle.std.specs.FinSet as set
 use Rattle.gtid_text.specs.declared.Gtid.{Gtid}
-use Rattle.gtid_set.specs.Sets.{Gtids}
+use Rattle.gtid_set.specs.Sets.{Gtids, source_count, most_sources}
 use Rattle.relay.specs.declared.Known.{Known}
 use Rattle.relay.specs.declared.Behind.{Behind}
 use Rattle.relay.specs.declared.Behind.TheVariants.{Equal, ByLast, By, Ahead}
@@ -42,10 +42,14 @@ settle_by (Ahead gtid) known = known
 abbrev pub lasting : Known → Known
 lasting known = settle_by known.behind known
 
+-- a set has one GTID more than another, and not too many sources
+abbrev pub IsStep : Gtids → Gtid → Gtids → Type 0
+IsStep spare gtid executed = (set.insert spare gtid ≡ executed) × (source_count executed ≤ most_sources)
+
 abbrev pub IsNearBy : Behind → Gtids → Gtids → Type 0
 IsNearBy Equal spare executed = spare ≡ executed
-IsNearBy (ByLast gtid) spare executed = set.insert spare gtid ≡ executed
-IsNearBy (By gtid) spare executed = set.insert spare gtid ≡ executed
+IsNearBy (ByLast gtid) spare executed = IsStep spare gtid executed
+IsNearBy (By gtid) spare executed = IsStep spare gtid executed
 IsNearBy (Ahead gtid) spare executed = Unit {0}
 
 -- the spare set is the executed set, or lacks one GTID of it

@@ -1,12 +1,15 @@
 //! A server's own journal: what it executed, in the order of the commits.
 #![tactic(auto)]
 
-ghost use Rattle.std.specs.Prelude.{◌≡◌, ◌≤◌, ◌<◌, ◌↔◌, [], ◌∷◌, ◌++◌, true, false, ℕ, OnOk, OnErr, IfOk, IfErr, Err, Ok, length, take, drop, slice_get};
+ghost use Rattle.std.specs.Prelude.{◌≡◌, ◌≤◌, ◌<◌, ◌↔◌, [], ◌∷◌, ◌++◌, true, false, ℕ, OnOk, OnErr, IfOk, IfErr, IsOkUnless, Err, Ok, length, take, drop, slice_get};
 ghost use Rattle.std.specs.Option.{option_copied};
 ghost use Rattle.std.specs.FinSet as set;
 ghost use Rattle.journal.specs.Journals.{purged, whole};
+ghost use Rattle.journal.specs.Faults.{IsFaultOf};
+ghost use Rattle.gtid_set.specs.declared.fault.SetFault.TheVariants.{Memory};
+ghost use Rattle.gtid_set.specs.Full.{IsFullExactly};
 ghost use Rattle.journal.specs.Writing.{is_writable};
-ghost use Rattle.relay.specs.Own.{without_last, with_last, purged_to, IsTooMany};
+ghost use Rattle.relay.specs.Own.{without_last, with_last, purged_to, IsTooMany, IsPurgeFault};
 ghost use Rattle.relay.specs.declared.PurgeFault.TheVariants.{TooMany, Set};
 
 use gtid_set::{GtidSet, SetFault};
@@ -46,6 +49,7 @@ impl Known {
         requires { IsNear self.old }
         ensures ok { OnOk result (self.new ≡ equal_to self.old.executed) }
         ensures err { OnErr result (self.new ≡ self.old) }
+        ensures fault { IsOkUnless result Memory }
     {
         match self.behind {
             Behind::Equal => {}
@@ -62,6 +66,7 @@ impl Known {
         requires { self.old.spare ≡ self.old.executed }
         ensures ok { OnOk result (self.new ≡ ahead_by gtid.now self.old.executed) }
         ensures err { OnErr result (self.new ≡ self.old) }
+        ensures full { IsFullExactly result (set.insert self.old.executed gtid.now) }
     {
         self.spare.add(*gtid)?;
         mem::swap(&mut self.executed, &mut self.spare);
@@ -139,7 +144,8 @@ impl Model for OwnJournal {
 impl OwnJournal {
     /// An own journal without entries, after this purged set.
     pub fn start(alloc: Global, purged: GtidSet) -> Result<OwnJournal, SetFault>
-        ensures { IfOk result (λ o. o.journal ≡ record { previous = purged; entries = [] }) }
+        ensures ok { IfOk result (λ o. o.journal ≡ record { previous = purged; entries = [] }) }
+        ensures fault { IsOkUnless result Memory }
     {
         let executed = purged.copy(alloc)?;
         let spare = purged.copy(alloc)?;
@@ -188,6 +194,7 @@ impl OwnJournal {
         ensures ok { OnOk result (self.new.journal ≡ with_last entry self.old.journal) }
         ensures undoable { OnOk result (self.new.undoable ≡ true) }
         ensures err { OnErr result (self.new.journal ≡ self.old.journal) }
+        ensures fault { IfErr result (λ f. IsFaultOf f (set.insert (whole self.old.journal) entry.gtid)) }
     {
         let gtid = entry.gtid;
         self.known.catch_up(alloc)?;
@@ -219,6 +226,7 @@ impl OwnJournal {
         ensures len { (n : ℕ) → result ≡ Err (TooMany n) → n ≡ length self.old.journal.entries }
         ensures executed { whole self.new.journal ≡ whole self.old.journal }
         ensures err { OnErr result (self.new.journal ≡ self.old.journal) }
+        ensures fault { IfErr result (λ f. IsPurgeFault f (purged count self.old.journal)) }
     {
         let there = self.journal.len();
         if there < count {

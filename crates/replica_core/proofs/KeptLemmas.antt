@@ -138,7 +138,7 @@ alike : {X : Type 0} (p q : X → Bool) (xs : List X) → All (λ x. p x ≡ q x
 alike p q [] all = refl
 alike p q (x ∷ xs) all = λ i. all 0 x (omega arith) i && alike p q xs (λ k d h. all (suc k) d (omega arith)) i
 
-gone_by : {X : Type 0} (o : Option X) (b : Bool) → is_some o ≡ not b → is_none o ≡ b
+pub gone_by : {X : Type 0} (o : Option X) (b : Bool) → is_some o ≡ not b → is_none o ≡ b
 gone_by None true h = refl
 gone_by None false h = absurd (cc h)
 gone_by (Some x) true h = absurd (cc h)

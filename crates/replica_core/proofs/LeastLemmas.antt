@@ -18,7 +18,7 @@ skipped_by u f m a first false is less rest at =
     let count : a + 1 + m - first ≡ a + suc m - first = omega arith in
     ap (λ b. cond b (Some a) (find f (range_with_len (a + 1) m))) (less is) ∙ rest at ∙ ap (λ k. find f (range_with_len first k)) count
 
-skipped : (u f : ℕ → Bool) → ((n : ℕ) → u n ≡ false → f n ≡ false) → (m a first : ℕ) → find u (range_with_len a m) ≡ Some first → find f (range_with_len a m) ≡ find f (range_with_len first (a + m - first))
+pub skipped : (u f : ℕ → Bool) → ((n : ℕ) → u n ≡ false → f n ≡ false) → (m a first : ℕ) → find u (range_with_len a m) ≡ Some first → find f (range_with_len a m) ≡ find f (range_with_len first (a + m - first))
 skipped u f less zero a first at = absurd (cc at)
 skipped u f less (suc m) a first at = skipped_by u f m a first (u a) refl (less a) (skipped u f less m (a + 1) first) at
 
@@ -26,7 +26,7 @@ none_by : (u f : ℕ → Bool) (m a : ℕ) (b : Bool) → u a ≡ b → (u a ≡
 none_by u f m a true is less rest at = absurd (cc at)
 none_by u f m a false is less rest at = ap (λ b. cond b (Some a) (find f (range_with_len (a + 1) m))) (less is) ∙ rest at
 
-none_left : (u f : ℕ → Bool) → ((n : ℕ) → u n ≡ false → f n ≡ false) → (m a : ℕ) → find u (range_with_len a m) ≡ None → find f (range_with_len a m) ≡ None
+pub none_left : (u f : ℕ → Bool) → ((n : ℕ) → u n ≡ false → f n ≡ false) → (m a : ℕ) → find u (range_with_len a m) ≡ None → find f (range_with_len a m) ≡ None
 none_left u f less zero a at = refl
 none_left u f less (suc m) a at = none_by u f m a (u a) refl (less a) (none_left u f less m (a + 1)) at
 

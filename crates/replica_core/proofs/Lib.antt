@@ -12,3 +12,4 @@ pub mod LeastLemmas
 pub mod OwnedLemmas
 pub mod OrderLemmas
 pub mod TakeLemmas
+pub mod ReadyLemmas

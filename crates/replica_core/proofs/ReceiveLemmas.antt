@@ -58,7 +58,7 @@ found_by : (test : ℕ → Bool) (a n : ℕ) (b : Bool) (rest : Option ℕ) → 
 found_by test a n true rest is h at = let same : a ≡ n = cc at in ap test (sym same) ∙ is
 found_by test a n false rest is h at = h at
 
-found_test : (test : ℕ → Bool) (m a n : ℕ) → find test (range_with_len a m) ≡ Some n → test n ≡ true
+pub found_test : (test : ℕ → Bool) (m a n : ℕ) → find test (range_with_len a m) ≡ Some n → test n ≡ true
 found_test test zero a n at = absurd (cc at)
 found_test test (suc m) a n at = found_by test a n (test a) _ refl (found_test test m (a + 1) n) at
 
@@ -66,7 +66,7 @@ within_by : (a m n : ℕ) (b : Bool) (rest : Option ℕ) → (rest ≡ Some n �
 within_by a m n true rest h at = let same : a ≡ n = cc at in (omega (arith, same), omega (arith, same))
 within_by a m n false rest h at = let w = h at in (omega (arith, w.0), omega (arith, w.1))
 
-found_within : (test : ℕ → Bool) (m a n : ℕ) → find test (range_with_len a m) ≡ Some n → (a ≤ n) × (n < a + m)
+pub found_within : (test : ℕ → Bool) (m a n : ℕ) → find test (range_with_len a m) ≡ Some n → (a ≤ n) × (n < a + m)
 found_within test zero a n at = absurd (cc at)
 found_within test (suc m) a n at = within_by a m n (test a) _ (found_within test m (a + 1) n) at
 

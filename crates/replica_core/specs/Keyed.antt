@@ -1,9 +1,12 @@
 -- Channels with their schema.
-use Rattle.std.specs.Prelude.{◌≡◌, ℕ, Bool, List, false, Some, None, slice_get, length}
+use Rattle.std.specs.Prelude.{◌≡◌, ℕ, Bool, List, false, Option, Some, None, option_map, slice_get, length}
 use Rattle.std.specs.Option.{option_map_or}
 use Rattle.gtid_text.specs.declared.Gtid.{Gtid}
 use Rattle.gtid_set.specs.Sets.{Gtids}
 use Rattle.apply_channel.specs.Channels.{Keyed, ChannelValue, settled, with_stopped, with_asked, is_full}
+use Rattle.apply_channel.specs.declared.channel.ReceiveFault.{ReceiveFault}
+use Rattle.apply_channel.specs.Full.{gtids_with, IsReceiveFault}
+use Rattle.journal.specs.declared.Entry.{Entry}
 use Rattle.replica_core.specs.Kept.{ChannelsValue}
 
 abbrev pub keyed_settled : Gtid → Keyed → Keyed
@@ -39,3 +42,14 @@ keyed_len_at c channels = option_map_or (λ k. length k.channel.received) (slice
 
 abbrev pub keyed_full_at : ℕ → List Keyed → Bool
 keyed_full_at c channels = option_map_or (λ k. is_full k.channel) (slice_get channels c) false
+
+-- why a channel did not receive an entry
+abbrev pub IsRefusedIn : ReceiveFault → Entry → Option ChannelValue → Type 0
+IsRefusedIn f entry None = Unit {0}
+IsRefusedIn f entry (Some channel) = IsReceiveFault f (gtids_with entry channel)
+
+abbrev pub IsRefusedAt : ReceiveFault → Entry → ℕ → List ChannelValue → Type 0
+IsRefusedAt f entry c channels = IsRefusedIn f entry (slice_get channels c)
+
+abbrev pub IsKeyedRefusedAt : ReceiveFault → Entry → ℕ → List Keyed → Type 0
+IsKeyedRefusedAt f entry c channels = IsRefusedIn f entry (option_map (λ k. k.channel) (slice_get channels c))

@@ -9,3 +9,4 @@ pub mod Committing
 pub mod Ready
 pub mod Replies
 pub mod Laws
+pub mod Faults

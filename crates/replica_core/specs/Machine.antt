@@ -1,6 +1,6 @@
 -- The machine of a replica: one event, one reply and a new state. The replies stand in the order in which they are tested.
-use Rattle.std.specs.Prelude.{◌≡◌, All, ℕ, Bool, true, false, not, ◌&&◌, nat_le, nat_lt, List, [], ◌∷◌, ◌++◌, map, length, take, slice_get, slice_set, position, Option, None, option_map, option_and_then, is_none, Result, Ok, Err, if◌then◌else◌}
-use Rattle.std.specs.List.{list_any, list_all}
+use Rattle.std.specs.Prelude.{◌≡◌, All, ℕ, ◌-◌, Bool, true, false, not, ◌&&◌, nat_le, nat_lt, List, [], ◌∷◌, ◌++◌, map, length, take, slice_get, slice_set, position, find, Option, None, option_map, option_and_then, is_none, Result, Ok, Err, if◌then◌else◌}
+use Rattle.std.specs.List.{list_any, list_all, range_with_len}
 use Rattle.std.specs.Option.{option_map_or}
 use Rattle.std.specs.FinSet as set
 use Rattle.std.specs.FinMap as finmap
@@ -227,6 +227,21 @@ after site s (e ∷ es) = after site (step site s e).1 es
 -- every received GTID is executed
 abbrev pub drained : State → Bool
 drained s = list_all (λ channel. list_all (λ e. set.contains s.executed e.gtid) channel.received) s.channels
+
+-- a place of a channel that a seat may take: its GTID is neither executed nor owned, and no earlier place is in its way
+abbrev pub is_free_at : List Table → State → ChannelValue → ℕ → Received → Bool
+is_free_at schema s channel place e =
+    is_open s e && (is_none (option_map_or (blocking schema s channel place) e.txn None) && is_none (owner s e.gtid))
+
+abbrev pub is_ready : List Table → State → ChannelValue → ℕ → Bool
+is_ready schema s channel place = option_map_or (is_free_at schema s channel place) (slice_get channel.received place) false
+
+-- the least such place from this one on
+abbrev pub ready_from : List Table → State → ChannelValue → ℕ → Option ℕ
+ready_from schema s channel from = find (is_ready schema s channel) (range_with_len from (length channel.received - from))
+
+abbrev pub next_ready : Site → State → ℕ → ℕ → Option ℕ
+next_ready site s c from = option_and_then (λ channel. ready_from site.schema s channel from) (slice_get s.channels c)
 
 -- ---- what may be handed in
 

@@ -1,10 +1,11 @@
 //! The channels of a replica, all with one schema.
-ghost use Rattle.std.specs.Prelude.{◌≡◌, ◌<◌, ◌↔◌, ℕ, OnOk, OnErr, IfOk, [], ◌∷◌, ◌++◌, true, length, map, MatchOption};
+ghost use Rattle.std.specs.Prelude.{◌≡◌, ◌<◌, ◌↔◌, ℕ, OnOk, OnErr, IfOk, IfErr, IsOkUnless, [], ◌∷◌, ◌++◌, true, length, map, MatchOption};
 ghost use Rattle.std.specs.List.{list_all, list_any};
 ghost use Rattle.apply_channel.specs.Channels.{are_settled, opened, settled, same_name, with_stopped, with_asked, with_received, with_entry, received_as};
 ghost use Rattle.replica_core.specs.Machine.{changed_at};
-ghost use Rattle.replica_core.specs.Keyed.{keyed_settled, keyed_stopped, keyed_asked, keyed_len_at, keyed_full_at, len_at, full_at, changed, IsAt, IsNotAt};
+ghost use Rattle.replica_core.specs.Keyed.{keyed_settled, keyed_stopped, keyed_asked, keyed_len_at, keyed_full_at, len_at, full_at, IsKeyedRefusedAt, IsRefusedAt, changed, IsAt, IsNotAt};
 ghost use Rattle.apply_channel.specs.Full.{IsFull};
+ghost use Rattle.gtid_set.specs.declared.fault.SetFault.TheVariants.{Memory};
 
 use apply_channel::{Channel, ReceiveFault};
 use gtid_set::{GtidSet, SetFault};
@@ -79,6 +80,7 @@ fn receive_one(
     ensures place { IfOk result (λ place. place ≡ keyed_len_at channel channels.old.items) }
     ensures put { OnOk result (channels.new.items ≡ changed_at channel (with_entry executed entry.now) channels.old.items) }
     ensures full { IsFull result ↔ (keyed_full_at channel channels.old.items ≡ true) }
+    ensures fault { IfErr result (λ f. IsKeyedRefusedAt f entry.now channel channels.old.items) }
     ensures err { OnErr result (channels.new.items ≡ channels.old.items) }
 {
     let one = &mut channels[channel];
@@ -143,6 +145,7 @@ impl Channels {
     ) -> Result<(), SetFault>
         ensures ok { OnOk result (self.new ≡ changed (self.old.list ++ opened name.now preserve ∷ []) self.old) }
         ensures err { OnErr result (self.new ≡ self.old) }
+        ensures fault { IsOkUnless result Memory }
     {
         let name = name.clone()?;
         let schema = self.schema.clone()?;
@@ -184,6 +187,7 @@ impl Channels {
         ensures place { IfOk result (λ place. place ≡ len_at channel self.old.list) }
         ensures put { OnOk result (self.new ≡ changed (changed_at channel (with_received (received_as executed entry.now)) self.old.list) self.old) }
         ensures full { IsFull result ↔ (full_at channel self.old.list ≡ true) }
+        ensures fault { IfErr result (λ f. IsRefusedAt f entry.now channel self.old.list) }
         ensures err { OnErr result (self.new ≡ self.old) }
     {
         receive_one(&mut self.list, alloc, channel, entry, executed)

@@ -1,9 +1,11 @@
 //! The events Commit, Rollback and Local.
-ghost use Rattle.std.specs.Prelude.{◌≡◌, ◌≤◌, MatchResult, IfOk, OnErr, IfErr, option_map, if◌then◌else◌, None, All, ◌<◌, length};
+ghost use Rattle.std.specs.Prelude.{◌≡◌, ◌≤◌, MatchResult, IfOk, OnErr, IfErr, option_map, if◌then◌else◌, None, All, ◌<◌, length, true};
 ghost use Rattle.replica_core.specs.Machine.{commit, rollback, open_before, held, commit_answer};
 ghost use Rattle.replica_core.specs.Kept.{IsKept};
 ghost use Rattle.replica_core.specs.Core.{Refuses};
 ghost use Rattle.replica_core.specs.Committing.{IsCommittable, Executes, RefusedBy};
+ghost use Rattle.journal.specs.Faults.{IsFaultOf};
+ghost use Rattle.replica_core.specs.Faults.{IsFault, committing, executing_too, takes_memory};
 ghost use Rattle.replica_core.specs.Ready.{IsReady};
 
 use crate::event::{Reply, Spot};
@@ -39,7 +41,8 @@ impl Core {
 
     /// What a Commit commits, or the reply that keeps it from that.
     fn may_commit(&self, seat: u8) -> Result<Result<Ready, Reply>, AllocError>
-        ensures { IfOk result (λ r. MatchResult r (IsReady self.now seat) (Refuses (commit self.now.site seat) self.now)) }
+        ensures ok { IfOk result (λ r. MatchResult r (IsReady self.now seat) (Refuses (commit self.now.site seat) self.now)) }
+        ensures fault { OnErr result (takes_memory (commit self.now.site seat self.now.state).0 ≡ true) }
     {
         if !is_seat(seat) {
             return Ok(Err(Reply::NoSeat));
@@ -80,6 +83,7 @@ impl Core {
         requires same { txn.now ≡ entry.txn }
         ensures ok { IfOk result (λ r. MatchResult r (λ done. Executes self.old freed entry self.new) (RefusedBy self.old entry self.new)) }
         ensures err { OnErr result (self.new ≡ self.old) }
+        ensures fault { IfErr result (λ f. IsFaultOf f (executing_too self.old.state entry.gtid)) }
     {
         let gtid = entry.gtid;
         let _ = self.rows.schema().tables();
@@ -108,6 +112,7 @@ impl Core {
         ensures ok { IfOk result (λ r. (r, self.new.state) ≡ commit self.old.site seat self.old.state) }
         ensures site { self.new.site ≡ self.old.site }
         ensures err { OnErr result (self.new ≡ self.old) }
+        ensures fault { IfErr result (λ f. IsFault f (committing seat self.old.state) (commit self.old.site seat self.old.state)) }
     {
         let Ready { spot, entry, txn } = ready;
         let gtid = entry.gtid;
@@ -127,6 +132,7 @@ impl Core {
         ensures ok { IfOk result (λ r. (r, self.new.state) ≡ commit self.old.site seat self.old.state) }
         ensures site { self.new.site ≡ self.old.site }
         ensures err { OnErr result (self.new ≡ self.old) }
+        ensures fault { IfErr result (λ f. IsFault f (committing seat self.old.state) (commit self.old.site seat self.old.state)) }
     {
         match self.may_commit(seat) {
             Err(_) => Err(SetFault::Memory),

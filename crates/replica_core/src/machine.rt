@@ -1,5 +1,6 @@
 //! A replica.
-ghost use Rattle.std.specs.Prelude.{◌≡◌, ◌≤◌, IfOk};
+ghost use Rattle.std.specs.Prelude.{◌≡◌, ◌≤◌, IfOk, IsOkUnless};
+ghost use Rattle.gtid_set.specs.declared.fault.SetFault.TheVariants.{Memory};
 ghost use Rattle.std.specs.FinMap as finmap;
 ghost use Rattle.replica_core.specs.State.{gtid_at, owned_by, owner, owns};
 ghost use Rattle.replica_core.specs.Slots.{seats_of};
@@ -81,7 +82,8 @@ fn no_seats() -> [Option<Spot>; 64]
 impl Core {
     /// A replica with these rows, an empty executed set and no channel.
     pub fn open(alloc: Global, own: SourceId, rows: Rows) -> Result<Core, SetFault>
-        ensures { IfOk result (λ core. core ≡ opened own rows) }
+        ensures ok { IfOk result (λ core. core ≡ opened own rows) }
+        ensures fault { IsOkUnless result Memory }
     {
         let schema = rows.schema().clone()?;
         let journal = OwnJournal::start(alloc, GtidSet::empty(alloc))?;

@@ -1,10 +1,11 @@
 //! What a replica shows.
-ghost use Rattle.std.specs.Prelude.{◌≡◌, IfOk, MatchOption, option_map, slice_get, None};
+ghost use Rattle.std.specs.Prelude.{◌≡◌, IfOk, IfErr, MatchOption, All};
 ghost use Rattle.std.specs.Option.{option_copied};
 ghost use Rattle.replica_core.specs.State.{owned};
 ghost use Rattle.replica_core.specs.Seated.{AreSeated};
-ghost use Rattle.replica_core.specs.Kept.{AreKept};
-ghost use Rattle.replica_core.specs.Machine.{ask};
+ghost use Rattle.replica_core.specs.Machine.{next_ready, ready_from};
+ghost use Rattle.replica_core.specs.Faults.{asking, IsFaultIn};
+ghost use Rattle.replica_core.specs.Kept.{IsKept, AreKept};
 ghost use Rattle.replica_core.specs.Core.{IsAtCore, IsNotAtCore, IsEntryAt, IsNoEntry};
 
 use crate::machine::Core;
@@ -39,7 +40,8 @@ impl Core {
 
     /// The set that a Position of a channel would answer now, where there is that channel.
     pub fn ask(&self, alloc: Global, channel: usize) -> Result<Option<GtidSet>, SetFault>
-        ensures { IfOk result (λ asked. asked ≡ option_map (ask self.now.state) (slice_get self.now.state.channels channel)) }
+        ensures ok { IfOk result (λ asked. asked ≡ asking channel self.now.state) }
+        ensures fault { IfErr result (λ f. IsFaultIn f (asking channel self.now.state)) }
     {
         let Some(one) = self.channels.get(channel) else {
             return Ok(None);
@@ -59,6 +61,41 @@ impl Core {
             return None;
         };
         Some((gtid, txn))
+    }
+
+    /// The least place of a channel from this number on that a seat may take: its GTID is neither
+    /// executed nor owned, and no earlier place that is not executed shares a key. Whether the
+    /// channel is stopped is not asked.
+    pub fn next_ready(&self, channel: usize, from: usize) -> Option<usize>
+        ensures { result ≡ next_ready self.now.site self.now.state channel from }
+    {
+        let Some(one) = self.kept_channel(channel) else {
+            return None;
+        };
+        self.ready_of(one, from)
+    }
+
+    /// The least place of a channel from this number on that a seat may take.
+    fn ready_of(&self, channel: &Channel, from: usize) -> Option<usize>
+        requires schema { channel.now.schema ≡ self.now.site.schema }
+        requires kept { All (IsKept self.now.site.schema self.now.state.executed) channel.now.channel.received }
+        ensures { result ≡ ready_from self.now.site.schema self.now.state channel.now.channel from }
+    {
+        let end = channel.len();
+        let mut from = from;
+        'looking: while from < end {
+            let Some(place) = channel.next_ready(from) else {
+                return None;
+            };
+            let Some((gtid, _)) = channel.entry(place) else {
+                return None;
+            };
+            if self.owner(&gtid).is_none() {
+                return Some(place);
+            }
+            from = place + 1;
+        }
+        None
     }
 
     /// What the seats own: each busy seat with its GTID, seats rising.

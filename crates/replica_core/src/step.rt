@@ -1,7 +1,8 @@
 //! One event, and events in turn.
-ghost use Rattle.std.specs.Prelude.{◌≡◌, ◌<◌, ◌∷◌, [], ◌++◌, IfOk, IfSome, OnErr, None, true, length, vec_len, vec_capacity};
+ghost use Rattle.std.specs.Prelude.{◌≡◌, ◌<◌, ◌∷◌, [], ◌++◌, IfOk, IfErr, IfSome, OnErr, None, true, length, vec_len, vec_capacity, slice_get};
 ghost use Rattle.replica_core.specs.Machine.{purge, look, step, is_numbered, AreNumbered, replies, after};
 ghost use Rattle.replica_core.specs.Replies.{answered};
+ghost use Rattle.replica_core.specs.Faults.{IsFault, IsFaultAt, made_by, purging};
 
 use crate::event::{Event, Reply};
 use crate::machine::Core;
@@ -15,6 +16,7 @@ impl Core {
         ensures ok { IfOk result (λ r. (r, self.new.state) ≡ purge count self.old.state) }
         ensures site { self.new.site ≡ self.old.site }
         ensures err { OnErr result (self.new ≡ self.old) }
+        ensures fault { IfErr result (λ f. IsFault f (purging count self.old.state) (purge count self.old.state)) }
     {
         match self.journal.purge(alloc, count) {
             Ok(purged) => return Ok(Reply::Purged(purged)),
@@ -25,19 +27,25 @@ impl Core {
 
     /// The event Look.
     fn look(&self, alloc: Global) -> Result<Reply, SetFault>
-        ensures { IfOk result (λ r. (r, self.now.state) ≡ look self.now.state) }
+        ensures ok { IfOk result (λ r. (r, self.now.state) ≡ look self.now.state) }
+        ensures fault { IfErr result (λ f. IsFault f None (look self.now.state)) }
     {
         let shown = self.executed().copy(alloc)?;
         Ok(Reply::Shown(shown))
     }
 
-    /// One event: its reply, and the state that it leaves. After an error nothing has changed.
+    /// One event: its reply, and the state that it leaves. After an error nothing has changed. An
+    /// error comes only in place of a reply that takes memory: `Memory` where memory was refused, and
+    /// `SourcesFull` only where the set that the event makes would have more than 65,536 sources: the
+    /// set to ask with, the received set with the entry's GTID, the executed set with the committed
+    /// GTID, or the purged set.
     /// The numbers of received GTIDs are 1 to 9223372036854775807.
     pub fn step(&mut self, alloc: Global, event: &Event) -> Result<Reply, SetFault>
         requires { is_numbered event.now ≡ true }
         ensures ok { IfOk result (λ r. (r, self.new.state) ≡ step self.old.site self.old.state event.now) }
         ensures site { self.new.site ≡ self.old.site }
         ensures err { OnErr result (self.new ≡ self.old) }
+        ensures fault { IfErr result (λ f. IsFault f (made_by self.old.site self.old.state event.now) (step self.old.site self.old.state event.now)) }
     {
         match event {
             Event::Take(seat, channel, place) => Ok(self.take(*seat, *channel, *place)),
@@ -66,7 +74,8 @@ fn put(told: &mut Vec<Reply>, reply: Reply)
 
 impl Core {
     /// Events in turn: the replies up to the first error, and that error. What came before it stays.
-    /// Room for each reply is made before its step.
+    /// Room for each reply is made before its step. The error is that of the next event's step, or
+    /// `Memory` where room for its reply was refused.
     pub fn run(&mut self, alloc: Global, events: &[Event]) -> (Vec<Reply>, Option<SetFault>)
         requires { AreNumbered events.now }
         ensures told { result.0.items ≡ replies self.old.site self.old.state (answered result.0.items events.now) }
@@ -74,6 +83,7 @@ impl Core {
         ensures whole { result.1 ≡ None → length result.0.items ≡ length events.now }
         ensures cut { IfSome result.1 (λ fault. length result.0.items < length events.now) }
         ensures site { self.new.site ≡ self.old.site }
+        ensures fault { IfSome result.1 (λ f. IsFaultAt f self.old.site self.new.state (slice_get events.now (length result.0.items))) }
     {
         let mut told = Vec::new(alloc);
         for event in events {

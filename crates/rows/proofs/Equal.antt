@@ -11,8 +11,13 @@ use Rattle.std.specs.Cmp.Lexicographic.{slice_cmp, pointwise, nat_list_cmp_total
 use Rattle.std.proofs.lemmas.Cmp.{tied_itself}
 use Rattle.std.proofs.lemmas.Slice.Eq.{slice_eq-Decides}
 use Rattle.rows.specs.declared.value.Value.{Value}
+use Rattle.rows.specs.declared.change.Change.{Change}
+use Rattle.rows.specs.declared.change.Change.TheVariants.{Insert, Delete, Update}
 use Rattle.rows.specs.declared.change.Key.{Key}
+use Rattle.rows.specs.contracts.change.ChangePartialEq.TheImpl as it
+use Rattle.rows.specs.Fits.{table_of}
 use Rattle.rows.specs.declared.schema.Table.{Table}
+use Rattle.rows.specs.Prepared.{table_eq}
 use Rattle.rows.specs.Order.{key_cmp, row_eq}
 use Rattle.rows.specs.Total.{row_eq_same, row_eq_self}
 use Rattle.rows.proofs.Stored.{entries-stored}
@@ -63,16 +68,13 @@ keys-Decide a b =
           (and_true (a.index == b.index) (row_eq a.values b.values) ((unsigned_Decides a.index b.index).1 (ap (λ (k : Key). k.index) e)) ((rows-Decide a.values b.values).1 (ap (λ (k : Key). k.values) e))),
     )
 
-abbrev pub table_test : Table → Table → Bool
-table_test a b = eq_by_cmp (slice_cmp nat_cmp) a.name b.name && (a.columns == b.columns && (pointwise nat_eq a.primary b.primary && pointwise (pointwise nat_eq) a.uniques b.uniques))
-
-pub tables-Decide : (a b : Table) → Decides (table_test a b) (a ≡ b)
+pub tables-Decide : (a b : Table) → Decides (table_eq a b) (a ≡ b)
 tables-Decide a b =
     let n = eq_by_cmp (slice_cmp nat_cmp) a.name b.name in
     let c = a.columns == b.columns in
     let p = pointwise nat_eq a.primary b.primary in
     let u = pointwise (pointwise nat_eq) a.uniques b.uniques in
-    let same : table_test a b ≡ true → a ≡ b = λ e.
+    let same : table_eq a b ≡ true → a ≡ b = λ e.
     let x = both n (c && (p && u)) e in
     let y = both c (p && u) x.1 in
     let z = both p u y.1 in
@@ -86,6 +88,39 @@ tables-Decide a b =
           (and_true c (p && u) ((unsigned_Decides a.columns b.columns).1 (ap (λ (t : Table). t.columns) e))
           (and_true p u ((columns-Decide a.primary b.primary).1 (ap (λ (t : Table). t.primary) e)) ((lists-Decide a.uniques b.uniques).1 (ap (λ (t : Table). t.uniques) e)))),
     )
+
+-- the images of a change, or those of another kind of change
+abbrev first_image : Change → List Value
+first_image (Insert table after) = after
+first_image (Delete table before) = before
+first_image (Update table before after) = before
+
+abbrev last_image : Change → List Value
+last_image (Insert table after) = after
+last_image (Delete table before) = before
+last_image (Update table before after) = after
+
+two-Decide : {A B C : Type 0} {p q : Bool} → Decides p A → Decides q B → (A → B → C) → (C → A) → (C → B) → Decides (p && q) C
+two-Decide {p = p} {q = q} a b made first second = (
+  λ e. made (a.0 (both p q e).0) (b.0 (both p q e).1),
+  λ c. and_true p q (a.1 (first c)) (b.1 (second c)),
+)
+
+pub changes-Decide : (a b : Change) → Decides (it.eq-value.it a b) (a ≡ b)
+changes-Decide (Insert t a) (Insert u b) =
+    two-Decide (names-Decide t u) (rows-Decide a b) (λ e f. λ i. Insert (e i) (f i)) (ap table_of) (ap first_image)
+changes-Decide (Insert t a) (Delete u b) = (λ e. cc, λ e. cc)
+changes-Decide (Insert t a) (Update u b c) = (λ e. cc, λ e. cc)
+changes-Decide (Delete t a) (Insert u b) = (λ e. cc, λ e. cc)
+changes-Decide (Delete t a) (Delete u b) =
+    two-Decide (names-Decide t u) (rows-Decide a b) (λ e f. λ i. Delete (e i) (f i)) (ap table_of) (ap first_image)
+changes-Decide (Delete t a) (Update u b c) = (λ e. cc, λ e. cc)
+changes-Decide (Update t a d) (Insert u b) = (λ e. cc, λ e. cc)
+changes-Decide (Update t a d) (Delete u b) = (λ e. cc, λ e. cc)
+changes-Decide (Update t a d) (Update u b c) =
+    two-Decide (names-Decide t u)
+    (two-Decide {C = (a ≡ b) × (d ≡ c)} (rows-Decide a b) (rows-Decide d c) (λ e f. (e, f)) (λ e. e.0) (λ e. e.1))
+    (λ e f. λ i. Update (e i) (f.0 i) (f.1 i)) (ap table_of) (λ e. (ap first_image e, ap last_image e))
 
 -- entries in order are the same where their maps are
 pub stored_same : (es fs : List (Key × List Value)) → IsStrictlySortedBy key_cmp (map (λ e. e.0) es) → IsStrictlySortedBy key_cmp (map (λ e. e.0) fs) → from_entries {R = key_cmp} es ≡ from_entries fs → es ≡ fs

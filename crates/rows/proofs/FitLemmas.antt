@@ -1,5 +1,5 @@
 -- What a transaction that fits keeps to.
-use Rattle.std.proofs.Common.{arith, ◌≡◌, ℕ, ◌+◌, ◌≤◌, ◌<◌, nat_le, Bool, true, false, cond, ◌⊎◌, inl, inr, List, [], ◌∷◌, length, Option, Some, None, Ok, sym, ap, subst, ◌∙◌}
+use Rattle.std.proofs.Common.{arith, ◌≡◌, ℕ, ◌+◌, ◌≤◌, ◌<◌, nat_le, Bool, true, false, cond, ◌&&◌, ◌⊎◌, inl, inr, List, [], ◌∷◌, length, Option, Some, None, Result, Ok, Err, sym, ap, subst, ◌∙◌}
 use Rattle.std.specs.FinMap.{get, empty, get-empty}
 use Rattle.std.specs.Option.{unwrap_or}
 use Rattle.std.proofs.lemmas.Bool.Decides.{nat_tests}
@@ -11,13 +11,18 @@ use Rattle.rows.specs.declared.change.Misfit.{Misfit}
 use Rattle.rows.specs.declared.change.Misfit.TheVariants.{TooMany}
 use Rattle.rows.specs.declared.change.NotInSchema.{NotInSchema}
 use Rattle.rows.specs.declared.change.Transaction.{Transaction}
+use Rattle.rows.specs.declared.patch.Outcome.{Outcome}
+use Rattle.rows.specs.declared.patch.Outcome.TheVariants.{Installed, Stale}
 use Rattle.rows.specs.declared.schema.Table.{Table}
 use Rattle.rows.specs.Order.{key_cmp}
 use Rattle.rows.specs.Apply.{Rows, apply}
 use Rattle.rows.specs.Database.{AreRowsOf, NoTwoCarry}
 use Rattle.rows.specs.Fits.{row_misfit, row_misfit_in, IsRowOf, rank, first_cause, table_of, misfit_in, count_misfit, change_misfit, or_later, misfit_from, misfit, Fits}
 use Rattle.rows.specs.Keys.{table_named, keys_carried}
+use Rattle.rows.specs.Patch.{SameTables}
+use Rattle.rows.specs.Prepared.{same_table, same_tables}
 use Rattle.rows.specs.WriteSet.{is_among, left_by_change, or_earlier, left_by_changes, left_by}
+use Rattle.rows.proofs.Equal.{tables-Decide}
 use Rattle.rows.proofs.Local.{after_apply}
 use Rattle.rows.proofs.Carriers.{carried_table, none_some, apply_keeps_carriers, no_carriers}
 
@@ -124,3 +129,58 @@ no_rows schema = record { carriers = no_carriers schema; fitting = λ k row e. n
 pub no_two_carry : (schema : List Table) (rows : Rows) → AreRowsOf schema rows → NoTwoCarry schema rows
 no_two_carry schema rows h p q k a b there_a there_b by_a by_b =
     some_same a b (sym (h.carriers.everywhere p k a there_a by_a) ∙ h.carriers.everywhere q k b there_b by_b)
+
+-- ---- the tables that a transaction names
+
+-- Two schemas that have the same tables under the names that a transaction has, take it alike.
+misfit_along : (a b : List Table) (n : ℕ) (changes : List Change) → SameTables a b changes → misfit_from a n changes ≡ misfit_from b n changes
+misfit_along a b n [] same = λ _. None
+misfit_along a b n (change ∷ changes) same =
+    ap (λ o. or_later (first_cause (misfit_in o change) (count_misfit n)) n (misfit_from a (n + 1) changes)) same.0
+    ∙ ap (or_later (change_misfit b n change) n) (misfit_along a b (n + 1) changes same.1)
+
+pub fits_along : (a b : List Table) (txn : Transaction) → SameTables a b txn.changes → Fits a txn → Fits b txn
+fits_along a b txn same fit = sym (misfit_along a b 0 txn.changes same) ∙ fit
+
+same_table_told : (a b : Option Table) → same_table a b ≡ true → a ≡ b
+same_table_told None None e = λ _. None
+same_table_told None (Some b) e = cc
+same_table_told (Some a) None e = cc
+same_table_told (Some a) (Some b) e = ap Some ((tables-Decide a b).0 e)
+
+same_table_tells : (a b : Option Table) → a ≡ b → same_table a b ≡ true
+same_table_tells None None e = λ _. true
+same_table_tells None (Some b) e = cc
+same_table_tells (Some a) None e = cc
+same_table_tells (Some a) (Some b) e = (tables-Decide a b).1 (some_same a b e)
+
+and_parts : (p q : Bool) → (p && q) ≡ true → (p ≡ true) × (q ≡ true)
+and_parts true q e = (λ _. true, e)
+and_parts false q e = cc
+
+and_both : (p q : Bool) → p ≡ true → q ≡ true → (p && q) ≡ true
+and_both true q e f = f
+and_both false q e f = cc
+
+-- the test of tables tells that they are the same, and it fails only where they are not
+pub tables_told : (a b : List Table) (changes : List Change) → same_tables a b changes ≡ true → SameTables a b changes
+tables_told a b [] e = tt
+tables_told a b (change ∷ changes) e =
+    let parts = and_parts (same_table (table_named (table_of change) a) (table_named (table_of change) b)) (same_tables a b changes) e in
+    (same_table_told (table_named (table_of change) a) (table_named (table_of change) b) parts.0, tables_told a b changes parts.1)
+
+pub tables_tell : (a b : List Table) (changes : List Change) → SameTables a b changes → same_tables a b changes ≡ true
+tables_tell a b [] same = λ _. true
+tables_tell a b (change ∷ changes) same =
+    and_both (same_table (table_named (table_of change) a) (table_named (table_of change) b)) (same_tables a b changes)
+    (same_table_tells (table_named (table_of change) a) (table_named (table_of change) b) same.0) (tables_tell a b changes same.1)
+
+pub not_both : {A : Type 0} (b : Bool) → b ≡ true → b ≡ false → A
+not_both true p q = cc
+not_both false p q = cc
+
+-- an install is done, is stale, or wants memory
+pub by_outcome : {E P : Type 0} (r : Result Outcome E) → (r ≡ Ok Installed → P) → (r ≡ Ok Stale → P) → ((e : E) → r ≡ Err e → P) → P
+by_outcome (Ok Installed) f g h = f (λ _. Ok Installed)
+by_outcome (Ok Stale) f g h = g (λ _. Ok Stale)
+by_outcome (Err e) f g h = h e (λ _. Err e)

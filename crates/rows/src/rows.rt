@@ -7,6 +7,8 @@ ghost use Rattle.std.specs.FinMap as map;
 ghost use Rattle.rows.specs.Apply.{apply};
 ghost use Rattle.rows.specs.Fits.{misfit, Fits};
 ghost use Rattle.rows.specs.Listing.{rows_listed};
+ghost use Rattle.rows.specs.Patch.{seen_of_keys};
+ghost use Rattle.rows.specs.Prepared.{IsStillTrue};
 ghost use Rattle.rows.specs.Database.{opening, AreRowsOf, LeavesImages, NoTwoCarry};
 ghost use Rattle.rows.specs.Refusal.{NamesMisfit, NamesRowFault};
 
@@ -14,6 +16,8 @@ use crate::change::{ApplyFault, Key, PrepareFault, TableRow, Transaction};
 use crate::fitting::{fits, fits_row};
 use crate::key_map::KeyMap;
 use crate::name::Name;
+use crate::patch::Outcome;
+use crate::prepared::{Footprint, Patch, are_same_tables};
 use crate::schema::Schema;
 use crate::value::Row;
 use std::alloc::{AllocError, Global};
@@ -140,5 +144,30 @@ impl Rows {
             Err(PrepareFault::Row(fault)) => Err(ApplyFault::Row(fault)),
             Err(PrepareFault::Memory) => Err(ApplyFault::Memory),
         }
+    }
+
+    /// Each of these keys with the row that carries it, or none, and the tables.
+    pub fn footprint(&self, alloc: Global, keys: Vec<Key>) -> Result<Footprint, AllocError>
+        ensures schema { IfOk result (λ footprint. footprint.schema ≡ self.now.schema) }
+        ensures seen { IfOk result (λ footprint. footprint.seen ≡ seen_of_keys self.now.rows keys.items) }
+    {
+        let schema = self.schema.clone()?;
+        let seen = self.carriers.footprint(alloc, keys)?;
+        Ok(Footprint { schema, seen })
+    }
+
+    /// Does what a patch's transaction does, unless a table or a carrier is not as it was seen.
+    pub fn install(&mut self, patch: Patch) -> Result<Outcome, AllocError>
+        ensures installed { result ≡ Ok Outcome.Installed → IsStillTrue patch self.old }
+        ensures applied { result ≡ Ok Outcome.Installed → apply self.old.schema patch.txn self.old.rows ≡ Ok self.new.rows }
+        ensures same { self.new.schema ≡ self.old.schema }
+        ensures stale { result ≡ Ok Outcome.Stale → (IsStillTrue patch self.old → ⊥) × (self.new ≡ self.old) }
+        ensures err { OnErr result (self.new ≡ self.old) }
+    {
+        if !are_same_tables(&patch.schema, &self.schema, patch.txn.changes.as_slice()) {
+            return Ok(Outcome::Stale);
+        }
+        let Patch { touches, .. } = patch;
+        self.carriers.install(touches)
     }
 }

@@ -2,7 +2,7 @@
 ghost use Rattle.std.specs.Prelude.{◌≡◌, true, [], ◌≤◌, IfOk, OnErr, IsTrue, length, map, vec_len};
 ghost use Rattle.std.specs.Vec.{vec_capacity};
 ghost use Rattle.commit_ledger.specs.Tallies.{no_tally, unused, tally_of};
-ghost use Rattle.replica_core.specs.Machine.{is_numbered};
+ghost use Rattle.replica_core.specs.Machine.{is_numbered, next_ready};
 ghost use Rattle.shared_replica.specs.History.{IsStep, IsBook, with_step, unwritten};
 ghost use Rattle.shared_replica.specs.Passes.{told};
 ghost use Rattle.shared_replica.specs.Closing.{sheet, IsMerge, tally_of_passes};
@@ -98,6 +98,13 @@ impl<N: Naming> Book<N> {
 }
 
 impl<N: Naming> Book<N> {
+    /// The least place of a channel from this number on that a seat might take.
+    pub(crate) fn next_ready(&self, channel: usize, from: usize) -> Option<usize>
+        ensures { result ≡ next_ready self.now.now.site self.now.now.state channel from }
+    {
+        self.core.next_ready(channel, from)
+    }
+
     /// Whether the receipts are the steps of the book.
     pub(crate) fn is_of(&self, passes: &[Pass<N>]) -> bool
         requires { length passes.now ≤ 64 }

@@ -116,6 +116,12 @@ impl<N: Naming> SharedReplica<N> {
         }
         Ok(book.close(opening, sheets, passes))
     }
+
+    /// The least place of a channel from this number on that a seat might take. It is a hint: other
+    /// threads may be quicker, and a Take decides. It leaves no line and no receipt.
+    pub fn next_ready<R: Wait>(&self, rt: &R, channel: usize, from: usize) -> Option<usize> {
+        self.book.lock(rt).next_ready(channel, from)
+    }
 }
 
 /// The ten events. Each call answers the reply that the core gave under the lock. The pass then has

@@ -8,7 +8,7 @@ use gtid_set::GtidSet;
 use gtid_text::{Gtid, SourceId};
 use journal::Entry;
 use replica_core::{Event, Reply};
-use rows::{Misfit, Name, NotInSchema, RowFault, Transaction};
+use rows::{Misfit, Name, NotInSchema, RowFault};
 
 /// A reply without its set: which reply it is, and its numbers.
 #[derive(Clone, Copy, Drop)]
@@ -175,14 +175,6 @@ pub(crate) fn is_same_reply(a: &Reply, b: &Reply) -> bool
     is_same_form(&form_of(a), &form_of(b)) && is_same_set(set_in(a), set_in(b))
 }
 
-fn is_same_txn(a: &Transaction, b: &Transaction) -> bool
-    ensures { IsTrue result → a.now ≡ b.now }
-{
-    let _ = a.changes.as_slice();
-    let _ = b.changes.as_slice();
-    false
-}
-
 #[tactic(auto, using(crate::proofs::Equals::name_same))]
 fn is_same_name(a: &Name, b: &Name) -> bool
     ensures { IsTrue result → a.now ≡ b.now }
@@ -193,7 +185,7 @@ fn is_same_name(a: &Name, b: &Name) -> bool
 fn is_same_entry(a: &Entry, b: &Entry) -> bool
     ensures { IsTrue result → a.now ≡ b.now }
 {
-    a.gtid.source == b.gtid.source && a.gtid.number == b.gtid.number && is_same_txn(&a.txn, &b.txn)
+    a.gtid.source == b.gtid.source && a.gtid.number == b.gtid.number && a.txn.is_equal(&b.txn)
 }
 
 /// Whether two events are the same.
@@ -214,7 +206,7 @@ pub(crate) fn is_same_event(a: &Event, b: &Event) -> bool
         (Event::Commit(seat), Event::Commit(other)) => *seat == *other,
         (Event::Rollback(seat), Event::Rollback(other)) => *seat == *other,
         (Event::Restart(channel), Event::Restart(other)) => *channel == *other,
-        (Event::Local(changes), Event::Local(other)) => is_same_txn(changes, other),
+        (Event::Local(changes), Event::Local(other)) => changes.is_equal(other),
         (Event::Purge(count), Event::Purge(other)) => *count == *other,
         (Event::Look, Event::Look) => true,
         _ => false,

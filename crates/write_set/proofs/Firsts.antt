@@ -1,11 +1,11 @@
 -- What is inserted into a set key by key.
-use Rattle.std.proofs.Common.{◌≡◌, ◌≢◌, Bool, true, false, not, cond, ◌&&◌, ◌||◌, List, [], ◌∷◌, ◌++◌, filter, append_assoc, append-nil, refl, sym, ap, ◌∙◌}
-use Rattle.std.specs.Bool.{Decides, one_answer}
-use Rattle.std.specs.List.{list_any, fold, AllPairs}
+use Rattle.std.proofs.Common.{◌≡◌, Bool, true, false, not, cond, ◌&&◌, ◌||◌, List, [], ◌∷◌, ◌++◌, filter, append_assoc, append-nil, refl, sym, ap, ◌∙◌}
+use Rattle.std.specs.Bool.{one_answer}
+use Rattle.std.specs.List.{list_any}
 use Rattle.std.proofs.lemmas.List.Elements.{filter_agree}
 use Rattle.std.proofs.lemmas.List.Folds.{list_any-append}
 use Rattle.std.proofs.lemmas.Map.Views.{any-filter_same}
-use Rattle.indexmap.specs.IndexSet.{insert_key, insert_all}
+use Rattle.indexmap.specs.IndexSet.{insert_all}
 use Rattle.rows.specs.declared.change.Key.{Key}
 use Rattle.rows.specs.Order.{key_eq}
 use Rattle.rows.specs.Total.{key_eq_same, key_eq_self}

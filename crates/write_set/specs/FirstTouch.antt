@@ -1,5 +1,5 @@
 -- Keys in the order in which they first come.
-use Rattle.std.specs.Prelude.{Bool, not, List, [], ◌∷◌, filter}
+use Rattle.std.specs.Prelude.{not, List, [], ◌∷◌, filter}
 use Rattle.rows.specs.declared.change.Key.{Key}
 use Rattle.rows.specs.Order.{key_eq}
 

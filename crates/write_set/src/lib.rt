@@ -8,7 +8,11 @@ ghost use Rattle.rows.specs.declared.change.Key.{Key as KeyValue};
 ghost use Rattle.rows.specs.WriteSet.{is_among, touches, write_set};
 ghost use Rattle.write_set.specs.FirstTouch.{each_once};
 
+mod prepared;
+
 use indexmap::IndexSet;
+pub use prepared::{footprint, install};
+pub use rows::{Footprint, Outcome, Patch, prepare};
 use rows::{Key, Schema, Transaction, keys_touched};
 use std::alloc::{AllocError, Global};
 

@@ -2,7 +2,7 @@
 use super::*;
 use rows::{
     ApplyFault, ByteString, Change, Changes, ColumnLists, Columns, Name, Row, RowFault, Rows,
-    Table, Value,
+    Table, Value, fits,
 };
 use std::test::*;
 
@@ -191,5 +191,55 @@ fn a_deleted_row_frees_its_letter(rt: HostRuntime) -> Result<(), Fail> {
     }
     let one = Row::new(vec![in alloc; Value::Int(1)]?)?;
     assert!(rt; rows.get(name(alloc)?, one).is_none());
+    Ok(())
+}
+
+/// The patch of an insert of `1 x61 null` over no rows.
+fn patch(alloc: Global) -> Result<Patch, Fail> {
+    let rows = Rows::open(alloc, schema(alloc)?);
+    let txn = insert(alloc, (1, Some(b'a')))?;
+    let Ok(()) = fits(rows.schema(), &txn) else {
+        return Err("it fits".into());
+    };
+    let keys = keys_of(alloc, rows.schema(), &txn)?;
+    let footprint = footprint(alloc, &rows, keys)?;
+    Ok(prepare(alloc, txn, footprint).ok().ok_or("a patch")?)
+}
+
+#[test]
+fn a_patch_is_installed_beside_another_row(rt: HostRuntime) -> Result<(), Fail> {
+    let alloc = rt.alloc();
+    let mut rows = opened(alloc, (2, Some(b'b')))?;
+    let outcome = install(&mut rows, patch(alloc)?)?;
+    assert!(rt; matches!(outcome, Outcome::Installed));
+    assert_eq!(rt; rows.list_sorted(alloc)?.len(), 2);
+    Ok(())
+}
+
+#[test]
+fn a_patch_is_stale_over_its_own_row(rt: HostRuntime) -> Result<(), Fail> {
+    let alloc = rt.alloc();
+    let mut rows = opened(alloc, (1, Some(b'a')))?;
+    let before = rows.copy()?;
+    let outcome = install(&mut rows, patch(alloc)?)?;
+    assert!(rt; matches!(outcome, Outcome::Stale));
+    assert!(rt; rows.is_equal(&before));
+    Ok(())
+}
+
+#[test]
+fn a_patch_is_stale_over_another_table(rt: HostRuntime) -> Result<(), Fail> {
+    let alloc = rt.alloc();
+    let table = Table {
+        name: name(alloc)?,
+        columns: 3,
+        primary: Columns::new(vec![in alloc; 0]?)?,
+        uniques: ColumnLists::new(Vec::new(alloc))?,
+    };
+    let mut schema = Schema::empty(alloc);
+    schema.add(table).ok().ok_or("a table")?;
+    let mut rows = Rows::open(alloc, schema);
+    let outcome = install(&mut rows, patch(alloc)?)?;
+    assert!(rt; matches!(outcome, Outcome::Stale));
     Ok(())
 }

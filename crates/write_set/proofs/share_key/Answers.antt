@@ -1,8 +1,7 @@
-use Rattle.std.proofs.Common.{◌≡◌, true, false, Some, Option, List, cond, sym, ap, ◌∙◌}
+use Rattle.std.proofs.Common.{◌≡◌, true, false, Some, cond, sym, ap, ◌∙◌}
 use Rattle.std.proofs.lemmas.Map.Iter.{rest_more}
 use Rattle.std.specs.List.{find}
 use Rattle.std.specs.Map.Iter.{deref}
-use Rattle.rows.specs.declared.change.Key.{Key}
 use Rattle.rows.specs.WriteSet.{is_among}
 use Rattle.write_set.proofs.Firsts.{tested}
 use Rattle.write_set.proofs.share_key.Goals as goal

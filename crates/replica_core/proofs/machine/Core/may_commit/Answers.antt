@@ -3,8 +3,8 @@ use Rattle.replica_core.specs.Machine.{is_seat}
 use Rattle.replica_core.proofs.TakeLemmas.{committable, commit_is}
 use Rattle.replica_core.proofs.machine.Core.may_commit.Goals as goal
 
-pub returns : goal.returns
-returns c =
+pub returns-clause-ok : goal.returns-clause-ok
+returns-clause-ok c =
     let r = c.args.self.now in
     let at = c.in-Some-kept_channel.ensures.found in
     let channel = c.in-Some-kept_channel.channel.now.channel in

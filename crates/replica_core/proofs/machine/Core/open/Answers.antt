@@ -7,9 +7,9 @@ use Rattle.replica_core.specs.Slots.{seats_of}
 use Rattle.replica_core.proofs.CoreLemmas.{opened_is, core_opened}
 use Rattle.replica_core.proofs.machine.Core.open.Goals as goal
 
-pub returns : goal.returns
-returns c =
-    let journal = c.in_ok-journal.ensures ∙ ap (λ (s : Gtids). let j : JournalValue = record { previous = s; entries = [] } in j) c.empty.ensures in
+pub returns-clause-ok : goal.returns-clause-ok
+returns-clause-ok c =
+    let journal = c.in_ok-journal.ensures.ok ∙ ap (λ (s : Gtids). let j : JournalValue = record { previous = s; entries = [] } in j) c.empty.ensures in
     opened_is c.args.own c.args.rows c.no_seats.result c.new.result c.in_ok-journal.journal.journal c.no_seats.ensures (ap (λ (v : ChannelsValue). v.list) c.new.ensures) journal
 
 pub invariant_of-result : goal.invariant_of-result

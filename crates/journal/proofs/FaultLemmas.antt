@@ -1,0 +1,70 @@
+-- A set with more GTIDs has no fewer sources.
+use Rattle.std.proofs.Common.{◌≡◌, ℕ, ◌≤◌, ◌+◌, zero, suc, Bool, true, false, cond, List, [], ◌∷◌, take, drop, refl, sym, ap, subst, ◌∙◌, arith}
+use Rattle.std.proofs.Math.Nat.{le_trans}
+use Rattle.std.specs.Prelude.{Err}
+use Rattle.std.specs.FinSet as set
+use Rattle.std.specs.Cmp.{nat_cmp_total}
+use Rattle.gtid_text.specs.declared.Gtid.{Gtid}
+use Rattle.gtid_set.specs.declared.fault.SetFault.{SetFault}
+use Rattle.gtid_set.specs.declared.fault.SetFault.TheVariants.{Memory, PoolFull, SourcesFull}
+use Rattle.gtid_set.specs.Sets.{Gtids, sources_of, source_count, most_sources}
+use Rattle.gtid_set.specs.Full.{IsFullExactly}
+use Rattle.gtid_set.proofs.SetLemmas.{union_empty}
+use Rattle.gtid_set.proofs.SetSources.{sources_with_interval, union_one}
+use Rattle.journal.specs.declared.Entry.{Entry}
+use Rattle.journal.specs.Journals.{gtids_of}
+use Rattle.journal.specs.Faults.{IsFaultOf}
+use Rattle.journal.proofs.EntryLemmas.{union-gtids_of-cons}
+
+no_less : (b : Bool) (n : ℕ) → n ≤ cond b n (n + 1)
+no_less true n = omega arith
+no_less false n = omega arith
+
+one_more : (s : Gtids) (g : Gtid) → source_count s ≤ source_count (set.insert s g)
+one_more s g =
+    let low : g.number ≤ g.number = omega arith in
+    let sources = ap sources_of (sym (union_one s g)) ∙ sources_with_interval s g.source g.number g.number low in
+    let count = ap set.len sources ∙ set.len-insert nat_cmp_total (sources_of s) g.source in
+    subst (λ n. source_count s ≤ n) (sym count) (no_less (set.contains (sources_of s) g.source) (source_count s))
+
+more : (es : List Entry) (s : Gtids) → source_count s ≤ source_count (set.union s (gtids_of es))
+more [] s = subst (λ t. source_count s ≤ source_count t) (union_empty s) (omega arith)
+more (e ∷ es) s =
+    subst (λ t. source_count s ≤ source_count t) (union-gtids_of-cons s e es)
+    (le_trans (one_more s e.gtid) (more es (set.insert s e.gtid)))
+
+joined : (n : ℕ) (seen : Gtids) (es : List Entry) → set.union (set.union seen (gtids_of (take n es))) (gtids_of (drop n es)) ≡ set.union seen (gtids_of es)
+joined zero seen es = ap (λ s. set.union s (gtids_of es)) (sym (union_empty seen))
+joined (suc n) seen [] = ap (λ s. set.union s (gtids_of [])) (sym (union_empty seen))
+joined (suc n) seen (x ∷ es) =
+    ap (λ s. set.union s (gtids_of (drop n es))) (sym (union-gtids_of-cons seen x (take n es)))
+    ∙ joined n (set.insert seen x.gtid) es
+    ∙ union-gtids_of-cons seen x es
+
+-- the GTIDs of all entries have no fewer sources than those of the first ones
+fewer : (n : ℕ) (s : Gtids) (es : List Entry) → source_count (set.union s (gtids_of (take n es))) ≤ source_count (set.union s (gtids_of es))
+fewer n s es =
+    subst (λ t. source_count (set.union s (gtids_of (take n es))) ≤ source_count t) (joined n s es)
+    (more (drop n es) (set.union s (gtids_of (take n es))))
+
+-- a call that was refused exactly was refused for a cause
+pub fault_of : (f : SetFault) (s : Gtids) → IsFullExactly {T = Unit {0}} (Err f) s → IsFaultOf f s
+fault_of Memory s h = tt
+fault_of PoolFull s h = h
+fault_of SourcesFull s h = h
+
+-- what is too much for the first entries is too much for all
+pub fault_of_all : (f : SetFault) (n : ℕ) (s : Gtids) (es : List Entry) → IsFaultOf f (set.union s (gtids_of (take n es))) → IsFaultOf f (set.union s (gtids_of es))
+fault_of_all Memory n s es h = tt
+fault_of_all PoolFull n s es h = h
+fault_of_all SourcesFull n s es h = let low = fewer n s es in let high = h in omega (arith, low, high)
+
+-- a set with not too many sources is only refused for want of memory
+pub memory_alone : (f : SetFault) (s : Gtids) → IsFullExactly {T = Unit {0}} (Err f) s → source_count s ≤ most_sources → f ≡ Memory
+memory_alone Memory s h fits = refl
+memory_alone PoolFull s h fits = absurd h
+memory_alone SourcesFull s h fits = let over = h in absurd (omega (arith, over, fits))
+
+-- want of memory may come with any set
+pub memory_may : (f : SetFault) (s : Gtids) → f ≡ Memory → IsFaultOf f s
+memory_may f s is = subst (λ x. IsFaultOf x s) (sym is) tt

@@ -1,0 +1,104 @@
+-- When an event is not answered, and why.
+use Rattle.std.specs.Prelude.{◌≡◌, ℕ, Bool, true, false, Option, Some, None, option_map, slice_get}
+use Rattle.std.specs.FinSet as set
+use Rattle.gtid_set.specs.declared.fault.SetFault.{SetFault}
+use Rattle.gtid_set.specs.declared.fault.SetFault.TheVariants.{Memory}
+use Rattle.gtid_text.specs.declared.Gtid.{Gtid}
+use Rattle.gtid_set.specs.Sets.{Gtids, gtid}
+use Rattle.journal.specs.declared.Entry.{Entry}
+use Rattle.journal.specs.Journals.{purged}
+use Rattle.journal.specs.Faults.{IsFaultOf}
+use Rattle.apply_channel.specs.Full.{gtids_with}
+use Rattle.replica_core.specs.declared.event.Event.{Event}
+use Rattle.replica_core.specs.declared.event.Event.TheVariants as event
+use Rattle.replica_core.specs.declared.event.Reply.{Reply}
+use Rattle.replica_core.specs.declared.event.Reply.TheVariants.{NameTaken, ChannelsFull, Opened, NoChannel, Ask, NotPositioned, NotInSchema, ChannelFull, Received, NoSeat, SeatBusy, NoPlace, Stopped, Done, OwnedBy, Blocked, Taken, SeatIdle, Early, RowRefused, Committed, RolledBack, Restarted, NumbersUsedUp, LocalRefused, TooMany, Purged, Shown}
+use Rattle.replica_core.specs.State.{Site, State}
+use Rattle.replica_core.specs.Machine.{Step, ask, held, next_number}
+
+-- ---- the set that an event makes
+
+-- the set with which a channel would ask
+abbrev pub asking : ℕ → State → Option Gtids
+asking c s = option_map (ask s) (slice_get s.channels c)
+
+-- the executed set with one GTID more
+abbrev pub executing_too : State → Gtid → Gtids
+executing_too s g = set.insert s.executed g
+
+-- the received set of a channel with one entry more
+abbrev pub receiving : ℕ → Entry → State → Option Gtids
+receiving c entry s = option_map (gtids_with entry) (slice_get s.channels c)
+
+-- the executed set with the GTID that a seat holds
+abbrev pub committing : ℕ → State → Option Gtids
+committing seat s = option_map (λ h. executing_too s h.gtid) (held s seat)
+
+-- ... with the next number of the own UUID
+abbrev pub numbering : Site → State → Option Gtids
+numbering site s = option_map (λ n. executing_too s (gtid site.own n)) (next_number site s)
+
+-- the purged set with the first entries
+abbrev pub purging : ℕ → State → Option Gtids
+purging k s = Some (purged k s.journal)
+
+-- the one set that an event makes, besides copies and parts of sets of the old state
+abbrev pub made_by : Site → State → Event → Option Gtids
+made_by site s (event.OpenChannel name preserve) = None
+made_by site s (event.Position c) = asking c s
+made_by site s (event.Receive c entry) = receiving c entry s
+made_by site s (event.Take seat c p) = None
+made_by site s (event.Commit seat) = committing seat s
+made_by site s (event.Rollback seat) = None
+made_by site s (event.Restart c) = None
+made_by site s (event.Local changes) = numbering site s
+made_by site s (event.Purge k) = purging k s
+made_by site s event.Look = None
+
+-- ---- faults
+
+-- memory was refused, or the set, if one is made, would have too many sources
+abbrev pub IsFaultIn : SetFault → Option Gtids → Type 0
+IsFaultIn f None = f ≡ Memory
+IsFaultIn f (Some made) = IsFaultOf f made
+
+-- a reply for which memory is taken
+abbrev pub takes_memory : Reply → Bool
+takes_memory NameTaken = false
+takes_memory ChannelsFull = false
+takes_memory (Opened c) = true
+takes_memory NoChannel = false
+takes_memory (Ask s) = true
+takes_memory NotPositioned = false
+takes_memory (NotInSchema fault) = false
+takes_memory ChannelFull = false
+takes_memory (Received place) = true
+takes_memory NoSeat = false
+takes_memory (SeatBusy g) = false
+takes_memory NoPlace = false
+takes_memory Stopped = false
+takes_memory (Done g) = false
+takes_memory (OwnedBy seat) = false
+takes_memory (Blocked place) = false
+takes_memory (Taken g) = false
+takes_memory SeatIdle = false
+takes_memory (Early place) = false
+takes_memory (RowRefused g fault) = true
+takes_memory (Committed g) = true
+takes_memory (RolledBack g) = false
+takes_memory Restarted = false
+takes_memory NumbersUsedUp = false
+takes_memory (LocalRefused fault) = true
+takes_memory (TooMany there) = false
+takes_memory (Purged s) = true
+takes_memory (Shown s) = true
+
+-- a fault in place of an answer: one for which memory is taken, and which makes this set, if any
+pub record IsFault (f : SetFault) (made : Option Gtids) (answer : Step) : Type 0 where
+  pub cause : IsFaultIn f made
+  pub instead : takes_memory answer.0 ≡ true
+
+-- a fault of the event that comes next, if any comes; want of memory may come before its step
+abbrev pub IsFaultAt : SetFault → Site → State → Option Event → Type 0
+IsFaultAt f site s None = Unit {0}
+IsFaultAt f site s (Some e) = IsFaultIn f (made_by site s e)

@@ -1,0 +1,39 @@
+//! Footprints of write sets, and patches that are installed where what they saw is still true.
+
+ghost use Rattle.std.specs.Prelude.{◌≡◌, IfOk, Ok, OnErr};
+ghost use Rattle.rows.specs.declared.change.Key.{Key as KeyValue};
+ghost use Rattle.rows.specs.declared.change.Transaction.{Transaction};
+ghost use Rattle.rows.specs.Apply.{apply};
+ghost use Rattle.rows.specs.Patch.{SeesAll, seen_of_keys};
+ghost use Rattle.rows.specs.Prepared.{IsStillTrue};
+ghost use Rattle.rows.specs.WriteSet.{is_among, touches};
+
+use indexmap::IndexSet;
+use rows::{Footprint, Key, Outcome, Patch, Rows};
+use std::alloc::{AllocError, Global};
+
+/// Each of these keys with the row that carries it, or none, and the tables. Of the keys of a transaction it is all
+/// that `prepare` asks for. The images are shared.
+pub fn footprint(alloc: Global, rows: &Rows, keys: IndexSet<Key>) -> Result<Footprint, AllocError>
+    ensures schema { IfOk result (λ footprint. footprint.schema ≡ rows.now.schema) }
+    ensures seen { IfOk result (λ footprint. footprint.seen ≡ seen_of_keys rows.now.rows keys.keys) }
+    ensures all { IfOk result (λ footprint. (txn : Transaction) → ((key : KeyValue) → is_among keys.keys key ≡ touches rows.now.schema txn key) → SeesAll rows.now.schema txn footprint.seen) }
+{
+    let mut list = Vec::new(alloc);
+    for key in keys {
+        list.push(key)?;
+    }
+    rows.footprint(alloc, list)
+}
+
+/// Does what a patch's transaction does, unless a carrier or a table of its footprint is not as it was: then it is
+/// stale, and the rows are unchanged. After want of memory they are unchanged too.
+pub fn install(rows: &mut Rows, patch: Patch) -> Result<Outcome, AllocError>
+    ensures installed { result ≡ Ok Outcome.Installed → IsStillTrue patch rows.old }
+    ensures applied { result ≡ Ok Outcome.Installed → apply rows.old.schema patch.txn rows.old.rows ≡ Ok rows.new.rows }
+    ensures same { rows.new.schema ≡ rows.old.schema }
+    ensures stale { result ≡ Ok Outcome.Stale → (IsStillTrue patch rows.old → ⊥) × (rows.new ≡ rows.old) }
+    ensures err { OnErr result (rows.new ≡ rows.old) }
+{
+    rows.install(patch)
+}
