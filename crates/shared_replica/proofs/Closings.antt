@@ -1,7 +1,7 @@
 -- What is known of a closed book.
-use Rattle.std.proofs.Common.{◌≡◌, List, map, sym, ap, subst, ◌∙◌}
+use Rattle.std.proofs.Common.{◌≡◌, List, map, sym, subst, ◌∙◌}
 use Rattle.replica_core.specs.State.{Replica}
-use Rattle.shared_replica.specs.History.{BookValue, IsBook, tally_in}
+use Rattle.shared_replica.specs.History.{BookValue, IsBook}
 use Rattle.shared_replica.specs.Passes.{PassValue, SharedValue}
 use Rattle.shared_replica.specs.Closing.{ClosedValue, IsClosed, IsMerge, sheet, tally_of_passes}
 use Rattle.shared_replica.specs.declared.step.Step.{Step}

@@ -1,5 +1,5 @@
 -- A reply is known by its form and its set.
-use Rattle.std.proofs.Common.{◌≡◌, ℕ, ◌==◌, true, List, refl, sym, ap, ◌∙◌}
+use Rattle.std.proofs.Common.{◌≡◌, ℕ, ◌==◌, true, List, refl, sym, ◌∙◌}
 use Rattle.std.specs.Prelude.{Option, Some, None, if◌then◌else◌}
 use Rattle.std.specs.FinSet as set
 use Rattle.std.specs.Ordering.{is_eq, eq_by_cmp, nat_cmp}

@@ -1,6 +1,6 @@
 -- With each Committed the executed set grows by one.
 use Rattle.std.proofs.Common.{◌≡◌, ℕ, ◌+◌, Bool, true, false, not, cond, refl, sym, ap, subst, ◌∙◌, arith, length, nat_lt}
-use Rattle.std.specs.Prelude.{Option, Some, None, All, List, [], ◌∷◌, Result, Ok, Err, find, is_some, is_none, ◌&&◌, slice_get, option_map, option_and_then, if◌then◌else◌}
+use Rattle.std.specs.Prelude.{Option, Some, None, All, List, [], ◌∷◌, Result, Ok, Err, find, is_some, ◌&&◌, slice_get, option_map, option_and_then, if◌then◌else◌}
 use Rattle.std.specs.Option.{option_map_or}
 use Rattle.std.specs.List.{range_with_len}
 use Rattle.std.specs.FinSet as set
@@ -18,15 +18,14 @@ use Rattle.rows.specs.Apply.{Rows, apply}
 use Rattle.rows.specs.Fits.{misfit}
 use Rattle.journal.specs.Journals.{purged}
 use Rattle.relay.specs.Own.{purged_to}
-use Rattle.apply_channel.specs.Channels.{ChannelValue, Received}
-use Rattle.replica_core.specs.declared.event.Spot.{Spot}
+use Rattle.apply_channel.specs.Channels.{ChannelValue}
 use Rattle.replica_core.specs.declared.event.Event.{Event}
 use Rattle.replica_core.specs.declared.event.Event.TheVariants as event
 use Rattle.replica_core.specs.declared.event.Reply.{Reply}
 use Rattle.replica_core.specs.declared.event.Reply.TheVariants.{TooMany, Purged}
 use Rattle.replica_core.specs.State.{Site, State, Replica}
 use Rattle.replica_core.specs.Kept.{IsKept, AreKept}
-use Rattle.replica_core.specs.Machine.{Step, is_seat, position_on, Held, held, held_at, held_of, open_before, commit, commit_answer, commit_held, is_free, local, local_answer, next_number, purge, look, step}
+use Rattle.replica_core.specs.Machine.{Step, is_seat, Held, held, held_at, held_of, open_before, commit, commit_answer, is_free, local, local_answer, next_number, purge, step}
 use Rattle.shared_replica.specs.History.{is_commit, IsStep}
 use Rattle.commit_ledger.specs.Tallies.{one_if}
 use Rattle.shared_replica.proofs.Quiet.{Quiet, either_way, any_option, quiet_open, quiet_receive, quiet_take, quiet_rollback, quiet_restart}

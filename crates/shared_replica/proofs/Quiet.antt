@@ -1,20 +1,15 @@
 -- What an event that neither commits nor shows a set leaves as it was.
-use Rattle.std.proofs.Common.{◌≡◌, ℕ, Bool, true, false, not, cond, List, refl, nat_le, nat_lt, length}
-use Rattle.std.specs.Prelude.{Option, Some, None, option_map, slice_get}
+use Rattle.std.proofs.Common.{◌≡◌, ℕ, Bool, true, false, not, cond, List, refl, nat_le, length}
+use Rattle.std.specs.Prelude.{Option, Some, None, slice_get}
 use Rattle.std.specs.Option.{option_map_or}
 use Rattle.std.specs.List.{list_any}
 use Rattle.std.specs.FinSet as set
 use Rattle.gtid_set.specs.Sets.{Gtids}
-use Rattle.rows.specs.declared.schema.Table.{Table}
-use Rattle.rows.specs.declared.change.NotInSchema.{NotInSchema}
-use Rattle.rows.specs.declared.change.RowFault.{RowFault}
-use Rattle.rows.specs.declared.change.Transaction.{Transaction}
 use Rattle.rows.specs.Fits.{misfit}
-use Rattle.gtid_text.specs.declared.Gtid.{Gtid}
 use Rattle.journal.specs.declared.Entry.{Entry}
 use Rattle.apply_channel.specs.Channels.{ChannelValue, Received, is_full, same_name}
 use Rattle.replica_core.specs.State.{Site, State, owner, owned_by}
-use Rattle.replica_core.specs.Machine.{Step, is_seat, blocking, at_channel, if_fits, open_channel, receive, take_entry, take_place, at_seat, Held, held, rollback, restart}
+use Rattle.replica_core.specs.Machine.{Step, is_seat, blocking, at_channel, open_channel, receive, take_entry, take_place, held, rollback, restart}
 use Rattle.shared_replica.specs.History.{is_commit}
 use Rattle.shared_replica.specs.Spare.{IsSpare}
 

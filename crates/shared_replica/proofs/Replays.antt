@@ -1,5 +1,5 @@
 -- One step more.
-use Rattle.std.proofs.Common.{◌≡◌, ◌+◌, List, [], ◌∷◌, ◌++◌, length, map, refl, ap, sym, ◌∙◌, arith, length-append}
+use Rattle.std.proofs.Common.{◌≡◌, ◌+◌, List, [], ◌∷◌, ◌++◌, refl, ap, sym, ◌∙◌, arith, length-append}
 use Rattle.std.proofs.lemmas.List.Sums.{sum_by-append}
 use Rattle.commit_ledger.specs.Tallies.{Tally, one_if, one_more}
 use Rattle.replica_core.specs.declared.event.Event.{Event}
@@ -8,7 +8,7 @@ use Rattle.replica_core.specs.State.{Site, State, Replica}
 use Rattle.replica_core.specs.Machine.{step, replies, after}
 use Rattle.replica_core.specs.Kept.{AreKept}
 use Rattle.shared_replica.specs.declared.step.Step.{Step}
-use Rattle.shared_replica.specs.History.{line, events_of, replies_of, is_commit, commits_in, tally_in, IsStep, IsReplay, HasGrown, IsBook}
+use Rattle.shared_replica.specs.History.{line, events_of, replies_of, is_commit, commits_in, tally_in, IsStep, IsReplay, IsBook}
 use Rattle.shared_replica.proofs.Growths.{step_grows}
 
 events_more : (steps : List Step) (e : Event) (r : Reply) → events_of (steps ++ line e r ∷ []) ≡ events_of steps ++ e ∷ []

@@ -1,6 +1,6 @@
 -- The set that a reply shows, before its step.
-use Rattle.std.proofs.Common.{◌≡◌, ℕ, Bool, true, false, not, cond, refl, sym, subst, length}
-use Rattle.std.specs.Prelude.{◌&&◌, nat_lt, Option, Some, None, Result, Ok, Err, option_map, slice_get, if◌then◌else◌}
+use Rattle.std.proofs.Common.{◌≡◌, ℕ, false, not, refl}
+use Rattle.std.specs.Prelude.{Option, Some, None, Result, Ok, Err, option_map, slice_get, if◌then◌else◌}
 use Rattle.std.specs.Option.{option_map_or}
 use Rattle.gtid_set.specs.Sets.{Gtids, gtid}
 use Rattle.gtid_text.specs.declared.Gtid.{Gtid}
@@ -13,9 +13,9 @@ use Rattle.replica_core.specs.declared.event.Event.{Event}
 use Rattle.replica_core.specs.declared.event.Event.TheVariants as event
 use Rattle.replica_core.specs.declared.event.Reply.TheVariants.{Ask, NoChannel}
 use Rattle.replica_core.specs.State.{Site, State}
-use Rattle.replica_core.specs.Machine.{Step, is_seat, ask, with_channel, position_on, Held, held, open_before, commit, commit_answer, commit_held, local, local_answer, next_number, step}
+use Rattle.replica_core.specs.Machine.{Step, is_seat, ask, with_channel, position_on, held, open_before, commit, commit_answer, local, local_answer, next_number, step}
 use Rattle.shared_replica.specs.Spare.{IsSpare, shows}
-use Rattle.shared_replica.proofs.Quiet.{Quiet, either_way, any_option, quiet_open, quiet_receive, quiet_take, quiet_rollback, quiet_restart}
+use Rattle.shared_replica.proofs.Quiet.{either_way, any_option, quiet_open, quiet_receive, quiet_take, quiet_rollback, quiet_restart}
 
 -- a reply without a set
 abbrev pub IsPlain : Step → Type 0

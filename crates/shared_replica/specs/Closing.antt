@@ -1,5 +1,5 @@
 -- What is known once a book is closed.
-use Rattle.std.specs.Prelude.{◌≡◌, ℕ, ◌+◌, ◌==◌, ◌<◌, List, [], ◌∷◌, map, length, slice_get, Some, if◌then◌else◌}
+use Rattle.std.specs.Prelude.{◌≡◌, ℕ, ◌==◌, ◌<◌, List, [], ◌∷◌, map, slice_get, Some, if◌then◌else◌}
 use Rattle.std.specs.List.{sum_by}
 use Rattle.commit_ledger.specs.Tallies.{Tally, no_tally}
 use Rattle.replica_core.specs.State.{Replica}

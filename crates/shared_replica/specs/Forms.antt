@@ -1,14 +1,11 @@
 -- A reply and an event taken apart, so that two of them can be compared field by field.
-use Rattle.std.specs.Prelude.{◌≡◌, ℕ, ◌==◌, Bool, true, false, Option, Some, None, if◌then◌else◌, refl}
-use Rattle.std.specs.Option.{option_map_or}
-use Rattle.std.specs.FinSet as set
+use Rattle.std.specs.Prelude.{ℕ, Option, Some, None}
 use Rattle.gtid_text.specs.declared.Gtid.{Gtid}
 use Rattle.gtid_set.specs.Sets.{Gtids}
 use Rattle.rows.specs.declared.change.RowFault.{RowFault}
 use Rattle.rows.specs.declared.change.RowFault.TheVariants.{RowMissing, RowDiffers, DuplicateKey}
 use Rattle.rows.specs.declared.change.Misfit.{Misfit}
 use Rattle.rows.specs.declared.change.Misfit.TheVariants.{NoTable, Columns, NullInPrimary, TooLong, TooMany}
-use Rattle.rows.specs.declared.change.NotInSchema.{NotInSchema}
 use Rattle.replica_core.specs.declared.event.Reply.{Reply}
 use Rattle.replica_core.specs.declared.event.Reply.TheVariants as reply
 use Rattle.shared_replica.specs.declared.same.Form.{Form}

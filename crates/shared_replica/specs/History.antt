@@ -6,7 +6,7 @@ use Rattle.commit_ledger.specs.Tallies.{Tally, one_if}
 use Rattle.replica_core.specs.declared.event.Event.{Event}
 use Rattle.replica_core.specs.declared.event.Reply.{Reply}
 use Rattle.replica_core.specs.declared.event.Reply.TheVariants.{Committed}
-use Rattle.replica_core.specs.State.{Site, State, Replica}
+use Rattle.replica_core.specs.State.{Replica}
 use Rattle.replica_core.specs.Machine.{step, replies, after}
 use Rattle.shared_replica.specs.declared.step.Step.{Step}
 
