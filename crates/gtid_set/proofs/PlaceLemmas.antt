@@ -1,11 +1,11 @@
 -- A place in a merged list: what is joined there, and what is found there.
-use Rattle.std.proofs.Common.{[], zero, take, drop, length, suc, get_or, ◌≡◌, ◌≤◌, ◌<◌, ◌+◌, ◌-◌, ℕ, Bool, true, false, not, ◌||◌, nat_le, List, ◌∷◌, ◌++◌, refl, sym, ap, subst, ◌∙◌, arith}
+use Rattle.std.proofs.Common.{[], zero, take, drop, length, suc, get_or, ◌≡◌, ◌≤◌, ◌<◌, ◌+◌, ◌-◌, ℕ, Bool, true, false, not, ◌||◌, nat_le, List, ◌∷◌, ◌++◌, refl, sym, ap, subst, ◌∙◌, arith, true≢false}
 use Rattle.std.specs.Prelude.{◌==◌}
 use Rattle.std.specs.List.{list_all, AllWithin}
 use Rattle.std.specs.List.Sorted.{IsPartitionedBy, IsPartitionPoint}
-use Rattle.std.proofs.lemmas.List.{append_assoc, length-drop, length-append, drop-drop, drop_at, take-append-drop}
+use Rattle.std.proofs.lemmas.List.{append_assoc, length-drop, length-append, drop-drop, drop_at, take-append-drop, get_or_default}
 use Rattle.std.proofs.lemmas.Bool.Decides.{nat_tests}
-use Rattle.std.proofs.lemmas.List.Folds.{list_any-append}
+use Rattle.std.proofs.lemmas.List.Folds.{list_any-append, list_any_at}
 use Rattle.gtid_text.specs.declared.Gtid.{Gtid}
 use Rattle.gtid_text.specs.declared.Span.{Span}
 use Rattle.gtid_set.specs.Sets.{gtid}
@@ -245,3 +245,42 @@ knows_first spans rest source first more r e = cases (first.source == source) re
         let at = reached_at spans rest (record { source = source; lo = 0; hi = 0 }) first more r e in
         λ n. sym (r.same (gtid source n) (from_zero n)) ∙ ap (λ ss. has ss (gtid source n)) e ∙ ap (λ b. b || has more (gtid source n)) (outside n k)
         ∙ has_later first more (gtid source n) at.head.after (start n k at.reached)
+
+-- a place in a merged list, by the spans on both sides of it
+is_false : (b : Bool) → (b ≡ true → ⊥) → b ≡ false
+is_false true never = absurd (never refl)
+is_false false never = refl
+
+pub placed_between : (xs : List Span) (t : Span) (at : ℕ) → is_merged xs ≡ true → at ≤ length xs
+    → (0 < at → (d : Span) → is_before (get_or xs (at - 1) d) t ≡ true) → (at < length xs → (d : Span) → is_before (get_or xs at d) t ≡ false) → IsPlace xs t at (drop at xs)
+placed_between xs t at m le front back = placed xs t at (drop at xs) m le refl (before, behind)
+  where
+    falls : IsPartitionedBy (λ s. is_before s t) xs
+    falls = parted (λ s. is_before s t) (before_falls t) xs m
+
+    before : (k : ℕ) (d : Span) → 0 ≤ k → k < at → is_before (get_or xs k d) t ≡ true
+    before k d a b = falls k (at - 1) d (omega arith) (omega arith) (front (omega arith) d)
+
+    behind : (k : ℕ) (d : Span) → at ≤ k → k < length xs → is_before (get_or xs k d) t ≡ false
+    behind k d a b = is_false (is_before (get_or xs k d) t) (λ e. true≢false (sym (falls at k d a b e) ∙ back (omega (arith, a, b)) d))
+
+-- one of the spans of a merged list has a number of its source
+pub knows_at : (xs : List Span) (i source : ℕ) (s : Span) → is_merged xs ≡ true → i < length xs → s ≡ get_or xs i s → s.source ≡ source → KnowsSource true xs source
+knows_at xs i source s m lt e same = (s.lo, list_any_at (λ u. within u (gtid source s.lo)) xs i s lt (ap (λ u. within u (gtid source s.lo)) (sym e) ∙ sym (ap covers_lo same) ∙ filled))
+  where
+    covers_lo : ℕ → Bool
+    covers_lo n = within s (gtid n s.lo)
+
+    itself : nat_le s.lo s.hi ≡ true → within s (gtid s.source s.lo) ≡ true
+    itself h = grind (arith, nat_tests)
+
+    filled : covers_lo s.source ≡ true
+    filled = itself (ap (λ t. nat_le t.lo t.hi) e ∙ all_at (λ s. nat_le s.lo s.hi) xs i s (merged_filled xs m) lt)
+
+-- what an element that was read passes
+pub read_at : (p : Span → Bool) (xs : List Span) (i : ℕ) (x d : Span) (b : Bool) → x ≡ get_or xs i x → i < length xs → p x ≡ b → p (get_or xs i d) ≡ b
+read_at p xs i x d b e lt h = ap p (sym (e ∙ get_or_default xs i x d lt)) ∙ h
+
+pub is_not : (b : Bool) → not b ≡ true → b ≡ false
+is_not true h = sym h
+is_not false h = refl

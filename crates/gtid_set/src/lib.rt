@@ -1,26 +1,29 @@
 //! Sets of GTIDs.
 #![tactic(auto)]
 
-ghost use Rattle.std.specs.Prelude.{◌≡◌, ◌≤◌, ◌<◌, ◌↔◌, ℕ, IsTrue, true, IfOk, IfErr, IfSome, IfNone, OnOk, OnErr, IsOkUnless, string_bytes, true, List, nat_le, MatchResult};
+ghost use Rattle.std.specs.Prelude.{◌≡◌, ◌≤◌, ◌<◌, ◌↔◌, ℕ, IsTrue, true, false, ◌||◌, IfOk, IfErr, IfSome, IfNone, OnOk, OnErr, IsOkUnless, string_bytes, true, List, nat_le, MatchResult};
 ghost use Rattle.std.specs.List.{list_all};
 ghost use Rattle.std.specs.FinSet as set;
 ghost use Rattle.gtid_set.specs.declared.fault.SetFault.TheVariants.{Memory, SourcesFull};
-ghost use Rattle.gtid_set.specs.Sets.{Gtids, interval, only, without, kept_sources, least_unused, most_sources, source_count, sources_of};
-ghost use Rattle.gtid_set.specs.Spans.{set_of, is_merged};
+ghost use Rattle.gtid_set.specs.Sets.{Gtids, IsRunEnd, gtid, interval, only, without, kept_sources, least_unused, most_sources, source_count, sources_of};
+ghost use Rattle.gtid_set.specs.Spans.{set_of, is_merged, has};
 ghost use Rattle.gtid_set.specs.Runs.{runs, canonical};
 ghost use Rattle.gtid_set.specs.Texts.{SpellsSet, RefusesSet, IsReadAs, GivesSet, set_in};
-ghost use Rattle.gtid_set.specs.Sweep.{rises};
+ghost use Rattle.gtid_set.specs.Sweep.{IsListOf, rises, within};
 ghost use Rattle.gtid_set.specs.Full.{IsFullExactly, IsKept};
 
 mod fault;
 pub mod laws;
 mod single;
 mod sweep;
+#[cfg(test)]
+mod tests;
 mod text;
 
 pub use fault::{SetFault, SetTextFault};
 use gtid_text::{Gtid, SourceId, Span, parse_spans};
 use std::alloc::{AllocError, Global};
+use std::collections::BTreeMap;
 use std::marker::Model;
 
 /// The most sources that a set may have. Our own rule.
@@ -29,11 +32,16 @@ const MOST_SOURCES: u32 = 65_536;
 /// The greatest number that a transaction may have. Our own rule.
 const GREATEST: u64 = 9_223_372_036_854_775_807;
 
+/// The most spans that are always searched by halves. Our own rule.
+const MOST_SEARCHED: usize = 32;
+
 /// A set of GTIDs, as the MySQL 8.0 Reference Manual has it in "GTID Format and Storage". It has at most 65,536 sources.
 #[derive(Drop)]
 pub struct GtidSet {
     spans: Vec<Span>,
     sources: u32,
+    // For a source, the place in `spans` where it was last added to: a guess, which may be wrong.
+    tails: BTreeMap<SourceId, usize>,
 }
 
 impl Model for GtidSet {
@@ -51,14 +59,48 @@ impl Model for GtidSet {
     ghost invariant = { λ s. IsKept s.spans.items s.sources };
 }
 
-/// How many sources a set has with one more span of a source, if they are not too many.
-fn sources_with(spans: &[Span], sources: u32, source: SourceId) -> Option<u32>
+/// The place where a source was last added to, or the first place.
+fn tail_of(tails: &BTreeMap<SourceId, usize>, source: SourceId) -> usize {
+    match tails.get(&source) {
+        Some(at) => *at,
+        None => 0,
+    }
+}
+
+/// Keeps the place where a source was last added to, among as many spans; where memory is wanting, it is not kept.
+fn keep_tail(tails: &mut BTreeMap<SourceId, usize>, source: SourceId, at: usize, count: usize) {
+    if count > MOST_SEARCHED && tail_of(tails, source) != at {
+        let _ = tails.insert(source, at);
+    }
+}
+
+/// Joins a span to a merged list, and keeps its place for the next one of its source.
+fn add_at_tail(
+    spans: &mut Vec<Span>,
+    tails: &mut BTreeMap<SourceId, usize>,
+    span: Span,
+    guess: usize,
+) -> Result<(), AllocError>
+    requires filled { span.lo ≤ span.hi }
+    requires merged { is_merged spans.old.items ≡ true }
+    ensures ok { OnOk result (IsListOf (λ q. within span q || has spans.old.items q) spans.new.items) }
+    ensures err { OnErr result (spans.new.items ≡ spans.old.items) }
+{
+    let source = span.source;
+    let at = sweep::add_to(spans, span, guess)?;
+    let count = spans.len();
+    keep_tail(tails, source, at, count);
+    Ok(())
+}
+
+/// How many sources a set has with one more span of a source, if they are not too many. Any guess of the source's place serves.
+fn sources_with(spans: &[Span], sources: u32, source: SourceId, guess: usize) -> Option<u32>
     requires { IsKept spans.now sources }
     ensures count { IfSome result (λ n. n ≡ set.len (set.insert (sources_of (set_of spans.now)) source)) }
     ensures fits { IfSome result (λ n. n ≤ most_sources) }
     ensures full { IfNone result (most_sources < set.len (set.insert (sources_of (set_of spans.now)) source)) }
 {
-    if sweep::has_source(spans, source) {
+    if sweep::has_source(spans, source, guess) {
         return Some(sources);
     }
     if sources == MOST_SOURCES {
@@ -68,13 +110,18 @@ fn sources_with(spans: &[Span], sources: u32, source: SourceId) -> Option<u32>
 }
 
 /// The set of a merged list of spans, which has not too many sources.
-fn made(spans: Vec<Span>) -> GtidSet
+fn made(alloc: Global, spans: Vec<Span>) -> GtidSet
     requires merged { is_merged spans.items ≡ true }
     requires fits { source_count (set_of spans.items) ≤ most_sources }
     ensures { result ≡ set_of spans.items }
 {
     let sources = sweep::count_sources(&spans, &[]) as u32;
-    GtidSet { spans, sources }
+    let tails = BTreeMap::new(alloc);
+    GtidSet {
+        spans,
+        sources,
+        tails,
+    }
 }
 
 /// The set of all that two merged lists of spans have.
@@ -90,7 +137,7 @@ fn united(alloc: Global, left: &[Span], right: &[Span]) -> Result<GtidSet, SetFa
     let Ok(spans) = sweep::union_of(alloc, left, right) else {
         return Err(SetFault::Memory);
     };
-    Ok(made(spans))
+    Ok(made(alloc, spans))
 }
 
 /// The set of what the first of two merged lists of spans has and the second has not.
@@ -104,7 +151,7 @@ fn reduced(alloc: Global, left: &[Span], right: &[Span]) -> Result<GtidSet, SetF
     let Ok(spans) = sweep::difference_of(alloc, left, right) else {
         return Err(SetFault::Memory);
     };
-    Ok(made(spans))
+    Ok(made(alloc, spans))
 }
 
 /// The set of what both of two merged lists of spans have.
@@ -118,7 +165,7 @@ fn common(alloc: Global, left: &[Span], right: &[Span]) -> Result<GtidSet, SetFa
     let Ok(spans) = sweep::intersection_of(alloc, left, right) else {
         return Err(SetFault::Memory);
     };
-    Ok(made(spans))
+    Ok(made(alloc, spans))
 }
 
 /// The set of spans that are sorted by where they start, none of them reversed.
@@ -134,7 +181,7 @@ fn gathered(alloc: Global, spans: &[Span]) -> Result<GtidSet, SetFault>
     let Ok(merged) = sweep::union_of(alloc, spans, &[]) else {
         return Err(SetFault::Memory);
     };
-    Ok(made(merged))
+    Ok(made(alloc, merged))
 }
 
 /// Whether two merged lists of spans are of one set.
@@ -164,7 +211,7 @@ fn of_source(
     let Ok(spans) = single::of_source(alloc, spans, source, wanted) else {
         return Err(SetFault::Memory);
     };
-    Ok(made(spans))
+    Ok(made(alloc, spans))
 }
 
 impl GtidSet {
@@ -175,6 +222,7 @@ impl GtidSet {
         GtidSet {
             spans: Vec::new(alloc),
             sources: 0,
+            tails: BTreeMap::new(alloc),
         }
     }
 
@@ -188,7 +236,7 @@ impl GtidSet {
         }
     }
 
-    /// Adds a GTID. After an error the set is as it was.
+    /// Adds a GTID. After an error the set is as it was. The number behind a source's last is added without a search among the intervals, unless intervals were put in front of them since.
     pub fn add(&mut self, gtid: Gtid) -> Result<(), SetFault>
         ensures ok { OnOk result (self.new ≡ set.insert self.old gtid) }
         ensures err { OnErr result (self.new ≡ self.old) }
@@ -211,10 +259,11 @@ impl GtidSet {
         if span.hi < span.lo {
             return Ok(());
         }
-        let Some(sources) = sources_with(&self.spans, known, span.source) else {
+        let guess = tail_of(&self.tails, span.source);
+        let Some(sources) = sources_with(&self.spans, known, span.source, guess) else {
             return Err(SetFault::SourcesFull);
         };
-        let Ok(()) = sweep::add_to(&mut self.spans, span) else {
+        let Ok(()) = add_at_tail(&mut self.spans, &mut self.tails, span, guess) else {
             return Err(SetFault::Memory);
         };
         self.sources = sources;
@@ -229,7 +278,12 @@ impl GtidSet {
         let mut spans = Vec::new(alloc);
         spans.extend_from_slice(&self.spans)?;
         let sources = self.sources;
-        Ok(GtidSet { spans, sources })
+        let tails = BTreeMap::new(alloc);
+        Ok(GtidSet {
+            spans,
+            sources,
+            tails,
+        })
     }
 
     /// The GTIDs of both sets.
@@ -278,6 +332,17 @@ impl GtidSet {
             None => Some(1),
             Some(span) if span.hi < GREATEST => Some(span.hi + 1),
             Some(_) => None,
+        }
+    }
+
+    /// The last number up to which the set has all numbers of a source from a number on, or none where it has not got that number. It takes as many steps as the number of intervals has binary digits.
+    pub fn run_end(&self, source: SourceId, number: u64) -> Option<u64>
+        ensures some { IfSome result (λ last. IsRunEnd self.now source number last) }
+        ensures none { IfNone result (set.contains self.now (gtid source number) ≡ false) }
+    {
+        match sweep::span_with(&self.spans, &Gtid { source, number }) {
+            Some(span) => Some(span.hi),
+            None => None,
         }
     }
 

@@ -410,27 +410,68 @@ fn replace(spans: &mut Vec<Span>, at: usize, end: usize, span: Span) -> Result<(
     }
 }
 
-/// The place of a span in a merged list, with the spans from there on.
-fn place<'a>(spans: &'a [Span], span: &Span) -> (usize, &'a [Span])
+/// Whether a place in a merged list is that of a span.
+fn is_place(spans: &[Span], span: &Span, at: usize) -> bool
+    requires bound { at ≤ length spans.now }
+    requires merged { is_merged spans.now ≡ true }
+    ensures { result ≡ true → IsPlace spans.now span.now at (drop at spans.now) }
+{
+    if at > 0 && !is_before(&spans[at - 1], span) {
+        return false;
+    }
+    at == spans.len() || !is_before(&spans[at], span)
+}
+
+/// The place of a span in a merged list, if it is at a guess or one behind.
+fn guessed(spans: &[Span], span: &Span, guess: usize) -> Option<usize>
+    requires { is_merged spans.now ≡ true }
+    ensures { IfSome result (λ at. IsPlace spans.now span.now at (drop at spans.now)) }
+{
+    if guess >= spans.len() {
+        return None;
+    }
+    if is_place(spans, span, guess) {
+        return Some(guess);
+    }
+    if is_place(spans, span, guess + 1) {
+        return Some(guess + 1);
+    }
+    None
+}
+
+/// The place of a span in a merged list, found by halves.
+fn searched(spans: &[Span], span: &Span) -> usize
+    requires { is_merged spans.now ≡ true }
+    ensures { IsPlace spans.now span.now result (drop result spans.now) }
+{
+    spans.partition_point(|s| is_before(s, span))
+}
+
+/// The place of a span in a merged list, with the spans from there on. Any guess serves; a good one saves the search.
+fn place<'a>(spans: &'a [Span], span: &Span, guess: usize) -> (usize, &'a [Span])
     requires { is_merged spans.now ≡ true }
     ensures { IsPlace spans.now span.now result.0 result.1.now }
 {
-    let at = spans.partition_point(|s| is_before(s, span));
+    let at = match guessed(spans, span, guess) {
+        Some(at) => at,
+        None => searched(spans, span),
+    };
     let (_, rest) = spans.split_at(at);
     (at, rest)
 }
 
-/// Joins a span to a merged list.
-pub fn add_to(spans: &mut Vec<Span>, span: Span) -> Result<(), AllocError>
+/// Joins a span to a merged list, and answers its place. Any guess of the place serves; a good one saves the search.
+pub fn add_to(spans: &mut Vec<Span>, span: Span, guess: usize) -> Result<usize, AllocError>
     requires filled { span.lo ≤ span.hi }
     requires merged { is_merged spans.old.items ≡ true }
     ensures ok { OnOk result (IsListOf (λ q. within span q || has spans.old.items q) spans.new.items) }
     ensures err { OnErr result (spans.new.items ≡ spans.old.items) }
 {
-    let (at, rest) = place(spans, &span);
+    let (at, rest) = place(spans, &span, guess);
     let (joined, rest) = absorb(span, rest);
     let end = spans.len() - rest.len();
-    replace(spans, at, end, joined)
+    replace(spans, at, end, joined)?;
+    Ok(at)
 }
 
 /// The spans from the first on that doesn't end before a span starts, found by halves.
@@ -461,11 +502,14 @@ pub fn span_with<'a>(spans: &'a [Span], gtid: &Gtid) -> Option<&'a Span>
     }
 }
 
-/// Whether one of the spans has a number of a source.
-pub fn has_source(spans: &[Span], source: SourceId) -> bool
+/// Whether one of the spans has a number of a source. Any guess of the place of such a span serves; a good one saves the search.
+pub fn has_source(spans: &[Span], source: SourceId, guess: usize) -> bool
     requires { is_merged spans.now ≡ true }
     ensures { KnowsSource result spans.now source }
 {
+    if guess < spans.len() && spans[guess].source == source {
+        return true;
+    }
     let first_number = Span {
         source,
         lo: 0,

@@ -5,7 +5,7 @@ ghost use Rattle.replica_core.specs.State.{owned};
 ghost use Rattle.replica_core.specs.Seated.{AreSeated};
 ghost use Rattle.replica_core.specs.Machine.{next_ready, ready_from};
 ghost use Rattle.replica_core.specs.Faults.{asking, IsFaultIn};
-ghost use Rattle.replica_core.specs.Kept.{IsKept};
+ghost use Rattle.replica_core.specs.Kept.{IsKept, AreKept};
 ghost use Rattle.replica_core.specs.Core.{IsAtCore, IsNotAtCore, IsEntryAt, IsNoEntry};
 
 use crate::machine::Core;
@@ -116,5 +116,13 @@ impl Core {
         ensures { AreSeated self.now.state.channels self.now.state.seats }
     {
         let _ = self.kept_channel(0);
+    }
+
+    /// A received entry has its transaction exactly where its GTID is not executed; the schema takes
+    /// it, and its number is in range. It does nothing; a proof calls it for its contract.
+    pub fn entries_are_kept(&self)
+        ensures { AreKept self.now.site.schema self.now.state.executed self.now.state.channels }
+    {
+        let _ = &self.own;
     }
 }

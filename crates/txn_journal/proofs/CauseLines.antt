@@ -1,5 +1,5 @@
 -- The cause that judging gives is what is wrong with the line.
-use Rattle.std.proofs.Common.{◌≡◌, ℕ, ◌<◌, ◌≤◌, ◌⊎◌, inl, inr, Bool, true, false, not, cond, leb, List, [], ◌∷◌, ◌++◌, length, Option, Some, None, Result, Ok, Err, refl, sym, ap, subst, ◌∙◌, arith}
+use Rattle.std.proofs.Common.{◌≡◌, ℕ, ◌⊎◌, inl, inr, Bool, true, false, not, cond, leb, List, [], ◌∷◌, ◌++◌, length, Option, Some, None, Result, Ok, Err, refl, sym, ap, subst, ◌∙◌, arith}
 use Rattle.std.specs.Prelude.{◌||◌, codes}
 use Rattle.std.specs.FinSet as set
 use Rattle.std.specs.Str.{bytes_eq}
@@ -17,7 +17,8 @@ use Rattle.journal_words.proofs.Counts.{chosen, some_is, word_and_more}
 use Rattle.txn_journal.specs.Words.{name_of}
 use Rattle.txn_journal.specs.Due.{is_due}
 use Rattle.txn_journal.specs.Lines.{◌>>=◌, some_or_body, keyword_of, due_word, takes_one, known, version_in, gtid_in, set_in, nothing_in, words_of, Image, values_from, one_image, with_after, both_images, image_in, images_in, table_in}
-use Rattle.txn_journal.specs.Machine.{Standing, add, begin, judge}
+use Rattle.rows.specs.declared.schema.Table.{Table}
+use Rattle.txn_journal.specs.Machine.{Standing, fits, add, begin, judge}
 use Rattle.txn_journal.specs.Spelling.{Line, Header, Previous, Begin, Makes, End, Close}
 use Rattle.txn_journal.specs.Causes.{Says, PassesLimit, HasCause}
 use Rattle.txn_journal.specs.declared.fault.Cause.{Cause}
@@ -30,24 +31,24 @@ use Rattle.txn_journal.specs.declared.lines.Version.{Version}
 use Rattle.txn_journal.specs.declared.lines.Version.TheVariants.{One}
 use Rattle.txn_journal.proofs.LineReads.{body_of, put, read_line, judge_reads, keyword_found, due_found, read_found, read_again}
 
-abbrev wrong : {A : Type 0} → Cause → Result A Cause
+abbrev pub wrong : {A : Type 0} → Cause → Result A Cause
 wrong c = Err c
 
-wrong_is : {A : Type 0} (c d : Cause) → wrong {A = A} c ≡ wrong {A = A} d → c ≡ d
+pub wrong_is : {A : Type 0} (c d : Cause) → wrong {A = A} c ≡ wrong {A = A} d → c ≡ d
 wrong_is c d e = cc
 
-bind_err : {A B : Type 0} (r : Result A Cause) (f : A → Result B Cause) (c : Cause) → (r >>= f) ≡ Err c → (r ≡ Err c) ⊎ ((x : A) × (r ≡ Ok x) × (f x ≡ Err c))
+pub bind_err : {A B : Type 0} (r : Result A Cause) (f : A → Result B Cause) (c : Cause) → (r >>= f) ≡ Err c → (r ≡ Err c) ⊎ ((x : A) × (r ≡ Ok x) × (f x ≡ Err c))
 bind_err (Ok x) f c e = inr (x, refl, e)
 bind_err {A = A} (Err d) f c e = inl (let k : d ≡ c = cc in ap (λ (y : Cause). wrong {A = A} y) k)
 
 -- what only makes a line of what was read does not fail
-made_err : {A : Type 0} (r : Result A Cause) (mk : A → Line) (c : Cause) → (r >>= λ x. Ok (mk x)) ≡ Err c → r ≡ Err c
+pub made_err : {A : Type 0} (r : Result A Cause) (mk : A → Line) (c : Cause) → (r >>= λ x. Ok (mk x)) ≡ Err c → r ≡ Err c
 made_err (Ok x) mk c e = absurd cc
 made_err {A = A} (Err d) mk c e = let k : d ≡ c = cc in ap (λ (y : Cause). wrong {A = A} y) k
 
 -- ---- the body
 
-some_or_body_err : {A : Type 0} (o : Option A) (c : Cause) → some_or_body o ≡ Err c → causes.Body ≡ c
+pub some_or_body_err : {A : Type 0} (o : Option A) (c : Cause) → some_or_body o ≡ Err c → causes.Body ≡ c
 some_or_body_err (Some x) c e = absurd cc
 some_or_body_err None c e = cc
 
@@ -59,11 +60,11 @@ gtid_err : (rest : Option (List ℕ)) (c : Cause) → gtid_in rest ≡ Err c →
 gtid_err None c e = cc
 gtid_err (Some w) c e = some_or_body_err (gtid_of_word w) c e
 
-nothing_err : (rest : Option (List ℕ)) (c : Cause) → nothing_in rest ≡ Err c → causes.Body ≡ c
+pub nothing_err : (rest : Option (List ℕ)) (c : Cause) → nothing_in rest ≡ Err c → causes.Body ≡ c
 nothing_err None c e = absurd cc
 nothing_err (Some t) c e = cc
 
-table_err : (rest : Option (List ℕ)) (c : Cause) → table_in rest ≡ Err c → causes.Body ≡ c
+pub table_err : (rest : Option (List ℕ)) (c : Cause) → table_in rest ≡ Err c → causes.Body ≡ c
 table_err None c e = cc
 table_err (Some text) c e =
     elim (bind_err (some_or_body (others text)) (λ rest. some_or_body (name_of (first_word text)) >>= λ name. Ok (name, rest)) c e) [
@@ -74,7 +75,7 @@ table_err (Some text) c e =
       ]
     ]
 
-one_err : (o : Option Image) (c : Cause) → one_image o ≡ Err c → causes.Body ≡ c
+pub one_err : (o : Option Image) (c : Cause) → one_image o ≡ Err c → causes.Body ≡ c
 one_err None c e = cc
 one_err (Some (vs, None)) c e = absurd cc
 one_err (Some (vs, Some words)) c e = cc
@@ -89,7 +90,7 @@ both_err (Some (vs, None)) c e = cc
 both_err (Some (vs, Some words)) c e = one_err (values_from [] words) c (after_err vs (one_image (values_from [] words)) c e)
 
 -- a count that is no version known
-VersionErr : Option (List ℕ) → Cause → Type 0
+unfoldable pub VersionErr : Option (List ℕ) → Cause → Type 0
 VersionErr rest c = (causes.Body ≡ c) ⊎ ((w : List ℕ) × (rest ≡ Some w) × (is_count w ≡ true) × (causes.Version ≡ c))
 
 known_err : (due : Option Version) (w : List ℕ) (c : Cause) → known due w ≡ Err c → causes.Version ≡ c
@@ -102,7 +103,7 @@ known_err due w c e =
       | inr p ↦ wrong_is {A = Version} causes.Version c p.1
     ]
 
-version_err : (due : Option Version) (rest : Option (List ℕ)) (c : Cause) → version_in due rest ≡ Err c → VersionErr rest c
+pub version_err : (due : Option Version) (rest : Option (List ℕ)) (c : Cause) → version_in due rest ≡ Err c → VersionErr rest c
 unfolding VersionErr
 version_err due None c e = inl cc
 version_err due (Some w) c e =
@@ -147,21 +148,21 @@ due_err place (Some j) c e =
 nothing_said : (s : Standing) (line : List ℕ) (c : Cause) → read_line s.due s.place line ≡ Err c → (l : Line) → Says s line l → ⊥
 nothing_said s line c e l h = let k = sym e ∙ ap (read_line s.due s.place) h.text ∙ read_again s.due s.place l h.due h.fits h.images h.version in cc
 
-read_cause : (s : Standing) (line : List ℕ) (c : Cause) → read_line s.due s.place line ≡ Err c → HasCause s line c
+read_cause : (schema : Option (List Table)) (s : Standing) (line : List ℕ) (c : Cause) → read_line s.due s.place line ≡ Err c → HasCause schema s line c
 unfolding read_line VersionErr
-read_cause s line c e =
+read_cause schema s line c e =
     elim (bind_err (due_word s.place (keyword_of (first_word line))) (λ word. body_of s.due word (others line)) c e) [
-      | inl p ↦ let d = due_err s.place (keyword_of (first_word line)) c p in subst (HasCause s line) d.0 d.1
+      | inl p ↦ let d = due_err s.place (keyword_of (first_word line)) c p in subst (HasCause schema s line) d.0 d.1
       | inr p ↦
           let d = due_found s.place (keyword_of (first_word line)) p.0 p.1 in
-          let body : causes.Body ≡ c → HasCause s line c = λ h. subst (HasCause s line) h (p.0, d.0, d.1, nothing_said s line c e) in
+          let body : causes.Body ≡ c → HasCause schema s line c = λ h. subst (HasCause schema s line) h (p.0, d.0, d.1, nothing_said s line c e) in
           elim (body_err s.due p.0 (others line) c p.2) [
             | inl h ↦ body h
             | inr j ↦ elim j.1 [
               | inl h ↦ body h
               | inr v ↦
                   let first : first_word line ≡ codes "journal" = keyword_found (first_word line) keywords.Journal (d.0 ∙ ap Some j.0) in
-                  subst (HasCause s line) v.3 (v.0, word_and_more line v.0 v.1 ∙ ap (λ (w : List ℕ). w ++ 32 ∷ v.0) first, v.2, ap (is_due s.place) (sym j.0) ∙ d.1, nothing_said s line c e)
+                  subst (HasCause schema s line) v.3 (v.0, word_and_more line v.0 v.1 ∙ ap (λ (w : List ℕ). w ++ 32 ∷ v.0) first, v.2, ap (is_due s.place) (sym j.0) ∙ d.1, nothing_said s line c e)
             ]
           ]
     ]
@@ -180,47 +181,71 @@ limit_of s x e = elim (either (leb 65536 (length s.changes)) (not (is_change_wri
   | inr p ↦ inr (not_true (is_change_writable x) p)
 ]
 
-add_err : (s : Standing) (x : Change) (c : Cause) → add None s x ≡ Err c → (causes.Limit ≡ c) × PassesLimit s (Makes x)
-unfolding add
-add_err s x c e =
-    elim (chosen (leb 65536 (length s.changes) || not (is_change_writable x)) (Err causes.Limit) (Ok (record s { changes = s.changes ++ x ∷ [] })) (Err c) e) [
-      | inl p ↦ (wrong_is {A = Standing} causes.Limit c p.1, limit_of s x p.0)
-      | inr p ↦ absurd (let k = p.1 in cc)
+neither : (a b : Bool) → (a || b) ≡ false → (a ≡ false) × (b ≡ false)
+neither true b e = absurd cc
+neither false b e = (refl, e)
+
+-- it is within the limits, and yet no table takes it
+record Misfits (schema : Option (List Table)) (s : Standing) (x : Change) : Type 0 where
+  within : PassesLimit s (Makes x) → ⊥
+  misfit : fits schema x ≡ false
+
+within_limits : (s : Standing) (x : Change) → (leb 65536 (length s.changes) || not (is_change_writable x)) ≡ false → PassesLimit s (Makes x) → ⊥
+within_limits s x e (inl many) = let p = neither (leb 65536 (length s.changes)) (not (is_change_writable x)) e in let k = leb-false _ _ p.0 in omega (arith, many)
+within_limits s x e (inr long) = let p = neither (leb 65536 (length s.changes)) (not (is_change_writable x)) e in let k = p.1 in let m : not (is_change_writable x) ≡ true = ap not long in cc
+
+AddErr : Option (List Table) → Standing → Change → Cause → Type 0
+AddErr schema s x c = ((causes.Limit ≡ c) × PassesLimit s (Makes x)) ⊎ ((causes.Schema ≡ c) × Misfits schema s x)
+
+add_err : (schema : Option (List Table)) (s : Standing) (x : Change) (c : Cause) → add schema s x ≡ Err c → AddErr schema s x c
+unfolding add AddErr
+add_err schema s x c e =
+    let last : Result Standing Cause = Ok (record s { changes = s.changes ++ x ∷ [] }) in
+    let second : Result Standing Cause = cond (not (fits schema x)) (Err causes.Schema) last in
+    elim (chosen (leb 65536 (length s.changes) || not (is_change_writable x)) (Err causes.Limit) second (Err c) e) [
+      | inl p ↦ inl (wrong_is {A = Standing} causes.Limit c p.1, limit_of s x p.0)
+      | inr p ↦ elim (chosen (not (fits schema x)) (Err causes.Schema) last (Err c) p.1) [
+        | inl q ↦ inr (wrong_is {A = Standing} causes.Schema c q.1, record { within = within_limits s x p.0; misfit = not_true (fits schema x) q.0 })
+        | inr q ↦ absurd (let k = q.1 in cc)
+      ]
     ]
 
 numbered : (n : ℕ) → IsNumbered n → is_number n ≡ true
 unfolding greatest
 numbered n h = rw (le-leb 1 n h.0, le-leb n 9223372036854775807 h.1) refl
 
-begin_err : (s : Standing) (line : List ℕ) (g : Gtid) (c : Cause) → Says s line (Begin g) → begin s g ≡ Err c → HasCause s line c
+begin_err : (schema : Option (List Table)) (s : Standing) (line : List ℕ) (g : Gtid) (c : Cause) → Says s line (Begin g) → begin s g ≡ Err c → HasCause schema s line c
 unfolding begin
-begin_err s line g c h e =
+begin_err schema s line g c h e =
     let last : Result Standing Cause = Ok (record s { place = places.Within; gtid = g }) in
     let third : Result Standing Cause = cond (set.contains s.seen g) (Err (causes.Twice g)) last in
     let second : Result Standing Cause = cond (leb 4294967294 s.count) (Err causes.Limit) third in
     elim (chosen (not (is_number g.number)) (Err causes.Body) second (Err c) e) [
       | inl p ↦ absurd (let k = numbered g.number h.fits.number in let m = p.0 in cc)
       | inr p ↦ elim (chosen (leb 4294967294 s.count) (Err causes.Limit) third (Err c) p.1) [
-        | inl q ↦ subst (HasCause s line) (wrong_is {A = Standing} causes.Limit c q.1) (Begin g, h, leb-true _ _ q.0)
+        | inl q ↦ subst (HasCause schema s line) (wrong_is {A = Standing} causes.Limit c q.1) (Begin g, h, leb-true _ _ q.0)
         | inr q ↦ elim (chosen (set.contains s.seen g) (Err (causes.Twice g)) last (Err c) q.1) [
-          | inl r ↦ subst (HasCause s line) (wrong_is {A = Standing} (causes.Twice g) c r.1) (h, leb-false _ _ q.0, r.0)
+          | inl r ↦ subst (HasCause schema s line) (wrong_is {A = Standing} (causes.Twice g) c r.1) (h, leb-false _ _ q.0, r.0)
           | inr r ↦ absurd (let k = r.1 in cc)
         ]
       ]
     ]
 
-put_cause : (s : Standing) (line : List ℕ) (l : Line) (c : Cause) → Says s line l → put None s l ≡ Err c → HasCause s line c
-unfolding put
-put_cause s line (Header v) c h e = absurd cc
-put_cause s line (Previous p) c h e = absurd cc
-put_cause s line (Begin g) c h e = begin_err s line g c h e
-put_cause s line (Makes x) c h e = let a = add_err s x c e in subst (HasCause s line) a.0 (Makes x, h, a.1)
-put_cause s line End c h e = absurd cc
-put_cause s line Close c h e = absurd cc
+put_cause : (schema : Option (List Table)) (s : Standing) (line : List ℕ) (l : Line) (c : Cause) → Says s line l → put schema s l ≡ Err c → HasCause schema s line c
+unfolding put AddErr
+put_cause schema s line (Header v) c h e = absurd cc
+put_cause schema s line (Previous p) c h e = absurd cc
+put_cause schema s line (Begin g) c h e = begin_err schema s line g c h e
+put_cause schema s line (Makes x) c h e = elim (add_err schema s x c e) [
+  | inl a ↦ subst (HasCause schema s line) a.0 (Makes x, h, a.1)
+  | inr a ↦ subst (HasCause schema s line) a.0 (x, h, a.1.within, a.1.misfit)
+]
+put_cause schema s line End c h e = absurd cc
+put_cause schema s line Close c h e = absurd cc
 
-pub judge_cause : (s : Standing) (line : List ℕ) (c : Cause) → judge None s line ≡ Err c → HasCause s line c
-judge_cause s line c e =
-    elim (bind_err (read_line s.due s.place line) (put None s) c (sym (judge_reads None s line) ∙ e)) [
-      | inl p ↦ read_cause s line c p
-      | inr p ↦ let f = read_found s.due s.place line p.0 p.1 in put_cause s line p.0 c (record { text = f.text; fits = f.fits; images = f.images; version = f.version; due = f.due_there }) p.2
+pub judge_cause : (schema : Option (List Table)) (s : Standing) (line : List ℕ) (c : Cause) → judge schema s line ≡ Err c → HasCause schema s line c
+judge_cause schema s line c e =
+    elim (bind_err (read_line s.due s.place line) (put schema s) c (sym (judge_reads schema s line) ∙ e)) [
+      | inl p ↦ read_cause schema s line c p
+      | inr p ↦ let f = read_found s.due s.place line p.0 p.1 in put_cause schema s line p.0 c (record { text = f.text; fits = f.fits; images = f.images; version = f.version; due = f.due_there }) p.2
     ]

@@ -1,5 +1,5 @@
 -- What follows a separator is shorter than the text.
-use Rattle.std.proofs.Common.{◌≡◌, ℕ, ◌+◌, ◌<◌, eqb, cond, List, [], ◌∷◌, length, Option, Some, None, ap, arith, inl, inr}
+use Rattle.std.proofs.Common.{◌≡◌, ℕ, ◌<◌, eqb, List, [], ◌∷◌, length, Some, ap, arith, inl, inr}
 use Rattle.txn_journal.specs.Words.{behind}
 use Rattle.journal_words.proofs.Counts.{chosen, some_is}
 

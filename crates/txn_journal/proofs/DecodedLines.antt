@@ -1,34 +1,33 @@
 -- What a whole text is read as.
-use Rattle.std.proofs.Common.{◌≡◌, ℕ, ◌+◌, ◌-◌, ◌^◌, ◌<◌, ◌⊎◌, Bool, true, false, List, [], ◌∷◌, ◌++◌, length, Option, Some, None, Result, Ok, Err, refl, sym, ap, subst, ◌∙◌, arith, inl, inr}
-use Rattle.std.specs.Prelude.{IfOk, IfErr, min}
+use Rattle.std.proofs.Common.{◌≡◌, ℕ, List, [], ◌∷◌, Option, Result, Ok, Err, refl, sym, ap, subst, ◌∙◌, arith, inl, inr}
+use Rattle.std.specs.Prelude.{IfOk, IfErr}
 use Rattle.std.proofs.lemmas.List.{append-nil}
 use Rattle.gtid_text.specs.declared.Gtid.{Gtid}
 use Rattle.gtid_set.specs.Sets.{Gtids}
-use Rattle.gtid_set.specs.declared.fault.SetFault.{SetFault}
 use Rattle.rows.specs.declared.change.Change.{Change}
 use Rattle.journal.specs.Journals.{JournalValue}
 use Rattle.txn_journal.specs.Machine.{Standing, is_last}
 use Rattle.txn_journal.specs.Stream.{Progress, Reading, Stopped, next_number, ended}
 use Rattle.txn_journal.specs.Reading.{before_first, eats_alone, whole_journal, closing, IsWhole}
-use Rattle.txn_journal.specs.Spelling.{spelling, journal_lines, Writes}
+use Rattle.txn_journal.specs.Spelling.{spelling, Writes}
 use Rattle.txn_journal.specs.Heard.{said}
-use Rattle.txn_journal.specs.Refused.{capped, IsFront, IsTrailing, IsFirstFaulty, Refuses, IsRead}
+use Rattle.txn_journal.specs.Refused.{Refuses, IsRead}
 use Rattle.txn_journal.specs.declared.fault.JournalFault.{JournalFault}
 use Rattle.txn_journal.specs.declared.fault.JournalFault.TheVariants as faults
 use Rattle.txn_journal.specs.declared.lines.Place.{Place}
 use Rattle.txn_journal.specs.declared.lines.Place.TheVariants as places
 use Rattle.txn_journal.specs.declared.lines.Version.{Version}
 use Rattle.txn_journal.specs.declared.lines.Version.TheVariants.{One}
-use Rattle.txn_journal.proofs.SoundLines.{at, Sound_at, whole_written}
-use Rattle.txn_journal.proofs.WholeLines.{reads_all}
+use Rattle.txn_journal.proofs.SoundLines.{at, whole_written}
+use Rattle.txn_journal.proofs.WholeLines.{reads_text}
 use Rattle.txn_journal.proofs.TellLines.{Heard, Tells, tells, begins}
 
 -- what is spelled is read
 pub reads_spelling : (bytes : List ℕ) (j : JournalValue) → Writes bytes j → closing (eats_alone before_first bytes) ≡ Ok j
 unfolding closing
 reads_spelling bytes j w =
-    let r = (reads_all j w.0).leads.reads 0 in
-    ap closing (ap (eats_alone before_first) w.1 ∙ r.1)
+    let r = reads_text j w.0 in
+    ap closing (ap (eats_alone before_first) w.1 ∙ r.reads) ∙ (λ i. whole_journal (ended (is_last (r.place i)) [] r.count) (r.journal i))
 
 abbrev pub Closes : List ℕ → Result JournalValue JournalFault → Type 0
 Closes bytes (Ok j) = Writes bytes j

@@ -1,33 +1,28 @@
 -- Sources, GTIDs and sets: what is read is spelled so, and what is spelled so is read.
-use Rattle.std.proofs.Common.{◌≡◌, ℕ, zero, suc, ◌+◌, ◌*◌, ◌^◌, ◌<◌, ◌≤◌, ◌⊎◌, Bool, true, false, cond, eqb, ltb, leb, not, List, [], ◌∷◌, ◌++◌, length, get_or, Option, Some, None, Result, Ok, Err, refl, sym, ap, subst, ◌∙◌, arith, inl, inr}
-use Rattle.std.specs.Prelude.{◌&&◌, ◌||◌, codes, decimal, option_map}
+use Rattle.std.proofs.Common.{◌≡◌, ℕ, zero, suc, ◌+◌, ◌*◌, ◌^◌, ◌<◌, Bool, true, false, cond, eqb, leb, not, List, [], ◌∷◌, ◌++◌, length, get_or, Option, Some, None, Result, Ok, Err, refl, ap, subst, arith, inl, inr}
+use Rattle.std.specs.Prelude.{◌&&◌, ◌||◌, decimal, option_map}
 use Rattle.std.specs.List.{list_all}
-use Rattle.std.specs.Char.{is_ascii_digit, is_ascii_hexdigit}
+use Rattle.std.specs.Char.{is_ascii_digit}
 use Rattle.std.specs.Int.{w128, from_be_bytes}
-use Rattle.std.specs.Str.{bytes_eq}
 use Rattle.std.specs.Str.Parse.{digits_value}
-use Rattle.std.proofs.lemmas.Bool.{leb-true, le-leb, lt-ltb}
+use Rattle.std.proofs.lemmas.Bool.{leb-true}
 use Rattle.std.proofs.lemmas.Bool.Decides.{nat_tests}
 use Rattle.std.proofs.lemmas.Fmt.{digits_decimal}
-use Rattle.std.proofs.lemmas.List.Folds.{list_all-append}
-use Rattle.std.proofs.lemmas.Slice.Eq.{bytes_eq-Decides}
 use Rattle.uuid.specs.Text.{by_index, is_hex_digit, value_of, byte_of_digits, digits_of, parsed_hyphenated, parsed_simple, has_hyphens}
 use Rattle.gtid_text.specs.declared.Gtid.{Gtid}
-use Rattle.gtid_text.specs.declared.Span.{Span}
 use Rattle.gtid_text.specs.declared.scan.Refusal.{Refusal}
 use Rattle.gtid_text.specs.Scan.{is_uuid_byte, source_of, number_of}
 use Rattle.gtid_text.specs.Reading.{gtid_in}
 use Rattle.gtid_text.specs.Grammar.{SpellsGtid}
-use Rattle.gtid_text.specs.Written.{IsSource, IsNumbered, IsUsable, IsSpaced, gtid_tokens, joined}
+use Rattle.gtid_text.specs.Written.{IsSource, IsNumbered, IsUsable, IsSpaced, gtid_tokens}
 use Rattle.gtid_text.specs.Canonical.{source_text, gtid_text}
 use Rattle.gtid_text.proofs.RoundTrip.{source_bytes}
 use Rattle.gtid_text.proofs.Shown.{gtid_shown, joined_gtid, spaced_joined}
 use Rattle.gtid_text.proofs.Single.{gtid_reads_back, gtid_spelled}
 use Rattle.gtid_set.proofs.SpanLemmas.{all_weaker}
-use Rattle.journal_words.specs.Values.{where_same}
 use Rattle.journal_words.specs.Gtids.{is_ascii_byte, same_or_none, if_ascii, gtid_of_word}
 use Rattle.journal_words.proofs.Numerals.{own, both}
-use Rattle.journal_words.proofs.Counts.{chosen, some_is, lacks}
+use Rattle.journal_words.proofs.Counts.{chosen, some_is}
 use Rattle.journal_words.proofs.ValueLaws.{where_same-again, where_same-found}
 
 -- ---- a source is a number of 128 bits

@@ -1,13 +1,10 @@
 -- Images: what is read is spelled so, and what is spelled so is read.
-use Rattle.std.proofs.Common.{◌≡◌, ℕ, suc, ◌<◌, ◌⊎◌, inl, inr, Bool, true, false, cond, eqb, List, [], ◌∷◌, ◌++◌, length, map, Option, Some, None, Result, Ok, Err, refl, sym, ap, subst, ◌∙◌, append_assoc, arith}
+use Rattle.std.proofs.Common.{◌≡◌, ℕ, ◌<◌, inl, inr, Bool, true, false, cond, eqb, List, [], ◌∷◌, ◌++◌, length, map, Option, Some, None, Result, Ok, Err, refl, sym, ap, subst, ◌∙◌, append_assoc, arith}
 use Rattle.std.specs.Prelude.{codes}
-use Rattle.std.specs.List.{AllByRecursion}
-use Rattle.std.specs.Str.{bytes_eq}
 use Rattle.std.proofs.lemmas.Bool.{eqb-true}
 use Rattle.std.proofs.lemmas.List.{append-nil, length-append}
 use Rattle.std.proofs.lemmas.Slice.Eq.{bytes_eq-Decides}
 use Rattle.rows.specs.declared.value.Value.{Value}
-use Rattle.journal_words.specs.Words.{first_word, others}
 use Rattle.journal_words.specs.Values.{value_text, value_of, FitsValue}
 use Rattle.journal_words.proofs.Counts.{chosen, some_is, lacks, first_word-whole, others-whole, first_word-front, others-front}
 use Rattle.journal_words.proofs.ValueLaws.{value_of-text, value_of-found, value_lacks, blank_is_none, no_bar}

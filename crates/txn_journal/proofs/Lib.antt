@@ -16,3 +16,16 @@ pub mod TellLines
 pub mod DecodedLines
 pub mod TakenLines
 pub mod WriteLemmas
+pub mod LineRuns
+pub mod SplitLaws
+pub mod ShapeLaws
+pub mod OwnReads
+pub mod OwnLaws
+pub mod OwnCauses
+pub mod TableSteps
+pub mod BundleSound
+pub mod BundleWhole
+pub mod BundleTells
+pub mod BundleReads
+pub mod NewWords
+pub mod OneBundle

@@ -1,5 +1,5 @@
 -- Lines: what is read is spelled so, and what is spelled so is read.
-use Rattle.std.proofs.Common.{◌≡◌, ℕ, ◌<◌, ◌⊎◌, inl, inr, Bool, true, false, cond, List, [], ◌∷◌, ◌++◌, length, Option, Some, None, Result, Ok, Err, refl, sym, ap, subst, ◌∙◌, arith}
+use Rattle.std.proofs.Common.{◌≡◌, ℕ, inl, inr, true, cond, List, [], ◌∷◌, ◌++◌, Option, Some, None, Result, Ok, Err, refl, sym, ap, subst, ◌∙◌}
 use Rattle.std.specs.Prelude.{codes}
 use Rattle.std.specs.Str.{bytes_eq}
 use Rattle.std.proofs.lemmas.Slice.Eq.{bytes_eq-Decides}
@@ -7,22 +7,20 @@ use Rattle.gtid_text.specs.declared.Gtid.{Gtid}
 use Rattle.gtid_text.specs.Written.{IsUsable}
 use Rattle.gtid_text.specs.Canonical.{gtid_text}
 use Rattle.gtid_set.specs.Sets.{Gtids}
-use Rattle.rows.specs.declared.value.Value.{Value}
-use Rattle.rows.specs.declared.change.Change.{Change}
 use Rattle.rows.specs.declared.change.Change.TheVariants.{Insert, Delete, Update}
 use Rattle.rows.specs.declared.schema.Table.{Table}
 use Rattle.rows.specs.Names.{is_name}
 use Rattle.journal_words.specs.Words.{is_count, first_word, others}
 use Rattle.journal_words.specs.Gtids.{gtid_of_word, set_of_word}
 use Rattle.txn_journal.specs.WrittenSets.{set_text, IsWrittenSet}
-use Rattle.journal_words.proofs.Counts.{chosen, some_is, lacks, word_alone, word_and_more, first_word-front, others-front}
+use Rattle.journal_words.proofs.Counts.{chosen, some_is, word_alone, word_and_more, first_word-front, others-front}
 use Rattle.txn_journal.proofs.GtidLaws.{gtid_found, gtid_again}
 use Rattle.txn_journal.proofs.SetLaws.{set_found, set_again}
 use Rattle.txn_journal.specs.Words.{name_of}
 use Rattle.txn_journal.specs.Due.{is_due}
 use Rattle.txn_journal.specs.Lines.{◌>>=◌, some_or_body, keyword_of, due_word, takes_one, known, version_in, gtid_in, set_in, nothing_in, image_in, images_in, table_in}
 use Rattle.txn_journal.specs.Machine.{Standing, closed, add, begin, opened, followed, begun, ended, finished, step, judge}
-use Rattle.txn_journal.specs.Spelling.{Line, Header, Previous, Begin, Makes, End, Close, version_text, values_text, image_text, change_text, line_text, AreValues, FitsChange}
+use Rattle.txn_journal.specs.Spelling.{Line, Header, Previous, Begin, Makes, End, Close, version_text, values_text, line_text}
 use Rattle.txn_journal.specs.Causes.{word_for, FitsLine, HasImages, IsDueVersion}
 use Rattle.txn_journal.specs.declared.fault.Cause.{Cause}
 use Rattle.txn_journal.specs.declared.fault.Cause.TheVariants as causes
@@ -173,7 +171,7 @@ known_found due w v e =
       | inr p ↦ absurd (let n = p.1 in cc)
     ]
 
-version_found : (due : Option Version) (rest : Option (List ℕ)) (v : Version) → version_in due rest ≡ Ok v → (rest ≡ Some (version_text v)) × (takes_one due ≡ true)
+pub version_found : (due : Option Version) (rest : Option (List ℕ)) (v : Version) → version_in due rest ≡ Ok v → (rest ≡ Some (version_text v)) × (takes_one due ≡ true)
 version_found due None v e = absurd cc
 version_found due (Some w) v e =
     elim (chosen (is_count w) (known due w) (Err causes.Body) (Ok v) e) [
@@ -189,18 +187,18 @@ set_in_found : (rest : Option (List ℕ)) (s : Gtids) → set_in rest ≡ Ok s �
 set_in_found None s e = absurd cc
 set_in_found (Some w) s e = let f = set_found w s (some_or_body_ok (set_of_word w) s e) in (ap Some f.0, f.1)
 
-nothing_found : (rest : Option (List ℕ)) (u : Unit {0}) → nothing_in rest ≡ Ok u → rest ≡ None
+pub nothing_found : (rest : Option (List ℕ)) (u : Unit {0}) → nothing_in rest ≡ Ok u → rest ≡ None
 nothing_found None u e = refl
 nothing_found (Some t) u e = absurd cc
 
-name_found : (w name : List ℕ) → name_of w ≡ Some name → (w ≡ name) × (is_name name ≡ true)
+pub name_found : (w name : List ℕ) → name_of w ≡ Some name → (w ≡ name) × (is_name name ≡ true)
 name_found w name e =
     elim (chosen (is_name w) (Some w) None (Some name) e) [
       | inl p ↦ let same = some_is w name p.1 in (same, ap is_name (sym same) ∙ p.0)
       | inr p ↦ absurd cc
     ]
 
-table_found : (rest : Option (List ℕ)) (t : List ℕ × List ℕ) → table_in rest ≡ Ok t → (rest ≡ Some (t.0 ++ 32 ∷ t.1)) × (is_name t.0 ≡ true)
+pub table_found : (rest : Option (List ℕ)) (t : List ℕ × List ℕ) → table_in rest ≡ Ok t → (rest ≡ Some (t.0 ++ 32 ∷ t.1)) × (is_name t.0 ≡ true)
 table_found None t e = absurd cc
 table_found (Some text) t e =
     let a = bind_ok (some_or_body (others text)) (λ rest. some_or_body (name_of (first_word text)) >>= λ name. Ok (name, rest)) t e in
@@ -210,13 +208,13 @@ table_found (Some text) t e =
     subst (λ (p : List ℕ × List ℕ). (Some text ≡ Some (p.0 ++ 32 ∷ p.1)) × (is_name p.0 ≡ true)) (ok_is (b.0, a.0) t b.2) (ap Some whole, n.1)
 
 -- the line from its words
-with_more : (line w r : List ℕ) → first_word line ≡ w → others line ≡ Some r → line ≡ w ++ 32 ∷ r
+pub with_more : (line w r : List ℕ) → first_word line ≡ w → others line ≡ Some r → line ≡ w ++ 32 ∷ r
 with_more line w r first rest = word_and_more line r rest ∙ ap (λ (x : List ℕ). x ++ 32 ∷ r) first
 
-with_none : (line w : List ℕ) → first_word line ≡ w → others line ≡ None → line ≡ w
+pub with_none : (line w : List ℕ) → first_word line ≡ w → others line ≡ None → line ≡ w
 with_none line w first rest = word_alone line rest ∙ first
 
-with_table : (line w name text r : List ℕ) → first_word line ≡ w → others line ≡ Some (name ++ 32 ∷ text) → text ≡ r → line ≡ w ++ 32 ∷ (name ++ 32 ∷ r)
+pub with_table : (line w name text r : List ℕ) → first_word line ≡ w → others line ≡ Some (name ++ 32 ∷ text) → text ≡ r → line ≡ w ++ 32 ∷ (name ++ 32 ∷ r)
 with_table line w name text r first rest is = with_more line w (name ++ 32 ∷ text) first rest ∙ ap (λ (t : List ℕ). w ++ 32 ∷ (name ++ 32 ∷ t)) is
 
 body_found : (due : Option Version) (k : Keyword) (line : List ℕ) (l : Line) → first_word line ≡ text_of k → body_of due k (others line) ≡ Ok l → Spells due line k l
@@ -280,7 +278,7 @@ read_at : (due : Option Version) (p : Place) (line : List ℕ) (k : Keyword) (re
 unfolding read_line
 read_at due p line k rest w r is = rw (w, r, keyword_again k, is) refl
 
-table_again : (name text : List ℕ) → is_name name ≡ true → table_in (Some (name ++ 32 ∷ text)) ≡ Ok (name, text)
+pub table_again : (name text : List ℕ) → is_name name ≡ true → table_in (Some (name ++ 32 ∷ text)) ≡ Ok (name, text)
 table_again name text e = rw (others-front name text (name_no_blank name e), first_word-front name text (name_no_blank name e), e) refl
 
 pub read_again : (due : Option Version) (p : Place) (l : Line) → is_due p (word_for l) ≡ true → FitsLine l → HasImages l → IsDueVersion due l → read_line due p (line_text l) ≡ Ok l

@@ -1,16 +1,13 @@
 -- Reading byte by byte, line by line and piece by piece.
-use Rattle.std.proofs.Common.{◌≡◌, ℕ, ◌<◌, ◌⊎◌, Bool, true, false, eqb, not, List, [], ◌∷◌, ◌++◌, length, Option, Some, None, Result, Ok, Err, refl, sym, ap, ◌∙◌, append_assoc, inl, inr, arith}
+use Rattle.std.proofs.Common.{◌≡◌, ℕ, Bool, true, false, eqb, not, List, [], ◌∷◌, ◌++◌, Option, None, Result, Ok, Err, refl, sym, ap, ◌∙◌, append_assoc, inr}
 use Rattle.std.specs.Prelude.{◌&&◌}
 use Rattle.std.specs.List.{list_all}
 use Rattle.std.proofs.lemmas.List.{append-nil}
-use Rattle.gtid_set.specs.declared.fault.SetFault.{SetFault}
 use Rattle.txn_journal.specs.declared.fault.Cause.{Cause}
-use Rattle.txn_journal.specs.declared.fault.LineFault.{LineFault}
-use Rattle.txn_journal.specs.declared.fault.LineFault.TheVariants as wrong
 use Rattle.txn_journal.specs.declared.fault.JournalFault.{JournalFault}
 use Rattle.txn_journal.specs.declared.fault.JournalFault.TheVariants as faults
 use Rattle.txn_journal.specs.Words.{IsOneLine}
-use Rattle.txn_journal.specs.Stream.{Judge, TakesLine, Progress, Reading, Stopped, unless_stopped, next_number, judged, eat, eats, IsAfter, TakesPiece, answer}
+use Rattle.txn_journal.specs.Stream.{Judge, Progress, Reading, Stopped, unless_stopped, next_number, judged, eat, eats, IsAfter, TakesPiece, answer}
 
 pub stopped_stays : {S : Type 0} (judge : Judge S) (f : JournalFault) (bs : List ℕ) → eats judge (Stopped f) bs ≡ Stopped f
 unfolding eat

@@ -1,18 +1,16 @@
 -- Sets as words: what is read is spelled so, and what is spelled so is read.
-use Rattle.std.proofs.Common.{◌≡◌, ℕ, suc, ◌+◌, ◌^◌, ◌<◌, ◌≤◌, ◌⊎◌, Bool, true, false, cond, eqb, leb, ltb, not, List, [], ◌∷◌, ◌++◌, length, Option, Some, None, Result, Ok, Err, refl, sym, ap, subst, ◌∙◌, append_assoc, arith, inl, inr}
+use Rattle.std.proofs.Common.{◌≡◌, ℕ, ◌^◌, ◌<◌, ◌≤◌, Bool, true, false, cond, eqb, leb, not, List, [], ◌∷◌, ◌++◌, Option, Some, None, Result, Ok, Err, refl, sym, ap, subst, ◌∙◌, arith, inl, inr}
 use Rattle.std.specs.Prelude.{◌&&◌, ◌||◌, codes, decimal, option_map}
 use Rattle.std.specs.List.{list_all}
 use Rattle.std.specs.FinSet as set
 use Rattle.std.specs.Str.{bytes_eq}
-use Rattle.std.proofs.lemmas.Bool.{le-leb, eqb-true}
+use Rattle.std.proofs.lemmas.Bool.{le-leb}
 use Rattle.std.proofs.lemmas.Slice.Eq.{bytes_eq-Decides}
-use Rattle.gtid_text.specs.declared.Gtid.{Gtid}
 use Rattle.gtid_text.specs.declared.Span.{Span}
 use Rattle.gtid_text.specs.declared.scan.Refusal.{Refusal}
-use Rattle.gtid_text.specs.Scan.{source_of}
 use Rattle.gtid_text.specs.Reading.{spans_in, turn_at, element_at}
-use Rattle.gtid_text.specs.Grammar.{Number, Interval, Named, Element, IsNumber, IsUpper, IsInterval, AreIntervals, IsNamed, IsElement, AreElements, Spells}
-use Rattle.gtid_text.specs.Written.{IsSource, IsNumbered, IsUsableSpan, AreUsable, IsSpaced, spans_tokens, joined}
+use Rattle.gtid_text.specs.Grammar.{Number, Interval, Element, IsNumber, IsUpper, IsInterval, AreIntervals, IsElement, AreElements, Spells}
+use Rattle.gtid_text.specs.Written.{IsSource, IsNumbered, IsUsableSpan, AreUsable, IsSpaced, spans_tokens}
 use Rattle.gtid_text.specs.Canonical.{source_text, numbers_text, span_text, next_text, text_behind, spans_text}
 use Rattle.gtid_text.proofs.Found.{read_spells}
 use Rattle.gtid_text.proofs.Spelled.{spells_read}
@@ -24,7 +22,7 @@ use Rattle.gtid_set.proofs.SpanLemmas.{all_weaker, before_trans}
 use Rattle.gtid_set.specs.Runs.{runs}
 use Rattle.gtid_set.proofs.RunLemmas.{runs_merged}
 use Rattle.journal_words.specs.Values.{where_same}
-use Rattle.journal_words.specs.Gtids.{is_ascii_byte, same_or_none, if_ascii, are_tidy_behind, some_tidy, tidy_or_none, spans_of_word, set_with, set_of_word}
+use Rattle.journal_words.specs.Gtids.{is_ascii_byte, if_ascii, are_tidy_behind, some_tidy, tidy_or_none, spans_of_word, set_with, set_of_word}
 use Rattle.txn_journal.specs.WrittenSets.{spans_word, set_text, IsWrittenSet}
 use Rattle.journal_words.proofs.Numerals.{both}
 use Rattle.journal_words.proofs.Counts.{chosen, some_is, lacks}

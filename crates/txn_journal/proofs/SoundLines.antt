@@ -1,6 +1,6 @@
 -- What the lines so far have said is kept by one line more.
-use Rattle.std.proofs.Common.{◌≡◌, ℕ, suc, ◌+◌, ◌<◌, ◌≤◌, ◌⊎◌, inl, inr, Bool, true, false, not, cond, leb, List, [], ◌∷◌, ◌++◌, length, map, Option, Some, None, Result, Ok, Err, refl, sym, ap, subst, ◌∙◌, append_assoc, arith}
-use Rattle.std.specs.Prelude.{◌&&◌, ◌||◌}
+use Rattle.std.proofs.Common.{◌≡◌, ℕ, ◌+◌, ◌<◌, ◌≤◌, inl, inr, Bool, true, false, not, cond, leb, List, [], ◌∷◌, ◌++◌, length, map, Option, Result, Ok, Err, refl, sym, ap, subst, ◌∙◌, append_assoc, arith}
+use Rattle.std.specs.Prelude.{◌||◌}
 use Rattle.std.specs.List.{list_all, flat_map, AllByRecursion}
 use Rattle.std.specs.FinSet as set
 use Rattle.std.proofs.lemmas.Bool.{leb-false}
@@ -14,16 +14,14 @@ use Rattle.rows.specs.declared.change.Change.{Change}
 use Rattle.rows.specs.declared.change.Change.TheVariants.{Insert, Delete, Update}
 use Rattle.rows.specs.declared.schema.Table.{Table}
 use Rattle.journal.specs.declared.Entry.{Entry}
-use Rattle.journal.specs.Journals.{JournalValue, AreNew, IsJournal}
+use Rattle.journal.specs.Journals.{JournalValue, AreNew}
 use Rattle.journal.specs.Writing.{is_number, is_change_writable, is_writable}
 use Rattle.txn_journal.specs.WrittenSets.{IsWrittenSet}
-use Rattle.journal_words.proofs.Numerals.{both}
 use Rattle.journal_words.proofs.Counts.{chosen}
 use Rattle.txn_journal.specs.Due.{is_due}
-use Rattle.txn_journal.specs.Lines.{◌>>=◌}
 use Rattle.txn_journal.specs.Machine.{Standing, fits, closed, add, begin, judge}
-use Rattle.txn_journal.specs.Spelling.{Line, Header, Previous, Begin, Makes, End, Close, line_text, entry_lines, front_lines, journal_lines, FitsChange, FitsEntry, IsWritten}
-use Rattle.txn_journal.specs.Heard.{said_at, said}
+use Rattle.txn_journal.specs.Spelling.{Line, Header, Previous, Begin, Makes, End, Close, line_text, entry_lines, front_lines, FitsChange, FitsEntry, IsWritten}
+use Rattle.txn_journal.specs.Heard.{said}
 use Rattle.txn_journal.specs.declared.fault.Cause.{Cause}
 use Rattle.txn_journal.specs.declared.fault.Cause.TheVariants as causes
 use Rattle.txn_journal.specs.declared.lines.Place.{Place}
@@ -128,13 +126,13 @@ not_false : (a : Bool) → not a ≡ false → a ≡ true
 not_false true e = refl
 not_false false e = absurd cc
 
-record Begun (s : Standing) (g : Gtid) (t : Standing) : Type 0 where
-  number : is_number g.number ≡ true
-  room : s.count < 4294967294
-  unseen : set.contains s.seen g ≡ false
-  after : (record s { place = places.Within; gtid = g }) ≡ t
+pub record Begun (s : Standing) (g : Gtid) (t : Standing) : Type 0 where
+  pub number : is_number g.number ≡ true
+  pub room : s.count < 4294967294
+  pub unseen : set.contains s.seen g ≡ false
+  pub after : (record s { place = places.Within; gtid = g }) ≡ t
 
-begin_found : (s t : Standing) (g : Gtid) → begin s g ≡ Ok t → Begun s g t
+pub begin_found : (s t : Standing) (g : Gtid) → begin s g ≡ Ok t → Begun s g t
 unfolding begin
 begin_found s t g e =
     let last : Result Standing Cause = Ok (record s { place = places.Within; gtid = g }) in
@@ -151,13 +149,13 @@ begin_found s t g e =
       ]
     ]
 
-record Added (schema : Option (List Table)) (s : Standing) (c : Change) (t : Standing) : Type 0 where
-  room : length s.changes < 65536
-  writable : is_change_writable c ≡ true
-  taken : fits schema c ≡ true
-  after : (record s { changes = s.changes ++ c ∷ [] }) ≡ t
+pub record Added (schema : Option (List Table)) (s : Standing) (c : Change) (t : Standing) : Type 0 where
+  pub room : length s.changes < 65536
+  pub writable : is_change_writable c ≡ true
+  pub taken : fits schema c ≡ true
+  pub after : (record s { changes = s.changes ++ c ∷ [] }) ≡ t
 
-add_found : (schema : Option (List Table)) (s t : Standing) (c : Change) → add schema s c ≡ Ok t → Added schema s c t
+pub add_found : (schema : Option (List Table)) (s t : Standing) (c : Change) → add schema s c ≡ Ok t → Added schema s c t
 unfolding add
 add_found schema s t c e =
     let last : Result Standing Cause = Ok (record s { changes = s.changes ++ c ∷ [] }) in

@@ -1,5 +1,5 @@
 -- Entries that were taken are those that would have come in front.
-use Rattle.std.proofs.Common.{◌≡◌, ℕ, Bool, true, false, not, cond, eqb, leb, List, [], ◌∷◌, ◌++◌, length, Option, Some, None, Result, Ok, Err, refl, sym, ap, subst, ◌∙◌, append_assoc, arith}
+use Rattle.std.proofs.Common.{◌≡◌, ℕ, Bool, true, false, not, cond, eqb, leb, List, [], ◌∷◌, ◌++◌, length, None, Result, Ok, Err, refl, sym, ap, ◌∙◌, append_assoc}
 use Rattle.std.specs.Prelude.{◌||◌}
 use Rattle.std.specs.FinSet as set
 use Rattle.std.proofs.lemmas.List.{append-nil}
@@ -10,8 +10,8 @@ use Rattle.journal.specs.Journals.{JournalValue}
 use Rattle.journal.specs.Writing.{is_number, is_change_writable}
 use Rattle.txn_journal.specs.Due.{is_due}
 use Rattle.txn_journal.specs.Lines.{◌>>=◌}
-use Rattle.txn_journal.specs.Machine.{Standing, is_last, emptied, closed, add, begin, judge}
-use Rattle.txn_journal.specs.Stream.{Progress, Reading, Stopped, judged, next_number, eat, eats, ended}
+use Rattle.txn_journal.specs.Machine.{Standing, is_last, closed, add, begin, judge}
+use Rattle.txn_journal.specs.Stream.{Progress, Reading, Stopped, judged, next_number, eat, ended}
 use Rattle.txn_journal.specs.Reading.{eats_alone, entries_of, without_entries, whole_journal, closing, in_front, behind_entries, with_front, has_begun, HasBegun}
 use Rattle.txn_journal.specs.Spelling.{Line, Header, Previous, Begin, Makes, End, Close}
 use Rattle.txn_journal.specs.Causes.{word_for}

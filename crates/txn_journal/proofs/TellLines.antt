@@ -1,21 +1,20 @@
 -- What the reading of a text tells of it.
-use Rattle.std.proofs.Common.{◌≡◌, ℕ, zero, suc, ◌+◌, ◌-◌, ◌^◌, ◌<◌, ◌≤◌, Bool, true, false, cond, eqb, not, List, [], ◌∷◌, ◌++◌, length, map, Option, Some, None, Result, Ok, Err, refl, sym, ap, subst, ◌∙◌, append_assoc, arith}
-use Rattle.std.specs.Prelude.{◌&&◌, min}
-use Rattle.std.specs.List.{list_all, flat_map}
+use Rattle.std.proofs.Common.{◌≡◌, ℕ, ◌+◌, true, false, cond, eqb, not, List, [], ◌∷◌, ◌++◌, length, map, None, Result, Ok, Err, refl, sym, ap, subst, ◌∙◌, append_assoc, arith}
+use Rattle.std.specs.Prelude.{◌&&◌}
+use Rattle.std.specs.List.{list_all}
 use Rattle.std.specs.FinSet as set
 use Rattle.std.proofs.lemmas.List.{append-nil, length-append}
 use Rattle.std.proofs.lemmas.List.Concat.{flat_map-append}
 use Rattle.std.proofs.lemmas.Bool.{eqb-true}
 use Rattle.gtid_text.specs.declared.Gtid.{Gtid}
 use Rattle.gtid_set.specs.Sets.{Gtids}
-use Rattle.gtid_set.specs.Spans.{set_of}
 use Rattle.rows.specs.declared.change.Change.{Change}
 use Rattle.journal.specs.Journals.{JournalValue}
 use Rattle.txn_journal.specs.Words.{IsOneLine}
-use Rattle.txn_journal.specs.Machine.{Standing, empty, judge}
-use Rattle.txn_journal.specs.Stream.{Progress, Reading, Stopped, judged, next_number, eat, eats}
+use Rattle.txn_journal.specs.Machine.{Standing, judge}
+use Rattle.txn_journal.specs.Stream.{Progress, Reading, Stopped, judged, next_number, eat}
 use Rattle.txn_journal.specs.Reading.{before_first, eats_alone}
-use Rattle.txn_journal.specs.Spelling.{Line, Header, Previous, Begin, Makes, End, Close, ended_line, lines_text, front_lines, journal_lines, spelling, IsWritten, Writes}
+use Rattle.txn_journal.specs.Spelling.{Line, Header, Previous, Begin, Makes, End, Close, ended_line, lines_text, front_lines, journal_lines, IsWritten}
 use Rattle.txn_journal.specs.Heard.{said_at, said}
 use Rattle.txn_journal.specs.Refused.{Begins, capped, IsFirstFaulty}
 use Rattle.txn_journal.specs.declared.fault.Cause.{Cause}
@@ -29,17 +28,17 @@ use Rattle.txn_journal.proofs.SetLaws.{none_written}
 use Rattle.txn_journal.proofs.Pieces.{eats_append, stopped_stays}
 use Rattle.txn_journal.proofs.CauseLines.{judge_cause}
 use Rattle.txn_journal.proofs.SoundLines.{Sound_at, IsSound, with_entry, entry_of, whole_more, ended_entry, whole_written, judge_found}
-use Rattle.txn_journal.proofs.WholeLines.{reads_all}
+use Rattle.txn_journal.proofs.WholeLines.{reads_text}
 
 -- ---- what has been read can be gone on with
 
 completes : (ls more : List Line) (j : JournalValue) → IsWritten j → journal_lines One j ≡ ls ++ more → Begins (lines_text ls)
 completes ls more j fits e = (j, lines_text more, (fits, sym (flat_map-append ended_line ls more) ∙ ap lines_text (sym e)))
 
-abbrev no_entries : JournalValue
+abbrev pub no_entries : JournalValue
 no_entries = record { previous = set.empty; entries = [] }
 
-no_entries_fit : IsWritten no_entries
+pub no_entries_fit : IsWritten no_entries
 no_entries_fit = record { keeps = record { new = tt; writable = refl }; few = omega arith; previous = none_written; entries = tt }
 
 begins_at : (place : Place) (version : Version) (j : JournalValue) (seen : Gtids) (count : ℕ) (g : Gtid) (cs : List Change) → Sound_at place j seen count g cs → Begins (lines_text (said_at place version j g cs))
@@ -79,10 +78,9 @@ refused before f e b =
     let j = b.0 in
     let more = b.1 in
     let w = b.2 in
-    let all = reads_all j w.0 in
-    let r = all.leads.reads 0 in
+    let r = reads_text j w.0 in
     let one : eats_alone before_first (before ++ more) ≡ Stopped f = eats_append (judge None) before_first before more ∙ ap (λ (p : Progress Standing). eats_alone p more) e ∙ stopped_stays (judge None) f more in
-    let two = sym one ∙ ap (eats_alone before_first) w.1 ∙ r.1 in
+    let two = sym one ∙ ap (eats_alone before_first) w.1 ∙ r.reads in
     absurd cc
 
 tells_line : (before : List ℕ) (s t : Standing) (n : ℕ) (rest : List ℕ) → Heard before s n rest → judge None s rest ≡ Ok t → Heard (before ++ 10 ∷ []) t (next_number n) []
@@ -114,10 +112,10 @@ tells_fault before s n rest cause h j e =
       faulty = λ b. refused (before ++ 10 ∷ []) (faults.Line (next_number n) cause) e (subst Begins (sym parts) b);
       standing = s;
       heard = refl;
-      has_cause = judge_cause s rest cause j;
+      has_cause = judge_cause None s rest cause j;
     }
 
-lacks_more : (rest : List ℕ) (b : ℕ) → eqb b 10 ≡ false → IsOneLine rest → IsOneLine (rest ++ b ∷ [])
+pub lacks_more : (rest : List ℕ) (b : ℕ) → eqb b 10 ≡ false → IsOneLine rest → IsOneLine (rest ++ b ∷ [])
 lacks_more [] b ne h = rw ne refl
 lacks_more (c ∷ cs) b ne h =
     elim (eqb c 10) as (λ v. (not v && list_all (λ x. not (eqb x 10)) cs) ≡ true → (not v && list_all (λ x. not (eqb x 10)) (cs ++ b ∷ [])) ≡ true) [

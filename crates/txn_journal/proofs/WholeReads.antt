@@ -1,6 +1,5 @@
 -- What one feed and finish give is what the whole text gives.
-use Rattle.std.proofs.Common.{◌≡◌, ℕ, ◌⊎◌, inl, inr, List, Result, Ok, Err, refl, sym, ap, ◌∙◌}
-use Rattle.gtid_set.specs.declared.fault.SetFault.{SetFault}
+use Rattle.std.proofs.Common.{◌≡◌, inl, inr, Result, Err, refl, sym, ap, ◌∙◌}
 use Rattle.journal.specs.Journals.{JournalValue}
 use Rattle.txn_journal.specs.Machine.{Standing}
 use Rattle.txn_journal.specs.Stream.{Progress, Reading, Stopped, IsAfter, answer}
@@ -8,7 +7,7 @@ use Rattle.txn_journal.specs.Reading.{closing, IsWhole}
 use Rattle.txn_journal.specs.declared.fault.JournalFault.{JournalFault}
 use Rattle.txn_journal.specs.declared.fault.JournalFault.TheVariants as faults
 
-abbrev stops : JournalFault → Result (Unit {0}) JournalFault
+abbrev pub stops : JournalFault → Result (Unit {0}) JournalFault
 stops e = Err e
 
 abbrev fails : JournalFault → Result JournalValue JournalFault
@@ -17,7 +16,7 @@ fails e = Err e
 abbrev stop : JournalFault → Progress Standing
 stop e = Stopped e
 
-same_fault : (e f : JournalFault) → stops e ≡ stops f → e ≡ f
+pub same_fault : (e f : JournalFault) → stops e ≡ stops f → e ≡ f
 same_fault e f h = cc
 
 same_stop : (e f : JournalFault) → stop e ≡ stop f → e ≡ f

@@ -11,10 +11,9 @@ use Rattle.rows.specs.declared.value.Value.{Value}
 use Rattle.rows.specs.declared.change.Change.{Change}
 use Rattle.rows.specs.declared.change.Change.TheVariants.{Update}
 use Rattle.journal.specs.declared.Entry.{Entry}
-use Rattle.journal.specs.Journals.{JournalValue}
 use Rattle.journal_words.specs.Values.{value_text}
 use Rattle.txn_journal.specs.WrittenSets.{set_text}
-use Rattle.txn_journal.specs.Spelling.{Line, Previous, Makes, Begin, End, Close, values_behind, values_text, image_text, change_text, ended_line, lines_text, entry_lines, spelling}
+use Rattle.txn_journal.specs.Spelling.{Previous, Makes, Begin, End, Close, values_behind, values_text, image_text, change_text, ended_line, lines_text, entry_lines, spelling}
 use Rattle.txn_journal.specs.Texts.{changes_text, entries_text, parts_text}
 
 -- the first of some values, and the others behind it

@@ -1,14 +1,15 @@
 -- What is wrong with a line, said of its words and not of the way in which it is read.
-use Rattle.std.specs.Prelude.{◌≡◌, ◌⊎◌, ℕ, ◌<◌, ◌≤◌, true, false, List, ◌∷◌, ◌++◌, length, Option, Some, None, codes}
+use Rattle.std.specs.Prelude.{◌≡◌, ◌⊎◌, ℕ, ◌<◌, ◌≤◌, true, false, List, ◌∷◌, ◌++◌, length, Option, Some, codes}
 use Rattle.std.specs.FinSet as set
 use Rattle.gtid_text.specs.Written.{IsUsable}
 use Rattle.rows.specs.declared.change.Change.{Change}
 use Rattle.rows.specs.declared.change.Change.TheVariants.{Insert, Delete, Update}
+use Rattle.rows.specs.declared.schema.Table.{Table}
 use Rattle.journal.specs.Writing.{is_change_writable}
 use Rattle.journal_words.specs.Words.{is_count, first_word}
 use Rattle.txn_journal.specs.Due.{is_due}
 use Rattle.txn_journal.specs.Lines.{keyword_of, takes_one}
-use Rattle.txn_journal.specs.Machine.{Standing}
+use Rattle.txn_journal.specs.Machine.{Standing, fits}
 use Rattle.txn_journal.specs.WrittenSets.{IsWrittenSet}
 use Rattle.txn_journal.specs.Spelling.{Line, Header, Previous, Begin, Makes, End, Close, line_text, FitsChange}
 use Rattle.txn_journal.specs.declared.fault.Cause.{Cause}
@@ -63,15 +64,15 @@ PassesLimit s (Begin g) = 4294967294 ≤ s.count
 PassesLimit s (Makes change) = (65536 ≤ length s.changes) ⊎ (is_change_writable change ≡ false)
 PassesLimit s _ = ⊥
 
-abbrev pub HasCause : Standing → List ℕ → Cause → Type 0
+abbrev pub HasCause : Option (List Table) → Standing → List ℕ → Cause → Type 0
 -- the first word is none of those due there
-HasCause s line causes.Keyword = (k : Keyword) → keyword_of (first_word line) ≡ Some k → is_due s.place k ≡ true → ⊥
+HasCause schema s line causes.Keyword = (k : Keyword) → keyword_of (first_word line) ≡ Some k → is_due s.place k ≡ true → ⊥
 -- a header is due and stands there, with a count that is no version known there
-HasCause s line causes.Version = (w : List ℕ) × (line ≡ codes "journal" ++ 32 ∷ w) × (is_count w ≡ true) × (is_due s.place keywords.Journal ≡ true) × ((l : Line) → Says s line l → ⊥)
+HasCause schema s line causes.Version = (w : List ℕ) × (line ≡ codes "journal" ++ 32 ∷ w) × (is_count w ≡ true) × (is_due s.place keywords.Journal ≡ true) × ((l : Line) → Says s line l → ⊥)
 -- a word is due and stands first, and the line spells nothing
-HasCause s line causes.Body = (k : Keyword) × (keyword_of (first_word line) ≡ Some k) × (is_due s.place k ≡ true) × ((l : Line) → Says s line l → ⊥)
-HasCause s line causes.Limit = (l : Line) × Says s line l × PassesLimit s l
--- a journal that stands alone has no schema
-HasCause s line causes.Schema = ⊥
+HasCause schema s line causes.Body = (k : Keyword) × (keyword_of (first_word line) ≡ Some k) × (is_due s.place k ≡ true) × ((l : Line) → Says s line l → ⊥)
+HasCause schema s line causes.Limit = (l : Line) × Says s line l × PassesLimit s l
+-- a change that no table takes, where there is a schema
+HasCause schema s line causes.Schema = (change : Change) × Says s line (Makes change) × (PassesLimit s (Makes change) → ⊥) × (fits schema change ≡ false)
 -- the GTID is in the previous set, or stood before
-HasCause s line (causes.Twice g) = Says s line (Begin g) × (s.count < 4294967294) × (set.contains s.seen g ≡ true)
+HasCause schema s line (causes.Twice g) = Says s line (Begin g) × (s.count < 4294967294) × (set.contains s.seen g ≡ true)

@@ -1,5 +1,5 @@
 -- The first faulty line of a text, and what else is no journal.
-use Rattle.std.specs.Prelude.{◌≡◌, ◌⊎◌, ℕ, ◌+◌, ◌-◌, ◌^◌, ◌<◌, min, List, [], ◌∷◌, ◌++◌, length, Result, Ok, Err}
+use Rattle.std.specs.Prelude.{◌≡◌, ◌⊎◌, ℕ, ◌+◌, ◌-◌, ◌^◌, ◌<◌, min, List, [], ◌∷◌, ◌++◌, length, None, Result, Ok, Err}
 use Rattle.journal.specs.Journals.{JournalValue}
 use Rattle.txn_journal.specs.Words.{IsOneLine}
 use Rattle.txn_journal.specs.Machine.{Standing}
@@ -32,7 +32,7 @@ pub record IsFirstFaulty (bytes : List ℕ) (n : ℕ) (cause : Cause) : Type 0 w
   pub faulty : Begins (lines_text before ++ (line ++ 10 ∷ [])) → ⊥
   pub standing : Standing
   pub heard : said standing ≡ before
-  pub has_cause : HasCause standing line cause
+  pub has_cause : HasCause None standing line cause
 
 -- The text has whole lines with which a journal may begin, and then less than a line.
 pub record IsFront (bytes : List ℕ) (n : ℕ) : Type 0 where

@@ -1,10 +1,15 @@
 //! Bundles: a replica's tables and opening rows, and the journals that its channels bring.
-ghost use Rattle.std.specs.Prelude.{◌≡◌, length};
+ghost use Rattle.std.specs.Prelude.{◌≡◌, ◌∷◌, ◌++◌, [], OnOk, OnErr};
+ghost use Rattle.txn_journal.specs.Stream.{TakesLine};
+ghost use Rattle.txn_journal.specs.BundleStates.{with_opening};
 
+use crate::fault::{Cause, LineFault};
+use gtid_set::SetFault;
 use gtid_text::SourceId;
 use journal::Journal;
-use rows::{Name, Rows, Schema};
+use rows::{ApplyFault, Name, Row, Rows, Schema};
 use std::alloc::{AllocError, Global};
+use std::marker::Model;
 
 /// A channel of a replica.
 #[derive(Drop)]
@@ -22,12 +27,26 @@ pub struct Bundle {
     rows: Rows,
     channels: Vec<Channel>,
     journals: Vec<Journal>,
-    ghost paired: { length channels.items ≡ length journals.items },
+}
+
+impl Model for Bundle {
+    ghost use Rattle.std.specs.Coded.{codes};
+    ghost use Rattle.gtid_set.specs.Sets.{gtids_code};
+    ghost use Rattle.rows.specs.Coding.{rows_code};
+    ghost use Rattle.txn_journal.specs.BundleStates.{BundleValue};
+
+    ghost Value = { BundleValue };
+
+    ghost coded = { Prim.hlevel (codes, gtids_code, rows_code) };
+
+    ghost view = { λ b. record { replica = b.replica; start = b.rows; channels = b.channels.items; journals = b.journals.items } };
 }
 
 impl Bundle {
     /// A bundle without channels.
-    pub fn open(alloc: Global, replica: SourceId, rows: Rows) -> Bundle {
+    pub(crate) fn open(alloc: Global, replica: SourceId, rows: Rows) -> Bundle
+        ensures { result ≡ record { replica = replica; start = rows; channels = []; journals = [] } }
+    {
         Bundle {
             replica,
             rows,
@@ -37,7 +56,9 @@ impl Bundle {
     }
 
     /// Adds a channel behind the others.
-    pub fn add(&mut self, channel: Channel, journal: Journal) -> Result<(), AllocError> {
+    pub(crate) fn add(&mut self, channel: Channel, journal: Journal) -> Result<(), AllocError>
+        ensures ok { OnOk result (self.new ≡ record self.old { channels = self.old.channels ++ channel ∷ []; journals = self.old.journals ++ journal ∷ [] }) }
+    {
         self.journals.reserve(1)?;
         self.channels.push(channel)?;
         self.journals.push(journal)?;
@@ -45,32 +66,50 @@ impl Bundle {
     }
 
     /// The UUID of the replica.
-    pub fn replica(&self) -> SourceId {
+    pub fn replica(&self) -> SourceId
+        ensures { result ≡ self.now.replica }
+    {
         self.replica
     }
 
     /// The tables.
-    pub fn schema(&self) -> &Schema {
+    pub fn schema(&self) -> &Schema
+        ensures { result.now ≡ self.now.start.schema }
+    {
         self.rows.schema()
     }
 
     /// The opening rows.
-    pub fn rows(&self) -> &Rows {
+    pub fn rows(&self) -> &Rows
+        ensures { result.now ≡ self.now.start }
+    {
         &self.rows
     }
 
-    /// The opening rows, to be added to.
-    pub(crate) fn rows_mut(&mut self) -> &mut Rows {
-        &mut self.rows
-    }
-
     /// The channels, in order.
-    pub fn channels(&self) -> &[Channel] {
+    pub fn channels(&self) -> &[Channel]
+        ensures { result.now ≡ self.now.channels }
+    {
         &self.channels
     }
 
     /// The journal of each channel, in order.
-    pub fn journals(&self) -> &[Journal] {
+    pub fn journals(&self) -> &[Journal]
+        ensures { result.now ≡ self.now.journals }
+    {
         &self.journals
+    }
+
+    /// Puts an opening row, as a transaction of one insert would.
+    pub(crate) fn put(&mut self, alloc: Global, table: &Name, row: &Row) -> Result<(), LineFault>
+        ensures rows { TakesLine result (with_opening self.old.start (record { table = table.now; row = row.now })) self.new.start.rows }
+        ensures same { OnOk result (self.new ≡ record self.old { start = record self.old.start { rows = self.new.start.rows } }) }
+    {
+        match self.rows.put(alloc, table, row) {
+            Ok(()) => Ok(()),
+            Err(ApplyFault::Memory) => Err(LineFault::Set(SetFault::Memory)),
+            Err(ApplyFault::NotInSchema(_)) => Err(LineFault::Wrong(Cause::Schema)),
+            Err(ApplyFault::Row(_)) => Err(LineFault::Wrong(Cause::Schema)),
+        }
     }
 }

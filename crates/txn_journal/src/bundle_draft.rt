@@ -1,5 +1,7 @@
 //! A bundle as far as its lines have come.
-ghost use Rattle.std.specs.Prelude.{◌≡◌};
+ghost use Rattle.std.specs.Prelude.{◌≡◌, option_map};
+ghost use Rattle.txn_journal.specs.Stream.{Finds};
+ghost use Rattle.txn_journal.specs.BundleStates.{word_of, replica_in, preserve_in, channel_in, has_channel};
 
 use crate::bundle::{Bundle, Channel};
 use crate::draft::{Draft, version_in};
@@ -7,11 +9,10 @@ use crate::fault::{Cause, LineFault};
 use crate::images::{image, table_at};
 use crate::lines::Version;
 use crate::names::Names;
-use crate::tables::table_words;
-use gtid_set::SetFault;
+use crate::tables::add_table;
 use gtid_text::SourceId;
 use journal_words::{cut, source_word};
-use rows::{ApplyFault, Name, Row, Rows, Schema, SchemaFault, TableFault};
+use rows::{Name, Row, Rows, Schema};
 use std::alloc::Global;
 use std::mem;
 
@@ -41,21 +42,33 @@ pub enum Word {
     Done,
 }
 
-fn word_at(word: &[u8]) -> Option<Word> {
-    match word {
-        b"bundle" => Some(Word::Bundle),
-        b"replica" => Some(Word::Replica),
-        b"table" => Some(Word::Table),
-        b"row" => Some(Word::Row),
-        b"channel" => Some(Word::Channel),
-        b"done" => Some(Word::Done),
-        _ => None,
+fn word_at(word: &[u8]) -> Option<Word>
+    ensures { result ≡ word_of word.now }
+{
+    if word == b"bundle".as_slice() {
+        Some(Word::Bundle)
+    } else if word == b"replica".as_slice() {
+        Some(Word::Replica)
+    } else if word == b"table".as_slice() {
+        Some(Word::Table)
+    } else if word == b"row".as_slice() {
+        Some(Word::Row)
+    } else if word == b"channel".as_slice() {
+        Some(Word::Channel)
+    } else if word == b"done".as_slice() {
+        Some(Word::Done)
+    } else {
+        None
     }
 }
 
 impl Part {
+    ghost use Rattle.txn_journal.specs.BundleStates.{is_due_in};
+
     /// Whether a line of this word may stand here.
-    fn takes(self, word: Word) -> bool {
+    fn takes(self, word: Word) -> bool
+        ensures { result ≡ is_due_in self word }
+    {
         match self {
             Part::Header => matches!(word, Word::Bundle),
             Part::Replica => matches!(word, Word::Replica),
@@ -82,49 +95,65 @@ pub struct BundleDraft {
     draft: Draft,
 }
 
-fn wrong<T>(cause: Cause) -> Result<T, LineFault> {
-    Err(LineFault::Wrong(cause))
-}
-
-/// Puts an opening row.
-fn put(alloc: Global, rows: &mut Rows, table: &Name, row: &Row) -> Result<(), LineFault> {
-    match rows.put(alloc, table, row) {
-        Ok(()) => Ok(()),
-        Err(ApplyFault::Memory) => Err(LineFault::Set(SetFault::Memory)),
-        Err(ApplyFault::NotInSchema(_)) => wrong(Cause::Schema),
-        Err(ApplyFault::Row(_)) => wrong(Cause::Schema),
+/// The replica that a line names.
+fn replica_in(alloc: Global, rest: Option<&[u8]>) -> Result<SourceId, LineFault>
+    ensures { Finds (λ r. r) result (replica_in (option_map (λ r. r.now) rest.entry)) }
+{
+    let Some(word) = rest else {
+        return Err(LineFault::Wrong(Cause::Body));
+    };
+    match source_word(alloc, word)? {
+        Some(replica) => Ok(replica),
+        None => Err(LineFault::Wrong(Cause::Body)),
     }
 }
 
 /// A channel's name, and whether it preserves order.
-fn channel_in(alloc: Global, names: &mut Names, rest: Option<&[u8]>) -> Result<Channel, LineFault> {
+#[tactic(auto, unfolding(crate::specs::BundleStates::channel_in))]
+fn channel_in(alloc: Global, names: &mut Names, rest: Option<&[u8]>) -> Result<Channel, LineFault>
+    ensures { Finds (λ c. c) result (channel_in (option_map (λ r. r.now) rest.entry)) }
+{
     let Some(text) = rest else {
-        return wrong(Cause::Body);
+        return Err(LineFault::Wrong(Cause::Body));
     };
     let (word, more) = cut(text);
     let Some(name) = names.read(alloc, word)? else {
-        return wrong(Cause::Body);
+        return Err(LineFault::Wrong(Cause::Body));
     };
-    match more {
-        None => Ok(Channel {
-            name,
-            preserve: false,
-        }),
-        Some(b"preserve") => Ok(Channel {
-            name,
-            preserve: true,
-        }),
-        Some(_) => wrong(Cause::Body),
+    let preserve = preserve_in(more)?;
+    Ok(Channel { name, preserve })
+}
+
+/// Whether the word behind a channel's name says that order is preserved.
+fn preserve_in(rest: Option<&[u8]>) -> Result<bool, LineFault>
+    ensures { Finds (λ b. b) result (preserve_in (option_map (λ r. r.now) rest.entry)) }
+{
+    match rest {
+        None => Ok(false),
+        Some(word) => if word == b"preserve".as_slice() {
+            Ok(true)
+        } else {
+            Err(LineFault::Wrong(Cause::Body))
+        },
     }
 }
 
-fn has_channel(channels: &[Channel], name: &Name) -> bool {
+fn has_channel(channels: &[Channel], name: &Name) -> bool
+    ensures { result ≡ has_channel channels.now name.now }
+{
     channels.iter().any(|channel| channel.name == *name)
 }
 
 impl BundleDraft {
+    ghost use Rattle.std.specs.Prelude.{option_map, Ok};
+    ghost use Rattle.txn_journal.specs.Stream.{TakesLine};
+    ghost use Rattle.txn_journal.specs.BundleStates.{no_bundle, is_done, headed, named, tabled, rowed, put_row, behind_tables, channelled, joined_channel, all_done, own_step, judge_own, after_inner, judge_inner, judge_bundle};
+    ghost use Rattle.txn_journal.specs.BundleDrafts.{bundle_standing};
+
     /// Before the first line.
-    pub fn start(alloc: Global) -> BundleDraft {
+    pub fn start(alloc: Global) -> BundleDraft
+        ensures { bundle_standing result ≡ no_bundle }
+    {
         BundleDraft {
             part: Part::Header,
             version: Version::One,
@@ -141,72 +170,77 @@ impl BundleDraft {
     }
 
     /// Whether the last line has come.
-    pub fn is_ended(&self) -> bool {
+    pub fn is_ended(&self) -> bool
+        ensures { result ≡ is_done (bundle_standing self.now).part }
+    {
         self.part == Part::Ended
     }
 
     /// The bundle.
-    pub fn into_bundle(self) -> Bundle {
+    pub fn into_bundle(self) -> Bundle
+        ensures { result ≡ (bundle_standing self).bundle }
+    {
         self.bundle
     }
 
+    #[tactic(auto, unfolding(crate::specs::BundleStates::own_step))]
     /// Takes a line of the bundle's own.
-    fn take(&mut self, alloc: Global, word: Word, rest: Option<&[u8]>) -> Result<(), LineFault> {
+    fn take(&mut self, alloc: Global, word: Word, rest: Option<&[u8]>) -> Result<(), LineFault>
+        ensures { TakesLine result (own_step (bundle_standing self.old) word (option_map (λ r. r.now) rest.entry)) (bundle_standing self.new) }
+    {
         match word {
-            Word::Bundle => {
-                self.version = version_in(None, rest)?;
-                self.part = Part::Replica;
-                Ok(())
-            }
+            Word::Bundle => self.read_header(rest),
             Word::Replica => self.name_replica(alloc, rest),
             Word::Table => self.add_table(alloc, rest),
             Word::Row => self.add_row(alloc, rest),
             Word::Channel => self.open_channel(alloc, rest),
-            Word::Done => match rest {
-                None => {
-                    self.leave_tables(alloc);
-                    self.part = Part::Ended;
-                    Ok(())
-                }
-                Some(_) => wrong(Cause::Body),
-            },
+            Word::Done => self.end(alloc, rest),
         }
     }
 
-    fn name_replica(&mut self, alloc: Global, rest: Option<&[u8]>) -> Result<(), LineFault> {
-        let Some(word) = rest else {
-            return wrong(Cause::Body);
-        };
-        let Some(replica) = source_word(alloc, word)? else {
-            return wrong(Cause::Body);
-        };
-        let rows = Rows::open(alloc, Schema::empty(alloc));
-        self.bundle = Bundle::open(alloc, replica, rows);
-        self.part = Part::Tables;
-        Ok(())
+    #[tactic(auto, unfolding(crate::specs::BundleStates::headed))]
+    fn read_header(&mut self, rest: Option<&[u8]>) -> Result<(), LineFault>
+        ensures { TakesLine result (headed (bundle_standing self.old) (option_map (λ r. r.now) rest.entry)) (bundle_standing self.new) }
+    {
+        match version_in(None, rest) {
+            Ok(version) => {
+                self.version = version;
+                self.part = Part::Replica;
+                Ok(())
+            }
+            Err(fault) => Err(fault),
+        }
     }
 
-    fn add_table(&mut self, alloc: Global, rest: Option<&[u8]>) -> Result<(), LineFault> {
+    #[tactic(auto, unfolding(crate::specs::BundleStates::named))]
+    fn name_replica(&mut self, alloc: Global, rest: Option<&[u8]>) -> Result<(), LineFault>
+        ensures { TakesLine result (named (bundle_standing self.old) (option_map (λ r. r.now) rest.entry)) (bundle_standing self.new) }
+    {
+        match replica_in(alloc, rest) {
+            Ok(replica) => {
+                let rows = Rows::open(alloc, Schema::empty(alloc));
+                self.bundle = Bundle::open(alloc, replica, rows);
+                self.part = Part::Tables;
+                Ok(())
+            }
+            Err(fault) => Err(fault),
+        }
+    }
+
+    #[tactic(auto, unfolding(crate::specs::BundleStates::tabled))]
+    fn add_table(&mut self, alloc: Global, rest: Option<&[u8]>) -> Result<(), LineFault>
+        ensures { TakesLine result (tabled (bundle_standing self.old) (option_map (λ r. r.now) rest.entry)) (bundle_standing self.new) }
+    {
         let Some(text) = rest else {
-            return wrong(Cause::Body);
+            return Err(LineFault::Wrong(Cause::Body));
         };
-        let words = table_words(alloc, &mut self.names, text)?;
-        let columns = words.columns()?;
-        if self.schema.tables().len() >= 256 {
-            return wrong(Cause::Limit);
-        }
-        let table = words.table(alloc, columns)?;
-        match self.schema.add(table) {
-            Ok(()) => Ok(()),
-            Err(SchemaFault::Memory) => Err(LineFault::Set(SetFault::Memory)),
-            Err(SchemaFault::Table(TableFault::Body)) => wrong(Cause::Body),
-            Err(SchemaFault::Table(TableFault::Limit)) => wrong(Cause::Limit),
-            Err(SchemaFault::Table(TableFault::Schema)) => wrong(Cause::Schema),
-        }
+        add_table(alloc, &mut self.names, &mut self.schema, text)
     }
 
     /// Opens the rows, where the tables end here.
-    fn leave_tables(&mut self, alloc: Global) {
+    fn leave_tables(&mut self, alloc: Global)
+        ensures { bundle_standing self.new ≡ behind_tables (bundle_standing self.old) }
+    {
         if self.part == Part::Tables {
             let schema = mem::replace(&mut self.schema, Schema::empty(alloc));
             let replica = self.bundle.replica();
@@ -215,24 +249,43 @@ impl BundleDraft {
         }
     }
 
-    fn add_row(&mut self, alloc: Global, rest: Option<&[u8]>) -> Result<(), LineFault> {
+    #[tactic(auto, unfolding(crate::specs::BundleStates::rowed))]
+    fn add_row(&mut self, alloc: Global, rest: Option<&[u8]>) -> Result<(), LineFault>
+        ensures { TakesLine result (rowed (bundle_standing self.old) (option_map (λ r. r.now) rest.entry)) (bundle_standing self.new) }
+    {
         let (table, text) = table_at(&mut self.names, alloc, rest)?;
         let row = image(alloc, text)?;
         if !journal::is_image_writable(&row) {
-            return wrong(Cause::Limit);
+            return Err(LineFault::Wrong(Cause::Limit));
         }
         self.leave_tables(alloc);
-        put(alloc, self.bundle.rows_mut(), &table, &row)
+        self.put(alloc, &table, &row)
     }
 
-    fn open_channel(&mut self, alloc: Global, rest: Option<&[u8]>) -> Result<(), LineFault> {
+    #[tactic(auto, unfolding(crate::specs::BundleStates::put_row))]
+    fn put(&mut self, alloc: Global, table: &Name, row: &Row) -> Result<(), LineFault>
+        ensures { TakesLine result (put_row (bundle_standing self.old) (record { table = table.now; row = row.now })) (bundle_standing self.new) }
+    {
+        self.bundle.put(alloc, table, row)
+    }
+
+    #[tactic(auto, unfolding(crate::specs::BundleStates::channelled))]
+    fn open_channel(&mut self, alloc: Global, rest: Option<&[u8]>) -> Result<(), LineFault>
+        ensures { TakesLine result (channelled (bundle_standing self.old) (option_map (λ r. r.now) rest.entry)) (bundle_standing self.new) }
+    {
         let channel = channel_in(alloc, &mut self.names, rest)?;
-        let channels = self.bundle.channels();
-        if channels.len() >= MAX_CHANNELS {
-            return wrong(Cause::Limit);
+        self.join(alloc, channel)
+    }
+
+    #[tactic(auto, unfolding(crate::specs::BundleStates::joined_channel))]
+    fn join(&mut self, alloc: Global, channel: Channel) -> Result<(), LineFault>
+        ensures { TakesLine result (joined_channel (bundle_standing self.old) channel) (bundle_standing self.new) }
+    {
+        if self.bundle.channels().len() >= MAX_CHANNELS {
+            return Err(LineFault::Wrong(Cause::Limit));
         }
-        if has_channel(channels, &channel.name) {
-            return wrong(Cause::Schema);
+        if has_channel(self.bundle.channels(), &channel.name) {
+            return Err(LineFault::Wrong(Cause::Schema));
         }
         self.leave_tables(alloc);
         self.channel = Some(channel);
@@ -241,39 +294,66 @@ impl BundleDraft {
         Ok(())
     }
 
+    #[tactic(auto, unfolding(crate::specs::BundleStates::all_done))]
+    fn end(&mut self, alloc: Global, rest: Option<&[u8]>) -> Result<(), LineFault>
+        ensures { TakesLine result (all_done (bundle_standing self.old) (option_map (λ r. r.now) rest.entry)) (bundle_standing self.new) }
+    {
+        if rest.is_some() {
+            return Err(LineFault::Wrong(Cause::Body));
+        }
+        self.leave_tables(alloc);
+        self.part = Part::Ended;
+        Ok(())
+    }
+
+    #[tactic(auto, unfolding(crate::specs::BundleStates::judge_inner))]
     /// Takes a line of the open channel's journal.
-    fn take_inside(&mut self, alloc: Global, line: &[u8]) -> Result<(), LineFault> {
+    fn take_inside(&mut self, alloc: Global, line: &[u8]) -> Result<(), LineFault>
+        ensures { TakesLine result (judge_inner (bundle_standing self.old) line.now) (bundle_standing self.new) }
+    {
         let schema = Some(self.bundle.schema());
         match self.draft.take_line(alloc, schema, &mut self.names, line) {
-            Ok(()) => self.close_channel(alloc),
+            Ok(()) => self.go_on(alloc),
             Err(fault) => Err(fault),
         }
     }
 
     /// Adds the open channel to the bundle, where its journal has ended.
-    fn close_channel(&mut self, alloc: Global) -> Result<(), LineFault> {
+    #[tactic(auto, unfolding(crate::specs::BundleStates::after_inner))]
+    fn go_on(&mut self, alloc: Global) -> Result<(), LineFault>
+        ensures { TakesLine result (Ok (after_inner (bundle_standing self.old) (bundle_standing self.old).draft)) (bundle_standing self.new) }
+    {
         if !self.draft.is_ended() {
             return Ok(());
         }
         let draft = mem::replace(&mut self.draft, Draft::start(alloc, Some(self.version)));
-        if let Some(channel) = self.channel.take() {
+        let channel = self.channel.take();
+        self.part = Part::Channels;
+        if let Some(channel) = channel {
             self.bundle.add(channel, draft.into_journal())?;
         }
-        self.part = Part::Channels;
         Ok(())
     }
-}
 
-impl BundleDraft {
-    /// Takes the next line, or says the first thing that is wrong with it.
-    pub fn take_line(&mut self, alloc: Global, line: &[u8]) -> Result<(), LineFault> {
-        if self.part == Part::Journal {
-            return self.take_inside(alloc, line);
-        }
+    #[tactic(auto, unfolding(crate::specs::BundleStates::judge_own))]
+    fn take_own(&mut self, alloc: Global, line: &[u8]) -> Result<(), LineFault>
+        ensures { TakesLine result (judge_own (bundle_standing self.old) line.now) (bundle_standing self.new) }
+    {
         let (word, rest) = cut(line);
         match word_at(word) {
             Some(word) if self.part.takes(word) => self.take(alloc, word, rest),
-            _ => wrong(Cause::Keyword),
+            _ => Err(LineFault::Wrong(Cause::Keyword)),
         }
+    }
+
+    #[tactic(auto, unfolding(crate::specs::BundleStates::judge_bundle))]
+    /// Takes the next line, or says the first thing that is wrong with it.
+    pub fn take_line(&mut self, alloc: Global, line: &[u8]) -> Result<(), LineFault>
+        ensures { TakesLine result (judge_bundle (bundle_standing self.old) line.now) (bundle_standing self.new) }
+    {
+        if self.part == Part::Journal {
+            return self.take_inside(alloc, line);
+        }
+        self.take_own(alloc, line)
     }
 }

@@ -1,154 +1,126 @@
 //! The reader of bundles.
-ghost use Rattle.std.specs.Prelude.{◌≡◌, None, Some};
-ghost use Rattle.txn_journal.specs.Stream.{answer_of};
-ghost use Rattle.txn_journal.specs.declared.fault.JournalFault.{JournalFault};
+ghost use Rattle.std.specs.Prelude.{◌≡◌, IfOk, IfErr};
+ghost use Rattle.txn_journal.specs.BundleStates.{BundleValue};
+ghost use Rattle.txn_journal.specs.BundleText.{WritesBundle};
+ghost use Rattle.txn_journal.specs.BundleRefused.{RefusesBundle, IsReadBundle};
+ghost use Rattle.txn_journal.specs.BundleReading.{bundle_start, eats_bundle, closing_bundle, IsWholeBundle};
 
 use crate::bundle::Bundle;
 use crate::bundle_draft::BundleDraft;
-use crate::fault::{Cause, JournalFault, LineFault};
-use crate::feed::cut_line;
+use crate::fault::{JournalFault, LineFault};
+use crate::feed::{Feed, TakeLine};
 use std::alloc::Global;
+use std::marker::Model;
+
+/// A bundle, as far as its lines have come.
+#[derive(Drop)]
+struct Lines {
+    draft: BundleDraft,
+}
+
+impl Model for Lines {
+    ghost use Rattle.std.specs.Coded.{codes};
+    ghost use Rattle.gtid_set.specs.Sets.{gtids_code};
+    ghost use Rattle.rows.specs.Coding.{rows_code};
+    ghost use Rattle.txn_journal.specs.BundleStates.{BundleStanding};
+    ghost use Rattle.txn_journal.specs.BundleDrafts.{bundle_standing};
+
+    ghost Value = { BundleStanding };
+
+    ghost coded = { Prim.hlevel (codes, gtids_code, rows_code) };
+
+    ghost view = { λ a. bundle_standing a.draft };
+}
+
+impl Lines {
+    ghost use Rattle.txn_journal.specs.BundleStates.{is_done};
+
+    fn is_ended(&self) -> bool
+        ensures { result ≡ is_done self.now.part }
+    {
+        self.draft.is_ended()
+    }
+
+    fn into_bundle(self) -> Bundle
+        ensures { result ≡ self.bundle }
+    {
+        self.draft.into_bundle()
+    }
+}
+
+impl TakeLine for Lines {
+    ghost use Rattle.txn_journal.specs.BundleStates.{judge_bundle};
+
+    ghost judge = { judge_bundle };
+
+    fn take_line(&mut self, alloc: Global, line: &[u8]) -> Result<(), LineFault> {
+        self.draft.take_line(alloc, line)
+    }
+}
 
 /// Reads a bundle that comes in pieces, cut anywhere.
 #[derive(Drop)]
 pub struct BundleReader {
-    draft: BundleDraft,
-    /// How many whole lines have come.
-    lines: u64,
-    /// The bytes of the line that has not come whole.
-    rest: Vec<u8>,
-    stopped: Option<JournalFault>,
-}
-
-/// What the lines of a text make, one after another.
-trait TakeText {
-    /// Takes the next line, or says the first thing that is wrong with it.
-    fn take_text(&mut self, alloc: Global, line: &[u8]) -> Result<(), LineFault>;
-}
-
-impl TakeText for BundleDraft {
-    fn take_text(&mut self, alloc: Global, line: &[u8]) -> Result<(), LineFault> {
-        self.take_line(alloc, line)
-    }
-}
-
-/// Takes the line that begins with the bytes so far and ends with these.
-fn take_whole<T: TakeText>(
-    alloc: Global,
-    draft: &mut T,
-    rest: &mut Vec<u8>,
-    bytes: &[u8],
-) -> Result<(), LineFault> {
-    if rest.is_empty() {
-        return draft.take_text(alloc, bytes);
-    }
-    rest.extend_from_slice(bytes)?;
-    draft.take_text(alloc, rest)?;
-    rest.clear();
-    Ok(())
+    feed: Feed<Lines>,
 }
 
 impl BundleReader {
-    /// Before the first byte.
-    pub fn start(alloc: Global) -> BundleReader {
-        BundleReader {
-            draft: BundleDraft::start(alloc),
-            lines: 0,
-            rest: Vec::new(alloc),
-            stopped: None,
-        }
-    }
+    ghost use Rattle.txn_journal.specs.Stream.{IsAfter, answer};
+    ghost use Rattle.txn_journal.specs.BundleReading.{bundle_start, eats_bundle, closing_bundle};
+    ghost use Rattle.txn_journal.specs.BundleReaders.{bundle_reading};
 
-    /// The error that the reading stopped at, if it did.
-    fn answer(&self) -> Result<(), JournalFault>
-        ensures { result ≡ answer_of self.now.stopped }
+    /// Before the first byte.
+    pub fn start(alloc: Global) -> BundleReader
+        ensures { bundle_reading result ≡ bundle_start }
     {
-        match self.stopped {
-            None => Ok(()),
-            Some(fault) => Err(fault),
+        let made = Lines {
+            draft: BundleDraft::start(alloc),
+        };
+        BundleReader {
+            feed: Feed::start(alloc, made),
         }
     }
 
     /// Takes the next piece. After an error every later call answers that error.
     pub fn feed(&mut self, alloc: Global, piece: &[u8]) -> Result<(), JournalFault>
-        ensures answer { result ≡ answer_of self.new.stopped }
-        ensures sticky { (fault : JournalFault) → self.old.stopped ≡ Some fault → self.new ≡ self.old }
+        ensures next { IsAfter (bundle_reading self.new) (eats_bundle (bundle_reading self.old) piece.now) }
+        ensures answer { result ≡ answer (bundle_reading self.new) }
     {
-        if let Err(fault) = self.answer() {
-            return Err(fault);
-        }
-        if let Err(fault) = self.take_piece(alloc, piece) {
-            self.stopped = Some(fault);
-        }
-        self.answer()
-    }
-
-    fn take_piece(&mut self, alloc: Global, piece: &[u8]) -> Result<(), JournalFault>
-        requires { self.old.stopped ≡ None }
-        ensures { self.new.stopped ≡ None }
-    {
-        let mut left = piece;
-        'lines: loop {
-            match cut_line(left) {
-                Some((line, after)) => match self.take_line(alloc, line) {
-                    Ok(()) => left = after,
-                    Err(fault) => return Err(fault),
-                },
-                None => {
-                    self.rest.extend_from_slice(left)?;
-                    return Ok(());
-                }
-            }
-        }
-    }
-
-    /// Takes the line whose last bytes are these.
-    fn take_line(&mut self, alloc: Global, bytes: &[u8]) -> Result<(), JournalFault>
-        ensures { self.new.stopped ≡ self.old.stopped }
-    {
-        self.lines = self.lines.saturating_add(1);
-        match self.make(alloc, bytes) {
-            Ok(()) => Ok(()),
-            Err(LineFault::Set(fault)) => Err(JournalFault::Set(fault)),
-            Err(LineFault::Wrong(cause)) => Err(JournalFault::Line {
-                line: self.lines,
-                cause,
-            }),
-        }
-    }
-
-    fn make(&mut self, alloc: Global, bytes: &[u8]) -> Result<(), LineFault>
-        ensures { self.new.stopped ≡ self.old.stopped }
-    {
-        take_whole(alloc, &mut self.draft, &mut self.rest, bytes)
-    }
-
-    /// What is wrong with the text as a whole.
-    fn end(&self) -> Result<(), JournalFault> {
-        self.answer()?;
-        let line = self.lines.saturating_add(1);
-        if !self.draft.is_ended() {
-            return Err(JournalFault::Truncated { line });
-        }
-        if !self.rest.is_empty() {
-            return Err(JournalFault::Line {
-                line,
-                cause: Cause::Keyword,
-            });
-        }
-        Ok(())
+        self.feed.feed(alloc, piece)
     }
 
     /// The bundle, where its last line has come.
-    pub fn finish(self) -> Result<Bundle, JournalFault> {
-        self.end()?;
-        Ok(self.draft.into_bundle())
+    #[tactic(auto, unfolding(crate::specs::BundleReading::closing_bundle))]
+    pub fn finish(self) -> Result<Bundle, JournalFault>
+        ensures { result ≡ closing_bundle (bundle_reading self) }
+    {
+        match self.feed.end(self.feed.made.is_ended()) {
+            Ok(()) => Ok(self.feed.made.into_bundle()),
+            Err(fault) => Err(fault),
+        }
+    }
+}
+
+fn read_bundle(alloc: Global, bytes: &[u8]) -> Result<Bundle, JournalFault>
+    ensures { IsWholeBundle result (closing_bundle (eats_bundle bundle_start bytes.now)) }
+{
+    let mut reader = BundleReader::start(alloc);
+    match reader.feed(alloc, bytes) {
+        Ok(()) => reader.finish(),
+        Err(fault) => Err(fault),
     }
 }
 
 /// The bundle that the bytes spell, all of the bytes.
-pub fn decode_bundle(alloc: Global, bytes: &[u8]) -> Result<Bundle, JournalFault> {
-    let mut reader = BundleReader::start(alloc);
-    reader.feed(alloc, bytes)?;
-    reader.finish()
+pub fn decode_bundle(alloc: Global, bytes: &[u8]) -> Result<Bundle, JournalFault>
+    // What is read is spelled so.
+    ensures found { IfOk result (λ b. WritesBundle bytes.now b) }
+    // What is spelled so is read, if memory and the sources of a set allow.
+    ensures only { (b : BundleValue) → WritesBundle bytes.now b → IsReadBundle result b }
+    // Which line is the first that is faulty, and what is wrong with it.
+    ensures refused { IfErr result (λ fault. RefusesBundle fault bytes.now) }
+    // The same, by the fold over the bytes.
+    ensures exact { IsWholeBundle result (closing_bundle (eats_bundle bundle_start bytes.now)) }
+{
+    read_bundle(alloc, bytes)
 }

@@ -6,6 +6,9 @@ ghost use Rattle.txn_journal.specs.Machine.{Standing};
 ghost use Rattle.txn_journal.specs.Stream.{Progress};
 ghost use Rattle.txn_journal.specs.Reading.{eats_alone, entries_of, without_entries, behind_entries, closing, with_front, HasBegun};
 ghost use Rattle.txn_journal.specs.Spelling.{Writes};
+ghost use Rattle.txn_journal.specs.BundleStates.{BundleValue};
+ghost use Rattle.txn_journal.specs.BundleText.{WritesBundle};
+ghost use Rattle.txn_journal.specs.RowOrders.{DifferInOrder};
 
 /// A journal has one text, and a text is that of one journal at most.
 pub fn one_spelling()
@@ -18,4 +21,10 @@ pub fn taken_in_front()
     ensures taken { (p : Progress Standing) → behind_entries (entries_of p) (without_entries p) ≡ p }
     ensures eats { (front : List Entry) (p : Progress Standing) (bytes : List ℕ) → HasBegun p → eats_alone (behind_entries front p) bytes ≡ behind_entries front (eats_alone p bytes) }
     ensures closing { (front : List Entry) (p : Progress Standing) → closing (behind_entries front p) ≡ with_front front (closing p) }
+{}
+
+/// A text is that of one bundle at most, and two texts of a bundle differ in the order of its `row` lines at most.
+pub fn one_bundle()
+    ensures bundle { (bytes : List ℕ) (a b : BundleValue) → WritesBundle bytes a → WritesBundle bytes b → a ≡ b }
+    ensures text { (b : BundleValue) (x y : List ℕ) → WritesBundle x b → WritesBundle y b → DifferInOrder b x y }
 {}

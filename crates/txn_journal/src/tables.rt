@@ -1,18 +1,31 @@
 //! Tables as words.
-ghost use Rattle.std.specs.Prelude.{◌≡◌, ◌≤◌, option_map, IfOk};
+ghost use Rattle.std.specs.Prelude.{◌≡◌, ◌≤◌, ◌&&◌, ◌∷◌, ◌++◌, [], false, map, option_map, codes, IfOk};
+ghost use Rattle.std.specs.Str.{bytes_eq};
+ghost use Rattle.rows.specs.Tables.{table_fault};
+ghost use Rattle.std.specs.List.{list_all};
+ghost use Rattle.journal_words.specs.Words.{is_count};
 ghost use Rattle.txn_journal.specs.Words.{before, behind};
+ghost use Rattle.txn_journal.specs.Stream.{Finds, TakesLine};
+ghost use Rattle.txn_journal.specs.Splits.{parts_of, are_new_to, are_columns, is_columns_text};
+ghost use Rattle.txn_journal.specs.Shapes.{uniques_from, is_head, shape_in, width_of, numbers_from, columns_in, keys_from, table_of, after_fault, with_table, added_table};
+ghost use Rattle.txn_journal.specs.Shaped.{shape};
 
 use crate::fault::{Cause, LineFault};
 use crate::names::Names;
+use gtid_set::SetFault;
 use journal_words::{count, is_count};
-use rows::{ColumnLists, Columns, Name, Table};
+use rows::{ColumnLists, Columns, Name, Schema, SchemaFault, Table, TableFault};
 use std::alloc::{AllocError, Global};
+use std::collections::BTreeSet;
 
 /// The greatest number of columns of a table.
 const MAX_COLUMNS: u64 = 64;
 
 /// The greatest number of unique keys of a table.
 const MAX_UNIQUES: usize = 8;
+
+/// The greatest number of tables.
+const MAX_TABLES: usize = 256;
 
 /// What a table's line says, before its numbers are read.
 #[derive(Drop)]
@@ -21,10 +34,6 @@ pub struct TableWords<'a> {
     columns: &'a [u8],
     primary: &'a [u8],
     uniques: Vec<&'a [u8]>,
-}
-
-fn body<T>() -> Result<T, LineFault> {
-    Err(LineFault::Wrong(Cause::Body))
 }
 
 /// What stands before the first separator, and what follows it.
@@ -41,7 +50,9 @@ fn cut_at(separator: u8, text: &[u8]) -> (&[u8], Option<&[u8]>)
 }
 
 /// The parts between separators.
-fn parts(alloc: Global, separator: u8, text: &[u8]) -> Result<Vec<&[u8]>, AllocError> {
+fn parts(alloc: Global, separator: u8, text: &[u8]) -> Result<Vec<&[u8]>, AllocError>
+    ensures { IfOk result (λ parts. map (λ p. p.now) parts.items ≡ parts_of separator text.now) }
+{
     let mut parts = Vec::new(alloc);
     let mut left = text;
     'parts: loop {
@@ -54,7 +65,9 @@ fn parts(alloc: Global, separator: u8, text: &[u8]) -> Result<Vec<&[u8]>, AllocE
     }
 }
 
-fn are_counts(words: &[&[u8]]) -> bool {
+fn are_counts(words: &[&[u8]]) -> bool
+    ensures { result ≡ list_all is_count (map (λ w. w.now) words.now) }
+{
     for word in words {
         if !is_count(word) {
             return false;
@@ -63,55 +76,91 @@ fn are_counts(words: &[&[u8]]) -> bool {
     true
 }
 
-/// Whether two neighbours are the same.
-fn has_twins(words: &[&[u8]]) -> bool {
-    for (i, word) in words.iter().enumerate() {
-        if i + 1 < words.len() && *word == words[i + 1] {
-            return true;
+/// Whether each word is new, and not one that came earlier.
+#[tactic(auto, unfolding(crate::specs::Splits::are_new_to))]
+fn are_new(alloc: Global, words: &[&[u8]]) -> Result<bool, AllocError>
+    ensures { IfOk result (λ are. are ≡ are_new_to (λ v. false) (map (λ w. w.now) words.now)) }
+{
+    let mut seen = BTreeSet::new(alloc);
+    for word in words {
+        if !seen.insert(*word)? {
+            return Ok(false);
         }
     }
-    false
+    Ok(true)
 }
 
 /// Whether a text is one or more column numbers, joined by commas, no number twice.
-fn are_columns(alloc: Global, text: &[u8]) -> Result<bool, AllocError> {
-    let mut words = parts(alloc, b',', text)?;
+fn is_columns(alloc: Global, text: &[u8]) -> Result<bool, AllocError>
+    ensures { IfOk result (λ is. is ≡ is_columns_text text.now) }
+{
+    let words = parts(alloc, b',', text)?;
     if !are_counts(&words) {
         return Ok(false);
     }
-    words.sort()?;
-    Ok(!has_twins(&words))
+    are_new(alloc, &words)
+}
+
+/// Whether a word is the one that stands before the columns of a unique key, and these are columns.
+fn is_unique(alloc: Global, key: &[u8], columns: &[u8]) -> Result<bool, AllocError>
+    ensures { IfOk result (λ is. is ≡ (bytes_eq key.now (codes "uk") && is_columns_text columns.now)) }
+{
+    if key != b"uk".as_slice() {
+        return Ok(false);
+    }
+    is_columns(alloc, columns)
 }
 
 /// The columns of each unique key.
-fn uniques_in<'a>(alloc: Global, words: &[&'a [u8]]) -> Result<Vec<&'a [u8]>, LineFault> {
+#[tactic(auto, unfolding(crate::specs::Shapes::uniques_from))]
+fn uniques_in<'a>(alloc: Global, words: &[&'a [u8]]) -> Result<Vec<&'a [u8]>, LineFault>
+    ensures { Finds (λ us. map (λ u. u.now) us.items) result (uniques_from [] (map (λ w. w.now) words.now)) }
+{
     let mut uniques = Vec::new(alloc);
-    for pair in words.chunks(2) {
-        match pair {
-            [key, columns] if *key == b"uk".as_slice() && are_columns(alloc, columns)? => {
+    let mut left = words;
+    'words: loop {
+        match left {
+            [] => return Ok(uniques),
+            [key, columns, after @ ..] => {
+                if !is_unique(alloc, key, columns)? {
+                    return Err(LineFault::Wrong(Cause::Body));
+                }
                 uniques.push(*columns)?;
+                left = after;
             }
-            _ => return body(),
+            _ => return Err(LineFault::Wrong(Cause::Body)),
         }
     }
-    Ok(uniques)
+}
+
+/// Whether these are a number of columns, the word before the primary key, and its columns.
+fn is_head(alloc: Global, columns: &[u8], key: &[u8], primary: &[u8]) -> Result<bool, AllocError>
+    ensures { IfOk result (λ is. is ≡ is_head columns.now key.now primary.now) }
+{
+    if !is_count(columns) || key != b"pk".as_slice() {
+        return Ok(false);
+    }
+    is_columns(alloc, primary)
 }
 
 /// What a table's line says.
-pub fn table_words<'a>(
+#[tactic(auto, unfolding(crate::specs::Shapes::shape_in, crate::specs::Shapes::shape_of))]
+fn table_words<'a>(
     alloc: Global,
     names: &mut Names,
     text: &'a [u8],
-) -> Result<TableWords<'a>, LineFault> {
+) -> Result<TableWords<'a>, LineFault>
+    ensures { Finds (λ w. shape w) result (shape_in text.now) }
+{
     let words = parts(alloc, b' ', text)?;
     let [name, columns, key, primary, rest @ ..] = words.as_slice() else {
-        return body();
+        return Err(LineFault::Wrong(Cause::Body));
     };
     let Some(name) = names.read(alloc, name)? else {
-        return body();
+        return Err(LineFault::Wrong(Cause::Body));
     };
-    if !is_count(columns) || *key != b"pk".as_slice() || !are_columns(alloc, primary)? {
-        return body();
+    if !is_head(alloc, columns, key, primary)? {
+        return Err(LineFault::Wrong(Cause::Body));
     }
     let uniques = uniques_in(alloc, rest)?;
     Ok(TableWords {
@@ -122,24 +171,60 @@ pub fn table_words<'a>(
     })
 }
 
-/// The columns that a text names, where each is below the count.
-fn columns_below(alloc: Global, limit: u64, text: &[u8]) -> Result<Columns, LineFault>
+/// The numbers of columns, where each is below the count.
+#[tactic(auto, unfolding(crate::specs::Shapes::numbers_from))]
+fn numbers_below(alloc: Global, limit: u64, words: &[&[u8]]) -> Result<Vec<u32>, LineFault>
     requires { limit ≤ 64 }
+    ensures { Finds (λ c. c.items) result (numbers_from limit [] (map (λ w. w.now) words.now)) }
 {
     let mut columns = Vec::new(alloc);
-    for word in parts(alloc, b',', text)? {
+    for word in words {
         match count(word) {
             Some(number) if number < limit => columns.push(number as u32)?,
             _ => return Err(LineFault::Wrong(Cause::Schema)),
         }
     }
+    Ok(columns)
+}
+
+/// The columns that a text names, where each is below the count.
+#[tactic(auto, unfolding(crate::specs::Shapes::columns_in))]
+fn columns_below(alloc: Global, limit: u64, text: &[u8]) -> Result<Columns, LineFault>
+    requires { limit ≤ 64 }
+    ensures { Finds (λ c. c) result (columns_in limit text.now) }
+{
+    let words = parts(alloc, b',', text)?;
+    let columns = numbers_below(alloc, limit, &words)?;
     Ok(Columns::new(columns)?)
+}
+
+/// The columns of each key, where each is below the count.
+#[tactic(auto, unfolding(crate::specs::Shapes::keys_from))]
+fn lists_below(alloc: Global, limit: u64, texts: &[&[u8]]) -> Result<Vec<Columns>, LineFault>
+    requires { limit ≤ 64 }
+    ensures { Finds (λ k. k.items) result (keys_from limit [] (map (λ t. t.now) texts.now)) }
+{
+    let mut keys = Vec::new(alloc);
+    for text in texts {
+        keys.push(columns_below(alloc, limit, text)?)?;
+    }
+    Ok(keys)
+}
+
+fn keys_below(alloc: Global, limit: u64, texts: &[&[u8]]) -> Result<ColumnLists, LineFault>
+    requires { limit ≤ 64 }
+    ensures { Finds (λ c. c) result (keys_from limit [] (map (λ t. t.now) texts.now)) }
+{
+    let keys = lists_below(alloc, limit, texts)?;
+    Ok(ColumnLists::new(keys)?)
 }
 
 impl TableWords<'_> {
     /// How many columns the table has, where that is within the limits.
-    pub fn columns(&self) -> Result<u64, LineFault>
-        ensures { IfOk result (λ columns. columns ≤ 64) }
+    #[tactic(auto, unfolding(crate::specs::Shapes::width_of))]
+    fn columns(&self) -> Result<u64, LineFault>
+        ensures found { Finds (λ n. n) result (width_of (shape self.now)) }
+        ensures low { IfOk result (λ columns. columns ≤ 64) }
     {
         if self.uniques.len() > MAX_UNIQUES {
             return Err(LineFault::Wrong(Cause::Limit));
@@ -151,19 +236,58 @@ impl TableWords<'_> {
     }
 
     /// The table of so many columns.
-    pub fn table(&self, alloc: Global, columns: u64) -> Result<Table, LineFault>
+    #[tactic(auto, unfolding(crate::specs::Shapes::table_of))]
+    fn table(&self, alloc: Global, columns: u64) -> Result<Table, LineFault>
         requires { columns ≤ 64 }
+        ensures { Finds (λ t. t) result (table_of (shape self.now) columns) }
     {
         let primary = columns_below(alloc, columns, self.primary)?;
-        let mut uniques = Vec::new(alloc);
-        for text in &self.uniques {
-            uniques.push(columns_below(alloc, columns, text)?)?;
-        }
+        let uniques = keys_below(alloc, columns, &self.uniques)?;
         Ok(Table {
             name: self.name.clone()?,
             columns: columns as u32,
             primary,
-            uniques: ColumnLists::new(uniques)?,
+            uniques,
         })
     }
+}
+
+/// Adds a table behind the others.
+fn push_table(schema: &mut Schema, table: Table) -> Result<(), LineFault>
+    ensures { TakesLine result (after_fault (table_fault schema.old table) (schema.old ++ table ∷ [])) schema.new }
+{
+    match schema.add(table) {
+        Ok(()) => Ok(()),
+        Err(SchemaFault::Memory) => Err(LineFault::Set(SetFault::Memory)),
+        Err(SchemaFault::Table(TableFault::Body)) => Err(LineFault::Wrong(Cause::Body)),
+        Err(SchemaFault::Table(TableFault::Limit)) => Err(LineFault::Wrong(Cause::Limit)),
+        Err(SchemaFault::Table(TableFault::Schema)) => Err(LineFault::Wrong(Cause::Schema)),
+    }
+}
+
+/// Adds the table of these words behind the others.
+#[tactic(auto, unfolding(crate::specs::Shapes::with_table))]
+fn add_words(alloc: Global, schema: &mut Schema, words: &TableWords) -> Result<(), LineFault>
+    ensures { TakesLine result (with_table schema.old (shape words.now)) schema.new }
+{
+    let columns = words.columns()?;
+    if schema.tables().len() >= MAX_TABLES {
+        return Err(LineFault::Wrong(Cause::Limit));
+    }
+    let table = words.table(alloc, columns)?;
+    push_table(schema, table)
+}
+
+/// Adds the table that a text spells behind the others.
+#[tactic(auto, unfolding(crate::specs::Shapes::added_table))]
+pub fn add_table(
+    alloc: Global,
+    names: &mut Names,
+    schema: &mut Schema,
+    text: &[u8],
+) -> Result<(), LineFault>
+    ensures { TakesLine result (added_table schema.old text.now) schema.new }
+{
+    let words = table_words(alloc, names, text)?;
+    add_words(alloc, schema, &words)
 }

@@ -20,8 +20,8 @@ returns-in_default-clause-full c =
     let over = c.in_default.ensures.full in
     omega (arith, same, over)
 
-pub returns-in_default-add_to-clause-full : goal.returns-in_default-add_to-clause-full
-returns-in_default-add_to-clause-full c =
+pub returns-in_default-add_at_tail-clause-full : goal.returns-in_default-add_at_tail-clause-full
+returns-in_default-add_at_tail-clause-full c =
     let le : c.args.span.lo ≤ c.args.span.hi = omega arith in
     let same = count_with c.self.inside.spans.items c.deref.result.now c.args.self.now c.args.span.source c.args.span.lo c.args.span.hi c.deref.ensures.value c.self.view_is le in
     let count = c.in-Some.ensures.count in
@@ -35,12 +35,12 @@ invariant_of-self-2 c =
     let made = c.in-Ok.ensures.ok in
     record {
       merged = made.merged;
-      counted = c.in-Some.ensures.count ∙ same ∙ sym (ap source_count (added_set c.self.inside.spans.items c.add_to.new.spans.items c.args.self.now c.args.span c.self.view_is made));
+      counted = c.in-Some.ensures.count ∙ same ∙ sym (ap source_count (added_set c.self.inside.spans.items c.add_at_tail.new.spans.items c.args.self.now c.args.span c.self.view_is made));
       fits = c.in-Some.ensures.fits;
     }
 
 pub returns-clause-ok : goal.returns-clause-ok
-returns-clause-ok c = added_set c.self.inside.spans.items c.add_to.new.spans.items c.args.self.now c.args.span c.self.view_is c.in-Ok.ensures.ok
+returns-clause-ok c = added_set c.self.inside.spans.items c.add_at_tail.new.spans.items c.args.self.now c.args.span c.self.view_is c.in-Ok.ensures.ok
 
 pub returns-clause-full : goal.returns-clause-full
 returns-clause-full c =

@@ -1,5 +1,4 @@
 use Rattle.std.proofs.Common.{◌≡◌, ◌-◌, length, drop, take, ◌++◌, ◌∷◌, ap, subst, ◌∙◌, arith, List}
-use Rattle.std.proofs.lemmas.Result.{on_ok_weaker}
 use Rattle.gtid_text.specs.declared.Span.{Span}
 use Rattle.gtid_set.specs.Sweep.{IsPlace}
 use Rattle.gtid_set.proofs.PlaceLemmas.{added_at}
@@ -15,7 +14,5 @@ returns-clause-ok c =
     let rest = c.absorb-joined.result.1.now in
     let P : List Span → Type 0 = λ xs. IsPlace xs t at back in
     let counted : c.len.result ≡ length items = omega arith in
-    on_ok_weaker c.replace.result
-    (λ e. added_at items at t back joined rest c.replace.new.spans.items c.requires.merged (subst P c.deref.ensures.value c.place-at.ensures) c.absorb-joined.ensures
-    (e ∙ ap (λ n. take at items ++ joined ∷ drop (n - length rest) items) counted))
-    c.replace.ensures.ok
+    added_at items at t back joined rest c.replace.new.spans.items c.requires.merged (subst P c.deref.ensures.value c.place-at.ensures) c.absorb-joined.ensures
+    (c.in_ok-replace.ensures.ok ∙ ap (λ n. take at items ++ joined ∷ drop (n - length rest) items) counted)

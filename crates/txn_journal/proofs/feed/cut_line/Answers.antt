@@ -1,5 +1,5 @@
-use Rattle.std.proofs.Common.{◌≡◌, sym, arith}
-use Rattle.txn_journal.proofs.LineCuts.{one_line_before, one_line, cut_found}
+use Rattle.std.proofs.Common.{arith}
+use Rattle.txn_journal.proofs.LineCuts.{one_line, cut_found}
 use Rattle.txn_journal.proofs.feed.cut_line.Goals as goal
 
 pub returns-in_default-clause-none : goal.returns-in_default-clause-none

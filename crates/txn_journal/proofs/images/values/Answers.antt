@@ -1,4 +1,4 @@
-use Rattle.std.proofs.Common.{◌≡◌, ℕ, true, false, Some, None, List, [], ◌∷◌, ◌++◌, option_map, refl, sym, ap, ◌∙◌}
+use Rattle.std.proofs.Common.{◌≡◌, true, false, Some, None, List, [], ◌∷◌, ◌++◌, option_map, sym, ap, ◌∙◌}
 use Rattle.rows.specs.declared.value.Value.{Value}
 use Rattle.journal_words.specs.Words.{others}
 use Rattle.journal_words.specs.Values.{value_of}

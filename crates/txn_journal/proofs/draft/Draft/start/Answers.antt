@@ -1,6 +1,4 @@
-use Rattle.std.proofs.Common.{refl, sym, ap, ◌∙◌, []}
-use Rattle.gtid_set.specs.Sets.{Gtids}
-use Rattle.journal.specs.Journals.{JournalValue}
+use Rattle.std.proofs.Common.{refl, sym, ap, ◌∙◌}
 use Rattle.txn_journal.proofs.Seen.{seen_start, of_set}
 use Rattle.txn_journal.proofs.draft.Draft.start.Goals as goal
 

@@ -1,0 +1,4 @@
+pub mod Replies
+pub mod Questions
+pub mod Texts
+pub mod Scripts

@@ -1,0 +1,60 @@
+-- What a script answers, and how it ends.
+use Rattle.std.specs.Prelude.{◌≡◌, ℕ, Bool, true, false, List, Option, Some, None, Result, Ok, Err, ◌⊎◌, codes}
+use Rattle.replica_core.specs.State.{Replica}
+use Rattle.replica_core.specs.Machine.{step}
+use Rattle.replica_core.specs.declared.event.Event.{Event}
+use Rattle.replica_script.specs.declared.question.Query.{Query}
+use Rattle.replica_script.specs.declared.question.Question.{Question}
+use Rattle.replica_script.specs.declared.question.Question.TheVariants as question
+use Rattle.replica_script.specs.declared.script.Stop.{Stop}
+use Rattle.replica_script.specs.declared.script.Stop.TheVariants as stop
+use Rattle.replica_script.specs.declared.edge.Fault.{Fault}
+use Rattle.replica_script.specs.declared.edge.Fault.TheVariants.{BadLine, Memory, Read, Write}
+use Rattle.replica_script.specs.Replies.{ended, reply_line}
+use Rattle.replica_script.specs.Texts.{query_text}
+
+-- ---- answers
+
+-- the line of a set that would be too large
+abbrev pub IsFullLine : List ℕ → Type 0
+IsFullLine text = (text ≡ codes "PoolFull\n") ⊎ (text ≡ codes "SourcesFull\n")
+
+-- an event was made: its reply's line, and the state after it
+pub record IsMade (old : Replica) (event : Event) (new : Replica) (text : List ℕ) : Type 0 where
+  pub line : text ≡ ended (reply_line (step old.site old.state event).0)
+  pub state : new.state ≡ (step old.site old.state event).1
+  pub site : new.site ≡ old.site
+
+-- an event was made; or a set would have been too large, and nothing has changed
+abbrev pub IsAnswer : Replica → Event → Replica → List ℕ → Type 0
+IsAnswer old event new text = IsMade old event new text ⊎ (IsFullLine text × (new ≡ old))
+
+-- a query was answered, or the set would be too large
+abbrev pub IsShown : Replica → Query → List ℕ → Type 0
+IsShown r query text = (text ≡ query_text r query) ⊎ IsFullLine text
+
+-- the answer to a question; a query changes nothing
+abbrev pub Answers : Replica → Question → Replica → List ℕ → Type 0
+Answers old (question.Event event) new text = IsAnswer old event new text
+Answers old (question.Query query) new text = IsShown old query text × (new ≡ old)
+
+-- ---- the end
+
+-- how a script has ended where no line follows: an end inside a transaction is a bad line
+abbrev pub ending : Option Stop → Bool → Result (Unit {0}) Stop
+ending (Some stop) inside = Err stop
+ending None true = Err stop.BadLine
+ending None false = Ok tt
+
+-- what a stop means for the program
+abbrev pub fault_of : Stop → Fault
+fault_of stop.BadLine = BadLine
+fault_of stop.Memory = Memory
+
+-- the status that the program ends with
+abbrev pub status_of : Result (Unit {0}) Fault → ℕ
+status_of (Ok done) = 0
+status_of (Err BadLine) = 2
+status_of (Err Memory) = 3
+status_of (Err Read) = 4
+status_of (Err Write) = 4

@@ -1,0 +1,182 @@
+//! What a line asks of a replica.
+ghost use Rattle.std.specs.Prelude.{◌≡◌};
+ghost use Rattle.journal_words.specs.Words.{count_of};
+ghost use Rattle.replica_script.specs.Questions.{alone, seat, with_one, with_two, with_three, with_numbers};
+
+use journal_words::{count, cut};
+use replica_core::Event;
+use rows::{Name, NameFault};
+use std::alloc::{AllocError, Global};
+
+/// What a replica shows without changing.
+#[derive(Clone, Copy, Debug, PartialEq, Eq, Drop)]
+pub enum Query {
+    /// The rows, in order.
+    Rows,
+    /// The executed set.
+    Executed,
+    /// The purged set.
+    Purged,
+    /// The own journal.
+    Journal,
+    /// Whether every received GTID is executed.
+    Drained,
+    /// The set with which this channel would ask now.
+    Ask(usize),
+    /// The least place of this channel from this number on that a seat may take: channel, number.
+    Next(usize, usize),
+    /// The entry at this place of this channel: channel, place.
+    Entry(usize, usize),
+}
+
+/// A question of one line.
+#[derive(Drop)]
+pub enum Question {
+    Event(Event),
+    Query(Query),
+}
+
+/// The question that is one word.
+fn alone(word: &[u8]) -> Option<Question>
+    ensures { result ≡ alone word.now }
+{
+    if word == b"look".as_slice() {
+        Some(Question::Event(Event::Look))
+    } else if word == b"rows".as_slice() {
+        Some(Question::Query(Query::Rows))
+    } else if word == b"executed".as_slice() {
+        Some(Question::Query(Query::Executed))
+    } else if word == b"purged".as_slice() {
+        Some(Question::Query(Query::Purged))
+    } else if word == b"journal".as_slice() {
+        Some(Question::Query(Query::Journal))
+    } else if word == b"drained".as_slice() {
+        Some(Question::Query(Query::Drained))
+    } else {
+        None
+    }
+}
+
+/// A seat's number: each one above 64 is no seat, so the greatest stands for those above it.
+fn seat(number: usize) -> u8
+    ensures { result ≡ seat number }
+{
+    number.min(255) as u8
+}
+
+/// The question that is a word and a number.
+fn with_one(word: &[u8], number: usize) -> Option<Question>
+    ensures { result ≡ with_one word.now number }
+{
+    if word == b"position".as_slice() {
+        Some(Question::Event(Event::Position(number)))
+    } else if word == b"commit".as_slice() {
+        Some(Question::Event(Event::Commit(seat(number))))
+    } else if word == b"rollback".as_slice() {
+        Some(Question::Event(Event::Rollback(seat(number))))
+    } else if word == b"restart".as_slice() {
+        Some(Question::Event(Event::Restart(number)))
+    } else if word == b"purge".as_slice() {
+        Some(Question::Event(Event::Purge(number)))
+    } else if word == b"ask".as_slice() {
+        Some(Question::Query(Query::Ask(number)))
+    } else {
+        None
+    }
+}
+
+/// The question that is a word and two numbers.
+fn with_two(word: &[u8], channel: usize, place: usize) -> Option<Question>
+    ensures { result ≡ with_two word.now channel place }
+{
+    if word == b"entry".as_slice() {
+        Some(Question::Query(Query::Entry(channel, place)))
+    } else if word == b"next".as_slice() {
+        Some(Question::Query(Query::Next(channel, place)))
+    } else {
+        None
+    }
+}
+
+/// The question that is a word and three numbers.
+fn with_three(word: &[u8], number: usize, channel: usize, place: usize) -> Option<Question>
+    ensures { result ≡ with_three word.now number channel place }
+{
+    if word == b"take".as_slice() {
+        Some(Question::Event(Event::Take(seat(number), channel, place)))
+    } else {
+        None
+    }
+}
+
+/// The number that a word is.
+pub fn number(word: &[u8]) -> Option<usize>
+    ensures { result ≡ count_of word.now }
+{
+    match count(word) {
+        Some(number) => Some(number as usize),
+        None => None,
+    }
+}
+
+/// The question that is a word and numbers.
+fn with_numbers(word: &[u8], rest: &[u8]) -> Option<Question>
+    ensures { result ≡ with_numbers word.now rest.now }
+{
+    let (first, more) = cut(rest);
+    let first = number(first)?;
+    let Some(rest) = more else {
+        return with_one(word, first);
+    };
+    let (second, more) = cut(rest);
+    let second = number(second)?;
+    let Some(rest) = more else {
+        return with_two(word, first, second);
+    };
+    let third = number(rest)?;
+    with_three(word, first, second, third)
+}
+
+fn name_in(alloc: Global, word: &[u8]) -> Result<Option<Name>, AllocError> {
+    let Ok(text) = std::str::from_utf8(word) else {
+        return Ok(None);
+    };
+    match Name::new(String::from_str(alloc, text)?) {
+        Ok(name) => Ok(Some(name)),
+        Err(NameFault::NotAName) => Ok(None),
+        Err(NameFault::Memory) => Err(AllocError),
+    }
+}
+
+/// Whether the words behind a channel's name say that it preserves order, if they say anything that is known.
+fn preserves(more: Option<&[u8]>) -> Option<bool> {
+    match more {
+        None => Some(false),
+        Some(word) if word == b"preserve".as_slice() => Some(true),
+        Some(_) => None,
+    }
+}
+
+/// The opening of a channel.
+fn channel(alloc: Global, rest: &[u8]) -> Result<Option<Question>, AllocError> {
+    let (word, more) = cut(rest);
+    let Some(preserve) = preserves(more) else {
+        return Ok(None);
+    };
+    match name_in(alloc, word)? {
+        Some(name) => Ok(Some(Question::Event(Event::OpenChannel(name, preserve)))),
+        None => Ok(None),
+    }
+}
+
+/// What a line asks, if it is a question.
+pub fn question_in(alloc: Global, line: &[u8]) -> Result<Option<Question>, AllocError> {
+    let (word, rest) = cut(line);
+    let Some(rest) = rest else {
+        return Ok(alone(word));
+    };
+    if word == b"channel".as_slice() {
+        return channel(alloc, rest);
+    }
+    Ok(with_numbers(word, rest))
+}

@@ -1,0 +1,7 @@
+pub mod Equals
+pub mod Replays
+pub mod Quiet
+pub mod Spares
+pub mod Growths
+pub mod Merges
+pub mod Closings

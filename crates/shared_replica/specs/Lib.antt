@@ -1,0 +1,6 @@
+pub mod History
+pub mod Passes
+pub mod Closing
+pub mod Spare
+pub mod Forms
+pub mod Naming

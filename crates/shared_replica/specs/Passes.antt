@@ -1,0 +1,35 @@
+-- What a pass holds, and what a call tells it.
+use Rattle.std.specs.Prelude.{◌≡◌, ℕ, ◌+◌, List, [], ◌∷◌, ◌++◌}
+use Rattle.commit_ledger.specs.Tallies.{one_if}
+use Rattle.replica_core.specs.State.{Replica}
+use Rattle.replica_core.specs.declared.event.Event.{Event}
+use Rattle.replica_core.specs.declared.event.Reply.{Reply}
+use Rattle.shared_replica.specs.declared.step.Receipt.{Receipt}
+use Rattle.shared_replica.specs.History.{line, is_commit}
+
+-- the seat, what its share has counted, and its receipts
+pub record PassValue : Type 0 where
+  pub seat : ℕ
+  pub steps : ℕ
+  pub commits : ℕ
+  pub receipts : List Receipt
+
+abbrev pub fresh : ℕ → PassValue
+fresh seat = record { seat = seat; steps = 0; commits = 0; receipts = [] }
+
+abbrev pub receipt : ℕ → Event → Reply → Receipt
+receipt place event reply = record { place = place; step = line event reply }
+
+-- the pass after a call whose step stands at this place
+abbrev pub told : ℕ → Event → Reply → PassValue → PassValue
+told place event reply p =
+    record { seat = p.seat; steps = p.steps + 1; commits = p.commits + one_if (is_commit reply); receipts = p.receipts ++ receipt place event reply ∷ [] }
+
+-- the pass after a call that made this event and was answered so: one step more in its share, and one receipt
+abbrev pub IsTold : PassValue → Event → Reply → PassValue → Type 0
+IsTold old event reply new = (place : ℕ) × (new ≡ told place event reply old)
+
+-- the core that was handed in, and the number of seats
+pub record SharedValue : Type 0 where
+  pub opening : Replica
+  pub seats : ℕ

@@ -1,0 +1,174 @@
+//! The history of a replica.
+ghost use Rattle.std.specs.Prelude.{◌≡◌, true, [], ◌≤◌, IfOk, OnErr, IsTrue, length, map, vec_len};
+ghost use Rattle.std.specs.Vec.{vec_capacity};
+ghost use Rattle.commit_ledger.specs.Tallies.{no_tally, unused, tally_of};
+ghost use Rattle.replica_core.specs.Machine.{is_numbered, next_ready};
+ghost use Rattle.shared_replica.specs.History.{IsStep, IsBook, with_step, unwritten};
+ghost use Rattle.shared_replica.specs.Passes.{told};
+ghost use Rattle.shared_replica.specs.Closing.{sheet, IsMerge, tally_of_passes};
+
+use crate::closed::ClosedBook;
+use crate::closing::is_merge;
+use crate::copies::{copy_of, foresee, is_commit, twin};
+use crate::naming::{LedgersOf, Naming};
+use crate::pass::Pass;
+use crate::room::add;
+use crate::step::{Receipt, Receipts, Sheet, Step};
+use commit_ledger::{Share, Total, count};
+use gtid_set::SetFault;
+use replica_core::{Core, Event, Reply};
+use std::alloc::Global;
+use std::marker::Model;
+use std::snapshot::Snapshot;
+
+/// What lies under the lock: a core, and every step that was made since the opening that `N` names.
+/// The steps are what one thread would have done with the opening, reply for reply, and the total
+/// counts them.
+#[derive(Drop)]
+pub struct Book<N: Naming> {
+    core: Core,
+    steps: Vec<Step>,
+    total: Total<LedgersOf<N>>,
+}
+
+impl<N: Naming> Model for Book<N> {
+    ghost use Rattle.std.specs.Coded.{codes};
+    ghost use Rattle.gtid_set.specs.Sets.{gtids_code};
+    ghost use Rattle.rows.specs.Coding.{rows_code};
+    ghost use Rattle.replica_core.specs.Slots.{seats_code};
+    ghost use Rattle.shared_replica.specs.History.{BookValue, IsBook};
+
+    ghost Value = { BookValue };
+
+    ghost coded = { Prim.hlevel (codes, gtids_code, rows_code, seats_code) };
+
+    ghost view = { λ b. record { opening = N.opening; steps = b.steps.items; now = b.core } };
+
+    ghost invariant = { λ b. IsBook N.opening b.steps.items b.core b.total };
+}
+
+impl<N: Naming> Book<N> {
+    /// A book before any step.
+    pub(crate) fn new(alloc: Global, core: Core, total: Total<LedgersOf<N>>) -> Book<N>
+        requires opening { core ≡ N.opening }
+        requires total { total ≡ no_tally }
+        ensures { result ≡ unwritten core }
+    {
+        Book {
+            core,
+            steps: Vec::new(alloc),
+            total,
+        }
+    }
+
+    /// One step, with its line in the history and its receipt. After an error nothing has changed.
+    pub(crate) fn make(
+        &mut self,
+        alloc: Global,
+        event: Event,
+        mine: &mut Pass<N>,
+    ) -> Result<Reply, SetFault>
+        requires { is_numbered event ≡ true }
+        ensures step { IfOk result (λ r. IsStep self.old.now event r self.new.now) }
+        ensures line { IfOk result (λ r. self.new ≡ with_step event r self.new.now self.old) }
+        ensures told { IfOk result (λ r. mine.new ≡ told (length self.old.steps) event r mine.old) }
+        ensures err { OnErr result ((self.new ≡ self.old) × (mine.new ≡ mine.old)) }
+    {
+        self.steps.reserve(1)?;
+        mine.receipts.reserve(1)?;
+        let copy = copy_of(&event)?;
+        let first = foresee(&self.core, alloc, &event)?;
+        let second = foresee(&self.core, alloc, &event)?;
+        self.core.entries_are_kept();
+        let reply = self.core.step(alloc, &event)?;
+        let place = self.steps.len() as u64;
+        let line = Step {
+            event,
+            reply: twin(&reply, first),
+        };
+        let step = Step {
+            event: copy,
+            reply: twin(&reply, second),
+        };
+        count(&mut self.total, &mut mine.share, is_commit(&reply));
+        add(&mut self.steps, line);
+        add(&mut mine.receipts, Receipt { place, step });
+        Ok(reply)
+    }
+}
+
+impl<N: Naming> Book<N> {
+    /// The least place of a channel from this number on that a seat might take.
+    pub(crate) fn next_ready(&self, channel: usize, from: usize) -> Option<usize>
+        ensures { result ≡ next_ready self.now.now.site self.now.now.state channel from }
+    {
+        self.core.next_ready(channel, from)
+    }
+
+    /// Whether the receipts are the steps of the book.
+    pub(crate) fn is_of(&self, passes: &[Pass<N>]) -> bool
+        requires { length passes.now ≤ 64 }
+        ensures { IsTrue result → IsMerge passes.now self.now.steps }
+    {
+        is_merge(passes, self.steps.as_slice())
+    }
+
+    /// The book with the receipts of all seats, for which there is room.
+    pub(crate) fn close(
+        self,
+        opening: Snapshot<Core>,
+        sheets: Vec<Sheet>,
+        passes: Vec<Pass<N>>,
+    ) -> ClosedBook
+        requires opening { opening.value ≡ N.opening }
+        requires seats { vec_len passes ≡ N.seats }
+        requires none { sheets.items ≡ [] }
+        requires room { N.seats ≤ vec_capacity sheets }
+        ensures book { (result.opening ≡ N.opening) × (result.steps ≡ self.steps) × (result.now ≡ self.now) }
+        ensures kept { IsBook N.opening self.steps self.now result.counts }
+        ensures shares { result.counts ≡ tally_of_passes passes.items }
+        ensures sheets { result.sheets ≡ map sheet passes.items }
+    {
+        let Book {
+            core,
+            steps,
+            mut total,
+        } = self;
+        let mut all = total.no_share();
+        let sheets = sheets_of(&mut all, sheets, passes);
+        let counts = total.audit(&mut all);
+        ClosedBook {
+            opening,
+            core,
+            steps,
+            sheets,
+            counts,
+        }
+    }
+}
+
+/// The receipts of the passes, whose shares are taken in.
+fn sheets_of<N: Naming>(
+    all: &mut Share<LedgersOf<N>>,
+    mut sheets: Vec<Sheet>,
+    passes: Vec<Pass<N>>,
+) -> Vec<Sheet>
+    requires nothing { all.old ≡ unused 0 }
+    requires none { sheets.items ≡ [] }
+    requires room { vec_len passes ≤ vec_capacity sheets }
+    ensures sheets { result.items ≡ map sheet passes.items }
+    ensures seats { all.new.seats ≡ vec_len passes }
+    ensures tally { tally_of all.new ≡ tally_of_passes passes.items }
+{
+    for pass in passes {
+        let Pass {
+            seat,
+            share,
+            receipts,
+        } = pass;
+        all.join(share);
+        let receipts = Receipts::of(receipts);
+        add(&mut sheets, Sheet { seat, receipts });
+    }
+    sheets
+}

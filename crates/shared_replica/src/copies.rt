@@ -1,0 +1,111 @@
+//! Copies of events and replies.
+ghost use Rattle.std.specs.Prelude.{◌≡◌, IfOk, IsSome, Some};
+ghost use Rattle.shared_replica.specs.History.{is_commit};
+ghost use Rattle.shared_replica.specs.Spare.{IsSpare};
+ghost use Rattle.replica_core.specs.Machine.{step, purge};
+
+use gtid_set::{GtidSet, SetFault};
+use replica_core::{Core, Event, Reply};
+use std::alloc::{AllocError, Global};
+
+/// A copy of an event. It shares names and transactions.
+pub(crate) fn copy_of(event: &Event) -> Result<Event, AllocError>
+    ensures { IfOk result (λ copy. copy ≡ event.now) }
+{
+    let copy = match event {
+        Event::OpenChannel(name, preserve) => Event::OpenChannel(name.clone()?, *preserve),
+        Event::Position(channel) => Event::Position(*channel),
+        Event::Receive(channel, entry) => Event::Receive(*channel, entry.clone()?),
+        Event::Take(seat, channel, place) => Event::Take(*seat, *channel, *place),
+        Event::Commit(seat) => Event::Commit(*seat),
+        Event::Rollback(seat) => Event::Rollback(*seat),
+        Event::Restart(channel) => Event::Restart(*channel),
+        Event::Local(changes) => Event::Local(changes.clone()?),
+        Event::Purge(count) => Event::Purge(*count),
+        Event::Look => Event::Look,
+    };
+    Ok(copy)
+}
+
+/// Whether a reply tells of a commit.
+pub(crate) fn is_commit(reply: &Reply) -> bool
+    ensures { result ≡ is_commit reply.now }
+{
+    matches!(reply, Reply::Committed(_))
+}
+
+/// The set that the reply to an event will show, if it shows one.
+#[tactic(auto, using(crate::proofs::Spares::position_asks, crate::proofs::Spares::plain_step))]
+pub(crate) fn foresee(
+    core: &Core,
+    alloc: Global,
+    event: &Event,
+) -> Result<Option<GtidSet>, SetFault>
+    ensures { IfOk result (λ spare. IsSpare (step core.now.site core.now.state event.now).0 spare) }
+{
+    match event {
+        Event::Position(channel) => core.ask(alloc, *channel),
+        Event::Purge(count) => purged_by(core, alloc, *count),
+        Event::Look => Ok(Some(core.executed().copy(alloc)?)),
+        _ => Ok(None),
+    }
+}
+
+/// The purged set that a Purge would answer.
+fn purged_by(core: &Core, alloc: Global, count: usize) -> Result<Option<GtidSet>, SetFault>
+    ensures { IfOk result (λ spare. IsSpare (purge count core.now.state).0 spare) }
+{
+    let journal = core.journal().as_journal();
+    if journal.len() < count {
+        return Ok(None);
+    }
+    Ok(Some(journal.purged(alloc, count)?))
+}
+
+/// A copy of a reply for which no memory is taken, since its set was made beforehand.
+pub(crate) fn twin(reply: &Reply, spare: Option<GtidSet>) -> Reply
+    requires { IsSpare reply.now spare }
+    ensures { result ≡ reply.now }
+{
+    match reply {
+        Reply::NameTaken => Reply::NameTaken,
+        Reply::ChannelsFull => Reply::ChannelsFull,
+        Reply::Opened(number) => Reply::Opened(*number),
+        Reply::NoChannel => Reply::NoChannel,
+        Reply::Ask(_) => Reply::Ask(made(spare)),
+        Reply::NotPositioned => Reply::NotPositioned,
+        Reply::NotInSchema(misfit) => Reply::NotInSchema(*misfit),
+        Reply::ChannelFull => Reply::ChannelFull,
+        Reply::Received(number) => Reply::Received(*number),
+        Reply::NoSeat => Reply::NoSeat,
+        Reply::SeatBusy(gtid) => Reply::SeatBusy(*gtid),
+        Reply::NoPlace => Reply::NoPlace,
+        Reply::Stopped => Reply::Stopped,
+        Reply::Done(gtid) => Reply::Done(*gtid),
+        Reply::OwnedBy(seat) => Reply::OwnedBy(*seat),
+        Reply::Blocked(number) => Reply::Blocked(*number),
+        Reply::Taken(gtid) => Reply::Taken(*gtid),
+        Reply::SeatIdle => Reply::SeatIdle,
+        Reply::Early(number) => Reply::Early(*number),
+        Reply::RowRefused(gtid, fault) => Reply::RowRefused(*gtid, *fault),
+        Reply::Committed(gtid) => Reply::Committed(*gtid),
+        Reply::RolledBack(gtid) => Reply::RolledBack(*gtid),
+        Reply::Restarted => Reply::Restarted,
+        Reply::NumbersUsedUp => Reply::NumbersUsedUp,
+        Reply::LocalRefused(fault) => Reply::LocalRefused(*fault),
+        Reply::TooMany(number) => Reply::TooMany(*number),
+        Reply::Purged(_) => Reply::Purged(made(spare)),
+        Reply::Shown(_) => Reply::Shown(made(spare)),
+    }
+}
+
+/// The set that was made.
+fn made(spare: Option<GtidSet>) -> GtidSet
+    requires { IsSome spare }
+    ensures { Some result ≡ spare }
+{
+    match spare {
+        Some(set) => set,
+        None => unreachable!(),
+    }
+}

@@ -1,0 +1,326 @@
+//! A replica that threads share.
+ghost use Rattle.std.specs.Prelude.{◌≡◌, ℕ, ◌+◌, ◌<◌, ◌≤◌, true, [], IfOk, IfErr, OnErr, vec_len, slice_index_or};
+ghost use Rattle.std.specs.Vec.{vec_capacity};
+ghost use Rattle.commit_ledger.specs.Tallies.{no_tally, unused};
+ghost use Rattle.journal.specs.Writing.{is_number};
+ghost use Rattle.replica_core.specs.declared.event.Event.TheVariants.{OpenChannel, Position, Receive, Take, Commit, Rollback, Restart, Local, Purge, Look};
+ghost use Rattle.shared_replica.specs.Passes.{fresh, IsTold};
+ghost use Rattle.shared_replica.specs.Closing.{IsClosed};
+
+use crate::book::Book;
+use crate::closed::ClosedBook;
+use crate::naming::{LedgersOf, Naming};
+use crate::pass::Pass;
+use crate::room::add;
+use crate::step::Sheet;
+use commit_ledger::{Blanks, Share, Total, open_shares};
+use gtid_set::SetFault;
+use journal::Entry;
+use replica_core::{Core, Event, Reply};
+use rows::{Name, Transaction};
+use std::alloc::{AllocError, Global};
+use std::marker::Model;
+use std::snapshot::Snapshot;
+use std::sync::{Mutex, Wait};
+
+/// A core that threads share under one lock. A contract sees the core that it was opened with and the
+/// number of its seats. Each call makes one step, or waits for the lock forever; it puts the step's
+/// line into the history and a receipt for it into the pass.
+#[derive(Drop)]
+pub struct SharedReplica<N: Naming> {
+    opening: Snapshot<Core>,
+    seats: u8,
+    book: Mutex<Book<N>>,
+    sheets: Vec<Sheet>,
+}
+
+impl<N: Naming> Model for SharedReplica<N> {
+    ghost use Rattle.std.specs.Prelude.{◌≡◌, ◌≤◌, []};
+    ghost use Rattle.std.specs.Vec.{vec_capacity};
+    ghost use Rattle.std.specs.Coded.{codes};
+    ghost use Rattle.gtid_set.specs.Sets.{gtids_code};
+    ghost use Rattle.rows.specs.Coding.{rows_code};
+    ghost use Rattle.replica_core.specs.Slots.{seats_code};
+    ghost use Rattle.shared_replica.specs.Passes.{SharedValue};
+
+    ghost Value = { SharedValue };
+
+    ghost coded = { Prim.hlevel (codes, gtids_code, rows_code, seats_code) };
+
+    ghost view = { λ s. record { opening = N.opening; seats = s.seats } };
+
+    ghost invariant = { λ s. (s.opening.value ≡ N.opening) × (s.seats ≡ N.seats) × (1 ≤ s.seats) × (s.seats ≤ 64) × (s.sheets.items ≡ []) × (s.seats ≤ vec_capacity s.sheets) };
+}
+
+impl<N: Naming> SharedReplica<N> {
+    /// Shares a core among the seats 1 to `seats`, each with a pass of its own. After an error, which
+    /// is want of memory, the core is handed back.
+    pub fn open(
+        alloc: Global,
+        blanks: Blanks,
+        core: Core,
+        seats: u8,
+    ) -> Result<(SharedReplica<N>, Vec<Pass<N>>), (Core, AllocError)>
+        requires steps { (blanks.steps.name ≡ N.steps_name) × (blanks.steps.parts ≡ N.seats) }
+        requires commits { (blanks.commits.name ≡ N.commits_name) × (blanks.commits.parts ≡ N.seats) }
+        requires opening { core ≡ N.opening }
+        requires seats { (seats ≡ N.seats) × (1 ≤ seats) × (seats ≤ 64) }
+        ensures shared { IfOk result (λ r. r.0 ≡ record { opening = core; seats = seats }) }
+        ensures count { IfOk result (λ r. vec_len r.1 ≡ seats) }
+        ensures passes { IfOk result (λ r. (i : ℕ) (d : _) → i < seats → slice_index_or r.1.items i d ≡ fresh (i + 1)) }
+        ensures err { IfErr result (λ e. e.0 ≡ core) }
+    {
+        match prepare::<N>(alloc, blanks, seats) {
+            Ok(ready) => {
+                let Ready {
+                    sheets,
+                    total,
+                    passes,
+                } = ready;
+                let opening = Snapshot::of(&core);
+                let book = Mutex::new(Book::new(alloc, core, total));
+                let shared = SharedReplica {
+                    opening,
+                    seats,
+                    book,
+                    sheets,
+                };
+                Ok((shared, passes))
+            }
+            Err(error) => Err((core, error)),
+        }
+    }
+
+    /// Ends the sharing. It is refused where there are fewer passes than seats, or where the receipts
+    /// are not the steps: each step with the line at its place, the places of a pass rising, and no
+    /// place twice. All is then handed back. It waits for nothing and takes no memory.
+    pub fn close(self, passes: Vec<Pass<N>>) -> Result<ClosedBook, (SharedReplica<N>, Vec<Pass<N>>)>
+        ensures ok { IfOk result (λ b. IsClosed self passes.items b) }
+        ensures err { IfErr result (λ r. (r.0 ≡ self) × (r.1.items ≡ passes.items)) }
+    {
+        let SharedReplica {
+            opening,
+            seats,
+            book,
+            sheets,
+        } = self;
+        let book = book.into_inner();
+        if passes.len() != seats as usize || !book.is_of(passes.as_slice()) {
+            let shared = SharedReplica {
+                opening,
+                seats,
+                book: Mutex::new(book),
+                sheets,
+            };
+            return Err((shared, passes));
+        }
+        Ok(book.close(opening, sheets, passes))
+    }
+
+    /// The least place of a channel from this number on that a seat might take. It is a hint: other
+    /// threads may be quicker, and a Take decides. It leaves no line and no receipt.
+    pub fn next_ready<R: Wait>(&self, rt: &R, channel: usize, from: usize) -> Option<usize> {
+        self.book.lock(rt).next_ready(channel, from)
+    }
+}
+
+/// The ten events. Each call answers the reply that the core gave under the lock. The pass then has
+/// one step more in its share, one commit more if the reply is Committed, and a receipt of the event,
+/// with the pass's seat where the event has one, and of that reply. After an error neither the pass
+/// nor the history has changed.
+impl<N: Naming> SharedReplica<N> {
+    /// Opens a channel of this name, which preserves the order of its places or not.
+    pub fn open_channel<R: Wait>(
+        &self,
+        rt: &R,
+        alloc: Global,
+        pass: &mut Pass<N>,
+        name: Name,
+        preserve: bool,
+    ) -> Result<Reply, SetFault>
+        ensures ok { IfOk result (λ r. IsTold pass.old (OpenChannel name preserve) r pass.new) }
+        ensures err { OnErr result (pass.new ≡ pass.old) }
+    {
+        let event = Event::OpenChannel(name, preserve);
+        self.book.lock(rt).make(alloc, event, pass)
+    }
+
+    /// Asks for the set with which a channel goes to its source. ("GTID Auto-Positioning")
+    pub fn position<R: Wait>(
+        &self,
+        rt: &R,
+        alloc: Global,
+        pass: &mut Pass<N>,
+        channel: usize,
+    ) -> Result<Reply, SetFault>
+        ensures ok { IfOk result (λ r. IsTold pass.old (Position channel) r pass.new) }
+        ensures err { OnErr result (pass.new ≡ pass.old) }
+    {
+        let event = Event::Position(channel);
+        self.book.lock(rt).make(alloc, event, pass)
+    }
+
+    /// A channel receives an entry. Its number is 1 to 9223372036854775807.
+    pub fn receive<R: Wait>(
+        &self,
+        rt: &R,
+        alloc: Global,
+        pass: &mut Pass<N>,
+        channel: usize,
+        entry: Entry,
+    ) -> Result<Reply, SetFault>
+        requires { is_number entry.gtid.number ≡ true }
+        ensures ok { IfOk result (λ r. IsTold pass.old (Receive channel entry) r pass.new) }
+        ensures err { OnErr result (pass.new ≡ pass.old) }
+    {
+        let event = Event::Receive(channel, entry);
+        self.book.lock(rt).make(alloc, event, pass)
+    }
+
+    /// The seat takes the transaction at a place of a channel.
+    pub fn take<R: Wait>(
+        &self,
+        rt: &R,
+        alloc: Global,
+        pass: &mut Pass<N>,
+        channel: usize,
+        place: usize,
+    ) -> Result<Reply, SetFault>
+        ensures ok { IfOk result (λ r. IsTold pass.old (Take pass.old.seat channel place) r pass.new) }
+        ensures err { OnErr result (pass.new ≡ pass.old) }
+    {
+        let event = Event::Take(pass.seat(), channel, place);
+        self.book.lock(rt).make(alloc, event, pass)
+    }
+
+    /// The seat commits what it took.
+    pub fn commit<R: Wait>(
+        &self,
+        rt: &R,
+        alloc: Global,
+        pass: &mut Pass<N>,
+    ) -> Result<Reply, SetFault>
+        ensures ok { IfOk result (λ r. IsTold pass.old (Commit pass.old.seat) r pass.new) }
+        ensures err { OnErr result (pass.new ≡ pass.old) }
+    {
+        let event = Event::Commit(pass.seat());
+        self.book.lock(rt).make(alloc, event, pass)
+    }
+
+    /// The seat gives up what it took.
+    pub fn rollback<R: Wait>(
+        &self,
+        rt: &R,
+        alloc: Global,
+        pass: &mut Pass<N>,
+    ) -> Result<Reply, SetFault>
+        ensures ok { IfOk result (λ r. IsTold pass.old (Rollback pass.old.seat) r pass.new) }
+        ensures err { OnErr result (pass.new ≡ pass.old) }
+    {
+        let event = Event::Rollback(pass.seat());
+        self.book.lock(rt).make(alloc, event, pass)
+    }
+
+    /// A stopped channel goes on.
+    pub fn restart<R: Wait>(
+        &self,
+        rt: &R,
+        alloc: Global,
+        pass: &mut Pass<N>,
+        channel: usize,
+    ) -> Result<Reply, SetFault>
+        ensures ok { IfOk result (λ r. IsTold pass.old (Restart channel) r pass.new) }
+        ensures err { OnErr result (pass.new ≡ pass.old) }
+    {
+        let event = Event::Restart(channel);
+        self.book.lock(rt).make(alloc, event, pass)
+    }
+
+    /// A transaction of the server's own.
+    pub fn local<R: Wait>(
+        &self,
+        rt: &R,
+        alloc: Global,
+        pass: &mut Pass<N>,
+        changes: Transaction,
+    ) -> Result<Reply, SetFault>
+        ensures ok { IfOk result (λ r. IsTold pass.old (Local changes) r pass.new) }
+        ensures err { OnErr result (pass.new ≡ pass.old) }
+    {
+        let event = Event::Local(changes);
+        self.book.lock(rt).make(alloc, event, pass)
+    }
+
+    /// This many of the own journal's first entries are purged.
+    pub fn purge<R: Wait>(
+        &self,
+        rt: &R,
+        alloc: Global,
+        pass: &mut Pass<N>,
+        count: usize,
+    ) -> Result<Reply, SetFault>
+        ensures ok { IfOk result (λ r. IsTold pass.old (Purge count) r pass.new) }
+        ensures err { OnErr result (pass.new ≡ pass.old) }
+    {
+        let event = Event::Purge(count);
+        self.book.lock(rt).make(alloc, event, pass)
+    }
+
+    /// Asks for the executed set.
+    pub fn look<R: Wait>(
+        &self,
+        rt: &R,
+        alloc: Global,
+        pass: &mut Pass<N>,
+    ) -> Result<Reply, SetFault>
+        ensures ok { IfOk result (λ r. IsTold pass.old Look r pass.new) }
+        ensures err { OnErr result (pass.new ≡ pass.old) }
+    {
+        let event = Event::Look;
+        self.book.lock(rt).make(alloc, event, pass)
+    }
+}
+
+/// What `open` makes before it takes the core.
+struct Ready<N: Naming> {
+    sheets: Vec<Sheet>,
+    total: Total<LedgersOf<N>>,
+    passes: Vec<Pass<N>>,
+}
+
+fn prepare<N: Naming>(alloc: Global, blanks: Blanks, seats: u8) -> Result<Ready<N>, AllocError>
+    requires steps { (blanks.steps.name ≡ N.steps_name) × (blanks.steps.parts ≡ N.seats) }
+    requires commits { (blanks.commits.name ≡ N.commits_name) × (blanks.commits.parts ≡ N.seats) }
+    requires seats { (seats ≡ N.seats) × (1 ≤ seats) × (seats ≤ 64) }
+    ensures sheets { IfOk result (λ r. (r.sheets.items ≡ []) × (seats ≤ vec_capacity r.sheets)) }
+    ensures total { IfOk result (λ r. r.total ≡ no_tally) }
+    ensures count { IfOk result (λ r. vec_len r.passes ≡ seats) }
+    ensures passes { IfOk result (λ r. (i : ℕ) (d : _) → i < seats → slice_index_or r.passes.items i d ≡ fresh (i + 1)) }
+{
+    let sheets = Vec::with_capacity(alloc, seats as usize)?;
+    let (total, shares) = open_shares::<LedgersOf<N>>(alloc, blanks, seats as u64)?;
+    let passes = passes_of(alloc, shares)?;
+    Ok(Ready {
+        sheets,
+        total,
+        passes,
+    })
+}
+
+/// A pass for each share, the seats rising from 1.
+fn passes_of<N: Naming>(
+    alloc: Global,
+    shares: Vec<Share<LedgersOf<N>>>,
+) -> Result<Vec<Pass<N>>, AllocError>
+    requires few { vec_len shares ≤ 64 }
+    requires fresh { (i : ℕ) (d : _) → i < vec_len shares → slice_index_or shares.items i d ≡ unused 1 }
+    ensures count { IfOk result (λ v. vec_len v ≡ vec_len shares) }
+    ensures passes { IfOk result (λ v. (i : ℕ) (d : _) → i < vec_len shares → slice_index_or v.items i d ≡ fresh (i + 1)) }
+{
+    let mut passes = Vec::with_capacity(alloc, shares.len())?;
+    for share in shares {
+        let seat = passes.len() as u8 + 1;
+        add(&mut passes, Pass::new(alloc, seat, share));
+    }
+    Ok(passes)
+}

@@ -1,0 +1,26 @@
+-- What one feed and finish of a bundle give is what the whole text gives.
+use Rattle.std.proofs.Common.{◌≡◌, inl, inr, Result, Err, refl, sym, ap, ◌∙◌}
+use Rattle.txn_journal.specs.Stream.{Progress, Reading, Stopped, IsAfter, answer}
+use Rattle.txn_journal.specs.BundleStates.{BundleValue, BundleStanding}
+use Rattle.txn_journal.specs.BundleReading.{closing_bundle, IsWholeBundle}
+use Rattle.txn_journal.specs.declared.fault.JournalFault.{JournalFault}
+use Rattle.txn_journal.specs.declared.fault.JournalFault.TheVariants as faults
+use Rattle.txn_journal.proofs.WholeReads.{stops, same_fault}
+
+abbrev fails : JournalFault → Result BundleValue JournalFault
+fails e = Err e
+
+abbrev stop : JournalFault → Progress BundleStanding
+stop e = Stopped e
+
+same_stop : (e f : JournalFault) → stop e ≡ stop f → e ≡ f
+same_stop e f h = cc
+
+closed : (f : JournalFault) → closing_bundle (Stopped f) ≡ Err f
+unfolding closing_bundle
+closed f = refl
+
+pub bundle_stopped : (e : JournalFault) (p after : Progress BundleStanding) → stops e ≡ answer p → IsAfter p after → IsWholeBundle (Err e) (closing_bundle after)
+bundle_stopped e (Reading s n rest) after a h = absurd cc
+bundle_stopped e (Stopped f) after a (inl x) = inl (x.0, ap fails (same_fault e f a ∙ same_stop f (faults.Set x.0) x.1))
+bundle_stopped e (Stopped f) after a (inr x) = inr (ap fails (same_fault e f a) ∙ sym (closed f) ∙ ap closing_bundle x)

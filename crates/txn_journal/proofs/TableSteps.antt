@@ -1,0 +1,69 @@
+-- The words of a table's line, step by step.
+use Rattle.std.proofs.Common.{◌≡◌, ℕ, Bool, true, false, cond, List, [], ◌∷◌, ◌++◌, map, Option, Some, None, Result, Ok, Err, refl, sym, ap, subst, ◌∙◌, append_assoc}
+use Rattle.std.specs.Prelude.{is_some}
+use Rattle.rows.specs.Apply.{Rows, apply}
+use Rattle.rows.specs.Fits.{misfit}
+use Rattle.rows.specs.Database.{Database, opening}
+use Rattle.rows.specs.declared.change.TableRow.{TableRow}
+use Rattle.rows.specs.declared.change.NotInSchema.{NotInSchema}
+use Rattle.rows.specs.declared.change.ApplyFault.{ApplyFault}
+use Rattle.rows.specs.declared.change.RowFault.{RowFault}
+use Rattle.txn_journal.specs.Words.{before, behind}
+use Rattle.txn_journal.specs.Splits.{parts_of}
+use Rattle.rows.specs.declared.schema.Table.{Table}
+use Rattle.txn_journal.specs.Lines.{◌>>=◌}
+use Rattle.txn_journal.specs.Stream.{TakesLine}
+use Rattle.txn_journal.specs.BundleStates.{BundleStanding, with_opening, closed_channel, after_inner, judge_inner, ok_rows}
+use Rattle.txn_journal.specs.declared.fault.LineFault.{LineFault}
+use Rattle.txn_journal.specs.Machine.{Standing, is_last, judge}
+use Rattle.txn_journal.specs.declared.fault.Cause.{Cause}
+use Rattle.txn_journal.specs.declared.fault.Cause.TheVariants as causes
+use Rattle.txn_journal.proofs.LineReads.{done}
+use Rattle.txn_journal.proofs.SplitLaws.{parts_cut, more_parts}
+
+-- ---- parts
+
+pub map_more : {X Y : Type 0} (f : X → Y) (xs : List X) (x : X) → map f (xs ++ x ∷ []) ≡ map f xs ++ f x ∷ []
+map_more f [] x = refl
+map_more f (y ∷ ys) x = ap (λ t. f y ∷ t) (map_more f ys x)
+
+pub last_part : (all done : List (List ℕ)) (c : ℕ) (left w : List ℕ) (m : Option (List ℕ)) → all ≡ done ++ parts_of c left → w ≡ before c left → m ≡ behind c left → m ≡ None → done ++ w ∷ [] ≡ all
+last_part all done c left w m so_far word rest none =
+    sym (so_far ∙ ap (λ (t : List (List ℕ)). done ++ t) (parts_cut c left ∙ (λ i. sym word i ∷ more_parts c ((sym rest ∙ none) i))))
+
+pub next_part : (all done : List (List ℕ)) (c : ℕ) (left w r : List ℕ) (m : Option (List ℕ)) → all ≡ done ++ parts_of c left → w ≡ before c left → m ≡ behind c left → m ≡ Some r → all ≡ (done ++ w ∷ []) ++ parts_of c r
+next_part all done c left w r m so_far word rest some =
+    so_far ∙ ap (λ (t : List (List ℕ)). done ++ t) (parts_cut c left ∙ (λ i. sym word i ∷ more_parts c ((sym rest ∙ some) i))) ∙ sym (append_assoc done (w ∷ []) (parts_of c r))
+
+-- ---- opening rows
+
+pub row_put : (d : Database) (r : TableRow) (rows : Rows) → misfit d.schema (opening r.table r.row) ≡ None → apply d.schema (opening r.table r.row) d.rows ≡ Ok rows → with_opening d r ≡ Ok rows
+unfolding with_opening
+row_put d r rows fits e = rw (fits, e) refl
+
+pub row_misfits : (d : Database) (r : TableRow) (cause : NotInSchema) → misfit d.schema (opening r.table r.row) ≡ Some cause → with_opening d r ≡ Err causes.Schema
+unfolding with_opening
+row_misfits d r cause e = rw e refl
+
+pub row_refused : (d : Database) (r : TableRow) (fault : RowFault) → apply d.schema (opening r.table r.row) d.rows ≡ Err fault → with_opening d r ≡ Err causes.Schema
+unfolding with_opening
+row_refused d r fault e = rw e (elim (is_some (misfit d.schema (opening r.table r.row))) as (λ b. cond b (Err causes.Schema) (ok_rows (Err fault)) ≡ Err causes.Schema) [ true ↦ refl | false ↦ refl ])
+
+-- what a row that is not put answers
+abbrev pub put_fails : ApplyFault → Result (Unit {0}) ApplyFault
+put_fails fault = Err fault
+
+-- ---- a line of the open journal
+
+abbrev ended_or_not : BundleStanding → Standing → Bool → BundleStanding
+ended_or_not s d v = cond v (closed_channel s d) (record s { draft = d })
+
+inner_again : (s : BundleStanding) (d : Standing) (v : Bool) → ended_or_not (record s { draft = d }) d v ≡ ended_or_not s d v
+inner_again s d true = refl
+inner_again s d false = refl
+
+pub inner_taken : (s : BundleStanding) (tables : List Table) (d : Standing) (line : List ℕ) (r : Result (Unit {0}) LineFault) (new : BundleStanding) → tables ≡ s.bundle.start.schema → judge (Some tables) s.draft line ≡ Ok d → TakesLine r (Ok (after_inner (record s { draft = d }) d)) new → TakesLine r (judge_inner s line) new
+unfolding judge_inner after_inner
+inner_taken s tables d line r new same judged h =
+    let taken : judge (Some s.bundle.start.schema) s.draft line ≡ Ok d = ap (λ (t : List Table). judge (Some t) s.draft line) (sym same) ∙ judged in
+    subst (λ (x : Result BundleStanding Cause). TakesLine r x new) (sym (ap (λ (x : Result Standing Cause). x >>= λ e. done (after_inner s e)) taken ∙ ap done (sym (inner_again s d (is_last d.place))))) h

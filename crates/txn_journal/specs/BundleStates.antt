@@ -1,0 +1,209 @@
+-- A bundle as far as its lines have come.
+use Rattle.std.specs.Prelude.{ℕ, Bool, true, false, nat_le, List, [], ◌∷◌, ◌++◌, length, Option, Some, None, is_some, Result, Ok, Err, codes, if◌then◌else◌}
+use Rattle.std.specs.List.{list_any}
+use Rattle.std.specs.FinMap as map
+use Rattle.std.specs.Str.{bytes_eq}
+use Rattle.std.specs.Ordering.{nat_cmp, eq_by_cmp}
+use Rattle.std.specs.Cmp.Lexicographic.{slice_cmp}
+use Rattle.rows.specs.declared.schema.Table.{Table}
+use Rattle.rows.specs.declared.change.TableRow.{TableRow}
+use Rattle.rows.specs.declared.change.RowFault.{RowFault}
+use Rattle.rows.specs.Apply.{Rows, apply}
+use Rattle.rows.specs.Fits.{misfit}
+use Rattle.rows.specs.Database.{Database, opening}
+use Rattle.journal.specs.Journals.{JournalValue}
+use Rattle.journal.specs.Writing.{is_image_writable}
+use Rattle.journal_words.specs.Words.{first_word, others}
+use Rattle.journal_words.specs.Gtids.{source_of_word}
+use Rattle.txn_journal.specs.Words.{name_of}
+use Rattle.txn_journal.specs.Lines.{◌>>=◌, some_or_body, version_in, nothing_in, table_in, image_in}
+use Rattle.txn_journal.specs.Machine.{Standing, empty, is_last, judge}
+use Rattle.txn_journal.specs.Shapes.{added_table}
+use Rattle.txn_journal.specs.declared.bundle.Channel.{Channel}
+use Rattle.txn_journal.specs.declared.bundle_draft.Part.{Part}
+use Rattle.txn_journal.specs.declared.bundle_draft.Part.TheVariants as parts
+use Rattle.txn_journal.specs.declared.bundle_draft.Word.{Word}
+use Rattle.txn_journal.specs.declared.bundle_draft.Word.TheVariants as words
+use Rattle.txn_journal.specs.declared.fault.Cause.{Cause}
+use Rattle.txn_journal.specs.declared.fault.Cause.TheVariants as causes
+use Rattle.txn_journal.specs.declared.lines.Version.{Version}
+use Rattle.txn_journal.specs.declared.lines.Version.TheVariants.{One}
+
+-- a replica, its tables and opening rows, and its channels, each with the journal that it brings
+pub record BundleValue : Type 0 where
+  pub replica : ℕ
+  pub start : Database
+  pub channels : List Channel
+  pub journals : List JournalValue
+
+-- a bundle without rows and channels
+abbrev pub bare : ℕ → List Table → BundleValue
+bare replica tables = record { replica = replica; start = record { schema = tables; rows = map.empty }; channels = []; journals = [] }
+
+-- What the lines so far have said. The tables stand in `tables` until the first line behind them.
+pub record BundleStanding : Type 0 where
+  pub part : Part
+  pub version : Version
+  pub tables : List Table
+  pub bundle : BundleValue
+  pub channel : Option Channel
+  pub draft : Standing
+
+-- before the first line
+abbrev pub no_bundle : BundleStanding
+no_bundle = record { part = parts.Header; version = One; tables = []; bundle = bare 0 []; channel = None; draft = empty None }
+
+abbrev pub is_done : Part → Bool
+is_done parts.Ended = true
+is_done _ = false
+
+-- ---- words
+
+abbrev pub word_of : List ℕ → Option Word
+word_of word =
+    if bytes_eq word (codes "bundle") then Some words.Bundle
+    else if bytes_eq word (codes "replica") then Some words.Replica
+    else if bytes_eq word (codes "table") then Some words.Table
+    else if bytes_eq word (codes "row") then Some words.Row
+    else if bytes_eq word (codes "channel") then Some words.Channel
+    else if bytes_eq word (codes "done") then Some words.Done
+    else None
+
+-- the words that are due in a part
+abbrev pub is_due_in : Part → Word → Bool
+is_due_in parts.Header words.Bundle = true
+is_due_in parts.Replica words.Replica = true
+is_due_in parts.Tables words.Table = true
+is_due_in parts.Tables words.Row = true
+is_due_in parts.Tables words.Channel = true
+is_due_in parts.Tables words.Done = true
+is_due_in parts.Rows words.Row = true
+is_due_in parts.Rows words.Channel = true
+is_due_in parts.Rows words.Done = true
+is_due_in parts.Channels words.Channel = true
+is_due_in parts.Channels words.Done = true
+is_due_in _ _ = false
+
+abbrev pub due_in : Part → Option Word → Result Word Cause
+due_in part None = Err causes.Keyword
+due_in part (Some word) = if is_due_in part word then Ok word else Err causes.Keyword
+
+-- ---- the rest of a line
+
+abbrev pub replica_in : Option (List ℕ) → Result ℕ Cause
+replica_in None = Err causes.Body
+replica_in (Some word) = some_or_body (source_of_word word)
+
+abbrev pub preserve_in : Option (List ℕ) → Result Bool Cause
+preserve_in None = Ok false
+preserve_in (Some word) = if bytes_eq word (codes "preserve") then Ok true else Err causes.Body
+
+unfoldable pub channel_in : Option (List ℕ) → Result Channel Cause
+channel_in None = Err causes.Body
+channel_in (Some text) = do
+  name ← some_or_body (name_of (first_word text))
+  preserve ← preserve_in (others text)
+  Ok (record { name = name; preserve = preserve })
+
+-- ---- one line more
+
+-- the tables end here, where they have not
+abbrev pub opened_rows : Part → BundleStanding → BundleStanding
+opened_rows parts.Tables s = record s { part = parts.Rows; tables = []; bundle = bare s.bundle.replica s.tables }
+opened_rows _ s = s
+
+abbrev pub behind_tables : BundleStanding → BundleStanding
+behind_tables s = opened_rows s.part s
+
+abbrev pub ok_rows : Result Rows RowFault → Result Rows Cause
+ok_rows (Ok rows) = Ok rows
+ok_rows (Err fault) = Err causes.Schema
+
+-- one opening row more, where the schema takes it and no row carries one of its keys
+unfoldable pub with_opening : Database → TableRow → Result Rows Cause
+with_opening d r = if is_some (misfit d.schema (opening r.table r.row)) then Err causes.Schema else ok_rows (apply d.schema (opening r.table r.row) d.rows)
+
+unfoldable pub put_row : BundleStanding → TableRow → Result BundleStanding Cause
+put_row s r = do
+  rows ← with_opening s.bundle.start r
+  Ok (record s { bundle = record s.bundle { start = record s.bundle.start { rows = rows } } })
+
+abbrev pub has_channel : List Channel → List ℕ → Bool
+has_channel channels name = list_any (λ c. eq_by_cmp (slice_cmp nat_cmp) c.name name) channels
+
+unfoldable pub headed : BundleStanding → Option (List ℕ) → Result BundleStanding Cause
+headed s rest = do
+  version ← version_in None rest
+  Ok (record s { part = parts.Replica; version = version })
+
+unfoldable pub named : BundleStanding → Option (List ℕ) → Result BundleStanding Cause
+named s rest = do
+  replica ← replica_in rest
+  Ok (record s { part = parts.Tables; bundle = bare replica [] })
+
+unfoldable pub tabled : BundleStanding → Option (List ℕ) → Result BundleStanding Cause
+tabled s None = Err causes.Body
+tabled s (Some text) = do
+  tables ← added_table s.tables text
+  Ok (record s { tables = tables })
+
+unfoldable pub rowed : BundleStanding → Option (List ℕ) → Result BundleStanding Cause
+rowed s rest = do
+  table ← table_in rest
+  row ← image_in table.1
+  if is_image_writable row then put_row (behind_tables s) (record { table = table.0; row = row }) else Err causes.Limit
+
+unfoldable pub joined_channel : BundleStanding → Channel → Result BundleStanding Cause
+joined_channel s channel =
+    if nat_le 256 (length s.bundle.channels) then Err causes.Limit
+    else if has_channel s.bundle.channels channel.name then Err causes.Schema
+    else Ok (record (behind_tables s) { part = parts.Journal; channel = Some channel; draft = empty (Some s.version) })
+
+unfoldable pub channelled : BundleStanding → Option (List ℕ) → Result BundleStanding Cause
+channelled s rest = do
+  channel ← channel_in rest
+  joined_channel s channel
+
+unfoldable pub all_done : BundleStanding → Option (List ℕ) → Result BundleStanding Cause
+all_done s rest = do
+  nothing ← nothing_in rest
+  Ok (record (behind_tables s) { part = parts.Ended })
+
+unfoldable pub own_step : BundleStanding → Word → Option (List ℕ) → Result BundleStanding Cause
+own_step s words.Bundle rest = headed s rest
+own_step s words.Replica rest = named s rest
+own_step s words.Table rest = tabled s rest
+own_step s words.Row rest = rowed s rest
+own_step s words.Channel rest = channelled s rest
+own_step s words.Done rest = all_done s rest
+
+-- a line of the bundle's own
+unfoldable pub judge_own : BundleStanding → List ℕ → Result BundleStanding Cause
+judge_own s line = do
+  word ← due_in s.part (word_of (first_word line))
+  own_step s word (others line)
+
+-- the channel that is open joins the others with its journal
+abbrev pub with_journal : Option Channel → BundleValue → JournalValue → BundleValue
+with_journal None b journal = b
+with_journal (Some channel) b journal = record b { channels = b.channels ++ channel ∷ []; journals = b.journals ++ journal ∷ [] }
+
+abbrev pub closed_channel : BundleStanding → Standing → BundleStanding
+closed_channel s draft = record s { part = parts.Channels; bundle = with_journal s.channel s.bundle draft.journal; channel = None; draft = empty (Some s.version) }
+
+unfoldable pub after_inner : BundleStanding → Standing → BundleStanding
+after_inner s draft = if is_last draft.place then closed_channel s draft else record s { draft = draft }
+
+-- a line of the open channel's journal
+unfoldable pub judge_inner : BundleStanding → List ℕ → Result BundleStanding Cause
+judge_inner s line = do
+  draft ← judge (Some s.bundle.start.schema) s.draft line
+  Ok (after_inner s draft)
+
+abbrev pub judge_part : Part → BundleStanding → List ℕ → Result BundleStanding Cause
+judge_part parts.Journal s line = judge_inner s line
+judge_part _ s line = judge_own s line
+
+-- a line at the place where it stands
+unfoldable pub judge_bundle : BundleStanding → List ℕ → Result BundleStanding Cause
+judge_bundle s line = judge_part s.part s line

@@ -1,0 +1,154 @@
+-- The text of a bundle: its lines, each ended by a line feed. Only the order of its `row` lines is free.
+use Rattle.std.specs.Prelude.{◌≡◌, ℕ, ◌≤◌, ◌<◌, Bool, true, false, List, [], ◌∷◌, ◌++◌, length, map, Some, None, Result, Ok, codes}
+use Rattle.std.specs.List.{list_all, flat_map, AllByRecursion}
+use Rattle.std.specs.FinMap as map_of
+use Rattle.gtid_text.specs.Canonical.{source_text}
+use Rattle.gtid_text.specs.Written.{IsSource}
+use Rattle.rows.specs.declared.change.TableRow.{TableRow}
+use Rattle.rows.specs.declared.schema.Table.{Table}
+use Rattle.rows.specs.Apply.{Rows}
+use Rattle.rows.specs.Database.{Database}
+use Rattle.rows.specs.Names.{is_name}
+use Rattle.rows.specs.Tables.{table_fault}
+use Rattle.journal.specs.declared.Entry.{Entry}
+use Rattle.journal.specs.Journals.{JournalValue}
+use Rattle.journal.specs.Writing.{is_image_writable}
+use Rattle.txn_journal.specs.Lines.{◌>>=◌}
+use Rattle.txn_journal.specs.Machine.{fits}
+use Rattle.txn_journal.specs.Shapes.{Shape, shape_text, shape_for}
+use Rattle.txn_journal.specs.BundleStates.{BundleValue, has_channel, with_opening}
+use Rattle.txn_journal.specs.Spelling.{Line, version_text, image_text, line_text, journal_lines, AreValues, IsWritten}
+use Rattle.txn_journal.specs.declared.bundle.Channel.{Channel}
+use Rattle.txn_journal.specs.declared.fault.Cause.{Cause}
+use Rattle.txn_journal.specs.declared.lines.Version.{Version}
+use Rattle.txn_journal.specs.declared.lines.Version.TheVariants.{One}
+
+-- ---- lines
+
+-- what a line of the bundle's own says
+pub data OwnLine : Type 0 where
+  Heads : Version → OwnLine
+  Names : ℕ → OwnLine
+  Has : Shape → OwnLine
+  Puts : TableRow → OwnLine
+  Opens : Channel → OwnLine
+  Done : OwnLine
+
+pub data BundleLine : Type 0 where
+  Own : OwnLine → BundleLine
+  Inner : Line → BundleLine
+
+abbrev pub preserve_text : Bool → List ℕ
+preserve_text true = codes " preserve"
+preserve_text false = []
+
+-- the text of a line, without its line feed
+abbrev pub own_text : OwnLine → List ℕ
+own_text (Heads version) = codes "bundle" ++ 32 ∷ version_text version
+own_text (Names replica) = codes "replica" ++ 32 ∷ source_text replica
+own_text (Has shape) = codes "table" ++ 32 ∷ shape_text shape
+own_text (Puts r) = image_text (codes "row") r.table r.row
+own_text (Opens c) = codes "channel" ++ 32 ∷ (c.name ++ preserve_text c.preserve)
+own_text Done = codes "done"
+
+abbrev pub bundle_line_text : BundleLine → List ℕ
+bundle_line_text (Own l) = own_text l
+bundle_line_text (Inner l) = line_text l
+
+abbrev pub ended_bundle_line : BundleLine → List ℕ
+ended_bundle_line l = bundle_line_text l ++ 10 ∷ []
+
+-- the text of lines, each ended by a line feed
+abbrev pub bundle_text : List BundleLine → List ℕ
+bundle_text ls = flat_map ended_bundle_line ls
+
+-- ---- bundles
+
+abbrev pub table_lines : List Table → List BundleLine
+table_lines tables = map (λ t. Own (Has (shape_for t))) tables
+
+abbrev pub row_lines : List TableRow → List BundleLine
+row_lines rows = map (λ r. Own (Puts r)) rows
+
+-- a channel, and the journal that it brings
+abbrev pub channel_lines : Version → Channel → JournalValue → List BundleLine
+channel_lines version c j = Own (Opens c) ∷ map Inner (journal_lines version j)
+
+abbrev pub channels_lines : Version → List Channel → List JournalValue → List BundleLine
+channels_lines version (c ∷ cs) (j ∷ js) = channel_lines version c j ++ channels_lines version cs js
+channels_lines version _ _ = []
+
+-- the replica and its tables
+abbrev pub tables_lines : Version → ℕ → List Table → List BundleLine
+tables_lines version replica tables = Own (Heads version) ∷ Own (Names replica) ∷ table_lines tables
+
+-- the lines before the first channel, with the rows in this order
+abbrev pub start_lines : Version → ℕ → List Table → List TableRow → List BundleLine
+start_lines version replica tables rows = tables_lines version replica tables ++ row_lines rows
+
+-- the lines of a bundle but the last
+abbrev pub bundle_front : Version → List TableRow → BundleValue → List BundleLine
+bundle_front version rows b = start_lines version b.replica b.start.schema rows ++ channels_lines version b.channels b.journals
+
+abbrev pub bundle_lines : Version → List TableRow → BundleValue → List BundleLine
+bundle_lines version rows b = bundle_front version rows b ++ Own Done ∷ []
+
+-- the text of a bundle whose rows come in this order, by version 1 of the format
+abbrev pub bundle_spelling : List TableRow → BundleValue → List ℕ
+bundle_spelling rows b = bundle_text (bundle_lines One rows b)
+
+-- ---- what can be written
+
+-- a table's name, and one or more values
+pub record FitsRow (r : TableRow) : Type 0 where
+  pub name : is_name r.table ≡ true
+  pub values : AreValues r.row
+  pub some : 0 < length r.row
+
+-- each table has a name and may come after those before it
+abbrev pub AreAdded : List Table → List Table → Type 0
+AreAdded before [] = Unit {0}
+AreAdded before (t ∷ ts) = (is_name t.name ≡ true) × (table_fault before t ≡ None) × AreAdded (before ++ t ∷ []) ts
+
+-- the opening rows that come of these, put in turn
+abbrev pub put_all : Database → List TableRow → Result Rows Cause
+put_all d [] = Ok d.rows
+put_all d (r ∷ rs) = with_opening d r >>= λ rows. put_all (record d { rows = rows }) rs
+
+-- each row can be written, and their schema takes them all in turn
+pub record AreOpening (schema : List Table) (rs : List TableRow) (rows : Rows) : Type 0 where
+  pub fit : AllByRecursion FitsRow rs
+  pub writable : list_all (λ r. is_image_writable r.row) rs ≡ true
+  pub put : put_all (record { schema = schema; rows = map_of.empty }) rs ≡ Ok rows
+
+-- each channel has a name that none before it has
+abbrev pub AreNamed : List Channel → List Channel → Type 0
+AreNamed before [] = Unit {0}
+AreNamed before (c ∷ cs) = (is_name c.name ≡ true) × (has_channel before c.name ≡ false) × AreNamed (before ++ c ∷ []) cs
+
+-- the tables take each change of an entry
+abbrev pub entry_fits : List Table → Entry → Bool
+entry_fits tables e = list_all (fits (Some tables)) e.txn.changes
+
+pub record IsWrittenIn (tables : List Table) (j : JournalValue) : Type 0 where
+  pub written : IsWritten j
+  pub fitting : list_all (entry_fits tables) j.entries ≡ true
+
+-- a journal for each channel, with what its tables take
+abbrev pub AreBrought : List Table → List Channel → List JournalValue → Type 0
+AreBrought tables [] [] = Unit {0}
+AreBrought tables (c ∷ cs) (j ∷ js) = IsWrittenIn tables j × AreBrought tables cs js
+AreBrought tables _ _ = ⊥
+
+-- what a bundle keeps, where its rows come in this order
+pub record IsWrittenBundle (rows : List TableRow) (b : BundleValue) : Type 0 where
+  pub replica : IsSource b.replica
+  pub tables : AreAdded [] b.start.schema
+  pub opening : AreOpening b.start.schema rows b.start.rows
+  pub named : AreNamed [] b.channels
+  pub few : length b.channels ≤ 256
+  pub brought : AreBrought b.start.schema b.channels b.journals
+
+-- the bytes are a text of this bundle
+abbrev pub WritesBundle : List ℕ → BundleValue → Type 0
+WritesBundle bytes b = (rows : List TableRow) × IsWrittenBundle rows b × (bytes ≡ bundle_spelling rows b)

@@ -1,0 +1,30 @@
+-- Two texts of one bundle.
+use Rattle.std.specs.Prelude.{◌≡◌, ◌⊎◌, ℕ, List, [], ◌∷◌}
+use Rattle.rows.specs.declared.change.TableRow.{TableRow}
+use Rattle.txn_journal.specs.BundleStates.{BundleValue}
+use Rattle.txn_journal.specs.BundleText.{bundle_spelling}
+
+-- the row is one of these
+abbrev pub IsOneOf : List TableRow → TableRow → Type 0
+IsOneOf [] r = ⊥
+IsOneOf (x ∷ xs) r = (x ≡ r) ⊎ IsOneOf xs r
+
+-- no row stands twice
+abbrev pub AreOnce : List TableRow → Type 0
+AreOnce [] = Unit {0}
+AreOnce (x ∷ xs) = (IsOneOf xs x → ⊥) × AreOnce xs
+
+-- both have the same rows, each once
+pub record AreReordered (old new : List TableRow) : Type 0 where
+  pub old_once : AreOnce old
+  pub new_once : AreOnce new
+  pub kept : (r : TableRow) → IsOneOf old r → IsOneOf new r
+  pub no_others : (r : TableRow) → IsOneOf new r → IsOneOf old r
+
+-- both are texts of the bundle, which differ in the order of their `row` lines at most
+pub record DifferInOrder (b : BundleValue) (x y : List ℕ) : Type 0 where
+  pub old : List TableRow
+  pub new : List TableRow
+  pub one : x ≡ bundle_spelling old b
+  pub other : y ≡ bundle_spelling new b
+  pub reordered : AreReordered old new
