@@ -1,14 +1,19 @@
 //! Journals: what a server executed, in order.
 #![tactic(auto)]
 
-ghost use Rattle.std.specs.Prelude.{◌≡◌, ◌-◌, [], ◌∷◌, ◌++◌, true, false, OnOk, OnErr, IfOk, IfErr, length, take, drop, ◌==◌, ◌≤◌};
+ghost use Rattle.std.specs.Prelude.{◌≡◌, ◌-◌, [], ◌∷◌, ◌++◌, true, false, OnOk, OnErr, IfOk, IfErr, IsOkUnless, length, take, drop, ◌==◌, ◌≤◌};
 ghost use Rattle.std.specs.List.{list_all, list_any};
 ghost use Rattle.gtid_text.specs.Gtids.{same_gtid};
 ghost use Rattle.std.specs.FinSet as set;
 ghost use Rattle.journal.specs.Journals.{gtids_of, purged, whole, IsJournal};
 ghost use Rattle.journal.specs.Faults.{IsFaultOf};
+ghost use Rattle.gtid_set.specs.declared.fault.SetFault.TheVariants.{Memory};
+ghost use Rattle.std.specs.Bool.{Decides};
 ghost use Rattle.journal.specs.Writing.{is_value_writable, is_image_writable, is_change_writable, is_txn_writable, is_writable, is_number};
 
+mod same;
+
+use crate::same::are_equal;
 use gtid_set::{GtidSet, SetFault};
 use gtid_text::Gtid;
 use rows::{Change, Row, Transaction, Value};
@@ -255,6 +260,23 @@ impl Journal {
         ensures { IsJournal self.now.previous self.now.entries }
     {
         let _ = &self.entries;
+    }
+
+    /// The same journal. Its entries share their changes with these.
+    pub fn copy(&self, alloc: Global) -> Result<Journal, SetFault>
+        ensures ok { IfOk result (λ j. j ≡ self.now) }
+        ensures fault { IsOkUnless result Memory }
+    {
+        let previous = self.previous.copy(alloc)?;
+        let entries = self.entries.clone()?;
+        Ok(Journal { previous, entries })
+    }
+
+    /// Whether both have the same previous set and the same entries in the same order.
+    pub fn is_equal(&self, other: &Journal) -> bool
+        ensures { Decides result (self.now ≡ other.now) }
+    {
+        self.previous.is_equal(&other.previous) && are_equal(&self.entries, &other.entries)
     }
 
     /// How many entries there are.

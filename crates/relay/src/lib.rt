@@ -6,6 +6,7 @@ ghost use Rattle.std.specs.Option.{option_copied};
 ghost use Rattle.std.specs.FinSet as set;
 ghost use Rattle.journal.specs.Journals.{purged, whole};
 ghost use Rattle.journal.specs.Faults.{IsFaultOf};
+ghost use Rattle.std.specs.Bool.{Decides};
 ghost use Rattle.gtid_set.specs.declared.fault.SetFault.TheVariants.{Memory};
 ghost use Rattle.gtid_set.specs.Full.{IsFullExactly};
 ghost use Rattle.journal.specs.Writing.{is_writable};
@@ -42,7 +43,33 @@ struct Known {
 }
 
 impl Known {
-    ghost use Rattle.relay.specs.Known.{IsNear, equal_to, ahead_by, stepped_back, lasting};
+    ghost use Rattle.relay.specs.Known.{IsNear, is_undoable, equal_to, ahead_by, stepped_back, lasting};
+
+    /// The same sets.
+    fn copy(&self, alloc: Global) -> Result<Known, SetFault>
+        ensures ok { IfOk result (λ k. k ≡ self.now) }
+        ensures fault { IsOkUnless result Memory }
+    {
+        let executed = self.executed.copy(alloc)?;
+        let spare = self.spare.copy(alloc)?;
+        Ok(Known {
+            executed,
+            spare,
+            behind: self.behind,
+        })
+    }
+
+    /// Whether the last step can be taken back.
+    fn is_undoable(&self) -> bool
+        ensures { result ≡ is_undoable self.now.behind }
+    {
+        match self.behind {
+            Behind::Equal => false,
+            Behind::ByLast(_) => true,
+            Behind::By(_) => false,
+            Behind::Ahead(_) => false,
+        }
+    }
 
     /// Makes the spare set equal to the executed set.
     fn catch_up(&mut self, alloc: Global) -> Result<(), SetFault>
@@ -185,6 +212,24 @@ impl OwnJournal {
         ensures { result.now ≡ self.now.journal }
     {
         &self.journal
+    }
+
+    /// The same own journal. Its entries share their changes with these.
+    pub fn copy(&self, alloc: Global) -> Result<OwnJournal, SetFault>
+        ensures ok { IfOk result (λ o. o ≡ self.now) }
+        ensures fault { IsOkUnless result Memory }
+    {
+        let journal = self.journal.copy(alloc)?;
+        let known = self.known.copy(alloc)?;
+        Ok(OwnJournal { journal, known })
+    }
+
+    /// Whether both have the same journal, and can take its last entry back or not.
+    pub fn is_equal(&self, other: &OwnJournal) -> bool
+        ensures { Decides result (self.now ≡ other.now) }
+    {
+        self.known.is_undoable() == other.known.is_undoable()
+            && self.journal.is_equal(&other.journal)
     }
 
     /// Puts an entry at the end. It can be taken back until something else changes.
