@@ -28,7 +28,7 @@ fn row_fault_place(fault: RowFault) -> (u32, u32)
 }
 
 /// The printed line of a transaction that does not apply, without the line feed.
-pub fn render_does_not_apply(
+pub(crate) fn render_does_not_apply(
     alloc: Global,
     gtid: Gtid,
     fault: RowFault,

@@ -1,21 +1,19 @@
 //! A bundle, applied.
-ghost use Rattle.std.specs.Prelude.{◌≡◌};
+ghost use Rattle.std.specs.Prelude.{◌≡◌, ◌≤◌, ◌⊎◌, IfErr, OnOk};
+ghost use Rattle.gtidrep.specs.Edge.{one_more, Grows, HasReadTooMuch};
 
-use crate::edge::Outcome;
-use gtid_report::{Fault, Refusal, render_does_not_apply, render_fault, render_rows};
+use crate::answer::{Answer, send, settle};
+use crate::audit_command::{verdict_answer, verdict_of};
+use crate::edge::{Outcome, RunFault, Sink, Source};
+use crate::reading::read_all;
+use gtid_report::{Fault, render_state};
 use gtid_set::GtidSet;
-use gtid_text::{Gtid, Span, write_next_span};
+use gtid_text::Gtid;
 use journal::Entry;
 use rows::{ApplyFault, RowFault, Rows};
-use std::alloc::{AllocError, Global};
-use txn_journal::Bundle;
-
-/// What is written, and whether it is a refusal.
-#[derive(Drop)]
-pub struct Answer {
-    pub outcome: Outcome,
-    pub text: String,
-}
+use std::alloc::Global;
+use txn_journal::{Bundle, decode_bundle};
+use world::Verdict;
 
 /// Why applying stops.
 #[derive(Drop)]
@@ -28,7 +26,6 @@ enum Stop {
 #[derive(Drop)]
 struct Applied {
     executed: GtidSet,
-    gtids: Vec<Gtid>,
     rows: Rows,
 }
 
@@ -44,9 +41,6 @@ fn execute(alloc: Global, applied: &mut Applied, entry: &Entry) -> Result<(), St
     }
     if let Err(fault) = applied.executed.add(entry.gtid) {
         return Err(Stop::Fault(Fault::from(fault)));
-    }
-    if applied.gtids.push(entry.gtid).is_err() {
-        return Err(Stop::Fault(Fault::Memory));
     }
     Ok(())
 }
@@ -69,78 +63,47 @@ fn execute_bundle(alloc: Global, applied: &mut Applied, bundle: &Bundle) -> Resu
     Ok(())
 }
 
-/// The interval of one GTID.
-fn alone(gtid: &Gtid) -> Span {
-    Span {
-        source: gtid.source,
-        lo: gtid.number,
-        hi: gtid.number,
+/// The state after the bundle is applied, or the verdict of its audit where that is not Sound.
+fn bundle_answer(alloc: Global, bytes: &[u8]) -> Result<Answer, Fault> {
+    let bundle = decode_bundle(alloc, bytes)?;
+    let verdict = verdict_of(alloc, bundle.rows(), bundle.journals())?;
+    if !matches!(verdict, Verdict::Sound) {
+        return Ok(verdict_answer(alloc, &verdict)?);
     }
-}
-
-/// Whether an interval goes on where another ends.
-fn goes_on(span: &Span, next: &Span) -> bool {
-    span.source == next.source && span.hi.saturating_add(1) == next.lo
-}
-
-/// The set's text, `-` where it is empty.
-fn push_set(out: &mut String, gtids: &[Gtid]) -> Result<(), AllocError> {
-    let Some((first, others)) = gtids.split_first() else {
-        return out.push_str("-");
-    };
-    let mut before = None;
-    let mut span = alone(first);
-    for gtid in others {
-        let next = alone(gtid);
-        if goes_on(&span, &next) {
-            span.hi = next.hi;
-        } else {
-            write_next_span(out, before, span)?;
-            before = Some(span.source);
-            span = next;
-        }
-    }
-    write_next_span(out, before, span)
-}
-
-fn state_text(alloc: Global, applied: &mut Applied) -> Result<String, AllocError> {
-    applied.gtids.sort_unstable();
-    let mut text = String::new(alloc);
-    text.push_str("executed ")?;
-    push_set(&mut text, &applied.gtids)?;
-    text.push_str("\n")?;
-    let rows = applied.rows.list_sorted(alloc)?;
-    render_rows(alloc, &mut text, &rows)?;
-    Ok(text)
-}
-
-fn refused(line: Result<String, AllocError>) -> Result<Answer, Fault> {
-    let mut text = line?;
-    text.push_str("\n")?;
-    Ok(Answer {
-        outcome: Outcome::Refused,
-        text,
-    })
-}
-
-/// The one line of a refusal.
-pub fn refusal_answer(alloc: Global, refusal: &Refusal) -> Result<Answer, Fault> {
-    refused(render_fault(alloc, refusal))
-}
-
-/// The state after the bundle is applied, or the line of the first transaction that does not apply.
-pub fn bundle_answer(alloc: Global, bundle: &Bundle) -> Result<Answer, Fault> {
     let mut applied = Applied {
         executed: GtidSet::empty(alloc),
-        gtids: Vec::new(alloc),
         rows: bundle.rows().copy()?,
     };
-    match execute_bundle(alloc, &mut applied, bundle) {
+    match execute_bundle(alloc, &mut applied, &bundle) {
         Ok(()) => Ok(Answer {
             outcome: Outcome::Done,
-            text: state_text(alloc, &mut applied)?,
+            text: render_state(alloc, &applied.executed, &applied.rows)?,
         }),
         Err(Stop::Fault(fault)) => Err(fault),
-        Err(Stop::Row(gtid, fault)) => refused(render_does_not_apply(alloc, gtid, fault)),
+        Err(Stop::Row(gtid, fault)) => Ok(verdict_answer(
+            alloc,
+            &Verdict::DoesNotApply(gtid, fault),
+        )?),
     }
+}
+
+/// Reads a bundle, and writes the answer to it and nothing else.
+pub fn apply_bundle<S: Source, W: Sink>(
+    alloc: Global,
+    reader: &mut S,
+    writer: &mut W,
+    workers: u8,
+) -> Result<Outcome, RunFault>
+    requires low { 1 ≤ workers }
+    requires high { workers ≤ 64 }
+    ensures done { OnOk result (Grows (W.written writer.old) (W.written writer.new)) }
+    ensures read { IfErr result (λ f. f ≡ RunFault.Read → (writer.new ≡ writer.old)
+        × ((S.failed reader.new ≡ one_more (S.failed reader.old)) ⊎ HasReadTooMuch (S.left reader.old) (S.left reader.new))) }
+    ensures write { IfErr result (λ f. f ≡ RunFault.Write → (W.failed writer.new ≡ one_more (W.failed writer.old))
+        × Grows (W.written writer.old) (W.written writer.new)) }
+    ensures memory { IfErr result (λ f. f ≡ RunFault.Memory → writer.new ≡ writer.old) }
+{
+    let bytes = read_all(alloc, reader)?;
+    let answer = settle(alloc, bundle_answer(alloc, &bytes))?;
+    send(writer, &answer)
 }
