@@ -45,7 +45,7 @@ pub record Answers (says : List ℕ → Said → Type 0) (left left' written wri
   pub bytes : List ℕ
   pub said : Said
   pub read : HasRead left left' bytes
-  pub says : says bytes said
+  pub answer : says bytes said
   pub wrote : Appends written written' said.text
   pub ends : outcome ≡ said.outcome
 
@@ -54,5 +54,5 @@ pub record BeginsAnswer (says : List ℕ → Said → Type 0) (left left' writte
   pub bytes : List ℕ
   pub said : Said
   pub read : HasRead left left' bytes
-  pub says : says bytes said
+  pub answer : says bytes said
   pub wrote : Begins written written' said.text

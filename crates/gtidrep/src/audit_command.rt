@@ -10,7 +10,7 @@ use crate::answer::{Answer, ended, send, settle};
 use crate::edge::{Outcome, RunFault, Sink, Source};
 use crate::reading::read_all;
 use audit::{WorldFault, audit, world_of};
-use gtid_report::{Fault, LineCause, Refusal, render_verdict};
+use gtid_report::{Fault, Refusal, render_verdict};
 use gtid_set::GtidSet;
 use journal::Journal;
 use rows::Rows;
@@ -43,17 +43,16 @@ pub(crate) fn verdict_answer(alloc: Global, verdict: &Verdict) -> Result<Answer,
     })
 }
 
-/// What an audit of journals over opening rows finds first.
-pub(crate) fn verdict_of(alloc: Global, rows: &Rows, journals: &[Journal]) -> Result<Verdict, Fault>
+/// What an audit of journals over opening rows finds first. A bundle that was read has no transaction
+/// that its schema does not take.
+fn verdict_of(alloc: Global, rows: &Rows, journals: &[Journal]) -> Result<Verdict, Fault>
     ensures { IfOk result (λ found. found ≡ verdict (world_of rows.now.schema set.empty rows.now.rows journals.now) journals.now) }
 {
     let opened = GtidSet::empty(alloc);
     match world_of(alloc, &opened, rows, journals) {
         Ok(world) => Ok(audit(alloc, &world, journals)?),
         Err(WorldFault::Memory) => Err(Fault::Memory),
-        Err(WorldFault::NotInSchema(_, _)) => {
-            Err(Fault::Refused(Refusal::Line(1, LineCause::Schema)))
-        }
+        Err(WorldFault::NotInSchema(_, _)) => Err(Fault::Refused(Refusal::PoolFull)),
     }
 }
 

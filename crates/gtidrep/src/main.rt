@@ -5,7 +5,7 @@ ghost use Rattle.std.specs.Prelude.{◌≡◌};
 ghost use Rattle.gtidrep.specs.Edge.{status_of};
 
 mod answer;
-mod applying;
+mod apply_command;
 mod audit_command;
 mod edge;
 #[cfg(test)]
@@ -17,7 +17,7 @@ mod set_command;
 mod tests;
 mod wrap;
 
-use crate::applying::apply_bundle;
+use crate::apply_command::apply_bundle;
 use crate::audit_command::run_audit;
 use crate::edge::{Outcome, RunFault};
 use crate::line::{Command, LineFault, parse_line};
