@@ -16,7 +16,10 @@ use Rattle.apply_channel.specs.Channels as channels
 use Rattle.replica_core.specs.declared.event.Event.{Event}
 use Rattle.replica_core.specs.declared.event.Event.TheVariants.{OpenChannel, Position, Receive, Take, Commit, Rollback, Restart, Local, Purge, Look}
 use Rattle.replica_core.specs.State.{State, Site, Replica}
-use Rattle.replica_core.specs.Machine.{step, after, opening, drained}
+use Rattle.replica_core.specs.declared.event.Reply.{Reply}
+use Rattle.replica_core.specs.declared.event.Reply.TheVariants as reply
+use Rattle.replica_core.specs.Machine.{Step, step, after, opening, drained}
+use Rattle.source_history.specs.World.{World}
 use Rattle.faithful_journals.proofs.Lists.{same_some, not_none}
 use Rattle.faithful_runs.specs.Faithful.{start_with}
 use Rattle.faithful_runs.specs.Served.{IsDrained, NoLocalCommits, received_on, accepted, on_channel}
@@ -30,7 +33,8 @@ use Rattle.world.specs.declared.verdict.Verdict.TheVariants.{Unequal, Purged, Mi
 use Rattle.world.proofs.Finding.{is_false}
 use Rattle.audited_runs.specs.Deciding.{ServesAll, AreStoppedOrDone, WorkersDecide, ServedHoldsAll, HoldsAll}
 use Rattle.txn_journal.specs.declared.bundle.Channel.{Channel}
-use Rattle.serving.specs.Serving.{Receives, with_channel, ServesOne, ServesEach, is_work, Works, IsRun, is_sound, verdict_over}
+use Rattle.serving.specs.declared.outcome.Served.TheVariants as served
+use Rattle.serving.specs.Serving.{Receives, with_channel, ServesOne, ServesEach, is_work, Works, IsRun, IsServed, is_sound, verdict_over}
 
 -- ---- words
 
@@ -393,3 +397,32 @@ stays None p h = absurd (h refl)
 pub keys_stay : (start : Database) (js : List JournalValue) → (verdict_of_keys (world_of start.schema set.empty start.rows js) js ≡ Sound → ⊥)
     → verdict_of_keys (world_of start.schema set.empty start.rows js) js ≡ verdict_over start js
 keys_stay start js h = let w = world_of start.schema set.empty start.rows js in stays (found_in_keys w js) (does_not_apply w) h
+
+-- ---- what is answered
+
+pub keys_served : (start : Database) (js : List JournalValue) (world : World) (keys : Verdict) → world ≡ world_of start.schema set.empty start.rows js → keys ≡ verdict_of_keys world js
+    → is_sound keys ≡ false → IsServed start js (served.Verdict keys)
+keys_served start js world keys w k h =
+    let is : keys ≡ verdict_of_keys (world_of start.schema set.empty start.rows js) js = k ∙ ap (λ (x : World). verdict_of_keys x js) w in
+    let not_sound = sound_not keys h in
+    (is ∙ keys_stay start js (λ e. not_sound (is ∙ e)), not_sound)
+
+pub audit_served : (start : Database) (js : List JournalValue) (world : World) (found : Verdict) → world ≡ world_of start.schema set.empty start.rows js → found ≡ verdict world js
+    → is_sound found ≡ false → IsServed start js (served.Verdict found)
+audit_served start js world found w k h = (k ∙ ap (λ (x : World). verdict x js) w, sound_not found h)
+
+pub run_served : (start : Database) (js : List JournalValue) (world : World) (keys : Verdict) (core : Replica) → world ≡ world_of start.schema set.empty start.rows js → keys ≡ verdict_of_keys world js
+    → is_sound keys ≡ true → IsRun start js core → AreJournals js → drained core.state ≡ true → WorkersDecide → ServedHoldsAll → IsServed start js (served.State core)
+run_served start js world keys core w k h run rules done decide holds =
+    state_served start js core run rules (sym (k ∙ ap (λ (x : World). verdict_of_keys x js) w) ∙ sound_is keys h) done decide holds
+
+-- ---- one event
+
+pub state_of : (r : Reply) (t : State) (p : Step) → (r, t) ≡ p → t ≡ p.1
+state_of r t p e = ap (λ (x : Step). x.1) e
+
+pub reply_of : (r : Reply) (t : State) (p : Step) → (r, t) ≡ p → p.0 ≡ r
+reply_of r t p e = ap (λ (x : Step). x.0) (sym e)
+
+pub accepted_of : (e : Event) (c p : ℕ) (entry : Entry) (r : Reply) → e ≡ Receive c entry → r ≡ reply.Received p → accepted e r ≡ entry ∷ []
+accepted_of e c p entry r is was = λ i. accepted (is i) (was i)
