@@ -1,6 +1,6 @@
 -- A run that serves journals, and what the laws say of it.
 use Rattle.std.proofs.Common.{◌≡◌, ℕ, zero, suc, ◌+◌, ◌⊎◌, inl, inr, Bool, true, false, cond, not, eqb, ◌&&◌, List, [], ◌∷◌, ◌++◌, map, Option, Some, None, refl, sym, ap, ◌∙◌, subst, append_assoc, append-nil, arith}
-use Rattle.std.specs.Prelude.{slice_get}
+use Rattle.std.specs.Prelude.{slice_get, Result, Ok, Err, IfOk, OnOk}
 use Rattle.std.specs.List.{list_all}
 use Rattle.std.specs.Option.{unwrap_or}
 use Rattle.std.specs.FinSet as set
@@ -22,6 +22,7 @@ use Rattle.replica_core.specs.Machine.{Step, step, after, opening, drained}
 use Rattle.source_history.specs.World.{World}
 use Rattle.faithful_journals.proofs.Lists.{same_some, not_none}
 use Rattle.faithful_runs.specs.Faithful.{start_with}
+use Rattle.faithful_runs.specs.Sent.{sent}
 use Rattle.faithful_runs.specs.Served.{IsDrained, NoLocalCommits, received_on, accepted, on_channel}
 use Rattle.faithful_runs.specs.Whole.{is_position, WasServedOnce}
 use Rattle.faithful_runs.proofs.Sharing.{after_append, received_append}
@@ -214,8 +215,37 @@ works_more site site' s t u same v w' =
     }
 
 -- a place is taken and committed
-pub work_both : (site : Site) (s t u : State) (c p : ℕ) → t ≡ (step site s (Take 1 c p)).1 → u ≡ (step site t (Commit 1)).1 → Works site s u
-work_both site s t u c p e f = record { events = Take 1 c p ∷ Commit 1 ∷ []; work = refl; now = f ∙ ap (λ (y : State). (step site y (Commit 1)).1) e }
+pub work_both : (site site' : Site) (s t u : State) (c p : ℕ) (r q : Reply) → (r, t) ≡ step site s (Take 1 c p) → site' ≡ site → (q, u) ≡ step site' t (Commit 1) → Works site s u
+work_both site site' s t u c p r q e same f =
+    let first : t ≡ (step site s (Take 1 c p)).1 = ap (λ (x : Step). x.1) e in
+    record {
+      events = Take 1 c p ∷ Commit 1 ∷ [];
+      work = refl;
+      now = ap (λ (x : Step). x.1) f ∙ (λ i. (step (same i) (first i) (Commit 1)).1);
+    }
+
+-- a channel is opened and positioned, and receives what is sent
+pub serves_one : (site site1 site2 : Site) (s s1 s2 s' : State) (c : ℕ) (channel : Channel) (ask : Gtids) (all : List Entry) (journal : JournalValue)
+    → site1 ≡ site → s1 ≡ (step site s (OpenChannel channel.name channel.preserve)).1 → site2 ≡ site1 → s2 ≡ (step site1 s1 (Position c)).1
+    → (step site1 s1 (Position c)).0 ≡ reply.Ask ask → sent journal ask None ≡ Ok all → Receives site2 s2 c all s' → ServesOne site s c journal s'
+serves_one site site1 site2 s s1 s2 s' c channel ask all journal e h f k asked sends r =
+    let s2' : s2 ≡ (step site (with_channel site s channel) (Position c)).1 = k ∙ (λ i. (step (e i) (h i) (Position c)).1) in
+    record {
+      channel = channel;
+      ask = ask;
+      all = all;
+      asked = (λ i. (step (sym e i) (sym h i) (Position c)).0) ∙ asked;
+      all_sent = sends;
+      received = subst (λ (x : State). Receives site x c all s') s2' (subst (λ (x : Site). Receives x s2 c all s') (f ∙ e) r);
+    }
+
+pub if_ok : {A E : Type 0} {P Q : A → Type 0} (r : Result A E) → ((x : A) → P x → Q x) → IfOk r P → IfOk r Q
+if_ok (Ok x) f h = f x h
+if_ok (Err e) f h = tt
+
+pub on_ok : {A E P Q : Type 0} (r : Result A E) → (P → Q) → OnOk r P → OnOk r Q
+on_ok (Ok x) f h = f h
+on_ok (Err e) f h = tt
 
 -- ---- one journal
 

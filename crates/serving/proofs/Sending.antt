@@ -2,6 +2,7 @@
 use Rattle.std.proofs.Common.{◌≡◌, ℕ, Bool, true, false, cond, not, List, [], ◌∷◌, ◌++◌, Option, Some, None, Result, Ok, Err, refl, sym, ap, ◌∙◌}
 use Rattle.std.specs.Prelude.{slice_get}
 use Rattle.std.specs.List.{filter}
+use Rattle.std.specs.Option.{option_map_or}
 use Rattle.std.specs.FinSet as set
 use Rattle.gtid_text.specs.Gtids.{gtid_cmp}
 use Rattle.gtid_set.specs.Sets.{Gtids}
@@ -12,25 +13,17 @@ use Rattle.auto_position.specs.Sending.{AreAt, IsPlan}
 use Rattle.auto_position.specs.Sending as sending
 use Rattle.auto_position.specs.declared.PositionFault.{PositionFault}
 use Rattle.faithful_runs.specs.Sent.{SendFault, sent}
+use Rattle.serving.specs.Serving.{picked}
 
--- what stands at the next place joins what stands at those before
-pub at_next : (entries : List Entry) (ps : List ℕ) (es : List Entry) (p : ℕ) (e : Entry) → AreAt entries ps es → slice_get entries p ≡ Some e → AreAt entries (ps ++ p ∷ []) (es ++ e ∷ [])
-at_next entries [] [] p e h at = (at, tt)
-at_next entries [] (x ∷ es) p e h at = absurd h
-at_next entries (q ∷ ps) [] p e h at = absurd h
-at_next entries (q ∷ ps) (x ∷ es) p e h at = (h.0, at_next entries ps es p e h.1 at)
+taken : (o : Option Entry) (e : Entry) (more : List Entry) → o ≡ Some e → option_map_or (λ x. x ∷ more) o more ≡ e ∷ more
+taken o e more at = ap (λ (x : Option Entry). option_map_or (λ y. y ∷ more) x more) at
 
-one_entry : (o : Option Entry) (e f : Entry) → o ≡ Some e → o ≡ Some f → e ≡ f
-one_entry o e f a b = cc
-
--- one list stands at these places
-pub one_list : (entries : List Entry) (ps : List ℕ) (es fs : List Entry) → AreAt entries ps es → AreAt entries ps fs → es ≡ fs
-one_list entries [] [] [] a b = refl
-one_list entries [] [] (f ∷ fs) a b = absurd b
-one_list entries [] (e ∷ es) fs a b = absurd a
-one_list entries (p ∷ ps) [] fs a b = absurd a
-one_list entries (p ∷ ps) (e ∷ es) [] a b = absurd b
-one_list entries (p ∷ ps) (e ∷ es) (f ∷ fs) a b = λ i. one_entry (slice_get entries p) e f a.0 b.0 i ∷ one_list entries ps es fs a.1 b.1 i
+-- what stands at places is what is picked
+picked_is : (entries : List Entry) (ps : List ℕ) (es : List Entry) → AreAt entries ps es → picked entries ps ≡ es
+picked_is entries [] [] h = refl
+picked_is entries [] (e ∷ es) h = absurd h
+picked_is entries (p ∷ ps) [] h = absurd h
+picked_is entries (p ∷ ps) (e ∷ es) h = taken (slice_get entries p) e (picked entries ps) h.0 ∙ ap (λ (xs : List Entry). e ∷ xs) (picked_is entries ps es h.1)
 
 all_sent_as : (b c : Bool) (x y : PositionFault) (u v : SendFault) (all want : List Entry) → c ≡ true → cond (not b) (Err x) (cond (not c) (Err y) (Ok all)) ≡ Ok want → (d : Bool) → d ≡ true → cond (not b) (Err u) (cond (not d) (Err v) (Ok all)) ≡ Ok want
 all_sent_as true true x y u v all want t e true k = ok_as all want e
@@ -50,10 +43,9 @@ pub same_sent : (j : JournalValue) (ask : Gtids) (want : List Entry) → sending
 same_sent j ask want e =
     all_sent_as (set.is_subset j.previous ask) (set.is_subset set.empty (whole j)) _ _ _ _ _ want (empty_part (whole j)) e (set.is_subset set.empty set.empty) (empty_part set.empty)
 
+sent_ok : List Entry → Result (List Entry) PositionFault
+sent_ok es = Ok es
+
 -- the entries at the places of a plan are what is sent
-pub plan_sent : (j : JournalValue) (ask : Gtids) (places : List ℕ) (found : List Entry) → IsPlan j.entries places (sending.sent j ask None) → AreAt j.entries places found → sent j ask None ≡ Ok found
-plan_sent j ask places found plan at =
-    same_sent j ask found (plan.sent_is ∙ ap (λ (es : List Entry). sent_ok es) (one_list j.entries places plan.sends found plan.at at))
-  where
-    sent_ok : List Entry → Result (List Entry) PositionFault
-    sent_ok es = Ok es
+pub plan_sent : (j : JournalValue) (ask : Gtids) (places : List ℕ) (found : List Entry) → IsPlan j.entries places (sending.sent j ask None) → found ≡ picked j.entries places → sent j ask None ≡ Ok found
+plan_sent j ask places found plan is = same_sent j ask found (plan.sent_is ∙ ap sent_ok (sym (is ∙ picked_is j.entries places plan.sends plan.at)))

@@ -1,6 +1,7 @@
 -- Journals that are served to a replica, and what they come to.
-use Rattle.std.specs.Prelude.{◌≡◌, ℕ, ◌+◌, Bool, true, false, List, [], ◌∷◌, map, None, Ok}
+use Rattle.std.specs.Prelude.{◌≡◌, ℕ, ◌+◌, Bool, true, false, List, [], ◌∷◌, map, slice_get, None, Ok}
 use Rattle.std.specs.List.{list_all}
+use Rattle.std.specs.Option.{option_map_or}
 use Rattle.std.specs.FinSet as set
 use Rattle.gtid_set.specs.Sets.{Gtids}
 use Rattle.rows.specs.Database.{Database}
@@ -20,6 +21,11 @@ use Rattle.audited_runs.specs.Deciding.{HoldsAll}
 use Rattle.txn_journal.specs.declared.bundle.Channel.{Channel}
 use Rattle.serving.specs.declared.outcome.Served.{Served}
 use Rattle.serving.specs.declared.outcome.Served.TheVariants as served
+
+-- what stands at these places of a list
+abbrev pub picked : List Entry → List ℕ → List Entry
+picked entries [] = []
+picked entries (p ∷ ps) = option_map_or (λ e. e ∷ picked entries ps) (slice_get entries p) (picked entries ps)
 
 -- a channel receives each of these
 pub record Receives (site : Site) (s : State) (c : ℕ) (entries : List Entry) (s' : State) : Type 0 where

@@ -1,8 +1,7 @@
 //! Channels that receive what sources send.
 ghost use Rattle.std.specs.Prelude.{◌≡◌, ◌≤◌, ◌+◌, IfOk, OnOk, length, Ok, None};
 ghost use Rattle.faithful_runs.specs.Sent.{sent};
-ghost use Rattle.auto_position.specs.Sending.{AreAt};
-ghost use Rattle.serving.specs.Serving.{Receives, ServesOne, ServesEach};
+ghost use Rattle.serving.specs.Serving.{picked, Receives, ServesOne, ServesEach};
 
 use crate::event::{open_channel, position, receive};
 use auto_position::{PositionFault, plan};
@@ -14,7 +13,7 @@ use txn_journal::Channel;
 
 /// The entries at these places.
 fn entries_at(alloc: Global, entries: &[Entry], places: &[u64]) -> Result<Vec<Entry>, SetFault>
-    ensures { IfOk result (λ found. AreAt entries.now places.now found.items) }
+    ensures { IfOk result (λ found. found.items ≡ picked entries.now places.now) }
 {
     let mut found = Vec::new(alloc);
     for place in places {
