@@ -20,6 +20,7 @@ use Rattle.replica_core.specs.declared.event.Reply.{Reply}
 use Rattle.replica_core.specs.declared.event.Reply.TheVariants as reply
 use Rattle.replica_core.specs.Machine.{Step, step, after, opening, drained}
 use Rattle.source_history.specs.World.{World}
+use Rattle.replica_core.specs.Core.{opened}
 use Rattle.faithful_journals.proofs.Lists.{same_some, not_none}
 use Rattle.faithful_runs.specs.Faithful.{start_with}
 use Rattle.faithful_runs.specs.Sent.{sent}
@@ -456,3 +457,16 @@ reply_of r t p e = ap (λ (x : Step). x.0) (sym e)
 
 pub accepted_of : (e : Event) (c p : ℕ) (entry : Entry) (r : Reply) → e ≡ Receive c entry → r ≡ reply.Received p → accepted e r ≡ entry ∷ []
 accepted_of e c p entry r is was = λ i. accepted (is i) (was i)
+
+-- what the code ran
+pub run_is : (start : Database) (js : List JournalValue) (own : ℕ) (core0 core1 core2 : Replica) → core0 ≡ opened own start → core1.site ≡ core0.site
+    → ServesEach core0.site core0.state 0 js core1.state → core2.site ≡ core1.site → Works core1.site core1.state core2.state → IsRun start js core2
+run_is start js own core0 core1 core2 opens e serves f works =
+    let first : core0.site ≡ core2.site = sym (f ∙ e) in
+    let begun : core0.state ≡ opening start.rows = ap (λ (x : Replica). x.state) opens in
+    record {
+      schema = ap (λ (x : Site). x.schema) (f ∙ e ∙ ap (λ (x : Replica). x.site) opens);
+      ready = core1.state;
+      serves = subst (λ (x : State). ServesEach core2.site x 0 js core1.state) begun (subst (λ (x : Site). ServesEach x core0.state 0 js core1.state) first serves);
+      works = subst (λ (x : Site). Works x core1.state core2.state) (sym f) works;
+    }
