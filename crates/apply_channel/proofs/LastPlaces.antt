@@ -1,7 +1,7 @@
 -- The last places of GTIDs that are not executed.
 use Rattle.std.proofs.Common.{◌≡◌, ◌≢◌, ℕ, ◌+◌, ◌<◌, ◌≤◌, suc, zero, Bool, true, false, true≢false, cond, ◌&&◌, ◌⊎◌, inl, inr, List, [], ◌∷◌, ◌++◌, map, length, refl, sym, ap, subst, ◌∙◌, arith}
 use Rattle.std.proofs.lemmas.Bool.Decides.{nat_tests}
-use Rattle.std.specs.Prelude.{◌==◌, Option, Some, None, is_some, slice_get, slice_set, slice_index_or}
+use Rattle.std.specs.Prelude.{◌==◌, Option, Some, None, is_some, slice_get, slice_set}
 use Rattle.std.specs.Option.{option_map_or}
 use Rattle.std.proofs.lemmas.List.{length_push}
 use Rattle.rows.specs.declared.change.Transaction.{Transaction}

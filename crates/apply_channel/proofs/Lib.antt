@@ -3,3 +3,4 @@ pub mod Nodes
 pub mod LastPlaces
 pub mod Table
 pub mod Receiving
+pub mod Same

@@ -1,7 +1,7 @@
 -- Each entry has its node, and what the graph answers is what the entries say.
 use Rattle.std.proofs.Common.{◌≡◌, ℕ, ◌+◌, ◌<◌, ◌≤◌, suc, zero, Bool, true, false, true≢false, cond, not, ◌&&◌, ◌||◌, List, [], ◌∷◌, ◌++◌, take, length, refl, sym, ap, subst, ◌∙◌, arith}
-use Rattle.std.specs.Prelude.{Option, Some, None, position, find, option_and_then, option_map, is_some, is_none, nat_lt, nat_le, slice_get, if◌then◌else◌}
-use Rattle.std.specs.List.{list_any, list_all, prefix_len, range_with_len}
+use Rattle.std.specs.Prelude.{Option, Some, None, position, find, option_and_then, option_map, is_some, is_none, nat_lt, nat_le, slice_get}
+use Rattle.std.specs.List.{list_any, prefix_len, range_with_len}
 use Rattle.std.specs.Option.{option_map_or}
 use Rattle.std.proofs.lemmas.Bool.{lt-ltb, le-ltb, ltb-true, ltb-false, le-leb, leb-true}
 use Rattle.rows.specs.declared.schema.Table.{Table}

@@ -1,20 +1,21 @@
 //! A channel.
 ghost use Rattle.std.specs.Prelude.{◌≡◌, ◌≤◌, ◌<◌, ◌↔◌, suc, OnOk, OnErr, IfOk, IfErr, Some, None, length, MatchOption, true, false, ◌==◌};
+ghost use Rattle.std.specs.Bool.{Decides};
 ghost use Rattle.std.specs.Option.{option_copied, option_map_or};
 ghost use Rattle.std.specs.FinSet as set;
-ghost use Rattle.apply_channel.specs.Channels.{opened, blocker, next_ready, first_waiting, are_settled, settled, settled_at, received_gtids, IsPlace, IsNoPlace, is_full, with_stopped, with_asked, with_entry};
-ghost use Rattle.apply_channel.specs.Kept.{IsLastOpen};
+ghost use Rattle.apply_channel.specs.Channels.{opened, blocker, next_ready, first_waiting, are_settled, settled, settled_at, received_gtids, IsPlace, IsNoPlace, is_full, with_stopped, with_asked, with_entry, with_received};
+ghost use Rattle.apply_channel.specs.Kept.{IsLastOpen, received_of};
 ghost use Rattle.apply_channel.specs.Full.{IsFull, gtids_with, IsReceiveFault};
 ghost use Rattle.journal.specs.Faults.{IsFaultOf};
 
 use crate::places::{last_place, open_place, put_node, put_place};
-use crate::slot::{Slot, copy_unless, keys_unless};
+use crate::slot::{Slot, copy_unless, keys_unless, same_entries};
 use dependency_graph::Graph;
 use gtid_set::{GtidSet, SetFault};
 use gtid_text::Gtid;
 use journal::Entry;
-use rows::{Name, Schema, Transaction};
-use std::alloc::Global;
+use rows::{Changes, Name, Schema, Transaction};
+use std::alloc::{AllocError, Global};
 use std::collections::BTreeMap;
 use std::marker::Model;
 use thiserror::Error;
@@ -296,5 +297,94 @@ impl Channel {
         ensures { result ≡ are_settled self.now.channel.received }
     {
         self.graph.next_ready(0).is_none()
+    }
+}
+
+/// The set that a channel asked with, once more.
+fn copy_asked(alloc: Global, asked: &Option<GtidSet>) -> Result<Option<GtidSet>, AllocError>
+    ensures { IfOk result (λ copy. copy ≡ asked.now) }
+{
+    let Some(asked) = asked else {
+        return Ok(None);
+    };
+    let Ok(copy) = asked.copy(alloc) else {
+        return Err(AllocError);
+    };
+    Ok(Some(copy))
+}
+
+/// Whether two channels asked with the same set, or both have not asked.
+fn same_asked(left: &Option<GtidSet>, right: &Option<GtidSet>) -> bool
+    ensures { Decides result (left.now ≡ right.now) }
+{
+    match left {
+        Some(asked) => match right {
+            Some(other) => asked.is_equal(other),
+            None => false,
+        },
+        None => right.is_none(),
+    }
+}
+
+impl Channel {
+    /// Puts the entry of a slot at the next place.
+    fn put_slot(&mut self, alloc: Global, slot: &Slot) -> Result<(), AllocError>
+        ensures { OnOk result (self.new ≡ record self.old { channel = with_received (received_of slot.now) self.old.channel }) }
+    {
+        let gtid = slot.gtid;
+        match &slot.txn {
+            Some(txn) => {
+                let txn = txn.clone()?;
+                let Ok(_) = self.receive(alloc, &Entry { gtid, txn }, false) else {
+                    return Err(AllocError);
+                };
+                Ok(())
+            }
+            None => {
+                let changes = Changes::new(Vec::new(alloc))?;
+                let txn = Transaction { changes };
+                let Ok(_) = self.receive(alloc, &Entry { gtid, txn }, true) else {
+                    return Err(AllocError);
+                };
+                Ok(())
+            }
+        }
+    }
+
+    /// The same channel. The changes of its transactions are shared, not copied. The one error is want of memory.
+    pub fn copy(&self, alloc: Global) -> Result<Channel, AllocError>
+        ensures { IfOk result (λ copy. copy ≡ self.now) }
+    {
+        let schema = self.schema.clone()?;
+        let name = self.name.clone()?;
+        let mut copy = Channel::open(alloc, schema, name, self.preserve);
+        for slot in &self.slots {
+            copy.put_slot(alloc, slot)?;
+        }
+        copy.asked = copy_asked(alloc, &self.asked)?;
+        copy.stopped = self.stopped;
+        Ok(copy)
+    }
+
+    /// Whether the channels are the same: schema, name, flags, the set asked with, and the entries received.
+    pub fn is_equal(&self, other: &Channel) -> bool
+        ensures { Decides result (self.now ≡ other.now) }
+    {
+        if self.preserve != other.preserve {
+            return false;
+        }
+        if self.stopped != other.stopped {
+            return false;
+        }
+        if self.name != other.name {
+            return false;
+        }
+        if !self.schema.is_equal(&other.schema) {
+            return false;
+        }
+        if !same_asked(&self.asked, &other.asked) {
+            return false;
+        }
+        same_entries(&self.slots, &other.slots)
     }
 }

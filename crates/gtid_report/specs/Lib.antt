@@ -4,3 +4,4 @@ pub mod SetFunctions
 pub mod SetAnswers
 pub mod Verdicts
 pub mod State
+pub mod VerdictLines

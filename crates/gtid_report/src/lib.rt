@@ -7,12 +7,14 @@ mod functions;
 mod refusal;
 mod state;
 mod verdict;
+mod verdict_line;
 
 pub use fault::Fault;
 pub use functions::{Function, OfSource, OneSet, TwoSets, set_function};
 pub use refusal::{LineCause, Refusal, render_fault};
-pub use state::render_rows;
+pub use state::{render_rows, render_state};
 pub use verdict::render_does_not_apply;
+pub use verdict_line::render_verdict;
 
 #[cfg(test)]
 mod tests;

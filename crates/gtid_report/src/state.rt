@@ -1,12 +1,20 @@
-ghost use Rattle.std.specs.Prelude.{◌≡◌, ◌++◌, OnOk, flat_map, string_bytes};
-ghost use Rattle.gtid_report.specs.State.{values_text, row_line};
+ghost use Rattle.std.specs.Prelude.{◌≡◌, ◌++◌, IfOk, OnOk, flat_map, string_bytes};
+ghost use Rattle.gtid_text.specs.Canonical.{spans_text};
+ghost use Rattle.txn_journal.specs.WrittenSets.{spans_word, set_text};
+ghost use Rattle.gtid_report.specs.State.{values_text, row_line, executed_line, state_text};
 
+use gtid_set::GtidSet;
+use gtid_text::{Span, write_next_span};
 use journal_words::write_value;
-use rows::{TableRow, Value};
+use rows::{Rows, TableRow, Value};
 use std::alloc::{AllocError, Global};
 
 /// The words of values, each behind a blank.
-fn push_values(alloc: Global, out: &mut String, values: &[Value]) -> Result<(), AllocError>
+pub(crate) fn push_values(
+    alloc: Global,
+    out: &mut String,
+    values: &[Value],
+) -> Result<(), AllocError>
     ensures { OnOk result (string_bytes out.new ≡ string_bytes out.old ++ values_text values.now) }
 {
     for value in values {
@@ -39,4 +47,54 @@ pub fn render_rows(alloc: Global, out: &mut String, rows: &[TableRow]) -> Result
     ensures { OnOk result (string_bytes out.new ≡ string_bytes out.old ++ flat_map row_line rows.now) }
 {
     push_rows(alloc, out, rows)
+}
+
+/// Intervals, each behind the one before.
+fn push_spans(out: &mut String, spans: &[Span]) -> Result<(), AllocError>
+    ensures { OnOk result (string_bytes out.new ≡ string_bytes out.old ++ spans_text spans.now) }
+{
+    let mut before = None;
+    for span in spans {
+        write_next_span(out, before, *span)?;
+        before = Some(span.source);
+    }
+    Ok(())
+}
+
+fn push_word(out: &mut String, spans: &[Span]) -> Result<(), AllocError>
+    ensures { OnOk result (string_bytes out.new ≡ string_bytes out.old ++ spans_word spans.now) }
+{
+    if spans.is_empty() {
+        return out.push_str("-");
+    }
+    push_spans(out, spans)
+}
+
+/// Appends the word of a set: its canonical text, or `-` where it is empty.
+pub(crate) fn push_set(alloc: Global, out: &mut String, set: &GtidSet) -> Result<(), AllocError>
+    ensures { OnOk result (string_bytes out.new ≡ string_bytes out.old ++ set_text set.now) }
+{
+    let spans = set.spans(alloc)?;
+    push_word(out, &spans)
+}
+
+/// The line of an executed set.
+fn executed_line(alloc: Global, executed: &GtidSet) -> Result<String, AllocError>
+    ensures { IfOk result (λ text. string_bytes text ≡ executed_line executed.now) }
+{
+    let mut text = String::from_str(alloc, "executed ")?;
+    push_set(alloc, &mut text, executed)?;
+    text.push_str("\n")?;
+    Ok(text)
+}
+
+/// The printed lines of a state: the executed set, `-` where it is empty, and then each row, by the name of its
+/// table and then by the values of its primary key. The words and their order are our own.
+pub fn render_state(alloc: Global, executed: &GtidSet, rows: &Rows) -> Result<String, AllocError>
+    ensures { IfOk result (λ text. string_bytes text ≡ state_text executed.now rows.now.rows) }
+{
+    let mut text = executed_line(alloc, executed)?;
+    let list = rows.list_sorted(alloc)?;
+    push_rows(alloc, &mut text, &list)?;
+    Ok(text)
 }

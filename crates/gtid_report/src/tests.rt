@@ -1,8 +1,9 @@
-use crate::{Fault, LineCause, Refusal, render_does_not_apply, render_fault, set_function};
+use crate::{Fault, LineCause, Refusal, render_fault, render_verdict, set_function};
 use gtid_text::{Gtid, SourceId};
 use rows::RowFault;
 use std::alloc::{AllocError, Global};
 use std::test::Fail;
+use world::Verdict;
 
 /// The printed lines of the journal's and the command line's refusals.
 #[test]
@@ -32,14 +33,28 @@ fn prints_refusals(rt: HostRuntime) -> Result<(), Fail> {
     Ok(())
 }
 
-/// The line of a transaction that finds a key taken.
+/// The lines of verdicts that name GTIDs alone, and of a key that is taken.
 #[test]
-fn prints_what_does_not_apply(rt: HostRuntime) -> Result<(), Fail> {
+fn prints_verdicts(rt: HostRuntime) -> Result<(), Fail> {
+    let alloc = rt.alloc();
     let source = SourceId::from_bits(0xaaaa_aaaa_aaaa_aaaa_aaaa_aaaa_aaaa_aaaa);
-    let fault = RowFault::DuplicateKey { change: 0, key: 1 };
-    let line = render_does_not_apply(rt.alloc(), Gtid { source, number: 1 }, fault)?;
-    let want = "does-not-apply aaaaaaaa-aaaa-aaaa-aaaa-aaaaaaaaaaaa:1 E12 change 0 key 1";
-    assert_eq!(rt; line.as_str(), want);
+    let first = Gtid { source, number: 1 };
+    let second = Gtid { source, number: 2 };
+    let taken = RowFault::DuplicateKey { change: 0, key: 1 };
+    let lines = [
+        (Verdict::Sound, "sound"),
+        (Verdict::Missing(first), "missing A:1"),
+        (Verdict::NotClosed(second, first), "not-closed A:2 A:1"),
+        (
+            Verdict::DoesNotApply(first, taken),
+            "does-not-apply A:1 E12 change 0 key 1",
+        ),
+    ];
+    for (verdict, want) in &lines {
+        let line = render_verdict(alloc, verdict)?;
+        let want = spelled(alloc, want)?;
+        assert_eq!(rt; line.as_str(), want.as_str());
+    }
     Ok(())
 }
 

@@ -13,3 +13,4 @@ pub mod OwnedLemmas
 pub mod OrderLemmas
 pub mod TakeLemmas
 pub mod ReadyLemmas
+pub mod SightLemmas

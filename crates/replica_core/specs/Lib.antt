@@ -10,3 +10,4 @@ pub mod Ready
 pub mod Replies
 pub mod Laws
 pub mod Faults
+pub mod Prepared

@@ -10,12 +10,14 @@ ghost use Rattle.replica_core.specs.Ready.{IsReady};
 
 use crate::event::{Reply, Spot};
 use crate::machine::{Core, free, is_seat};
+use crate::prepared::apply_with;
 use apply_channel::Channel;
 use gtid_set::SetFault;
 use gtid_text::Gtid;
 use journal::Entry;
 use rows::{ApplyFault, RowFault, Transaction};
 use std::alloc::{AllocError, Global};
+use write_set::Patch;
 
 /// What a Commit commits, made before anything changes.
 #[derive(Drop)]
@@ -78,6 +80,7 @@ impl Core {
         freed: Option<u8>,
         entry: Entry,
         txn: &Transaction,
+        patch: Option<Patch>,
     ) -> Result<Result<(), RowFault>, SetFault>
         requires may { IsCommittable self.old freed entry }
         requires same { txn.now ≡ entry.txn }
@@ -88,7 +91,7 @@ impl Core {
         let gtid = entry.gtid;
         let _ = self.rows.schema().tables();
         self.journal.append(alloc, entry)?;
-        match self.rows.apply(alloc, txn) {
+        match apply_with(&mut self.rows, alloc, txn, patch) {
             Ok(()) => {
                 self.channels.mark_executed(&gtid);
                 free(&mut self.seats, freed);
@@ -107,7 +110,13 @@ impl Core {
     }
 
     /// Makes the Commit for which all is ready.
-    fn finish(&mut self, alloc: Global, seat: u8, ready: Ready) -> Result<Reply, SetFault>
+    fn finish(
+        &mut self,
+        alloc: Global,
+        seat: u8,
+        ready: Ready,
+        patch: Option<Patch>,
+    ) -> Result<Reply, SetFault>
         requires { IsReady self.old seat ready }
         ensures ok { IfOk result (λ r. (r, self.new.state) ≡ commit self.old.site seat self.old.state) }
         ensures site { self.new.site ≡ self.old.site }
@@ -116,7 +125,7 @@ impl Core {
     {
         let Ready { spot, entry, txn } = ready;
         let gtid = entry.gtid;
-        match self.execute(alloc, Some(seat), entry, &txn) {
+        match self.execute(alloc, Some(seat), entry, &txn, patch) {
             Ok(Ok(())) => return Ok(Reply::Committed(gtid)),
             Ok(Err(fault)) => {
                 self.clear_seat(seat);
@@ -127,8 +136,13 @@ impl Core {
         }
     }
 
-    /// The event Commit.
-    pub(crate) fn commit(&mut self, alloc: Global, seat: u8) -> Result<Reply, SetFault>
+    /// The event Commit, by a patch if there is one.
+    pub(crate) fn commit(
+        &mut self,
+        alloc: Global,
+        seat: u8,
+        patch: Option<Patch>,
+    ) -> Result<Reply, SetFault>
         ensures ok { IfOk result (λ r. (r, self.new.state) ≡ commit self.old.site seat self.old.state) }
         ensures site { self.new.site ≡ self.old.site }
         ensures err { OnErr result (self.new ≡ self.old) }
@@ -137,7 +151,7 @@ impl Core {
         match self.may_commit(seat) {
             Err(_) => Err(SetFault::Memory),
             Ok(Err(reply)) => Ok(reply),
-            Ok(Ok(ready)) => self.finish(alloc, seat, ready),
+            Ok(Ok(ready)) => self.finish(alloc, seat, ready, patch),
         }
     }
 

@@ -8,6 +8,7 @@ mod feed;
 pub mod laws;
 mod local;
 mod machine;
+mod prepared;
 mod query;
 mod step;
 mod take;

@@ -73,7 +73,7 @@ impl Core {
             txn: txn.clone()?,
         };
         let gtid = entry.gtid;
-        match self.execute(alloc, None, entry, txn) {
+        match self.execute(alloc, None, entry, txn, None) {
             Ok(Ok(())) => return Ok(Reply::Committed(gtid)),
             Ok(Err(fault)) => return Ok(Reply::LocalRefused(fault)),
             Err(fault) => return Err(fault),

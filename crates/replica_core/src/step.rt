@@ -49,7 +49,7 @@ impl Core {
     {
         match event {
             Event::Take(seat, channel, place) => Ok(self.take(*seat, *channel, *place)),
-            Event::Commit(seat) => self.commit(alloc, *seat),
+            Event::Commit(seat) => self.commit(alloc, *seat, None),
             Event::Rollback(seat) => Ok(self.rollback(*seat)),
             Event::Restart(channel) => Ok(self.restart(*channel)),
             Event::Look => self.look(alloc),

@@ -1,4 +1,4 @@
-use Rattle.std.proofs.Common.{◌≡◌, ◌<◌, length, ap, ◌∙◌, subst, sym, arith}
+use Rattle.std.proofs.Common.{◌<◌, length, ap, ◌∙◌, subst, sym}
 use Rattle.apply_channel.specs.Channels.{Keyed, blocker}
 use Rattle.apply_channel.specs.Kept.{entries_of, received_of}
 use Rattle.apply_channel.proofs.Nodes.{nodes_length, node_blocker, unblocked}

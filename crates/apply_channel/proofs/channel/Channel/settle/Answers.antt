@@ -1,7 +1,7 @@
-use Rattle.std.proofs.Common.{◌≡◌, ◌<◌, ◌≤◌, List, length, map, refl, sym, ap, subst, ◌∙◌}
+use Rattle.std.proofs.Common.{◌≡◌, ◌<◌, List, length, map, refl, sym, ap, subst, ◌∙◌}
 use Rattle.std.specs.Prelude.{Some, None, slice_get, slice_set}
 use Rattle.std.specs.FinSet as set
-use Rattle.dependency_graph.specs.Graphs.{Point, finished_at}
+use Rattle.dependency_graph.specs.Graphs.{Point}
 use Rattle.apply_channel.specs.declared.slot.Slot.{Slot}
 use Rattle.apply_channel.specs.Channels.{Keyed, Received, map_at, executed_one, settled_at}
 use Rattle.apply_channel.specs.Kept.{entries_of, place_of, IsLastOpen, AreNodesOf}

@@ -20,10 +20,10 @@ pub invariant_of-self-in-Ok : goal.invariant_of-self-in-Ok
 invariant_of-self-in-Ok c =
     let core = c.self.inside in
     let alone = subst (λ (r : Replica). IsUnowned r.state.channels (freed_of c.args.freed r.state.seats) c.args.entry.gtid) (sym c.self.view_is) c.requires.may.alone in
-    core_executed c.args.entry core.rows c.apply.new.self core.channels c.mark_executed.new.self (seats_of core.seats) (seats_of c.free.new.seats) c.args.freed core.journal.journal c.append.new.self.journal c.self.invariant alone c.free.ensures c.in-Ok.ensures.same c.mark_executed.ensures c.in_ok-append.ensures.ok
+    core_executed c.args.entry core.rows c.apply_with.new.rows core.channels c.mark_executed.new.self (seats_of core.seats) (seats_of c.free.new.seats) c.args.freed core.journal.journal c.append.new.self.journal c.self.invariant alone c.free.ensures c.in-Ok.ensures.same c.mark_executed.ensures c.in_ok-append.ensures.ok
 
 pub returns-in-Ok-clause-ok : goal.returns-in-Ok-clause-ok
 returns-in-Ok-clause-ok c =
     let core = c.self.inside in
-    let done = executed_is c.args.entry core.own core.rows c.apply.new.self (seats_of core.seats) (seats_of c.free.new.seats) c.args.freed core.channels c.mark_executed.new.self core.journal.journal c.append.new.self.journal c.args.txn.now c.requires.same c.in-Ok.ensures.ok c.in-Ok.ensures.same c.mark_executed.ensures c.in_ok-append.ensures.ok c.free.ensures in
-    subst (λ (r : Replica). Executes r c.args.freed c.args.entry (replica_of core.own c.apply.new.self (seats_of c.free.new.seats) c.mark_executed.new.self.list c.append.new.self.journal)) c.self.view_is done
+    let done = executed_is c.args.entry core.own core.rows c.apply_with.new.rows (seats_of core.seats) (seats_of c.free.new.seats) c.args.freed core.channels c.mark_executed.new.self core.journal.journal c.append.new.self.journal c.args.txn.now c.requires.same c.in-Ok.ensures.ok c.in-Ok.ensures.same c.mark_executed.ensures c.in_ok-append.ensures.ok c.free.ensures in
+    subst (λ (r : Replica). Executes r c.args.freed c.args.entry (replica_of core.own c.apply_with.new.rows (seats_of c.free.new.seats) c.mark_executed.new.self.list c.append.new.self.journal)) c.self.view_is done
