@@ -15,6 +15,8 @@ pub enum Command<'a> {
         first: &'a str,
         second: Option<&'a str>,
     },
+    /// A bundle from standard input is audited.
+    Audit,
     /// A bundle from standard input is applied by 1 to 64 workers.
     Apply {
         workers: u8,
@@ -36,6 +38,15 @@ Example:
   gtidrep set subtract aaaaaaaa-aaaa-aaaa-aaaa-aaaaaaaaaaaa:1-10 aaaaaaaa-aaaa-aaaa-aaaa-aaaaaaaaaaaa:3:5-6
 
 Status: 0 the answer is printed, 1 an argument is refused, 2 the command line, 3 memory, 4 writing failed.";
+
+const AUDIT_EXAMPLE: &str =
+    "Prints `sound`, or the first reason why the journals cannot be merged: `shared` and `not-closed` name the pair of
+transactions at fault, `missing`, `unequal` and `does-not-apply` one of them, `purged` a journal.
+
+Example:
+  gtidrep audit < examples/ring.bundle
+
+Status: 0 sound, 1 refused, 2 the command line, 3 memory, 4 reading or writing failed.";
 
 const APPLY_EXAMPLE: &str =
     "Prints the executed set and the rows, or the line that says why the bundle does not apply.
@@ -64,6 +75,12 @@ fn set_command<'a>(alloc: Global) -> Result<clap::Command<'a>, AllocError> {
         .arg(second)
 }
 
+fn audit_command<'a>(alloc: Global) -> clap::Command<'a> {
+    clap::Command::new(alloc, "audit")
+        .about("Says whether the journals of a bundle can be merged: audit < examples/ring.bundle")
+        .after_help(AUDIT_EXAMPLE)
+}
+
 fn apply_command<'a>(alloc: Global) -> Result<clap::Command<'a>, AllocError> {
     let workers = Arg::new(alloc, "workers")
         .long("workers")
@@ -82,6 +99,7 @@ fn all_commands<'a>(alloc: Global) -> Result<clap::Command<'a>, AllocError> {
         .about("The replica side of GTID replication, over files of journals.")
         .subcommand_required(true)
         .subcommand(set_command(alloc)?)?
+        .subcommand(audit_command(alloc))?
         .subcommand(apply_command(alloc)?)
 }
 
@@ -105,6 +123,9 @@ fn command_of<'a>(name: &str, matches: &ArgMatches<'a>) -> Option<Command<'a>>
             first: matches.get_str("a")?,
             second: matches.get_str("b"),
         });
+    }
+    if name == "audit" {
+        return Some(Command::Audit);
     }
     Some(Command::Apply {
         workers: workers_of(matches)?,

@@ -1,20 +1,25 @@
-//! The program `gtidrep`: set functions, and a bundle applied.
+//! The program `gtidrep`: functions of sets, and bundles audited and applied.
 #![tactic(auto)]
 
 ghost use Rattle.std.specs.Prelude.{◌≡◌};
 ghost use Rattle.gtidrep.specs.Edge.{status_of};
 
-mod applying;
+mod answer;
+mod apply_command;
+mod audit_command;
 mod edge;
 #[cfg(test)]
 mod fake;
 mod line;
+mod reading;
 mod set_command;
 #[cfg(test)]
 mod tests;
 mod wrap;
 
-use crate::edge::{Outcome, RunFault, apply_bundle};
+use crate::apply_command::apply_bundle;
+use crate::audit_command::run_audit;
+use crate::edge::{Outcome, RunFault};
 use crate::line::{Command, LineFault, parse_line};
 use crate::set_command::run_set;
 use crate::wrap::{StdSink, StdSource};
@@ -38,6 +43,11 @@ pub fn exit_status(ended: &Result<Outcome, RunFault>) -> u8
 fn run(rt: &HostRuntime, words: &[String]) -> u8 {
     let alloc = rt.alloc();
     match parse_line(alloc, words) {
+        Ok(Command::Audit) => {
+            let mut reader = StdSource::new(rt.reader());
+            let mut writer = StdSink::new(io::writer(rt));
+            exit_status(&run_audit(alloc, &mut reader, &mut writer))
+        }
         Ok(Command::Apply { workers }) => {
             let mut reader = StdSource::new(rt.reader());
             let mut writer = StdSink::new(io::writer(rt));

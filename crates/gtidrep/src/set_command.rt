@@ -7,9 +7,9 @@ ghost use Rattle.gtid_report.specs.SetAnswers.{function_line};
 ghost use Rattle.gtidrep.specs.Edge.{one_more, Grows};
 ghost use Rattle.gtidrep.specs.SetCommand.{printed, ending, refusal_ending};
 
-use crate::applying::Answer;
+use crate::answer::{Answer, ended, refusal_text, send};
 use crate::edge::{Outcome, RunFault, Sink};
-use gtid_report::{Fault, Refusal, render_fault, set_function};
+use gtid_report::{Fault, Refusal, set_function};
 use std::alloc::{AllocError, Global};
 
 /// How a refusal ends the command.
@@ -20,23 +20,6 @@ fn refusal_ending(refusal: &Refusal) -> Outcome
         Refusal::Usage => Outcome::Misused,
         _ => Outcome::Refused,
     }
-}
-
-/// A line with its line feed.
-fn ended(line: String) -> Result<String, AllocError>
-    ensures { IfOk result (λ text. string_bytes text ≡ string_bytes line ++ 10 ∷ []) }
-{
-    let mut text = line;
-    text.push_str("\n")?;
-    Ok(text)
-}
-
-/// The line of a refusal, with its line feed.
-fn refusal_text(alloc: Global, refusal: &Refusal) -> Result<String, AllocError>
-    ensures { IfOk result (λ text. string_bytes text ≡ refusal_line refusal.now ++ 10 ∷ []) }
-{
-    let line = render_fault(alloc, refusal)?;
-    ended(line)
 }
 
 /// What is printed for a function of sets.
@@ -76,8 +59,5 @@ pub fn run_set<W: Sink>(
     let Ok(answer) = set_answer(alloc, function, a, b) else {
         return Err(RunFault::Memory);
     };
-    match writer.write(answer.text.as_bytes()) {
-        Ok(()) => Ok(answer.outcome),
-        Err(_) => Err(RunFault::Write),
-    }
+    send(writer, &answer)
 }

@@ -1,0 +1,110 @@
+-- What an answer to a bundle holds.
+use Rattle.std.proofs.Common.{◌≡◌, ℕ, true, false, List, inl, inr, refl, sym, ap, ◌∙◌, subst}
+use Rattle.std.specs.Prelude.{Result, Ok, Err, IfOk}
+use Rattle.std.specs.FinSet as set
+use Rattle.gtid_set.specs.Sets.{Gtids}
+use Rattle.gtid_set.specs.declared.fault.SetFault.{SetFault}
+use Rattle.gtid_set.specs.declared.fault.SetFault.TheVariants as sets
+use Rattle.rows.specs.Apply.{Rows}
+use Rattle.rows.specs.declared.change.RowFault.{RowFault}
+use Rattle.source_history.specs.World.{rows_of}
+use Rattle.world.specs.declared.verdict.Verdict.{Verdict}
+use Rattle.world.specs.declared.verdict.Verdict.TheVariants.{Unequal, Purged, Missing, Shared, NotClosed, DoesNotApply, Sound}
+use Rattle.serving.specs.Serving.{IsServed}
+use Rattle.serving.specs.declared.outcome.Served.{Served}
+use Rattle.serving.specs.declared.outcome.Served.TheVariants as served
+use Rattle.txn_journal.specs.BundleStates.{BundleValue}
+use Rattle.txn_journal.specs.declared.fault.JournalFault.{JournalFault}
+use Rattle.txn_journal.specs.declared.fault.JournalFault.TheVariants as faults
+use Rattle.gtid_report.specs.Faults.{set_fault, journal_fault}
+use Rattle.gtid_report.specs.declared.refusal.Refusal.{Refusal}
+use Rattle.gtid_report.specs.declared.refusal.Refusal.TheVariants as refusal
+use Rattle.gtid_report.specs.declared.fault.Fault.{Fault}
+use Rattle.gtid_report.specs.declared.fault.Fault.TheVariants as fault
+use Rattle.gtidrep.specs.Said.{Said, Holds, HoldsOne, Comes, Finds, Settles, Tells, answered, refused_with}
+use Rattle.gtidrep.specs.Bundles.{state_said, verdict_said, state_or_verdict, served_said, verdict_told, world_told, union_told, applied}
+use Rattle.gtidrep.specs.declared.answer.Answer.{Answer}
+use Rattle.gtidrep.specs.declared.edge.RunFault.{RunFault}
+
+-- ---- what journals come to
+
+unsound_said : (v : Verdict) (executed : Gtids) (rows : Result Rows RowFault) → (v ≡ Sound → ⊥) → state_or_verdict v executed rows ≡ verdict_said v
+unsound_said Sound executed rows h = absurd (h refl)
+unsound_said (Unequal g) executed rows h = refl
+unsound_said (Purged i gtids) executed rows h = refl
+unsound_said (Missing g) executed rows h = refl
+unsound_said (Shared g h key) executed rows k = refl
+unsound_said (NotClosed g h) executed rows k = refl
+unsound_said (DoesNotApply g fault) executed rows h = refl
+
+sound_said : (v : Verdict) (executed executed' : Gtids) (found : Result Rows RowFault) (rows : Rows) → v ≡ Sound → executed' ≡ executed → found ≡ Ok rows
+    → state_said executed' rows ≡ state_or_verdict v executed found
+sound_said v executed executed' found rows s e r = ap (λ (x : Gtids). state_said x rows) e ∙ sym (λ i. state_or_verdict (s i) executed (r i))
+
+-- what journals come to is what applying a bundle says
+served_applied : (b : BundleValue) (found : Served) → IsServed b.start b.journals found → served_said found ≡ applied b
+served_applied b (served.State core) is =
+    sound_said (verdict_told b) (union_told b) core.state.executed (rows_of (world_told b) (set.contains (union_told b))) core.state.rows is.0 is.1.executed is.1.rows_are
+served_applied b (served.Verdict v) is =
+    let wrong : verdict_told b ≡ Sound → ⊥ = λ e. is.1 (is.0 ∙ e) in
+    ap verdict_said is.0 ∙ sym (unsound_said (verdict_told b) (union_told b) (rows_of (world_told b) (set.contains (union_told b))) wrong)
+
+-- an answer that holds what journals come to
+pub holds_served : (b : BundleValue) (found : Served) (answer : Answer) → IsServed b.start b.journals found → Holds answer (served_said found) → Holds answer (applied b)
+holds_served b found answer is held = subst (Holds answer) (served_applied b found is) held
+
+-- ---- faults of sets
+
+-- a set that could not be made was full, or memory ran out
+pub comes_fault : (said : Said) (fault : SetFault) → Comes said (Err (set_fault fault))
+comes_fault said sets.Memory = tt
+comes_fault said sets.PoolFull = refl
+comes_fault said sets.SourcesFull = refl
+
+-- ---- bytes
+
+-- what was decoded is what the bytes are, unless memory ran out or a set was full
+abbrev IsWhole : {V : Type 0} → Result V JournalFault → Result V JournalFault → Type 0
+IsWhole result whole = ((fault : SetFault) × (result ≡ Err (faults.Set fault))) ⊎ (result ≡ whole)
+
+ok_of : {V : Type 0} → V → Result V JournalFault
+ok_of v = Ok v
+
+error_of : {V : Type 0} → JournalFault → Result V JournalFault
+error_of f = Err f
+
+read_as : {V : Type 0} (v : V) (read : Result V JournalFault) → IsWhole (ok_of v) read → ok_of v ≡ read
+read_as v read (inl (fault, e)) = cc
+read_as v read (inr e) = e
+
+-- what was found for the value that was decoded is what is found for the bytes
+pub found_in : {V : Type 0} (Spells : List ℕ → Result V JournalFault → Type 0) (decoded : List ℕ → Result V JournalFault) (says : V → Said) (bytes : List ℕ) (v : V) (found : Result Answer Fault)
+    → Spells bytes (ok_of v) → IsWhole (ok_of v) (decoded bytes) → Comes (says v) found → Finds (Tells Spells decoded says) bytes found
+found_in Spells decoded says bytes v (Ok answer) w whole held =
+    let e = read_as v (decoded bytes) whole in
+    (says v, inl (subst (Spells bytes) e w, ap (answered says) e), held)
+found_in Spells decoded says bytes v (Err (fault.Refused r)) w whole full = inr (r, full, refl)
+found_in Spells decoded says bytes v (Err fault.Memory) w whole held = tt
+
+faulty : {V : Type 0} (Spells : List ℕ → Result V JournalFault → Type 0) (decoded : List ℕ → Result V JournalFault) (says : V → Said) (bytes : List ℕ) (f : JournalFault)
+    → Spells bytes (error_of f) → error_of f ≡ decoded bytes → Spells bytes (decoded bytes) × (answered says (error_of f) ≡ answered says (decoded bytes))
+faulty Spells decoded says bytes f r e = (subst (Spells bytes) e r, ap (answered says) e)
+
+-- the refusal of the bytes
+pub fault_in : {V : Type 0} (Spells : List ℕ → Result V JournalFault → Type 0) (decoded : List ℕ → Result V JournalFault) (says : V → Said) (bytes : List ℕ) (f : JournalFault)
+    → Spells bytes (error_of f) → IsWhole (error_of f) (decoded bytes) → Finds (Tells Spells decoded says) bytes (Err (journal_fault f))
+fault_in Spells decoded says bytes (faults.Set sets.Memory) r whole = tt
+fault_in Spells decoded says bytes (faults.Set sets.PoolFull) r whole = inr (refusal.PoolFull, refl, refl)
+fault_in Spells decoded says bytes (faults.Set sets.SourcesFull) r whole = inr (refusal.SourcesFull, refl, refl)
+fault_in Spells decoded says bytes (faults.Line n cause) r (inl (f, e)) = cc
+fault_in Spells decoded says bytes (faults.Line n cause) r (inr e) = inl (faulty Spells decoded says bytes (faults.Line n cause) r e)
+fault_in Spells decoded says bytes (faults.Truncated n) r (inl (f, e)) = cc
+fault_in Spells decoded says bytes (faults.Truncated n) r (inr e) = inl (faulty Spells decoded says bytes (faults.Truncated n) r e)
+
+-- what is settled holds the answer, where each refusal is one
+pub settled : (says : List ℕ → Said → Type 0) (found : Result Answer Fault) (settled : Result Answer RunFault) (bytes : List ℕ)
+    → Finds says bytes found → IfOk settled (Settles found) → IfOk settled (HoldsOne says bytes)
+settled says found (Err e) bytes f s = tt
+settled says (Ok x) (Ok a) bytes f s = subst (HoldsOne says bytes) (sym s) f
+settled says (Err (fault.Refused r)) (Ok a) bytes f s = (refused_with r, f, s)
+settled says (Err fault.Memory) (Ok a) bytes f s = absurd s

@@ -1,0 +1,66 @@
+-- What a plan sends.
+use Rattle.std.proofs.Common.{◌≡◌, ℕ, suc, ◌+◌, ◌<◌, arith, Bool, true, false, cond, not, List, [], ◌∷◌, ◌++◌, drop, length, get_or, slice_index_or, append_assoc, Option, Some, None, Result, Ok, Err, refl, sym, ap, ◌∙◌}
+use Rattle.std.proofs.Math.Seq.{drop-cons}
+use Rattle.std.proofs.lemmas.Option.{slice_get_read}
+use Rattle.std.specs.Prelude.{slice_get}
+use Rattle.std.specs.Option.{option_map_or}
+use Rattle.std.specs.FinSet as set
+use Rattle.gtid_text.specs.Gtids.{gtid_cmp}
+use Rattle.gtid_set.specs.Sets.{Gtids}
+use Rattle.source_history.proofs.Gtids.{gtid_total}
+use Rattle.journal.specs.declared.Entry.{Entry}
+use Rattle.journal.specs.Journals.{JournalValue, whole}
+use Rattle.auto_position.specs.Sending.{AreAt, IsPlan}
+use Rattle.auto_position.specs.Sending as sending
+use Rattle.auto_position.specs.declared.PositionFault.{PositionFault}
+use Rattle.faithful_runs.specs.Sent.{SendFault, sent}
+use Rattle.serving.specs.Serving.{picked}
+
+taken : (o : Option Entry) (e : Entry) (more : List Entry) → o ≡ Some e → option_map_or (λ x. x ∷ more) o more ≡ e ∷ more
+taken o e more at = ap (λ (x : Option Entry). option_map_or (λ y. y ∷ more) x more) at
+
+-- what stands at places is what is picked
+picked_is : (entries : List Entry) (ps : List ℕ) (es : List Entry) → AreAt entries ps es → picked entries ps ≡ es
+picked_is entries [] [] h = refl
+picked_is entries [] (e ∷ es) h = absurd h
+picked_is entries (p ∷ ps) [] h = absurd h
+picked_is entries (p ∷ ps) (e ∷ es) h = taken (slice_get entries p) e (picked entries ps) h.0 ∙ ap (λ (xs : List Entry). e ∷ xs) (picked_is entries ps es h.1)
+
+all_sent_as : (b c : Bool) (x y : PositionFault) (u v : SendFault) (all want : List Entry) → c ≡ true → cond (not b) (Err x) (cond (not c) (Err y) (Ok all)) ≡ Ok want → (d : Bool) → d ≡ true → cond (not b) (Err u) (cond (not d) (Err v) (Ok all)) ≡ Ok want
+all_sent_as true true x y u v all want t e true k = ok_as all want e
+  where
+    ok_as : (all want : List Entry) → ◌≡◌ {A = Result (List Entry) PositionFault} (Ok all) (Ok want) → ◌≡◌ {A = Result (List Entry) SendFault} (Ok all) (Ok want)
+    ok_as all want e = cc
+all_sent_as b c x y u v all want t e false k = cc
+all_sent_as b false x y u v all want t e true k = cc
+all_sent_as false true x y u v all want t e true k = cc
+
+-- one place more is picked
+pub picked_more : (entries : List Entry) (places : List ℕ) (i : ℕ) (e : Entry) (found grown : List Entry) → i < length places → slice_index_or places i 0 < length entries
+    → e ≡ get_or entries (slice_index_or places i 0) e → grown ≡ found ++ e ∷ [] → found ++ picked entries (drop i places) ≡ picked entries places
+    → grown ++ picked entries (drop (i + 1) places) ≡ picked entries places
+picked_more entries places i e found grown few inside at is all =
+    let place = slice_index_or places i 0 in
+    let rest = picked entries (drop (suc i) places) in
+    let next : i + 1 ≡ suc i = omega arith in
+    let there = slice_get_read entries (length entries) place e refl inside at in
+    (λ j. is j ++ picked entries (drop (next j) places))
+    ∙ append_assoc found (e ∷ []) rest
+    ∙ ap (λ (xs : List Entry). found ++ xs) (sym (ap (picked entries) (drop-cons places i 0 few) ∙ taken (slice_get entries place) e rest there))
+    ∙ all
+
+-- an empty set is part of each
+empty_part : (S : Gtids) → set.is_subset set.empty S ≡ true
+empty_part S = set.contains-is_subset gtid_total set.empty S (λ q h. let none = sym (set.contains-empty gtid_cmp q) ∙ h in absurd cc)
+
+-- a source without a UUID sends the same by both definitions
+pub same_sent : (j : JournalValue) (ask : Gtids) (want : List Entry) → sending.sent j ask None ≡ Ok want → sent j ask None ≡ Ok want
+same_sent j ask want e =
+    all_sent_as (set.is_subset j.previous ask) (set.is_subset set.empty (whole j)) _ _ _ _ _ want (empty_part (whole j)) e (set.is_subset set.empty set.empty) (empty_part set.empty)
+
+abbrev sent_ok : List Entry → Result (List Entry) PositionFault
+sent_ok es = Ok es
+
+-- the entries at the places of a plan are what is sent
+pub plan_sent : (j : JournalValue) (ask : Gtids) (places : List ℕ) (found : List Entry) → IsPlan j.entries places (sending.sent j ask None) → found ≡ picked j.entries places → sent j ask None ≡ Ok found
+plan_sent j ask places found plan is = same_sent j ask found (plan.sent_is ∙ ap sent_ok (sym (is ∙ picked_is j.entries places plan.sends plan.at)))

@@ -1,0 +1,10 @@
+use Rattle.std.proofs.Common.{◌∙◌}
+use Rattle.serving.proofs.Runs.{works_more}
+use Rattle.serving.proofs.working.work_on_all.Goals as goal
+
+pub loop-channel-preserved : goal.loop-channel-preserved
+loop-channel-preserved c = record {
+  site = c.work_on.ensures.site ∙ c.loop-channel.invariant.site;
+  works = works_more c.args.core.now.site c.loop-channel.core.site c.args.core.now.state c.loop-channel.core.state c.work_on.new.core.state
+      c.loop-channel.invariant.site c.loop-channel.invariant.works c.in_ok-work_on.ensures.works;
+}

@@ -1,0 +1,68 @@
+//! One event at a time.
+ghost use Rattle.std.specs.Prelude.{◌≡◌, [], ◌∷◌, IfOk, OnOk};
+ghost use Rattle.journal.specs.Writing.{is_number};
+ghost use Rattle.replica_core.specs.Machine.{step};
+ghost use Rattle.replica_core.specs.declared.event.Event.TheVariants as events;
+ghost use Rattle.replica_core.specs.declared.event.Reply.TheVariants as replies;
+ghost use Rattle.faithful_runs.specs.Served.{accepted};
+
+use gtid_set::{GtidSet, SetFault};
+use journal::{Entry, GREATEST};
+use replica_core::{Core, Event, Reply};
+use std::alloc::Global;
+use txn_journal::Channel;
+
+/// Opens a channel.
+pub(crate) fn open_channel(
+    alloc: Global,
+    core: &mut Core,
+    channel: &Channel,
+) -> Result<(), SetFault>
+    ensures site { core.new.site ≡ core.old.site }
+    ensures state { OnOk result (core.new.state ≡ (step core.old.site core.old.state (events.OpenChannel channel.now.name channel.now.preserve)).1) }
+{
+    let name = channel.name.clone()?;
+    core.step(alloc, &Event::OpenChannel(name, channel.preserve))?;
+    Ok(())
+}
+
+/// Positions a channel: the set that it asks with.
+pub(crate) fn position(alloc: Global, core: &mut Core, channel: usize) -> Result<GtidSet, SetFault>
+    ensures site { core.new.site ≡ core.old.site }
+    ensures state { OnOk result (core.new.state ≡ (step core.old.site core.old.state (events.Position channel)).1) }
+    ensures asked { IfOk result (λ asked. (step core.old.site core.old.state (events.Position channel)).0 ≡ replies.Ask asked) }
+{
+    match core.step(alloc, &Event::Position(channel))? {
+        Reply::Ask(asked) => Ok(asked),
+        _ => Err(SetFault::PoolFull),
+    }
+}
+
+/// Whether a transaction number is in range.
+#[tactic(auto, unfolding(gtid_set::specs::Sets::greatest))]
+fn is_number(number: u64) -> bool
+    ensures { result ≡ is_number number }
+{
+    1 <= number && number <= GREATEST
+}
+
+/// A channel receives an entry.
+pub(crate) fn receive(
+    alloc: Global,
+    core: &mut Core,
+    channel: usize,
+    entry: &Entry,
+) -> Result<(), SetFault>
+    ensures site { core.new.site ≡ core.old.site }
+    ensures state { OnOk result (core.new.state ≡ (step core.old.site core.old.state (events.Receive channel entry.now)).1) }
+    ensures got { OnOk result (accepted (events.Receive channel entry.now) (step core.old.site core.old.state (events.Receive channel entry.now)).0 ≡ entry.now ∷ []) }
+{
+    if !is_number(entry.gtid.number) {
+        return Err(SetFault::PoolFull);
+    }
+    let event = Event::Receive(channel, entry.clone()?);
+    match core.step(alloc, &event)? {
+        Reply::Received(_) => Ok(()),
+        _ => Err(SetFault::PoolFull),
+    }
+}

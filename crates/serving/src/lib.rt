@@ -1,0 +1,9 @@
+//! Journals served to a replica, each on a channel of its own, and what it comes to.
+#![tactic(auto)]
+
+mod event;
+mod outcome;
+mod receiving;
+mod working;
+
+pub use outcome::{Served, serve};

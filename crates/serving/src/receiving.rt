@@ -1,0 +1,96 @@
+//! Channels that receive what sources send.
+ghost use Rattle.std.specs.Prelude.{◌≡◌, ◌≤◌, ◌+◌, IfOk, OnOk, length, Ok, None};
+ghost use Rattle.faithful_runs.specs.Sent.{sent};
+ghost use Rattle.serving.specs.Serving.{picked, Receives, ServesOne, ServesEach};
+
+use crate::event::{open_channel, position, receive};
+use auto_position::{PositionFault, plan};
+use gtid_set::{GtidSet, SetFault};
+use journal::{Entry, Journal};
+use replica_core::Core;
+use std::alloc::Global;
+use txn_journal::Channel;
+
+/// The entries at these places.
+fn entries_at(alloc: Global, entries: &[Entry], places: &[u64]) -> Result<Vec<Entry>, SetFault>
+    ensures { IfOk result (λ found. found.items ≡ picked entries.now places.now) }
+{
+    let mut found = Vec::new(alloc);
+    for place in places {
+        let Some(entry) = entries.get(*place as usize) else {
+            return Err(SetFault::PoolFull);
+        };
+        let entry = entry.clone()?;
+        let Ok(()) = found.push(entry) else {
+            return Err(SetFault::Memory);
+        };
+    }
+    Ok(found)
+}
+
+/// What a journal sends to a replica that asks with this set.
+fn sent_to(alloc: Global, journal: &Journal, asked: &GtidSet) -> Result<Vec<Entry>, SetFault>
+    ensures { IfOk result (λ entries. sent journal.now asked.now None ≡ Ok entries.items) }
+{
+    match plan(alloc, None, journal, asked) {
+        Ok(places) => entries_at(alloc, journal.entries(), &places),
+        Err(PositionFault::Set(fault)) => Err(fault),
+        Err(PositionFault::PurgedRequired(_)) => Err(SetFault::PoolFull),
+        Err(PositionFault::ReplicaHasMore(_)) => Err(SetFault::PoolFull),
+    }
+}
+
+/// A channel receives these entries.
+fn receive_all(
+    alloc: Global,
+    core: &mut Core,
+    channel: usize,
+    entries: &[Entry],
+) -> Result<(), SetFault>
+    ensures site { core.new.site ≡ core.old.site }
+    ensures received { OnOk result (Receives core.old.site core.old.state channel entries.now core.new.state) }
+{
+    for entry in entries {
+        receive(alloc, core, channel, entry)?;
+    }
+    Ok(())
+}
+
+/// A channel is opened and positioned, and receives all that its journal sends.
+fn serve_journal(
+    alloc: Global,
+    core: &mut Core,
+    number: usize,
+    channel: &Channel,
+    journal: &Journal,
+) -> Result<(), SetFault>
+    ensures site { core.new.site ≡ core.old.site }
+    ensures served { OnOk result (ServesOne core.old.site core.old.state number journal.now core.new.state) }
+{
+    open_channel(alloc, core, channel)?;
+    let asked = position(alloc, core, number)?;
+    let entries = sent_to(alloc, journal, &asked)?;
+    receive_all(alloc, core, number, &entries)
+}
+
+/// Each journal in turn, on a channel of its own; the first has this number.
+pub(crate) fn serve_journals(
+    alloc: Global,
+    core: &mut Core,
+    number: usize,
+    channels: &[Channel],
+    journals: &[Journal],
+) -> Result<(), SetFault>
+    requires { number + length journals.now ≤ 256 }
+    ensures site { core.new.site ≡ core.old.site }
+    ensures served { OnOk result (ServesEach core.old.site core.old.state number journals.now core.new.state) }
+{
+    let Some((journal, others)) = journals.split_first() else {
+        return Ok(());
+    };
+    let Some((channel, rest)) = channels.split_first() else {
+        return Err(SetFault::PoolFull);
+    };
+    serve_journal(alloc, core, number, channel, journal)?;
+    serve_journals(alloc, core, number + 1, rest, others)
+}
