@@ -1,5 +1,5 @@
 -- What an answer to a bundle holds.
-use Rattle.std.proofs.Common.{◌≡◌, ℕ, true, false, List, inl, inr, refl, sym, ap, ◌∙◌, subst}
+use Rattle.std.proofs.Common.{◌≡◌, ◌⊎◌, ℕ, List, inl, inr, refl, sym, ap, ◌∙◌, subst}
 use Rattle.std.specs.Prelude.{Result, Ok, Err, IfOk}
 use Rattle.std.specs.FinSet as set
 use Rattle.gtid_set.specs.Sets.{Gtids}
@@ -7,7 +7,10 @@ use Rattle.gtid_set.specs.declared.fault.SetFault.{SetFault}
 use Rattle.gtid_set.specs.declared.fault.SetFault.TheVariants as sets
 use Rattle.rows.specs.Apply.{Rows}
 use Rattle.rows.specs.declared.change.RowFault.{RowFault}
-use Rattle.source_history.specs.World.{rows_of}
+use Rattle.rows.specs.Database.{Database}
+use Rattle.journal.specs.Journals.{JournalValue}
+use Rattle.source_history.specs.World.{World, rows_of}
+use Rattle.world.specs.Audit.{world_of, verdict}
 use Rattle.world.specs.declared.verdict.Verdict.{Verdict}
 use Rattle.world.specs.declared.verdict.Verdict.TheVariants.{Unequal, Purged, Missing, Shared, NotClosed, DoesNotApply, Sound}
 use Rattle.serving.specs.Serving.{IsServed}
@@ -17,7 +20,6 @@ use Rattle.txn_journal.specs.BundleStates.{BundleValue}
 use Rattle.txn_journal.specs.declared.fault.JournalFault.{JournalFault}
 use Rattle.txn_journal.specs.declared.fault.JournalFault.TheVariants as faults
 use Rattle.gtid_report.specs.Faults.{set_fault, journal_fault}
-use Rattle.gtid_report.specs.declared.refusal.Refusal.{Refusal}
 use Rattle.gtid_report.specs.declared.refusal.Refusal.TheVariants as refusal
 use Rattle.gtid_report.specs.declared.fault.Fault.{Fault}
 use Rattle.gtid_report.specs.declared.fault.Fault.TheVariants as fault
@@ -53,6 +55,13 @@ served_applied b (served.Verdict v) is =
 pub holds_served : (b : BundleValue) (found : Served) (answer : Answer) → IsServed b.start b.journals found → Holds answer (served_said found) → Holds answer (applied b)
 holds_served b found answer is held = subst (Holds answer) (served_applied b found is) held
 
+-- what an audit finds first
+pub verdict_is : (b : BundleValue) (start : Database) (journals journals' : List JournalValue) (world : World) (opened : Gtids) (first : Verdict) → start ≡ b.start → journals ≡ b.journals → journals' ≡ b.journals
+    → opened ≡ set.empty → world ≡ world_of start.schema opened start.rows journals → first ≡ verdict world journals' → first ≡ verdict_told b
+verdict_is b start journals journals' world opened first s j k o w f =
+    let told : world ≡ world_told b = w ∙ (λ i. world_of (s i).schema (o i) (s i).rows (j i)) in
+    f ∙ (λ i. verdict (told i) (k i))
+
 -- ---- faults of sets
 
 -- a set that could not be made was full, or memory ran out
@@ -67,10 +76,10 @@ comes_fault said sets.SourcesFull = refl
 abbrev IsWhole : {V : Type 0} → Result V JournalFault → Result V JournalFault → Type 0
 IsWhole result whole = ((fault : SetFault) × (result ≡ Err (faults.Set fault))) ⊎ (result ≡ whole)
 
-ok_of : {V : Type 0} → V → Result V JournalFault
+abbrev ok_of : {V : Type 0} → V → Result V JournalFault
 ok_of v = Ok v
 
-error_of : {V : Type 0} → JournalFault → Result V JournalFault
+abbrev error_of : {V : Type 0} → JournalFault → Result V JournalFault
 error_of f = Err f
 
 read_as : {V : Type 0} (v : V) (read : Result V JournalFault) → IsWhole (ok_of v) read → ok_of v ≡ read
