@@ -100,7 +100,8 @@ pub fn serve(
         return Ok(Served::Verdict(keys));
     }
     let core = run(alloc, own, rows, channels, journals)?;
-    if core.drained() {
+    let drained = core.drained();
+    if drained {
         return Ok(Served::State(core));
     }
     let verdict = audit(alloc, &world, journals)?;
