@@ -1,6 +1,6 @@
 -- The blocks of one width, as the numbers change that they count.
-use Rattle.std.proofs.Common.{inl, inr, List, [], ◌∷◌, ◌++◌, get_or, get_or-set_same, get_or-set_other, true≢false, ◌≡◌, ℕ, zero, suc, ◌+◌, ◌-◌, ◌*◌, ◌/◌, ◌%◌, ◌<◌, ◌≤◌, ◌⊎◌, Bool, true, false, cond, length, refl, sym, ap, subst, ◌∙◌, arith}
-use Rattle.std.specs.Prelude.{nat_lt, nat_eq, slice_set, Result, OnOk}
+use Rattle.std.proofs.Common.{inl, inr, List, [], ◌∷◌, ◌++◌, get_or, get_or-set_same, get_or-set_other, true≢false, ◌≡◌, ℕ, zero, suc, ◌+◌, ◌-◌, ◌*◌, ◌/◌, ◌%◌, ◌<◌, ◌≤◌, ◌⊎◌, Bool, true, false, cond, length, refl, sym, ap, ◌∙◌, arith}
+use Rattle.std.specs.Prelude.{nat_lt, nat_eq, slice_set, Result}
 use Rattle.std.proofs.Math.Dec.{ltb, eqb}
 use Rattle.std.proofs.Math.Nat.{mul-le-mul_right, le_of_mul-le-mul_right}
 use Rattle.std.proofs.lemmas.Bool.{ltb-true, ltb-false, eqb-true, eq-eqb}

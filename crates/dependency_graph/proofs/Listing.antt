@@ -1,15 +1,16 @@
 -- The listed nodes, as the nodes change.
-use Rattle.std.proofs.Common.{◌≡◌, ℕ, zero, suc, ◌+◌, ◌-◌, ◌/◌, ◌<◌, ◌≤◌, Bool, true, false, not, ◌&&◌, cond, List, [], ◌∷◌, ◌++◌, length, drop, refl, sym, ap, subst, ◌∙◌, arith, true≢false}
-use Rattle.std.specs.Prelude.{nat_lt, nat_eq, slice_index_or, slice_set}
+use Rattle.std.proofs.Common.{◌≡◌, ℕ, zero, suc, ◌+◌, ◌-◌, ◌/◌, ◌<◌, ◌≤◌, Bool, true, false, not, ◌&&◌, cond, List, [], ◌∷◌, ◌++◌, length, drop, take, replicate, refl, sym, ap, subst, ◌∙◌, arith, true≢false}
+use Rattle.std.specs.Prelude.{nat_eq, slice_index_or, slice_set}
 use Rattle.std.proofs.Math.Dec.{ltb, eqb}
 use Rattle.std.proofs.lemmas.Bool.{ltb-true, ltb-false, eqb-true, eq-eqb}
 use Rattle.dependency_graph.specs.Ready.{IsListing, IsListed, Raises, Lowers, Turns, goes, goes_in, goes_at}
 use Rattle.dependency_graph.specs.declared.ready.Ready.{Ready}
 use Rattle.dependency_graph.specs.declared.graph.Node.{Node}
 use Rattle.std.proofs.lemmas.List.{length_push}
-use Rattle.dependency_graph.specs.Graphs.{Point, point_at}
-use Rattle.dependency_graph.specs.Kept.{points, is_finished_at, is_finished_first}
-use Rattle.dependency_graph.proofs.Kept.{kept_now, waits_on}
+use Rattle.dependency_graph.specs.Graphs.{Point, may_go, gone, marked_at}
+use Rattle.dependency_graph.specs.Kept.{points, is_finished_at, is_finished_first, IsSound}
+use Rattle.dependency_graph.specs.declared.chains.Chains.{Chains}
+use Rattle.dependency_graph.proofs.Kept.{kept_now, waits_on, may_go_kept, gone_at}
 use Rattle.dependency_graph.proofs.Popping.{unfinished_kept, length_set}
 use Rattle.dependency_graph.proofs.Adding.{set_last}
 use Rattle.dependency_graph.proofs.Levels.{level_less, level_raise, level_lower}
@@ -222,3 +223,38 @@ listed_dropped d (x ∷ nodes) new old ready first is pass h =
     let passed = pass d (d + length (x ∷ nodes)) (goes_at (d + 1) nodes) (omega arith) (omega arith) (λ m lt. goes_before (d + 1) m nodes lt) now in
     let ends : d + length (x ∷ nodes) ≡ d + 1 + length nodes = omega arith in
     subst (λ ns. IsListed (d + 1) ns ready) (sym is) (subst (λ e. IsListing ready (d + 1) e (goes_at (d + 1) nodes)) ends passed)
+
+any_read : (nodes : List Node) (i : ℕ) → i < length nodes → (x : Node) × (x ≡ slice_index_or nodes i x)
+any_read [] i lt = absurd (omega (lt, arith))
+any_read (y ∷ nodes) zero lt = (y, refl)
+any_read (y ∷ nodes) (suc i) lt = any_read nodes i (omega (lt, arith))
+
+-- a node that stands here may go where it goes
+pub goes_as_told : (d : ℕ) (nodes : List Node) (c : Chains) (m : ℕ) → IsSound d nodes c → d ≤ m → (m - d) < length nodes → may_go (points d nodes) m ≡ goes_at d nodes m
+goes_as_told d nodes c m sound le lt =
+    let x = any_read nodes (m - d) lt in
+    may_go_kept d nodes c sound m x.0 le lt x.1 ∙ sym (goes_behind d m nodes le ∙ goes_in_at nodes (m - d) x.0 x.1 lt)
+
+pub take_front : (xs ys : List Node) → take (length xs) (xs ++ ys) ≡ xs
+take_front [] ys = refl
+take_front (x ∷ xs) ys = ap (λ zs. x ∷ zs) (take_front xs ys)
+
+set_gone : (d n : ℕ) (ps : List Point) → n < d → slice_set (replicate d gone ++ ps) n gone ≡ replicate d gone ++ ps
+set_gone zero n ps lt = absurd (omega (lt, arith))
+set_gone (suc d) zero ps lt = refl
+set_gone (suc d) (suc n) ps lt = ap (λ qs. gone ∷ qs) (set_gone d n ps (omega (lt, arith)))
+
+-- a node that is gone is finished already
+pub gone_marked : (d n : ℕ) (ps : List Point) → n < d → marked_at (replicate d gone ++ ps) n ≡ replicate d gone ++ ps
+gone_marked d n ps lt = ap (λ (p : Point). slice_set (replicate d gone ++ ps) n (record p { finished = true })) (gone_at d n ps lt) ∙ set_gone d n ps lt
+
+by_two : (f : ℕ → Bool) (from node more end m : ℕ) (before here : Bool) → ltb m node ≡ before → ltb m (node + 1) ≡ here → ((k : ℕ) → from ≤ k → k < node → k < end → f k ≡ false) → f node ≡ false
+    → ((k : ℕ) → node + 1 ≤ k → k < node + 1 + more → k < end → f k ≡ false) → from ≤ m → m < node + 1 + more → m < end → f m ≡ false
+by_two f from node more end m true here b h old new next lo hi e = old m lo (ltb-true m node b) e
+by_two f from node more end m false true b h old new next lo hi e = let le = ltb-false m node b in let lt = ltb-true m (node + 1) h in let same : m ≡ node = omega (le, lt, arith) in ap f same ∙ new
+by_two f from node more end m false false b h old new next lo hi e = next m (ltb-false m (node + 1) h) hi e
+
+-- after one number that fails, and those behind it
+pub fails_on : (f : ℕ → Bool) (from node more end : ℕ) → ((k : ℕ) → from ≤ k → k < node → k < end → f k ≡ false) → f node ≡ false
+    → ((k : ℕ) → node + 1 ≤ k → k < node + 1 + more → k < end → f k ≡ false) → (m : ℕ) → from ≤ m → m < node + 1 + more → m < end → f m ≡ false
+fails_on f from node more end old new next m lo hi e = by_two f from node more end m (ltb m node) (ltb m (node + 1)) refl refl old new next lo hi e

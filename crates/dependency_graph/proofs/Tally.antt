@@ -1,8 +1,8 @@
 -- How many numbers of a block pass.
 use Rattle.std.proofs.Common.{◌≡◌, ℕ, zero, suc, ◌+◌, ◌-◌, ◌*◌, ◌/◌, ◌%◌, ◌<◌, ◌≤◌, Bool, true, false, true≢false, cond, refl, sym, ap, ◌∙◌, arith}
-use Rattle.std.proofs.Math.Dec.{ltb, eqb}
+use Rattle.std.proofs.Math.Dec.{ltb}
 use Rattle.std.proofs.Math.Nat.{div-mul-le_self, lt-div-mul-add, mul-le-mul_right, mod-eq-sub-div-mul}
-use Rattle.std.proofs.lemmas.Bool.{ltb-true, ltb-false, eqb-true}
+use Rattle.std.proofs.lemmas.Bool.{ltb-true, ltb-false}
 use Rattle.dependency_graph.specs.Ready.{tally, Turns}
 
 pub tally_same : (p q : ℕ → Bool) (a k : ℕ) → ((m : ℕ) → a ≤ m → m < a + k → p m ≡ q m) → tally p a k ≡ tally q a k

@@ -1,5 +1,5 @@
 -- How ready numbers are counted in blocks.
-use Rattle.std.specs.Prelude.{ℕ, zero, suc, ◌+◌, ◌-◌, ◌*◌, ◌≡◌, ◌≤◌, ◌<◌, ◌⊎◌, Bool, true, false, not, ◌&&◌, cond, nat_lt, nat_eq, List, [], ◌∷◌, length, slice_index_or, Result, OnOk}
+use Rattle.std.specs.Prelude.{ℕ, zero, suc, ◌+◌, ◌-◌, ◌*◌, ◌≡◌, ◌≤◌, ◌<◌, ◌⊎◌, Bool, false, not, ◌&&◌, cond, nat_lt, nat_eq, List, [], ◌∷◌, length, slice_index_or, Result, OnOk}
 use Rattle.dependency_graph.specs.declared.ready.Level.{Level}
 use Rattle.dependency_graph.specs.declared.ready.Ready.{Ready}
 use Rattle.dependency_graph.specs.declared.graph.Node.{Node}

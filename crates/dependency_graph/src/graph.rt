@@ -64,12 +64,7 @@ fn is_finished(dropped: usize, nodes: &VecDeque<Node>, node: usize) -> bool
 }
 
 /// An unfinished node that comes to the front of a chain waits for one key less.
-fn release(
-    dropped: usize,
-    nodes: &mut VecDeque<Node>,
-    ready: &mut Ready,
-    first: Option<usize>,
-)
+fn release(dropped: usize, nodes: &mut VecDeque<Node>, ready: &mut Ready, first: Option<usize>)
     requires { CanRelease dropped nodes.old.items first }
     ensures releases { Releases dropped nodes.old.items nodes.new.items first }
     ensures listed { IsListed dropped nodes.old.items ready.old → IsListed dropped nodes.new.items ready.new }

@@ -8,7 +8,9 @@ use std::collections::VecDeque;
 
 /// The sizes of blocks. Our own rule.
 const SMALL: usize = 64;
+
 const MIDDLE: usize = 4_096;
+
 const LARGE: usize = 262_144;
 
 /// How many numbers of each block are ready, from the first block that is kept on.

@@ -1,4 +1,4 @@
-use Rattle.std.proofs.Common.{◌≡◌, ◌≤◌, ◌<◌, ◌+◌, ◌-◌, ◌/◌, ◌%◌, ℕ, Bool, true, false, OnOk, refl, sym, subst, arith}
+use Rattle.std.proofs.Common.{subst}
 use Rattle.dependency_graph.specs.Ready.{Turns}
 use Rattle.dependency_graph.proofs.Listing.{listing_raised, listing_same, unturned}
 use Rattle.dependency_graph.proofs.ready.Ready.insert_if.Goals as goal

@@ -1,4 +1,3 @@
-use Rattle.std.proofs.Common.{◌≡◌, ◌≤◌, ◌<◌, ◌+◌, ◌-◌, ◌/◌, ◌%◌, ℕ, Bool, true, false, OnOk, refl, sym, subst, arith}
 use Rattle.dependency_graph.proofs.Levels.{level_new}
 use Rattle.dependency_graph.proofs.ready.Ready.new.Goals as goal
 

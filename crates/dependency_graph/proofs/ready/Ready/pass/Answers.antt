@@ -1,4 +1,4 @@
-use Rattle.std.proofs.Common.{◌≡◌, ◌≤◌, ◌<◌, ◌+◌, ◌-◌, ◌/◌, ◌%◌, ℕ, Bool, true, false, OnOk, refl, sym, subst, arith}
+use Rattle.std.proofs.Common.{arith}
 use Rattle.dependency_graph.proofs.Levels.{level_pass}
 use Rattle.dependency_graph.proofs.ready.Ready.pass.Goals as goal
 

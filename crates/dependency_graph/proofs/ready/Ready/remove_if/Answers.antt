@@ -1,4 +1,4 @@
-use Rattle.std.proofs.Common.{◌≡◌, ◌≤◌, ◌<◌, ◌+◌, ◌-◌, ◌/◌, ◌%◌, ℕ, Bool, true, false, OnOk, refl, sym, subst, arith}
+use Rattle.std.proofs.Common.{sym, subst}
 use Rattle.dependency_graph.specs.Ready.{Turns}
 use Rattle.dependency_graph.proofs.Listing.{listing_lowered, listing_same, unturned}
 use Rattle.dependency_graph.proofs.ready.Ready.remove_if.Goals as goal

@@ -1,4 +1,4 @@
-use Rattle.std.proofs.Common.{◌≡◌, ◌≤◌, ◌<◌, ◌+◌, ◌-◌, ◌/◌, ◌%◌, ℕ, Bool, true, false, OnOk, refl, sym, subst, arith}
+use Rattle.std.proofs.Common.{◌/◌, arith}
 use Rattle.dependency_graph.proofs.Levels.{level_open, level_more}
 use Rattle.dependency_graph.proofs.ready.Ready.reserve.Goals as goal
 

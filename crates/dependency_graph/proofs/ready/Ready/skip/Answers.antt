@@ -1,4 +1,4 @@
-use Rattle.std.proofs.Common.{◌≡◌, ◌≤◌, ◌<◌, ◌+◌, ◌-◌, ◌/◌, ◌%◌, ℕ, Bool, true, false, OnOk, refl, sym, subst, arith}
+use Rattle.std.proofs.Common.{◌-◌, ◌%◌, refl, arith}
 use Rattle.dependency_graph.proofs.Levels.{level_bare}
 use Rattle.dependency_graph.proofs.ready.Ready.skip.Goals as goal
 
