@@ -7,3 +7,6 @@ pub mod Popping
 pub mod Marking
 pub mod Settling
 pub mod Adding
+pub mod Tally
+pub mod Levels
+pub mod Listing

@@ -6,9 +6,11 @@ ghost use Rattle.std.specs.Bool.{OnTrue, OnFalse};
 ghost use Rattle.slab.specs.Slab.{slab_len};
 ghost use Rattle.dependency_graph.specs.Graphs.{blocker, is_ready, IsNextReady, dropped, finished_at, marked_at, unfinished};
 ghost use Rattle.dependency_graph.specs.Chains.{HasRoom};
+ghost use Rattle.dependency_graph.specs.Ready.{IsListed, goes};
 ghost use Rattle.dependency_graph.specs.Kept.{is_finished_first, is_finished_at, points, point_of, keys_at, IsKept, IsFrontOpen, CanRelease, Releases, LinksAll, CountsAll};
 
 use crate::chains::Chains;
+use crate::ready::Ready;
 use rows::Key;
 use std::alloc::{AllocError, Global};
 use std::collections::VecDeque;
@@ -28,6 +30,14 @@ pub struct Graph {
     dropped: usize,
     nodes: VecDeque<Node>,
     chains: Chains,
+    ready: Ready,
+}
+
+/// The node is unfinished and waits for no key.
+fn goes(node: &Node) -> bool
+    ensures { result ≡ goes node.now }
+{
+    !node.finished && node.waits == 0
 }
 
 /// The first node is finished.
@@ -54,13 +64,16 @@ fn is_finished(dropped: usize, nodes: &VecDeque<Node>, node: usize) -> bool
 }
 
 /// An unfinished node that comes to the front of a chain waits for one key less.
-fn release(dropped: usize, nodes: &mut VecDeque<Node>, first: Option<usize>)
+fn release(dropped: usize, nodes: &mut VecDeque<Node>, ready: &mut Ready, first: Option<usize>)
     requires { CanRelease dropped nodes.old.items first }
-    ensures { Releases dropped nodes.old.items nodes.new.items first }
+    ensures releases { Releases dropped nodes.old.items nodes.new.items first }
+    ensures listed { IsListed dropped nodes.old.items ready.old → IsListed dropped nodes.new.items ready.new }
 {
     if let Some(node) = first {
         if !is_finished(dropped, nodes, node) {
             nodes[node - dropped].waits -= 1;
+            let free = nodes[node - dropped].waits == 0;
+            ready.insert_if(node, free);
         }
     }
 }
@@ -70,6 +83,7 @@ fn pop_finished(
     dropped: usize,
     nodes: &mut VecDeque<Node>,
     chains: &mut Chains,
+    ready: &mut Ready,
     at: usize,
     i: usize,
 ) -> bool
@@ -78,6 +92,7 @@ fn pop_finished(
     ensures kept { IsKept dropped nodes.new.items chains.new (drop i (keys_at nodes.new.items at)) }
     ensures same { map point_of nodes.new.items ≡ map point_of nodes.old.items }
     ensures fewer { OnTrue result (slab_len chains.new.edges < slab_len chains.old.edges) }
+    ensures listed { IsListed dropped nodes.old.items ready.old → IsListed dropped nodes.new.items ready.new }
     ensures front { OnFalse result (IsFrontOpen (points dropped nodes.new.items) chains.new (drop i (keys_at nodes.new.items at))) }
 {
     let key = &nodes[at].keys[i];
@@ -89,30 +104,46 @@ fn pop_finished(
     }
     chains.pop(key);
     let next = chains.first(key);
-    release(dropped, nodes, next);
+    release(dropped, nodes, ready, next);
     true
 }
 
 /// Takes all finished nodes off the front of the chain of a node's i-th key.
-fn settle(dropped: usize, nodes: &mut VecDeque<Node>, chains: &mut Chains, at: usize, i: usize)
+fn settle(
+    dropped: usize,
+    nodes: &mut VecDeque<Node>,
+    chains: &mut Chains,
+    ready: &mut Ready,
+    at: usize,
+    i: usize,
+)
     requires in_range { i < length (keys_at nodes.old.items at) }
     requires kept { IsKept dropped nodes.old.items chains.old (drop i (keys_at nodes.old.items at)) }
     ensures kept { IsKept dropped nodes.new.items chains.new (drop (i + 1) (keys_at nodes.new.items at)) }
     ensures same { map point_of nodes.new.items ≡ map point_of nodes.old.items }
+    ensures listed { IsListed dropped nodes.old.items ready.old → IsListed dropped nodes.new.items ready.new }
 {
-    'settling: while pop_finished(dropped, nodes, chains, at, i) {}
+    'settling: while pop_finished(dropped, nodes, chains, ready, at, i) {}
 }
 
 /// Marks a node as finished.
-fn mark(dropped: usize, nodes: &mut VecDeque<Node>, chains: &mut Chains, at: usize)
+fn mark(
+    dropped: usize,
+    nodes: &mut VecDeque<Node>,
+    chains: &mut Chains,
+    ready: &mut Ready,
+    at: usize,
+)
     requires in_range { at < length nodes.old.items }
     requires kept { IsKept dropped nodes.old.items chains.old [] }
     ensures kept { IsKept dropped nodes.new.items chains.new [] }
     ensures marked { points dropped nodes.new.items ≡ marked_at (points dropped nodes.old.items) (dropped + at) }
+    ensures listed { IsListed dropped nodes.old.items ready.old → IsListed dropped nodes.new.items ready.new }
 {
+    ready.remove_if(dropped + at, goes(&nodes[at]));
     nodes[at].finished = true;
     for i in 0..nodes[at].keys.len() {
-        settle(dropped, nodes, chains, at, i);
+        settle(dropped, nodes, chains, ready, at, i);
     }
 }
 
@@ -136,7 +167,8 @@ impl Model for Graph {
     ghost use Rattle.std.specs.Prelude.{List, []};
     ghost use Rattle.std.specs.Coded.{coded_list};
     ghost use Rattle.dependency_graph.specs.Graphs.{Point, point_code};
-    ghost use Rattle.dependency_graph.specs.Kept.{points, IsKept};
+    ghost use Rattle.dependency_graph.specs.Kept.{points};
+    ghost use Rattle.dependency_graph.specs.Held.{IsHeld};
 
     ghost Value = { List Point };
 
@@ -144,7 +176,7 @@ impl Model for Graph {
 
     ghost view = { λ g. points g.dropped g.nodes.items };
 
-    ghost invariant = { λ g. IsKept g.dropped g.nodes.items g.chains [] };
+    ghost invariant = { λ g. IsHeld g.dropped g.nodes.items g.chains g.ready };
 }
 
 impl Graph {
@@ -156,6 +188,7 @@ impl Graph {
             dropped: 0,
             nodes: VecDeque::new(alloc),
             chains: Chains::new(alloc),
+            ready: Ready::new(alloc),
         }
     }
 
@@ -177,6 +210,7 @@ impl Graph {
         self.chains.reserve(&keys)?;
         let at = self.nodes.len();
         let number = self.dropped + at;
+        self.ready.reserve(number)?;
         let node = Node {
             finished: false,
             waits: 0,
@@ -185,6 +219,7 @@ impl Graph {
         self.nodes.push_back(node)?;
         let waits = link(&mut self.chains, &self.nodes[at].keys, number);
         self.nodes[at].waits = waits;
+        self.ready.insert_if(number, waits == 0);
         Ok(number)
     }
 
@@ -195,7 +230,13 @@ impl Graph {
     {
         if node >= self.dropped {
             let at = node - self.dropped;
-            mark(self.dropped, &mut self.nodes, &mut self.chains, at);
+            mark(
+                self.dropped,
+                &mut self.nodes,
+                &mut self.chains,
+                &mut self.ready,
+                at,
+            );
         }
         self.drop_front();
     }
@@ -206,6 +247,7 @@ impl Graph {
         while starts_finished(&self.nodes) {
             let _ = self.nodes.pop_front();
             self.dropped += 1;
+            self.ready.pass(self.dropped);
         }
     }
 
@@ -247,16 +289,18 @@ impl Graph {
     pub fn next_ready(&self, from: usize) -> Option<usize>
         ensures { IsNextReady self.now from result }
     {
-        let start = if from < self.dropped {
+        let end = self.len();
+        let mut node = if from < self.dropped {
             self.dropped
         } else {
             from
         };
-        for node in start..self.len() {
-            let here = &self.nodes[node - self.dropped];
-            if !here.finished && here.waits == 0 {
+        while node < end {
+            if goes(&self.nodes[node - self.dropped]) {
                 return Some(node);
             }
+            node += 1;
+            node += self.ready.skip(node);
         }
         None
     }
@@ -268,11 +312,13 @@ pub struct Reserved {
     dropped: usize,
     nodes: VecDeque<Node>,
     chains: Chains,
+    ready: Ready,
 }
 
 impl Model for Reserved {
     ghost use Rattle.dependency_graph.specs.Graphs.{Awaiting, awaiting_code};
-    ghost use Rattle.dependency_graph.specs.Kept.{awaiting_of, IsReserved};
+    ghost use Rattle.dependency_graph.specs.Kept.{awaiting_of};
+    ghost use Rattle.dependency_graph.specs.Held.{IsRoom};
 
     ghost Value = { Awaiting };
 
@@ -280,7 +326,7 @@ impl Model for Reserved {
 
     ghost view = { λ r. awaiting_of r.dropped r.nodes.items };
 
-    ghost invariant = { λ r. IsReserved r.dropped r.nodes.items r.chains };
+    ghost invariant = { λ r. IsRoom r.dropped r.nodes.items r.chains r.ready };
 }
 
 impl Graph {
@@ -295,12 +341,22 @@ impl Graph {
             dropped,
             mut nodes,
             mut chains,
+            mut ready,
         } = self;
         let Ok(()) = chains.reserve(&keys) else {
             return Err(Graph {
                 dropped,
                 nodes,
                 chains,
+                ready,
+            });
+        };
+        let Ok(()) = ready.reserve(dropped + nodes.len()) else {
+            return Err(Graph {
+                dropped,
+                nodes,
+                chains,
+                ready,
             });
         };
         let node = Node {
@@ -313,12 +369,14 @@ impl Graph {
                 dropped,
                 nodes,
                 chains,
+                ready,
             });
         };
         Ok(Reserved {
             dropped,
             nodes,
             chains,
+            ready,
         })
     }
 }
@@ -332,14 +390,17 @@ impl Reserved {
             dropped,
             mut nodes,
             mut chains,
+            mut ready,
         } = self;
         let at = nodes.len() - 1;
         let waits = link(&mut chains, &nodes[at].keys, dropped + at);
         nodes[at].waits = waits;
+        ready.insert_if(dropped + at, waits == 0);
         Graph {
             dropped,
             nodes,
             chains,
+            ready,
         }
     }
 
@@ -351,12 +412,14 @@ impl Reserved {
             dropped,
             mut nodes,
             chains,
+            ready,
         } = self;
         let _ = nodes.pop_back();
         Graph {
             dropped,
             nodes,
             chains,
+            ready,
         }
     }
 }

@@ -2,6 +2,7 @@
 #![tactic(auto)]
 
 ghost use Rattle.std.specs.Prelude.{◌≡◌, ◌≤◌, ◌<◌, ◌↔◌, [], ◌∷◌, ◌++◌, true, false, ℕ, OnOk, OnErr, IfOk, IfErr, IsOkUnless, Err, Ok, length, take, drop, slice_get};
+ghost use Rattle.std.specs.Bool.{Decides};
 ghost use Rattle.std.specs.Option.{option_copied};
 ghost use Rattle.std.specs.FinSet as set;
 ghost use Rattle.journal.specs.Journals.{purged, whole};
@@ -237,6 +238,83 @@ impl OwnJournal {
         self.known.settle();
         self.journal.purge(count, previous);
         Ok(shown)
+    }
+}
+
+/// Whether two entries are the same.
+fn is_same_entry(left: &Entry, right: &Entry) -> bool
+    ensures { Decides result (left.now ≡ right.now) }
+{
+    if left.gtid != right.gtid {
+        return false;
+    }
+    left.txn.is_equal(&right.txn)
+}
+
+/// Whether two lists have the same entries in the same order.
+fn are_same_entries(left: &[Entry], right: &[Entry]) -> bool
+    ensures { Decides result (left.now ≡ right.now) }
+{
+    let mut left = left;
+    let mut right = right;
+    while let Some((entry, more)) = left.split_first() {
+        let Some((other, rest)) = right.split_first() else {
+            return false;
+        };
+        if !is_same_entry(entry, other) {
+            return false;
+        }
+        left = more;
+        right = rest;
+    }
+    right.is_empty()
+}
+
+/// The same journal, whose entries share their changes with these.
+fn copy_journal(alloc: Global, journal: &Journal) -> Result<Journal, SetFault>
+    ensures ok { IfOk result (λ copy. copy ≡ journal.now) }
+    ensures fault { IsOkUnless result Memory }
+{
+    let previous = journal.previous().copy(alloc)?;
+    let mut copy = Journal::start(alloc, previous);
+    journal.keeps_rules();
+    for entry in journal.entries() {
+        let entry = entry.clone()?;
+        copy.push(entry)?;
+    }
+    Ok(copy)
+}
+
+impl OwnJournal {
+    /// The same own journal. The changes of its transactions are shared, not copied. The one error
+    /// is want of memory.
+    pub fn copy(&self, alloc: Global) -> Result<OwnJournal, SetFault>
+        ensures ok { IfOk result (λ copy. copy ≡ self.now) }
+        ensures fault { IsOkUnless result Memory }
+    {
+        let journal = copy_journal(alloc, &self.journal)?;
+        let executed = self.known.executed.copy(alloc)?;
+        let spare = self.known.spare.copy(alloc)?;
+        let behind = self.known.behind;
+        Ok(OwnJournal {
+            journal,
+            known: Known {
+                executed,
+                spare,
+                behind,
+            },
+        })
+    }
+
+    /// Whether both have the same purged set and the same entries in the same order. Whether the
+    /// last entry can be taken back is not asked.
+    pub fn is_same_journal(&self, other: &OwnJournal) -> bool
+        ensures { Decides result (self.now.journal ≡ other.now.journal) }
+    {
+        if !self.purged().is_equal(other.purged()) {
+            return false;
+        }
+        are_same_entries(self.journal.entries(), other.journal.entries())
     }
 }
 

@@ -6,6 +6,7 @@ pub mod CoreLemmas
 pub mod Writable
 pub mod CommitLemmas
 pub mod RunLemmas
+pub mod SameLemmas
 pub mod ReceiveLemmas
 pub mod SeatLemmas
 pub mod LeastLemmas

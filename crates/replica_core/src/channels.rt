@@ -18,8 +18,8 @@ use std::marker::Model;
 /// The channels of a replica, all with one schema.
 #[derive(Drop)]
 pub(crate) struct Channels {
-    schema: Schema,
-    list: Vec<Channel>,
+    pub(crate) schema: Schema,
+    pub(crate) list: Vec<Channel>,
 }
 
 impl Model for Channels {

@@ -10,6 +10,7 @@ mod local;
 mod machine;
 mod prepared;
 mod query;
+mod same;
 mod step;
 mod take;
 

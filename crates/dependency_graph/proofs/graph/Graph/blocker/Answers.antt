@@ -22,7 +22,7 @@ loop-key-preserved c =
       | in-Some+else-first-unwrap_or w ↦ earlier_keeps c.args.node w.in-Some.first c.loop-key.least c.first.result c.match-first.least w.in-Some.is (rw (← w.unwrap_or.ensures) w.if-first-unwrap_or.false) w.least-is
       | in_default w ↦ earlier_none c.args.node c.loop-key.least c.first.result c.match-first.least w.in_default.is w.least-is
     ] in
-    step ∙ touch_more c.key-item.result c.self.inside.chains c.deref-key-items.result.now c.loop-key.key-index c.args.node (points c.self.inside.dropped c.self.inside.nodes.items) c.args.self.now c.loop-key.least c.first.result (kept_is_sound c.self.inside.dropped c.self.inside.nodes.items c.self.inside.chains c.self.invariant).front c.self.view_is c.loop-key-test.true (c.first.ensures ∙ ap (first_of c.self.inside.chains) c.key-item.is) c.loop-key.invariant
+    step ∙ touch_more c.key-item.result c.self.inside.chains c.deref-key-items.result.now c.loop-key.key-index c.args.node (points c.self.inside.dropped c.self.inside.nodes.items) c.args.self.now c.loop-key.least c.first.result (kept_is_sound c.self.inside.dropped c.self.inside.nodes.items c.self.inside.chains c.self.invariant.kept).front c.self.view_is c.loop-key-test.true (c.first.ensures ∙ ap (first_of c.self.inside.chains) c.key-item.is) c.loop-key.invariant
 
 pub returns : goal.returns
 returns c =

@@ -16,5 +16,5 @@ returns c =
     let size = length_points d nodes in
     let same = ap length c.self.view_is in
     let below : c.args.node - d < length nodes = omega (size, same, c.requires, c.if-node-self.false, arith) in
-    sym (ready_kept d nodes c.self.inside.chains (kept_is_sound c.self.inside.dropped c.self.inside.nodes.items c.self.inside.chains c.self.invariant) c.args.node c.index-here.result.now c.if-node-self.false below c.index-here.ensures c.if-here.false)
+    sym (ready_kept d nodes c.self.inside.chains (kept_is_sound c.self.inside.dropped c.self.inside.nodes.items c.self.inside.chains c.self.invariant.kept) c.args.node c.index-here.result.now c.if-node-self.false below c.index-here.ensures c.if-here.false)
     ∙ ap (λ ps. is_ready ps c.args.node) c.self.view_is

@@ -12,3 +12,8 @@ invariant_of-self-2 c =
     subst (λ (xs : List Keyed). All (λ (k : Keyed). k.schema ≡ s.schema) xs) (sym c.in_ok-push.ensures.items)
     (All-append (λ (k : Keyed). k.schema ≡ s.schema) s.list.items (c.open.result ∷ []) c.self.invariant
     (All-cons (λ (k : Keyed). k.schema ≡ s.schema) c.open.result [] new (All-nil (λ (k : Keyed). k.schema ≡ s.schema))))
+
+pub invariant_of-self : goal.invariant_of-self
+invariant_of-self c =
+    let s = c.self.inside in
+    subst (λ (xs : List Keyed). All (λ (k : Keyed). k.schema ≡ s.schema) xs) (sym c.in_err-push.ensures.items) c.self.invariant

@@ -1,0 +1,77 @@
+-- How ready numbers are counted in blocks.
+use Rattle.std.specs.Prelude.{ℕ, zero, suc, ◌+◌, ◌-◌, ◌*◌, ◌≡◌, ◌≤◌, ◌<◌, ◌⊎◌, Bool, false, not, ◌&&◌, cond, nat_lt, nat_eq, List, [], ◌∷◌, length, slice_index_or, Result, OnOk}
+use Rattle.dependency_graph.specs.declared.ready.Level.{Level}
+use Rattle.dependency_graph.specs.declared.ready.Ready.{Ready}
+use Rattle.dependency_graph.specs.declared.graph.Node.{Node}
+
+-- how many numbers from one on, of so many, pass
+abbrev pub tally : (ℕ → Bool) → ℕ → ℕ → ℕ
+tally p at zero = 0
+tally p at (suc k) = cond (p at) 1 0 + tally p (suc at) k
+
+-- the count of a block; one that is not kept has none
+abbrev pub count_at : Level → ℕ → ℕ
+count_at l b = cond (nat_lt b l.first) 0 (slice_index_or l.counts.items (b - l.first) 0)
+
+-- blocks of this width count the numbers that pass, and those of all numbers from base to end are kept
+pub record IsLevelOf (w : ℕ) (l : Level) (base end : ℕ) (p : ℕ → Bool) : Type 0 where
+  pub low : l.first * w ≤ base
+  pub high : end ≤ (l.first + length l.counts.items) * w
+  pub tells : (b : ℕ) → count_at l b ≡ tally p (b * w) w
+
+-- the numbers that pass are listed
+pub record IsListing (r : Ready) (base end : ℕ) (p : ℕ → Bool) : Type 0 where
+  pub small : IsLevelOf 64 r.small base end p
+  pub middle : IsLevelOf 4096 r.middle base end p
+  pub large : IsLevelOf 262144 r.large base end p
+
+-- a number that did not pass does now, if so it is
+pub record Turns (p q : ℕ → Bool) (n : ℕ) (now : Bool) : Type 0 where
+  pub before : p n ≡ false
+  pub after : q n ≡ now
+  pub others : (m : ℕ) → (m ≡ n → ⊥) → q m ≡ p m
+
+-- the block has a place
+abbrev pub IsBlock : Level → ℕ → Type 0
+IsBlock l b = (l.first ≤ b) × (b < l.first + length l.counts.items)
+
+pub record Opens {E : Type 0} (old new : Level) (block : ℕ) (result : Result (Unit {0}) E) : Type 0 where
+  pub first : new.first ≡ old.first
+  pub longer : length old.counts.items ≤ length new.counts.items
+  pub same : (b : ℕ) → count_at new b ≡ count_at old b
+  pub opened : OnOk result (old.first ≤ block → block ≤ old.first + length old.counts.items → IsBlock new block)
+
+-- a block counts one more, if it does not count too many
+pub record Raises (old new : Level) (block : ℕ) : Type 0 where
+  pub first : new.first ≡ old.first
+  pub long : length new.counts.items ≡ length old.counts.items
+  pub counts : IsBlock old block → count_at old block < 4294967296 → (b : ℕ) → count_at new b ≡ cond (nat_eq b block) (count_at old b + 1) (count_at old b)
+
+-- a block counts one less
+pub record Lowers (old new : Level) (block : ℕ) : Type 0 where
+  pub first : new.first ≡ old.first
+  pub long : length new.counts.items ≡ length old.counts.items
+  pub counts : IsBlock old block → (b : ℕ) → count_at new b ≡ cond (nat_eq b block) (count_at old b - 1) (count_at old b)
+
+-- the first block is gone, if it is before the block
+pub record Passes (old new : Level) (block : ℕ) : Type 0 where
+  pub first : (new.first ≡ old.first) ⊎ ((new.first ≡ old.first + 1) × (old.first < block))
+  pub end : new.first + length new.counts.items ≡ old.first + length old.counts.items
+  pub counts : (b : ℕ) → new.first ≤ b → count_at new b ≡ count_at old b
+
+-- an unfinished node that waits for no key
+abbrev pub goes : Node → Bool
+goes n = not n.finished && nat_eq n.waits 0
+
+abbrev pub goes_in : List Node → ℕ → Bool
+goes_in [] i = false
+goes_in (x ∷ xs) zero = goes x
+goes_in (x ∷ xs) (suc i) = goes_in xs i
+
+-- the node with this number, where so many were dropped, is unfinished and waits for no key
+abbrev pub goes_at : ℕ → List Node → ℕ → Bool
+goes_at before nodes n = cond (nat_lt n before) false (goes_in nodes (n - before))
+
+-- the nodes that may go are listed
+abbrev pub IsListed : ℕ → List Node → Ready → Type 0
+IsListed before nodes r = IsListing r before (before + length nodes) (goes_at before nodes)

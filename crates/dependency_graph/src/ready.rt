@@ -1,0 +1,167 @@
+//! Which numbers are ready, counted in blocks of three sizes, so that a search passes over blocks without any.
+
+ghost use Rattle.std.specs.Prelude.{◌≡◌, ◌≤◌, ◌<◌, ◌+◌, ℕ, Bool, true, false, length, OnOk};
+ghost use Rattle.dependency_graph.specs.Ready.{IsListing, Lowers, Opens, Passes, Raises, Turns, count_at};
+
+use std::alloc::{AllocError, Global};
+use std::collections::VecDeque;
+
+/// The sizes of blocks. Our own rule.
+const SMALL: usize = 64;
+
+const MIDDLE: usize = 4_096;
+
+const LARGE: usize = 262_144;
+
+/// How many numbers of each block are ready, from the first block that is kept on.
+#[derive(Drop)]
+pub struct Level {
+    pub first: usize,
+    pub counts: VecDeque<usize>,
+}
+
+impl Level {
+    fn new(alloc: Global) -> Level
+        ensures first { result.first ≡ 0 }
+        ensures counts { length result.counts.items ≡ 0 }
+    {
+        Level {
+            first: 0,
+            counts: VecDeque::new(alloc),
+        }
+    }
+
+    /// Makes room for a block that is kept, or is the next one.
+    fn open(&mut self, block: usize) -> Result<(), AllocError>
+        ensures { Opens self.old self.new block result }
+    {
+        if block.saturating_sub(self.first) >= self.counts.len() {
+            self.counts.push_back(0)?;
+        }
+        Ok(())
+    }
+
+    /// Counts one more in a block.
+    fn raise(&mut self, block: usize)
+        ensures { Raises self.old self.new block }
+    {
+        let at = block.saturating_sub(self.first);
+        if let Some(count) = self.counts.get_mut(at) {
+            *count = count.saturating_add(1);
+        }
+    }
+
+    /// Counts one less in a block.
+    fn lower(&mut self, block: usize)
+        ensures { Lowers self.old self.new block }
+    {
+        let at = block.saturating_sub(self.first);
+        if let Some(count) = self.counts.get_mut(at) {
+            *count = count.saturating_sub(1);
+        }
+    }
+
+    /// Drops the first block, if it is before a block.
+    fn pass(&mut self, block: usize)
+        ensures { Passes self.old self.new block }
+    {
+        if self.first < block {
+            if let Some(_) = self.counts.pop_front() {
+                self.first += 1;
+            }
+        }
+    }
+
+    /// Whether a block has none.
+    fn is_bare(&self, block: usize) -> bool
+        ensures { result ≡ true → count_at self.now block ≡ 0 }
+    {
+        if block < self.first {
+            return true;
+        }
+        match self.counts.get(block - self.first) {
+            Some(count) => *count == 0,
+            None => true,
+        }
+    }
+}
+
+/// Ready numbers, counted in blocks of three sizes.
+#[derive(Drop)]
+pub struct Ready {
+    pub small: Level,
+    pub middle: Level,
+    pub large: Level,
+}
+
+impl Ready {
+    /// No number is ready.
+    pub fn new(alloc: Global) -> Ready
+        ensures { (p : ℕ → Bool) → ((m : ℕ) → p m ≡ false) → IsListing result 0 0 p }
+    {
+        Ready {
+            small: Level::new(alloc),
+            middle: Level::new(alloc),
+            large: Level::new(alloc),
+        }
+    }
+
+    /// Makes room for the next number.
+    pub fn reserve(&mut self, number: usize) -> Result<(), AllocError>
+        ensures same { (base end : ℕ) (p : ℕ → Bool) → IsListing self.old base end p → IsListing self.new base end p }
+        ensures room { OnOk result ((base : ℕ) (p : ℕ → Bool) → base ≤ number → IsListing self.old base number p → IsListing self.new base (number + 1) p) }
+    {
+        self.small.open(number / SMALL)?;
+        self.middle.open(number / MIDDLE)?;
+        self.large.open(number / LARGE)?;
+        Ok(())
+    }
+
+    /// A number is ready now, if it is wanted.
+    pub fn insert_if(&mut self, number: usize, wanted: bool)
+        ensures { (base end : ℕ) (p q : ℕ → Bool) → base ≤ number → number < end → Turns p q number wanted → IsListing self.old base end p → IsListing self.new base end q }
+    {
+        if wanted {
+            self.small.raise(number / SMALL);
+            self.middle.raise(number / MIDDLE);
+            self.large.raise(number / LARGE);
+        }
+    }
+
+    /// A number is not ready any more, if it was.
+    pub fn remove_if(&mut self, number: usize, was: bool)
+        ensures { (base end : ℕ) (p q : ℕ → Bool) → base ≤ number → number < end → Turns p q number was → IsListing self.old base end q → IsListing self.new base end p }
+    {
+        if was {
+            self.small.lower(number / SMALL);
+            self.middle.lower(number / MIDDLE);
+            self.large.lower(number / LARGE);
+        }
+    }
+
+    /// The numbers below this one are gone. From number to number it keeps up: it drops a block of each size at most.
+    pub fn pass(&mut self, base: usize)
+        ensures { (old end : ℕ) (p : ℕ → Bool) → old ≤ base → base ≤ end → ((m : ℕ) → m < base → p m ≡ false) → IsListing self.old old end p → IsListing self.new base end p }
+    {
+        self.small.pass(base / SMALL);
+        self.middle.pass(base / MIDDLE);
+        self.large.pass(base / LARGE);
+    }
+
+    /// So many numbers, from this one on, are not ready.
+    pub fn skip(&self, number: usize) -> usize
+        ensures bare { (base end : ℕ) (p : ℕ → Bool) → IsListing self.now base end p → (m : ℕ) → number ≤ m → m < number + result → p m ≡ false }
+        ensures small { result ≤ 262144 }
+    {
+        if self.large.is_bare(number / LARGE) {
+            return LARGE - number % LARGE;
+        }
+        if self.middle.is_bare(number / MIDDLE) {
+            return MIDDLE - number % MIDDLE;
+        }
+        if self.small.is_bare(number / SMALL) {
+            return SMALL - number % SMALL;
+        }
+        0
+    }
+}
