@@ -35,8 +35,8 @@ use Rattle.world.specs.declared.verdict.Verdict.TheVariants.{Unequal, Purged, Mi
 use Rattle.world.proofs.Finding.{is_false}
 use Rattle.audited_runs.specs.Deciding.{ServesAll, AreStoppedOrDone, WorkersDecide, ServedHoldsAll, HoldsAll}
 use Rattle.txn_journal.specs.declared.bundle.Channel.{Channel}
-use Rattle.serving.specs.declared.outcome.Served.TheVariants as served
-use Rattle.serving.specs.Serving.{Receives, with_channel, ServesOne, ServesEach, is_work, Works, IsRun, IsServed, is_sound, verdict_over}
+use Rattle.serving.specs.declared.outcome.Begun.TheVariants as begun
+use Rattle.serving.specs.Serving.{Receives, with_channel, ServesOne, ServesEach, is_work, Works, IsReady, IsBegun, IsRun, IsConcluded, is_sound, world_over, keys_over, verdict_over}
 
 -- ---- words
 
@@ -155,7 +155,7 @@ work_apart d (Commit seat ∷ es) h = work_apart d es h
 work_apart d (OpenChannel name preserve ∷ es) h = no_truth h
 work_apart d (Position c ∷ es) h = no_truth h
 work_apart d (Receive c entry ∷ es) h = no_truth h
-work_apart d (Rollback seat ∷ es) h = no_truth h
+work_apart d (Rollback seat ∷ es) h = work_apart d es h
 work_apart d (Restart c ∷ es) h = no_truth h
 work_apart d (Local txn ∷ es) h = no_truth h
 work_apart d (Purge k ∷ es) h = no_truth h
@@ -168,7 +168,7 @@ work_quiet (Commit seat ∷ es) h = work_quiet es h
 work_quiet (OpenChannel name preserve ∷ es) h = no_truth h
 work_quiet (Position c ∷ es) h = no_truth h
 work_quiet (Receive c entry ∷ es) h = no_truth h
-work_quiet (Rollback seat ∷ es) h = no_truth h
+work_quiet (Rollback seat ∷ es) h = work_quiet es h
 work_quiet (Restart c ∷ es) h = no_truth h
 work_quiet (Local txn ∷ es) h = no_truth h
 work_quiet (Purge k ∷ es) h = no_truth h
@@ -436,21 +436,24 @@ keys_stay start js h = let w = world_of start.schema set.empty start.rows js in 
 
 -- ---- what is answered
 
-pub keys_served : (start : Database) (js : List JournalValue) (world : World) (keys : Verdict) → world ≡ world_of start.schema set.empty start.rows js → keys ≡ verdict_of_keys world js
-    → is_sound keys ≡ false → IsServed start js (served.Verdict keys)
-keys_served start js world keys w k h =
-    let is : keys ≡ verdict_of_keys (world_of start.schema set.empty start.rows js) js = k ∙ ap (λ (x : World). verdict_of_keys x js) w in
+pub keys_begun : (start : Database) (js : List JournalValue) (world : World) (keys : Verdict) → world ≡ world_over start js → keys ≡ verdict_of_keys world js
+    → is_sound keys ≡ false → IsBegun start js (begun.Verdict keys)
+keys_begun start js world keys w k h =
+    let is : keys ≡ keys_over start js = k ∙ ap (λ (x : World). verdict_of_keys x js) w in
     let not_sound = sound_not keys h in
     (is ∙ keys_stay start js (λ e. not_sound (is ∙ e)), not_sound)
 
-pub audit_served : (start : Database) (js : List JournalValue) (world : World) (found : Verdict) → world ≡ world_of start.schema set.empty start.rows js → found ≡ verdict world js
-    → is_sound found ≡ false → IsServed start js (served.Verdict found)
-audit_served start js world found w k h = (k ∙ ap (λ (x : World). verdict x js) w, sound_not found h)
+pub ready_begun : (start : Database) (js : List JournalValue) (world : World) (keys : Verdict) (core : Replica) → world ≡ world_over start js → keys ≡ verdict_of_keys world js
+    → is_sound keys ≡ true → IsReady start js core → IsBegun start js (begun.Ready core)
+ready_begun start js world keys core w k h ready = (sym (k ∙ ap (λ (x : World). verdict_of_keys x js) w) ∙ sound_is keys h, ready)
 
-pub run_served : (start : Database) (js : List JournalValue) (world : World) (keys : Verdict) (core : Replica) → world ≡ world_of start.schema set.empty start.rows js → keys ≡ verdict_of_keys world js
-    → is_sound keys ≡ true → IsRun start js core → AreJournals js → drained core.state ≡ true → WorkersDecide → ServedHoldsAll → IsServed start js (served.State core)
-run_served start js world keys core w k h run rules done decide holds =
-    state_served start js core run rules (sym (k ∙ ap (λ (x : World). verdict_of_keys x js) w) ∙ sound_is keys h) done decide holds
+pub state_concluded : (start : Database) (js : List JournalValue) (core : Replica) → keys_over start js ≡ Sound → IsRun start js core → AreJournals js → drained core.state ≡ true
+    → WorkersDecide → ServedHoldsAll → IsConcluded start js core.state None
+state_concluded start js core keys run rules done decide holds = state_served start js core run rules keys done decide holds
+
+pub audit_concluded : (start : Database) (js : List JournalValue) (state : State) (world : World) (found : Verdict) → world ≡ world_over start js → found ≡ verdict world js
+    → is_sound found ≡ false → IsConcluded start js state (Some found)
+audit_concluded start js state world found w k h = (k ∙ ap (λ (x : World). verdict x js) w, sound_not found h)
 
 -- ---- one event
 
@@ -463,15 +466,21 @@ reply_of r t p e = ap (λ (x : Step). x.0) (sym e)
 pub accepted_of : (e : Event) (c p : ℕ) (entry : Entry) (r : Reply) → e ≡ Receive c entry → r ≡ reply.Received p → accepted e r ≡ entry ∷ []
 accepted_of e c p entry r is was = λ i. accepted (is i) (was i)
 
--- what the code ran
-pub run_is : (start : Database) (js : List JournalValue) (own : ℕ) (core0 core1 core2 : Replica) → core0 ≡ opened own start → core1.site ≡ core0.site
-    → ServesEach core0.site core0.state 0 js core1.state → core2.site ≡ core1.site → Works core1.site core1.state core2.state → IsRun start js core2
-run_is start js own core0 core1 core2 opens e serves f works =
-    let first : core0.site ≡ core2.site = sym (f ∙ e) in
+-- what the code served
+pub ready_is : (start : Database) (js : List JournalValue) (own : ℕ) (core0 core1 : Replica) → core0 ≡ opened own start → core1.site ≡ core0.site
+    → ServesEach core0.site core0.state 0 js core1.state → IsReady start js core1
+ready_is start js own core0 core1 opens e serves =
     let begun : core0.state ≡ opening start.rows = ap (λ (x : Replica). x.state) opens in
     record {
-      schema = ap (λ (x : Site). x.schema) (f ∙ e ∙ ap (λ (x : Replica). x.site) opens);
-      ready = core1.state;
-      serves = subst (λ (x : State). ServesEach core2.site x 0 js core1.state) begun (subst (λ (x : Site). ServesEach x core0.state 0 js core1.state) first serves);
-      works = subst (λ (x : Site). Works x core1.state core2.state) (sym f) works;
+      schema = ap (λ (x : Site). x.schema) (e ∙ ap (λ (x : Replica). x.site) opens);
+      serves = subst (λ (x : State). ServesEach core1.site x 0 js core1.state) begun (subst (λ (x : Site). ServesEach x core0.state 0 js core1.state) (sym e) serves);
     }
+
+-- what was served, and then worked
+pub run_of : (start : Database) (js : List JournalValue) (core1 core2 : Replica) → IsReady start js core1 → core2.site ≡ core1.site → Works core1.site core1.state core2.state → IsRun start js core2
+run_of start js core1 core2 ready f works = record {
+  schema = ap (λ (x : Site). x.schema) f ∙ ready.schema;
+  ready = core1.state;
+  serves = subst (λ (x : Site). ServesEach x (opening start.rows) 0 js core1.state) (sym f) ready.serves;
+  works = subst (λ (x : Site). Works x core1.state core2.state) (sym f) works;
+}

@@ -1,5 +1,5 @@
 -- Journals that are served to a replica, and what they come to.
-use Rattle.std.specs.Prelude.{◌≡◌, ℕ, ◌+◌, Bool, true, false, List, [], ◌∷◌, map, slice_get, None, Ok}
+use Rattle.std.specs.Prelude.{◌≡◌, ℕ, ◌+◌, Bool, true, false, List, [], ◌∷◌, map, slice_get, Option, None, Some, Ok}
 use Rattle.std.specs.List.{list_all}
 use Rattle.std.specs.Option.{option_map_or}
 use Rattle.std.specs.FinSet as set
@@ -12,13 +12,16 @@ use Rattle.replica_core.specs.declared.event.Event.TheVariants.{OpenChannel, Pos
 use Rattle.replica_core.specs.declared.event.Reply.TheVariants.{Ask}
 use Rattle.replica_core.specs.State.{State, Site, Replica}
 use Rattle.replica_core.specs.Machine.{step, after, opening}
+use Rattle.source_history.specs.World.{World}
 use Rattle.faithful_runs.specs.Sent.{sent}
 use Rattle.faithful_runs.specs.Served.{received_on}
-use Rattle.world.specs.Audit.{world_of, verdict}
+use Rattle.world.specs.Audit.{world_of, verdict, verdict_of_keys}
 use Rattle.world.specs.declared.verdict.Verdict.{Verdict}
 use Rattle.world.specs.declared.verdict.Verdict.TheVariants.{Unequal, Purged, Missing, Shared, NotClosed, DoesNotApply, Sound}
 use Rattle.audited_runs.specs.Deciding.{HoldsAll}
 use Rattle.txn_journal.specs.declared.bundle.Channel.{Channel}
+use Rattle.serving.specs.declared.outcome.Begun.{Begun}
+use Rattle.serving.specs.declared.outcome.Begun.TheVariants as begun
 use Rattle.serving.specs.declared.outcome.Served.{Served}
 use Rattle.serving.specs.declared.outcome.Served.TheVariants as served
 
@@ -49,24 +52,29 @@ abbrev pub ServesEach : Site → State → ℕ → List JournalValue → State �
 ServesEach site s c [] s' = s' ≡ s
 ServesEach site s c (j ∷ js) s' = (t : State) × ServesOne site s c j t × ServesEach site t (c + 1) js s'
 
--- a seat takes or commits
+-- a seat takes, commits or gives up
 abbrev pub is_work : Event → Bool
 is_work (Take seat c p) = true
 is_work (Commit seat) = true
+is_work (Rollback seat) = true
 is_work (OpenChannel name preserve) = false
 is_work (Position c) = false
 is_work (Receive c entry) = false
-is_work (Rollback seat) = false
 is_work (Restart c) = false
 is_work (Local txn) = false
 is_work (Purge k) = false
 is_work Look = false
 
--- seats took and committed, and nothing else
+-- seats took, committed and gave up, and nothing else
 pub record Works (site : Site) (s s' : State) : Type 0 where
   pub events : List Event
   pub work : list_all is_work events ≡ true
   pub now : s' ≡ after site s events
+
+-- a replica with these rows, served all journals, of which nothing is executed yet
+pub record IsReady (start : Database) (journals : List JournalValue) (core : Replica) : Type 0 where
+  pub schema : core.site.schema ≡ start.schema
+  pub serves : ServesEach core.site (opening start.rows) 0 journals core.state
 
 -- a replica with these rows, served all journals, that worked
 pub record IsRun (start : Database) (journals : List JournalValue) (core : Replica) : Type 0 where
@@ -84,8 +92,24 @@ is_sound (Shared g h key) = false
 is_sound (NotClosed g h) = false
 is_sound (DoesNotApply g fault) = false
 
+abbrev pub world_over : Database → List JournalValue → World
+world_over start journals = world_of start.schema set.empty start.rows journals
+
 abbrev pub verdict_over : Database → List JournalValue → Verdict
-verdict_over start journals = verdict (world_of start.schema set.empty start.rows journals) journals
+verdict_over start journals = verdict (world_over start journals) journals
+
+abbrev pub keys_over : Database → List JournalValue → Verdict
+keys_over start journals = verdict_of_keys (world_over start journals) journals
+
+-- A replica waits for its work, where the audit of keys says Sound; else it is what the audit says.
+abbrev pub IsBegun : Database → List JournalValue → Begun → Type 0
+IsBegun start journals (begun.Ready core) = (keys_over start journals ≡ Sound) × IsReady start journals core
+IsBegun start journals (begun.Verdict found) = (found ≡ verdict_over start journals) × (found ≡ Sound → ⊥)
+
+-- All journals together are executed, and the audit says Sound; or what else it says.
+abbrev pub IsConcluded : Database → List JournalValue → State → Option Verdict → Type 0
+IsConcluded start journals state None = (verdict_over start journals ≡ Sound) × HoldsAll start.schema set.empty start.rows journals state
+IsConcluded start journals state (Some found) = (found ≡ verdict_over start journals) × (found ≡ Sound → ⊥)
 
 -- All journals together are executed, where their audit says Sound; else it is what the audit says.
 abbrev pub IsServed : Database → List JournalValue → Served → Type 0

@@ -6,4 +6,4 @@ mod outcome;
 mod receiving;
 mod working;
 
-pub use outcome::{Served, serve};
+pub use outcome::{Begun, Served, begin, conclude, serve};

@@ -1,11 +1,12 @@
 //! What journals come to.
 ghost use Rattle.std.specs.Prelude.{◌≡◌, ◌≤◌, length, IfOk};
 ghost use Rattle.world.specs.Meaning.{AreJournals};
-ghost use Rattle.serving.specs.Serving.{is_sound, IsRun, IsServed};
+ghost use Rattle.world.specs.declared.verdict.Verdict.TheVariants.{Sound};
+ghost use Rattle.serving.specs.Serving.{is_sound, world_over, keys_over, IsReady, IsBegun, IsRun, IsConcluded, IsServed};
 
 use crate::receiving::serve_journals;
 use crate::working::work_on_all;
-use audit::{WorldFault, audit, audit_keys, world_of};
+use audit::{World, WorldFault, audit, audit_keys, world_of};
 use audited_runs::{served_holds_all, workers_decide};
 use gtid_set::{GtidSet, SetFault};
 use gtid_text::SourceId;
@@ -15,6 +16,15 @@ use rows::Rows;
 use std::alloc::Global;
 use txn_journal::Channel;
 use world::Verdict;
+
+/// A replica that was served journals.
+#[derive(Drop)]
+pub enum Begun {
+    /// It has received all that they send, and executed nothing.
+    Ready(Core),
+    /// The journals cannot be merged.
+    Verdict(Verdict),
+}
 
 /// What journals come to.
 #[derive(Drop)]
@@ -48,8 +58,20 @@ fn keep_rules(journals: &[Journal])
     }
 }
 
-/// A replica with these rows, served all journals, that worked through all that it received.
-fn run(
+/// The world of journals over opening rows, on which nothing is executed.
+fn opening_world(alloc: Global, rows: &Rows, journals: &[Journal]) -> Result<World, SetFault>
+    ensures { IfOk result (λ world. world ≡ world_over rows.now journals.now) }
+{
+    let opened = GtidSet::empty(alloc);
+    match world_of(alloc, &opened, rows, journals) {
+        Ok(world) => Ok(world),
+        Err(WorldFault::Memory) => Err(SetFault::Memory),
+        Err(WorldFault::NotInSchema(_, _)) => Err(SetFault::PoolFull),
+    }
+}
+
+/// A replica with these rows that was served all journals.
+fn ready(
     alloc: Global,
     own: SourceId,
     rows: &Rows,
@@ -57,23 +79,74 @@ fn run(
     journals: &[Journal],
 ) -> Result<Core, SetFault>
     requires { length journals.now ≤ 256 }
-    ensures { IfOk result (IsRun rows.now journals.now) }
+    ensures { IfOk result (IsReady rows.now journals.now) }
 {
     let mut core = Core::open(alloc, own, rows.copy()?)?;
     serve_journals(alloc, &mut core, 0, channels, journals)?;
-    work_on_all(alloc, &mut core, journals)?;
     Ok(core)
 }
 
-/// What the journals that channels bring come to over opening rows: all of them executed together,
-/// or the verdict of their audit, where that is not Sound.
+/// Audits the keys of the journals that channels bring, opens a replica over the opening rows, opens
+/// and positions each channel, and lets it receive what its journal sends. Where the audit of keys
+/// isn't Sound, its verdict is answered, which is that of the whole audit.
 ///
-/// The keys are audited. A replica is opened; each channel is opened and positioned, and receives
-/// what its journal sends; one seat takes and commits the places in order of channels. Where not
-/// everything was executed, the audit says why. `SetFault` is want of memory, or full; it is also
-/// answered where there are more than 256 journals, fewer channels than journals, or a transaction
-/// or a channel that the replica does not take: none of them stands in a bundle that was read.
-#[tactic(auto, using(crate::proofs::Runs::run_served, crate::proofs::Runs::keys_served, crate::proofs::Runs::audit_served))]
+/// `SetFault` is want of memory, or full; it is also answered where there are more than 256 journals,
+/// fewer channels than journals, or a transaction or a channel that the replica does not take: none of
+/// them stands in a bundle that was read.
+#[tactic(auto, using(crate::proofs::Runs::keys_begun, crate::proofs::Runs::ready_begun))]
+pub fn begin(
+    alloc: Global,
+    own: SourceId,
+    rows: &Rows,
+    channels: &[Channel],
+    journals: &[Journal],
+) -> Result<Begun, SetFault>
+    ensures { IfOk result (IsBegun rows.now journals.now) }
+{
+    if journals.len() > 256 {
+        return Err(SetFault::PoolFull);
+    }
+    let world = opening_world(alloc, rows, journals)?;
+    let keys = audit_keys(alloc, &world, journals)?;
+    if !is_sound(&keys) {
+        return Ok(Begun::Verdict(keys));
+    }
+    let core = ready(alloc, own, rows, channels, journals)?;
+    Ok(Begun::Ready(core))
+}
+
+/// What a replica that worked has come to: nothing where all that it received is executed, or else the
+/// verdict of the audit, which isn't Sound then.
+#[tactic(auto, using(crate::proofs::Runs::state_concluded, crate::proofs::Runs::audit_concluded))]
+pub fn conclude(
+    alloc: Global,
+    rows: &Rows,
+    journals: &[Journal],
+    core: &Core,
+) -> Result<Option<Verdict>, SetFault>
+    requires keys { keys_over rows.now journals.now ≡ Sound }
+    requires run { IsRun rows.now journals.now core.now }
+    ensures { IfOk result (IsConcluded rows.now journals.now core.now.state) }
+{
+    workers_decide();
+    served_holds_all();
+    keep_rules(journals);
+    let drained = core.drained();
+    if drained {
+        return Ok(None);
+    }
+    let world = opening_world(alloc, rows, journals)?;
+    let verdict = audit(alloc, &world, journals)?;
+    if is_sound(&verdict) {
+        return Err(SetFault::PoolFull);
+    }
+    Ok(Some(verdict))
+}
+
+/// What the journals that channels bring come to over opening rows: all of them executed together,
+/// or the verdict of their audit, where that is not Sound. One seat takes and commits the places in
+/// order of channels. Where not everything was executed, the audit says why. The faults are those of
+/// `begin` and `conclude`.
 pub fn serve(
     alloc: Global,
     own: SourceId,
@@ -83,30 +156,13 @@ pub fn serve(
 ) -> Result<Served, SetFault>
     ensures { IfOk result (IsServed rows.now journals.now) }
 {
-    if journals.len() > 256 {
-        return Err(SetFault::PoolFull);
-    }
-    workers_decide();
-    served_holds_all();
-    keep_rules(journals);
-    let opened = GtidSet::empty(alloc);
-    let world = match world_of(alloc, &opened, rows, journals) {
-        Ok(world) => world,
-        Err(WorldFault::Memory) => return Err(SetFault::Memory),
-        Err(WorldFault::NotInSchema(_, _)) => return Err(SetFault::PoolFull),
+    let mut core = match begin(alloc, own, rows, channels, journals)? {
+        Begun::Ready(core) => core,
+        Begun::Verdict(verdict) => return Ok(Served::Verdict(verdict)),
     };
-    let keys = audit_keys(alloc, &world, journals)?;
-    if !is_sound(&keys) {
-        return Ok(Served::Verdict(keys));
+    work_on_all(alloc, &mut core, journals)?;
+    match conclude(alloc, rows, journals, &core)? {
+        None => Ok(Served::State(core)),
+        Some(verdict) => Ok(Served::Verdict(verdict)),
     }
-    let core = run(alloc, own, rows, channels, journals)?;
-    let drained = core.drained();
-    if drained {
-        return Ok(Served::State(core));
-    }
-    let verdict = audit(alloc, &world, journals)?;
-    if is_sound(&verdict) {
-        return Err(SetFault::PoolFull);
-    }
-    Ok(Served::Verdict(verdict))
 }

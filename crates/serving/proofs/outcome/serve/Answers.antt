@@ -1,17 +1,9 @@
-use Rattle.std.proofs.Common.{rules, ◌≡◌, true, ap, ◌∙◌}
-use Rattle.gtid_set.specs.Sets.{Gtids}
-use Rattle.replica_core.specs.Machine.{drained}
-use Rattle.world.specs.Audit.{world_of}
-use Rattle.serving.specs.Serving.{is_sound}
-use Rattle.serving.proofs.Runs.{run_served}
+use Rattle.std.proofs.Common.{subst}
+use Rattle.serving.specs.Serving.{IsBegun}
+use Rattle.serving.proofs.Runs.{run_of}
 use Rattle.serving.proofs.outcome.serve.Goals as goal
 
-pub returns-then-drained : goal.returns-then-drained
-returns-then-drained c =
-    let start = c.args.rows.now in
-    let journals = c.args.journals.now in
-    let sound : is_sound c.in_ok-keys.keys ≡ true = search rules in
-    let done : drained c.in_ok-core.core.state ≡ true = search rules in
-    run_served start journals c.in-Ok.world c.in_ok-keys.keys c.in_ok-core.core
-    (c.in-Ok.ensures.ok ∙ ap (λ (opened : Gtids). world_of start.schema opened start.rows journals) c.empty-opened.ensures)
-    c.in_ok-keys.ensures sound c.in_ok-core.ensures c.keep_rules.ensures done c.workers_decide.ensures c.served_holds_all.ensures
+pub conclude-requires-clause-run : goal.conclude-requires-clause-run
+conclude-requires-clause-run c =
+    let begun = subst (IsBegun c.args.rows.now c.args.journals.now) c.in-Ready.is c.in_ok-core.ensures in
+    run_of c.args.rows.now c.args.journals.now c.in-Ready.core c.work_on_all.new.core begun.1 c.work_on_all.ensures.site c.in_ok-work_on_all.ensures.works
