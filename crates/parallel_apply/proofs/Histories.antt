@@ -1,0 +1,59 @@
+-- A history of work is a run.
+use Rattle.std.proofs.Common.{◌≡◌, Bool, true, ◌&&◌, List, [], ◌∷◌, refl, sym, ap, ◌∙◌, subst}
+use Rattle.std.specs.List.{list_all}
+use Rattle.std.proofs.lemmas.List.Folds.{list_all-append}
+use Rattle.rows.specs.Database.{Database}
+use Rattle.journal.specs.Journals.{JournalValue}
+use Rattle.replica_core.specs.State.{Site, Replica}
+use Rattle.replica_core.specs.Machine.{opening}
+use Rattle.replica_core.specs.declared.event.Event.{Event}
+use Rattle.replica_core.specs.declared.event.Event.TheVariants.{OpenChannel, Position, Receive, Take, Commit, Rollback, Restart, Local, Purge, Look}
+use Rattle.shared_replica.specs.declared.step.Step.{Step}
+use Rattle.shared_replica.specs.History.{IsReplay, events_of}
+use Rattle.shared_replica.specs.Closing.{ClosedValue}
+use Rattle.applier.specs.Applies.{IsApply}
+use Rattle.applier.specs.Draining.{AllApply, Drains}
+use Rattle.serving.specs.Serving.{is_work, ServesEach, Works, IsReady, IsRun}
+use Rattle.parallel_apply.specs.Applying.{is_work_step}
+
+one_works : (e : Event) → IsApply e → is_work e ≡ true
+one_works (Take seat c p) h = refl
+one_works (Commit seat) h = refl
+one_works (Rollback seat) h = refl
+one_works (OpenChannel name preserve) h = absurd h
+one_works (Position c) h = absurd h
+one_works (Receive c entry) h = absurd h
+one_works (Restart c) h = absurd h
+one_works (Local txn) h = absurd h
+one_works (Purge k) h = absurd h
+one_works Look h = absurd h
+
+both_parts : (a b : Bool) → a ≡ true → b ≡ true → (a && b) ≡ true
+both_parts a b p q = (λ i. p i && b) ∙ q
+
+each_works : (steps : List Step) → AllApply steps → list_all is_work_step steps ≡ true
+each_works [] h = refl
+each_works (s ∷ steps) h = both_parts (is_work s.event) (list_all is_work_step steps) (one_works s.event h.0) (each_works steps h.1)
+
+-- the events of steps that are work are work
+events_work : (steps : List Step) → list_all is_work (events_of steps) ≡ list_all is_work_step steps
+events_work [] = refl
+events_work (s ∷ steps) = ap (λ b. is_work s.event && b) (events_work steps)
+
+-- a replica that has received everything, and then a history of work, to which draining has added
+pub history_runs : (start : Database) (js : List JournalValue) (core now : Replica) (worked left : ClosedValue) → IsReady start js core → worked.opening ≡ core
+    → list_all is_work_step worked.steps ≡ true → Drains worked left → now ≡ left.now → IsReplay left.opening left.steps left.now → IsRun start js now
+history_runs start js core now worked left ready opened work drains is legal =
+    let from : left.opening ≡ core = drains.opening ∙ opened in
+    let replay : IsReplay core left.steps now = subst (λ (x : Replica). IsReplay core left.steps x) (sym is) (subst (λ (x : Replica). IsReplay x left.steps left.now) from legal) in
+    let all : list_all is_work_step left.steps ≡ true =
+    ap (list_all is_work_step) drains.steps ∙ list_all-append is_work_step worked.steps drains.more
+    ∙ both_parts (list_all is_work_step worked.steps) (list_all is_work_step drains.more) work (each_works drains.more drains.apply)
+    in
+    let works : Works core.site core.state now.state = record { events = events_of left.steps; work = events_work left.steps ∙ all; now = replay.state } in
+    record {
+      schema = ap (λ (x : Site). x.schema) replay.site ∙ ready.schema;
+      ready = core.state;
+      serves = subst (λ (x : Site). ServesEach x (opening start.rows) 0 js core.state) (sym replay.site) ready.serves;
+      works = subst (λ (x : Site). Works x core.state now.state) (sym replay.site) works;
+    }
