@@ -7,3 +7,4 @@ mod receiving;
 mod working;
 
 pub use outcome::{Served, serve};
+pub use receiving::entries_sent;

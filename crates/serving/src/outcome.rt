@@ -73,7 +73,6 @@ fn run(
 /// everything was executed, the audit says why. `SetFault` is want of memory, or full; it is also
 /// answered where there are more than 256 journals, fewer channels than journals, or a transaction
 /// or a channel that the replica does not take: none of them stands in a bundle that was read.
-#[tactic(auto, using(crate::proofs::Runs::run_served, crate::proofs::Runs::keys_served, crate::proofs::Runs::audit_served))]
 pub fn serve(
     alloc: Global,
     own: SourceId,
