@@ -5,3 +5,4 @@ pub mod SetAnswers
 pub mod Verdicts
 pub mod State
 pub mod VerdictLines
+pub mod Positions

@@ -106,7 +106,7 @@ fn function_named(name: &str) -> Option<Function>
 }
 
 /// The set that a word spells.
-fn read_set(alloc: Global, word: &str) -> Result<GtidSet, Fault>
+pub fn read_set(alloc: Global, word: &str) -> Result<GtidSet, Fault>
     ensures { Answers (λ s. s) result (set_word word.now) }
 {
     match GtidSet::from_text(alloc, word) {
@@ -117,7 +117,7 @@ fn read_set(alloc: Global, word: &str) -> Result<GtidSet, Fault>
 }
 
 /// The source that a word names.
-fn read_source(word: &str) -> Result<SourceId, Fault>
+pub fn read_source(word: &str) -> Result<SourceId, Fault>
     ensures { result ≡ source_word word.now }
 {
     match parse_source(word) {

@@ -4,13 +4,15 @@
 mod fault;
 mod from_journal;
 mod functions;
+mod position;
 mod refusal;
 mod state;
 mod verdict;
 mod verdict_line;
 
 pub use fault::Fault;
-pub use functions::{Function, OfSource, OneSet, TwoSets, set_function};
+pub use functions::{Function, OfSource, OneSet, TwoSets, read_set, read_source, set_function};
+pub use position::{render_more, render_required, render_sending};
 pub use refusal::{LineCause, Refusal, render_fault};
 pub use state::{render_rows, render_state};
 pub use verdict::render_does_not_apply;

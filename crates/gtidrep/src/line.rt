@@ -15,6 +15,11 @@ pub enum Command<'a> {
         first: &'a str,
         second: Option<&'a str>,
     },
+    /// A journal from standard input is asked what its source sends.
+    Position {
+        own: &'a str,
+        ask: &'a str,
+    },
     /// A bundle from standard input is audited.
     Audit,
     /// A bundle from standard input is applied by 1 to 64 workers.
@@ -38,6 +43,15 @@ Example:
   gtidrep set subtract aaaaaaaa-aaaa-aaaa-aaaa-aaaaaaaaaaaa:1-10 aaaaaaaa-aaaa-aaaa-aaaa-aaaaaaaaaaaa:3:5-6
 
 Status: 0 the answer is printed, 1 an argument is refused, 2 the command line, 3 memory, 4 writing failed.";
+
+const POSITION_EXAMPLE: &str =
+    "Prints how many entries of the journal the source with this UUID sends to a replica that asks with this set, and
+their GTIDs, one a line; or the line that says why it sends nothing.
+
+Example:
+  gtidrep position --own aaaaaaaa-aaaa-aaaa-aaaa-aaaaaaaaaaaa --ask aaaaaaaa-aaaa-aaaa-aaaa-aaaaaaaaaaaa:1-3 < examples/first.journal
+
+Status: 0 printed, 1 refused, 2 the command line, 3 memory, 4 reading or writing failed.";
 
 const AUDIT_EXAMPLE: &str =
     "Prints `sound`, or the first reason why the journals cannot be merged: `shared` and `not-closed` name the pair of
@@ -75,6 +89,24 @@ fn set_command<'a>(alloc: Global) -> Result<clap::Command<'a>, AllocError> {
         .arg(second)
 }
 
+fn option<'a>(alloc: Global, id: &'a str, help: &'a str) -> Arg<'a> {
+    Arg::new(alloc, id)
+        .long(id)
+        .required(true)
+        .action(ArgAction::Set)
+        .help(help)
+}
+
+fn position_command<'a>(alloc: Global) -> Result<clap::Command<'a>, AllocError> {
+    clap::Command::new(alloc, "position")
+        .about(
+            "Says what a source sends: position --own <uuid> --ask <set> < examples/first.journal",
+        )
+        .after_help(POSITION_EXAMPLE)
+        .arg(option(alloc, "own", "the source's own UUID"))?
+        .arg(option(alloc, "ask", "the set that the replica asks with"))
+}
+
 fn audit_command<'a>(alloc: Global) -> clap::Command<'a> {
     clap::Command::new(alloc, "audit")
         .about("Says whether the journals of a bundle can be merged: audit < examples/ring.bundle")
@@ -99,6 +131,7 @@ fn all_commands<'a>(alloc: Global) -> Result<clap::Command<'a>, AllocError> {
         .about("The replica side of GTID replication, over files of journals.")
         .subcommand_required(true)
         .subcommand(set_command(alloc)?)?
+        .subcommand(position_command(alloc)?)?
         .subcommand(audit_command(alloc))?
         .subcommand(apply_command(alloc)?)
 }
@@ -122,6 +155,12 @@ fn command_of<'a>(name: &str, matches: &ArgMatches<'a>) -> Option<Command<'a>>
             function: matches.get_str("function")?,
             first: matches.get_str("a")?,
             second: matches.get_str("b"),
+        });
+    }
+    if name == "position" {
+        return Some(Command::Position {
+            own: matches.get_str("own")?,
+            ask: matches.get_str("ask")?,
         });
     }
     if name == "audit" {

@@ -1,4 +1,4 @@
-//! The program `gtidrep`: functions of sets, and bundles audited and applied.
+//! The program `gtidrep`: functions of sets, what a source sends, and bundles audited and applied.
 #![tactic(auto)]
 
 ghost use Rattle.std.specs.Prelude.{◌≡◌};
@@ -11,6 +11,7 @@ mod edge;
 #[cfg(test)]
 mod fake;
 mod line;
+mod position_command;
 mod reading;
 mod set_command;
 #[cfg(test)]
@@ -21,6 +22,7 @@ use crate::apply_command::apply_bundle;
 use crate::audit_command::run_audit;
 use crate::edge::{Outcome, RunFault};
 use crate::line::{Command, LineFault, parse_line};
+use crate::position_command::run_position;
 use crate::set_command::run_set;
 use crate::wrap::{StdSink, StdSource};
 use std::process::ExitCode;
@@ -43,6 +45,11 @@ pub fn exit_status(ended: &Result<Outcome, RunFault>) -> u8
 fn run(rt: &HostRuntime, words: &[String]) -> u8 {
     let alloc = rt.alloc();
     match parse_line(alloc, words) {
+        Ok(Command::Position { own, ask }) => {
+            let mut reader = StdSource::new(rt.reader());
+            let mut writer = StdSink::new(io::writer(rt));
+            exit_status(&run_position(alloc, &mut reader, &mut writer, own, ask))
+        }
         Ok(Command::Audit) => {
             let mut reader = StdSource::new(rt.reader());
             let mut writer = StdSink::new(io::writer(rt));

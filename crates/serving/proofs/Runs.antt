@@ -19,7 +19,6 @@ use Rattle.replica_core.specs.State.{State, Site, Replica}
 use Rattle.replica_core.specs.declared.event.Reply.{Reply}
 use Rattle.replica_core.specs.declared.event.Reply.TheVariants as reply
 use Rattle.replica_core.specs.Machine.{Step, step, after, opening, drained}
-use Rattle.source_history.specs.World.{World}
 use Rattle.replica_core.specs.Core.{opened}
 use Rattle.faithful_journals.proofs.Lists.{same_some, not_none}
 use Rattle.faithful_runs.specs.Faithful.{start_with}
@@ -36,7 +35,7 @@ use Rattle.world.proofs.Finding.{is_false}
 use Rattle.audited_runs.specs.Deciding.{ServesAll, AreStoppedOrDone, WorkersDecide, ServedHoldsAll, HoldsAll}
 use Rattle.txn_journal.specs.declared.bundle.Channel.{Channel}
 use Rattle.serving.specs.declared.outcome.Begun.TheVariants as begun
-use Rattle.serving.specs.Serving.{Receives, with_channel, ServesOne, ServesEach, is_work, Works, IsReady, IsBegun, IsRun, IsConcluded, is_sound, world_over, keys_over, verdict_over}
+use Rattle.serving.specs.Serving.{Receives, with_channel, ServesOne, ServesEach, is_work, Works, IsReady, IsBegun, IsRun, IsConcluded, is_sound, keys_over, verdict_over}
 
 -- ---- words
 
@@ -436,24 +435,20 @@ keys_stay start js h = let w = world_of start.schema set.empty start.rows js in 
 
 -- ---- what is answered
 
-pub keys_begun : (start : Database) (js : List JournalValue) (world : World) (keys : Verdict) → world ≡ world_over start js → keys ≡ verdict_of_keys world js
-    → is_sound keys ≡ false → IsBegun start js (begun.Verdict keys)
-keys_begun start js world keys w k h =
-    let is : keys ≡ keys_over start js = k ∙ ap (λ (x : World). verdict_of_keys x js) w in
-    let not_sound = sound_not keys h in
-    (is ∙ keys_stay start js (λ e. not_sound (is ∙ e)), not_sound)
+pub keys_begun : (start : Database) (js : List JournalValue) (keys : Verdict) → keys ≡ keys_over start js → is_sound keys ≡ false → IsBegun start js (begun.Verdict keys)
+keys_begun start js keys is h = let not_sound = sound_not keys h in (is ∙ keys_stay start js (λ e. not_sound (is ∙ e)), not_sound)
 
-pub ready_begun : (start : Database) (js : List JournalValue) (world : World) (keys : Verdict) (core : Replica) → world ≡ world_over start js → keys ≡ verdict_of_keys world js
-    → is_sound keys ≡ true → IsReady start js core → IsBegun start js (begun.Ready core)
-ready_begun start js world keys core w k h ready = (sym (k ∙ ap (λ (x : World). verdict_of_keys x js) w) ∙ sound_is keys h, ready)
+pub ready_begun : (start : Database) (js : List JournalValue) (keys : Verdict) (core : Replica) → keys ≡ keys_over start js → is_sound keys ≡ true → IsReady start js core
+    → IsBegun start js (begun.Ready core)
+ready_begun start js keys core is h ready = (sym is ∙ sound_is keys h, ready)
 
 pub state_concluded : (start : Database) (js : List JournalValue) (core : Replica) → keys_over start js ≡ Sound → IsRun start js core → AreJournals js → drained core.state ≡ true
     → WorkersDecide → ServedHoldsAll → IsConcluded start js core.state None
 state_concluded start js core keys run rules done decide holds = state_served start js core run rules keys done decide holds
 
-pub audit_concluded : (start : Database) (js : List JournalValue) (state : State) (world : World) (found : Verdict) → world ≡ world_over start js → found ≡ verdict world js
-    → is_sound found ≡ false → IsConcluded start js state (Some found)
-audit_concluded start js state world found w k h = (k ∙ ap (λ (x : World). verdict x js) w, sound_not found h)
+pub audit_concluded : (start : Database) (js : List JournalValue) (state : State) (found : Verdict) → found ≡ verdict_over start js → is_sound found ≡ false
+    → IsConcluded start js state (Some found)
+audit_concluded start js state found is h = (is, sound_not found h)
 
 -- ---- one event
 

@@ -58,9 +58,9 @@ pub same_sent : (j : JournalValue) (ask : Gtids) (want : List Entry) → sending
 same_sent j ask want e =
     all_sent_as (set.is_subset j.previous ask) (set.is_subset set.empty (whole j)) _ _ _ _ _ want (empty_part (whole j)) e (set.is_subset set.empty set.empty) (empty_part set.empty)
 
-abbrev sent_ok : List Entry → Result (List Entry) PositionFault
+abbrev pub sent_ok : List Entry → Result (List Entry) PositionFault
 sent_ok es = Ok es
 
 -- the entries at the places of a plan are what is sent
-pub plan_sent : (j : JournalValue) (ask : Gtids) (places : List ℕ) (found : List Entry) → IsPlan j.entries places (sending.sent j ask None) → found ≡ picked j.entries places → sent j ask None ≡ Ok found
-plan_sent j ask places found plan is = same_sent j ask found (plan.sent_is ∙ ap sent_ok (sym (is ∙ picked_is j.entries places plan.sends plan.at)))
+pub plan_sent : (entries : List Entry) (places : List ℕ) (found : List Entry) (sending : Result (List Entry) PositionFault) → IsPlan entries places sending → found ≡ picked entries places → sending ≡ sent_ok found
+plan_sent entries places found sending plan is = plan.sent_is ∙ ap sent_ok (sym (is ∙ picked_is entries places plan.sends plan.at))

@@ -6,4 +6,5 @@ mod outcome;
 mod receiving;
 mod working;
 
-pub use outcome::{Begun, Served, begin, conclude, serve};
+pub use outcome::{Begun, Served, begin, conclude, serve, verdict_over};
+pub use receiving::entries_sent;

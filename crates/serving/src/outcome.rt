@@ -2,7 +2,7 @@
 ghost use Rattle.std.specs.Prelude.{◌≡◌, ◌≤◌, length, IfOk};
 ghost use Rattle.world.specs.Meaning.{AreJournals};
 ghost use Rattle.world.specs.declared.verdict.Verdict.TheVariants.{Sound};
-ghost use Rattle.serving.specs.Serving.{is_sound, world_over, keys_over, IsReady, IsBegun, IsRun, IsConcluded, IsServed};
+ghost use Rattle.serving.specs.Serving.{is_sound, world_over, keys_over, verdict_over, IsReady, IsBegun, IsRun, IsConcluded, IsServed};
 
 use crate::receiving::serve_journals;
 use crate::working::work_on_all;
@@ -70,6 +70,24 @@ fn opening_world(alloc: Global, rows: &Rows, journals: &[Journal]) -> Result<Wor
     }
 }
 
+/// What an audit of the journals' keys over opening rows finds first.
+fn keys_verdict(alloc: Global, rows: &Rows, journals: &[Journal]) -> Result<Verdict, SetFault>
+    ensures { IfOk result (λ found. found ≡ keys_over rows.now journals.now) }
+{
+    let world = opening_world(alloc, rows, journals)?;
+    Ok(audit_keys(alloc, &world, journals)?)
+}
+
+/// What an audit of journals over opening rows finds first, where nothing is executed from the start.
+/// `SetFault` is want of memory, or full; it is also answered where there is a transaction that the
+/// schema does not take, as none stands in a bundle that was read.
+pub fn verdict_over(alloc: Global, rows: &Rows, journals: &[Journal]) -> Result<Verdict, SetFault>
+    ensures { IfOk result (λ found. found ≡ verdict_over rows.now journals.now) }
+{
+    let world = opening_world(alloc, rows, journals)?;
+    Ok(audit(alloc, &world, journals)?)
+}
+
 /// A replica with these rows that was served all journals.
 fn ready(
     alloc: Global,
@@ -106,8 +124,7 @@ pub fn begin(
     if journals.len() > 256 {
         return Err(SetFault::PoolFull);
     }
-    let world = opening_world(alloc, rows, journals)?;
-    let keys = audit_keys(alloc, &world, journals)?;
+    let keys = keys_verdict(alloc, rows, journals)?;
     if !is_sound(&keys) {
         return Ok(Begun::Verdict(keys));
     }
@@ -135,8 +152,7 @@ pub fn conclude(
     if drained {
         return Ok(None);
     }
-    let world = opening_world(alloc, rows, journals)?;
-    let verdict = audit(alloc, &world, journals)?;
+    let verdict = verdict_over(alloc, rows, journals)?;
     if is_sound(&verdict) {
         return Err(SetFault::PoolFull);
     }

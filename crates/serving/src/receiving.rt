@@ -1,11 +1,13 @@
 //! Channels that receive what sources send.
-ghost use Rattle.std.specs.Prelude.{◌≡◌, ◌≤◌, ◌+◌, IfOk, OnOk, length, Ok, None};
+ghost use Rattle.std.specs.Prelude.{◌≡◌, ◌≤◌, ◌+◌, IfOk, IfErr, OnOk, length, Ok, None};
+ghost use Rattle.auto_position.specs.Sending as sending;
 ghost use Rattle.faithful_runs.specs.Sent.{sent};
 ghost use Rattle.serving.specs.Serving.{picked, Receives, ServesOne, ServesEach};
 
 use crate::event::{open_channel, position, receive};
 use auto_position::{PositionFault, plan};
 use gtid_set::{GtidSet, SetFault};
+use gtid_text::SourceId;
 use journal::{Entry, Journal};
 use replica_core::Core;
 use std::alloc::Global;
@@ -28,12 +30,32 @@ fn entries_at(alloc: Global, entries: &[Entry], places: &[u64]) -> Result<Vec<En
     Ok(found)
 }
 
-/// What a journal sends to a replica that asks with this set.
+/// The entries that a journal sends to a replica that asks with a set, in journal order, or why its source refuses.
+/// `own` is the source's own UUID, where it has one. (MySQL 8.0 Reference Manual, "GTID Auto-Positioning".)
+pub fn entries_sent(
+    alloc: Global,
+    own: Option<SourceId>,
+    journal: &Journal,
+    asked: &GtidSet,
+) -> Result<Vec<Entry>, PositionFault>
+    ensures ok { IfOk result (λ entries. sending.sent journal.now asked.now own ≡ Ok entries.items) }
+    ensures refusal { IfErr result (λ fault. sending.IsRefusal fault (sending.sent journal.now asked.now own)) }
+{
+    match plan(alloc, own, journal, asked) {
+        Ok(places) => match entries_at(alloc, journal.entries(), &places) {
+            Ok(entries) => Ok(entries),
+            Err(fault) => Err(PositionFault::Set(fault)),
+        },
+        Err(fault) => Err(fault),
+    }
+}
+
+/// What a journal sends to a replica that asks with this set, and no source's UUID is known.
 fn sent_to(alloc: Global, journal: &Journal, asked: &GtidSet) -> Result<Vec<Entry>, SetFault>
     ensures { IfOk result (λ entries. sent journal.now asked.now None ≡ Ok entries.items) }
 {
-    match plan(alloc, None, journal, asked) {
-        Ok(places) => entries_at(alloc, journal.entries(), &places),
+    match entries_sent(alloc, None, journal, asked) {
+        Ok(entries) => Ok(entries),
         Err(PositionFault::Set(fault)) => Err(fault),
         Err(PositionFault::PurgedRequired(_)) => Err(SetFault::PoolFull),
         Err(PositionFault::ReplicaHasMore(_)) => Err(SetFault::PoolFull),

@@ -1,6 +1,5 @@
-use Rattle.std.proofs.Common.{◌≡◌, ◌++◌, ◌∷◌, take, string_bytes}
+use Rattle.std.proofs.Common.{◌≡◌, ◌++◌, take, string_bytes}
 use Rattle.std.specs.Prelude.{flat_map}
-use Rattle.journal_words.specs.Values.{value_text}
 use Rattle.gtid_report.specs.State.{row_line}
 use Rattle.gtid_report.proofs.state.push_rows.Given as goal
 
