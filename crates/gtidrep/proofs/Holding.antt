@@ -16,6 +16,9 @@ use Rattle.world.specs.declared.verdict.Verdict.TheVariants.{Unequal, Purged, Mi
 use Rattle.serving.specs.Serving.{IsServed}
 use Rattle.serving.specs.declared.outcome.Served.{Served}
 use Rattle.serving.specs.declared.outcome.Served.TheVariants as served
+use Rattle.parallel_apply.specs.Applying.{IsApplied}
+use Rattle.parallel_apply.specs.declared.outcome.Applied.{Applied}
+use Rattle.parallel_apply.specs.declared.outcome.Applied.TheVariants as parallel
 use Rattle.txn_journal.specs.BundleStates.{BundleValue}
 use Rattle.txn_journal.specs.declared.fault.JournalFault.{JournalFault}
 use Rattle.txn_journal.specs.declared.fault.JournalFault.TheVariants as faults
@@ -24,7 +27,7 @@ use Rattle.gtid_report.specs.declared.refusal.Refusal.TheVariants as refusal
 use Rattle.gtid_report.specs.declared.fault.Fault.{Fault}
 use Rattle.gtid_report.specs.declared.fault.Fault.TheVariants as fault
 use Rattle.gtidrep.specs.Said.{Said, Holds, HoldsOne, Comes, Finds, Settles, Tells, answered, refused_with}
-use Rattle.gtidrep.specs.Bundles.{state_said, verdict_said, state_or_verdict, served_said, verdict_told, world_told, union_told, applied}
+use Rattle.gtidrep.specs.Bundles.{state_said, verdict_said, state_or_verdict, served_said, applied_said, verdict_told, world_told, union_told, applied}
 use Rattle.gtidrep.specs.declared.answer.Answer.{Answer}
 use Rattle.gtidrep.specs.declared.edge.RunFault.{RunFault}
 
@@ -55,12 +58,16 @@ served_applied b (served.Verdict v) is =
 pub holds_served : (b : BundleValue) (found : Served) (answer : Answer) → IsServed b.start b.journals found → Holds answer (served_said found) → Holds answer (applied b)
 holds_served b found answer is held = subst (Holds answer) (served_applied b found is) held
 
--- what an audit finds first
-pub verdict_is : (b : BundleValue) (start : Database) (journals journals' : List JournalValue) (world : World) (opened : Gtids) (first : Verdict) → start ≡ b.start → journals ≡ b.journals → journals' ≡ b.journals
-    → opened ≡ set.empty → world ≡ world_of start.schema opened start.rows journals → first ≡ verdict world journals' → first ≡ verdict_told b
-verdict_is b start journals journals' world opened first s j k o w f =
-    let told : world ≡ world_told b = w ∙ (λ i. world_of (s i).schema (o i) (s i).rows (j i)) in
-    f ∙ (λ i. verdict (told i) (k i))
+-- what workers come to is what applying a bundle says
+workers_applied : (b : BundleValue) (found : Applied) → IsApplied b.start b.journals found → applied_said found ≡ applied b
+workers_applied b (parallel.State book) is =
+    sound_said (verdict_told b) (union_told b) book.now.state.executed (rows_of (world_told b) (set.contains (union_told b))) book.now.state.rows is.0 is.1.executed is.1.rows_are
+workers_applied b (parallel.Verdict v) is =
+    let wrong : verdict_told b ≡ Sound → ⊥ = λ e. is.1 (is.0 ∙ e) in
+    ap verdict_said is.0 ∙ sym (unsound_said (verdict_told b) (union_told b) (rows_of (world_told b) (set.contains (union_told b))) wrong)
+
+pub holds_applied : (b : BundleValue) (found : Applied) (answer : Answer) → IsApplied b.start b.journals found → Holds answer (applied_said found) → Holds answer (applied b)
+holds_applied b found answer is held = subst (Holds answer) (workers_applied b found is) held
 
 -- ---- faults of sets
 

@@ -18,6 +18,8 @@ use Rattle.gtid_report.specs.State.{state_text}
 use Rattle.gtid_report.specs.VerdictLines.{verdict_line}
 use Rattle.serving.specs.declared.outcome.Served.{Served}
 use Rattle.serving.specs.declared.outcome.Served.TheVariants as served
+use Rattle.parallel_apply.specs.declared.outcome.Applied.{Applied}
+use Rattle.parallel_apply.specs.declared.outcome.Applied.TheVariants as parallel
 use Rattle.gtidrep.specs.Said.{Said, ended, Tells}
 use Rattle.gtidrep.specs.declared.edge.Outcome.{Outcome}
 use Rattle.gtidrep.specs.declared.edge.Outcome.TheVariants.{Done, Refused}
@@ -69,6 +71,10 @@ state_said executed rows = record { text = state_text executed rows; outcome = D
 abbrev pub served_said : Served → Said
 served_said (served.State core) = state_said core.state.executed core.state.rows
 served_said (served.Verdict v) = verdict_said v
+
+abbrev pub applied_said : Applied → Said
+applied_said (parallel.State book) = state_said book.now.state.executed book.now.state.rows
+applied_said (parallel.Verdict v) = verdict_said v
 
 -- the GTIDs of all journals together
 abbrev pub union_told : BundleValue → Gtids

@@ -2,16 +2,20 @@
 ghost use Rattle.std.specs.Prelude.{◌≡◌, ◌≤◌, ◌⊎◌, IfOk, IfErr};
 ghost use Rattle.gtidrep.specs.Edge.{one_more, HasReadTooMuch};
 ghost use Rattle.gtidrep.specs.Said.{Answers, BeginsAnswer, Holds, HoldsOne, Comes, Finds};
-ghost use Rattle.gtidrep.specs.Bundles.{state_said, served_said, applied, Applies};
+ghost use Rattle.gtidrep.specs.Bundles.{state_said, served_said, applied_said, applied, Applies};
 
 use crate::answer::{Answer, send, settle};
 use crate::audit_command::verdict_answer;
 use crate::edge::{Outcome, RunFault, Sink, Source};
 use crate::reading::read_all;
+use applier::{Gate, NoGate};
 use gtid_report::{Fault, render_state};
+use parallel_apply::{Applied, apply_journals};
 use replica_core::Core;
 use serving::{Served, serve};
 use std::alloc::{AllocError, Global};
+use std::sync::Wait;
+use std::thread::Threads;
 use txn_journal::{Bundle, decode_bundle};
 
 /// The lines of a replica's state.
@@ -34,8 +38,18 @@ fn served_answer(alloc: Global, served: &Served) -> Result<Answer, AllocError>
     }
 }
 
-/// What a bundle comes to.
-fn bundle_answer(alloc: Global, bundle: &Bundle) -> Result<Answer, Fault>
+/// What is written for what workers have come to.
+fn applied_answer(alloc: Global, applied: &Applied) -> Result<Answer, AllocError>
+    ensures { IfOk result (λ answer. Holds answer (applied_said applied.now)) }
+{
+    match applied {
+        Applied::State(book) => state_answer(alloc, book.state()),
+        Applied::Verdict(verdict) => verdict_answer(alloc, verdict),
+    }
+}
+
+/// What a bundle comes to where one thread applies it.
+fn apply_alone(alloc: Global, bundle: &Bundle) -> Result<Answer, Fault>
     ensures { Comes (applied bundle.now) result }
 {
     match serve(
@@ -50,27 +64,87 @@ fn bundle_answer(alloc: Global, bundle: &Bundle) -> Result<Answer, Fault>
     }
 }
 
-/// What the bytes come to.
-fn bytes_answer(alloc: Global, bytes: &[u8]) -> Result<Answer, Fault>
-    ensures { Finds Applies bytes.now result }
+/// What a bundle comes to where workers apply it.
+fn apply_together<G: Gate + Sync, R: Threads + Wait + Sync>(
+    rt: &R,
+    alloc: Global,
+    bundle: &Bundle,
+    workers: u8,
+    gate: &G,
+) -> Result<Answer, Fault>
+    requires { (1 ≤ workers) × (workers ≤ 64) }
+    ensures { Comes (applied bundle.now) result }
 {
-    match decode_bundle(alloc, bytes) {
-        Ok(bundle) => bundle_answer(alloc, &bundle),
+    match apply_journals(
+        rt,
+        alloc,
+        bundle.replica(),
+        bundle.rows(),
+        bundle.channels(),
+        bundle.journals(),
+        workers,
+        gate,
+    ) {
+        Ok(found) => Ok(applied_answer(alloc, &found)?),
+        Err(fault) => Err(Fault::from(fault)),
+    }
+}
+
+/// What a bundle comes to: the same for every number of workers and every order of their steps. One
+/// worker is the calling thread, which passes no gate.
+pub fn apply_decoded<G: Gate + Sync, R: Threads + Wait + Sync>(
+    rt: &R,
+    alloc: Global,
+    bundle: &Bundle,
+    workers: u8,
+    gate: &G,
+) -> Result<Answer, Fault>
+    requires { (1 ≤ workers) × (workers ≤ 64) }
+    ensures { Comes (applied bundle.now) result }
+{
+    if workers == 1 {
+        apply_alone(alloc, bundle)
+    } else {
+        apply_together(rt, alloc, bundle, workers, gate)
+    }
+}
+
+/// What the bytes come to. They are let go once they are decoded.
+fn bytes_answer<R: Threads + Wait + Sync>(
+    rt: &R,
+    alloc: Global,
+    bytes: Vec<u8>,
+    workers: u8,
+) -> Result<Answer, Fault>
+    requires { (1 ≤ workers) × (workers ≤ 64) }
+    ensures { Finds Applies bytes.items result }
+{
+    let decoded = decode_bundle(alloc, &bytes);
+    drop(bytes);
+    match decoded {
+        Ok(bundle) => apply_decoded(rt, alloc, &bundle, workers, &NoGate),
         Err(fault) => Err(Fault::from(fault)),
     }
 }
 
 /// What is written for the bytes that were read.
-fn apply_answer(alloc: Global, bytes: &[u8]) -> Result<Answer, RunFault>
-    ensures ok { IfOk result (HoldsOne Applies bytes.now) }
+fn apply_answer<R: Threads + Wait + Sync>(
+    rt: &R,
+    alloc: Global,
+    bytes: Vec<u8>,
+    workers: u8,
+) -> Result<Answer, RunFault>
+    requires { (1 ≤ workers) × (workers ≤ 64) }
+    ensures ok { IfOk result (HoldsOne Applies bytes.items) }
     ensures memory { IfErr result (λ f. f ≡ RunFault.Memory) }
 {
-    settle(alloc, bytes_answer(alloc, bytes))
+    settle(alloc, bytes_answer(rt, alloc, bytes, workers))
 }
 
 /// Reads a bundle, and writes the state in which all its journals are executed, or the line of its
 /// audit's verdict where that is not Sound, or the line of its refusal, and nothing else.
-pub fn apply_bundle<S: Source, W: Sink>(
+pub fn apply_bundle<S: Source, W: Sink, R: Threads + Wait + Sync>(
+    rt: &R,
     alloc: Global,
     reader: &mut S,
     writer: &mut W,
@@ -86,6 +160,6 @@ pub fn apply_bundle<S: Source, W: Sink>(
     ensures memory { IfErr result (λ f. f ≡ RunFault.Memory → writer.new ≡ writer.old) }
 {
     let bytes = read_all(alloc, reader)?;
-    let answer = apply_answer(alloc, &bytes)?;
+    let answer = apply_answer(rt, alloc, bytes, workers)?;
     send(writer, &answer)
 }

@@ -25,8 +25,11 @@ use crate::line::{Command, LineFault, parse_line};
 use crate::position_command::run_position;
 use crate::set_command::run_set;
 use crate::wrap::{StdSink, StdSource};
+use std::env;
+use std::io::{self, ErrorKind};
 use std::process::ExitCode;
-use std::{env, io};
+use std::sync::Wait;
+use std::thread::Threads;
 
 /// The status that the program ends with.
 pub fn exit_status(ended: &Result<Outcome, RunFault>) -> u8
@@ -42,7 +45,7 @@ pub fn exit_status(ended: &Result<Outcome, RunFault>) -> u8
     }
 }
 
-fn run(rt: &HostRuntime, words: &[String]) -> u8 {
+fn run<T: Threads + Wait + Sync>(rt: &HostRuntime, threads: &T, words: &[String]) -> u8 {
     let alloc = rt.alloc();
     match parse_line(alloc, words) {
         Ok(Command::Position { own, ask }) => {
@@ -58,7 +61,7 @@ fn run(rt: &HostRuntime, words: &[String]) -> u8 {
         Ok(Command::Apply { workers }) => {
             let mut reader = StdSource::new(rt.reader());
             let mut writer = StdSink::new(io::writer(rt));
-            exit_status(&apply_bundle(alloc, &mut reader, &mut writer, workers))
+            exit_status(&apply_bundle(threads, alloc, &mut reader, &mut writer, workers))
         }
         Ok(
             Command::Set {
@@ -79,12 +82,14 @@ fn run(rt: &HostRuntime, words: &[String]) -> u8 {
 }
 
 fn main(rt: HostRuntime) -> ExitCode {
-    let Ok(args) = env::args(&rt) else {
-        return ExitCode::from(4);
+    let args = match env::args(&rt) {
+        Ok(args) => args,
+        Err(error) if error.kind() == ErrorKind::OutOfMemory => return ExitCode::from(3),
+        Err(_) => return ExitCode::from(4),
     };
     let words: Vec<String> = match args.skip(1).collect(rt.alloc()) {
         Ok(words) => words,
         Err(_) => return ExitCode::from(3),
     };
-    ExitCode::from(run(&rt, words.as_slice()))
+    ExitCode::from(run(&rt, &rt, words.as_slice()))
 }
