@@ -7,10 +7,7 @@ use Rattle.gtid_set.specs.declared.fault.SetFault.{SetFault}
 use Rattle.gtid_set.specs.declared.fault.SetFault.TheVariants as sets
 use Rattle.rows.specs.Apply.{Rows}
 use Rattle.rows.specs.declared.change.RowFault.{RowFault}
-use Rattle.rows.specs.Database.{Database}
-use Rattle.journal.specs.Journals.{JournalValue}
-use Rattle.source_history.specs.World.{World, rows_of}
-use Rattle.world.specs.Audit.{world_of, verdict}
+use Rattle.source_history.specs.World.{rows_of}
 use Rattle.world.specs.declared.verdict.Verdict.{Verdict}
 use Rattle.world.specs.declared.verdict.Verdict.TheVariants.{Unequal, Purged, Missing, Shared, NotClosed, DoesNotApply, Sound}
 use Rattle.serving.specs.Serving.{IsServed}
@@ -54,13 +51,6 @@ served_applied b (served.Verdict v) is =
 -- an answer that holds what journals come to
 pub holds_served : (b : BundleValue) (found : Served) (answer : Answer) → IsServed b.start b.journals found → Holds answer (served_said found) → Holds answer (applied b)
 holds_served b found answer is held = subst (Holds answer) (served_applied b found is) held
-
--- what an audit finds first
-pub verdict_is : (b : BundleValue) (start : Database) (journals journals' : List JournalValue) (world : World) (opened : Gtids) (first : Verdict) → start ≡ b.start → journals ≡ b.journals → journals' ≡ b.journals
-    → opened ≡ set.empty → world ≡ world_of start.schema opened start.rows journals → first ≡ verdict world journals' → first ≡ verdict_told b
-verdict_is b start journals journals' world opened first s j k o w f =
-    let told : world ≡ world_told b = w ∙ (λ i. world_of (s i).schema (o i) (s i).rows (j i)) in
-    f ∙ (λ i. verdict (told i) (k i))
 
 -- ---- faults of sets
 

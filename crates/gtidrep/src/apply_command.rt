@@ -50,19 +50,21 @@ fn bundle_answer(alloc: Global, bundle: &Bundle) -> Result<Answer, Fault>
     }
 }
 
-/// What the bytes come to.
-fn bytes_answer(alloc: Global, bytes: &[u8]) -> Result<Answer, Fault>
-    ensures { Finds Applies bytes.now result }
+/// What the bytes come to. They are let go once they are decoded.
+fn bytes_answer(alloc: Global, bytes: Vec<u8>) -> Result<Answer, Fault>
+    ensures { Finds Applies bytes.items result }
 {
-    match decode_bundle(alloc, bytes) {
+    let decoded = decode_bundle(alloc, &bytes);
+    drop(bytes);
+    match decoded {
         Ok(bundle) => bundle_answer(alloc, &bundle),
         Err(fault) => Err(Fault::from(fault)),
     }
 }
 
 /// What is written for the bytes that were read.
-fn apply_answer(alloc: Global, bytes: &[u8]) -> Result<Answer, RunFault>
-    ensures ok { IfOk result (HoldsOne Applies bytes.now) }
+fn apply_answer(alloc: Global, bytes: Vec<u8>) -> Result<Answer, RunFault>
+    ensures ok { IfOk result (HoldsOne Applies bytes.items) }
     ensures memory { IfErr result (λ f. f ≡ RunFault.Memory) }
 {
     settle(alloc, bytes_answer(alloc, bytes))
@@ -86,6 +88,6 @@ pub fn apply_bundle<S: Source, W: Sink>(
     ensures memory { IfErr result (λ f. f ≡ RunFault.Memory → writer.new ≡ writer.old) }
 {
     let bytes = read_all(alloc, reader)?;
-    let answer = apply_answer(alloc, &bytes)?;
+    let answer = apply_answer(alloc, bytes)?;
     send(writer, &answer)
 }

@@ -2,14 +2,13 @@
 ghost use Rattle.std.specs.Prelude.{◌≡◌, ◌⊎◌, IfOk, IfErr};
 ghost use Rattle.gtidrep.specs.Edge.{one_more, HasReadTooMuch};
 ghost use Rattle.gtidrep.specs.Said.{Answers, BeginsAnswer, Holds, HoldsOne, Comes, Finds};
-ghost use Rattle.gtidrep.specs.Bundles.{Audits, audited, verdict_told, verdict_ending, verdict_said};
+ghost use Rattle.gtidrep.specs.Bundles.{Audits, audited, verdict_ending, verdict_said};
 
 use crate::answer::{Answer, ended, send, settle};
 use crate::edge::{Outcome, RunFault, Sink, Source};
 use crate::reading::read_all;
-use audit::{WorldFault, audit, world_of};
 use gtid_report::{Fault, render_verdict};
-use gtid_set::{GtidSet, SetFault};
+use serving::verdict_over;
 use std::alloc::{AllocError, Global};
 use txn_journal::{Bundle, decode_bundle};
 use world::Verdict;
@@ -39,41 +38,31 @@ pub(crate) fn verdict_answer(alloc: Global, verdict: &Verdict) -> Result<Answer,
     })
 }
 
-/// What an audit of a bundle finds first. In a bundle that was read each transaction is one that its schema takes.
-fn bundle_verdict(alloc: Global, bundle: &Bundle) -> Result<Verdict, SetFault>
-    ensures { IfOk result (λ found. found ≡ verdict_told bundle.now) }
-{
-    let opened = GtidSet::empty(alloc);
-    match world_of(alloc, &opened, bundle.rows(), bundle.journals()) {
-        Ok(world) => Ok(audit(alloc, &world, bundle.journals())?),
-        Err(WorldFault::Memory) => Err(SetFault::Memory),
-        Err(WorldFault::NotInSchema(_, _)) => Err(SetFault::PoolFull),
-    }
-}
-
 /// The verdict of a bundle.
 fn bundle_answer(alloc: Global, bundle: &Bundle) -> Result<Answer, Fault>
     ensures { Comes (audited bundle.now) result }
 {
-    match bundle_verdict(alloc, bundle) {
+    match verdict_over(alloc, bundle.rows(), bundle.journals()) {
         Ok(verdict) => Ok(verdict_answer(alloc, &verdict)?),
         Err(fault) => Err(Fault::from(fault)),
     }
 }
 
-/// The verdict of the bundle that the bytes spell.
-fn bytes_answer(alloc: Global, bytes: &[u8]) -> Result<Answer, Fault>
-    ensures { Finds Audits bytes.now result }
+/// The verdict of the bundle that the bytes spell. They are let go before it is looked for.
+fn bytes_answer(alloc: Global, bytes: Vec<u8>) -> Result<Answer, Fault>
+    ensures { Finds Audits bytes.items result }
 {
-    match decode_bundle(alloc, bytes) {
+    let decoded = decode_bundle(alloc, &bytes);
+    drop(bytes);
+    match decoded {
         Ok(bundle) => bundle_answer(alloc, &bundle),
         Err(fault) => Err(Fault::from(fault)),
     }
 }
 
 /// What is written for the bytes that were read.
-fn audit_answer(alloc: Global, bytes: &[u8]) -> Result<Answer, RunFault>
-    ensures ok { IfOk result (HoldsOne Audits bytes.now) }
+fn audit_answer(alloc: Global, bytes: Vec<u8>) -> Result<Answer, RunFault>
+    ensures ok { IfOk result (HoldsOne Audits bytes.items) }
     ensures memory { IfErr result (λ f. f ≡ RunFault.Memory) }
 {
     settle(alloc, bytes_answer(alloc, bytes))
@@ -93,6 +82,6 @@ pub fn run_audit<S: Source, W: Sink>(
     ensures memory { IfErr result (λ f. f ≡ RunFault.Memory → writer.new ≡ writer.old) }
 {
     let bytes = read_all(alloc, reader)?;
-    let answer = audit_answer(alloc, &bytes)?;
+    let answer = audit_answer(alloc, bytes)?;
     send(writer, &answer)
 }

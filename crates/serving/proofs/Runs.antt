@@ -19,7 +19,6 @@ use Rattle.replica_core.specs.State.{State, Site, Replica}
 use Rattle.replica_core.specs.declared.event.Reply.{Reply}
 use Rattle.replica_core.specs.declared.event.Reply.TheVariants as reply
 use Rattle.replica_core.specs.Machine.{Step, step, after, opening, drained}
-use Rattle.source_history.specs.World.{World}
 use Rattle.replica_core.specs.Core.{opened}
 use Rattle.faithful_journals.proofs.Lists.{same_some, not_none}
 use Rattle.faithful_runs.specs.Faithful.{start_with}
@@ -436,21 +435,16 @@ keys_stay start js h = let w = world_of start.schema set.empty start.rows js in 
 
 -- ---- what is answered
 
-pub keys_served : (start : Database) (js : List JournalValue) (world : World) (keys : Verdict) → world ≡ world_of start.schema set.empty start.rows js → keys ≡ verdict_of_keys world js
-    → is_sound keys ≡ false → IsServed start js (served.Verdict keys)
-keys_served start js world keys w k h =
-    let is : keys ≡ verdict_of_keys (world_of start.schema set.empty start.rows js) js = k ∙ ap (λ (x : World). verdict_of_keys x js) w in
-    let not_sound = sound_not keys h in
-    (is ∙ keys_stay start js (λ e. not_sound (is ∙ e)), not_sound)
+pub keys_served : (start : Database) (js : List JournalValue) (keys : Verdict) → keys ≡ verdict_of_keys (world_of start.schema set.empty start.rows js) js → is_sound keys ≡ false
+    → IsServed start js (served.Verdict keys)
+keys_served start js keys is h = let not_sound = sound_not keys h in (is ∙ keys_stay start js (λ e. not_sound (is ∙ e)), not_sound)
 
-pub audit_served : (start : Database) (js : List JournalValue) (world : World) (found : Verdict) → world ≡ world_of start.schema set.empty start.rows js → found ≡ verdict world js
-    → is_sound found ≡ false → IsServed start js (served.Verdict found)
-audit_served start js world found w k h = (k ∙ ap (λ (x : World). verdict x js) w, sound_not found h)
+pub audit_served : (start : Database) (js : List JournalValue) (found : Verdict) → found ≡ verdict_over start js → is_sound found ≡ false → IsServed start js (served.Verdict found)
+audit_served start js found is h = (is, sound_not found h)
 
-pub run_served : (start : Database) (js : List JournalValue) (world : World) (keys : Verdict) (core : Replica) → world ≡ world_of start.schema set.empty start.rows js → keys ≡ verdict_of_keys world js
-    → is_sound keys ≡ true → IsRun start js core → AreJournals js → drained core.state ≡ true → WorkersDecide → ServedHoldsAll → IsServed start js (served.State core)
-run_served start js world keys core w k h run rules done decide holds =
-    state_served start js core run rules (sym (k ∙ ap (λ (x : World). verdict_of_keys x js) w) ∙ sound_is keys h) done decide holds
+pub run_served : (start : Database) (js : List JournalValue) (keys : Verdict) (core : Replica) → keys ≡ verdict_of_keys (world_of start.schema set.empty start.rows js) js → is_sound keys ≡ true
+    → IsRun start js core → AreJournals js → drained core.state ≡ true → WorkersDecide → ServedHoldsAll → IsServed start js (served.State core)
+run_served start js keys core is h run rules done decide holds = state_served start js core run rules (sym is ∙ sound_is keys h) done decide holds
 
 -- ---- one event
 

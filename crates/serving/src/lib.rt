@@ -6,5 +6,5 @@ mod outcome;
 mod receiving;
 mod working;
 
-pub use outcome::{Served, serve};
+pub use outcome::{Served, serve, verdict_over};
 pub use receiving::entries_sent;

@@ -1,11 +1,14 @@
 //! What journals come to.
 ghost use Rattle.std.specs.Prelude.{◌≡◌, ◌≤◌, length, IfOk};
+ghost use Rattle.std.specs.FinSet as set;
+ghost use Rattle.world.specs.Audit.{world_of, verdict_of_keys};
 ghost use Rattle.world.specs.Meaning.{AreJournals};
-ghost use Rattle.serving.specs.Serving.{is_sound, IsRun, IsServed};
+ghost use Rattle.audit.specs.Worlds.{IsWorldOf};
+ghost use Rattle.serving.specs.Serving.{is_sound, verdict_over, IsRun, IsServed};
 
 use crate::receiving::serve_journals;
 use crate::working::work_on_all;
-use audit::{WorldFault, audit, audit_keys, world_of};
+use audit::{World, WorldFault, audit, audit_keys, world_of};
 use audited_runs::{served_holds_all, workers_decide};
 use gtid_set::{GtidSet, SetFault};
 use gtid_text::SourceId;
@@ -65,6 +68,36 @@ fn run(
     Ok(core)
 }
 
+/// The world of journals over opening rows, with nothing executed from the start. `PoolFull` is answered where a
+/// transaction is none that the schema takes, as stands in no bundle that was read.
+fn world_over(alloc: Global, rows: &Rows, journals: &[Journal]) -> Result<World, SetFault>
+    ensures world { IfOk result (λ world. world ≡ world_of rows.now.schema set.empty rows.now.rows journals.now) }
+    ensures of_journals { IfOk result (λ world. IsWorldOf world journals.now) }
+{
+    let opened = GtidSet::empty(alloc);
+    match world_of(alloc, &opened, rows, journals) {
+        Ok(world) => Ok(world),
+        Err(WorldFault::Memory) => Err(SetFault::Memory),
+        Err(WorldFault::NotInSchema(_, _)) => Err(SetFault::PoolFull),
+    }
+}
+
+/// What an audit of the journals' keys over opening rows finds first.
+fn keys_verdict(alloc: Global, rows: &Rows, journals: &[Journal]) -> Result<Verdict, SetFault>
+    ensures { IfOk result (λ found. found ≡ verdict_of_keys (world_of rows.now.schema set.empty rows.now.rows journals.now) journals.now) }
+{
+    let world = world_over(alloc, rows, journals)?;
+    Ok(audit_keys(alloc, &world, journals)?)
+}
+
+/// What an audit of journals over opening rows finds first, where nothing is executed from the start.
+pub fn verdict_over(alloc: Global, rows: &Rows, journals: &[Journal]) -> Result<Verdict, SetFault>
+    ensures { IfOk result (λ found. found ≡ verdict_over rows.now journals.now) }
+{
+    let world = world_over(alloc, rows, journals)?;
+    Ok(audit(alloc, &world, journals)?)
+}
+
 /// What the journals that channels bring come to over opening rows: all of them executed together,
 /// or the verdict of their audit, where that is not Sound.
 ///
@@ -88,13 +121,7 @@ pub fn serve(
     workers_decide();
     served_holds_all();
     keep_rules(journals);
-    let opened = GtidSet::empty(alloc);
-    let world = match world_of(alloc, &opened, rows, journals) {
-        Ok(world) => world,
-        Err(WorldFault::Memory) => return Err(SetFault::Memory),
-        Err(WorldFault::NotInSchema(_, _)) => return Err(SetFault::PoolFull),
-    };
-    let keys = audit_keys(alloc, &world, journals)?;
+    let keys = keys_verdict(alloc, rows, journals)?;
     if !is_sound(&keys) {
         return Ok(Served::Verdict(keys));
     }
@@ -103,7 +130,7 @@ pub fn serve(
     if drained {
         return Ok(Served::State(core));
     }
-    let verdict = audit(alloc, &world, journals)?;
+    let verdict = verdict_over(alloc, rows, journals)?;
     if is_sound(&verdict) {
         return Err(SetFault::PoolFull);
     }

@@ -1,4 +1,4 @@
-use Rattle.std.proofs.Common.{sym, subst}
+use Rattle.std.proofs.Common.{List, ℕ, sym, subst}
 use Rattle.std.specs.Prelude.{Err}
 use Rattle.gtid_report.specs.declared.fault.Fault.{Fault}
 use Rattle.gtidrep.specs.Said.{Finds}
@@ -7,9 +7,12 @@ use Rattle.gtidrep.proofs.Holding.{found_in, fault_in}
 use Rattle.gtidrep.proofs.apply_command.bytes_answer.Goals as goal
 
 pub returns-in-Ok : goal.returns-in-Ok
-returns-in-Ok c = found_in SpellsBundle bundle_in applied c.args.bytes.now c.in-Ok.bundle c.bundle_answer.result c.in-Ok.ensures.found c.in-Ok.ensures.exact c.bundle_answer.ensures
+returns-in-Ok c =
+    subst (λ (bytes : List ℕ). Finds Applies bytes c.bundle_answer.result) c.deref.ensures.value
+    (found_in SpellsBundle bundle_in applied c.deref.result.now c.in-Ok.bundle c.bundle_answer.result c.in-Ok.ensures.found c.in-Ok.ensures.exact c.bundle_answer.ensures)
 
 pub returns-in-Err : goal.returns-in-Err
 returns-in-Err c =
-    subst (λ (fault : Fault). Finds Applies c.args.bytes.now (Err fault)) (sym c.from.ensures)
-    (fault_in SpellsBundle bundle_in applied c.args.bytes.now c.in-Err.fault c.in-Err.ensures.refused c.in-Err.ensures.exact)
+    subst (λ (bytes : List ℕ). Finds Applies bytes (Err c.from.result)) c.deref.ensures.value
+    (subst (λ (fault : Fault). Finds Applies c.deref.result.now (Err fault)) (sym c.from.ensures)
+    (fault_in SpellsBundle bundle_in applied c.deref.result.now c.in-Err.fault c.in-Err.ensures.refused c.in-Err.ensures.exact))

@@ -1,17 +1,12 @@
-use Rattle.std.proofs.Common.{rules, ◌≡◌, true, ap, ◌∙◌}
-use Rattle.gtid_set.specs.Sets.{Gtids}
+use Rattle.std.proofs.Common.{rules, ◌≡◌, true}
 use Rattle.replica_core.specs.Machine.{drained}
-use Rattle.world.specs.Audit.{world_of}
 use Rattle.serving.specs.Serving.{is_sound}
 use Rattle.serving.proofs.Runs.{run_served}
 use Rattle.serving.proofs.outcome.serve.Goals as goal
 
 pub returns-then-drained : goal.returns-then-drained
 returns-then-drained c =
-    let start = c.args.rows.now in
-    let journals = c.args.journals.now in
     let sound : is_sound c.in_ok-keys.keys ≡ true = search rules in
     let done : drained c.in_ok-core.core.state ≡ true = search rules in
-    run_served start journals c.in-Ok.world c.in_ok-keys.keys c.in_ok-core.core
-    (c.in-Ok.ensures.ok ∙ ap (λ (opened : Gtids). world_of start.schema opened start.rows journals) c.empty-opened.ensures)
+    run_served c.args.rows.now c.args.journals.now c.in_ok-keys.keys c.in_ok-core.core
     c.in_ok-keys.ensures sound c.in_ok-core.ensures c.keep_rules.ensures done c.workers_decide.ensures c.served_holds_all.ensures
