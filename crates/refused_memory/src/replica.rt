@@ -1,0 +1,218 @@
+//! Replicas that are asked one event after another.
+use crate::fault::Fault;
+use crate::sets::text_of;
+use gtid_report::render_state;
+use gtid_text::{Gtid, SourceId};
+use replica_core::{Core, Event, Reply};
+use std::alloc::Global;
+use txn_journal::{Bundle, decode_bundle};
+
+/// A source that inserts a row.
+const FIRST: &[u8] = b"bundle 1
+replica cccccccc-cccc-cccc-cccc-cccccccccccc
+table t 3 pk 0 uk 1
+channel x
+journal 1
+previous -
+txn aaaaaaaa-aaaa-aaaa-aaaa-aaaaaaaaaaaa:1
+ins t 1 x61 null
+end
+close
+done
+";
+
+/// The same transaction on another channel.
+const SECOND: &[u8] = b"bundle 1
+replica cccccccc-cccc-cccc-cccc-cccccccccccc
+table t 3 pk 0 uk 1
+channel y
+journal 1
+previous -
+txn aaaaaaaa-aaaa-aaaa-aaaa-aaaaaaaaaaaa:1
+ins t 1 x61 null
+end
+close
+done
+";
+
+/// Another transaction that inserts that row.
+const AGAIN: &[u8] = b"bundle 1
+replica cccccccc-cccc-cccc-cccc-cccccccccccc
+table t 3 pk 0 uk 1
+channel x
+journal 1
+previous -
+txn bbbbbbbb-bbbb-bbbb-bbbb-bbbbbbbbbbbb:1
+ins t 1 x62 null
+end
+close
+done
+";
+
+/// A transaction that inserts another row.
+const THIRD: &[u8] = b"bundle 1
+replica cccccccc-cccc-cccc-cccc-cccccccccccc
+table t 3 pk 0 uk 1
+channel x
+journal 1
+previous -
+txn bbbbbbbb-bbbb-bbbb-bbbb-bbbbbbbbbbbb:1
+ins t 2 x62 null
+end
+close
+done
+";
+
+fn bundle_of(alloc: Global, text: &[u8]) -> Result<Bundle, Fault> {
+    match decode_bundle(alloc, text) {
+        Ok(bundle) => Ok(bundle),
+        Err(_) => decode_bundle(alloc, text).map_err(|_| Fault::Memory),
+    }
+}
+
+fn copy_of(alloc: Global, core: &Core) -> Result<Core, Fault> {
+    match core.copy(alloc) {
+        Ok(copy) => Ok(copy),
+        Err(_) => Ok(core.copy(alloc)?),
+    }
+}
+
+/// One event; once more where memory was refused, which must have changed nothing.
+fn asked(alloc: Global, core: &mut Core, event: &Event) -> Result<Reply, Fault> {
+    let before = copy_of(alloc, core)?;
+    match core.step(alloc, event) {
+        Ok(reply) => Ok(reply),
+        Err(_) if !core.is_equal(&before) => Err(Fault::Changed),
+        Err(_) => Ok(core.step(alloc, event)?),
+    }
+}
+
+fn opened(alloc: Global, bundle: &Bundle) -> Result<Core, Fault> {
+    let own = bundle.replica();
+    if let Ok(rows) = bundle.rows().copy() {
+        if let Ok(core) = Core::open(alloc, own, rows) {
+            return Ok(core);
+        }
+    }
+    let rows = bundle.rows().copy()?;
+    Ok(Core::open(alloc, own, rows)?)
+}
+
+/// The only entry of the only journal of a bundle, as it comes on a channel.
+fn received(bundle: &Bundle, channel: usize) -> Result<Event, Fault> {
+    let Some(journal) = bundle.journals().first() else {
+        return Err(Fault::Answer);
+    };
+    let Some(entry) = journal.entries().first() else {
+        return Err(Fault::Answer);
+    };
+    match entry.clone() {
+        Ok(entry) => Ok(Event::Receive(channel, entry)),
+        Err(_) => Ok(Event::Receive(channel, entry.clone()?)),
+    }
+}
+
+/// A word for a reply, and the GTID that it names.
+fn told(reply: &Reply) -> (&'static str, Option<Gtid>) {
+    match reply {
+        Reply::Opened(_) => ("opened", None),
+        Reply::Ask(_) => ("asks", None),
+        Reply::Received(_) => ("received", None),
+        Reply::Taken(gtid) => ("taken", Some(*gtid)),
+        Reply::OwnedBy(_) => ("owned by another seat", None),
+        Reply::RolledBack(gtid) => ("rolled back", Some(*gtid)),
+        Reply::Committed(gtid) => ("committed", Some(*gtid)),
+        Reply::Done(gtid) => ("done", Some(*gtid)),
+        Reply::LocalRefused(_) => ("refused", None),
+        _ => ("another reply", None),
+    }
+}
+
+/// Asks an event, and prints the answer.
+fn ask(rt: &impl Print, alloc: Global, core: &mut Core, event: &Event) -> Result<(), Fault> {
+    let reply = asked(alloc, core, event)?;
+    match told(&reply) {
+        (word, Some(gtid)) => {
+            let number = gtid.number;
+            println!(rt; "{word} {number}")?
+        }
+        (word, None) => println!(rt; "{word}")?,
+    }
+    Ok(())
+}
+
+/// Opens the channels of a bundle, positions them, and lets the first two receive its entry.
+fn serve(
+    rt: &impl Print,
+    alloc: Global,
+    core: &mut Core,
+    bundle: &Bundle,
+    channel: usize,
+) -> Result<(), Fault> {
+    let Some(first) = bundle.channels().first() else {
+        return Err(Fault::Answer);
+    };
+    let name = match first.name.clone() {
+        Ok(name) => name,
+        Err(_) => first.name.clone()?,
+    };
+    ask(rt, alloc, core, &Event::OpenChannel(name, first.preserve))?;
+    ask(rt, alloc, core, &Event::Position(channel))?;
+    ask(rt, alloc, core, &received(bundle, channel)?)
+}
+
+/// The state at the end.
+fn print_state(rt: &impl Print, alloc: Global, core: &Core) -> Result<(), Fault> {
+    let text = match render_state(alloc, core.executed(), core.rows()) {
+        Ok(text) => text,
+        Err(_) => render_state(alloc, core.executed(), core.rows())?,
+    };
+    print!(rt; "{text}")?;
+    Ok(())
+}
+
+/// A source's transaction is taken and committed.
+pub fn one_channel(rt: &impl Print, alloc: Global) -> Result<(), Fault> {
+    let bundle = bundle_of(alloc, FIRST)?;
+    let mut core = opened(alloc, &bundle)?;
+    serve(rt, alloc, &mut core, &bundle, 0)?;
+    ask(rt, alloc, &mut core, &Event::Take(1, 0, 0))?;
+    ask(rt, alloc, &mut core, &Event::Commit(1))?;
+    print_state(rt, alloc, &core)
+}
+
+/// One transaction comes on two channels; a second seat finds it owned, then free, and a third time done.
+pub fn two_channels(rt: &impl Print, alloc: Global) -> Result<(), Fault> {
+    let bundle = bundle_of(alloc, FIRST)?;
+    let other = bundle_of(alloc, SECOND)?;
+    let mut core = opened(alloc, &bundle)?;
+    serve(rt, alloc, &mut core, &bundle, 0)?;
+    serve(rt, alloc, &mut core, &other, 1)?;
+    ask(rt, alloc, &mut core, &Event::Take(1, 0, 0))?;
+    ask(rt, alloc, &mut core, &Event::Take(2, 1, 0))?;
+    ask(rt, alloc, &mut core, &Event::Rollback(1))?;
+    ask(rt, alloc, &mut core, &Event::Take(2, 1, 0))?;
+    ask(rt, alloc, &mut core, &Event::Commit(2))?;
+    ask(rt, alloc, &mut core, &Event::Take(1, 0, 0))?;
+    print_state(rt, alloc, &core)
+}
+
+/// The transaction of a bundle's entry, as the server's own.
+fn local(bundle: &Bundle) -> Result<Event, Fault> {
+    match received(bundle, 0)? {
+        Event::Receive(_, entry) => Ok(Event::Local(entry.txn)),
+        _ => Err(Fault::Answer),
+    }
+}
+
+/// Transactions of the server's own: the second does not apply, and its number is free for the third.
+pub fn own_transactions(rt: &impl Print, alloc: Global) -> Result<(), Fault> {
+    let bundle = bundle_of(alloc, FIRST)?;
+    let again = bundle_of(alloc, AGAIN)?;
+    let third = bundle_of(alloc, THIRD)?;
+    let mut core = opened(alloc, &bundle)?;
+    ask(rt, alloc, &mut core, &local(&bundle)?)?;
+    ask(rt, alloc, &mut core, &local(&again)?)?;
+    ask(rt, alloc, &mut core, &local(&third)?)?;
+    print_state(rt, alloc, &core)
+}

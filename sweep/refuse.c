@@ -1,0 +1,34 @@
+// Refuses one request for memory of a program: the one whose number REFUSE names. It tells so by making the file REFUSE_MARK.
+// Preloaded by sweep/refused_memory; frees are never refused.
+#define _GNU_SOURCE
+#include <dlfcn.h>
+#include <fcntl.h>
+#include <stdlib.h>
+#include <unistd.h>
+
+static long asked;
+
+static int is_refused(void) {
+    const char *number = getenv("REFUSE");
+    if (!number || __atomic_add_fetch(&asked, 1, __ATOMIC_RELAXED) != atol(number))
+        return 0;
+    const char *mark = getenv("REFUSE_MARK");
+    int made = mark ? open(mark, O_CREAT | O_WRONLY, 0600) : -1;
+    if (made >= 0)
+        close(made);
+    return 1;
+}
+
+void *malloc(size_t size) {
+    static void *(*next)(size_t);
+    if (!next)
+        next = (void *(*)(size_t))dlsym(RTLD_NEXT, "malloc");
+    return is_refused() ? NULL : next(size);
+}
+
+void *realloc(void *old, size_t size) {
+    static void *(*next)(void *, size_t);
+    if (!next)
+        next = (void *(*)(void *, size_t))dlsym(RTLD_NEXT, "realloc");
+    return is_refused() ? NULL : next(old, size);
+}
