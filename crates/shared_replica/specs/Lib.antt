@@ -1,5 +1,6 @@
 pub mod History
 pub mod Passes
+pub mod Preparing
 pub mod Closing
 pub mod Spare
 pub mod Forms

@@ -1,10 +1,11 @@
 //! The history of a replica.
-ghost use Rattle.std.specs.Prelude.{◌≡◌, true, [], ◌≤◌, IfOk, OnErr, IsTrue, length, map, vec_len};
+ghost use Rattle.std.specs.Prelude.{◌≡◌, true, [], ◌≤◌, IfOk, OnErr, IfSome, IsTrue, length, map, vec_len};
 ghost use Rattle.std.specs.Vec.{vec_capacity};
 ghost use Rattle.commit_ledger.specs.Tallies.{no_tally, unused, tally_of};
-ghost use Rattle.replica_core.specs.Machine.{is_numbered, next_ready};
+ghost use Rattle.replica_core.specs.Machine.{is_numbered, next_ready, step};
 ghost use Rattle.shared_replica.specs.History.{IsStep, IsBook, with_step, unwritten};
 ghost use Rattle.shared_replica.specs.Passes.{told};
+ghost use Rattle.shared_replica.specs.Preparing.{MayPrepare};
 ghost use Rattle.shared_replica.specs.Closing.{sheet, IsMerge, tally_of_passes};
 
 use crate::closed::ClosedBook;
@@ -17,7 +18,8 @@ use crate::step::{Receipt, Receipts, Sheet, Step};
 use commit_ledger::{Share, Total, count};
 use gtid_set::SetFault;
 use replica_core::{Core, Event, Reply};
-use std::alloc::Global;
+use rows::{Footprint, Patch, Transaction};
+use std::alloc::{AllocError, Global};
 use std::marker::Model;
 use std::snapshot::Snapshot;
 
@@ -61,11 +63,13 @@ impl<N: Naming> Book<N> {
         }
     }
 
-    /// One step, with its line in the history and its receipt. After an error nothing has changed.
+    /// One step, with its line in the history and its receipt. A Commit uses a patch, where there is
+    /// one. After an error nothing has changed.
     pub(crate) fn make(
         &mut self,
         alloc: Global,
         event: Event,
+        patch: Option<Patch>,
         mine: &mut Pass<N>,
     ) -> Result<Reply, SetFault>
         requires { is_numbered event ≡ true }
@@ -80,7 +84,7 @@ impl<N: Naming> Book<N> {
         let first = foresee(&self.core, alloc, &event)?;
         let second = foresee(&self.core, alloc, &event)?;
         self.core.entries_are_kept();
-        let reply = self.core.step(alloc, &event)?;
+        let reply = step_of(&mut self.core, alloc, &event, patch)?;
         let place = self.steps.len() as u64;
         let line = Step {
             event,
@@ -97,7 +101,39 @@ impl<N: Naming> Book<N> {
     }
 }
 
+/// One event of a core: a Commit by a patch, where there is one.
+fn step_of(
+    core: &mut Core,
+    alloc: Global,
+    event: &Event,
+    patch: Option<Patch>,
+) -> Result<Reply, SetFault>
+    requires { is_numbered event.now ≡ true }
+    ensures ok { IfOk result (λ r. (r, core.new.state) ≡ step core.old.site core.old.state event.now) }
+    ensures site { core.new.site ≡ core.old.site }
+    ensures err { OnErr result (core.new ≡ core.old) }
+{
+    let Some(patch) = patch else {
+        return core.step(alloc, event);
+    };
+    match event {
+        Event::Commit(seat) => core.commit_prepared(alloc, *seat, patch),
+        _ => core.step(alloc, event),
+    }
+}
+
 impl<N: Naming> Book<N> {
+    /// What a seat's worker needs to prepare the transaction that the seat holds.
+    pub(crate) fn footprint(
+        &self,
+        alloc: Global,
+        seat: u8,
+    ) -> Result<Option<(Transaction, Footprint)>, AllocError>
+        ensures { IfOk result (λ r. IfSome r (λ p. MayPrepare N.opening.site.schema p.0 p.1)) }
+    {
+        self.core.footprint(alloc, seat)
+    }
+
     /// The least place of a channel from this number on that a seat might take.
     pub(crate) fn next_ready(&self, channel: usize, from: usize) -> Option<usize>
         ensures { result ≡ next_ready self.now.now.site self.now.now.state channel from }

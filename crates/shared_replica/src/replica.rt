@@ -1,10 +1,11 @@
 //! A replica that threads share.
-ghost use Rattle.std.specs.Prelude.{◌≡◌, ℕ, ◌+◌, ◌<◌, ◌≤◌, true, [], IfOk, IfErr, OnErr, vec_len, slice_index_or};
+ghost use Rattle.std.specs.Prelude.{◌≡◌, ℕ, ◌+◌, ◌<◌, ◌≤◌, true, [], IfOk, IfErr, IfSome, OnErr, vec_len, slice_index_or};
 ghost use Rattle.std.specs.Vec.{vec_capacity};
 ghost use Rattle.commit_ledger.specs.Tallies.{no_tally, unused};
 ghost use Rattle.journal.specs.Writing.{is_number};
 ghost use Rattle.replica_core.specs.declared.event.Event.TheVariants.{OpenChannel, Position, Receive, Take, Commit, Rollback, Restart, Local, Purge, Look};
 ghost use Rattle.shared_replica.specs.Passes.{fresh, IsTold};
+ghost use Rattle.shared_replica.specs.Preparing.{MayPrepare};
 ghost use Rattle.shared_replica.specs.Closing.{IsClosed};
 
 use crate::book::Book;
@@ -17,7 +18,7 @@ use commit_ledger::{Blanks, Share, Total, open_shares};
 use gtid_set::SetFault;
 use journal::Entry;
 use replica_core::{Core, Event, Reply};
-use rows::{Name, Transaction};
+use rows::{Footprint, Name, Patch, Transaction};
 use std::alloc::{AllocError, Global};
 use std::marker::Model;
 use std::snapshot::Snapshot;
@@ -122,6 +123,20 @@ impl<N: Naming> SharedReplica<N> {
     pub fn next_ready<R: Wait>(&self, rt: &R, channel: usize, from: usize) -> Option<usize> {
         self.book.lock(rt).next_ready(channel, from)
     }
+
+    /// What a worker needs to prepare the transaction that the pass's seat holds, without the lock:
+    /// the transaction, which the schema takes, and all keys that it touches with the rows that carried
+    /// them at that moment. None where the seat holds nothing. It leaves no line and no receipt.
+    pub fn footprint<R: Wait>(
+        &self,
+        rt: &R,
+        alloc: Global,
+        pass: &Pass<N>,
+    ) -> Result<Option<(Transaction, Footprint)>, AllocError>
+        ensures { IfOk result (λ r. IfSome r (λ p. MayPrepare self.now.opening.site.schema p.0 p.1)) }
+    {
+        self.book.lock(rt).footprint(alloc, pass.seat())
+    }
 }
 
 /// The ten events. Each call answers the reply that the core gave under the lock. The pass then has
@@ -142,7 +157,7 @@ impl<N: Naming> SharedReplica<N> {
         ensures err { OnErr result (pass.new ≡ pass.old) }
     {
         let event = Event::OpenChannel(name, preserve);
-        self.book.lock(rt).make(alloc, event, pass)
+        self.book.lock(rt).make(alloc, event, None, pass)
     }
 
     /// Asks for the set with which a channel goes to its source. ("GTID Auto-Positioning")
@@ -157,7 +172,7 @@ impl<N: Naming> SharedReplica<N> {
         ensures err { OnErr result (pass.new ≡ pass.old) }
     {
         let event = Event::Position(channel);
-        self.book.lock(rt).make(alloc, event, pass)
+        self.book.lock(rt).make(alloc, event, None, pass)
     }
 
     /// A channel receives an entry. Its number is 1 to 9223372036854775807.
@@ -174,7 +189,7 @@ impl<N: Naming> SharedReplica<N> {
         ensures err { OnErr result (pass.new ≡ pass.old) }
     {
         let event = Event::Receive(channel, entry);
-        self.book.lock(rt).make(alloc, event, pass)
+        self.book.lock(rt).make(alloc, event, None, pass)
     }
 
     /// The seat takes the transaction at a place of a channel.
@@ -190,7 +205,7 @@ impl<N: Naming> SharedReplica<N> {
         ensures err { OnErr result (pass.new ≡ pass.old) }
     {
         let event = Event::Take(pass.seat(), channel, place);
-        self.book.lock(rt).make(alloc, event, pass)
+        self.book.lock(rt).make(alloc, event, None, pass)
     }
 
     /// The seat commits what it took.
@@ -204,7 +219,23 @@ impl<N: Naming> SharedReplica<N> {
         ensures err { OnErr result (pass.new ≡ pass.old) }
     {
         let event = Event::Commit(pass.seat());
-        self.book.lock(rt).make(alloc, event, pass)
+        self.book.lock(rt).make(alloc, event, None, pass)
+    }
+
+    /// The seat commits what it took, by a patch that was prepared without the lock. The patch is spent
+    /// whatever the answer. One that is of another transaction, or not true any more, is left aside.
+    pub fn commit_prepared<R: Wait>(
+        &self,
+        rt: &R,
+        alloc: Global,
+        pass: &mut Pass<N>,
+        patch: Patch,
+    ) -> Result<Reply, SetFault>
+        ensures ok { IfOk result (λ r. IsTold pass.old (Commit pass.old.seat) r pass.new) }
+        ensures err { OnErr result (pass.new ≡ pass.old) }
+    {
+        let event = Event::Commit(pass.seat());
+        self.book.lock(rt).make(alloc, event, Some(patch), pass)
     }
 
     /// The seat gives up what it took.
@@ -218,7 +249,7 @@ impl<N: Naming> SharedReplica<N> {
         ensures err { OnErr result (pass.new ≡ pass.old) }
     {
         let event = Event::Rollback(pass.seat());
-        self.book.lock(rt).make(alloc, event, pass)
+        self.book.lock(rt).make(alloc, event, None, pass)
     }
 
     /// A stopped channel goes on.
@@ -233,7 +264,7 @@ impl<N: Naming> SharedReplica<N> {
         ensures err { OnErr result (pass.new ≡ pass.old) }
     {
         let event = Event::Restart(channel);
-        self.book.lock(rt).make(alloc, event, pass)
+        self.book.lock(rt).make(alloc, event, None, pass)
     }
 
     /// A transaction of the server's own.
@@ -248,7 +279,7 @@ impl<N: Naming> SharedReplica<N> {
         ensures err { OnErr result (pass.new ≡ pass.old) }
     {
         let event = Event::Local(changes);
-        self.book.lock(rt).make(alloc, event, pass)
+        self.book.lock(rt).make(alloc, event, None, pass)
     }
 
     /// This many of the own journal's first entries are purged.
@@ -263,7 +294,7 @@ impl<N: Naming> SharedReplica<N> {
         ensures err { OnErr result (pass.new ≡ pass.old) }
     {
         let event = Event::Purge(count);
-        self.book.lock(rt).make(alloc, event, pass)
+        self.book.lock(rt).make(alloc, event, None, pass)
     }
 
     /// Asks for the executed set.
@@ -277,7 +308,7 @@ impl<N: Naming> SharedReplica<N> {
         ensures err { OnErr result (pass.new ≡ pass.old) }
     {
         let event = Event::Look;
-        self.book.lock(rt).make(alloc, event, pass)
+        self.book.lock(rt).make(alloc, event, None, pass)
     }
 }
 
