@@ -1,0 +1,5 @@
+use Rattle.applier.specs.Applies.{GoesOn}
+use Rattle.applier.proofs.work.commit_taken.Given as goal
+
+abbrev pub invariant-loop : goal.invariant-loop
+invariant-loop g l = GoesOn l.fn.pass l.pass

@@ -1,0 +1,21 @@
+//! What a worker tells of its way.
+use gtid_text::Gtid;
+
+/// What a worker calls on its way. No call is made with the lock held.
+pub trait Gate {
+    /// The seat has taken this GTID; its transaction is prepared next, and then committed.
+    fn before_prepare(&self, seat: u8, gtid: Gtid);
+
+    /// The seat has committed this GTID.
+    fn after_commit(&self, seat: u8, gtid: Gtid);
+}
+
+/// The gate that does nothing.
+#[derive(Drop)]
+pub struct NoGate;
+
+impl Gate for NoGate {
+    fn before_prepare(&self, _seat: u8, _gtid: Gtid) {}
+
+    fn after_commit(&self, _seat: u8, _gtid: Gtid) {}
+}

@@ -1,0 +1,205 @@
+//! Tickets, and the deques through which they travel.
+ghost use Rattle.std.specs.Prelude.{◌≡◌, ℕ, IfOk, replicate, ◌++◌, ◌∷◌, [], ◌<◌, ◌≤◌, length, MatchOption, MatchResult, slice_get, slice_index_or, Some, set};
+ghost use Rattle.applier.specs.Tickets.{seen, took, reached};
+ghost use Rattle.applier.specs.declared.hand.Seen.{Seen};
+
+use crate::room::add;
+use crossbeam_deque::protocol::{Outcome, Protocol};
+use crossbeam_deque::{Steal, Stealer, Worker};
+use std::alloc::{AllocError, Global};
+use std::collections::LinkedList;
+use std::marker::Model;
+
+/// A place of a channel that may be ready.
+#[derive(Clone, Copy)]
+pub struct Ticket {
+    pub channel: usize,
+    pub place: usize,
+}
+
+/// What was put into a deque and taken from it. No value of it is made.
+pub struct Seen {
+    pub put: LinkedList<Ticket>,
+    pub taken: LinkedList<Ticket>,
+}
+
+/// The tickets of a deque are put and taken once each.
+pub struct Once;
+
+impl Protocol<Ticket, Seen> for Once {
+    ghost use Rattle.std.specs.Prelude.{[]};
+    ghost use Rattle.applier.specs.Tickets.{Balanced, seen};
+
+    ghost holds = { Balanced };
+
+    ghost first = { seen [] [] };
+
+    ghost guest = { seen [] [] };
+}
+
+/// A ticket is put.
+pub struct Puts;
+
+impl Outcome<Ticket, Seen> for Puts {
+    ghost use Rattle.std.specs.Prelude.{◌≡◌, ◌++◌};
+    ghost use Rattle.applier.specs.Tickets.{seen};
+
+    ghost then = { λ v xs w. w ≡ seen (v.put ++ xs) v.taken };
+}
+
+/// A ticket is taken.
+pub struct Takes;
+
+impl Outcome<Ticket, Seen> for Takes {
+    ghost use Rattle.std.specs.Prelude.{◌≡◌, ◌++◌};
+    ghost use Rattle.applier.specs.Tickets.{seen};
+
+    ghost then = { λ v xs w. w ≡ seen v.put (v.taken ++ xs) };
+}
+
+type Own = Worker<Ticket, Global, Seen, Once>;
+
+type Theirs = Stealer<Ticket, Global, Seen, Once>;
+
+/// A pass on the deque of another worker. Contracts see what it took.
+#[derive(Drop)]
+pub struct Reach {
+    stealer: Theirs,
+    pass: crossbeam_deque::Pass<Ticket, Seen>,
+}
+
+impl Model for Reach {
+    ghost use Rattle.applier.specs.declared.hand.Seen.{Seen};
+    ghost use Rattle.crossbeam_deque.specs.Handles.{view as view_of, IsPassOf, stealer_deque};
+
+    ghost Value = { Seen };
+
+    ghost view = { λ r. view_of r.pass };
+
+    ghost invariant = { λ r. IsPassOf (stealer_deque r.stealer) r.pass };
+}
+
+impl Reach {
+    /// Takes the first ticket, in one step.
+    pub fn steal(&mut self) -> Option<Ticket>
+        ensures { MatchOption result (self.new ≡ self.old) (λ t. self.new ≡ took t self.old) }
+    {
+        match self.stealer.steal_as::<Takes>(&mut self.pass) {
+            Steal::Success(ticket) => Some(ticket),
+            _ => None,
+        }
+    }
+}
+
+/// A worker's deque of tickets, and a pass on each worker's.
+#[derive(Drop)]
+pub struct Hand {
+    own: Own,
+    others: Vec<Reach>,
+}
+
+impl Model for Hand {
+    ghost use Rattle.std.specs.Prelude.{◌≡◌};
+    ghost use Rattle.applier.specs.Tickets.{Reached};
+    ghost use Rattle.crossbeam_deque.specs.Handles.{worker_view, worker_flavor};
+
+    ghost Value = { Reached };
+
+    ghost view = { λ h. record { own = worker_view h.own; others = h.others.items } };
+
+    ghost invariant = { λ h. worker_flavor h.own ≡ 0 };
+}
+
+impl Hand {
+    /// Puts a ticket at the back of its own deque, in one step. A ticket that finds no room comes back.
+    pub fn push(&mut self, ticket: Ticket) -> Result<(), Ticket>
+        ensures { MatchResult result (λ _. self.new ≡ record { own = seen (self.old.own.put ++ ticket ∷ []) self.old.own.taken; others = self.old.others }) (λ t. (t ≡ ticket) × (self.new ≡ self.old)) }
+    {
+        self.own.push_as::<Puts>(ticket)
+    }
+
+    /// Takes the first ticket of its own deque, in one step.
+    pub fn pop(&mut self) -> Option<Ticket>
+        ensures { MatchOption result (self.new ≡ self.old) (λ t. self.new ≡ record { own = seen self.old.own.put (self.old.own.taken ++ t ∷ []); others = self.old.others }) }
+    {
+        self.own.pop_as::<Takes>()
+    }
+
+    /// How many workers there are.
+    pub fn count(&self) -> usize
+        ensures { result ≡ length self.now.others }
+    {
+        self.others.len()
+    }
+
+    /// Takes the first ticket of the deque of worker `from`, in one step.
+    pub fn steal(&mut self, from: usize) -> Option<Ticket>
+        requires { from < length self.old.others }
+        ensures { MatchOption result (self.new ≡ self.old) (λ t. self.new ≡ reached self.old.own (set self.old.others from (took t (slice_index_or self.old.others from (seen [] []))))) }
+    {
+        let reach = &mut self.others[from];
+        reach.steal()
+    }
+
+    /// A deque with no passes yet.
+    fn alone(alloc: Global) -> Result<Hand, AllocError>
+        ensures { IfOk result (λ h. h ≡ reached (seen [] []) []) }
+    {
+        let own = Own::fifo_as(alloc, 16)?;
+        Ok(Hand {
+            own,
+            others: Vec::new(alloc),
+        })
+    }
+
+    /// A new pass on its deque, for another worker.
+    fn reach(&self) -> Result<Reach, AllocError>
+        ensures { IfOk result (λ r. r ≡ seen [] []) }
+    {
+        let stealer = self.own.stealer()?;
+        let pass = stealer.pass();
+        Ok(Reach { stealer, pass })
+    }
+
+    /// The passes on all deques.
+    fn meet(&mut self, others: Vec<Reach>)
+        ensures { self.new ≡ reached self.old.own others.items }
+    {
+        self.others = others;
+    }
+}
+
+/// A pass on each deque.
+fn row_of(alloc: Global, hands: &[Hand]) -> Result<Vec<Reach>, AllocError>
+    ensures { IfOk result (λ v. v.items ≡ replicate (length hands.now) (seen [] [])) }
+{
+    let mut others = Vec::with_capacity(alloc, hands.len())?;
+    for hand in hands {
+        add(&mut others, hand.reach()?);
+    }
+    Ok(others)
+}
+
+/// The deques of n workers, each with passes on the others'.
+pub fn hands(alloc: Global, n: usize) -> Result<Vec<Hand>, AllocError>
+    requires { (1 ≤ n) × (n ≤ 64) }
+    ensures count { IfOk result (λ v. length v.items ≡ n) }
+    ensures each { IfOk result (λ v. (i : ℕ) → i < n → slice_get v.items i ≡ Some (reached (seen [] []) (replicate n (seen [] [])))) }
+{
+    let mut hands = all_alone(alloc, n)?;
+    for me in 0..n {
+        let others = row_of(alloc, hands.as_slice())?;
+        hands[me].meet(others);
+    }
+    Ok(hands)
+}
+
+fn all_alone(alloc: Global, n: usize) -> Result<Vec<Hand>, AllocError>
+    ensures { IfOk result (λ v. v.items ≡ replicate n (reached (seen [] []) [])) }
+{
+    let mut hands = Vec::with_capacity(alloc, n)?;
+    for _i in 0..n {
+        add(&mut hands, Hand::alone(alloc)?);
+    }
+    Ok(hands)
+}

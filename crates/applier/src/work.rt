@@ -1,0 +1,257 @@
+//! What a worker does.
+ghost use Rattle.std.specs.Prelude.{◌≡◌};
+ghost use Rattle.applier.specs.Applies.{GoesOn};
+
+use crate::gate::Gate;
+use crate::hand::{Hand, Ticket};
+use crate::round::Round;
+use crossbeam_utils::Backoff;
+use gtid_set::SetFault;
+use gtid_text::Gtid;
+use replica_core::Reply;
+use rows::{Patch, PrepareFault, prepare};
+use shared_replica::{Naming, Pass, SharedReplica};
+use std::alloc::Global;
+use std::sync::Wait;
+
+/// How often a commit that is early is tried.
+const TRIES: u32 = 1000;
+
+/// How many places of a channel are put at once.
+const MOST: u32 = 8;
+
+/// What became of a place.
+#[derive(Drop)]
+enum Attempt {
+    /// It is committed.
+    Committed,
+    /// Another seat has it, or it is not ready, or refused.
+    Passed,
+    /// Its channel is served no more.
+    Left,
+}
+
+/// Applies what is ready until nothing is, or a step can't be made.
+pub(crate) fn work<N: Naming, G: Gate, R: Wait>(
+    rt: &R,
+    alloc: Global,
+    replica: &SharedReplica<N>,
+    gate: &G,
+    pass: &mut Pass<N>,
+    hand: &mut Hand,
+    me: usize,
+) -> Result<(), SetFault>
+    ensures { GoesOn pass.old pass.new }
+{
+    let mut round = Round::new();
+    let_go(rt, alloc, replica, pass)?;
+    for _ in rt.forever() {
+        let Some(ticket) = next_place(rt, replica, hand, me, &mut round) else {
+            return Ok(());
+        };
+        match try_place(rt, alloc, replica, gate, pass, &round, ticket) {
+            Ok(Attempt::Committed) => {
+                round.restart();
+                put_ready(rt, replica, hand, &round);
+            }
+            Ok(Attempt::Passed) => {}
+            Ok(Attempt::Left) => round.leave(ticket.channel),
+            Err(fault) => return Err(fault),
+        }
+    }
+    unreachable!()
+}
+
+/// A ticket of its own, or else one of another worker, or else a place that is ready.
+fn next_place<N: Naming, R: Wait>(
+    rt: &R,
+    replica: &SharedReplica<N>,
+    hand: &mut Hand,
+    me: usize,
+    round: &mut Round,
+) -> Option<Ticket> {
+    let own = hand.pop();
+    round.popped(own.is_some());
+    let ticket = match own {
+        Some(ticket) => ticket,
+        None => match stolen(hand, me) {
+            Some(ticket) => ticket,
+            None => round.look(rt, replica)?,
+        },
+    };
+    round.meet(ticket.channel);
+    Some(ticket)
+}
+
+/// A ticket of another worker, each of which is asked once.
+fn stolen(hand: &mut Hand, me: usize) -> Option<Ticket> {
+    for other in 0..hand.count() {
+        if other != me {
+            if let Some(ticket) = hand.steal(other) {
+                return Some(ticket);
+            }
+        }
+    }
+    None
+}
+
+/// Puts what is ready into its own deque, where that had no ticket: else the same places would be put
+/// again after each commit.
+fn put_ready<N: Naming, R: Wait>(
+    rt: &R,
+    replica: &SharedReplica<N>,
+    hand: &mut Hand,
+    round: &Round,
+) {
+    if !round.is_dry() {
+        return;
+    }
+    for channel in 0..round.known() {
+        if !round.is_left(channel) {
+            put_channel(rt, replica, hand, channel);
+        }
+    }
+}
+
+/// Puts the first places of a channel that are ready. A ticket that finds no room is dropped.
+fn put_channel<N: Naming, R: Wait>(
+    rt: &R,
+    replica: &SharedReplica<N>,
+    hand: &mut Hand,
+    channel: usize,
+) {
+    let mut from = 0;
+    for _ in 0..MOST {
+        let Some(place) = replica.next_ready(rt, channel, from) else {
+            return;
+        };
+        let _refused = hand.push(Ticket { channel, place });
+        from = place.saturating_add(1);
+    }
+}
+
+/// Gives up what the seat owns before the work begins.
+fn let_go<N: Naming, R: Wait>(
+    rt: &R,
+    alloc: Global,
+    replica: &SharedReplica<N>,
+    pass: &mut Pass<N>,
+) -> Result<(), SetFault>
+    ensures { GoesOn pass.old pass.new }
+{
+    let held = replica.footprint(rt, alloc, pass)?;
+    if held.is_some() {
+        roll_back(rt, alloc, replica, pass)?;
+    }
+    Ok(())
+}
+
+/// Takes a place and commits it, unless its channel was left.
+fn try_place<N: Naming, G: Gate, R: Wait>(
+    rt: &R,
+    alloc: Global,
+    replica: &SharedReplica<N>,
+    gate: &G,
+    pass: &mut Pass<N>,
+    round: &Round,
+    ticket: Ticket,
+) -> Result<Attempt, SetFault>
+    ensures { GoesOn pass.old pass.new }
+{
+    if round.is_left(ticket.channel) {
+        return Ok(Attempt::Passed);
+    }
+    match take(rt, alloc, replica, pass, ticket)? {
+        Reply::Taken(gtid) => return commit_taken(rt, alloc, replica, gate, pass, gtid),
+        Reply::Stopped => return Ok(Attempt::Left),
+        _ => return Ok(Attempt::Passed),
+    }
+}
+
+/// Prepares what was taken without the lock, and commits it. A commit that is early is tried again;
+/// one that stays early is given up, with its channel.
+fn commit_taken<N: Naming, G: Gate, R: Wait>(
+    rt: &R,
+    alloc: Global,
+    replica: &SharedReplica<N>,
+    gate: &G,
+    pass: &mut Pass<N>,
+    gtid: Gtid,
+) -> Result<Attempt, SetFault>
+    ensures { GoesOn pass.old pass.new }
+{
+    let mut patch = patch_of(rt, alloc, replica, gate, pass, gtid)?;
+    let backoff = Backoff::new();
+    for _ in 0..TRIES {
+        match commit(rt, alloc, replica, pass, patch)? {
+            Reply::Committed(gtid) => {
+                gate.after_commit(pass.seat(), gtid);
+                return Ok(Attempt::Committed);
+            }
+            Reply::Early(_) => backoff.snooze(),
+            _ => return Ok(Attempt::Passed),
+        }
+        patch = None;
+    }
+    roll_back(rt, alloc, replica, pass)?;
+    Ok(Attempt::Left)
+}
+
+/// A patch for what the seat has taken, if one can be made. It is prepared without the lock.
+fn patch_of<N: Naming, G: Gate, R: Wait>(
+    rt: &R,
+    alloc: Global,
+    replica: &SharedReplica<N>,
+    gate: &G,
+    pass: &Pass<N>,
+    gtid: Gtid,
+) -> Result<Option<Patch>, SetFault> {
+    let seen = replica.footprint(rt, alloc, pass)?;
+    gate.before_prepare(pass.seat(), gtid);
+    let Some((txn, footprint)) = seen else {
+        return Ok(None);
+    };
+    match prepare(alloc, txn, footprint) {
+        Ok(patch) => Ok(Some(patch)),
+        Err(PrepareFault::Memory) => Err(SetFault::Memory),
+        Err(PrepareFault::Row(_)) => Ok(None),
+    }
+}
+
+fn take<N: Naming, R: Wait>(
+    rt: &R,
+    alloc: Global,
+    replica: &SharedReplica<N>,
+    pass: &mut Pass<N>,
+    ticket: Ticket,
+) -> Result<Reply, SetFault>
+    ensures { GoesOn pass.old pass.new }
+{
+    replica.take(rt, alloc, pass, ticket.channel, ticket.place)
+}
+
+fn commit<N: Naming, R: Wait>(
+    rt: &R,
+    alloc: Global,
+    replica: &SharedReplica<N>,
+    pass: &mut Pass<N>,
+    patch: Option<Patch>,
+) -> Result<Reply, SetFault>
+    ensures { GoesOn pass.old pass.new }
+{
+    match patch {
+        Some(patch) => return replica.commit_prepared(rt, alloc, pass, patch),
+        None => return replica.commit(rt, alloc, pass),
+    }
+}
+
+fn roll_back<N: Naming, R: Wait>(
+    rt: &R,
+    alloc: Global,
+    replica: &SharedReplica<N>,
+    pass: &mut Pass<N>,
+) -> Result<Reply, SetFault>
+    ensures { GoesOn pass.old pass.new }
+{
+    replica.rollback(rt, alloc, pass)
+}
