@@ -5,3 +5,4 @@ pub mod Seats
 pub mod Moves
 pub mod Settling
 pub mod Drainings
+pub mod Crossing
