@@ -4,7 +4,9 @@ use Rattle.std.specs.FinSet as set
 use Rattle.std.specs.FinMap as finmap
 use Rattle.gtid_text.specs.declared.Gtid.{Gtid}
 use Rattle.apply_channel.specs.Channels.{ChannelValue, Received}
+use Rattle.gtid_set.specs.declared.fault.SetFault.{SetFault}
 use Rattle.replica_core.specs.State.{State}
+use Rattle.replica_core.specs.Faults.{IsFaultIn, committing}
 use Rattle.shared_replica.specs.declared.step.Step.{Step}
 use Rattle.shared_replica.specs.Closing.{ClosedValue}
 use Rattle.applier.specs.Applies.{IsApply}
@@ -68,3 +70,7 @@ SameChannels old new = (c : ℕ) (after : ChannelValue) → slice_get new c ≡ 
 pub record Follows (old new : State) : Type 0 where
   pub executed : (g : Gtid) → set.contains old.executed g ≡ true → set.contains new.executed g ≡ true
   pub channels : SameChannels old.channels new.channels
+
+-- a fault by which a Commit of some seat may be answered: memory was refused, or the executed set would have too many sources
+abbrev pub IsCommitFault : SetFault → State → Type 0
+IsCommitFault f s = (seat : ℕ) × IsFaultIn f (committing seat s)

@@ -1,9 +1,9 @@
 //! What is done once the workers have ended.
-ghost use Rattle.std.specs.Prelude.{◌≡◌, ◌≢◌, ◌≤◌, ◌+◌, ◌==◌, ℕ, true, false, None, Some, IfOk, OnOk, IsTrue, MatchOption, length, slice_get};
+ghost use Rattle.std.specs.Prelude.{◌≡◌, ◌≢◌, ◌≤◌, ◌+◌, ◌==◌, ℕ, true, false, None, Some, IfOk, IfErr, OnOk, IsTrue, MatchOption, length, slice_get};
 ghost use Rattle.std.specs.List.{list_any};
 ghost use Rattle.std.specs.FinMap as finmap;
 ghost use Rattle.apply_channel.specs.Channels.{ChannelValue};
-ghost use Rattle.applier.specs.Draining.{Drains, NothingIsOwned, Follows, IsDoneBelow, IsDone, IsWaiting, IsSettledAt, AreStoppedOrDone};
+ghost use Rattle.applier.specs.Draining.{Drains, NothingIsOwned, Follows, IsDoneBelow, IsDone, IsWaiting, IsSettledAt, AreStoppedOrDone, IsCommitFault};
 
 use gtid_set::SetFault;
 use gtid_text::Gtid;
@@ -13,11 +13,13 @@ use std::alloc::{AllocError, Global};
 
 /// Rolls back what is owned, and then applies with seat 1 what is left, channels rising and places
 /// rising. Stopped channels are left as they are. What was done before an error stands, and it may be
-/// called again.
+/// called again; another error than `Memory` comes only where a Commit from the state that was left
+/// may be answered by it.
 pub fn drain(alloc: Global, book: &mut ClosedBook) -> Result<(), SetFault>
     ensures drains { Drains book.old book.new }
     ensures rests { OnOk result (NothingIsOwned book.new.now.state) }
     ensures ends { OnOk result (AreStoppedOrDone book.new.now.state) }
+    ensures fault { IfErr result (λ f. IsCommitFault f book.new.now.state) }
 {
     free_all(alloc, book)?;
     settle_all(alloc, book)
@@ -27,6 +29,7 @@ pub fn drain(alloc: Global, book: &mut ClosedBook) -> Result<(), SetFault>
 fn free_all(alloc: Global, book: &mut ClosedBook) -> Result<(), SetFault>
     ensures drains { Drains book.old book.new }
     ensures rests { OnOk result (NothingIsOwned book.new.now.state) }
+    ensures fault { IfErr result (λ f. IsCommitFault f book.new.now.state) }
 {
     for seat in 1..65u8 {
         free(alloc, book, seat)?;
@@ -42,6 +45,7 @@ fn free(alloc: Global, book: &mut ClosedBook, seat: u8) -> Result<(), SetFault>
     ensures drains { Drains book.old book.new }
     ensures free { OnOk result (finmap.get book.new.now.state.seats seat ≡ None) }
     ensures others { OnOk result ((other : ℕ) → finmap.get book.old.now.state.seats other ≡ None → finmap.get book.new.now.state.seats other ≡ None) }
+    ensures fault { IfErr result (λ f. IsCommitFault f book.new.now.state) }
 {
     if !is_busy(alloc, book.state(), seat)? {
         return Ok(());
@@ -74,6 +78,7 @@ fn settle_all(alloc: Global, book: &mut ClosedBook) -> Result<(), SetFault>
     ensures drains { Drains book.old book.new }
     ensures rests { OnOk result (NothingIsOwned book.new.now.state) }
     ensures ends { OnOk result (AreStoppedOrDone book.new.now.state) }
+    ensures fault { IfErr result (λ f. IsCommitFault f book.new.now.state) }
 {
     for channel in 0..usize::MAX {
         let Some(count) = places(book.state(), channel) else {
@@ -108,6 +113,7 @@ fn settle_channel(
     ensures rests { OnOk result (NothingIsOwned book.new.now.state) }
     ensures follows { OnOk result (Follows book.old.now.state book.new.now.state) }
     ensures done { OnOk result (IsDone channel book.new.now.state) }
+    ensures fault { IfErr result (λ f. IsCommitFault f book.new.now.state) }
 {
     for place in 0..count {
         settle(alloc, book, channel, place)?;
@@ -128,6 +134,7 @@ fn settle(
     ensures rests { OnOk result (NothingIsOwned book.new.now.state) }
     ensures follows { OnOk result (Follows book.old.now.state book.new.now.state) }
     ensures done { OnOk result (IsDoneBelow (place + 1) channel book.new.now.state) }
+    ensures fault { IfErr result (λ f. IsCommitFault f book.new.now.state) }
 {
     if !is_waiting(book.state(), channel, place) {
         return Ok(());

@@ -5,3 +5,4 @@ pub mod Spares
 pub mod Growths
 pub mod Merges
 pub mod Closings
+pub mod Faulty

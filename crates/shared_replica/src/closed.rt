@@ -1,6 +1,7 @@
 //! A history that no thread shares any more.
-ghost use Rattle.std.specs.Prelude.{◌≡◌, true, ◌++◌, ◌∷◌, [], IfOk, OnErr};
+ghost use Rattle.std.specs.Prelude.{◌≡◌, true, ◌++◌, ◌∷◌, [], IfOk, IfErr, OnErr};
 ghost use Rattle.replica_core.specs.Machine.{is_numbered};
+ghost use Rattle.replica_core.specs.Faults.{IsFaultIn, made_by};
 ghost use Rattle.shared_replica.specs.History.{line, IsStep, IsReplay};
 ghost use Rattle.shared_replica.specs.Closing.{started, receipts_of};
 
@@ -101,13 +102,16 @@ impl ClosedBook {
         self.counts
     }
 
-    /// One step more, for which there is no receipt. After an error nothing has changed. The
-    /// numbers of received GTIDs are 1 to 9223372036854775807.
+    /// One step more, for which there is no receipt. After an error nothing has changed; another error
+    /// than `Memory` comes only where the set that the event makes has no room. The numbers of received
+    /// GTIDs are 1 to 9223372036854775807.
+    #[tactic(auto, using(crate::proofs::Faulty::memory_anywhere))]
     pub fn step(&mut self, alloc: Global, event: &Event) -> Result<Reply, SetFault>
         requires { is_numbered event.now ≡ true }
         ensures step { IfOk result (λ r. IsStep self.old.now event.now r self.new.now) }
         ensures line { IfOk result (λ r. self.new ≡ record self.old { steps = self.old.steps ++ line event.now r ∷ []; now = self.new.now }) }
         ensures err { OnErr result (self.new ≡ self.old) }
+        ensures fault { IfErr result (λ f. IsFaultIn f (made_by self.old.now.site self.old.now.state event.now)) }
     {
         self.steps.reserve(1)?;
         let copy = copy_of(event)?;

@@ -1,8 +1,9 @@
 //! Copies of events and replies.
-ghost use Rattle.std.specs.Prelude.{◌≡◌, IfOk, IsSome, Some};
+ghost use Rattle.std.specs.Prelude.{◌≡◌, IfOk, IfErr, IsSome, Some};
 ghost use Rattle.shared_replica.specs.History.{is_commit};
 ghost use Rattle.shared_replica.specs.Spare.{IsSpare};
 ghost use Rattle.replica_core.specs.Machine.{step, purge};
+ghost use Rattle.replica_core.specs.Faults.{IsFaultIn, made_by, purging};
 
 use gtid_set::{GtidSet, SetFault};
 use replica_core::{Core, Event, Reply};
@@ -35,13 +36,14 @@ pub(crate) fn is_commit(reply: &Reply) -> bool
 }
 
 /// The set that the reply to an event will show, if it shows one.
-#[tactic(auto, using(crate::proofs::Spares::position_asks, crate::proofs::Spares::plain_step))]
+#[tactic(auto, using(crate::proofs::Spares::position_asks, crate::proofs::Spares::plain_step, crate::proofs::Faulty::memory_anywhere))]
 pub(crate) fn foresee(
     core: &Core,
     alloc: Global,
     event: &Event,
 ) -> Result<Option<GtidSet>, SetFault>
-    ensures { IfOk result (λ spare. IsSpare (step core.now.site core.now.state event.now).0 spare) }
+    ensures spare { IfOk result (λ spare. IsSpare (step core.now.site core.now.state event.now).0 spare) }
+    ensures fault { IfErr result (λ f. IsFaultIn f (made_by core.now.site core.now.state event.now)) }
 {
     match event {
         Event::Position(channel) => core.ask(alloc, *channel),
@@ -53,7 +55,8 @@ pub(crate) fn foresee(
 
 /// The purged set that a Purge would answer.
 fn purged_by(core: &Core, alloc: Global, count: usize) -> Result<Option<GtidSet>, SetFault>
-    ensures { IfOk result (λ spare. IsSpare (purge count core.now.state).0 spare) }
+    ensures spare { IfOk result (λ spare. IsSpare (purge count core.now.state).0 spare) }
+    ensures fault { IfErr result (λ f. IsFaultIn f (purging count core.now.state)) }
 {
     let journal = core.journal().as_journal();
     if journal.len() < count {
