@@ -6,7 +6,7 @@ use denote.Enum.Enum.{Enum}
 use denote.Enum.Declared.{shape}
 use denote.Struct.Struct.{Struct}
 use denote.Struct.Declared.{shape as struct_shape}
-use denote.Param.Send.{IsSend, IsSync, sendable, enum_send, enum_sync, recorded_send, recorded_sync, struct_send, struct_sync}
+use denote.Param.Send.{IsSend, IsSync, sendable, enum_send, enum_sync, recorded_send, struct_send, struct_sync}
 use Rattle.std.proofs.Crossing as plain
 use Rattle.std.proofs.MapsCrossing as maps
 use Rattle.std.proofs.CrossingOver as over
