@@ -2,17 +2,13 @@
 use Rattle.std.proofs.Common.{◌≡◌, List, [], ◌∷◌, ◌++◌, refl, ap, sym, ◌∙◌, subst, append_assoc, Result, Ok, Err, IfOk, OnErr}
 use Rattle.std.proofs.lemmas.List.{append-nil}
 use Rattle.gtid_set.specs.declared.fault.SetFault.{SetFault}
-use Rattle.gtid_set.specs.declared.fault.SetFault.TheVariants.{Memory}
-use Rattle.replica_core.specs.State.{State}
-use Rattle.replica_core.specs.Faults.{committing}
-use Rattle.shared_replica.proofs.Faulty.{memory_anywhere}
 use Rattle.replica_core.specs.declared.event.Event.{Event}
 use Rattle.replica_core.specs.declared.event.Reply.{Reply}
 use Rattle.shared_replica.specs.declared.step.Step.{Step}
 use Rattle.shared_replica.specs.History.{line}
 use Rattle.shared_replica.specs.Closing.{ClosedValue}
 use Rattle.applier.specs.Applies.{IsApply}
-use Rattle.applier.specs.Draining.{Drains, AllApply, IsCommitFault}
+use Rattle.applier.specs.Draining.{Drains, AllApply}
 
 pub drains_self : (b : ClosedValue) → Drains b b
 drains_self b = record { opening = refl; more = []; steps = sym (append-nil b.steps); apply = tt; sheets = refl; counts = refl }
@@ -43,10 +39,3 @@ drains_call a b e (Ok r) ok is same = record {
   counts = ap (λ (x : ClosedValue). x.counts) is;
 }
 drains_call a b e (Err f) ok is same = subst (λ (x : ClosedValue). Drains a x) (sym same) (drains_self a)
-
-pub memory_fails : (s : State) → IsCommitFault Memory s
-memory_fails s = (1, memory_anywhere (committing 1 s))
-
--- a fault that is want of memory
-pub memory_alone : (f : SetFault) (s : State) → f ≡ Memory → IsCommitFault f s
-memory_alone f s is = subst (λ (x : SetFault). IsCommitFault x s) (sym is) (memory_fails s)

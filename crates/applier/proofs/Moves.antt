@@ -1,6 +1,6 @@
 -- What a take and its commit leave of a replica in which nothing is owned.
-use Rattle.std.proofs.Common.{◌≡◌, ◌⊎◌, inl, inr, ⊎_elim, true≢false, ℕ, ◌+◌, ◌<◌, Bool, true, false, not, cond, List, [], ◌∷◌, length, map, take, refl, sym, ap, ◌∙◌, subst, arith}
-use Rattle.std.specs.Prelude.{Option, Some, None, All, Result, Ok, Err, position, find, slice_get, slice_set, option_map, option_and_then, is_some, ◌==◌, ◌||◌, ◌&&◌, if◌then◌else◌}
+use Rattle.std.proofs.Common.{◌≡◌, inl, inr, ⊎_elim, true≢false, ℕ, ◌<◌, Bool, true, false, not, cond, List, map, take, refl, sym, ap, ◌∙◌, subst, arith}
+use Rattle.std.specs.Prelude.{Option, Some, None, All, Result, Ok, Err, slice_get, slice_set, option_map, option_and_then, is_some, ◌==◌, ◌||◌, ◌&&◌}
 use Rattle.std.specs.Option.{option_map_or}
 use Rattle.std.specs.Cmp.{nat_cmp_total, unsigned_tied}
 use Rattle.std.proofs.lemmas.Bool.Decides.{nat_tests}
@@ -27,7 +27,7 @@ use Rattle.replica_core.proofs.KeptLemmas.{found}
 use Rattle.replica_core.proofs.TakeLemmas.{commit_is}
 use Rattle.shared_replica.specs.History.{IsStep}
 use Rattle.applier.specs.Draining.{NothingIsOwned, IsDoneBelow, IsWaiting, IsSettledAt, Follows, SameGtids, SameChannels}
-use Rattle.applier.proofs.Lists.{one_value, on_test, on_option, equal_numbers, same_number, found_in_map, found_in_set, set_here, position_none, find_none, all_before}
+use Rattle.applier.proofs.Lists.{one_value, equal_numbers, same_number, found_in_map, found_in_set, set_here, position_none, find_none, all_before}
 use Rattle.applier.proofs.Seats.{cleared, cleared_itself}
 
 -- all earlier places of a channel are executed

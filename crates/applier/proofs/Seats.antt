@@ -1,7 +1,6 @@
 -- What seats hold, and what they hold after a rollback.
 use Rattle.std.proofs.Common.{◌≡◌, ⊎_elim, ℕ, ◌+◌, ◌<◌, ◌≤◌, Bool, true, false, not, cond, List, [], ◌∷◌, refl, sym, ap, ◌∙◌, subst, arith, zero, suc, true≢false}
 use Rattle.std.specs.Prelude.{Option, Some, None, slice_get, option_map, option_and_then, is_some, ◌==◌, ◌||◌}
-use Rattle.std.specs.Option.{option_map_or}
 use Rattle.std.specs.List.{filter_map, cons_option, list_any, range_with_len}
 use Rattle.std.specs.Cmp.{nat_cmp_total, unsigned_tied}
 use Rattle.std.specs.FinMap as finmap
@@ -13,10 +12,10 @@ use Rattle.apply_channel.specs.Channels.{ChannelValue, Received}
 use Rattle.replica_core.specs.declared.event.Spot.{Spot}
 use Rattle.replica_core.specs.declared.event.Reply.{Reply}
 use Rattle.replica_core.specs.State.{State, Seats, entry_at, owned_by, owned, with_gtid, seat_numbers}
-use Rattle.replica_core.specs.Machine.{Step, is_seat, Held, held, held_at, held_of, rollback, without_seat}
-use Rattle.replica_core.specs.Seated.{AreSeated, txn_of}
+use Rattle.replica_core.specs.Machine.{Step, is_seat, Held, held, held_at, held_of, rollback}
+use Rattle.replica_core.specs.Seated.{AreSeated}
 use Rattle.applier.specs.Draining.{NothingIsOwned}
-use Rattle.applier.proofs.Lists.{one_value, on_test, on_option, none_by, equal_numbers, same_number}
+use Rattle.applier.proofs.Lists.{on_test, on_option, none_by, equal_numbers, same_number}
 
 -- ---- what a busy seat holds
 

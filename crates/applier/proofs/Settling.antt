@@ -1,15 +1,14 @@
 -- What is done stays done.
-use Rattle.std.proofs.Common.{◌≡◌, ◌⊎◌, inl, inr, ⊎_elim, ℕ, ◌+◌, ◌<◌, ◌≤◌, true, List, length, refl, sym, ap, ◌∙◌, subst, arith}
+use Rattle.std.proofs.Common.{◌≡◌, inl, inr, ⊎_elim, ℕ, ◌+◌, ◌<◌, true, List, length, sym, ap, ◌∙◌, subst, arith}
 use Rattle.std.specs.Prelude.{Some, None, slice_get}
 use Rattle.std.specs.FinSet as set
 use Rattle.std.proofs.lemmas.Bool.{cases_eq}
 use Rattle.std.proofs.lemmas.Option.{slice_get_within}
-use Rattle.gtid_text.specs.declared.Gtid.{Gtid}
 use Rattle.apply_channel.specs.Channels.{ChannelValue, Received}
 use Rattle.replica_core.specs.State.{State}
-use Rattle.applier.specs.Draining.{IsDoneBelow, IsDone, IsSettledAt, AreStoppedOrDone, Follows, SameGtids, SameChannels}
+use Rattle.applier.specs.Draining.{IsDoneBelow, IsDone, IsSettledAt, AreStoppedOrDone, Follows, SameGtids}
 use Rattle.applier.proofs.Lists.{ends_by}
-use Rattle.applier.proofs.Moves.{same_gtids, same_channels}
+use Rattle.applier.proofs.Moves.{same_channels}
 
 pub follows_self : (s : State) → Follows s s
 follows_self s = record { executed = λ g h. h; channels = same_channels s.channels }

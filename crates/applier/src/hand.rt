@@ -1,6 +1,6 @@
 //! Tickets, and the deques through which they travel.
-ghost use Rattle.std.specs.Prelude.{◌≡◌, ℕ, IfOk, replicate, ◌++◌, ◌∷◌, [], ◌<◌, ◌≤◌, length, MatchOption, MatchResult, slice_get, slice_index_or, Some, set};
-ghost use Rattle.applier.specs.Tickets.{seen, took, reached};
+ghost use Rattle.std.specs.Prelude.{◌≡◌, ℕ, IfOk, replicate, ◌++◌, ◌∷◌, [], ◌<◌, ◌≤◌, length, MatchOption, MatchResult, slice_index_or, set};
+ghost use Rattle.applier.specs.Tickets.{seen, took, put_one, reached, nowhere, fresh_on, passes_on, own_views, ReachAll};
 ghost use Rattle.applier.specs.declared.hand.Seen.{Seen};
 
 use crate::room::add;
@@ -69,12 +69,12 @@ pub struct Reach {
 }
 
 impl Model for Reach {
-    ghost use Rattle.applier.specs.declared.hand.Seen.{Seen};
+    ghost use Rattle.applier.specs.Tickets.{OnDeque};
     ghost use Rattle.crossbeam_deque.specs.Handles.{view as view_of, IsPassOf, stealer_deque};
 
-    ghost Value = { Seen };
+    ghost Value = { OnDeque };
 
-    ghost view = { λ r. view_of r.pass };
+    ghost view = { λ r. record { deque = (stealer_deque r.stealer).0; seen = view_of r.pass } };
 
     ghost invariant = { λ r. IsPassOf (stealer_deque r.stealer) r.pass };
 }
@@ -101,11 +101,11 @@ pub struct Hand {
 impl Model for Hand {
     ghost use Rattle.std.specs.Prelude.{◌≡◌};
     ghost use Rattle.applier.specs.Tickets.{Reached};
-    ghost use Rattle.crossbeam_deque.specs.Handles.{worker_view, worker_flavor};
+    ghost use Rattle.crossbeam_deque.specs.Handles.{worker_deque, worker_view, worker_flavor};
 
     ghost Value = { Reached };
 
-    ghost view = { λ h. record { own = worker_view h.own; others = h.others.items } };
+    ghost view = { λ h. record { own = record { deque = (worker_deque h.own).0; seen = worker_view h.own }; others = h.others.items } };
 
     ghost invariant = { λ h. worker_flavor h.own ≡ 0 };
 }
@@ -113,14 +113,14 @@ impl Model for Hand {
 impl Hand {
     /// Puts a ticket at the back of its own deque, in one step. A ticket that finds no room comes back.
     pub fn push(&mut self, ticket: Ticket) -> Result<(), Ticket>
-        ensures { MatchResult result (λ _. self.new ≡ record { own = seen (self.old.own.put ++ ticket ∷ []) self.old.own.taken; others = self.old.others }) (λ t. (t ≡ ticket) × (self.new ≡ self.old)) }
+        ensures { MatchResult result (λ _. self.new ≡ reached (put_one ticket self.old.own) self.old.others) (λ t. (t ≡ ticket) × (self.new ≡ self.old)) }
     {
         self.own.push_as::<Puts>(ticket)
     }
 
     /// Takes the first ticket of its own deque, in one step.
     pub fn pop(&mut self) -> Option<Ticket>
-        ensures { MatchOption result (self.new ≡ self.old) (λ t. self.new ≡ record { own = seen self.old.own.put (self.old.own.taken ++ t ∷ []); others = self.old.others }) }
+        ensures { MatchOption result (self.new ≡ self.old) (λ t. self.new ≡ reached (took t self.old.own) self.old.others) }
     {
         self.own.pop_as::<Takes>()
     }
@@ -135,7 +135,7 @@ impl Hand {
     /// Takes the first ticket of the deque of worker `from`, in one step.
     pub fn steal(&mut self, from: usize) -> Option<Ticket>
         requires { from < length self.old.others }
-        ensures { MatchOption result (self.new ≡ self.old) (λ t. self.new ≡ reached self.old.own (set self.old.others from (took t (slice_index_or self.old.others from (seen [] []))))) }
+        ensures { MatchOption result (self.new ≡ self.old) (λ t. self.new ≡ reached self.old.own (set self.old.others from (took t (slice_index_or self.old.others from nowhere)))) }
     {
         let reach = &mut self.others[from];
         reach.steal()
@@ -143,7 +143,7 @@ impl Hand {
 
     /// A deque with no passes yet.
     fn alone(alloc: Global) -> Result<Hand, AllocError>
-        ensures { IfOk result (λ h. h ≡ reached (seen [] []) []) }
+        ensures { IfOk result (λ h. h.own.seen ≡ seen [] []) }
     {
         let own = Own::fifo_as(alloc, 16)?;
         Ok(Hand {
@@ -154,7 +154,7 @@ impl Hand {
 
     /// A new pass on its deque, for another worker.
     fn reach(&self) -> Result<Reach, AllocError>
-        ensures { IfOk result (λ r. r ≡ seen [] []) }
+        ensures { IfOk result (λ r. r ≡ fresh_on self.now.own.deque) }
     {
         let stealer = self.own.stealer()?;
         let pass = stealer.pass();
@@ -171,7 +171,7 @@ impl Hand {
 
 /// A pass on each deque.
 fn row_of(alloc: Global, hands: &[Hand]) -> Result<Vec<Reach>, AllocError>
-    ensures { IfOk result (λ v. v.items ≡ replicate (length hands.now) (seen [] [])) }
+    ensures { IfOk result (λ v. v.items ≡ passes_on hands.now) }
 {
     let mut others = Vec::with_capacity(alloc, hands.len())?;
     for hand in hands {
@@ -180,22 +180,31 @@ fn row_of(alloc: Global, hands: &[Hand]) -> Result<Vec<Reach>, AllocError>
     Ok(others)
 }
 
-/// The deques of n workers, each with passes on the others'.
+/// The deques of n workers, each with a pass on the deque of each worker, in order.
 pub fn hands(alloc: Global, n: usize) -> Result<Vec<Hand>, AllocError>
     requires { (1 ≤ n) × (n ≤ 64) }
+    ensures fresh { IfOk result (λ v. own_views v.items ≡ replicate n (seen [] [])) }
+    ensures reach { IfOk result (λ v. ReachAll v.items) }
     ensures count { IfOk result (λ v. length v.items ≡ n) }
-    ensures each { IfOk result (λ v. (i : ℕ) → i < n → slice_get v.items i ≡ Some (reached (seen [] []) (replicate n (seen [] [])))) }
 {
     let mut hands = all_alone(alloc, n)?;
     for me in 0..n {
         let others = row_of(alloc, hands.as_slice())?;
-        hands[me].meet(others);
+        meet_at(&mut hands, me, others);
     }
     Ok(hands)
 }
 
+fn meet_at(hands: &mut Vec<Hand>, me: usize, others: Vec<Reach>)
+    requires { me < length hands.old.items }
+    ensures { hands.new.items ≡ set hands.old.items me (reached (slice_index_or hands.old.items me (reached nowhere [])).own others.items) }
+{
+    hands[me].meet(others);
+}
+
+/// Deques with no passes yet.
 fn all_alone(alloc: Global, n: usize) -> Result<Vec<Hand>, AllocError>
-    ensures { IfOk result (λ v. v.items ≡ replicate n (reached (seen [] []) [])) }
+    ensures { IfOk result (λ v. own_views v.items ≡ replicate n (seen [] [])) }
 {
     let mut hands = Vec::with_capacity(alloc, n)?;
     for _i in 0..n {

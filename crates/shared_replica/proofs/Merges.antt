@@ -1,5 +1,5 @@
 -- The receipts that were found at the places below some number.
-use Rattle.std.proofs.Common.{◌≡◌, ◌⊎◌, ℕ, zero, suc, replicate, ◌+◌, ◌<◌, List, length, get_or, set, Some, slice_get, sym, ◌∙◌, ap, ⊎_elim, inl, inr, arith, get_or-set_same, get_or-set_other}
+use Rattle.std.proofs.Common.{◌≡◌, ◌⊎◌, ℕ, zero, suc, replicate, ◌+◌, ◌<◌, ◌≤◌, List, length, get_or, set, Some, slice_get, sym, ◌∙◌, ap, ⊎_elim, inl, inr, arith, get_or-set_same, get_or-set_other}
 use Rattle.std.proofs.lemmas.Bool.{cases_eq}
 use Rattle.std.proofs.lemmas.Option.{slice_get_within}
 use Rattle.shared_replica.specs.declared.step.Step.{Step}
@@ -12,6 +12,7 @@ pub record Merged (passes : List PassValue) (steps : List Step) (upto : ℕ) (cu
   pub below : (i k : ℕ) (r : Receipt) → At passes i k r → k < get_or cursors i 0 → (r.place < upto) × (slice_get steps r.place ≡ Some r.step)
   pub rises : (i j k : ℕ) (r s : Receipt) → At passes i j r → At passes i k s → j < k → k < get_or cursors i 0 → r.place < s.place
   pub apart : (i j k l : ℕ) (r s : Receipt) → At passes i k r → At passes j l s → k < get_or cursors i 0 → l < get_or cursors j 0 → r.place ≡ s.place → (i ≡ j) × (k ≡ l)
+  pub covers : (q : ℕ) → q < upto → (i : ℕ) × (k : ℕ) × (r : Receipt) × At passes i k r × (r.place ≡ q)
 
 same_receipt : (passes : List PassValue) (i j k l : ℕ) (r s : Receipt) → i ≡ j → k ≡ l → At passes i k r → At passes j l s → r ≡ s
 same_receipt passes i j k l r s e f a b =
@@ -66,18 +67,24 @@ merged_step passes steps upto cursors at new m room there place stands = record 
       (λ (last : (j ≡ at) × (l ≡ get_or cursors at 0)). (first.0 ∙ sym last.0, first.1 ∙ sym last.1))
       (before cursors at j l room h'))
       (before cursors at i k room h);
+  covers = λ q less.
+      ⊎_elim
+      (λ (here : q ≡ upto). (at, get_or cursors at 0, new, there, place ∙ sym here))
+      (λ other. m.covers q (omega (arith, less, other)))
+      (cases_eq q upto);
 }
 
 -- where each cursor is at the end of its pass, that is said of all receipts
 pub merged_whole : (passes : List PassValue) (steps : List Step) (upto : ℕ) (cursors : List ℕ)
-    → Merged passes steps upto cursors → ((i : ℕ) (p : PassValue) → slice_get passes i ≡ Some p → get_or cursors i 0 ≡ length p.receipts)
+    → length steps ≤ upto → Merged passes steps upto cursors → ((i : ℕ) (p : PassValue) → slice_get passes i ≡ Some p → get_or cursors i 0 ≡ length p.receipts)
     → IsMerge passes steps
-merged_whole passes steps upto cursors m ends =
+merged_whole passes steps upto cursors all m ends =
     let within : (i k : ℕ) (r : Receipt) → At passes i k r → k < get_or cursors i 0 =
     λ i k r a. omega (arith, slice_get_within a.0.receipts k r a.2, ends i a.0 a.1) in record {
       stands = λ i k r a. (m.below i k r a (within i k r a)).1;
       rises = λ i j k r s a b less. m.rises i j k r s a b less (within i k s b);
       apart = λ i j k l r s a b same. m.apart i j k l r s a b (within i k r a) (within j l s b) same;
+      covers = λ q less. m.covers q (omega (arith, less, all));
     }
 
 nothing_before : (n i k : ℕ) → k < get_or (replicate n 0) i 0 → ⊥
@@ -90,4 +97,5 @@ merged_none n passes steps = record {
   below = λ i k r a h. absurd (nothing_before n i k h);
   rises = λ i j k r s a b less h. absurd (nothing_before n i k h);
   apart = λ i j k l r s a b h h' same. absurd (nothing_before n i k h);
+  covers = λ q less. absurd (omega (arith, less));
 }

@@ -1,5 +1,5 @@
 -- What is known once a book is closed.
-use Rattle.std.specs.Prelude.{◌≡◌, ℕ, ◌==◌, ◌<◌, List, [], ◌∷◌, map, slice_get, Some, if◌then◌else◌}
+use Rattle.std.specs.Prelude.{◌≡◌, ℕ, ◌==◌, ◌<◌, List, [], ◌∷◌, map, length, slice_get, Some, if◌then◌else◌}
 use Rattle.std.specs.List.{sum_by}
 use Rattle.commit_ledger.specs.Tallies.{Tally, no_tally}
 use Rattle.replica_core.specs.State.{Replica}
@@ -25,11 +25,16 @@ Rises passes = (i j k : ℕ) (r s : Receipt) → At passes i j r → At passes i
 abbrev pub Apart : List PassValue → Type 0
 Apart passes = (i j k l : ℕ) (r s : Receipt) → At passes i k r → At passes j l s → r.place ≡ s.place → (i ≡ j) × (k ≡ l)
 
--- the receipts are the steps: each at its place, rising in each pass, and no two at one place
+-- each place has a receipt
+abbrev pub Covers : List PassValue → List Step → Type 0
+Covers passes steps = (place : ℕ) → place < length steps → (i : ℕ) × (k : ℕ) × (r : Receipt) × At passes i k r × (r.place ≡ place)
+
+-- the receipts are the steps: each at its place, rising in each pass, no two at one place, and one at each
 pub record IsMerge (passes : List PassValue) (steps : List Step) : Type 0 where
   pub stands : Stands passes steps
   pub rises : Rises passes
   pub apart : Apart passes
+  pub covers : Covers passes steps
 
 abbrev pub sheet : PassValue → Sheet
 sheet p = record { seat = p.seat; receipts = p.receipts }

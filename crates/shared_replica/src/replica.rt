@@ -93,8 +93,9 @@ impl<N: Naming> SharedReplica<N> {
     }
 
     /// Ends the sharing. It is refused where there are fewer passes than seats, or where the receipts
-    /// are not the steps: each step with the line at its place, the places of a pass rising, and no
-    /// place twice. All is then handed back. It waits for nothing and takes no memory.
+    /// are not the steps: each step with the line at its place, the places of a pass rising, no place
+    /// twice, and none without a receipt. All is then handed back. It waits for nothing and takes no
+    /// memory.
     pub fn close(self, passes: Vec<Pass<N>>) -> Result<ClosedBook, (SharedReplica<N>, Vec<Pass<N>>)>
         ensures ok { IfOk result (λ b. IsClosed self passes.items b) }
         ensures err { IfErr result (λ r. (r.0 ≡ self) × (r.1.items ≡ passes.items)) }

@@ -1,7 +1,4 @@
-use Rattle.std.proofs.Common.{subst}
-use Rattle.replica_core.specs.State.{Replica}
-use Rattle.replica_core.specs.Seated.{AreSeated}
-use Rattle.applier.proofs.Seats.{more_seats, none_beyond}
+use Rattle.applier.proofs.Seats.{more_seats}
 use Rattle.applier.proofs.Drainings.{drains_further}
 use Rattle.applier.proofs.draining.free_all.Goals as goal
 

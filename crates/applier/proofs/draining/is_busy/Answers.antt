@@ -1,4 +1,4 @@
-use Rattle.std.proofs.Common.{◌≡◌, List, ℕ, false, sym, ap, ◌∙◌, ◌==◌}
+use Rattle.std.proofs.Common.{ℕ, sym, ap, ◌∙◌, ◌==◌}
 use Rattle.std.specs.List.{list_any}
 use Rattle.gtid_text.specs.declared.Gtid.{Gtid}
 use Rattle.applier.proofs.Seats.{not_listed}

@@ -2,7 +2,7 @@ use Rattle.std.proofs.Common.{◌≡◌, ◌++◌, List, map, take, drop, length
 use lib.Seq.{take-append_seam}
 use Rattle.applier.specs.declared.workers.Worker.{Worker}
 use Rattle.shared_replica.specs.Passes.{PassValue}
-use Rattle.applier.specs.Tickets.{reached, seen}
+use Rattle.applier.specs.Tickets.{reached, nowhere}
 use Rattle.applier.proofs.GoingOn.{each_pass}
 use Rattle.applier.proofs.workers.run_workers.Goals as goal
 
@@ -15,6 +15,6 @@ returns-clause-each g c = λ i d less.
     let long : c.hired-workers.result.len ≡ length new = omega (arith, same, c.as_mut_slice.ensures.len) in
     let rest = drop (length new) c.hired-workers.result.items in
     let back : take c.hired-workers.result.len (new ++ rest) ≡ new = ap (λ n. take n (new ++ rest)) long ∙ take-append_seam new rest in
-    each_pass pass old new _ _ (record { pass = d; hand = reached (seen [] []) []; me = 0; fault = None })
+    each_pass pass old new _ _ (record { pass = d; hand = reached nowhere []; me = 0; fault = None })
     (ap (λ (l : List (Worker g.row.N.Denot)). map pass l) c.as_mut_slice.ensures.value ∙ c.hired-workers.ensures)
     (c.dismissed.ensures ∙ ap (λ (l : List (Worker g.row.N.Denot)). map pass l) back) same c.serve_all.ensures i d less
