@@ -11,7 +11,6 @@ use std::marker::Brand;
 use std::process::Abort;
 use std::sync::Wait;
 use std::test::Fail;
-use std::thread::{Threads, join};
 
 const A: u128 = 0xaaaa_aaaa_aaaa_aaaa_aaaa_aaaa_aaaa_aaaa;
 
@@ -88,8 +87,54 @@ fn closed<N: Naming>(
     Ok(replica.close(passes).ok().ok_or("a closed book")?)
 }
 
+/// Whether the executed set is shown with the first entry alone.
+fn looks_once<N: Naming, R: Wait>(
+    rt: &R,
+    alloc: Global,
+    replica: &SharedReplica<N>,
+    pass: &mut Pass<N>,
+) -> bool {
+    let Ok(Reply::Shown(shown)) = replica.look(rt, alloc, pass) else {
+        return false;
+    };
+    shown.contains(&gtid(A, 1)) && shown.count() == 1
+}
+
 /// The first seat receives both entries and commits the first of them, the second seat the other one;
 /// before that it may look.
+fn work<N: Naming, R: Wait>(
+    rt: &R,
+    alloc: Global,
+    replica: &SharedReplica<N>,
+    first: &mut Pass<N>,
+    second: &mut Pass<N>,
+    looks: bool,
+) -> Result<bool, Fail> {
+    receives(rt, alloc, replica, first)?;
+    if !commits(rt, alloc, replica, first, 0) {
+        return Ok(false);
+    }
+    if looks && !looks_once(rt, alloc, replica, second) {
+        return Ok(false);
+    }
+    Ok(commits(rt, alloc, replica, second, 1))
+}
+
+/// Whether the book has this many steps and two commits, the receipts of the first seat at places 0 to
+/// 5 and those of the second behind them, and both entries executed.
+fn shows(book: &ClosedBook, steps: usize) -> bool {
+    let counts = book.counts();
+    let second = book.receipts(2);
+    counts.commits == 2
+        && counts.steps == steps as u64
+        && book.steps().len() == steps
+        && book.receipts(1).len() == 6
+        && are_from(book.receipts(1), 0)
+        && second.len().saturating_add(6) == steps
+        && are_from(second, 6)
+        && has_both(book)
+}
+
 fn two_seats<N: Naming, R: Abort + Wait>(
     rt: &R,
     alloc: Global,
@@ -107,28 +152,9 @@ fn two_seats<N: Naming, R: Abort + Wait>(
     };
     let mut second = passes.pop().ok_or("a second pass")?;
     let mut first = passes.pop().ok_or("a first pass")?;
-    receives(rt, alloc, &replica, &mut first)?;
-    assert!(rt; commits(rt, alloc, &replica, &mut first, 0));
-    if looks {
-        let Reply::Shown(shown) = replica.look(rt, alloc, &mut second)? else {
-            return Err("the executed set".into());
-        };
-        assert!(rt; shown.contains(&gtid(A, 1)) && shown.count() == 1);
-    }
-    assert!(rt; commits(rt, alloc, &replica, &mut second, 1));
+    assert!(rt; work(rt, alloc, &replica, &mut first, &mut second, looks)?);
     let book = closed(replica, passes, first, second)?;
-    let steps = if looks { 9 } else { 8 };
-    assert!(rt; book.steps().len() == steps);
-    assert_eq!(rt;
-        book.counts(),
-        Counts {
-            steps: steps as u64,
-            commits: 2
-        }
-    );
-    assert!(rt; book.receipts(1).len() == 6 && are_from(book.receipts(1), 0));
-    assert!(rt; book.receipts(2).len() == steps - 6 && are_from(book.receipts(2), 6));
-    assert!(rt; has_both(&book));
+    assert!(rt; shows(&book, if looks { 9 } else { 8 }));
     Ok(())
 }
 
@@ -144,65 +170,6 @@ fn two_seats_by_turns(rt: HostRuntime) -> Result<(), Fail> {
 fn the_second_seat_looks(rt: HostRuntime) -> Result<(), Fail> {
     let alloc = rt.alloc();
     two_seats::<Brand, _>(&rt, alloc, Blanks::new(2), opened(alloc)?, true)
-}
-
-/// A seat's calls from a thread of its own; the pass comes back.
-fn in_its_thread<N: Naming, R: Wait>(
-    rt: &R,
-    alloc: Global,
-    replica: &SharedReplica<N>,
-    pass: Pass<N>,
-    place: usize,
-) -> (Pass<N>, bool) {
-    let mut pass = pass;
-    let done = commits(rt, alloc, replica, &mut pass, place);
-    (pass, done)
-}
-
-fn two_threads<N: Naming + Send + Sync, R: Abort + Wait + Threads + Sync>(
-    rt: &R,
-    alloc: Global,
-    blanks: Blanks,
-    core: Core,
-) -> Result<(), Fail>
-    requires steps { (blanks.steps.name ≡ N.steps_name) × (blanks.steps.parts ≡ N.seats) }
-    requires commits { (blanks.commits.name ≡ N.commits_name) × (blanks.commits.parts ≡ N.seats) }
-    requires opening { core ≡ N.opening }
-    requires two { N.seats ≡ 2 }
-{
-    let Ok((replica, mut passes)) = SharedReplica::<N>::open(alloc, blanks, core, 2) else {
-        return Err("memory".into());
-    };
-    let second = passes.pop().ok_or("a second pass")?;
-    let mut first = passes.pop().ok_or("a first pass")?;
-    receives(rt, alloc, &replica, &mut first)?;
-    let shared = &replica;
-    let (one, two) = join(
-        rt,
-        move || in_its_thread(rt, alloc, shared, first, 0),
-        move || in_its_thread(rt, alloc, shared, second, 1),
-    );
-    assert!(rt; one.1 && two.1);
-    let book = closed(replica, passes, one.0, two.0)?;
-    assert_eq!(rt;
-        book.counts(),
-        Counts {
-            steps: 8,
-            commits: 2
-        }
-    );
-    assert_eq!(rt; book.steps().len(), 8);
-    assert_eq!(rt; (book.receipts(1).len(), book.receipts(2).len()), (6, 2));
-    assert!(rt; has_both(&book));
-    Ok(())
-}
-
-/// Each seat in a thread of its own, once the entries are received: eight steps and two commits, in
-/// some order.
-#[test]
-fn two_seats_in_threads(rt: HostRuntime) -> Result<(), Fail> {
-    let alloc = rt.alloc();
-    two_threads::<Brand, _>(&rt, alloc, Blanks::new(2), opened(alloc)?)
 }
 
 /// Whether a channel is opened as number 0 and may go on.
@@ -268,20 +235,25 @@ fn calls<N: Naming, R: Wait>(
     )
 }
 
+/// Whether a book has purged number 1 of its own source, and has no step and no count.
+fn is_fresh(book: &ClosedBook) -> bool {
+    let counts = book.counts();
+    counts.steps == 0
+        && counts.commits == 0
+        && book.steps().is_empty()
+        && book.state().purged().contains(&gtid(C, 1))
+}
+
+/// A book that is opened with a copy of what another one shows.
+fn again(alloc: Global, book: &ClosedBook) -> Result<ClosedBook, Fail> {
+    let copy = book.state().copy(alloc)?;
+    Ok(ClosedBook::start(alloc, copy))
+}
+
 /// Whether a copy of what a book shows opens a book with that state and without a step.
 fn starts_again(alloc: Global, book: &ClosedBook) -> Result<bool, Fail> {
-    let copy = book.state().copy(alloc)?;
-    let again = ClosedBook::start(alloc, copy);
-    let none = Counts {
-        steps: 0,
-        commits: 0,
-    };
-    Ok(
-        again.state().is_equal(book.state())
-            && again.state().purged().contains(&gtid(C, 1))
-            && again.steps().is_empty()
-            && again.counts() == none,
-    )
+    let other = again(alloc, book)?;
+    Ok(is_fresh(&other) && other.state().is_equal(book.state()))
 }
 
 fn one_seat<N: Naming, R: Abort + Wait>(
