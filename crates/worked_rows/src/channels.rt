@@ -1,0 +1,211 @@
+//! What a channel has received, which place waits for which, and what is left once a GTID is executed.
+use crate::lines::{BUNDLE, joined};
+use apply_channel::Channel;
+use gtid_text::{Gtid, SourceId};
+use std::alloc::Global;
+use std::test::Fail;
+use txn_journal::{decode, decode_bundle};
+
+/// Two inserts, and an update of the first row.
+const THREE: [&str; 12] = [
+    "journal 1",
+    "previous -",
+    "txn aaaaaaaa-aaaa-aaaa-aaaa-aaaaaaaaaaaa:1",
+    "ins t 1 x61 null",
+    "end",
+    "txn aaaaaaaa-aaaa-aaaa-aaaa-aaaaaaaaaaaa:2",
+    "ins t 2 x62 null",
+    "end",
+    "txn aaaaaaaa-aaaa-aaaa-aaaa-aaaaaaaaaaaa:3",
+    "upd t 1 x61 null | 1 x61 5",
+    "end",
+    "close",
+];
+
+/// An insert, no change, and an update of that row.
+const EMPTY: [&str; 11] = [
+    "journal 1",
+    "previous -",
+    "txn aaaaaaaa-aaaa-aaaa-aaaa-aaaaaaaaaaaa:1",
+    "ins t 1 x61 null",
+    "end",
+    "txn aaaaaaaa-aaaa-aaaa-aaaa-aaaaaaaaaaaa:2",
+    "end",
+    "txn aaaaaaaa-aaaa-aaaa-aaaa-aaaaaaaaaaaa:3",
+    "upd t 1 x61 null | 1 x61 5",
+    "end",
+    "close",
+];
+
+/// A delete, and an insert of another row with the same unique key.
+const UNIQUE: [&str; 9] = [
+    "journal 1",
+    "previous -",
+    "txn aaaaaaaa-aaaa-aaaa-aaaa-aaaaaaaaaaaa:1",
+    "del t 1 x61 null",
+    "end",
+    "txn aaaaaaaa-aaaa-aaaa-aaaa-aaaaaaaaaaaa:2",
+    "ins t 2 x61 null",
+    "end",
+    "close",
+];
+
+/// The same with a null, which is no key.
+const NULLS: [&str; 9] = [
+    "journal 1",
+    "previous -",
+    "txn aaaaaaaa-aaaa-aaaa-aaaa-aaaaaaaaaaaa:1",
+    "del t 1 null null",
+    "end",
+    "txn aaaaaaaa-aaaa-aaaa-aaaa-aaaaaaaaaaaa:2",
+    "ins t 2 null null",
+    "end",
+    "close",
+];
+
+/// A channel that receives entries of a journal, and what it answers about a place before and after
+/// one GTID is executed.
+struct Case {
+    journal: &'static [&'static str],
+    received: &'static [usize],
+    place: usize,
+    before: Option<usize>,
+    executed: u64,
+    after: Option<usize>,
+    next: Option<usize>,
+}
+
+const CASES: [Case; 7] = [
+    Case {
+        journal: &THREE,
+        received: &[0, 1, 2],
+        place: 2,
+        before: Some(0),
+        executed: 1,
+        after: None,
+        next: Some(1),
+    },
+    Case {
+        journal: &UNIQUE,
+        received: &[0, 1],
+        place: 1,
+        before: Some(0),
+        executed: 1,
+        after: None,
+        next: Some(1),
+    },
+    Case {
+        journal: &NULLS,
+        received: &[0, 1],
+        place: 1,
+        before: None,
+        executed: 1,
+        after: None,
+        next: Some(1),
+    },
+    Case {
+        journal: &THREE,
+        received: &[0, 2],
+        place: 1,
+        before: Some(0),
+        executed: 1,
+        after: None,
+        next: Some(1),
+    },
+    Case {
+        journal: &EMPTY,
+        received: &[0, 1, 2],
+        place: 1,
+        before: None,
+        executed: 2,
+        after: None,
+        next: Some(0),
+    },
+    Case {
+        journal: &EMPTY,
+        received: &[0, 1, 2],
+        place: 2,
+        before: Some(0),
+        executed: 2,
+        after: Some(0),
+        next: Some(0),
+    },
+    Case {
+        journal: &THREE,
+        received: &[0, 0],
+        place: 1,
+        before: Some(0),
+        executed: 1,
+        after: None,
+        next: None,
+    },
+];
+
+/// A channel that has received these entries of a journal.
+fn received(alloc: Global, lines: &[&str], places: &[usize]) -> Result<Channel, Fail> {
+    let text = joined(alloc, &BUNDLE)?;
+    let bundle = decode_bundle(alloc, text.as_bytes())?;
+    let first = bundle.channels().first().ok_or("a channel")?;
+    let name = first.name.clone()?;
+    let mut channel = Channel::open(alloc, bundle.schema().clone()?, name, false);
+    let text = joined(alloc, lines)?;
+    let journal = decode(alloc, text.as_bytes())?;
+    for place in places {
+        let entry = journal.entries().get(*place).ok_or("an entry")?;
+        channel.receive(alloc, entry, false)?;
+    }
+    Ok(channel)
+}
+
+fn blocker(channel: &Channel, place: usize) -> Option<usize> {
+    if place < channel.len() {
+        channel.blocker(place)
+    } else {
+        None
+    }
+}
+
+/// How many places show the transaction of a GTID, and how many have that GTID.
+fn shown(channel: &Channel, gtid: &Gtid) -> (usize, usize) {
+    let mut with = 0usize;
+    let mut all = 0usize;
+    for place in 0..channel.len() {
+        if let Some((other, txn)) = channel.entry(place) {
+            if other == *gtid {
+                all = all.saturating_add(1);
+                if txn.is_some() {
+                    with = with.saturating_add(1);
+                }
+            }
+        }
+    }
+    (with, all)
+}
+
+/// A place waits for the least earlier one with a common key; executed, its GTID keeps its places and
+/// stays received, and its transaction is gone from all of them. A copy is equal until then.
+#[test]
+fn places_wait_and_are_executed(rt: HostRuntime) -> Result<(), Fail> {
+    let alloc = rt.alloc();
+    for case in &CASES {
+        let mut channel = received(alloc, case.journal, case.received)?;
+        assert_eq!(rt; blocker(&channel, case.place), case.before);
+        assert_eq!(rt; channel.next_ready(0), Some(0));
+        let gtid = Gtid {
+            source: SourceId::from_bits(0xaaaa_aaaa_aaaa_aaaa_aaaa_aaaa_aaaa_aaaa),
+            number: case.executed,
+        };
+        let (_, all) = shown(&channel, &gtid);
+        let copy = channel.copy(alloc)?;
+        assert!(rt; copy.is_equal(&channel));
+        channel.mark_executed(&gtid);
+        assert!(rt; !copy.is_equal(&channel));
+        assert_eq!(rt; blocker(&channel, case.place), case.after);
+        assert_eq!(rt; channel.next_ready(0), case.next);
+        assert_eq!(rt; channel.is_settled(), case.next.is_none());
+        assert_eq!(rt; shown(&channel, &gtid), (0, all));
+        assert!(rt; channel.received().contains(&gtid));
+        assert_eq!(rt; channel.len(), case.received.len());
+    }
+    Ok(())
+}
