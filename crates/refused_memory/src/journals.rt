@@ -1,4 +1,6 @@
 //! Journals that are read, and asked what they send.
+ghost use Rattle.std.specs.Prelude.{◌≤◌};
+
 use crate::fault::Fault;
 use crate::sets::{set_of, text_of};
 use auto_position::{PositionFault, plan};
@@ -29,7 +31,9 @@ close
 ";
 
 /// Feeds a text in pieces of this length. A reader that was refused memory answers that once more.
-fn fed(alloc: Global, text: &[u8], length: usize) -> Result<Reader, Fault> {
+fn fed(alloc: Global, text: &[u8], length: usize) -> Result<Reader, Fault>
+    requires { 1 ≤ length }
+{
     let mut reader = Reader::start(alloc);
     for piece in text.chunks(length) {
         if let Err(fault) = reader.feed(alloc, piece) {
@@ -43,7 +47,9 @@ fn fed(alloc: Global, text: &[u8], length: usize) -> Result<Reader, Fault> {
 }
 
 /// Reads the text that was cut, in pieces of this length: its whole entries, then how it ends.
-fn cut_into(rt: &impl Print, alloc: Global, length: usize) -> Result<(), Fault> {
+fn cut_into(rt: &impl Print, alloc: Global, length: usize) -> Result<(), Fault>
+    requires { 1 ≤ length }
+{
     let mut reader = match fed(alloc, CUT, length) {
         Ok(reader) => reader,
         Err(Fault::Memory) => fed(alloc, CUT, length)?,
@@ -72,7 +78,10 @@ pub fn in_pieces(rt: &impl Print, alloc: Global) -> Result<(), Fault> {
 fn journal_of(alloc: Global, text: &[u8]) -> Result<Journal, Fault> {
     match decode(alloc, text) {
         Ok(journal) => Ok(journal),
-        Err(_) => decode(alloc, text).map_err(|_| Fault::Memory),
+        Err(_) => match decode(alloc, text) {
+            Ok(journal) => Ok(journal),
+            Err(_) => Err(Fault::Memory),
+        },
     }
 }
 
@@ -122,8 +131,32 @@ fn print_plan(
 pub fn positioned(rt: &impl Print, alloc: Global) -> Result<(), Fault> {
     let journal = journal_of(alloc, PURGED)?;
     let own = SourceId::from_bits(0xaaaaaaaa_aaaa_aaaa_aaaa_aaaaaaaaaaaa);
-    print_plan(rt, alloc, own, &journal, "aaaaaaaa-aaaa-aaaa-aaaa-aaaaaaaaaaaa:1-2")?;
-    print_plan(rt, alloc, own, &journal, "aaaaaaaa-aaaa-aaaa-aaaa-aaaaaaaaaaaa:1-3")?;
-    print_plan(rt, alloc, own, &journal, "aaaaaaaa-aaaa-aaaa-aaaa-aaaaaaaaaaaa:1-9")?;
-    print_plan(rt, alloc, own, &journal, "aaaaaaaa-aaaa-aaaa-aaaa-aaaaaaaaaaaa:2-9")
+    print_plan(
+        rt,
+        alloc,
+        own,
+        &journal,
+        "aaaaaaaa-aaaa-aaaa-aaaa-aaaaaaaaaaaa:1-2",
+    )?;
+    print_plan(
+        rt,
+        alloc,
+        own,
+        &journal,
+        "aaaaaaaa-aaaa-aaaa-aaaa-aaaaaaaaaaaa:1-3",
+    )?;
+    print_plan(
+        rt,
+        alloc,
+        own,
+        &journal,
+        "aaaaaaaa-aaaa-aaaa-aaaa-aaaaaaaaaaaa:1-9",
+    )?;
+    print_plan(
+        rt,
+        alloc,
+        own,
+        &journal,
+        "aaaaaaaa-aaaa-aaaa-aaaa-aaaaaaaaaaaa:2-9",
+    )
 }

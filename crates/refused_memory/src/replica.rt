@@ -1,8 +1,13 @@
 //! Replicas that are asked one event after another.
+ghost use Rattle.std.specs.Prelude.{◌≡◌};
+ghost use Rattle.journal.specs.Writing.{is_number};
+ghost use Rattle.replica_core.specs.Machine.{is_numbered};
+
 use crate::fault::Fault;
 use crate::sets::text_of;
 use gtid_report::render_state;
-use gtid_text::{Gtid, SourceId};
+use gtid_text::Gtid;
+use journal::GREATEST;
 use replica_core::{Core, Event, Reply};
 use std::alloc::Global;
 use txn_journal::{Bundle, decode_bundle};
@@ -66,7 +71,10 @@ done
 fn bundle_of(alloc: Global, text: &[u8]) -> Result<Bundle, Fault> {
     match decode_bundle(alloc, text) {
         Ok(bundle) => Ok(bundle),
-        Err(_) => decode_bundle(alloc, text).map_err(|_| Fault::Memory),
+        Err(_) => match decode_bundle(alloc, text) {
+            Ok(bundle) => Ok(bundle),
+            Err(_) => Err(Fault::Memory),
+        },
     }
 }
 
@@ -77,8 +85,36 @@ fn copy_of(alloc: Global, core: &Core) -> Result<Core, Fault> {
     }
 }
 
+#[tactic(auto, unfolding(gtid_set::specs::Sets::greatest))]
+fn is_number(number: u64) -> bool
+    ensures { result ≡ is_number number }
+{
+    1 <= number && number <= GREATEST
+}
+
+/// Whether an event may be asked of a replica.
+fn is_numbered(event: &Event) -> bool
+    ensures { result ≡ is_numbered event.now }
+{
+    match event {
+        Event::OpenChannel(_, _) => true,
+        Event::Position(_) => true,
+        Event::Receive(_, entry) => is_number(entry.gtid.number),
+        Event::Take(_, _, _) => true,
+        Event::Commit(_) => true,
+        Event::Rollback(_) => true,
+        Event::Restart(_) => true,
+        Event::Local(_) => true,
+        Event::Purge(_) => true,
+        Event::Look => true,
+    }
+}
+
 /// One event; once more where memory was refused, which must have changed nothing.
 fn asked(alloc: Global, core: &mut Core, event: &Event) -> Result<Reply, Fault> {
+    if !is_numbered(event) {
+        return Err(Fault::Answer);
+    }
     let before = copy_of(alloc, core)?;
     match core.step(alloc, event) {
         Ok(reply) => Ok(reply),

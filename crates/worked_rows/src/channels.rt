@@ -182,30 +182,51 @@ fn shown(channel: &Channel, gtid: &Gtid) -> (usize, usize) {
     (with, all)
 }
 
+/// Whether a place waits as it is to, with nothing executed.
+fn waits(channel: &Channel, case: &Case) -> bool {
+    blocker(channel, case.place) == case.before && channel.next_ready(0) == Some(0)
+}
+
+/// A GTID is executed. Whether a copy was equal before, and is not any more.
+fn executes(alloc: Global, channel: &mut Channel, gtid: &Gtid) -> Result<bool, Fail> {
+    let copy = channel.copy(alloc)?;
+    let same = copy.is_equal(channel);
+    channel.mark_executed(gtid);
+    Ok(same && !copy.is_equal(channel))
+}
+
+/// Whether the GTID, which has this many places, is executed at all of them, and the place waits as it
+/// is to then.
+fn is_done(channel: &Channel, case: &Case, gtid: &Gtid, all: usize) -> bool {
+    blocker(channel, case.place) == case.after
+        && channel.next_ready(0) == case.next
+        && channel.is_settled() == case.next.is_none()
+        && shown(channel, gtid) == (0, all)
+        && channel.received().contains(gtid)
+        && channel.len() == case.received.len()
+}
+
+/// Whether a channel does as the case says.
+fn goes(alloc: Global, case: &Case) -> Result<bool, Fail> {
+    let mut channel = received(alloc, case.journal, case.received)?;
+    let gtid = Gtid {
+        source: SourceId::from_bits(0xaaaa_aaaa_aaaa_aaaa_aaaa_aaaa_aaaa_aaaa),
+        number: case.executed,
+    };
+    let (_, all) = shown(&channel, &gtid);
+    if !waits(&channel, case) || !executes(alloc, &mut channel, &gtid)? {
+        return Ok(false);
+    }
+    Ok(is_done(&channel, case, &gtid, all))
+}
+
 /// A place waits for the least earlier one with a common key; executed, its GTID keeps its places and
 /// stays received, and its transaction is gone from all of them. A copy is equal until then.
 #[test]
 fn places_wait_and_are_executed(rt: HostRuntime) -> Result<(), Fail> {
     let alloc = rt.alloc();
     for case in &CASES {
-        let mut channel = received(alloc, case.journal, case.received)?;
-        assert_eq!(rt; blocker(&channel, case.place), case.before);
-        assert_eq!(rt; channel.next_ready(0), Some(0));
-        let gtid = Gtid {
-            source: SourceId::from_bits(0xaaaa_aaaa_aaaa_aaaa_aaaa_aaaa_aaaa_aaaa),
-            number: case.executed,
-        };
-        let (_, all) = shown(&channel, &gtid);
-        let copy = channel.copy(alloc)?;
-        assert!(rt; copy.is_equal(&channel));
-        channel.mark_executed(&gtid);
-        assert!(rt; !copy.is_equal(&channel));
-        assert_eq!(rt; blocker(&channel, case.place), case.after);
-        assert_eq!(rt; channel.next_ready(0), case.next);
-        assert_eq!(rt; channel.is_settled(), case.next.is_none());
-        assert_eq!(rt; shown(&channel, &gtid), (0, all));
-        assert!(rt; channel.received().contains(&gtid));
-        assert_eq!(rt; channel.len(), case.received.len());
+        assert!(rt; goes(alloc, case)?);
     }
     Ok(())
 }

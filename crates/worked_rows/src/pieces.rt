@@ -1,5 +1,6 @@
 //! Texts that come in pieces.
 use crate::lines::{BUNDLE, JOURNAL, joined, refusal};
+use journal::Entry;
 use std::alloc::{AllocError, Global};
 use std::test::Fail;
 use txn_journal::{Bundle, BundleReader, Reader, encode};
@@ -164,24 +165,55 @@ fn a_refusal_stays(rt: HostRuntime) -> Result<(), Fail> {
     Ok(())
 }
 
+/// Whether the first five lines bring one entry, which is number 1.
+fn takes_one(alloc: Global, reader: &mut Reader) -> Result<bool, AllocError> {
+    let front = joined(alloc, &JOURNAL[..5])?;
+    if reader.feed(alloc, front.as_bytes()).is_err() {
+        return Ok(false);
+    }
+    match reader.take_entries(alloc) {
+        Ok(entries) => Ok(entries.len() == 1 && are_first(&entries)),
+        Err(_) => Ok(false),
+    }
+}
+
+fn are_first(entries: &[Entry]) -> bool {
+    entries.iter().all(|entry| entry.gtid.number == 1)
+}
+
+/// Whether no entry is left to take.
+fn takes_none(alloc: Global, reader: &mut Reader) -> bool {
+    match reader.take_entries(alloc) {
+        Ok(entries) => entries.is_empty(),
+        Err(_) => false,
+    }
+}
+
+/// What comes of the lines behind the fifth.
+fn rest(alloc: Global, reader: Reader) -> Result<Vec<u8>, AllocError> {
+    let mut reader = reader;
+    let back = joined(alloc, &JOURNAL[5..])?;
+    let _ = reader.feed(alloc, back.as_bytes());
+    journal_end(alloc, reader)
+}
+
+/// The journal without its first entry.
+fn without_first(alloc: Global) -> Result<String, AllocError> {
+    let mut text = joined(alloc, &JOURNAL[..2])?;
+    let back = joined(alloc, &JOURNAL[5..])?;
+    text.push_str(back.as_str())?;
+    Ok(text)
+}
+
 /// The entries so far are taken once, and what comes later ends with the rest.
 #[test]
 fn entries_are_taken_in_front(rt: HostRuntime) -> Result<(), Fail> {
     let alloc = rt.alloc();
-    let front = joined(alloc, &JOURNAL[..5])?;
-    let back = joined(alloc, &JOURNAL[5..])?;
     let mut reader = Reader::start(alloc);
-    reader.feed(alloc, front.as_bytes())?;
-    let entries = reader.take_entries(alloc)?;
-    assert_eq!(rt; entries.len(), 1);
-    for entry in &entries {
-        assert_eq!(rt; entry.gtid.number, 1);
-    }
-    assert!(rt; reader.take_entries(alloc)?.is_empty());
-    reader.feed(alloc, back.as_bytes())?;
-    let mut want = joined(alloc, &JOURNAL[..2])?;
-    want.push_str(back.as_str())?;
-    let told = journal_end(alloc, reader)?;
+    assert!(rt; takes_one(alloc, &mut reader)?);
+    assert!(rt; takes_none(alloc, &mut reader));
+    let told = rest(alloc, reader)?;
+    let want = without_first(alloc)?;
     assert_eq!(rt; told.as_slice(), want.as_bytes());
     Ok(())
 }
