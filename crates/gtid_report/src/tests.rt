@@ -2,6 +2,7 @@ use crate::{Fault, LineCause, Refusal, render_fault, render_verdict, set_functio
 use gtid_text::{Gtid, SourceId};
 use rows::RowFault;
 use std::alloc::{AllocError, Global};
+use std::process::Abort;
 use std::test::Fail;
 use world::Verdict;
 
@@ -33,28 +34,39 @@ fn prints_refusals(rt: HostRuntime) -> Result<(), Fail> {
     Ok(())
 }
 
+fn says(rt: &impl Abort, alloc: Global, verdict: &Verdict, want: &str) -> Result<(), AllocError> {
+    let line = render_verdict(alloc, verdict)?;
+    let want = spelled(alloc, want)?;
+    assert_eq!(rt; line.as_str(), want.as_str());
+    Ok(())
+}
+
+fn gtid(number: u64) -> Gtid {
+    Gtid {
+        source: SourceId::from_bits(0xaaaa_aaaa_aaaa_aaaa_aaaa_aaaa_aaaa_aaaa),
+        number,
+    }
+}
+
+fn taken() -> RowFault {
+    RowFault::DuplicateKey { change: 0, key: 1 }
+}
+
 /// The lines of verdicts that name GTIDs alone, and of a key that is taken.
 #[test]
 fn prints_verdicts(rt: HostRuntime) -> Result<(), Fail> {
     let alloc = rt.alloc();
-    let source = SourceId::from_bits(0xaaaa_aaaa_aaaa_aaaa_aaaa_aaaa_aaaa_aaaa);
-    let first = Gtid { source, number: 1 };
-    let second = Gtid { source, number: 2 };
-    let taken = RowFault::DuplicateKey { change: 0, key: 1 };
-    let lines = [
-        (Verdict::Sound, "sound"),
-        (Verdict::Missing(first), "missing A:1"),
-        (Verdict::NotClosed(second, first), "not-closed A:2 A:1"),
-        (
-            Verdict::DoesNotApply(first, taken),
-            "does-not-apply A:1 E12 change 0 key 1",
-        ),
-    ];
-    for (verdict, want) in &lines {
-        let line = render_verdict(alloc, verdict)?;
-        let want = spelled(alloc, want)?;
-        assert_eq!(rt; line.as_str(), want.as_str());
-    }
+    says(&rt, alloc, &Verdict::Sound, "sound")?;
+    says(&rt, alloc, &Verdict::Missing(gtid(1)), "missing A:1")?;
+    let open = Verdict::NotClosed(gtid(2), gtid(1));
+    says(&rt, alloc, &open, "not-closed A:2 A:1")?;
+    let refused = Verdict::DoesNotApply(gtid(1), taken());
+    says(
+        &rt,
+        alloc,
+        &refused,
+        "does-not-apply A:1 E12 change 0 key 1",
+    )?;
     Ok(())
 }
 
