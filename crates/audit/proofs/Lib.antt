@@ -6,3 +6,4 @@ pub mod Needing
 pub mod Closings
 pub mod Numbers
 pub mod Sounding
+pub mod Hashed

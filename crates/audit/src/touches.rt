@@ -9,16 +9,16 @@ ghost use Rattle.world.specs.Folds.{touched_by, shares_with};
 ghost use Rattle.audit.specs.Gaps.{touched_last, of_source, last_of_keys};
 
 use gtid_text::Gtid;
+use indexmap::IndexMap;
 use rows::{Key, Schema, Transaction, keys_touched};
 use std::alloc::{AllocError, Global};
-use std::collections::BTreeMap;
 use std::marker::Model;
 use world::Verdict;
 
 /// A GTID that touched each key.
 #[derive(Drop)]
 pub(crate) struct Touches {
-    tree: BTreeMap<Key, Gtid>,
+    last: IndexMap<Key, Gtid>,
 }
 
 impl Model for Touches {
@@ -30,7 +30,7 @@ impl Model for Touches {
 
     ghost coded = { touch_code };
 
-    ghost view = { λ a. finmap.from_entries a.tree.entries };
+    ghost view = { λ a. finmap.from_entries a.last.entries };
 }
 
 impl Touches {
@@ -38,20 +38,20 @@ impl Touches {
         ensures { result ≡ finmap.empty }
     {
         Touches {
-            tree: BTreeMap::new(alloc),
+            last: IndexMap::new(alloc),
         }
     }
 
     fn get(&self, key: &Key) -> Option<&Gtid>
         ensures { option_copied result ≡ finmap.get self.now key.now }
     {
-        self.tree.get(key)
+        self.last.get(key)
     }
 
     fn put(&mut self, key: Key, gtid: &Gtid) -> Result<(), AllocError>
         ensures { OnOk result (self.new ≡ finmap.insert self.old key gtid.now) }
     {
-        let Ok(_) = self.tree.insert(key, *gtid) else {
+        let Ok(_) = self.last.insert(key, *gtid) else {
             return Err(AllocError);
         };
         Ok(())
