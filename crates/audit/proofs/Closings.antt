@@ -1,5 +1,5 @@
 -- One pass over each journal finds what is left out.
-use Rattle.std.proofs.Common.{◌≡◌, ℕ, zero, suc, ◌<◌, ◌≤◌, Bool, true, false, cond, not, ◌&&◌, ◌||◌, ◌⊎◌, inl, inr, List, [], ◌∷◌, take, Option, Some, None, refl, sym, ap, ◌∙◌, subst, arith, eqb}
+use Rattle.std.proofs.Common.{◌≡◌, ℕ, ◌<◌, ◌≤◌, Bool, true, false, cond, not, ◌&&◌, ◌||◌, ◌⊎◌, inl, inr, List, [], ◌∷◌, take, Option, Some, None, refl, sym, ap, ◌∙◌, subst, arith}
 use Rattle.std.specs.Prelude.{slice_get, nat_lt, ◌==◌, is_some}
 use Rattle.std.specs.List.{list_any, filter}
 use Rattle.std.specs.Option.{option_map_or}
@@ -7,7 +7,6 @@ use Rattle.std.specs.FinMap as finmap
 use Rattle.std.specs.FinMap.{get-insert, get-empty}
 use Rattle.std.specs.FinSet as set
 use Rattle.std.specs.FinSet.{contains-insert, contains-empty}
-use Rattle.std.specs.declared.cmp.Ordering.TheVariants.{Less}
 use Rattle.std.proofs.lemmas.Bool.{eqb-true, eq-eqb}
 use Rattle.gtid_text.specs.declared.Gtid.{Gtid}
 use Rattle.gtid_text.specs.Gtids.{gtid_cmp, same_gtid}
@@ -27,18 +26,17 @@ use Rattle.source_history.specs.World as history
 use Rattle.source_history.proofs.Tests.{true_or_false, not_both, and_both, or_grouped}
 use Rattle.source_history.proofs.Gtids.{gtid_total, number_less, gtid_same}
 use Rattle.source_history.proofs.Entries.{rising}
-use Rattle.faithful_journals.proofs.Lists.{same_some, not_none}
-use Rattle.world.specs.declared.verdict.Verdict.{Verdict}
+use Rattle.faithful_journals.proofs.Lists.{same_some}
 use Rattle.world.specs.declared.verdict.Verdict.TheVariants.{NotClosed}
-use Rattle.world.specs.Search.{or_next, when, first_at, first}
+use Rattle.world.specs.Search.{or_next, when, first_at}
 use Rattle.world.specs.Audit.{world_of, unequal, purged, stands_in, stands_before, is_left_out, not_closed}
 use Rattle.world.specs.Folds.{FirstTouch, touched_by, last_toucher, has_gap, least_left_out}
-use Rattle.world.proofs.Finding.{none_when, none_first, any_at, any_from, is_false, is_true, and_true, not_true, filtered, left_by_filter, below_test}
+use Rattle.world.proofs.Finding.{none_when, none_first, any_at, any_from, is_false, and_true, not_true, filtered, left_by_filter, below_test}
 use Rattle.world.proofs.Contents.{content_at}
 use Rattle.world.proofs.Gaps.{guarded, latest_in, latest_over, content_here, nothing_left_out, firsts_same}
 use Rattle.audit.specs.Gaps.{stands, lacks, gap_at, gap_among, first_gap, Needs, needs_over}
 use Rattle.audit.specs.Worlds.{IsWorldOf}
-use Rattle.audit.proofs.Needing.{rises, needs_are, HasNeeds, Serves}
+use Rattle.audit.proofs.Needing.{rises, needs_are}
 
 -- ---- a journal in one pass
 

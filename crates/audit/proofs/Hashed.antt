@@ -1,5 +1,5 @@
 -- The entries of a hashed table as a finite map.
-use Rattle.std.proofs.Common.{◌≡◌, cond, List, [], ◌∷◌, Option, Some, refl, ap, sym, ◌∙◌}
+use Rattle.std.proofs.Common.{◌≡◌, cond, List, [], ◌∷◌, Some, refl, ap, sym, ◌∙◌}
 use Rattle.std.specs.Bool.{one_answer}
 use Rattle.std.specs.Map.{lookup}
 use Rattle.std.specs.FinMap.{from_entries, insert}

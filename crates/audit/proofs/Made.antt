@@ -1,7 +1,6 @@
 -- A world's contents, entry by entry.
-use Rattle.std.proofs.Common.{◌≡◌, ℕ, zero, suc, ◌+◌, ◌-◌, ◌<◌, ◌≤◌, Bool, true, false, cond, map, drop, length, get_or, List, [], ◌∷◌, ◌++◌, refl, sym, ap, ◌∙◌, arith}
+use Rattle.std.proofs.Common.{◌≡◌, ℕ, zero, suc, ◌-◌, ◌<◌, ◌≤◌, map, drop, length, get_or, List, [], ◌∷◌, ◌++◌, refl, sym, ap, ◌∙◌, arith}
 use Rattle.std.specs.FinMap as finmap
-use Rattle.std.specs.FinSet as set
 use Rattle.gtid_set.specs.Sets.{Gtids}
 use Rattle.journal.specs.declared.Entry.{Entry}
 use Rattle.source_history.specs.World as history

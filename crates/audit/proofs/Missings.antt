@@ -1,6 +1,6 @@
 -- One pass finds what is missing.
 use Rattle.std.proofs.Common.{◌≡◌, ℕ, zero, suc, ◌<◌, ◌≤◌, ◌+◌, ◌-◌, Bool, true, false, cond, not, ◌&&◌, ◌⊎◌, inl, inr, map, List, [], ◌∷◌, Option, Some, None, refl, sym, ap, ◌∙◌, subst, arith, eqb}
-use Rattle.std.specs.Prelude.{slice_get, find, IsSome, option_map}
+use Rattle.std.specs.Prelude.{slice_get, find, option_map}
 use Rattle.std.specs.List.{range_with_len, AllByRecursion}
 use Rattle.std.specs.FinMap as finmap
 use Rattle.std.specs.FinSet as set
@@ -12,11 +12,9 @@ use Rattle.gtid_set.specs.Sets.{Gtids, gtid}
 use Rattle.rows.specs.declared.change.Transaction.{Transaction}
 use Rattle.rows.specs.declared.schema.Table.{Table}
 use Rattle.rows.specs.Apply.{Rows}
-use Rattle.journal.specs.declared.Entry.{Entry}
 use Rattle.journal.specs.Journals.{JournalValue}
 use Rattle.source_history.specs.World.{World, content, is_opened}
 use Rattle.source_history.specs.World as history
-use Rattle.source_history.proofs.Tests.{not_both, true_or_false}
 use Rattle.source_history.proofs.Gtids.{number_less}
 use Rattle.source_history.proofs.Entries.{IsRising, AreFound, rising, found}
 use Rattle.faithful_journals.proofs.Lists.{same_some, not_none, all_at}
@@ -24,10 +22,10 @@ use Rattle.world.specs.declared.verdict.Verdict.{Verdict}
 use Rattle.world.specs.declared.verdict.Verdict.TheVariants.{Missing}
 use Rattle.world.specs.Search.{or_next, when, first}
 use Rattle.world.specs.Audit.{all_entries, world_of, stands_in, is_absent, below, missing}
-use Rattle.world.proofs.Finding.{when_none, first_none, get_range, is_false, is_true}
-use Rattle.world.proofs.Contents.{contents_outside, contents_entry, entry_content, content_at, some_of}
+use Rattle.world.proofs.Finding.{when_none, first_none, get_range, is_false}
+use Rattle.world.proofs.Contents.{contents_entry, entry_content, content_at, some_of}
 use Rattle.world.proofs.OnePass.{source_le}
-use Rattle.audit.specs.Missing.{number_before, next_absent, missing_between, missing_from}
+use Rattle.audit.specs.Missing.{number_before, missing_between, missing_from}
 use Rattle.audit.specs.Worlds.{IsWorldOf}
 
 -- ---- a search over numbers

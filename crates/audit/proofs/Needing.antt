@@ -1,23 +1,21 @@
 -- What each transaction needs has the last that touched each of its keys.
-use Rattle.std.proofs.Common.{◌≡◌, ℕ, zero, suc, ◌<◌, ◌≤◌, Bool, true, false, cond, ◌&&◌, ◌||◌, ◌⊎◌, inl, inr, List, [], ◌∷◌, ◌++◌, length, Option, Some, None, refl, sym, ap, ◌∙◌, subst, append_assoc, arith, eqb}
+use Rattle.std.proofs.Common.{◌≡◌, ℕ, zero, suc, ◌<◌, ◌≤◌, Bool, true, false, cond, ◌||◌, ◌⊎◌, inl, inr, List, [], ◌∷◌, ◌++◌, length, Option, Some, None, refl, sym, ap, ◌∙◌, subst, append_assoc, arith}
 use Rattle.std.specs.Prelude.{slice_get}
 use Rattle.std.specs.List.{list_any, AllByRecursion}
 use Rattle.std.specs.FinMap as finmap
 use Rattle.std.specs.FinMap.{get-insert}
-use Rattle.std.specs.Ordering.{eq_by_cmp}
 use Rattle.std.specs.declared.cmp.Ordering.TheVariants.{Less}
-use Rattle.std.proofs.lemmas.Bool.{eqb-true, eq-eqb}
+use Rattle.std.proofs.lemmas.Bool.{eq-eqb}
 use Rattle.gtid_text.specs.declared.Gtid.{Gtid}
 use Rattle.gtid_text.specs.Gtids.{gtid_cmp, same_gtid}
 use Rattle.gtid_set.proofs.SetLemmas.{gtid_tied}
 use Rattle.rows.specs.declared.change.Key.{Key}
-use Rattle.rows.specs.declared.change.Transaction.{Transaction}
 use Rattle.rows.specs.declared.schema.Table.{Table}
-use Rattle.rows.specs.Order.{key_cmp, key_eq}
+use Rattle.rows.specs.Order.{key_eq}
 use Rattle.rows.specs.Total.{key_total, key_eq_same}
 use Rattle.rows.specs.WriteSet.{write_set, touches, is_among}
 use Rattle.source_history.specs.World as history
-use Rattle.source_history.proofs.Tests.{true_or_false, not_both, or_either, or_left, or_right, neither}
+use Rattle.source_history.proofs.Tests.{true_or_false, not_both, or_either, or_left, or_right}
 use Rattle.source_history.proofs.Gtids.{gtid_total, number_less, same_gtid_self, gtid_same}
 use Rattle.source_history.proofs.Entries.{IsRising}
 use Rattle.faithful_journals.proofs.Lists.{same_some, not_none, all_at, get_append_left, get_push_cases, get_push, get_below}

@@ -30,19 +30,28 @@ fn number_before(last: Option<Gtid>, source: SourceId) -> u64
     }
 }
 
-/// The least number of a source between two others that a set has not got.
+/// The least number of a source between two others that a set has not got. However many numbers lie between them, it takes as many
+/// steps as the number of the set's intervals has binary digits.
 fn next_absent(opened: &GtidSet, source: SourceId, after: u64, below: u64) -> Option<u64>
     ensures { result ≡ next_absent opened.now source after below }
 {
     if after >= below {
         return None;
     }
-    for number in after + 1..below {
-        if !opened.contains(&Gtid { source, number }) {
-            return Some(number);
+    let first = after + 1;
+    if first == below {
+        return None;
+    }
+    match opened.run_end(source, first) {
+        None => Some(first),
+        Some(last) => {
+            if last < below - 1 {
+                Some(last + 1)
+            } else {
+                None
+            }
         }
     }
-    None
 }
 
 /// The least GTID that is missing between two.
