@@ -10,7 +10,7 @@ use Rattle.std.specs.FinMap.Entries.{below_all}
 use Rattle.std.specs.declared.cmp.Ordering.TheVariants.{Less}
 use Rattle.std.proofs.lemmas.List.{at_drop_more, at_drop_all}
 use Rattle.gtid_text.specs.declared.Gtid.{Gtid}
-use Rattle.ownership.specs.Slots.{taken_from, owned_of}
+use Rattle.ownership.specs.Slots.{taken_from, of_slots, owned_of}
 use Rattle.ownership.specs.Ownership.{IsSeat, IsOwnedOnce, IsOfSeats}
 
 off : (q n : ℕ) → q < n → (q == n) ≡ false
@@ -20,32 +20,32 @@ on : (q : ℕ) → (q == q) ≡ true
 on q = grind (arith, nat_tests)
 
 -- a seat before the first slot has nothing
-find_before : (q n : ℕ) (slots : List (Option Gtid)) → q < n → find nat_cmp q (taken_from n slots) ≡ None
+find_before : {X : Type 0} (q n : ℕ) (slots : List (Option X)) → q < n → find nat_cmp q (taken_from n slots) ≡ None
 find_before q n [] h = refl
 find_before q n (None ∷ slots) h = find_before q (n + 1) slots (omega arith)
-find_before q n (Some gtid ∷ slots) h =
-    ap (λ b. cond b (Some gtid) (find nat_cmp q (taken_from (n + 1) slots))) (unsigned_tied q n ∙ off q n h)
+find_before q n (Some x ∷ slots) h =
+    ap (λ b. cond b (Some x) (find nat_cmp q (taken_from (n + 1) slots))) (unsigned_tied q n ∙ off q n h)
     ∙ find_before q (n + 1) slots (omega arith)
 
 -- and one from there on has what its slot has
-find_in : (i n q : ℕ) (slots : List (Option Gtid)) → n + i ≡ q → find nat_cmp q (taken_from n slots) ≡ get_or slots i None
+find_in : {X : Type 0} (i n q : ℕ) (slots : List (Option X)) → n + i ≡ q → find nat_cmp q (taken_from n slots) ≡ get_or slots i None
 find_in i n q [] e = refl
 find_in zero n q (None ∷ slots) e = find_before q (n + 1) slots (omega arith)
 find_in (suc i) n q (None ∷ slots) e = find_in i (n + 1) q slots (omega arith)
-find_in zero n q (Some gtid ∷ slots) e =
-    ap (λ b. cond b (Some gtid) (find nat_cmp q (taken_from (n + 1) slots))) (unsigned_tied q n ∙ ap (λ m. q == m) (omega arith) ∙ on q)
-find_in (suc i) n q (Some gtid ∷ slots) e =
-    ap (λ b. cond b (Some gtid) (find nat_cmp q (taken_from (n + 1) slots))) (unsigned_tied q n ∙ not_first)
+find_in zero n q (Some x ∷ slots) e =
+    ap (λ b. cond b (Some x) (find nat_cmp q (taken_from (n + 1) slots))) (unsigned_tied q n ∙ ap (λ m. q == m) (omega arith) ∙ on q)
+find_in (suc i) n q (Some x ∷ slots) e =
+    ap (λ b. cond b (Some x) (find nat_cmp q (taken_from (n + 1) slots))) (unsigned_tied q n ∙ not_first)
     ∙ find_in i (n + 1) q slots (omega arith)
   where
     not_first : (q == n) ≡ false
     not_first = let above : n < q = omega arith in grind (arith, nat_tests)
 
 -- what a seat has
-pub get-owned_of : (slots : List (Option Gtid)) (seat : ℕ) → 1 ≤ seat → map.get (owned_of slots) seat ≡ get_or slots (seat - 1) None
-get-owned_of slots seat h = map.get-from_entries nat_cmp_total (taken_from 1 slots) seat ∙ find_in (seat - 1) 1 seat slots (omega arith)
+pub get-of_slots : {X : Type 0} (slots : List (Option X)) (seat : ℕ) → 1 ≤ seat → map.get (of_slots slots) seat ≡ get_or slots (seat - 1) None
+get-of_slots slots seat h = map.get-from_entries nat_cmp_total (taken_from 1 slots) seat ∙ find_in (seat - 1) 1 seat slots (omega arith)
 
-get-zero : (slots : List (Option Gtid)) → map.get (owned_of slots) 0 ≡ None
+get-zero : {X : Type 0} (slots : List (Option X)) → map.get (of_slots slots) 0 ≡ None
 get-zero slots = map.get-from_entries nat_cmp_total (taken_from 1 slots) 0 ∙ find_before 0 1 slots (omega arith)
 
 at_set : {X : Type 0} (d v : X) (xs : List X) (i j : ℕ) (b : Bool) → (j == i) ≡ b → i < length xs → get_or (set xs i v) j d ≡ cond b v (get_or xs j d)
@@ -71,32 +71,32 @@ pred-suc : (j : ℕ) → suc j - 1 ≡ j
 pred-suc j = omega arith
 
 -- a slot that takes a GTID
-pub owned_of-put : (slots : List (Option Gtid)) (i : ℕ) (gtid : Gtid) → i < length slots → owned_of (set slots i (Some gtid)) ≡ map.insert (owned_of slots) (i + 1) gtid
-owned_of-put slots i gtid h = map.same_map nat_cmp_total nat_cmp-IsAntisymmetric _ _ at
+pub of_slots-put : {X : Type 0} (slots : List (Option X)) (i : ℕ) (x : X) → i < length slots → of_slots (set slots i (Some x)) ≡ map.insert (of_slots slots) (i + 1) x
+of_slots-put slots i x h = map.same_map nat_cmp_total nat_cmp-IsAntisymmetric _ _ at
   where
-    at : (q : ℕ) → map.get (owned_of (set slots i (Some gtid))) q ≡ map.get (map.insert (owned_of slots) (i + 1) gtid) q
+    at : (q : ℕ) → map.get (of_slots (set slots i (Some x))) q ≡ map.get (map.insert (of_slots slots) (i + 1) x) q
     at zero =
-        get-zero (set slots i (Some gtid))
-        ∙ sym (map.get-insert nat_cmp_total (owned_of slots) (i + 1) gtid 0 ∙ (λ k. cond ((unsigned_tied 0 (i + 1) ∙ off 0 (i + 1) (omega arith)) k) (Some gtid) (get-zero slots k)))
+        get-zero (set slots i (Some x))
+        ∙ sym (map.get-insert nat_cmp_total (of_slots slots) (i + 1) x 0 ∙ (λ k. cond ((unsigned_tied 0 (i + 1) ∙ off 0 (i + 1) (omega arith)) k) (Some x) (get-zero slots k)))
     at (suc j) =
-        get-owned_of (set slots i (Some gtid)) (suc j) (omega arith)
-        ∙ ap (λ m. get_or (set slots i (Some gtid)) m None) (pred-suc j)
-        ∙ at_set None (Some gtid) slots i j (j == i) refl h
-        ∙ sym (map.get-insert nat_cmp_total (owned_of slots) (i + 1) gtid (suc j) ∙ (λ k. cond ((unsigned_tied (suc j) (i + 1) ∙ next_test j i) k) (Some gtid) ((get-owned_of slots (suc j) (omega arith) ∙ ap (λ m. get_or slots m None) (pred-suc j)) k)))
+        get-of_slots (set slots i (Some x)) (suc j) (omega arith)
+        ∙ ap (λ m. get_or (set slots i (Some x)) m None) (pred-suc j)
+        ∙ at_set None (Some x) slots i j (j == i) refl h
+        ∙ sym (map.get-insert nat_cmp_total (of_slots slots) (i + 1) x (suc j) ∙ (λ k. cond ((unsigned_tied (suc j) (i + 1) ∙ next_test j i) k) (Some x) ((get-of_slots slots (suc j) (omega arith) ∙ ap (λ m. get_or slots m None) (pred-suc j)) k)))
 
 -- a slot that is given up
-pub owned_of-clear : (slots : List (Option Gtid)) (i : ℕ) → i < length slots → owned_of (set slots i None) ≡ map.remove (owned_of slots) (i + 1)
-owned_of-clear slots i h = map.same_map nat_cmp_total nat_cmp-IsAntisymmetric _ _ at
+pub of_slots-clear : {X : Type 0} (slots : List (Option X)) (i : ℕ) → i < length slots → of_slots (set slots i None) ≡ map.remove (of_slots slots) (i + 1)
+of_slots-clear slots i h = map.same_map nat_cmp_total nat_cmp-IsAntisymmetric _ _ at
   where
-    at : (q : ℕ) → map.get (owned_of (set slots i None)) q ≡ map.get (map.remove (owned_of slots) (i + 1)) q
+    at : (q : ℕ) → map.get (of_slots (set slots i None)) q ≡ map.get (map.remove (of_slots slots) (i + 1)) q
     at zero =
         get-zero (set slots i None)
-        ∙ sym (map.get-remove nat_cmp_total (owned_of slots) (i + 1) 0 ∙ (λ k. cond ((unsigned_tied 0 (i + 1) ∙ off 0 (i + 1) (omega arith)) k) None (get-zero slots k)))
+        ∙ sym (map.get-remove nat_cmp_total (of_slots slots) (i + 1) 0 ∙ (λ k. cond ((unsigned_tied 0 (i + 1) ∙ off 0 (i + 1) (omega arith)) k) None (get-zero slots k)))
     at (suc j) =
-        get-owned_of (set slots i None) (suc j) (omega arith)
+        get-of_slots (set slots i None) (suc j) (omega arith)
         ∙ ap (λ m. get_or (set slots i None) m None) (pred-suc j)
         ∙ at_set None None slots i j (j == i) refl h
-        ∙ sym (map.get-remove nat_cmp_total (owned_of slots) (i + 1) (suc j) ∙ (λ k. cond ((unsigned_tied (suc j) (i + 1) ∙ next_test j i) k) None ((get-owned_of slots (suc j) (omega arith) ∙ ap (λ m. get_or slots m None) (pred-suc j)) k)))
+        ∙ sym (map.get-remove nat_cmp_total (of_slots slots) (i + 1) (suc j) ∙ (λ k. cond ((unsigned_tied (suc j) (i + 1) ∙ next_test j i) k) None ((get-of_slots slots (suc j) (omega arith) ∙ ap (λ m. get_or slots m None) (pred-suc j)) k)))
 
 -- ---- the slots of an opening
 
@@ -117,7 +117,7 @@ none_is_not_some x e = cc
 
 pub of_seats : (slots : List (Option Gtid)) (seat : ℕ) (g : Gtid) → map.get (owned_of slots) seat ≡ Some g → (1 ≤ seat) × (seat ≤ length slots)
 of_seats slots zero g e = absurd (none_is_not_some g (sym (get-zero slots) ∙ e))
-of_seats slots (suc i) g e = (omega arith, elim (le_or (suc i) (length slots)) [ inl h ↦ h | inr h ↦ absurd (none_is_not_some g (sym (get-owned_of slots (suc i) (omega arith) ∙ beyond slots (suc i - 1) (omega arith)) ∙ e)) ])
+of_seats slots (suc i) g e = (omega arith, elim (le_or (suc i) (length slots)) [ inl h ↦ h | inr h ↦ absurd (none_is_not_some g (sym (get-of_slots slots (suc i) (omega arith) ∙ beyond slots (suc i - 1) (omega arith)) ∙ e)) ])
   where
     le_or : (a b : ℕ) → (a ≤ b) ⊎ (b < a)
     le_or a b = grind arith
@@ -133,10 +133,10 @@ once-empty a b g p q = absurd (none_is_not_some g (sym (map.get-empty nat_cmp a)
 
 -- the slot of a seat that comes to own a GTID, and of one that gives it up
 pub put_at_seat : (slots : List (Option Gtid)) (seat : ℕ) (gtid : Gtid) → IsSeat seat → length slots ≡ 64 → owned_of (set slots (seat - 1) (Some gtid)) ≡ map.insert (owned_of slots) seat gtid
-put_at_seat slots seat gtid is full = owned_of-put slots (seat - 1) gtid (omega (arith, is.0, is.1)) ∙ ap (λ s. map.insert (owned_of slots) s gtid) (omega (arith, is.0))
+put_at_seat slots seat gtid is full = of_slots-put slots (seat - 1) gtid (omega (arith, is.0, is.1)) ∙ ap (λ s. map.insert (owned_of slots) s gtid) (omega (arith, is.0))
 
 pub clear_at_seat : (slots : List (Option Gtid)) (seat : ℕ) → IsSeat seat → length slots ≡ 64 → owned_of (set slots (seat - 1) None) ≡ map.remove (owned_of slots) seat
-clear_at_seat slots seat is full = owned_of-clear slots (seat - 1) (omega (arith, is.0, is.1)) ∙ ap (λ s. map.remove (owned_of slots) s) (omega (arith, is.0))
+clear_at_seat slots seat is full = of_slots-clear slots (seat - 1) (omega (arith, is.0, is.1)) ∙ ap (λ s. map.remove (owned_of slots) s) (omega (arith, is.0))
 
 pub slots_of_seats : (slots : List (Option Gtid)) → length slots ≡ 64 → IsOfSeats (owned_of slots)
 slots_of_seats slots full seat g e = let p = of_seats slots seat g e in (p.0, omega (arith, p.1))
@@ -172,7 +172,7 @@ any_default (x ∷ xs) (suc i) d e h = any_default xs i d e (omega arith)
 -- what a seat's slot has is what the seat owns
 pub slot_is : (slots : List (Option Gtid)) (seat : ℕ) (held : Option Gtid) → IsSeat seat → length slots ≡ 64 → held ≡ get_or slots (seat - 1) held → held ≡ map.get (owned_of slots) seat
 slot_is slots seat held is full e =
-    e ∙ any_default slots (seat - 1) held None (omega (arith, is.0, is.1)) ∙ sym (get-owned_of slots seat is.0)
+    e ∙ any_default slots (seat - 1) held None (omega (arith, is.0, is.1)) ∙ sym (get-of_slots slots seat is.0)
 
 -- one slot more, free or not
 pub taken_free : (front : List (ℕ × Gtid)) (slots : List (Option Gtid)) (i : ℕ) (held : Option Gtid) → i < length slots → held ≡ get_or slots i held → held ≡ None

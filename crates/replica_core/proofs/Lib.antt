@@ -1,4 +1,3 @@
-pub mod SlotLemmas
 pub mod OwnerLemmas
 pub mod KeptLemmas
 pub mod KeyedLemmas

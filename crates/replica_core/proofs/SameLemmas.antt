@@ -13,7 +13,7 @@ use Rattle.replica_core.specs.Slots.{seats_of}
 use Rattle.replica_core.specs.State.{Replica}
 use Rattle.replica_core.specs.Kept.{ChannelsValue, AreOf}
 use Rattle.replica_core.proofs.KeyedLemmas.{channel_of, IsOf}
-use Rattle.replica_core.proofs.SlotLemmas.{get-seats_of}
+use Rattle.ownership.proofs.SlotLemmas.{get-of_slots}
 
 same_slots : (xs ys : List (Option Spot)) → length xs ≡ length ys → ((i : ℕ) → get_or xs i None ≡ get_or ys i None) → xs ≡ ys
 same_slots [] [] long at = refl
@@ -31,9 +31,9 @@ seats_same xs ys long same = same_slots xs ys long at
     at : (i : ℕ) → get_or xs i None ≡ get_or ys i None
     at i =
         ap (λ m. get_or xs m None) (sym (one_less i))
-        ∙ sym (get-seats_of xs (suc i) (omega arith))
+        ∙ sym (get-of_slots xs (suc i) (omega arith))
         ∙ ap (λ seats. finmap.get seats (suc i)) same
-        ∙ get-seats_of ys (suc i) (omega arith)
+        ∙ get-of_slots ys (suc i) (omega arith)
         ∙ ap (λ m. get_or ys m None) (one_less i)
 
 same_by : (schema : List Table) (xs ys : List Keyed) → AllByRecursion (IsOf schema) xs → AllByRecursion (IsOf schema) ys → map channel_of xs ≡ map channel_of ys → xs ≡ ys

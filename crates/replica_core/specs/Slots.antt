@@ -1,18 +1,14 @@
 -- How the seats are kept: a slot for each.
-use Rattle.std.specs.Prelude.{ℕ, ◌+◌, List, [], ◌∷◌, Option, Some, None, refl}
+use Rattle.std.specs.Prelude.{ℕ, List, Option, refl}
 use Rattle.std.specs.Coded.{Coded, code_by, coded×, coded_ℕ}
 use Rattle.std.specs.FinMap as map
+use Rattle.ownership.specs.Slots.{of_slots}
 use Rattle.replica_core.specs.declared.event.Spot.{Spot}
 use Rattle.replica_core.specs.State.{Seats}
 
-abbrev pub taken_from : ℕ → List (Option Spot) → List (ℕ × Spot)
-taken_from seat [] = []
-taken_from seat (None ∷ slots) = taken_from (seat + 1) slots
-taken_from seat (Some spot ∷ slots) = (seat, spot) ∷ taken_from (seat + 1) slots
-
 -- the map that slots stand for, the first being seat 1
 abbrev pub seats_of : List (Option Spot) → Seats
-seats_of slots = map.from_entries (taken_from 1 slots)
+seats_of slots = of_slots slots
 
 -- how a value keeps a place, and the seats
 abbrev pub spot_code : Coded Spot

@@ -5,7 +5,7 @@ use Rattle.std.proofs.lemmas.Bool.Decides.{nat_tests}
 use Rattle.replica_core.specs.Machine.{is_seat}
 use Rattle.replica_core.specs.Seated.{IsFreeable, freed_of}
 use Rattle.replica_core.specs.Slots.{seats_of}
-use Rattle.replica_core.proofs.SlotLemmas.{seats_of-clear}
+use Rattle.ownership.proofs.SlotLemmas.{of_slots-clear}
 use Rattle.replica_core.proofs.machine.free.Goals as goal
 
 first_seat : (seat : ℕ) → is_seat seat ≡ true → 1 ≤ seat
@@ -21,5 +21,5 @@ returns-in-Some c =
     let high = last_seat c.in-Some.seat one in
     let there : c.in-Some.seat - 1 < length c.args.seats.now = search rules in
     let number : c.in-Some.seat - 1 + 1 ≡ c.in-Some.seat = omega arith in
-    seats_of-clear c.args.seats.now (c.in-Some.seat - 1) there ∙ ap (finmap.remove (seats_of c.args.seats.now)) number
+    of_slots-clear c.args.seats.now (c.in-Some.seat - 1) there ∙ ap (finmap.remove (seats_of c.args.seats.now)) number
     ∙ ap (λ (o : Option ℕ). freed_of o (seats_of c.args.seats.now)) (sym c.in-Some.is)

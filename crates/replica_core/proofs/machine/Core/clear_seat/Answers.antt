@@ -6,7 +6,7 @@ use Rattle.replica_core.specs.State.{Seats, State, Replica}
 use Rattle.replica_core.specs.Slots.{seats_of}
 use Rattle.replica_core.specs.Seated.{AreSeated}
 use Rattle.replica_core.proofs.SeatLemmas.{seated_cleared}
-use Rattle.replica_core.proofs.SlotLemmas.{seats_of-clear}
+use Rattle.ownership.proofs.SlotLemmas.{of_slots-clear}
 use Rattle.replica_core.proofs.machine.Core.clear_seat.Goals as goal
 
 pub invariant_of-self : goal.invariant_of-self
@@ -14,7 +14,7 @@ invariant_of-self c =
     let core = c.self.inside in
     let low = c.requires.low in
     let there : c.args.seat - 1 < length core.seats = search rules in
-    let seats = seats_of-clear core.seats (c.args.seat - 1) there in
+    let seats = of_slots-clear core.seats (c.args.seat - 1) there in
     record {
       same = c.self.invariant.same;
       kept = c.self.invariant.kept;
@@ -27,6 +27,6 @@ returns-clause-state c =
     let low = c.requires.low in
     let there : c.args.seat - 1 < length core.seats = search rules in
     let number : c.args.seat - 1 + 1 ≡ c.args.seat = omega arith in
-    let seats = seats_of-clear core.seats (c.args.seat - 1) there ∙ ap (λ n. finmap.remove (seats_of c.self.inside.seats) n) number in
+    let seats = of_slots-clear core.seats (c.args.seat - 1) there ∙ ap (λ n. finmap.remove (seats_of c.self.inside.seats) n) number in
     ap (λ (m : Seats). let s : State = record { executed = whole core.journal.journal; rows = core.rows.rows; seats = m; channels = core.channels.list; journal = core.journal.journal } in s) seats
     ∙ ap (λ (r : Replica). without_seat r.state c.args.seat) c.self.view_is
