@@ -1,7 +1,6 @@
 -- An entry more: its slot, its node, its GTID.
 use Rattle.std.proofs.Common.{◌≡◌, ℕ, ◌<◌, false, cond, List, [], ◌∷◌, ◌++◌, length, sym, ap, subst, ◌∙◌, arith}
 use Rattle.std.specs.Prelude.{Option, Some, None, is_some, nat_le}
-use Rattle.std.specs.BTreeMap.{BTreeMap}
 use Rattle.std.specs.FinSet as set
 use Rattle.std.proofs.lemmas.Bool.{leb-false}
 use Rattle.std.proofs.lemmas.List.{length_push}
@@ -23,7 +22,7 @@ pub room_left : (n : ℕ) → nat_le most_received n ≡ false → n < 429496729
 unfolding most_received
 room_left n h = leb-false 4294967294 n h
 
-module _ (schema : List Table) (slots : List Slot) (places opened : BTreeMap Gtid (Option ℕ)) (graph : List Point) (received : Gtids) (kept : IsKept schema slots places graph received)
+module _ (schema : List Table) (slots : List Slot) (places opened : List (Gtid × Option ℕ)) (graph : List Point) (received : Gtids) (kept : IsKept schema slots places graph received)
     (same : (g : Gtid) → place_of opened g ≡ place_of places g) (y : Slot) (before : y.earlier ≡ place_of opened y.gtid) (items : List Slot) (is : items ≡ slots ++ y ∷ []) (n : ℕ) (at : n ≡ length slots)
     (keys : List Key) (all : Gtids) (more : all ≡ set.insert received y.gtid) where
   entries : entries_of items ≡ entries_of slots ++ received_of y ∷ []
@@ -56,7 +55,7 @@ module _ (schema : List Table) (slots : List Slot) (places opened : BTreeMap Gti
   }
 
   -- ... or another
-  pub kept_open : (after : List Point) (t : Transaction) (put : BTreeMap Gtid (Option ℕ)) → after ≡ graph ++ unfinished keys ∷ [] → y.txn ≡ Some t → AreKeysOf schema keys y.txn
+  pub kept_open : (after : List Point) (t : Transaction) (put : List (Gtid × Option ℕ)) → after ≡ graph ++ unfinished keys ∷ [] → y.txn ≡ Some t → AreKeysOf schema keys y.txn
       → ((g : Gtid) → place_of put g ≡ cond (same_gtid g y.gtid) (Some n) (place_of opened g)) → IsKept schema items put after all
   kept_open after t put pushed there keyed new = record {
     nodes = subst (λ (es : List Received). AreNodesOf schema after es) (sym entries)

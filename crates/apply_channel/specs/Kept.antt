@@ -1,13 +1,13 @@
 -- How a channel keeps what it has received.
-use Rattle.std.specs.Prelude.{◌≡◌, ◌<◌, ℕ, Bool, true, false, ◌&&◌, is_some, is_none, IsSome, length, List, [], ◌∷◌, Option, Some, None, map, slice_get}
-use Rattle.std.specs.BTreeMap as tree
+use Rattle.std.specs.Prelude.{◌≡◌, ◌<◌, ℕ, Bool, true, false, ◌&&◌, cond, is_some, is_none, IsSome, length, List, [], ◌∷◌, Option, Some, None, map, slice_get}
+use Rattle.std.specs.Map.{lookup}
 use Rattle.std.specs.Option.{unwrap_or, option_map_or}
 use Rattle.rows.specs.declared.schema.Table.{Table}
 use Rattle.rows.specs.declared.change.Key.{Key}
 use Rattle.rows.specs.declared.change.Transaction.{Transaction}
 use Rattle.rows.specs.WriteSet.{is_among, touches}
 use Rattle.gtid_text.specs.declared.Gtid.{Gtid}
-use Rattle.gtid_text.specs.Gtids.{gtid_cmp, same_gtid}
+use Rattle.gtid_text.specs.Gtids.{same_gtid}
 use Rattle.gtid_set.specs.Sets.{Gtids}
 use Rattle.dependency_graph.specs.Graphs.{Point}
 use Rattle.apply_channel.specs.declared.slot.Slot.{Slot}
@@ -50,13 +50,21 @@ abbrev pub IsLastOpen : List Received → Gtid → ℕ → Option ℕ → Type 0
 IsLastOpen es g end None = (i : ℕ) → i < end → is_open_at g es i ≡ false
 IsLastOpen es g end (Some place) = (place < end) × (is_open_at g es place ≡ true) × ((i : ℕ) → place < i → i < end → is_open_at g es i ≡ false)
 
+-- the entry of a GTID in the table of places
+abbrev pub entry_of : List (Gtid × Option ℕ) → Gtid → Option (Option ℕ)
+entry_of places g = lookup (same_gtid g) places
+
 -- the last place of a GTID in the table of places
-abbrev pub place_of : tree.BTreeMap Gtid (Option ℕ) → Gtid → Option ℕ
-place_of places g = unwrap_or (tree.get gtid_cmp places g) None
+abbrev pub place_of : List (Gtid × Option ℕ) → Gtid → Option ℕ
+place_of places g = unwrap_or (entry_of places g) None
 
 -- the GTID has an entry in the table
-abbrev pub HasPlace : tree.BTreeMap Gtid (Option ℕ) → Gtid → Type 0
-HasPlace places g = IsSome (tree.get gtid_cmp places g)
+abbrev pub HasPlace : List (Gtid × Option ℕ) → Gtid → Type 0
+HasPlace places g = IsSome (entry_of places g)
+
+-- the GTID has an entry, an empty one if it had none, and the others are as they were
+abbrev pub IsOpened : Gtid → List (Gtid × Option ℕ) → List (Gtid × Option ℕ) → Type 0
+IsOpened gtid old new = (g : Gtid) → entry_of new g ≡ cond (same_gtid gtid g) (Some (place_of old gtid)) (entry_of old g)
 
 -- each slot that is not executed knows the place before with its GTID
 abbrev pub AreLinked : List Slot → Type 0
@@ -67,7 +75,7 @@ abbrev pub AreLast : List Slot → (Gtid → Option ℕ) → Type 0
 AreLast slots last = (g : Gtid) → IsLastOpen (entries_of slots) g (length slots) (last g)
 
 -- each place has its node; the places of a GTID are linked; the received set is that of the entries
-pub record IsKept (schema : List Table) (slots : List Slot) (places : tree.BTreeMap Gtid (Option ℕ)) (graph : List Point) (received : Gtids) : Type 0 where
+pub record IsKept (schema : List Table) (slots : List Slot) (places : List (Gtid × Option ℕ)) (graph : List Point) (received : Gtids) : Type 0 where
   pub nodes : AreNodesOf schema graph (entries_of slots)
   pub linked : AreLinked slots
   pub last : AreLast slots (place_of places)

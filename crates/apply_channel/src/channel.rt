@@ -13,10 +13,10 @@ use crate::slot::{Slot, copy_unless, keys_unless, same_entries};
 use dependency_graph::Graph;
 use gtid_set::{GtidSet, SetFault};
 use gtid_text::Gtid;
+use indexmap::IndexMap;
 use journal::Entry;
 use rows::{Changes, Name, Schema, Transaction};
 use std::alloc::{AllocError, Global};
-use std::collections::BTreeMap;
 use std::marker::Model;
 use thiserror::Error;
 
@@ -44,7 +44,7 @@ pub struct Channel {
     stopped: bool,
     asked: Option<GtidSet>,
     slots: Vec<Slot>,
-    places: BTreeMap<Gtid, Option<usize>>,
+    places: IndexMap<Gtid, Option<usize>>,
     graph: Graph,
     received: GtidSet,
 }
@@ -65,7 +65,7 @@ impl Model for Channel {
       channel = record { name = c.name; preserve = c.preserve; stopped = c.stopped; asked = c.asked; received = entries_of c.slots.items };
     } };
 
-    ghost invariant = { λ c. IsKept c.schema c.slots.items c.places c.graph c.received };
+    ghost invariant = { λ c. IsKept c.schema c.slots.items c.places.entries c.graph c.received };
 }
 
 impl Channel {
@@ -80,7 +80,7 @@ impl Channel {
             stopped: false,
             asked: None,
             slots: Vec::new(alloc),
-            places: BTreeMap::new(alloc),
+            places: IndexMap::new(alloc),
             graph: Graph::start(alloc),
             received: GtidSet::empty(alloc),
         }
@@ -203,8 +203,7 @@ impl Channel {
     {
         let keys = keys_unless(alloc, executed, &self.schema, &entry.txn)?;
         let txn = copy_unless(executed, &entry.txn)?;
-        open_place(&mut self.places, &entry.gtid)?;
-        let earlier = last_place(&self.places, &entry.gtid);
+        let earlier = open_place(&mut self.places, &entry.gtid)?;
         let place = self.slots.len();
         self.slots.push(Slot {
             gtid: entry.gtid,

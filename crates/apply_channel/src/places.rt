@@ -1,23 +1,24 @@
 //! The table of the last places of GTIDs, and the node of a new place.
-ghost use Rattle.std.specs.Prelude.{◌≡◌, ◌≢◌, ◌<◌, ◌++◌, [], ◌∷◌, cond, length, AllPairs, OnOk, OnErr, IfErr};
+ghost use Rattle.std.specs.Prelude.{◌≡◌, ◌≢◌, ◌<◌, ◌++◌, [], ◌∷◌, cond, length, AllPairs, OnOk, OnErr, IfOk, IfErr};
 ghost use Rattle.journal.specs.Faults.{IsFaultOf};
 ghost use Rattle.std.specs.FinSet as set;
+ghost use Rattle.std.specs.HashMap.{IsUnchanged};
 ghost use Rattle.gtid_text.specs.declared.Gtid.{Gtid as GtidValue};
 ghost use Rattle.gtid_text.specs.Gtids.{same_gtid};
 ghost use Rattle.dependency_graph.specs.Graphs.{unfinished};
-ghost use Rattle.apply_channel.specs.Kept.{HasPlace, place_of};
+ghost use Rattle.apply_channel.specs.Kept.{HasPlace, IsOpened, place_of};
 
 use dependency_graph::Graph;
 use gtid_set::{GtidSet, SetFault};
 use gtid_text::Gtid;
+use indexmap::IndexMap;
 use rows::Key;
 use std::alloc::{AllocError, Global};
-use std::collections::BTreeMap;
 use std::mem;
 
 /// The last place of a GTID.
-pub(crate) fn last_place(places: &BTreeMap<Gtid, Option<usize>>, gtid: &Gtid) -> Option<usize>
-    ensures { result ≡ place_of places.now gtid.now }
+pub(crate) fn last_place(places: &IndexMap<Gtid, Option<usize>>, gtid: &Gtid) -> Option<usize>
+    ensures { result ≡ place_of places.now.entries gtid.now }
 {
     match places.get(gtid) {
         Some(place) => *place,
@@ -25,28 +26,45 @@ pub(crate) fn last_place(places: &BTreeMap<Gtid, Option<usize>>, gtid: &Gtid) ->
     }
 }
 
-/// Gives the GTID an entry.
-pub(crate) fn open_place(
-    places: &mut BTreeMap<Gtid, Option<usize>>,
-    gtid: &Gtid,
-) -> Result<(), AllocError>
-    ensures same { (g : GtidValue) → place_of places.new g ≡ place_of places.old g }
-    ensures opened { OnOk result (HasPlace places.new gtid.now) }
+/// Gives the GTID an entry, if it has none: its last place.
+fn open_entry(
+    places: &mut IndexMap<Gtid, Option<usize>>,
+    gtid: Gtid,
+) -> Result<Option<usize>, AllocError>
+    ensures ok { OnOk result (IsOpened gtid places.old.entries places.new.entries) }
+    ensures place { IfOk result (λ place. place ≡ place_of places.old.entries gtid) }
+    ensures err { OnErr result (IsUnchanged places.old places.new) }
 {
-    if !places.contains_key(gtid) {
-        places.insert(*gtid, None)?;
+    let Ok(entry) = places.entry(gtid) else {
+        return Err(AllocError);
+    };
+    let place = entry.or_insert(None);
+    Ok(*place)
+}
+
+/// Gives the GTID an entry: its last place.
+pub(crate) fn open_place(
+    places: &mut IndexMap<Gtid, Option<usize>>,
+    gtid: &Gtid,
+) -> Result<Option<usize>, AllocError>
+    ensures same { (g : GtidValue) → place_of places.new.entries g ≡ place_of places.old.entries g }
+    ensures opened { OnOk result (HasPlace places.new.entries gtid.now) }
+    ensures place { IfOk result (λ place. place ≡ place_of places.new.entries gtid.now) }
+{
+    match open_entry(places, *gtid) {
+        Ok(place) => return Ok(place),
+        Err(fault) => return Err(fault),
     }
-    Ok(())
 }
 
 /// Writes the last place of a GTID that has an entry.
 pub(crate) fn put_place(
-    places: &mut BTreeMap<Gtid, Option<usize>>,
+    places: &mut IndexMap<Gtid, Option<usize>>,
     gtid: &Gtid,
     place: Option<usize>,
 )
-    requires { HasPlace places.old gtid.now }
-    ensures { (g : GtidValue) → place_of places.new g ≡ cond (same_gtid g gtid.now) place (place_of places.old g) }
+    requires { HasPlace places.old.entries gtid.now }
+    ensures { (g : GtidValue) → place_of places.new.entries g ≡ cond (same_gtid g gtid.now) place (place_of places.old.entries g) }
 {
     if let Some(last) = places.get_mut(gtid) {
         *last = place;

@@ -1,15 +1,15 @@
 -- The table of the keys' ends, and the edges, after one change.
 use Rattle.std.proofs.Common.{◌≡◌, Bool, true, false, cond, List, [], ◌∷◌, Option, Some, None, is_some, refl, sym, ap, ◌∙◌}
 use Rattle.std.specs.Option.{unwrap_or}
-use Rattle.std.specs.Map.{lookup}
-use Rattle.std.specs.BTreeMap.{BTreeMap, get, is_at}
+use Rattle.std.specs.Bool.{one_answer}
 use Rattle.std.specs.List.{AllByRecursion, AllPairs, IsDistinct}
 use Rattle.std.proofs.lemmas.Map.Keys.{IsDistinct-from_apart, apart_from_distinct}
 use Rattle.std.specs.Prelude.{slice_index_or, ◌≢◌}
 use Rattle.rows.specs.declared.change.Key.{Key}
-use Rattle.rows.specs.Order.{key_cmp, key_eq}
+use Rattle.rows.specs.Order.{key_eq}
 use Rattle.rows.specs.Total.{key_eq_same, key_eq_self}
-use Rattle.dependency_graph.specs.Chains.{Holds, HasEntry}
+use Rattle.rows.proofs.Equal.{keys-Decide}
+use Rattle.dependency_graph.specs.Chains.{Holds, HasEntry, IsOpened, entry_at, same_key}
 use Rattle.dependency_graph.specs.declared.chains.Chains.{Chains}
 use Rattle.dependency_graph.specs.declared.chains.Ends.{Ends}
 
@@ -22,42 +22,48 @@ flip_at a b false true p q = let same : key_eq a b ≡ true = ap (key_eq a) (key
 pub flip : (a b : Key) → key_eq a b ≡ key_eq b a
 flip a b = flip_at a b (key_eq a b) (key_eq b a) refl refl
 
+-- the two tests of keys agree
+same_tests : (a b : Key) → same_key a b ≡ key_eq a b
+same_tests a b = one_answer (same_key a b) (key_eq a b) (keys-Decide a b) (key_eq_same a b, λ e. ap (key_eq a) (sym e) ∙ key_eq_self a)
+
+turned : (key k : Key) → same_key key k ≡ key_eq k key
+turned key k = same_tests key k ∙ flip key k
+
 unwrap_cond : (b : Bool) (w o : Option (Option Ends)) → unwrap_or (cond b w o) None ≡ cond b (unwrap_or w None) (unwrap_or o None)
 unwrap_cond true w o = refl
 unwrap_cond false w o = refl
 
-module _ (s t : BTreeMap Key (Option Ends)) (key : Key) (w : Option (Option Ends)) (h : (q : Key) → get key_cmp t q ≡ cond (key_eq key q) w (get key_cmp s q)) where
-  pub ends_updated : (k : Key) → unwrap_or (get key_cmp t k) None ≡ cond (key_eq k key) (unwrap_or w None) (unwrap_or (get key_cmp s k) None)
+module _ (s t : List (Key × Option Ends)) (key : Key) (w : Option (Option Ends)) (h : (q : Key) → entry_at t q ≡ cond (same_key key q) w (entry_at s q)) where
+  pub ends_updated : (k : Key) → unwrap_or (entry_at t k) None ≡ cond (key_eq k key) (unwrap_or w None) (unwrap_or (entry_at s k) None)
   ends_updated k =
       ap (λ (o : Option (Option Ends)). unwrap_or o None) (h k)
-      ∙ ap (λ b. unwrap_or (cond b w (get key_cmp s k)) None) (flip key k)
-      ∙ unwrap_cond (key_eq k key) w (get key_cmp s k)
+      ∙ ap (λ b. unwrap_or (cond b w (entry_at s k)) None) (turned key k)
+      ∙ unwrap_cond (key_eq k key) w (entry_at s k)
 
   some_cond : (b : Bool) (o : Option (Option Ends)) → is_some w ≡ true → is_some o ≡ true → is_some (cond b w o) ≡ true
   some_cond true o h g = h
   some_cond false o h g = g
 
-  pub entry_stays : is_some w ≡ true → (k : Key) → is_some (get key_cmp s k) ≡ true → is_some (get key_cmp t k) ≡ true
-  entry_stays there k had = ap is_some (h k) ∙ some_cond (key_eq key k) (get key_cmp s k) there had
-
-no_entry : (o : Option (Option Ends)) → is_some o ≡ false → unwrap_or o None ≡ None
-no_entry None h = refl
-no_entry (Some e) h = cc
+  pub entry_stays : is_some w ≡ true → (k : Key) → is_some (entry_at s k) ≡ true → is_some (entry_at t k) ≡ true
+  entry_stays there k had = ap is_some (h k) ∙ some_cond (same_key key k) (entry_at s k) there had
 
 same_cond : (b : Bool) (x y : Option Ends) → (b ≡ true → y ≡ x) → cond b x y ≡ y
 same_cond true x y h = sym (h refl)
 same_cond false x y h = refl
 
 -- an empty entry is as none
-pub ends_opened : (s t : BTreeMap Key (Option Ends)) (key : Key) → ((q : Key) → get key_cmp t q ≡ cond (key_eq key q) (Some None) (get key_cmp s q)) → is_some (get key_cmp s key) ≡ false
-    → (k : Key) → unwrap_or (get key_cmp t k) None ≡ unwrap_or (get key_cmp s k) None
-ends_opened s t key h none k =
-    ends_updated s t key (Some None) h k
-    ∙ same_cond (key_eq k key) None (unwrap_or (get key_cmp s k) None)
-    (λ e. ap (λ q. unwrap_or (get key_cmp s q) None) (key_eq_same k key e) ∙ no_entry (get key_cmp s key) none)
+module _ (key : Key) (s t : List (Key × Option Ends)) (h : IsOpened key s t) where
+  pub ends_opened : (k : Key) → unwrap_or (entry_at t k) None ≡ unwrap_or (entry_at s k) None
+  ends_opened k =
+      let here = unwrap_or (entry_at s key) None in
+      ends_updated s t key (Some here) h k
+      ∙ same_cond (key_eq k key) here (unwrap_or (entry_at s k) None) (λ e. ap (λ q. unwrap_or (entry_at s q) None) (key_eq_same k key e))
 
-pub no_keys : (t : BTreeMap Key (Option Ends)) → t.entries ≡ [] → (k : Key) → unwrap_or (get key_cmp t k) None ≡ None
-no_keys t h k = ap (λ es. unwrap_or (lookup (is_at (key_cmp k)) es) None) h
+  pub entry_opened : is_some (entry_at t key) ≡ true
+  entry_opened = ap is_some (h key) ∙ ap (λ b. is_some (cond b (Some (unwrap_or (entry_at s key) None)) (entry_at s key))) (turned key key ∙ key_eq_self key)
+
+pub no_keys : (es : List (Key × Option Ends)) → es ≡ [] → (k : Key) → unwrap_or (entry_at es k) None ≡ None
+no_keys es h k = ap (λ rest. unwrap_or (entry_at rest k) None) h
 
 pub some_key : Key
 some_key = record { table = []; index = 0; values = [] }
@@ -66,7 +72,7 @@ pub new_holds : (c : Chains) → c.table.entries ≡ [] → Holds c (λ k. [])
 new_holds c h = record {
   lists = λ k. [];
   owner = λ j. some_key;
-  whole = record { ends = no_keys c.table h; linked = λ k. tt; rising = λ k. tt; owned = λ k. tt };
+  whole = record { ends = no_keys c.table.entries h; linked = λ k. tt; rising = λ k. tt; owned = λ k. tt };
   numbers = λ k. refl;
 }
 

@@ -1,11 +1,13 @@
 -- How the edges of the keys' chains are linked by index.
-use Rattle.std.specs.Prelude.{ℕ, suc, ◌+◌, ◌≡◌, ◌<◌, ⊤, cond, List, [], ◌∷◌, ◌++◌, map, length, Option, Some, None, IsSome}
+use Rattle.std.specs.Prelude.{ℕ, suc, ◌+◌, ◌≡◌, ◌<◌, ⊤, Bool, ◌&&◌, ◌==◌, cond, List, [], ◌∷◌, ◌++◌, map, length, Option, Some, None, IsSome}
 use Rattle.std.specs.List.{AllByRecursion}
-use Rattle.std.specs.BTreeMap as tree
+use Rattle.std.specs.Map.{lookup}
+use Rattle.std.specs.Ordering.{nat_cmp, eq_by_cmp}
+use Rattle.std.specs.Cmp.Lexicographic.{slice_cmp}
 use Rattle.std.specs.Option.{unwrap_or, option_map, option_map_or, option_and_then}
 use Rattle.slab.specs.Slab as slots
 use Rattle.rows.specs.declared.change.Key.{Key}
-use Rattle.rows.specs.Order.{key_cmp, key_eq}
+use Rattle.rows.specs.Order.{key_eq, row_eq}
 use Rattle.rows.specs.WriteSet.{is_among}
 use Rattle.dependency_graph.specs.declared.chains.Chains.{Chains}
 use Rattle.dependency_graph.specs.declared.chains.Edge.{Edge}
@@ -41,9 +43,21 @@ abbrev pub IsRising : List ℕ → Type 0
 IsRising [] = ⊤
 IsRising (n ∷ ns) = AllByRecursion (λ m. n < m) ns × IsRising ns
 
+-- the test by which the table tells keys apart
+abbrev pub same_key : Key → Key → Bool
+same_key a b = eq_by_cmp (slice_cmp nat_cmp) a.table b.table && (a.index == b.index && row_eq a.values b.values)
+
+-- the entry of a key in the table
+abbrev pub entry_at : List (Key × Option Ends) → Key → Option (Option Ends)
+entry_at es k = lookup (same_key k) es
+
+-- the key has an entry, an empty one if it had none, and the others are as they were
+abbrev pub IsOpened : Key → List (Key × Option Ends) → List (Key × Option Ends) → Type 0
+IsOpened key old new = (k : Key) → entry_at new k ≡ cond (same_key key k) (Some (unwrap_or (entry_at old key) None)) (entry_at old k)
+
 -- the ends of a key's chain; a key without an entry has an empty one
 abbrev pub ends_at : Chains → Key → Option Ends
-ends_at c k = unwrap_or (tree.get key_cmp c.table k) None
+ends_at c k = unwrap_or (entry_at c.table.entries k) None
 
 abbrev pub edge_at : Chains → ℕ → Option Edge
 edge_at c at = slots.get c.edges at
@@ -74,9 +88,13 @@ abbrev pub first_number : List ℕ → Option ℕ
 first_number [] = None
 first_number (n ∷ ns) = Some n
 
+-- the node of an edge
+abbrev pub node_at : Chains → ℕ → Option ℕ
+node_at c at = option_map (λ (e : Edge). e.node) (edge_at c at)
+
 -- the first node of the key's chain
 abbrev pub first_of : Chains → Key → Option ℕ
-first_of c k = option_and_then (λ (ends : Ends). option_map (λ (e : Edge). e.node) (edge_at c ends.first)) (ends_at c k)
+first_of c k = option_and_then (λ (ends : Ends). node_at c ends.first) (ends_at c k)
 
 -- the chains and edges are the same
 pub record IsSame (old new : Chains) : Type 0 where
@@ -84,7 +102,7 @@ pub record IsSame (old new : Chains) : Type 0 where
   pub ends : (k : Key) → ends_at new k ≡ ends_at old k
 
 abbrev pub HasEntry : Chains → Key → Type 0
-HasEntry c k = IsSome (tree.get key_cmp c.table k)
+HasEntry c k = IsSome (entry_at c.table.entries k)
 
 -- room for an edge at each of the keys
 pub record HasRoom (c : Chains) (keys : List Key) : Type 0 where
@@ -102,6 +120,10 @@ Links old new last at = (edge : Edge) → edge_at old last ≡ Some edge → edg
 
 abbrev pub first_or : ℕ → Option Ends → ℕ
 first_or at ends = option_map_or (λ (e : Ends). e.first) ends at
+
+-- the ends of a chain that ends with this edge now
+abbrev pub ended : ℕ → Option Ends → Ends
+ended at before = record { first = first_or at before; last = at }
 
 -- the last edge of the key's chain is there
 abbrev pub HasLast : Chains → Key → Type 0

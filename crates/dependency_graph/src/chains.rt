@@ -1,14 +1,15 @@
 //! For each key the chain of the nodes that touch it, in rising order, linked by index.
 
-ghost use Rattle.std.specs.Prelude.{◌≡◌, ℕ, [], ◌∷◌, Some, None, is_some, OnOk};
+ghost use Rattle.std.specs.Prelude.{◌≡◌, ℕ, [], ◌∷◌, Some, None, is_some, OnOk, OnErr};
+ghost use Rattle.std.specs.HashMap.{IsUnchanged};
 ghost use Rattle.slab.specs.Slab.{HasRoomFor};
 ghost use Rattle.rows.specs.declared.change.Key.{Key as KeyValue};
-ghost use Rattle.dependency_graph.specs.Chains.{Holds, HasEntry, HasLast, HasRoom, IsSame, KeepsRoom, Links, Pushes, PopsFirst, edge_at, ends_at, first_of, with_chain};
+ghost use Rattle.dependency_graph.specs.Chains.{Holds, HasEntry, HasLast, HasRoom, IsOpened, IsSame, KeepsRoom, Links, Pushes, PopsFirst, edge_at, ended, ends_at, first_of, node_at, with_chain};
 
+use indexmap::IndexMap;
 use rows::Key;
 use slab::Slab;
 use std::alloc::{AllocError, Global};
-use std::collections::BTreeMap;
 
 /// A node in the chain of one key, and the edge behind it there.
 #[derive(Clone, Copy, Drop)]
@@ -24,11 +25,34 @@ pub struct Ends {
     pub last: usize,
 }
 
-/// Edges in a vector with a free list, and a table from each key to the ends of its chain.
+/// Edges in a vector with a free list, and a hashed table from each key to the ends of its chain.
 #[derive(Drop)]
 pub struct Chains {
     pub edges: Slab<Edge>,
-    pub table: BTreeMap<Key, Option<Ends>>,
+    pub table: IndexMap<Key, Option<Ends>>,
+}
+
+/// The ends of a chain that ends with this edge now.
+fn ended(at: usize, before: Option<Ends>) -> Ends
+    ensures { result ≡ ended at before }
+{
+    let first = match before {
+        Some(ends) => ends.first,
+        None => at,
+    };
+    Ends { first, last: at }
+}
+
+/// Gives the key an entry, if it has none.
+fn open_entry(table: &mut IndexMap<Key, Option<Ends>>, key: Key) -> Result<(), AllocError>
+    ensures ok { OnOk result (IsOpened key table.old.entries table.new.entries) }
+    ensures err { OnErr result (IsUnchanged table.old table.new) }
+{
+    let Ok(entry) = table.entry(key) else {
+        return Err(AllocError);
+    };
+    entry.or_insert(None);
+    Ok(())
 }
 
 impl Chains {
@@ -38,7 +62,7 @@ impl Chains {
     {
         Chains {
             edges: Slab::new(alloc),
-            table: BTreeMap::new(alloc),
+            table: IndexMap::new(alloc),
         }
     }
 
@@ -51,15 +75,22 @@ impl Chains {
         }
     }
 
+    /// The node of an edge.
+    fn node_at(&self, at: usize) -> Option<usize>
+        ensures { result ≡ node_at self.now at }
+    {
+        match self.edges.get(at) {
+            Some(edge) => Some(edge.node),
+            None => None,
+        }
+    }
+
     /// The first node of the key's chain.
     pub fn first(&self, key: &Key) -> Option<usize>
         ensures { result ≡ first_of self.now key.now }
     {
         let ends = self.ends(key)?;
-        match self.edges.get(ends.first) {
-            Some(edge) => Some(edge.node),
-            None => None,
-        }
+        self.node_at(ends.first)
     }
 
     /// Gives the key an entry.
@@ -69,9 +100,9 @@ impl Chains {
         ensures stays { (k : KeyValue) → HasEntry self.old k → HasEntry self.new k }
         ensures opened { OnOk result (HasEntry self.new key.now) }
     {
-        if !self.table.contains_key(key) {
-            self.table.insert(key.copied()?, None)?;
-        }
+        let Ok(()) = open_entry(&mut self.table, key.copied()?) else {
+            return Err(AllocError);
+        };
         Ok(())
     }
 
@@ -99,6 +130,22 @@ impl Chains {
         }
     }
 
+    /// The key's chain ends with this edge now: the ends that it had.
+    fn put_last(&mut self, key: &Key, at: usize) -> Option<Ends>
+        requires { HasEntry self.old key.now }
+        ensures edges { self.new.edges ≡ self.old.edges }
+        ensures before { result ≡ ends_at self.old key.now }
+        ensures ends { (k : KeyValue) → ends_at self.new k ≡ with_chain (ends_at self.old) key.now (Some (ended at (ends_at self.old key.now))) k }
+        ensures stays { (k : KeyValue) → HasEntry self.old k → HasEntry self.new k }
+    {
+        let Some(place) = self.table.get_mut(key) else {
+            return None;
+        };
+        let before = *place;
+        *place = Some(ended(at, before));
+        before
+    }
+
     /// Links an edge behind another.
     fn link(&mut self, last: usize, at: usize)
         ensures table { self.new.table ≡ self.old.table }
@@ -118,53 +165,28 @@ impl Chains {
         ensures had_one { result ≡ is_some (ends_at self.old key.now) }
         ensures room { KeepsRoom self.old self.new }
     {
-        let ends = self.ends(key);
         let at = self.edges.insert_reserved(Edge { node, after: None });
-        match ends {
-            None => {
-                self.put_ends(
-                    key,
-                    Ends {
-                        first: at,
-                        last: at,
-                    },
-                );
-                false
-            }
-            Some(ends) => {
-                self.link(ends.last, at);
-                self.put_ends(
-                    key,
-                    Ends {
-                        first: ends.first,
-                        last: at,
-                    },
-                );
-                true
-            }
-        }
+        let Some(before) = self.put_last(key, at) else {
+            return false;
+        };
+        self.link(before.last, at);
+        true
     }
 
-    /// Takes the first node out of the key's chain.
-    pub fn pop(&mut self, key: &Key)
-        ensures { PopsFirst self.old self.new key.now }
+    /// Takes the first node out of the key's chain: the one that is first then.
+    pub fn pop(&mut self, key: &Key) -> Option<usize>
+        ensures pops { PopsFirst self.old self.new key.now }
+        ensures next { result ≡ first_of self.new key.now }
     {
-        let Some(ends) = self.ends(key) else {
-            return;
+        let ends = self.ends(key)?;
+        let edge = self.edges.try_remove(ends.first)?;
+        let Some(first) = edge.after else {
+            self.close(key);
+            return None;
         };
-        let Some(edge) = self.edges.try_remove(ends.first) else {
-            return;
-        };
-        match edge.after {
-            Some(first) => self.put_ends(
-                key,
-                Ends {
-                    first,
-                    last: ends.last,
-                },
-            ),
-            None => self.close(key),
-        }
+        let last = ends.last;
+        self.put_ends(key, Ends { first, last });
+        self.node_at(first)
     }
 
     /// Takes away a key's entry.
@@ -172,6 +194,6 @@ impl Chains {
         ensures edges { self.new.edges ≡ self.old.edges }
         ensures ends { (k : KeyValue) → ends_at self.new k ≡ with_chain (ends_at self.old) key.now None k }
     {
-        let _ = self.table.remove(key);
+        let _ = self.table.swap_remove(key);
     }
 }

@@ -102,8 +102,7 @@ fn pop_finished(
     if !is_finished(dropped, nodes, first) {
         return false;
     }
-    chains.pop(key);
-    let next = chains.first(key);
+    let next = chains.pop(key);
     release(dropped, nodes, ready, next);
     true
 }

@@ -8,27 +8,27 @@ pub release-requires : goal.release-requires
 release-requires c =
     let nodes = c.args.nodes.now.items in
     let inside = key_inside nodes c.args.at c.args.i c.index.result.now c.index-key.result.now c.requires.in_range c.index.ensures c.index-key.ensures in
-    popped_can c.args.dropped nodes c.args.chains.now c.pop.new.self (drop c.args.i (keys_at nodes c.args.at)) c.requires.kept c.index-key.result.now c.in-Some.first
-    (sym c.first.ensures ∙ c.in-Some.is) (sym c.is_finished.ensures ∙ c.if-not-is_finished.false) inside c.pop.ensures c.first-next.result c.first-next.ensures
+    popped_can c.args.dropped nodes c.args.chains.now c.pop-next.new.self (drop c.args.i (keys_at nodes c.args.at)) c.requires.kept c.index-key.result.now c.in-Some.first
+    (sym c.first.ensures ∙ c.in-Some.is) (sym c.is_finished.ensures ∙ c.if-not-is_finished.false) inside c.pop-next.ensures.pops c.pop-next.result c.pop-next.ensures.next
 
 pub returns-clause-kept : goal.returns-clause-kept
 returns-clause-kept c =
     let nodes = c.args.nodes.now.items in
     let inside = key_inside nodes c.args.at c.args.i c.index.result.now c.index-key.result.now c.requires.in_range c.index.ensures c.index-key.ensures in
-    let goes = popped_goes c.args.dropped nodes c.args.chains.now c.pop.new.self (drop c.args.i (keys_at nodes c.args.at)) c.requires.kept c.index-key.result.now c.in-Some.first
-    (sym c.first.ensures ∙ c.in-Some.is) (sym c.is_finished.ensures ∙ c.if-not-is_finished.false) inside c.pop.ensures c.first-next.result c.first-next.ensures c.release.new.nodes.items c.release.ensures.releases in
-    subst (λ keys. IsKept c.args.dropped c.release.new.nodes.items c.pop.new.self (drop c.args.i keys)) (sym (ap (λ qs. (point_at qs c.args.at).keys) goes.1)) goes.0
+    let goes = popped_goes c.args.dropped nodes c.args.chains.now c.pop-next.new.self (drop c.args.i (keys_at nodes c.args.at)) c.requires.kept c.index-key.result.now c.in-Some.first
+    (sym c.first.ensures ∙ c.in-Some.is) (sym c.is_finished.ensures ∙ c.if-not-is_finished.false) inside c.pop-next.ensures.pops c.pop-next.result c.pop-next.ensures.next c.release.new.nodes.items c.release.ensures.releases in
+    subst (λ keys. IsKept c.args.dropped c.release.new.nodes.items c.pop-next.new.self (drop c.args.i keys)) (sym (ap (λ qs. (point_at qs c.args.at).keys) goes.1)) goes.0
 
 pub returns-clause-same : goal.returns-clause-same
 returns-clause-same c =
     let nodes = c.args.nodes.now.items in
     let inside = key_inside nodes c.args.at c.args.i c.index.result.now c.index-key.result.now c.requires.in_range c.index.ensures c.index-key.ensures in
-    (popped_goes c.args.dropped nodes c.args.chains.now c.pop.new.self (drop c.args.i (keys_at nodes c.args.at)) c.requires.kept c.index-key.result.now c.in-Some.first
-    (sym c.first.ensures ∙ c.in-Some.is) (sym c.is_finished.ensures ∙ c.if-not-is_finished.false) inside c.pop.ensures c.first-next.result c.first-next.ensures c.release.new.nodes.items c.release.ensures.releases).1
+    (popped_goes c.args.dropped nodes c.args.chains.now c.pop-next.new.self (drop c.args.i (keys_at nodes c.args.at)) c.requires.kept c.index-key.result.now c.in-Some.first
+    (sym c.first.ensures ∙ c.in-Some.is) (sym c.is_finished.ensures ∙ c.if-not-is_finished.false) inside c.pop-next.ensures.pops c.pop-next.result c.pop-next.ensures.next c.release.new.nodes.items c.release.ensures.releases).1
 
 pub returns-clause-fewer : goal.returns-clause-fewer
 returns-clause-fewer c =
     let nodes = c.args.nodes.now.items in
     let inside = key_inside nodes c.args.at c.args.i c.index.result.now c.index-key.result.now c.requires.in_range c.index.ensures c.index-key.ensures in
-    popped_fewer c.args.dropped nodes c.args.chains.now c.pop.new.self (drop c.args.i (keys_at nodes c.args.at)) c.requires.kept c.index-key.result.now c.in-Some.first
-    (sym c.first.ensures ∙ c.in-Some.is) (sym c.is_finished.ensures ∙ c.if-not-is_finished.false) inside c.pop.ensures
+    popped_fewer c.args.dropped nodes c.args.chains.now c.pop-next.new.self (drop c.args.i (keys_at nodes c.args.at)) c.requires.kept c.index-key.result.now c.in-Some.first
+    (sym c.first.ensures ∙ c.in-Some.is) (sym c.is_finished.ensures ∙ c.if-not-is_finished.false) inside c.pop-next.ensures.pops

@@ -1,15 +1,23 @@
-use Rattle.std.proofs.Common.{refl, sym, ap, ◌∙◌, cond, Some, None}
-use Rattle.std.specs.BTreeMap.{get}
-use Rattle.rows.specs.Order.{key_cmp, key_eq}
-use Rattle.dependency_graph.proofs.Entries.{ends_opened, entry_stays}
+use Rattle.std.proofs.Common.{refl, subst, Some, None}
+use Rattle.std.specs.Prelude.{unwrap_or}
+use Rattle.dependency_graph.specs.Chains.{IsOpened, entry_at}
+use Rattle.dependency_graph.proofs.Entries.{ends_opened, entry_opened, entry_stays}
 use Rattle.dependency_graph.proofs.chains.Chains.open.Goals as goal
 
-pub returns-in_ok-insert-clause-same : goal.returns-in_ok-insert-clause-same
-returns-in_ok-insert-clause-same c =
-    ends_opened c.args.self.now.table c.insert.new.self c.args.key.now
-    (λ q. c.in_ok-insert.ensures.updates.0 q ∙ ap (λ key. cond (key_eq key q) (Some None) (get key_cmp c.args.self.now.table q)) c.in_ok-copied.ensures)
-    (sym c.contains_key.ensures ∙ c.if-not-contains_key.true)
+pub returns-clause-same : goal.returns-clause-same
+returns-clause-same c =
+    let old = c.args.self.now.table.entries in
+    let new = c.open_entry.new.table.entries in
+    ends_opened c.args.key.now old new (subst (λ key. IsOpened key old new) c.in_ok-copied.ensures c.in-Ok.ensures.ok)
 
-pub returns-in_ok-insert-clause-stays : goal.returns-in_ok-insert-clause-stays
-returns-in_ok-insert-clause-stays c =
-    entry_stays c.args.self.now.table c.insert.new.self c.in_ok-copied.field-0 (Some None) c.in_ok-insert.ensures.updates.0 refl
+pub returns-clause-stays : goal.returns-clause-stays
+returns-clause-stays c =
+    let old = c.args.self.now.table.entries in
+    let key = c.in_ok-copied.field-0 in
+    entry_stays old c.open_entry.new.table.entries key (Some (unwrap_or (entry_at old key) None)) c.in-Ok.ensures.ok refl
+
+pub returns-clause-opened : goal.returns-clause-opened
+returns-clause-opened c =
+    let old = c.args.self.now.table.entries in
+    let new = c.open_entry.new.table.entries in
+    entry_opened c.args.key.now old new (subst (λ key. IsOpened key old new) c.in_ok-copied.ensures c.in-Ok.ensures.ok)

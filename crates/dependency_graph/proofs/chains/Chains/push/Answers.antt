@@ -1,13 +1,12 @@
-use Rattle.std.proofs.Common.{◌≡◌, true, sym, subst, is_some, arith}
+use Rattle.std.proofs.Common.{arith, ◌≡◌, true, sym, subst, is_some}
 use Rattle.slab.specs.Slab.{HasRoomFor}
-use Rattle.std.specs.BTreeMap.{get}
-use Rattle.rows.specs.Order.{key_cmp}
+use Rattle.dependency_graph.specs.Chains.{entry_at}
 use Rattle.dependency_graph.proofs.chains.Chains.push.Goals as goal
 
-pub returns-in-Some-clause-room : goal.returns-in-Some-clause-room
-returns-in-Some-clause-room c = record {
+pub returns-clause-room : goal.returns-clause-room
+returns-clause-room c = record {
   edges = λ more room.
       let kept : HasRoomFor c.insert_reserved-at.new.self more = omega (arith, room, c.insert_reserved-at.ensures.len, c.insert_reserved-at.ensures.capacity) in
-      subst (λ edges. HasRoomFor edges more) (sym c.put_ends-in-Some.ensures.edges) (c.link.ensures.room more kept);
-  entries = λ k had. c.put_ends-in-Some.ensures.stays k (subst (λ table. is_some (get key_cmp table k) ≡ true) (sym c.link.ensures.table) had);
+      c.link.ensures.room more (subst (λ edges. HasRoomFor edges more) (sym c.put_last.ensures.edges) kept);
+  entries = λ k had. subst (λ table. is_some (entry_at table.entries k) ≡ true) (sym c.link.ensures.table) (c.put_last.ensures.stays k had);
 }
