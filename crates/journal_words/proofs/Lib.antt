@@ -4,3 +4,4 @@ pub mod ValueLemmas
 pub mod Cuts
 pub mod ValueLaws
 pub mod AsciiLemmas
+pub mod SpanLaws

@@ -1,12 +1,12 @@
 //! Sources, GTIDs and sets of them as words.
-ghost use Rattle.std.specs.Prelude.{◌≡◌, ◌++◌, true, false, IfOk, OnOk, IfSome, IfNone, None, option_map};
+ghost use Rattle.std.specs.Prelude.{◌≡◌, ◌++◌, true, false, IfOk, IfErr, OnOk, IfSome, IfNone, Some, None, option_map};
 ghost use Rattle.std.specs.String.{string_bytes};
 ghost use Rattle.std.specs.List.{list_all};
 ghost use Rattle.gtid_text.specs.Canonical.{source_text, gtid_text, spans_text};
 ghost use Rattle.journal_words.specs.Values.{where_same};
 ghost use Rattle.std.specs.Str.{bytes_eq};
 ghost use Rattle.std.specs.FinSet as set;
-ghost use Rattle.journal_words.specs.Gtids.{is_ascii_byte, source_of_word, gtid_of_word, is_behind, are_tidy_behind, some_tidy, spans_of_word, set_with, set_of_word};
+ghost use Rattle.journal_words.specs.Gtids.{is_ascii_byte, source_of_word, gtid_of_word, is_behind, are_tidy_behind, some_tidy, spans_of_word, set_with, set_of_word, IsWordFault};
 
 use gtid_set::{GtidSet, SetFault};
 use gtid_text::{
@@ -165,18 +165,23 @@ fn spans_word(alloc: Global, word: &[u8]) -> Result<Option<Vec<Span>>, AllocErro
 
 /// The set with the GTIDs of these spans.
 fn set_of(alloc: Global, spans: &[Span]) -> Result<GtidSet, SetFault>
-    ensures { IfOk result (λ s. s ≡ set_with set.empty spans.now) }
+    ensures found { IfOk result (λ s. s ≡ set_with set.empty spans.now) }
+    ensures fault { IfErr result (λ f. IsWordFault f (Some (set_with set.empty spans.now))) }
 {
     let mut set = GtidSet::empty(alloc);
     for span in spans {
-        set.add_span(*span)?;
+        match set.add_span(*span) {
+            Ok(()) => {}
+            Err(fault) => return Err(fault),
+        }
     }
     Ok(set)
 }
 
 /// The set that the word spells: canonical set text, or `-` for the empty set.
 pub fn set_word(alloc: Global, word: &[u8]) -> Result<Option<GtidSet>, SetFault>
-    ensures { IfOk result (λ found. found ≡ set_of_word word.now) }
+    ensures found { IfOk result (λ found. found ≡ set_of_word word.now) }
+    ensures fault { IfErr result (λ f. IsWordFault f (set_of_word word.now)) }
 {
     match spans_word(alloc, word)? {
         Some(spans) => Ok(Some(set_of(alloc, &spans)?)),

@@ -29,3 +29,4 @@ pub mod BundleTells
 pub mod BundleReads
 pub mod NewWords
 pub mod OneBundle
+pub mod FullSets

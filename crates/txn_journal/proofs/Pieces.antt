@@ -1,13 +1,15 @@
 -- Reading byte by byte, line by line and piece by piece.
-use Rattle.std.proofs.Common.{◌≡◌, ℕ, Bool, true, false, eqb, not, List, [], ◌∷◌, ◌++◌, Option, None, Result, Ok, Err, refl, sym, ap, ◌∙◌, append_assoc, inr}
+use Rattle.std.proofs.Common.{◌≡◌, ℕ, Bool, true, false, eqb, not, List, [], ◌∷◌, ◌++◌, Option, None, Result, Ok, Err, refl, sym, ap, subst, ◌∙◌, append_assoc, inr}
 use Rattle.std.specs.Prelude.{◌&&◌}
 use Rattle.std.specs.List.{list_all}
 use Rattle.std.proofs.lemmas.List.{append-nil}
+use Rattle.gtid_set.specs.declared.fault.SetFault.{SetFault}
+use Rattle.gtid_set.specs.declared.fault.SetFault.TheVariants.{Memory, PoolFull, SourcesFull}
 use Rattle.txn_journal.specs.declared.fault.Cause.{Cause}
 use Rattle.txn_journal.specs.declared.fault.JournalFault.{JournalFault}
 use Rattle.txn_journal.specs.declared.fault.JournalFault.TheVariants as faults
 use Rattle.txn_journal.specs.Words.{IsOneLine}
-use Rattle.txn_journal.specs.Stream.{Judge, Progress, Reading, Stopped, unless_stopped, next_number, judged, eat, eats, IsAfter, TakesPiece, answer}
+use Rattle.txn_journal.specs.Stream.{Judge, Progress, Reading, Stopped, unless_stopped, next_number, judged, eat, eats, IsLineFault, HasFull, IsPieceFault, IsAfter, TakesPiece, answer}
 
 pub stopped_stays : {S : Type 0} (judge : Judge S) (f : JournalFault) (bs : List ℕ) → eats judge (Stopped f) bs ≡ Stopped f
 unfolding eat
@@ -68,12 +70,59 @@ after_line {S} judge now then total left line after parts took so_far =
     ∙ sym (ap (eats judge now) (parts ∙ sym (append_assoc line (10 ∷ []) after)))
     ∙ so_far
 
-pub line_fails : {S : Type 0} (judge : Judge S) (fault : JournalFault) (now new newer total : Progress S) (left line after : List ℕ)
-    → left ≡ line ++ 10 ∷ after → TakesPiece (Err fault) new (eats judge now (line ++ 10 ∷ [])) → eats judge now left ≡ total → TakesPiece (Err fault) newer total
-line_fails judge (faults.Set fault) now new newer total left line after parts took so_far = tt
-line_fails judge (faults.Line n cause) now new newer total left line after parts took so_far =
+-- ---- faults that may be
+
+judged_full : {S : Type 0} (full : S → Type 0) (r : Result S Cause) (n : ℕ) → IsLineFault full SourcesFull r → HasFull full (judged r n)
+judged_full full (Ok s) n h = h
+judged_full full (Err cause) n h = absurd h
+
+-- a fault of a line is one of its bytes
+pub line_fault : {S : Type 0} (full : S → Type 0) (judge : Judge S) (f : SetFault) (o : Option JournalFault) (s : S) (n : ℕ) (rest line : List ℕ)
+    → o ≡ None → IsOneLine line → IsLineFault full f (judge s (rest ++ line)) → IsPieceFault full judge (unless_stopped o (Reading s n rest)) (line ++ 10 ∷ []) f
+line_fault full judge Memory o s n rest line goes one h = tt
+line_fault full judge PoolFull o s n rest line goes one h = h
+line_fault {S} full judge SourcesFull o s n rest line goes one h =
+    let is = ap (λ (k : Option JournalFault). eats judge (unless_stopped k (Reading s n rest)) (line ++ 10 ∷ [])) goes ∙ eats_line judge s n rest line one in
+    record {
+      front = line ++ 10 ∷ [];
+      rest = [];
+      parts = sym (append-nil (line ++ 10 ∷ []));
+      is_full = subst (λ (p : Progress S). HasFull full p) (sym is) (judged_full full (judge s (rest ++ line)) (next_number n) h);
+    }
+
+-- more bytes may follow
+line_in_front : {S : Type 0} (full : S → Type 0) (judge : Judge S) (f : SetFault) (now : Progress S) (left line after : List ℕ)
+    → left ≡ line ++ 10 ∷ after → IsPieceFault full judge now (line ++ 10 ∷ []) f → IsPieceFault full judge now left f
+line_in_front full judge Memory now left line after parts h = tt
+line_in_front full judge PoolFull now left line after parts h = h
+line_in_front full judge SourcesFull now left line after parts h = record {
+  front = h.front;
+  rest = h.rest ++ after;
+  parts = parts ∙ sym (append_assoc line (10 ∷ []) after) ∙ ap (λ x. x ++ after) h.parts ∙ append_assoc h.front h.rest after;
+  is_full = h.is_full;
+}
+
+-- a line that was taken may come before
+pub behind_line : {S : Type 0} (full : S → Type 0) (judge : Judge S) (f : SetFault) (now then : Progress S) (left line after : List ℕ)
+    → left ≡ line ++ 10 ∷ after → eats judge now (line ++ 10 ∷ []) ≡ then → IsPieceFault full judge then after f → IsPieceFault full judge now left f
+behind_line full judge Memory now then left line after parts took h = tt
+behind_line full judge PoolFull now then left line after parts took h = h
+behind_line {S} full judge SourcesFull now then left line after parts took h =
+    let whole = line ++ 10 ∷ [] in
+    record {
+      front = whole ++ h.front;
+      rest = h.rest;
+      parts = parts ∙ sym (append_assoc line (10 ∷ []) after) ∙ ap (λ x. whole ++ x) h.parts ∙ sym (append_assoc whole h.front h.rest);
+      is_full = subst (λ (p : Progress S). HasFull full p) (sym (eats_append judge now whole h.front ∙ ap (λ (p : Progress S). eats judge p h.front) took)) h.is_full;
+    }
+
+pub line_fails : {S : Type 0} (full : S → Type 0) (judge : Judge S) (fault : JournalFault) (may : SetFault → Type 0) (now new newer total : Progress S) (left line after : List ℕ)
+    → left ≡ line ++ 10 ∷ after → TakesPiece (IsPieceFault full judge now (line ++ 10 ∷ [])) (Err fault) new (eats judge now (line ++ 10 ∷ [])) → eats judge now left ≡ total
+    → ((f : SetFault) → IsPieceFault full judge now left f → may f) → TakesPiece may (Err fault) newer total
+line_fails full judge (faults.Set fault) may now new newer total left line after parts took so_far wider = wider fault (line_in_front full judge fault now left line after parts took)
+line_fails full judge (faults.Line n cause) may now new newer total left line after parts took so_far wider =
     sym (after_line judge now _ total left line after parts took so_far) ∙ stopped_stays judge (faults.Line n cause) after
-line_fails judge (faults.Truncated n) now new newer total left line after parts took so_far = absurd took
+line_fails full judge (faults.Truncated n) may now new newer total left line after parts took so_far wider = absurd took
 
 pub line_taken : {S : Type 0} (judge : Judge S) (now new total : Progress S) (left line after : List ℕ)
     → left ≡ line ++ 10 ∷ after → eats judge now (line ++ 10 ∷ []) ≡ new → eats judge now left ≡ total → eats judge new after ≡ total
@@ -87,6 +136,6 @@ rest_kept {S} judge o s n rest new left total goes one kept so_far =
     ∙ eats_rest judge s n rest left one
     ∙ sym (λ i. unless_stopped (goes i) (Reading s n (kept i)))
 
-pub stopped_at : {S : Type 0} (judge : Judge S) (p : Progress S) (f : JournalFault) (bs : List ℕ) → answer p ≡ Err f → IsAfter p (eats judge p bs)
-stopped_at judge (Reading s n rest) f bs e = absurd cc
-stopped_at judge (Stopped g) f bs e = inr (sym (stopped_stays judge g bs))
+pub stopped_at : {S : Type 0} (judge : Judge S) (may : SetFault → Type 0) (p : Progress S) (f : JournalFault) (bs : List ℕ) → answer p ≡ Err f → IsAfter may p (eats judge p bs)
+stopped_at judge may (Reading s n rest) f bs e = absurd cc
+stopped_at judge may (Stopped g) f bs e = inr (sym (stopped_stays judge g bs))

@@ -12,10 +12,13 @@ use Rattle.txn_journal.specs.Words.{before, behind}
 use Rattle.txn_journal.specs.Splits.{parts_of}
 use Rattle.rows.specs.declared.schema.Table.{Table}
 use Rattle.txn_journal.specs.Lines.{◌>>=◌}
-use Rattle.txn_journal.specs.Stream.{TakesLine}
-use Rattle.txn_journal.specs.BundleStates.{BundleStanding, with_opening, closed_channel, after_inner, judge_inner, ok_rows}
+use Rattle.txn_journal.specs.Stream.{IsLineFault, TakesLine}
+use Rattle.txn_journal.specs.BundleStates.{BundleStanding, IsFullBundle, with_opening, closed_channel, after_inner, judge_inner, ok_rows}
+use Rattle.gtid_set.specs.declared.fault.SetFault.{SetFault}
+use Rattle.gtid_set.specs.declared.fault.SetFault.TheVariants.{Memory, PoolFull, SourcesFull}
 use Rattle.txn_journal.specs.declared.fault.LineFault.{LineFault}
-use Rattle.txn_journal.specs.Machine.{Standing, is_last, judge}
+use Rattle.txn_journal.specs.declared.fault.LineFault.TheVariants as wrong
+use Rattle.txn_journal.specs.Machine.{Standing, IsFull, is_last, judge}
 use Rattle.txn_journal.specs.declared.fault.Cause.{Cause}
 use Rattle.txn_journal.specs.declared.fault.Cause.TheVariants as causes
 use Rattle.txn_journal.proofs.LineReads.{done}
@@ -62,8 +65,27 @@ inner_again : (s : BundleStanding) (d : Standing) (v : Bool) → ended_or_not (r
 inner_again s d true = refl
 inner_again s d false = refl
 
-pub inner_taken : (s : BundleStanding) (tables : List Table) (d : Standing) (line : List ℕ) (r : Result (Unit {0}) LineFault) (new : BundleStanding) → tables ≡ s.bundle.start.schema → judge (Some tables) s.draft line ≡ Ok d → TakesLine r (Ok (after_inner (record s { draft = d }) d)) new → TakesLine r (judge_inner s line) new
+pub inner_taken : (s : BundleStanding) (tables : List Table) (d : Standing) (line : List ℕ) (r : Result (Unit {0}) LineFault) (new : BundleStanding) → tables ≡ s.bundle.start.schema → judge (Some tables) s.draft line ≡ Ok d → TakesLine IsFullBundle r (Ok (after_inner (record s { draft = d }) d)) new → TakesLine IsFullBundle r (judge_inner s line) new
 unfolding judge_inner after_inner
 inner_taken s tables d line r new same judged h =
     let taken : judge (Some s.bundle.start.schema) s.draft line ≡ Ok d = ap (λ (t : List Table). judge (Some t) s.draft line) (sym same) ∙ judged in
-    subst (λ (x : Result BundleStanding Cause). TakesLine r x new) (sym (ap (λ (x : Result Standing Cause). x >>= λ e. done (after_inner s e)) taken ∙ ap done (sym (inner_again s d (is_last d.place))))) h
+    subst (λ (x : Result BundleStanding Cause). TakesLine IsFullBundle r x new) (sym (ap (λ (x : Result Standing Cause). x >>= λ e. done (after_inner s e)) taken ∙ ap done (sym (inner_again s d (is_last d.place))))) h
+
+abbrev go_on : BundleStanding → Standing → Result BundleStanding Cause
+go_on s d = done (after_inner s d)
+
+inner_full : (s : BundleStanding) (f : SetFault) (r : Result Standing Cause) → IsLineFault IsFull f r → IsLineFault IsFullBundle f (r >>= go_on s)
+unfolding after_inner
+inner_full s Memory r h = tt
+inner_full s PoolFull r h = h
+inner_full s SourcesFull (Ok d) h = subst (λ v. IsFull (ended_or_not s d v).draft) (sym (ap is_last h.0)) h
+inner_full s SourcesFull (Err cause) h = h
+
+-- a line of the open journal that is not taken is none of the bundle's
+pub inner_failed : (s : BundleStanding) (tables : List Table) (d : Standing) (line : List ℕ) (fault : LineFault) (new : BundleStanding) → tables ≡ s.bundle.start.schema
+    → TakesLine IsFull (Err fault) (judge (Some tables) s.draft line) d → TakesLine IsFullBundle (Err fault) (judge_inner s line) new
+unfolding judge_inner
+inner_failed s tables d line (wrong.Wrong cause) new same h =
+    ap (λ (r : Result Standing Cause). r >>= go_on s) (ap (λ (t : List Table). judge (Some t) s.draft line) (sym same) ∙ h)
+inner_failed s tables d line (wrong.Set f) new same h =
+    inner_full s f (judge (Some s.bundle.start.schema) s.draft line) (subst (λ (t : List Table). IsLineFault IsFull f (judge (Some t) s.draft line)) same h)

@@ -1,5 +1,6 @@
 -- What one feed and finish give is what the whole text gives.
 use Rattle.std.proofs.Common.{◌≡◌, inl, inr, Result, Err, refl, sym, ap, ◌∙◌}
+use Rattle.gtid_set.specs.declared.fault.SetFault.{SetFault}
 use Rattle.journal.specs.Journals.{JournalValue}
 use Rattle.txn_journal.specs.Machine.{Standing}
 use Rattle.txn_journal.specs.Stream.{Progress, Reading, Stopped, IsAfter, answer}
@@ -26,7 +27,7 @@ closed : (f : JournalFault) → closing (Stopped f) ≡ Err f
 unfolding closing
 closed f = refl
 
-pub stopped_whole : (e : JournalFault) (p after : Progress Standing) → stops e ≡ answer p → IsAfter p after → IsWhole (Err e) (closing after)
-stopped_whole e (Reading s n rest) after a h = absurd cc
-stopped_whole e (Stopped f) after a (inl x) = inl (x.0, ap fails (same_fault e f a ∙ same_stop f (faults.Set x.0) x.1))
-stopped_whole e (Stopped f) after a (inr x) = inr (ap fails (same_fault e f a) ∙ sym (closed f) ∙ ap closing x)
+pub stopped_whole : (may : SetFault → Type 0) (e : JournalFault) (p after : Progress Standing) → stops e ≡ answer p → IsAfter may p after → IsWhole may (Err e) (closing after)
+stopped_whole may e (Reading s n rest) after a h = absurd cc
+stopped_whole may e (Stopped f) after a (inl x) = inl (x.0, ap fails (same_fault e f a ∙ same_stop f (faults.Set x.0) x.1), x.2)
+stopped_whole may e (Stopped f) after a (inr x) = inr (ap fails (same_fault e f a) ∙ sym (closed f) ∙ ap closing x)

@@ -6,6 +6,7 @@ use Rattle.txn_journal.specs.Refused.{capped}
 use Rattle.txn_journal.specs.BundleStates.{BundleValue, BundleStanding}
 use Rattle.txn_journal.specs.BundleText.{BundleLine, bundle_text, bundle_lines, bundle_spelling, IsWrittenBundle, WritesBundle}
 use Rattle.txn_journal.specs.BundleHeard.{bundle_said}
+use Rattle.txn_journal.specs.BundleReading.{bundle_start, IsFaultOfBundle}
 use Rattle.txn_journal.specs.BundleCauses.{HasBundleCause}
 use Rattle.txn_journal.specs.declared.fault.Cause.{Cause}
 use Rattle.txn_journal.specs.declared.fault.Cause.TheVariants as causes
@@ -54,11 +55,11 @@ pub record IsBundleTrailing (bytes : List ℕ) (n : ℕ) : Type 0 where
 
 -- what each fault says of the text
 abbrev pub RefusesBundle : JournalFault → List ℕ → Type 0
-RefusesBundle (faults.Set fault) bytes = Unit {0}
+RefusesBundle (faults.Set fault) bytes = IsFaultOfBundle bundle_start bytes fault
 RefusesBundle (faults.Line n cause) bytes = IsBundleFirstFaulty bytes n cause ⊎ (IsBundleTrailing bytes n × (cause ≡ causes.Keyword))
 RefusesBundle (faults.Truncated n) bytes = IsBundleFront bytes n × ((b : BundleValue) → WritesBundle bytes b → ⊥)
 
--- it is this bundle, unless memory ran out or a set was full
+-- it is this bundle, unless memory ran out or a set was full: `RefusesBundle` says of which set
 abbrev pub IsReadBundle : Result BundleValue JournalFault → BundleValue → Type 0
 IsReadBundle (Ok found) b = found ≡ b
 IsReadBundle (Err (faults.Set fault)) b = Unit {0}

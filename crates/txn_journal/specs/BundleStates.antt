@@ -17,7 +17,7 @@ use Rattle.journal_words.specs.Words.{first_word, others}
 use Rattle.journal_words.specs.Gtids.{source_of_word}
 use Rattle.txn_journal.specs.Words.{name_of}
 use Rattle.txn_journal.specs.Lines.{◌>>=◌, some_or_body, version_in, nothing_in, table_in, image_in}
-use Rattle.txn_journal.specs.Machine.{Standing, empty, is_last, judge}
+use Rattle.txn_journal.specs.Machine.{Standing, empty, is_last, IsFull, judge}
 use Rattle.txn_journal.specs.Shapes.{added_table}
 use Rattle.txn_journal.specs.declared.bundle.Channel.{Channel}
 use Rattle.txn_journal.specs.declared.bundle_draft.Part.{Part}
@@ -52,6 +52,10 @@ pub record BundleStanding : Type 0 where
 -- before the first line
 abbrev pub no_bundle : BundleStanding
 no_bundle = record { part = parts.Header; version = One; tables = []; bundle = bare 0 []; channel = None; draft = empty None }
+
+-- the journal of the channel that is open has seen too many sources
+abbrev pub IsFullBundle : BundleStanding → Type 0
+IsFullBundle s = IsFull s.draft
 
 abbrev pub is_done : Part → Bool
 is_done parts.Ended = true

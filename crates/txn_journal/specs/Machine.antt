@@ -1,8 +1,8 @@
 -- A journal as far as its lines have come.
-use Rattle.std.specs.Prelude.{ℕ, ◌+◌, Bool, true, false, not, ◌&&◌, ◌||◌, ◌==◌, nat_le, List, [], ◌∷◌, ◌++◌, length, Option, Some, None, Result, Ok, Err, if◌then◌else◌}
+use Rattle.std.specs.Prelude.{◌≡◌, ℕ, ◌+◌, ◌<◌, Bool, true, false, not, ◌&&◌, ◌||◌, ◌==◌, nat_le, List, [], ◌∷◌, ◌++◌, length, Option, Some, None, Result, Ok, Err, if◌then◌else◌}
 use Rattle.std.specs.FinSet as set
 use Rattle.gtid_text.specs.declared.Gtid.{Gtid}
-use Rattle.gtid_set.specs.Sets.{Gtids}
+use Rattle.gtid_set.specs.Sets.{Gtids, source_count, most_sources}
 use Rattle.rows.specs.declared.value.Value.{Value}
 use Rattle.rows.specs.declared.change.Change.{Change}
 use Rattle.rows.specs.declared.change.Change.TheVariants.{Insert, Delete, Update}
@@ -51,6 +51,10 @@ empty due = record {
 abbrev pub is_last : Place → Bool
 is_last places.Ended = true
 is_last _ = false
+
+-- between two entries, what was seen has more sources than a set may have
+abbrev pub IsFull : Standing → Type 0
+IsFull s = (s.place ≡ places.Between) × (most_sources < source_count s.seen)
 
 -- its entries were taken
 abbrev pub emptied : Standing → Standing

@@ -5,8 +5,8 @@ use Rattle.journal.specs.declared.Entry.{Entry}
 use Rattle.journal.specs.Journals.{JournalValue}
 use Rattle.txn_journal.specs.declared.fault.JournalFault.{JournalFault}
 use Rattle.txn_journal.specs.declared.fault.JournalFault.TheVariants as faults
-use Rattle.txn_journal.specs.Stream.{Progress, Reading, Stopped, eats, ended}
-use Rattle.txn_journal.specs.Machine.{Standing, empty, is_last, emptied, judge}
+use Rattle.txn_journal.specs.Stream.{Progress, Reading, Stopped, eats, ended, IsPieceFault}
+use Rattle.txn_journal.specs.Machine.{Standing, empty, is_last, emptied, judge, IsFull}
 use Rattle.txn_journal.specs.declared.lines.Place.{Place}
 use Rattle.txn_journal.specs.declared.lines.Place.TheVariants as places
 
@@ -17,6 +17,10 @@ before_first = Reading (empty None) 0 []
 -- a journal that stands alone, byte by byte
 abbrev pub eats_alone : Progress Standing → List ℕ → Progress Standing
 eats_alone p bytes = eats (judge None) p bytes
+
+-- why bytes are not taken, though nothing is wrong with them: memory was refused, or a journal's set has too many sources behind some of them
+abbrev pub IsFaultAlone : Progress Standing → List ℕ → SetFault → Type 0
+IsFaultAlone p bytes fault = IsPieceFault IsFull (judge None) p bytes fault
 
 -- the whole entries so far that were not taken
 abbrev pub entries_of : Progress Standing → List Entry
@@ -36,9 +40,9 @@ unfoldable pub closing : Progress Standing → Result JournalValue JournalFault
 closing (Reading s n rest) = whole_journal (ended (is_last s.place) rest n) s.journal
 closing (Stopped fault) = Err fault
 
--- it is this, unless memory ran out or a set was full
-abbrev pub IsWhole : Result JournalValue JournalFault → Result JournalValue JournalFault → Type 0
-IsWhole result whole = ((fault : SetFault) × (result ≡ Err (faults.Set fault))) ⊎ (result ≡ whole)
+-- it is this, or a fault that may be
+abbrev pub IsWhole : (SetFault → Type 0) → Result JournalValue JournalFault → Result JournalValue JournalFault → Type 0
+IsWhole may result whole = ((fault : SetFault) × (result ≡ Err (faults.Set fault)) × may fault) ⊎ (result ≡ whole)
 
 -- the same reading with these entries in front
 abbrev pub in_front : List Entry → JournalValue → JournalValue

@@ -5,6 +5,7 @@ use Rattle.txn_journal.specs.Words.{IsOneLine}
 use Rattle.txn_journal.specs.Machine.{Standing}
 use Rattle.txn_journal.specs.Spelling.{Line, lines_text, journal_lines, spelling, IsWritten, Writes}
 use Rattle.txn_journal.specs.Heard.{said}
+use Rattle.txn_journal.specs.Reading.{before_first, IsFaultAlone}
 use Rattle.txn_journal.specs.Causes.{HasCause}
 use Rattle.txn_journal.specs.declared.fault.Cause.{Cause}
 use Rattle.txn_journal.specs.declared.fault.Cause.TheVariants as causes
@@ -55,11 +56,11 @@ pub record IsTrailing (bytes : List ℕ) (n : ℕ) : Type 0 where
 
 -- what each fault says of the text
 abbrev pub Refuses : JournalFault → List ℕ → Type 0
-Refuses (faults.Set fault) bytes = Unit {0}
+Refuses (faults.Set fault) bytes = IsFaultAlone before_first bytes fault
 Refuses (faults.Line n cause) bytes = IsFirstFaulty bytes n cause ⊎ (IsTrailing bytes n × (cause ≡ causes.Keyword))
 Refuses (faults.Truncated n) bytes = IsFront bytes n × ((j : JournalValue) → Writes bytes j → ⊥)
 
--- it is this journal, unless memory ran out or a set was full
+-- it is this journal, unless memory ran out or a set was full: `Refuses` says of which set
 abbrev pub IsRead : Result JournalValue JournalFault → JournalValue → Type 0
 IsRead (Ok found) j = found ≡ j
 IsRead (Err (faults.Set fault)) j = Unit {0}

@@ -1,6 +1,7 @@
 -- A text that comes byte by byte. S is what its whole lines have made.
 use Rattle.std.specs.Prelude.{◌≡◌, ◌⊎◌, ℕ, ◌+◌, ◌-◌, ◌^◌, min, Bool, true, false, ◌==◌, List, [], ◌∷◌, ◌++◌, Option, Some, None, Result, Ok, Err, if◌then◌else◌}
 use Rattle.gtid_set.specs.declared.fault.SetFault.{SetFault}
+use Rattle.gtid_set.specs.declared.fault.SetFault.TheVariants.{Memory, PoolFull, SourcesFull}
 use Rattle.txn_journal.specs.declared.fault.Cause.{Cause}
 use Rattle.txn_journal.specs.declared.fault.Cause.TheVariants as causes
 use Rattle.txn_journal.specs.declared.fault.LineFault.{LineFault}
@@ -12,17 +13,30 @@ use Rattle.txn_journal.specs.declared.fault.JournalFault.TheVariants as faults
 abbrev pub Judge : Type 0 → Type 0
 Judge S = S → List ℕ → Result S Cause
 
--- What a call did with a line is what judging it gives, unless memory ran out or a set was full.
-abbrev pub TakesLine : {S : Type 0} → Result (Unit {0}) LineFault → Result S Cause → S → Type 0
-TakesLine (Ok _) judged new = judged ≡ Ok new
-TakesLine (Err (wrong.Wrong cause)) judged new = judged ≡ Err cause
-TakesLine (Err (wrong.Set fault)) judged new = Unit {0}
+-- Why a line that says something is not taken: memory was refused, or what it makes is full. A pool never wants room.
+abbrev pub IsLineFault : {S : Type 0} → (S → Type 0) → SetFault → Result S Cause → Type 0
+IsLineFault full Memory judged = Unit {0}
+IsLineFault full PoolFull judged = ⊥
+IsLineFault full SourcesFull (Ok s) = full s
+IsLineFault full SourcesFull (Err cause) = ⊥
 
--- What a call found in a part of a line, seen by view, is what reading it gives, unless memory ran out or a set was full.
+-- What a call did with a line is what judging it gives, unless memory ran out or what it makes is full.
+abbrev pub TakesLine : {S : Type 0} → (S → Type 0) → Result (Unit {0}) LineFault → Result S Cause → S → Type 0
+TakesLine full (Ok _) judged new = judged ≡ Ok new
+TakesLine full (Err (wrong.Wrong cause)) judged new = judged ≡ Err cause
+TakesLine full (Err (wrong.Set fault)) judged new = IsLineFault full fault judged
+
+-- What a call did with a part of a line is what judging it gives, unless memory ran out.
+abbrev pub TakesPart : {S : Type 0} → Result (Unit {0}) LineFault → Result S Cause → S → Type 0
+TakesPart (Ok _) judged new = judged ≡ Ok new
+TakesPart (Err (wrong.Wrong cause)) judged new = judged ≡ Err cause
+TakesPart (Err (wrong.Set fault)) judged new = fault ≡ Memory
+
+-- What a call found in a part of a line, seen by view, is what reading it gives, unless memory ran out.
 abbrev pub Finds : {X Y : Type 0} → (X → Y) → Result X LineFault → Result Y Cause → Type 0
 Finds view (Ok x) read = read ≡ Ok (view x)
 Finds view (Err (wrong.Wrong cause)) read = read ≡ Err cause
-Finds view (Err (wrong.Set fault)) read = Unit {0}
+Finds view (Err (wrong.Set fault)) read = fault ≡ Memory
 
 -- How far the reading has come: so many whole lines, and the bytes of the next; or it has stopped.
 pub data Progress (S : Type 0) : Type 0 where
@@ -50,9 +64,27 @@ abbrev pub eats : {S : Type 0} → Judge S → Progress S → List ℕ → Progr
 eats judge p [] = p
 eats judge p (b ∷ bs) = eats judge (eat judge p b) bs
 
--- it is this, unless memory ran out or a set was full
-abbrev pub IsAfter : {S : Type 0} → Progress S → Progress S → Type 0
-IsAfter new after = ((fault : SetFault) × (new ≡ Stopped (faults.Set fault))) ⊎ (new ≡ after)
+-- what the whole lines have made is full
+abbrev pub HasFull : {S : Type 0} → (S → Type 0) → Progress S → Type 0
+HasFull full (Reading s n rest) = full s
+HasFull full (Stopped fault) = ⊥
+
+-- what has come is full behind some of the bytes
+pub record Fills {S : Type 0} (full : S → Type 0) (judge : Judge S) (p : Progress S) (bytes : List ℕ) : Type 0 where
+  pub front : List ℕ
+  pub rest : List ℕ
+  pub parts : bytes ≡ front ++ rest
+  pub is_full : HasFull full (eats judge p front)
+
+-- Why bytes are not taken, though nothing is wrong with them: memory was refused, or what some of them make is full. A pool never wants room.
+abbrev pub IsPieceFault : {S : Type 0} → (S → Type 0) → Judge S → Progress S → List ℕ → SetFault → Type 0
+IsPieceFault full judge p bytes Memory = Unit {0}
+IsPieceFault full judge p bytes PoolFull = ⊥
+IsPieceFault full judge p bytes SourcesFull = Fills full judge p bytes
+
+-- it is this, or it has stopped at a fault that may be
+abbrev pub IsAfter : {S : Type 0} → (SetFault → Type 0) → Progress S → Progress S → Type 0
+IsAfter may new after = ((fault : SetFault) × (new ≡ Stopped (faults.Set fault)) × may fault) ⊎ (new ≡ after)
 
 abbrev pub answer : {S : Type 0} → Progress S → Result (Unit {0}) JournalFault
 answer (Reading s n rest) = Ok tt
@@ -68,12 +100,12 @@ ended false rest n = Err (faults.Truncated (next_number n))
 ended true [] n = Ok tt
 ended true (b ∷ bs) n = Err (faults.Line (next_number n) causes.Keyword)
 
--- What a call did with bytes is what eating them gives, unless memory ran out or a set was full.
-abbrev pub TakesPiece : {S : Type 0} → Result (Unit {0}) JournalFault → Progress S → Progress S → Type 0
-TakesPiece (Ok _) new after = after ≡ new
-TakesPiece (Err (faults.Set fault)) new after = Unit {0}
-TakesPiece (Err (faults.Line n cause)) new after = after ≡ Stopped (faults.Line n cause)
-TakesPiece (Err (faults.Truncated n)) new after = ⊥
+-- What a call did with bytes is what eating them gives, unless there was a fault that may be.
+abbrev pub TakesPiece : {S : Type 0} → (SetFault → Type 0) → Result (Unit {0}) JournalFault → Progress S → Progress S → Type 0
+TakesPiece may (Ok _) new after = after ≡ new
+TakesPiece may (Err (faults.Set fault)) new after = may fault
+TakesPiece may (Err (faults.Line n cause)) new after = after ≡ Stopped (faults.Line n cause)
+TakesPiece may (Err (faults.Truncated n)) new after = ⊥
 
 abbrev pub end_of : {S : Type 0} → Bool → Progress S → Result (Unit {0}) JournalFault
 end_of is_last (Reading s n rest) = ended is_last rest n

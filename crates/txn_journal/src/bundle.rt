@@ -1,6 +1,6 @@
 //! Bundles: a replica's tables and opening rows, and the journals that its channels bring.
 ghost use Rattle.std.specs.Prelude.{◌≡◌, ◌∷◌, ◌++◌, [], OnOk, OnErr};
-ghost use Rattle.txn_journal.specs.Stream.{TakesLine};
+ghost use Rattle.txn_journal.specs.Stream.{TakesPart};
 ghost use Rattle.txn_journal.specs.BundleStates.{with_opening};
 
 use crate::fault::{Cause, LineFault};
@@ -102,7 +102,7 @@ impl Bundle {
 
     /// Puts an opening row, as a transaction of one insert would.
     pub(crate) fn put(&mut self, alloc: Global, table: &Name, row: &Row) -> Result<(), LineFault>
-        ensures rows { TakesLine result (with_opening self.old.start (record { table = table.now; row = row.now })) self.new.start.rows }
+        ensures rows { TakesPart result (with_opening self.old.start (record { table = table.now; row = row.now })) self.new.start.rows }
         ensures same { OnOk result (self.new ≡ record self.old { start = record self.old.start { rows = self.new.start.rows } }) }
     {
         match self.rows.put(alloc, table, row) {

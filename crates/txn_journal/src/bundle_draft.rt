@@ -147,7 +147,7 @@ fn has_channel(channels: &[Channel], name: &Name) -> bool
 impl BundleDraft {
     ghost use Rattle.std.specs.Prelude.{option_map, Ok};
     ghost use Rattle.txn_journal.specs.Stream.{TakesLine};
-    ghost use Rattle.txn_journal.specs.BundleStates.{no_bundle, is_done, headed, named, tabled, rowed, put_row, behind_tables, channelled, joined_channel, all_done, own_step, judge_own, after_inner, judge_inner, judge_bundle};
+    ghost use Rattle.txn_journal.specs.BundleStates.{IsFullBundle, no_bundle, is_done, headed, named, tabled, rowed, put_row, behind_tables, channelled, joined_channel, all_done, own_step, judge_own, after_inner, judge_inner, judge_bundle};
     ghost use Rattle.txn_journal.specs.BundleDrafts.{bundle_standing};
 
     /// Before the first line.
@@ -186,7 +186,7 @@ impl BundleDraft {
     #[tactic(auto, unfolding(crate::specs::BundleStates::own_step))]
     /// Takes a line of the bundle's own.
     fn take(&mut self, alloc: Global, word: Word, rest: Option<&[u8]>) -> Result<(), LineFault>
-        ensures { TakesLine result (own_step (bundle_standing self.old) word (option_map (λ r. r.now) rest.entry)) (bundle_standing self.new) }
+        ensures { TakesLine IsFullBundle result (own_step (bundle_standing self.old) word (option_map (λ r. r.now) rest.entry)) (bundle_standing self.new) }
     {
         match word {
             Word::Bundle => self.read_header(rest),
@@ -200,7 +200,7 @@ impl BundleDraft {
 
     #[tactic(auto, unfolding(crate::specs::BundleStates::headed))]
     fn read_header(&mut self, rest: Option<&[u8]>) -> Result<(), LineFault>
-        ensures { TakesLine result (headed (bundle_standing self.old) (option_map (λ r. r.now) rest.entry)) (bundle_standing self.new) }
+        ensures { TakesLine IsFullBundle result (headed (bundle_standing self.old) (option_map (λ r. r.now) rest.entry)) (bundle_standing self.new) }
     {
         match version_in(None, rest) {
             Ok(version) => {
@@ -214,7 +214,7 @@ impl BundleDraft {
 
     #[tactic(auto, unfolding(crate::specs::BundleStates::named))]
     fn name_replica(&mut self, alloc: Global, rest: Option<&[u8]>) -> Result<(), LineFault>
-        ensures { TakesLine result (named (bundle_standing self.old) (option_map (λ r. r.now) rest.entry)) (bundle_standing self.new) }
+        ensures { TakesLine IsFullBundle result (named (bundle_standing self.old) (option_map (λ r. r.now) rest.entry)) (bundle_standing self.new) }
     {
         match replica_in(alloc, rest) {
             Ok(replica) => {
@@ -229,7 +229,7 @@ impl BundleDraft {
 
     #[tactic(auto, unfolding(crate::specs::BundleStates::tabled))]
     fn add_table(&mut self, alloc: Global, rest: Option<&[u8]>) -> Result<(), LineFault>
-        ensures { TakesLine result (tabled (bundle_standing self.old) (option_map (λ r. r.now) rest.entry)) (bundle_standing self.new) }
+        ensures { TakesLine IsFullBundle result (tabled (bundle_standing self.old) (option_map (λ r. r.now) rest.entry)) (bundle_standing self.new) }
     {
         let Some(text) = rest else {
             return Err(LineFault::Wrong(Cause::Body));
@@ -251,7 +251,7 @@ impl BundleDraft {
 
     #[tactic(auto, unfolding(crate::specs::BundleStates::rowed))]
     fn add_row(&mut self, alloc: Global, rest: Option<&[u8]>) -> Result<(), LineFault>
-        ensures { TakesLine result (rowed (bundle_standing self.old) (option_map (λ r. r.now) rest.entry)) (bundle_standing self.new) }
+        ensures { TakesLine IsFullBundle result (rowed (bundle_standing self.old) (option_map (λ r. r.now) rest.entry)) (bundle_standing self.new) }
     {
         let (table, text) = table_at(&mut self.names, alloc, rest)?;
         let row = image(alloc, text)?;
@@ -264,14 +264,14 @@ impl BundleDraft {
 
     #[tactic(auto, unfolding(crate::specs::BundleStates::put_row))]
     fn put(&mut self, alloc: Global, table: &Name, row: &Row) -> Result<(), LineFault>
-        ensures { TakesLine result (put_row (bundle_standing self.old) (record { table = table.now; row = row.now })) (bundle_standing self.new) }
+        ensures { TakesLine IsFullBundle result (put_row (bundle_standing self.old) (record { table = table.now; row = row.now })) (bundle_standing self.new) }
     {
         self.bundle.put(alloc, table, row)
     }
 
     #[tactic(auto, unfolding(crate::specs::BundleStates::channelled))]
     fn open_channel(&mut self, alloc: Global, rest: Option<&[u8]>) -> Result<(), LineFault>
-        ensures { TakesLine result (channelled (bundle_standing self.old) (option_map (λ r. r.now) rest.entry)) (bundle_standing self.new) }
+        ensures { TakesLine IsFullBundle result (channelled (bundle_standing self.old) (option_map (λ r. r.now) rest.entry)) (bundle_standing self.new) }
     {
         let channel = channel_in(alloc, &mut self.names, rest)?;
         self.join(alloc, channel)
@@ -279,7 +279,7 @@ impl BundleDraft {
 
     #[tactic(auto, unfolding(crate::specs::BundleStates::joined_channel))]
     fn join(&mut self, alloc: Global, channel: Channel) -> Result<(), LineFault>
-        ensures { TakesLine result (joined_channel (bundle_standing self.old) channel) (bundle_standing self.new) }
+        ensures { TakesLine IsFullBundle result (joined_channel (bundle_standing self.old) channel) (bundle_standing self.new) }
     {
         if self.bundle.channels().len() >= MAX_CHANNELS {
             return Err(LineFault::Wrong(Cause::Limit));
@@ -296,7 +296,7 @@ impl BundleDraft {
 
     #[tactic(auto, unfolding(crate::specs::BundleStates::all_done))]
     fn end(&mut self, alloc: Global, rest: Option<&[u8]>) -> Result<(), LineFault>
-        ensures { TakesLine result (all_done (bundle_standing self.old) (option_map (λ r. r.now) rest.entry)) (bundle_standing self.new) }
+        ensures { TakesLine IsFullBundle result (all_done (bundle_standing self.old) (option_map (λ r. r.now) rest.entry)) (bundle_standing self.new) }
     {
         if rest.is_some() {
             return Err(LineFault::Wrong(Cause::Body));
@@ -309,7 +309,7 @@ impl BundleDraft {
     #[tactic(auto, unfolding(crate::specs::BundleStates::judge_inner))]
     /// Takes a line of the open channel's journal.
     fn take_inside(&mut self, alloc: Global, line: &[u8]) -> Result<(), LineFault>
-        ensures { TakesLine result (judge_inner (bundle_standing self.old) line.now) (bundle_standing self.new) }
+        ensures { TakesLine IsFullBundle result (judge_inner (bundle_standing self.old) line.now) (bundle_standing self.new) }
     {
         let schema = Some(self.bundle.schema());
         match self.draft.take_line(alloc, schema, &mut self.names, line) {
@@ -321,7 +321,7 @@ impl BundleDraft {
     /// Adds the open channel to the bundle, where its journal has ended.
     #[tactic(auto, unfolding(crate::specs::BundleStates::after_inner))]
     fn go_on(&mut self, alloc: Global) -> Result<(), LineFault>
-        ensures { TakesLine result (Ok (after_inner (bundle_standing self.old) (bundle_standing self.old).draft)) (bundle_standing self.new) }
+        ensures { TakesLine IsFullBundle result (Ok (after_inner (bundle_standing self.old) (bundle_standing self.old).draft)) (bundle_standing self.new) }
     {
         if !self.draft.is_ended() {
             return Ok(());
@@ -337,7 +337,7 @@ impl BundleDraft {
 
     #[tactic(auto, unfolding(crate::specs::BundleStates::judge_own))]
     fn take_own(&mut self, alloc: Global, line: &[u8]) -> Result<(), LineFault>
-        ensures { TakesLine result (judge_own (bundle_standing self.old) line.now) (bundle_standing self.new) }
+        ensures { TakesLine IsFullBundle result (judge_own (bundle_standing self.old) line.now) (bundle_standing self.new) }
     {
         let (word, rest) = cut(line);
         match word_at(word) {
@@ -349,7 +349,7 @@ impl BundleDraft {
     #[tactic(auto, unfolding(crate::specs::BundleStates::judge_bundle))]
     /// Takes the next line, or says the first thing that is wrong with it.
     pub fn take_line(&mut self, alloc: Global, line: &[u8]) -> Result<(), LineFault>
-        ensures { TakesLine result (judge_bundle (bundle_standing self.old) line.now) (bundle_standing self.new) }
+        ensures { TakesLine IsFullBundle result (judge_bundle (bundle_standing self.old) line.now) (bundle_standing self.new) }
     {
         if self.part == Part::Journal {
             return self.take_inside(alloc, line);

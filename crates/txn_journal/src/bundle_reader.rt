@@ -3,7 +3,7 @@ ghost use Rattle.std.specs.Prelude.{◌≡◌, IfOk, IfErr};
 ghost use Rattle.txn_journal.specs.BundleStates.{BundleValue};
 ghost use Rattle.txn_journal.specs.BundleText.{WritesBundle};
 ghost use Rattle.txn_journal.specs.BundleRefused.{RefusesBundle, IsReadBundle};
-ghost use Rattle.txn_journal.specs.BundleReading.{bundle_start, eats_bundle, closing_bundle, IsWholeBundle};
+ghost use Rattle.txn_journal.specs.BundleReading.{bundle_start, IsFaultOfBundle, eats_bundle, closing_bundle, IsWholeBundle};
 
 use crate::bundle::Bundle;
 use crate::bundle_draft::BundleDraft;
@@ -49,9 +49,11 @@ impl Lines {
 }
 
 impl TakeLine for Lines {
-    ghost use Rattle.txn_journal.specs.BundleStates.{judge_bundle};
+    ghost use Rattle.txn_journal.specs.BundleStates.{judge_bundle, IsFullBundle};
 
     ghost judge = { judge_bundle };
+
+    ghost full = { IsFullBundle };
 
     fn take_line(&mut self, alloc: Global, line: &[u8]) -> Result<(), LineFault> {
         self.draft.take_line(alloc, line)
@@ -66,7 +68,7 @@ pub struct BundleReader {
 
 impl BundleReader {
     ghost use Rattle.txn_journal.specs.Stream.{IsAfter, answer};
-    ghost use Rattle.txn_journal.specs.BundleReading.{bundle_start, eats_bundle, closing_bundle};
+    ghost use Rattle.txn_journal.specs.BundleReading.{bundle_start, IsFaultOfBundle, eats_bundle, closing_bundle};
     ghost use Rattle.txn_journal.specs.BundleReaders.{bundle_reading};
 
     /// Before the first byte.
@@ -83,7 +85,7 @@ impl BundleReader {
 
     /// Takes the next piece. After an error every later call answers that error.
     pub fn feed(&mut self, alloc: Global, piece: &[u8]) -> Result<(), JournalFault>
-        ensures next { IsAfter (bundle_reading self.new) (eats_bundle (bundle_reading self.old) piece.now) }
+        ensures next { IsAfter (IsFaultOfBundle (bundle_reading self.old) piece.now) (bundle_reading self.new) (eats_bundle (bundle_reading self.old) piece.now) }
         ensures answer { result ≡ answer (bundle_reading self.new) }
     {
         self.feed.feed(alloc, piece)
@@ -102,7 +104,7 @@ impl BundleReader {
 }
 
 fn read_bundle(alloc: Global, bytes: &[u8]) -> Result<Bundle, JournalFault>
-    ensures { IsWholeBundle result (closing_bundle (eats_bundle bundle_start bytes.now)) }
+    ensures { IsWholeBundle (IsFaultOfBundle bundle_start bytes.now) result (closing_bundle (eats_bundle bundle_start bytes.now)) }
 {
     let mut reader = BundleReader::start(alloc);
     match reader.feed(alloc, bytes) {
@@ -120,7 +122,7 @@ pub fn decode_bundle(alloc: Global, bytes: &[u8]) -> Result<Bundle, JournalFault
     // Which line is the first that is faulty, and what is wrong with it.
     ensures refused { IfErr result (λ fault. RefusesBundle fault bytes.now) }
     // The same, by the fold over the bytes.
-    ensures exact { IsWholeBundle result (closing_bundle (eats_bundle bundle_start bytes.now)) }
+    ensures exact { IsWholeBundle (IsFaultOfBundle bundle_start bytes.now) result (closing_bundle (eats_bundle bundle_start bytes.now)) }
 {
     read_bundle(alloc, bytes)
 }

@@ -127,7 +127,7 @@ fn is_number(number: u64) -> bool
 impl Draft {
     ghost use Rattle.std.specs.Prelude.{option_map, [], Ok};
     ghost use Rattle.txn_journal.specs.Stream.{TakesLine};
-    ghost use Rattle.txn_journal.specs.Machine.{Standing, empty, is_last, emptied, add, opened, followed, begun, ended, finished, step, judge};
+    ghost use Rattle.txn_journal.specs.Machine.{Standing, IsFull, empty, is_last, emptied, add, opened, followed, begun, ended, finished, step, judge};
     ghost use Rattle.txn_journal.specs.Drafts.{standing};
 
     /// Before the first line.
@@ -180,7 +180,7 @@ impl Draft {
         names: &mut Names,
         line: &[u8],
     ) -> Result<(), LineFault>
-        ensures { TakesLine result (judge (option_map (λ tables. tables.now) schema.entry) (standing self.old) line.now) (standing self.new) }
+        ensures { TakesLine IsFull result (judge (option_map (λ tables. tables.now) schema.entry) (standing self.old) line.now) (standing self.new) }
     {
         let (word, rest) = cut(line);
         match keyword_at(word) {
@@ -202,7 +202,7 @@ impl Draft {
         rest: Option<&[u8]>,
     ) -> Result<(), LineFault>
         requires { is_due self.old.place keyword ≡ true }
-        ensures { TakesLine result (step (option_map (λ tables. tables.now) schema.entry) (standing self.old) keyword (option_map (λ r. r.now) rest.entry)) (standing self.new) }
+        ensures { TakesLine IsFull result (step (option_map (λ tables. tables.now) schema.entry) (standing self.old) keyword (option_map (λ r. r.now) rest.entry)) (standing self.new) }
     {
         match keyword {
             Keyword::Journal => self.open(rest),
@@ -237,7 +237,7 @@ impl Draft {
 
     #[tactic(auto, unfolding(crate::specs::Machine::opened))]
     fn open(&mut self, rest: Option<&[u8]>) -> Result<(), LineFault>
-        ensures { TakesLine result (opened (standing self.old) (option_map (λ r. r.now) rest.entry)) (standing self.new) }
+        ensures { TakesLine IsFull result (opened (standing self.old) (option_map (λ r. r.now) rest.entry)) (standing self.new) }
     {
         match version_in(self.due, rest) {
             Ok(version) => {
@@ -251,7 +251,7 @@ impl Draft {
 
     #[tactic(auto, unfolding(crate::specs::Machine::followed))]
     fn follow(&mut self, alloc: Global, rest: Option<&[u8]>) -> Result<(), LineFault>
-        ensures { TakesLine result (followed (standing self.old) (option_map (λ r. r.now) rest.entry)) (standing self.new) }
+        ensures { TakesLine IsFull result (followed (standing self.old) (option_map (λ r. r.now) rest.entry)) (standing self.new) }
     {
         let Some(word) = rest else {
             return Err(LineFault::Wrong(Cause::Body));
@@ -267,7 +267,7 @@ impl Draft {
 
     #[tactic(auto, unfolding(crate::specs::Machine::begun, crate::specs::Machine::begin))]
     fn begin(&mut self, alloc: Global, rest: Option<&[u8]>) -> Result<(), LineFault>
-        ensures { TakesLine result (begun (standing self.old) (option_map (λ r. r.now) rest.entry)) (standing self.new) }
+        ensures { TakesLine IsFull result (begun (standing self.old) (option_map (λ r. r.now) rest.entry)) (standing self.new) }
     {
         let Some(word) = rest else {
             return Err(LineFault::Wrong(Cause::Body));
@@ -291,7 +291,7 @@ impl Draft {
 
     #[tactic(auto, unfolding(crate::specs::Machine::add))]
     fn add(&mut self, schema: Option<&Schema>, change: Change) -> Result<(), LineFault>
-        ensures { TakesLine result (add (option_map (λ tables. tables.now) schema.entry) (standing self.old) change) (standing self.new) }
+        ensures { TakesLine IsFull result (add (option_map (λ tables. tables.now) schema.entry) (standing self.old) change) (standing self.new) }
     {
         if self.changes.len() >= MAX_CHANGES || !is_change_writable(&change) {
             return Err(LineFault::Wrong(Cause::Limit));
@@ -306,7 +306,7 @@ impl Draft {
     #[tactic(auto, unfolding(crate::specs::Machine::ended))]
     fn end(&mut self, alloc: Global, rest: Option<&[u8]>) -> Result<(), LineFault>
         requires { self.old.place ≡ Within }
-        ensures { TakesLine result (ended (standing self.old) (option_map (λ r. r.now) rest.entry)) (standing self.new) }
+        ensures { TakesLine IsFull result (ended (standing self.old) (option_map (λ r. r.now) rest.entry)) (standing self.new) }
     {
         if rest.is_some() {
             return Err(LineFault::Wrong(Cause::Body));
@@ -327,7 +327,7 @@ impl Draft {
 
     #[tactic(auto, unfolding(crate::specs::Machine::finished))]
     fn close(&mut self, rest: Option<&[u8]>) -> Result<(), LineFault>
-        ensures { TakesLine result (finished (standing self.old) (option_map (λ r. r.now) rest.entry)) (standing self.new) }
+        ensures { TakesLine IsFull result (finished (standing self.old) (option_map (λ r. r.now) rest.entry)) (standing self.new) }
     {
         if rest.is_some() {
             return Err(LineFault::Wrong(Cause::Body));

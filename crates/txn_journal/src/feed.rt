@@ -26,9 +26,12 @@ pub fn cut_line(text: &[u8]) -> Option<(&[u8], &[u8])>
 pub trait TakeLine {
     ghost judge: { Judge Self };
 
+    // What takes more room than a set has.
+    ghost full: { Self → Type 0 };
+
     /// Takes the next line, or says the first thing that is wrong with it.
     fn take_line(&mut self, alloc: Global, line: &[u8]) -> Result<(), LineFault>
-        ensures { TakesLine result (judge self.old line.now) self.new };
+        ensures { TakesLine full result (judge self.old line.now) self.new };
 }
 
 /// A text that comes in pieces, as far as it has come.
@@ -91,12 +94,12 @@ impl<T> Feed<T> {
 
 impl<T: TakeLine> Feed<T> {
     ghost use Rattle.std.specs.Prelude.{[], ◌∷◌, ◌++◌, None, OnOk};
-    ghost use Rattle.txn_journal.specs.Stream.{eats, IsAfter, TakesPiece, answer};
+    ghost use Rattle.txn_journal.specs.Stream.{eats, IsPieceFault, IsAfter, TakesPiece, answer};
     ghost use Rattle.txn_journal.specs.Feeds.{progress};
 
     /// Takes the next piece. After an error every later call answers that error.
     pub fn feed(&mut self, alloc: Global, piece: &[u8]) -> Result<(), JournalFault>
-        ensures next { IsAfter (progress self.new) (eats T.judge (progress self.old) piece.now) }
+        ensures next { IsAfter (IsPieceFault T.full T.judge (progress self.old) piece.now) (progress self.new) (eats T.judge (progress self.old) piece.now) }
         ensures answer { result ≡ answer (progress self.new) }
     {
         if let Err(fault) = self.answer() {
@@ -110,7 +113,7 @@ impl<T: TakeLine> Feed<T> {
 
     fn take_piece(&mut self, alloc: Global, piece: &[u8]) -> Result<(), JournalFault>
         requires { self.old.stopped ≡ None }
-        ensures next { TakesPiece result (progress self.new) (eats T.judge (progress self.old) piece.now) }
+        ensures next { TakesPiece (IsPieceFault T.full T.judge (progress self.old) piece.now) result (progress self.new) (eats T.judge (progress self.old) piece.now) }
         ensures goes { self.new.stopped ≡ None }
     {
         let mut left = piece;
@@ -132,7 +135,7 @@ impl<T: TakeLine> Feed<T> {
     fn take_line(&mut self, alloc: Global, bytes: &[u8]) -> Result<(), JournalFault>
         requires goes { self.old.stopped ≡ None }
         requires whole { IsOneLine bytes.now }
-        ensures next { TakesPiece result (progress self.new) (eats T.judge (progress self.old) (bytes.now ++ 10 ∷ [])) }
+        ensures next { TakesPiece (IsPieceFault T.full T.judge (progress self.old) (bytes.now ++ 10 ∷ [])) result (progress self.new) (eats T.judge (progress self.old) (bytes.now ++ 10 ∷ [])) }
         ensures goes { self.new.stopped ≡ None }
     {
         self.lines = self.lines.saturating_add(1);
@@ -147,7 +150,7 @@ impl<T: TakeLine> Feed<T> {
     }
 
     fn make(&mut self, alloc: Global, bytes: &[u8]) -> Result<(), LineFault>
-        ensures made { TakesLine result (T.judge self.old.made (self.old.rest.items ++ bytes.now)) self.new.made }
+        ensures made { TakesLine T.full result (T.judge self.old.made (self.old.rest.items ++ bytes.now)) self.new.made }
         ensures rest { OnOk result (self.new.rest.items ≡ []) }
         ensures lines { self.new.lines ≡ self.old.lines }
         ensures stopped { self.new.stopped ≡ self.old.stopped }

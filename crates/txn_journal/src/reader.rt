@@ -5,7 +5,7 @@ ghost use Rattle.txn_journal.specs.Spelling.{Writes};
 ghost use Rattle.txn_journal.specs.Refused.{Refuses, IsRead};
 ghost use Rattle.txn_journal.specs.Stream.{Progress};
 ghost use Rattle.txn_journal.specs.Machine.{Standing};
-ghost use Rattle.txn_journal.specs.Reading.{before_first, eats_alone, closing, IsWhole};
+ghost use Rattle.txn_journal.specs.Reading.{before_first, IsFaultAlone, eats_alone, closing, IsWhole};
 
 use crate::draft::Draft;
 use crate::fault::{JournalFault, LineFault};
@@ -61,9 +61,11 @@ impl Alone {
 
 impl TakeLine for Alone {
     ghost use Rattle.std.specs.Prelude.{None};
-    ghost use Rattle.txn_journal.specs.Machine.{judge};
+    ghost use Rattle.txn_journal.specs.Machine.{judge, IsFull};
 
     ghost judge = { judge None };
+
+    ghost full = { IsFull };
 
     fn take_line(&mut self, alloc: Global, line: &[u8]) -> Result<(), LineFault> {
         self.draft.take_line(alloc, None, &mut self.names, line)
@@ -79,7 +81,7 @@ pub struct Reader {
 impl Reader {
     ghost use Rattle.std.specs.Prelude.{Ok, Err, IfOk, IfErr, OnOk};
     ghost use Rattle.txn_journal.specs.Stream.{IsAfter, answer};
-    ghost use Rattle.txn_journal.specs.Reading.{before_first, eats_alone, entries_of, without_entries, closing};
+    ghost use Rattle.txn_journal.specs.Reading.{before_first, IsFaultAlone, eats_alone, entries_of, without_entries, closing};
     ghost use Rattle.txn_journal.specs.Readers.{reading};
 
     /// Before the first byte.
@@ -97,7 +99,7 @@ impl Reader {
 
     /// Takes the next piece. After an error every later call answers that error.
     pub fn feed(&mut self, alloc: Global, piece: &[u8]) -> Result<(), JournalFault>
-        ensures next { IsAfter (reading self.new) (eats_alone (reading self.old) piece.now) }
+        ensures next { IsAfter (IsFaultAlone (reading self.old) piece.now) (reading self.new) (eats_alone (reading self.old) piece.now) }
         ensures answer { result ≡ answer (reading self.new) }
     {
         self.feed.feed(alloc, piece)
@@ -128,7 +130,7 @@ impl Reader {
 }
 
 fn read_whole(alloc: Global, bytes: &[u8]) -> Result<Journal, JournalFault>
-    ensures { IsWhole result (closing (eats_alone before_first bytes.now)) }
+    ensures { IsWhole (IsFaultAlone before_first bytes.now) result (closing (eats_alone before_first bytes.now)) }
 {
     let mut reader = Reader::start(alloc);
     match reader.feed(alloc, bytes) {
@@ -146,7 +148,7 @@ pub fn decode(alloc: Global, bytes: &[u8]) -> Result<Journal, JournalFault>
     // Which line is the first that is faulty, and what is wrong with it.
     ensures refused { IfErr result (λ fault. Refuses fault bytes.now) }
     // The same, by the fold over the bytes.
-    ensures exact { IsWhole result (closing (eats_alone before_first bytes.now)) }
+    ensures exact { IsWhole (IsFaultAlone before_first bytes.now) result (closing (eats_alone before_first bytes.now)) }
 {
     read_whole(alloc, bytes)
 }

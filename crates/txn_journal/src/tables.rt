@@ -5,7 +5,7 @@ ghost use Rattle.rows.specs.Tables.{table_fault};
 ghost use Rattle.std.specs.List.{list_all};
 ghost use Rattle.journal_words.specs.Words.{is_count};
 ghost use Rattle.txn_journal.specs.Words.{before, behind};
-ghost use Rattle.txn_journal.specs.Stream.{Finds, TakesLine};
+ghost use Rattle.txn_journal.specs.Stream.{Finds, TakesPart};
 ghost use Rattle.txn_journal.specs.Splits.{parts_of, are_new_to, are_columns, is_columns_text};
 ghost use Rattle.txn_journal.specs.Shapes.{uniques_from, is_head, shape_in, width_of, numbers_from, columns_in, keys_from, table_of, after_fault, with_table, added_table};
 ghost use Rattle.txn_journal.specs.Shaped.{shape};
@@ -254,7 +254,7 @@ impl TableWords<'_> {
 
 /// Adds a table behind the others.
 fn push_table(schema: &mut Schema, table: Table) -> Result<(), LineFault>
-    ensures { TakesLine result (after_fault (table_fault schema.old table) (schema.old ++ table ∷ [])) schema.new }
+    ensures { TakesPart result (after_fault (table_fault schema.old table) (schema.old ++ table ∷ [])) schema.new }
 {
     match schema.add(table) {
         Ok(()) => Ok(()),
@@ -268,7 +268,7 @@ fn push_table(schema: &mut Schema, table: Table) -> Result<(), LineFault>
 /// Adds the table of these words behind the others.
 #[tactic(auto, unfolding(crate::specs::Shapes::with_table))]
 fn add_words(alloc: Global, schema: &mut Schema, words: &TableWords) -> Result<(), LineFault>
-    ensures { TakesLine result (with_table schema.old (shape words.now)) schema.new }
+    ensures { TakesPart result (with_table schema.old (shape words.now)) schema.new }
 {
     let columns = words.columns()?;
     if schema.tables().len() >= MAX_TABLES {
@@ -286,7 +286,7 @@ pub fn add_table(
     schema: &mut Schema,
     text: &[u8],
 ) -> Result<(), LineFault>
-    ensures { TakesLine result (added_table schema.old text.now) schema.new }
+    ensures { TakesPart result (added_table schema.old text.now) schema.new }
 {
     let words = table_words(alloc, names, text)?;
     add_words(alloc, schema, &words)

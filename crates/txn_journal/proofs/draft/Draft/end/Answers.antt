@@ -1,5 +1,8 @@
-use Rattle.std.proofs.Common.{refl}
+use Rattle.std.proofs.Common.{refl, sym, ◌∙◌}
+use Rattle.std.proofs.lemmas.Result.{err_from_is_err_and}
 use Rattle.txn_journal.proofs.Seen.{seen_pushed, seen_more}
+use Rattle.txn_journal.proofs.FullSets.{seen_full, no_rest}
+use Rattle.txn_journal.specs.Drafts.{standing}
 use Rattle.txn_journal.proofs.draft.Draft.end.Goals as goal
 
 pub invariant_of-self-in-Break-branch-3 : goal.invariant_of-self-in-Break-branch-3
@@ -15,3 +18,8 @@ invariant_of-self-2 c = record {
   open_new = λ e. absurd cc;
   writable = rw (c.replace-changes.ensures.after, c.new.ensures.items) refl;
 }
+
+pub returns-in_err-add : goal.returns-in_err-add
+returns-in_err-add c =
+    let p = err_from_is_err_and c.from_residual-in_err-add.result c.from_residual-in_err-add.ensures.1 in
+    rw (p.1, p.2) (seen_full (standing c.args.self.now) c.in_err-add.field-0.0 _ (no_rest _ c.args.rest (sym c.is_some.ensures ∙ c.if-is_some.false)) c.in_err-add.ensures.full)

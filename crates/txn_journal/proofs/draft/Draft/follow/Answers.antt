@@ -1,5 +1,8 @@
 use Rattle.std.proofs.Common.{sym, ap, ◌∙◌}
+use Rattle.std.proofs.lemmas.Result.{err_from_is_err_and}
 use Rattle.txn_journal.proofs.Seen.{seen_start, of_set}
+use Rattle.txn_journal.proofs.FullSets.{previous_full}
+use Rattle.txn_journal.specs.Drafts.{standing}
 use Rattle.txn_journal.proofs.draft.Draft.follow.Goals as goal
 
 pub invariant_of-self : goal.invariant_of-self
@@ -8,3 +11,8 @@ invariant_of-self c = record {
   open_new = λ e. absurd cc;
   writable = c.args.self.now.writable;
 }
+
+pub returns-in_err-previous : goal.returns-in_err-previous
+returns-in_err-previous c =
+    let p = err_from_is_err_and c.from_residual.result c.from_residual.ensures.1 in
+    rw (p.1, p.2, c.in-Some.is) (previous_full (standing c.args.self.now) c.in-Some.word.now c.in_err-previous.field-0.0 c.in_err-previous.ensures.fault)

@@ -1,5 +1,5 @@
 use Rattle.std.proofs.Common.{◌∙◌}
-use Rattle.txn_journal.proofs.Pieces.{line_ok, line_wrong}
+use Rattle.txn_journal.proofs.Pieces.{line_ok, line_wrong, line_fault}
 use Rattle.txn_journal.proofs.feed.Feed.take_line.Goals as goal
 
 pub returns-in-Ok-clause-next : goal.returns-in-Ok-clause-next
@@ -11,3 +11,8 @@ pub returns-in-Err-Wrong-clause-next : goal.returns-in-Err-Wrong-clause-next
 returns-in-Err-Wrong-clause-next g c =
     line_wrong g.T.TakeLine.judge c.args.self.now.stopped c.args.self.now.made c.args.self.now.lines c.make.new.self.lines c.args.self.now.rest.items c.args.bytes.now c.in-Err-Wrong.cause
     c.requires.goes c.requires.whole (rw c.in-Err-Wrong.field-0-is at c.in-Err-Wrong.ensures.made) (c.make.ensures.lines ∙ c.saturating_add-self.ensures)
+
+pub returns-in-Err-Set-clause-next : goal.returns-in-Err-Set-clause-next
+returns-in-Err-Set-clause-next g c =
+    line_fault g.T.TakeLine.full g.T.TakeLine.judge c.in-Err-Set.fault c.args.self.now.stopped c.args.self.now.made c.args.self.now.lines c.args.self.now.rest.items c.args.bytes.now
+    c.requires.goes c.requires.whole (rw c.in-Err-Set.field-0-is at c.in-Err-Set.ensures.made)

@@ -1,14 +1,15 @@
 use Rattle.txn_journal.specs.Feeds.{progress}
-use Rattle.txn_journal.proofs.Pieces.{line_fails, line_taken, rest_kept}
+use Rattle.txn_journal.proofs.Pieces.{behind_line, line_fails, line_taken, rest_kept}
 use Rattle.txn_journal.proofs.feed.Feed.take_piece.Goals as goal
 
 pub returns-in-Err-clause-next : goal.returns-in-Err-clause-next
 returns-in-Err-clause-next g c =
-    line_fails g.T.TakeLine.judge c.in-Err.fault (progress c.lines.self) (progress c.take_line.new.self) (progress c.take_line.new.self) _ c.lines.left.now c.in-Some.line.now c.in-Some.after.now c.in-Some.ensures.found.parts c.in-Err.ensures.next c.lines.invariant.so_far
+    line_fails g.T.TakeLine.full g.T.TakeLine.judge c.in-Err.fault _ (progress c.lines.self) (progress c.take_line.new.self) (progress c.take_line.new.self) _ c.lines.left.now c.in-Some.line.now c.in-Some.after.now c.in-Some.ensures.found.parts c.in-Err.ensures.next c.lines.invariant.so_far c.lines.invariant.may
 
 pub lines-preserved : goal.lines-preserved
 lines-preserved g c = record {
   goes = c.take_line.ensures.goes;
+  may = λ f h. c.lines.invariant.may f (behind_line g.T.TakeLine.full g.T.TakeLine.judge f (progress c.lines.self) (progress c.take_line.new.self) c.lines.left.now c.in-Some.line.now c.in-Some.after.now c.in-Some.ensures.found.parts c.in-Ok.ensures.next h);
   so_far = line_taken g.T.TakeLine.judge (progress c.lines.self) (progress c.take_line.new.self) _ c.lines.left.now c.in-Some.line.now c.in-Some.after.now c.in-Some.ensures.found.parts c.in-Ok.ensures.next c.lines.invariant.so_far;
 }
 
