@@ -10,7 +10,7 @@ const ROOM: usize = 14;
 #[derive(Drop)]
 pub(crate) struct ShortBytes {
     len: u8,
-    bytes: [u8; 14],
+    bytes: [u8; ROOM],
 }
 
 impl Model for ShortBytes {
@@ -32,7 +32,7 @@ impl ShortBytes {
         if len > ROOM {
             return None;
         }
-        let mut held = [0; 14];
+        let mut held = [0; ROOM];
         held[..len].copy_from_slice(bytes);
         Some(ShortBytes {
             len: len as u8,
