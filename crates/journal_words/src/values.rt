@@ -1,8 +1,9 @@
 //! Values as words.
-ghost use Rattle.std.specs.Prelude.{◌≡◌, ◌≤◌, ◌/◌, ◌++◌, ℤ, length, Some, None, IfSome, IfNone, IfOk, OnOk, FitsSigned, option_map, if◌then◌else◌};
+ghost use Rattle.std.specs.Prelude.{◌≡◌, ◌≤◌, ◌/◌, ◌++◌, ℤ, length, Some, None, IfSome, IfNone, IfOk, OnOk, FitsSigned, IsAscii, option_map, if◌then◌else◌};
 ghost use Rattle.std.specs.List.{list_all};
 ghost use Rattle.std.specs.Fmt.{signed_decimal};
 ghost use Rattle.std.specs.Int.{w64};
+ghost use Rattle.hex.specs.Hex.{encode_lower};
 ghost use Rattle.std.specs.String.{string_bytes};
 ghost use Rattle.journal_words.specs.Values.{value_text, int_of, is_lower_digit, bytes_of, value_of};
 
@@ -139,6 +140,33 @@ pub fn value_word(alloc: Global, word: &[u8]) -> Result<Option<Value>, AllocErro
     }
 }
 
+/// The text of digits that were written into a room.
+fn text_of(digits: &[u8]) -> &str
+    requires { IsAscii digits.now }
+    ensures { result.now ≡ digits.now }
+{
+    match std::str::from_utf8(digits) {
+        Ok(text) => text,
+        Err(_) => unreachable!(),
+    }
+}
+
+/// Appends two lower-case digits for each byte. Those of few bytes are written on the stack.
+fn write_digits(alloc: Global, out: &mut String, bytes: &[u8]) -> Result<(), AllocError>
+    ensures { OnOk result (string_bytes out.new ≡ string_bytes out.old ++ encode_lower bytes.now) }
+{
+    if bytes.len() > FEW_DIGITS / 2 {
+        let digits = hex::encode(alloc, bytes)?;
+        return out.push_str(digits.as_str());
+    }
+    let mut room = [0; FEW_DIGITS];
+    let digits = &mut room[..2 * bytes.len()];
+    match hex::encode_to_slice(bytes, digits) {
+        Ok(()) => out.push_str(text_of(digits)),
+        Err(_) => unreachable!(),
+    }
+}
+
 /// Appends the word of a value.
 pub fn write_value(alloc: Global, out: &mut String, value: &Value) -> Result<(), AllocError>
     ensures { OnOk result (string_bytes out.new ≡ string_bytes out.old ++ value_text value.now) }
@@ -151,8 +179,7 @@ pub fn write_value(alloc: Global, out: &mut String, value: &Value) -> Result<(),
         }
         Value::Bytes(bytes) => {
             out.push_str("x")?;
-            let digits = hex::encode(alloc, bytes.as_slice())?;
-            out.push_str(digits.as_str())
+            write_digits(alloc, out, bytes.as_slice())
         }
     }
 }
