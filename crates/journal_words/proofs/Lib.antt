@@ -5,3 +5,4 @@ pub mod Cuts
 pub mod ValueLaws
 pub mod AsciiLemmas
 pub mod SpanLaws
+pub mod LowerDigits

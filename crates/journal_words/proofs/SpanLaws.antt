@@ -1,9 +1,8 @@
 -- A set to which more intervals were added has no fewer sources.
-use Rattle.std.proofs.Common.{◌≡◌, ◌≤◌, true, refl, List, [], ◌∷◌, arith, ap, ◌∙◌}
+use Rattle.std.proofs.Common.{◌≡◌, ◌≤◌, refl, List, [], ◌∷◌, arith, ap, ◌∙◌}
 use Rattle.std.specs.Prelude.{Err, Some}
 use Rattle.std.proofs.Math.Nat.{le_trans}
 use Rattle.std.specs.FinSet as set
-use Rattle.gtid_text.specs.declared.Gtid.{Gtid}
 use Rattle.gtid_text.specs.declared.Span.{Span}
 use Rattle.gtid_set.specs.declared.fault.SetFault.{SetFault}
 use Rattle.gtid_set.specs.declared.fault.SetFault.TheVariants.{Memory, PoolFull, SourcesFull}

@@ -1,6 +1,6 @@
 -- Values: what is spelled is read, and what is read is spelled so.
-use Rattle.std.proofs.Common.{◌≡◌, ℕ, zero, suc, ◌+◌, ◌-◌, ◌^◌, ◌<◌, ◌≤◌, ◌⊎◌, Bool, true, false, cond, eqb, ltb, not, ◌/◌, ◌%◌, List, [], ◌∷◌, ◌++◌, length, get_or, Option, Some, None, Result, Ok, Err, refl, sym, ap, subst, ◌∙◌, arith, inl, inr, ℤ, pos, negsuc, eq-eqb}
-use Rattle.std.specs.Prelude.{◌&&◌, ◌||◌, codes, FitsSigned, IfSome, IfNone, IfOk, option_map}
+use Rattle.std.proofs.Common.{◌≡◌, ℕ, zero, suc, ◌^◌, ◌<◌, true, false, cond, eqb, not, ◌/◌, ◌%◌, List, [], ◌∷◌, length, get_or, Option, Some, None, Result, Ok, Err, refl, sym, ap, subst, ◌∙◌, arith, inl, inr, ℤ, pos, negsuc}
+use Rattle.std.specs.Prelude.{codes, FitsSigned, IfSome, IfNone, option_map}
 use Rattle.std.specs.Int.{w64}
 use Rattle.std.specs.Fmt.{decimal, signed_decimal}
 use Rattle.std.specs.List.{list_all}
@@ -90,17 +90,6 @@ bytes_in ds (Err d) bs e = absurd cc
 
 pub bytes_found-same : (ds bs : List ℕ) → bytes_of ds ≡ Some bs → (ds ≡ encode_lower bs) × IsBytes bs
 bytes_found-same ds bs e = let f = bytes_in ds (decode_of ds) bs e in (f.0, (decode_of-ok ds bs f.1).3)
-
-pub exact_bytes : (ds : List ℕ) (r : Option (List ℕ)) → IfSome r (λ bs. ds ≡ encode_lower bs) → IfSome r IsBytes → IfNone r ((bs : List ℕ) → IsBytes bs → ds ≡ encode_lower bs → ⊥) → r ≡ bytes_of ds
-exact_bytes ds (Some bs) found fits none = sym (ap bytes_of found ∙ bytes_again bs fits)
-exact_bytes ds None found fits none = none_is (bytes_of ds) (λ bs e. let f = bytes_found-same ds bs e in none bs f.1 f.0)
-
-pub exact_digits : {X E : Type 0} (view : X → List ℕ) (ds : List ℕ) (r : Result (Option X) E)
-    → IfOk r (λ o. IfSome o (λ v. ds ≡ encode_lower (view v))) → IfOk r (λ o. IfSome o (λ v. IsBytes (view v)))
-    → IfOk r (λ o. IfNone o ((bs : List ℕ) → IsBytes bs → ds ≡ encode_lower bs → ⊥)) → IfOk r (λ o. option_map view o ≡ bytes_of ds)
-exact_digits view ds (Ok (Some v)) found fits none = exact_bytes ds (Some (view v)) found fits tt
-exact_digits view ds (Ok None) found fits none = exact_bytes ds None tt tt none
-exact_digits view ds (Err e) found fits none = tt
 
 -- ---- values
 

@@ -1,5 +1,5 @@
 -- The one spelling of a value, and the value that a word spells.
-use Rattle.std.specs.Prelude.{ℕ, ◌^◌, ℤ, pos, negsuc, zero, suc, ◌==◌, nat_lt, Bool, List, [], ◌∷◌, Option, Some, None, option_map, Result, Ok, Err, codes, if◌then◌else◌}
+use Rattle.std.specs.Prelude.{ℕ, ◌^◌, ℤ, pos, negsuc, zero, suc, ◌==◌, nat_lt, nat_le, ◌&&◌, ◌||◌, Bool, List, [], ◌∷◌, Option, Some, None, option_map, Result, Ok, Err, codes, if◌then◌else◌}
 use Rattle.std.specs.Int.{w64}
 use Rattle.std.specs.Prelude.{FitsSigned}
 use Rattle.std.specs.Fmt.{signed_decimal}
@@ -40,6 +40,10 @@ abbrev pub int_of : List ℕ → Option ℤ
 int_of word = if is_small (signed_value word) then where_same signed_decimal word (signed_value word) else None
 
 -- ---- bytes
+
+-- `0` to `9` and `a` to `f`
+abbrev pub is_lower_digit : ℕ → Bool
+is_lower_digit b = (nat_le 48 b && nat_le b 57) || (nat_le 97 b && nat_le b 102)
 
 abbrev pub bytes_found : List ℕ → Result (List ℕ) FromHexError → Option (List ℕ)
 bytes_found digits (Ok bytes) = where_same encode_lower digits bytes

@@ -1,14 +1,27 @@
 //! Values as words.
-ghost use Rattle.std.specs.Prelude.{◌≡◌, ◌∷◌, ◌++◌, ℕ, ◌<◌, ◌^◌, ℤ, List, IfSome, IfNone, IfOk, OnOk, FitsSigned, codes, option_map};
+ghost use Rattle.std.specs.Prelude.{◌≡◌, ◌≤◌, ◌/◌, ◌++◌, ℤ, length, Some, None, IfSome, IfNone, IfOk, OnOk, FitsSigned, IsAscii, option_map, if◌then◌else◌};
+ghost use Rattle.std.specs.List.{list_all};
 ghost use Rattle.std.specs.Fmt.{signed_decimal};
 ghost use Rattle.std.specs.Int.{w64};
+ghost use Rattle.hex.specs.Hex.{encode_lower};
 ghost use Rattle.std.specs.String.{string_bytes};
-ghost use Rattle.hex.specs.Hex.{IsBytes, encode_lower};
-ghost use Rattle.journal_words.specs.Values.{value_text, int_of, bytes_of, value_of};
+ghost use Rattle.journal_words.specs.Values.{value_text, int_of, is_lower_digit, bytes_of, value_of};
 
 use itoa::Buffer;
 use rows::{ByteString, Value};
 use std::alloc::{AllocError, Global};
+
+/// So many digits are decoded on the stack: two for each byte that a value holds in place.
+const FEW_DIGITS: usize = 28;
+
+/// These bytes.
+fn held(alloc: Global, bytes: &[u8]) -> Result<ByteString, AllocError>
+    ensures { IfOk result (λ it. it ≡ bytes.now) }
+{
+    let mut copy = Vec::new(alloc);
+    copy.extend_from_slice(bytes)?;
+    ByteString::new(copy)
+}
 
 /// The number that the word spells.
 fn int_word(word: &[u8]) -> Option<i64>
@@ -32,25 +45,25 @@ fn int_word(word: &[u8]) -> Option<i64>
     }
 }
 
-/// The bytes that digits in lower case spell.
-fn digits_word(alloc: Global, digits: &[u8]) -> Result<Option<Vec<u8>>, AllocError>
-    ensures found { IfOk result (λ found. IfSome found (λ v. digits.now ≡ encode_lower v.items)) }
-    ensures fits { IfOk result (λ found. IfSome found (λ v. IsBytes v.items)) }
-    ensures none { IfOk result (λ found. IfNone found ((bs : List ℕ) → IsBytes bs → digits.now ≡ encode_lower bs → ⊥)) }
+fn are_lower(digits: &[u8]) -> bool
+    ensures { result ≡ list_all is_lower_digit digits.now }
 {
-    match hex::decode(alloc, digits) {
-        Err(hex::FromHexError::OutOfMemory) => Err(AllocError),
-        Err(hex::FromHexError::InvalidHexCharacter { .. }) => Ok(None),
-        Err(hex::FromHexError::OddLength) => Ok(None),
-        Err(hex::FromHexError::InvalidStringLength) => Ok(None),
-        Ok(bytes) => {
-            let again = hex::encode(alloc, bytes.as_slice())?;
-            if again.as_bytes() == digits {
-                Ok(Some(bytes))
-            } else {
-                Ok(None)
-            }
-        }
+    digits
+        .iter()
+        .all(|digit| matches!(*digit, b'0'..=b'9' | b'a'..=b'f'))
+}
+
+/// Writes the bytes that lower-case digits spell into the room, and says whether they spell any.
+fn digits_into(digits: &[u8], room: &mut [u8]) -> bool
+    requires { length room.old ≡ length digits.now / 2 }
+    ensures { bytes_of digits.now ≡ (if result then Some room.new else None) }
+{
+    if !are_lower(digits) {
+        return false;
+    }
+    match hex::decode_to_slice(digits, room) {
+        Ok(()) => true,
+        Err(_) => false,
     }
 }
 
@@ -61,21 +74,46 @@ fn int_at(word: &[u8]) -> Option<i64>
     int_word(word)
 }
 
-/// The bytes that the digits spell.
-fn bytes_at(alloc: Global, digits: &[u8]) -> Result<Option<Vec<u8>>, AllocError>
-    ensures { IfOk result (λ found. option_map (λ v. v.items) found ≡ bytes_of digits.now) }
+/// The bytes that few digits spell, decoded on the stack.
+fn few_bytes(alloc: Global, digits: &[u8]) -> Result<Option<ByteString>, AllocError>
+    requires { length digits.now ≤ 28 }
+    ensures { IfOk result (λ found. found ≡ bytes_of digits.now) }
 {
-    digits_word(alloc, digits)
+    let mut room = [0; 14];
+    let bytes = &mut room[..digits.len() / 2];
+    if !digits_into(digits, bytes) {
+        return Ok(None);
+    }
+    Ok(Some(held(alloc, bytes)?))
+}
+
+/// The bytes that many digits spell.
+fn many_bytes(alloc: Global, digits: &[u8]) -> Result<Option<ByteString>, AllocError>
+    ensures { IfOk result (λ found. found ≡ bytes_of digits.now) }
+{
+    let mut bytes = vec![in alloc; 0u8; digits.len() / 2]?;
+    if !digits_into(digits, bytes.as_mut_slice()) {
+        return Ok(None);
+    }
+    Ok(Some(ByteString::new(bytes)?))
+}
+
+/// The bytes that the digits spell.
+fn bytes_at(alloc: Global, digits: &[u8]) -> Result<Option<ByteString>, AllocError>
+    ensures { IfOk result (λ found. found ≡ bytes_of digits.now) }
+{
+    if digits.len() <= FEW_DIGITS {
+        few_bytes(alloc, digits)
+    } else {
+        many_bytes(alloc, digits)
+    }
 }
 
 fn byte_value(alloc: Global, digits: &[u8]) -> Result<Option<Value>, AllocError>
     ensures { IfOk result (λ found. found ≡ option_map Value.Bytes (bytes_of digits.now)) }
 {
     match bytes_at(alloc, digits)? {
-        Some(bytes) => {
-            let bytes = ByteString::new(bytes)?;
-            Ok(Some(Value::Bytes(bytes)))
-        }
+        Some(bytes) => Ok(Some(Value::Bytes(bytes))),
         None => Ok(None),
     }
 }
@@ -102,6 +140,33 @@ pub fn value_word(alloc: Global, word: &[u8]) -> Result<Option<Value>, AllocErro
     }
 }
 
+/// The text of digits that were written into a room.
+fn text_of(digits: &[u8]) -> &str
+    requires { IsAscii digits.now }
+    ensures { result.now ≡ digits.now }
+{
+    match std::str::from_utf8(digits) {
+        Ok(text) => text,
+        Err(_) => unreachable!(),
+    }
+}
+
+/// Appends two lower-case digits for each byte. Those of few bytes are written on the stack.
+fn write_digits(alloc: Global, out: &mut String, bytes: &[u8]) -> Result<(), AllocError>
+    ensures { OnOk result (string_bytes out.new ≡ string_bytes out.old ++ encode_lower bytes.now) }
+{
+    if bytes.len() > FEW_DIGITS / 2 {
+        let digits = hex::encode(alloc, bytes)?;
+        return out.push_str(digits.as_str());
+    }
+    let mut room = [0; FEW_DIGITS];
+    let digits = &mut room[..2 * bytes.len()];
+    match hex::encode_to_slice(bytes, digits) {
+        Ok(()) => out.push_str(text_of(digits)),
+        Err(_) => unreachable!(),
+    }
+}
+
 /// Appends the word of a value.
 pub fn write_value(alloc: Global, out: &mut String, value: &Value) -> Result<(), AllocError>
     ensures { OnOk result (string_bytes out.new ≡ string_bytes out.old ++ value_text value.now) }
@@ -114,8 +179,7 @@ pub fn write_value(alloc: Global, out: &mut String, value: &Value) -> Result<(),
         }
         Value::Bytes(bytes) => {
             out.push_str("x")?;
-            let digits = hex::encode(alloc, bytes.as_slice())?;
-            out.push_str(digits.as_str())
+            write_digits(alloc, out, bytes.as_slice())
         }
     }
 }
