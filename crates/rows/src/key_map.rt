@@ -2,7 +2,6 @@
 ghost use Rattle.std.specs.Prelude.{◌≡◌, ◌≤◌, ◌<◌, ◌+◌, ◌^◌, ℕ, drop, OnOk, OnErr, IfOk, IfErr, Ok, Err, None, length};
 ghost use Rattle.std.specs.Bool.{Decides};
 ghost use Rattle.std.specs.Option.{option_copied};
-ghost use Rattle.std.specs.BTreeMap.{IsOrdered};
 ghost use Rattle.std.specs.FinMap as map;
 ghost use Rattle.rows.specs.Apply.{taken, stored, with_row, without_keys, inserted, deleted, apply_change, apply_from};
 ghost use Rattle.rows.specs.Keys.{keys_carried};
@@ -15,18 +14,17 @@ use crate::keys::carried;
 use crate::name::Name;
 use crate::schema::Schema;
 use crate::value::Row;
+use indexmap::IndexMap;
 use std::alloc::{AllocError, Global};
-use std::collections::BTreeMap;
 use std::marker::Model;
 
 /// From each key to the row that carries it.
 #[derive(Drop)]
 pub(crate) struct KeyMap {
-    carriers: BTreeMap<Key, Row>,
+    carriers: IndexMap<Key, Row>,
 }
 
 impl Model for KeyMap {
-    ghost use Rattle.std.specs.BTreeMap.{IsOrdered};
     ghost use Rattle.std.specs.FinMap as map;
     ghost use Rattle.rows.specs.Apply.{Rows};
     ghost use Rattle.rows.specs.Coding.{rows_code};
@@ -43,7 +41,7 @@ impl KeyMap {
         ensures { result ≡ map.empty }
     {
         KeyMap {
-            carriers: BTreeMap::new(alloc),
+            carriers: IndexMap::new(alloc),
         }
     }
 
@@ -59,14 +57,15 @@ impl KeyMap {
     pub(crate) fn is_equal(&self, other: &KeyMap) -> bool
         ensures { Decides result (self.now ≡ other.now) }
     {
-        self.carriers.len() == other.carriers.len() && self.carriers == other.carriers
+        self.carriers == other.carriers
     }
 
     /// The rows under primary keys, by table name, and then by the values of the key.
     pub(crate) fn list_primary(&self, alloc: Global) -> Result<Vec<TableRow>, AllocError>
         ensures { IfOk result (λ list. list.items ≡ rows_listed self.now) }
     {
-        primary_rows(alloc, &self.carriers)
+        let carriers = sorted(&self.carriers)?;
+        primary_rows(alloc, &carriers)
     }
 
     /// The row that carries a key.
@@ -102,7 +101,7 @@ impl KeyMap {
     pub(crate) fn take_at(&mut self, key: &Key)
         ensures { self.new ≡ map.remove self.old key.now }
     {
-        self.carriers.remove(key);
+        self.carriers.swap_remove(key);
     }
 
     /// The number of the first of these keys that a row carries.
@@ -281,10 +280,18 @@ impl KeyMap {
     }
 }
 
-/// The rows under primary keys, in the order of the keys.
-fn primary_rows(alloc: Global, carriers: &BTreeMap<Key, Row>) -> Result<Vec<TableRow>, AllocError>
-    ensures rows { IfOk result (λ list. list.items ≡ primary_rows carriers.now.entries) }
-    ensures ordered { IsOrdered key_cmp carriers.now }
+/// A copy in the order of the keys.
+fn sorted(carriers: &IndexMap<Key, Row>) -> Result<IndexMap<Key, Row>, AllocError>
+    ensures { IfOk result (λ copy. copy.entries ≡ map.entries (map.from_entries {R = key_cmp} carriers.now.entries)) }
+{
+    let mut copy = carriers.clone()?;
+    copy.sort_keys()?;
+    Ok(copy)
+}
+
+/// The rows under primary keys, in the order of the table.
+fn primary_rows(alloc: Global, carriers: &IndexMap<Key, Row>) -> Result<Vec<TableRow>, AllocError>
+    ensures { IfOk result (λ list. list.items ≡ primary_rows carriers.now.entries) }
 {
     let mut list = Vec::new(alloc);
     for (key, row) in carriers.iter() {
