@@ -1,33 +1,27 @@
 -- The entries of a hashed table as a finite map.
-use Rattle.std.proofs.Common.{◌≡◌, ◌+◌, false, cond, get_or, List, [], ◌∷◌, Some, None, refl, ap, sym, ◌∙◌, arith}
+use Rattle.std.proofs.Common.{◌≡◌, cond, List, [], ◌∷◌, Some, None, refl, ap, sym, ◌∙◌}
 use Rattle.std.specs.Bool.{one_answer}
 use Rattle.std.specs.Cmp.{IsEquivalence}
-use Rattle.std.specs.FinMap.{from_entries, get, insert, remove, entries}
-use Rattle.std.specs.List.{AllZip, IsDistinct}
-use Rattle.std.specs.List.Sorted.{IsSorted, IsStrictlySortedBy}
-use Rattle.std.specs.Map.{lookup, keys_of}
-use Rattle.std.specs.Ordering.{is_lt, is_eq, ordering_reverse}
-use Rattle.std.specs.declared.cmp.Ordering.{Ordering}
-use Rattle.std.specs.declared.cmp.Ordering.TheVariants.{Less, Equal, Greater}
+use Rattle.std.specs.FinMap.{from_entries, get, insert, remove}
+use Rattle.std.specs.Map.{lookup}
 use Rattle.std.proofs.lemmas.Cmp.{eq_by_cmp_equiv}
-use Rattle.std.proofs.lemmas.Map.Keys.{apart_from_distinct, sorted_from_all_adjacent}
 use Rattle.rows.specs.declared.value.Value.{Value}
 use Rattle.rows.specs.declared.change.Key.{Key}
 use Rattle.rows.specs.Order.{key_cmp, key_eq}
 use Rattle.rows.specs.Total.{key_total, key_eq_same, key_eq_self}
 use Rattle.rows.proofs.Equal.{key_test, keys-Decide}
 use Rattle.rows.proofs.Local.{same_rows}
-use Rattle.rows.proofs.Stored.{row_at, get_key, one_put, one_taken, entries-stored}
+use Rattle.rows.proofs.Stored.{row_at, get_key, one_put, one_taken}
 
 -- the two tests of keys agree
-same_tests : (a b : Key) → key_test a b ≡ key_eq a b
+pub same_tests : (a b : Key) → key_test a b ≡ key_eq a b
 same_tests a b = one_answer (key_test a b) (key_eq a b) (keys-Decide a b) (key_eq_same a b, λ e. ap (key_eq a) (sym e) ∙ key_eq_self a)
 
 pub keys_equiv : IsEquivalence key_test
 keys_equiv = record {
   refl = λ x. (keys-Decide x x).1 refl;
   symm = λ x y. same_tests x y ∙ (eq_by_cmp_equiv key_total).symm x y ∙ sym (same_tests y x);
-  congr = λ x y z e. ap (λ k. key_test k z) ((keys-Decide x y).0 e)
+  congr = λ x y z e. ap (λ k. key_test k z) ((keys-Decide x y).0 e);
 }
 
 hashed_at : (es : List (Key × List Value)) (q : Key) → lookup (key_test q) es ≡ row_at es q
@@ -52,33 +46,3 @@ hashed_same es fs h = same_rows _ _ (λ q. get_hashed es q ∙ h q ∙ sym (get_
 
 pub hashed_told : (es fs : List (Key × List Value)) → from_entries {R = key_cmp} es ≡ from_entries fs → (q : Key) → lookup (key_test q) es ≡ lookup (key_test q) fs
 hashed_told es fs e q = sym (get_hashed es q) ∙ ap (λ m. get m q) e ∙ get_hashed fs q
-
--- a clone has the same entries
-pub same_pairs : (es fs : List (Key × List Value)) → AllZip (λ p q. (q.0 ≡ p.0) × (q.1 ≡ p.1)) es fs → fs ≡ es
-same_pairs [] [] h = refl
-same_pairs [] (f ∷ fs) h = absurd h
-same_pairs (e ∷ es) [] h = absurd h
-same_pairs (e ∷ es) (f ∷ fs) h = λ i. (h.0.0 i, h.0.1 i) ∷ same_pairs es fs h.1 i
-
--- ---- in order
-
-rises : (r s : Ordering) → r ≡ ordering_reverse s → is_lt s ≡ false → is_eq r ≡ false → r ≡ Less
-rises Less s f l e = refl
-rises Equal s f l e = cc
-rises Greater Less f l e = cc
-rises Greater Equal f l e = cc
-rises Greater Greater f l e = cc
-
-above : (a b : Key) → is_lt (key_cmp b a) ≡ false → key_test a b ≡ false → key_cmp a b ≡ Less
-above a b up apart = rises (key_cmp a b) (key_cmp b a) (key_total.antisymm a b) up (sym (same_tests a b) ∙ apart)
-
-in_order : (ks : List Key) → IsSorted key_cmp ks → IsDistinct key_test ks → IsStrictlySortedBy key_cmp ks
-in_order ks up apart =
-    let none : Key = record { table = []; index = 0; values = [] } in
-    sorted_from_all_adjacent key_total ks none
-    (λ k l. above (get_or ks k none) (get_or ks (k + 1) none) (up k none (omega arith) l) (apart_from_distinct key_test ks k (k + 1) none apart (omega arith) l))
-
--- a table that is sorted lists its map in order
-pub entries-sorted : (es fs : List (Key × List Value)) → IsSorted key_cmp (keys_of fs) → IsDistinct key_test (keys_of fs) → ((q : Key) → lookup (key_test q) fs ≡ lookup (key_test q) es)
-    → fs ≡ entries (from_entries {R = key_cmp} es)
-entries-sorted es fs up apart h = sym (entries-stored fs (in_order (keys_of fs) up apart)) ∙ ap entries (hashed_same fs es h)
