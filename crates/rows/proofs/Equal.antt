@@ -1,10 +1,9 @@
 -- When tests of equality tell that values are equal.
-use Rattle.std.proofs.Common.{◌≡◌, ℕ, Bool, true, false, ◌&&◌, ◌==◌, nat_eq, map, List, refl, sym, ap, ◌∙◌}
+use Rattle.std.proofs.Common.{◌≡◌, ℕ, Bool, true, false, ◌&&◌, ◌==◌, nat_eq, List, refl, sym, ap, ◌∙◌}
 use Rattle.std.specs.Bool.{Decides}
 use Rattle.std.specs.declared.cmp.Ordering.{Ordering}
 use Rattle.std.specs.declared.cmp.Ordering.TheVariants.{Less, Equal, Greater}
-use Rattle.std.specs.FinMap.{from_entries, entries, nat_cmp-IsAntisymmetric, slice_cmp-IsAntisymmetric}
-use Rattle.std.specs.List.Sorted.{IsStrictlySortedBy}
+use Rattle.std.specs.FinMap.{nat_cmp-IsAntisymmetric, slice_cmp-IsAntisymmetric}
 use Rattle.std.specs.Ordering.{nat_cmp, is_eq, eq_by_cmp}
 use Rattle.std.specs.Cmp.{unsigned_Decides}
 use Rattle.std.specs.Cmp.Lexicographic.{slice_cmp, pointwise, nat_list_cmp_total}
@@ -18,9 +17,8 @@ use Rattle.rows.specs.contracts.change.ChangePartialEq.TheImpl as it
 use Rattle.rows.specs.Fits.{table_of}
 use Rattle.rows.specs.declared.schema.Table.{Table}
 use Rattle.rows.specs.Prepared.{table_eq}
-use Rattle.rows.specs.Order.{key_cmp, row_eq}
+use Rattle.rows.specs.Order.{row_eq}
 use Rattle.rows.specs.Total.{row_eq_same, row_eq_self}
-use Rattle.rows.proofs.Stored.{entries-stored}
 
 both : (p q : Bool) → (p && q) ≡ true → (p ≡ true) × (q ≡ true)
 both true q e = (refl, e)
@@ -121,7 +119,3 @@ changes-Decide (Update t a d) (Update u b c) =
     two-Decide (names-Decide t u)
     (two-Decide {C = (a ≡ b) × (d ≡ c)} (rows-Decide a b) (rows-Decide d c) (λ e f. (e, f)) (λ e. e.0) (λ e. e.1))
     (λ e f. λ i. Update (e i) (f.0 i) (f.1 i)) (ap table_of) (λ e. (ap first_image e, ap last_image e))
-
--- entries in order are the same where their maps are
-pub stored_same : (es fs : List (Key × List Value)) → IsStrictlySortedBy key_cmp (map (λ e. e.0) es) → IsStrictlySortedBy key_cmp (map (λ e. e.0) fs) → from_entries {R = key_cmp} es ≡ from_entries fs → es ≡ fs
-stored_same es fs h g e = sym (entries-stored es h) ∙ ap entries e ∙ entries-stored fs g

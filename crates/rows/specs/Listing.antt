@@ -1,10 +1,21 @@
 -- Rows in order.
-use Rattle.std.specs.Prelude.{◌==◌, if◌then◌else◌, List, [], ◌∷◌}
+use Rattle.std.specs.Prelude.{Bool, ◌==◌, if◌then◌else◌, List, [], ◌∷◌}
 use Rattle.std.specs.FinMap.{entries}
 use Rattle.rows.specs.declared.value.Value.{Value}
 use Rattle.rows.specs.declared.change.Key.{Key}
 use Rattle.rows.specs.declared.change.TableRow.{TableRow}
 use Rattle.rows.specs.Apply.{Rows}
+
+abbrev pub is_primary : Key → Bool
+is_primary key = key.index == 0
+
+-- an entry as a row of its table
+abbrev pub row_listed : Key × List Value → TableRow
+row_listed entry = record { table = entry.0.table; row = entry.1 }
+
+abbrev pub rows_of : List (Key × List Value) → List TableRow
+rows_of [] = []
+rows_of (e ∷ entries) = row_listed e ∷ rows_of entries
 
 -- what stands under the primary keys of these entries
 abbrev pub primary_rows : List (Key × List Value) → List TableRow

@@ -6,7 +6,7 @@ ghost use Rattle.std.specs.BTreeMap.{IsOrdered};
 ghost use Rattle.std.specs.FinMap as map;
 ghost use Rattle.rows.specs.Apply.{taken, stored, with_row, without_keys, inserted, deleted, apply_change, apply_from};
 ghost use Rattle.rows.specs.Keys.{keys_carried};
-ghost use Rattle.rows.specs.Listing.{primary_rows, rows_listed};
+ghost use Rattle.rows.specs.Listing.{is_primary, rows_of, rows_listed};
 ghost use Rattle.rows.specs.Order.{key_cmp};
 ghost use Rattle.rows.specs.Refusal.{Refuses};
 
@@ -15,6 +15,7 @@ use crate::keys::carried;
 use crate::name::Name;
 use crate::schema::Schema;
 use crate::value::Row;
+use indexmap::IndexMap;
 use std::alloc::{AllocError, Global};
 use std::collections::BTreeMap;
 use std::marker::Model;
@@ -22,11 +23,10 @@ use std::marker::Model;
 /// From each key to the row that carries it.
 #[derive(Drop)]
 pub(crate) struct KeyMap {
-    carriers: BTreeMap<Key, Row>,
+    carriers: IndexMap<Key, Row>,
 }
 
 impl Model for KeyMap {
-    ghost use Rattle.std.specs.BTreeMap.{IsOrdered};
     ghost use Rattle.std.specs.FinMap as map;
     ghost use Rattle.rows.specs.Apply.{Rows};
     ghost use Rattle.rows.specs.Coding.{rows_code};
@@ -43,7 +43,7 @@ impl KeyMap {
         ensures { result ≡ map.empty }
     {
         KeyMap {
-            carriers: BTreeMap::new(alloc),
+            carriers: IndexMap::new(alloc),
         }
     }
 
@@ -59,14 +59,15 @@ impl KeyMap {
     pub(crate) fn is_equal(&self, other: &KeyMap) -> bool
         ensures { Decides result (self.now ≡ other.now) }
     {
-        self.carriers.len() == other.carriers.len() && self.carriers == other.carriers
+        self.carriers == other.carriers
     }
 
     /// The rows under primary keys, by table name, and then by the values of the key.
     pub(crate) fn list_primary(&self, alloc: Global) -> Result<Vec<TableRow>, AllocError>
         ensures { IfOk result (λ list. list.items ≡ rows_listed self.now) }
     {
-        primary_rows(alloc, &self.carriers)
+        let sorted = sorted(alloc, &self.carriers)?;
+        listed(alloc, &sorted)
     }
 
     /// The row that carries a key.
@@ -102,7 +103,7 @@ impl KeyMap {
     pub(crate) fn take_at(&mut self, key: &Key)
         ensures { self.new ≡ map.remove self.old key.now }
     {
-        self.carriers.remove(key);
+        self.carriers.swap_remove(key);
     }
 
     /// The number of the first of these keys that a row carries.
@@ -281,18 +282,41 @@ impl KeyMap {
     }
 }
 
-/// The rows under primary keys, in the order of the keys.
-fn primary_rows(alloc: Global, carriers: &BTreeMap<Key, Row>) -> Result<Vec<TableRow>, AllocError>
-    ensures rows { IfOk result (λ list. list.items ≡ primary_rows carriers.now.entries) }
-    ensures ordered { IsOrdered key_cmp carriers.now }
+/// Puts a copy of a row under a copy of a key.
+fn put_sorted(sorted: &mut BTreeMap<Key, Row>, key: &Key, row: &Row) -> Result<(), AllocError>
+    ensures { OnOk result (map.from_entries {R = key_cmp} sorted.new.entries ≡ map.insert (map.from_entries sorted.old.entries) key.now row.now) }
 {
-    let mut list = Vec::new(alloc);
+    let key = key.copied()?;
+    let row = row.copied()?;
+    match sorted.insert(key, row) {
+        Ok(_) => Ok(()),
+        Err(_) => Err(AllocError),
+    }
+}
+
+/// What stands under primary keys, in order.
+fn sorted(alloc: Global, carriers: &IndexMap<Key, Row>) -> Result<BTreeMap<Key, Row>, AllocError>
+    ensures { IfOk result (λ sorted. map.from_entries {R = key_cmp} sorted.entries ≡ map.retain_keys (map.from_entries carriers.now.entries) is_primary) }
+{
+    let mut sorted = BTreeMap::new(alloc);
     for (key, row) in carriers.iter() {
         if key.index == 0 {
-            let table = key.table.clone()?;
-            let row = row.clone()?;
-            list.push(TableRow { table, row })?;
+            put_sorted(&mut sorted, key, row)?;
         }
+    }
+    Ok(sorted)
+}
+
+/// These rows with their tables.
+fn listed(alloc: Global, sorted: &BTreeMap<Key, Row>) -> Result<Vec<TableRow>, AllocError>
+    ensures rows { IfOk result (λ list. list.items ≡ rows_of sorted.now.entries) }
+    ensures ordered { IsOrdered key_cmp sorted.now }
+{
+    let mut list = Vec::with_capacity(alloc, sorted.len())?;
+    for (key, row) in sorted.iter() {
+        let table = key.table.clone()?;
+        let row = row.clone()?;
+        list.push(TableRow { table, row })?;
     }
     Ok(list)
 }

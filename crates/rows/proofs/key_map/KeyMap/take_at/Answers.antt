@@ -1,9 +1,9 @@
 use Rattle.std.proofs.Common.{ap, ◌∙◌}
 use Rattle.std.specs.FinMap as map
-use Rattle.rows.proofs.Stored.{one_taken}
+use Rattle.rows.proofs.Hashed.{hashed_taken}
 use Rattle.rows.proofs.key_map.KeyMap.take_at.Goals as goal
 
 pub returns : goal.returns
 returns c =
-    one_taken c.self.inside.carriers.entries c.remove.new.self.entries c.args.key.now c.remove.ensures.updates.0
+    hashed_taken c.self.inside.carriers.entries c.swap_remove.new.self.entries c.args.key.now c.swap_remove.ensures.updates.0
     ∙ ap (λ m. map.remove m c.args.key.now) c.self.view_is
