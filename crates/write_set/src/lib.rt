@@ -34,11 +34,7 @@ pub fn keys_of(
 }
 
 /// The keys of `keys_of`, in the same order, as a list. A few keys are compared with one another and not hashed.
-pub fn list_keys(
-    alloc: Global,
-    schema: &Schema,
-    txn: &Transaction,
-) -> Result<Vec<Key>, AllocError>
+pub fn list_keys(alloc: Global, schema: &Schema, txn: &Transaction) -> Result<Vec<Key>, AllocError>
     ensures order { IfOk result (λ keys. keys.items ≡ each_once (write_set schema.now txn.now)) }
     ensures members { IfOk result (λ keys. (key : KeyValue) → is_among keys.items key ≡ touches schema.now txn.now key) }
     ensures once { IfOk result (λ keys. AllPairs (λ a b. a ≢ b) keys.items) }
