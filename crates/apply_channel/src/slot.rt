@@ -8,7 +8,7 @@ ghost use Rattle.apply_channel.specs.Kept.{AreKeysOf, entries_of, received_of};
 use gtid_text::Gtid;
 use rows::{Key, Schema, Transaction};
 use std::alloc::{AllocError, Global};
-use write_set::keys_of;
+use write_set::list_keys;
 
 /// A received entry. An executed one has no transaction. Another knows the last place before it with the same GTID that
 /// is not executed.
@@ -17,19 +17,6 @@ pub(crate) struct Slot {
     pub(crate) gtid: Gtid,
     pub(crate) txn: Option<Transaction>,
     pub(crate) earlier: Option<usize>,
-}
-
-/// The keys that a transaction touches, each once.
-fn keys_once(alloc: Global, schema: &Schema, txn: &Transaction) -> Result<Vec<Key>, AllocError>
-    ensures members { IfOk result (λ keys. (k : KeyValue) → is_among keys.items k ≡ touches schema.now txn.now k) }
-    ensures once { IfOk result (λ keys. AllPairs (λ a b. a ≢ b) keys.items) }
-{
-    let set = keys_of(alloc, schema, txn)?;
-    let mut keys = Vec::new(alloc);
-    for key in set {
-        keys.push(key)?;
-    }
-    Ok(keys)
 }
 
 /// The keys for which a transaction waits; an executed one waits for none.
@@ -45,7 +32,7 @@ pub(crate) fn keys_unless(
     if unless {
         return Ok(Vec::new(alloc));
     }
-    keys_once(alloc, schema, txn)
+    list_keys(alloc, schema, txn)
 }
 
 /// A transaction that shares its changes, unless it is not wanted.

@@ -7,7 +7,8 @@ use Rattle.rows.specs.Order.{key_eq}
 use Rattle.rows.specs.Total.{key_eq_self}
 use Rattle.rows.specs.WriteSet.{is_among}
 use Rattle.slab.specs.Slab.{slab_len}
-use Rattle.dependency_graph.specs.Graphs.{Point, gone, marked_at}
+use Rattle.dependency_graph.specs.Graphs.{Point, gone, marked_at, point_at}
+use Rattle.std.specs.Bool.{OnTrue, OnFalse}
 use Rattle.dependency_graph.specs.Chains.{Holds, with_chain, first_number, first_of, PopsFirst}
 use Rattle.dependency_graph.specs.Kept.{points, point_of, is_finished_at, IsKept, keys_at, IsFrontOpen, Releases, CanRelease}
 use Rattle.dependency_graph.specs.declared.graph.Node.{Node}
@@ -118,3 +119,20 @@ at_within (n ∷ nodes) (suc at) i lt = let far = at_within nodes at i lt in ome
 pub key_inside : (nodes : List Node) (at i : ℕ) (x : Node) (k : Key) → i < length (keys_at nodes at) → x ≡ slice_index_or nodes at x → k ≡ slice_index_or x.keys.items i k → is_among (drop i (keys_at nodes at)) k ≡ true
 key_inside nodes at i x k lt node key =
     late_here (keys_at nodes at) i k (key ∙ ap (λ ks. slice_index_or ks i k) (sym (keys_here nodes at x node (at_within nodes at i lt)))) lt
+
+pub front_open : (ps : List Point) (c : Chains) (nodes now : List Node) (at i : ℕ) (x : Node) (k : Key) → i < length (keys_at nodes at) → x ≡ slice_index_or nodes at x → k ≡ slice_index_or x.keys.items i k
+    → map point_of now ≡ map point_of nodes → ((n : ℕ) → first_of c k ≡ Some n → is_finished_at ps n ≡ false) → IsFrontOpen ps c (drop i (keys_at now at))
+front_open ps c nodes now at i x k lt node key same h =
+    let ks = keys_at nodes at in
+    let here : k ≡ slice_index_or ks i k = key ∙ ap (λ qs. slice_index_or qs i k) (sym (keys_here nodes at x node (at_within nodes at i lt))) in
+    let first : drop i ks ≡ k ∷ drop (i + 1) ks = drop_more ks i k lt ∙ ap (λ q. q ∷ drop (i + 1) ks) (sym here) in
+    let list : drop i (keys_at now at) ≡ k ∷ drop (i + 1) ks = ap (λ qs. drop i (point_at qs at).keys) same ∙ first in
+    subst (IsFrontOpen ps c) (sym list) h
+
+pub when_false : {P Q : Type 0} (b : Bool) → (P → Q) → OnFalse b P → OnFalse b Q
+when_false true h p = tt
+when_false false h p = h p
+
+pub when_true : {P : Type 0} (b : Bool) → P → OnTrue b P
+when_true true p = p
+when_true false p = tt

@@ -1,6 +1,6 @@
 //! The nodes, above the chains of their keys.
 
-ghost use Rattle.std.specs.Prelude.{◌≡◌, ◌≢◌, ◌+◌, ◌<◌, [], ◌∷◌, ◌++◌, length, map, drop, IfOk, IfErr, OnOk, OnErr};
+ghost use Rattle.std.specs.Prelude.{◌≡◌, ◌≢◌, ℕ, Some, false, ◌+◌, ◌<◌, [], ◌∷◌, ◌++◌, length, map, drop, IfOk, IfErr, OnOk, OnErr};
 ghost use Rattle.std.specs.List.{AllPairs};
 ghost use Rattle.std.specs.Bool.{OnTrue, OnFalse};
 ghost use Rattle.slab.specs.Slab.{slab_len};
@@ -78,7 +78,17 @@ fn release(dropped: usize, nodes: &mut VecDeque<Node>, ready: &mut Ready, first:
     }
 }
 
-/// Takes a finished node off the front of the chain of a node's i-th key: whether one stood there.
+/// Whether there is a node, and it is finished.
+fn is_done(dropped: usize, nodes: &VecDeque<Node>, node: Option<usize>) -> bool
+    ensures { OnFalse result ((n : ℕ) → node ≡ Some n → is_finished_at (points dropped nodes.now.items) n ≡ false) }
+{
+    match node {
+        Some(node) => is_finished(dropped, nodes, node),
+        None => false,
+    }
+}
+
+/// Takes a finished node off the front of the chain of a node's i-th key: whether one stands there then.
 fn pop_finished(
     dropped: usize,
     nodes: &mut VecDeque<Node>,
@@ -104,7 +114,7 @@ fn pop_finished(
     }
     let next = chains.pop(key);
     release(dropped, nodes, ready, next);
-    true
+    is_done(dropped, nodes, next)
 }
 
 /// Takes all finished nodes off the front of the chain of a node's i-th key.
@@ -259,7 +269,11 @@ impl Graph {
         if node < self.dropped {
             return None;
         }
-        for key in &self.nodes[node - self.dropped].keys {
+        let here = &self.nodes[node - self.dropped];
+        if goes(here) {
+            return None;
+        }
+        for key in &here.keys {
             if let Some(first) = self.chains.first(key) {
                 if first < least.unwrap_or(node) {
                     least = Some(first);

@@ -1,17 +1,20 @@
 -- What is inserted into a set key by key.
-use Rattle.std.proofs.Common.{◌≡◌, Bool, true, false, not, cond, ◌&&◌, ◌||◌, List, [], ◌∷◌, ◌++◌, filter, append_assoc, append-nil, refl, sym, ap, ◌∙◌}
+use Rattle.std.proofs.Common.{◌≡◌, Bool, true, false, not, cond, ◌&&◌, ◌||◌, List, [], ◌∷◌, ◌++◌, filter, append_assoc, append-nil, refl, sym, ap, subst, ◌∙◌}
 use Rattle.std.specs.Bool.{one_answer}
-use Rattle.std.specs.List.{list_any}
+use Rattle.std.specs.List.{list_any, AllByRecursion, IsDistinct}
+use Rattle.std.specs.Prelude.{◌≢◌, AllPairs, IfOk, Result, Ok, Err, fold}
+use Rattle.std.proofs.lemmas.Cmp.{eq_by_cmp_equiv}
+use Rattle.std.proofs.lemmas.Map.Made.{AllPairs-from_IsDistinct}
 use Rattle.std.proofs.lemmas.List.Elements.{filter_agree}
 use Rattle.std.proofs.lemmas.List.Folds.{list_any-append}
 use Rattle.std.proofs.lemmas.Map.Views.{any-filter_same}
-use Rattle.indexmap.specs.IndexSet.{insert_all}
+use Rattle.indexmap.specs.IndexSet.{insert_all, insert_key}
 use Rattle.rows.specs.declared.change.Key.{Key}
 use Rattle.rows.specs.Order.{key_eq}
-use Rattle.rows.specs.Total.{key_eq_same, key_eq_self}
+use Rattle.rows.specs.Total.{key_total, key_eq_same, key_eq_self}
 use Rattle.rows.specs.WriteSet.{is_among}
 use Rattle.rows.proofs.Equal.{key_test, keys-Decide}
-use Rattle.write_set.specs.FirstTouch.{each_once}
+use Rattle.write_set.specs.FirstTouch.{added, each_once}
 
 -- the two tests of keys agree
 pub same_tests : (a b : Key) → key_test a b ≡ key_eq a b
@@ -72,6 +75,16 @@ none_left (x ∷ keys) = ap (λ ks. x ∷ ks) (none_left keys)
 pub all_inserted : (keys : List Key) → insert_all key_test [] keys ≡ each_once keys
 all_inserted keys = inserted_once keys [] ∙ none_left (each_once keys)
 
+-- ... also where they are compared one by one
+one_more_way : (b c : Bool) (x : Key) (keys : List Key) → b ≡ c → cond b keys (keys ++ x ∷ []) ≡ cond c keys (keys ++ x ∷ [])
+one_more_way b c x keys e = ap (λ a. cond a keys (keys ++ x ∷ [])) e
+
+both_ways : insert_key key_test ≡ added
+both_ways = λ i keys x. one_more_way (list_any (key_test x) keys) (is_among keys x) x keys (tested x keys) i
+
+pub all_added : (keys : List Key) → fold added [] keys ≡ each_once keys
+all_added keys = sym (ap (λ f. fold f [] keys) both_ways) ∙ all_inserted keys
+
 -- ---- the members
 
 or_not : (a b : Bool) → (a || (not a && b)) ≡ (a || b)
@@ -86,3 +99,48 @@ same_members (x ∷ keys) k =
     (any-filter_same (key_eq k) (λ q. not (key_eq q x)) (not (key_eq k x)) (λ q e. ap (λ r. not (key_eq r x)) (sym (key_eq_same k q e))) (each_once keys)
     ∙ ap (λ b. not (key_eq k x) && b) (same_members keys k))
     ∙ or_not (key_eq k x) (is_among keys k)
+
+-- ---- each stands once
+
+passing : (P : Key → Type 0) (b : Bool) (x : Key) (rest : List Key) → P x → AllByRecursion P rest → AllByRecursion P (cond b (x ∷ rest) rest)
+passing P true x rest h g = (h, g)
+passing P false x rest h g = g
+
+all_passing : (P : Key → Type 0) (p : Key → Bool) (keys : List Key) → AllByRecursion P keys → AllByRecursion P (filter p keys)
+all_passing P p [] h = tt
+all_passing P p (x ∷ keys) h = passing P (p x) x (filter p keys) h.0 (all_passing P p keys h.1)
+
+apart_or_not : (b : Bool) (x : Key) (rest : List Key) → AllByRecursion (λ y. key_test x y ≡ false) rest → IsDistinct key_test rest → IsDistinct key_test (cond b (x ∷ rest) rest)
+unfolding IsDistinct
+apart_or_not true x rest h g = (h, g)
+apart_or_not false x rest h g = g
+
+apart_passing : (p : Key → Bool) (keys : List Key) → IsDistinct key_test keys → IsDistinct key_test (filter p keys)
+unfolding IsDistinct
+apart_passing p [] h = tt
+apart_passing p (x ∷ keys) h = apart_or_not (p x) x (filter p keys) (all_passing (λ y. key_test x y ≡ false) p keys h.0) (apart_passing p keys h.1)
+
+others : (b : Bool) (x y : Key) (rest : List Key) → key_eq y x ≡ b → AllByRecursion (λ z. key_test x z ≡ false) rest → AllByRecursion (λ z. key_test x z ≡ false) (cond (not b) (y ∷ rest) rest)
+others true x y rest e h = h
+others false x y rest e h = (same_tests x y ∙ (eq_by_cmp_equiv key_total).symm x y ∙ e, h)
+
+all_others : (x : Key) (keys : List Key) → AllByRecursion (λ z. key_test x z ≡ false) (filter (λ k. not (key_eq k x)) keys)
+all_others x [] = tt
+all_others x (y ∷ keys) = others (key_eq y x) x y (filter (λ k. not (key_eq k x)) keys) refl (all_others x keys)
+
+distinct_once : (keys : List Key) → IsDistinct key_test (each_once keys)
+unfolding IsDistinct
+distinct_once [] = tt
+distinct_once (x ∷ keys) = (all_others x (each_once keys), apart_passing (λ k. not (key_eq k x)) (each_once keys) (distinct_once keys))
+
+-- ---- what each_once tells of a list
+
+pub once_members : (list keys : List Key) → list ≡ each_once keys → (k : Key) → is_among list k ≡ is_among keys k
+once_members list keys is k = ap (λ ks. is_among ks k) is ∙ same_members keys k
+
+pub once_pairs : (list keys : List Key) → list ≡ each_once keys → AllPairs (λ a b. a ≢ b) list
+once_pairs list keys is = subst (λ (ks : List Key). AllPairs (λ a b. a ≢ b) ks) (sym is) (AllPairs-from_IsDistinct keys-Decide (each_once keys) (distinct_once keys))
+
+pub when_ok : {X E : Type 0} {P Q : X → Type 0} (r : Result X E) → ((x : X) → P x → Q x) → IfOk r P → IfOk r Q
+when_ok (Ok x) h p = h x p
+when_ok (Err e) h p = tt

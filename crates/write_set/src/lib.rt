@@ -1,12 +1,12 @@
 //! The keys that transactions touch.
 #![tactic(auto)]
 
-ghost use Rattle.std.specs.Prelude.{◌≡◌, ◌≢◌, IfOk, AllPairs};
+ghost use Rattle.std.specs.Prelude.{◌≡◌, ◌≢◌, IfOk, OnOk, AllPairs};
 ghost use Rattle.std.specs.List.{find};
 ghost use Rattle.std.specs.Option.{option_copied};
 ghost use Rattle.rows.specs.declared.change.Key.{Key as KeyValue};
 ghost use Rattle.rows.specs.WriteSet.{is_among, touches, write_set};
-ghost use Rattle.write_set.specs.FirstTouch.{each_once};
+ghost use Rattle.write_set.specs.FirstTouch.{added, each_once};
 
 mod prepared;
 
@@ -15,6 +15,9 @@ pub use prepared::{footprint, install};
 pub use rows::{Footprint, Outcome, Patch, prepare};
 use rows::{Key, Schema, Transaction, keys_touched};
 use std::alloc::{AllocError, Global};
+
+/// So many keys are compared with one another; more are hashed. Our own rule.
+const FEW: usize = 8;
 
 /// All keys that a before image or an after image carries, each once, in the order of first touch: for each change the
 /// keys of the before image, then those of the after image, by number. A unique key with a null is no key (our own rule).
@@ -27,13 +30,72 @@ pub fn keys_of(
     ensures members { IfOk result (λ set. (key : KeyValue) → is_among set.keys key ≡ touches schema.now txn.now key) }
     ensures once { IfOk result (λ set. AllPairs (λ a b. a ≢ b) set.keys) }
 {
+    hashed(alloc, keys_touched(alloc, schema, txn)?)
+}
+
+/// The keys of `keys_of`, in the same order, as a list. A few keys are compared with one another and not hashed.
+pub fn list_keys(alloc: Global, schema: &Schema, txn: &Transaction) -> Result<Vec<Key>, AllocError>
+    ensures order { IfOk result (λ keys. keys.items ≡ each_once (write_set schema.now txn.now)) }
+    ensures members { IfOk result (λ keys. (key : KeyValue) → is_among keys.items key ≡ touches schema.now txn.now key) }
+    ensures once { IfOk result (λ keys. AllPairs (λ a b. a ≢ b) keys.items) }
+{
+    let touched = keys_touched(alloc, schema, txn)?;
+    if touched.len() <= FEW {
+        compared(alloc, touched)
+    } else {
+        listed(alloc, hashed(alloc, touched)?)
+    }
+}
+
+/// The members of a list, each once, in the order of their first places.
+fn hashed(alloc: Global, keys: Vec<Key>) -> Result<IndexSet<Key>, AllocError>
+    ensures { IfOk result (λ set. set.keys ≡ each_once keys.items) }
+{
     let mut set = IndexSet::new(alloc);
-    for key in keys_touched(alloc, schema, txn)? {
+    for key in keys {
         let Ok(_) = set.insert(key) else {
             return Err(AllocError);
         };
     }
     Ok(set)
+}
+
+fn is_among(keys: &[Key], key: &Key) -> bool
+    ensures { result ≡ is_among keys.now key.now }
+{
+    keys.iter().any(|other| *key == *other)
+}
+
+/// Puts a key at the end of a list, unless it is there.
+fn add(list: &mut Vec<Key>, key: Key) -> Result<(), AllocError>
+    ensures { OnOk result (list.new.items ≡ added list.old.items key) }
+{
+    if !is_among(list, &key) {
+        list.push(key)?;
+    }
+    Ok(())
+}
+
+/// The members of a list, each once, in the order of their first places. Each is compared with those before it.
+fn compared(alloc: Global, keys: Vec<Key>) -> Result<Vec<Key>, AllocError>
+    ensures { IfOk result (λ list. list.items ≡ each_once keys.items) }
+{
+    let mut list = Vec::with_capacity(alloc, keys.len())?;
+    for key in keys {
+        add(&mut list, key)?;
+    }
+    Ok(list)
+}
+
+/// The keys of a set, in its order.
+pub(crate) fn listed(alloc: Global, set: IndexSet<Key>) -> Result<Vec<Key>, AllocError>
+    ensures { IfOk result (λ list. list.items ≡ set.keys) }
+{
+    let mut list = Vec::with_capacity(alloc, set.len())?;
+    for key in set {
+        list.push(key)?;
+    }
+    Ok(list)
 }
 
 /// The first key of `a` that is in `b`.

@@ -8,6 +8,7 @@ ghost use Rattle.rows.specs.Patch.{SeesAll, seen_of_keys};
 ghost use Rattle.rows.specs.Prepared.{IsStillTrue};
 ghost use Rattle.rows.specs.WriteSet.{is_among, touches};
 
+use crate::listed;
 use indexmap::IndexSet;
 use rows::{Footprint, Key, Outcome, Patch, Rows};
 use std::alloc::{AllocError, Global};
@@ -19,11 +20,7 @@ pub fn footprint(alloc: Global, rows: &Rows, keys: IndexSet<Key>) -> Result<Foot
     ensures seen { IfOk result (λ footprint. footprint.seen ≡ seen_of_keys rows.now.rows keys.keys) }
     ensures all { IfOk result (λ footprint. (txn : Transaction) → ((key : KeyValue) → is_among keys.keys key ≡ touches rows.now.schema txn key) → SeesAll rows.now.schema txn footprint.seen) }
 {
-    let mut list = Vec::new(alloc);
-    for key in keys {
-        list.push(key)?;
-    }
-    rows.footprint(alloc, list)
+    rows.footprint(alloc, listed(alloc, keys)?)
 }
 
 /// Does what a patch's transaction does, unless a carrier or a table of its footprint is not as it was: then it is

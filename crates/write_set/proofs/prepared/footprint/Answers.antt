@@ -1,4 +1,4 @@
-use Rattle.std.proofs.Common.{rules, ◌≡◌, List, subst}
+use Rattle.std.proofs.Common.{◌≡◌, List, subst}
 use Rattle.std.specs.Prelude.{IfOk}
 use Rattle.rows.specs.declared.change.Key.{Key}
 use Rattle.rows.specs.Patch.{seen_of_keys}
@@ -7,6 +7,5 @@ use Rattle.write_set.proofs.prepared.footprint.Goals as goal
 
 pub returns-clause-all : goal.returns-clause-all
 returns-clause-all c =
-    let all : c.loop-key.list.items ≡ c.args.keys.keys = search rules in
     sees_them c.args.rows.now.schema c.args.rows.now.rows c.args.keys.keys c.footprint.result
-    (subst (λ (keys : List Key). IfOk c.footprint.result (λ f. f.seen ≡ seen_of_keys c.args.rows.now.rows keys)) all c.footprint.ensures.seen)
+    (subst (λ (keys : List Key). IfOk c.footprint.result (λ f. f.seen ≡ seen_of_keys c.args.rows.now.rows keys)) c.in_ok-listed.ensures c.footprint.ensures.seen)

@@ -2,7 +2,7 @@ use Rattle.std.proofs.Common.{sym, ap, ◌∙◌, ◌≡◌, ◌-◌, ◌<◌, m
 use Rattle.std.proofs.lemmas.List.{take_all}
 use Rattle.dependency_graph.specs.Graphs.{Point, least, holds_back, blocker, point_at}
 use Rattle.dependency_graph.proofs.Least.{none_at, earlier, earlier_takes, earlier_keeps, earlier_none}
-use Rattle.dependency_graph.proofs.Kept.{gone_free, kept_now, length_points, touch_more}
+use Rattle.dependency_graph.proofs.Kept.{gone_free, kept_now, length_points, may_go_free, may_go_kept, touch_more}
 use Rattle.dependency_graph.specs.Kept.{point_of, points}
 use Rattle.dependency_graph.specs.Chains.{first_of}
 use Rattle.dependency_graph.proofs.Chained.{kept_is_sound}
@@ -11,6 +11,18 @@ use Rattle.dependency_graph.proofs.graph.Graph.blocker.Goals.{in-Some+then-first
 
 pub returns-then-node-self : goal.returns-then-node-self
 returns-then-node-self c = sym (gone_free c.self.inside.dropped c.args.node (map point_of c.self.inside.nodes.items) c.if-node-self.true) ∙ ap (λ ps. blocker ps c.args.node) c.self.view_is
+
+pub returns-then-goes : goal.returns-then-goes
+returns-then-goes c =
+    let d = c.self.inside.dropped in
+    let nodes = c.self.inside.nodes.items in
+    let node = c.args.node in
+    let size = length_points d nodes in
+    let same = ap length c.self.view_is in
+    let below : node - d < length nodes = omega (size, same, c.requires, c.if-node-self.false, arith) in
+    let sound = kept_is_sound d nodes c.self.inside.chains c.self.invariant.kept in
+    let may = may_go_kept d nodes c.self.inside.chains sound node c.index-here.result.now c.if-node-self.false below c.index-here.ensures ∙ sym c.goes.ensures ∙ c.if-goes.true in
+    sym (may_go_free (points d nodes) node may) ∙ ap (λ ps. blocker ps node) c.self.view_is
 
 pub loop-key-init : goal.loop-key-init
 loop-key-init c = sym (none_at 0 (take c.args.node c.args.self.now))
@@ -33,7 +45,7 @@ returns c =
     let size = length_points d nodes in
     let same = ap length c.self.view_is in
     let below : node - d < length nodes = omega (size, same, c.requires, c.if-node-self.false, arith) in
-    let kept = kept_now d nodes node c.index.result.now c.if-node-self.false below c.index.ensures in
+    let kept = kept_now d nodes node c.index-here.result.now c.if-node-self.false below c.index-here.ensures in
     c.loop-key.invariant
     ∙ ap (λ ks. least (holds_back ks) 0 (take node c.args.self.now)) (all ∙ c.deref-key-items.ensures.value)
     ∙ ap (λ (p : Point). least (holds_back p.keys) 0 (take node c.args.self.now)) (sym kept)
