@@ -3,6 +3,7 @@ use Rattle.std.specs.Prelude.{◌≡◌, ℕ, ◌+◌, Bool, not, ◌==◌, map,
 use Rattle.std.specs.List.{filter}
 use Rattle.std.specs.List.Sorted.{IsStrictlyIncreasing}
 use Rattle.std.specs.FinSet as set
+use Rattle.gtid_set.specs.declared.fault.SetFault.TheVariants.{Memory}
 use Rattle.gtid_set.specs.Sets.{Gtids, only}
 use Rattle.journal.specs.declared.Entry.{Entry}
 use Rattle.journal.specs.Journals.{JournalValue, whole}
@@ -49,8 +50,8 @@ pub record IsPlan (entries : List Entry) (places : List ℕ) (sending : Result (
   pub at : AreAt entries places sends
   pub rising : IsStrictlyIncreasing places
 
--- the refusal is that of the definition; a set that could not be made says nothing of it
+-- the refusal is that of the definition, or memory was refused
 abbrev pub IsRefusal : PositionFault → Result (List Entry) PositionFault → Type 0
-IsRefusal (Set fault) sending = Unit {0}
+IsRefusal (Set fault) sending = fault ≡ Memory
 IsRefusal (PurgedRequired s) sending = sending ≡ Err (PurgedRequired s)
 IsRefusal (ReplicaHasMore s) sending = sending ≡ Err (ReplicaHasMore s)

@@ -1,7 +1,8 @@
 //! Auto-positioning: which entries of its journal a source sends to a replica that asks with a set of GTIDs.
 #![tactic(auto)]
 
-ghost use Rattle.std.specs.Prelude.{◌≡◌, ◌==◌, IfOk, IfErr};
+ghost use Rattle.std.specs.Prelude.{◌≡◌, ◌==◌, IfOk, IfErr, IsOkUnless};
+ghost use Rattle.gtid_set.specs.declared.fault.SetFault.TheVariants.{Memory};
 ghost use Rattle.std.specs.FinSet as set;
 ghost use Rattle.gtid_set.specs.Sets.{only};
 ghost use Rattle.journal.specs.Journals.{whole, gtids_of};
@@ -19,7 +20,7 @@ pub enum PositionFault {
     PurgedRequired(GtidSet),
     /// GTIDs of this source that the replica has and the journal has no record of.
     ReplicaHasMore(GtidSet),
-    /// A set or the list of places could not be made.
+    /// Memory was refused: no set here has more sources than the one that is asked with.
     Set(SetFault),
 }
 
@@ -59,16 +60,21 @@ fn numbers_of(alloc: Global, source: SourceId, entries: &[Entry]) -> Result<Vec<
 
 /// The GTIDs of a source among the entries. The set is built with its numbers rising.
 fn recorded(alloc: Global, source: SourceId, entries: &[Entry]) -> Result<GtidSet, SetFault>
-    ensures { IfOk result (λ s. s ≡ only (gtids_of entries.now) source) }
+    ensures ok { IfOk result (λ s. s ≡ only (gtids_of entries.now) source) }
+    ensures fault { IsOkUnless result Memory }
 {
     let mut numbers = numbers_of(alloc, source, entries)?;
     numbers.sort_unstable();
     let mut recorded = GtidSet::empty(alloc);
     'numbers: for number in &numbers {
-        recorded.add(Gtid {
+        let gtid = Gtid {
             source,
             number: *number,
-        })?;
+        };
+        match recorded.add(gtid) {
+            Ok(()) => {}
+            Err(fault) => return Err(fault),
+        }
     }
     Ok(recorded)
 }
@@ -80,7 +86,8 @@ fn unknown(
     journal: &Journal,
     ask: &GtidSet,
 ) -> Result<GtidSet, SetFault>
-    ensures { IfOk result (λ s. s ≡ set.difference (only ask.now own) (whole journal.now)) }
+    ensures ok { IfOk result (λ s. s ≡ set.difference (only ask.now own) (whole journal.now)) }
+    ensures fault { IsOkUnless result Memory }
 {
     let asked = ask.only(alloc, own)?;
     let unpurged = asked.subtract(alloc, journal.previous())?;

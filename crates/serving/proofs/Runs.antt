@@ -450,6 +450,26 @@ pub audit_concluded : (start : Database) (js : List JournalValue) (state : State
     → IsConcluded start js state (Some found)
 audit_concluded start js state found is h = (is, sound_not found h)
 
+all_from : {A : Type 0} (p : A → Bool) (xs : List A) → ((i : ℕ) (x : A) → slice_get xs i ≡ Some x → p x ≡ true) → list_all p xs ≡ true
+all_from p [] h = refl
+all_from p (x ∷ xs) h = both_parts (p x) (list_all p xs) (h 0 x refl) (all_from p xs (λ i y at. h (suc i) y at))
+
+all_drained : (s : State) → IsDrained s → drained s ≡ true
+all_drained s h =
+    all_from (λ (k : ChannelValue). list_all (λ (x : channels.Received). set.contains s.executed x.gtid) k.received) s.channels (λ c channel at.
+    all_from (λ (x : channels.Received). set.contains s.executed x.gtid) channel.received (λ p e there. h c p channel e at there))
+
+-- where an audit is sound and not all is executed, a channel is neither stopped nor done
+pub not_stopped : (start : Database) (js : List JournalValue) (core : Replica) → keys_over start js ≡ Sound → IsRun start js core → AreJournals js → drained core.state ≡ false
+    → verdict_over start js ≡ Sound → WorkersDecide → AreStoppedOrDone core.state → ⊥
+not_stopped start js core keys r rules undone sound decide ends =
+    let es = all_events start js core r in
+    let keys' = subst (λ (x : List Table). verdict_of_keys (world_of x set.empty start.rows js) js ≡ Sound) (sym r.schema) keys in
+    let sound' = subst (λ (x : List Table). verdict (world_of x set.empty start.rows js) js ≡ Sound) (sym r.schema) sound in
+    let at = reached start js core r in
+    let dry = (decide core.site set.empty start.rows js es rules keys' (serves_all start js core r) (subst AreStoppedOrDone at ends)).1 sound' in
+    no_truth (sym undone ∙ all_drained core.state (subst IsDrained (sym at) dry))
+
 -- ---- one event
 
 pub state_of : (r : Reply) (t : State) (p : Step) → (r, t) ≡ p → t ≡ p.1

@@ -1,8 +1,10 @@
 -- What a plan sends.
-use Rattle.std.proofs.Common.{◌≡◌, ℕ, suc, ◌+◌, ◌<◌, arith, Bool, true, false, cond, not, List, [], ◌∷◌, ◌++◌, drop, length, get_or, slice_index_or, append_assoc, Option, Some, None, Result, Ok, Err, refl, sym, ap, ◌∙◌}
+use Rattle.std.proofs.Common.{◌≡◌, ℕ, zero, suc, ◌+◌, ◌<◌, arith, Bool, true, false, cond, not, List, [], ◌∷◌, ◌++◌, drop, length, get_or, slice_index_or, append_assoc, Option, Some, None, Result, Ok, Err, refl, sym, ap, ◌∙◌}
 use Rattle.std.proofs.Math.Seq.{drop-cons}
 use Rattle.std.proofs.lemmas.Option.{slice_get_read}
-use Rattle.std.specs.Prelude.{slice_get}
+use Rattle.std.specs.Prelude.{slice_get, nat_lt, ◌&&◌}
+use Rattle.std.specs.List.{list_all}
+use Rattle.std.proofs.lemmas.Bool.{lt-ltb, ltb-true, and_parts}
 use Rattle.std.specs.Option.{option_map_or}
 use Rattle.std.specs.FinSet as set
 use Rattle.gtid_text.specs.Gtids.{gtid_cmp}
@@ -48,6 +50,24 @@ picked_more entries places i e found grown few inside at is all =
     ∙ append_assoc found (e ∷ []) rest
     ∙ ap (λ (xs : List Entry). found ++ xs) (sym (ap (picked entries) (drop-cons places i 0 few) ∙ taken (slice_get entries place) e rest there))
     ∙ all
+
+below : (entries : List Entry) (p : ℕ) (e : Entry) → slice_get entries p ≡ Some e → nat_lt p (length entries) ≡ true
+below [] p e h = absurd cc
+below (x ∷ xs) zero e h = lt-ltb _ _ (omega arith)
+below (x ∷ xs) (suc p) e h =
+    let lt = ltb-true _ _ (below xs p e h) in
+    lt-ltb _ _ (omega (arith, lt))
+
+-- places at which something stands are there
+pub places_below : (entries : List Entry) (ps : List ℕ) (es : List Entry) → AreAt entries ps es → list_all (λ p. nat_lt p (length entries)) ps ≡ true
+places_below entries [] es h = refl
+places_below entries (p ∷ ps) [] h = absurd h
+places_below entries (p ∷ ps) (e ∷ es) h = rw (below entries p e h.0) (places_below entries ps es h.1)
+
+pub below_at : (entries : List Entry) (ps : List ℕ) (i : ℕ) → list_all (λ p. nat_lt p (length entries)) ps ≡ true → i < length ps → slice_index_or ps i 0 < length entries
+below_at entries [] i all lt = absurd (omega arith)
+below_at entries (p ∷ ps) zero all lt = ltb-true _ _ (and_parts (nat_lt p (length entries)) (list_all (λ q. nat_lt q (length entries)) ps) all).0
+below_at entries (p ∷ ps) (suc k) all lt = below_at entries ps k (and_parts (nat_lt p (length entries)) (list_all (λ q. nat_lt q (length entries)) ps) all).1 (omega (arith, lt))
 
 -- an empty set is part of each
 empty_part : (S : Gtids) → set.is_subset set.empty S ≡ true

@@ -1,8 +1,9 @@
 //! What journals come to.
-ghost use Rattle.std.specs.Prelude.{◌≡◌, ◌≤◌, length, IfOk};
+ghost use Rattle.std.specs.Prelude.{◌≡◌, ◌≤◌, length, IfOk, IfErr};
 ghost use Rattle.world.specs.Meaning.{AreJournals};
 ghost use Rattle.world.specs.declared.verdict.Verdict.TheVariants.{Sound};
 ghost use Rattle.serving.specs.Serving.{is_sound, world_over, keys_over, verdict_over, IsReady, IsBegun, IsRun, IsConcluded, IsServed};
+ghost use Rattle.serving.specs.Faults.{IsAuditFault, IsConcludeFault};
 
 use crate::receiving::serve_journals;
 use crate::working::work_on_all;
@@ -60,7 +61,8 @@ fn keep_rules(journals: &[Journal])
 
 /// The world of journals over opening rows, on which nothing is executed.
 fn opening_world(alloc: Global, rows: &Rows, journals: &[Journal]) -> Result<World, SetFault>
-    ensures { IfOk result (λ world. world ≡ world_over rows.now journals.now) }
+    ensures found { IfOk result (λ world. world ≡ world_over rows.now journals.now) }
+    ensures fault { IfErr result (λ f. IsAuditFault f rows.now journals.now) }
 {
     let opened = GtidSet::empty(alloc);
     match world_of(alloc, &opened, rows, journals) {
@@ -72,17 +74,19 @@ fn opening_world(alloc: Global, rows: &Rows, journals: &[Journal]) -> Result<Wor
 
 /// What an audit of the journals' keys over opening rows finds first.
 fn keys_verdict(alloc: Global, rows: &Rows, journals: &[Journal]) -> Result<Verdict, SetFault>
-    ensures { IfOk result (λ found. found ≡ keys_over rows.now journals.now) }
+    ensures found { IfOk result (λ found. found ≡ keys_over rows.now journals.now) }
+    ensures fault { IfErr result (λ f. IsAuditFault f rows.now journals.now) }
 {
     let world = opening_world(alloc, rows, journals)?;
     Ok(audit_keys(alloc, &world, journals)?)
 }
 
 /// What an audit of journals over opening rows finds first, where nothing is executed from the start.
-/// `SetFault` is want of memory, or full; it is also answered where there is a transaction that the
-/// schema does not take, as none stands in a bundle that was read.
+/// `Memory` is want of memory; `PoolFull` comes only where there is a transaction that the schema does
+/// not take, as none stands in a bundle that was read, and `SourcesFull` never.
 pub fn verdict_over(alloc: Global, rows: &Rows, journals: &[Journal]) -> Result<Verdict, SetFault>
-    ensures { IfOk result (λ found. found ≡ verdict_over rows.now journals.now) }
+    ensures found { IfOk result (λ found. found ≡ verdict_over rows.now journals.now) }
+    ensures fault { IfErr result (λ f. IsAuditFault f rows.now journals.now) }
 {
     let world = opening_world(alloc, rows, journals)?;
     Ok(audit(alloc, &world, journals)?)
@@ -133,7 +137,9 @@ pub fn begin(
 }
 
 /// What a replica that worked has come to: nothing where all that it received is executed, or else the
-/// verdict of the audit, which isn't Sound then.
+/// verdict of the audit, which isn't Sound then. `Memory` is want of memory; `PoolFull` comes only where
+/// there is a transaction that the schema does not take, or a channel that is neither stopped nor done,
+/// as there is none once a replica was drained, and `SourcesFull` never.
 #[tactic(auto, using(crate::proofs::Runs::state_concluded, crate::proofs::Runs::audit_concluded))]
 pub fn conclude(
     alloc: Global,
@@ -143,7 +149,8 @@ pub fn conclude(
 ) -> Result<Option<Verdict>, SetFault>
     requires keys { keys_over rows.now journals.now ≡ Sound }
     requires run { IsRun rows.now journals.now core.now }
-    ensures { IfOk result (IsConcluded rows.now journals.now core.now.state) }
+    ensures found { IfOk result (IsConcluded rows.now journals.now core.now.state) }
+    ensures fault { IfErr result (λ f. IsConcludeFault f rows.now journals.now core.now.state) }
 {
     workers_decide();
     served_holds_all();

@@ -1,5 +1,7 @@
 //! Channels that receive what sources send.
-ghost use Rattle.std.specs.Prelude.{◌≡◌, ◌≤◌, ◌+◌, IfOk, IfErr, OnOk, length, Ok, None};
+ghost use Rattle.std.specs.Prelude.{◌≡◌, ◌≤◌, ◌+◌, IfOk, IfErr, OnOk, IsOkUnless, nat_lt, true, length, Ok, None};
+ghost use Rattle.std.specs.List.{list_all};
+ghost use Rattle.gtid_set.specs.declared.fault.SetFault.TheVariants.{Memory};
 ghost use Rattle.auto_position.specs.Sending as sending;
 ghost use Rattle.faithful_runs.specs.Sent.{sent};
 ghost use Rattle.serving.specs.Serving.{picked, Receives, ServesOne, ServesEach};
@@ -15,12 +17,14 @@ use txn_journal::Channel;
 
 /// The entries at these places.
 fn entries_at(alloc: Global, entries: &[Entry], places: &[u64]) -> Result<Vec<Entry>, SetFault>
-    ensures { IfOk result (λ found. found.items ≡ picked entries.now places.now) }
+    requires { list_all (λ p. nat_lt p (length entries.now)) places.now ≡ true }
+    ensures found { IfOk result (λ found. found.items ≡ picked entries.now places.now) }
+    ensures fault { IsOkUnless result Memory }
 {
     let mut found = Vec::new(alloc);
     for place in places {
         let Some(entry) = entries.get(*place as usize) else {
-            return Err(SetFault::PoolFull);
+            unreachable!()
         };
         let entry = entry.clone()?;
         let Ok(()) = found.push(entry) else {

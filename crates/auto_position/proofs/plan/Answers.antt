@@ -12,7 +12,7 @@ pub returns-then-not-known-clause-refusal : goal.returns-then-not-known-clause-r
 returns-then-not-known-clause-refusal c =
     let kept : set.is_subset c.args.journal.now.previous c.args.ask.now ≡ true = ap (λ (s : Gtids). set.is_subset s c.args.ask.now) (sym c.previous.ensures) ∙ sym c.is_subset-kept.ensures ∙ c.if-not-kept.false in
     ap (sent c.args.journal.now c.args.ask.now) c.in-Some.is
-    ∙ sent_more c.args.journal.now c.args.ask.now c.in-Some.own c.in_ok-more.more kept c.in_ok-more.ensures (is_left c.in_ok-more.more c.empty.result c.is_subset-known.result c.is_subset-known.ensures c.empty.ensures c.if-not-known.true)
+    ∙ sent_more c.args.journal.now c.args.ask.now c.in-Some.own c.in_ok-more.more kept c.in_ok-more.ensures.ok (is_left c.in_ok-more.more c.empty.result c.is_subset-known.result c.is_subset-known.ensures c.empty.ensures c.if-not-known.true)
 
 pub returns-clause-plan : goal.returns-clause-plan
 returns-clause-plan c =
@@ -21,7 +21,7 @@ returns-clause-plan c =
     elim c.match-own.branch [
       | in-Some+in_ok-more+else-not-known w ↦
           subst (λ (o : Option ℕ). set.is_subset (own_of c.args.ask.now o) (whole c.args.journal.now) ≡ true) (sym w.in-Some.is)
-          (known_own c.args.journal.now c.args.ask.now w.in-Some.own w.in_ok-more.more w.in_ok-more.ensures (is_gone w.in_ok-more.more w.empty.result w.is_subset-known.result w.is_subset-known.ensures w.empty.ensures w.if-not-known.false))
+          (known_own c.args.journal.now c.args.ask.now w.in-Some.own w.in_ok-more.more w.in_ok-more.ensures.ok (is_gone w.in_ok-more.more w.empty.result w.is_subset-known.result w.is_subset-known.ensures w.empty.ensures w.if-not-known.false))
       | in_default w ↦
           subst (λ (o : Option ℕ). set.is_subset (own_of c.args.ask.now o) (whole c.args.journal.now) ≡ true) (sym w.in_default.is) (none_own (whole c.args.journal.now))
     ] in

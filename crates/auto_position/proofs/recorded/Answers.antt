@@ -1,9 +1,24 @@
+use Rattle.std.proofs.Common.{◌≡◌, sym, subst}
+use Rattle.gtid_set.specs.Sets.{Gtids}
+use Rattle.auto_position.proofs.OneSource.{count_and, none_and_one, still_one, memory_of_one}
 use Rattle.auto_position.proofs.Asked.{recorded_next, recorded_all}
 use Rattle.auto_position.proofs.recorded.Goals as goal
 
 pub numbers-preserved : goal.numbers-preserved
-numbers-preserved c = recorded_next c.args.source c.deref-number-items.result.now c.numbers.number-index c.numbers.recorded c.add.new.self c.numbers-test.true c.numbers.invariant c.in_ok-add.ensures.ok
+numbers-preserved c = record {
+  is = recorded_next c.args.source c.deref-number-items.result.now c.numbers.number-index c.numbers.recorded c.add.new.self c.numbers-test.true c.numbers.invariant.is c.in-Ok.ensures.ok;
+  one = subst (λ (s : Gtids). count_and s c.args.source ≡ 1) (sym c.in-Ok.ensures.ok) (still_one c.numbers.recorded c.args.source _ c.numbers.invariant.one);
+}
 
-pub returns : goal.returns
-returns c =
-    recorded_all c.args.source c.args.entries.now c.in_ok-numbers.numbers.items c.sort_unstable.new.self.items c.deref-number-items.result.now c.numbers.number-index c.numbers.recorded c.in_ok-numbers.ensures c.sort_unstable.ensures.permutation c.deref-number-items.ensures.value c.numbers-test.false c.numbers.invariant
+pub returns-clause-ok : goal.returns-clause-ok
+returns-clause-ok c =
+    recorded_all c.args.source c.args.entries.now c.in_ok-numbers.numbers.items c.sort_unstable.new.self.items c.deref-number-items.result.now c.numbers.number-index c.numbers.recorded c.in_ok-numbers.ensures c.sort_unstable.ensures.permutation c.deref-number-items.ensures.value c.numbers-test.false c.numbers.invariant.is
+
+pub returns-in-Err-clause-fault : goal.returns-in-Err-clause-fault
+returns-in-Err-clause-fault c = memory_of_one c.in-Err.fault c.numbers.recorded c.args.source _ c.numbers.invariant.one c.in-Err.ensures.full
+
+pub numbers-init : goal.numbers-init
+numbers-init c = record {
+  is = c.empty-recorded.ensures;
+  one = none_and_one c.empty-recorded.result c.args.source c.empty-recorded.ensures;
+}
