@@ -1,18 +1,14 @@
 -- The entries of a hashed table as a finite map.
-use Rattle.std.proofs.Common.{◌≡◌, cond, List, [], ◌∷◌, Some, refl, ap, sym, ◌∙◌}
-use Rattle.std.specs.Bool.{one_answer}
+use Rattle.std.proofs.Common.{◌≡◌, cond, List, [], ◌∷◌, Some, refl, sym, ◌∙◌}
 use Rattle.std.specs.Map.{lookup}
 use Rattle.std.specs.FinMap.{from_entries, insert}
 use Rattle.gtid_text.specs.declared.Gtid.{Gtid}
 use Rattle.rows.specs.declared.change.Key.{Key}
-use Rattle.rows.specs.Order.{key_cmp, key_eq}
-use Rattle.rows.specs.Total.{key_total, key_exact, key_eq_same, key_eq_self}
-use Rattle.rows.proofs.Equal.{key_test, keys-Decide}
+use Rattle.rows.specs.Order.{key_cmp}
+use Rattle.rows.specs.Total.{key_total, key_exact}
+use Rattle.rows.proofs.Equal.{key_test}
+use Rattle.rows.proofs.Hashed.{same_tests}
 use Rattle.audit.proofs.Stored.{at, one_put}
-
--- the two tests of keys agree
-same_tests : (a b : Key) → key_test a b ≡ key_eq a b
-same_tests a b = one_answer (key_test a b) (key_eq a b) (keys-Decide a b) (key_eq_same a b, λ e. ap (key_eq a) (sym e) ∙ key_eq_self a)
 
 pub hashed_at : (es : List (Key × Gtid)) (q : Key) → lookup (key_test q) es ≡ at key_cmp es q
 hashed_at [] q = refl
