@@ -14,7 +14,7 @@ use crate::machine::{Core, is_seat};
 use gtid_set::SetFault;
 use rows::{ApplyFault, Outcome, Rows, Transaction};
 use std::alloc::{AllocError, Global};
-use write_set::{Footprint, Patch, footprint, install, keys_of};
+use write_set::{Footprint, Patch, install, list_keys};
 
 /// Installs a patch, where it is one of this transaction and still true, and tells whether it did.
 fn install_of(rows: &mut Rows, txn: &Transaction, patch: Patch) -> Result<bool, AllocError>
@@ -62,8 +62,8 @@ fn sight(alloc: Global, rows: &Rows, txn: &Transaction) -> Result<Footprint, All
     ensures all { IfOk result (λ seen. SeesAll rows.now.schema txn.now seen.seen) }
     ensures seen { IfOk result (λ seen. IsAsSeen seen.seen rows.now.rows) }
 {
-    let keys = keys_of(alloc, rows.schema(), txn)?;
-    footprint(alloc, rows, keys)
+    let keys = list_keys(alloc, rows.schema(), txn)?;
+    rows.footprint(alloc, keys)
 }
 
 impl Core {
