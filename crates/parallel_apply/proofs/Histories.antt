@@ -14,7 +14,6 @@ use Rattle.shared_replica.specs.Closing.{ClosedValue}
 use Rattle.applier.specs.Applies.{IsApply}
 use Rattle.applier.specs.Draining.{AllApply, Drains}
 use Rattle.serving.specs.Serving.{is_work, ServesEach, Works, IsReady, IsRun}
-use Rattle.parallel_apply.specs.Applying.{is_work_step}
 
 one_works : (e : Event) → IsApply e → is_work e ≡ true
 one_works (Take seat c p) h = refl
@@ -27,6 +26,9 @@ one_works (Restart c) h = absurd h
 one_works (Local txn) h = absurd h
 one_works (Purge k) h = absurd h
 one_works Look h = absurd h
+
+abbrev is_work_step : Step → Bool
+is_work_step s = is_work s.event
 
 both_parts : (a b : Bool) → a ≡ true → b ≡ true → (a && b) ≡ true
 both_parts a b p q = (λ i. p i && b) ∙ q
@@ -42,13 +44,13 @@ events_work (s ∷ steps) = ap (λ b. is_work s.event && b) (events_work steps)
 
 -- a replica that has received everything, and then a history of work, to which draining has added
 pub history_runs : (start : Database) (js : List JournalValue) (core now : Replica) (worked left : ClosedValue) → IsReady start js core → worked.opening ≡ core
-    → list_all is_work_step worked.steps ≡ true → Drains worked left → now ≡ left.now → IsReplay left.opening left.steps left.now → IsRun start js now
+    → AllApply worked.steps → Drains worked left → now ≡ left.now → IsReplay left.opening left.steps left.now → IsRun start js now
 history_runs start js core now worked left ready opened work drains is legal =
     let from : left.opening ≡ core = drains.opening ∙ opened in
     let replay : IsReplay core left.steps now = subst (λ (x : Replica). IsReplay core left.steps x) (sym is) (subst (λ (x : Replica). IsReplay x left.steps left.now) from legal) in
     let all : list_all is_work_step left.steps ≡ true =
     ap (list_all is_work_step) drains.steps ∙ list_all-append is_work_step worked.steps drains.more
-    ∙ both_parts (list_all is_work_step worked.steps) (list_all is_work_step drains.more) work (each_works drains.more drains.apply)
+    ∙ both_parts (list_all is_work_step worked.steps) (list_all is_work_step drains.more) (each_works worked.steps work) (each_works drains.more drains.apply)
     in
     let works : Works core.site core.state now.state = record { events = events_of left.steps; work = events_work left.steps ∙ all; now = replay.state } in
     record {

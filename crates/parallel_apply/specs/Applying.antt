@@ -1,17 +1,13 @@
 -- What journals come to where workers apply them.
-use Rattle.std.specs.Prelude.{◌≡◌, Bool, List}
+use Rattle.std.specs.Prelude.{◌≡◌, List}
 use Rattle.rows.specs.Database.{Database}
 use Rattle.journal.specs.Journals.{JournalValue}
 use Rattle.std.specs.FinSet as set
 use Rattle.world.specs.declared.verdict.Verdict.TheVariants.{Sound}
 use Rattle.audited_runs.specs.Deciding.{HoldsAll}
-use Rattle.serving.specs.Serving.{is_work, verdict_over}
-use Rattle.shared_replica.specs.declared.step.Step.{Step}
+use Rattle.serving.specs.Serving.{verdict_over}
 use Rattle.parallel_apply.specs.declared.outcome.Applied.{Applied}
 use Rattle.parallel_apply.specs.declared.outcome.Applied.TheVariants as applied
-
-abbrev pub is_work_step : Step → Bool
-is_work_step s = is_work s.event
 
 -- All journals together are executed, where their audit says Sound; else it is what the audit says.
 abbrev pub IsApplied : Database → List JournalValue → Applied → Type 0
