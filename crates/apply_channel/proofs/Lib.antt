@@ -4,3 +4,4 @@ pub mod LastPlaces
 pub mod Table
 pub mod Receiving
 pub mod Same
+pub mod Absent

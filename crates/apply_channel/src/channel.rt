@@ -246,6 +246,9 @@ impl Channel {
     fn last_open(&self, gtid: &Gtid) -> Option<usize>
         ensures { IsLastOpen self.now.channel.received gtid.now (length self.now.channel.received) result }
     {
+        if !self.received.contains(gtid) {
+            return None;
+        }
         last_place(&self.places, gtid)
     }
 
