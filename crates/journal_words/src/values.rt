@@ -14,15 +14,6 @@ use std::alloc::{AllocError, Global};
 /// So many digits are decoded on the stack: two for each byte that a value holds in place.
 const FEW_DIGITS: usize = 28;
 
-/// These bytes.
-fn held(alloc: Global, bytes: &[u8]) -> Result<ByteString, AllocError>
-    ensures { IfOk result (λ it. it ≡ bytes.now) }
-{
-    let mut copy = Vec::new(alloc);
-    copy.extend_from_slice(bytes)?;
-    ByteString::new(copy)
-}
-
 /// The number that the word spells.
 fn int_word(word: &[u8]) -> Option<i64>
     ensures found { IfSome result (λ z. word.now ≡ signed_decimal z) }
@@ -84,7 +75,7 @@ fn few_bytes(alloc: Global, digits: &[u8]) -> Result<Option<ByteString>, AllocEr
     if !digits_into(digits, bytes) {
         return Ok(None);
     }
-    Ok(Some(held(alloc, bytes)?))
+    Ok(Some(ByteString::from_slice(alloc, bytes)?))
 }
 
 /// The bytes that many digits spell.
