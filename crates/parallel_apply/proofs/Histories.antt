@@ -43,10 +43,11 @@ events_work [] = refl
 events_work (s ∷ steps) = ap (λ b. is_work s.event && b) (events_work steps)
 
 -- a replica that has received everything, and then a history of work, to which draining has added
-pub history_runs : (start : Database) (js : List JournalValue) (core now : Replica) (worked left : ClosedValue) → IsReady start js core → worked.opening ≡ core
+pub history_runs : (start : Database) (js : List JournalValue) (now : Replica) (worked left : ClosedValue) → IsReady start js worked.opening
     → AllApply worked.steps → Drains worked left → now ≡ left.now → IsReplay left.opening left.steps left.now → IsRun start js now
-history_runs start js core now worked left ready opened work drains is legal =
-    let from : left.opening ≡ core = drains.opening ∙ opened in
+history_runs start js now worked left ready work drains is legal =
+    let core : Replica = worked.opening in
+    let from : left.opening ≡ core = drains.opening in
     let replay : IsReplay core left.steps now = subst (λ (x : Replica). IsReplay core left.steps x) (sym is) (subst (λ (x : Replica). IsReplay x left.steps left.now) from legal) in
     let all : list_all is_work_step left.steps ≡ true =
     ap (list_all is_work_step) drains.steps ∙ list_all-append is_work_step worked.steps drains.more

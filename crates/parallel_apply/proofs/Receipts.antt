@@ -30,14 +30,14 @@ pub merged_apply : (old new : List PassValue) (steps : List Step) (seats : ℕ) 
     → ((i : ℕ) (d : PassValue) → i < seats → slice_index_or old i d ≡ fresh (i + 1))
     → ((i : ℕ) (d : PassValue) → i < length old → GoesOn (slice_index_or old i d) (slice_index_or new i d)) → IsMerge new steps → AllApply steps
 merged_apply old new steps seats count same began goes merge = all_apply steps (λ place s at.
-        let covered = merge.covers place (slice_get_within steps place s at) in
-        let i = covered.0 in
-        let k = covered.1 in
-        let r = covered.2 in
-        let here = covered.3 in
-        let p = here.0 in
-        let is : r.step ≡ s = one_value r.step s (sym (merge.stands i k r here) ∙ ap (λ (n : ℕ). slice_get steps n) covered.4 ∙ at) in
-        let inside : i < length new = slice_get_within new i p here.1 in
-        subst (λ (x : Step). IsApply x.event) is
-            (own_apply (slice_index_or old i p) (slice_index_or new i p) p (i + 1) k r (began i p (omega (arith, count, same))) (get_or_from_slice_get new i p p here.1)
-            (goes i p (omega (arith, same))) here.2))
+    let covered = merge.covers place (slice_get_within steps place s at) in
+    let i = covered.0 in
+    let k = covered.1 in
+    let r = covered.2 in
+    let here = covered.3 in
+    let p = here.0 in
+    let is : r.step ≡ s = one_value r.step s (sym (merge.stands i k r here) ∙ ap (λ (n : ℕ). slice_get steps n) covered.4 ∙ at) in
+    let inside : i < length new = slice_get_within new i p here.1 in
+    subst (λ (x : Step). IsApply x.event) is
+    (own_apply (slice_index_or old i p) (slice_index_or new i p) p (i + 1) k r (began i p (omega (arith, count, same))) (get_or_from_slice_get new i p p here.1)
+    (goes i p (omega (arith, same))) here.2))

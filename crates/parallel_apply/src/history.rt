@@ -1,10 +1,9 @@
 //! The history of workers over a replica.
-ghost use Rattle.std.specs.Prelude.{◌≡◌, ◌≤◌, IfOk, IfSome};
+ghost use Rattle.std.specs.Prelude.{◌≡◌, ◌≤◌, IfSome};
 ghost use Rattle.applier.specs.Draining.{AllApply};
 
 use applier::{Gate, WorkersEnd, run_workers};
 use commit_ledger::Blanks;
-use gtid_set::SetFault;
 use replica_core::Core;
 use shared_replica::{ClosedBook, Naming, SharedReplica};
 use std::alloc::Global;
@@ -40,22 +39,18 @@ fn shared<N: Naming + Send + Sync, G: Gate + Sync, R: Threads + Wait + Sync>(
     }
 }
 
-/// What workers did over a replica: a history of takes, commits and rollbacks alone. Where it can't be
-/// told, the replica is as it was.
+/// What workers did over a replica: a history of takes, commits and rollbacks alone. None where it can't
+/// be told.
 pub(crate) fn worked<G: Gate + Sync, R: Threads + Wait + Sync>(
     rt: &R,
     alloc: Global,
     core: Core,
     seats: u8,
     gate: &G,
-) -> Result<ClosedBook, SetFault>
+) -> Option<ClosedBook>
     requires { (1 ≤ seats) × (seats ≤ 64) }
-    ensures opening { IfOk result (λ b. b.opening ≡ core) }
-    ensures work { IfOk result (λ b. AllApply b.steps) }
+    ensures opening { IfSome result (λ b. b.opening ≡ core) }
+    ensures work { IfSome result (λ b. AllApply b.steps) }
 {
-    let spare = core.copy(alloc)?;
-    match shared::<Brand, G, R>(rt, alloc, Blanks::new(seats as u64), core, seats, gate) {
-        Some(book) => Ok(book),
-        None => Ok(ClosedBook::start(alloc, spare)),
-    }
+    shared::<Brand, G, R>(rt, alloc, Blanks::new(seats as u64), core, seats, gate)
 }

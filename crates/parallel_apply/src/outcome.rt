@@ -1,5 +1,8 @@
 //! What journals come to.
 ghost use Rattle.std.specs.Prelude.{◌≡◌, ◌≤◌, IfOk};
+ghost use Rattle.world.specs.declared.verdict.Verdict.TheVariants.{Sound};
+ghost use Rattle.serving.specs.Serving.{keys_over, IsReady};
+ghost use Rattle.applier.specs.Draining.{AllApply};
 ghost use Rattle.parallel_apply.specs.Applying.{IsApplied};
 
 use crate::history::worked;
@@ -23,6 +26,43 @@ pub enum Applied {
     State(ClosedBook),
     /// The journals cannot be merged.
     Verdict(Verdict),
+}
+
+/// What a history of work over a replica that was served all journals comes to, once what it left is
+/// drained.
+fn ended(
+    alloc: Global,
+    rows: &Rows,
+    journals: &[Journal],
+    mut book: ClosedBook,
+) -> Result<Applied, SetFault>
+    requires keys { keys_over rows.now journals.now ≡ Sound }
+    requires ready { IsReady rows.now journals.now book.opening }
+    requires work { AllApply book.steps }
+    ensures { IfOk result (IsApplied rows.now journals.now) }
+{
+    drain(alloc, &mut book)?;
+    match conclude(alloc, rows, journals, book.state())? {
+        None => Ok(Applied::State(book)),
+        Some(verdict) => Ok(Applied::Verdict(verdict)),
+    }
+}
+
+/// What the journals come to where no worker's history can be told: a replica that is opened anew is
+/// drained.
+fn drained_anew(
+    alloc: Global,
+    own: SourceId,
+    rows: &Rows,
+    channels: &[Channel],
+    journals: &[Journal],
+) -> Result<Applied, SetFault>
+    ensures { IfOk result (IsApplied rows.now journals.now) }
+{
+    match begin(alloc, own, rows, channels, journals)? {
+        Begun::Ready(core) => ended(alloc, rows, journals, ClosedBook::start(alloc, core)),
+        Begun::Verdict(verdict) => Ok(Applied::Verdict(verdict)),
+    }
 }
 
 /// What the journals that channels bring come to over opening rows: all of them executed together, or
@@ -50,10 +90,8 @@ pub fn apply_journals<G: Gate + Sync, R: Threads + Wait + Sync>(
         Begun::Ready(core) => core,
         Begun::Verdict(verdict) => return Ok(Applied::Verdict(verdict)),
     };
-    let mut book = worked(rt, alloc, core, workers, gate)?;
-    drain(alloc, &mut book)?;
-    match conclude(alloc, rows, journals, book.state())? {
-        None => Ok(Applied::State(book)),
-        Some(verdict) => Ok(Applied::Verdict(verdict)),
+    match worked(rt, alloc, core, workers, gate) {
+        Some(book) => ended(alloc, rows, journals, book),
+        None => drained_anew(alloc, own, rows, channels, journals),
     }
 }
