@@ -36,12 +36,15 @@ fn int_word(word: &[u8]) -> Option<i64>
     }
 }
 
+/// Whether each digit is one of those that lower case writes. No branch is taken at a digit.
 fn are_lower(digits: &[u8]) -> bool
     ensures { result ≡ list_all is_lower_digit digits.now }
 {
-    digits
-        .iter()
-        .all(|digit| matches!(*digit, b'0'..=b'9' | b'a'..=b'f'))
+    let mut lower = true;
+    for digit in digits {
+        lower &= matches!(*digit, b'0'..=b'9' | b'a'..=b'f');
+    }
+    lower
 }
 
 /// Writes the bytes that lower-case digits spell into the room, and says whether they spell any.
