@@ -17,3 +17,5 @@ mod pieces;
 mod replicas;
 #[cfg(test)]
 mod seats;
+#[cfg(test)]
+mod workers;

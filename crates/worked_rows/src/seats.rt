@@ -17,7 +17,7 @@ const A: u128 = 0xaaaa_aaaa_aaaa_aaaa_aaaa_aaaa_aaaa_aaaa;
 const C: u128 = 0xcccc_cccc_cccc_cccc_cccc_cccc_cccc_cccc;
 
 /// A channel is opened and positioned, and receives two inserts of different rows.
-fn receives<N: Naming, R: Wait>(
+pub(crate) fn receives<N: Naming, R: Wait>(
     rt: &R,
     alloc: Global,
     replica: &SharedReplica<N>,
@@ -33,7 +33,7 @@ fn receives<N: Naming, R: Wait>(
 }
 
 /// A place is taken and committed.
-fn commits<N: Naming, R: Wait>(
+pub(crate) fn commits<N: Naming, R: Wait>(
     rt: &R,
     alloc: Global,
     replica: &SharedReplica<N>,
@@ -62,7 +62,7 @@ fn are_from(receipts: &[Receipt], first: u64) -> bool {
 }
 
 /// Both entries are executed, and nothing else.
-fn has_both(book: &ClosedBook) -> bool {
+pub(crate) fn has_both(book: &ClosedBook) -> bool {
     let executed = book.state().executed();
     executed.contains(&gtid(A, 1)) && executed.contains(&gtid(A, 2)) && executed.count() == 2
 }
