@@ -8,7 +8,7 @@ use Rattle.rows.specs.declared.change.Change.{Change}
 use Rattle.journal.specs.Journals.{JournalValue}
 use Rattle.txn_journal.specs.Machine.{Standing, is_last}
 use Rattle.txn_journal.specs.Stream.{Progress, Reading, Stopped, next_number, ended}
-use Rattle.txn_journal.specs.Reading.{before_first, IsFaultAlone, eats_alone, whole_journal, closing, IsWhole}
+use Rattle.txn_journal.specs.Reading.{before_first, IsFaultAlone, eats_alone, whole_journal, closing, IsWholeOr}
 use Rattle.txn_journal.specs.Spelling.{spelling, Writes}
 use Rattle.txn_journal.specs.Heard.{said}
 use Rattle.txn_journal.specs.Refused.{Refuses, IsRead}
@@ -76,16 +76,16 @@ closes_told bytes (Stopped (faults.Set fault)) e h = absurd h
 pub closes : (bytes : List ℕ) → Closes bytes (closing (eats_alone before_first bytes))
 closes bytes = closes_told bytes (eats_alone before_first bytes) refl (tells bytes)
 
-pub is_found : (r : Result JournalValue JournalFault) (bytes : List ℕ) → IsWhole (IsFaultAlone before_first bytes) r (closing (eats_alone before_first bytes)) → IfOk r (λ j. Writes bytes j)
+pub is_found : (r : Result JournalValue JournalFault) (bytes : List ℕ) → IsWholeOr (IsFaultAlone before_first bytes) r (closing (eats_alone before_first bytes)) → IfOk r (λ j. Writes bytes j)
 is_found (Ok j) bytes (inl e) = absurd (let k = e.1 in cc)
 is_found (Ok j) bytes (inr e) = subst (Closes bytes) (sym e) (closes bytes)
 is_found (Err e) bytes h = tt
 
-pub is_only : (r : Result JournalValue JournalFault) (bytes : List ℕ) → IsWhole (IsFaultAlone before_first bytes) r (closing (eats_alone before_first bytes)) → (j : JournalValue) → Writes bytes j → IsRead r j
+pub is_only : (r : Result JournalValue JournalFault) (bytes : List ℕ) → IsWholeOr (IsFaultAlone before_first bytes) r (closing (eats_alone before_first bytes)) → (j : JournalValue) → Writes bytes j → IsRead r j
 is_only r bytes (inl e) j w = subst (λ (x : Result JournalValue JournalFault). IsRead x j) (sym e.1) tt
 is_only r bytes (inr e) j w = subst (λ (x : Result JournalValue JournalFault). IsRead x j) (sym (e ∙ reads_spelling bytes j w)) refl
 
-pub is_refused : (r : Result JournalValue JournalFault) (bytes : List ℕ) → IsWhole (IsFaultAlone before_first bytes) r (closing (eats_alone before_first bytes)) → IfErr r (λ e. Refuses e bytes)
+pub is_refused : (r : Result JournalValue JournalFault) (bytes : List ℕ) → IsWholeOr (IsFaultAlone before_first bytes) r (closing (eats_alone before_first bytes)) → IfErr r (λ e. Refuses e bytes)
 is_refused (Ok found) bytes h = tt
 is_refused (Err x) bytes (inl e) = subst (λ (y : JournalFault). Refuses y bytes) (err_is x (faults.Set e.0) e.1) e.2
   where

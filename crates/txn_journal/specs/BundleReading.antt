@@ -27,6 +27,10 @@ unfoldable pub closing_bundle : Progress BundleStanding → Result BundleValue J
 closing_bundle (Reading s n rest) = whole_bundle (ended (is_done s.part) rest n) s.bundle
 closing_bundle (Stopped fault) = Err fault
 
+-- it is this, unless memory ran out or a set was full
+abbrev pub IsWholeBundle : Result BundleValue JournalFault → Result BundleValue JournalFault → Type 0
+IsWholeBundle result whole = ((fault : SetFault) × (result ≡ Err (faults.Set fault))) ⊎ (result ≡ whole)
+
 -- it is this, or a fault that may be
-abbrev pub IsWholeBundle : (SetFault → Type 0) → Result BundleValue JournalFault → Result BundleValue JournalFault → Type 0
-IsWholeBundle may result whole = ((fault : SetFault) × (result ≡ Err (faults.Set fault)) × may fault) ⊎ (result ≡ whole)
+abbrev pub IsWholeBundleOr : (SetFault → Type 0) → Result BundleValue JournalFault → Result BundleValue JournalFault → Type 0
+IsWholeBundleOr may result whole = ((fault : SetFault) × (result ≡ Err (faults.Set fault)) × may fault) ⊎ (result ≡ whole)

@@ -40,9 +40,13 @@ unfoldable pub closing : Progress Standing → Result JournalValue JournalFault
 closing (Reading s n rest) = whole_journal (ended (is_last s.place) rest n) s.journal
 closing (Stopped fault) = Err fault
 
+-- it is this, unless memory ran out or a set was full
+abbrev pub IsWhole : Result JournalValue JournalFault → Result JournalValue JournalFault → Type 0
+IsWhole result whole = ((fault : SetFault) × (result ≡ Err (faults.Set fault))) ⊎ (result ≡ whole)
+
 -- it is this, or a fault that may be
-abbrev pub IsWhole : (SetFault → Type 0) → Result JournalValue JournalFault → Result JournalValue JournalFault → Type 0
-IsWhole may result whole = ((fault : SetFault) × (result ≡ Err (faults.Set fault)) × may fault) ⊎ (result ≡ whole)
+abbrev pub IsWholeOr : (SetFault → Type 0) → Result JournalValue JournalFault → Result JournalValue JournalFault → Type 0
+IsWholeOr may result whole = ((fault : SetFault) × (result ≡ Err (faults.Set fault)) × may fault) ⊎ (result ≡ whole)
 
 -- the same reading with these entries in front
 abbrev pub in_front : List Entry → JournalValue → JournalValue

@@ -3,7 +3,7 @@ ghost use Rattle.std.specs.Prelude.{◌≡◌, IfOk, IfErr};
 ghost use Rattle.txn_journal.specs.BundleStates.{BundleValue};
 ghost use Rattle.txn_journal.specs.BundleText.{WritesBundle};
 ghost use Rattle.txn_journal.specs.BundleRefused.{RefusesBundle, IsReadBundle};
-ghost use Rattle.txn_journal.specs.BundleReading.{bundle_start, IsFaultOfBundle, eats_bundle, closing_bundle, IsWholeBundle};
+ghost use Rattle.txn_journal.specs.BundleReading.{bundle_start, IsFaultOfBundle, eats_bundle, closing_bundle, IsWholeBundle, IsWholeBundleOr};
 
 use crate::bundle::Bundle;
 use crate::bundle_draft::BundleDraft;
@@ -104,7 +104,7 @@ impl BundleReader {
 }
 
 fn read_bundle(alloc: Global, bytes: &[u8]) -> Result<Bundle, JournalFault>
-    ensures { IsWholeBundle (IsFaultOfBundle bundle_start bytes.now) result (closing_bundle (eats_bundle bundle_start bytes.now)) }
+    ensures { IsWholeBundleOr (IsFaultOfBundle bundle_start bytes.now) result (closing_bundle (eats_bundle bundle_start bytes.now)) }
 {
     let mut reader = BundleReader::start(alloc);
     match reader.feed(alloc, bytes) {
@@ -122,7 +122,7 @@ pub fn decode_bundle(alloc: Global, bytes: &[u8]) -> Result<Bundle, JournalFault
     // Which line is the first that is faulty, and what is wrong with it.
     ensures refused { IfErr result (λ fault. RefusesBundle fault bytes.now) }
     // The same, by the fold over the bytes.
-    ensures exact { IsWholeBundle (IsFaultOfBundle bundle_start bytes.now) result (closing_bundle (eats_bundle bundle_start bytes.now)) }
+    ensures exact { IsWholeBundle result (closing_bundle (eats_bundle bundle_start bytes.now)) }
 {
     read_bundle(alloc, bytes)
 }

@@ -5,7 +5,7 @@ ghost use Rattle.txn_journal.specs.Spelling.{Writes};
 ghost use Rattle.txn_journal.specs.Refused.{Refuses, IsRead};
 ghost use Rattle.txn_journal.specs.Stream.{Progress};
 ghost use Rattle.txn_journal.specs.Machine.{Standing};
-ghost use Rattle.txn_journal.specs.Reading.{before_first, IsFaultAlone, eats_alone, closing, IsWhole};
+ghost use Rattle.txn_journal.specs.Reading.{before_first, IsFaultAlone, eats_alone, closing, IsWhole, IsWholeOr};
 
 use crate::draft::Draft;
 use crate::fault::{JournalFault, LineFault};
@@ -130,7 +130,7 @@ impl Reader {
 }
 
 fn read_whole(alloc: Global, bytes: &[u8]) -> Result<Journal, JournalFault>
-    ensures { IsWhole (IsFaultAlone before_first bytes.now) result (closing (eats_alone before_first bytes.now)) }
+    ensures { IsWholeOr (IsFaultAlone before_first bytes.now) result (closing (eats_alone before_first bytes.now)) }
 {
     let mut reader = Reader::start(alloc);
     match reader.feed(alloc, bytes) {
@@ -148,7 +148,7 @@ pub fn decode(alloc: Global, bytes: &[u8]) -> Result<Journal, JournalFault>
     // Which line is the first that is faulty, and what is wrong with it.
     ensures refused { IfErr result (λ fault. Refuses fault bytes.now) }
     // The same, by the fold over the bytes.
-    ensures exact { IsWhole (IsFaultAlone before_first bytes.now) result (closing (eats_alone before_first bytes.now)) }
+    ensures exact { IsWhole result (closing (eats_alone before_first bytes.now)) }
 {
     read_whole(alloc, bytes)
 }
