@@ -13,8 +13,10 @@ use Rattle.std.proofs.CrossingOver as over
 use Rattle.gtid_set.specs.contracts.GtidSet as GtidSet
 use Rattle.rows.specs.contracts.rows.Rows as Rows
 use Rattle.rows.specs.contracts.name.Name as Name
+use Rattle.rows.specs.contracts.change.Changes as Changes
 use Rattle.rows.specs.contracts.schema.Schema as Schema
 use Rattle.apply_channel.specs.contracts.slot.Slot as Slot
+use Rattle.journal.specs.contracts.Journal as Journal
 use Rattle.relay.specs.contracts.OwnJournal as OwnJournal
 use Rattle.dependency_graph.specs.contracts.graph.Graph as Graph
 use Rattle.apply_channel.specs.contracts.channel.Channel as Channel
@@ -43,8 +45,14 @@ set_sync = search crosses depth 100 fits 100000
 rows_send : IsSend Rows.the_row
 rows_send = search crosses depth 100 fits 100000
 
-journal_send : IsSend OwnJournal.the_row
-journal_send = search (crosses, set_send) depth 100 fits 100000
+changes_send : IsSend Changes.the_row
+changes_send = search crosses depth 100 fits 100000
+
+journal_send : IsSend Journal.the_row
+journal_send = search (changes_send, set_send, crosses) depth 100 fits 100000
+
+own_send : IsSend OwnJournal.the_row
+own_send = search (journal_send, set_send, crosses) depth 100 fits 100000
 
 slot_send : IsSend Slot.the_row
 slot_send = search crosses depth 100 fits 100000
@@ -62,7 +70,7 @@ channel_send : IsSend Channel.the_row
 channel_send = search (schema_send, name_send, slot_send, set_send, graph_send, crosses) depth 100 fits 100000
 
 core_send : IsSend Core.the_row
-core_send = search (crosses, rows_send, journal_send, channel_send) depth 100 fits 100000
+core_send = search (crosses, rows_send, own_send, channel_send) depth 100 fits 100000
 
 event_send : IsSend (Enum (shape Event.the_type))
 event_send = enum_send (shape Event.the_type) ((search (name_send, crosses) depth 100 fits 100000, (search sendable, tt)), ((search sendable, tt), ((search sendable, (search (name_send, crosses) depth 100 fits 100000, tt)), ((search sendable, (search sendable, (search sendable, tt))), ((search sendable, tt), ((search sendable, tt), ((search sendable, tt), ((search (name_send, crosses) depth 100 fits 100000, tt), ((search sendable, tt), (tt, tt))))))))))
