@@ -1,5 +1,5 @@
 -- Journals that are served to a replica, and what they come to.
-use Rattle.std.specs.Prelude.{◌≡◌, ℕ, ◌+◌, Bool, true, false, List, [], ◌∷◌, map, slice_get, Option, None, Some, Ok}
+use Rattle.std.specs.Prelude.{◌≡◌, ℕ, ◌+◌, Bool, true, false, List, [], ◌∷◌, map, take, length, slice_get, Option, None, Some, Ok}
 use Rattle.std.specs.List.{list_all}
 use Rattle.std.specs.Option.{option_map_or}
 use Rattle.std.specs.FinSet as set
@@ -10,6 +10,7 @@ use Rattle.journal.specs.Journals.{JournalValue}
 use Rattle.replica_core.specs.declared.event.Event.{Event}
 use Rattle.replica_core.specs.declared.event.Event.TheVariants.{OpenChannel, Position, Receive, Take, Commit, Rollback, Restart, Local, Purge, Look}
 use Rattle.replica_core.specs.declared.event.Reply.TheVariants.{Ask}
+use Rattle.apply_channel.specs.Channels.{ChannelValue}
 use Rattle.replica_core.specs.State.{State, Site, Replica}
 use Rattle.replica_core.specs.Machine.{step, after, opening}
 use Rattle.source_history.specs.World.{World}
@@ -100,6 +101,25 @@ verdict_over start journals = verdict (world_over start journals) journals
 
 abbrev pub keys_over : Database → List JournalValue → Verdict
 keys_over start journals = verdict_of_keys (world_over start journals) journals
+
+-- a channel's name, and whether its transactions commit in order
+abbrev pub Naming : Type 0
+Naming = List ℕ × Bool
+
+abbrev pub names_of : List ChannelValue → List Naming
+names_of channels = map (λ (c : ChannelValue). (c.name, c.preserve)) channels
+
+abbrev pub names_asked : List Channel → List Naming
+names_asked channels = map (λ (c : Channel). (c.name, c.preserve)) channels
+
+-- a replica of this UUID, whose channels have the names and the order of those that bring the journals
+pub record IsNamed (own : ℕ) (channels : List Channel) (journals : List JournalValue) (core : Replica) : Type 0 where
+  pub uuid : core.site.own ≡ own
+  pub names : names_of core.state.channels ≡ names_asked (take (length journals) channels)
+
+abbrev pub IsBegunAs : ℕ → List Channel → List JournalValue → Begun → Type 0
+IsBegunAs own channels journals (begun.Ready core) = IsNamed own channels journals core
+IsBegunAs own channels journals (begun.Verdict found) = Unit {0}
 
 -- A replica waits for its work, where the audit of keys says Sound; else it is what the audit says.
 abbrev pub IsBegun : Database → List JournalValue → Begun → Type 0

@@ -1,10 +1,11 @@
 //! One event at a time.
-ghost use Rattle.std.specs.Prelude.{◌≡◌, [], ◌∷◌, IfOk, OnOk};
+ghost use Rattle.std.specs.Prelude.{◌≡◌, [], ◌∷◌, ◌++◌, IfOk, OnOk};
 ghost use Rattle.journal.specs.Writing.{is_number};
 ghost use Rattle.replica_core.specs.Machine.{step};
 ghost use Rattle.replica_core.specs.declared.event.Event.TheVariants as events;
 ghost use Rattle.replica_core.specs.declared.event.Reply.TheVariants as replies;
 ghost use Rattle.faithful_runs.specs.Served.{accepted};
+ghost use Rattle.serving.specs.Serving.{names_of};
 
 use gtid_set::{GtidSet, SetFault};
 use journal::{Entry, GREATEST};
@@ -13,6 +14,7 @@ use std::alloc::Global;
 use txn_journal::Channel;
 
 /// Opens a channel.
+#[tactic(auto, using(crate::proofs::Naming::names_opened))]
 pub(crate) fn open_channel(
     alloc: Global,
     core: &mut Core,
@@ -20,17 +22,22 @@ pub(crate) fn open_channel(
 ) -> Result<(), SetFault>
     ensures site { core.new.site ≡ core.old.site }
     ensures state { OnOk result (core.new.state ≡ (step core.old.site core.old.state (events.OpenChannel channel.now.name channel.now.preserve)).1) }
+    ensures named { OnOk result (names_of core.new.state.channels ≡ names_of core.old.state.channels ++ (channel.now.name, channel.now.preserve) ∷ []) }
 {
     let name = channel.name.clone()?;
-    core.step(alloc, &Event::OpenChannel(name, channel.preserve))?;
-    Ok(())
+    match core.step(alloc, &Event::OpenChannel(name, channel.preserve))? {
+        Reply::Opened(_) => Ok(()),
+        _ => Err(SetFault::PoolFull),
+    }
 }
 
 /// Positions a channel: the set that it asks with.
+#[tactic(auto, using(crate::proofs::Naming::names_positioned))]
 pub(crate) fn position(alloc: Global, core: &mut Core, channel: usize) -> Result<GtidSet, SetFault>
     ensures site { core.new.site ≡ core.old.site }
     ensures state { OnOk result (core.new.state ≡ (step core.old.site core.old.state (events.Position channel)).1) }
     ensures asked { IfOk result (λ asked. (step core.old.site core.old.state (events.Position channel)).0 ≡ replies.Ask asked) }
+    ensures named { OnOk result (names_of core.new.state.channels ≡ names_of core.old.state.channels) }
 {
     match core.step(alloc, &Event::Position(channel))? {
         Reply::Ask(asked) => Ok(asked),
@@ -47,6 +54,7 @@ fn is_number(number: u64) -> bool
 }
 
 /// A channel receives an entry.
+#[tactic(auto, using(crate::proofs::Naming::names_received))]
 pub(crate) fn receive(
     alloc: Global,
     core: &mut Core,
@@ -56,6 +64,7 @@ pub(crate) fn receive(
     ensures site { core.new.site ≡ core.old.site }
     ensures state { OnOk result (core.new.state ≡ (step core.old.site core.old.state (events.Receive channel entry.now)).1) }
     ensures got { OnOk result (accepted (events.Receive channel entry.now) (step core.old.site core.old.state (events.Receive channel entry.now)).0 ≡ entry.now ∷ []) }
+    ensures named { OnOk result (names_of core.new.state.channels ≡ names_of core.old.state.channels) }
 {
     if !is_number(entry.gtid.number) {
         return Err(SetFault::PoolFull);

@@ -2,7 +2,7 @@
 ghost use Rattle.std.specs.Prelude.{◌≡◌, ◌≤◌, length, IfOk, IfErr};
 ghost use Rattle.world.specs.Meaning.{AreJournals};
 ghost use Rattle.world.specs.declared.verdict.Verdict.TheVariants.{Sound};
-ghost use Rattle.serving.specs.Serving.{is_sound, world_over, keys_over, verdict_over, IsReady, IsBegun, IsRun, IsConcluded, IsServed};
+ghost use Rattle.serving.specs.Serving.{is_sound, world_over, keys_over, verdict_over, IsReady, IsNamed, IsBegun, IsBegunAs, IsRun, IsConcluded, IsServed};
 ghost use Rattle.serving.specs.Faults.{IsAuditFault, IsConcludeFault};
 
 use crate::receiving::serve_journals;
@@ -101,7 +101,8 @@ fn ready(
     journals: &[Journal],
 ) -> Result<Core, SetFault>
     requires { length journals.now ≤ 256 }
-    ensures { IfOk result (IsReady rows.now journals.now) }
+    ensures ready { IfOk result (IsReady rows.now journals.now) }
+    ensures named { IfOk result (IsNamed own channels.now journals.now) }
 {
     let mut core = Core::open(alloc, own, rows.copy()?)?;
     serve_journals(alloc, &mut core, 0, channels, journals)?;
@@ -123,7 +124,8 @@ pub fn begin(
     channels: &[Channel],
     journals: &[Journal],
 ) -> Result<Begun, SetFault>
-    ensures { IfOk result (IsBegun rows.now journals.now) }
+    ensures begun { IfOk result (IsBegun rows.now journals.now) }
+    ensures named { IfOk result (IsBegunAs own channels.now journals.now) }
 {
     if journals.len() > 256 {
         return Err(SetFault::PoolFull);

@@ -1,10 +1,10 @@
 //! Channels that receive what sources send.
-ghost use Rattle.std.specs.Prelude.{◌≡◌, ◌≤◌, ◌+◌, IfOk, IfErr, OnOk, IsOkUnless, nat_lt, true, length, Ok, None};
+ghost use Rattle.std.specs.Prelude.{◌≡◌, ◌≤◌, ◌+◌, ◌++◌, [], ◌∷◌, IfOk, IfErr, OnOk, IsOkUnless, nat_lt, true, length, take, Ok, None};
 ghost use Rattle.std.specs.List.{list_all};
 ghost use Rattle.gtid_set.specs.declared.fault.SetFault.TheVariants.{Memory};
 ghost use Rattle.auto_position.specs.Sending as sending;
 ghost use Rattle.faithful_runs.specs.Sent.{sent};
-ghost use Rattle.serving.specs.Serving.{picked, Receives, ServesOne, ServesEach};
+ghost use Rattle.serving.specs.Serving.{picked, Receives, ServesOne, ServesEach, names_of, names_asked};
 
 use crate::event::{open_channel, position, receive};
 use auto_position::{PositionFault, plan};
@@ -75,6 +75,7 @@ fn receive_all(
 ) -> Result<(), SetFault>
     ensures site { core.new.site ≡ core.old.site }
     ensures received { OnOk result (Receives core.old.site core.old.state channel entries.now core.new.state) }
+    ensures named { OnOk result (names_of core.new.state.channels ≡ names_of core.old.state.channels) }
 {
     for entry in entries {
         receive(alloc, core, channel, entry)?;
@@ -92,6 +93,7 @@ fn serve_journal(
 ) -> Result<(), SetFault>
     ensures site { core.new.site ≡ core.old.site }
     ensures served { OnOk result (ServesOne core.old.site core.old.state number journal.now core.new.state) }
+    ensures named { OnOk result (names_of core.new.state.channels ≡ names_of core.old.state.channels ++ (channel.now.name, channel.now.preserve) ∷ []) }
 {
     open_channel(alloc, core, channel)?;
     let asked = position(alloc, core, number)?;
@@ -110,6 +112,7 @@ pub(crate) fn serve_journals(
     requires { number + length journals.now ≤ 256 }
     ensures site { core.new.site ≡ core.old.site }
     ensures served { OnOk result (ServesEach core.old.site core.old.state number journals.now core.new.state) }
+    ensures named { OnOk result (names_of core.new.state.channels ≡ names_of core.old.state.channels ++ names_asked (take (length journals.now) channels.now)) }
 {
     let Some((journal, others)) = journals.split_first() else {
         return Ok(());
