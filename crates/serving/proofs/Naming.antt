@@ -40,8 +40,8 @@ names_opened site s name preserve c =
     on_test Adds (list_any (λ (d : ChannelValue). same_name d.name name) s.channels) _ _
     (λ e h. absurd (taken_is_not_opened c h))
     (λ e. on_test Adds (nat_le 256 (length s.channels)) _ _
-      (λ f h. absurd (full_is_not_opened c h))
-      (λ f h. map-append (λ (d : ChannelValue). (d.name, d.preserve)) s.channels (opened name preserve ∷ [])))
+    (λ f h. absurd (full_is_not_opened c h))
+    (λ f h. map-append (λ (d : ChannelValue). (d.name, d.preserve)) s.channels (opened name preserve ∷ [])))
   where
     Adds : Step → Type 0
     Adds r = r.0 ≡ Opened c → names_of r.1.channels ≡ names_of s.channels ++ (name, preserve) ∷ []
@@ -57,10 +57,10 @@ names_received site s c entry =
     on_option Same _ (slice_get s.channels c) _
     (λ e. refl)
     (λ ch e. on_option Same _ ch.asked _
-      (λ n. refl)
-      (λ A a. on_option Same (λ fault. (NotInSchema fault, s)) (misfit site.schema entry.txn) _
-        (λ n. on_test Same (is_full ch) _ _ (λ m. refl) (λ m. names_set s.channels c ch _ e (refl, refl)))
-        (λ fault n. refl)))
+    (λ n. refl)
+    (λ A a. on_option Same (λ fault. (NotInSchema fault, s)) (misfit site.schema entry.txn) _
+    (λ n. on_test Same (is_full ch) _ _ (λ m. refl) (λ m. names_set s.channels c ch _ e (refl, refl)))
+    (λ fault n. refl)))
   where
     Same : Step → Type 0
     Same r = names_of r.1.channels ≡ names_of s.channels
