@@ -1,20 +1,18 @@
 -- What steps leave of the names of channels.
-use Rattle.std.proofs.Common.{◌≡◌, ℕ, zero, suc, Bool, cond, List, [], ◌∷◌, ◌++◌, length, Option, Some, None, refl, ap, sym, ◌∙◌}
-use Rattle.std.specs.Prelude.{map, take, slice_get, slice_set, nat_le}
+use Rattle.std.proofs.Common.{◌≡◌, ℕ, zero, suc, Bool, List, [], ◌∷◌, ◌++◌, length, Some, refl, ap, sym, ◌∙◌}
+use Rattle.std.specs.Prelude.{slice_get, slice_set, nat_le}
 use Rattle.std.specs.List.{list_any}
-use Rattle.std.specs.Option.{option_map_or, unwrap_or}
+use Rattle.std.specs.Option.{unwrap_or}
 use Rattle.std.proofs.lemmas.List.{map-append}
-use Rattle.gtid_set.specs.Sets.{Gtids}
 use Rattle.journal.specs.declared.Entry.{Entry}
 use Rattle.rows.specs.Fits.{misfit}
-use Rattle.apply_channel.specs.Channels.{ChannelValue, opened, same_name, is_full, with_asked, with_received, received_as}
+use Rattle.apply_channel.specs.Channels.{ChannelValue, opened, same_name, is_full, with_asked}
 use Rattle.replica_core.specs.declared.event.Event.TheVariants.{OpenChannel, Receive}
-use Rattle.replica_core.specs.declared.event.Reply.{Reply}
 use Rattle.replica_core.specs.declared.event.Reply.TheVariants.{NameTaken, ChannelsFull, Opened, Ask, NotInSchema}
 use Rattle.replica_core.specs.State.{State, Site}
 use Rattle.replica_core.specs.Machine.{Step, step, position_on, ask, with_channel}
 use Rattle.faithful_journals.proofs.Lists.{on_test, on_option}
-use Rattle.serving.specs.Serving.{Naming, names_of}
+use Rattle.serving.specs.Serving.{names_of}
 
 some_same : {X : Type 0} (x y : X) → Some x ≡ Some y → x ≡ y
 some_same x y e = ap (λ o. unwrap_or o x) e

@@ -1,18 +1,15 @@
 -- Why journals are not served or audited.
-use Rattle.std.specs.Prelude.{◌≡◌, ◌⊎◌, List, Result, Ok}
+use Rattle.std.specs.Prelude.{◌⊎◌, List}
 use Rattle.std.specs.FinSet as set
 use Rattle.gtid_text.specs.declared.Gtid.{Gtid}
 use Rattle.gtid_set.specs.declared.fault.SetFault.{SetFault}
 use Rattle.gtid_set.specs.declared.fault.SetFault.TheVariants.{Memory, PoolFull, SourcesFull}
-use Rattle.gtid_set.specs.Sets.{Gtids}
 use Rattle.rows.specs.Database.{Database}
 use Rattle.rows.specs.declared.change.NotInSchema.{NotInSchema}
-use Rattle.journal.specs.declared.Entry.{Entry}
 use Rattle.journal.specs.Journals.{JournalValue}
 use Rattle.world.specs.Audit.{all_entries, first_contents}
 use Rattle.audit.specs.Contents.{in_order}
 use Rattle.audit.specs.Worlds.{IsMisfit}
-use Rattle.faithful_runs.specs.Sent.{sent}
 use Rattle.replica_core.specs.State.{State}
 use Rattle.audited_runs.specs.Deciding.{AreStoppedOrDone}
 

@@ -119,7 +119,7 @@ pub record IsNamed (own : ℕ) (channels : List Channel) (journals : List Journa
 
 abbrev pub IsBegunAs : ℕ → List Channel → List JournalValue → Begun → Type 0
 IsBegunAs own channels journals (begun.Ready core) = IsNamed own channels journals core
-IsBegunAs own channels journals (begun.Verdict found) = Unit {0}
+IsBegunAs own channels journals (begun.Verdict answer) = Unit {0}
 
 -- A replica waits for its work, where the audit of keys says Sound; else it is what the audit says.
 abbrev pub IsBegun : Database → List JournalValue → Begun → Type 0
