@@ -34,8 +34,7 @@ use Rattle.world.specs.declared.verdict.Verdict.TheVariants.{Unequal, Purged, Mi
 use Rattle.world.proofs.Finding.{is_false}
 use Rattle.audited_runs.specs.Deciding.{ServesAll, AreStoppedOrDone, WorkersDecide, ServedHoldsAll, HoldsAll}
 use Rattle.txn_journal.specs.declared.bundle.Channel.{Channel}
-use Rattle.serving.specs.declared.outcome.Begun.TheVariants as begun
-use Rattle.serving.specs.Serving.{Receives, with_channel, ServesOne, ServesEach, is_work, Works, IsReady, IsBegun, IsRun, IsConcluded, is_sound, keys_over, verdict_over}
+use Rattle.serving.specs.Serving.{Receives, with_channel, Asks, Feeding, ServesOne, ServesEach, is_work, Works, is_feed, ReceivesAtWork, IsReady, IsRun, IsConcluded, IsFoundInKeys, is_sound, keys_over, verdict_over}
 
 -- ---- words
 
@@ -173,17 +172,56 @@ work_quiet (Local txn ∷ es) h = no_truth h
 work_quiet (Purge k ∷ es) h = no_truth h
 work_quiet (Look ∷ es) h = no_truth h
 
-feeds_apart : (d c : ℕ) (entries : List Entry) → eqb c d ≡ false → list_all (is_apart d) (map (Receive c) entries) ≡ true
-feeds_apart d c [] h = refl
-feeds_apart d c (e ∷ es) h = both_parts (not (eqb c d)) (list_all (is_apart d) (map (Receive c) es)) (ap not h) (feeds_apart d c es h)
+-- what feeds a channel, or is work, is apart from each other channel
+feed_apart : (d c : ℕ) (e : Event) → is_feed c e ≡ true → eqb c d ≡ false → is_apart d e ≡ true
+feed_apart d c (Receive x entry) h k = ap (λ n. not (eqb n d)) (eqb-true x c h) ∙ ap not k
+feed_apart d c (Take seat x p) h k = refl
+feed_apart d c (Commit seat) h k = refl
+feed_apart d c (Rollback seat) h k = refl
+feed_apart d c (OpenChannel name preserve) h k = no_truth h
+feed_apart d c (Position x) h k = no_truth h
+feed_apart d c (Restart x) h k = no_truth h
+feed_apart d c (Local txn) h k = no_truth h
+feed_apart d c (Purge n) h k = no_truth h
+feed_apart d c Look h k = no_truth h
 
-feeds_quiet : (c : ℕ) (entries : List Entry) → list_all is_quiet (map (Receive c) entries) ≡ true
-feeds_quiet c [] = refl
-feeds_quiet c (e ∷ es) = feeds_quiet c es
+feed_quiet : (c : ℕ) (e : Event) → is_feed c e ≡ true → is_quiet e ≡ true
+feed_quiet c (Receive x entry) h = refl
+feed_quiet c (Take seat x p) h = refl
+feed_quiet c (Commit seat) h = refl
+feed_quiet c (Rollback seat) h = refl
+feed_quiet c (OpenChannel name preserve) h = no_truth h
+feed_quiet c (Position x) h = no_truth h
+feed_quiet c (Restart x) h = no_truth h
+feed_quiet c (Local txn) h = no_truth h
+feed_quiet c (Purge n) h = no_truth h
+feed_quiet c Look h = no_truth h
 
-feeds_unpositioned : (c d : ℕ) (entries : List Entry) → list_all (λ e. not (is_position d e)) (map (Receive c) entries) ≡ true
-feeds_unpositioned c d [] = refl
-feeds_unpositioned c d (e ∷ es) = feeds_unpositioned c d es
+feed_unpositioned : (c d : ℕ) (e : Event) → is_feed c e ≡ true → not (is_position d e) ≡ true
+feed_unpositioned c d (Receive x entry) h = refl
+feed_unpositioned c d (Take seat x p) h = refl
+feed_unpositioned c d (Commit seat) h = refl
+feed_unpositioned c d (Rollback seat) h = refl
+feed_unpositioned c d (OpenChannel name preserve) h = no_truth h
+feed_unpositioned c d (Position x) h = no_truth h
+feed_unpositioned c d (Restart x) h = no_truth h
+feed_unpositioned c d (Local txn) h = no_truth h
+feed_unpositioned c d (Purge n) h = no_truth h
+feed_unpositioned c d Look h = no_truth h
+
+-- what holds of each event for which another test holds
+all_by : (p q : Event → Bool) → ((e : Event) → p e ≡ true → q e ≡ true) → (es : List Event) → list_all p es ≡ true → list_all q es ≡ true
+all_by p q each [] h = refl
+all_by p q each (e ∷ es) h = both_parts (q e) (list_all q es) (each e (first_part (p e) (list_all p es) h)) (all_by p q each es (second_part (p e) (list_all p es) h))
+
+feeds_apart : (d c : ℕ) (es : List Event) → list_all (is_feed c) es ≡ true → eqb c d ≡ false → list_all (is_apart d) es ≡ true
+feeds_apart d c es h k = all_by (is_feed c) (is_apart d) (λ e f. feed_apart d c e f k) es h
+
+feeds_quiet : (c : ℕ) (es : List Event) → list_all (is_feed c) es ≡ true → list_all is_quiet es ≡ true
+feeds_quiet c es h = all_by (is_feed c) is_quiet (feed_quiet c) es h
+
+feeds_unpositioned : (c d : ℕ) (es : List Event) → list_all (is_feed c) es ≡ true → list_all (λ e. not (is_position d e)) es ≡ true
+feeds_unpositioned c d es h = all_by (is_feed c) (λ e. not (is_position d e)) (feed_unpositioned c d) es h
 
 -- ---- steps of the code
 
@@ -224,20 +262,81 @@ work_both site site' s t u c p r q e same f =
       now = ap (λ (x : Step). x.1) f ∙ (λ i. (step (same i) (first i) (Commit 1)).1);
     }
 
--- a channel is opened and positioned, and receives what is sent
-pub serves_one : (site site1 site2 : Site) (s s1 s2 s' : State) (c : ℕ) (channel : Channel) (ask : Gtids) (all : List Entry) (journal : JournalValue)
+-- a channel is opened and positioned, and this is what is sent
+pub asks_all : (site site1 site2 : Site) (s s1 s2 : State) (c : ℕ) (channel : Channel) (ask : Gtids) (all : List Entry) (journal : JournalValue)
     → site1 ≡ site → s1 ≡ (step site s (OpenChannel channel.name channel.preserve)).1 → site2 ≡ site1 → s2 ≡ (step site1 s1 (Position c)).1
-    → (step site1 s1 (Position c)).0 ≡ reply.Ask ask → sent journal ask None ≡ Ok all → Receives site2 s2 c all s' → ServesOne site s c journal s'
-serves_one site site1 site2 s s1 s2 s' c channel ask all journal e h f k asked sends r =
-    let s2' : s2 ≡ (step site (with_channel site s channel) (Position c)).1 = k ∙ (λ i. (step (e i) (h i) (Position c)).1) in
+    → (step site1 s1 (Position c)).0 ≡ reply.Ask ask → sent journal ask None ≡ Ok all → Asks site s c journal all s2
+asks_all site site1 site2 s s1 s2 c channel ask all journal e h f k asked sends = record {
+  channel = channel;
+  ask = ask;
+  asked = (λ i. (step (sym e i) (sym h i) (Position c)).0) ∙ asked;
+  all_sent = sends;
+  now = k ∙ (λ i. (step (e i) (h i) (Position c)).1);
+}
+
+-- ... and all of it is received
+pub serves_one : (Comes : Feeding) (site site1 : Site) (s s1 s' : State) (c : ℕ) (all : List Entry) (journal : JournalValue)
+    → site1 ≡ site → Asks site s c journal all s1 → Comes site1 s1 c all s' → ServesOne Comes site s c journal s'
+serves_one Comes site site1 s s1 s' c all journal e asks comes = record {
+  all = all;
+  asking = s1;
+  asks = asks;
+  received = subst (λ (x : Site). Comes x s1 c all s') e comes;
+}
+
+-- nothing is received
+pub nothing_comes : (site : Site) (s : State) (c : ℕ) → ReceivesAtWork site s c [] s
+nothing_comes site s c = record { events = []; feeds = refl; now = refl; got = refl }
+
+work_feeds : (c : ℕ) (e : Event) → is_work e ≡ true → is_feed c e ≡ true
+work_feeds c (Take seat x p) h = refl
+work_feeds c (Commit seat) h = refl
+work_feeds c (Rollback seat) h = refl
+work_feeds c (OpenChannel name preserve) h = no_truth h
+work_feeds c (Position x) h = no_truth h
+work_feeds c (Receive x entry) h = no_truth h
+work_feeds c (Restart x) h = no_truth h
+work_feeds c (Local txn) h = no_truth h
+work_feeds c (Purge n) h = no_truth h
+work_feeds c Look h = no_truth h
+
+-- one entry more is received, and then there is work
+pub more_comes : (site site1 site2 : Site) (s t u v : State) (c : ℕ) (entries : List Entry) (e : Entry) → site1 ≡ site → site2 ≡ site1 → ReceivesAtWork site s c entries t
+    → u ≡ (step site1 t (Receive c e)).1 → accepted (Receive c e) (step site1 t (Receive c e)).0 ≡ e ∷ [] → Works site2 u v → ReceivesAtWork site s c (entries ++ e ∷ []) v
+more_comes site site1 site2 s t u v c entries e same1 same2 comes now got works =
+    let step1 : u ≡ (step site t (Receive c e)).1 = now ∙ (λ i. (step (same1 i) t (Receive c e)).1) in
+    let took : accepted (Receive c e) (step site t (Receive c e)).0 ≡ e ∷ [] = (λ i. accepted (Receive c e) (step (sym same1 i) t (Receive c e)).0) ∙ got in
+    let w = subst (λ (x : Site). Works x u v) (same2 ∙ same1) works in
+    let here : on_channel c (Receive c e) (accepted (Receive c e) (step site t (Receive c e)).0) ≡ e ∷ [] = cond_true (eqb c c) _ (same_is c) ∙ took in
+    let none = no_receipts c site u w.events (work_apart c w.events w.work) in
+    let last : received_on c site t (Receive c e ∷ w.events) ≡ e ∷ [] = (λ i. here i ++ received_on c site (sym step1 i) w.events) ∙ (λ i. (e ∷ []) ++ none i) in
     record {
-      channel = channel;
-      ask = ask;
-      all = all;
-      asked = (λ i. (step (sym e i) (sym h i) (Position c)).0) ∙ asked;
-      all_sent = sends;
-      received = subst (λ (x : State). Receives site x c all s') s2' (subst (λ (x : Site). Receives x s2 c all s') (f ∙ e) r);
+      events = comes.events ++ (Receive c e ∷ w.events);
+      feeds = all_of_both (is_feed c) comes.events (Receive c e ∷ w.events) comes.feeds
+          (both_parts (eqb c c) (list_all (is_feed c) w.events) (same_is c) (all_by is_work (is_feed c) (work_feeds c) w.events w.work));
+      now = w.now
+          ∙ (λ i. after site (step1 i) w.events)
+          ∙ ap (λ (y : State). after site y (Receive c e ∷ w.events)) comes.now
+          ∙ sym (after_append site s comes.events (Receive c e ∷ w.events));
+      got = received_append c site s comes.events (Receive c e ∷ w.events)
+          ∙ (λ i. comes.got i ++ received_on c site (sym comes.now i) (Receive c e ∷ w.events))
+          ∙ ap (λ (xs : List Entry). entries ++ xs) last;
     }
+
+fed_by_one : (c : ℕ) (entries : List Entry) → list_all (is_feed c) (map (Receive c) entries) ≡ true
+fed_by_one c [] = refl
+fed_by_one c (e ∷ es) = both_parts (eqb c c) (list_all (is_feed c) (map (Receive c) es)) (same_is c) (fed_by_one c es)
+
+-- what is received without work is received
+pub comes_at_work : (site : Site) (s : State) (c : ℕ) (entries : List Entry) (s' : State) → Receives site s c entries s' → ReceivesAtWork site s c entries s'
+comes_at_work site s c entries s' r = record { events = map (Receive c) entries; feeds = fed_by_one c entries; now = r.now; got = r.got }
+
+one_at_work : (site : Site) (s : State) (c : ℕ) (j : JournalValue) (s' : State) → ServesOne Receives site s c j s' → ServesOne ReceivesAtWork site s c j s'
+one_at_work site s c j s' x = record { all = x.all; asking = x.asking; asks = x.asks; received = comes_at_work site x.asking c x.all s' x.received }
+
+pub each_at_work : (site : Site) (s : State) (c : ℕ) (js : List JournalValue) (s' : State) → ServesEach Receives site s c js s' → ServesEach ReceivesAtWork site s c js s'
+each_at_work site s c [] s' x = x
+each_at_work site s c (j ∷ js) s' x = (x.0, one_at_work site s c j x.0 x.1, each_at_work site x.0 (c + 1) js s' x.2)
 
 pub if_ok : {A E : Type 0} {P Q : A → Type 0} (r : Result A E) → ((x : A) → P x → Q x) → IfOk r P → IfOk r Q
 if_ok (Ok x) f h = f x h
@@ -248,43 +347,48 @@ on_ok (Ok x) f h = f h
 on_ok (Err e) f h = tt
 
 -- one journal, and then the others
-pub serves_more : (site site' : Site) (s t s' : State) (c : ℕ) (j : JournalValue) (js all : List JournalValue) → all ≡ j ∷ js → site' ≡ site → ServesOne site s c j t
-    → ServesEach site' t (c + 1) js s' → ServesEach site s c all s'
-serves_more site site' s t s' c j js all is e one rest =
-    subst (λ (xs : List JournalValue). ServesEach site s c xs s') (sym is) (t, one, subst (λ (x : Site). ServesEach x t (c + 1) js s') e rest)
+pub serves_more : (Comes : Feeding) (site site' : Site) (s t s' : State) (c : ℕ) (j : JournalValue) (js all : List JournalValue) → all ≡ j ∷ js → site' ≡ site
+    → ServesOne Comes site s c j t → ServesEach Comes site' t (c + 1) js s' → ServesEach Comes site s c all s'
+serves_more Comes site site' s t s' c j js all is e one rest =
+    subst (λ (xs : List JournalValue). ServesEach Comes site s c xs s') (sym is) (t, one, subst (λ (x : Site). ServesEach Comes x t (c + 1) js s') e rest)
 
 -- ---- one journal
 
-abbrev events_one : Channel → ℕ → List Entry → List Event
-events_one channel c all = OpenChannel channel.name channel.preserve ∷ Position c ∷ map (Receive c) all
+abbrev events_one : (site : Site) (s : State) (c : ℕ) (j : JournalValue) (t : State) → ServesOne ReceivesAtWork site s c j t → List Event
+events_one site s c j t one = OpenChannel one.asks.channel.name one.asks.channel.preserve ∷ Position c ∷ one.received.events
 
-one_apart : (channel : Channel) (d c : ℕ) (all : List Entry) → eqb c d ≡ false → list_all (is_apart d) (events_one channel c all) ≡ true
-one_apart channel d c all h = both_parts (not (eqb c d)) (list_all (is_apart d) (map (Receive c) all)) (ap not h) (feeds_apart d c all h)
+one_after : (site : Site) (s : State) (c : ℕ) (j : JournalValue) (t : State) (one : ServesOne ReceivesAtWork site s c j t) → t ≡ after site s (events_one site s c j t one)
+one_after site s c j t one = one.received.now ∙ ap (λ (y : State). after site y one.received.events) one.asks.now
+
+one_apart : (site : Site) (s : State) (c : ℕ) (j : JournalValue) (t : State) (one : ServesOne ReceivesAtWork site s c j t) (d : ℕ) → eqb c d ≡ false
+    → list_all (is_apart d) (events_one site s c j t one) ≡ true
+one_apart site s c j t one d h = both_parts (not (eqb c d)) (list_all (is_apart d) one.received.events) (ap not h) (feeds_apart d c one.received.events one.received.feeds h)
 
 -- what comes later may not touch the channel
-served_first : (site : Site) (s t : State) (c : ℕ) (j : JournalValue) (one : ServesOne site s c j t) (rest : List Event) → list_all (is_apart c) rest ≡ true
-    → WasServedOnce site s (events_one one.channel c one.all ++ rest) c j
+served_first : (site : Site) (s t : State) (c : ℕ) (j : JournalValue) (one : ServesOne ReceivesAtWork site s c j t) (rest : List Event) → list_all (is_apart c) rest ≡ true
+    → WasServedOnce site s (events_one site s c j t one ++ rest) c j
 served_first site s t c j one rest apart =
-    let s2 : State = (step site (with_channel site s one.channel) (Position c)).1 in
-    let fed : List Event = map (Receive c) one.all in
+    let s2 : State = (step site (with_channel site s one.asks.channel) (Position c)).1 in
+    let fed : List Event = one.received.events in
+    let got : received_on c site s2 fed ≡ one.all = (λ i. received_on c site (sym one.asks.now i) fed) ∙ one.received.got in
     record {
       served = record {
         own = None;
-        before = OpenChannel one.channel.name one.channel.preserve ∷ [];
+        before = OpenChannel one.asks.channel.name one.asks.channel.preserve ∷ [];
         later = fed ++ rest;
-        ask = one.ask;
+        ask = one.asks.ask;
         all = one.all;
         parts = refl;
         nothing_before = refl;
-        asked = one.asked;
-        all_sent = one.all_sent;
+        asked = one.asks.asked;
+        all_sent = one.asks.all_sent;
         all_received =
             received_append c site s2 fed rest
-            ∙ (λ i. one.received.got i ++ no_receipts c site (after site s2 fed) rest apart i)
+            ∙ (λ i. got i ++ no_receipts c site (after site s2 fed) rest apart i)
             ∙ append-nil one.all;
       };
       once = list_all-append (λ e. not (is_position c e)) fed rest
-          ∙ both_parts (list_all (λ e. not (is_position c e)) fed) (list_all (λ e. not (is_position c e)) rest) (feeds_unpositioned c c one.all) (not_positioned c rest apart);
+          ∙ both_parts (list_all (λ e. not (is_position c e)) fed) (list_all (λ e. not (is_position c e)) rest) (feeds_unpositioned c c fed one.received.feeds) (not_positioned c rest apart);
     }
 
 -- what comes before may not touch the channel
@@ -311,53 +415,55 @@ served_later site s t d j es fs reached apart w =
 
 -- ---- each journal
 
-abbrev events_each : (site : Site) (s : State) (c : ℕ) (js : List JournalValue) (s' : State) → ServesEach site s c js s' → List Event
+abbrev events_each : (site : Site) (s : State) (c : ℕ) (js : List JournalValue) (s' : State) → ServesEach ReceivesAtWork site s c js s' → List Event
 events_each site s c [] s' x = []
-events_each site s c (j ∷ js) s' x = events_one x.1.channel c x.1.all ++ events_each site x.0 (c + 1) js s' x.2
+events_each site s c (j ∷ js) s' x = events_one site s c j x.0 x.1 ++ events_each site x.0 (c + 1) js s' x.2
 
-each_after : (site : Site) (s : State) (c : ℕ) (js : List JournalValue) (s' : State) (x : ServesEach site s c js s') → s' ≡ after site s (events_each site s c js s' x)
+each_after : (site : Site) (s : State) (c : ℕ) (js : List JournalValue) (s' : State) (x : ServesEach ReceivesAtWork site s c js s') → s' ≡ after site s (events_each site s c js s' x)
 each_after site s c [] s' x = x
 each_after site s c (j ∷ js) s' x =
     let rest = events_each site x.0 (c + 1) js s' x.2 in
     each_after site x.0 (c + 1) js s' x.2
-    ∙ ap (λ (y : State). after site y rest) x.1.received.now
-    ∙ sym (after_append site s (events_one x.1.channel c x.1.all) rest)
+    ∙ ap (λ (y : State). after site y rest) (one_after site s c j x.0 x.1)
+    ∙ sym (after_append site s (events_one site s c j x.0 x.1) rest)
 
 differ : (c d : ℕ) → (c ≡ d → ⊥) → eqb c d ≡ false
 differ c d h = is_false (eqb c d) (λ e. h (eqb-true c d e))
 
 -- where no journal has the channel's number, nothing touches it
-each_apart : (site : Site) (s : State) (c : ℕ) (js : List JournalValue) (s' : State) (x : ServesEach site s c js s') (d : ℕ) → ((k : ℕ) → d ≡ c + k → slice_get js k ≡ None)
+each_apart : (site : Site) (s : State) (c : ℕ) (js : List JournalValue) (s' : State) (x : ServesEach ReceivesAtWork site s c js s') (d : ℕ) → ((k : ℕ) → d ≡ c + k → slice_get js k ≡ None)
     → list_all (is_apart d) (events_each site s c js s' x) ≡ true
 each_apart site s c [] s' x d h = refl
 each_apart site s c (j ∷ js) s' x d h =
-    all_of_both (is_apart d) (events_one x.1.channel c x.1.all) (events_each site x.0 (c + 1) js s' x.2)
-    (one_apart x.1.channel d c x.1.all (differ c d (λ e. let z : d ≡ c + zero = omega (arith, e) in some_not_none j (h zero z))))
+    all_of_both (is_apart d) (events_one site s c j x.0 x.1) (events_each site x.0 (c + 1) js s' x.2)
+    (one_apart site s c j x.0 x.1 d (differ c d (λ e. let z : d ≡ c + zero = omega (arith, e) in some_not_none j (h zero z))))
     (each_apart site x.0 (c + 1) js s' x.2 d (λ k e. let z : d ≡ c + suc k = omega (arith, e) in h (suc k) z))
 
-each_quiet : (site : Site) (s : State) (c : ℕ) (js : List JournalValue) (s' : State) (x : ServesEach site s c js s') → list_all is_quiet (events_each site s c js s' x) ≡ true
+each_quiet : (site : Site) (s : State) (c : ℕ) (js : List JournalValue) (s' : State) (x : ServesEach ReceivesAtWork site s c js s') → list_all is_quiet (events_each site s c js s' x) ≡ true
 each_quiet site s c [] s' x = refl
 each_quiet site s c (j ∷ js) s' x =
-    all_of_both is_quiet (events_one x.1.channel c x.1.all) (events_each site x.0 (c + 1) js s' x.2) (feeds_quiet c x.1.all) (each_quiet site x.0 (c + 1) js s' x.2)
+    all_of_both is_quiet (events_one site s c j x.0 x.1) (events_each site x.0 (c + 1) js s' x.2) (feeds_quiet c x.1.received.events x.1.received.feeds) (each_quiet site x.0 (c + 1) js s' x.2)
 
-each_served : (site : Site) (s : State) (c : ℕ) (js : List JournalValue) (s' : State) (x : ServesEach site s c js s') (work : List Event) → list_all is_work work ≡ true
+each_served : (site : Site) (s : State) (c : ℕ) (js : List JournalValue) (s' : State) (x : ServesEach ReceivesAtWork site s c js s') (work : List Event) → list_all is_work work ≡ true
     → (k d : ℕ) (j : JournalValue) → d ≡ c + k → slice_get js k ≡ Some j → WasServedOnce site s (events_each site s c js s' x ++ work) d j
 each_served site s c [] s' x work h k d j e at = not_none j at
 each_served site s c (i ∷ js) s' x work h zero d j e at =
+    let own = events_one site s c i x.0 x.1 in
     let rest = events_each site x.0 (c + 1) js s' x.2 in
     let same : c ≡ d = omega (arith, e) in
     let apart = all_of_both (is_apart c) rest work (each_apart site x.0 (c + 1) js s' x.2 c (λ k z. absurd (omega (arith, z)))) (work_apart c work h) in
     let first = served_first site s x.0 c i x.1 (rest ++ work) apart in
-    let split = append_assoc (events_one x.1.channel c x.1.all) rest work in
-    subst (λ (n : ℕ). WasServedOnce site s ((events_one x.1.channel c x.1.all ++ rest) ++ work) n j) same
-    (subst (λ (es : List Event). WasServedOnce site s es c j) (sym split) (subst (λ (y : JournalValue). WasServedOnce site s (events_one x.1.channel c x.1.all ++ (rest ++ work)) c y) (same_some i j at) first))
+    let split = append_assoc own rest work in
+    subst (λ (n : ℕ). WasServedOnce site s ((own ++ rest) ++ work) n j) same
+    (subst (λ (es : List Event). WasServedOnce site s es c j) (sym split) (subst (λ (y : JournalValue). WasServedOnce site s (own ++ (rest ++ work)) c y) (same_some i j at) first))
 each_served site s c (i ∷ js) s' x work h (suc k) d j e at =
+    let own = events_one site s c i x.0 x.1 in
     let rest = events_each site x.0 (c + 1) js s' x.2 in
     let later : d ≡ (c + 1) + k = omega (arith, e) in
-    let split = append_assoc (events_one x.1.channel c x.1.all) rest work in
-    let apart = one_apart x.1.channel d c x.1.all (differ c d (λ z. absurd (omega (arith, z, later)))) in
+    let split = append_assoc own rest work in
+    let apart = one_apart site s c i x.0 x.1 d (differ c d (λ z. absurd (omega (arith, z, later)))) in
     subst (λ (es : List Event). WasServedOnce site s es d j) (sym split)
-    (served_later site s x.0 d j (events_one x.1.channel c x.1.all) (rest ++ work) x.1.received.now apart (each_served site x.0 (c + 1) js s' x.2 work h k d j later at))
+    (served_later site s x.0 d j own (rest ++ work) (one_after site s c i x.0 x.1) apart (each_served site x.0 (c + 1) js s' x.2 work h k d j later at))
 
 -- ---- the run
 
@@ -365,24 +471,24 @@ abbrev begin : Database → State
 begin start = start_with set.empty start.rows
 
 abbrev all_events : (start : Database) (js : List JournalValue) (core : Replica) → IsRun start js core → List Event
-all_events start js core r = events_each core.site (begin start) 0 js r.ready r.serves ++ r.works.events
+all_events start js core r = events_each core.site (begin start) 0 js r.served r.serves ++ r.works.events
 
 reached : (start : Database) (js : List JournalValue) (core : Replica) (r : IsRun start js core) → core.state ≡ after core.site (begin start) (all_events start js core r)
 reached start js core r =
-    let each = events_each core.site (begin start) 0 js r.ready r.serves in
-    r.works.now ∙ ap (λ (y : State). after core.site y r.works.events) (each_after core.site (begin start) 0 js r.ready r.serves)
+    let each = events_each core.site (begin start) 0 js r.served r.serves in
+    r.works.now ∙ ap (λ (y : State). after core.site y r.works.events) (each_after core.site (begin start) 0 js r.served r.serves)
     ∙ sym (after_append core.site (begin start) each r.works.events)
 
 serves_all : (start : Database) (js : List JournalValue) (core : Replica) (r : IsRun start js core) → ServesAll core.site (begin start) js (all_events start js core r)
 serves_all start js core r =
-    let each = events_each core.site (begin start) 0 js r.ready r.serves in
+    let each = events_each core.site (begin start) 0 js r.served r.serves in
     record {
       no_local = no_locals core.site (begin start) (all_events start js core r)
-          (all_of_both is_quiet each r.works.events (each_quiet core.site (begin start) 0 js r.ready r.serves) (work_quiet r.works.events r.works.work));
-      served = λ c j at. let z : c ≡ 0 + c = omega arith in each_served core.site (begin start) 0 js r.ready r.serves r.works.events r.works.work c c j z at;
+          (all_of_both is_quiet each r.works.events (each_quiet core.site (begin start) 0 js r.served r.serves) (work_quiet r.works.events r.works.work));
+      served = λ c j at. let z : c ≡ 0 + c = omega arith in each_served core.site (begin start) 0 js r.served r.serves r.works.events r.works.work c c j z at;
       nothing_else = λ c at. no_receipts c core.site (begin start) (all_events start js core r)
           (all_of_both (is_apart c) each r.works.events
-          (each_apart core.site (begin start) 0 js r.ready r.serves c (λ k e. let z : c ≡ k = omega (arith, e) in subst (λ (n : ℕ). slice_get js n ≡ None) z at))
+          (each_apart core.site (begin start) 0 js r.served r.serves c (λ k e. let z : c ≡ k = omega (arith, e) in subst (λ (n : ℕ). slice_get js n ≡ None) z at))
           (work_apart c r.works.events r.works.work));
     }
 
@@ -435,12 +541,11 @@ keys_stay start js h = let w = world_of start.schema set.empty start.rows js in 
 
 -- ---- what is answered
 
-pub keys_begun : (start : Database) (js : List JournalValue) (keys : Verdict) → keys ≡ keys_over start js → is_sound keys ≡ false → IsBegun start js (begun.Verdict keys)
-keys_begun start js keys is h = let not_sound = sound_not keys h in (is ∙ keys_stay start js (λ e. not_sound (is ∙ e)), not_sound)
+pub keys_found : (start : Database) (js : List JournalValue) (keys : Verdict) → keys ≡ keys_over start js → is_sound keys ≡ false → IsFoundInKeys start js (Some keys)
+keys_found start js keys is h = let not_sound = sound_not keys h in (is ∙ keys_stay start js (λ e. not_sound (is ∙ e)), not_sound)
 
-pub ready_begun : (start : Database) (js : List JournalValue) (keys : Verdict) (core : Replica) → keys ≡ keys_over start js → is_sound keys ≡ true → IsReady start js core
-    → IsBegun start js (begun.Ready core)
-ready_begun start js keys core is h ready = (sym is ∙ sound_is keys h, ready)
+pub keys_sound : (start : Database) (js : List JournalValue) (keys : Verdict) → keys ≡ keys_over start js → is_sound keys ≡ true → IsFoundInKeys start js None
+keys_sound start js keys is h = sym is ∙ sound_is keys h
 
 pub state_concluded : (start : Database) (js : List JournalValue) (core : Replica) → keys_over start js ≡ Sound → IsRun start js core → AreJournals js → drained core.state ≡ true
     → WorkersDecide → ServedHoldsAll → IsConcluded start js core.state None
@@ -483,19 +588,31 @@ accepted_of e c p entry r is was = λ i. accepted (is i) (was i)
 
 -- what the code served
 pub ready_is : (start : Database) (js : List JournalValue) (own : ℕ) (core0 core1 : Replica) → core0 ≡ opened own start → core1.site ≡ core0.site
-    → ServesEach core0.site core0.state 0 js core1.state → IsReady start js core1
+    → ServesEach Receives core0.site core0.state 0 js core1.state → IsReady start js core1
 ready_is start js own core0 core1 opens e serves =
     let begun : core0.state ≡ opening start.rows = ap (λ (x : Replica). x.state) opens in
     record {
       schema = ap (λ (x : Site). x.schema) (e ∙ ap (λ (x : Replica). x.site) opens);
-      serves = subst (λ (x : State). ServesEach core1.site x 0 js core1.state) begun (subst (λ (x : Site). ServesEach x core0.state 0 js core1.state) (sym e) serves);
+      serves = subst (λ (x : State). ServesEach Receives core1.site x 0 js core1.state) begun (subst (λ (x : Site). ServesEach Receives x core0.state 0 js core1.state) (sym e) serves);
+    }
+
+-- what was served and worked at once
+pub run_is : (start : Database) (js : List JournalValue) (own : ℕ) (core0 core1 : Replica) → core0 ≡ opened own start → core1.site ≡ core0.site
+    → ServesEach ReceivesAtWork core0.site core0.state 0 js core1.state → IsRun start js core1
+run_is start js own core0 core1 opens e serves =
+    let begun : core0.state ≡ opening start.rows = ap (λ (x : Replica). x.state) opens in
+    record {
+      schema = ap (λ (x : Site). x.schema) (e ∙ ap (λ (x : Replica). x.site) opens);
+      served = core1.state;
+      serves = subst (λ (x : State). ServesEach ReceivesAtWork core1.site x 0 js core1.state) begun (subst (λ (x : Site). ServesEach ReceivesAtWork x core0.state 0 js core1.state) (sym e) serves);
+      works = works_none core1.site core1.state;
     }
 
 -- what was served, and then worked
 pub run_of : (start : Database) (js : List JournalValue) (core1 core2 : Replica) → IsReady start js core1 → core2.site ≡ core1.site → Works core1.site core1.state core2.state → IsRun start js core2
 run_of start js core1 core2 ready f works = record {
   schema = ap (λ (x : Site). x.schema) f ∙ ready.schema;
-  ready = core1.state;
-  serves = subst (λ (x : Site). ServesEach x (opening start.rows) 0 js core1.state) (sym f) ready.serves;
+  served = core1.state;
+  serves = each_at_work core2.site (opening start.rows) 0 js core1.state (subst (λ (x : Site). ServesEach Receives x (opening start.rows) 0 js core1.state) (sym f) ready.serves);
   works = subst (λ (x : Site). Works x core1.state core2.state) (sym f) works;
 }

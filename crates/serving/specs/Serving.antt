@@ -1,5 +1,5 @@
 -- Journals that are served to a replica, and what they come to.
-use Rattle.std.specs.Prelude.{◌≡◌, ℕ, ◌+◌, Bool, true, false, List, [], ◌∷◌, map, take, length, slice_get, Option, None, Some, Ok}
+use Rattle.std.specs.Prelude.{◌≡◌, ℕ, ◌+◌, ◌==◌, Bool, true, false, List, [], ◌∷◌, map, take, length, slice_get, Option, None, Some, Ok}
 use Rattle.std.specs.List.{list_all}
 use Rattle.std.specs.Option.{option_map_or}
 use Rattle.std.specs.FinSet as set
@@ -39,19 +39,29 @@ pub record Receives (site : Site) (s : State) (c : ℕ) (entries : List Entry) (
 abbrev pub with_channel : Site → State → Channel → State
 with_channel site s channel = (step site s (OpenChannel channel.name channel.preserve)).1
 
--- a channel is opened and positioned, and receives all that a journal sends to one that asks so
-pub record ServesOne (site : Site) (s : State) (c : ℕ) (journal : JournalValue) (s' : State) : Type 0 where
+-- a channel is opened and positioned, and this is all that a journal sends to one that asks so
+pub record Asks (site : Site) (s : State) (c : ℕ) (journal : JournalValue) (all : List Entry) (s' : State) : Type 0 where
   pub channel : Channel
   pub ask : Gtids
-  pub all : List Entry
   pub asked : (step site (with_channel site s channel) (Position c)).0 ≡ Ask ask
   pub all_sent : sent journal ask None ≡ Ok all
-  pub received : Receives site (step site (with_channel site s channel) (Position c)).1 c all s'
+  pub now : s' ≡ (step site (with_channel site s channel) (Position c)).1
+
+-- how a channel comes to have received these
+abbrev pub Feeding : Type 1
+Feeding = Site → State → ℕ → List Entry → State → Type 0
+
+-- a channel that asks receives so all that a journal sends
+pub record ServesOne (Comes : Feeding) (site : Site) (s : State) (c : ℕ) (journal : JournalValue) (s' : State) : Type 0 where
+  pub all : List Entry
+  pub asking : State
+  pub asks : Asks site s c journal all asking
+  pub received : Comes site asking c all s'
 
 -- each journal in turn, on a channel of its own; the first has this number
-abbrev pub ServesEach : Site → State → ℕ → List JournalValue → State → Type 0
-ServesEach site s c [] s' = s' ≡ s
-ServesEach site s c (j ∷ js) s' = (t : State) × ServesOne site s c j t × ServesEach site t (c + 1) js s'
+abbrev pub ServesEach : Feeding → Site → State → ℕ → List JournalValue → State → Type 0
+ServesEach Comes site s c [] s' = s' ≡ s
+ServesEach Comes site s c (j ∷ js) s' = (t : State) × ServesOne Comes site s c j t × ServesEach Comes site t (c + 1) js s'
 
 -- a seat takes, commits or gives up
 abbrev pub is_work : Event → Bool
@@ -72,17 +82,37 @@ pub record Works (site : Site) (s s' : State) : Type 0 where
   pub work : list_all is_work events ≡ true
   pub now : s' ≡ after site s events
 
+-- an event that feeds this channel, or is work
+abbrev pub is_feed : ℕ → Event → Bool
+is_feed c (Receive d entry) = d == c
+is_feed c (Take seat d p) = true
+is_feed c (Commit seat) = true
+is_feed c (Rollback seat) = true
+is_feed c (OpenChannel name preserve) = false
+is_feed c (Position d) = false
+is_feed c (Restart d) = false
+is_feed c (Local txn) = false
+is_feed c (Purge k) = false
+is_feed c Look = false
+
+-- a channel receives each of these, while seats take, commit and give up
+pub record ReceivesAtWork (site : Site) (s : State) (c : ℕ) (entries : List Entry) (s' : State) : Type 0 where
+  pub events : List Event
+  pub feeds : list_all (is_feed c) events ≡ true
+  pub now : s' ≡ after site s events
+  pub got : received_on c site s events ≡ entries
+
 -- a replica with these rows, served all journals, of which nothing is executed yet
 pub record IsReady (start : Database) (journals : List JournalValue) (core : Replica) : Type 0 where
   pub schema : core.site.schema ≡ start.schema
-  pub serves : ServesEach core.site (opening start.rows) 0 journals core.state
+  pub serves : ServesEach Receives core.site (opening start.rows) 0 journals core.state
 
--- a replica with these rows, served all journals, that worked
+-- a replica with these rows, served all journals, that worked while they came and afterwards
 pub record IsRun (start : Database) (journals : List JournalValue) (core : Replica) : Type 0 where
   pub schema : core.site.schema ≡ start.schema
-  pub ready : State
-  pub serves : ServesEach core.site (opening start.rows) 0 journals ready
-  pub works : Works core.site ready core.state
+  pub served : State
+  pub serves : ServesEach ReceivesAtWork core.site (opening start.rows) 0 journals served
+  pub works : Works core.site served core.state
 
 abbrev pub is_sound : Verdict → Bool
 is_sound Sound = true
@@ -101,6 +131,11 @@ verdict_over start journals = verdict (world_over start journals) journals
 
 abbrev pub keys_over : Database → List JournalValue → Verdict
 keys_over start journals = verdict_of_keys (world_over start journals) journals
+
+-- what the audit of keys finds, where that is not Sound, is what the audit finds
+abbrev pub IsFoundInKeys : Database → List JournalValue → Option Verdict → Type 0
+IsFoundInKeys start journals None = keys_over start journals ≡ Sound
+IsFoundInKeys start journals (Some found) = (found ≡ verdict_over start journals) × (found ≡ Sound → ⊥)
 
 -- a channel's name, and whether its transactions commit in order
 abbrev pub Naming : Type 0

@@ -2,11 +2,12 @@
 ghost use Rattle.std.specs.Prelude.{◌≡◌, ◌≤◌, length, IfOk, IfErr};
 ghost use Rattle.world.specs.Meaning.{AreJournals};
 ghost use Rattle.world.specs.declared.verdict.Verdict.TheVariants.{Sound};
-ghost use Rattle.serving.specs.Serving.{is_sound, world_over, keys_over, verdict_over, IsReady, IsNamed, IsBegun, IsBegunAs, IsRun, IsConcluded, IsServed};
+ghost use Rattle.replica_core.specs.Core.{opened};
+ghost use Rattle.serving.specs.Serving.{is_sound, world_over, keys_over, verdict_over, IsReady, IsNamed, IsBegun, IsBegunAs, IsRun, IsConcluded, IsServed, IsFoundInKeys};
 ghost use Rattle.serving.specs.Faults.{IsAuditFault, IsConcludeFault};
 
 use crate::receiving::serve_journals;
-use crate::working::work_on_all;
+use crate::working::apply_each;
 use audit::{World, WorldFault, audit, audit_keys, world_of};
 use audited_runs::{served_holds_all, workers_decide};
 use gtid_set::{GtidSet, SetFault};
@@ -92,6 +93,13 @@ pub fn verdict_over(alloc: Global, rows: &Rows, journals: &[Journal]) -> Result<
     Ok(audit(alloc, &world, journals)?)
 }
 
+/// A replica with these rows that has no channel yet.
+fn opened(alloc: Global, own: SourceId, rows: &Rows) -> Result<Core, SetFault>
+    ensures { IfOk result (λ core. core ≡ opened own rows.now) }
+{
+    Core::open(alloc, own, rows.copy()?)
+}
+
 /// A replica with these rows that was served all journals.
 fn ready(
     alloc: Global,
@@ -104,9 +112,31 @@ fn ready(
     ensures ready { IfOk result (IsReady rows.now journals.now) }
     ensures named { IfOk result (IsNamed own channels.now journals.now) }
 {
-    let mut core = Core::open(alloc, own, rows.copy()?)?;
+    let mut core = opened(alloc, own, rows)?;
     serve_journals(alloc, &mut core, 0, channels, journals)?;
     Ok(core)
+}
+
+/// What an audit of the journals' keys finds, where that isn't Sound: the whole audit finds it too.
+/// A replica has at most 256 channels.
+#[tactic(auto, using(crate::proofs::Runs::keys_found, crate::proofs::Runs::keys_sound))]
+fn unsound_keys(
+    alloc: Global,
+    rows: &Rows,
+    journals: &[Journal],
+) -> Result<Option<Verdict>, SetFault>
+    ensures count { IfOk result (λ found. length journals.now ≤ 256) }
+    ensures found { IfOk result (IsFoundInKeys rows.now journals.now) }
+{
+    if journals.len() > 256 {
+        return Err(SetFault::PoolFull);
+    }
+    let keys = keys_verdict(alloc, rows, journals)?;
+    if is_sound(&keys) {
+        Ok(None)
+    } else {
+        Ok(Some(keys))
+    }
 }
 
 /// Audits the keys of the journals that channels bring, opens a replica over the opening rows, opens
@@ -116,7 +146,6 @@ fn ready(
 /// `SetFault` is want of memory, or full; it is also answered where there are more than 256 journals,
 /// fewer channels than journals, or a transaction or a channel that the replica does not take: none of
 /// them stands in a bundle that was read.
-#[tactic(auto, using(crate::proofs::Runs::keys_begun, crate::proofs::Runs::ready_begun))]
 pub fn begin(
     alloc: Global,
     own: SourceId,
@@ -127,12 +156,8 @@ pub fn begin(
     ensures begun { IfOk result (IsBegun rows.now journals.now) }
     ensures named { IfOk result (IsBegunAs own channels.now journals.now) }
 {
-    if journals.len() > 256 {
-        return Err(SetFault::PoolFull);
-    }
-    let keys = keys_verdict(alloc, rows, journals)?;
-    if !is_sound(&keys) {
-        return Ok(Begun::Verdict(keys));
+    if let Some(verdict) = unsound_keys(alloc, rows, journals)? {
+        return Ok(Begun::Verdict(verdict));
     }
     let core = ready(alloc, own, rows, channels, journals)?;
     Ok(Begun::Ready(core))
@@ -168,10 +193,26 @@ pub fn conclude(
     Ok(Some(verdict))
 }
 
+/// A replica with these rows that was served all journals, and applied what came, entry by entry.
+fn applied(
+    alloc: Global,
+    own: SourceId,
+    rows: &Rows,
+    channels: &[Channel],
+    journals: &[Journal],
+) -> Result<Core, SetFault>
+    requires { length journals.now ≤ 256 }
+    ensures { IfOk result (IsRun rows.now journals.now) }
+{
+    let mut core = opened(alloc, own, rows)?;
+    apply_each(alloc, &mut core, 0, channels, journals)?;
+    Ok(core)
+}
+
 /// What the journals that channels bring come to over opening rows: all of them executed together,
-/// or the verdict of their audit, where that is not Sound. One seat takes and commits the places in
-/// order of channels. Where not everything was executed, the audit says why. The faults are those of
-/// `begin` and `conclude`.
+/// or the verdict of their audit, where that is not Sound. Channel by channel, one seat applies each
+/// entry as it is received. Where not everything was executed, the audit says why. The faults are those
+/// of `begin` and `conclude`.
 pub fn serve(
     alloc: Global,
     own: SourceId,
@@ -181,11 +222,10 @@ pub fn serve(
 ) -> Result<Served, SetFault>
     ensures { IfOk result (IsServed rows.now journals.now) }
 {
-    let mut core = match begin(alloc, own, rows, channels, journals)? {
-        Begun::Ready(core) => core,
-        Begun::Verdict(verdict) => return Ok(Served::Verdict(verdict)),
-    };
-    work_on_all(alloc, &mut core, journals)?;
+    if let Some(verdict) = unsound_keys(alloc, rows, journals)? {
+        return Ok(Served::Verdict(verdict));
+    }
+    let core = applied(alloc, own, rows, channels, journals)?;
     match conclude(alloc, rows, journals, &core)? {
         None => Ok(Served::State(core)),
         Some(verdict) => Ok(Served::Verdict(verdict)),

@@ -4,7 +4,7 @@ ghost use Rattle.std.specs.List.{list_all};
 ghost use Rattle.gtid_set.specs.declared.fault.SetFault.TheVariants.{Memory};
 ghost use Rattle.auto_position.specs.Sending as sending;
 ghost use Rattle.faithful_runs.specs.Sent.{sent};
-ghost use Rattle.serving.specs.Serving.{picked, Receives, ServesOne, ServesEach, names_of, names_asked};
+ghost use Rattle.serving.specs.Serving.{picked, Receives, Asks, ServesOne, ServesEach, names_of, names_asked};
 
 use crate::event::{open_channel, position, receive};
 use auto_position::{PositionFault, plan};
@@ -83,6 +83,23 @@ fn receive_all(
     Ok(())
 }
 
+/// A channel is opened and positioned: what its journal sends to one that asks so.
+pub(crate) fn ask_for(
+    alloc: Global,
+    core: &mut Core,
+    number: usize,
+    channel: &Channel,
+    journal: &Journal,
+) -> Result<Vec<Entry>, SetFault>
+    ensures site { core.new.site ≡ core.old.site }
+    ensures asks { IfOk result (λ entries. Asks core.old.site core.old.state number journal.now entries.items core.new.state) }
+    ensures named { OnOk result (names_of core.new.state.channels ≡ names_of core.old.state.channels ++ (channel.now.name, channel.now.preserve) ∷ []) }
+{
+    open_channel(alloc, core, channel)?;
+    let asked = position(alloc, core, number)?;
+    sent_to(alloc, journal, &asked)
+}
+
 /// A channel is opened and positioned, and receives all that its journal sends.
 fn serve_journal(
     alloc: Global,
@@ -92,12 +109,10 @@ fn serve_journal(
     journal: &Journal,
 ) -> Result<(), SetFault>
     ensures site { core.new.site ≡ core.old.site }
-    ensures served { OnOk result (ServesOne core.old.site core.old.state number journal.now core.new.state) }
+    ensures served { OnOk result (ServesOne Receives core.old.site core.old.state number journal.now core.new.state) }
     ensures named { OnOk result (names_of core.new.state.channels ≡ names_of core.old.state.channels ++ (channel.now.name, channel.now.preserve) ∷ []) }
 {
-    open_channel(alloc, core, channel)?;
-    let asked = position(alloc, core, number)?;
-    let entries = sent_to(alloc, journal, &asked)?;
+    let entries = ask_for(alloc, core, number, channel, journal)?;
     receive_all(alloc, core, number, &entries)
 }
 
@@ -111,7 +126,7 @@ pub(crate) fn serve_journals(
 ) -> Result<(), SetFault>
     requires { number + length journals.now ≤ 256 }
     ensures site { core.new.site ≡ core.old.site }
-    ensures served { OnOk result (ServesEach core.old.site core.old.state number journals.now core.new.state) }
+    ensures served { OnOk result (ServesEach Receives core.old.site core.old.state number journals.now core.new.state) }
     ensures named { OnOk result (names_of core.new.state.channels ≡ names_of core.old.state.channels ++ names_asked (take (length journals.now) channels.now)) }
 {
     let Some((journal, others)) = journals.split_first() else {

@@ -1,11 +1,14 @@
-//! One seat works through the places of all channels.
-ghost use Rattle.std.specs.Prelude.{◌≡◌, OnOk};
-ghost use Rattle.serving.specs.Serving.{Works};
+//! One seat applies what channels receive, as it comes.
+ghost use Rattle.std.specs.Prelude.{◌≡◌, ◌≤◌, ◌+◌, OnOk, length};
+ghost use Rattle.serving.specs.Serving.{Works, ReceivesAtWork, ServesOne, ServesEach};
 
+use crate::event::receive;
+use crate::receiving::ask_for;
 use gtid_set::SetFault;
-use journal::Journal;
+use journal::{Entry, Journal};
 use replica_core::{Core, Event};
 use std::alloc::Global;
+use txn_journal::Channel;
 
 /// Seat 1 takes a place and commits it.
 fn work_at(alloc: Global, core: &mut Core, channel: usize, place: usize) -> Result<(), SetFault>
@@ -17,28 +20,57 @@ fn work_at(alloc: Global, core: &mut Core, channel: usize, place: usize) -> Resu
     Ok(())
 }
 
-/// The places of a channel, in order.
-fn work_on(alloc: Global, core: &mut Core, channel: usize, places: usize) -> Result<(), SetFault>
+/// A channel receives these entries, and each is applied before the next is received: so only one waits,
+/// whatever their number.
+fn apply_entries(
+    alloc: Global,
+    core: &mut Core,
+    channel: usize,
+    entries: &[Entry],
+) -> Result<(), SetFault>
     ensures site { core.new.site ≡ core.old.site }
-    ensures works { OnOk result (Works core.old.site core.old.state core.new.state) }
+    ensures applied { OnOk result (ReceivesAtWork core.old.site core.old.state channel entries.now core.new.state) }
 {
-    for place in 0..places {
+    for (place, entry) in entries.iter().enumerate() {
+        receive(alloc, core, channel, entry)?;
         work_at(alloc, core, channel, place)?;
     }
     Ok(())
 }
 
-/// The channels of these journals, in order.
-pub(crate) fn work_on_all(
+/// A channel is opened and positioned, and applies all that its journal sends.
+fn apply_journal(
     alloc: Global,
     core: &mut Core,
-    journals: &[Journal],
+    number: usize,
+    channel: &Channel,
+    journal: &Journal,
 ) -> Result<(), SetFault>
     ensures site { core.new.site ≡ core.old.site }
-    ensures works { OnOk result (Works core.old.site core.old.state core.new.state) }
+    ensures served { OnOk result (ServesOne ReceivesAtWork core.old.site core.old.state number journal.now core.new.state) }
 {
-    for (channel, journal) in journals.iter().enumerate() {
-        work_on(alloc, core, channel, journal.len())?;
-    }
-    Ok(())
+    let entries = ask_for(alloc, core, number, channel, journal)?;
+    apply_entries(alloc, core, number, &entries)
+}
+
+/// Each journal in turn, on a channel of its own; the first has this number.
+pub(crate) fn apply_each(
+    alloc: Global,
+    core: &mut Core,
+    number: usize,
+    channels: &[Channel],
+    journals: &[Journal],
+) -> Result<(), SetFault>
+    requires { number + length journals.now ≤ 256 }
+    ensures site { core.new.site ≡ core.old.site }
+    ensures served { OnOk result (ServesEach ReceivesAtWork core.old.site core.old.state number journals.now core.new.state) }
+{
+    let Some((journal, others)) = journals.split_first() else {
+        return Ok(());
+    };
+    let Some((channel, rest)) = channels.split_first() else {
+        return Err(SetFault::PoolFull);
+    };
+    apply_journal(alloc, core, number, channel, journal)?;
+    apply_each(alloc, core, number + 1, rest, others)
 }

@@ -1,0 +1,14 @@
+use Rattle.std.proofs.Common.{List, subst}
+use Rattle.journal.specs.declared.Entry.{Entry}
+use Rattle.serving.specs.Serving.{ReceivesAtWork}
+use Rattle.serving.proofs.Runs.{on_ok, serves_one}
+use Rattle.serving.proofs.working.apply_journal.Goals as goal
+
+pub returns-clause-served : goal.returns-clause-served
+returns-clause-served c =
+    on_ok c.apply_entries.result
+    (λ received. serves_one ReceivesAtWork c.args.core.now.site c.ask_for.new.core.site c.args.core.now.state c.ask_for.new.core.state c.apply_entries.new.core.state
+    c.args.number c.in_ok-entries.entries.items c.args.journal.now
+    c.ask_for.ensures.site c.in_ok-entries.ensures.asks
+    (subst (λ (entries : List Entry). ReceivesAtWork c.ask_for.new.core.site c.ask_for.new.core.state c.args.number entries c.apply_entries.new.core.state) c.deref.ensures.value received))
+    c.apply_entries.ensures.applied
