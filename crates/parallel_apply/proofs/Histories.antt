@@ -13,7 +13,8 @@ use Rattle.shared_replica.specs.History.{IsReplay, events_of}
 use Rattle.shared_replica.specs.Closing.{ClosedValue}
 use Rattle.applier.specs.Applies.{IsApply}
 use Rattle.applier.specs.Draining.{AllApply, Drains}
-use Rattle.serving.specs.Serving.{is_work, ServesEach, Works, IsReady, IsRun}
+use Rattle.serving.specs.Serving.{is_work, Receives, ServesEach, Works, IsReady, IsRun}
+use Rattle.serving.proofs.Runs.{each_at_work}
 
 one_works : (e : Event) → IsApply e → is_work e ≡ true
 one_works (Take seat c p) h = refl
@@ -56,7 +57,7 @@ history_runs start js now worked left ready work drains is legal =
     let works : Works core.site core.state now.state = record { events = events_of left.steps; work = events_work left.steps ∙ all; now = replay.state } in
     record {
       schema = ap (λ (x : Site). x.schema) replay.site ∙ ready.schema;
-      ready = core.state;
-      serves = subst (λ (x : Site). ServesEach x (opening start.rows) 0 js core.state) (sym replay.site) ready.serves;
+      served = core.state;
+      serves = each_at_work now.site (opening start.rows) 0 js core.state (subst (λ (x : Site). ServesEach Receives x (opening start.rows) 0 js core.state) (sym replay.site) ready.serves);
       works = subst (λ (x : Site). Works x core.state now.state) (sym replay.site) works;
     }
