@@ -5,20 +5,17 @@ ghost use Rattle.std.specs.List.{AllPairs};
 ghost use Rattle.rows.specs.WriteSet.{is_among};
 
 use super::Graph;
-use rows::{Key, Name, Row, Value};
+use rows::{Key, KeyValues, Name, Value};
 use std::alloc::Global;
 use std::test::Fail;
 
 /// The primary key of a row of table `t`.
 fn key(alloc: Global, number: i64) -> Result<Key, Fail> {
     let table = Name::new(String::from_str(alloc, "t")?)?;
-    let mut values = Vec::new(alloc);
-    values.push(Value::Int(number))?;
-    let values = Row::new(values)?;
     Ok(Key {
         table,
         index: 0,
-        values,
+        values: KeyValues::one(Value::Int(number)),
     })
 }
 

@@ -38,7 +38,7 @@ fn push_key(alloc: Global, line: &mut String, key: &Key) -> Result<(), AllocErro
     line.push_str(key.table.as_str())?;
     line.push_str(" ")?;
     push_number(line, u64::from(key.index))?;
-    push_values(alloc, line, key.values.values())
+    push_values(alloc, line, key.values.as_slice())
 }
 
 /// What the previous set of a journal lacks in the opening set.

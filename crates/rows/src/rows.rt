@@ -15,6 +15,7 @@ ghost use Rattle.rows.specs.Refusal.{NamesMisfit, NamesRowFault};
 use crate::change::{ApplyFault, Key, PrepareFault, TableRow, Transaction};
 use crate::fitting::{fits, fits_row};
 use crate::key_map::KeyMap;
+use crate::key_values::KeyValues;
 use crate::name::Name;
 use crate::patch::Outcome;
 use crate::prepared::{Footprint, Patch, are_same_tables};
@@ -69,7 +70,7 @@ impl Rows {
     }
 
     /// The row of a table under these values of its primary key.
-    pub fn get(&self, table: Name, key_values: Row) -> Option<&Row>
+    pub fn get(&self, table: Name, key_values: KeyValues) -> Option<&Row>
         ensures { option_copied result ≡ map.get self.now.rows (record { table = table; index = 0; values = key_values }) }
     {
         let key = Key {

@@ -1,8 +1,8 @@
 //! Keys of transactions, and the rows that they leave. Rows are tested here, so that their crate is proved once.
 use super::*;
 use rows::{
-    ApplyFault, ByteString, Change, Changes, ColumnLists, Columns, Name, Row, RowFault, Rows,
-    Table, Value, fits,
+    ApplyFault, ByteString, Change, Changes, ColumnLists, Columns, KeyValues, Name, Row, RowFault,
+    Rows, Table, Value, fits,
 };
 use std::test::*;
 
@@ -89,7 +89,7 @@ fn first_key_of_two_transactions(rt: HostRuntime) -> Result<(), Fail> {
 
 /// The letter of a unique key; 0 for a primary key.
 fn letter(key: &Key) -> u8 {
-    match key.values.values().first() {
+    match key.values.as_slice().first() {
         Some(Value::Bytes(bytes)) => bytes.as_slice().first().copied().unwrap_or(0),
         _ => 0,
     }
@@ -189,8 +189,12 @@ fn a_deleted_row_frees_its_letter(rt: HostRuntime) -> Result<(), Fail> {
     for listed in rows.list_sorted(alloc)? {
         assert!(rt; listed.row == row(alloc, (2, Some(b'a')))?);
     }
-    let one = Row::new(vec![in alloc; Value::Int(1)]?)?;
-    assert!(rt; rows.get(name(alloc)?, one).is_none());
+    for (number, stands) in [(1, false), (2, true)] {
+        let one = KeyValues::one(Value::Int(number));
+        let listed = KeyValues::new(vec![in alloc; Value::Int(number)]?)?;
+        assert_eq!(rt; rows.get(name(alloc)?, one).is_some(), stands);
+        assert_eq!(rt; rows.get(name(alloc)?, listed).is_some(), stands);
+    }
     Ok(())
 }
 
