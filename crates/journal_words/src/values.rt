@@ -12,7 +12,7 @@ use rows::{ByteString, Value};
 use std::alloc::{AllocError, Global};
 
 /// So many digits are decoded on the stack: two for each byte that a value holds in place.
-const FEW_DIGITS: usize = 28;
+const FEW_DIGITS: usize = 44;
 
 /// The number that the word spells.
 fn int_word(word: &[u8]) -> Option<i64>
@@ -70,10 +70,10 @@ fn int_at(word: &[u8]) -> Option<i64>
 
 /// The bytes that few digits spell, decoded on the stack.
 fn few_bytes(alloc: Global, digits: &[u8]) -> Result<Option<ByteString>, AllocError>
-    requires { length digits.now ≤ 28 }
+    requires { length digits.now ≤ 44 }
     ensures { IfOk result (λ found. found ≡ bytes_of digits.now) }
 {
-    let mut room = [0; 14];
+    let mut room = [0; 22];
     let bytes = &mut room[..digits.len() / 2];
     if !digits_into(digits, bytes) {
         return Ok(None);

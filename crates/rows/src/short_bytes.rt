@@ -3,8 +3,8 @@ ghost use Rattle.std.specs.Prelude.{◌≡◌, IfSome};
 
 use std::marker::Model;
 
-/// So many bytes are held in place: with their number and the enum's tag they fill two words.
-const ROOM: usize = 14;
+/// So many bytes are held in place: with their number and the enum's tag they fill three words.
+const ROOM: usize = 22;
 
 /// Few bytes, held in place.
 #[derive(Drop)]
@@ -20,7 +20,7 @@ impl Model for ShortBytes {
 
     ghost view = { λ a. take a.len a.bytes };
 
-    ghost invariant = { λ a. a.len ≤ 14 };
+    ghost invariant = { λ a. a.len ≤ 22 };
 }
 
 impl ShortBytes {
