@@ -1,5 +1,5 @@
 -- The entries of a hashed table as a finite map.
-use Rattle.std.proofs.Common.{◌≡◌, cond, List, [], ◌∷◌, Some, None, refl, ap, sym, ◌∙◌}
+use Rattle.std.proofs.Common.{◌≡◌, Bool, true, false, is_some, cond, List, [], ◌∷◌, Some, None, refl, ap, sym, ◌∙◌}
 use Rattle.std.specs.Bool.{one_answer}
 use Rattle.std.specs.Cmp.{IsEquivalence}
 use Rattle.std.specs.FinMap.{from_entries, get, insert, remove}
@@ -8,6 +8,8 @@ use Rattle.std.proofs.lemmas.Cmp.{eq_by_cmp_equiv}
 use Rattle.rows.specs.declared.value.Value.{Value}
 use Rattle.rows.specs.declared.change.Key.{Key}
 use Rattle.rows.specs.Order.{key_cmp, key_eq}
+use Rattle.rows.specs.Apply.{Rows}
+use Rattle.rows.specs.Patch.{put_over}
 use Rattle.rows.specs.Total.{key_total, key_eq_same, key_eq_self}
 use Rattle.rows.proofs.Equal.{key_test, keys-Decide}
 use Rattle.rows.proofs.Local.{same_rows}
@@ -46,3 +48,20 @@ hashed_same es fs h = same_rows _ _ (λ q. get_hashed es q ∙ h q ∙ sym (get_
 
 pub hashed_told : (es fs : List (Key × List Value)) → from_entries {R = key_cmp} es ≡ from_entries fs → (q : Key) → lookup (key_test q) es ≡ lookup (key_test q) fs
 hashed_told es fs e q = sym (get_hashed es q) ∙ ap (λ m. get m q) e ∙ get_hashed fs q
+
+-- a row takes the place of one that stands
+over_one : (b : Bool) (x y : Rows) → b ≡ true → x ≡ cond b x y
+over_one true x y e = refl
+over_one false x y e = cc
+
+over_none : (b : Bool) (x y : Rows) → b ≡ false → y ≡ cond b x y
+over_none true x y e = cc
+over_none false x y e = refl
+
+pub hashed_over : (es fs : List (Key × List Value)) (k : Key) (row : List Value) → is_some (lookup (key_test k) es) ≡ true → ((q : Key) → lookup (key_test q) fs ≡ cond (key_test k q) (Some row) (lookup (key_test q) es))
+    → from_entries {R = key_cmp} fs ≡ put_over k row (from_entries es)
+hashed_over es fs k row stands h =
+    hashed_put es fs k row h ∙ over_one (is_some (get (from_entries {R = key_cmp} es) k)) _ _ (ap is_some (get_hashed es k) ∙ stands)
+
+pub hashed_not_over : (es : List (Key × List Value)) (k : Key) (row : List Value) → is_some (lookup (key_test k) es) ≡ false → from_entries {R = key_cmp} es ≡ put_over k row (from_entries es)
+hashed_not_over es k row free = over_none (is_some (get (from_entries {R = key_cmp} es) k)) _ _ (ap is_some (get_hashed es k) ∙ free)

@@ -8,6 +8,7 @@ ghost use Rattle.rows.specs.Apply.{taken, stored, with_row, without_keys, insert
 ghost use Rattle.rows.specs.Keys.{keys_carried};
 ghost use Rattle.rows.specs.Listing.{is_primary, rows_of, rows_listed};
 ghost use Rattle.rows.specs.Order.{key_cmp};
+ghost use Rattle.rows.specs.Patch.{put_over};
 ghost use Rattle.rows.specs.Refusal.{Refuses};
 
 use crate::change::{Change, Key, PrepareFault, RowFault, TableRow};
@@ -87,6 +88,16 @@ impl KeyMap {
             Ok(_) => Ok(()),
             Err(_) => Err(AllocError),
         }
+    }
+
+    /// Puts a row in the place of the one under a key, if there is one. Takes no memory.
+    pub(crate) fn put_over(&mut self, key: &Key, row: Row)
+        ensures { self.new ≡ put_over key.now row self.old }
+    {
+        let Some(found) = self.carriers.get_mut(key) else {
+            return;
+        };
+        *found = row;
     }
 
     /// Puts a copy of a row under a copy of a key.
