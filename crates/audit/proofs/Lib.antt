@@ -7,3 +7,4 @@ pub mod Closings
 pub mod Numbers
 pub mod Sounding
 pub mod Hashed
+pub mod Apart

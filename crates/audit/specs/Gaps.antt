@@ -1,5 +1,5 @@
 -- What is left out of journals, by one pass over each.
-use Rattle.std.specs.Prelude.{Bool, false, not, ◌&&◌, ◌||◌, ◌==◌, nat_lt, List, [], ◌∷◌, Option, Some, None, if◌then◌else◌}
+use Rattle.std.specs.Prelude.{Bool, true, false, not, ◌&&◌, ◌||◌, ◌==◌, nat_lt, List, [], ◌∷◌, Option, Some, None, if◌then◌else◌}
 use Rattle.std.specs.List.{list_any}
 use Rattle.std.specs.Option.{option_map_or}
 use Rattle.std.specs.Coded.{Coded, coded_list}
@@ -41,6 +41,10 @@ abbrev pub last_of_keys : Gtid → List Key → FirstTouch → List Gtid
 last_of_keys g [] last = []
 last_of_keys g (key ∷ keys) last = with_some (of_source g (finmap.get last key)) (last_of_keys g keys last)
 
+-- a key that no other source than that of g touched last
+abbrev pub is_own : Gtid → FirstTouch → Key → Bool
+is_own g last key = option_map_or (λ before. before.source == g.source) (finmap.get last key) true
+
 -- for each GTID what it needs
 abbrev pub Needs : Type 0
 Needs = finmap.FinMap gtid_cmp (List Gtid)
@@ -53,6 +57,10 @@ abbrev pub needs_over : List Table → FirstTouch → Needs → List history.Ent
 needs_over schema last needs [] = needs
 needs_over schema last needs (h ∷ es) =
     needs_over schema (touched_last h.0 (write_set schema h.1) last) (finmap.insert needs h.0 (last_of_keys h.0 (write_set schema h.1) last)) es
+
+-- what each transaction of a world needs
+abbrev pub needs_in : World → Needs
+needs_in world = needs_over world.schema finmap.empty finmap.empty (finmap.entries world.contents)
 
 -- ---- a journal
 

@@ -4,6 +4,7 @@ ghost use Rattle.world.specs.Audit.{found_in_keys, verdict, verdict_of_keys};
 ghost use Rattle.world.specs.Meaning.{AreJournals};
 ghost use Rattle.audit.specs.Worlds.{IsWorldOf};
 
+use crate::needs::Needed;
 use crate::sources::World;
 use journal::Journal;
 use std::alloc::{AllocError, Global};
@@ -39,11 +40,14 @@ fn found_in_keys(
     if missing.is_some() {
         return Ok(missing);
     }
-    let shared = world.shared(alloc)?;
-    if shared.is_some() {
-        return Ok(shared);
+    let Needed { needs, apart } = world.needs(alloc)?;
+    if !apart {
+        let shared = world.shared(alloc)?;
+        if shared.is_some() {
+            return Ok(shared);
+        }
     }
-    world.not_closed(alloc, journals)
+    world.not_closed(alloc, &needs, journals)
 }
 
 /// What an audit of the keys of journals finds first. It applies no transaction.

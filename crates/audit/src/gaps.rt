@@ -1,16 +1,16 @@
 //! Entries that stand in a journal without an earlier one of their source that shares a key.
-ghost use Rattle.std.specs.Prelude.{◌≡◌, ◌&&◌, ◌==◌, nat_lt, not, IfOk, is_some, map, None, false};
+ghost use Rattle.std.specs.Prelude.{◌≡◌, ◌&&◌, ◌==◌, nat_lt, not, IfOk, is_some, map, None, true, false};
 ghost use Rattle.std.specs.List.{list_any};
 ghost use Rattle.std.specs.FinMap as finmap;
 ghost use Rattle.std.specs.FinSet as set;
 ghost use Rattle.rows.specs.WriteSet.{write_set};
-ghost use Rattle.world.specs.Audit.{unequal, purged, not_closed};
-ghost use Rattle.audit.specs.Gaps.{stands, lacks, gap_at, gap_among, first_gap, is_left_by, least_left_by};
+ghost use Rattle.world.specs.Audit.{unequal, purged, shared, not_closed};
+ghost use Rattle.audit.specs.Gaps.{stands, lacks, gap_at, gap_among, first_gap, is_left_by, least_left_by, needs_in};
 ghost use Rattle.audit.specs.Contents.{as_pair};
 ghost use Rattle.audit.specs.Worlds.{IsWorldOf};
 ghost use Rattle.world.specs.Folds.{touched_by};
 
-use crate::needs::{Needs, needs_of};
+use crate::needs::{Needed, Needs, needs_of};
 use crate::sources::World;
 use crate::standing::Standing;
 use crate::touches::Touches;
@@ -158,14 +158,23 @@ impl World {
     pub(crate) fn not_closed(
         &self,
         alloc: Global,
+        needs: &Needs,
         journals: &[Journal],
     ) -> Result<Option<Verdict>, AllocError>
         requires of_journals { IsWorldOf self.now journals.now }
         requires equal { unequal self.now journals.now ≡ None }
         requires within { purged self.now journals.now ≡ None }
+        requires needs { needs.now ≡ needs_in self.now }
         ensures { IfOk result (λ found. found ≡ not_closed self.now journals.now) }
     {
-        let needs = needs_of(alloc, self.rows().schema(), self.in_order())?;
-        self.first_gap(alloc, &needs, journals)
+        self.first_gap(alloc, needs, journals)
+    }
+
+    /// What each transaction needs, and whether sources are seen to touch no key in common.
+    pub(crate) fn needs(&self, alloc: Global) -> Result<Needed, AllocError>
+        ensures needs { IfOk result (λ found. found.needs ≡ needs_in self.now) }
+        ensures apart { IfOk result (λ found. found.apart ≡ true → shared self.now ≡ None) }
+    {
+        needs_of(alloc, self.rows().schema(), self.in_order())
     }
 }

@@ -1,16 +1,17 @@
 //! What each transaction must not come before.
-ghost use Rattle.std.specs.Prelude.{◌≡◌, IfOk, OnOk, map};
+ghost use Rattle.std.specs.Prelude.{◌≡◌, IfOk, OnOk, map, true, None};
 ghost use Rattle.std.specs.Option.{option_copied};
 ghost use Rattle.std.specs.FinMap as finmap;
 ghost use Rattle.audit.specs.Contents.{as_pair};
+ghost use Rattle.world.specs.Folds.{shared_from};
 ghost use Rattle.audit.specs.Gaps.{needs_over};
 
 use crate::touches::Touches;
 use gtid_text::Gtid;
+use indexmap::IndexMap;
 use journal::Entry;
 use rows::{Schema, keys_touched};
 use std::alloc::{AllocError, Global};
-use std::collections::BTreeMap;
 use std::marker::Model;
 
 /// Some GTIDs.
@@ -40,7 +41,7 @@ impl GtidList {
 /// For each GTID the earlier ones of its source that touched its keys last.
 #[derive(Drop)]
 pub(crate) struct Needs {
-    tree: BTreeMap<Gtid, GtidList>,
+    table: IndexMap<Gtid, GtidList>,
 }
 
 impl Model for Needs {
@@ -51,7 +52,7 @@ impl Model for Needs {
 
     ghost coded = { needs_code };
 
-    ghost view = { λ a. finmap.from_entries a.tree.entries };
+    ghost view = { λ a. finmap.from_entries a.table.entries };
 }
 
 impl Needs {
@@ -59,7 +60,7 @@ impl Needs {
         ensures { result ≡ finmap.empty }
     {
         Needs {
-            tree: BTreeMap::new(alloc),
+            table: IndexMap::new(alloc),
         }
     }
 
@@ -67,34 +68,44 @@ impl Needs {
     pub(crate) fn get(&self, gtid: &Gtid) -> Option<&GtidList>
         ensures { option_copied result ≡ finmap.get self.now gtid.now }
     {
-        self.tree.get(gtid)
+        self.table.get(gtid)
     }
 
     fn put(&mut self, gtid: Gtid, gtids: Vec<Gtid>) -> Result<(), AllocError>
         ensures { OnOk result (self.new ≡ finmap.insert self.old gtid gtids.items) }
     {
-        match self.tree.insert(gtid, GtidList { gtids }) {
+        match self.table.insert(gtid, GtidList { gtids }) {
             Ok(_) => Ok(()),
             Err(_) => Err(AllocError),
         }
     }
 }
 
-/// What each of these entries needs.
+/// What entries need, and whether no key of theirs is touched by two sources.
+#[derive(Drop)]
+pub(crate) struct Needed {
+    pub(crate) needs: Needs,
+    pub(crate) apart: bool,
+}
+
+/// What each of these entries needs, and whether their sources are seen to touch no key in common.
 pub(crate) fn needs_of(
     alloc: Global,
     schema: &Schema,
     entries: &[Entry],
-) -> Result<Needs, AllocError>
-    ensures { IfOk result (λ needs. needs ≡ needs_over schema.now finmap.empty finmap.empty (map as_pair entries.now)) }
+) -> Result<Needed, AllocError>
+    ensures needs { IfOk result (λ found. found.needs ≡ needs_over schema.now finmap.empty finmap.empty (map as_pair entries.now)) }
+    ensures apart { IfOk result (λ found. found.apart ≡ true → shared_from schema.now finmap.empty (map as_pair entries.now) ≡ None) }
 {
     let mut last = Touches::new(alloc);
     let mut needs = Needs::new(alloc);
+    let mut apart = true;
     for entry in entries {
         let keys = keys_touched(alloc, schema, &entry.txn)?;
-        let earlier = last.last_of_keys(alloc, &entry.gtid, &keys)?;
+        let (earlier, own) = last.last_of_keys(alloc, &entry.gtid, &keys)?;
+        apart = apart && own;
         needs.put(entry.gtid, earlier)?;
         last.touch_last(&entry.gtid, keys)?;
     }
-    Ok(needs)
+    Ok(Needed { needs, apart })
 }

@@ -3,14 +3,14 @@ ghost use Rattle.std.specs.Prelude.{◌≡◌, OnOk};
 ghost use Rattle.std.specs.FinSet as set;
 
 use gtid_text::Gtid;
+use indexmap::IndexSet;
 use std::alloc::{AllocError, Global};
-use std::collections::BTreeSet;
 use std::marker::Model;
 
 /// A set of single GTIDs, of any number of sources.
 #[derive(Drop)]
 pub(crate) struct Standing {
-    tree: BTreeSet<Gtid>,
+    table: IndexSet<Gtid>,
 }
 
 impl Model for Standing {
@@ -21,7 +21,7 @@ impl Model for Standing {
 
     ghost coded = { gtids_code };
 
-    ghost view = { λ a. set.from_list a.tree.keys };
+    ghost view = { λ a. set.from_list a.table.keys };
 }
 
 impl Standing {
@@ -29,20 +29,20 @@ impl Standing {
         ensures { result ≡ set.empty }
     {
         Standing {
-            tree: BTreeSet::new(alloc),
+            table: IndexSet::new(alloc),
         }
     }
 
     pub(crate) fn has(&self, gtid: &Gtid) -> bool
         ensures { result ≡ set.contains self.now gtid.now }
     {
-        self.tree.contains(gtid)
+        self.table.contains(gtid)
     }
 
     pub(crate) fn put(&mut self, gtid: Gtid) -> Result<(), AllocError>
         ensures { OnOk result (self.new ≡ set.insert self.old gtid) }
     {
-        let Ok(_) = self.tree.insert(gtid) else {
+        let Ok(_) = self.table.insert(gtid) else {
             return Err(AllocError);
         };
         Ok(())

@@ -1,12 +1,12 @@
 //! Which GTID touched a key.
 ghost use Rattle.std.specs.Prelude.{◌≡◌, ◌++◌, IfOk, OnOk, is_some};
-ghost use Rattle.std.specs.List.{list_any, flat_map};
+ghost use Rattle.std.specs.List.{list_all, list_any, flat_map};
 ghost use Rattle.std.specs.Option.{option_copied};
 ghost use Rattle.std.specs.FinMap as finmap;
 ghost use Rattle.rows.specs.WriteSet.{write_set};
 ghost use Rattle.world.specs.Search.{first};
 ghost use Rattle.world.specs.Folds.{touched_by, shares_with};
-ghost use Rattle.audit.specs.Gaps.{touched_last, of_source, last_of_keys};
+ghost use Rattle.audit.specs.Gaps.{touched_last, last_of_keys, is_own};
 
 use gtid_text::Gtid;
 use indexmap::IndexMap;
@@ -94,38 +94,28 @@ impl Touches {
         Ok(None)
     }
 
-    /// What touched a key, if it is of the same source.
-    fn of_source(&self, gtid: &Gtid, key: &Key) -> Option<Gtid>
-        ensures { result ≡ of_source gtid.now (finmap.get self.now key.now) }
-    {
-        match self.get(key) {
-            Some(before) => {
-                if before.source == gtid.source {
-                    Some(*before)
-                } else {
-                    None
-                }
-            }
-            None => None,
-        }
-    }
-
-    /// What touched each of these keys, if it is of the same source.
+    /// What touched each of these keys, if it is of the same source; and whether all that touched them is.
     pub(crate) fn last_of_keys(
         &self,
         alloc: Global,
         gtid: &Gtid,
         keys: &[Key],
-    ) -> Result<Vec<Gtid>, AllocError>
-        ensures { IfOk result (λ list. list.items ≡ last_of_keys gtid.now keys.now self.now) }
+    ) -> Result<(Vec<Gtid>, bool), AllocError>
+        ensures list { IfOk result (λ found. found.0.items ≡ last_of_keys gtid.now keys.now self.now) }
+        ensures own { IfOk result (λ found. found.1 ≡ list_all (is_own gtid.now self.now) keys.now) }
     {
         let mut list = Vec::new(alloc);
+        let mut own = true;
         for key in keys {
-            if let Some(before) = self.of_source(gtid, key) {
-                list.push(before)?;
+            if let Some(before) = self.get(key) {
+                if before.source == gtid.source {
+                    list.push(*before)?;
+                } else {
+                    own = false;
+                }
             }
         }
-        Ok(list)
+        Ok((list, own))
     }
 
     fn has(&self, key: &Key) -> bool

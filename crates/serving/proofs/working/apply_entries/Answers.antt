@@ -12,7 +12,7 @@ loop-place-preserved c =
     let entry : Entry = c.index-entries-place.result in
     let next : suc place ≡ place + 1 = omega arith in
     let one_more : take place entries ++ entry ∷ [] ≡ take (place + 1) entries =
-        ap (λ (e : Entry). take place entries ++ e ∷ []) c.index-entries-place.is ∙ sym (take-suc entries place entry c.loop-place-test.true) ∙ ap (λ n. take n entries) next in
+    ap (λ (e : Entry). take place entries ++ e ∷ []) c.index-entries-place.is ∙ sym (take-suc entries place entry c.loop-place-test.true) ∙ ap (λ n. take n entries) next in
     record {
       site = c.work_at.ensures.site ∙ c.receive.ensures.site ∙ c.loop-place.invariant.site;
       applied = subst (λ (es : List Entry). ReceivesAtWork c.args.core.now.site c.args.core.now.state c.args.channel es c.work_at.new.core.state) one_more
