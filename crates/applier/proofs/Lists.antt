@@ -14,10 +14,6 @@ pub mapped : {A B : Type 0} (f : A → B) (o : Option A) (y : B) → option_map 
 mapped f None y h = absurd (cc h)
 mapped f (Some x) y h = (x, refl, one_value (f x) y h)
 
-pub on_test : {A : Type 0} (P : A → Type 0) (b : Bool) (x y : A) → (b ≡ true → P x) → (b ≡ false → P y) → P (cond b x y)
-on_test P true x y p q = p refl
-on_test P false x y p q = q refl
-
 pub on_option : {A B : Type 0} (P : B → Type 0) (f : A → B) (o : Option A) (d : B) → (o ≡ None → P d) → ((a : A) → o ≡ Some a → P (f a)) → P (option_map_or f o d)
 on_option P f None d p q = p refl
 on_option P f (Some a) d p q = q a refl

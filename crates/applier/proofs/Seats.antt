@@ -4,7 +4,7 @@ use Rattle.std.specs.Prelude.{Option, Some, None, slice_get, option_map, option_
 use Rattle.std.specs.List.{filter_map, cons_option, list_any, range_with_len}
 use Rattle.std.specs.Cmp.{nat_cmp_total, unsigned_tied}
 use Rattle.std.specs.FinMap as finmap
-use Rattle.std.proofs.lemmas.Bool.{cases_eq}
+use Rattle.std.proofs.lemmas.Bool.{cases_eq, cond_both}
 use Rattle.std.proofs.lemmas.Bool.Decides.{nat_tests}
 use Rattle.gtid_text.specs.declared.Gtid.{Gtid}
 use Rattle.rows.specs.declared.change.Transaction.{Transaction}
@@ -15,7 +15,7 @@ use Rattle.replica_core.specs.State.{State, Seats, entry_at, owned_by, owned, wi
 use Rattle.replica_core.specs.Machine.{Step, is_seat, Held, held, held_at, held_of, rollback}
 use Rattle.replica_core.specs.Seated.{AreSeated}
 use Rattle.applier.specs.Draining.{NothingIsOwned}
-use Rattle.applier.proofs.Lists.{on_test, on_option, none_by, equal_numbers, same_number}
+use Rattle.applier.proofs.Lists.{on_option, none_by, equal_numbers, same_number}
 
 -- ---- what a busy seat holds
 
@@ -117,7 +117,7 @@ pub freed : (s t : State) (r : Reply) (seat : ℕ) → 1 ≤ seat → seat ≤ 6
 freed s t r seat low high seated made =
     let P : Step → Type 0 = λ x. (finmap.get x.1.seats seat ≡ None) × ((other : ℕ) → finmap.get s.seats other ≡ None → finmap.get x.1.seats other ≡ None) in
     subst P (sym made)
-    (on_test P (not (is_seat seat)) _ _ (λ bad. absurd (true≢false (sym bad ∙ ap not (is_one seat low high))))
+    (cond_both (not (is_seat seat)) _ _ P (λ bad. absurd (true≢false (sym bad ∙ ap not (is_one seat low high))))
     (λ _. on_option P _ (held s seat) _ (λ none. (idle s seat seated none, λ other h. h)) (λ h at. (cleared_itself s.seats seat, cleared s.seats seat))))
 
 -- a seat that is none of the 64 has taken no place

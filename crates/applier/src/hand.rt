@@ -3,9 +3,9 @@ ghost use Rattle.std.specs.Prelude.{◌≡◌, ℕ, IfOk, replicate, ◌++◌, �
 ghost use Rattle.applier.specs.Tickets.{seen, took, put_one, reached, nowhere, fresh_on, passes_on, own_views, ReachAll};
 ghost use Rattle.applier.specs.declared.hand.Seen.{Seen};
 
-use crate::room::add;
 use crossbeam_deque::protocol::{Outcome, Protocol};
 use crossbeam_deque::{Steal, Stealer, Worker};
+use shared_replica::room::add;
 use std::alloc::{AllocError, Global};
 use std::collections::LinkedList;
 use std::marker::Model;

@@ -5,7 +5,6 @@
 mod draining;
 mod gate;
 mod hand;
-mod room;
 mod round;
 mod work;
 mod workers;

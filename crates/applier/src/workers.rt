@@ -6,10 +6,10 @@ ghost use Rattle.applier.specs.Applies.{GoesOn};
 
 use crate::gate::Gate;
 use crate::hand::{Hand, hands};
-use crate::room::add;
 use crate::round::Round;
 use crate::work::work;
 use gtid_set::SetFault;
+use shared_replica::room::add;
 use shared_replica::{Naming, Pass, SharedReplica};
 use std::alloc::{AllocError, Global};
 use std::sync::Wait;

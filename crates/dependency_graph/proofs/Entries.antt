@@ -1,14 +1,13 @@
 -- The table of the keys' ends, and the edges, after one change.
 use Rattle.std.proofs.Common.{◌≡◌, Bool, true, false, cond, List, [], ◌∷◌, Option, Some, None, is_some, refl, sym, ap, ◌∙◌}
 use Rattle.std.specs.Option.{unwrap_or}
-use Rattle.std.specs.Bool.{one_answer}
 use Rattle.std.specs.List.{AllByRecursion, AllPairs, IsDistinct}
 use Rattle.std.proofs.lemmas.Map.Keys.{IsDistinct-from_apart, apart_from_distinct}
 use Rattle.std.specs.Prelude.{slice_index_or, ◌≢◌}
 use Rattle.rows.specs.declared.change.Key.{Key}
 use Rattle.rows.specs.Order.{key_eq}
 use Rattle.rows.specs.Total.{key_eq_same, key_eq_self}
-use Rattle.rows.proofs.Equal.{keys-Decide}
+use Rattle.rows.proofs.Hashed.{same_tests}
 use Rattle.dependency_graph.specs.Chains.{Holds, HasEntry, IsOpened, entry_at, same_key}
 use Rattle.dependency_graph.specs.declared.chains.Chains.{Chains}
 use Rattle.dependency_graph.specs.declared.chains.Ends.{Ends}
@@ -21,10 +20,6 @@ flip_at a b false true p q = let same : key_eq a b ≡ true = ap (key_eq a) (key
 
 pub flip : (a b : Key) → key_eq a b ≡ key_eq b a
 flip a b = flip_at a b (key_eq a b) (key_eq b a) refl refl
-
--- the two tests of keys agree
-same_tests : (a b : Key) → same_key a b ≡ key_eq a b
-same_tests a b = one_answer (same_key a b) (key_eq a b) (keys-Decide a b) (key_eq_same a b, λ e. ap (key_eq a) (sym e) ∙ key_eq_self a)
 
 turned : (key k : Key) → same_key key k ≡ key_eq k key
 turned key k = same_tests key k ∙ flip key k

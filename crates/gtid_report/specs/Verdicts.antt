@@ -7,9 +7,9 @@ use Rattle.rows.specs.declared.change.RowFault.TheVariants.{RowMissing, RowDiffe
 
 -- a row fault's number
 abbrev pub row_fault_name : RowFault → List ℕ
-row_fault_name (RowMissing change key) = codes " E10 change "
-row_fault_name (RowDiffers change key) = codes " E11 change "
-row_fault_name (DuplicateKey change key) = codes " E12 change "
+row_fault_name (RowMissing change key) = codes "E10 change "
+row_fault_name (RowDiffers change key) = codes "E11 change "
+row_fault_name (DuplicateKey change key) = codes "E12 change "
 
 -- the change, from 0, and the number of the key
 abbrev pub row_fault_place : RowFault → ℕ × ℕ
@@ -17,7 +17,9 @@ row_fault_place (RowMissing change key) = (change, key)
 row_fault_place (RowDiffers change key) = (change, key)
 row_fault_place (DuplicateKey change key) = (change, key)
 
+abbrev pub row_fault_text : RowFault → List ℕ
+row_fault_text fault =
+    row_fault_name fault ++ decimal (row_fault_place fault).0 ++ codes " key " ++ decimal (row_fault_place fault).1
+
 abbrev pub does_not_apply_line : Gtid → RowFault → List ℕ
-does_not_apply_line gtid fault =
-    codes "does-not-apply " ++ gtid_text gtid ++ row_fault_name fault ++ decimal (row_fault_place fault).0
-    ++ codes " key " ++ decimal (row_fault_place fault).1
+does_not_apply_line gtid fault = codes "does-not-apply " ++ gtid_text gtid ++ codes " " ++ row_fault_text fault

@@ -13,9 +13,9 @@ mod verdict_line;
 pub use fault::Fault;
 pub use functions::{Function, OfSource, OneSet, TwoSets, read_set, read_source, set_function};
 pub use position::{render_more, render_required, render_sending};
-pub use refusal::{LineCause, Refusal, render_fault};
+pub use refusal::{LineCause, Refusal, push_number, render_fault};
 pub use state::{render_rows, render_state};
-pub use verdict::render_does_not_apply;
+pub use verdict::{push_row_fault, render_does_not_apply};
 pub use verdict_line::render_verdict;
 
 #[cfg(test)]

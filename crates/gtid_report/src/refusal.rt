@@ -63,7 +63,8 @@ fn refusal_name(refusal: &Refusal) -> &'static str
     }
 }
 
-pub(crate) fn push_number(out: &mut String, number: u64) -> Result<(), AllocError>
+/// Appends a number in decimal digits.
+pub fn push_number(out: &mut String, number: u64) -> Result<(), AllocError>
     ensures { OnOk result (string_bytes out.new ≡ string_bytes out.old ++ decimal number) }
 {
     let mut buffer = Buffer::new();

@@ -30,49 +30,80 @@ end
 close
 ";
 
-/// Feeds a text in pieces of this length. A reader that was refused memory answers that once more.
+/// Feeds a piece. A reader that was refused memory answers that once more.
+fn feed_piece(alloc: Global, reader: &mut Reader, piece: &[u8]) -> Result<(), Fault> {
+    let Err(fault) = reader.feed(alloc, piece) else {
+        return Ok(());
+    };
+    match reader.feed(alloc, b"\n") {
+        Err(again) if again == fault => Err(Fault::Memory),
+        _ => Err(Fault::Changed),
+    }
+}
+
+/// Feeds a text in pieces of this length.
+fn feed_pieces(alloc: Global, reader: &mut Reader, text: &[u8], length: usize) -> Result<(), Fault>
+    requires { 1 ≤ length }
+{
+    for piece in text.chunks(length) {
+        feed_piece(alloc, reader, piece)?;
+    }
+    Ok(())
+}
+
+/// A reader that was fed a text in pieces of this length.
 fn fed(alloc: Global, text: &[u8], length: usize) -> Result<Reader, Fault>
     requires { 1 ≤ length }
 {
     let mut reader = Reader::start(alloc);
-    for piece in text.chunks(length) {
-        if let Err(fault) = reader.feed(alloc, piece) {
-            return match reader.feed(alloc, b"\n") {
-                Err(again) if again == fault => Err(Fault::Memory),
-                _ => Err(Fault::Changed),
-            };
-        }
+    match feed_pieces(alloc, &mut reader, text, length) {
+        Ok(()) => Ok(reader),
+        Err(fault) => Err(fault),
     }
-    Ok(reader)
+}
+
+/// The text that was cut, fed in pieces of this length.
+fn cut_into(alloc: Global, length: usize) -> Result<Reader, Fault>
+    requires { 1 ≤ length }
+{
+    match fed(alloc, CUT, length) {
+        Err(Fault::Memory) => fed(alloc, CUT, length),
+        first => first,
+    }
+}
+
+/// How many whole entries a reader has.
+fn taken(alloc: Global, reader: &mut Reader) -> Result<usize, Fault> {
+    match reader.take_entries(alloc) {
+        Ok(entries) => Ok(entries.len()),
+        Err(_) => Err(Fault::Answer),
+    }
+}
+
+/// The line where a journal is cut.
+fn cut_at(reader: Reader) -> Result<u64, Fault> {
+    match reader.finish() {
+        Err(JournalFault::Truncated { line }) => Ok(line),
+        _ => Err(Fault::Answer),
+    }
 }
 
 /// Reads the text that was cut, in pieces of this length: its whole entries, then how it ends.
-fn cut_into(rt: &impl Print, alloc: Global, length: usize) -> Result<(), Fault>
+fn print_cut(rt: &impl Print, alloc: Global, length: usize) -> Result<(), Fault>
     requires { 1 ≤ length }
 {
-    let mut reader = match fed(alloc, CUT, length) {
-        Ok(reader) => reader,
-        Err(Fault::Memory) => fed(alloc, CUT, length)?,
-        Err(fault) => return Err(fault),
-    };
-    let Ok(entries) = reader.take_entries(alloc) else {
-        return Err(Fault::Answer);
-    };
-    let taken = entries.len();
-    match reader.finish() {
-        Err(JournalFault::Truncated { line }) => {
-            println!(rt; "pieces of {length}: {taken} entry, truncated at line {line}")?
-        }
-        _ => return Err(Fault::Answer),
-    }
+    let mut reader = cut_into(alloc, length)?;
+    let taken = taken(alloc, &mut reader)?;
+    let line = cut_at(reader)?;
+    println!(rt; "pieces of {length}: {taken} entry, truncated at line {line}")?;
     Ok(())
 }
 
 /// A journal that was cut behind a line feed, in pieces of several lengths.
 pub fn in_pieces(rt: &impl Print, alloc: Global) -> Result<(), Fault> {
-    cut_into(rt, alloc, 1)?;
-    cut_into(rt, alloc, 7)?;
-    cut_into(rt, alloc, 4_096)
+    print_cut(rt, alloc, 1)?;
+    print_cut(rt, alloc, 7)?;
+    print_cut(rt, alloc, 4_096)
 }
 
 fn journal_of(alloc: Global, text: &[u8]) -> Result<Journal, Fault> {
@@ -101,6 +132,38 @@ fn planned(
     }
 }
 
+/// A set that keeps a source from sending.
+fn print_set(
+    rt: &impl Print,
+    alloc: Global,
+    ask: &str,
+    word: &str,
+    set: &GtidSet,
+) -> Result<(), Fault> {
+    let text = text_of(alloc, set)?;
+    println!(rt; "{ask}: {word} {text}")?;
+    Ok(())
+}
+
+/// A source's answer to the set that was asked with.
+fn print_answer(
+    rt: &impl Print,
+    alloc: Global,
+    ask: &str,
+    answer: &Result<Vec<u64>, PositionFault>,
+) -> Result<(), Fault> {
+    match answer {
+        Ok(places) => {
+            let number = places.len();
+            println!(rt; "{ask}: send {number}")?;
+            Ok(())
+        }
+        Err(PositionFault::PurgedRequired(set)) => print_set(rt, alloc, ask, "purged", set),
+        Err(PositionFault::ReplicaHasMore(set)) => print_set(rt, alloc, ask, "has more", set),
+        Err(PositionFault::Set(_)) => Err(Fault::Memory),
+    }
+}
+
 fn print_plan(
     rt: &impl Print,
     alloc: Global,
@@ -109,54 +172,25 @@ fn print_plan(
     ask: &str,
 ) -> Result<(), Fault> {
     let asked = set_of(alloc, ask)?;
-    match planned(alloc, own, journal, &asked)? {
-        Ok(places) => {
-            let number = places.len();
-            println!(rt; "{ask}: send {number}")?
-        }
-        Err(PositionFault::PurgedRequired(set)) => {
-            let text = text_of(alloc, &set)?;
-            println!(rt; "{ask}: purged {text}")?
-        }
-        Err(PositionFault::ReplicaHasMore(set)) => {
-            let text = text_of(alloc, &set)?;
-            println!(rt; "{ask}: has more {text}")?
-        }
-        Err(PositionFault::Set(_)) => return Err(Fault::Memory),
-    }
-    Ok(())
+    let answer = planned(alloc, own, journal, &asked)?;
+    print_answer(rt, alloc, ask, &answer)
 }
+
+/// What a replica asks with that has missed what was purged, is at the journal's start, has more than
+/// the journal, and has both missed and more.
+const ASKS: [&str; 4] = [
+    "aaaaaaaa-aaaa-aaaa-aaaa-aaaaaaaaaaaa:1-2",
+    "aaaaaaaa-aaaa-aaaa-aaaa-aaaaaaaaaaaa:1-3",
+    "aaaaaaaa-aaaa-aaaa-aaaa-aaaaaaaaaaaa:1-9",
+    "aaaaaaaa-aaaa-aaaa-aaaa-aaaaaaaaaaaa:2-9",
+];
 
 /// A journal behind three purged transactions is asked with four sets.
 pub fn positioned(rt: &impl Print, alloc: Global) -> Result<(), Fault> {
     let journal = journal_of(alloc, PURGED)?;
     let own = SourceId::from_bits(0xaaaaaaaa_aaaa_aaaa_aaaa_aaaaaaaaaaaa);
-    print_plan(
-        rt,
-        alloc,
-        own,
-        &journal,
-        "aaaaaaaa-aaaa-aaaa-aaaa-aaaaaaaaaaaa:1-2",
-    )?;
-    print_plan(
-        rt,
-        alloc,
-        own,
-        &journal,
-        "aaaaaaaa-aaaa-aaaa-aaaa-aaaaaaaaaaaa:1-3",
-    )?;
-    print_plan(
-        rt,
-        alloc,
-        own,
-        &journal,
-        "aaaaaaaa-aaaa-aaaa-aaaa-aaaaaaaaaaaa:1-9",
-    )?;
-    print_plan(
-        rt,
-        alloc,
-        own,
-        &journal,
-        "aaaaaaaa-aaaa-aaaa-aaaa-aaaaaaaaaaaa:2-9",
-    )
+    for ask in &ASKS {
+        print_plan(rt, alloc, own, &journal, ask)?;
+    }
+    Ok(())
 }

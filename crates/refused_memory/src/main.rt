@@ -7,6 +7,7 @@ mod replica;
 mod sets;
 
 use crate::fault::Fault;
+use crate::replica::{Example, run_example};
 use std::process::ExitCode;
 
 /// All examples in turn. Each prints what it comes to.
@@ -15,10 +16,9 @@ fn run(rt: &HostRuntime) -> Result<(), Fault> {
     sets::subtracted(rt, alloc)?;
     journals::in_pieces(rt, alloc)?;
     journals::positioned(rt, alloc)?;
-    replica::one_channel(rt, alloc)?;
-    replica::two_channels(rt, alloc)?;
-    replica::own_transactions(rt, alloc)?;
-    Ok(())
+    run_example(rt, alloc, Example::OneChannel)?;
+    run_example(rt, alloc, Example::TwoChannels)?;
+    run_example(rt, alloc, Example::OwnTransactions)
 }
 
 fn main(rt: HostRuntime) -> ExitCode {

@@ -110,20 +110,31 @@ fn is_numbered(event: &Event) -> bool
     }
 }
 
-/// One event; once more where memory was refused, which must have changed nothing.
-fn asked(alloc: Global, core: &mut Core, event: &Event) -> Result<Reply, Fault> {
+/// One event; once more where memory was refused, which must have left the replica as its copy is.
+fn asked_beside(
+    alloc: Global,
+    core: &mut Core,
+    event: &Event,
+    copy: &Core,
+) -> Result<Reply, Fault> {
     if !is_numbered(event) {
         return Err(Fault::Answer);
     }
-    let before = copy_of(alloc, core)?;
     match core.step(alloc, event) {
         Ok(reply) => Ok(reply),
-        Err(_) if !core.is_equal(&before) => Err(Fault::Changed),
+        Err(_) if !core.is_equal(copy) => Err(Fault::Changed),
         Err(_) => Ok(core.step(alloc, event)?),
     }
 }
 
-fn opened(alloc: Global, bundle: &Bundle) -> Result<Core, Fault> {
+/// One event; once more where memory was refused, which must have changed nothing.
+fn asked(alloc: Global, core: &mut Core, event: &Event) -> Result<Reply, Fault> {
+    let copy = copy_of(alloc, core)?;
+    asked_beside(alloc, core, event, &copy)
+}
+
+/// A replica on the rows of a bundle.
+fn opened_on(alloc: Global, bundle: &Bundle) -> Result<Core, Fault> {
     let own = bundle.replica();
     if let Ok(rows) = bundle.rows().copy() {
         if let Ok(core) = Core::open(alloc, own, rows) {
@@ -132,6 +143,12 @@ fn opened(alloc: Global, bundle: &Bundle) -> Result<Core, Fault> {
     }
     let rows = bundle.rows().copy()?;
     Ok(Core::open(alloc, own, rows)?)
+}
+
+/// A replica on the rows that all bundles begin with.
+fn opened(alloc: Global) -> Result<Core, Fault> {
+    let bundle = bundle_of(alloc, FIRST)?;
+    opened_on(alloc, &bundle)
 }
 
 /// The only entry of the only journal of a bundle, as it comes on a channel.
@@ -164,10 +181,8 @@ fn told(reply: &Reply) -> (&'static str, Option<Gtid>) {
     }
 }
 
-/// Asks an event, and prints the answer.
-fn ask(rt: &impl Print, alloc: Global, core: &mut Core, event: &Event) -> Result<(), Fault> {
-    let reply = asked(alloc, core, event)?;
-    match told(&reply) {
+fn print_reply(rt: &impl Print, reply: &Reply) -> Result<(), Fault> {
+    match told(reply) {
         (word, Some(gtid)) => {
             let number = gtid.number;
             println!(rt; "{word} {number}")?
@@ -177,24 +192,46 @@ fn ask(rt: &impl Print, alloc: Global, core: &mut Core, event: &Event) -> Result
     Ok(())
 }
 
-/// Opens the channels of a bundle, positions them, and lets the first two receive its entry.
-fn serve(
+/// Asks an event, and prints the answer.
+fn ask(rt: &impl Print, alloc: Global, core: &mut Core, event: &Event) -> Result<(), Fault> {
+    let reply = asked(alloc, core, event)?;
+    print_reply(rt, &reply)
+}
+
+/// Opens the first channel of a bundle.
+fn opening(bundle: &Bundle) -> Result<Event, Fault> {
+    let Some(first) = bundle.channels().first() else {
+        return Err(Fault::Answer);
+    };
+    match first.name.clone() {
+        Ok(name) => Ok(Event::OpenChannel(name, first.preserve)),
+        Err(_) => Ok(Event::OpenChannel(first.name.clone()?, first.preserve)),
+    }
+}
+
+/// Opens the channel of a bundle, positions it, and lets it receive the bundle's entry.
+fn serve_bundle(
     rt: &impl Print,
     alloc: Global,
     core: &mut Core,
     bundle: &Bundle,
     channel: usize,
 ) -> Result<(), Fault> {
-    let Some(first) = bundle.channels().first() else {
-        return Err(Fault::Answer);
-    };
-    let name = match first.name.clone() {
-        Ok(name) => name,
-        Err(_) => first.name.clone()?,
-    };
-    ask(rt, alloc, core, &Event::OpenChannel(name, first.preserve))?;
+    ask(rt, alloc, core, &opening(bundle)?)?;
     ask(rt, alloc, core, &Event::Position(channel))?;
     ask(rt, alloc, core, &received(bundle, channel)?)
+}
+
+/// A bundle's text is read, and its channel served.
+fn serve(
+    rt: &impl Print,
+    alloc: Global,
+    core: &mut Core,
+    text: &[u8],
+    channel: usize,
+) -> Result<(), Fault> {
+    let bundle = bundle_of(alloc, text)?;
+    serve_bundle(rt, alloc, core, &bundle, channel)
 }
 
 /// The state at the end.
@@ -208,47 +245,68 @@ fn print_state(rt: &impl Print, alloc: Global, core: &Core) -> Result<(), Fault>
 }
 
 /// A source's transaction is taken and committed.
-pub fn one_channel(rt: &impl Print, alloc: Global) -> Result<(), Fault> {
-    let bundle = bundle_of(alloc, FIRST)?;
-    let mut core = opened(alloc, &bundle)?;
-    serve(rt, alloc, &mut core, &bundle, 0)?;
-    ask(rt, alloc, &mut core, &Event::Take(1, 0, 0))?;
-    ask(rt, alloc, &mut core, &Event::Commit(1))?;
-    print_state(rt, alloc, &core)
+fn one_channel(rt: &impl Print, alloc: Global, core: &mut Core) -> Result<(), Fault> {
+    serve(rt, alloc, core, FIRST, 0)?;
+    ask(rt, alloc, core, &Event::Take(1, 0, 0))?;
+    ask(rt, alloc, core, &Event::Commit(1))
 }
 
 /// One transaction comes on two channels; a second seat finds it owned, then free, and a third time done.
-pub fn two_channels(rt: &impl Print, alloc: Global) -> Result<(), Fault> {
-    let bundle = bundle_of(alloc, FIRST)?;
-    let other = bundle_of(alloc, SECOND)?;
-    let mut core = opened(alloc, &bundle)?;
-    serve(rt, alloc, &mut core, &bundle, 0)?;
-    serve(rt, alloc, &mut core, &other, 1)?;
-    ask(rt, alloc, &mut core, &Event::Take(1, 0, 0))?;
-    ask(rt, alloc, &mut core, &Event::Take(2, 1, 0))?;
-    ask(rt, alloc, &mut core, &Event::Rollback(1))?;
-    ask(rt, alloc, &mut core, &Event::Take(2, 1, 0))?;
-    ask(rt, alloc, &mut core, &Event::Commit(2))?;
-    ask(rt, alloc, &mut core, &Event::Take(1, 0, 0))?;
-    print_state(rt, alloc, &core)
+fn two_channels(rt: &impl Print, alloc: Global, core: &mut Core) -> Result<(), Fault> {
+    serve(rt, alloc, core, FIRST, 0)?;
+    serve(rt, alloc, core, SECOND, 1)?;
+    ask(rt, alloc, core, &Event::Take(1, 0, 0))?;
+    ask(rt, alloc, core, &Event::Take(2, 1, 0))?;
+    ask(rt, alloc, core, &Event::Rollback(1))?;
+    ask(rt, alloc, core, &Event::Take(2, 1, 0))?;
+    ask(rt, alloc, core, &Event::Commit(2))?;
+    ask(rt, alloc, core, &Event::Take(1, 0, 0))
 }
 
 /// The transaction of a bundle's entry, as the server's own.
-fn local(bundle: &Bundle) -> Result<Event, Fault> {
+fn local_of(bundle: &Bundle) -> Result<Event, Fault> {
     match received(bundle, 0)? {
         Event::Receive(_, entry) => Ok(Event::Local(entry.txn)),
         _ => Err(Fault::Answer),
     }
 }
 
+/// The transaction of a bundle's text, as the server's own.
+fn local(alloc: Global, text: &[u8]) -> Result<Event, Fault> {
+    let bundle = bundle_of(alloc, text)?;
+    local_of(&bundle)
+}
+
 /// Transactions of the server's own: the second does not apply, and its number is free for the third.
-pub fn own_transactions(rt: &impl Print, alloc: Global) -> Result<(), Fault> {
-    let bundle = bundle_of(alloc, FIRST)?;
-    let again = bundle_of(alloc, AGAIN)?;
-    let third = bundle_of(alloc, THIRD)?;
-    let mut core = opened(alloc, &bundle)?;
-    ask(rt, alloc, &mut core, &local(&bundle)?)?;
-    ask(rt, alloc, &mut core, &local(&again)?)?;
-    ask(rt, alloc, &mut core, &local(&third)?)?;
-    print_state(rt, alloc, &core)
+fn own_transactions(rt: &impl Print, alloc: Global, core: &mut Core) -> Result<(), Fault> {
+    ask(rt, alloc, core, &local(alloc, FIRST)?)?;
+    ask(rt, alloc, core, &local(alloc, AGAIN)?)?;
+    ask(rt, alloc, core, &local(alloc, THIRD)?)
+}
+
+/// What a replica is asked.
+#[derive(Clone, Copy, Debug, PartialEq, Eq)]
+pub enum Example {
+    /// A source's transaction, taken and committed.
+    OneChannel,
+    /// One transaction on two channels.
+    TwoChannels,
+    /// Transactions of the server's own.
+    OwnTransactions,
+}
+
+/// An example, and the state that it leaves.
+fn run_on(rt: &impl Print, alloc: Global, core: &mut Core, example: Example) -> Result<(), Fault> {
+    match example {
+        Example::OneChannel => one_channel(rt, alloc, core)?,
+        Example::TwoChannels => two_channels(rt, alloc, core)?,
+        Example::OwnTransactions => own_transactions(rt, alloc, core)?,
+    }
+    print_state(rt, alloc, core)
+}
+
+/// An example on a new replica.
+pub fn run_example(rt: &impl Print, alloc: Global, example: Example) -> Result<(), Fault> {
+    let mut core = opened(alloc)?;
+    run_on(rt, alloc, &mut core, example)
 }

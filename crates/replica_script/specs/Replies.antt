@@ -6,7 +6,7 @@ use Rattle.rows.specs.declared.change.Misfit.{Misfit}
 use Rattle.rows.specs.declared.change.Misfit.TheVariants.{NoTable, Columns, NullInPrimary, TooLong, TooMany}
 use Rattle.rows.specs.declared.change.NotInSchema.{NotInSchema}
 use Rattle.rows.specs.declared.change.RowFault.{RowFault}
-use Rattle.rows.specs.declared.change.RowFault.TheVariants.{RowMissing, RowDiffers, DuplicateKey}
+use Rattle.gtid_report.specs.Verdicts.{row_fault_text}
 use Rattle.txn_journal.specs.WrittenSets.{set_text}
 use Rattle.replica_core.specs.declared.event.Reply.{Reply}
 use Rattle.replica_core.specs.declared.event.Reply.TheVariants as reply
@@ -26,22 +26,6 @@ misfit_word Columns = codes "Columns"
 misfit_word NullInPrimary = codes "NullInPrimary"
 misfit_word TooLong = codes "TooLong"
 misfit_word TooMany = codes "TooMany"
-
--- a row fault's number
-abbrev pub row_fault_name : RowFault → List ℕ
-row_fault_name (RowMissing change key) = codes "E10 change "
-row_fault_name (RowDiffers change key) = codes "E11 change "
-row_fault_name (DuplicateKey change key) = codes "E12 change "
-
--- the change, from 0, and the number of the key
-abbrev pub row_fault_place : RowFault → ℕ × ℕ
-row_fault_place (RowMissing change key) = (change, key)
-row_fault_place (RowDiffers change key) = (change, key)
-row_fault_place (DuplicateKey change key) = (change, key)
-
-abbrev pub row_fault_text : RowFault → List ℕ
-row_fault_text fault =
-    row_fault_name fault ++ decimal (row_fault_place fault).0 ++ codes " key " ++ decimal (row_fault_place fault).1
 
 abbrev pub not_in_schema_text : NotInSchema → List ℕ
 not_in_schema_text fault = codes "NotInSchema(" ++ decimal fault.change ++ codes " " ++ misfit_word fault.cause ++ codes ")"

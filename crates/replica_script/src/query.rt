@@ -6,8 +6,8 @@ ghost use Rattle.replica_script.specs.Replies.{ended};
 ghost use Rattle.replica_script.specs.Texts.{changes_or_gone, place_or_none, query_text, shown_entry, truth};
 
 use crate::question::Query;
-use crate::reply::{push_number, push_set};
-use gtid_report::render_rows;
+use crate::reply::push_set;
+use gtid_report::{push_number, render_rows};
 use gtid_set::{GtidSet, SetFault};
 use gtid_text::{Gtid, write_gtid};
 use replica_core::Core;

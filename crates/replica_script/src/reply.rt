@@ -2,21 +2,14 @@
 ghost use Rattle.std.specs.Prelude.{◌≡◌, ◌++◌, IfOk, OnOk, string_bytes, decimal};
 ghost use Rattle.gtid_text.specs.Canonical.{gtid_text};
 ghost use Rattle.txn_journal.specs.WrittenSets.{set_text};
-ghost use Rattle.replica_script.specs.Replies.{ended, within, misfit_word, row_fault_name, row_fault_place, row_fault_text, not_in_schema_text, refusal_text, refused_text, reply_line};
+ghost use Rattle.replica_script.specs.Replies.{ended, within, misfit_word, not_in_schema_text, refusal_text, refused_text, reply_line};
 
+use gtid_report::{push_number, push_row_fault};
 use gtid_set::GtidSet;
 use gtid_text::{Gtid, write_gtid};
-use itoa::Buffer;
 use replica_core::Reply;
 use rows::{Misfit, NotInSchema, RowFault};
 use std::alloc::{AllocError, Global};
-
-pub fn push_number(out: &mut String, number: u64) -> Result<(), AllocError>
-    ensures { OnOk result (string_bytes out.new ≡ string_bytes out.old ++ decimal number) }
-{
-    let mut buffer = Buffer::new();
-    out.push_str(buffer.format(number))
-}
 
 /// Appends the word of a set.
 pub fn push_set(alloc: Global, out: &mut String, set: &GtidSet) -> Result<(), AllocError>
@@ -39,37 +32,6 @@ fn misfit_word(cause: Misfit) -> &'static str
         Misfit::TooLong => "TooLong",
         Misfit::TooMany => "TooMany",
     }
-}
-
-fn row_fault_name(fault: RowFault) -> &'static str
-    ensures { result.now ≡ row_fault_name fault }
-{
-    match fault {
-        RowFault::RowMissing { change: _, key: _ } => "E10 change ",
-        RowFault::RowDiffers { change: _, key: _ } => "E11 change ",
-        RowFault::DuplicateKey { change: _, key: _ } => "E12 change ",
-    }
-}
-
-/// The change, from 0, and the number of the key, 0 being the primary key.
-fn row_fault_place(fault: RowFault) -> (u32, u32)
-    ensures { result ≡ row_fault_place fault }
-{
-    match fault {
-        RowFault::RowMissing { change, key } => (change, key),
-        RowFault::RowDiffers { change, key } => (change, key),
-        RowFault::DuplicateKey { change, key } => (change, key),
-    }
-}
-
-fn push_row_fault(out: &mut String, fault: RowFault) -> Result<(), AllocError>
-    ensures { OnOk result (string_bytes out.new ≡ string_bytes out.old ++ row_fault_text fault) }
-{
-    let (change, key) = row_fault_place(fault);
-    out.push_str(row_fault_name(fault))?;
-    push_number(out, u64::from(change))?;
-    out.push_str(" key ")?;
-    push_number(out, u64::from(key))
 }
 
 fn numbered(out: &mut String, name: &str, number: u64) -> Result<(), AllocError>

@@ -8,7 +8,7 @@ mod copies;
 mod naming;
 mod pass;
 mod replica;
-mod room;
+pub mod room;
 mod same;
 mod step;
 

@@ -3,7 +3,7 @@ ghost use Rattle.std.specs.Prelude.{◌≡◌, ◌++◌, ◌∷◌, [], ◌<◌,
 ghost use Rattle.std.specs.Vec.{vec_capacity};
 
 /// Puts an item at the end, where there is room.
-pub(crate) fn add<T: Drop>(list: &mut Vec<T>, item: T)
+pub fn add<T: Drop>(list: &mut Vec<T>, item: T)
     requires { vec_len list.old < vec_capacity list.old }
     ensures items { list.new.items ≡ list.old.items ++ item ∷ [] }
     ensures len { vec_len list.new ≡ vec_len list.old + 1 }

@@ -1,6 +1,5 @@
 -- What is inserted into a set key by key.
 use Rattle.std.proofs.Common.{◌≡◌, Bool, true, false, not, cond, ◌&&◌, ◌||◌, List, [], ◌∷◌, ◌++◌, filter, append_assoc, append-nil, refl, sym, ap, subst, ◌∙◌}
-use Rattle.std.specs.Bool.{one_answer}
 use Rattle.std.specs.List.{list_any, AllByRecursion, IsDistinct}
 use Rattle.std.specs.Prelude.{◌≢◌, AllPairs, IfOk, Result, Ok, Err, fold}
 use Rattle.std.proofs.lemmas.Cmp.{eq_by_cmp_equiv}
@@ -11,14 +10,11 @@ use Rattle.std.proofs.lemmas.Map.Views.{any-filter_same}
 use Rattle.indexmap.specs.IndexSet.{insert_all, insert_key}
 use Rattle.rows.specs.declared.change.Key.{Key}
 use Rattle.rows.specs.Order.{key_eq}
-use Rattle.rows.specs.Total.{key_total, key_eq_same, key_eq_self}
+use Rattle.rows.specs.Total.{key_total, key_eq_same}
 use Rattle.rows.specs.WriteSet.{is_among}
 use Rattle.rows.proofs.Equal.{key_test, keys-Decide}
+use Rattle.rows.proofs.Hashed.{same_tests}
 use Rattle.write_set.specs.FirstTouch.{added, each_once}
-
--- the two tests of keys agree
-pub same_tests : (a b : Key) → key_test a b ≡ key_eq a b
-same_tests a b = one_answer (key_test a b) (key_eq a b) (keys-Decide a b) (key_eq_same a b, λ e. ap (key_eq a) (sym e) ∙ key_eq_self a)
 
 pub tested : (key : Key) (keys : List Key) → list_any (key_test key) keys ≡ is_among keys key
 tested key [] = refl
