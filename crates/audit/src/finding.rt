@@ -1,10 +1,10 @@
 //! The audit.
-ghost use Rattle.std.specs.Prelude.{◌≡◌, IfOk};
-ghost use Rattle.world.specs.Audit.{found_in_keys, verdict, verdict_of_keys};
+ghost use Rattle.std.specs.Prelude.{◌≡◌, IfOk, None};
+ghost use Rattle.world.specs.Search.{or_next};
+ghost use Rattle.world.specs.Audit.{unequal, purged, shared, not_closed, found_in_keys, verdict, verdict_of_keys};
 ghost use Rattle.world.specs.Meaning.{AreJournals};
 ghost use Rattle.audit.specs.Worlds.{IsWorldOf};
 
-use crate::needs::Needed;
 use crate::sources::World;
 use journal::Journal;
 use std::alloc::{AllocError, Global};
@@ -19,6 +19,26 @@ fn keep_rules(journals: &[Journal])
     }
 }
 
+/// A key that two sources touch, or else what is left out of a journal.
+fn shared_or_left_out(
+    alloc: Global,
+    world: &World,
+    journals: &[Journal],
+) -> Result<Option<Verdict>, AllocError>
+    requires of_journals { IsWorldOf world.now journals.now }
+    requires equal { unequal world.now journals.now ≡ None }
+    requires within { purged world.now journals.now ≡ None }
+    ensures { IfOk result (λ found. found ≡ or_next (shared world.now) (not_closed world.now journals.now)) }
+{
+    let needed = world.needs(alloc)?;
+    if !needed.apart {
+        if let Some(verdict) = world.shared(alloc)? {
+            return Ok(Some(verdict));
+        }
+    }
+    world.not_closed(alloc, &needed.needs, journals)
+}
+
 /// What is found without applying a transaction.
 fn found_in_keys(
     alloc: Global,
@@ -28,26 +48,16 @@ fn found_in_keys(
     requires { IsWorldOf world.now journals.now }
     ensures { IfOk result (λ found. found ≡ found_in_keys world.now journals.now) }
 {
-    let unequal = world.unequal(journals);
-    if unequal.is_some() {
-        return Ok(unequal);
+    if let Some(verdict) = world.unequal(journals) {
+        return Ok(Some(verdict));
     }
-    let purged = world.purged(alloc, journals)?;
-    if purged.is_some() {
-        return Ok(purged);
+    if let Some(verdict) = world.purged(alloc, journals)? {
+        return Ok(Some(verdict));
     }
-    let missing = world.missing(journals);
-    if missing.is_some() {
-        return Ok(missing);
+    if let Some(verdict) = world.missing(journals) {
+        return Ok(Some(verdict));
     }
-    let Needed { needs, apart } = world.needs(alloc)?;
-    if !apart {
-        let shared = world.shared(alloc)?;
-        if shared.is_some() {
-            return Ok(shared);
-        }
-    }
-    world.not_closed(alloc, &needs, journals)
+    shared_or_left_out(alloc, world, journals)
 }
 
 /// What an audit of the keys of journals finds first. It applies no transaction.
