@@ -12,6 +12,7 @@ use Rattle.std.proofs.MapsCrossing as maps
 use Rattle.std.proofs.CrossingOver as over
 use Rattle.gtid_set.specs.contracts.GtidSet as GtidSet
 use Rattle.rows.specs.contracts.rows.Rows as Rows
+use Rattle.rows.specs.contracts.key_values.KeyValues as KeyValues
 use Rattle.rows.specs.contracts.name.Name as Name
 use Rattle.rows.specs.contracts.change.Changes as Changes
 use Rattle.rows.specs.contracts.schema.Schema as Schema
@@ -33,17 +34,20 @@ use Rattle.commit_ledger.specs.declared.naming.Ledgers.{Ghosts as LedgerGhosts}
 
 ruleset crosses = (sendable, plain.crosses, maps.crosses)
 
-graph_send : IsSend Graph.the_row
-graph_send = search (crosses, over.crosses) depth 100 fits 100000
-
 set_send : IsSend GtidSet.the_row
 set_send = search crosses depth 100 fits 100000
 
 set_sync : IsSync GtidSet.the_row
 set_sync = search crosses depth 100 fits 100000
 
+key_values_send : IsSend KeyValues.the_row
+key_values_send = search crosses depth 100 fits 100000
+
+graph_send : IsSend Graph.the_row
+graph_send = search (key_values_send, crosses, over.crosses) depth 100 fits 100000
+
 rows_send : IsSend Rows.the_row
-rows_send = search crosses depth 100 fits 100000
+rows_send = search (key_values_send, crosses) depth 100 fits 100000
 
 changes_send : IsSend Changes.the_row
 changes_send = search crosses depth 100 fits 100000

@@ -8,7 +8,7 @@ ghost use Rattle.apply_channel.specs.Kept.{IsLastOpen, received_of};
 ghost use Rattle.apply_channel.specs.Full.{IsFull, gtids_with, IsReceiveFault};
 ghost use Rattle.journal.specs.Faults.{IsFaultOf};
 
-use crate::places::{last_place, open_place, put_node, put_place};
+use crate::places::{last_place, open_unless, put_node, put_place, take_place};
 use crate::slot::{Slot, copy_unless, keys_unless, same_entries};
 use dependency_graph::Graph;
 use gtid_set::{GtidSet, SetFault};
@@ -203,7 +203,7 @@ impl Channel {
     {
         let keys = keys_unless(alloc, executed, &self.schema, &entry.txn)?;
         let txn = copy_unless(executed, &entry.txn)?;
-        let earlier = open_place(&mut self.places, &entry.gtid)?;
+        let earlier = open_unless(executed, &mut self.places, &entry.gtid)?;
         let place = self.slots.len();
         self.slots.push(Slot {
             gtid: entry.gtid,
@@ -221,7 +221,7 @@ impl Channel {
             self.graph.finish(place);
             return Ok(());
         }
-        put_place(&mut self.places, &entry.gtid, Some(place));
+        put_place(&mut self.places, &entry.gtid, place);
         Ok(())
     }
 }
@@ -237,7 +237,7 @@ impl Channel {
         let slot = &mut self.slots[place];
         slot.txn = None;
         let earlier = slot.earlier;
-        put_place(&mut self.places, gtid, earlier);
+        take_place(&mut self.places, gtid, earlier);
         self.graph.finish(place);
         earlier
     }

@@ -1,5 +1,5 @@
 //! The table of the last places of GTIDs, and the node of a new place.
-ghost use Rattle.std.specs.Prelude.{◌≡◌, ◌≢◌, ◌<◌, ◌++◌, [], ◌∷◌, cond, length, AllPairs, OnOk, OnErr, IfOk, IfErr};
+ghost use Rattle.std.specs.Prelude.{◌≡◌, ◌≢◌, ◌<◌, ◌++◌, [], ◌∷◌, cond, false, length, AllPairs, Some, None, OnOk, OnErr, IfOk, IfErr};
 ghost use Rattle.journal.specs.Faults.{IsFaultOf};
 ghost use Rattle.std.specs.FinSet as set;
 ghost use Rattle.std.specs.HashMap.{IsUnchanged};
@@ -42,15 +42,19 @@ fn open_entry(
     Ok(*place)
 }
 
-/// Gives the GTID an entry: its last place.
-pub(crate) fn open_place(
+/// The last place of a GTID. It has an entry then, unless none is wanted.
+pub(crate) fn open_unless(
+    unless: bool,
     places: &mut IndexMap<Gtid, Option<usize>>,
     gtid: &Gtid,
 ) -> Result<Option<usize>, AllocError>
     ensures same { (g : GtidValue) → place_of places.new.entries g ≡ place_of places.old.entries g }
-    ensures opened { OnOk result (HasPlace places.new.entries gtid.now) }
+    ensures opened { OnOk result (unless ≡ false → HasPlace places.new.entries gtid.now) }
     ensures place { IfOk result (λ place. place ≡ place_of places.new.entries gtid.now) }
 {
+    if unless {
+        return Ok(last_place(places, gtid));
+    }
     match open_entry(places, *gtid) {
         Ok(place) => return Ok(place),
         Err(fault) => return Err(fault),
@@ -58,16 +62,34 @@ pub(crate) fn open_place(
 }
 
 /// Writes the last place of a GTID that has an entry.
-pub(crate) fn put_place(
-    places: &mut IndexMap<Gtid, Option<usize>>,
-    gtid: &Gtid,
-    place: Option<usize>,
-)
+pub(crate) fn put_place(places: &mut IndexMap<Gtid, Option<usize>>, gtid: &Gtid, place: usize)
     requires { HasPlace places.old.entries gtid.now }
-    ensures { (g : GtidValue) → place_of places.new.entries g ≡ cond (same_gtid g gtid.now) place (place_of places.old.entries g) }
+    ensures { (g : GtidValue) → place_of places.new.entries g ≡ cond (same_gtid g gtid.now) (Some place) (place_of places.old.entries g) }
 {
     if let Some(last) = places.get_mut(gtid) {
-        *last = place;
+        *last = Some(place);
+    }
+}
+
+/// Lets the entry of a GTID go, which has no place then.
+fn drop_entry(places: &mut IndexMap<Gtid, Option<usize>>, gtid: &Gtid)
+    ensures { (g : GtidValue) → place_of places.new.entries g ≡ cond (same_gtid g gtid.now) None (place_of places.old.entries g) }
+{
+    places.swap_remove(gtid);
+}
+
+/// The last place of a GTID is executed: the one before takes its place in the table, or the entry goes.
+pub(crate) fn take_place(
+    places: &mut IndexMap<Gtid, Option<usize>>,
+    gtid: &Gtid,
+    before: Option<usize>,
+)
+    requires { HasPlace places.old.entries gtid.now }
+    ensures { (g : GtidValue) → place_of places.new.entries g ≡ cond (same_gtid g gtid.now) before (place_of places.old.entries g) }
+{
+    match before {
+        Some(place) => put_place(places, gtid, place),
+        None => drop_entry(places, gtid),
     }
 }
 

@@ -168,6 +168,38 @@ fn inserts_over_one_row(rt: HostRuntime) -> Result<(), Fail> {
     Ok(())
 }
 
+/// An opening row, the images of an update, and what it is answered.
+const UPDATED: [(Short, Short, Short, Option<RowFault>); 4] = [
+    (
+        (1, Some(b'a')),
+        (2, Some(b'a')),
+        (2, Some(b'b')),
+        Some(RowFault::RowMissing { change: 0, key: 0 }),
+    ),
+    (
+        (1, Some(b'a')),
+        (1, Some(b'b')),
+        (1, Some(b'b')),
+        Some(RowFault::RowDiffers { change: 0, key: 0 }),
+    ),
+    ((1, None), (1, None), (1, None), None),
+    ((1, Some(b'a')), (1, Some(b'a')), (2, Some(b'b')), None),
+];
+
+#[test]
+fn updates_over_one_row(rt: HostRuntime) -> Result<(), Fail> {
+    let alloc = rt.alloc();
+    for (opening, before, after, fault) in UPDATED {
+        let mut rows = opened(alloc, opening)?;
+        let txn = update(alloc, before, after)?;
+        let answered = rows.apply(alloc, &txn).err();
+        assert_eq!(rt; answered, fault.map(ApplyFault::Row));
+        let left = if fault.is_some() { opening } else { after };
+        assert!(rt; rows.is_equal(&opened(alloc, left)?));
+    }
+    Ok(())
+}
+
 #[test]
 fn deletes_over_one_row(rt: HostRuntime) -> Result<(), Fail> {
     let alloc = rt.alloc();

@@ -21,7 +21,7 @@ finish-requires c =
     let y : Slot = record { gtid = c.args.entry.now.gtid; txn = c.in_ok-txn.txn; earlier = c.in_ok-earlier.earlier } in
     let at : c.len-place.result ≡ length s.slots.items = search rules in
     subst (λ (ps : List Point). c.len-place.result < length ps) (sym c.in-Ok.ensures.graph)
-    (below_more s.schema s.slots.items s.places.entries c.open_place.new.places.entries s.graph s.received c.self.invariant c.open_place.ensures.same y c.in_ok-earlier.ensures.place
+    (below_more s.schema s.slots.items s.places.entries c.open_unless.new.places.entries s.graph s.received c.self.invariant c.open_unless.ensures.same y c.in_ok-earlier.ensures.place
     c.push.new.self.items c.in_ok-push.ensures.items c.len-place.result at c.in_ok-keys.keys.items c.put_node.new.received c.in-Ok.ensures.received)
 
 pub invariant_of-self-then-executed : goal.invariant_of-self-then-executed
@@ -30,7 +30,7 @@ invariant_of-self-then-executed c =
     let y : Slot = record { gtid = c.args.entry.now.gtid; txn = c.in_ok-txn.txn; earlier = c.in_ok-earlier.earlier } in
     let at : c.len-place.result ≡ length s.slots.items = search rules in
     let done : c.in_ok-txn.txn ≡ None = c.in_ok-txn.ensures ∙ ap (λ b. if b then None else Some c.args.entry.now.txn) c.if-executed.true in
-    kept_done s.schema s.slots.items s.places.entries c.open_place.new.places.entries s.graph s.received c.self.invariant c.open_place.ensures.same y c.in_ok-earlier.ensures.place
+    kept_done s.schema s.slots.items s.places.entries c.open_unless.new.places.entries s.graph s.received c.self.invariant c.open_unless.ensures.same y c.in_ok-earlier.ensures.place
     c.push.new.self.items c.in_ok-push.ensures.items c.len-place.result at c.in_ok-keys.keys.items c.put_node.new.received c.in-Ok.ensures.received
     c.finish.new.self (c.finish.ensures ∙ ap (λ (ps : List Point). finished_at ps c.len-place.result) c.in-Ok.ensures.graph) done
 
@@ -40,7 +40,7 @@ invariant_of-self-2 c =
     let y : Slot = record { gtid = c.args.entry.now.gtid; txn = c.in_ok-txn.txn; earlier = c.in_ok-earlier.earlier } in
     let at : c.len-place.result ≡ length s.slots.items = search rules in
     let there : c.in_ok-txn.txn ≡ Some c.args.entry.now.txn = c.in_ok-txn.ensures ∙ ap (λ b. if b then None else Some c.args.entry.now.txn) c.if-executed.false in
-    kept_open s.schema s.slots.items s.places.entries c.open_place.new.places.entries s.graph s.received c.self.invariant c.open_place.ensures.same y c.in_ok-earlier.ensures.place
+    kept_open s.schema s.slots.items s.places.entries c.open_unless.new.places.entries s.graph s.received c.self.invariant c.open_unless.ensures.same y c.in_ok-earlier.ensures.place
     c.push.new.self.items c.in_ok-push.ensures.items c.len-place.result at c.in_ok-keys.keys.items c.put_node.new.received c.in-Ok.ensures.received
     c.put_node.new.graph c.args.entry.now.txn c.put_place.new.places.entries c.in-Ok.ensures.graph there
     (subst (λ (o : Option Transaction). AreKeysOf s.schema c.in_ok-keys.keys.items o) (sym c.in_ok-txn.ensures) c.in_ok-keys.ensures.keys)

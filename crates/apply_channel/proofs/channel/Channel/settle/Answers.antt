@@ -32,7 +32,7 @@ invariant_of-self c =
       nodes = subst (λ (es : List Received). AreNodesOf s.schema c.finish.new.self es) (sym entries)
           (subst (λ (ps : List Point). AreNodesOf s.schema ps (map_at p executed_one (entries_of slots))) (sym c.finish.ensures) (nodes_finished s.schema s.graph (entries_of slots) p c.self.invariant.nodes));
       linked = linked_settle c.args.gtid.now slots p y refl c.self.invariant.linked last;
-      last = last_settle c.args.gtid.now slots p y refl c.self.invariant.linked last (place_of s.places.entries) (place_of c.put_place.new.places.entries) x is c.put_place.ensures c.self.invariant.last;
+      last = last_settle c.args.gtid.now slots p y refl c.self.invariant.linked last (place_of s.places.entries) (place_of c.take_place.new.places.entries) x is c.take_place.ensures c.self.invariant.last;
       gtids = c.self.invariant.gtids ∙ sym (ap set.from_list (ap (map (λ (e : Received). e.gtid)) entries ∙ gtids_kept (entries_of slots) p));
     }
 
