@@ -1,3 +1,6 @@
 pub mod Sending
+pub mod Within
+pub mod Feeding
 pub mod Runs
 pub mod Naming
+pub mod Beginning

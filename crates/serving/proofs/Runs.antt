@@ -56,7 +56,7 @@ second_part false b e = no_truth e
 both_parts : (a b : Bool) → a ≡ true → b ≡ true → (a && b) ≡ true
 both_parts a b p q = (λ i. p i && b) ∙ q
 
-all_true : {A : Type 0} (p : A → Bool) (xs : List A) (i : ℕ) (x : A) → list_all p xs ≡ true → slice_get xs i ≡ Some x → p x ≡ true
+pub all_true : {A : Type 0} (p : A → Bool) (xs : List A) (i : ℕ) (x : A) → list_all p xs ≡ true → slice_get xs i ≡ Some x → p x ≡ true
 all_true p [] i x h e = not_none x e
 all_true p (y ∷ ys) zero x h e = subst (λ z. p z ≡ true) (same_some y x e) (first_part (p y) (list_all p ys) h)
 all_true p (y ∷ ys) (suc i) x h e = all_true p ys i x (second_part (p y) (list_all p ys) h) e

@@ -3,7 +3,9 @@ ghost use Rattle.std.specs.Prelude.{◌≡◌, ◌≤◌, length, IfOk, IfErr};
 ghost use Rattle.world.specs.Meaning.{AreJournals};
 ghost use Rattle.world.specs.declared.verdict.Verdict.TheVariants.{Sound};
 ghost use Rattle.serving.specs.Serving.{is_sound, world_over, keys_over, verdict_over, IsReady, IsNamed, IsBegun, IsBegunAs, IsRun, IsConcluded, IsServed};
-ghost use Rattle.serving.specs.Faults.{IsAuditFault, IsConcludeFault};
+ghost use Rattle.replica_core.specs.Machine.{opening};
+ghost use Rattle.serving.specs.Served.{IsFaultWhere, KnowsToo, CanServeEach};
+ghost use Rattle.serving.specs.Faults.{IsAuditFault, IsConcludeFault, IsServeFault};
 
 use crate::receiving::serve_journals;
 use crate::working::work_on_all;
@@ -103,6 +105,7 @@ fn ready(
     requires { length journals.now ≤ 256 }
     ensures ready { IfOk result (IsReady rows.now journals.now) }
     ensures named { IfOk result (IsNamed own channels.now journals.now) }
+    ensures fault { IfErr result (λ f. IsFaultWhere f (KnowsToo (opening rows.now.rows) journals.now) (CanServeEach rows.now.schema 0 channels.now journals.now (opening rows.now.rows))) }
 {
     let mut core = Core::open(alloc, own, rows.copy()?)?;
     serve_journals(alloc, &mut core, 0, channels, journals)?;
@@ -113,9 +116,11 @@ fn ready(
 /// and positions each channel, and lets it receive what its journal sends. Where the audit of keys
 /// isn't Sound, its verdict is answered, which is that of the whole audit.
 ///
-/// `SetFault` is want of memory, or full; it is also answered where there are more than 256 journals,
-/// fewer channels than journals, or a transaction or a channel that the replica does not take: none of
-/// them stands in a bundle that was read.
+/// `Memory` is want of memory, and `SourcesFull` comes only where the GTIDs of all journals together
+/// are of more than 65,536 sources. `PoolFull` comes only where there are more than 256 journals, a
+/// journal without a channel whose name no channel before it has, a transaction that the schema does
+/// not take, or a journal of more than 4,294,967,294 entries: of these only the last may stand in a
+/// bundle that was read.
 #[tactic(auto, using(crate::proofs::Runs::keys_begun, crate::proofs::Runs::ready_begun))]
 pub fn begin(
     alloc: Global,
@@ -126,6 +131,7 @@ pub fn begin(
 ) -> Result<Begun, SetFault>
     ensures begun { IfOk result (IsBegun rows.now journals.now) }
     ensures named { IfOk result (IsBegunAs own channels.now journals.now) }
+    ensures fault { IfErr result (λ f. IsServeFault f rows.now channels.now journals.now) }
 {
     if journals.len() > 256 {
         return Err(SetFault::PoolFull);
@@ -134,6 +140,7 @@ pub fn begin(
     if !is_sound(&keys) {
         return Ok(Begun::Verdict(keys));
     }
+    keep_rules(journals);
     let core = ready(alloc, own, rows, channels, journals)?;
     Ok(Begun::Ready(core))
 }
