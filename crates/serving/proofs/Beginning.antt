@@ -150,7 +150,7 @@ rest_fault f site site' s t number channels rest ch journals js j is of same one
 no_channels : (rows : Rows) (g : Gtid) → set.contains (opening rows).executed g ≡ false
 no_channels rows g = set.contains-empty gtid_cmp g
 
-knows_opening : (rows : Rows) (all : Gtids) → Knows (opening rows) all
+pub knows_opening : (rows : Rows) (all : Gtids) → Knows (opening rows) all
 knows_opening rows all g (inl h) = no_truth (sym (no_channels rows g) ∙ h)
 knows_opening rows all g (inr h) = not_none h.1 h.2
 
@@ -164,6 +164,9 @@ whole_in_all (k ∷ js) (suc i) j at =
     set.contains-is_subset gtid_total (whole j) (all_of set.empty (k ∷ js)) (λ q h.
     set.contains-union gtid_total (whole k) (all_of set.empty js) q
     ∙ or_right (set.contains (whole k) q) (set.contains (all_of set.empty js) q) (set.is_subset-contains gtid_total (whole j) (all_of set.empty js) later q h))
+
+pub journals_in : (js : List JournalValue) → AllByRecursion (λ (j : JournalValue). set.is_subset (whole j) (all_of set.empty js) ≡ true) js
+journals_in js = all_from (λ (j : JournalValue). set.is_subset (whole j) (all_of set.empty js) ≡ true) js (whole_in_all js)
 
 -- where the audit of keys is sound, nothing was purged
 unpurged : (start : Database) (js : List JournalValue) → keys_over start js ≡ Sound → (i : ℕ) (j : JournalValue) → slice_get js i ≡ Some j → set.is_subset j.previous set.empty ≡ true
@@ -196,8 +199,7 @@ serve_fault PoolFull start channels js sound rules h = λ can. h (record {
       can_send start.schema j (unpurged start js sound i j at) (all_at (λ (x : JournalValue). IsJournal x.previous x.entries) js i j rules at)
       (all_at (IsHeld start.schema) js i j can.held at));
 })
-serve_fault SourcesFull start channels js sound rules h =
-    h (all_of set.empty js) (knows_opening start.rows (all_of set.empty js), all_from (λ (j : JournalValue). set.is_subset (whole j) (all_of set.empty js) ≡ true) js (whole_in_all js))
+serve_fault SourcesFull start channels js sound rules h = h (all_of set.empty js) (knows_opening start.rows (all_of set.empty js), journals_in js)
 
 -- ---- the audit of keys
 

@@ -4,3 +4,4 @@ pub mod Feeding
 pub mod Runs
 pub mod Naming
 pub mod Beginning
+pub mod GivingUp

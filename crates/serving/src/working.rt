@@ -1,5 +1,6 @@
 //! One seat works through the places of all channels.
-ghost use Rattle.std.specs.Prelude.{◌≡◌, OnOk};
+ghost use Rattle.std.specs.Prelude.{◌≡◌, IfErr, OnOk};
+ghost use Rattle.serving.specs.Served.{IsFaultWhere, Knows};
 ghost use Rattle.serving.specs.Serving.{Works};
 
 use gtid_set::SetFault;
@@ -11,6 +12,7 @@ use std::alloc::Global;
 fn work_at(alloc: Global, core: &mut Core, channel: usize, place: usize) -> Result<(), SetFault>
     ensures site { core.new.site ≡ core.old.site }
     ensures works { OnOk result (Works core.old.site core.old.state core.new.state) }
+    ensures fault { IfErr result (λ f. IsFaultWhere f (Knows core.old.state) (Unit {0})) }
 {
     core.step(alloc, &Event::Take(1, channel, place))?;
     core.step(alloc, &Event::Commit(1))?;
@@ -21,6 +23,7 @@ fn work_at(alloc: Global, core: &mut Core, channel: usize, place: usize) -> Resu
 fn work_on(alloc: Global, core: &mut Core, channel: usize, places: usize) -> Result<(), SetFault>
     ensures site { core.new.site ≡ core.old.site }
     ensures works { OnOk result (Works core.old.site core.old.state core.new.state) }
+    ensures fault { IfErr result (λ f. IsFaultWhere f (Knows core.old.state) (Unit {0})) }
 {
     for place in 0..places {
         work_at(alloc, core, channel, place)?;
@@ -36,6 +39,7 @@ pub(crate) fn work_on_all(
 ) -> Result<(), SetFault>
     ensures site { core.new.site ≡ core.old.site }
     ensures works { OnOk result (Works core.old.site core.old.state core.new.state) }
+    ensures fault { IfErr result (λ f. IsFaultWhere f (Knows core.old.state) (Unit {0})) }
 {
     for (channel, journal) in journals.iter().enumerate() {
         work_on(alloc, core, channel, journal.len())?;

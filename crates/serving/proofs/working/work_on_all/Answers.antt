@@ -1,4 +1,5 @@
-use Rattle.std.proofs.Common.{◌∙◌}
+use Rattle.std.proofs.Common.{rules, ◌∙◌}
+use Rattle.serving.proofs.GivingUp.{work_fault}
 use Rattle.serving.proofs.Runs.{works_more}
 use Rattle.serving.proofs.working.work_on_all.Goals as goal
 
@@ -8,3 +9,9 @@ loop-channel-preserved c = record {
   works = works_more c.args.core.now.site c.loop-channel.core.site c.args.core.now.state c.loop-channel.core.state c.work_on.new.core.state
       c.loop-channel.invariant.site c.loop-channel.invariant.works c.in_ok-work_on.ensures.works;
 }
+
+pub returns-in_err-work_on-clause-fault : goal.returns-in_err-work_on-clause-fault
+returns-in_err-work_on-clause-fault c =
+    let core = c.args.core.now in
+    let h = work_fault c.in_err-work_on.field-0.0 core.site core.state c.loop-channel.core.state c.loop-channel.invariant.works c.in_err-work_on.ensures.fault in
+    search rules
