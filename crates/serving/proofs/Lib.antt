@@ -5,3 +5,4 @@ pub mod Runs
 pub mod Naming
 pub mod Beginning
 pub mod GivingUp
+pub mod Settling

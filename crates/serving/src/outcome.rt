@@ -178,7 +178,7 @@ pub fn conclude(
 /// What the journals that channels bring come to over opening rows: all of them executed together,
 /// or the verdict of their audit, where that is not Sound. One seat takes and commits the places in
 /// order of channels. Where not everything was executed, the audit says why. The faults are those of
-/// `begin` and `conclude`.
+/// `begin`.
 pub fn serve(
     alloc: Global,
     own: SourceId,
@@ -186,13 +186,14 @@ pub fn serve(
     channels: &[Channel],
     journals: &[Journal],
 ) -> Result<Served, SetFault>
-    ensures { IfOk result (IsServed rows.now journals.now) }
+    ensures served { IfOk result (IsServed rows.now journals.now) }
+    ensures fault { IfErr result (λ f. IsServeFault f rows.now channels.now journals.now) }
 {
     let mut core = match begin(alloc, own, rows, channels, journals)? {
         Begun::Ready(core) => core,
         Begun::Verdict(verdict) => return Ok(Served::Verdict(verdict)),
     };
-    work_on_all(alloc, &mut core, journals)?;
+    work_on_all(alloc, &mut core)?;
     match conclude(alloc, rows, journals, &core)? {
         None => Ok(Served::State(core)),
         Some(verdict) => Ok(Served::Verdict(verdict)),
