@@ -1,6 +1,8 @@
 //! What journals come to.
-ghost use Rattle.std.specs.Prelude.{◌≡◌, ◌≤◌, IfOk};
+ghost use Rattle.std.specs.Prelude.{◌≡◌, ◌≤◌, IfOk, IfErr, List};
 ghost use Rattle.world.specs.declared.verdict.Verdict.TheVariants.{Sound};
+ghost use Rattle.txn_journal.specs.declared.bundle.Channel.{Channel};
+ghost use Rattle.serving.specs.Faults.{IsServeFault};
 ghost use Rattle.serving.specs.Serving.{keys_over, IsReady};
 ghost use Rattle.applier.specs.Draining.{AllApply};
 ghost use Rattle.parallel_apply.specs.Applying.{IsApplied};
@@ -39,10 +41,13 @@ fn ended(
     requires keys { keys_over rows.now journals.now ≡ Sound }
     requires ready { IsReady rows.now journals.now book.opening }
     requires work { AllApply book.steps }
-    ensures { IfOk result (IsApplied rows.now journals.now) }
+    ensures applied { IfOk result (IsApplied rows.now journals.now) }
+    ensures fault { IfErr result (λ f. (channels : List Channel) → IsServeFault f rows.now channels journals.now) }
 {
-    drain(alloc, &mut book)?;
-    match conclude(alloc, rows, journals, book.state())? {
+    let drained = drain(alloc, &mut book);
+    let core = book.state();
+    drained?;
+    match conclude(alloc, rows, journals, core)? {
         None => Ok(Applied::State(book)),
         Some(verdict) => Ok(Applied::Verdict(verdict)),
     }
@@ -57,7 +62,8 @@ fn drained_anew(
     channels: &[Channel],
     journals: &[Journal],
 ) -> Result<Applied, SetFault>
-    ensures { IfOk result (IsApplied rows.now journals.now) }
+    ensures applied { IfOk result (IsApplied rows.now journals.now) }
+    ensures fault { IfErr result (λ f. IsServeFault f rows.now channels.now journals.now) }
 {
     match begin(alloc, own, rows, channels, journals)? {
         Begun::Ready(core) => ended(alloc, rows, journals, ClosedBook::start(alloc, core)),
@@ -70,9 +76,11 @@ fn drained_anew(
 /// its own where one can be started; what they leave is applied when they have ended. What is answered
 /// does not depend on their number, nor on the order of their steps.
 ///
-/// `SetFault` is want of memory, or full; it is also answered where there are more than 256 journals,
-/// fewer channels than journals, or a transaction or a channel that the replica does not take: none of
-/// them stands in a bundle that was read.
+/// `Memory` is want of memory, and `SourcesFull` comes only where the GTIDs of all journals together
+/// are of more than 65,536 sources. `PoolFull` comes only where there are more than 256 journals, a
+/// journal without a channel whose name no channel before it has, a transaction that the schema does
+/// not take, or a journal of more than 4,294,967,294 entries: of these only the last may stand in a
+/// bundle that was read. A worker's fault is never the answer.
 pub fn apply_journals<G: Gate + Sync, R: Threads + Wait + Sync>(
     rt: &R,
     alloc: Global,
@@ -84,7 +92,8 @@ pub fn apply_journals<G: Gate + Sync, R: Threads + Wait + Sync>(
     gate: &G,
 ) -> Result<Applied, SetFault>
     requires { (1 ≤ workers) × (workers ≤ 64) }
-    ensures { IfOk result (IsApplied rows.now journals.now) }
+    ensures applied { IfOk result (IsApplied rows.now journals.now) }
+    ensures fault { IfErr result (λ f. IsServeFault f rows.now channels.now journals.now) }
 {
     let core = match begin(alloc, own, rows, channels, journals)? {
         Begun::Ready(core) => core,

@@ -1,5 +1,5 @@
 -- Why a replica that works gives up.
-use Rattle.std.proofs.Common.{◌≡◌, ℕ, ◌+◌, ◌<◌, drop, length, get_or, true, false, ◌&&◌, List, [], ◌∷◌, refl, sym, ◌∙◌, subst, inl, inr}
+use Rattle.std.proofs.Common.{◌≡◌, ℕ, ◌+◌, ◌<◌, drop, length, get_or, true, false, ◌&&◌, List, [], ◌∷◌, Option, None, refl, sym, ◌∙◌, subst, inl, inr}
 use Rattle.std.specs.List.{list_all, AllByRecursion}
 use Rattle.std.specs.FinSet as set
 use Rattle.gtid_set.specs.declared.fault.SetFault.{SetFault}
@@ -19,8 +19,7 @@ use Rattle.txn_journal.specs.declared.bundle.Channel.{Channel}
 use Rattle.serving.specs.Served.{IsFaultWhere, Knows, KnowsWith, CanReceive}
 use Rattle.serving.proofs.Shaping.{works_can}
 use Rattle.serving.proofs.Feeding.{fault_later}
-use Rattle.serving.specs.Serving.{is_work, ReceivesAtWork, ServesEach, Works, IsReady, IsRun}
-use Rattle.serving.proofs.Runs.{each_at_work}
+use Rattle.serving.specs.Serving.{is_work, ReceivesAtWork, ServesEach, Works, IsRun}
 use Rattle.serving.specs.Faults.{IsServeFault, IsConcludeFault}
 use Rattle.serving.proofs.Within.{is_of, knows_step, knows_after, step_fault_where, fault_where}
 use Rattle.serving.proofs.Beginning.{knows_one, knows_opening, journals_in, audit_fault}
@@ -59,11 +58,6 @@ knows_each all site s c [] t serves part has = subst (λ (x : State). Knows x al
 knows_each all site s c (j ∷ js) t serves part has =
     knows_each all site serves.0 (c + 1) js t serves.2 part.1 (knows_one all site s serves.0 c j serves.1 part.0 has)
 
-knows_ready : (start : Database) (js : List JournalValue) (core : Replica) → IsReady start js core → Knows core.state (all_of set.empty js)
-knows_ready start js core ready =
-    let all = all_of set.empty js in
-    knows_each all core.site (opening start.rows) 0 js core.state (each_at_work core.site (opening start.rows) 0 js core.state ready.serves) (journals_in js) (knows_opening start.rows all)
-
 knows_run : (start : Database) (js : List JournalValue) (core : Replica) → IsRun start js core → Knows core.state (all_of set.empty js)
 knows_run start js core run =
     let all = all_of set.empty js in
@@ -85,8 +79,9 @@ from_known Memory start channels js s has h = tt
 from_known PoolFull start channels js s has h = absurd (h tt)
 from_known SourcesFull start channels js s has h = h (all_of set.empty js) has
 
-pub ready_fault : (f : SetFault) (start : Database) (channels : List Channel) (js : List JournalValue) (core : Replica) → IsReady start js core → IsFaultWhere f (Knows core.state) (Unit {0}) → IsServeFault f start channels js
-ready_fault f start channels js core ready h = from_known f start channels js core.state (knows_ready start js core ready) h
+-- a fault of a replica that works on
+pub run_fault : (f : SetFault) (start : Database) (channels : List Channel) (js : List JournalValue) (core : Replica) → IsRun start js core → IsFaultWhere f (Knows core.state) (Unit {0}) → IsServeFault f start channels js
+run_fault f start channels js core run h = from_known f start channels js core.state (knows_run start js core run) h
 
 -- a fault by which a commit of some seat is answered
 pub seat_fault : (f : SetFault) (start : Database) (channels : List Channel) (js : List JournalValue) (core : Replica) (seat : ℕ) → IsRun start js core → IsFaultIn f (committing seat core.state) → IsServeFault f start channels js
@@ -121,3 +116,7 @@ fault_behind f site site' site'' s t u c i e es few is same next now works h =
     (λ all has. (knows_works all site' t u works has.0, has.1))
     (λ can. works_can site'.schema site' t u c (drop (i + 1) es) works can)
     (subst (λ (x : Site). Unreceived f x u c (drop (i + 1) es)) next h))
+
+-- a seat that gives up
+pub rollback_fault : (f : SetFault) (site : Site) (s : State) (seat : ℕ) (answer : Step) → IsFault f None answer → IsFaultWhere f (Knows s) (Unit {0})
+rollback_fault f site s seat answer h = step_fault_where f (Knows s) (Unit {0}) site s (Rollback seat) (λ all has. (refl, has)) h.cause

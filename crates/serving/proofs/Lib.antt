@@ -6,3 +6,4 @@ pub mod Naming
 pub mod Beginning
 pub mod GivingUp
 pub mod Shaping
+pub mod Settling

@@ -622,11 +622,11 @@ run_is start js own core0 core1 opens e serves =
       works = works_none core1.site core1.state;
     }
 
--- what was served, and then worked
-pub run_of : (start : Database) (js : List JournalValue) (core1 core2 : Replica) → IsReady start js core1 → core2.site ≡ core1.site → Works core1.site core1.state core2.state → IsRun start js core2
-run_of start js core1 core2 ready f works = record {
-  schema = ap (λ (x : Site). x.schema) f ∙ ready.schema;
-  served = core1.state;
-  serves = each_at_work core2.site (opening start.rows) 0 js core1.state (subst (λ (x : Site). ServesEach Receives x (opening start.rows) 0 js core1.state) (sym f) ready.serves);
-  works = subst (λ (x : Site). Works x core1.state core2.state) (sym f) works;
+-- a run that went on working
+pub run_further : (start : Database) (js : List JournalValue) (core1 core2 : Replica) → IsRun start js core1 → core2.site ≡ core1.site → Works core1.site core1.state core2.state → IsRun start js core2
+run_further start js core1 core2 run f works = record {
+  schema = ap (λ (x : Site). x.schema) f ∙ run.schema;
+  served = run.served;
+  serves = subst (λ (x : Site). ServesEach ReceivesAtWork x (opening start.rows) 0 js run.served) (sym f) run.serves;
+  works = subst (λ (x : Site). Works x run.served core2.state) (sym f) (works_more core1.site core1.site run.served core1.state core2.state refl run.works works);
 }

@@ -1,3 +1,4 @@
 pub mod Serving
 pub mod Served
 pub mod Faults
+pub mod Working

@@ -10,7 +10,7 @@ ghost use Rattle.serving.specs.Served.{IsFaultWhere, KnowsToo, CanServeEach};
 ghost use Rattle.serving.specs.Faults.{IsAuditFault, IsKeysFault, IsConcludeFault, IsServeFault};
 
 use crate::receiving::serve_journals;
-use crate::working::apply_each;
+use crate::working::{apply_each, finish};
 use audit::{World, WorldFault, audit, audit_keys, world_of};
 use audited_runs::{served_holds_all, workers_decide};
 use gtid_set::{GtidSet, SetFault};
@@ -222,8 +222,8 @@ fn applied(
 
 /// What the journals that channels bring come to over opening rows: all of them executed together,
 /// or the verdict of their audit, where that is not Sound. Channel by channel, one seat applies each
-/// entry as it is received. Where not everything was executed, the audit says why. The faults are those
-/// of `begin` and `conclude`.
+/// entry as it is received, and what is left at the end. Where not everything was executed, the audit
+/// says why. The faults are those of `begin`.
 pub fn serve(
     alloc: Global,
     own: SourceId,
@@ -231,12 +231,15 @@ pub fn serve(
     channels: &[Channel],
     journals: &[Journal],
 ) -> Result<Served, SetFault>
-    ensures { IfOk result (IsServed rows.now journals.now) }
+    ensures served { IfOk result (IsServed rows.now journals.now) }
+    ensures fault { IfErr result (λ f. IsServeFault f rows.now channels.now journals.now) }
 {
     if let Some(verdict) = unsound_keys(alloc, rows, journals)? {
         return Ok(Served::Verdict(verdict));
     }
-    let core = applied(alloc, own, rows, channels, journals)?;
+    keep_rules(journals);
+    let mut core = applied(alloc, own, rows, channels, journals)?;
+    finish(alloc, &mut core)?;
     match conclude(alloc, rows, journals, &core)? {
         None => Ok(Served::State(core)),
         Some(verdict) => Ok(Served::Verdict(verdict)),
