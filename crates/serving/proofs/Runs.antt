@@ -23,7 +23,7 @@ use Rattle.replica_core.specs.Core.{opened}
 use Rattle.faithful_journals.proofs.Lists.{same_some, not_none}
 use Rattle.faithful_runs.specs.Faithful.{start_with}
 use Rattle.faithful_runs.specs.Sent.{sent}
-use Rattle.faithful_runs.specs.Served.{IsDrained, NoLocalCommits, received_on, accepted, on_channel}
+use Rattle.faithful_runs.specs.Served.{IsDrained, NoLocalCommits, received_on, accepted, on_channel, local_commits}
 use Rattle.faithful_runs.specs.Whole.{is_position, WasServedOnce}
 use Rattle.faithful_runs.proofs.Sharing.{after_append, received_append}
 use Rattle.world.specs.Search.{or_next}
@@ -55,7 +55,7 @@ second_part false b e = no_truth e
 both_parts : (a b : Bool) → a ≡ true → b ≡ true → (a && b) ≡ true
 both_parts a b p q = (λ i. p i && b) ∙ q
 
-all_true : {A : Type 0} (p : A → Bool) (xs : List A) (i : ℕ) (x : A) → list_all p xs ≡ true → slice_get xs i ≡ Some x → p x ≡ true
+pub all_true : {A : Type 0} (p : A → Bool) (xs : List A) (i : ℕ) (x : A) → list_all p xs ≡ true → slice_get xs i ≡ Some x → p x ≡ true
 all_true p [] i x h e = not_none x e
 all_true p (y ∷ ys) zero x h e = subst (λ z. p z ≡ true) (same_some y x e) (first_part (p y) (list_all p ys) h)
 all_true p (y ∷ ys) (suc i) x h e = all_true p ys i x (second_part (p y) (list_all p ys) h) e
@@ -103,7 +103,7 @@ nothing_at d site s (Local txn) h = refl
 nothing_at d site s (Purge k) h = refl
 nothing_at d site s Look h = refl
 
-no_receipts : (d : ℕ) (site : Site) (s : State) (es : List Event) → list_all (is_apart d) es ≡ true → received_on d site s es ≡ []
+pub no_receipts : (d : ℕ) (site : Site) (s : State) (es : List Event) → list_all (is_apart d) es ≡ true → received_on d site s es ≡ []
 no_receipts d site s [] h = refl
 no_receipts d site s (e ∷ es) h =
     (λ i. nothing_at d site s e (first_part (is_apart d e) (list_all (is_apart d) es) h) i ++ received_on d site (step site s e).1 es)
@@ -141,12 +141,26 @@ no_locals site s (Local txn ∷ es) h = no_truth h
 no_locals site s (Purge k ∷ es) h = (tt, no_locals site (step site s (Purge k)).1 es h)
 no_locals site s (Look ∷ es) h = (tt, no_locals site (step site s Look).1 es h)
 
+-- quiet events commit nothing here
+pub no_commits : (site : Site) (s : State) (es : List Event) → list_all is_quiet es ≡ true → local_commits site s es ≡ []
+no_commits site s [] h = refl
+no_commits site s (OpenChannel name preserve ∷ es) h = no_commits site (step site s (OpenChannel name preserve)).1 es h
+no_commits site s (Position c ∷ es) h = no_commits site (step site s (Position c)).1 es h
+no_commits site s (Receive c entry ∷ es) h = no_commits site (step site s (Receive c entry)).1 es h
+no_commits site s (Take seat c p ∷ es) h = no_commits site (step site s (Take seat c p)).1 es h
+no_commits site s (Commit seat ∷ es) h = no_commits site (step site s (Commit seat)).1 es h
+no_commits site s (Rollback seat ∷ es) h = no_commits site (step site s (Rollback seat)).1 es h
+no_commits site s (Restart c ∷ es) h = no_commits site (step site s (Restart c)).1 es h
+no_commits site s (Local txn ∷ es) h = no_truth h
+no_commits site s (Purge k ∷ es) h = no_commits site (step site s (Purge k)).1 es h
+no_commits site s (Look ∷ es) h = no_commits site (step site s Look).1 es h
+
 -- all of two lists
 all_of_both : (p : Event → Bool) (es fs : List Event) → list_all p es ≡ true → list_all p fs ≡ true → list_all p (es ++ fs) ≡ true
 all_of_both p es fs h k = list_all-append p es fs ∙ both_parts (list_all p es) (list_all p fs) h k
 
 -- work is apart from each channel
-work_apart : (d : ℕ) (es : List Event) → list_all is_work es ≡ true → list_all (is_apart d) es ≡ true
+pub work_apart : (d : ℕ) (es : List Event) → list_all is_work es ≡ true → list_all (is_apart d) es ≡ true
 work_apart d [] h = refl
 work_apart d (Take seat c p ∷ es) h = work_apart d es h
 work_apart d (Commit seat ∷ es) h = work_apart d es h
@@ -214,10 +228,10 @@ all_by : (p q : Event → Bool) → ((e : Event) → p e ≡ true → q e ≡ tr
 all_by p q each [] h = refl
 all_by p q each (e ∷ es) h = both_parts (q e) (list_all q es) (each e (first_part (p e) (list_all p es) h)) (all_by p q each es (second_part (p e) (list_all p es) h))
 
-feeds_apart : (d c : ℕ) (es : List Event) → list_all (is_feed c) es ≡ true → eqb c d ≡ false → list_all (is_apart d) es ≡ true
+pub feeds_apart : (d c : ℕ) (es : List Event) → list_all (is_feed c) es ≡ true → eqb c d ≡ false → list_all (is_apart d) es ≡ true
 feeds_apart d c es h k = all_by (is_feed c) (is_apart d) (λ e f. feed_apart d c e f k) es h
 
-feeds_quiet : (c : ℕ) (es : List Event) → list_all (is_feed c) es ≡ true → list_all is_quiet es ≡ true
+pub feeds_quiet : (c : ℕ) (es : List Event) → list_all (is_feed c) es ≡ true → list_all is_quiet es ≡ true
 feeds_quiet c es h = all_by (is_feed c) is_quiet (feed_quiet c) es h
 
 feeds_unpositioned : (c d : ℕ) (es : List Event) → list_all (is_feed c) es ≡ true → list_all (λ e. not (is_position d e)) es ≡ true
@@ -331,7 +345,7 @@ fed_by_one c (e ∷ es) = both_parts (eqb c c) (list_all (is_feed c) (map (Recei
 pub comes_at_work : (site : Site) (s : State) (c : ℕ) (entries : List Entry) (s' : State) → Receives site s c entries s' → ReceivesAtWork site s c entries s'
 comes_at_work site s c entries s' r = record { events = map (Receive c) entries; feeds = fed_by_one c entries; now = r.now; got = r.got }
 
-one_at_work : (site : Site) (s : State) (c : ℕ) (j : JournalValue) (s' : State) → ServesOne Receives site s c j s' → ServesOne ReceivesAtWork site s c j s'
+pub one_at_work : (site : Site) (s : State) (c : ℕ) (j : JournalValue) (s' : State) → ServesOne Receives site s c j s' → ServesOne ReceivesAtWork site s c j s'
 one_at_work site s c j s' x = record { all = x.all; asking = x.asking; asks = x.asks; received = comes_at_work site x.asking c x.all s' x.received }
 
 pub each_at_work : (site : Site) (s : State) (c : ℕ) (js : List JournalValue) (s' : State) → ServesEach Receives site s c js s' → ServesEach ReceivesAtWork site s c js s'
@@ -427,7 +441,7 @@ each_after site s c (j ∷ js) s' x =
     ∙ ap (λ (y : State). after site y rest) (one_after site s c j x.0 x.1)
     ∙ sym (after_append site s (events_one site s c j x.0 x.1) rest)
 
-differ : (c d : ℕ) → (c ≡ d → ⊥) → eqb c d ≡ false
+pub differ : (c d : ℕ) → (c ≡ d → ⊥) → eqb c d ≡ false
 differ c d h = is_false (eqb c d) (λ e. h (eqb-true c d e))
 
 -- where no journal has the channel's number, nothing touches it

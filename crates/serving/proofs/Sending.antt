@@ -1,5 +1,5 @@
 -- What a plan sends.
-use Rattle.std.proofs.Common.{◌≡◌, ℕ, zero, suc, ◌+◌, ◌<◌, arith, Bool, true, false, cond, not, List, [], ◌∷◌, ◌++◌, drop, length, get_or, slice_index_or, append_assoc, Option, Some, None, Result, Ok, Err, refl, sym, ap, ◌∙◌}
+use Rattle.std.proofs.Common.{◌≡◌, ℕ, zero, suc, ◌+◌, ◌<◌, arith, Bool, true, false, cond, not, List, [], ◌∷◌, ◌++◌, drop, length, get_or, slice_index_or, append_assoc, Option, Some, None, Result, Ok, Err, refl, sym, ap, ◌∙◌, subst}
 use Rattle.std.proofs.Math.Seq.{drop-cons}
 use Rattle.std.proofs.lemmas.Option.{slice_get_read}
 use Rattle.std.specs.Prelude.{slice_get, nat_lt}
@@ -15,6 +15,7 @@ use Rattle.journal.specs.Journals.{JournalValue, whole}
 use Rattle.auto_position.specs.Sending.{AreAt, IsPlan}
 use Rattle.auto_position.specs.Sending as sending
 use Rattle.auto_position.specs.declared.PositionFault.{PositionFault}
+use Rattle.auto_position.specs.declared.PositionFault.TheVariants.{ReplicaHasMore}
 use Rattle.faithful_runs.specs.Sent.{SendFault, sent}
 use Rattle.serving.specs.Serving.{picked}
 
@@ -84,3 +85,14 @@ sent_ok es = Ok es
 -- the entries at the places of a plan are what is sent
 pub plan_sent : (entries : List Entry) (places : List ℕ) (found : List Entry) (sending : Result (List Entry) PositionFault) → IsPlan entries places sending → found ≡ picked entries places → sending ≡ sent_ok found
 plan_sent entries places found sending plan is = plan.sent_is ∙ ap sent_ok (sym (is ∙ picked_is entries places plan.sends plan.at))
+
+never_refused : (b c : Bool) (x y z : PositionFault) (all : List Entry) → c ≡ true → b ≡ true → ◌≡◌ {A = Result (List Entry) PositionFault} (cond (not b) (Err x) (cond (not c) (Err y) (Ok all))) (Err z) → ⊥
+never_refused true true x y z all known kept e = cc
+never_refused true false x y z all known kept e = cc
+never_refused false c x y z all known kept e = cc
+
+-- a source without a UUID refuses nothing that is asked for rightly
+pub refused_for_more : (j : JournalValue) (ask more : Gtids) (p : PositionFault) → sending.IsRefusal p (sending.sent j ask None) → p ≡ ReplicaHasMore more → set.is_subset j.previous ask ≡ true → ⊥
+refused_for_more j ask more p h is kept =
+    let e : sending.sent j ask None ≡ Err (ReplicaHasMore more) = subst (λ (x : PositionFault). sending.IsRefusal x (sending.sent j ask None)) is h in
+    never_refused (set.is_subset j.previous ask) (set.is_subset set.empty (whole j)) _ _ (ReplicaHasMore more) _ (empty_part (whole j)) kept e

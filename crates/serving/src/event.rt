@@ -1,10 +1,11 @@
 //! One event at a time.
-ghost use Rattle.std.specs.Prelude.{◌≡◌, [], ◌∷◌, ◌++◌, IfOk, OnOk};
+ghost use Rattle.std.specs.Prelude.{◌≡◌, [], ◌∷◌, ◌++◌, IfOk, IfErr, OnOk};
 ghost use Rattle.journal.specs.Writing.{is_number};
 ghost use Rattle.replica_core.specs.Machine.{step};
 ghost use Rattle.replica_core.specs.declared.event.Event.TheVariants as events;
 ghost use Rattle.replica_core.specs.declared.event.Reply.TheVariants as replies;
 ghost use Rattle.faithful_runs.specs.Served.{accepted};
+ghost use Rattle.serving.specs.Served.{IsFaultWhere, IsAny, Knows, KnowsWith, CanOpen, IsOpen, CanReceive};
 ghost use Rattle.serving.specs.Serving.{names_of};
 
 use gtid_set::{GtidSet, SetFault};
@@ -23,6 +24,7 @@ pub(crate) fn open_channel(
     ensures site { core.new.site ≡ core.old.site }
     ensures state { OnOk result (core.new.state ≡ (step core.old.site core.old.state (events.OpenChannel channel.now.name channel.now.preserve)).1) }
     ensures named { OnOk result (names_of core.new.state.channels ≡ names_of core.old.state.channels ++ (channel.now.name, channel.now.preserve) ∷ []) }
+    ensures fault { IfErr result (λ f. IsFaultWhere f IsAny (CanOpen channel.now.name core.old.state)) }
 {
     let name = channel.name.clone()?;
     match core.step(alloc, &Event::OpenChannel(name, channel.preserve))? {
@@ -38,6 +40,7 @@ pub(crate) fn position(alloc: Global, core: &mut Core, channel: usize) -> Result
     ensures state { OnOk result (core.new.state ≡ (step core.old.site core.old.state (events.Position channel)).1) }
     ensures asked { IfOk result (λ asked. (step core.old.site core.old.state (events.Position channel)).0 ≡ replies.Ask asked) }
     ensures named { OnOk result (names_of core.new.state.channels ≡ names_of core.old.state.channels) }
+    ensures fault { IfErr result (λ f. IsFaultWhere f (Knows core.old.state) (IsOpen channel core.old.state)) }
 {
     match core.step(alloc, &Event::Position(channel))? {
         Reply::Ask(asked) => Ok(asked),
@@ -65,6 +68,7 @@ pub(crate) fn receive(
     ensures state { OnOk result (core.new.state ≡ (step core.old.site core.old.state (events.Receive channel entry.now)).1) }
     ensures got { OnOk result (accepted (events.Receive channel entry.now) (step core.old.site core.old.state (events.Receive channel entry.now)).0 ≡ entry.now ∷ []) }
     ensures named { OnOk result (names_of core.new.state.channels ≡ names_of core.old.state.channels) }
+    ensures fault { IfErr result (λ f. IsFaultWhere f (KnowsWith core.old.state (entry.now ∷ [])) (CanReceive core.old.site.schema channel (entry.now ∷ []) core.old.state)) }
 {
     if !is_number(entry.gtid.number) {
         return Err(SetFault::PoolFull);

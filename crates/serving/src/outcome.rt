@@ -1,10 +1,13 @@
 //! What journals come to.
-ghost use Rattle.std.specs.Prelude.{◌≡◌, ◌≤◌, length, IfOk, IfErr};
+ghost use Rattle.std.specs.Prelude.{◌≡◌, ◌≤◌, length, IfOk, IfErr, IsOkUnless};
+ghost use Rattle.gtid_set.specs.declared.fault.SetFault.TheVariants.{Memory};
 ghost use Rattle.world.specs.Meaning.{AreJournals};
 ghost use Rattle.world.specs.declared.verdict.Verdict.TheVariants.{Sound};
 ghost use Rattle.replica_core.specs.Core.{opened};
 ghost use Rattle.serving.specs.Serving.{is_sound, world_over, keys_over, verdict_over, IsReady, IsNamed, IsBegun, IsBegunAs, IsRun, IsConcluded, IsServed, IsFoundInKeys};
-ghost use Rattle.serving.specs.Faults.{IsAuditFault, IsConcludeFault};
+ghost use Rattle.replica_core.specs.Machine.{opening};
+ghost use Rattle.serving.specs.Served.{IsFaultWhere, KnowsToo, CanServeEach};
+ghost use Rattle.serving.specs.Faults.{IsAuditFault, IsKeysFault, IsConcludeFault, IsServeFault};
 
 use crate::receiving::serve_journals;
 use crate::working::apply_each;
@@ -95,7 +98,8 @@ pub fn verdict_over(alloc: Global, rows: &Rows, journals: &[Journal]) -> Result<
 
 /// A replica with these rows that has no channel yet.
 fn opened(alloc: Global, own: SourceId, rows: &Rows) -> Result<Core, SetFault>
-    ensures { IfOk result (λ core. core ≡ opened own rows.now) }
+    ensures ok { IfOk result (λ core. core ≡ opened own rows.now) }
+    ensures fault { IsOkUnless result Memory }
 {
     Core::open(alloc, own, rows.copy()?)
 }
@@ -111,6 +115,7 @@ fn ready(
     requires { length journals.now ≤ 256 }
     ensures ready { IfOk result (IsReady rows.now journals.now) }
     ensures named { IfOk result (IsNamed own channels.now journals.now) }
+    ensures fault { IfErr result (λ f. IsFaultWhere f (KnowsToo (opening rows.now.rows) journals.now) (CanServeEach rows.now.schema 0 channels.now journals.now (opening rows.now.rows))) }
 {
     let mut core = opened(alloc, own, rows)?;
     serve_journals(alloc, &mut core, 0, channels, journals)?;
@@ -127,6 +132,7 @@ fn unsound_keys(
 ) -> Result<Option<Verdict>, SetFault>
     ensures count { IfOk result (λ found. length journals.now ≤ 256) }
     ensures found { IfOk result (IsFoundInKeys rows.now journals.now) }
+    ensures fault { IfErr result (λ f. IsKeysFault f rows.now journals.now) }
 {
     if journals.len() > 256 {
         return Err(SetFault::PoolFull);
@@ -143,9 +149,11 @@ fn unsound_keys(
 /// and positions each channel, and lets it receive what its journal sends. Where the audit of keys
 /// isn't Sound, its verdict is answered, which is that of the whole audit.
 ///
-/// `SetFault` is want of memory, or full; it is also answered where there are more than 256 journals,
-/// fewer channels than journals, or a transaction or a channel that the replica does not take: none of
-/// them stands in a bundle that was read.
+/// `Memory` is want of memory, and `SourcesFull` comes only where the GTIDs of all journals together
+/// are of more than 65,536 sources. `PoolFull` comes only where there are more than 256 journals, a
+/// journal without a channel whose name no channel before it has, a transaction that the schema does
+/// not take, or a journal of more than 4,294,967,294 entries: of these only the last may stand in a
+/// bundle that was read.
 pub fn begin(
     alloc: Global,
     own: SourceId,
@@ -155,10 +163,12 @@ pub fn begin(
 ) -> Result<Begun, SetFault>
     ensures begun { IfOk result (IsBegun rows.now journals.now) }
     ensures named { IfOk result (IsBegunAs own channels.now journals.now) }
+    ensures fault { IfErr result (λ f. IsServeFault f rows.now channels.now journals.now) }
 {
     if let Some(verdict) = unsound_keys(alloc, rows, journals)? {
         return Ok(Begun::Verdict(verdict));
     }
+    keep_rules(journals);
     let core = ready(alloc, own, rows, channels, journals)?;
     Ok(Begun::Ready(core))
 }
@@ -202,7 +212,8 @@ fn applied(
     journals: &[Journal],
 ) -> Result<Core, SetFault>
     requires { length journals.now ≤ 256 }
-    ensures { IfOk result (IsRun rows.now journals.now) }
+    ensures run { IfOk result (IsRun rows.now journals.now) }
+    ensures fault { IfErr result (λ f. IsFaultWhere f (KnowsToo (opening rows.now.rows) journals.now) (CanServeEach rows.now.schema 0 channels.now journals.now (opening rows.now.rows))) }
 {
     let mut core = opened(alloc, own, rows)?;
     apply_each(alloc, &mut core, 0, channels, journals)?;

@@ -1,9 +1,11 @@
 //! Channels that receive what sources send.
 ghost use Rattle.std.specs.Prelude.{◌≡◌, ◌≤◌, ◌+◌, ◌++◌, [], ◌∷◌, IfOk, IfErr, OnOk, IsOkUnless, nat_lt, true, length, take, Ok, None};
 ghost use Rattle.std.specs.List.{list_all};
+ghost use Rattle.std.specs.FinSet as set;
 ghost use Rattle.gtid_set.specs.declared.fault.SetFault.TheVariants.{Memory};
 ghost use Rattle.auto_position.specs.Sending as sending;
 ghost use Rattle.faithful_runs.specs.Sent.{sent};
+ghost use Rattle.serving.specs.Served.{IsFaultWhere, IsAny, KnowsWith, KnowsToo, CanReceive, CanServe, CanServeEach, LeadsTo};
 ghost use Rattle.serving.specs.Serving.{picked, Receives, Asks, ServesOne, ServesEach, names_of, names_asked};
 
 use crate::event::{open_channel, position, receive};
@@ -56,7 +58,8 @@ pub fn entries_sent(
 
 /// What a journal sends to a replica that asks with this set, and no source's UUID is known.
 fn sent_to(alloc: Global, journal: &Journal, asked: &GtidSet) -> Result<Vec<Entry>, SetFault>
-    ensures { IfOk result (λ entries. sent journal.now asked.now None ≡ Ok entries.items) }
+    ensures ok { IfOk result (λ entries. sent journal.now asked.now None ≡ Ok entries.items) }
+    ensures fault { IfErr result (λ f. IsFaultWhere f IsAny (set.is_subset journal.now.previous asked.now ≡ true)) }
 {
     match entries_sent(alloc, None, journal, asked) {
         Ok(entries) => Ok(entries),
@@ -76,6 +79,7 @@ fn receive_all(
     ensures site { core.new.site ≡ core.old.site }
     ensures received { OnOk result (Receives core.old.site core.old.state channel entries.now core.new.state) }
     ensures named { OnOk result (names_of core.new.state.channels ≡ names_of core.old.state.channels) }
+    ensures fault { IfErr result (λ f. IsFaultWhere f (KnowsWith core.old.state entries.now) (CanReceive core.old.site.schema channel entries.now core.old.state)) }
 {
     for entry in entries {
         receive(alloc, core, channel, entry)?;
@@ -93,6 +97,8 @@ pub(crate) fn ask_for(
 ) -> Result<Vec<Entry>, SetFault>
     ensures site { core.new.site ≡ core.old.site }
     ensures asks { IfOk result (λ entries. Asks core.old.site core.old.state number journal.now entries.items core.new.state) }
+    ensures leads { IfOk result (λ entries. LeadsTo core.old.site.schema number channel.now.name journal.now core.old.state entries.items core.new.state) }
+    ensures fault { IfErr result (λ f. IsFaultWhere f (KnowsToo core.old.state (journal.now ∷ [])) (CanServe core.old.site.schema number channel.now.name journal.now core.old.state)) }
     ensures named { OnOk result (names_of core.new.state.channels ≡ names_of core.old.state.channels ++ (channel.now.name, channel.now.preserve) ∷ []) }
 {
     open_channel(alloc, core, channel)?;
@@ -110,6 +116,7 @@ fn serve_journal(
 ) -> Result<(), SetFault>
     ensures site { core.new.site ≡ core.old.site }
     ensures served { OnOk result (ServesOne Receives core.old.site core.old.state number journal.now core.new.state) }
+    ensures fault { IfErr result (λ f. IsFaultWhere f (KnowsToo core.old.state (journal.now ∷ [])) (CanServe core.old.site.schema number channel.now.name journal.now core.old.state)) }
     ensures named { OnOk result (names_of core.new.state.channels ≡ names_of core.old.state.channels ++ (channel.now.name, channel.now.preserve) ∷ []) }
 {
     let entries = ask_for(alloc, core, number, channel, journal)?;
@@ -127,6 +134,7 @@ pub(crate) fn serve_journals(
     requires { number + length journals.now ≤ 256 }
     ensures site { core.new.site ≡ core.old.site }
     ensures served { OnOk result (ServesEach Receives core.old.site core.old.state number journals.now core.new.state) }
+    ensures fault { IfErr result (λ f. IsFaultWhere f (KnowsToo core.old.state journals.now) (CanServeEach core.old.site.schema number channels.now journals.now core.old.state)) }
     ensures named { OnOk result (names_of core.new.state.channels ≡ names_of core.old.state.channels ++ names_asked (take (length journals.now) channels.now)) }
 {
     let Some((journal, others)) = journals.split_first() else {

@@ -1,6 +1,7 @@
 //! One seat applies what channels receive, as it comes.
-ghost use Rattle.std.specs.Prelude.{◌≡◌, ◌≤◌, ◌+◌, OnOk, length};
-ghost use Rattle.serving.specs.Serving.{Works, ReceivesAtWork, ServesOne, ServesEach};
+ghost use Rattle.std.specs.Prelude.{◌≡◌, ◌≤◌, ◌+◌, ◌++◌, [], ◌∷◌, IfErr, OnOk, length};
+ghost use Rattle.serving.specs.Served.{IsFaultWhere, Knows, KnowsWith, KnowsToo, CanReceive, CanServe, CanServeEach};
+ghost use Rattle.serving.specs.Serving.{Works, ReceivesAtWork, ServesOne, ServesEach, names_of};
 
 use crate::event::receive;
 use crate::receiving::ask_for;
@@ -14,6 +15,7 @@ use txn_journal::Channel;
 fn work_at(alloc: Global, core: &mut Core, channel: usize, place: usize) -> Result<(), SetFault>
     ensures site { core.new.site ≡ core.old.site }
     ensures works { OnOk result (Works core.old.site core.old.state core.new.state) }
+    ensures fault { IfErr result (λ f. IsFaultWhere f (Knows core.old.state) (Unit {0})) }
 {
     core.step(alloc, &Event::Take(1, channel, place))?;
     core.step(alloc, &Event::Commit(1))?;
@@ -30,6 +32,8 @@ fn apply_entries(
 ) -> Result<(), SetFault>
     ensures site { core.new.site ≡ core.old.site }
     ensures applied { OnOk result (ReceivesAtWork core.old.site core.old.state channel entries.now core.new.state) }
+    ensures named { OnOk result (names_of core.new.state.channels ≡ names_of core.old.state.channels) }
+    ensures fault { IfErr result (λ f. IsFaultWhere f (KnowsWith core.old.state entries.now) (CanReceive core.old.site.schema channel entries.now core.old.state)) }
 {
     for (place, entry) in entries.iter().enumerate() {
         receive(alloc, core, channel, entry)?;
@@ -48,6 +52,8 @@ fn apply_journal(
 ) -> Result<(), SetFault>
     ensures site { core.new.site ≡ core.old.site }
     ensures served { OnOk result (ServesOne ReceivesAtWork core.old.site core.old.state number journal.now core.new.state) }
+    ensures named { OnOk result (names_of core.new.state.channels ≡ names_of core.old.state.channels ++ (channel.now.name, channel.now.preserve) ∷ []) }
+    ensures fault { IfErr result (λ f. IsFaultWhere f (KnowsToo core.old.state (journal.now ∷ [])) (CanServe core.old.site.schema number channel.now.name journal.now core.old.state)) }
 {
     let entries = ask_for(alloc, core, number, channel, journal)?;
     apply_entries(alloc, core, number, &entries)
@@ -64,6 +70,7 @@ pub(crate) fn apply_each(
     requires { number + length journals.now ≤ 256 }
     ensures site { core.new.site ≡ core.old.site }
     ensures served { OnOk result (ServesEach ReceivesAtWork core.old.site core.old.state number journals.now core.new.state) }
+    ensures fault { IfErr result (λ f. IsFaultWhere f (KnowsToo core.old.state journals.now) (CanServeEach core.old.site.schema number channels.now journals.now core.old.state)) }
 {
     let Some((journal, others)) = journals.split_first() else {
         return Ok(());

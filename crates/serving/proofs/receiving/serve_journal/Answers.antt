@@ -1,6 +1,8 @@
 use Rattle.std.proofs.Common.{List, subst}
 use Rattle.journal.specs.declared.Entry.{Entry}
+use Rattle.serving.specs.Served.{IsFaultWhere, KnowsWith, CanReceive}
 use Rattle.serving.specs.Serving.{Receives}
+use Rattle.serving.proofs.Feeding.{not_received_at, on_err}
 use Rattle.serving.proofs.Runs.{on_ok, serves_one}
 use Rattle.serving.proofs.receiving.serve_journal.Goals as goal
 
@@ -12,3 +14,13 @@ returns-clause-served c =
     c.ask_for.ensures.site c.in_ok-entries.ensures.asks
     (subst (λ (entries : List Entry). Receives c.ask_for.new.core.site c.ask_for.new.core.state c.args.number entries c.receive_all.new.core.state) c.deref.ensures.value received))
     c.receive_all.ensures.received
+
+pub returns-clause-fault : goal.returns-clause-fault
+returns-clause-fault c =
+    let core = c.args.core.now in
+    let fed = c.ask_for.new.core in
+    on_err c.receive_all.result
+    (λ f h. not_received_at f core.site fed.site core.state fed.state c.args.number c.args.channel.now.name c.args.journal.now c.in_ok-entries.entries.items
+    c.ask_for.ensures.site c.in_ok-entries.ensures.leads
+    (subst (λ (es : List Entry). IsFaultWhere f (KnowsWith fed.state es) (CanReceive fed.site.schema c.args.number es fed.state)) c.deref.ensures.value h))
+    c.receive_all.ensures.fault
