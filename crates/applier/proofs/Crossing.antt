@@ -52,6 +52,9 @@ rows_send = search (key_values_send, crosses) depth 100 fits 100000
 changes_send : IsSend Changes.the_row
 changes_send = search crosses depth 100 fits 100000
 
+changes_sync : IsSync Changes.the_row
+changes_sync = search crosses depth 100 fits 100000
+
 journal_send : IsSend Journal.the_row
 journal_send = search (changes_send, set_send, crosses) depth 100 fits 100000
 
@@ -59,7 +62,7 @@ own_send : IsSend OwnJournal.the_row
 own_send = search (journal_send, set_send, crosses) depth 100 fits 100000
 
 slot_send : IsSend Slot.the_row
-slot_send = search crosses depth 100 fits 100000
+slot_send = search (changes_send, crosses) depth 100 fits 100000
 
 name_send : IsSend Name.the_row
 name_send = search crosses depth 100 fits 100000
@@ -77,10 +80,10 @@ core_send : IsSend Core.the_row
 core_send = search (crosses, rows_send, own_send, channel_send) depth 100 fits 100000
 
 event_send : IsSend (Enum (shape Event.the_type))
-event_send = enum_send (shape Event.the_type) ((search (name_send, crosses) depth 100 fits 100000, (search sendable, tt)), ((search sendable, tt), ((search sendable, (search (name_send, crosses) depth 100 fits 100000, tt)), ((search sendable, (search sendable, (search sendable, tt))), ((search sendable, tt), ((search sendable, tt), ((search sendable, tt), ((search (name_send, crosses) depth 100 fits 100000, tt), ((search sendable, tt), (tt, tt))))))))))
+event_send = enum_send (shape Event.the_type) ((search (name_send, crosses) depth 100 fits 100000, (search sendable, tt)), ((search sendable, tt), ((search sendable, (search (changes_send, crosses) depth 100 fits 100000, tt)), ((search sendable, (search sendable, (search sendable, tt))), ((search sendable, tt), ((search sendable, tt), ((search sendable, tt), ((search (name_send, crosses) depth 100 fits 100000, tt), ((search sendable, tt), (tt, tt))))))))))
 
 event_sync : IsSync (Enum (shape Event.the_type))
-event_sync = enum_sync (shape Event.the_type) ((search (name_sync, crosses) depth 100 fits 100000, (search sendable, tt)), ((search sendable, tt), ((search sendable, (search (name_sync, crosses) depth 100 fits 100000, tt)), ((search sendable, (search sendable, (search sendable, tt))), ((search sendable, tt), ((search sendable, tt), ((search sendable, tt), ((search (name_sync, crosses) depth 100 fits 100000, tt), ((search sendable, tt), (tt, tt))))))))))
+event_sync = enum_sync (shape Event.the_type) ((search (name_sync, crosses) depth 100 fits 100000, (search sendable, tt)), ((search sendable, tt), ((search sendable, (search (changes_sync, crosses) depth 100 fits 100000, tt)), ((search sendable, (search sendable, (search sendable, tt))), ((search sendable, tt), ((search sendable, tt), ((search sendable, tt), ((search (name_sync, crosses) depth 100 fits 100000, tt), ((search sendable, tt), (tt, tt))))))))))
 
 reply_send : IsSend (Enum (shape Reply.the_type))
 reply_send = search (set_send, crosses) depth 100 fits 100000

@@ -277,11 +277,17 @@ fn local(alloc: Global, text: &[u8]) -> Result<Event, Fault> {
     local_of(&bundle)
 }
 
+/// Asks for the transaction of a bundle's text.
+fn ask_local(rt: &impl Print, alloc: Global, core: &mut Core, text: &[u8]) -> Result<(), Fault> {
+    let event = local(alloc, text)?;
+    ask(rt, alloc, core, &event)
+}
+
 /// Transactions of the server's own: the second does not apply, and its number is free for the third.
 fn own_transactions(rt: &impl Print, alloc: Global, core: &mut Core) -> Result<(), Fault> {
-    ask(rt, alloc, core, &local(alloc, FIRST)?)?;
-    ask(rt, alloc, core, &local(alloc, AGAIN)?)?;
-    ask(rt, alloc, core, &local(alloc, THIRD)?)
+    ask_local(rt, alloc, core, FIRST)?;
+    ask_local(rt, alloc, core, AGAIN)?;
+    ask_local(rt, alloc, core, THIRD)
 }
 
 /// What a replica is asked.

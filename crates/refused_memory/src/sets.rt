@@ -19,14 +19,24 @@ pub fn text_of(alloc: Global, set: &GtidSet) -> Result<String, Fault> {
     }
 }
 
+/// A set without the members of another.
+fn less(alloc: Global, all: &GtidSet, some: &GtidSet) -> Result<GtidSet, Fault> {
+    match all.subtract(alloc, some) {
+        Ok(left) => Ok(left),
+        Err(_) => Ok(all.subtract(alloc, some)?),
+    }
+}
+
 /// The numbers 1 to 10 of a source without 3, 5 and 6.
-pub fn subtracted(rt: &impl Print, alloc: Global) -> Result<(), Fault> {
+fn left(alloc: Global) -> Result<GtidSet, Fault> {
     let all = set_of(alloc, "aaaaaaaa-aaaa-aaaa-aaaa-aaaaaaaaaaaa:1-10")?;
     let some = set_of(alloc, "aaaaaaaa-aaaa-aaaa-aaaa-aaaaaaaaaaaa:3:5-6")?;
-    let left = match all.subtract(alloc, &some) {
-        Ok(left) => left,
-        Err(_) => all.subtract(alloc, &some)?,
-    };
+    less(alloc, &all, &some)
+}
+
+/// One set is taken from another.
+pub fn subtracted(rt: &impl Print, alloc: Global) -> Result<(), Fault> {
+    let left = left(alloc)?;
     let text = text_of(alloc, &left)?;
     println!(rt; "subtracted {text}")?;
     Ok(())

@@ -26,17 +26,25 @@ fn answer(alloc: Global, text: &str) -> Result<String, AllocError> {
     }
 }
 
+fn is_answered(alloc: Global, text: &str, want: &str) -> Result<bool, AllocError> {
+    let told = answer(alloc, text)?;
+    Ok(told.as_str() == want)
+}
+
+/// Whether the bundle with this line in place of one of its own is answered so.
+fn is_changed(alloc: Global, number: usize, line: &str, want: &str) -> Result<bool, AllocError> {
+    let text = changed(alloc, &BUNDLE, number, line)?;
+    is_answered(alloc, text.as_str(), want)
+}
+
 /// The bundle is read, and each change is refused.
 #[test]
 fn changes_of_a_bundle(rt: HostRuntime) -> Result<(), Fail> {
     let alloc = rt.alloc();
     let text = joined(alloc, &BUNDLE)?;
-    let told = answer(alloc, text.as_str())?;
-    assert_eq!(rt; told.as_str(), "read");
+    assert!(rt; is_answered(alloc, text.as_str(), "read")?);
     for (number, line, want) in CHANGES {
-        let text = changed(alloc, &BUNDLE, number, line)?;
-        let told = answer(alloc, text.as_str())?;
-        assert_eq!(rt; told.as_str(), want);
+        assert!(rt; is_changed(alloc, number, line, want)?);
     }
     Ok(())
 }

@@ -1,10 +1,11 @@
 //! What a channel has received, which place waits for which, and what is left once a GTID is executed.
-use crate::lines::{BUNDLE, joined};
+use crate::lines::{bundle, journal};
 use apply_channel::Channel;
 use gtid_text::{Gtid, SourceId};
+use journal::Journal;
 use std::alloc::Global;
 use std::test::Fail;
-use txn_journal::{decode, decode_bundle};
+use txn_journal::Bundle;
 
 /// Two inserts, and an update of the first row.
 const THREE: [&str; 12] = [
@@ -141,20 +142,36 @@ const CASES: [Case; 7] = [
     },
 ];
 
-/// A channel that has received these entries of a journal.
-fn received(alloc: Global, lines: &[&str], places: &[usize]) -> Result<Channel, Fail> {
-    let text = joined(alloc, &BUNDLE)?;
-    let bundle = decode_bundle(alloc, text.as_bytes())?;
+/// The first channel of a bundle, which has received nothing.
+fn opened_of(alloc: Global, bundle: &Bundle) -> Result<Channel, Fail> {
     let first = bundle.channels().first().ok_or("a channel")?;
     let name = first.name.clone()?;
-    let mut channel = Channel::open(alloc, bundle.schema().clone()?, name, false);
-    let text = joined(alloc, lines)?;
-    let journal = decode(alloc, text.as_bytes())?;
+    Ok(Channel::open(alloc, bundle.schema().clone()?, name, false))
+}
+
+fn opened(alloc: Global) -> Result<Channel, Fail> {
+    let bundle = bundle(alloc)?;
+    opened_of(alloc, &bundle)
+}
+
+/// Receives these entries of a journal.
+fn receive_of(
+    alloc: Global,
+    channel: &mut Channel,
+    journal: &Journal,
+    places: &[usize],
+) -> Result<(), Fail> {
     for place in places {
         let entry = journal.entries().get(*place).ok_or("an entry")?;
         channel.receive(alloc, entry, false)?;
     }
-    Ok(channel)
+    Ok(())
+}
+
+/// Receives what the case says.
+fn receive(alloc: Global, channel: &mut Channel, case: &Case) -> Result<(), Fail> {
+    let journal = journal(alloc, case.journal)?;
+    receive_of(alloc, channel, &journal, case.received)
 }
 
 fn blocker(channel: &Channel, place: usize) -> Option<usize> {
@@ -206,18 +223,24 @@ fn is_done(channel: &Channel, case: &Case, gtid: &Gtid, all: usize) -> bool {
         && channel.len() == case.received.len()
 }
 
-/// Whether a channel does as the case says.
-fn goes(alloc: Global, case: &Case) -> Result<bool, Fail> {
-    let mut channel = received(alloc, case.journal, case.received)?;
+/// Whether a channel that has received nothing does as the case says.
+fn goes_on(alloc: Global, channel: &mut Channel, case: &Case) -> Result<bool, Fail> {
+    receive(alloc, channel, case)?;
     let gtid = Gtid {
         source: SourceId::from_bits(0xaaaa_aaaa_aaaa_aaaa_aaaa_aaaa_aaaa_aaaa),
         number: case.executed,
     };
-    let (_, all) = shown(&channel, &gtid);
-    if !waits(&channel, case) || !executes(alloc, &mut channel, &gtid)? {
+    let (_, all) = shown(channel, &gtid);
+    if !waits(channel, case) || !executes(alloc, channel, &gtid)? {
         return Ok(false);
     }
-    Ok(is_done(&channel, case, &gtid, all))
+    Ok(is_done(channel, case, &gtid, all))
+}
+
+/// Whether a channel does as the case says.
+fn goes(alloc: Global, case: &Case) -> Result<bool, Fail> {
+    let mut channel = opened(alloc)?;
+    goes_on(alloc, &mut channel, case)
 }
 
 /// A place waits for the least earlier one with a common key; executed, its GTID keeps its places and

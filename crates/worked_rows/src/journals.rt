@@ -52,16 +52,24 @@ fn a_journal_is_written_as_it_was_read(rt: HostRuntime) -> Result<(), Fail> {
     Ok(())
 }
 
+fn is_answered(alloc: Global, text: &str, want: &str) -> Result<bool, AllocError> {
+    let told = answer(alloc, text)?;
+    Ok(told.as_str() == want)
+}
+
+/// Whether the journal with this line in place of one of its own is answered so.
+fn is_changed(alloc: Global, number: usize, line: &str, want: &str) -> Result<bool, AllocError> {
+    let text = changed(alloc, &JOURNAL, number, line)?;
+    is_answered(alloc, text.as_str(), want)
+}
+
 /// Each change is refused, and so is the empty input.
 #[test]
 fn changes_of_a_journal(rt: HostRuntime) -> Result<(), Fail> {
     let alloc = rt.alloc();
     for (number, line, want) in CHANGES {
-        let text = changed(alloc, &JOURNAL, number, line)?;
-        let told = answer(alloc, text.as_str())?;
-        assert_eq!(rt; told.as_str(), want);
+        assert!(rt; is_changed(alloc, number, line, want)?);
     }
-    let told = answer(alloc, "")?;
-    assert_eq!(rt; told.as_str(), "refused E15 truncated at line 1");
+    assert!(rt; is_answered(alloc, "", "refused E15 truncated at line 1")?);
     Ok(())
 }

@@ -1,7 +1,9 @@
 //! Texts by their lines.
 use gtid_report::{Fault, render_fault};
+use journal::Journal;
 use std::alloc::{AllocError, Global};
-use txn_journal::JournalFault;
+use std::test::Fail;
+use txn_journal::{Bundle, JournalFault, decode, decode_bundle};
 
 /// A journal of two entries.
 pub(crate) const JOURNAL: [&str; 9] = [
@@ -54,6 +56,18 @@ pub(crate) fn joined(alloc: Global, lines: &[&str]) -> Result<String, AllocError
         push_line(&mut text, line)?;
     }
     Ok(text)
+}
+
+/// The bundle of one table and two channels.
+pub(crate) fn bundle(alloc: Global) -> Result<Bundle, Fail> {
+    let text = joined(alloc, &BUNDLE)?;
+    Ok(decode_bundle(alloc, text.as_bytes())?)
+}
+
+/// The journal of these lines.
+pub(crate) fn journal(alloc: Global, lines: &[&str]) -> Result<Journal, Fail> {
+    let text = joined(alloc, lines)?;
+    Ok(decode(alloc, text.as_bytes())?)
 }
 
 /// The lines with another one in place of the one of this number, which counts from 1. An empty one

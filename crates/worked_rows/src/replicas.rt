@@ -3,14 +3,15 @@ ghost use Rattle.std.specs.Prelude.{◌≡◌, IfOk, true};
 ghost use Rattle.journal.specs.Writing.{is_number};
 ghost use Rattle.replica_core.specs.Machine.{is_numbered, AreNumbered};
 
-use crate::lines::{BUNDLE, joined};
+use crate::lines::{bundle, joined};
 use gtid_text::{Gtid, SourceId};
-use journal::{Entry, GREATEST};
+use journal::{Entry, GREATEST, Journal};
 use replica_core::{Core, Event, Reply};
 use rows::{Name, Patch, RowFault, Rows, Transaction, prepare};
-use std::alloc::Global;
+use std::alloc::{AllocError, Global};
+use std::process::Abort;
 use std::test::Fail;
-use txn_journal::{decode, decode_bundle};
+use txn_journal::{Bundle, decode};
 
 const A: u128 = 0xaaaa_aaaa_aaaa_aaaa_aaaa_aaaa_aaaa_aaaa;
 
@@ -39,25 +40,39 @@ pub(crate) fn name(alloc: Global, text: &str) -> Result<Name, Fail> {
     Ok(Name::new(String::from_str(alloc, text)?)?)
 }
 
-/// A replica with the table of the bundle and no row.
-pub(crate) fn opened(alloc: Global) -> Result<Core, Fail> {
-    let text = joined(alloc, &BUNDLE)?;
-    let bundle = decode_bundle(alloc, text.as_bytes())?;
+/// A replica with the tables of a bundle and no row.
+fn opened_of(alloc: Global, bundle: &Bundle) -> Result<Core, Fail> {
     let rows = Rows::open(alloc, bundle.schema().clone()?);
     Ok(Core::open(alloc, bundle.replica(), rows)?)
 }
 
-/// The transaction of these change lines.
-pub(crate) fn txn(alloc: Global, changes: &[&str]) -> Result<Transaction, Fail> {
+/// A replica with the table of the bundle and no row.
+pub(crate) fn opened(alloc: Global) -> Result<Core, Fail> {
+    let bundle = bundle(alloc)?;
+    opened_of(alloc, &bundle)
+}
+
+/// A journal of one transaction, with these change lines.
+fn one_txn(alloc: Global, changes: &[&str]) -> Result<String, AllocError> {
     let mut text = String::from_str(
         alloc,
         "journal 1\nprevious -\ntxn aaaaaaaa-aaaa-aaaa-aaaa-aaaaaaaaaaaa:1\n",
     )?;
     text.push_str(joined(alloc, changes)?.as_str())?;
     text.push_str("end\nclose\n")?;
-    let journal = decode(alloc, text.as_bytes())?;
+    Ok(text)
+}
+
+fn first_txn(journal: &Journal) -> Result<Transaction, Fail> {
     let entry = journal.entries().first().ok_or("an entry")?;
     Ok(entry.txn.clone()?)
+}
+
+/// The transaction of these change lines.
+pub(crate) fn txn(alloc: Global, changes: &[&str]) -> Result<Transaction, Fail> {
+    let text = one_txn(alloc, changes)?;
+    let journal = decode(alloc, text.as_bytes())?;
+    first_txn(&journal)
 }
 
 pub(crate) fn entry(
@@ -113,12 +128,17 @@ fn receive(
 }
 
 /// Channels x and y; A:1 is received on x, and B:1, an insert of the same row, on y.
+fn receive_two(alloc: Global, core: &mut Core) -> Result<(), Fail> {
+    open_channel(alloc, core, "x")?;
+    open_channel(alloc, core, "y")?;
+    receive(alloc, core, 0, (A, 1), &["ins t 1 x61 null"])?;
+    receive(alloc, core, 1, (B, 1), &["ins t 1 x63 null"])
+}
+
+/// A replica that has received two inserts of one row.
 fn two_inserts(alloc: Global) -> Result<Core, Fail> {
     let mut core = opened(alloc)?;
-    open_channel(alloc, &mut core, "x")?;
-    open_channel(alloc, &mut core, "y")?;
-    receive(alloc, &mut core, 0, (A, 1), &["ins t 1 x61 null"])?;
-    receive(alloc, &mut core, 1, (B, 1), &["ins t 1 x63 null"])?;
+    receive_two(alloc, &mut core)?;
     Ok(core)
 }
 
@@ -163,12 +183,15 @@ fn is_installed(alloc: Global, core: &mut Core) -> Result<bool, Fail> {
     )
 }
 
+fn installs(alloc: Global) -> Result<bool, Fail> {
+    let mut core = two_inserts(alloc)?;
+    is_installed(alloc, &mut core)
+}
+
 /// A patch of what stands still is installed: the GTID is executed, and the row is there.
 #[test]
 fn a_prepared_commit(rt: HostRuntime) -> Result<(), Fail> {
-    let alloc = rt.alloc();
-    let mut core = two_inserts(alloc)?;
-    assert!(rt; is_installed(alloc, &mut core)?);
+    assert!(rt; installs(rt.alloc())?);
     Ok(())
 }
 
@@ -186,16 +209,27 @@ fn commits_other(alloc: Global, core: &mut Core) -> Result<bool, Fail> {
     Ok(is_committed(&reply, &gtid(B, 1)))
 }
 
-/// Whether a commit of seat 1 by this patch is refused for its primary key, and leaves the rows.
-fn is_stale(alloc: Global, core: &mut Core, patch: Patch) -> Result<bool, Fail> {
-    let before = core.copy(alloc)?;
+/// Whether a commit of seat 1 by this patch is refused for its primary key, and leaves the rows as they
+/// are in a copy made before.
+fn is_refused_beside(
+    alloc: Global,
+    core: &mut Core,
+    patch: Patch,
+    before: &Core,
+) -> Result<bool, Fail> {
     let reply = commit_by(alloc, core, patch)?;
     let fault = RowFault::DuplicateKey { change: 0, key: 0 };
     Ok(
         is_refused(&reply, &gtid(A, 1), fault)
             && core.rows().is_equal(before.rows())
-            && !core.is_equal(&before),
+            && !core.is_equal(before),
     )
+}
+
+/// Whether a commit of seat 1 by this patch is refused for its primary key, and leaves the rows.
+fn is_stale(alloc: Global, core: &mut Core, patch: Patch) -> Result<bool, Fail> {
+    let before = core.copy(alloc)?;
+    is_refused_beside(alloc, core, patch, &before)
 }
 
 /// The patch is made, and then another seat commits.
@@ -207,13 +241,16 @@ fn late(alloc: Global, core: &mut Core) -> Result<bool, Fail> {
     is_stale(alloc, core, patch)
 }
 
+fn comes_late(alloc: Global) -> Result<bool, Fail> {
+    let mut core = two_inserts(alloc)?;
+    late(alloc, &mut core)
+}
+
 /// Meanwhile another seat has committed a row under the same key: the refusal is that of a plain
 /// commit, and the rows are as they were.
 #[test]
 fn a_prepared_commit_that_is_stale(rt: HostRuntime) -> Result<(), Fail> {
-    let alloc = rt.alloc();
-    let mut core = two_inserts(alloc)?;
-    assert!(rt; late(alloc, &mut core)?);
+    assert!(rt; comes_late(rt.alloc())?);
     Ok(())
 }
 
@@ -235,27 +272,34 @@ fn goes_alike(
     Ok(before && !between && copy.is_equal(core))
 }
 
-/// Whether a copy is equal until one of both takes a step, and goes the same way.
-fn is_apart(alloc: Global, core: &mut Core) -> Result<bool, Fail> {
-    let mut copy = core.copy(alloc)?;
+/// Whether a copy is equal until one of both takes or commits, and goes the same way.
+fn goes_beside(alloc: Global, core: &mut Core, copy: &mut Core) -> Result<bool, Fail> {
     if !goes_alike(
         alloc,
         core,
-        &mut copy,
+        copy,
         Event::Take(1, 0, 0),
         Event::Take(1, 0, 0),
     )? {
         return Ok(false);
     }
-    goes_alike(alloc, core, &mut copy, Event::Commit(1), Event::Commit(1))
+    goes_alike(alloc, core, copy, Event::Commit(1), Event::Commit(1))
+}
+
+fn is_apart(alloc: Global, core: &mut Core) -> Result<bool, Fail> {
+    let mut copy = core.copy(alloc)?;
+    goes_beside(alloc, core, &mut copy)
+}
+
+fn goes_its_own_way(alloc: Global) -> Result<bool, Fail> {
+    let mut core = two_inserts(alloc)?;
+    is_apart(alloc, &mut core)
 }
 
 /// A copy is equal until one of both takes a step, and goes the same way.
 #[test]
 fn a_copy_goes_its_own_way(rt: HostRuntime) -> Result<(), Fail> {
-    let alloc = rt.alloc();
-    let mut core = two_inserts(alloc)?;
-    assert!(rt; is_apart(alloc, &mut core)?);
+    assert!(rt; goes_its_own_way(rt.alloc())?);
     Ok(())
 }
 
@@ -288,12 +332,19 @@ fn purges_own(alloc: Global, core: &mut Core) -> Result<bool, Fail> {
     )
 }
 
+fn stays_executed_on(alloc: Global, core: &mut Core) -> Result<bool, Fail> {
+    Ok(commits_own(alloc, core)? && purges_own(alloc, core)?)
+}
+
+fn stays_executed(alloc: Global) -> Result<bool, Fail> {
+    let mut core = opened(alloc)?;
+    stays_executed_on(alloc, &mut core)
+}
+
 /// The first transaction of the server's own is number 1 of its UUID. Purged, it stays executed.
 #[test]
 fn a_local_is_purged_and_stays_executed(rt: HostRuntime) -> Result<(), Fail> {
-    let alloc = rt.alloc();
-    let mut core = opened(alloc)?;
-    assert!(rt; commits_own(alloc, &mut core)? && purges_own(alloc, &mut core)?);
+    assert!(rt; stays_executed(rt.alloc())?);
     Ok(())
 }
 
@@ -327,27 +378,44 @@ fn shown(alloc: Global, core: &Core) -> Result<(u128, Option<usize>, Option<bool
     Ok((asked, core.next_ready(0, 0), is_held(core), owned))
 }
 
+fn is_shown(
+    alloc: Global,
+    core: &Core,
+    want: (u128, Option<usize>, Option<bool>, usize),
+) -> Result<bool, Fail> {
+    Ok(shown(alloc, core)? == want)
+}
+
 /// What a replica shows of a channel that has received one entry, before it is taken, then, and once
 /// it is executed.
+fn shows_a_channel(rt: &impl Abort, alloc: Global, core: &mut Core) -> Result<(), Fail> {
+    assert!(rt; core.channel(0).is_some() && core.channel(2).is_none());
+    assert!(rt; is_shown(alloc, core, (1, Some(0), Some(true), 0))?);
+    go(alloc, core, Event::Take(1, 0, 0))?;
+    assert!(rt; is_shown(alloc, core, (1, None, Some(true), 1))?);
+    go(alloc, core, Event::Commit(1))?;
+    assert!(rt; is_shown(alloc, core, (1, None, Some(false), 0))?);
+    assert!(rt; !core.drained());
+    Ok(())
+}
+
 #[test]
 fn a_channel_is_shown(rt: HostRuntime) -> Result<(), Fail> {
     let alloc = rt.alloc();
     let mut core = two_inserts(alloc)?;
-    assert!(rt; core.channel(0).is_some() && core.channel(2).is_none());
-    assert_eq!(rt; shown(alloc, &core)?, (1, Some(0), Some(true), 0));
-    go(alloc, &mut core, Event::Take(1, 0, 0))?;
-    assert_eq!(rt; shown(alloc, &core)?, (1, None, Some(true), 1));
-    go(alloc, &mut core, Event::Commit(1))?;
-    assert_eq!(rt; shown(alloc, &core)?, (1, None, Some(false), 0));
-    assert!(rt; !core.drained());
-    Ok(())
+    shows_a_channel(&rt, alloc, &mut core)
+}
+
+/// Receives a transaction of its own source.
+fn receive_own(alloc: Global, core: &mut Core) -> Result<(), Fail> {
+    open_channel(alloc, core, "x")?;
+    receive(alloc, core, 0, (C, 1), &[])
 }
 
 /// A replica that has received a transaction of its own source.
 fn one_received(alloc: Global) -> Result<Core, Fail> {
     let mut core = opened(alloc)?;
-    open_channel(alloc, &mut core, "x")?;
-    receive(alloc, &mut core, 0, (C, 1), &[])?;
+    receive_own(alloc, &mut core)?;
     Ok(core)
 }
 
@@ -394,13 +462,19 @@ fn passes_over(alloc: Global, core: &mut Core) -> Result<bool, Fail> {
     }
 }
 
+fn leaves_two(alloc: Global, core: &mut Core) -> Result<bool, Fail> {
+    Ok(passes_over(alloc, core)? && core.journal().as_journal().len() == 2)
+}
+
+fn waits_for_its_number(alloc: Global) -> Result<bool, Fail> {
+    let mut core = one_received(alloc)?;
+    leaves_two(alloc, &mut core)
+}
+
 /// Events in turn: a number that is owned is not taken by a transaction of the server's own, until it
 /// is free again.
 #[test]
 fn a_local_passes_over_an_owned_number(rt: HostRuntime) -> Result<(), Fail> {
-    let alloc = rt.alloc();
-    let mut core = one_received(alloc)?;
-    assert!(rt; passes_over(alloc, &mut core)?);
-    assert_eq!(rt; core.journal().as_journal().len(), 2);
+    assert!(rt; waits_for_its_number(rt.alloc())?);
     Ok(())
 }

@@ -73,6 +73,27 @@ fn shows_both(book: &ClosedBook) -> bool {
         && has_both(book)
 }
 
+/// The first seat receives both entries, and then each seat commits one of them.
+fn commit_both<N: Naming + Send + Sync, R: Threads + Wait + Sync>(
+    rt: &R,
+    alloc: Global,
+    replica: &SharedReplica<N>,
+    passes: &mut [Pass<N>],
+) -> Result<(), Fail> {
+    let first = passes.first_mut().ok_or("a first pass")?;
+    receives(rt, alloc, replica, first)?;
+    commit_at_once(rt, alloc, replica, passes);
+    Ok(())
+}
+
+/// Whether all passes close a book that shows both commits.
+fn close_with_both<N: Naming>(replica: SharedReplica<N>, passes: Vec<Pass<N>>) -> bool {
+    match replica.close(passes) {
+        Ok(book) => shows_both(&book),
+        Err(_) => false,
+    }
+}
+
 fn two_threads<N: Naming + Send + Sync, R: Threads + Wait + Abort + Sync>(
     rt: &R,
     alloc: Global,
@@ -87,13 +108,10 @@ fn two_threads<N: Naming + Send + Sync, R: Threads + Wait + Abort + Sync>(
     let Ok((replica, mut passes)) = SharedReplica::<N>::open(alloc, blanks, core, 2) else {
         return Err("memory".into());
     };
-    let first = passes.first_mut().ok_or("a first pass")?;
-    receives(rt, alloc, &replica, first)?;
-    commit_at_once(rt, alloc, &replica, passes.as_mut_slice());
-    let Ok(book) = replica.close(passes) else {
-        return Err("a closed book".into());
-    };
-    assert!(rt; shows_both(&book));
+    let committed = commit_both(rt, alloc, &replica, passes.as_mut_slice());
+    let shown = close_with_both(replica, passes);
+    committed?;
+    assert!(rt; shown);
     Ok(())
 }
 
@@ -145,6 +163,26 @@ fn commits_prepared<N: Naming, R: Wait>(
     Ok(is_committed(&reply))
 }
 
+/// The first seat receives both entries. Whether it then commits a patch of the first.
+fn receives_and_commits<N: Naming, R: Wait>(
+    rt: &R,
+    alloc: Global,
+    replica: &SharedReplica<N>,
+    passes: &mut [Pass<N>],
+) -> Result<bool, Fail> {
+    let pass = passes.first_mut().ok_or("a pass")?;
+    receives(rt, alloc, replica, pass)?;
+    commits_prepared(rt, alloc, replica, pass)
+}
+
+/// What the book counts that all passes close.
+fn closed_counts<N: Naming>(replica: SharedReplica<N>, passes: Vec<Pass<N>>) -> Option<Counts> {
+    match replica.close(passes) {
+        Ok(book) => Some(book.counts()),
+        Err(_) => None,
+    }
+}
+
 fn one_prepares<N: Naming, R: Abort + Wait>(
     rt: &R,
     alloc: Global,
@@ -159,18 +197,15 @@ fn one_prepares<N: Naming, R: Abort + Wait>(
     let Ok((replica, mut passes)) = SharedReplica::<N>::open(alloc, blanks, core, 1) else {
         return Err("memory".into());
     };
-    let pass = passes.first_mut().ok_or("a pass")?;
-    receives(rt, alloc, &replica, pass)?;
-    assert!(rt; commits_prepared(rt, alloc, &replica, pass)?);
-    let Ok(book) = replica.close(passes) else {
-        return Err("a closed book".into());
-    };
+    let committed = receives_and_commits(rt, alloc, &replica, passes.as_mut_slice());
+    let counts = closed_counts(replica, passes);
+    assert!(rt; committed?);
     assert_eq!(rt;
-        book.counts(),
-        Counts {
+        counts,
+        Some(Counts {
             steps: 6,
             commits: 1
-        }
+        })
     );
     Ok(())
 }
@@ -251,6 +286,24 @@ fn state(alloc: Global, book: &ClosedBook) -> Result<String, Fail> {
     Ok(render_state(alloc, book.state().executed(), book.state().rows())?)
 }
 
+/// What is left of the book is drained: the steps, the counts and the state before and after.
+fn drains<R: Abort>(rt: &R, alloc: Global, book: &mut ClosedBook) -> Result<(), Fail> {
+    let counts = book.counts();
+    let before = book.steps().len();
+    assert_eq!(rt;
+        state(alloc, book)?.as_str(),
+        "executed aaaaaaaa-aaaa-aaaa-aaaa-aaaaaaaaaaaa:2\nrow t 2 x62 null\n"
+    );
+    drain(alloc, book)?;
+    assert!(rt; is_drain(book.steps().get(before..).unwrap_or(&[])));
+    assert_eq!(rt; book.counts(), counts);
+    assert_eq!(rt;
+        state(alloc, book)?.as_str(),
+        "executed aaaaaaaa-aaaa-aaaa-aaaa-aaaaaaaaaaaa:1-3\nrow t 1 x61 5\nrow t 2 x62 null\n"
+    );
+    Ok(())
+}
+
 fn one_works_alone<N: Naming + Send + Sync, R: Threads + Wait + Abort + Sync>(
     rt: &R,
     alloc: Global,
@@ -266,20 +319,7 @@ fn one_works_alone<N: Naming + Send + Sync, R: Threads + Wait + Abort + Sync>(
         return Err("memory".into());
     };
     let mut book = worked_alone(rt, alloc, replica, passes)?;
-    let counts = book.counts();
-    let before = book.steps().len();
-    assert_eq!(rt;
-        state(alloc, &book)?.as_str(),
-        "executed aaaaaaaa-aaaa-aaaa-aaaa-aaaaaaaaaaaa:2\nrow t 2 x62 null\n"
-    );
-    drain(alloc, &mut book)?;
-    assert!(rt; is_drain(book.steps().get(before..).unwrap_or(&[])));
-    assert_eq!(rt; book.counts(), counts);
-    assert_eq!(rt;
-        state(alloc, &book)?.as_str(),
-        "executed aaaaaaaa-aaaa-aaaa-aaaa-aaaaaaaaaaaa:1-3\nrow t 1 x61 5\nrow t 2 x62 null\n"
-    );
-    Ok(())
+    drains(rt, alloc, &mut book)
 }
 
 /// What one seat holds and what waits for it is left by the other seat's worker, and the drain makes
