@@ -4,7 +4,7 @@ use Rattle.std.specs.Prelude.{slice_get, nat_le, option_map, option_and_then}
 use Rattle.std.specs.FinSet as set
 use Rattle.std.specs.FinMap as finmap
 use Rattle.apply_channel.specs.Channels.{ChannelValue, Received, same_name, is_full, with_asked}
-use Rattle.replica_core.specs.declared.event.Event.TheVariants.{Receive, Take, Commit}
+use Rattle.replica_core.specs.declared.event.Event.TheVariants.{Take, Commit, Rollback}
 use Rattle.replica_core.specs.declared.event.Reply.TheVariants.{Ask, NotInSchema}
 use Rattle.rows.specs.Database.{Database}
 use Rattle.rows.specs.Fits.{misfit}
@@ -24,6 +24,7 @@ use Rattle.applier.proofs.Moves.{settled_by}
 use Rattle.applier.proofs.Seats.{freed, more_seats}
 use Rattle.replica_core.specs.Seated.{AreSeated}
 use Rattle.applier.proofs.Settling.{follows_self, follows_further, nothing_below, below_follows, one_more_place, one_more_channel, whole_channel, all_channels}
+use Rattle.serving.specs.Serving.{Works}
 use Rattle.serving.specs.Working.{Leaves, Settles, Finishes}
 
 option_cases : {A : Type 0} (o : Option A) → (o ≡ None) ⊎ ((x : A) × (o ≡ Some x))
@@ -132,3 +133,6 @@ pub one_more_free : (s t : State) (r : Reply) (seat : ℕ) → 1 ≤ seat → se
 one_more_free s t r n low high seated made free seat l less =
     let f = freed s t r n low high seated made in
     more_seats s t n seat free f.0 f.1 l less
+
+pub rollback_works : (site : Site) (s t : State) (r : Reply) (seat : ℕ) → ◌≡◌ {A = Step} (r, t) (step site s (Rollback seat)) → Works site s t
+rollback_works site s t r seat made = record { events = Rollback seat ∷ []; work = refl; now = ap (λ (x : Step). x.1) made }
