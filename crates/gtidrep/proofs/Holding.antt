@@ -7,10 +7,7 @@ use Rattle.gtid_set.specs.declared.fault.SetFault.{SetFault}
 use Rattle.gtid_set.specs.declared.fault.SetFault.TheVariants as sets
 use Rattle.rows.specs.Apply.{Rows}
 use Rattle.rows.specs.declared.change.RowFault.{RowFault}
-use Rattle.rows.specs.Database.{Database}
-use Rattle.journal.specs.Journals.{JournalValue}
-use Rattle.source_history.specs.World.{World, rows_of}
-use Rattle.world.specs.Audit.{world_of, verdict}
+use Rattle.source_history.specs.World.{rows_of}
 use Rattle.world.specs.declared.verdict.Verdict.{Verdict}
 use Rattle.world.specs.declared.verdict.Verdict.TheVariants.{Unequal, Purged, Missing, Shared, NotClosed, DoesNotApply, Sound}
 use Rattle.serving.specs.Serving.{IsServed}

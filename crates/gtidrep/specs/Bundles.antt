@@ -1,5 +1,5 @@
 -- What a bundle is asked for, and what is answered.
-use Rattle.std.specs.Prelude.{ℕ, List, Result, Ok, Err}
+use Rattle.std.specs.Prelude.{ℕ, ◌<◌, List, Result, Ok, Err}
 use Rattle.std.specs.FinSet as set
 use Rattle.rows.specs.declared.change.RowFault.{RowFault}
 use Rattle.rows.specs.Apply.{Rows}
@@ -7,15 +7,19 @@ use Rattle.world.specs.Audit.{world_of, verdict}
 use Rattle.world.specs.declared.verdict.Verdict.{Verdict}
 use Rattle.world.specs.declared.verdict.Verdict.TheVariants.{Unequal, Purged, Missing, Shared, NotClosed, DoesNotApply, Sound}
 use Rattle.source_history.specs.World.{World, rows_of}
-use Rattle.gtid_set.specs.Sets.{Gtids}
+use Rattle.gtid_set.specs.Sets.{Gtids, source_count, most_sources}
 use Rattle.audited_runs.specs.Deciding.{all_of}
 use Rattle.txn_journal.specs.BundleStates.{BundleValue}
 use Rattle.txn_journal.specs.BundleReading.{bundle_start, eats_bundle, closing_bundle}
 use Rattle.txn_journal.specs.BundleText.{WritesBundle}
 use Rattle.txn_journal.specs.BundleRefused.{RefusesBundle}
 use Rattle.txn_journal.specs.declared.fault.JournalFault.{JournalFault}
+use Rattle.gtid_report.specs.declared.refusal.Refusal.TheVariants as refusal
+use Rattle.gtid_report.specs.declared.fault.Fault.{Fault}
+use Rattle.gtid_report.specs.declared.fault.Fault.TheVariants as fault
 use Rattle.gtid_report.specs.State.{state_text}
 use Rattle.gtid_report.specs.VerdictLines.{verdict_line}
+use Rattle.serving.specs.Faults.{IsServable}
 use Rattle.serving.specs.declared.outcome.Served.{Served}
 use Rattle.serving.specs.declared.outcome.Served.TheVariants as served
 use Rattle.parallel_apply.specs.declared.outcome.Applied.{Applied}
@@ -92,3 +96,10 @@ applied b = state_or_verdict (verdict_told b) (union_told b) (rows_of (world_tol
 -- it is what applying answers to these bytes
 abbrev pub Applies : List ℕ → Said → Type 0
 Applies bytes said = Tells SpellsBundle bundle_in applied bytes said
+
+-- It is not applied: memory was refused, its journals are not such as can be served, or their GTIDs are of too many sources.
+abbrev pub IsUnapplied : BundleValue → Fault → Type 0
+IsUnapplied b fault.Memory = Unit {0}
+IsUnapplied b (fault.Refused refusal.PoolFull) = IsServable b.start b.channels b.journals → ⊥
+IsUnapplied b (fault.Refused refusal.SourcesFull) = most_sources < source_count (union_told b)
+IsUnapplied b (fault.Refused r) = ⊥

@@ -2,7 +2,7 @@
 ghost use Rattle.std.specs.Prelude.{◌≡◌, ◌≤◌, ◌⊎◌, IfOk, IfErr};
 ghost use Rattle.gtidrep.specs.Edge.{one_more, HasReadTooMuch};
 ghost use Rattle.gtidrep.specs.Said.{Answers, BeginsAnswer, Holds, HoldsOne, Comes, Finds};
-ghost use Rattle.gtidrep.specs.Bundles.{state_said, served_said, applied_said, applied, Applies};
+ghost use Rattle.gtidrep.specs.Bundles.{state_said, served_said, applied_said, applied, Applies, IsUnapplied};
 
 use crate::answer::{Answer, send, settle};
 use crate::audit_command::verdict_answer;
@@ -50,7 +50,8 @@ fn applied_answer(alloc: Global, applied: &Applied) -> Result<Answer, AllocError
 
 /// What a bundle comes to where one thread applies it.
 fn apply_alone(alloc: Global, bundle: &Bundle) -> Result<Answer, Fault>
-    ensures { Comes (applied bundle.now) result }
+    ensures comes { Comes (applied bundle.now) result }
+    ensures fault { IfErr result (IsUnapplied bundle.now) }
 {
     match serve(
         alloc,
@@ -73,7 +74,8 @@ fn apply_together<G: Gate + Sync, R: Threads + Wait + Sync>(
     gate: &G,
 ) -> Result<Answer, Fault>
     requires { (1 ≤ workers) × (workers ≤ 64) }
-    ensures { Comes (applied bundle.now) result }
+    ensures comes { Comes (applied bundle.now) result }
+    ensures fault { IfErr result (IsUnapplied bundle.now) }
 {
     match apply_journals(
         rt,
@@ -91,7 +93,10 @@ fn apply_together<G: Gate + Sync, R: Threads + Wait + Sync>(
 }
 
 /// What a bundle comes to: the same for every number of workers and every order of their steps. One
-/// worker is the calling thread, which passes no gate.
+/// worker is the calling thread, which passes no gate. A refusal is `SourcesFull` only where the GTIDs
+/// of all journals together are of more than 65,536 sources, and `PoolFull` only where there are more
+/// than 256 journals, a journal without a channel whose name no channel before it has, a transaction
+/// that the schema does not take, or a journal of more than 4,294,967,294 entries.
 pub fn apply_decoded<G: Gate + Sync, R: Threads + Wait + Sync>(
     rt: &R,
     alloc: Global,
@@ -100,7 +105,8 @@ pub fn apply_decoded<G: Gate + Sync, R: Threads + Wait + Sync>(
     gate: &G,
 ) -> Result<Answer, Fault>
     requires { (1 ≤ workers) × (workers ≤ 64) }
-    ensures { Comes (applied bundle.now) result }
+    ensures comes { Comes (applied bundle.now) result }
+    ensures fault { IfErr result (IsUnapplied bundle.now) }
 {
     if workers == 1 {
         apply_alone(alloc, bundle)

@@ -9,7 +9,7 @@ use Rattle.gtidrep.proofs.apply_command.bytes_answer.Goals as goal
 pub returns-in-Ok : goal.returns-in-Ok
 returns-in-Ok g c =
     subst (λ (bytes : List ℕ). Finds Applies bytes c.apply_decoded.result) c.deref.ensures.value
-    (found_in SpellsBundle bundle_in applied c.deref.result.now c.in-Ok.bundle c.apply_decoded.result c.in-Ok.ensures.found c.in-Ok.ensures.exact c.apply_decoded.ensures)
+    (found_in SpellsBundle bundle_in applied c.deref.result.now c.in-Ok.bundle c.apply_decoded.result c.in-Ok.ensures.found c.in-Ok.ensures.exact c.apply_decoded.ensures.comes)
 
 pub returns-in-Err : goal.returns-in-Err
 returns-in-Err g c =
