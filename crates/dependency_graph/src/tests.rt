@@ -32,9 +32,10 @@ fn keys(alloc: Global, numbers: &[i64]) -> Result<Vec<Key>, Fail>
     let mut keys: Vec<Key> = Vec::new(alloc);
     for number in numbers {
         let key = key(alloc, *number)?;
-        if !is_among(&keys, &key) {
-            keys.push(key)?;
+        if is_among(&keys, &key) {
+            continue;
         }
+        keys.push(key)?;
     }
     Ok(keys)
 }
