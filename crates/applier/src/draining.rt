@@ -3,7 +3,8 @@ ghost use Rattle.std.specs.Prelude.{◌≡◌, ◌≢◌, ◌≤◌, ◌+◌, �
 ghost use Rattle.std.specs.List.{list_any};
 ghost use Rattle.std.specs.FinMap as finmap;
 ghost use Rattle.apply_channel.specs.Channels.{ChannelValue};
-ghost use Rattle.applier.specs.Draining.{Drains, NothingIsOwned, Follows, IsDoneBelow, IsDone, IsWaiting, IsSettledAt, AreStoppedOrDone, IsCommitFault};
+ghost use Rattle.replica_core.specs.Draining.{NothingIsOwned, Follows, IsDoneBelow, IsDone, IsWaiting, IsSettledAt, AreStoppedOrDone};
+ghost use Rattle.applier.specs.Draining.{Drains, IsCommitFault};
 
 use gtid_set::SetFault;
 use gtid_text::Gtid;
@@ -81,23 +82,13 @@ fn settle_all(alloc: Global, book: &mut ClosedBook) -> Result<(), SetFault>
     ensures fault { IfErr result (λ f. IsCommitFault f book.new.now.state) }
 {
     for channel in 0..usize::MAX {
-        let Some(count) = places(book.state(), channel) else {
+        let Some(count) = book.state().places(channel) else {
             return Ok(());
         };
         settle_channel(alloc, book, channel, count)?;
     }
     // No memory holds so many channels.
     Err(SetFault::Memory)
-}
-
-/// How many places a channel has.
-fn places(core: &Core, channel: usize) -> Option<usize>
-    ensures { MatchOption result (slice_get core.now.state.channels channel ≡ None) (λ count. (one : ChannelValue) → slice_get core.now.state.channels channel ≡ Some one → length one.received ≡ count) }
-{
-    match core.channel(channel) {
-        Some(one) => Some(one.len()),
-        None => None,
-    }
 }
 
 /// Applies what is left of a channel.

@@ -6,10 +6,10 @@ use Rattle.std.specs.Ordering.{eq_by_cmp}
 use Rattle.std.specs.FinSet as set
 use Rattle.gtid_text.specs.declared.Gtid.{Gtid}
 use Rattle.gtid_text.specs.Gtids.{gtid_cmp, same_gtid}
+use Rattle.gtid_text.proofs.SameGtid.{same_flip}
 use Rattle.gtid_set.proofs.SetLemmas.{gtid_tied, gtid_total}
 use Rattle.apply_channel.specs.Channels.{Received, received_gtids}
 use Rattle.apply_channel.specs.Kept.{is_open_at}
-use Rattle.apply_channel.proofs.LastPlaces.{same_flip}
 
 neither : (a b : Bool) → (a || b) ≡ false → (a ≡ false) × (b ≡ false)
 neither true b e = absurd (true≢false e)

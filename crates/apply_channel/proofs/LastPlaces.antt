@@ -7,32 +7,11 @@ use Rattle.std.proofs.lemmas.List.{length_push}
 use Rattle.rows.specs.declared.change.Transaction.{Transaction}
 use Rattle.gtid_text.specs.declared.Gtid.{Gtid}
 use Rattle.gtid_text.specs.Gtids.{same_gtid}
+use Rattle.gtid_text.proofs.SameGtid.{both, same_itself, same_flip, same_is_equal}
 use Rattle.apply_channel.specs.declared.slot.Slot.{Slot}
 use Rattle.apply_channel.specs.Channels.{Received, settle, map_at, executed_one}
 use Rattle.apply_channel.specs.Kept.{entries_of, received_of, is_open_of, is_open_at, IsLastOpen, AreLinked, AreLast}
 use Rattle.apply_channel.proofs.Nodes.{same_some, not_none, get_below}
-
--- ---- the same GTID
-
-pub same_itself : (g : Gtid) → same_gtid g g ≡ true
-same_itself g = grind (arith, nat_tests)
-
-pub same_flip : (g h : Gtid) → same_gtid g h ≡ same_gtid h g
-same_flip g h = grind (arith, nat_tests)
-
-pub both_true : (a b : Bool) → (a && b) ≡ true → (a ≡ true) × (b ≡ true)
-both_true true b e = (refl, e)
-both_true false b e = absurd (true≢false (sym e))
-
-equal_numbers : (a b : ℕ) → (a == b) ≡ true → a ≡ b
-equal_numbers a b e = grind (arith, nat_tests)
-
-pub same_is_equal : (a b : Gtid) → same_gtid a b ≡ true → a ≡ b
-same_is_equal a b e =
-    let parts = both_true (a.source == b.source) (a.number == b.number) e in
-    let source = equal_numbers a.source b.source parts.0 in
-    let number = equal_numbers a.number b.number parts.1 in
-    λ i. record { source = source i; number = number i }
 
 -- ---- places in order
 
@@ -167,7 +146,7 @@ open_slot g (x ∷ slots) (suc i) t e = open_slot g slots i t e
 
 open_gtid : (g h : Gtid) (o : Option Received) → option_map_or (is_open_of g) o false ≡ true → option_map_or (is_open_of h) o false ≡ true → g ≡ h
 open_gtid g h None a b = absurd (true≢false (sym a))
-open_gtid g h (Some e) a b = sym (same_is_equal e.gtid g (both_true (is_some e.txn) (same_gtid e.gtid g) a).1) ∙ same_is_equal e.gtid h (both_true (is_some e.txn) (same_gtid e.gtid h) b).1
+open_gtid g h (Some e) a b = sym (same_is_equal e.gtid g (both (is_some e.txn) (same_gtid e.gtid g) a).1) ∙ same_is_equal e.gtid h (both (is_some e.txn) (same_gtid e.gtid h) b).1
 
 is_false : (b : Bool) → (b ≡ true → ⊥) → b ≡ false
 is_false true h = absurd (h refl)
@@ -196,7 +175,7 @@ module _ (g : Gtid) (slots : List Slot) (p : ℕ) (s : Slot) (done : is_some s.t
   pub before_last : (x : Slot) → slice_get slots p ≡ Some x → IsLastOpen (entries_of slots) g p x.earlier
   before_last x is =
       let opens : is_open_of g (received_of x) ≡ true = sym (open_slot g slots p x is) ∙ is_last.1 in
-      let parts = both_true (is_some x.txn) (same_gtid x.gtid g) opens in
+      let parts = both (is_some x.txn) (same_gtid x.gtid g) opens in
       subst (λ k. IsLastOpen (entries_of slots) k p x.earlier) (same_is_equal x.gtid g parts.1) (linked p x is parts.0)
 
   -- the place before is the last one now
@@ -246,7 +225,7 @@ settle_twice e false h = absurd (true≢false (sym h))
 
 pub settle_again : (g : Gtid) (es : List Received) (p : ℕ) → is_open_at g es p ≡ true → map (settle g) (map_at p executed_one es) ≡ map (settle g) es
 settle_again g [] p h = refl
-settle_again g (e ∷ es) zero h = ap (λ x. x ∷ map (settle g) es) (settle_twice e (same_gtid e.gtid g) (both_true (is_some e.txn) (same_gtid e.gtid g) h).1)
+settle_again g (e ∷ es) zero h = ap (λ x. x ∷ map (settle g) es) (settle_twice e (same_gtid e.gtid g) (both (is_some e.txn) (same_gtid e.gtid g) h).1)
 settle_again g (e ∷ es) (suc p) h = ap (λ xs. settle g e ∷ xs) (settle_again g es p h)
 
 settle_no : (e : Received) (o : Option Transaction) (b : Bool) → e.txn ≡ o → (is_some o && b) ≡ false → cond b (executed_one e) e ≡ e

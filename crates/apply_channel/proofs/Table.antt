@@ -3,8 +3,8 @@ use Rattle.std.proofs.Common.{◌≡◌, ℕ, Bool, true, false, cond, List, [],
 use Rattle.std.specs.Option.{unwrap_or}
 use Rattle.gtid_text.specs.declared.Gtid.{Gtid}
 use Rattle.gtid_text.specs.Gtids.{same_gtid}
+use Rattle.gtid_text.proofs.SameGtid.{same_flip, same_is_equal, same_itself}
 use Rattle.apply_channel.specs.Kept.{IsOpened, entry_of, place_of}
-use Rattle.apply_channel.proofs.LastPlaces.{same_flip, same_is_equal, same_itself}
 
 unwrap_cond : (b : Bool) (w o : Option (Option ℕ)) → unwrap_or (cond b w o) None ≡ cond b (unwrap_or w None) (unwrap_or o None)
 unwrap_cond true w o = refl

@@ -8,3 +8,5 @@ pub mod Numbers
 pub mod Sounding
 pub mod Hashed
 pub mod Apart
+pub mod Rising
+pub mod Once

@@ -19,7 +19,8 @@ fn keep_rules(journals: &[Journal])
     }
 }
 
-/// A key that two sources touch, or else what is left out of a journal.
+/// A key that two sources touch, or else what is left out of a journal. Where journals are in order
+/// nothing is left out of them, and no table of what each transaction needs is made.
 fn shared_or_left_out(
     alloc: Global,
     world: &World,
@@ -30,6 +31,10 @@ fn shared_or_left_out(
     requires within { purged world.now journals.now ≡ None }
     ensures { IfOk result (λ found. found ≡ or_next (shared world.now) (not_closed world.now journals.now)) }
 {
+    keep_rules(journals);
+    if world.are_in_order(alloc, journals)? {
+        return world.shared_unless_apart(alloc);
+    }
     let needed = world.needs(alloc)?;
     if !needed.apart {
         if let Some(verdict) = world.shared(alloc)? {

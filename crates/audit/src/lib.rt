@@ -9,6 +9,7 @@ mod finding;
 mod gaps;
 mod missing;
 mod needs;
+mod ordered;
 mod purged;
 mod shared;
 mod sources;

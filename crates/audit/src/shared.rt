@@ -1,5 +1,5 @@
 //! Keys that transactions of two sources touch.
-ghost use Rattle.std.specs.Prelude.{◌≡◌, IfOk, map};
+ghost use Rattle.std.specs.Prelude.{◌≡◌, IfOk, map, true, None};
 ghost use Rattle.std.specs.FinMap as finmap;
 ghost use Rattle.world.specs.Audit.{shared};
 ghost use Rattle.world.specs.Folds.{shared_from};
@@ -32,7 +32,38 @@ fn first_shared(
     Ok(None)
 }
 
+/// Whether these entries, in turn, are seen to touch no key that another source touched before.
+fn are_apart(alloc: Global, schema: &Schema, entries: &[Entry]) -> Result<bool, AllocError>
+    ensures { IfOk result (λ yes. yes ≡ true → shared_from schema.now finmap.empty (map as_pair entries.now) ≡ None) }
+{
+    let mut last = Touches::new(alloc);
+    for entry in entries {
+        let keys = keys_touched(alloc, schema, &entry.txn)?;
+        if !last.touch_all_own(&entry.gtid, keys)? {
+            return Ok(false);
+        }
+    }
+    Ok(true)
+}
+
 impl World {
+    /// Whether sources are seen to touch no key in common. It looks for each key once.
+    fn are_apart(&self, alloc: Global) -> Result<bool, AllocError>
+        ensures { IfOk result (λ yes. yes ≡ true → shared self.now ≡ None) }
+    {
+        are_apart(alloc, self.rows().schema(), self.in_order())
+    }
+
+    /// What `shared` finds, soonest where it finds nothing.
+    pub(crate) fn shared_unless_apart(&self, alloc: Global) -> Result<Option<Verdict>, AllocError>
+        ensures { IfOk result (λ found. found ≡ shared self.now) }
+    {
+        if self.are_apart(alloc)? {
+            return Ok(None);
+        }
+        self.shared(alloc)
+    }
+
     /// The least GTID that shares a key with a smaller source, with the least that touches it.
     pub(crate) fn shared(&self, alloc: Global) -> Result<Option<Verdict>, AllocError>
         ensures { IfOk result (λ found. found ≡ shared self.now) }

@@ -40,7 +40,8 @@ use Rattle.world.specs.declared.verdict.Verdict.TheVariants.{Sound}
 use Rattle.world.specs.Search.{or_next}
 use Rattle.world.specs.Audit.{all_entries, world_of, does_not_apply, found_in_keys, verdict_of_keys, verdict}
 use Rattle.world.specs.Meaning.{AreJournals}
-use Rattle.audited_runs.specs.Deciding.{ServesAll, AreStoppedOrDone, WorkersDecide, all_of, ServedHoldsAll}
+use Rattle.replica_core.specs.Draining.{AreStoppedOrDone}
+use Rattle.audited_runs.specs.Deciding.{ServesAll, WorkersDecide, all_of, ServedHoldsAll}
 use Rattle.world.proofs.Finding.{next_none, none_next}
 use Rattle.world.proofs.Contents.{in_all, at_content, contents_entry}
 use Rattle.world.proofs.Meanings.{none_of_sound, next_not, keys_not, applies_not, alone_here, keys_sound_mean}

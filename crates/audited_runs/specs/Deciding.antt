@@ -1,14 +1,14 @@
 -- Runs that are served the journals of a bundle, and what they say of the audit.
-use Rattle.std.specs.Prelude.{◌≡◌, ℕ, true, ◌⊎◌, ◌↔◌, List, [], ◌∷◌, Some, None, Ok, slice_get}
+use Rattle.std.specs.Prelude.{◌≡◌, ℕ, ◌↔◌, List, [], ◌∷◌, Some, None, Ok, slice_get}
 use Rattle.std.specs.FinSet as set
 use Rattle.gtid_set.specs.Sets.{Gtids}
 use Rattle.rows.specs.declared.schema.Table.{Table}
 use Rattle.rows.specs.Apply.{Rows}
 use Rattle.journal.specs.Journals.{JournalValue, whole}
-use Rattle.apply_channel.specs.Channels.{ChannelValue, Received}
 use Rattle.replica_core.specs.declared.event.Event.{Event}
 use Rattle.replica_core.specs.State.{State, Site}
 use Rattle.replica_core.specs.Machine.{after}
+use Rattle.replica_core.specs.Draining.{AreStoppedOrDone}
 use Rattle.source_history.specs.World.{rows_of}
 use Rattle.source_history.specs.Join.{join}
 use Rattle.faithful_runs.specs.Faithful.{start_with}
@@ -23,11 +23,6 @@ pub record ServesAll (site : Site) (s : State) (journals : List JournalValue) (e
   pub no_local : NoLocalCommits site s events
   pub served : (c : ℕ) (journal : JournalValue) → slice_get journals c ≡ Some journal → WasServedOnce site s events c journal
   pub nothing_else : (c : ℕ) → slice_get journals c ≡ None → received_on c site s events ≡ []
-
--- each channel is stopped, or has all that it received executed
-abbrev pub AreStoppedOrDone : State → Type 0
-AreStoppedOrDone s = (c : ℕ) (channel : ChannelValue) → slice_get s.channels c ≡ Some channel
-    → (channel.stopped ≡ true) ⊎ ((p : ℕ) (e : Received) → slice_get channel.received p ≡ Some e → set.contains s.executed e.gtid ≡ true)
 
 -- Where the audit of keys says Sound, a run from the opening that was served each journal whole, and whose every channel is
 -- stopped or done, has executed all that it received exactly where the audit says Sound. The world may fail to apply.

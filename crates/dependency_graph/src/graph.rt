@@ -1,6 +1,6 @@
 //! The nodes, above the chains of their keys.
 
-ghost use Rattle.std.specs.Prelude.{◌≡◌, ◌≢◌, ℕ, Some, false, ◌+◌, ◌<◌, [], ◌∷◌, ◌++◌, length, map, drop, IfOk, IfErr, OnOk, OnErr};
+ghost use Rattle.std.specs.Prelude.{◌≡◌, ◌≢◌, ℕ, Some, true, false, ◌+◌, ◌<◌, [], ◌∷◌, ◌++◌, length, map, drop, IfOk, IfErr, OnOk, OnErr};
 ghost use Rattle.std.specs.List.{AllPairs};
 ghost use Rattle.std.specs.Bool.{OnTrue, OnFalse};
 ghost use Rattle.slab.specs.Slab.{slab_len};
@@ -80,7 +80,8 @@ fn release(dropped: usize, nodes: &mut VecDeque<Node>, ready: &mut Ready, first:
 
 /// Whether there is a node, and it is finished.
 fn is_done(dropped: usize, nodes: &VecDeque<Node>, node: Option<usize>) -> bool
-    ensures { OnFalse result ((n : ℕ) → node ≡ Some n → is_finished_at (points dropped nodes.now.items) n ≡ false) }
+    ensures done { OnTrue result ((n : ℕ) × (node ≡ Some n) × (is_finished_at (points dropped nodes.now.items) n ≡ true)) }
+    ensures stands { OnFalse result ((n : ℕ) → node ≡ Some n → is_finished_at (points dropped nodes.now.items) n ≡ false) }
 {
     match node {
         Some(node) => is_finished(dropped, nodes, node),

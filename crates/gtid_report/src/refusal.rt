@@ -1,4 +1,4 @@
-ghost use Rattle.std.specs.Prelude.{◌≡◌, ◌++◌, IfOk, OnOk, string_bytes, decimal};
+ghost use Rattle.std.specs.Prelude.{◌≡◌, ◌++◌, IfOk, OnOk, OnErr, string_bytes, decimal};
 ghost use Rattle.gtid_report.specs.Refusals.{cause_word, refusal_name, refusal_place, refusal_line};
 
 use gtid_text::{Gtid, write_gtid};
@@ -63,9 +63,10 @@ fn refusal_name(refusal: &Refusal) -> &'static str
     }
 }
 
-/// Appends a number in decimal digits.
+/// Appends a number in decimal digits. After want of memory the text is as it was.
 pub fn push_number(out: &mut String, number: u64) -> Result<(), AllocError>
-    ensures { OnOk result (string_bytes out.new ≡ string_bytes out.old ++ decimal number) }
+    ensures ok { OnOk result (string_bytes out.new ≡ string_bytes out.old ++ decimal number) }
+    ensures err { OnErr result (string_bytes out.new ≡ string_bytes out.old) }
 {
     let mut buffer = Buffer::new();
     out.push_str(buffer.format(number))

@@ -5,10 +5,11 @@ use Rattle.std.specs.List.{list_all}
 use Rattle.std.proofs.lemmas.Bool.Decides.{nat_tests}
 use Rattle.gtid_text.specs.declared.Gtid.{Gtid}
 use Rattle.gtid_text.specs.declared.Span.{Span}
+use Rattle.gtid_text.proofs.SameGtid.{both}
 use Rattle.gtid_set.specs.Sets.{gtid}
 use Rattle.gtid_set.specs.Spans.{is_before, ends_before, is_merged, has}
 use Rattle.gtid_set.specs.Sweep.{is_kept, AddsFront, front_of, common_of, all_before_common, is_inside, Meets, all_before, all_reach, is_met, IsWithin, IsNotWithin, start_of, within, is_from}
-use Rattle.gtid_set.proofs.SpanLemmas.{both, all_weaker, all_weaker2, all_push, IsHead, merged_head, merged_filled, merged_push, has_push, has_later, from_other}
+use Rattle.gtid_set.proofs.SpanLemmas.{all_weaker, all_weaker2, all_push, IsHead, merged_head, merged_filled, merged_push, has_push, has_later, from_other}
 
 -- a span put before a hole
 pub adds_front : (old new : List Span) (t hole : Span) → new ≡ old ++ front_of t hole ∷ [] → is_merged old ≡ true → all_before old t ≡ true → is_met hole t ≡ true → t.lo < hole.lo → AddsFront old t hole new

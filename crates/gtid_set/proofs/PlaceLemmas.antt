@@ -8,11 +8,12 @@ use Rattle.std.proofs.lemmas.Bool.Decides.{nat_tests}
 use Rattle.std.proofs.lemmas.List.Folds.{list_any-append, list_any_at}
 use Rattle.gtid_text.specs.declared.Gtid.{Gtid}
 use Rattle.gtid_text.specs.declared.Span.{Span}
+use Rattle.gtid_text.proofs.SameGtid.{both}
 use Rattle.gtid_set.specs.Sets.{gtid}
 use Rattle.gtid_set.specs.Spans.{is_before, ends_before, is_merged, has}
 use Rattle.gtid_set.specs.Sweep.{IsRest, is_inside, all_before, all_reach, all_touch, IsListOf, Absorbs, IsPlace, hull, HasSpan, KnowsSource, start_of, within, is_from}
 use Rattle.gtid_set.proofs.CutLemmas.{has_first}
-use Rattle.gtid_set.proofs.SpanLemmas.{both, and_of, before_trans, all_weaker, all_weaker2, any_none, IsHead, merged_head, merged_filled, has_later, from_itself, or_swap, merged_front, merged_back, front_before_back, merged_mid}
+use Rattle.gtid_set.proofs.SpanLemmas.{and_of, before_trans, all_weaker, all_weaker2, any_none, IsHead, merged_head, merged_filled, has_later, from_itself, or_swap, merged_front, merged_back, front_before_back, merged_mid}
 
 -- one list is the end of another
 pub record IsTail (spans rest : List Span) : Type 0 where

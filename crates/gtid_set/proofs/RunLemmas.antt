@@ -9,13 +9,14 @@ use Rattle.std.proofs.lemmas.List.Folds.{list_any-append}
 use Rattle.gtid_text.specs.declared.Gtid.{Gtid}
 use Rattle.gtid_text.specs.declared.Span.{Span}
 use Rattle.gtid_text.specs.Gtids.{gtid_cmp, same_gtid}
+use Rattle.gtid_text.proofs.SameGtid.{both, same_itself, same_is_equal}
 use Rattle.gtid_set.specs.Sets.{Gtids, gtid}
 use Rattle.gtid_set.specs.Spans.{set_of, has, is_merged, is_before}
 use Rattle.gtid_set.specs.Runs.{is_less, place, in_order, run_before, runs_of, runs}
 use Rattle.gtid_set.specs.Sweep.{within}
 use Rattle.gtid_set.proofs.SetLemmas.{same_members, gtid_tied, contains-set_of, any-numbers}
 use Rattle.gtid_set.proofs.PlaceLemmas.{all_after}
-use Rattle.gtid_set.proofs.SpanLemmas.{merged_head, merged_cons, both, and_of}
+use Rattle.gtid_set.proofs.SpanLemmas.{merged_head, merged_cons, and_of}
 
 -- a GTID less than the first of others
 abbrev pub less_first : Gtid → List Gtid → Bool
@@ -101,18 +102,6 @@ less_none g (h ∷ hs) e c =
     further h [] e f = refl
     further h (k ∷ ks) e f = less_trans g h k e f
 
-same_itself : (g : Gtid) → same_gtid g g ≡ true
-same_itself g = grind (arith, nat_tests)
-
-equal_gtid : (g h : Gtid) → same_gtid g h ≡ true → g ≡ h
-equal_gtid g h e = λ i. record { source = sources e i; number = numbers e i }
-  where
-    sources : same_gtid g h ≡ true → g.source ≡ h.source
-    sources e = grind (arith, nat_tests)
-
-    numbers : same_gtid g h ≡ true → g.number ≡ h.number
-    numbers e = grind (arith, nat_tests)
-
 -- a member that stands first is no member of a list that begins later
 not_later : (x y : Gtid) (xs ys : List Gtid) → is_less x y ≡ true → climbs (y ∷ ys) ≡ true → ((q : Gtid) → among q (x ∷ xs) ≡ among q (y ∷ ys)) → ⊥
 not_later x y xs ys e c h =
@@ -128,13 +117,13 @@ same_rest x xs ys c d h q = cases (same_gtid q x) refl
     cases true e =
         let p = both (less_first x xs) (climbs xs) c in
         let r = both (less_first x ys) (climbs ys) d in
-        ap (λ g. among g xs) (equal_gtid q x e) ∙ less_none x xs p.0 p.1 ∙ sym (ap (λ g. among g ys) (equal_gtid q x e) ∙ less_none x ys r.0 r.1)
+        ap (λ g. among g xs) (same_is_equal q x e) ∙ less_none x xs p.0 p.1 ∙ sym (ap (λ g. among g ys) (same_is_equal q x e) ∙ less_none x ys r.0 r.1)
     cases false e = sym (ap (λ b. b || among q xs) e) ∙ h q ∙ ap (λ b. b || among q ys) e
 
 -- rising lists of the same GTIDs are one
 same_firsts : (x y : Gtid) (xs ys : List Gtid) (a b : Bool) → is_less x y ≡ a → same_gtid x y ≡ b → climbs (x ∷ xs) ≡ true → climbs (y ∷ ys) ≡ true → ((q : Gtid) → among q (x ∷ xs) ≡ among q (y ∷ ys)) → x ≡ y
 same_firsts x y xs ys true b e f c d h = absurd (not_later x y xs ys e d h)
-same_firsts x y xs ys false true e f c d h = equal_gtid x y f
+same_firsts x y xs ys false true e f c d h = same_is_equal x y f
 same_firsts x y xs ys false false e f c d h = absurd (not_later y x ys xs (greater e f) c (λ q. sym (h q)))
   where
     greater : is_less x y ≡ false → same_gtid x y ≡ false → is_less y x ≡ true

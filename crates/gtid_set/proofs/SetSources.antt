@@ -11,12 +11,13 @@ use Rattle.std.proofs.lemmas.List.{append-nil}
 use Rattle.gtid_text.specs.declared.Gtid.{Gtid}
 use Rattle.gtid_text.specs.declared.Span.{Span}
 use Rattle.gtid_text.specs.Gtids.{gtid_cmp}
+use Rattle.gtid_text.proofs.SameGtid.{both}
 use Rattle.gtid_set.specs.Sets.{Gtids, gtid, interval, covers, only, without, kept_sources, sources_of, source_count, most_sources}
 use Rattle.gtid_set.specs.Spans.{set_of, has, is_merged}
 use Rattle.gtid_set.specs.Sweep.{IsListOf, IsWithin, IsNotWithin, AreApart, HaveCommon, KnowsSource, is_kept, is_from, sources_in, within}
 use Rattle.gtid_set.proofs.SetLemmas.{same_members, gtid_total, gtid_tied, gtid_same, contains-set_of, contains-interval, set_of-append}
 use Rattle.gtid_set.proofs.SetLemmas.{AreApart as AreDisjoint}
-use Rattle.gtid_set.proofs.SpanLemmas.{both, merged_filled, all_joined, merged_head, has_later}
+use Rattle.gtid_set.proofs.SpanLemmas.{merged_filled, all_joined, merged_head, has_later}
 use Rattle.gtid_set.proofs.SourceLemmas.{same_numbers, contains-sources_in, len_besides}
 
 pub same_bool : (a b : Bool) → (a ≡ true → b ≡ true) → (b ≡ true → a ≡ true) → a ≡ b

@@ -16,10 +16,11 @@ use Rattle.gtid_text.specs.declared.Gtid.{Gtid}
 use Rattle.gtid_text.specs.declared.Span.{Span}
 use Rattle.gtid_text.proofs.Tokens.{own}
 use Rattle.gtid_text.proofs.Turns.{left_of, left_of-turn, left_of-end}
-use Rattle.gtid_text.proofs.Spelled.{both, starts, starts_gap, starts_blank, past_cut, past_front, source_reads, is_dash, Follows, interval_reads, ends_last, turn_interval, turn_element, turn_end, element_uuid, uuid_some, uuid_no_comma}
+use Rattle.gtid_text.proofs.Spelled.{starts, starts_gap, starts_blank, past_cut, past_front, source_reads, is_dash, Follows, interval_reads, ends_last, turn_interval, turn_element, turn_end, element_uuid, uuid_some, uuid_no_comma}
 use Rattle.gtid_text.proofs.Found.{read_spells}
 use Rattle.gtid_text.proofs.RoundTrip.{source_bytes, source_again, number_again}
 use Rattle.gtid_text.proofs.Letters.{low_lower, source_same, uuid_bytes_same}
+use Rattle.gtid_text.proofs.SameGtid.{both}
 
 -- ---- tokens without letters are shown as they are
 

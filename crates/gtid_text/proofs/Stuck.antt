@@ -17,8 +17,9 @@ use Rattle.gtid_text.proofs.Tokens.{run_passes}
 use Rattle.gtid_text.proofs.Turns.{chosen, run_past, number_ok, found_source_ok, some_is, left_of, left_of-end}
 use Rattle.gtid_text.specs.Canonical.{source_text}
 use Rattle.gtid_text.proofs.RoundTrip.{source_bytes, source_again}
-use Rattle.gtid_text.proofs.Spelled.{both, run_front, starts, starts_gap, starts_blank, past_cut, past_front, number_reads, source_reads, interval_reads_at, NoDash, is_dash, is_comma, ends_last, turn_end, uuid_some, uuid_no_comma, reads_intervals, named_reads}
+use Rattle.gtid_text.proofs.Spelled.{run_front, starts, starts_gap, starts_blank, past_cut, past_front, number_reads, source_reads, interval_reads_at, NoDash, is_dash, is_comma, ends_last, turn_end, uuid_some, uuid_no_comma, reads_intervals, named_reads}
 use Rattle.gtid_text.proofs.Found.{past_starts, gap_of, split, number_found, interval_found}
+use Rattle.gtid_text.proofs.SameGtid.{both}
 
 abbrev refused : {A : Type 0} → Refusal → Result A Refusal
 refused e = Err e

@@ -1,6 +1,6 @@
 -- What an answer to a bundle holds.
 use Rattle.std.proofs.Common.{◌≡◌, ◌⊎◌, ℕ, List, inl, inr, refl, sym, ap, ◌∙◌, subst}
-use Rattle.std.specs.Prelude.{Result, Ok, Err, IfOk}
+use Rattle.std.specs.Prelude.{Result, Ok, Err, IfOk, IfErr}
 use Rattle.std.specs.FinSet as set
 use Rattle.gtid_set.specs.Sets.{Gtids}
 use Rattle.gtid_set.specs.declared.fault.SetFault.{SetFault}
@@ -19,11 +19,11 @@ use Rattle.parallel_apply.specs.declared.outcome.Applied.TheVariants as parallel
 use Rattle.txn_journal.specs.BundleStates.{BundleValue}
 use Rattle.txn_journal.specs.declared.fault.JournalFault.{JournalFault}
 use Rattle.txn_journal.specs.declared.fault.JournalFault.TheVariants as faults
-use Rattle.gtid_report.specs.Faults.{set_fault, journal_fault}
+use Rattle.gtid_report.specs.Faults.{journal_fault}
 use Rattle.gtid_report.specs.declared.refusal.Refusal.TheVariants as refusal
 use Rattle.gtid_report.specs.declared.fault.Fault.{Fault}
 use Rattle.gtid_report.specs.declared.fault.Fault.TheVariants as fault
-use Rattle.gtidrep.specs.Said.{Said, Holds, HoldsOne, Comes, Finds, Settles, Tells, answered, refused_with}
+use Rattle.gtidrep.specs.Said.{Said, Holds, HoldsOne, Finds, Settles, Tells, answered, refused_with}
 use Rattle.gtidrep.specs.Bundles.{state_said, verdict_said, state_or_verdict, served_said, applied_said, verdict_told, world_told, union_told, applied}
 use Rattle.gtidrep.specs.declared.answer.Answer.{Answer}
 use Rattle.gtidrep.specs.declared.edge.RunFault.{RunFault}
@@ -66,14 +66,6 @@ workers_applied b (parallel.Verdict v) is =
 pub holds_applied : (b : BundleValue) (found : Applied) (answer : Answer) → IsApplied b.start b.journals found → Holds answer (applied_said found) → Holds answer (applied b)
 holds_applied b found answer is held = subst (Holds answer) (workers_applied b found is) held
 
--- ---- faults of sets
-
--- a set that could not be made was full, or memory ran out
-pub comes_fault : (said : Said) (fault : SetFault) → Comes said (Err (set_fault fault))
-comes_fault said sets.Memory = tt
-comes_fault said sets.PoolFull = refl
-comes_fault said sets.SourcesFull = refl
-
 -- ---- bytes
 
 -- what was decoded is what the bytes are, unless memory ran out or a set was full
@@ -90,29 +82,40 @@ read_as : {V : Type 0} (v : V) (read : Result V JournalFault) → IsWhole (ok_of
 read_as v read (inl (fault, e)) = cc
 read_as v read (inr e) = e
 
+-- memory was refused, or there are too many sources
+abbrev pub GivesUp : Type 0 → Fault → Type 0
+GivesUp TooMany fault.Memory = Unit {0}
+GivesUp TooMany (fault.Refused r) = TooMany × (r ≡ refusal.SourcesFull)
+
+pub gives_up : (TooMany : Type 0) (found : Result Answer Fault) → IfErr found (λ f. f ≡ fault.Memory) → IfErr found (GivesUp TooMany)
+gives_up TooMany (Ok answer) h = tt
+gives_up TooMany (Err fault.Memory) h = tt
+gives_up TooMany (Err (fault.Refused r)) h = absurd (cc h)
+
 -- what was found for the value that was decoded is what is found for the bytes
-pub found_in : {V : Type 0} (Spells : List ℕ → Result V JournalFault → Type 0) (decoded : List ℕ → Result V JournalFault) (says : V → Said) (bytes : List ℕ) (v : V) (found : Result Answer Fault)
-    → Spells bytes (ok_of v) → IsWhole (ok_of v) (decoded bytes) → Comes (says v) found → Finds (Tells Spells decoded says) bytes found
-found_in Spells decoded says bytes v (Ok answer) w whole held =
+pub found_in : {V : Type 0} (Spells : List ℕ → Result V JournalFault → Type 0) (decoded : List ℕ → Result V JournalFault) (says : V → Said) (HasTooMany : V → Type 0) (bytes : List ℕ) (v : V) (found : Result Answer Fault)
+    → Spells bytes (ok_of v) → IsWhole (ok_of v) (decoded bytes) → IfOk found (λ answer. Holds answer (says v)) → IfErr found (GivesUp (HasTooMany v)) → Finds (Tells Spells decoded says HasTooMany) bytes found
+found_in Spells decoded says HasTooMany bytes v (Ok answer) w whole held none =
     let e = read_as v (decoded bytes) whole in
     (says v, inl (subst (Spells bytes) e w, ap (answered says) e), held)
-found_in Spells decoded says bytes v (Err (fault.Refused r)) w whole full = inr (r, full, refl)
-found_in Spells decoded says bytes v (Err fault.Memory) w whole held = tt
+found_in Spells decoded says HasTooMany bytes v (Err (fault.Refused r)) w whole held full =
+    inr (inr (v, w, sym (read_as v (decoded bytes) whole), full.0), ap refused_with full.1)
+found_in Spells decoded says HasTooMany bytes v (Err fault.Memory) w whole held full = tt
 
 faulty : {V : Type 0} (Spells : List ℕ → Result V JournalFault → Type 0) (decoded : List ℕ → Result V JournalFault) (says : V → Said) (bytes : List ℕ) (f : JournalFault)
     → Spells bytes (error_of f) → error_of f ≡ decoded bytes → Spells bytes (decoded bytes) × (answered says (error_of f) ≡ answered says (decoded bytes))
 faulty Spells decoded says bytes f r e = (subst (Spells bytes) e r, ap (answered says) e)
 
 -- the refusal of the bytes
-pub fault_in : {V : Type 0} (Spells : List ℕ → Result V JournalFault → Type 0) (decoded : List ℕ → Result V JournalFault) (says : V → Said) (bytes : List ℕ) (f : JournalFault)
-    → Spells bytes (error_of f) → IsWhole (error_of f) (decoded bytes) → Finds (Tells Spells decoded says) bytes (Err (journal_fault f))
-fault_in Spells decoded says bytes (faults.Set sets.Memory) r whole = tt
-fault_in Spells decoded says bytes (faults.Set sets.PoolFull) r whole = inr (refusal.PoolFull, refl, refl)
-fault_in Spells decoded says bytes (faults.Set sets.SourcesFull) r whole = inr (refusal.SourcesFull, refl, refl)
-fault_in Spells decoded says bytes (faults.Line n cause) r (inl (f, e)) = cc
-fault_in Spells decoded says bytes (faults.Line n cause) r (inr e) = inl (faulty Spells decoded says bytes (faults.Line n cause) r e)
-fault_in Spells decoded says bytes (faults.Truncated n) r (inl (f, e)) = cc
-fault_in Spells decoded says bytes (faults.Truncated n) r (inr e) = inl (faulty Spells decoded says bytes (faults.Truncated n) r e)
+pub fault_in : {V : Type 0} (Spells : List ℕ → Result V JournalFault → Type 0) (decoded : List ℕ → Result V JournalFault) (says : V → Said) (HasTooMany : V → Type 0) (bytes : List ℕ) (f : JournalFault)
+    → (Spells bytes (error_of (faults.Set sets.PoolFull)) → ⊥) → Spells bytes (error_of f) → IsWhole (error_of f) (decoded bytes) → Finds (Tells Spells decoded says HasTooMany) bytes (Err (journal_fault f))
+fault_in Spells decoded says HasTooMany bytes (faults.Set sets.Memory) no_pool r whole = tt
+fault_in Spells decoded says HasTooMany bytes (faults.Set sets.PoolFull) no_pool r whole = absurd (no_pool r)
+fault_in Spells decoded says HasTooMany bytes (faults.Set sets.SourcesFull) no_pool r whole = inr (inl r, refl)
+fault_in Spells decoded says HasTooMany bytes (faults.Line n cause) no_pool r (inl (f, e)) = cc
+fault_in Spells decoded says HasTooMany bytes (faults.Line n cause) no_pool r (inr e) = inl (faulty Spells decoded says bytes (faults.Line n cause) r e)
+fault_in Spells decoded says HasTooMany bytes (faults.Truncated n) no_pool r (inl (f, e)) = cc
+fault_in Spells decoded says HasTooMany bytes (faults.Truncated n) no_pool r (inr e) = inl (faulty Spells decoded says bytes (faults.Truncated n) r e)
 
 -- what is settled holds the answer, where each refusal is one
 pub settled : (says : List ℕ → Said → Type 0) (found : Result Answer Fault) (settled : Result Answer RunFault) (bytes : List ℕ)

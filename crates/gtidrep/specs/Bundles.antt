@@ -19,7 +19,7 @@ use Rattle.gtid_report.specs.declared.fault.Fault.{Fault}
 use Rattle.gtid_report.specs.declared.fault.Fault.TheVariants as fault
 use Rattle.gtid_report.specs.State.{state_text}
 use Rattle.gtid_report.specs.VerdictLines.{verdict_line}
-use Rattle.serving.specs.Faults.{IsServable}
+use Rattle.serving.specs.Faults.{HasMisfit, IsServable}
 use Rattle.serving.specs.declared.outcome.Served.{Served}
 use Rattle.serving.specs.declared.outcome.Served.TheVariants as served
 use Rattle.parallel_apply.specs.declared.outcome.Applied.{Applied}
@@ -63,9 +63,15 @@ verdict_said v = record { text = ended (verdict_line v); outcome = verdict_endin
 abbrev pub audited : BundleValue → Said
 audited b = verdict_said (verdict_told b)
 
+-- It is not audited: memory was refused, or the schema does not take one of its transactions.
+abbrev pub IsUnaudited : BundleValue → Fault → Type 0
+IsUnaudited b fault.Memory = Unit {0}
+IsUnaudited b (fault.Refused refusal.PoolFull) = HasMisfit b.start b.journals
+IsUnaudited b (fault.Refused r) = ⊥
+
 -- it is the answer of an audit to these bytes
 abbrev pub Audits : List ℕ → Said → Type 0
-Audits bytes said = Tells SpellsBundle bundle_in audited bytes said
+Audits bytes said = Tells SpellsBundle bundle_in audited (λ b. ⊥) bytes said
 
 -- ---- the state
 
@@ -93,13 +99,17 @@ state_or_verdict v executed rows = verdict_said v
 abbrev pub applied : BundleValue → Said
 applied b = state_or_verdict (verdict_told b) (union_told b) (rows_of (world_told b) (set.contains (union_told b)))
 
--- it is what applying answers to these bytes
-abbrev pub Applies : List ℕ → Said → Type 0
-Applies bytes said = Tells SpellsBundle bundle_in applied bytes said
+-- the GTIDs of all journals together are of too many sources
+abbrev pub HasTooMany : BundleValue → Type 0
+HasTooMany b = most_sources < source_count (union_told b)
 
 -- It is not applied: memory was refused, its journals are not such as can be served, or their GTIDs are of too many sources.
 abbrev pub IsUnapplied : BundleValue → Fault → Type 0
 IsUnapplied b fault.Memory = Unit {0}
 IsUnapplied b (fault.Refused refusal.PoolFull) = IsServable b.start b.channels b.journals → ⊥
-IsUnapplied b (fault.Refused refusal.SourcesFull) = most_sources < source_count (union_told b)
+IsUnapplied b (fault.Refused refusal.SourcesFull) = HasTooMany b
 IsUnapplied b (fault.Refused r) = ⊥
+
+-- it is what applying answers to these bytes
+abbrev pub Applies : List ℕ → Said → Type 0
+Applies bytes said = Tells SpellsBundle bundle_in applied HasTooMany bytes said

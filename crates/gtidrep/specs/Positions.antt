@@ -55,7 +55,7 @@ positioned asking j = sending_said (sent j asking.1 (Some asking.0))
 
 -- it is the answer to a journal's bytes
 abbrev pub Positions : Asking → List ℕ → Said → Type 0
-Positions asking bytes said = Tells SpellsJournal journal_in (positioned asking) bytes said
+Positions asking bytes said = Tells SpellsJournal journal_in (positioned asking) (λ j. ⊥) bytes said
 
 -- ---- what is written
 

@@ -1,8 +1,10 @@
 -- What a command reads, and what it answers.
-use Rattle.std.specs.Prelude.{◌≡◌, ◌⊎◌, ℕ, Bool, true, false, List, [], ◌∷◌, ◌++◌, Option, Result, Ok, Err}
+use Rattle.std.specs.Prelude.{◌≡◌, ◌⊎◌, ℕ, List, [], ◌∷◌, ◌++◌, Option, Result, Ok, Err}
 use Rattle.std.specs.String.{string_bytes}
 use Rattle.std.specs.Io.KnownBytes.{Appends, Consumes, IsAtEnd}
+use Rattle.gtid_set.specs.declared.fault.SetFault.TheVariants as sets
 use Rattle.txn_journal.specs.declared.fault.JournalFault.{JournalFault}
+use Rattle.txn_journal.specs.declared.fault.JournalFault.TheVariants as journals
 use Rattle.gtid_report.specs.Refusals.{refusal_line}
 use Rattle.gtid_report.specs.Faults.{journal_fault}
 use Rattle.gtid_report.specs.declared.refusal.Refusal.{Refusal}
@@ -25,12 +27,6 @@ ended line = line ++ 10 ∷ []
 abbrev pub refused_with : Refusal → Said
 refused_with r = record { text = ended (refusal_line r); outcome = Refused }
 
--- a set was full
-abbrev pub is_full : Refusal → Bool
-is_full refusal.PoolFull = true
-is_full refusal.SourcesFull = true
-is_full r = false
-
 -- the line of a fault; want of memory has none
 abbrev pub fault_said : Fault → Said
 fault_said (fault.Refused r) = refused_with r
@@ -41,11 +37,16 @@ abbrev pub answered : {V : Type 0} → (V → Said) → Result V JournalFault �
 answered says (Ok value) = says value
 answered says (Err f) = fault_said (journal_fault f)
 
--- It is the answer to what the bytes are, by their fold and by their grammar; or a set was full, and it is the line of that.
-abbrev pub Tells : {V : Type 0} → (List ℕ → Result V JournalFault → Type 0) → (List ℕ → Result V JournalFault) → (V → Said) → List ℕ → Said → Type 0
-Tells Spells decoded says bytes said =
+-- A set that is made has too many sources: one that reading the bytes makes, or one for the answer to what they spell.
+abbrev pub IsFullFor : {V : Type 0} → (List ℕ → Result V JournalFault → Type 0) → (List ℕ → Result V JournalFault) → (V → Type 0) → List ℕ → Type 0
+IsFullFor {V} Spells decoded HasTooMany bytes =
+    Spells bytes (Err (journals.Set sets.SourcesFull)) ⊎ ((value : V) × Spells bytes (Ok value) × (decoded bytes ≡ Ok value) × HasTooMany value)
+
+-- It is the answer to what the bytes are, by their fold and by their grammar; or a set has too many sources, and it is the line of that.
+abbrev pub Tells : {V : Type 0} → (List ℕ → Result V JournalFault → Type 0) → (List ℕ → Result V JournalFault) → (V → Said) → (V → Type 0) → List ℕ → Said → Type 0
+Tells Spells decoded says HasTooMany bytes said =
     (Spells bytes (decoded bytes) × (said ≡ answered says (decoded bytes)))
-    ⊎ ((r : Refusal) × (is_full r ≡ true) × (said ≡ refused_with r))
+    ⊎ (IsFullFor Spells decoded HasTooMany bytes × (said ≡ refused_with refusal.SourcesFull))
 
 -- the answer that is held is this
 abbrev pub Holds : Answer → Said → Type 0
@@ -54,12 +55,6 @@ Holds answer said = (string_bytes answer.text ≡ said.text) × (answer.outcome 
 -- the answer that is held is what these bytes are answered with
 abbrev pub HoldsOne : (List ℕ → Said → Type 0) → List ℕ → Answer → Type 0
 HoldsOne says bytes answer = (said : Said) × says bytes said × Holds answer said
-
--- it is this answer; or a set was full, or memory ran out
-abbrev pub Comes : Said → Result Answer Fault → Type 0
-Comes said (Ok answer) = Holds answer said
-Comes said (Err (fault.Refused r)) = is_full r ≡ true
-Comes said (Err fault.Memory) = Unit {0}
 
 -- it is what these bytes are answered with; or memory ran out
 abbrev pub Finds : (List ℕ → Said → Type 0) → List ℕ → Result Answer Fault → Type 0

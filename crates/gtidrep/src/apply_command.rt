@@ -1,7 +1,7 @@
 //! The command `apply`.
 ghost use Rattle.std.specs.Prelude.{◌≡◌, ◌≤◌, ◌⊎◌, IfOk, IfErr};
 ghost use Rattle.gtidrep.specs.Edge.{one_more, HasReadTooMuch};
-ghost use Rattle.gtidrep.specs.Said.{Answers, BeginsAnswer, Holds, HoldsOne, Comes, Finds};
+ghost use Rattle.gtidrep.specs.Said.{Answers, BeginsAnswer, Holds, HoldsOne, Finds};
 ghost use Rattle.gtidrep.specs.Bundles.{state_said, served_said, applied_said, applied, Applies, IsUnapplied};
 
 use crate::answer::{Answer, send, settle};
@@ -50,7 +50,7 @@ fn applied_answer(alloc: Global, applied: &Applied) -> Result<Answer, AllocError
 
 /// What a bundle comes to where one thread applies it.
 fn apply_alone(alloc: Global, bundle: &Bundle) -> Result<Answer, Fault>
-    ensures comes { Comes (applied bundle.now) result }
+    ensures comes { IfOk result (λ answer. Holds answer (applied bundle.now)) }
     ensures fault { IfErr result (IsUnapplied bundle.now) }
 {
     match serve(
@@ -74,7 +74,7 @@ fn apply_together<G: Gate + Sync, R: Threads + Wait + Sync>(
     gate: &G,
 ) -> Result<Answer, Fault>
     requires { (1 ≤ workers) × (workers ≤ 64) }
-    ensures comes { Comes (applied bundle.now) result }
+    ensures comes { IfOk result (λ answer. Holds answer (applied bundle.now)) }
     ensures fault { IfErr result (IsUnapplied bundle.now) }
 {
     match apply_journals(
@@ -105,7 +105,7 @@ pub fn apply_decoded<G: Gate + Sync, R: Threads + Wait + Sync>(
     gate: &G,
 ) -> Result<Answer, Fault>
     requires { (1 ≤ workers) × (workers ≤ 64) }
-    ensures comes { Comes (applied bundle.now) result }
+    ensures comes { IfOk result (λ answer. Holds answer (applied bundle.now)) }
     ensures fault { IfErr result (IsUnapplied bundle.now) }
 {
     if workers == 1 {

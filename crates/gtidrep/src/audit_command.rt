@@ -1,8 +1,8 @@
 //! The command `audit`.
 ghost use Rattle.std.specs.Prelude.{◌≡◌, ◌⊎◌, IfOk, IfErr};
 ghost use Rattle.gtidrep.specs.Edge.{one_more, HasReadTooMuch};
-ghost use Rattle.gtidrep.specs.Said.{Answers, BeginsAnswer, Holds, HoldsOne, Comes, Finds};
-ghost use Rattle.gtidrep.specs.Bundles.{Audits, audited, verdict_ending, verdict_said};
+ghost use Rattle.gtidrep.specs.Said.{Answers, BeginsAnswer, Holds, HoldsOne, Finds};
+ghost use Rattle.gtidrep.specs.Bundles.{Audits, audited, verdict_ending, verdict_said, IsUnaudited};
 
 use crate::answer::{Answer, ended, send, settle};
 use crate::edge::{Outcome, RunFault, Sink, Source};
@@ -40,7 +40,8 @@ pub(crate) fn verdict_answer(alloc: Global, verdict: &Verdict) -> Result<Answer,
 
 /// The verdict of a bundle.
 fn bundle_answer(alloc: Global, bundle: &Bundle) -> Result<Answer, Fault>
-    ensures { Comes (audited bundle.now) result }
+    ensures comes { IfOk result (λ answer. Holds answer (audited bundle.now)) }
+    ensures fault { IfErr result (IsUnaudited bundle.now) }
 {
     match verdict_over(alloc, bundle.rows(), bundle.journals()) {
         Ok(verdict) => Ok(verdict_answer(alloc, &verdict)?),

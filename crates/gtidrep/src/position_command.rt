@@ -1,9 +1,9 @@
 //! The command `position`.
-ghost use Rattle.std.specs.Prelude.{◌≡◌, ◌⊎◌, IfOk, IfErr, Ok, Err};
+ghost use Rattle.std.specs.Prelude.{◌≡◌, ◌⊎◌, IfOk, IfErr, IsOkUnless, Ok, Err};
 ghost use Rattle.std.specs.Io.KnownBytes.{Appends};
 ghost use Rattle.gtid_report.specs.SetAnswers as words;
 ghost use Rattle.gtidrep.specs.Edge.{one_more, Begins, HasReadTooMuch};
-ghost use Rattle.gtidrep.specs.Said.{Answers, BeginsAnswer, Holds, HoldsOne, Comes, Finds, refused_with};
+ghost use Rattle.gtidrep.specs.Said.{Answers, BeginsAnswer, Holds, HoldsOne, Finds, refused_with};
 ghost use Rattle.gtidrep.specs.Positions.{asking_in, sending_said, positioned, Positions, AnswersAsking, BeginsAsking};
 
 use crate::answer::{Answer, ended, refusal_answer, send, settle};
@@ -76,7 +76,8 @@ fn more_answer(alloc: Global, gtids: &GtidSet) -> Result<Answer, AllocError>
 
 /// What a source answers that has this journal.
 fn journal_answer(alloc: Global, asked: &Asked, journal: &Journal) -> Result<Answer, Fault>
-    ensures { Comes (positioned (asked.now.source, asked.now.gtids) journal.now) result }
+    ensures comes { IfOk result (λ answer. Holds answer (positioned (asked.now.source, asked.now.gtids) journal.now)) }
+    ensures fault { IsOkUnless result Fault.Memory }
 {
     match entries_sent(alloc, Some(asked.source), journal, &asked.gtids) {
         Ok(entries) => Ok(sent_answer(alloc, &entries)?),

@@ -5,6 +5,7 @@ use Rattle.std.specs.List.{list_all, list_any}
 use Rattle.std.specs.FinSet as set
 use Rattle.gtid_text.specs.declared.Gtid.{Gtid}
 use Rattle.gtid_text.specs.Gtids.{gtid_cmp, same_gtid}
+use Rattle.gtid_text.proofs.SameGtid.{both}
 use Rattle.gtid_set.specs.Sets.{Gtids}
 use Rattle.gtid_set.proofs.SetLemmas.{set_push, union_empty, same_members, gtid_total, gtid_tied}
 use Rattle.journal.specs.declared.Entry.{Entry}
@@ -48,10 +49,6 @@ new_drop zero seen es new = subst (λ s. AreNew s es) (union_empty seen) new
 new_drop (suc n) seen [] new = tt
 new_drop (suc n) seen (x ∷ es) new =
     subst (λ s. AreNew s (drop n es)) (union-gtids_of-cons seen x (take n es)) (new_drop n (set.insert seen x.gtid) es new.1)
-
-both : (a b : Bool) → (a && b) ≡ true → (a ≡ true) × (b ≡ true)
-both true b h = (refl, h)
-both false b h = absurd (cc h)
 
 all_push : {X : Type 0} (p : X → Bool) (xs : List X) (x : X) → list_all p xs ≡ true → p x ≡ true → list_all p (xs ++ x ∷ []) ≡ true
 all_push p [] x all h = ap (λ b. b && true) h

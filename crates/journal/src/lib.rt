@@ -96,7 +96,7 @@ pub fn is_txn_writable(txn: &Transaction) -> bool
 
 /// Whether a transaction number is in range.
 #[tactic(auto, unfolding(gtid_set::specs::Sets::greatest))]
-fn is_number(number: u64) -> bool
+pub fn is_number(number: u64) -> bool
     ensures { result ≡ is_number number }
 {
     1 <= number && number <= GREATEST

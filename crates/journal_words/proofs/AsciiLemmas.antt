@@ -4,10 +4,10 @@ use Rattle.std.specs.List.{list_all}
 use Rattle.std.specs.Str.{IsAscii, IsUtf8}
 use Rattle.std.proofs.lemmas.Str.{IsUtf8-from_ascii}
 use Rattle.std.proofs.lemmas.Bool.{ltb-true}
+use Rattle.gtid_text.proofs.SameGtid.{both}
 use Rattle.hex.specs.Hex.{encode_lower, lower_digits}
 use Rattle.hex.proofs.HexLemmas.{IsAscii-encode_with}
 use Rattle.journal_words.specs.Gtids.{is_ascii_byte}
-use Rattle.journal_words.proofs.Numerals.{both}
 
 pub all_ascii : (w : List ℕ) → list_all is_ascii_byte w ≡ true → IsAscii w
 all_ascii [] e i = omega arith

@@ -9,8 +9,9 @@ use Rattle.std.specs.Fmt.{decimal}
 use Rattle.std.proofs.lemmas.Fmt.{digits_decimal, digits_value-decimal, decimal-digits_value, first_decimal, decimal_nonempty, decimal_digit}
 use Rattle.std.proofs.lemmas.Bool.{cases_lt, ltb-false, le-ltb, lt-ltb, ltb-true, eqb-true, ne_eqb}
 use Rattle.std.proofs.lemmas.Slice.Eq.{bytes_eq-Decides}
+use Rattle.gtid_text.proofs.SameGtid.{both}
 use Rattle.journal_words.specs.Words.{is_count, count_of, first_word, others}
-use Rattle.journal_words.proofs.Numerals.{own, digits_in, both}
+use Rattle.journal_words.proofs.Numerals.{own, digits_in}
 
 -- ---- tests
 

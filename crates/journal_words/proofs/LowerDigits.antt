@@ -4,11 +4,11 @@ use Rattle.std.specs.Prelude.{◌&&◌, ◌||◌, MatchResult}
 use Rattle.std.specs.List.{list_all}
 use Rattle.std.proofs.lemmas.Bool.{eqb-true, ltb-true, cases_lt, cases_eq}
 use Rattle.std.proofs.lemmas.Bool.Decides.{nat_tests}
+use Rattle.gtid_text.proofs.SameGtid.{both}
 use Rattle.hex.specs.Hex.{IsBytes, hex_digit_value, pair_value, decode_pairs, decode_of, decode_sized, encode_lower, encode_with, lower_digits}
 use Rattle.hex.specs.declared.error.FromHexError.{FromHexError}
 use Rattle.hex.proofs.HexLemmas.{decode_of-even, decode_of-odd, decode_sized-odd, decode_sized-twice}
 use Rattle.journal_words.specs.Values.{is_lower_digit, bytes_found, bytes_of, where_same}
-use Rattle.journal_words.proofs.Numerals.{both}
 use Rattle.journal_words.proofs.ValueLaws.{where_same-again, bytes_found-same, none_is}
 
 -- ---- one digit

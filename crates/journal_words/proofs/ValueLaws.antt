@@ -10,13 +10,14 @@ use Rattle.std.specs.Str.Parse.{digits_value}
 use Rattle.std.proofs.lemmas.Fmt.{digits_decimal, digits_value-decimal, decimal_nonempty}
 use Rattle.std.proofs.lemmas.Bool.{lt-ltb, ltb-true, eqb-true, ne_eqb}
 use Rattle.std.proofs.lemmas.Slice.Eq.{bytes_eq-Decides}
+use Rattle.gtid_text.proofs.SameGtid.{both}
 use Rattle.hex.specs.Hex.{IsBytes, decode_of, encode_lower, encode_with, lower_digits}
 use Rattle.hex.specs.declared.error.FromHexError.{FromHexError}
 use Rattle.hex.proofs.HexLemmas.{decode_of-encode_lower, decode_of-ok}
 use Rattle.rows.specs.declared.value.Value.{Value}
 use Rattle.rows.specs.declared.value.Value.TheVariants.{Null, Int, Bytes}
 use Rattle.journal_words.specs.Values.{value_text, where_same, below_zero, signed_value, is_small, int_of, bytes_found, bytes_of, other_value, value_of, FitsValue}
-use Rattle.journal_words.proofs.Numerals.{own, both}
+use Rattle.journal_words.proofs.Numerals.{own}
 use Rattle.journal_words.proofs.Counts.{chosen, some_is, lacks, decimal_lacks}
 
 -- ---- the text of what is found is the word

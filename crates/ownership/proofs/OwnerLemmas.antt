@@ -1,6 +1,6 @@
 -- The owner, seat by seat.
 use Rattle.std.proofs.Common.{◌≡◌, ◌≢◌, ℕ, ◌+◌, ◌≤◌, ◌<◌, ◌⊎◌, inl, inr, zero, suc, Bool, true, false, cond, refl, sym, ap, ◌∙◌, arith, true≢false}
-use Rattle.std.specs.Prelude.{Option, Some, None, find, ◌==◌, ◌&&◌}
+use Rattle.std.specs.Prelude.{Option, Some, None, find, ◌==◌}
 use Rattle.std.proofs.lemmas.Bool.Decides.{nat_tests}
 use Rattle.std.specs.List.{range_with_len}
 use Rattle.std.specs.Option.{option_map_or}
@@ -8,6 +8,7 @@ use Rattle.std.specs.Cmp.{nat_cmp_total, unsigned_tied}
 use Rattle.std.specs.FinMap as map
 use Rattle.gtid_text.specs.declared.Gtid.{Gtid}
 use Rattle.gtid_text.specs.Gtids.{same_gtid}
+use Rattle.gtid_text.proofs.SameGtid.{same_itself, same_is_equal}
 use Rattle.ownership.specs.Ownership.{Ownership, owner, owns, owned_by, seat_numbers, IsOwnedOnce, IsOfSeats, attempt}
 use Rattle.ownership.specs.declared.Attempt.TheVariants.{Owned, SeatBusy, OwnedBy}
 
@@ -30,22 +31,8 @@ owner_next owned gtid seat n m e = ap (λ k. find (owns owned gtid) (range_with_
 
 -- ---- what the owner is
 
-same_itself : (g : Gtid) → same_gtid g g ≡ true
-same_itself g = grind (arith, nat_tests)
-
-both_true : (a b : Bool) → (a && b) ≡ true → (a ≡ true) × (b ≡ true)
-both_true true b e = (refl, e)
-both_true false b e = absurd (true≢false (sym e))
-
 equal_numbers : (a b : ℕ) → (a == b) ≡ true → a ≡ b
 equal_numbers a b e = grind (arith, nat_tests)
-
-pub same_is_equal : (a b : Gtid) → same_gtid a b ≡ true → a ≡ b
-same_is_equal a b e =
-    let parts = both_true (a.source == b.source) (a.number == b.number) e in
-    let source = equal_numbers a.source b.source parts.0 in
-    let number = equal_numbers a.number b.number parts.1 in
-    λ i. record { source = source i; number = number i }
 
 held : (o : Option Gtid) (g : Gtid) → option_map_or (λ h. same_gtid h g) o false ≡ true → o ≡ Some g
 held None g e = absurd (true≢false (sym e))

@@ -7,7 +7,7 @@ use Rattle.shared_replica.specs.Passes.{PassValue, fresh}
 use Rattle.shared_replica.specs.Closing.{IsMerge}
 use Rattle.applier.specs.Applies.{IsApply, AreApply, GoesOn}
 use Rattle.applier.specs.Draining.{AllApply}
-use Rattle.applier.proofs.Lists.{one_value}
+use Rattle.replica_core.proofs.LookLemmas.{one_value}
 
 -- what holds of the step at each place holds of all
 all_apply : (steps : List Step) → ((place : ℕ) (s : Step) → slice_get steps place ≡ Some s → IsApply s.event) → AllApply steps

@@ -79,8 +79,8 @@ fn drained_anew(
 /// `Memory` is want of memory, and `SourcesFull` comes only where the GTIDs of all journals together
 /// are of more than 65,536 sources. `PoolFull` comes only where there are more than 256 journals, a
 /// journal without a channel whose name no channel before it has, a transaction that the schema does
-/// not take, or a journal of more than 4,294,967,294 entries: of these only the last may stand in a
-/// bundle that was read. A worker's fault is never the answer.
+/// not take, or a journal of more than 4,294,967,294 entries: none of these stands in a bundle that
+/// was read. A worker's fault is never the answer.
 pub fn apply_journals<G: Gate + Sync, R: Threads + Wait + Sync>(
     rt: &R,
     alloc: Global,

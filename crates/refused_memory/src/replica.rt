@@ -1,13 +1,10 @@
 //! Replicas that are asked one event after another.
 ghost use Rattle.std.specs.Prelude.{◌≡◌};
-ghost use Rattle.journal.specs.Writing.{is_number};
-ghost use Rattle.replica_core.specs.Machine.{is_numbered};
 
 use crate::fault::Fault;
 use crate::sets::text_of;
 use gtid_report::render_state;
 use gtid_text::Gtid;
-use journal::GREATEST;
 use replica_core::{Core, Event, Reply};
 use std::alloc::Global;
 use txn_journal::{Bundle, decode_bundle};
@@ -85,31 +82,6 @@ fn copy_of(alloc: Global, core: &Core) -> Result<Core, Fault> {
     }
 }
 
-#[tactic(auto, unfolding(gtid_set::specs::Sets::greatest))]
-fn is_number(number: u64) -> bool
-    ensures { result ≡ is_number number }
-{
-    1 <= number && number <= GREATEST
-}
-
-/// Whether an event may be asked of a replica.
-fn is_numbered(event: &Event) -> bool
-    ensures { result ≡ is_numbered event.now }
-{
-    match event {
-        Event::OpenChannel(_, _) => true,
-        Event::Position(_) => true,
-        Event::Receive(_, entry) => is_number(entry.gtid.number),
-        Event::Take(_, _, _) => true,
-        Event::Commit(_) => true,
-        Event::Rollback(_) => true,
-        Event::Restart(_) => true,
-        Event::Local(_) => true,
-        Event::Purge(_) => true,
-        Event::Look => true,
-    }
-}
-
 /// One event; once more where memory was refused, which must have left the replica as its copy is.
 fn asked_beside(
     alloc: Global,
@@ -117,7 +89,7 @@ fn asked_beside(
     event: &Event,
     copy: &Core,
 ) -> Result<Reply, Fault> {
-    if !is_numbered(event) {
+    if !event.is_numbered() {
         return Err(Fault::Answer);
     }
     match core.step(alloc, event) {

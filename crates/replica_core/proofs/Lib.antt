@@ -14,3 +14,7 @@ pub mod OrderLemmas
 pub mod TakeLemmas
 pub mod ReadyLemmas
 pub mod SightLemmas
+pub mod LookLemmas
+pub mod FreeLemmas
+pub mod MoveLemmas
+pub mod DrainLemmas

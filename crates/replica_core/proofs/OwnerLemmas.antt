@@ -6,6 +6,7 @@ use Rattle.std.specs.List.{range_with_len}
 use Rattle.std.proofs.lemmas.Bool.Decides.{nat_tests}
 use Rattle.gtid_text.specs.declared.Gtid.{Gtid}
 use Rattle.gtid_text.specs.Gtids.{same_gtid}
+use Rattle.gtid_text.proofs.SameGtid.{same_itself}
 use Rattle.apply_channel.specs.Channels.{Received}
 use Rattle.replica_core.specs.declared.event.Spot.{Spot}
 use Rattle.replica_core.specs.State.{State, entry_at, owns, owner, seat_numbers}
@@ -46,17 +47,14 @@ no_owner s gtid (suc n) seat other none low high =
       | inr later ↦ no_owner s gtid n (seat + 1) other parts.1 later (omega arith)
     ]
 
-same_itself : (g h : Gtid) → g ≡ h → same_gtid g h ≡ true
-same_itself g h same = ap (λ (k : Gtid). same_gtid g k) (sym same) ∙ itself g
-  where
-    itself : (g : Gtid) → same_gtid g g ≡ true
-    itself g = grind (arith, nat_tests)
+same_when : (g h : Gtid) → g ≡ h → same_gtid g h ≡ true
+same_when g h same = ap (λ (k : Gtid). same_gtid g k) (sym same) ∙ same_itself g
 
 owns_by : (s : State) (gtid : Gtid) (seat : ℕ) (e : Received) → HasEntry s.channels s.seats seat e → e.gtid ≡ gtid → owns s gtid seat ≡ true
 owns_by s gtid seat e has same =
     ap (λ (o : Option Spot). option_map_or (λ (g : Gtid). same_gtid g gtid) (option_map (λ (x : Received). x.gtid) (option_and_then (entry_at s) o)) false) has.1
     ∙ ap (λ (o : Option Received). option_map_or (λ (g : Gtid). same_gtid g gtid) (option_map (λ (x : Received). x.gtid) o) false) has.2
-    ∙ same_itself e.gtid gtid same
+    ∙ same_when e.gtid gtid same
 
 within : (seat : ℕ) → is_seat seat ≡ true → (1 ≤ seat) × (seat < 65)
 within seat h = (low seat h, high seat h)

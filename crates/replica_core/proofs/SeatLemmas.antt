@@ -11,12 +11,13 @@ use Rattle.std.proofs.lemmas.Option.{slice_get_within, slice_get-get_or, get_or_
 use Rattle.std.proofs.Math.ListN.{get_or-append}
 use Rattle.gtid_text.specs.declared.Gtid.{Gtid}
 use Rattle.gtid_text.specs.Gtids.{same_gtid}
-use Rattle.ownership.proofs.OwnerLemmas.{same_is_equal}
+use Rattle.gtid_text.proofs.SameGtid.{same_is_equal}
 use Rattle.apply_channel.specs.Channels.{ChannelValue, Received, settle, settled}
 use Rattle.replica_core.specs.declared.event.Spot.{Spot}
 use Rattle.replica_core.specs.State.{Seats}
 use Rattle.replica_core.specs.Machine.{is_seat, changed_at}
 use Rattle.replica_core.specs.Seated.{entry_of, txn_of, HasEntry, AreSeated, IsUnowned, freed_of}
+use Rattle.replica_core.proofs.LookLemmas.{one_value, equal_numbers}
 
 -- ---- other channels, the same seats
 
@@ -57,9 +58,6 @@ seated_pushed channels one seats s =
 abbrev pub Keeps : (ChannelValue → ChannelValue) → Type 0
 Keeps f = (c : ChannelValue) (i : ℕ) (e : Received) → slice_get c.received i ≡ Some e → slice_get (f c).received i ≡ Some e
 
-equal_numbers : (a b : ℕ) → (a == b) ≡ true → a ≡ b
-equal_numbers a b e = grind (arith, nat_tests)
-
 other_numbers : (a b : ℕ) → (a == b) ≡ false → a ≢ b
 other_numbers a b e = grind (arith, nat_tests)
 
@@ -75,9 +73,6 @@ set_by xs i j y x false is at =
     let within = slice_get_within xs j x at in
     let longer : j < length (slice_set xs i y) = omega (arith, length-set xs i y, within) in
     inr (slice_get-get_or (slice_set xs i y) j x longer ∙ ap (λ z. Some z) (get_or-set_other xs i j y x apart ∙ get_or_from_slice_get xs j x x at))
-
-one_value : (a b : ChannelValue) → ◌≡◌ {A = Option ChannelValue} (Some a) (Some b) → a ≡ b
-one_value a b e = cc
 
 grown_by : (f : ChannelValue → ChannelValue) → Keeps f → (c : ℕ) (channels : List ChannelValue) (spot : Spot) (e : Received) (o p : Option ChannelValue) → slice_get channels c ≡ o → slice_get channels spot.channel ≡ p → option_and_then (λ (x : ChannelValue). slice_get x.received spot.place) p ≡ Some e → entry_of (option_map_or (λ x. slice_set channels c (f x)) o channels) spot ≡ Some e
 grown_by f keeps c channels spot e None p at is h = ap (option_and_then (λ (x : ChannelValue). slice_get x.received spot.place)) is ∙ h

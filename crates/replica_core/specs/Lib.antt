@@ -11,3 +11,4 @@ pub mod Replies
 pub mod Laws
 pub mod Faults
 pub mod Prepared
+pub mod Draining

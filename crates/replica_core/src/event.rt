@@ -1,7 +1,10 @@
 //! What a replica is asked, and what it answers.
+ghost use Rattle.std.specs.Prelude.{◌≡◌};
+ghost use Rattle.replica_core.specs.Machine.{is_numbered};
+
 use gtid_set::GtidSet;
 use gtid_text::Gtid;
-use journal::Entry;
+use journal::{Entry, is_number};
 use rows::{Name, NotInSchema, RowFault, Transaction};
 
 /// A place of a channel, both counted from 0.
@@ -34,6 +37,26 @@ pub enum Event {
     Purge(usize),
     /// Asks for the executed set.
     Look,
+}
+
+impl Event {
+    /// Whether the event may be asked of a replica: an entry to be received has a transaction's number.
+    pub fn is_numbered(&self) -> bool
+        ensures { result ≡ is_numbered self.now }
+    {
+        match self {
+            Event::OpenChannel(_, _) => true,
+            Event::Position(_) => true,
+            Event::Receive(_, entry) => is_number(entry.gtid.number),
+            Event::Take(_, _, _) => true,
+            Event::Commit(_) => true,
+            Event::Rollback(_) => true,
+            Event::Restart(_) => true,
+            Event::Local(_) => true,
+            Event::Purge(_) => true,
+            Event::Look => true,
+        }
+    }
 }
 
 /// One atomic step's answer.

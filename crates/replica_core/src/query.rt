@@ -3,6 +3,7 @@ ghost use Rattle.std.specs.Prelude.{◌≡◌, IfOk, IfErr, MatchOption, All};
 ghost use Rattle.std.specs.Option.{option_copied};
 ghost use Rattle.replica_core.specs.State.{owned};
 ghost use Rattle.replica_core.specs.Seated.{AreSeated};
+ghost use Rattle.replica_core.specs.Draining.{places};
 ghost use Rattle.replica_core.specs.Machine.{next_ready, ready_from};
 ghost use Rattle.replica_core.specs.Faults.{asking, IsFaultIn};
 ghost use Rattle.replica_core.specs.Kept.{IsKept, AreKept};
@@ -36,6 +37,16 @@ impl Core {
         ensures { MatchOption result (IsNotAtCore self.now channel) (λ k. IsAtCore self.now channel k.now) }
     {
         self.kept_channel(channel)
+    }
+
+    /// How many places a channel has, where there is that channel.
+    pub fn places(&self, channel: usize) -> Option<usize>
+        ensures { result ≡ places self.now.state channel }
+    {
+        match self.kept_channel(channel) {
+            Some(one) => Some(one.len()),
+            None => None,
+        }
     }
 
     /// The set that a Position of a channel would answer now, where there is that channel.

@@ -1,7 +1,5 @@
 //! A script, line by line.
 ghost use Rattle.std.specs.Prelude.{◌≡◌, None, Some, Err, IfOk, IfErr, OnOk, is_some};
-ghost use Rattle.journal.specs.Writing.{is_number};
-ghost use Rattle.replica_core.specs.Machine.{is_numbered};
 ghost use Rattle.replica_script.specs.declared.script.Stop.{Stop};
 ghost use Rattle.replica_script.specs.declared.script.Stop.TheVariants.{Memory};
 ghost use Rattle.replica_script.specs.Scripts.{Answers, IsAnswer, IsFullLine, IsShown, ending};
@@ -11,7 +9,7 @@ use crate::question::{Query, Question, number, question_in};
 use crate::reply::reply_text;
 use gtid_set::SetFault;
 use gtid_text::SourceId;
-use journal::{Entry, GREATEST};
+use journal::Entry;
 use journal_words::{cut, source_word};
 use replica_core::{Core, Event};
 use std::alloc::{AllocError, Global};
@@ -127,31 +125,6 @@ fn event_of(alloc: Global, pending: Pending) -> Result<Event, Stop> {
     }
 }
 
-#[tactic(auto, unfolding(gtid_set::specs::Sets::greatest))]
-fn is_number(number: u64) -> bool
-    ensures { result ≡ is_number number }
-{
-    1 <= number && number <= GREATEST
-}
-
-/// Whether an event may be asked of a replica.
-fn is_numbered(event: &Event) -> bool
-    ensures { result ≡ is_numbered event.now }
-{
-    match event {
-        Event::OpenChannel(_, _) => true,
-        Event::Position(_) => true,
-        Event::Receive(_, entry) => is_number(entry.gtid.number),
-        Event::Take(_, _, _) => true,
-        Event::Commit(_) => true,
-        Event::Rollback(_) => true,
-        Event::Restart(_) => true,
-        Event::Local(_) => true,
-        Event::Purge(_) => true,
-        Event::Look => true,
-    }
-}
-
 /// The line of a set that would be too large.
 fn fault_text(alloc: Global, fault: SetFault) -> Result<Vec<u8>, Stop>
     ensures { IfOk result (λ text. IsFullLine text.items) }
@@ -167,7 +140,7 @@ fn fault_text(alloc: Global, fault: SetFault) -> Result<Vec<u8>, Stop>
 fn answer_event(alloc: Global, core: &mut Core, event: &Event) -> Result<Vec<u8>, Stop>
     ensures { IfOk result (λ text. IsAnswer core.old event.now core.new text.items) }
 {
-    if !is_numbered(event) {
+    if !event.is_numbered() {
         return Err(Stop::BadLine);
     }
     match core.step(alloc, event) {

@@ -140,7 +140,8 @@ fn is_null_at(values: &[Value], column: u32) -> bool
     }
 }
 
-fn has_null_at(columns: &[u32], values: &[Value]) -> bool
+/// Whether a value at one of these columns is missing or null.
+pub fn has_null_at(columns: &[u32], values: &[Value]) -> bool
     ensures { result ≡ list_any (λ column. is_null (slice_index_or values.now column Null)) columns.now }
 {
     columns.iter().any(|column| is_null_at(values, *column))

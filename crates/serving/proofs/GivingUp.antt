@@ -14,7 +14,8 @@ use Rattle.replica_core.specs.State.{State, Site, Replica}
 use Rattle.replica_core.specs.Machine.{Step, step, opening}
 use Rattle.replica_core.specs.Faults.{committing, IsFault, IsFaultIn}
 use Rattle.source_history.proofs.Tests.{and_both}
-use Rattle.audited_runs.specs.Deciding.{AreStoppedOrDone, all_of}
+use Rattle.replica_core.specs.Draining.{AreStoppedOrDone}
+use Rattle.audited_runs.specs.Deciding.{all_of}
 use Rattle.txn_journal.specs.declared.bundle.Channel.{Channel}
 use Rattle.serving.specs.Served.{IsFaultWhere, Knows, KnowsWith, CanReceive}
 use Rattle.serving.proofs.Shaping.{works_can}

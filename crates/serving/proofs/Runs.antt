@@ -32,9 +32,10 @@ use Rattle.world.specs.Meaning.{AreJournals}
 use Rattle.world.specs.declared.verdict.Verdict.{Verdict}
 use Rattle.world.specs.declared.verdict.Verdict.TheVariants.{Unequal, Purged, Missing, Shared, NotClosed, DoesNotApply, Sound}
 use Rattle.world.proofs.Finding.{is_false}
-use Rattle.audited_runs.specs.Deciding.{ServesAll, AreStoppedOrDone, WorkersDecide, ServedHoldsAll, HoldsAll}
+use Rattle.replica_core.specs.Draining.{AreStoppedOrDone}
+use Rattle.audited_runs.specs.Deciding.{ServesAll, WorkersDecide, ServedHoldsAll, HoldsAll}
 use Rattle.txn_journal.specs.declared.bundle.Channel.{Channel}
-use Rattle.serving.specs.Serving.{Receives, with_channel, Asks, Feeding, ServesOne, ServesEach, is_work, Works, is_feed, ReceivesAtWork, IsReady, IsRun, IsConcluded, IsFoundInKeys, is_sound, keys_over, verdict_over}
+use Rattle.serving.specs.Serving.{Receives, coming, with_channel, Asks, Feeding, ServesOne, ServesEach, is_work, Works, is_feed, ReceivesAtWork, IsReady, IsRun, IsConcluded, IsFoundInKeys, is_sound, keys_over, verdict_over}
 
 -- ---- words
 
@@ -347,6 +348,10 @@ comes_at_work site s c entries s' r = record { events = map (Receive c) entries;
 
 pub one_at_work : (site : Site) (s : State) (c : ℕ) (j : JournalValue) (s' : State) → ServesOne Receives site s c j s' → ServesOne ReceivesAtWork site s c j s'
 one_at_work site s c j s' x = record { all = x.all; asking = x.asking; asks = x.asks; received = comes_at_work site x.asking c x.all s' x.received }
+
+pub one_coming : (at_work : Bool) (site : Site) (s : State) (c : ℕ) (j : JournalValue) (s' : State) → ServesOne (coming at_work) site s c j s' → ServesOne ReceivesAtWork site s c j s'
+one_coming true site s c j s' x = x
+one_coming false site s c j s' x = one_at_work site s c j s' x
 
 pub each_at_work : (site : Site) (s : State) (c : ℕ) (js : List JournalValue) (s' : State) → ServesEach Receives site s c js s' → ServesEach ReceivesAtWork site s c js s'
 each_at_work site s c [] s' x = x

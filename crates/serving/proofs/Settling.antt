@@ -19,20 +19,17 @@ use Rattle.replica_core.specs.Kept.{AreKept}
 use Rattle.replica_core.specs.Machine.{Step, step, after, opening, ask, with_channel, open_channel, position_on, receive, take_place, commit, rollback}
 use Rattle.source_history.proofs.Tests.{true_or_false}
 use Rattle.faithful_journals.proofs.Lists.{not_none, same_some, on_test, on_option}
-use Rattle.applier.specs.Draining.{NothingIsOwned, IsDone, IsWaiting, IsSettledAt, AreStoppedOrDone}
-use Rattle.applier.proofs.Moves.{settled_by}
-use Rattle.applier.proofs.Seats.{freed, more_seats}
+use Rattle.replica_core.specs.Draining.{NothingIsOwned, IsDone, IsWaiting, IsSettledAt, AreStoppedOrDone}
+use Rattle.replica_core.proofs.MoveLemmas.{nothing_owned, settled_by}
+use Rattle.replica_core.proofs.FreeLemmas.{freed, more_seats}
 use Rattle.replica_core.specs.Seated.{AreSeated}
-use Rattle.applier.proofs.Settling.{follows_self, follows_further, nothing_below, below_follows, one_more_place, one_more_channel, whole_channel, all_channels}
+use Rattle.replica_core.proofs.DrainLemmas.{follows_self, follows_further, nothing_below, below_follows, one_more_place, one_more_channel, whole_channel, all_channels}
 use Rattle.serving.specs.Serving.{Works}
 use Rattle.serving.specs.Working.{Leaves, Settles, Finishes}
 
 option_cases : {A : Type 0} (o : Option A) → (o ≡ None) ⊎ ((x : A) × (o ≡ Some x))
 option_cases None = inl refl
 option_cases (Some x) = inr (x, refl)
-
-nothing_owned : (s : State) (seat : ℕ) → NothingIsOwned s → owned_by s seat ≡ None
-nothing_owned s seat none = ap (λ (o : Option Spot). option_map (λ (e : Received). e.gtid) (option_and_then (entry_at s) o)) (none seat)
 
 -- a place waits, or nothing is left to do there and a take of it leaves all as it was
 abbrev Rests : Site → ℕ → ℕ → State → Type 0
@@ -84,10 +81,7 @@ pub settles : (site site1 : Site) (s t u : State) (r q : Reply) (c p : ℕ) → 
 settles site site1 s t u r q c p kept same takes commits none done =
     elim (waits_or_rests site s c p none) [
       | inl w ↦
-          let old : Replica = record { site = site; state = s } in
-          let between : Replica = record { site = site1; state = t } in
-          let new : Replica = record { site = site1; state = u } in
-          let all = settled_by old between new r q c p none done w kept (record { site = same; makes = takes }) (record { site = refl; makes = commits }) in
+          let all = settled_by site site1 s t u r q c p none done w kept same takes commits in
           record { rests = all.rests; follows = all.follows; done = one_more_place u p c (below_follows s u p c all.follows done) all.done }
       | inr rests ↦
           let there : t ≡ s = ap (λ (x : Step). x.1) takes ∙ rests.1 in

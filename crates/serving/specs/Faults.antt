@@ -17,7 +17,8 @@ use Rattle.world.specs.Audit.{all_entries, first_contents}
 use Rattle.audit.specs.Contents.{in_order}
 use Rattle.audit.specs.Worlds.{IsMisfit}
 use Rattle.replica_core.specs.State.{State}
-use Rattle.audited_runs.specs.Deciding.{AreStoppedOrDone, all_of}
+use Rattle.replica_core.specs.Draining.{AreStoppedOrDone}
+use Rattle.audited_runs.specs.Deciding.{all_of}
 use Rattle.txn_journal.specs.declared.bundle.Channel.{Channel}
 use Rattle.serving.specs.Served.{HaveChannels}
 

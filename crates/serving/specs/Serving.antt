@@ -102,6 +102,11 @@ pub record ReceivesAtWork (site : Site) (s : State) (c : ℕ) (entries : List En
   pub now : s' ≡ after site s events
   pub got : received_on c site s events ≡ entries
 
+-- how entries come to a channel: while seats work, or alone
+abbrev pub coming : Bool → Feeding
+coming true = ReceivesAtWork
+coming false = Receives
+
 -- a replica with these rows, served all journals, of which nothing is executed yet
 pub record IsReady (start : Database) (journals : List JournalValue) (core : Replica) : Type 0 where
   pub schema : core.site.schema ≡ start.schema
@@ -170,3 +175,8 @@ IsConcluded start journals state (Some found) = (found ≡ verdict_over start jo
 abbrev pub IsServed : Database → List JournalValue → Served → Type 0
 IsServed start journals (served.State core) = (verdict_over start journals ≡ Sound) × HoldsAll start.schema set.empty start.rows journals core.state
 IsServed start journals (served.Verdict found) = (found ≡ verdict_over start journals) × (found ≡ Sound → ⊥)
+
+-- what was served is a replica of this UUID, whose channels have the names and the order of those that bring the journals
+abbrev pub IsServedAs : ℕ → List Channel → List JournalValue → Served → Type 0
+IsServedAs own channels journals (served.State core) = IsNamed own channels journals core
+IsServedAs own channels journals (served.Verdict answer) = Unit {0}

@@ -1,7 +1,7 @@
 -- What one seat leaves of channels.
 use Rattle.std.specs.Prelude.{ℕ, ◌+◌}
 use Rattle.replica_core.specs.State.{State}
-use Rattle.applier.specs.Draining.{NothingIsOwned, IsDoneBelow, Follows}
+use Rattle.replica_core.specs.Draining.{NothingIsOwned, IsDoneBelow, Follows}
 
 -- nothing is owned again, what is executed or stopped stays so, and a channel is stopped or done below a place
 pub record Leaves (c n : ℕ) (s t : State) : Type 0 where

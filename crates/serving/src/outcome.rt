@@ -4,13 +4,13 @@ ghost use Rattle.gtid_set.specs.declared.fault.SetFault.TheVariants.{Memory};
 ghost use Rattle.world.specs.Meaning.{AreJournals};
 ghost use Rattle.world.specs.declared.verdict.Verdict.TheVariants.{Sound};
 ghost use Rattle.replica_core.specs.Core.{opened};
-ghost use Rattle.serving.specs.Serving.{is_sound, world_over, keys_over, verdict_over, IsReady, IsNamed, IsBegun, IsBegunAs, IsRun, IsConcluded, IsServed, IsFoundInKeys};
+ghost use Rattle.serving.specs.Serving.{is_sound, world_over, keys_over, verdict_over, IsReady, IsNamed, IsBegun, IsBegunAs, IsRun, IsConcluded, IsServed, IsServedAs, IsFoundInKeys};
 ghost use Rattle.replica_core.specs.Machine.{opening};
 ghost use Rattle.serving.specs.Served.{IsFaultWhere, KnowsToo, CanServeEach};
 ghost use Rattle.serving.specs.Faults.{IsAuditFault, IsKeysFault, IsConcludeFault, IsServeFault};
 
 use crate::receiving::serve_journals;
-use crate::working::{apply_each, finish};
+use crate::working::finish;
 use audit::{World, WorldFault, audit, audit_keys, world_of};
 use audited_runs::{served_holds_all, workers_decide};
 use gtid_set::{GtidSet, SetFault};
@@ -118,7 +118,7 @@ fn ready(
     ensures fault { IfErr result (λ f. IsFaultWhere f (KnowsToo (opening rows.now.rows) journals.now) (CanServeEach rows.now.schema 0 channels.now journals.now (opening rows.now.rows))) }
 {
     let mut core = opened(alloc, own, rows)?;
-    serve_journals(alloc, &mut core, 0, channels, journals)?;
+    serve_journals(alloc, &mut core, 0, channels, journals, false)?;
     Ok(core)
 }
 
@@ -152,8 +152,8 @@ fn unsound_keys(
 /// `Memory` is want of memory, and `SourcesFull` comes only where the GTIDs of all journals together
 /// are of more than 65,536 sources. `PoolFull` comes only where there are more than 256 journals, a
 /// journal without a channel whose name no channel before it has, a transaction that the schema does
-/// not take, or a journal of more than 4,294,967,294 entries: of these only the last may stand in a
-/// bundle that was read.
+/// not take, or a journal of more than 4,294,967,294 entries: none of these stands in a bundle that
+/// was read.
 pub fn begin(
     alloc: Global,
     own: SourceId,
@@ -213,10 +213,11 @@ fn applied(
 ) -> Result<Core, SetFault>
     requires { length journals.now ≤ 256 }
     ensures run { IfOk result (IsRun rows.now journals.now) }
+    ensures named { IfOk result (IsNamed own channels.now journals.now) }
     ensures fault { IfErr result (λ f. IsFaultWhere f (KnowsToo (opening rows.now.rows) journals.now) (CanServeEach rows.now.schema 0 channels.now journals.now (opening rows.now.rows))) }
 {
     let mut core = opened(alloc, own, rows)?;
-    apply_each(alloc, &mut core, 0, channels, journals)?;
+    serve_journals(alloc, &mut core, 0, channels, journals, true)?;
     Ok(core)
 }
 
@@ -232,6 +233,7 @@ pub fn serve(
     journals: &[Journal],
 ) -> Result<Served, SetFault>
     ensures served { IfOk result (IsServed rows.now journals.now) }
+    ensures named { IfOk result (IsServedAs own channels.now journals.now) }
     ensures fault { IfErr result (λ f. IsServeFault f rows.now channels.now journals.now) }
 {
     if let Some(verdict) = unsound_keys(alloc, rows, journals)? {

@@ -6,9 +6,10 @@ ghost use Rattle.gtid_set.specs.declared.fault.SetFault.TheVariants.{Memory};
 ghost use Rattle.auto_position.specs.Sending as sending;
 ghost use Rattle.faithful_runs.specs.Sent.{sent};
 ghost use Rattle.serving.specs.Served.{IsFaultWhere, IsAny, KnowsWith, KnowsToo, CanReceive, CanServe, CanServeEach, LeadsTo};
-ghost use Rattle.serving.specs.Serving.{picked, Receives, Asks, ServesOne, ServesEach, names_of, names_asked};
+ghost use Rattle.serving.specs.Serving.{picked, Receives, coming, Asks, ServesOne, ServesEach, names_of, names_asked};
 
 use crate::event::{open_channel, position, receive};
+use crate::working::apply_entries;
 use auto_position::{PositionFault, plan};
 use gtid_set::{GtidSet, SetFault};
 use gtid_text::SourceId;
@@ -88,7 +89,7 @@ fn receive_all(
 }
 
 /// A channel is opened and positioned: what its journal sends to one that asks so.
-pub(crate) fn ask_for(
+fn ask_for(
     alloc: Global,
     core: &mut Core,
     number: usize,
@@ -106,34 +107,56 @@ pub(crate) fn ask_for(
     sent_to(alloc, journal, &asked)
 }
 
-/// A channel is opened and positioned, and receives all that its journal sends.
+/// A channel receives these entries, and applies each before the next if it is to work.
+fn feed(
+    alloc: Global,
+    core: &mut Core,
+    channel: usize,
+    entries: &[Entry],
+    at_work: bool,
+) -> Result<(), SetFault>
+    ensures site { core.new.site ≡ core.old.site }
+    ensures fed { OnOk result (coming at_work core.old.site core.old.state channel entries.now core.new.state) }
+    ensures named { OnOk result (names_of core.new.state.channels ≡ names_of core.old.state.channels) }
+    ensures fault { IfErr result (λ f. IsFaultWhere f (KnowsWith core.old.state entries.now) (CanReceive core.old.site.schema channel entries.now core.old.state)) }
+{
+    if at_work {
+        apply_entries(alloc, core, channel, entries)
+    } else {
+        receive_all(alloc, core, channel, entries)
+    }
+}
+
+/// A channel is opened and positioned, and receives all that its journal sends, perhaps at work.
 fn serve_journal(
     alloc: Global,
     core: &mut Core,
     number: usize,
     channel: &Channel,
     journal: &Journal,
+    at_work: bool,
 ) -> Result<(), SetFault>
     ensures site { core.new.site ≡ core.old.site }
-    ensures served { OnOk result (ServesOne Receives core.old.site core.old.state number journal.now core.new.state) }
+    ensures served { OnOk result (ServesOne (coming at_work) core.old.site core.old.state number journal.now core.new.state) }
     ensures fault { IfErr result (λ f. IsFaultWhere f (KnowsToo core.old.state (journal.now ∷ [])) (CanServe core.old.site.schema number channel.now.name journal.now core.old.state)) }
     ensures named { OnOk result (names_of core.new.state.channels ≡ names_of core.old.state.channels ++ (channel.now.name, channel.now.preserve) ∷ []) }
 {
     let entries = ask_for(alloc, core, number, channel, journal)?;
-    receive_all(alloc, core, number, &entries)
+    feed(alloc, core, number, &entries, at_work)
 }
 
-/// Each journal in turn, on a channel of its own; the first has this number.
+/// Each journal in turn, on a channel of its own, perhaps at work; the first has this number.
 pub(crate) fn serve_journals(
     alloc: Global,
     core: &mut Core,
     number: usize,
     channels: &[Channel],
     journals: &[Journal],
+    at_work: bool,
 ) -> Result<(), SetFault>
     requires { number + length journals.now ≤ 256 }
     ensures site { core.new.site ≡ core.old.site }
-    ensures served { OnOk result (ServesEach Receives core.old.site core.old.state number journals.now core.new.state) }
+    ensures served { OnOk result (ServesEach (coming at_work) core.old.site core.old.state number journals.now core.new.state) }
     ensures fault { IfErr result (λ f. IsFaultWhere f (KnowsToo core.old.state journals.now) (CanServeEach core.old.site.schema number channels.now journals.now core.old.state)) }
     ensures named { OnOk result (names_of core.new.state.channels ≡ names_of core.old.state.channels ++ names_asked (take (length journals.now) channels.now)) }
 {
@@ -143,6 +166,6 @@ pub(crate) fn serve_journals(
     let Some((channel, rest)) = channels.split_first() else {
         return Err(SetFault::PoolFull);
     };
-    serve_journal(alloc, core, number, channel, journal)?;
-    serve_journals(alloc, core, number + 1, rest, others)
+    serve_journal(alloc, core, number, channel, journal, at_work)?;
+    serve_journals(alloc, core, number + 1, rest, others, at_work)
 }

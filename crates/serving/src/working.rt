@@ -1,18 +1,15 @@
 //! One seat applies what channels receive, as it comes.
-ghost use Rattle.std.specs.Prelude.{◌≡◌, ◌≤◌, ◌+◌, ◌++◌, [], ◌∷◌, IfErr, OnOk, MatchOption, None, Some, slice_get, length};
-ghost use Rattle.apply_channel.specs.Channels.{ChannelValue};
-ghost use Rattle.applier.specs.Draining.{NothingIsOwned, IsDoneBelow, IsDone, AreStoppedOrDone, Follows};
-ghost use Rattle.serving.specs.Served.{IsFaultWhere, Knows, KnowsWith, KnowsToo, CanReceive, CanServe, CanServeEach};
-ghost use Rattle.serving.specs.Serving.{Works, ReceivesAtWork, ServesOne, ServesEach, names_of};
+ghost use Rattle.std.specs.Prelude.{◌≡◌, IfErr, OnOk};
+ghost use Rattle.replica_core.specs.Draining.{NothingIsOwned, AreStoppedOrDone};
+ghost use Rattle.serving.specs.Served.{IsFaultWhere, Knows, KnowsWith, CanReceive};
+ghost use Rattle.serving.specs.Serving.{Works, ReceivesAtWork, names_of};
 ghost use Rattle.serving.specs.Working.{Settles, Finishes};
 
 use crate::event::receive;
-use crate::receiving::ask_for;
 use gtid_set::SetFault;
-use journal::{Entry, Journal};
+use journal::Entry;
 use replica_core::{Core, Event};
 use std::alloc::Global;
-use txn_journal::Channel;
 
 /// Seat 1 takes a place and commits it, where that is left to do.
 fn work_at(alloc: Global, core: &mut Core, channel: usize, place: usize) -> Result<(), SetFault>
@@ -29,7 +26,7 @@ fn work_at(alloc: Global, core: &mut Core, channel: usize, place: usize) -> Resu
 
 /// A channel receives these entries, and each is applied before the next is received: so only one waits,
 /// whatever their number.
-fn apply_entries(
+pub(crate) fn apply_entries(
     alloc: Global,
     core: &mut Core,
     channel: usize,
@@ -47,46 +44,6 @@ fn apply_entries(
     Ok(())
 }
 
-/// A channel is opened and positioned, and applies all that its journal sends.
-fn apply_journal(
-    alloc: Global,
-    core: &mut Core,
-    number: usize,
-    channel: &Channel,
-    journal: &Journal,
-) -> Result<(), SetFault>
-    ensures site { core.new.site ≡ core.old.site }
-    ensures served { OnOk result (ServesOne ReceivesAtWork core.old.site core.old.state number journal.now core.new.state) }
-    ensures named { OnOk result (names_of core.new.state.channels ≡ names_of core.old.state.channels ++ (channel.now.name, channel.now.preserve) ∷ []) }
-    ensures fault { IfErr result (λ f. IsFaultWhere f (KnowsToo core.old.state (journal.now ∷ [])) (CanServe core.old.site.schema number channel.now.name journal.now core.old.state)) }
-{
-    let entries = ask_for(alloc, core, number, channel, journal)?;
-    apply_entries(alloc, core, number, &entries)
-}
-
-/// Each journal in turn, on a channel of its own; the first has this number.
-pub(crate) fn apply_each(
-    alloc: Global,
-    core: &mut Core,
-    number: usize,
-    channels: &[Channel],
-    journals: &[Journal],
-) -> Result<(), SetFault>
-    requires { number + length journals.now ≤ 256 }
-    ensures site { core.new.site ≡ core.old.site }
-    ensures served { OnOk result (ServesEach ReceivesAtWork core.old.site core.old.state number journals.now core.new.state) }
-    ensures fault { IfErr result (λ f. IsFaultWhere f (KnowsToo core.old.state journals.now) (CanServeEach core.old.site.schema number channels.now journals.now core.old.state)) }
-{
-    let Some((journal, others)) = journals.split_first() else {
-        return Ok(());
-    };
-    let Some((channel, rest)) = channels.split_first() else {
-        return Err(SetFault::PoolFull);
-    };
-    apply_journal(alloc, core, number, channel, journal)?;
-    apply_each(alloc, core, number + 1, rest, others)
-}
-
 /// The places of a channel, in order.
 fn work_on(alloc: Global, core: &mut Core, channel: usize, places: usize) -> Result<(), SetFault>
     ensures site { core.new.site ≡ core.old.site }
@@ -100,16 +57,6 @@ fn work_on(alloc: Global, core: &mut Core, channel: usize, places: usize) -> Res
     Ok(())
 }
 
-/// How many places a channel has.
-fn places(core: &Core, channel: usize) -> Option<usize>
-    ensures { MatchOption result (slice_get core.now.state.channels channel ≡ None) (λ count. (one : ChannelValue) → slice_get core.now.state.channels channel ≡ Some one → length one.received ≡ count) }
-{
-    match core.channel(channel) {
-        Some(one) => Some(one.len()),
-        None => None,
-    }
-}
-
 /// All channels, in order.
 fn work_on_all(alloc: Global, core: &mut Core) -> Result<(), SetFault>
     ensures site { core.new.site ≡ core.old.site }
@@ -118,7 +65,7 @@ fn work_on_all(alloc: Global, core: &mut Core) -> Result<(), SetFault>
     ensures fault { IfErr result (λ f. IsFaultWhere f (Knows core.old.state) (Unit {0})) }
 {
     for channel in 0..usize::MAX {
-        let Some(count) = places(core, channel) else {
+        let Some(count) = core.places(channel) else {
             return Ok(());
         };
         work_on(alloc, core, channel, count)?;
@@ -147,6 +94,7 @@ pub(crate) fn finish(alloc: Global, core: &mut Core) -> Result<(), SetFault>
     ensures site { core.new.site ≡ core.old.site }
     ensures works { OnOk result (Works core.old.site core.old.state core.new.state) }
     ensures ends { OnOk result (AreStoppedOrDone core.new.state) }
+    ensures named { OnOk result (names_of core.new.state.channels ≡ names_of core.old.state.channels) }
     ensures fault { IfErr result (λ f. IsFaultWhere f (Knows core.old.state) (Unit {0})) }
 {
     free_all(alloc, core)?;

@@ -3,13 +3,13 @@ use Rattle.std.proofs.Common.{◌≡◌, ℕ, ◌+◌, ◌<◌, ◌≤◌, Bool,
 use Rattle.std.specs.List.{list_all, flat_map, AllByRecursion}
 use Rattle.std.proofs.lemmas.Bool.{lt-leb}
 use Rattle.std.proofs.lemmas.List.{append-nil, length-append}
+use Rattle.gtid_text.proofs.SameGtid.{both}
 use Rattle.rows.specs.Names.{is_name}
 use Rattle.rows.specs.Apply.{Rows}
 use Rattle.rows.specs.declared.schema.Table.{Table}
 use Rattle.rows.specs.declared.change.TableRow.{TableRow}
 use Rattle.journal.specs.Journals.{JournalValue}
 use Rattle.journal.specs.Writing.{is_image_writable}
-use Rattle.journal_words.proofs.Numerals.{both}
 use Rattle.txn_journal.specs.Words.{IsOneLine}
 use Rattle.txn_journal.specs.Due.{is_due}
 use Rattle.journal_words.specs.Words.{first_word, others}

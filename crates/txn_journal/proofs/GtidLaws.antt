@@ -19,9 +19,10 @@ use Rattle.gtid_text.specs.Canonical.{source_text, gtid_text}
 use Rattle.gtid_text.proofs.RoundTrip.{source_bytes}
 use Rattle.gtid_text.proofs.Shown.{gtid_shown, joined_gtid, spaced_joined}
 use Rattle.gtid_text.proofs.Single.{gtid_reads_back, gtid_spelled}
+use Rattle.gtid_text.proofs.SameGtid.{both}
 use Rattle.gtid_set.proofs.SpanLemmas.{all_weaker}
 use Rattle.journal_words.specs.Gtids.{is_ascii_byte, same_or_none, if_ascii, gtid_of_word}
-use Rattle.journal_words.proofs.Numerals.{own, both}
+use Rattle.journal_words.proofs.Numerals.{own}
 use Rattle.journal_words.proofs.Counts.{chosen, some_is}
 use Rattle.journal_words.proofs.ValueLaws.{where_same-again, where_same-found}
 

@@ -6,10 +6,10 @@ use Rattle.std.specs.Char.{is_ascii_lowercase, is_ascii_digit}
 use Rattle.std.specs.Str.{IsUtf8}
 use Rattle.std.proofs.lemmas.Bool.{leb-true, lt-ltb, eqb-true}
 use Rattle.std.proofs.lemmas.Bool.Decides.{nat_tests}
+use Rattle.gtid_text.proofs.SameGtid.{both}
 use Rattle.journal_words.specs.Gtids.{is_ascii_byte}
 use Rattle.journal_words.proofs.AsciiLemmas.{ascii_utf8}
 use Rattle.gtid_set.proofs.SpanLemmas.{all_weaker}
-use Rattle.journal_words.proofs.Numerals.{both}
 use Rattle.journal_words.proofs.Counts.{lacks}
 use Rattle.rows.specs.Names.{is_name, is_name_byte, begins_with_digit}
 use Rattle.txn_journal.specs.Words.{name_of}

@@ -1,8 +1,8 @@
 -- Reading byte by byte, line by line and piece by piece.
-use Rattle.std.proofs.Common.{◌≡◌, ℕ, Bool, true, false, eqb, not, List, [], ◌∷◌, ◌++◌, Option, None, Result, Ok, Err, refl, sym, ap, subst, ◌∙◌, append_assoc, inr}
-use Rattle.std.specs.Prelude.{◌&&◌}
+use Rattle.std.proofs.Common.{◌≡◌, ℕ, true, false, eqb, not, List, [], ◌∷◌, ◌++◌, Option, None, Result, Ok, Err, refl, sym, ap, subst, ◌∙◌, append_assoc, inr}
 use Rattle.std.specs.List.{list_all}
 use Rattle.std.proofs.lemmas.List.{append-nil}
+use Rattle.gtid_text.proofs.SameGtid.{both}
 use Rattle.gtid_set.specs.declared.fault.SetFault.{SetFault}
 use Rattle.gtid_set.specs.declared.fault.SetFault.TheVariants.{Memory, PoolFull, SourcesFull}
 use Rattle.txn_journal.specs.declared.fault.Cause.{Cause}
@@ -20,10 +20,6 @@ stopped_stays judge f (b ∷ bs) = stopped_stays judge f bs
 pub eats_append : {S : Type 0} (judge : Judge S) (p : Progress S) (xs ys : List ℕ) → eats judge p (xs ++ ys) ≡ eats judge (eats judge p xs) ys
 eats_append judge p [] ys = refl
 eats_append judge p (x ∷ xs) ys = eats_append judge (eat judge p x) xs ys
-
-both : (a b : Bool) → (a && b) ≡ true → (a ≡ true) × (b ≡ true)
-both true b e = (refl, e)
-both false b e = absurd cc
 
 no_feed : (b : ℕ) → not (eqb b 10) ≡ true → eqb b 10 ≡ false
 no_feed b = elim (eqb b 10) as (λ v. not v ≡ true → v ≡ false) [ true ↦ λ h. absurd cc | false ↦ λ h. refl ]

@@ -15,6 +15,7 @@ use Rattle.gtid_text.specs.Canonical.{source_text, numbers_text, span_text, next
 use Rattle.gtid_text.proofs.Found.{read_spells}
 use Rattle.gtid_text.proofs.Spelled.{spells_read}
 use Rattle.gtid_text.proofs.Shown.{spans_shown, joined_spans, spaced_joined}
+use Rattle.gtid_text.proofs.SameGtid.{both}
 use Rattle.gtid_set.specs.Sets.{Gtids, interval}
 use Rattle.gtid_set.specs.Spans.{set_of, is_before, is_merged}
 use Rattle.gtid_set.proofs.SetLemmas.{gtid_total, same_members, union_empty}
@@ -24,7 +25,6 @@ use Rattle.gtid_set.proofs.RunLemmas.{runs_merged}
 use Rattle.journal_words.specs.Values.{where_same}
 use Rattle.journal_words.specs.Gtids.{is_ascii_byte, if_ascii, are_tidy_behind, some_tidy, tidy_or_none, spans_of_word, set_with, set_of_word}
 use Rattle.txn_journal.specs.WrittenSets.{spans_word, set_text, IsWrittenSet}
-use Rattle.journal_words.proofs.Numerals.{both}
 use Rattle.journal_words.proofs.Counts.{chosen, some_is, lacks}
 use Rattle.journal_words.proofs.ValueLaws.{where_same-again, where_same-found}
 use Rattle.txn_journal.proofs.GtidLaws.{source_small, number_range, is_set_byte, set_ascii, set_no_blank, set_no_feed, source_set, decimal_set, joins, ascii_found}

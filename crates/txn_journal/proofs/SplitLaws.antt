@@ -7,10 +7,11 @@ use Rattle.std.specs.Str.{bytes_eq}
 use Rattle.std.proofs.lemmas.Bool.{eqb-true, eq-eqb}
 use Rattle.std.proofs.lemmas.Bool.Decides.{nat_tests}
 use Rattle.std.proofs.lemmas.Slice.Eq.{bytes_eq-Decides}
+use Rattle.gtid_text.proofs.SameGtid.{both}
 use Rattle.gtid_set.proofs.SpanLemmas.{all_weaker}
 use Rattle.rows.specs.Tables.{are_distinct}
 use Rattle.journal_words.specs.Words.{is_count, count_of}
-use Rattle.journal_words.proofs.Numerals.{digits_in, both}
+use Rattle.journal_words.proofs.Numerals.{digits_in}
 use Rattle.journal_words.proofs.Counts.{some_is, lacks, is_count_decimal, count_again}
 use Rattle.txn_journal.specs.Words.{before, behind}
 use Rattle.txn_journal.specs.Lines.{cons_head}

@@ -7,6 +7,7 @@ use Rattle.std.proofs.lemmas.List.{append-nil, length-append}
 use Rattle.gtid_text.specs.declared.Gtid.{Gtid}
 use Rattle.gtid_text.specs.Written.{IsUsable}
 use Rattle.gtid_text.specs.Canonical.{gtid_text}
+use Rattle.gtid_text.proofs.SameGtid.{both}
 use Rattle.gtid_set.specs.Sets.{Gtids, greatest}
 use Rattle.gtid_set.proofs.SpanLemmas.{all_weaker}
 use Rattle.rows.specs.declared.value.Value.{Value}
@@ -17,7 +18,6 @@ use Rattle.journal.specs.declared.Entry.{Entry}
 use Rattle.journal.specs.Journals.{JournalValue, AreNew}
 use Rattle.journal.specs.Writing.{is_number, is_image_writable, is_change_writable, is_txn_writable, is_writable}
 use Rattle.journal_words.specs.Values.{value_text}
-use Rattle.journal_words.proofs.Numerals.{both}
 use Rattle.journal_words.proofs.Counts.{lacks}
 use Rattle.journal_words.proofs.ValueLaws.{value_lacks, feed_is_none}
 use Rattle.txn_journal.specs.Due.{is_due}

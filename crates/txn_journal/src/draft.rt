@@ -1,8 +1,5 @@
 //! A journal as far as its lines have come.
-ghost use Rattle.std.specs.Prelude.{◌≡◌, true, option_map, slice_index_or};
-ghost use Rattle.std.specs.List.{list_any};
-ghost use Rattle.rows.specs.declared.value.Value.TheVariants.{Null};
-ghost use Rattle.rows.specs.Keys.{is_null};
+ghost use Rattle.std.specs.Prelude.{◌≡◌, true, option_map};
 ghost use Rattle.txn_journal.specs.Stream.{Finds};
 ghost use Rattle.txn_journal.specs.Lines.{version_in};
 ghost use Rattle.txn_journal.specs.Machine.{is_row_of, are_rows_of, fits};
@@ -18,9 +15,9 @@ use crate::lines::{Keyword, Place, Version, keyword_at};
 use crate::names::Names;
 use gtid_set::GtidSet;
 use gtid_text::{Gtid, SourceId};
-use journal::{Entry, GREATEST, Journal, is_change_writable};
+use journal::{Entry, Journal, is_change_writable, is_number};
 use journal_words::{cut, gtid_word, is_count, set_word};
-use rows::{Change, Changes, Name, Row, Schema, Table, Transaction, Value};
+use rows::{Change, Changes, Name, Row, Schema, Table, Transaction, has_null_at};
 use std::alloc::{AllocError, Global};
 use std::mem;
 
@@ -74,21 +71,6 @@ fn is_row_of(table: &Table, row: &Row) -> bool
     values.len() == table.columns as usize && !has_null_at(table.primary.as_slice(), values)
 }
 
-fn is_null_at(values: &[Value], column: u32) -> bool
-    ensures { result ≡ is_null (slice_index_or values.now column Null) }
-{
-    match values.get(column as usize) {
-        Some(value) => matches!(value, Value::Null),
-        None => true,
-    }
-}
-
-fn has_null_at(columns: &[u32], values: &[Value]) -> bool
-    ensures { result ≡ list_any (λ column. is_null (slice_index_or values.now column Null)) columns.now }
-{
-    columns.iter().any(|column| is_null_at(values, *column))
-}
-
 fn are_rows_of(table: &Table, change: &Change) -> bool
     ensures { result ≡ are_rows_of table.now change.now }
 {
@@ -114,14 +96,6 @@ fn fits(schema: Option<&Schema>, change: &Change) -> bool
             None => false,
         },
     }
-}
-
-/// Whether a transaction may have this number.
-#[tactic(auto, unfolding(gtid_set::specs::Sets::greatest))]
-fn is_number(number: u64) -> bool
-    ensures { result ≡ is_number number }
-{
-    1 <= number && number <= GREATEST
 }
 
 impl Draft {

@@ -5,7 +5,7 @@ ghost use Rattle.replica_core.specs.Machine.{is_numbered, AreNumbered};
 
 use crate::lines::{bundle, joined};
 use gtid_text::{Gtid, SourceId};
-use journal::{Entry, GREATEST, Journal};
+use journal::{Entry, Journal, is_number};
 use replica_core::{Core, Event, Reply};
 use rows::{Name, Patch, RowFault, Rows, Transaction, prepare};
 use std::alloc::{AllocError, Global};
@@ -18,14 +18,6 @@ const A: u128 = 0xaaaa_aaaa_aaaa_aaaa_aaaa_aaaa_aaaa_aaaa;
 const B: u128 = 0xbbbb_bbbb_bbbb_bbbb_bbbb_bbbb_bbbb_bbbb;
 
 const C: u128 = 0xcccc_cccc_cccc_cccc_cccc_cccc_cccc_cccc;
-
-/// Whether a number is one of a transaction.
-#[tactic(auto, unfolding(gtid_set::specs::Sets::greatest))]
-fn is_number(number: u64) -> bool
-    ensures { result ≡ is_number number }
-{
-    1 <= number && number <= GREATEST
-}
 
 pub(crate) fn gtid(source: u128, number: u64) -> Gtid
     ensures { result.number ≡ number }

@@ -1,7 +1,7 @@
 use Rattle.std.proofs.Common.{subst}
 use Rattle.replica_core.specs.State.{Replica}
 use Rattle.replica_core.specs.Seated.{AreSeated}
-use Rattle.applier.proofs.Seats.{freed}
+use Rattle.replica_core.proofs.FreeLemmas.{freed}
 use Rattle.applier.proofs.draining.free.Goals as goal
 
 pub returns-clause-free : goal.returns-clause-free

@@ -1,4 +1,4 @@
-use Rattle.applier.proofs.Seats.{more_seats}
+use Rattle.replica_core.proofs.FreeLemmas.{more_seats}
 use Rattle.applier.proofs.Drainings.{drains_further}
 use Rattle.applier.proofs.draining.free_all.Goals as goal
 

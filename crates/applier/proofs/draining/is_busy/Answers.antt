@@ -1,7 +1,7 @@
 use Rattle.std.proofs.Common.{ℕ, sym, ap, ◌∙◌, ◌==◌}
 use Rattle.std.specs.List.{list_any}
 use Rattle.gtid_text.specs.declared.Gtid.{Gtid}
-use Rattle.applier.proofs.Seats.{not_listed}
+use Rattle.replica_core.proofs.FreeLemmas.{not_listed}
 use Rattle.applier.proofs.draining.is_busy.Goals as goal
 
 pub returns : goal.returns

@@ -1,5 +1,6 @@
 use Rattle.std.proofs.Common.{◌<◌, ℕ}
-use Rattle.applier.specs.Draining.{Drains, NothingIsOwned, IsDone}
+use Rattle.replica_core.specs.Draining.{NothingIsOwned, IsDone}
+use Rattle.applier.specs.Draining.{Drains}
 use Rattle.applier.proofs.draining.settle_all.Given as goal
 
 abbrev pub invariant-loop-channel : goal.invariant-loop-channel

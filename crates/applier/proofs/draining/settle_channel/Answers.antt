@@ -1,6 +1,6 @@
 use Rattle.std.proofs.Common.{◌≡◌, arith, subst}
-use Rattle.applier.specs.Draining.{IsDoneBelow}
-use Rattle.applier.proofs.Settling.{follows_further, whole_channel}
+use Rattle.replica_core.specs.Draining.{IsDoneBelow}
+use Rattle.replica_core.proofs.DrainLemmas.{follows_further, whole_channel}
 use Rattle.applier.proofs.Drainings.{drains_further}
 use Rattle.applier.proofs.draining.settle_channel.Goals as goal
 

@@ -1,4 +1,5 @@
-use Rattle.applier.specs.Draining.{Drains, NothingIsOwned, Follows, IsDoneBelow}
+use Rattle.replica_core.specs.Draining.{NothingIsOwned, Follows, IsDoneBelow}
+use Rattle.applier.specs.Draining.{Drains}
 use Rattle.applier.proofs.draining.settle_channel.Given as goal
 
 abbrev pub invariant-loop-place : goal.invariant-loop-place

@@ -1,10 +1,10 @@
-use Rattle.std.proofs.Common.{◌≡◌, ◌∷◌, ◌+◌, suc, true, map, drop, ap, ◌∙◌, sym, subst, arith, true≢false}
+use Rattle.std.proofs.Common.{◌≡◌, ◌∷◌, ◌+◌, suc, map, drop, ap, ◌∙◌, sym, subst, arith, true≢false}
 use Rattle.std.proofs.Math.Seq.{drop-cons}
 use Rattle.journal.specs.declared.Entry.{Entry}
 use Rattle.audit.specs.Contents.{as_pair}
 use Rattle.std.specs.List.{list_all}
 use Rattle.audit.specs.Gaps.{needs_over, last_of_keys, is_own}
-use Rattle.audit.proofs.Apart.{IsApart, apart_first, apart_last, apart_step, needs_more}
+use Rattle.audit.proofs.Apart.{IsApart, apart_first, apart_step, needs_more}
 use Rattle.audit.proofs.needs.needs_of.Goals as goal
 use Rattle.audit.proofs.needs.needs_of.Goals.{then-apart, else-apart}
 

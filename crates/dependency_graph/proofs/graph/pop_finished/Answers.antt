@@ -44,4 +44,4 @@ returns-clause-front c =
     when_false c.is_done.result
     (λ open_one. front_open (points c.args.dropped now) c.pop-next.new.self nodes now c.args.at c.args.i c.index.result.now c.index-key.result.now c.requires.in_range c.index.ensures c.index-key.ensures goes.1
     (λ n first. open_one n (c.pop-next.ensures.next ∙ first)))
-    c.is_done.ensures
+    c.is_done.ensures.stands

@@ -1,10 +1,11 @@
 use Rattle.std.proofs.Common.{◌≤◌, not, ◌||◌, ap, sym, subst, ◌∙◌}
 use Rattle.std.specs.List.{list_all}
 use Rattle.gtid_text.specs.declared.Span.{Span}
+use Rattle.gtid_text.proofs.SameGtid.{both}
 use Rattle.gtid_set.specs.Spans.{has, is_merged, is_before}
 use Rattle.gtid_set.specs.Sweep.{within, all_touch}
 use Rattle.gtid_set.proofs.PlaceLemmas.{DoTouch, within_hull, before_hull, hull_filled, touch_hull, all_first, all_after, tail_more}
-use Rattle.gtid_set.proofs.SpanLemmas.{merged_head, or_assoc, both}
+use Rattle.gtid_set.proofs.SpanLemmas.{merged_head, or_assoc}
 use Rattle.gtid_set.proofs.sweep.absorb.Goals as goal
 
 pub returns-then-is_before : goal.returns-then-is_before

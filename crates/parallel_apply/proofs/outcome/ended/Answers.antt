@@ -1,7 +1,7 @@
 use Rattle.std.proofs.Common.{rules, List, sym, subst}
 use Rattle.replica_core.specs.State.{Replica}
 use Rattle.replica_core.specs.Faults.{IsFaultIn, committing}
-use Rattle.audited_runs.specs.Deciding.{AreStoppedOrDone}
+use Rattle.replica_core.specs.Draining.{AreStoppedOrDone}
 use Rattle.txn_journal.specs.declared.bundle.Channel.{Channel}
 use Rattle.serving.proofs.GivingUp.{seat_fault, conclude_fault}
 use Rattle.parallel_apply.proofs.Histories.{history_runs}

@@ -14,8 +14,8 @@ use Rattle.replica_core.specs.declared.event.Reply.{Reply}
 use Rattle.replica_core.specs.State.{State, Seats, entry_at, owned_by, owned, with_gtid, seat_numbers}
 use Rattle.replica_core.specs.Machine.{Step, is_seat, Held, held, held_at, held_of, rollback}
 use Rattle.replica_core.specs.Seated.{AreSeated}
-use Rattle.applier.specs.Draining.{NothingIsOwned}
-use Rattle.applier.proofs.Lists.{on_option, none_by, equal_numbers, same_number}
+use Rattle.replica_core.specs.Draining.{NothingIsOwned}
+use Rattle.replica_core.proofs.LookLemmas.{on_option, none_by, equal_numbers, same_number}
 
 -- ---- what a busy seat holds
 

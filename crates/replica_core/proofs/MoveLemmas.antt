@@ -1,13 +1,13 @@
 -- What a take and its commit leave of a replica in which nothing is owned.
-use Rattle.std.proofs.Common.{◌≡◌, inl, inr, ⊎_elim, true≢false, ℕ, ◌<◌, Bool, true, false, not, cond, List, map, take, refl, sym, ap, ◌∙◌, subst, arith}
+use Rattle.std.proofs.Common.{◌≡◌, inl, inr, ⊎_elim, true≢false, ℕ, ◌<◌, Bool, true, false, not, cond, List, map, take, refl, sym, ap, ◌∙◌, subst}
 use Rattle.std.specs.Prelude.{Option, Some, None, All, Result, Ok, Err, slice_get, slice_set, option_map, option_and_then, is_some, ◌==◌, ◌||◌, ◌&&◌}
 use Rattle.std.specs.Option.{option_map_or}
 use Rattle.std.specs.Cmp.{nat_cmp_total, unsigned_tied}
-use Rattle.std.proofs.lemmas.Bool.Decides.{nat_tests}
 use Rattle.std.specs.FinSet as set
 use Rattle.std.specs.FinMap as finmap
 use Rattle.gtid_text.specs.declared.Gtid.{Gtid}
 use Rattle.gtid_text.specs.Gtids.{same_gtid}
+use Rattle.gtid_text.proofs.SameGtid.{same_itself}
 use Rattle.gtid_set.specs.Sets.{Gtids}
 use Rattle.gtid_set.proofs.SetLemmas.{gtid_total, gtid_tied}
 use Rattle.rows.specs.declared.schema.Table.{Table}
@@ -20,15 +20,14 @@ use Rattle.replica_core.specs.declared.event.Spot.{Spot}
 use Rattle.replica_core.specs.declared.event.Reply.{Reply}
 use Rattle.replica_core.specs.declared.event.Reply.TheVariants.{Taken}
 use Rattle.replica_core.specs.declared.event.Event.TheVariants.{Take, Commit}
-use Rattle.replica_core.specs.State.{Site, State, Replica, Seats, entry_at, owned_by, owner, owns, seat_numbers}
+use Rattle.replica_core.specs.State.{Site, State, Seats, entry_at, owned_by, owner, owns, seat_numbers}
 use Rattle.replica_core.specs.Kept.{IsKept, AreKept}
-use Rattle.replica_core.specs.Machine.{Step, is_open, is_in_the_way, blocking, open_before, taking, take_place, commit, commit_answer, executing, stopping, stopped_at, without_seat}
+use Rattle.replica_core.specs.Machine.{Step, is_open, is_in_the_way, blocking, open_before, step, taking, take_place, commit, commit_answer, executing, stopping, stopped_at, without_seat}
 use Rattle.replica_core.proofs.KeptLemmas.{found}
 use Rattle.replica_core.proofs.TakeLemmas.{commit_is}
-use Rattle.shared_replica.specs.History.{IsStep}
-use Rattle.applier.specs.Draining.{NothingIsOwned, IsDoneBelow, IsWaiting, IsSettledAt, Follows, SameGtids, SameChannels}
-use Rattle.applier.proofs.Lists.{one_value, equal_numbers, same_number, found_in_map, found_in_set, set_here, position_none, find_none, all_before}
-use Rattle.applier.proofs.Seats.{cleared, cleared_itself}
+use Rattle.replica_core.specs.Draining.{NothingIsOwned, IsDoneBelow, IsWaiting, IsSettledAt, Follows, SameGtids, SameChannels}
+use Rattle.replica_core.proofs.LookLemmas.{one_value, equal_numbers, same_number, found_in_map, found_in_set, set_here, position_none, find_none, all_before}
+use Rattle.replica_core.proofs.FreeLemmas.{cleared, cleared_itself}
 
 -- all earlier places of a channel are executed
 abbrev pub IsFront : State → ChannelValue → ℕ → Type 0
@@ -54,7 +53,7 @@ unblocked : (schema : List Table) (s : State) (channel : ChannelValue) (n : ℕ)
 unblocked schema s channel n None front = refl
 unblocked schema s channel n (Some t) front = none_in_the_way schema s channel n t front
 
-nothing_owned : (s : State) (seat : ℕ) → NothingIsOwned s → owned_by s seat ≡ None
+pub nothing_owned : (s : State) (seat : ℕ) → NothingIsOwned s → owned_by s seat ≡ None
 nothing_owned s seat none = ap (λ (o : Option Spot). option_map (λ (e : Received). e.gtid) (option_and_then (entry_at s) o)) (none seat)
 
 no_owner : (s : State) (g : Gtid) → NothingIsOwned s → owner s g ≡ None
@@ -171,9 +170,6 @@ stays_in s g h at = with_one s g h (same_gtid h g) true refl at ∙ last (same_g
     last true = refl
     last false = refl
 
-same_itself : (g : Gtid) → same_gtid g g ≡ true
-same_itself g = grind (arith, nat_tests)
-
 is_in : (s : Gtids) (g : Gtid) → set.contains (set.insert s g) g ≡ true
 is_in s g = with_one s g g true (set.contains s g) (same_itself g) refl
 
@@ -226,7 +222,7 @@ front_of s n c w done =
     (done w.channel w.at)
 
 -- what a Take of a waiting place by seat 1 and its Commit leave
-pub settled_by : (old between new : Replica) (r q : Reply) (c p : ℕ) → NothingIsOwned old.state → IsDoneBelow p c old.state → IsWaiting p c old.state → AreKept old.site.schema old.state.executed old.state.channels
-    → IsStep old (Take 1 c p) r between → IsStep between (Commit 1) q new → Settles old.state new.state c p
-settled_by old between new r q c p none done w kept takes commits =
-    moved old.site old.state between.state new.state r q c p w none kept (front_of old.state p c w done) takes.makes (commits.makes ∙ ap (λ (x : Site). commit x 1 between.state) takes.site)
+pub settled_by : (site other : Site) (s t u : State) (r q : Reply) (c p : ℕ) → NothingIsOwned s → IsDoneBelow p c s → IsWaiting p c s → AreKept site.schema s.executed s.channels
+    → other ≡ site → ◌≡◌ {A = Step} (r, t) (step site s (Take 1 c p)) → ◌≡◌ {A = Step} (q, u) (step other t (Commit 1)) → Settles s u c p
+settled_by site other s t u r q c p none done w kept same takes commits =
+    moved site s t u r q c p w none kept (front_of s p c w done) takes (commits ∙ ap (λ (x : Site). commit x 1 t) same)

@@ -1,14 +1,14 @@
 -- What is done stays done.
 use Rattle.std.proofs.Common.{◌≡◌, inl, inr, ⊎_elim, ℕ, ◌+◌, ◌<◌, true, List, length, sym, ap, ◌∙◌, subst, arith}
-use Rattle.std.specs.Prelude.{Some, None, slice_get}
+use Rattle.std.specs.Prelude.{Option, Some, None, option_map, slice_get}
 use Rattle.std.specs.FinSet as set
 use Rattle.std.proofs.lemmas.Bool.{cases_eq}
 use Rattle.std.proofs.lemmas.Option.{slice_get_within}
 use Rattle.apply_channel.specs.Channels.{ChannelValue, Received}
 use Rattle.replica_core.specs.State.{State}
-use Rattle.applier.specs.Draining.{IsDoneBelow, IsDone, IsSettledAt, AreStoppedOrDone, Follows, SameGtids}
-use Rattle.applier.proofs.Lists.{ends_by}
-use Rattle.applier.proofs.Moves.{same_channels}
+use Rattle.replica_core.specs.Draining.{places, IsDoneBelow, IsDone, IsSettledAt, AreStoppedOrDone, Follows, SameGtids}
+use Rattle.replica_core.proofs.LookLemmas.{ends_by, none_by, one_value}
+use Rattle.replica_core.proofs.MoveLemmas.{same_channels}
 
 pub follows_self : (s : State) → Follows s s
 follows_self s = record { executed = λ g h. h; channels = same_channels s.channels }
@@ -94,3 +94,13 @@ one_more_channel s u n c before f here less =
     (λ (same : c ≡ n). subst (λ k. IsDone k u) (sym same) here)
     (λ other. done_follows s u c f (before c (omega (arith, less, other))))
     (cases_eq c n)
+
+-- ---- how many places a channel has
+
+pub counted : (s : State) (c n : ℕ) → Some n ≡ places s c → (one : ChannelValue) → slice_get s.channels c ≡ Some one → length one.received ≡ n
+counted s c n is one at = sym (one_value n (length one.received) (is ∙ ap (option_map (λ (channel : ChannelValue). length channel.received)) at))
+
+pub uncounted : (s : State) (c : ℕ) → None ≡ places s c → slice_get s.channels c ≡ None
+uncounted s c is = none_by (slice_get s.channels c) (λ one at.
+    let no : ◌≡◌ {A = Option ℕ} None (Some (length one.received)) = is ∙ ap (option_map (λ (channel : ChannelValue). length channel.received)) at in
+    cc no)

@@ -1,0 +1,173 @@
+-- Nothing is left out of journals that bring the numbers of each source one after another.
+use Rattle.std.proofs.Common.{◌≡◌, ℕ, zero, suc, ◌+◌, [], ◌∷◌, length, get_or, ◌<◌, ◌≤◌, true, false, not, ◌⊎◌, inl, inr, List, take, Option, Some, None, refl, sym, ap, ◌∙◌, subst, arith}
+use Rattle.std.specs.Prelude.{slice_get, nat_lt, nat_le, ◌==◌}
+use Rattle.std.specs.List.{list_all}
+use Rattle.std.specs.FinMap as finmap
+use Rattle.std.specs.FinSet as set
+use Rattle.std.proofs.lemmas.Bool.{eqb-true}
+use Rattle.gtid_text.specs.declared.Gtid.{Gtid}
+use Rattle.gtid_set.specs.Sets.{Gtids, gtid, greatest}
+use Rattle.rows.specs.declared.change.Transaction.{Transaction}
+use Rattle.rows.specs.declared.schema.Table.{Table}
+use Rattle.rows.specs.Apply.{Rows}
+use Rattle.rows.specs.WriteSet.{shares_key}
+use Rattle.journal.specs.declared.Entry.{Entry}
+use Rattle.journal.specs.Journals.{JournalValue, IsJournal}
+use Rattle.journal.specs.Writing.{is_writable, is_number, is_txn_writable}
+use Rattle.source_history.specs.World.{World, content, is_opened}
+use Rattle.source_history.specs.World as history
+use Rattle.source_history.proofs.Tests.{not_both, and_both, or_either, or_left, or_right}
+use Rattle.faithful_journals.proofs.Lists.{same_some, not_none, from_not, get_take, all_at}
+use Rattle.world.specs.declared.verdict.Verdict.TheVariants.{NotClosed}
+use Rattle.world.specs.Search.{or_next}
+use Rattle.world.specs.Audit.{all_entries, world_of, stands_in, stands_before, is_left_out, shared, not_closed}
+use Rattle.world.specs.Meaning.{AreJournals}
+use Rattle.world.proofs.Finding.{none_when, none_first, is_false, taken}
+use Rattle.world.proofs.Contents.{entry_at, entry_from, in_all, at_content, contents_entry, contents_outside}
+use Rattle.audit.specs.Ordered.{is_there, AreBelow, IsInOrder, AreInOrder, AreTops, IsRaised}
+use Rattle.audit.specs.Worlds.{IsWorldOf}
+
+-- ---- one entry more
+
+pub get_here : {A : Type 0} (xs : List A) (k : ℕ) (x : A) → k < length xs → x ≡ get_or xs k x → slice_get xs k ≡ Some x
+get_here [] k x l e = absurd (omega arith)
+get_here (y ∷ xs) zero x l e = ap Some (sym e)
+get_here (y ∷ xs) (suc k) x l e = get_here xs k x (omega arith) e
+
+pub within : {A : Type 0} (xs : List A) (k : ℕ) (x : A) → slice_get xs k ≡ Some x → k < length xs
+within [] k x e = not_none x e
+within (y ∷ xs) zero x e = omega arith
+within (y ∷ xs) (suc k) x e = let l = within xs k x e in omega arith
+
+lt_more : (a b : ℕ) → a < b → a < b + 1
+lt_more a b l = omega arith
+
+lt_cases : (a b : ℕ) → a < b + 1 → (a < b) ⊎ (a ≡ b)
+lt_cases a b l = grind arith
+
+module _ (opened : Gtids) (es : List Entry) (i : ℕ) where
+  stays : (g : Gtid) → is_there opened (take i es) g ≡ true → is_there opened (take (i + 1) es) g ≡ true
+  stays g h = elim (or_either (set.contains opened g) (stands_in (take i es) g) h) [
+    | inl p ↦ or_left (set.contains opened g) (stands_in (take (i + 1) es) g) p
+    | inr e ↦
+        let a = entry_at (take i es) g e in
+        let b = taken es i a.0 a.1 a.2 in
+        or_right (set.contains opened g) (stands_in (take (i + 1) es) g)
+        (subst (λ (x : Gtid). stands_in (take (i + 1) es) x ≡ true) a.3 (entry_from (take (i + 1) es) a.0 a.1 (get_take es (i + 1) a.0 a.1 b.0 (lt_more a.0 i b.1))))
+  ]
+
+  itself : i < i + 1
+  itself = omega arith
+
+  module _ (e : Entry) (here : slice_get es i ≡ Some e) where
+    arrives : is_there opened (take (i + 1) es) e.gtid ≡ true
+    arrives = or_right (set.contains opened e.gtid) (stands_in (take (i + 1) es) e.gtid) (entry_from (take (i + 1) es) i e (get_take es (i + 1) i e here itself))
+
+    below_stays : (source number : ℕ) → AreBelow opened (take i es) source number → AreBelow opened (take (i + 1) es) source number
+    below_stays source number below n p l = stays (gtid source n) (below n p l)
+
+    pub tops_stay : (tops : List (ℕ × ℕ)) → AreTops opened (take i es) tops → AreTops opened (take (i + 1) es) tops
+    tops_stay tops are source top at = below_stays source (top + 1) (are source top at)
+
+    module _ (before next : Gtid) (source : before.source ≡ e.gtid.source) (up : IsRaised before e.gtid.number next) (below : AreBelow opened (take i es) before.source (before.number + 1)) where
+      -- what the entry needs is there
+      pub entry_below : AreBelow opened (take i es) e.gtid.source e.gtid.number
+      entry_below n p l = subst (λ s. is_there opened (take i es) (gtid s n) ≡ true) source (below n p (less n e.gtid.number (before.number + 1) l up.near))
+        where
+          less : (a b c : ℕ) → a < b → b ≤ c → a < c
+          less a b c l m = omega arith
+
+      earlier : (n : ℕ) → 0 < n → n < before.number + 1 → is_there opened (take (i + 1) es) (gtid next.source n) ≡ true
+      earlier n p l = subst (λ s. is_there opened (take (i + 1) es) (gtid s n) ≡ true) (sym up.source) (below_stays before.source (before.number + 1) below n p l)
+
+      arrived : (n : ℕ) → n ≡ e.gtid.number → is_there opened (take (i + 1) es) (gtid next.source n) ≡ true
+      arrived n same =
+          let is : e.gtid ≡ gtid next.source n = λ k. record { source = (sym source ∙ sym up.source) k; number = sym same k } in
+          subst (λ (g : Gtid). is_there opened (take (i + 1) es) g ≡ true) is arrives
+
+      pub next_below : AreBelow opened (take (i + 1) es) next.source (next.number + 1)
+      next_below n p l = elim up.raised [
+        | inl same ↦ earlier n p (subst (λ m. n < m + 1) same l)
+        | inr more ↦ elim (lt_cases n (before.number + 1) (subst (λ m. n < m + 1) more.0 l)) [
+          | inl low ↦ earlier n p low
+          | inr top ↦ arrived n (top ∙ sym more.1)
+        ]
+      ]
+
+    pub so_far_more : ((place : ℕ) (x : Entry) → place < i → slice_get es place ≡ Some x → AreBelow opened (take place es) x.gtid.source x.gtid.number)
+        → AreBelow opened (take i es) e.gtid.source e.gtid.number
+        → (place : ℕ) (x : Entry) → place < i + 1 → slice_get es place ≡ Some x → AreBelow opened (take place es) x.gtid.source x.gtid.number
+    so_far_more before now place x l at = elim (lt_cases place i l) [
+      | inl low ↦ before place x low at
+      | inr same ↦
+          let is : e ≡ x = same_some e x (sym here ∙ (ap (slice_get es) (sym same) ∙ at)) in
+          subst (λ (y : Entry). AreBelow opened (take place es) y.gtid.source y.gtid.number) is (subst (λ k. AreBelow opened (take k es) e.gtid.source e.gtid.number) (sym same) now)
+    ]
+
+-- ---- nothing is left out
+
+number_lt : (a b : ℕ) → nat_lt a b ≡ true → a < b
+number_lt a b e = grind arith
+
+numbered : (es : List Entry) (i : ℕ) (e : Entry) → list_all is_writable es ≡ true → slice_get es i ≡ Some e → 0 < e.gtid.number
+numbered [] i e h at = not_none e at
+numbered (x ∷ es) zero e h at =
+    let a = and_both (is_writable x) (list_all is_writable es) h in
+    let b = and_both (is_number x.gtid.number) (is_txn_writable x.txn) a.0 in
+    let c = and_both (nat_le 1 x.gtid.number) (nat_le x.gtid.number greatest) b.0 in
+    subst (λ (y : Entry). 0 < y.gtid.number) (same_some x e at) (from_test x.gtid.number c.0)
+  where
+    from_test : (n : ℕ) → nat_le 1 n ≡ true → 0 < n
+    from_test n t = grind arith
+numbered (x ∷ es) (suc i) e h at = numbered es i e (and_both (is_writable x) (list_all is_writable es) h).1 at
+
+has_number : (schema : List Table) (opened : Gtids) (rows : Rows) (journals : List JournalValue) → AreJournals journals → (g : Gtid) (t : Transaction) → content (world_of schema opened rows journals) g ≡ Some t → 0 < g.number
+has_number schema opened rows journals are g t at =
+    let a = in_all journals g (contents_entry opened (all_entries journals) g t at) in
+    let b = entry_at a.1.entries g a.3 in
+    let j = all_at (λ (x : JournalValue). IsJournal x.previous x.entries) journals a.0 a.1 are a.2 in
+    subst (λ (x : Gtid). 0 < x.number) b.3 (numbered a.1.entries b.0 b.1 j.writable b.2)
+
+module _ (schema : List Table) (opened : Gtids) (rows : Rows) (journals : List JournalValue) (are : AreJournals journals) where
+  abbrev w : World
+  w = world_of schema opened rows journals
+
+  -- what has a content has a number from 1 on
+  from_one : (h : history.Entry) → content w h.0 ≡ Some h.1 → 0 < h.0.number
+  from_one h at = has_number schema opened rows journals are h.0 h.1 at
+
+  none_left : (j : JournalValue) → IsInOrder opened j.entries → (place : ℕ) (e : Entry) → slice_get j.entries place ≡ Some e
+      → (l : ℕ) (h : history.Entry) → slice_get (finmap.entries w.contents) l ≡ Some h → is_left_out w j place e h ≡ false
+  none_left j ordered place e he l h hl = is_false (is_left_out w j place e h) (λ t.
+      let a = and_both (not (is_opened w e.gtid)) _ t in
+      let b = and_both (h.0.source == e.gtid.source) _ a.1 in
+      let c = and_both (nat_lt h.0.number e.gtid.number) _ b.1 in
+      let d = and_both (shares_key schema h.1 e.txn) (not (stands_before j place h.0)) c.1 in
+      let at = at_content w l h hl in
+      let there = ordered place e he h.0.number (from_one h at) (number_lt h.0.number e.gtid.number c.0) in
+      let is : gtid e.gtid.source h.0.number ≡ h.0 = λ k. record { source = sym (eqb-true h.0.source e.gtid.source b.0) k; number = h.0.number } in
+      stands h.0 h.1 at (subst (λ (g : Gtid). is_there opened (take place j.entries) g ≡ true) is there) (from_not (stands_before j place h.0) d.1))
+    where
+      stands : (g : Gtid) (t : Transaction) → content w g ≡ Some t → is_there opened (take place j.entries) g ≡ true → stands_before j place g ≡ false → ⊥
+      stands g t at there not_before = elim (or_either (set.contains opened g) (stands_in (take place j.entries) g) there) [
+        | inl p ↦ not_both (set.contains opened g) p (contents_outside opened (all_entries journals) g t at)
+        | inr q ↦ not_both (stands_before j place g) (or_right (set.contains j.previous g) (stands_in (take place j.entries) g) q) not_before
+      ]
+
+  closed : AreInOrder opened journals → not_closed w journals ≡ None
+  closed ordered = none_first _ journals (λ i j hj. none_first _ j.entries (λ place e he. none_first _ (finmap.entries w.contents) (λ l h hl.
+      none_when (is_left_out w j place e h) (NotClosed e.gtid h.0) (none_left j (all_at (λ (x : JournalValue). IsInOrder opened x.entries) journals i j ordered hj) place e he l h hl))))
+
+-- where journals are in order nothing is left out of them
+pub order_closes : (world : World) (journals : List JournalValue) → IsWorldOf world journals → AreJournals journals → AreInOrder world.opening_set journals → not_closed world journals ≡ None
+order_closes world journals e are =
+    subst (λ (x : World). AreInOrder x.opening_set journals → not_closed x journals ≡ None) (sym e)
+    (closed world.schema world.opening_set world.opening_rows journals are)
+
+first_alone : {B : Type 0} (o p : Option B) → p ≡ None → o ≡ or_next o p
+first_alone (Some x) p e = refl
+first_alone None p e = sym e
+
+pub only_shared : (world : World) (journals : List JournalValue) → IsWorldOf world journals → AreJournals journals → AreInOrder world.opening_set journals
+    → shared world ≡ or_next (shared world) (not_closed world journals)
+only_shared world journals e are ordered = first_alone (shared world) (not_closed world journals) (order_closes world journals e are ordered)
