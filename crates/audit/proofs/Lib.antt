@@ -1,5 +1,6 @@
 pub mod Stored
 pub mod Made
+pub mod Firsts
 pub mod Passing
 pub mod Missings
 pub mod Needing

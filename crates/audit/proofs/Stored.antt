@@ -1,4 +1,4 @@
--- The entries of a tree as a finite map.
+-- The entries of a list as a finite map.
 use Rattle.std.proofs.Common.{◌≡◌, T, Bool, true, false, ◌&&◌, ◌||◌, map, subst, cond, List, [], ◌∷◌, Option, Some, refl, sym, ap, ◌∙◌}
 use Rattle.std.specs.FinMap.{IsAntisymmetric, same_map, find, get, insert, entries, entries_sorted, get-entries, from_entries, get-from_entries, get-insert}
 use Rattle.std.specs.FinMap.Entries.{below_all, is_sorted, same_entries}
@@ -56,7 +56,7 @@ cond_true : (p q : Bool) → cond p true q ≡ (p || q)
 cond_true true q = refl
 cond_true false q = refl
 
--- the keys of a tree as a finite set
+-- the keys of a list as a finite set
 pub one_key : {K : Type 0} (R : K → K → Ordering) → IsTotalOrder R → IsAntisymmetric R → (ks js : List K) (k : K)
     → ((q : K) → list_any (is_at (R q)) js ≡ cond (is_at (R k) q) true (list_any (is_at (R q)) ks)) → from_list {R = R} js ≡ add (from_list ks) k
 one_key R total exact ks js k h = same_set total exact _ _ (λ q.

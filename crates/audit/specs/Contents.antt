@@ -1,5 +1,7 @@
 -- The transactions of a world, and how they are stored.
-use Rattle.std.specs.Prelude.{ℕ, zero, suc, List, [], ◌∷◌, map, if◌then◌else◌, ◌≡◌, refl}
+use Rattle.std.specs.Prelude.{ℕ, zero, suc, not, List, [], map, ◌≡◌, refl}
+use Rattle.std.specs.List.{filter}
+use Rattle.std.specs.List.Sorted.{IsStrictlySortedBy}
 use Rattle.std.specs.Coded.{Coded, code_by, coded×, coded_ℕ, coded_list}
 use Rattle.std.specs.FinMap as finmap
 use Rattle.std.specs.FinSet as set
@@ -36,15 +38,17 @@ as_pair e = (e.gtid, e.txn)
 abbrev pub in_order : Contents → List Entry
 in_order contents = map as_entry (finmap.entries contents)
 
--- ---- what the entries of journals add
+-- of two with one GTID the first counts
+abbrev pub contents_of : List Entry → Contents
+contents_of entries = finmap.from_entries (map as_pair entries)
 
-abbrev pub with_content : Gtids → Entry → Contents → Contents
-with_content opened e contents = if set.contains opened e.gtid then contents else finmap.insert contents e.gtid e.txn
+-- each GTID is less than those after it
+abbrev pub IsRising : List Entry → Type 0
+IsRising entries = IsStrictlySortedBy gtid_cmp (map (λ e. e.gtid) entries)
 
--- the last first, so that of two with one GTID the first stays
-abbrev pub with_contents : Gtids → List Entry → Contents → Contents
-with_contents opened [] contents = contents
-with_contents opened (e ∷ es) contents = with_content opened e (with_contents opened es contents)
+-- those that were not executed from the start
+abbrev pub beyond : Gtids → List Entry → List Entry
+beyond opened entries = filter (λ e. not (set.contains opened e.gtid)) entries
 
 -- ---- how they are stored
 

@@ -18,7 +18,7 @@ IsWorldOf world journals = world ≡ world_of world.schema world.opening_set wor
 abbrev pub AllFit : List Table → List Entry → Type 0
 AllFit schema entries = All (λ e. Fits schema e.txn) entries
 
--- what a world keeps: its transactions listed in the order of GTIDs, and each of them fits the schema
+-- these are the transactions in the order of GTIDs, and each of them fits the schema
 pub record IsKept (schema : List Table) (contents : Contents) (entries : List Entry) : Type 0 where
   pub listed : entries ≡ in_order contents
   pub fitting : AllFit schema entries

@@ -1,104 +1,130 @@
 //! From each GTID to its transaction.
-ghost use Rattle.std.specs.Prelude.{◌≡◌, IfOk, OnOk, map};
-ghost use Rattle.std.specs.BTreeMap.{IsOrdered};
+ghost use Rattle.std.specs.Prelude.{◌≡◌, ◌++◌, IfOk, OnOk, length, true};
+ghost use Rattle.std.specs.List.Sorted.{IsBinarySearchResult, IsSearchInRange};
 ghost use Rattle.std.specs.Option.{option_copied};
 ghost use Rattle.std.specs.FinMap as finmap;
 ghost use Rattle.gtid_text.specs.Gtids.{gtid_cmp};
-ghost use Rattle.audit.specs.Contents.{as_entry, in_order, with_content, with_contents};
+ghost use Rattle.world.specs.Audit.{all_entries, first_contents};
+ghost use Rattle.audit.specs.Contents.{IsRising, beyond, contents_of, in_order};
 
 use gtid_set::GtidSet;
 use gtid_text::Gtid;
-use journal::Entry;
+use journal::{Entry, Journal};
 use rows::Transaction;
 use std::alloc::{AllocError, Global};
-use std::collections::BTreeMap;
 use std::marker::Model;
 
-/// From each GTID to its transaction. The images are shared with the journals.
+/// From each GTID to its transaction: the entries in the order of GTIDs, no GTID twice. The images
+/// are shared with the journals.
 #[derive(Drop)]
 pub(crate) struct Contents {
-    tree: BTreeMap<Gtid, Transaction>,
+    entries: Vec<Entry>,
 }
 
 impl Model for Contents {
-    ghost use Rattle.std.specs.FinMap as finmap;
-    ghost use Rattle.audit.specs.Contents.{Contents, contents_code};
+    ghost use Rattle.audit.specs.Contents.{Contents, IsRising, contents_code, contents_of};
 
     ghost Value = { Contents };
 
     ghost coded = { contents_code };
 
-    ghost view = { λ a. finmap.from_entries a.tree.entries };
+    ghost view = { λ a. contents_of a.entries.items };
+
+    ghost invariant = { λ a. IsRising a.entries.items };
 }
 
 impl Contents {
-    pub(crate) fn new(alloc: Global) -> Self
-        ensures { result ≡ finmap.empty }
+    /// The first transaction that journals bring under each GTID beyond a set. Where they bring the
+    /// GTIDs in order, nothing is sorted.
+    pub(crate) fn of_journals(
+        alloc: Global,
+        opened: &GtidSet,
+        journals: &[Journal],
+    ) -> Result<Contents, AllocError>
+        ensures { IfOk result (λ contents. contents ≡ first_contents opened.now (all_entries journals.now)) }
     {
-        Contents {
-            tree: BTreeMap::new(alloc),
-        }
+        let mut entries = entries_beyond(alloc, opened, journals)?;
+        keep_firsts(&mut entries)?;
+        Ok(Contents { entries })
     }
 
     /// The transaction of a GTID.
     pub(crate) fn get(&self, gtid: &Gtid) -> Option<&Transaction>
         ensures { option_copied result ≡ finmap.get self.now gtid.now }
     {
-        self.tree.get(gtid)
-    }
-
-    fn put(&mut self, gtid: Gtid, txn: Transaction) -> Result<(), AllocError>
-        ensures { OnOk result (self.new ≡ finmap.insert self.old gtid txn) }
-    {
-        match self.tree.insert(gtid, txn) {
-            Ok(_) => Ok(()),
-            Err(_) => Err(AllocError),
+        match place_of(&self.entries, gtid) {
+            Ok(place) => Some(&self.entries[place].txn),
+            Err(_) => None,
         }
-    }
-
-    /// Puts an entry, unless it was executed from the start.
-    fn put_entry(&mut self, opened: &GtidSet, entry: &Entry) -> Result<(), AllocError>
-        ensures { OnOk result (self.new ≡ with_content opened.now entry.now self.old) }
-    {
-        if opened.contains(&entry.gtid) {
-            return Ok(());
-        }
-        let txn = entry.txn.clone()?;
-        self.put(entry.gtid, txn)
-    }
-
-    /// Puts the entries that were not executed from the start, the last first.
-    pub(crate) fn put_entries(
-        &mut self,
-        opened: &GtidSet,
-        entries: &[Entry],
-    ) -> Result<(), AllocError>
-        ensures { OnOk result (self.new ≡ with_contents opened.now entries.now self.old) }
-    {
-        let mut left = entries.len();
-        while left > 0 {
-            left -= 1;
-            self.put_entry(opened, &entries[left])?;
-        }
-        Ok(())
     }
 
     /// The entries, in the order of GTIDs.
-    pub(crate) fn list(&self, alloc: Global) -> Result<Vec<Entry>, AllocError>
-        ensures { IfOk result (λ list. list.items ≡ in_order self.now) }
+    pub(crate) fn in_order(&self) -> &[Entry]
+        ensures { result.now ≡ in_order self.now }
     {
-        list_tree(alloc, &self.tree)
+        &self.entries
     }
 }
 
-fn list_tree(alloc: Global, tree: &BTreeMap<Gtid, Transaction>) -> Result<Vec<Entry>, AllocError>
-    ensures entries { IfOk result (λ list. list.items ≡ map as_entry tree.now.entries) }
-    ensures ordered { IsOrdered gtid_cmp tree.now }
+/// The entries that were not executed from the start, in the order of journals.
+fn entries_beyond(
+    alloc: Global,
+    opened: &GtidSet,
+    journals: &[Journal],
+) -> Result<Vec<Entry>, AllocError>
+    ensures { IfOk result (λ list. list.items ≡ beyond opened.now (all_entries journals.now)) }
 {
     let mut list = Vec::new(alloc);
-    for (gtid, txn) in tree.iter() {
-        let txn = txn.clone()?;
-        list.push(Entry { gtid: *gtid, txn })?;
+    for journal in journals {
+        push_entries(&mut list, opened, journal.entries())?;
     }
     Ok(list)
+}
+
+/// Puts the entries that were not executed from the start behind others.
+fn push_entries(
+    list: &mut Vec<Entry>,
+    opened: &GtidSet,
+    entries: &[Entry],
+) -> Result<(), AllocError>
+    ensures { OnOk result (list.new.items ≡ list.old.items ++ beyond opened.now entries.now) }
+{
+    list.reserve(entries.len())?;
+    for entry in entries {
+        if opened.contains(&entry.gtid) {
+            continue;
+        }
+        let entry = entry.clone()?;
+        list.push(entry)?;
+    }
+    Ok(())
+}
+
+/// Sorts entries by their GTIDs and keeps the first of each. Where they rise already, it only looks
+/// at them; else the sort takes room for as many entries.
+fn keep_firsts(list: &mut Vec<Entry>) -> Result<(), AllocError>
+    ensures rising { OnOk result (IsRising list.new.items) }
+    ensures firsts { OnOk result (contents_of list.new.items ≡ contents_of list.old.items) }
+{
+    if is_rising(list) {
+        return Ok(());
+    }
+    list.sort_by_key(|entry| entry.gtid)?;
+    list.dedup_by_key(|entry| entry.gtid);
+    Ok(())
+}
+
+/// Whether the GTIDs of entries rise, none of them twice.
+fn is_rising(entries: &[Entry]) -> bool
+    ensures { result ≡ true → IsRising entries.now }
+{
+    entries.is_sorted_by(|a, b| a.gtid < b.gtid)
+}
+
+/// Where a GTID stands among entries, or where it would.
+fn place_of(entries: &[Entry], gtid: &Gtid) -> Result<usize, usize>
+    ensures within { IsSearchInRange result (length entries.now) }
+    ensures place { IsBinarySearchResult (λ e. gtid_cmp e.gtid gtid.now) entries.now result }
+{
+    entries.binary_search_by_key(gtid, |entry| entry.gtid)
 }

@@ -11,7 +11,7 @@ use gtid_set::GtidSet;
 use gtid_text::Gtid;
 use journal::{Entry, Journal};
 use rows::{NotInSchema, Rows, Schema, fits};
-use std::alloc::{AllocError, Global};
+use std::alloc::Global;
 use std::marker::Model;
 
 /// The opening set and rows of a replica, and for each GTID beyond that set the first transaction
@@ -21,13 +21,12 @@ pub struct World {
     opened: GtidSet,
     rows: Rows,
     contents: Contents,
-    in_order: Vec<Entry>,
 }
 
 impl Model for World {
     ghost use Rattle.source_history.specs.World.{World};
-    ghost use Rattle.audit.specs.Contents.{world_code};
-    ghost use Rattle.audit.specs.Worlds.{IsKept};
+    ghost use Rattle.audit.specs.Contents.{in_order, world_code};
+    ghost use Rattle.audit.specs.Worlds.{AllFit};
 
     ghost Value = { World };
 
@@ -35,7 +34,7 @@ impl Model for World {
 
     ghost view = { λ a. record { schema = a.rows.schema; opening_set = a.opened; opening_rows = a.rows.rows; contents = a.contents } };
 
-    ghost invariant = { λ a. IsKept a.rows.schema a.contents a.in_order.items };
+    ghost invariant = { λ a. AllFit a.rows.schema (in_order a.contents) };
 }
 
 impl World {
@@ -65,7 +64,7 @@ impl World {
     pub(crate) fn in_order(&self) -> &[Entry]
         ensures { IsKept self.now.schema self.now.contents result.now }
     {
-        &self.in_order
+        self.contents.in_order()
     }
 }
 
@@ -90,13 +89,10 @@ pub fn world_of(
     ensures of_journals { IfOk result (λ world. IsWorldOf world journals.now) }
     ensures unfit { (g : Gtid) (fault : NotInSchema) → result ≡ Err (WorldFault.NotInSchema g fault) → IsMisfit rows.now.schema (in_order (first_contents opened.now (all_entries journals.now))) g fault }
 {
-    let Ok(contents) = contents_of(alloc, opened, journals) else {
+    let Ok(contents) = Contents::of_journals(alloc, opened, journals) else {
         return Err(WorldFault::Memory);
     };
-    let Ok(in_order) = contents.list(alloc) else {
-        return Err(WorldFault::Memory);
-    };
-    if let Err((gtid, fault)) = all_fit(rows.schema(), &in_order) {
+    if let Err((gtid, fault)) = all_fit(rows.schema(), contents.in_order()) {
         return Err(WorldFault::NotInSchema(gtid, fault));
     }
     let Ok(opened) = opened.copy(alloc) else {
@@ -109,26 +105,7 @@ pub fn world_of(
         opened,
         rows,
         contents,
-        in_order,
     })
-}
-
-/// For each GTID beyond a set the first transaction of these journals.
-fn contents_of(
-    alloc: Global,
-    opened: &GtidSet,
-    journals: &[Journal],
-) -> Result<Contents, AllocError>
-    ensures { IfOk result (λ contents. contents ≡ first_contents opened.now (all_entries journals.now)) }
-{
-    let mut contents = Contents::new(alloc);
-    let mut left = journals.len();
-    while left > 0 {
-        left -= 1;
-        let journal = &journals[left];
-        contents.put_entries(opened, journal.entries())?;
-    }
-    Ok(contents)
 }
 
 /// Whether a schema takes each transaction; else the first that it does not take, and why.

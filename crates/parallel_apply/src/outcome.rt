@@ -1,11 +1,11 @@
 //! What journals come to.
-ghost use Rattle.std.specs.Prelude.{◌≡◌, ◌≤◌, IfOk, IfErr, List};
+ghost use Rattle.std.specs.Prelude.{◌≡◌, ◌≤◌, IfOk, IfErr, ℕ, List};
 ghost use Rattle.world.specs.declared.verdict.Verdict.TheVariants.{Sound};
 ghost use Rattle.txn_journal.specs.declared.bundle.Channel.{Channel};
 ghost use Rattle.serving.specs.Faults.{IsServeFault};
-ghost use Rattle.serving.specs.Serving.{keys_over, IsReady};
+ghost use Rattle.serving.specs.Serving.{keys_over, IsNamed, IsReady};
 ghost use Rattle.applier.specs.Draining.{AllApply};
-ghost use Rattle.parallel_apply.specs.Applying.{IsApplied};
+ghost use Rattle.parallel_apply.specs.Applying.{IsApplied, IsAppliedAs};
 
 use crate::history::worked;
 use applier::{Gate, drain};
@@ -42,6 +42,7 @@ fn ended(
     requires ready { IsReady rows.now journals.now book.opening }
     requires work { AllApply book.steps }
     ensures applied { IfOk result (IsApplied rows.now journals.now) }
+    ensures named { (own : ℕ) (channels : List Channel) → IsNamed own channels journals.now book.opening → IfOk result (IsAppliedAs own channels journals.now) }
     ensures fault { IfErr result (λ f. (channels : List Channel) → IsServeFault f rows.now channels journals.now) }
 {
     let drained = drain(alloc, &mut book);
@@ -63,6 +64,7 @@ fn drained_anew(
     journals: &[Journal],
 ) -> Result<Applied, SetFault>
     ensures applied { IfOk result (IsApplied rows.now journals.now) }
+    ensures named { IfOk result (IsAppliedAs own channels.now journals.now) }
     ensures fault { IfErr result (λ f. IsServeFault f rows.now channels.now journals.now) }
 {
     match begin(alloc, own, rows, channels, journals)? {
@@ -93,6 +95,7 @@ pub fn apply_journals<G: Gate + Sync, R: Threads + Wait + Sync>(
 ) -> Result<Applied, SetFault>
     requires { (1 ≤ workers) × (workers ≤ 64) }
     ensures applied { IfOk result (IsApplied rows.now journals.now) }
+    ensures named { IfOk result (IsAppliedAs own channels.now journals.now) }
     ensures fault { IfErr result (λ f. IsServeFault f rows.now channels.now journals.now) }
 {
     let core = match begin(alloc, own, rows, channels, journals)? {

@@ -18,3 +18,4 @@ pub mod LookLemmas
 pub mod FreeLemmas
 pub mod MoveLemmas
 pub mod DrainLemmas
+pub mod AtOnceLemmas

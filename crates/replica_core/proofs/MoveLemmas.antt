@@ -22,7 +22,7 @@ use Rattle.replica_core.specs.declared.event.Reply.TheVariants.{Taken}
 use Rattle.replica_core.specs.declared.event.Event.TheVariants.{Take, Commit}
 use Rattle.replica_core.specs.State.{Site, State, Seats, entry_at, owned_by, owner, owns, seat_numbers}
 use Rattle.replica_core.specs.Kept.{IsKept, AreKept}
-use Rattle.replica_core.specs.Machine.{Step, is_open, is_in_the_way, blocking, open_before, step, taking, take_place, commit, commit_answer, executing, stopping, stopped_at, without_seat}
+use Rattle.replica_core.specs.Machine.{Step, is_seat, is_open, is_in_the_way, blocking, open_before, step, taking, take_place, commit, commit_answer, executing, stopping, stopped_at, without_seat}
 use Rattle.replica_core.proofs.KeptLemmas.{found}
 use Rattle.replica_core.proofs.TakeLemmas.{commit_is}
 use Rattle.replica_core.specs.Draining.{NothingIsOwned, IsDoneBelow, IsWaiting, IsSettledAt, Follows, SameGtids, SameChannels}
@@ -38,7 +38,7 @@ IsFront s channel n = (p : ℕ) (e : Received) → p < n → slice_get channel.r
 nothing_open : (s : State) (channel : ChannelValue) (n : ℕ) → IsFront s channel n → All (λ e. is_open s e ≡ false) (take n channel.received)
 nothing_open s channel n front = all_before (λ (e : Received). is_open s e ≡ false) n channel.received (λ p e less at. ap not (front p e less at))
 
-none_before : (s : State) (channel : ChannelValue) (n : ℕ) → IsFront s channel n → open_before s channel n ≡ None
+pub none_before : (s : State) (channel : ChannelValue) (n : ℕ) → IsFront s channel n → open_before s channel n ≡ None
 none_before s channel n front = position_none (is_open s) (take n channel.received) (nothing_open s channel n front)
 
 not_open : (schema : List Table) (s : State) (t : Transaction) (e : Received) → is_open s e ≡ false → is_in_the_way schema s t e ≡ false
@@ -61,12 +61,12 @@ no_owner s g none = find_none (owns s g) seat_numbers (λ seat. ap (λ (o : Opti
 
 -- ---- the take
 
-pub took : (site : Site) (s : State) (c p : ℕ) (w : IsWaiting p c s) → NothingIsOwned s → IsFront s w.channel p → take_place site 1 c p s ≡ (Taken w.entry.gtid, taking 1 c p s)
-took site s c p w none front =
-    let idle = nothing_owned s 1 none in
+pub took : (site : Site) (s : State) (seat c p : ℕ) (w : IsWaiting p c s) → is_seat seat ≡ true → NothingIsOwned s → IsFront s w.channel p → take_place site seat c p s ≡ (Taken w.entry.gtid, taking seat c p s)
+took site s seat c p w one none front =
+    let idle = nothing_owned s seat none in
     let free = no_owner s w.entry.gtid none in
     let ready = unblocked site.schema s w.channel p w.entry.txn front in
-    simp (idle, w.at, w.there, w.runs, w.waits, free, ready) refl
+    simp (one, idle, w.at, w.there, w.runs, w.waits, free, ready) refl
 
 -- ---- the commit
 
@@ -74,11 +74,11 @@ has_txn : (b : Bool) (o : Option Transaction) → is_some o ≡ not b → b ≡ 
 has_txn b None h is = absurd (cc (h, is))
 has_txn b (Some t) h is = (t, refl)
 
-any_way : (b : Bool) (o : Option ℕ) → o ≡ None → cond b o None ≡ None
+pub any_way : (b : Bool) (o : Option ℕ) → o ≡ None → cond b o None ≡ None
 any_way true o none = none
 any_way false o none = refl
 
-put_there : (seats : Seats) (seat : ℕ) (spot : Spot) → finmap.get (finmap.insert seats seat spot) seat ≡ Some spot
+pub put_there : (seats : Seats) (seat : ℕ) (spot : Spot) → finmap.get (finmap.insert seats seat spot) seat ≡ Some spot
 put_there seats seat spot = finmap.get-insert nat_cmp_total seats seat spot seat ∙ ap (λ b. cond b (Some spot) (finmap.get seats seat)) (unsigned_tied seat seat ∙ same_number seat)
 
 -- the answer to the commit of what was taken
@@ -106,7 +106,7 @@ same_gtids rs p e at = (e, at, refl)
 pub same_channels : (channels : List ChannelValue) → SameChannels channels channels
 same_channels channels c after at = (after, at, (λ h. h), same_gtids after.received)
 
-settle_gtid : (g : Gtid) (e : Received) (b : Bool) → same_gtid e.gtid g ≡ b → (settle g e).gtid ≡ e.gtid
+pub settle_gtid : (g : Gtid) (e : Received) (b : Bool) → same_gtid e.gtid g ≡ b → (settle g e).gtid ≡ e.gtid
 settle_gtid g e b is = ap (λ x. (cond x (record e { txn = None }) e).gtid) is ∙ by b
   where
     by : (b : Bool) → (cond b (record e { txn = None }) e).gtid ≡ e.gtid
@@ -147,18 +147,18 @@ pub record Settles (s u : State) (c p : ℕ) : Type 0 where
   pub follows : Follows s u
   pub done : IsSettledAt p c u
 
-at_rest : (s : State) (spot : Spot) → NothingIsOwned s → NothingIsOwned (without_seat (record s { seats = finmap.insert s.seats 1 spot }) 1)
-at_rest s spot none seat = by (seat == 1) refl
+pub at_rest : (s : State) (seat : ℕ) (spot : Spot) → NothingIsOwned s → NothingIsOwned (without_seat (record s { seats = finmap.insert s.seats seat spot }) seat)
+at_rest s seat spot none other = by (other == seat) refl
   where
     seats : Seats
-    seats = finmap.insert s.seats 1 spot
+    seats = finmap.insert s.seats seat spot
 
-    first : seat ≡ 1 → finmap.get (finmap.remove seats 1) seat ≡ None
-    first same = ap (finmap.get (finmap.remove seats 1)) same ∙ cleared_itself seats 1
+    first : other ≡ seat → finmap.get (finmap.remove seats seat) other ≡ None
+    first same = ap (finmap.get (finmap.remove seats seat)) same ∙ cleared_itself seats seat
 
-    by : (b : Bool) → (seat == 1) ≡ b → finmap.get (finmap.remove seats 1) seat ≡ None
-    by true is = first (equal_numbers seat 1 is)
-    by false is = cleared seats 1 seat (finmap.get-insert nat_cmp_total s.seats 1 spot seat ∙ ap (λ b. cond b (Some spot) (finmap.get s.seats seat)) (unsigned_tied seat 1 ∙ is) ∙ none seat)
+    by : (b : Bool) → (other == seat) ≡ b → finmap.get (finmap.remove seats seat) other ≡ None
+    by true is = first (equal_numbers other seat is)
+    by false is = cleared seats seat other (finmap.get-insert nat_cmp_total s.seats seat spot other ∙ ap (λ b. cond b (Some spot) (finmap.get s.seats other)) (unsigned_tied other seat ∙ is) ∙ none other)
 
 with_one : (s : Gtids) (g h : Gtid) (b c : Bool) → same_gtid h g ≡ b → set.contains s h ≡ c → set.contains (set.insert s g) h ≡ (b || c)
 with_one s g h b c same at = set.contains-insert gtid_total s g h ∙ ap (λ x. x || set.contains s h) (gtid_tied h g ∙ same) ∙ ap (λ x. b || x) at
@@ -170,7 +170,7 @@ stays_in s g h at = with_one s g h (same_gtid h g) true refl at ∙ last (same_g
     last true = refl
     last false = refl
 
-is_in : (s : Gtids) (g : Gtid) → set.contains (set.insert s g) g ≡ true
+pub is_in : (s : Gtids) (g : Gtid) → set.contains (set.insert s g) g ≡ true
 is_in s g = with_one s g g true (set.contains s g) (same_itself g) refl
 
 -- the GTID that stands at a place afterwards is the one that stood there
@@ -184,7 +184,7 @@ gtid_there s c p w channels after e same at there =
 
 after_ok : (s : State) (c p : ℕ) (w : IsWaiting p c s) (t : Transaction) (rows : Rows) → NothingIsOwned s → Settles s (executing (without_seat (taking 1 c p s) 1) w.entry.gtid t rows) c p
 after_ok s c p w t rows none = record {
-  rests = at_rest s (record { channel = c; place = p }) none;
+  rests = at_rest s 1 (record { channel = c; place = p }) none;
   follows = record { executed = λ h at. stays_in s.executed w.entry.gtid h at; channels = channels_settled w.entry.gtid s.channels };
   done = λ after at. inr (λ e there.
       ap (set.contains (set.insert s.executed w.entry.gtid)) (gtid_there s c p w (map (settled w.entry.gtid) s.channels) after e (channels_settled w.entry.gtid s.channels) at there) ∙ is_in s.executed w.entry.gtid);
@@ -197,7 +197,7 @@ is_stopped c channels x after is at =
 
 after_err : (s : State) (c p : ℕ) (w : IsWaiting p c s) → NothingIsOwned s → Settles s (stopping c (without_seat (taking 1 c p s) 1)) c p
 after_err s c p w none = record {
-  rests = at_rest s (record { channel = c; place = p }) none;
+  rests = at_rest s 1 (record { channel = c; place = p }) none;
   follows = record { executed = λ h at. at; channels = channels_stopped c s.channels w.channel w.at };
   done = λ after at. inl (is_stopped c s.channels w.channel after w.at at);
 }
@@ -209,7 +209,7 @@ after_answer s c p w t none (Err fault) = after_err s c p w none
 moved : (site : Site) (s t u : State) (r q : Reply) (c p : ℕ) (w : IsWaiting p c s) → NothingIsOwned s → AreKept site.schema s.executed s.channels → IsFront s w.channel p
     → ◌≡◌ {A = Step} (r, t) (take_place site 1 c p s) → ◌≡◌ {A = Step} (q, u) (commit site 1 t) → Settles s u c p
 moved site s t u r q c p w none kept front takes commits =
-    let took_it : t ≡ taking 1 c p s = ap (λ (x : Step). x.1) (takes ∙ took site s c p w none front) in
+    let took_it : t ≡ taking 1 c p s = ap (λ (x : Step). x.1) (takes ∙ took site s 1 c p w refl none front) in
     let a = answered site s c p w kept front in
     let made : u ≡ (commit_answer w.entry.gtid a.txn 1 c (taking 1 c p s) (apply site.schema a.txn s.rows)).1 = ap (λ (x : Step). x.1) (commits ∙ ap (commit site 1) took_it ∙ a.is) in
     subst (λ (x : State). Settles s x c p) (sym made) (after_answer s c p w a.txn none (apply site.schema a.txn s.rows))

@@ -12,3 +12,4 @@ pub mod Laws
 pub mod Faults
 pub mod Prepared
 pub mod Draining
+pub mod AtOnce

@@ -1,6 +1,7 @@
 //! The machine of a replica: one event, one reply.
 #![tactic(auto)]
 
+mod at_once;
 mod channels;
 mod commit;
 mod event;

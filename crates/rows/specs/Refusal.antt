@@ -1,5 +1,5 @@
 -- What a refusal says.
-use Rattle.std.specs.Prelude.{◌≡◌, Option, Some, Result, Err}
+use Rattle.std.specs.Prelude.{◌≡◌, Option, Some, None, Result, Err}
 use Rattle.rows.specs.declared.change.ApplyFault.{ApplyFault}
 use Rattle.rows.specs.declared.change.ApplyFault.TheVariants as fault
 use Rattle.rows.specs.declared.change.NotInSchema.{NotInSchema}
@@ -18,6 +18,11 @@ Refuses result answer = (fault : RowFault) → result ≡ Err (Row fault) → an
 -- Where a call answers that the schema does not take the changes, this is why.
 abbrev pub NamesMisfit : {A : Type 0} → Result A ApplyFault → Option NotInSchema → Type 0
 NamesMisfit result misfit = (cause : NotInSchema) → result ≡ Err (fault.NotInSchema cause) → misfit ≡ Some cause
+
+-- What the schema does not take is answered so, before anything else.
+abbrev pub TellsMisfit : {A : Type 0} → Result A ApplyFault → Option NotInSchema → Type 0
+TellsMisfit result None = Unit {0}
+TellsMisfit result (Some cause) = result ≡ Err (fault.NotInSchema cause)
 
 -- Where a call answers a row fault, the changes are refused with it.
 abbrev pub NamesRowFault : {A : Type 0} → Result A ApplyFault → Result Rows RowFault → Type 0

@@ -1,5 +1,5 @@
 -- Why a replica that works gives up.
-use Rattle.std.proofs.Common.{◌≡◌, ℕ, ◌+◌, ◌<◌, drop, length, get_or, true, false, ◌&&◌, List, [], ◌∷◌, Option, None, refl, sym, ◌∙◌, subst, inl, inr}
+use Rattle.std.proofs.Common.{◌≡◌, ℕ, ◌+◌, ◌<◌, drop, length, get_or, true, false, ◌&&◌, List, [], ◌∷◌, None, refl, sym, ◌∙◌, subst, inl, inr}
 use Rattle.std.specs.List.{list_all, AllByRecursion}
 use Rattle.std.specs.FinSet as set
 use Rattle.gtid_set.specs.declared.fault.SetFault.{SetFault}
@@ -13,13 +13,14 @@ use Rattle.replica_core.specs.declared.event.Event.TheVariants.{OpenChannel, Pos
 use Rattle.replica_core.specs.State.{State, Site, Replica}
 use Rattle.replica_core.specs.Machine.{Step, step, opening}
 use Rattle.replica_core.specs.Faults.{committing, IsFault, IsFaultIn}
+use Rattle.replica_core.specs.AtOnce.{received_and_taken, IsFaultAtOnce}
 use Rattle.source_history.proofs.Tests.{and_both}
 use Rattle.replica_core.specs.Draining.{AreStoppedOrDone}
 use Rattle.audited_runs.specs.Deciding.{all_of}
 use Rattle.txn_journal.specs.declared.bundle.Channel.{Channel}
 use Rattle.serving.specs.Served.{IsFaultWhere, Knows, KnowsWith, CanReceive}
 use Rattle.serving.proofs.Shaping.{works_can}
-use Rattle.serving.proofs.Feeding.{fault_later}
+use Rattle.serving.proofs.Feeding.{fault_later, receive_fault}
 use Rattle.serving.specs.Serving.{is_work, ReceivesAtWork, ServesEach, Works, IsRun}
 use Rattle.serving.specs.Faults.{IsServeFault, IsConcludeFault}
 use Rattle.serving.proofs.Within.{is_of, knows_step, knows_after, step_fault_where, fault_where}
@@ -71,6 +72,13 @@ pub commit_fault : (f : SetFault) (site : Site) (s t : State) (c p : ℕ) (answe
 commit_fault f site s t c p answer now h =
     step_fault_where f (Knows s) (Unit {0}) site t (Commit 1) (λ all has. (refl, subst (λ (x : State). Knows x all) (sym now) (knows_step all site s (Take 1 c p) refl has))) h.cause
 
+-- an entry that is not received, or not committed at once
+pub fault_at_once : (f : SetFault) (site : Site) (s : State) (c p : ℕ) (e : Entry) → IsFaultAtOnce f site 1 c p e s → IsFaultWhere f (KnowsWith s (e ∷ [])) (CanReceive site.schema c (e ∷ []) s)
+fault_at_once f site s c p e (inl h) = receive_fault f site s c e (step site s (Receive c e)) h
+fault_at_once f site s c p e (inr h) =
+    step_fault_where f (KnowsWith s (e ∷ [])) (CanReceive site.schema c (e ∷ []) s) site (received_and_taken site 1 c p e s) (Commit 1)
+    (λ all has. (refl, knows_step all site (step site s (Receive c e)).1 (Take 1 c p) refl (knows_step all site s (Receive c e) has.1.0 has.0))) h.cause
+
 -- a fault of later work
 pub work_fault : (f : SetFault) (site : Site) (s t : State) → Works site s t → IsFaultWhere f (Knows t) (Unit {0}) → IsFaultWhere f (Knows s) (Unit {0})
 work_fault f site s t works h = fault_where f (Knows t) (Knows s) (Unit {0}) (Unit {0}) (λ all has. knows_works all site s t works has) (λ can. can) h
@@ -100,13 +108,6 @@ conclude_fault SourcesFull start channels js s ends h = absurd h
 
 abbrev Unreceived : SetFault → Site → State → ℕ → List Entry → Type 0
 Unreceived f site s c es = IsFaultWhere f (KnowsWith s es) (CanReceive site.schema c es s)
-
--- the work behind an entry gives up
-pub fault_at_work : (f : SetFault) (site : Site) (s t : State) (c i : ℕ) (e : Entry) (es : List Entry) → i < length es → e ≡ get_or es i e → t ≡ (step site s (Receive c e)).1
-    → IsFaultWhere f (Knows t) (Unit {0}) → Unreceived f site s c (drop i es)
-fault_at_work f site s t c i e es few is now h =
-    fault_later f site site s t c i e es few is refl now
-    (fault_where f (Knows t) (KnowsWith t (drop (i + 1) es)) (Unit {0}) (CanReceive site.schema c (drop (i + 1) es) t) (λ all has. has.0) (λ can. tt) h)
 
 -- it is done, and a later entry is not received
 pub fault_behind : (f : SetFault) (site site' site'' : Site) (s t u : State) (c i : ℕ) (e : Entry) (es : List Entry) → i < length es → e ≡ get_or es i e → site' ≡ site → site'' ≡ site'

@@ -519,6 +519,10 @@ is_drained s h c p channel e at there =
 stopped_or_done : (s : State) → IsDrained s → AreStoppedOrDone s
 stopped_or_done s h c channel at = inr (λ p e there. h c p channel e at there)
 
+-- nothing is left to do where all is executed
+pub drained_done : (s : State) → drained s ≡ true → AreStoppedOrDone s
+drained_done s h = stopped_or_done s (is_drained s h)
+
 -- what is drained is what an audit calls sound, and holds all journals
 pub state_served : (start : Database) (js : List JournalValue) (core : Replica) → IsRun start js core → AreJournals js
     → verdict_of_keys (world_of start.schema set.empty start.rows js) js ≡ Sound → drained core.state ≡ true → WorkersDecide → ServedHoldsAll

@@ -1,24 +1,16 @@
 -- What one seat does with one place.
-use Rattle.std.proofs.Common.{◌≡◌, ◌⊎◌, inl, inr, ℕ, ◌+◌, ◌<◌, ◌≤◌, Bool, true, false, List, [], ◌∷◌, map, Option, Some, None, refl, sym, ap, ◌∙◌, subst, arith, length}
-use Rattle.std.specs.Prelude.{slice_get, nat_le, option_map, option_and_then}
+use Rattle.std.proofs.Common.{◌≡◌, ◌⊎◌, inl, inr, ℕ, ◌+◌, ◌<◌, ◌≤◌, true, false, [], ◌∷◌, Option, Some, None, refl, sym, ap, ◌∙◌, subst, arith, length}
+use Rattle.std.specs.Prelude.{slice_get}
 use Rattle.std.specs.FinSet as set
 use Rattle.std.specs.FinMap as finmap
-use Rattle.apply_channel.specs.Channels.{ChannelValue, Received, same_name, is_full, with_asked}
+use Rattle.apply_channel.specs.Channels.{ChannelValue, Received}
 use Rattle.replica_core.specs.declared.event.Event.TheVariants.{Take, Commit, Rollback}
-use Rattle.replica_core.specs.declared.event.Reply.TheVariants.{Ask, NotInSchema}
-use Rattle.rows.specs.Database.{Database}
-use Rattle.rows.specs.Fits.{misfit}
-use Rattle.journal.specs.declared.Entry.{Entry}
-use Rattle.journal.specs.Journals.{JournalValue}
-use Rattle.std.specs.List.{list_any}
-use Rattle.std.specs.Ordering.{nat_cmp}
 use Rattle.replica_core.specs.declared.event.Reply.{Reply}
-use Rattle.replica_core.specs.declared.event.Spot.{Spot}
-use Rattle.replica_core.specs.State.{State, Site, Seats, Replica, entry_at, owned_by}
+use Rattle.replica_core.specs.State.{State, Site}
 use Rattle.replica_core.specs.Kept.{AreKept}
-use Rattle.replica_core.specs.Machine.{Step, step, after, opening, ask, with_channel, open_channel, position_on, receive, take_place, commit, rollback}
+use Rattle.replica_core.specs.Machine.{Step, step, take_place, commit, rollback}
 use Rattle.source_history.proofs.Tests.{true_or_false}
-use Rattle.faithful_journals.proofs.Lists.{not_none, same_some, on_test, on_option}
+use Rattle.faithful_journals.proofs.Lists.{not_none, same_some}
 use Rattle.replica_core.specs.Draining.{NothingIsOwned, IsDone, IsWaiting, IsSettledAt, AreStoppedOrDone}
 use Rattle.replica_core.proofs.MoveLemmas.{nothing_owned, settled_by}
 use Rattle.replica_core.proofs.FreeLemmas.{freed, more_seats}

@@ -1,25 +1,24 @@
 -- Work leaves each channel its name, its order, what it asked with and how much it has received.
-use Rattle.std.proofs.Common.{◌≡◌, ℕ, ◌+◌, ◌≤◌, zero, suc, true, false, cond, not, List, [], ◌∷◌, map, length, Option, Some, None, Result, Ok, Err, refl, sym, ap, ◌∙◌, subst, arith}
+use Rattle.std.proofs.Common.{◌≡◌, ℕ, zero, suc, true, false, cond, not, List, [], ◌∷◌, map, length, Option, Some, None, Result, Ok, Err, refl, sym, ap, ◌∙◌, arith}
 use Rattle.std.specs.Prelude.{slice_get, slice_set, is_some}
 use Rattle.std.specs.List.{list_all}
 use Rattle.std.specs.Option.{option_map_or}
 use Rattle.std.specs.FinSet as set
 use Rattle.gtid_text.specs.declared.Gtid.{Gtid}
 use Rattle.gtid_set.specs.Sets.{Gtids}
-use Rattle.gtid_set.specs.declared.fault.SetFault.{SetFault}
 use Rattle.rows.specs.declared.change.Transaction.{Transaction}
 use Rattle.rows.specs.declared.change.RowFault.{RowFault}
 use Rattle.rows.specs.declared.schema.Table.{Table}
 use Rattle.rows.specs.Apply.{Rows, apply}
 use Rattle.journal.specs.declared.Entry.{Entry}
-use Rattle.apply_channel.specs.Channels.{ChannelValue, Received, settle, settled, with_stopped, most_received}
+use Rattle.apply_channel.specs.Channels.{ChannelValue, Received, settle, settled, with_stopped}
 use Rattle.replica_core.specs.declared.event.Event.{Event}
 use Rattle.replica_core.specs.declared.event.Event.TheVariants.{OpenChannel, Position, Receive, Take, Commit, Rollback, Restart, Local, Purge, Look}
 use Rattle.replica_core.specs.declared.event.Reply.TheVariants.{SeatBusy, OwnedBy, Blocked, Early, RolledBack}
 use Rattle.replica_core.specs.State.{State, Site, owned_by, owner}
 use Rattle.replica_core.specs.Machine.{Step, is_seat, blocking, open_before, without_seat, stopped_at, take_entry, take_place, held, commit_answer, commit_held, commit, rollback, step, after}
 use Rattle.faithful_journals.proofs.Lists.{on_test, on_option, get_map, get_map_cases, same_some}
-use Rattle.serving.specs.Served.{IsTaken, CanReceive}
+use Rattle.serving.specs.Served.{CanReceive}
 use Rattle.serving.specs.Serving.{Naming, names_of, is_work, Works}
 use Rattle.std.proofs.lemmas.Bool.{and_parts}
 

@@ -1,15 +1,14 @@
 //! One event at a time.
 ghost use Rattle.std.specs.Prelude.{◌≡◌, [], ◌∷◌, ◌++◌, IfOk, IfErr, OnOk};
-ghost use Rattle.journal.specs.Writing.{is_number};
 ghost use Rattle.replica_core.specs.Machine.{step};
 ghost use Rattle.replica_core.specs.declared.event.Event.TheVariants as events;
 ghost use Rattle.replica_core.specs.declared.event.Reply.TheVariants as replies;
 ghost use Rattle.faithful_runs.specs.Served.{accepted};
 ghost use Rattle.serving.specs.Served.{IsFaultWhere, IsAny, Knows, KnowsWith, CanOpen, IsOpen, CanReceive};
-ghost use Rattle.serving.specs.Serving.{names_of};
+ghost use Rattle.serving.specs.Serving.{names_of, Works};
 
 use gtid_set::{GtidSet, SetFault};
-use journal::{Entry, GREATEST};
+use journal::{Entry, is_number};
 use replica_core::{Core, Event, Reply};
 use std::alloc::Global;
 use txn_journal::Channel;
@@ -48,14 +47,6 @@ pub(crate) fn position(alloc: Global, core: &mut Core, channel: usize) -> Result
     }
 }
 
-/// Whether a transaction number is in range.
-#[tactic(auto, unfolding(gtid_set::specs::Sets::greatest))]
-fn is_number(number: u64) -> bool
-    ensures { result ≡ is_number number }
-{
-    1 <= number && number <= GREATEST
-}
-
 /// A channel receives an entry.
 #[tactic(auto, using(crate::proofs::Naming::names_received))]
 pub(crate) fn receive(
@@ -75,6 +66,28 @@ pub(crate) fn receive(
     }
     let event = Event::Receive(channel, entry.clone()?);
     match core.step(alloc, &event)? {
+        Reply::Received(_) => Ok(()),
+        _ => Err(SetFault::PoolFull),
+    }
+}
+
+/// A channel receives an entry, and seat 1 takes it at this place and commits it, if the place is its own.
+pub(crate) fn receive_at_work(
+    alloc: Global,
+    core: &mut Core,
+    channel: usize,
+    place: usize,
+    entry: &Entry,
+) -> Result<(), SetFault>
+    ensures site { core.new.site ≡ core.old.site }
+    ensures got { OnOk result (accepted (events.Receive channel entry.now) (step core.old.site core.old.state (events.Receive channel entry.now)).0 ≡ entry.now ∷ []) }
+    ensures works { OnOk result (Works core.old.site (step core.old.site core.old.state (events.Receive channel entry.now)).1 core.new.state) }
+    ensures fault { IfErr result (λ f. IsFaultWhere f (KnowsWith core.old.state (entry.now ∷ [])) (CanReceive core.old.site.schema channel (entry.now ∷ []) core.old.state)) }
+{
+    if !is_number(entry.gtid.number) {
+        return Err(SetFault::PoolFull);
+    }
+    match core.receive_and_commit(alloc, 1, channel, place, entry)? {
         Reply::Received(_) => Ok(()),
         _ => Err(SetFault::PoolFull),
     }

@@ -5,7 +5,7 @@ ghost use Rattle.serving.specs.Served.{IsFaultWhere, Knows, KnowsWith, CanReceiv
 ghost use Rattle.serving.specs.Serving.{Works, ReceivesAtWork, names_of};
 ghost use Rattle.serving.specs.Working.{Settles, Finishes};
 
-use crate::event::receive;
+use crate::event::receive_at_work;
 use gtid_set::SetFault;
 use journal::Entry;
 use replica_core::{Core, Event};
@@ -38,8 +38,7 @@ pub(crate) fn apply_entries(
     ensures fault { IfErr result (λ f. IsFaultWhere f (KnowsWith core.old.state entries.now) (CanReceive core.old.site.schema channel entries.now core.old.state)) }
 {
     for (place, entry) in entries.iter().enumerate() {
-        receive(alloc, core, channel, entry)?;
-        work_at(alloc, core, channel, place)?;
+        receive_at_work(alloc, core, channel, place, entry)?;
     }
     Ok(())
 }
@@ -89,7 +88,9 @@ fn free_all(alloc: Global, core: &mut Core) -> Result<(), SetFault>
     Ok(())
 }
 
-/// One seat applies what is left: each channel is stopped then, or all that it received is executed.
+/// One seat applies what is left, if anything is: each channel is stopped then, or all that it received is
+/// executed.
+#[tactic(auto, using(crate::proofs::Runs::works_none, crate::proofs::Runs::drained_done))]
 pub(crate) fn finish(alloc: Global, core: &mut Core) -> Result<(), SetFault>
     ensures site { core.new.site ≡ core.old.site }
     ensures works { OnOk result (Works core.old.site core.old.state core.new.state) }
@@ -97,6 +98,9 @@ pub(crate) fn finish(alloc: Global, core: &mut Core) -> Result<(), SetFault>
     ensures named { OnOk result (names_of core.new.state.channels ≡ names_of core.old.state.channels) }
     ensures fault { IfErr result (λ f. IsFaultWhere f (Knows core.old.state) (Unit {0})) }
 {
+    if core.drained() {
+        return Ok(());
+    }
     free_all(alloc, core)?;
     work_on_all(alloc, core)
 }

@@ -90,10 +90,6 @@ abbrev pub answer : {S : Type 0} → Progress S → Result (Unit {0}) JournalFau
 answer (Reading s n rest) = Ok tt
 answer (Stopped fault) = Err fault
 
-abbrev pub answer_of : Option JournalFault → Result (Unit {0}) JournalFault
-answer_of None = Ok tt
-answer_of (Some fault) = Err fault
-
 -- the end of the text, where its last line has come or has not
 abbrev pub ended : Bool → List ℕ → ℕ → Result (Unit {0}) JournalFault
 ended false rest n = Err (faults.Truncated (next_number n))

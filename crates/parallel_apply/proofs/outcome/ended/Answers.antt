@@ -4,7 +4,7 @@ use Rattle.replica_core.specs.Faults.{IsFaultIn, committing}
 use Rattle.replica_core.specs.Draining.{AreStoppedOrDone}
 use Rattle.txn_journal.specs.declared.bundle.Channel.{Channel}
 use Rattle.serving.proofs.GivingUp.{seat_fault, conclude_fault}
-use Rattle.parallel_apply.proofs.Histories.{history_runs}
+use Rattle.parallel_apply.proofs.Histories.{history_runs, history_named}
 use Rattle.parallel_apply.proofs.outcome.ended.Goals as goal
 
 pub conclude-requires-clause-run : goal.conclude-requires-clause-run
@@ -29,3 +29,7 @@ returns-in_err-conclude-clause-fault c =
     let ends = subst (λ (r : Replica). AreStoppedOrDone r.state) (sym c.state-core.ensures.state) c.in_ok-drained.ensures.ends in
     let h = λ (channels : List Channel). conclude_fault f c.args.rows.now channels c.args.journals.now c.state-core.result.now.state ends c.in_err-conclude.ensures.fault in
     search rules
+
+pub returns-in-None-clause-named : goal.returns-in-None-clause-named
+returns-in-None-clause-named c = λ own channels named.
+    history_named own channels c.args.journals.now c.args.book c.drain-drained.new.book c.requires.work c.drain-drained.ensures.drains c.state-core.ensures.legal named

@@ -1,4 +1,4 @@
-use Rattle.std.proofs.Common.{◌≡◌, ◌≤◌, ℕ, ◌∙◌, arith}
+use Rattle.std.proofs.Common.{◌∙◌, arith}
 use Rattle.serving.proofs.Runs.{works_more}
 use Rattle.serving.proofs.Settling.{one_more_free, rollback_works}
 use Rattle.serving.proofs.working.free_all.Goals as goal

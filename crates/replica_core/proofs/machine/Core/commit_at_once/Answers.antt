@@ -1,0 +1,59 @@
+use Rattle.std.proofs.Common.{◌≡◌, inl, inr, true, rules, sym, ap, ◌∙◌, subst}
+use Rattle.journal.specs.declared.Entry.{Entry}
+use Rattle.journal.specs.Faults.{IsFaultOf}
+use Rattle.replica_core.specs.State.{Replica}
+use Rattle.replica_core.specs.Faults.{IsFaultIn, executing_too}
+use Rattle.replica_core.specs.AtOnce.{IsLeft, IsFaultAtOnce}
+use Rattle.replica_core.proofs.AtOnceLemmas.{makes_executed, commit_takes, done_ahead, fault_ahead, executed_as}
+use Rattle.replica_core.proofs.machine.Core.commit_at_once.Goals as goal
+
+pub returns-in-Err-clause-fault : goal.returns-in-Err-clause-fault
+returns-in-Err-clause-fault c =
+    let r = c.args.self.now in
+    let e = c.args.entry.now in
+    let yes : c.is_ready_at_once.result ≡ true = search rules in
+    let may = c.is_ready_at_once.ensures yes in
+    let kept = c.entries_are_kept.ensures in
+    let f = c.in-Err.fault in
+    inr (record {
+      cause = subst (IsFaultIn f) (sym (makes_executed r c.args.seat c.args.channel c.args.place e may kept))
+          (subst (λ (x : Entry). IsFaultOf f (executing_too r.state x.gtid)) c.in_ok-copy.ensures.cases c.in-Err.ensures.fault);
+      instead = commit_takes r c.args.seat c.args.channel c.args.place e may kept;
+    })
+
+pub returns-in_err-reply-clause-err : goal.returns-in_err-reply-clause-err
+returns-in_err-reply-clause-err c =
+    let r = c.args.self.now in
+    let e = c.args.entry.now in
+    let done = executed_as r c.execute.new.self e c.in_ok-copy.copy c.in_ok-copy.ensures.cases (rw c.in-Ok-Ok.field-0-is at c.in-Ok-Ok.ensures.ok) in
+    let h : IsLeft r.site c.args.seat c.args.channel c.args.place e r.state c.receive.new.self.state =
+    inr (inr (record {
+      rows = c.execute.new.self.state.rows;
+      applied = done.applied;
+      now = ap (λ (x : Replica). x.state) c.in_err-reply.ensures.err ∙ done.state;
+    })) in
+    search rules
+
+pub returns-in_err-reply-clause-fault : goal.returns-in_err-reply-clause-fault
+returns-in_err-reply-clause-fault c =
+    let r = c.args.self.now in
+    let e = c.args.entry.now in
+    let yes : c.is_ready_at_once.result ≡ true = search rules in
+    let may = c.is_ready_at_once.ensures yes in
+    let kept = c.entries_are_kept.ensures in
+    let done = executed_as r c.execute.new.self e c.in_ok-copy.copy c.in_ok-copy.ensures.cases (rw c.in-Ok-Ok.field-0-is at c.in-Ok-Ok.ensures.ok) in
+    let f = c.in_err-reply.field-0.0 in
+    let h : IsFaultAtOnce f r.site c.args.seat c.args.channel c.args.place e r.state =
+    inl (fault_ahead r c.args.seat c.args.channel c.args.place e may kept c.execute.new.self.state.rows f c.execute.new.self.site c.execute.new.self.state done.site done.state c.in_err-reply.ensures.fault) in
+    search rules
+
+pub returns-clause-done : goal.returns-clause-done
+returns-clause-done c =
+    let r = c.args.self.now in
+    let e = c.args.entry.now in
+    let yes : c.is_ready_at_once.result ≡ true = search rules in
+    let may = c.is_ready_at_once.ensures yes in
+    let kept = c.entries_are_kept.ensures in
+    let done = executed_as r c.execute.new.self e c.in_ok-copy.copy c.in_ok-copy.ensures.cases (rw c.in-Ok-Ok.field-0-is at c.in-Ok-Ok.ensures.ok) in
+    done_ahead r c.args.seat c.args.channel c.args.place e may kept c.execute.new.self.state.rows c.execute.new.self.site c.execute.new.self.state c.receive.new.self.state c.in_ok-reply.reply
+    done.applied done.site done.state c.in_ok-reply.ensures.ok

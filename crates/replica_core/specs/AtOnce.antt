@@ -1,0 +1,63 @@
+-- An entry that a channel receives, and that a seat takes and commits as soon as it is there.
+use Rattle.std.specs.Prelude.{◌≡◌, ◌⊎◌, ℕ, true, false, [], ◌∷◌, Some, Ok, length, slice_get, is_none}
+use Rattle.std.specs.FinSet as set
+use Rattle.gtid_set.specs.declared.fault.SetFault.{SetFault}
+use Rattle.rows.specs.Apply.{Rows, apply}
+use Rattle.rows.specs.Fits.{Fits}
+use Rattle.journal.specs.declared.Entry.{Entry}
+use Rattle.apply_channel.specs.Channels.{ChannelValue, are_settled, is_full}
+use Rattle.replica_core.specs.declared.event.Event.TheVariants.{Receive, Take, Commit}
+use Rattle.replica_core.specs.declared.event.Reply.{Reply}
+use Rattle.replica_core.specs.State.{Site, State, Replica}
+use Rattle.replica_core.specs.Machine.{is_seat, receive, commit, after, executing}
+use Rattle.replica_core.specs.Faults.{IsFault, receiving, committing}
+use Rattle.replica_core.specs.Draining.{NothingIsOwned}
+
+-- a channel receives an entry, and a seat takes a place
+abbrev pub received_and_taken : Site → ℕ → ℕ → ℕ → Entry → State → State
+received_and_taken site seat c p e s = after site s (Receive c e ∷ Take seat c p ∷ [])
+
+-- ... and commits what it has
+abbrev pub received_and_committed : Site → ℕ → ℕ → ℕ → Entry → State → State
+received_and_committed site seat c p e s = after site s (Receive c e ∷ Take seat c p ∷ Commit seat ∷ [])
+
+-- an entry is executed, and no channel has received it
+pub record IsOnlyExecuted (site : Site) (e : Entry) (s t : State) : Type 0 where
+  pub rows : Rows
+  pub applied : apply site.schema e.txn s.rows ≡ Ok rows
+  pub now : t ≡ executing s e.gtid e.txn rows
+
+-- where want of memory leaves it: as it was, or received and taken, or executed without being received
+abbrev pub IsLeft : Site → ℕ → ℕ → ℕ → Entry → State → State → Type 0
+IsLeft site seat c p e s t = (t ≡ s) ⊎ ((t ≡ received_and_taken site seat c p e s) ⊎ IsOnlyExecuted site e s t)
+
+-- a fault of the first event, or of the last
+abbrev pub IsFaultAtOnce : SetFault → Site → ℕ → ℕ → ℕ → Entry → State → Type 0
+IsFaultAtOnce f site seat c p e s =
+    IsFault f (receiving c e s) (receive site c e s)
+    ⊎ IsFault f (committing seat (received_and_taken site seat c p e s)) (commit site seat (received_and_taken site seat c p e s))
+
+-- the reply to the first event, and the state after the last
+pub record IsAtOnce (r : Replica) (seat c p : ℕ) (e : Entry) (reply : Reply) (t : State) : Type 0 where
+  pub told : reply ≡ (receive r.site c e r.state).0
+  pub state : t ≡ received_and_committed r.site seat c p e r.state
+
+-- ---- when it needs no waiting
+
+-- a channel that runs would receive its next entry at this place, and all that it received is executed
+pub record IsNext (channel : ChannelValue) (p : ℕ) : Type 0 where
+  pub asked : is_none channel.asked ≡ false
+  pub runs : channel.stopped ≡ false
+  pub room : is_full channel ≡ false
+  pub last : p ≡ length channel.received
+  pub settled : are_settled channel.received ≡ true
+
+-- no seat has a place, the schema takes the entry, and its GTID is new
+pub record IsReadyAtOnce (r : Replica) (seat c p : ℕ) (e : Entry) : Type 0 where
+  pub channel : ChannelValue
+  pub at : slice_get r.state.channels c ≡ Some channel
+  pub next : IsNext channel p
+  pub one : is_seat seat ≡ true
+  pub idle : NothingIsOwned r.state
+  pub fits : Fits r.site.schema e.txn
+  pub new : set.contains r.state.executed e.gtid ≡ false

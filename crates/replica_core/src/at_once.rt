@@ -1,0 +1,148 @@
+//! An entry that is received, taken and committed at once.
+ghost use Rattle.std.specs.Prelude.{◌≡◌, true, is_none, IfOk, OnOk, OnErr, IfErr, MatchOption};
+ghost use Rattle.std.specs.List.{list_all};
+ghost use Rattle.journal.specs.Writing.{is_number};
+ghost use Rattle.replica_core.specs.Machine.{receive};
+ghost use Rattle.replica_core.specs.AtOnce.{received_and_committed, IsLeft, IsFaultAtOnce, IsAtOnce, IsNext, IsReadyAtOnce};
+
+use crate::event::{Reply, Spot};
+use crate::machine::{Core, is_seat};
+use apply_channel::Channel;
+use gtid_set::SetFault;
+use journal::Entry;
+use rows::fits;
+use std::alloc::Global;
+
+/// Whether no seat has a place.
+fn are_idle(seats: &[Option<Spot>]) -> bool
+    ensures { result ≡ list_all (λ spot. is_none spot) seats.now }
+{
+    seats.iter().all(|spot| spot.is_none())
+}
+
+/// Whether a channel that runs would receive its next entry at this place, and all that it received is
+/// executed.
+fn is_next(channel: &Channel, place: usize) -> bool
+    ensures { result ≡ true → IsNext channel.now.channel place }
+{
+    if channel.last_ask().is_none() {
+        return false;
+    }
+    if channel.stopped() {
+        return false;
+    }
+    if channel.is_full() {
+        return false;
+    }
+    if place != channel.len() {
+        return false;
+    }
+    channel.is_settled()
+}
+
+impl Core {
+    /// Whether an entry that a channel receives at this place needs to wait for nothing: then a seat can
+    /// take and commit it at once, unless its transaction does not apply.
+    fn is_ready_at_once(&self, seat: u8, channel: usize, place: usize, entry: &Entry) -> bool
+        ensures { result ≡ true → IsReadyAtOnce self.now seat channel place entry.now }
+    {
+        if !is_seat(seat) {
+            return false;
+        }
+        if !are_idle(&self.seats) {
+            return false;
+        }
+        let Some(one) = self.kept_channel(channel) else {
+            return false;
+        };
+        if !is_next(one, place) {
+            return false;
+        }
+        if self.executed().contains(&entry.gtid) {
+            return false;
+        }
+        match fits(self.rows().schema(), &entry.txn) {
+            Ok(()) => true,
+            Err(_) => false,
+        }
+    }
+
+    /// Executes an entry that needs to wait for nothing and then lets its channel receive it, which keeps
+    /// neither its keys nor its transaction: the reply to its Receive. Where it has to wait, or does not
+    /// apply, nothing is done.
+    fn commit_at_once(
+        &mut self,
+        alloc: Global,
+        seat: u8,
+        channel: usize,
+        place: usize,
+        entry: &Entry,
+    ) -> Result<Option<Reply>, SetFault>
+        requires { is_number entry.now.gtid.number ≡ true }
+        ensures done { IfOk result (λ r. MatchOption r (self.new ≡ self.old) (λ reply. IsAtOnce self.old seat channel place entry.now reply self.new.state)) }
+        ensures site { self.new.site ≡ self.old.site }
+        ensures err { OnErr result (IsLeft self.old.site seat channel place entry.now self.old.state self.new.state) }
+        ensures fault { IfErr result (λ f. IsFaultAtOnce f self.old.site seat channel place entry.now self.old.state) }
+    {
+        self.entries_are_kept();
+        if !self.is_ready_at_once(seat, channel, place, entry) {
+            return Ok(None);
+        }
+        let copy = entry.clone()?;
+        match self.execute(alloc, None, copy, &entry.txn, None) {
+            Ok(Ok(())) => {}
+            Ok(Err(_)) => return Ok(None),
+            Err(fault) => return Err(fault),
+        }
+        let reply = self.receive(alloc, channel, entry)?;
+        Ok(Some(reply))
+    }
+
+    /// The events Receive, Take and Commit, one after another.
+    fn commit_in_turn(
+        &mut self,
+        alloc: Global,
+        seat: u8,
+        channel: usize,
+        place: usize,
+        entry: &Entry,
+    ) -> Result<Reply, SetFault>
+        requires { is_number entry.now.gtid.number ≡ true }
+        ensures done { IfOk result (λ reply. IsAtOnce self.old seat channel place entry.now reply self.new.state) }
+        ensures site { self.new.site ≡ self.old.site }
+        ensures err { OnErr result (IsLeft self.old.site seat channel place entry.now self.old.state self.new.state) }
+        ensures fault { IfErr result (λ f. IsFaultAtOnce f self.old.site seat channel place entry.now self.old.state) }
+    {
+        let reply = self.receive(alloc, channel, entry)?;
+        let _ = self.take(seat, channel, place);
+        let _ = self.commit(alloc, seat, None)?;
+        Ok(reply)
+    }
+
+    /// The events Receive, Take and Commit in turn: a channel receives an entry, and a seat takes this
+    /// place of it and commits what it has. The reply to the Receive is answered. Where nothing has to be
+    /// waited for, neither keys nor the transaction are kept in the channel.
+    ///
+    /// The error is one of the Receive or of the Commit. After it nothing has changed, or the first two
+    /// events were made, or the entry is executed, and the channel has not received it.
+    pub fn receive_and_commit(
+        &mut self,
+        alloc: Global,
+        seat: u8,
+        channel: usize,
+        place: usize,
+        entry: &Entry,
+    ) -> Result<Reply, SetFault>
+        requires { is_number entry.now.gtid.number ≡ true }
+        ensures told { IfOk result (λ reply. reply ≡ (receive self.old.site channel entry.now self.old.state).0) }
+        ensures state { OnOk result (self.new.state ≡ received_and_committed self.old.site seat channel place entry.now self.old.state) }
+        ensures site { self.new.site ≡ self.old.site }
+        ensures err { OnErr result (IsLeft self.old.site seat channel place entry.now self.old.state self.new.state) }
+        ensures fault { IfErr result (λ f. IsFaultAtOnce f self.old.site seat channel place entry.now self.old.state) }
+    {
+        if let Some(reply) = self.commit_at_once(alloc, seat, channel, place, entry)? {
+            return Ok(reply);
+        }
+        self.commit_in_turn(alloc, seat, channel, place, entry)
+    }
+}
