@@ -26,7 +26,7 @@ use Rattle.source_history.proofs.Merging.{alone_from_all}
 use Rattle.faithful_journals.specs.Faithful.{IsFaithful}
 use Rattle.faithful_journals.proofs.Lists.{same_some, not_none, all_at, same_test}
 use Rattle.faithful_journals.proofs.Covering.{is_entry, has, in_whole}
-use Rattle.faithful_runs.specs.Sent.{unknown_own}
+use Rattle.auto_position.specs.Sending.{own_of}
 use Rattle.faithful_runs.specs.Faithful.{start_with, Since, IsFaithfulFrom}
 use Rattle.faithful_runs.specs.Served.{IsDrained, NoLocalCommits, received_on, local_commits, committed_here, IsNoLocalCommit, WasServed}
 use Rattle.faithful_runs.proofs.Invariant.{Invariant}
@@ -128,7 +128,7 @@ whole_in opened (k ∷ js) (suc i) j g e h = contains-union gtid_total (whole k)
 
 received_whole : (site : Site) (s : State) (events : List Event) (c : ℕ) (j : JournalValue) → WasServed site s events c j → (g : Gtid) → is_entry (received_on c site s events) g ≡ true → has j g ≡ true
 received_whole site s events c j w g h =
-    let cases = sent_cases (set.is_subset j.previous w.ask) (set.is_subset (unknown_own j w.ask w.own) set.empty) _ _ (filter (λ (e : Entry). not (set.contains w.ask e.gtid)) j.entries) w.all w.all_sent in
+    let cases = sent_cases (set.is_subset j.previous w.ask) (set.is_subset (own_of w.ask w.own) (whole j)) _ _ (filter (λ (e : Entry). not (set.contains w.ask e.gtid)) j.entries) w.all w.all_sent in
     or_right (set.contains j.previous g) (is_entry j.entries g) (in_filtered (λ (e : Entry). not (set.contains w.ask e.gtid)) j.entries g (ap (λ es. is_entry es g) (cases.1 ∙ sym (served_all site s events c j w)) ∙ h))
 
 none_here : (e : Event) (r : Reply) → IsNoLocalCommit e r → committed_here e r ≡ []

@@ -1,41 +1,27 @@
 -- A channel that is positioned keeps the set that it asked with, until it is positioned again.
-use Rattle.std.proofs.Common.{◌≡◌, ◌≢◌, ℕ, zero, suc, ◌<◌, Bool, true, false, cond, not, ◌&&◌, ◌⊎◌, inl, inr, List, [], ◌∷◌, ◌++◌, map, length, Option, Some, None, Result, Ok, Err, refl, sym, ap, ◌∙◌, subst, arith, eqb, append_assoc}
-use Rattle.std.specs.Prelude.{slice_get, slice_set, nat_le, nat_lt, ◌==◌}
+use Rattle.std.proofs.Common.{◌≡◌, ℕ, Bool, true, false, cond, not, ◌⊎◌, inl, inr, List, [], ◌∷◌, ◌++◌, map, length, Some, None, Result, Ok, Err, refl, sym, ap, ◌∙◌}
+use Rattle.std.specs.Prelude.{slice_get, slice_set, nat_le, nat_lt}
 use Rattle.std.specs.Option.{option_map_or, option_and_then}
-use Rattle.std.specs.List.{list_any, list_all}
-use Rattle.std.specs.Cmp.Lexicographic.{pointwise}
+use Rattle.std.specs.List.{list_any}
 use Rattle.std.specs.FinSet as set
-use Rattle.std.proofs.lemmas.Bool.{eqb-true, eq-eqb}
+use Rattle.std.proofs.lemmas.Bool.{eq-eqb}
 use Rattle.rows.specs.declared.change.Transaction.{Transaction}
 use Rattle.rows.specs.declared.change.RowFault.{RowFault}
 use Rattle.rows.specs.Fits.{misfit}
 use Rattle.rows.specs.Apply.{Rows, apply}
 use Rattle.gtid_text.specs.declared.Gtid.{Gtid}
-use Rattle.gtid_text.specs.Gtids.{gtid_cmp, same_gtid}
-use Rattle.gtid_set.specs.Sets.{Gtids, gtid, greatest, least_number}
+use Rattle.gtid_set.specs.Sets.{Gtids, gtid}
 use Rattle.journal.specs.declared.Entry.{Entry}
-use Rattle.journal.specs.Journals.{JournalValue, gtids_of, whole, AreNew}
-use Rattle.apply_channel.specs.Channels.{ChannelValue, Received, settle, settled, received_gtids, same_name, is_full}
-use Rattle.replica_core.specs.declared.event.Spot.{Spot}
+use Rattle.apply_channel.specs.Channels.{ChannelValue, settled, same_name, is_full}
 use Rattle.replica_core.specs.declared.event.Event.{Event}
 use Rattle.replica_core.specs.declared.event.Event.TheVariants.{OpenChannel, Position, Receive, Take, Commit, Rollback, Restart, Local, Purge, Look}
 use Rattle.replica_core.specs.declared.event.Reply.{Reply}
-use Rattle.replica_core.specs.declared.event.Reply.TheVariants.{NotInSchema, NoChannel, Ask, SeatBusy, OwnedBy, Blocked, Early, RolledBack, Restarted}
-use Rattle.replica_core.specs.State.{State, Site, Seats, owned_by, owner, seat_numbers}
-use Rattle.replica_core.specs.Machine.{Step, is_seat, ask, is_in_the_way, blocking, open_before, with_channel, without_seat, stopped_at, stopping, executing, open_channel, position_on, receive, take_entry, take_place, Held, held_of, held_at, held, commit_answer, commit_held, commit, rollback, restart, is_free, next_number, local_answer, local, purge, look, step, replies, after}
-use Rattle.source_history.specs.World.{World, content, is_opened, apply_all, rows_of, of_source, AreKeysSound, IsSound, IsClosed}
-use Rattle.source_history.specs.Commits.{with_one}
-use Rattle.source_history.specs.Join.{join}
-use Rattle.source_history.proofs.Tests.{true_or_false, not_both, or_either, or_left, or_right, and_both}
-use Rattle.source_history.proofs.Gtids.{gtid_total, gtid_exact, same_gtid_self, gtid_same, same_gtid_other}
-use Rattle.source_history.proofs.Closing.{closed_same}
-use Rattle.source_history.proofs.Committing.{adds_one}
-use Rattle.source_history.proofs.Merging.{late_commit, early_commit}
-use Rattle.faithful_runs.specs.Faithful.{start_with, IsOpening, Since, since_after, asked_with, WasSent, IsFaithfulStep, IsFaithfulFrom, IsFaithfulRun, IsNotRefused, IsMerged, FaithfulRunsMerge, EqualSetsEqualRows, RunsGoOn}
-use Rattle.faithful_runs.specs.Served.{IsDrained, accepted, received_in, IsNoLocalCommit, NoLocalCommits, ServedIsJoined, on_channel, received_on, committed_here, local_commits, WasServed, Plan, is_planned, whole_sets, ServedAreJoined}
-use Rattle.faithful_journals.proofs.Lists.{on_test, on_option, same_some, not_none, and_then_some, get_append_left, get_set_from, get_map, get_below}
+use Rattle.replica_core.specs.declared.event.Reply.TheVariants.{NotInSchema, Ask, SeatBusy, OwnedBy, Blocked, Early, RolledBack, Restarted}
+use Rattle.replica_core.specs.State.{State, Site, owned_by, owner}
+use Rattle.replica_core.specs.Machine.{Step, is_seat, ask, blocking, open_before, with_channel, without_seat, stopped_at, open_channel, position_on, receive, take_entry, take_place, held, commit_answer, commit_held, commit, rollback, restart, next_number, local_answer, local, purge, step}
+use Rattle.source_history.proofs.Tests.{not_both}
+use Rattle.faithful_journals.proofs.Lists.{on_test, on_option, same_some, and_then_some, get_append_left, get_set_from, get_map}
 use Rattle.faithful_runs.proofs.Receiving.{received_entry}
-use Rattle.faithful_runs.specs.Sent.{sent}
 use Rattle.faithful_runs.specs.Whole.{is_position}
 
 abbrev pub Asks : List ChannelValue → ℕ → Gtids → Type 0

@@ -19,7 +19,7 @@ use Rattle.replica_core.specs.Machine.{ask}
 use Rattle.source_history.specs.World.{World, content, is_opened}
 use Rattle.source_history.proofs.Tests.{true_or_false, not_both, or_either}
 use Rattle.source_history.proofs.Gtids.{gtid_total, gtid_same}
-use Rattle.faithful_runs.specs.Sent.{sent}
+use Rattle.auto_position.specs.Sending.{sent}
 use Rattle.faithful_runs.specs.Faithful.{Since}
 use Rattle.faithful_journals.proofs.Lists.{same_some, not_none, map_some, and_then_some, get_append_left, get_push_cases, get_push, get_set_cases, get_set_from, get_map, get_map_cases, get_below}
 use Rattle.faithful_runs.proofs.Sending.{Served}

@@ -1,29 +1,23 @@
 -- What a faithful journal sends.
-use Rattle.std.proofs.Common.{Option, None, IsSome}
-use Rattle.std.proofs.Common.{◌≡◌, ℕ, suc, ◌+◌, ◌<◌, ◌≤◌, Bool, true, false, cond, not, ◌||◌, ◌⊎◌, inl, inr, List, [], ◌∷◌, ◌++◌, length, take, drop, Some, Result, Ok, Err, refl, sym, ap, ◌∙◌, subst, arith, length-append, length-drop, append_assoc, zero}
+use Rattle.std.proofs.Common.{◌≡◌, ℕ, suc, ◌+◌, ◌<◌, ◌≤◌, Bool, true, false, cond, not, ◌||◌, ◌⊎◌, inl, inr, List, [], ◌∷◌, ◌++◌, length, take, Some, Result, Ok, Err, refl, sym, ap, ◌∙◌, subst, arith, append_assoc, zero}
 use Rattle.std.specs.Prelude.{slice_get}
 use Rattle.std.specs.List.{filter}
 use Rattle.std.specs.FinSet as set
 use Rattle.std.specs.FinSet.{is_subset-contains}
-use Rattle.std.proofs.lemmas.List.{take-append-le}
-use Rattle.std.proofs.lemmas.List.Folds.{list_any-append}
-use Rattle.std.proofs.Math.Seq.{take-add, take-append_seam}
-use Rattle.rows.specs.declared.change.Transaction.{Transaction}
 use Rattle.gtid_text.specs.declared.Gtid.{Gtid}
 use Rattle.gtid_text.specs.Gtids.{same_gtid}
 use Rattle.gtid_set.specs.Sets.{Gtids}
 use Rattle.journal.specs.declared.Entry.{Entry}
-use Rattle.journal.specs.Journals.{JournalValue, gtids_of, AreNew}
-use Rattle.source_history.specs.World.{World, content, is_opened, AreKeysSound, IsClosed}
+use Rattle.journal.specs.Journals.{whole}
+use Rattle.source_history.specs.World.{World, content, is_opened, AreKeysSound}
 use Rattle.source_history.proofs.Tests.{true_or_false, or_either, or_left, or_right}
 use Rattle.source_history.proofs.Gtids.{gtid_total, same_gtid_self, gtid_same}
-use Rattle.source_history.proofs.Closing.{closed_same}
-use Rattle.faithful_journals.specs.Faithful.{IsFaithful}
-use Rattle.faithful_runs.specs.Sent.{SendFault, unknown_own}
+use Rattle.auto_position.specs.Sending.{own_of}
+use Rattle.auto_position.specs.declared.PositionFault.{PositionFault}
 use Rattle.faithful_runs.specs.Faithful.{WasSent}
-use Rattle.faithful_journals.proofs.Lists.{get_below, all_append, all_drop, all_at, located, same_some, not_none}
+use Rattle.faithful_journals.proofs.Lists.{get_below, all_at, located, same_some, not_none}
 use Rattle.faithful_runs.proofs.Invariant.{Needs, IsIn}
-use Rattle.faithful_journals.proofs.Covering.{entry_of, is_entry, covered, front, has, in_covered, in_whole, fronts_of, to_fronts}
+use Rattle.faithful_journals.proofs.Covering.{is_entry, covered, front, fronts_of}
 use Rattle.faithful_journals.proofs.Keeping.{some_is}
 
 -- ---- what a faithful journal sends
@@ -31,7 +25,7 @@ use Rattle.faithful_journals.proofs.Keeping.{some_is}
 same_ok : {A E : Type 0} (x y : A) → ◌≡◌ {A = Result A E} (Ok x) (Ok y) → x ≡ y
 same_ok x y e = cc
 
-pub sent_cases : (b c : Bool) (x y : SendFault) (all : List Entry) (want : List Entry) → cond (not b) (Err x) (cond (not c) (Err y) (Ok all)) ≡ Ok want → (b ≡ true) × (all ≡ want)
+pub sent_cases : (b c : Bool) (x y : PositionFault) (all : List Entry) (want : List Entry) → cond (not b) (Err x) (cond (not c) (Err y) (Ok all)) ≡ Ok want → (b ≡ true) × (all ≡ want)
 sent_cases true true x y all want e = (refl, same_ok all want e)
 sent_cases true false x y all want e = cc
 sent_cases false c x y all want e = cc
@@ -86,7 +80,7 @@ pub served : (world : World) → AreKeysSound world → (A : Gtids) (before : Li
 served world sound A before e w =
     let j = w.journal in
     let F : Entry → Bool = λ x. not (set.contains A x.gtid) in
-    let s = sent_cases (set.is_subset j.previous A) (set.is_subset (unknown_own j A w.own) set.empty) _ _ (filter F j.entries) ((before ++ e ∷ []) ++ w.rest) w.front in
+    let s = sent_cases (set.is_subset j.previous A) (set.is_subset (own_of A w.own) (whole j)) _ _ (filter F j.entries) ((before ++ e ∷ []) ++ w.rest) w.front in
     let at = located F j.entries before w.rest e (s.1 ∙ append_assoc before (e ∷ []) w.rest) in
     record {
       content_is = all_at (λ (x : Entry). is_opened world x.gtid ≡ false → content world x.gtid ≡ Some x.txn) j.entries at.0 e w.faithful.contents at.1;

@@ -14,7 +14,7 @@ use Rattle.replica_core.specs.Machine.{step, after}
 use Rattle.source_history.specs.Join.{join}
 use Rattle.source_history.proofs.Tests.{true_or_false, or_either, or_left, or_right}
 use Rattle.source_history.proofs.Gtids.{gtid_total, gtid_exact, gtid_same}
-use Rattle.faithful_runs.specs.Sent.{unknown_own}
+use Rattle.auto_position.specs.Sending.{own_of}
 use Rattle.faithful_runs.specs.Served.{IsDrained, accepted, received_in, NoLocalCommits, ServedIsJoined}
 use Rattle.faithful_runs.proofs.Sending.{sent_cases}
 use Rattle.faithful_journals.proofs.Covering.{is_entry, has, in_whole}
@@ -79,7 +79,7 @@ pub served_is_joined : ServedIsJoined
 served_is_joined site s events j own all drained is_sent got no_local drained_after =
     let F : Entry → Bool = λ e. not (set.contains s.executed e.gtid) in
     let end = after site s events in
-    let cases = sent_cases (set.is_subset j.previous s.executed) (set.is_subset (unknown_own j s.executed own) set.empty) _ _ (filter F j.entries) all is_sent in
+    let cases = sent_cases (set.is_subset j.previous s.executed) (set.is_subset (own_of s.executed own) (whole j)) _ _ (filter F j.entries) all is_sent in
     let grows : Grows s end all = subst (Grows s end) got (run_grows site s events no_local) in
     same_set gtid_total gtid_exact end.executed (join s.executed (whole j)) (λ g.
     let split : set.contains (join s.executed (whole j)) g ≡ (set.contains s.executed g || has j g) = contains-union gtid_total s.executed (whole j) g ∙ ap (λ b. set.contains s.executed g || b) (in_whole j g) in

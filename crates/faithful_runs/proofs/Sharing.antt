@@ -25,9 +25,9 @@ use Rattle.replica_core.specs.Machine.{Step, ask, with_channel, executing, next_
 use Rattle.source_history.specs.Join.{join}
 use Rattle.source_history.proofs.Tests.{true_or_false, or_either, or_left, or_right}
 use Rattle.source_history.proofs.Gtids.{gtid_total, gtid_exact, same_gtid_self, gtid_same}
-use Rattle.faithful_runs.specs.Sent.{unknown_own}
+use Rattle.auto_position.specs.Sending.{own_of}
 use Rattle.faithful_runs.specs.Served.{accepted, on_channel, received_on, committed_here, local_commits, WasServed, Plan, is_planned, whole_sets, ServedAreJoined}
-use Rattle.faithful_journals.proofs.Lists.{on_test, on_option, same_test, same_some, not_none}
+use Rattle.faithful_journals.proofs.Lists.{on_option, same_test, same_some, not_none}
 use Rattle.faithful_journals.proofs.Covering.{is_entry, entry_of, has, in_insert, in_entries, in_gtids, in_whole}
 use Rattle.faithful_runs.proofs.Sending.{sent_cases}
 use Rattle.faithful_runs.proofs.Receiving.{among_received}
@@ -195,7 +195,7 @@ served_all site s events c j w =
 pub served_known : (site : Site) (s : State) (events : List Event) (c : ℕ) (j : JournalValue) → WasServed site s events c j → (g : Gtid) → has j g ≡ true → Known (after site s events) g
 served_known site s events c j w g h =
     let s1 = after site s w.before in
-    let cases = sent_cases (set.is_subset j.previous w.ask) (set.is_subset (unknown_own j w.ask w.own) set.empty) _ _ (filter (λ (e : Entry). not (set.contains w.ask e.gtid)) j.entries) w.all w.all_sent in
+    let cases = sent_cases (set.is_subset j.previous w.ask) (set.is_subset (own_of w.ask w.own) (whole j)) _ _ (filter (λ (e : Entry). not (set.contains w.ask e.gtid)) j.entries) w.all w.all_sent in
     let ends : after site s events ≡ after site s1 (Position c ∷ w.later) = ap (after site s) w.parts ∙ after_append site s w.before (Position c ∷ w.later) in
     let asked : set.contains w.ask g ≡ true → Known (after site s events) g = λ i. subst (λ (x : State). Known x g) (sym ends) ((run_moves site s1 (Position c ∷ w.later)).stays g (ask_known site s1 c w.ask w.asked g i)) in
     elim (or_either (set.contains j.previous g) (is_entry j.entries g) h) [
@@ -246,7 +246,7 @@ served_are_joined site s events plan drained served others drained_after =
               let p = any_at (λ (q : ℕ × JournalValue). q.0 == came.0) plan planned in
               let w = served p.0 p.1 p.2 in
               let on : is_entry (received_on p.1.0 site s events) g ≡ true = ap (λ n. is_entry (received_on n site s events) g) (eqb-true p.1.0 came.0 p.3) ∙ came.1 in
-              let cases = sent_cases (set.is_subset p.1.1.previous w.ask) (set.is_subset (unknown_own p.1.1 w.ask w.own) set.empty) _ _ (filter (λ (e : Entry). not (set.contains w.ask e.gtid)) p.1.1.entries) w.all w.all_sent in
+              let cases = sent_cases (set.is_subset p.1.1.previous w.ask) (set.is_subset (own_of w.ask w.own) (whole p.1.1)) _ _ (filter (λ (e : Entry). not (set.contains w.ask e.gtid)) p.1.1.entries) w.all w.all_sent in
               let entry = in_filtered (λ (e : Entry). not (set.contains w.ask e.gtid)) p.1.1.entries g (ap (λ es. is_entry es g) (cases.1 ∙ sym (served_all site s events p.1.0 p.1.1 w)) ∙ on) in
               any_from (λ (q : ℕ × JournalValue). has q.1 g) plan p.0 p.1 p.2 (or_right (set.contains p.1.1.previous g) (is_entry p.1.1.entries g) entry)
           | inr unplanned ↦ nothing g (ap (λ es. is_entry es g) (sym (others came.0 unplanned)) ∙ came.1)

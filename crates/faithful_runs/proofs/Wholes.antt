@@ -1,6 +1,6 @@
 -- Runs that serve journals whole are faithful.
-use Rattle.std.proofs.Common.{◌≡◌, ◌≢◌, ℕ, zero, suc, ◌<◌, Result, Ok, Err, Bool, true, false, cond, not, ◌&&◌, ◌⊎◌, inl, inr, List, [], ◌∷◌, ◌++◌, length, Option, Some, None, refl, sym, ap, ◌∙◌, subst, arith, eqb, append_assoc, append-nil}
-use Rattle.std.specs.Prelude.{slice_get, slice_set, nat_le, ◌==◌}
+use Rattle.std.proofs.Common.{◌≡◌, ℕ, zero, suc, ◌<◌, Ok, Bool, true, false, cond, not, ◌⊎◌, inl, inr, List, [], ◌∷◌, ◌++◌, length, Option, Some, None, refl, sym, ap, ◌∙◌, subst, arith, eqb, append_assoc, append-nil}
+use Rattle.std.specs.Prelude.{slice_get, slice_set, nat_le}
 use Rattle.std.specs.Option.{option_and_then, option_map_or}
 use Rattle.std.specs.List.{list_any, list_all}
 use Rattle.std.proofs.lemmas.Bool.{eqb-true, eq-eqb}
@@ -19,9 +19,9 @@ use Rattle.source_history.specs.World.{World}
 use Rattle.source_history.proofs.Tests.{true_or_false, not_both, and_both}
 use Rattle.faithful_journals.specs.Faithful.{IsFaithful}
 use Rattle.faithful_journals.proofs.Lists.{on_test, on_option, same_some, not_none, from_not, and_then_some, get_below}
-use Rattle.faithful_runs.specs.Sent.{sent}
+use Rattle.auto_position.specs.Sending.{sent}
 use Rattle.faithful_runs.specs.Faithful.{Since, since_after, asked_with, WasSent, IsFaithfulStep, IsFaithfulFrom}
-use Rattle.faithful_runs.specs.Served.{accepted, on_channel, received_on, IsNoLocalCommit, NoLocalCommits, WasServed}
+use Rattle.faithful_runs.specs.Served.{accepted, on_channel, received_on, IsNoLocalCommit, NoLocalCommits}
 use Rattle.faithful_runs.specs.Whole.{is_position, WasServedOnce, ServedIsFaithful}
 use Rattle.faithful_runs.proofs.Asking.{step_asks}
 

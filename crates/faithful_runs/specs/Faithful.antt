@@ -18,7 +18,7 @@ use Rattle.replica_core.specs.Machine.{step, replies, after}
 use Rattle.source_history.specs.World.{World, content, rows_of, IsSound, IsClosed}
 use Rattle.source_history.specs.LastWriter.{last_writer}
 use Rattle.faithful_journals.specs.Faithful.{IsFaithful}
-use Rattle.faithful_runs.specs.Sent.{sent}
+use Rattle.auto_position.specs.Sending.{sent}
 
 -- a replica on which this set was executed, with these rows
 abbrev pub start_with : Gtids → Rows → State

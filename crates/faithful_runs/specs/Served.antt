@@ -14,7 +14,7 @@ use Rattle.replica_core.specs.declared.event.Reply.TheVariants.{Received, Ask, C
 use Rattle.replica_core.specs.State.{State, Site}
 use Rattle.replica_core.specs.Machine.{step, after}
 use Rattle.source_history.specs.Join.{join}
-use Rattle.faithful_runs.specs.Sent.{sent}
+use Rattle.auto_position.specs.Sending.{sent}
 
 -- each received GTID is executed
 abbrev pub IsDrained : State → Type 0

@@ -1,9 +1,8 @@
 -- What an answer to a bundle holds.
-use Rattle.std.proofs.Common.{◌≡◌, ◌⊎◌, ℕ, List, inl, inr, refl, sym, ap, ◌∙◌, subst}
+use Rattle.std.proofs.Common.{◌≡◌, ℕ, List, inl, inr, refl, sym, ap, ◌∙◌, subst}
 use Rattle.std.specs.Prelude.{Result, Ok, Err, IfOk, IfErr}
 use Rattle.std.specs.FinSet as set
 use Rattle.gtid_set.specs.Sets.{Gtids}
-use Rattle.gtid_set.specs.declared.fault.SetFault.{SetFault}
 use Rattle.gtid_set.specs.declared.fault.SetFault.TheVariants as sets
 use Rattle.rows.specs.Apply.{Rows}
 use Rattle.rows.specs.declared.change.RowFault.{RowFault}
@@ -16,6 +15,7 @@ use Rattle.serving.specs.declared.outcome.Served.TheVariants as served
 use Rattle.parallel_apply.specs.Applying.{IsApplied}
 use Rattle.parallel_apply.specs.declared.outcome.Applied.{Applied}
 use Rattle.parallel_apply.specs.declared.outcome.Applied.TheVariants as parallel
+use Rattle.txn_journal.specs.Stream.{IsWhole}
 use Rattle.txn_journal.specs.BundleStates.{BundleValue}
 use Rattle.txn_journal.specs.declared.fault.JournalFault.{JournalFault}
 use Rattle.txn_journal.specs.declared.fault.JournalFault.TheVariants as faults
@@ -67,10 +67,6 @@ pub holds_applied : (b : BundleValue) (found : Applied) (answer : Answer) → Is
 holds_applied b found answer is held = subst (Holds answer) (workers_applied b found is) held
 
 -- ---- bytes
-
--- what was decoded is what the bytes are, unless memory ran out or a set was full
-abbrev IsWhole : {V : Type 0} → Result V JournalFault → Result V JournalFault → Type 0
-IsWhole result whole = ((fault : SetFault) × (result ≡ Err (faults.Set fault))) ⊎ (result ≡ whole)
 
 abbrev ok_of : {V : Type 0} → V → Result V JournalFault
 ok_of v = Ok v

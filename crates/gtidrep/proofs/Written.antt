@@ -1,5 +1,5 @@
 -- What was written can be served.
-use Rattle.std.proofs.Common.{◌≡◌, ℕ, ◌+◌, ◌<◌, ◌≤◌, nat_le, nat_lt, Bool, true, false, cond, not, ◌&&◌, ◌||◌, List, [], ◌∷◌, ◌++◌, length, Option, Some, None, refl, ap, arith}
+use Rattle.std.proofs.Common.{◌≡◌, ℕ, ◌+◌, ◌<◌, ◌≤◌, nat_le, nat_lt, Bool, true, false, cond, not, ◌&&◌, ◌||◌, List, [], ◌∷◌, ◌++◌, length, Option, Some, None, refl, arith}
 use Rattle.std.specs.Prelude.{◌==◌, Result, Ok, Err, IfErr}
 use Rattle.std.specs.List.{list_all, list_any, AllByRecursion}
 use Rattle.std.proofs.lemmas.Bool.Decides.{nat_tests}
@@ -8,11 +8,10 @@ use Rattle.rows.specs.declared.value.Value.{Value}
 use Rattle.rows.specs.declared.value.Value.TheVariants.{Null, Int, Bytes}
 use Rattle.rows.specs.declared.change.Change.{Change}
 use Rattle.rows.specs.declared.change.Change.TheVariants.{Insert, Delete, Update}
-use Rattle.rows.specs.declared.change.Misfit.{Misfit}
 use Rattle.rows.specs.declared.change.Misfit.TheVariants.{Columns, NullInPrimary, TooLong, TooMany}
 use Rattle.rows.specs.declared.schema.Table.{Table}
 use Rattle.rows.specs.Keys.{table_named}
-use Rattle.rows.specs.Fits.{row_misfit, is_too_long, has_primary_null, first_cause, images_misfit, table_of, misfit_in, count_misfit, change_misfit, or_later, misfit_from, Fits}
+use Rattle.rows.specs.Fits.{row_misfit, is_too_long, has_primary_null, first_cause, images_misfit, table_of, misfit_in, or_later, misfit_from, Fits}
 use Rattle.journal.specs.declared.Entry.{Entry}
 use Rattle.journal.specs.Journals.{JournalValue}
 use Rattle.journal.specs.Writing.{is_value_writable, is_image_writable, is_change_writable, is_txn_writable, is_number, is_writable}
@@ -23,7 +22,7 @@ use Rattle.serving.specs.Faults.{IsHeld, IsServable, HasMisfit}
 use Rattle.serving.proofs.Beginning.{audit_fault}
 use Rattle.txn_journal.specs.Machine.{is_row_of, are_rows_of, takes_change, fits}
 use Rattle.txn_journal.specs.BundleStates.{BundleValue}
-use Rattle.txn_journal.specs.BundleText.{AreNamed, AreBrought, IsWrittenIn, IsWrittenBundle, WritesBundle, entry_fits}
+use Rattle.txn_journal.specs.BundleText.{AreNamed, AreBrought, IsWrittenIn, WritesBundle, entry_fits}
 use Rattle.txn_journal.specs.declared.bundle.Channel.{Channel}
 use Rattle.gtid_report.specs.declared.refusal.Refusal.TheVariants.{BadUuid, NoInterval, BadNumber, NumberRange, Reversed, Stray, PoolFull, SourcesFull, Line, Truncated, Twice, Version, Usage}
 use Rattle.gtid_report.specs.declared.fault.Fault.{Fault}

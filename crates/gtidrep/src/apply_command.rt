@@ -14,6 +14,7 @@ use parallel_apply::{Applied, apply_journals};
 use replica_core::Core;
 use serving::{Served, serve};
 use std::alloc::{AllocError, Global};
+use std::mem;
 use std::sync::Wait;
 use std::thread::Threads;
 use txn_journal::{Bundle, decode_bundle};
@@ -48,7 +49,8 @@ fn applied_answer(alloc: Global, applied: &Applied) -> Result<Answer, AllocError
     }
 }
 
-/// What a bundle comes to where one thread applies it.
+/// What a bundle comes to where one thread applies it. What was served is left to the end of the
+/// process.
 fn apply_alone(alloc: Global, bundle: &Bundle) -> Result<Answer, Fault>
     ensures comes { IfOk result (λ answer. Holds answer (applied bundle.now)) }
     ensures fault { IfErr result (IsUnapplied bundle.now) }
@@ -60,12 +62,16 @@ fn apply_alone(alloc: Global, bundle: &Bundle) -> Result<Answer, Fault>
         bundle.channels(),
         bundle.journals(),
     ) {
-        Ok(served) => Ok(served_answer(alloc, &served)?),
+        Ok(served) => {
+            let answer = served_answer(alloc, &served);
+            mem::forget(served);
+            Ok(answer?)
+        }
         Err(fault) => Err(Fault::from(fault)),
     }
 }
 
-/// What a bundle comes to where workers apply it.
+/// What a bundle comes to where workers apply it. What they leave is left to the end of the process.
 fn apply_together<G: Gate + Sync, R: Threads + Wait + Sync>(
     rt: &R,
     alloc: Global,
@@ -87,7 +93,11 @@ fn apply_together<G: Gate + Sync, R: Threads + Wait + Sync>(
         workers,
         gate,
     ) {
-        Ok(found) => Ok(applied_answer(alloc, &found)?),
+        Ok(found) => {
+            let answer = applied_answer(alloc, &found);
+            mem::forget(found);
+            Ok(answer?)
+        }
         Err(fault) => Err(Fault::from(fault)),
     }
 }
@@ -115,7 +125,8 @@ pub fn apply_decoded<G: Gate + Sync, R: Threads + Wait + Sync>(
     }
 }
 
-/// What the bytes come to. They are let go once they are decoded.
+/// What the bytes come to. They are let go once they are decoded; the bundle is left to the end of the
+/// process, which takes it back at once and not piece by piece.
 fn bytes_answer<R: Threads + Wait + Sync>(
     rt: &R,
     alloc: Global,
@@ -128,7 +139,11 @@ fn bytes_answer<R: Threads + Wait + Sync>(
     let decoded = decode_bundle(alloc, &bytes);
     drop(bytes);
     match decoded {
-        Ok(bundle) => apply_decoded(rt, alloc, &bundle, workers, &NoGate),
+        Ok(bundle) => {
+            let answer = apply_decoded(rt, alloc, &bundle, workers, &NoGate);
+            mem::forget(bundle);
+            answer
+        }
         Err(fault) => Err(Fault::from(fault)),
     }
 }

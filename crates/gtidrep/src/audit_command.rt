@@ -10,6 +10,7 @@ use crate::reading::read_all;
 use gtid_report::{Fault, render_verdict};
 use serving::verdict_over;
 use std::alloc::{AllocError, Global};
+use std::mem;
 use txn_journal::{Bundle, decode_bundle};
 use world::Verdict;
 
@@ -49,14 +50,19 @@ fn bundle_answer(alloc: Global, bundle: &Bundle) -> Result<Answer, Fault>
     }
 }
 
-/// The verdict of the bundle that the bytes spell. They are let go before it is looked for.
+/// The verdict of the bundle that the bytes spell. They are let go before it is looked for; the bundle
+/// is left to the end of the process.
 fn bytes_answer(alloc: Global, bytes: Vec<u8>) -> Result<Answer, Fault>
     ensures { Finds Audits bytes.items result }
 {
     let decoded = decode_bundle(alloc, &bytes);
     drop(bytes);
     match decoded {
-        Ok(bundle) => bundle_answer(alloc, &bundle),
+        Ok(bundle) => {
+            let answer = bundle_answer(alloc, &bundle);
+            mem::forget(bundle);
+            answer
+        }
         Err(fault) => Err(Fault::from(fault)),
     }
 }

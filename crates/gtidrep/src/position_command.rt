@@ -18,6 +18,7 @@ use gtid_text::SourceId;
 use journal::{Entry, Journal};
 use serving::entries_sent;
 use std::alloc::{AllocError, Global};
+use std::mem;
 use txn_journal::decode;
 
 /// What a source is asked for.
@@ -87,12 +88,16 @@ fn journal_answer(alloc: Global, asked: &Asked, journal: &Journal) -> Result<Ans
     }
 }
 
-/// What a source answers whose journal the bytes spell.
+/// What a source answers whose journal the bytes spell. The journal is left to the end of the process.
 fn bytes_answer(alloc: Global, asked: &Asked, bytes: &[u8]) -> Result<Answer, Fault>
     ensures { Finds (Positions (asked.now.source, asked.now.gtids)) bytes.now result }
 {
     match decode(alloc, bytes) {
-        Ok(journal) => journal_answer(alloc, asked, &journal),
+        Ok(journal) => {
+            let answer = journal_answer(alloc, asked, &journal);
+            mem::forget(journal);
+            answer
+        }
         Err(fault) => Err(Fault::from(fault)),
     }
 }

@@ -1,9 +1,13 @@
 -- What a script answers, and how it ends.
 use Rattle.std.specs.Prelude.{◌≡◌, ℕ, Bool, true, false, List, Option, Some, None, Result, Ok, Err, ◌⊎◌, codes}
-use Rattle.replica_core.specs.State.{Replica}
+use Rattle.gtid_set.specs.Sets.{Gtids}
+use Rattle.gtid_set.specs.declared.fault.SetFault.TheVariants.{SourcesFull}
+use Rattle.replica_core.specs.State.{Replica, State}
 use Rattle.replica_core.specs.Machine.{step}
+use Rattle.replica_core.specs.Faults.{IsFaultIn, asking, made_by}
 use Rattle.replica_core.specs.declared.event.Event.{Event}
 use Rattle.replica_script.specs.declared.question.Query.{Query}
+use Rattle.replica_script.specs.declared.question.Query.TheVariants as query
 use Rattle.replica_script.specs.declared.question.Question.{Question}
 use Rattle.replica_script.specs.declared.question.Question.TheVariants as question
 use Rattle.replica_script.specs.declared.script.Stop.{Stop}
@@ -15,9 +19,9 @@ use Rattle.replica_script.specs.Texts.{query_text}
 
 -- ---- answers
 
--- the line of a set that would be too large
-abbrev pub IsFullLine : List ℕ → Type 0
-IsFullLine text = (text ≡ codes "PoolFull\n") ⊎ (text ≡ codes "SourcesFull\n")
+-- A set, if one is made, would have too many sources, and this is the line that says so.
+abbrev pub IsFullLine : Option Gtids → List ℕ → Type 0
+IsFullLine made text = IsFaultIn SourcesFull made × (text ≡ codes "SourcesFull\n")
 
 -- an event was made: its reply's line, and the state after it
 pub record IsMade (old : Replica) (event : Event) (new : Replica) (text : List ℕ) : Type 0 where
@@ -25,13 +29,18 @@ pub record IsMade (old : Replica) (event : Event) (new : Replica) (text : List �
   pub state : new.state ≡ (step old.site old.state event).1
   pub site : new.site ≡ old.site
 
--- an event was made; or a set would have been too large, and nothing has changed
+-- an event was made; or the set that it makes would have too many sources, and nothing has changed
 abbrev pub IsAnswer : Replica → Event → Replica → List ℕ → Type 0
-IsAnswer old event new text = IsMade old event new text ⊎ (IsFullLine text × (new ≡ old))
+IsAnswer old event new text = IsMade old event new text ⊎ (IsFullLine (made_by old.site old.state event) text × (new ≡ old))
 
--- a query was answered, or the set would be too large
+-- the set that is made to answer a query
+abbrev pub made_for : Query → State → Option Gtids
+made_for (query.Ask channel) s = asking channel s
+made_for _ s = None
+
+-- a query was answered, or the set that it needs would have too many sources
 abbrev pub IsShown : Replica → Query → List ℕ → Type 0
-IsShown r query text = (text ≡ query_text r query) ⊎ IsFullLine text
+IsShown r query text = (text ≡ query_text r query) ⊎ IsFullLine (made_for query r.state) text
 
 -- the answer to a question; a query changes nothing
 abbrev pub Answers : Replica → Question → Replica → List ℕ → Type 0

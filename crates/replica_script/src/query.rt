@@ -1,8 +1,10 @@
 //! Answers to queries.
-ghost use Rattle.std.specs.Prelude.{◌≡◌, ◌++◌, IfOk, OnOk, string_bytes};
+ghost use Rattle.std.specs.Prelude.{◌≡◌, ◌++◌, IfOk, IfErr, OnOk, string_bytes};
 ghost use Rattle.std.specs.Option.{option_copied};
 ghost use Rattle.txn_journal.specs.WrittenSets.{set_text};
+ghost use Rattle.replica_core.specs.Faults.{asking, IsFaultIn};
 ghost use Rattle.replica_script.specs.Replies.{ended};
+ghost use Rattle.replica_script.specs.Scripts.{made_for};
 ghost use Rattle.replica_script.specs.Texts.{changes_or_gone, place_or_none, query_text, shown_entry, truth};
 
 use crate::question::Query;
@@ -44,8 +46,10 @@ fn rows_text(alloc: Global, core: &Core) -> Result<String, AllocError>
 }
 
 /// The line of the set with which a channel would ask now.
+#[tactic(auto, using(crate::proofs::Faults::memory_anywhere))]
 fn ask_line(alloc: Global, core: &Core, channel: usize) -> Result<String, SetFault>
-    ensures { IfOk result (λ text. string_bytes text ≡ query_text core.now (Query.Ask channel)) }
+    ensures ok { IfOk result (λ text. string_bytes text ≡ query_text core.now (Query.Ask channel)) }
+    ensures fault { IfErr result (λ f. IsFaultIn f (asking channel core.now.state)) }
 {
     match core.ask(alloc, channel)? {
         Some(set) => Ok(set_line(alloc, &set)?),
@@ -107,9 +111,11 @@ fn entry_line(
     shown_line(alloc, gtid, txn)
 }
 
-/// The lines that answer a query.
+/// The lines that answer a query. Another error than `Memory` comes only where the set with which a
+/// channel would ask has too many sources.
 pub fn query_text(alloc: Global, core: &Core, query: Query) -> Result<Vec<u8>, SetFault>
-    ensures { IfOk result (λ text. text.items ≡ query_text core.now query) }
+    ensures ok { IfOk result (λ text. text.items ≡ query_text core.now query) }
+    ensures fault { IfErr result (λ f. IsFaultIn f (made_for query core.now.state)) }
 {
     match query {
         Query::Rows => Ok(rows_text(alloc, core)?.into_bytes()),

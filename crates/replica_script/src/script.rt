@@ -1,8 +1,8 @@
 //! A script, line by line.
-ghost use Rattle.std.specs.Prelude.{◌≡◌, None, Some, Err, IfOk, IfErr, OnOk, is_some};
+ghost use Rattle.std.specs.Prelude.{◌≡◌, None, Some, Err, IfOk, IfErr, OnOk, is_some, codes};
 ghost use Rattle.replica_script.specs.declared.script.Stop.{Stop};
 ghost use Rattle.replica_script.specs.declared.script.Stop.TheVariants.{Memory};
-ghost use Rattle.replica_script.specs.Scripts.{Answers, IsAnswer, IsFullLine, IsShown, ending};
+ghost use Rattle.replica_script.specs.Scripts.{Answers, IsAnswer, IsShown, ending};
 
 use crate::query::query_text;
 use crate::question::{Query, Question, number, question_in};
@@ -125,18 +125,14 @@ fn event_of(alloc: Global, pending: Pending) -> Result<Event, Stop> {
     }
 }
 
-/// The line of a set that would be too large.
-fn fault_text(alloc: Global, fault: SetFault) -> Result<Vec<u8>, Stop>
-    ensures { IfOk result (λ text. IsFullLine text.items) }
+/// The line of a set that would have too many sources.
+fn full_line(alloc: Global) -> Result<Vec<u8>, AllocError>
+    ensures { IfOk result (λ text. text.items ≡ codes "SourcesFull\n") }
 {
-    match fault {
-        SetFault::Memory => Err(Stop::Memory),
-        SetFault::PoolFull => Ok(Vec::from_slice(alloc, b"PoolFull\n")?),
-        SetFault::SourcesFull => Ok(Vec::from_slice(alloc, b"SourcesFull\n")?),
-    }
+    Vec::from_slice(alloc, b"SourcesFull\n")
 }
 
-/// Asks an event of a replica. Where a set would be too large that is the answer, and nothing has changed.
+/// Asks an event of a replica. Where the set that it makes would have too many sources that is the answer, and nothing has changed.
 fn answer_event(alloc: Global, core: &mut Core, event: &Event) -> Result<Vec<u8>, Stop>
     ensures { IfOk result (λ text. IsAnswer core.old event.now core.new text.items) }
 {
@@ -148,7 +144,8 @@ fn answer_event(alloc: Global, core: &mut Core, event: &Event) -> Result<Vec<u8>
             Ok(text) => Ok(text.into_bytes()),
             Err(_) => Err(Stop::Memory),
         },
-        Err(fault) => fault_text(alloc, fault),
+        Err(SetFault::SourcesFull) => Ok(full_line(alloc)?),
+        Err(SetFault::Memory | SetFault::PoolFull) => Err(Stop::Memory),
     }
 }
 
@@ -158,7 +155,8 @@ fn answer_query(alloc: Global, core: &Core, query: Query) -> Result<Vec<u8>, Sto
 {
     match query_text(alloc, core, query) {
         Ok(text) => Ok(text),
-        Err(fault) => fault_text(alloc, fault),
+        Err(SetFault::SourcesFull) => Ok(full_line(alloc)?),
+        Err(SetFault::Memory | SetFault::PoolFull) => Err(Stop::Memory),
     }
 }
 

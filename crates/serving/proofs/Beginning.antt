@@ -51,9 +51,7 @@ use Rattle.serving.specs.Faults.{HasMisfit, IsAuditFault, IsKeysFault, IsHeld, I
 use Rattle.serving.proofs.Within.{knows_step, fault_where}
 use Rattle.serving.proofs.Feeding.{sent_all, of_whole}
 use Rattle.serving.proofs.Runs.{all_true, no_receipts, no_commits, feeds_quiet, feeds_apart, differ}
-
-no_truth : {P : Type 0} → false ≡ true → P
-no_truth e = cc
+use Rattle.serving.proofs.Truths.{no_truth}
 
 not_not : (b : Bool) → not b ≡ false → b ≡ true
 not_not true e = refl

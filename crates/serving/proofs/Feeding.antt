@@ -24,12 +24,10 @@ use Rattle.faithful_journals.proofs.Covering.{is_entry, in_whole}
 use Rattle.source_history.proofs.Tests.{or_right}
 use Rattle.world.proofs.Contents.{entry_from}
 use Rattle.faithful_runs.proofs.Sending.{sent_cases}
-use Rattle.faithful_runs.specs.Sent.{sent, unknown_own}
+use Rattle.auto_position.specs.Sending.{sent, own_of}
 use Rattle.serving.specs.Served.{IsFaultWhere, IsAny, Knows, KnowsWith, KnowsToo, CanOpen, IsOpen, IsTaken, CanReceive, CanServe, LeadsTo}
 use Rattle.serving.proofs.Within.{knows_step, step_fault_where, fault_where}
-
-no_truth : {P : Type 0} → false ≡ true → P
-no_truth e = cc
+use Rattle.serving.proofs.Truths.{no_truth}
 
 pub on_err : {A E : Type 0} {P Q : E → Type 0} (r : Result A E) → ((e : E) → P e → Q e) → IfErr r P → IfErr r Q
 on_err (Ok x) f h = tt
@@ -160,7 +158,7 @@ fewer p (e ∷ es) = kept_few e (filter p es) (length es) (p e) (fewer p es)
 
 -- what is sent is of the journal
 sent_is : (j : JournalValue) (asked : Gtids) (es : List Entry) → sent j asked None ≡ Ok es → filter (λ (e : Entry). not (set.contains asked e.gtid)) j.entries ≡ es
-sent_is j asked es h = (sent_cases (set.is_subset j.previous asked) (set.is_subset (unknown_own j asked None) set.empty) _ _ (filter (λ (e : Entry). not (set.contains asked e.gtid)) j.entries) es h).1
+sent_is j asked es h = (sent_cases (set.is_subset j.previous asked) (set.is_subset (own_of asked None) (whole j)) _ _ (filter (λ (e : Entry). not (set.contains asked e.gtid)) j.entries) es h).1
 
 pub sent_all : (P : Entry → Type 0) (j : JournalValue) (asked : Gtids) (es : List Entry) → sent j asked None ≡ Ok es → AllByRecursion P j.entries → AllByRecursion P es
 sent_all P j asked es h all = subst (AllByRecursion P) (sent_is j asked es h) (all_filtered P (λ (e : Entry). not (set.contains asked e.gtid)) j.entries all)

@@ -1,5 +1,5 @@
 -- Why a replica that works gives up.
-use Rattle.std.proofs.Common.{◌≡◌, ℕ, ◌+◌, ◌<◌, drop, length, get_or, true, false, ◌&&◌, List, [], ◌∷◌, None, refl, sym, ◌∙◌, subst, inl, inr}
+use Rattle.std.proofs.Common.{◌≡◌, ℕ, ◌+◌, ◌<◌, drop, length, get_or, true, ◌&&◌, List, [], ◌∷◌, None, refl, sym, ◌∙◌, subst, inl, inr}
 use Rattle.std.specs.List.{list_all, AllByRecursion}
 use Rattle.std.specs.FinSet as set
 use Rattle.gtid_set.specs.declared.fault.SetFault.{SetFault}
@@ -25,9 +25,7 @@ use Rattle.serving.specs.Serving.{is_work, ReceivesAtWork, ServesEach, Works, Is
 use Rattle.serving.specs.Faults.{IsServeFault, IsConcludeFault}
 use Rattle.serving.proofs.Within.{is_of, knows_step, knows_after, step_fault_where, fault_where}
 use Rattle.serving.proofs.Beginning.{knows_one, knows_opening, journals_in, audit_fault}
-
-no_truth : {P : Type 0} → false ≡ true → P
-no_truth e = cc
+use Rattle.serving.proofs.Truths.{no_truth}
 
 -- ---- work brings nothing
 

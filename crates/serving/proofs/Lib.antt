@@ -1,3 +1,4 @@
+pub mod Truths
 pub mod Sending
 pub mod Within
 pub mod Feeding

@@ -22,7 +22,7 @@ use Rattle.replica_core.specs.Machine.{Step, step, after, opening, drained}
 use Rattle.replica_core.specs.Core.{opened}
 use Rattle.faithful_journals.proofs.Lists.{same_some, not_none}
 use Rattle.faithful_runs.specs.Faithful.{start_with}
-use Rattle.faithful_runs.specs.Sent.{sent}
+use Rattle.auto_position.specs.Sending.{sent}
 use Rattle.faithful_runs.specs.Served.{IsDrained, NoLocalCommits, received_on, accepted, on_channel, local_commits}
 use Rattle.faithful_runs.specs.Whole.{is_position, WasServedOnce}
 use Rattle.faithful_runs.proofs.Sharing.{after_append, received_append}
@@ -35,23 +35,15 @@ use Rattle.world.proofs.Finding.{is_false}
 use Rattle.replica_core.specs.Draining.{AreStoppedOrDone}
 use Rattle.audited_runs.specs.Deciding.{ServesAll, WorkersDecide, ServedHoldsAll, HoldsAll}
 use Rattle.txn_journal.specs.declared.bundle.Channel.{Channel}
+use Rattle.serving.specs.declared.receiving.Work.{Work}
+use Rattle.serving.specs.declared.receiving.Work.TheVariants.{Later, AtOnce}
 use Rattle.serving.specs.Serving.{Receives, coming, with_channel, Asks, Feeding, ServesOne, ServesEach, is_work, Works, is_feed, ReceivesAtWork, IsReady, IsRun, IsConcluded, IsFoundInKeys, is_sound, keys_over, verdict_over}
+use Rattle.serving.proofs.Truths.{no_truth, first_part, second_part}
 
 -- ---- words
 
 some_not_none : {A P : Type 0} (x : A) → Some x ≡ None → P
 some_not_none x e = cc
-
-no_truth : {P : Type 0} → false ≡ true → P
-no_truth e = cc
-
-first_part : (a b : Bool) → (a && b) ≡ true → a ≡ true
-first_part true b e = refl
-first_part false b e = no_truth e
-
-second_part : (a b : Bool) → (a && b) ≡ true → b ≡ true
-second_part true b e = e
-second_part false b e = no_truth e
 
 both_parts : (a b : Bool) → a ≡ true → b ≡ true → (a && b) ≡ true
 both_parts a b p q = (λ i. p i && b) ∙ q
@@ -349,9 +341,9 @@ comes_at_work site s c entries s' r = record { events = map (Receive c) entries;
 pub one_at_work : (site : Site) (s : State) (c : ℕ) (j : JournalValue) (s' : State) → ServesOne Receives site s c j s' → ServesOne ReceivesAtWork site s c j s'
 one_at_work site s c j s' x = record { all = x.all; asking = x.asking; asks = x.asks; received = comes_at_work site x.asking c x.all s' x.received }
 
-pub one_coming : (at_work : Bool) (site : Site) (s : State) (c : ℕ) (j : JournalValue) (s' : State) → ServesOne (coming at_work) site s c j s' → ServesOne ReceivesAtWork site s c j s'
-one_coming true site s c j s' x = x
-one_coming false site s c j s' x = one_at_work site s c j s' x
+pub one_coming : (work : Work) (site : Site) (s : State) (c : ℕ) (j : JournalValue) (s' : State) → ServesOne (coming work) site s c j s' → ServesOne ReceivesAtWork site s c j s'
+one_coming AtOnce site s c j s' x = x
+one_coming Later site s c j s' x = one_at_work site s c j s' x
 
 pub each_at_work : (site : Site) (s : State) (c : ℕ) (js : List JournalValue) (s' : State) → ServesEach Receives site s c js s' → ServesEach ReceivesAtWork site s c js s'
 each_at_work site s c [] s' x = x

@@ -12,11 +12,9 @@ use Rattle.gtid_set.specs.Sets.{Gtids}
 use Rattle.source_history.proofs.Gtids.{gtid_total}
 use Rattle.journal.specs.declared.Entry.{Entry}
 use Rattle.journal.specs.Journals.{JournalValue, whole}
-use Rattle.auto_position.specs.Sending.{AreAt, IsPlan}
-use Rattle.auto_position.specs.Sending as sending
+use Rattle.auto_position.specs.Sending.{AreAt, IsPlan, IsRefusal, sent}
 use Rattle.auto_position.specs.declared.PositionFault.{PositionFault}
 use Rattle.auto_position.specs.declared.PositionFault.TheVariants.{ReplicaHasMore}
-use Rattle.faithful_runs.specs.Sent.{SendFault, sent}
 use Rattle.serving.specs.Serving.{picked}
 
 taken : (o : Option Entry) (e : Entry) (more : List Entry) → o ≡ Some e → option_map_or (λ x. x ∷ more) o more ≡ e ∷ more
@@ -28,15 +26,6 @@ picked_is entries [] [] h = refl
 picked_is entries [] (e ∷ es) h = absurd h
 picked_is entries (p ∷ ps) [] h = absurd h
 picked_is entries (p ∷ ps) (e ∷ es) h = taken (slice_get entries p) e (picked entries ps) h.0 ∙ ap (λ (xs : List Entry). e ∷ xs) (picked_is entries ps es h.1)
-
-all_sent_as : (b c : Bool) (x y : PositionFault) (u v : SendFault) (all want : List Entry) → c ≡ true → cond (not b) (Err x) (cond (not c) (Err y) (Ok all)) ≡ Ok want → (d : Bool) → d ≡ true → cond (not b) (Err u) (cond (not d) (Err v) (Ok all)) ≡ Ok want
-all_sent_as true true x y u v all want t e true k = ok_as all want e
-  where
-    ok_as : (all want : List Entry) → ◌≡◌ {A = Result (List Entry) PositionFault} (Ok all) (Ok want) → ◌≡◌ {A = Result (List Entry) SendFault} (Ok all) (Ok want)
-    ok_as all want e = cc
-all_sent_as b c x y u v all want t e false k = cc
-all_sent_as b false x y u v all want t e true k = cc
-all_sent_as false true x y u v all want t e true k = cc
 
 -- one place more is picked
 pub picked_more : (entries : List Entry) (places : List ℕ) (i : ℕ) (e : Entry) (found grown : List Entry) → i < length places → slice_index_or places i 0 < length entries
@@ -74,11 +63,6 @@ below_at entries (p ∷ ps) (suc k) all lt = below_at entries ps k (and_parts (n
 empty_part : (S : Gtids) → set.is_subset set.empty S ≡ true
 empty_part S = set.contains-is_subset gtid_total set.empty S (λ q h. let none = sym (set.contains-empty gtid_cmp q) ∙ h in absurd cc)
 
--- a source without a UUID sends the same by both definitions
-pub same_sent : (j : JournalValue) (ask : Gtids) (want : List Entry) → sending.sent j ask None ≡ Ok want → sent j ask None ≡ Ok want
-same_sent j ask want e =
-    all_sent_as (set.is_subset j.previous ask) (set.is_subset set.empty (whole j)) _ _ _ _ _ want (empty_part (whole j)) e (set.is_subset set.empty set.empty) (empty_part set.empty)
-
 abbrev pub sent_ok : List Entry → Result (List Entry) PositionFault
 sent_ok es = Ok es
 
@@ -92,7 +76,7 @@ never_refused true false x y z all known kept e = cc
 never_refused false c x y z all known kept e = cc
 
 -- a source without a UUID refuses nothing that is asked for rightly
-pub refused_for_more : (j : JournalValue) (ask more : Gtids) (p : PositionFault) → sending.IsRefusal p (sending.sent j ask None) → p ≡ ReplicaHasMore more → set.is_subset j.previous ask ≡ true → ⊥
+pub refused_for_more : (j : JournalValue) (ask more : Gtids) (p : PositionFault) → IsRefusal p (sent j ask None) → p ≡ ReplicaHasMore more → set.is_subset j.previous ask ≡ true → ⊥
 refused_for_more j ask more p h is kept =
-    let e : sending.sent j ask None ≡ Err (ReplicaHasMore more) = subst (λ (x : PositionFault). sending.IsRefusal x (sending.sent j ask None)) is h in
+    let e : sent j ask None ≡ Err (ReplicaHasMore more) = subst (λ (x : PositionFault). IsRefusal x (sent j ask None)) is h in
     never_refused (set.is_subset j.previous ask) (set.is_subset set.empty (whole j)) _ _ (ReplicaHasMore more) _ (empty_part (whole j)) kept e

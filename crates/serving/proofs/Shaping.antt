@@ -1,5 +1,5 @@
 -- Work leaves each channel its name, its order, what it asked with and how much it has received.
-use Rattle.std.proofs.Common.{◌≡◌, ℕ, zero, suc, true, false, cond, not, List, [], ◌∷◌, map, length, Option, Some, None, Result, Ok, Err, refl, sym, ap, ◌∙◌, arith}
+use Rattle.std.proofs.Common.{◌≡◌, ℕ, zero, suc, true, cond, not, List, [], ◌∷◌, map, length, Option, Some, None, Result, Ok, Err, refl, sym, ap, ◌∙◌, arith}
 use Rattle.std.specs.Prelude.{slice_get, slice_set, is_some}
 use Rattle.std.specs.List.{list_all}
 use Rattle.std.specs.Option.{option_map_or}
@@ -21,9 +21,7 @@ use Rattle.faithful_journals.proofs.Lists.{on_test, on_option, get_map, get_map_
 use Rattle.serving.specs.Served.{CanReceive}
 use Rattle.serving.specs.Serving.{Naming, names_of, is_work, Works}
 use Rattle.std.proofs.lemmas.Bool.{and_parts}
-
-no_truth : {P : Type 0} → false ≡ true → P
-no_truth e = cc
+use Rattle.serving.proofs.Truths.{no_truth}
 
 pub record Shape : Type 0 where
   pub naming : Naming

@@ -1,5 +1,5 @@
 -- What is executed and received stays within a set, and so does each set that an event makes.
-use Rattle.std.proofs.Common.{◌≡◌, ℕ, ◌+◌, ◌≤◌, ◌<◌, Bool, true, false, cond, ◌&&◌, ◌||◌, ◌⊎◌, inl, inr, List, [], ◌∷◌, map, Option, Some, None, refl, sym, ap, ◌∙◌, subst, arith}
+use Rattle.std.proofs.Common.{◌≡◌, ℕ, ◌+◌, ◌≤◌, ◌<◌, Bool, true, false, cond, ◌||◌, ◌⊎◌, inl, inr, List, [], ◌∷◌, map, Option, Some, None, refl, sym, ap, ◌∙◌, subst, arith}
 use Rattle.std.proofs.Math.Nat.{le_trans}
 use Rattle.std.specs.Prelude.{slice_get}
 use Rattle.std.specs.List.{list_any, list_all}
@@ -37,6 +37,7 @@ use Rattle.faithful_runs.proofs.Receiving.{among_received}
 use Rattle.faithful_runs.proofs.Growing.{nothing}
 use Rattle.faithful_runs.proofs.Sharing.{step_moves}
 use Rattle.serving.specs.Served.{IsFaultWhere, IsKnown, Knows}
+use Rattle.serving.proofs.Truths.{no_truth, first_part, second_part}
 
 -- ---- a larger set has no fewer sources
 
@@ -94,9 +95,6 @@ is_of all (Local txn) = false
 is_of all (Purge k) = false
 is_of all Look = true
 
-no_truth : {P : Type 0} → false ≡ true → P
-no_truth e = cc
-
 abbrev Brought : Event → Reply → Gtid → Type 0
 Brought e r g = (is_entry (committed_here e r) g ≡ true) ⊎ ((c : ℕ) × (is_entry (on_channel c e (accepted e r)) g ≡ true))
 
@@ -132,14 +130,6 @@ brings_of all Look r g of b = none_brought g b
 -- a step stays within a set
 pub knows_step : (all : Gtids) (site : Site) (s : State) (e : Event) → is_of all e ≡ true → Knows s all → Knows (step site s e).1 all
 knows_step all site s e of within g k = elim ((step_moves site s e).origin g k) [ inl was ↦ within g was | inr came ↦ brings_of all e (step site s e).0 g of came ]
-
-first_part : (a b : Bool) → (a && b) ≡ true → a ≡ true
-first_part true b e = refl
-first_part false b e = no_truth e
-
-second_part : (a b : Bool) → (a && b) ≡ true → b ≡ true
-second_part true b e = e
-second_part false b e = no_truth e
 
 -- ... and so do events in turn
 pub knows_after : (all : Gtids) (site : Site) (s : State) (es : List Event) → list_all (is_of all) es ≡ true → Knows s all → Knows (after site s es) all

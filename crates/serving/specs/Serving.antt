@@ -14,7 +14,7 @@ use Rattle.apply_channel.specs.Channels.{ChannelValue}
 use Rattle.replica_core.specs.State.{State, Site, Replica}
 use Rattle.replica_core.specs.Machine.{step, after, opening}
 use Rattle.source_history.specs.World.{World}
-use Rattle.faithful_runs.specs.Sent.{sent}
+use Rattle.auto_position.specs.Sending.{sent}
 use Rattle.faithful_runs.specs.Served.{received_on}
 use Rattle.world.specs.Audit.{world_of, verdict, verdict_of_keys}
 use Rattle.world.specs.declared.verdict.Verdict.{Verdict}
@@ -25,6 +25,8 @@ use Rattle.serving.specs.declared.outcome.Begun.{Begun}
 use Rattle.serving.specs.declared.outcome.Begun.TheVariants as begun
 use Rattle.serving.specs.declared.outcome.Served.{Served}
 use Rattle.serving.specs.declared.outcome.Served.TheVariants as served
+use Rattle.serving.specs.declared.receiving.Work.{Work}
+use Rattle.serving.specs.declared.receiving.Work.TheVariants.{Later, AtOnce}
 
 -- what stands at these places of a list
 abbrev pub picked : List Entry → List ℕ → List Entry
@@ -102,10 +104,10 @@ pub record ReceivesAtWork (site : Site) (s : State) (c : ℕ) (entries : List En
   pub now : s' ≡ after site s events
   pub got : received_on c site s events ≡ entries
 
--- how entries come to a channel: while seats work, or alone
-abbrev pub coming : Bool → Feeding
-coming true = ReceivesAtWork
-coming false = Receives
+-- how entries come to a channel: while seats work, or before
+abbrev pub coming : Work → Feeding
+coming AtOnce = ReceivesAtWork
+coming Later = Receives
 
 -- a replica with these rows, served all journals, of which nothing is executed yet
 pub record IsReady (start : Database) (journals : List JournalValue) (core : Replica) : Type 0 where

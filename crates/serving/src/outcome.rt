@@ -9,7 +9,7 @@ ghost use Rattle.replica_core.specs.Machine.{opening};
 ghost use Rattle.serving.specs.Served.{IsFaultWhere, KnowsToo, CanServeEach};
 ghost use Rattle.serving.specs.Faults.{IsAuditFault, IsKeysFault, IsConcludeFault, IsServeFault};
 
-use crate::receiving::serve_journals;
+use crate::receiving::{Work, serve_journals};
 use crate::working::finish;
 use audit::{World, WorldFault, audit, audit_keys, world_of};
 use audited_runs::{served_holds_all, workers_decide};
@@ -118,7 +118,7 @@ fn ready(
     ensures fault { IfErr result (λ f. IsFaultWhere f (KnowsToo (opening rows.now.rows) journals.now) (CanServeEach rows.now.schema 0 channels.now journals.now (opening rows.now.rows))) }
 {
     let mut core = opened(alloc, own, rows)?;
-    serve_journals(alloc, &mut core, 0, channels, journals, false)?;
+    serve_journals(alloc, &mut core, 0, channels, journals, Work::Later)?;
     Ok(core)
 }
 
@@ -217,7 +217,7 @@ fn applied(
     ensures fault { IfErr result (λ f. IsFaultWhere f (KnowsToo (opening rows.now.rows) journals.now) (CanServeEach rows.now.schema 0 channels.now journals.now (opening rows.now.rows))) }
 {
     let mut core = opened(alloc, own, rows)?;
-    serve_journals(alloc, &mut core, 0, channels, journals, true)?;
+    serve_journals(alloc, &mut core, 0, channels, journals, Work::AtOnce)?;
     Ok(core)
 }
 

@@ -3,8 +3,7 @@ ghost use Rattle.std.specs.Prelude.{◌≡◌, ◌≤◌, ◌+◌, ◌++◌, [],
 ghost use Rattle.std.specs.List.{list_all};
 ghost use Rattle.std.specs.FinSet as set;
 ghost use Rattle.gtid_set.specs.declared.fault.SetFault.TheVariants.{Memory};
-ghost use Rattle.auto_position.specs.Sending as sending;
-ghost use Rattle.faithful_runs.specs.Sent.{sent};
+ghost use Rattle.auto_position.specs.Sending.{IsRefusal, sent};
 ghost use Rattle.serving.specs.Served.{IsFaultWhere, IsAny, KnowsWith, KnowsToo, CanReceive, CanServe, CanServeEach, LeadsTo};
 ghost use Rattle.serving.specs.Serving.{picked, Receives, coming, Asks, ServesOne, ServesEach, names_of, names_asked};
 
@@ -45,8 +44,8 @@ pub fn entries_sent(
     journal: &Journal,
     asked: &GtidSet,
 ) -> Result<Vec<Entry>, PositionFault>
-    ensures ok { IfOk result (λ entries. sending.sent journal.now asked.now own ≡ Ok entries.items) }
-    ensures refusal { IfErr result (λ fault. sending.IsRefusal fault (sending.sent journal.now asked.now own)) }
+    ensures ok { IfOk result (λ entries. sent journal.now asked.now own ≡ Ok entries.items) }
+    ensures refusal { IfErr result (λ fault. IsRefusal fault (sent journal.now asked.now own)) }
 {
     match plan(alloc, own, journal, asked) {
         Ok(places) => match entries_at(alloc, journal.entries(), &places) {
@@ -107,56 +106,64 @@ fn ask_for(
     sent_to(alloc, journal, &asked)
 }
 
-/// A channel receives these entries, and applies each before the next if it is to work.
+/// When what a channel receives is applied.
+#[derive(Clone, Copy, Drop)]
+pub(crate) enum Work {
+    /// By whoever takes it afterwards.
+    Later,
+    /// By seat 1, before the next entry is received.
+    AtOnce,
+}
+
+/// A channel receives these entries, and applies each before the next if it works at once.
 fn feed(
     alloc: Global,
     core: &mut Core,
     channel: usize,
     entries: &[Entry],
-    at_work: bool,
+    work: Work,
 ) -> Result<(), SetFault>
     ensures site { core.new.site ≡ core.old.site }
-    ensures fed { OnOk result (coming at_work core.old.site core.old.state channel entries.now core.new.state) }
+    ensures fed { OnOk result (coming work core.old.site core.old.state channel entries.now core.new.state) }
     ensures named { OnOk result (names_of core.new.state.channels ≡ names_of core.old.state.channels) }
     ensures fault { IfErr result (λ f. IsFaultWhere f (KnowsWith core.old.state entries.now) (CanReceive core.old.site.schema channel entries.now core.old.state)) }
 {
-    if at_work {
-        apply_entries(alloc, core, channel, entries)
-    } else {
-        receive_all(alloc, core, channel, entries)
+    match work {
+        Work::AtOnce => apply_entries(alloc, core, channel, entries),
+        Work::Later => receive_all(alloc, core, channel, entries),
     }
 }
 
-/// A channel is opened and positioned, and receives all that its journal sends, perhaps at work.
+/// A channel is opened and positioned, and receives all that its journal sends.
 fn serve_journal(
     alloc: Global,
     core: &mut Core,
     number: usize,
     channel: &Channel,
     journal: &Journal,
-    at_work: bool,
+    work: Work,
 ) -> Result<(), SetFault>
     ensures site { core.new.site ≡ core.old.site }
-    ensures served { OnOk result (ServesOne (coming at_work) core.old.site core.old.state number journal.now core.new.state) }
+    ensures served { OnOk result (ServesOne (coming work) core.old.site core.old.state number journal.now core.new.state) }
     ensures fault { IfErr result (λ f. IsFaultWhere f (KnowsToo core.old.state (journal.now ∷ [])) (CanServe core.old.site.schema number channel.now.name journal.now core.old.state)) }
     ensures named { OnOk result (names_of core.new.state.channels ≡ names_of core.old.state.channels ++ (channel.now.name, channel.now.preserve) ∷ []) }
 {
     let entries = ask_for(alloc, core, number, channel, journal)?;
-    feed(alloc, core, number, &entries, at_work)
+    feed(alloc, core, number, &entries, work)
 }
 
-/// Each journal in turn, on a channel of its own, perhaps at work; the first has this number.
+/// Each journal in turn, on a channel of its own; the first has this number.
 pub(crate) fn serve_journals(
     alloc: Global,
     core: &mut Core,
     number: usize,
     channels: &[Channel],
     journals: &[Journal],
-    at_work: bool,
+    work: Work,
 ) -> Result<(), SetFault>
     requires { number + length journals.now ≤ 256 }
     ensures site { core.new.site ≡ core.old.site }
-    ensures served { OnOk result (ServesEach (coming at_work) core.old.site core.old.state number journals.now core.new.state) }
+    ensures served { OnOk result (ServesEach (coming work) core.old.site core.old.state number journals.now core.new.state) }
     ensures fault { IfErr result (λ f. IsFaultWhere f (KnowsToo core.old.state journals.now) (CanServeEach core.old.site.schema number channels.now journals.now core.old.state)) }
     ensures named { OnOk result (names_of core.new.state.channels ≡ names_of core.old.state.channels ++ names_asked (take (length journals.now) channels.now)) }
 {
@@ -166,6 +173,6 @@ pub(crate) fn serve_journals(
     let Some((channel, rest)) = channels.split_first() else {
         return Err(SetFault::PoolFull);
     };
-    serve_journal(alloc, core, number, channel, journal, at_work)?;
-    serve_journals(alloc, core, number + 1, rest, others, at_work)
+    serve_journal(alloc, core, number, channel, journal, work)?;
+    serve_journals(alloc, core, number + 1, rest, others, work)
 }

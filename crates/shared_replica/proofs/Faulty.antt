@@ -1,10 +1,37 @@
--- Want of memory may come anywhere.
-use Rattle.std.proofs.Common.{◌≡◌, refl}
+-- Want of memory may come anywhere, and too many sources only where a set is made.
+use Rattle.std.proofs.Common.{◌≡◌, true, refl, sym, subst}
 use Rattle.std.specs.Prelude.{Option, Some, None}
 use Rattle.gtid_set.specs.Sets.{Gtids}
-use Rattle.gtid_set.specs.declared.fault.SetFault.TheVariants.{Memory}
-use Rattle.replica_core.specs.Faults.{IsFaultIn}
+use Rattle.gtid_set.specs.declared.fault.SetFault.{SetFault}
+use Rattle.gtid_set.specs.declared.fault.SetFault.TheVariants.{Memory, PoolFull, SourcesFull}
+use Rattle.replica_core.specs.declared.event.Event.{Event}
+use Rattle.replica_core.specs.declared.event.Event.TheVariants as event
+use Rattle.replica_core.specs.State.{Site, State}
+use Rattle.replica_core.specs.Faults.{IsFaultIn, asking, receiving, committing, numbering, purging, made_by}
+use Rattle.shared_replica.specs.Faults.{makes_a_set, IsFaultFor}
 
 pub memory_anywhere : (made : Option Gtids) → IsFaultIn Memory made
 memory_anywhere None = refl
 memory_anywhere (Some made) = tt
+
+memory_for : (f : SetFault) (e : Event) → f ≡ Memory → IsFaultFor e f
+memory_for f e is = subst (λ (x : SetFault). IsFaultFor e x) (sym is) tt
+
+set_for : (f : SetFault) (e : Event) (made : Option Gtids) → makes_a_set e ≡ true → IsFaultIn f made → IsFaultFor e f
+set_for f e None makes is = memory_for f e is
+set_for Memory e (Some made) makes is = tt
+set_for PoolFull e (Some made) makes is = is
+set_for SourcesFull e (Some made) makes is = makes
+
+-- a fault of an event at a state is one that the event may have
+pub fault_for : (f : SetFault) (site : Site) (s : State) (e : Event) → IsFaultIn f (made_by site s e) → IsFaultFor e f
+fault_for f site s (event.OpenChannel name preserve) is = memory_for f (event.OpenChannel name preserve) is
+fault_for f site s (event.Position channel) is = set_for f (event.Position channel) (asking channel s) refl is
+fault_for f site s (event.Receive channel entry) is = set_for f (event.Receive channel entry) (receiving channel entry s) refl is
+fault_for f site s (event.Take seat channel place) is = memory_for f (event.Take seat channel place) is
+fault_for f site s (event.Commit seat) is = set_for f (event.Commit seat) (committing seat s) refl is
+fault_for f site s (event.Rollback seat) is = memory_for f (event.Rollback seat) is
+fault_for f site s (event.Restart channel) is = memory_for f (event.Restart channel) is
+fault_for f site s (event.Local changes) is = set_for f (event.Local changes) (numbering site s) refl is
+fault_for f site s (event.Purge count) is = set_for f (event.Purge count) (purging count s) refl is
+fault_for f site s event.Look is = memory_for f event.Look is

@@ -1,5 +1,6 @@
 pub mod History
 pub mod Passes
+pub mod Faults
 pub mod Preparing
 pub mod Closing
 pub mod Spare

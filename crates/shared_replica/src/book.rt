@@ -1,8 +1,10 @@
 //! The history of a replica.
-ghost use Rattle.std.specs.Prelude.{◌≡◌, true, [], ◌≤◌, IfOk, OnErr, IfSome, IsTrue, length, map, vec_len};
+ghost use Rattle.std.specs.Prelude.{◌≡◌, true, [], ◌≤◌, IfOk, IfErr, OnErr, IfSome, IsTrue, length, map, vec_len};
 ghost use Rattle.std.specs.Vec.{vec_capacity};
 ghost use Rattle.commit_ledger.specs.Tallies.{no_tally, unused, tally_of};
 ghost use Rattle.replica_core.specs.Machine.{is_numbered, next_ready, step};
+ghost use Rattle.replica_core.specs.Faults.{IsFaultIn, made_by};
+ghost use Rattle.shared_replica.specs.Faults.{IsFaultFor};
 ghost use Rattle.shared_replica.specs.History.{IsStep, IsBook, with_step, unwritten};
 ghost use Rattle.shared_replica.specs.Passes.{told};
 ghost use Rattle.shared_replica.specs.Preparing.{MayPrepare};
@@ -65,6 +67,7 @@ impl<N: Naming> Book<N> {
 
     /// One step, with its line in the history and its receipt. A Commit uses a patch, where there is
     /// one. After an error nothing has changed.
+    #[tactic(auto, using(crate::proofs::Faulty::memory_anywhere, crate::proofs::Faulty::fault_for))]
     pub(crate) fn make(
         &mut self,
         alloc: Global,
@@ -77,6 +80,8 @@ impl<N: Naming> Book<N> {
         ensures line { IfOk result (λ r. self.new ≡ with_step event r self.new.now self.old) }
         ensures told { IfOk result (λ r. mine.new ≡ told (length self.old.steps) event r mine.old) }
         ensures err { OnErr result ((self.new ≡ self.old) × (mine.new ≡ mine.old)) }
+        ensures fault { IfErr result (λ f. IsFaultIn f (made_by self.old.now.site self.old.now.state event)) }
+        ensures kind { IfErr result (IsFaultFor event) }
     {
         self.steps.reserve(1)?;
         mine.receipts.reserve(1)?;
@@ -112,6 +117,7 @@ fn step_of(
     ensures ok { IfOk result (λ r. (r, core.new.state) ≡ step core.old.site core.old.state event.now) }
     ensures site { core.new.site ≡ core.old.site }
     ensures err { OnErr result (core.new ≡ core.old) }
+    ensures fault { IfErr result (λ f. IsFaultIn f (made_by core.old.site core.old.state event.now)) }
 {
     let Some(patch) = patch else {
         return core.step(alloc, event);

@@ -4,6 +4,7 @@ ghost use Rattle.std.specs.Vec.{vec_capacity};
 ghost use Rattle.commit_ledger.specs.Tallies.{no_tally, unused};
 ghost use Rattle.journal.specs.Writing.{is_number};
 ghost use Rattle.replica_core.specs.declared.event.Event.TheVariants.{OpenChannel, Position, Receive, Take, Commit, Rollback, Restart, Local, Purge, Look};
+ghost use Rattle.shared_replica.specs.Faults.{IsFaultFor};
 ghost use Rattle.shared_replica.specs.Passes.{fresh, IsTold};
 ghost use Rattle.shared_replica.specs.Preparing.{MayPrepare};
 ghost use Rattle.shared_replica.specs.Closing.{IsClosed};
@@ -143,7 +144,8 @@ impl<N: Naming> SharedReplica<N> {
 /// The ten events. Each call answers the reply that the core gave under the lock. The pass then has
 /// one step more in its share, one commit more if the reply is Committed, and a receipt of the event,
 /// with the pass's seat where the event has one, and of that reply. After an error neither the pass
-/// nor the history has changed.
+/// nor the history has changed: memory was refused, or the set that the event makes would be of more
+/// than 65,536 sources.
 impl<N: Naming> SharedReplica<N> {
     /// Opens a channel of this name, which preserves the order of its places or not.
     pub fn open_channel<R: Wait>(
@@ -156,6 +158,7 @@ impl<N: Naming> SharedReplica<N> {
     ) -> Result<Reply, SetFault>
         ensures ok { IfOk result (λ r. IsTold pass.old (OpenChannel name preserve) r pass.new) }
         ensures err { OnErr result (pass.new ≡ pass.old) }
+        ensures fault { IfErr result (IsFaultFor (OpenChannel name preserve)) }
     {
         let event = Event::OpenChannel(name, preserve);
         self.book.lock(rt).make(alloc, event, None, pass)
@@ -171,6 +174,7 @@ impl<N: Naming> SharedReplica<N> {
     ) -> Result<Reply, SetFault>
         ensures ok { IfOk result (λ r. IsTold pass.old (Position channel) r pass.new) }
         ensures err { OnErr result (pass.new ≡ pass.old) }
+        ensures fault { IfErr result (IsFaultFor (Position channel)) }
     {
         let event = Event::Position(channel);
         self.book.lock(rt).make(alloc, event, None, pass)
@@ -188,6 +192,7 @@ impl<N: Naming> SharedReplica<N> {
         requires { is_number entry.gtid.number ≡ true }
         ensures ok { IfOk result (λ r. IsTold pass.old (Receive channel entry) r pass.new) }
         ensures err { OnErr result (pass.new ≡ pass.old) }
+        ensures fault { IfErr result (IsFaultFor (Receive channel entry)) }
     {
         let event = Event::Receive(channel, entry);
         self.book.lock(rt).make(alloc, event, None, pass)
@@ -204,6 +209,7 @@ impl<N: Naming> SharedReplica<N> {
     ) -> Result<Reply, SetFault>
         ensures ok { IfOk result (λ r. IsTold pass.old (Take pass.old.seat channel place) r pass.new) }
         ensures err { OnErr result (pass.new ≡ pass.old) }
+        ensures fault { IfErr result (IsFaultFor (Take pass.old.seat channel place)) }
     {
         let event = Event::Take(pass.seat(), channel, place);
         self.book.lock(rt).make(alloc, event, None, pass)
@@ -218,6 +224,7 @@ impl<N: Naming> SharedReplica<N> {
     ) -> Result<Reply, SetFault>
         ensures ok { IfOk result (λ r. IsTold pass.old (Commit pass.old.seat) r pass.new) }
         ensures err { OnErr result (pass.new ≡ pass.old) }
+        ensures fault { IfErr result (IsFaultFor (Commit pass.old.seat)) }
     {
         let event = Event::Commit(pass.seat());
         self.book.lock(rt).make(alloc, event, None, pass)
@@ -234,6 +241,7 @@ impl<N: Naming> SharedReplica<N> {
     ) -> Result<Reply, SetFault>
         ensures ok { IfOk result (λ r. IsTold pass.old (Commit pass.old.seat) r pass.new) }
         ensures err { OnErr result (pass.new ≡ pass.old) }
+        ensures fault { IfErr result (IsFaultFor (Commit pass.old.seat)) }
     {
         let event = Event::Commit(pass.seat());
         self.book.lock(rt).make(alloc, event, Some(patch), pass)
@@ -248,6 +256,7 @@ impl<N: Naming> SharedReplica<N> {
     ) -> Result<Reply, SetFault>
         ensures ok { IfOk result (λ r. IsTold pass.old (Rollback pass.old.seat) r pass.new) }
         ensures err { OnErr result (pass.new ≡ pass.old) }
+        ensures fault { IfErr result (IsFaultFor (Rollback pass.old.seat)) }
     {
         let event = Event::Rollback(pass.seat());
         self.book.lock(rt).make(alloc, event, None, pass)
@@ -263,6 +272,7 @@ impl<N: Naming> SharedReplica<N> {
     ) -> Result<Reply, SetFault>
         ensures ok { IfOk result (λ r. IsTold pass.old (Restart channel) r pass.new) }
         ensures err { OnErr result (pass.new ≡ pass.old) }
+        ensures fault { IfErr result (IsFaultFor (Restart channel)) }
     {
         let event = Event::Restart(channel);
         self.book.lock(rt).make(alloc, event, None, pass)
@@ -278,6 +288,7 @@ impl<N: Naming> SharedReplica<N> {
     ) -> Result<Reply, SetFault>
         ensures ok { IfOk result (λ r. IsTold pass.old (Local changes) r pass.new) }
         ensures err { OnErr result (pass.new ≡ pass.old) }
+        ensures fault { IfErr result (IsFaultFor (Local changes)) }
     {
         let event = Event::Local(changes);
         self.book.lock(rt).make(alloc, event, None, pass)
@@ -293,6 +304,7 @@ impl<N: Naming> SharedReplica<N> {
     ) -> Result<Reply, SetFault>
         ensures ok { IfOk result (λ r. IsTold pass.old (Purge count) r pass.new) }
         ensures err { OnErr result (pass.new ≡ pass.old) }
+        ensures fault { IfErr result (IsFaultFor (Purge count)) }
     {
         let event = Event::Purge(count);
         self.book.lock(rt).make(alloc, event, None, pass)
@@ -307,6 +319,7 @@ impl<N: Naming> SharedReplica<N> {
     ) -> Result<Reply, SetFault>
         ensures ok { IfOk result (λ r. IsTold pass.old Look r pass.new) }
         ensures err { OnErr result (pass.new ≡ pass.old) }
+        ensures fault { IfErr result (IsFaultFor Look) }
     {
         let event = Event::Look;
         self.book.lock(rt).make(alloc, event, None, pass)

@@ -15,17 +15,17 @@ use Rattle.rows.specs.declared.schema.Table.{Table}
 use Rattle.journal.specs.Journals.{JournalValue}
 use Rattle.txn_journal.specs.Words.{IsOneLine}
 use Rattle.txn_journal.specs.Machine.{Standing, is_last, judge}
-use Rattle.txn_journal.specs.Stream.{Progress, Reading, Stopped, judged, next_number, eat, ended}
+use Rattle.txn_journal.specs.Stream.{Progress, Reading, Stopped, judged, next_number, eat, ended, at_end, IsWholeOr, IsRead}
 use Rattle.txn_journal.specs.Spelling.{Line, Previous, Begin, Makes, End, Close, front_lines, journal_lines}
 use Rattle.txn_journal.specs.Heard.{said_at, said}
 use Rattle.txn_journal.specs.Refused.{capped}
 use Rattle.rows.specs.Names.{is_name}
 use Rattle.txn_journal.specs.BundleStates.{BundleValue, BundleStanding, bare, is_done, has_channel, after_inner, judge_inner, judge_part, judge_bundle}
-use Rattle.txn_journal.specs.BundleReading.{bundle_start, IsFaultOfBundle, eats_bundle, whole_bundle, closing_bundle, IsWholeBundleOr}
+use Rattle.txn_journal.specs.BundleReading.{bundle_start, IsFaultOfBundle, eats_bundle, closing_bundle}
 use Rattle.txn_journal.specs.BundleText.{BundleLine, Own, Inner, Heads, Names, Opens, Done, ended_bundle_line, bundle_text, channel_lines, channels_lines, tables_lines, start_lines, bundle_front, bundle_lines, bundle_spelling, IsWrittenIn, entry_fits, IsWrittenBundle, WritesBundle}
 use Rattle.txn_journal.specs.BundleHeard.{bundle_said_at, bundle_said}
 use Rattle.txn_journal.specs.BundleCauses.{bundle_cause_at, HasBundleCause}
-use Rattle.txn_journal.specs.BundleRefused.{BundleBegins, IsBundleFirstFaulty, RefusesBundle, IsReadBundle}
+use Rattle.txn_journal.specs.BundleRefused.{BundleBegins, IsBundleFirstFaulty, RefusesBundle}
 use Rattle.txn_journal.specs.declared.bundle.Channel.{Channel}
 use Rattle.txn_journal.specs.declared.bundle_draft.Part.{Part}
 use Rattle.txn_journal.specs.declared.bundle_draft.Part.TheVariants as parts
@@ -261,7 +261,7 @@ pub reads_writing : (bytes : List ℕ) (b : BundleValue) → WritesBundle bytes 
 unfolding closing_bundle
 reads_writing bytes b w =
     let r = reads_bundle w.0 b w.1 in
-    ap closing_bundle (ap (eats_bundle bundle_start) w.2 ∙ r.reads) ∙ (λ i. whole_bundle (ended (r.done i) [] r.count) (r.bundle i))
+    ap closing_bundle (ap (eats_bundle bundle_start) w.2 ∙ r.reads) ∙ (λ i. at_end (ended (r.done i) [] r.count) (r.bundle i))
 
 abbrev ClosesBundle : List ℕ → Result BundleValue JournalFault → Type 0
 ClosesBundle bytes (Ok b) = WritesBundle bytes b
@@ -274,7 +274,7 @@ front bytes s n rest h e = (
 )
 
 abbrev ends_in : Part → List ℕ → ℕ → BundleValue → Result BundleValue JournalFault
-ends_in part rest n b = whole_bundle (ended (is_done part) rest n) b
+ends_in part rest n b = at_end (ended (is_done part) rest n) b
 
 abbrev state : Part → Version → List Table → BundleValue → Option Channel → Standing → BundleStanding
 state part version tables b channel draft = record { part = part; version = version; tables = tables; bundle = b; channel = channel; draft = draft }
@@ -312,14 +312,14 @@ closes_told bytes (Stopped (faults.Set fault)) e h = absurd h
 closes_bundle : (bytes : List ℕ) → ClosesBundle bytes (closing_bundle (eats_bundle bundle_start bytes))
 closes_bundle bytes = closes_told bytes (eats_bundle bundle_start bytes) refl (tells_bundle bytes)
 
-pub bundle_found : (r : Result BundleValue JournalFault) (bytes : List ℕ) → IsWholeBundleOr (IsFaultOfBundle bundle_start bytes) r (closing_bundle (eats_bundle bundle_start bytes)) → IfOk r (λ b. WritesBundle bytes b)
+pub bundle_found : (r : Result BundleValue JournalFault) (bytes : List ℕ) → IsWholeOr (IsFaultOfBundle bundle_start bytes) r (closing_bundle (eats_bundle bundle_start bytes)) → IfOk r (λ b. WritesBundle bytes b)
 bundle_found (Ok b) bytes (inl e) = absurd (let k = e.1 in cc)
 bundle_found (Ok b) bytes (inr e) = subst (ClosesBundle bytes) (sym e) (closes_bundle bytes)
 bundle_found (Err e) bytes h = tt
 
-pub bundle_only : (r : Result BundleValue JournalFault) (bytes : List ℕ) → IsWholeBundleOr (IsFaultOfBundle bundle_start bytes) r (closing_bundle (eats_bundle bundle_start bytes)) → (b : BundleValue) → WritesBundle bytes b → IsReadBundle r b
-bundle_only r bytes (inl e) b w = subst (λ (x : Result BundleValue JournalFault). IsReadBundle x b) (sym e.1) tt
-bundle_only r bytes (inr e) b w = subst (λ (x : Result BundleValue JournalFault). IsReadBundle x b) (sym (e ∙ reads_writing bytes b w)) refl
+pub bundle_only : (r : Result BundleValue JournalFault) (bytes : List ℕ) → IsWholeOr (IsFaultOfBundle bundle_start bytes) r (closing_bundle (eats_bundle bundle_start bytes)) → (b : BundleValue) → WritesBundle bytes b → IsRead r b
+bundle_only r bytes (inl e) b w = subst (λ (x : Result BundleValue JournalFault). IsRead x b) (sym e.1) tt
+bundle_only r bytes (inr e) b w = subst (λ (x : Result BundleValue JournalFault). IsRead x b) (sym (e ∙ reads_writing bytes b w)) refl
 
 abbrev failed : JournalFault → Result BundleValue JournalFault
 failed e = Err e
@@ -327,7 +327,7 @@ failed e = Err e
 err_is : (x y : JournalFault) → failed x ≡ failed y → y ≡ x
 err_is x y e = cc
 
-pub bundle_refused : (r : Result BundleValue JournalFault) (bytes : List ℕ) → IsWholeBundleOr (IsFaultOfBundle bundle_start bytes) r (closing_bundle (eats_bundle bundle_start bytes)) → IfErr r (λ e. RefusesBundle e bytes)
+pub bundle_refused : (r : Result BundleValue JournalFault) (bytes : List ℕ) → IsWholeOr (IsFaultOfBundle bundle_start bytes) r (closing_bundle (eats_bundle bundle_start bytes)) → IfErr r (λ e. RefusesBundle e bytes)
 bundle_refused (Ok found) bytes h = tt
 bundle_refused (Err x) bytes (inl e) = subst (λ (y : JournalFault). RefusesBundle y bytes) (err_is x (faults.Set e.0) e.1) e.2
 bundle_refused (Err x) bytes (inr e) = subst (ClosesBundle bytes) (sym e) (closes_bundle bytes)

@@ -7,11 +7,11 @@ use Rattle.gtid_set.specs.Sets.{Gtids}
 use Rattle.rows.specs.declared.change.Change.{Change}
 use Rattle.journal.specs.Journals.{JournalValue}
 use Rattle.txn_journal.specs.Machine.{Standing, is_last}
-use Rattle.txn_journal.specs.Stream.{Progress, Reading, Stopped, next_number, ended}
-use Rattle.txn_journal.specs.Reading.{before_first, IsFaultAlone, eats_alone, whole_journal, closing, IsWholeOr}
+use Rattle.txn_journal.specs.Stream.{Progress, Reading, Stopped, next_number, ended, at_end, IsWholeOr, IsRead}
+use Rattle.txn_journal.specs.Reading.{before_first, IsFaultAlone, eats_alone, closing}
 use Rattle.txn_journal.specs.Spelling.{spelling, Writes}
 use Rattle.txn_journal.specs.Heard.{said}
-use Rattle.txn_journal.specs.Refused.{Refuses, IsRead}
+use Rattle.txn_journal.specs.Refused.{Refuses}
 use Rattle.txn_journal.specs.declared.fault.JournalFault.{JournalFault}
 use Rattle.txn_journal.specs.declared.fault.JournalFault.TheVariants as faults
 use Rattle.txn_journal.specs.declared.lines.Place.{Place}
@@ -27,7 +27,7 @@ pub reads_spelling : (bytes : List ℕ) (j : JournalValue) → Writes bytes j �
 unfolding closing
 reads_spelling bytes j w =
     let r = reads_text j w.0 in
-    ap closing (ap (eats_alone before_first) w.1 ∙ r.reads) ∙ (λ i. whole_journal (ended (is_last (r.place i)) [] r.count) (r.journal i))
+    ap closing (ap (eats_alone before_first) w.1 ∙ r.reads) ∙ (λ i. at_end (ended (is_last (r.place i)) [] r.count) (r.journal i))
 
 abbrev pub Closes : List ℕ → Result JournalValue JournalFault → Type 0
 Closes bytes (Ok j) = Writes bytes j
@@ -44,7 +44,7 @@ abbrev failed : JournalFault → Result JournalValue JournalFault
 failed e = Err e
 
 abbrev ends_at : Place → List ℕ → ℕ → JournalValue → Result JournalValue JournalFault
-ends_at place rest n j = whole_journal (ended (is_last place) rest n) j
+ends_at place rest n j = at_end (ended (is_last place) rest n) j
 
 closes_at : (place : Place) (due : Option Version) (version : Version) (j : JournalValue) (seen : Gtids) (count : ℕ) (g : Gtid) (cs : List Change) (n : ℕ) (rest bytes : List ℕ)
     → Heard bytes (at place due version j seen count g cs) n rest → closing (eats_alone before_first bytes) ≡ ends_at place rest n j → Closes bytes (ends_at place rest n j)

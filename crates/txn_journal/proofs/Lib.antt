@@ -26,7 +26,6 @@ pub mod TableSteps
 pub mod BundleSound
 pub mod BundleWhole
 pub mod BundleTells
-pub mod BundleReads
 pub mod NewWords
 pub mod OneBundle
 pub mod FullSets

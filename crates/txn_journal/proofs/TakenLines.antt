@@ -11,8 +11,8 @@ use Rattle.journal.specs.Writing.{is_number, is_change_writable}
 use Rattle.txn_journal.specs.Due.{is_due}
 use Rattle.txn_journal.specs.Lines.{◌>>=◌}
 use Rattle.txn_journal.specs.Machine.{Standing, is_last, closed, add, begin, judge}
-use Rattle.txn_journal.specs.Stream.{Progress, Reading, Stopped, judged, next_number, eat, ended}
-use Rattle.txn_journal.specs.Reading.{eats_alone, entries_of, without_entries, whole_journal, closing, in_front, behind_entries, with_front, has_begun, HasBegun}
+use Rattle.txn_journal.specs.Stream.{Progress, Reading, Stopped, judged, next_number, eat, ended, at_end}
+use Rattle.txn_journal.specs.Reading.{eats_alone, entries_of, without_entries, closing, in_front, behind_entries, with_front, has_begun, HasBegun}
 use Rattle.txn_journal.specs.Spelling.{Line, Header, Previous, Begin, Makes, End, Close}
 use Rattle.txn_journal.specs.Causes.{word_for}
 use Rattle.txn_journal.specs.declared.fault.Cause.{Cause}
@@ -155,7 +155,7 @@ pub taken_behind : (p : Progress Standing) → behind_entries (entries_of p) (wi
 taken_behind (Reading s n rest) = ap (λ (es : List Entry). Reading (record s { journal = record s.journal { entries = es } }) n rest) (append-nil s.journal.entries)
 taken_behind (Stopped f) = refl
 
-whole_behind : (front : List Entry) (r : Result (Unit {0}) JournalFault) (j : JournalValue) → whole_journal r (in_front front j) ≡ with_front front (whole_journal r j)
+whole_behind : (front : List Entry) (r : Result (Unit {0}) JournalFault) (j : JournalValue) → at_end r (in_front front j) ≡ with_front front (at_end r j)
 whole_behind front (Ok u) j = refl
 whole_behind front (Err f) j = refl
 

@@ -1,5 +1,5 @@
 -- The first faulty line of a bundle's text, and what else is no bundle.
-use Rattle.std.specs.Prelude.{◌≡◌, ◌⊎◌, ℕ, ◌+◌, ◌<◌, List, [], ◌∷◌, ◌++◌, length, Result, Ok, Err}
+use Rattle.std.specs.Prelude.{◌≡◌, ◌⊎◌, ℕ, ◌+◌, ◌<◌, List, [], ◌∷◌, ◌++◌, length}
 use Rattle.rows.specs.declared.change.TableRow.{TableRow}
 use Rattle.txn_journal.specs.Words.{IsOneLine}
 use Rattle.txn_journal.specs.Refused.{capped}
@@ -58,9 +58,3 @@ abbrev pub RefusesBundle : JournalFault → List ℕ → Type 0
 RefusesBundle (faults.Set fault) bytes = IsFaultOfBundle bundle_start bytes fault
 RefusesBundle (faults.Line n cause) bytes = IsBundleFirstFaulty bytes n cause ⊎ (IsBundleTrailing bytes n × (cause ≡ causes.Keyword))
 RefusesBundle (faults.Truncated n) bytes = IsBundleFront bytes n × ((b : BundleValue) → WritesBundle bytes b → ⊥)
-
--- it is this bundle, unless memory ran out or a set was full: `RefusesBundle` says of which set
-abbrev pub IsReadBundle : Result BundleValue JournalFault → BundleValue → Type 0
-IsReadBundle (Ok found) b = found ≡ b
-IsReadBundle (Err (faults.Set fault)) b = Unit {0}
-IsReadBundle (Err _) b = ⊥

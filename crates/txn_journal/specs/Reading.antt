@@ -1,11 +1,10 @@
 -- A journal that comes in pieces.
-use Rattle.std.specs.Prelude.{◌≡◌, ◌⊎◌, ℕ, Bool, true, false, List, [], ◌++◌, None, Result, Ok, Err}
+use Rattle.std.specs.Prelude.{◌≡◌, ℕ, Bool, true, false, List, [], ◌++◌, None, Result, Ok, Err}
 use Rattle.gtid_set.specs.declared.fault.SetFault.{SetFault}
 use Rattle.journal.specs.declared.Entry.{Entry}
 use Rattle.journal.specs.Journals.{JournalValue}
 use Rattle.txn_journal.specs.declared.fault.JournalFault.{JournalFault}
-use Rattle.txn_journal.specs.declared.fault.JournalFault.TheVariants as faults
-use Rattle.txn_journal.specs.Stream.{Progress, Reading, Stopped, eats, ended, IsPieceFault}
+use Rattle.txn_journal.specs.Stream.{Progress, Reading, Stopped, eats, ended, at_end, IsPieceFault}
 use Rattle.txn_journal.specs.Machine.{Standing, empty, is_last, emptied, judge, IsFull}
 use Rattle.txn_journal.specs.declared.lines.Place.{Place}
 use Rattle.txn_journal.specs.declared.lines.Place.TheVariants as places
@@ -32,21 +31,9 @@ without_entries (Reading s n rest) = Reading (emptied s) n rest
 without_entries (Stopped fault) = Stopped fault
 
 -- the end of the text
-abbrev pub whole_journal : Result (Unit {0}) JournalFault → JournalValue → Result JournalValue JournalFault
-whole_journal (Ok _) journal = Ok journal
-whole_journal (Err fault) journal = Err fault
-
 unfoldable pub closing : Progress Standing → Result JournalValue JournalFault
-closing (Reading s n rest) = whole_journal (ended (is_last s.place) rest n) s.journal
+closing (Reading s n rest) = at_end (ended (is_last s.place) rest n) s.journal
 closing (Stopped fault) = Err fault
-
--- it is this, unless memory ran out or a set was full
-abbrev pub IsWhole : Result JournalValue JournalFault → Result JournalValue JournalFault → Type 0
-IsWhole result whole = ((fault : SetFault) × (result ≡ Err (faults.Set fault))) ⊎ (result ≡ whole)
-
--- it is this, or a fault that may be
-abbrev pub IsWholeOr : (SetFault → Type 0) → Result JournalValue JournalFault → Result JournalValue JournalFault → Type 0
-IsWholeOr may result whole = ((fault : SetFault) × (result ≡ Err (faults.Set fault)) × may fault) ⊎ (result ≡ whole)
 
 -- the same reading with these entries in front
 abbrev pub in_front : List Entry → JournalValue → JournalValue

@@ -1,5 +1,5 @@
 -- The first faulty line of a text, and what else is no journal.
-use Rattle.std.specs.Prelude.{◌≡◌, ◌⊎◌, ℕ, ◌+◌, ◌-◌, ◌^◌, ◌<◌, min, List, [], ◌∷◌, ◌++◌, length, None, Result, Ok, Err}
+use Rattle.std.specs.Prelude.{◌≡◌, ◌⊎◌, ℕ, ◌+◌, ◌-◌, ◌^◌, ◌<◌, min, List, [], ◌∷◌, ◌++◌, length, None}
 use Rattle.journal.specs.Journals.{JournalValue}
 use Rattle.txn_journal.specs.Words.{IsOneLine}
 use Rattle.txn_journal.specs.Machine.{Standing}
@@ -59,9 +59,3 @@ abbrev pub Refuses : JournalFault → List ℕ → Type 0
 Refuses (faults.Set fault) bytes = IsFaultAlone before_first bytes fault
 Refuses (faults.Line n cause) bytes = IsFirstFaulty bytes n cause ⊎ (IsTrailing bytes n × (cause ≡ causes.Keyword))
 Refuses (faults.Truncated n) bytes = IsFront bytes n × ((j : JournalValue) → Writes bytes j → ⊥)
-
--- it is this journal, unless memory ran out or a set was full: `Refuses` says of which set
-abbrev pub IsRead : Result JournalValue JournalFault → JournalValue → Type 0
-IsRead (Ok found) j = found ≡ j
-IsRead (Err (faults.Set fault)) j = Unit {0}
-IsRead (Err _) j = ⊥

@@ -106,3 +106,24 @@ TakesPiece may (Err (faults.Truncated n)) new after = ⊥
 abbrev pub end_of : {S : Type 0} → Bool → Progress S → Result (Unit {0}) JournalFault
 end_of is_last (Reading s n rest) = ended is_last rest n
 end_of is_last (Stopped fault) = Err fault
+
+-- ---- the whole of a text
+
+-- what has come, where the text may end there
+abbrev pub at_end : {V : Type 0} → Result (Unit {0}) JournalFault → V → Result V JournalFault
+at_end (Ok _) value = Ok value
+at_end (Err fault) value = Err fault
+
+-- it is this, unless memory ran out or a set was full
+abbrev pub IsWhole : {V : Type 0} → Result V JournalFault → Result V JournalFault → Type 0
+IsWhole result whole = ((fault : SetFault) × (result ≡ Err (faults.Set fault))) ⊎ (result ≡ whole)
+
+-- it is this, or a fault that may be
+abbrev pub IsWholeOr : {V : Type 0} → (SetFault → Type 0) → Result V JournalFault → Result V JournalFault → Type 0
+IsWholeOr may result whole = ((fault : SetFault) × (result ≡ Err (faults.Set fault)) × may fault) ⊎ (result ≡ whole)
+
+-- it is this value, unless memory ran out or a set was full
+abbrev pub IsRead : {V : Type 0} → Result V JournalFault → V → Type 0
+IsRead (Ok found) value = found ≡ value
+IsRead (Err (faults.Set fault)) value = Unit {0}
+IsRead (Err _) value = ⊥

@@ -2,8 +2,9 @@
 ghost use Rattle.std.specs.Prelude.{◌≡◌, IfOk, IfErr};
 ghost use Rattle.txn_journal.specs.BundleStates.{BundleValue};
 ghost use Rattle.txn_journal.specs.BundleText.{WritesBundle};
-ghost use Rattle.txn_journal.specs.BundleRefused.{RefusesBundle, IsReadBundle};
-ghost use Rattle.txn_journal.specs.BundleReading.{bundle_start, IsFaultOfBundle, eats_bundle, closing_bundle, IsWholeBundle, IsWholeBundleOr};
+ghost use Rattle.txn_journal.specs.Stream.{IsWhole, IsWholeOr, IsRead};
+ghost use Rattle.txn_journal.specs.BundleRefused.{RefusesBundle};
+ghost use Rattle.txn_journal.specs.BundleReading.{bundle_start, IsFaultOfBundle, eats_bundle, closing_bundle};
 
 use crate::bundle::Bundle;
 use crate::bundle_draft::BundleDraft;
@@ -104,7 +105,7 @@ impl BundleReader {
 }
 
 fn read_bundle(alloc: Global, bytes: &[u8]) -> Result<Bundle, JournalFault>
-    ensures { IsWholeBundleOr (IsFaultOfBundle bundle_start bytes.now) result (closing_bundle (eats_bundle bundle_start bytes.now)) }
+    ensures { IsWholeOr (IsFaultOfBundle bundle_start bytes.now) result (closing_bundle (eats_bundle bundle_start bytes.now)) }
 {
     let mut reader = BundleReader::start(alloc);
     match reader.feed(alloc, bytes) {
@@ -118,11 +119,11 @@ pub fn decode_bundle(alloc: Global, bytes: &[u8]) -> Result<Bundle, JournalFault
     // What is read is spelled so.
     ensures found { IfOk result (λ b. WritesBundle bytes.now b) }
     // What is spelled so is read, if memory and the sources of a set allow.
-    ensures only { (b : BundleValue) → WritesBundle bytes.now b → IsReadBundle result b }
+    ensures only { (b : BundleValue) → WritesBundle bytes.now b → IsRead result b }
     // Which line is the first that is faulty, and what is wrong with it.
     ensures refused { IfErr result (λ fault. RefusesBundle fault bytes.now) }
     // The same, by the fold over the bytes.
-    ensures exact { IsWholeBundle result (closing_bundle (eats_bundle bundle_start bytes.now)) }
+    ensures exact { IsWhole result (closing_bundle (eats_bundle bundle_start bytes.now)) }
 {
     read_bundle(alloc, bytes)
 }

@@ -2,10 +2,10 @@
 ghost use Rattle.std.specs.Prelude.{◌≡◌, ◌++◌, ℕ, List, IfOk, IfErr};
 ghost use Rattle.journal.specs.Journals.{JournalValue};
 ghost use Rattle.txn_journal.specs.Spelling.{Writes};
-ghost use Rattle.txn_journal.specs.Refused.{Refuses, IsRead};
-ghost use Rattle.txn_journal.specs.Stream.{Progress};
+ghost use Rattle.txn_journal.specs.Refused.{Refuses};
+ghost use Rattle.txn_journal.specs.Stream.{Progress, IsWhole, IsWholeOr, IsRead};
 ghost use Rattle.txn_journal.specs.Machine.{Standing};
-ghost use Rattle.txn_journal.specs.Reading.{before_first, IsFaultAlone, eats_alone, closing, IsWhole, IsWholeOr};
+ghost use Rattle.txn_journal.specs.Reading.{before_first, IsFaultAlone, eats_alone, closing};
 
 use crate::draft::Draft;
 use crate::fault::{JournalFault, LineFault};

@@ -9,9 +9,9 @@ use Rattle.gtidrep.proofs.apply_command.bytes_answer.Goals as goal
 
 pub returns-in-Ok : goal.returns-in-Ok
 returns-in-Ok g c =
-    subst (λ (bytes : List ℕ). Finds Applies bytes c.apply_decoded.result) c.deref.ensures.value
-    (found_in SpellsBundle bundle_in applied HasTooMany c.deref.result.now c.in-Ok.bundle c.apply_decoded.result c.in-Ok.ensures.found c.in-Ok.ensures.exact c.apply_decoded.ensures.comes
-    (read_unapplied c.deref.result.now c.in-Ok.bundle c.apply_decoded.result c.in-Ok.ensures.found c.apply_decoded.ensures.fault))
+    subst (λ (bytes : List ℕ). Finds Applies bytes c.apply_decoded-answer.result) c.deref.ensures.value
+    (found_in SpellsBundle bundle_in applied HasTooMany c.deref.result.now c.in-Ok.bundle c.apply_decoded-answer.result c.in-Ok.ensures.found c.in-Ok.ensures.exact c.apply_decoded-answer.ensures.comes
+    (read_unapplied c.deref.result.now c.in-Ok.bundle c.apply_decoded-answer.result c.in-Ok.ensures.found c.apply_decoded-answer.ensures.fault))
 
 pub returns-in-Err : goal.returns-in-Err
 returns-in-Err g c =

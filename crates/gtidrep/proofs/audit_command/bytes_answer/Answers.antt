@@ -9,9 +9,9 @@ use Rattle.gtidrep.proofs.audit_command.bytes_answer.Goals as goal
 
 pub returns-in-Ok : goal.returns-in-Ok
 returns-in-Ok c =
-    subst (λ (bytes : List ℕ). Finds Audits bytes c.bundle_answer.result) c.deref.ensures.value
-    (found_in SpellsBundle bundle_in audited (λ b. ⊥) c.deref.result.now c.in-Ok.bundle c.bundle_answer.result c.in-Ok.ensures.found c.in-Ok.ensures.exact c.bundle_answer.ensures.comes
-    (read_unaudited c.deref.result.now c.in-Ok.bundle c.bundle_answer.result c.in-Ok.ensures.found c.bundle_answer.ensures.fault))
+    subst (λ (bytes : List ℕ). Finds Audits bytes c.bundle_answer-answer.result) c.deref.ensures.value
+    (found_in SpellsBundle bundle_in audited (λ b. ⊥) c.deref.result.now c.in-Ok.bundle c.bundle_answer-answer.result c.in-Ok.ensures.found c.in-Ok.ensures.exact c.bundle_answer-answer.ensures.comes
+    (read_unaudited c.deref.result.now c.in-Ok.bundle c.bundle_answer-answer.result c.in-Ok.ensures.found c.bundle_answer-answer.ensures.fault))
 
 pub returns-in-Err : goal.returns-in-Err
 returns-in-Err c =

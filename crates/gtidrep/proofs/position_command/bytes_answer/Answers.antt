@@ -8,8 +8,8 @@ use Rattle.gtidrep.proofs.position_command.bytes_answer.Goals as goal
 
 pub returns-in-Ok : goal.returns-in-Ok
 returns-in-Ok c =
-    found_in SpellsJournal journal_in (positioned (c.args.asked.now.source, c.args.asked.now.gtids)) (λ j. ⊥) c.args.bytes.now c.in-Ok.journal c.journal_answer.result
-    c.in-Ok.ensures.found c.in-Ok.ensures.exact c.journal_answer.ensures.comes (gives_up ⊥ c.journal_answer.result c.journal_answer.ensures.fault)
+    found_in SpellsJournal journal_in (positioned (c.args.asked.now.source, c.args.asked.now.gtids)) (λ j. ⊥) c.args.bytes.now c.in-Ok.journal c.journal_answer-answer.result
+    c.in-Ok.ensures.found c.in-Ok.ensures.exact c.journal_answer-answer.ensures.comes (gives_up ⊥ c.journal_answer-answer.result c.journal_answer-answer.ensures.fault)
 
 pub returns-in-Err : goal.returns-in-Err
 returns-in-Err c =

@@ -8,7 +8,7 @@ use Rattle.serving.proofs.receiving.+serve_journals.Goals as goal
 pub returns-clause-served : goal.returns-clause-served
 returns-clause-served t c =
     on_ok c.serve_journals.result
-    (λ rest. serves_more (coming c.args.at_work) c.args.core.now.site c.serve_journal.new.core.site c.args.core.now.state c.serve_journal.new.core.state c.serve_journals.new.core.state
+    (λ rest. serves_more (coming c.args.work) c.args.core.now.site c.serve_journal.new.core.site c.args.core.now.state c.serve_journal.new.core.state c.serve_journals.new.core.state
     c.args.number c.in-Some.journal.now c.in-Some.others.now c.args.journals.now c.in-Some.ensures.cases.0 c.serve_journal.ensures.site c.in_ok-serve_journal.ensures.served rest)
     c.serve_journals.ensures.served
 
@@ -26,5 +26,5 @@ returns-clause-fault t c =
     on_err c.serve_journals.result
     (λ f h. rest_fault f core.site next.site core.state next.state c.args.number c.args.channels.now c.in-Some-split_first.rest.now c.in-Some-split_first.channel.now
     c.args.journals.now c.in-Some.others.now c.in-Some.journal.now c.in-Some-split_first.ensures.cases.0 c.in-Some.ensures.cases.0
-    c.serve_journal.ensures.site (one_coming c.args.at_work c.args.core.now.site c.args.core.now.state c.args.number c.in-Some.journal.now c.serve_journal.new.core.state c.in_ok-serve_journal.ensures.served) c.in_ok-serve_journal.ensures.named h)
+    c.serve_journal.ensures.site (one_coming c.args.work c.args.core.now.site c.args.core.now.state c.args.number c.in-Some.journal.now c.serve_journal.new.core.state c.in_ok-serve_journal.ensures.served) c.in_ok-serve_journal.ensures.named h)
     c.serve_journals.ensures.fault

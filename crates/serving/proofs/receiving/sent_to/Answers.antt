@@ -1,8 +1,5 @@
-use Rattle.serving.proofs.Sending.{same_sent, refused_for_more}
+use Rattle.serving.proofs.Sending.{refused_for_more}
 use Rattle.serving.proofs.receiving.sent_to.Goals as goal
-
-pub returns-in-Ok-clause-ok : goal.returns-in-Ok-clause-ok
-returns-in-Ok-clause-ok c = same_sent c.args.journal.now c.args.asked.now c.in-Ok.entries.items c.in-Ok.ensures.ok
 
 pub returns-clause-fault : goal.returns-clause-fault
 returns-clause-fault c =

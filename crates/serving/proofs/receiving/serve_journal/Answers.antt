@@ -9,10 +9,10 @@ use Rattle.serving.proofs.receiving.serve_journal.Goals as goal
 pub returns-clause-served : goal.returns-clause-served
 returns-clause-served c =
     on_ok c.feed.result
-    (λ received. serves_one (coming c.args.at_work) c.args.core.now.site c.ask_for.new.core.site c.args.core.now.state c.ask_for.new.core.state c.feed.new.core.state
+    (λ received. serves_one (coming c.args.work) c.args.core.now.site c.ask_for.new.core.site c.args.core.now.state c.ask_for.new.core.state c.feed.new.core.state
     c.args.number c.in_ok-entries.entries.items c.args.journal.now
     c.ask_for.ensures.site c.in_ok-entries.ensures.asks
-    (subst (λ (entries : List Entry). coming c.args.at_work c.ask_for.new.core.site c.ask_for.new.core.state c.args.number entries c.feed.new.core.state) c.deref.ensures.value received))
+    (subst (λ (entries : List Entry). coming c.args.work c.ask_for.new.core.site c.ask_for.new.core.state c.args.number entries c.feed.new.core.state) c.deref.ensures.value received))
     c.feed.ensures.fed
 
 pub returns-clause-fault : goal.returns-clause-fault

@@ -1,4 +1,4 @@
-use Rattle.txn_journal.proofs.BundleReads.{whole_bundle_of}
+use Rattle.txn_journal.proofs.WholeReads.{whole_of}
 use Rattle.txn_journal.proofs.BundleTells.{bundle_found, bundle_only, bundle_refused}
 use Rattle.txn_journal.proofs.bundle_reader.decode_bundle.Goals as goal
 
@@ -7,5 +7,5 @@ returns c = record {
   found = bundle_found c.read_bundle.result c.args.bytes.now c.read_bundle.ensures;
   only = bundle_only c.read_bundle.result c.args.bytes.now c.read_bundle.ensures;
   refused = bundle_refused c.read_bundle.result c.args.bytes.now c.read_bundle.ensures;
-  exact = whole_bundle_of _ _ _ c.read_bundle.ensures;
+  exact = whole_of _ _ _ c.read_bundle.ensures;
 }

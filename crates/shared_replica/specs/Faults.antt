@@ -1,0 +1,25 @@
+-- Why a call is not answered, said of its event alone: other threads may have changed the replica.
+use Rattle.std.specs.Prelude.{◌≡◌, Bool, true, false}
+use Rattle.gtid_set.specs.declared.fault.SetFault.{SetFault}
+use Rattle.gtid_set.specs.declared.fault.SetFault.TheVariants.{Memory, PoolFull, SourcesFull}
+use Rattle.replica_core.specs.declared.event.Event.{Event}
+use Rattle.replica_core.specs.declared.event.Event.TheVariants as event
+
+-- the events that make a set
+abbrev pub makes_a_set : Event → Bool
+makes_a_set (event.OpenChannel name preserve) = false
+makes_a_set (event.Position channel) = true
+makes_a_set (event.Receive channel entry) = true
+makes_a_set (event.Take seat channel place) = false
+makes_a_set (event.Commit seat) = true
+makes_a_set (event.Rollback seat) = false
+makes_a_set (event.Restart channel) = false
+makes_a_set (event.Local changes) = true
+makes_a_set (event.Purge count) = true
+makes_a_set event.Look = false
+
+-- memory was refused, or the set that the event makes would have too many sources; a pool never wants room
+abbrev pub IsFaultFor : Event → SetFault → Type 0
+IsFaultFor e Memory = Unit {0}
+IsFaultFor e SourcesFull = makes_a_set e ≡ true
+IsFaultFor e PoolFull = ⊥
