@@ -1,19 +1,17 @@
 -- Nothing is left out of journals that bring the numbers of each source one after another.
 use Rattle.std.proofs.Common.{◌≡◌, ℕ, zero, suc, ◌+◌, [], ◌∷◌, length, get_or, ◌<◌, ◌≤◌, true, false, not, ◌⊎◌, inl, inr, List, take, Option, Some, None, refl, sym, ap, ◌∙◌, subst, arith}
-use Rattle.std.specs.Prelude.{slice_get, nat_lt, nat_le, ◌==◌}
-use Rattle.std.specs.List.{list_all}
+use Rattle.std.specs.Prelude.{slice_get, nat_lt, ◌==◌}
 use Rattle.std.specs.FinMap as finmap
 use Rattle.std.specs.FinSet as set
 use Rattle.std.proofs.lemmas.Bool.{eqb-true}
 use Rattle.gtid_text.specs.declared.Gtid.{Gtid}
-use Rattle.gtid_set.specs.Sets.{Gtids, gtid, greatest}
+use Rattle.gtid_set.specs.Sets.{Gtids, gtid}
 use Rattle.rows.specs.declared.change.Transaction.{Transaction}
 use Rattle.rows.specs.declared.schema.Table.{Table}
 use Rattle.rows.specs.Apply.{Rows}
 use Rattle.rows.specs.WriteSet.{shares_key}
 use Rattle.journal.specs.declared.Entry.{Entry}
 use Rattle.journal.specs.Journals.{JournalValue, IsJournal}
-use Rattle.journal.specs.Writing.{is_writable, is_number, is_txn_writable}
 use Rattle.source_history.specs.World.{World, content, is_opened}
 use Rattle.source_history.specs.World as history
 use Rattle.source_history.proofs.Tests.{not_both, and_both, or_either, or_left, or_right}
@@ -24,6 +22,7 @@ use Rattle.world.specs.Audit.{all_entries, world_of, stands_in, stands_before, i
 use Rattle.world.specs.Meaning.{AreJournals}
 use Rattle.world.proofs.Finding.{none_when, none_first, is_false, taken}
 use Rattle.world.proofs.Contents.{entry_at, entry_from, in_all, at_content, contents_entry, contents_outside}
+use Rattle.world.proofs.Meanings.{numbered}
 use Rattle.audit.specs.Ordered.{is_there, AreBelow, IsInOrder, AreInOrder, AreTops, IsRaised}
 use Rattle.audit.specs.Worlds.{IsWorldOf}
 
@@ -108,18 +107,6 @@ module _ (opened : Gtids) (es : List Entry) (i : ℕ) where
 
 number_lt : (a b : ℕ) → nat_lt a b ≡ true → a < b
 number_lt a b e = grind arith
-
-numbered : (es : List Entry) (i : ℕ) (e : Entry) → list_all is_writable es ≡ true → slice_get es i ≡ Some e → 0 < e.gtid.number
-numbered [] i e h at = not_none e at
-numbered (x ∷ es) zero e h at =
-    let a = and_both (is_writable x) (list_all is_writable es) h in
-    let b = and_both (is_number x.gtid.number) (is_txn_writable x.txn) a.0 in
-    let c = and_both (nat_le 1 x.gtid.number) (nat_le x.gtid.number greatest) b.0 in
-    subst (λ (y : Entry). 0 < y.gtid.number) (same_some x e at) (from_test x.gtid.number c.0)
-  where
-    from_test : (n : ℕ) → nat_le 1 n ≡ true → 0 < n
-    from_test n t = grind arith
-numbered (x ∷ es) (suc i) e h at = numbered es i e (and_both (is_writable x) (list_all is_writable es) h).1 at
 
 has_number : (schema : List Table) (opened : Gtids) (rows : Rows) (journals : List JournalValue) → AreJournals journals → (g : Gtid) (t : Transaction) → content (world_of schema opened rows journals) g ≡ Some t → 0 < g.number
 has_number schema opened rows journals are g t at =

@@ -25,19 +25,11 @@ fn are_idle(seats: &[Option<Spot>]) -> bool
 fn is_next(channel: &Channel, place: usize) -> bool
     ensures { result ≡ true → IsNext channel.now.channel place }
 {
-    if channel.last_ask().is_none() {
-        return false;
-    }
-    if channel.stopped() {
-        return false;
-    }
-    if channel.is_full() {
-        return false;
-    }
-    if place != channel.len() {
-        return false;
-    }
-    channel.is_settled()
+    channel.last_ask().is_some()
+        && !channel.stopped()
+        && !channel.is_full()
+        && place == channel.len()
+        && channel.is_settled()
 }
 
 impl Core {

@@ -69,23 +69,47 @@ fn ended(script: &Script) -> Result<(), Fault> {
     }
 }
 
+/// Reads a line and writes the answer to it. Whether there was a line.
+fn answer_next<R: BufRead, W: Write>(
+    alloc: Global,
+    reader: &mut R,
+    writer: &mut W,
+    script: &mut Script,
+) -> Result<bool, Fault> {
+    let mut line = Vec::new(alloc);
+    match reader.read_until(b'\n', &mut line) {
+        Ok(0) => Ok(false),
+        Ok(_) => {
+            answer_line(alloc, script, without_feed(&line), writer)?;
+            Ok(true)
+        }
+        Err(error) => Err(read_fault(error)),
+    }
+}
+
+/// Reads the lines of a script that has been started, and writes the answers.
+fn answer_lines<R: BufRead, W: Write>(
+    alloc: Global,
+    reader: &mut R,
+    writer: &mut W,
+    script: &mut Script,
+) -> Result<(), Fault> {
+    for _ in 0..u64::MAX {
+        if !answer_next(alloc, reader, writer, script)? {
+            return ended(script);
+        }
+    }
+    Err(Fault::Read)
+}
+
 /// Reads a script line by line, and writes the answers.
 pub fn run_script<R: BufRead, W: Write>(
     alloc: Global,
     reader: &mut R,
     writer: &mut W,
 ) -> Result<(), Fault> {
-    let mut script = match Script::start(alloc) {
-        Ok(script) => script,
-        Err(stop) => return Err(fault_of(stop)),
-    };
-    for _ in 0..u64::MAX {
-        let mut line = Vec::new(alloc);
-        match reader.read_until(b'\n', &mut line) {
-            Ok(0) => return ended(&script),
-            Ok(_) => answer_line(alloc, &mut script, without_feed(&line), writer)?,
-            Err(error) => return Err(read_fault(error)),
-        }
+    match Script::start(alloc) {
+        Ok(mut script) => answer_lines(alloc, reader, writer, &mut script),
+        Err(stop) => Err(fault_of(stop)),
     }
-    Err(Fault::Read)
 }

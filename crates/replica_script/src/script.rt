@@ -14,7 +14,7 @@ use journal_words::{cut, source_word};
 use replica_core::{Core, Event};
 use std::alloc::{AllocError, Global};
 use std::mem;
-use txn_journal::{BundleReader, JournalFault, Reader};
+use txn_journal::{Bundle, BundleReader, JournalFault, Reader};
 
 /// Why a script ends before its input does.
 #[derive(Clone, Copy, Debug, PartialEq, Eq, Drop)]
@@ -189,31 +189,47 @@ struct Stage {
     pending: Option<Pending>,
 }
 
-/// A bundle that has come up to its first table.
-fn nothing_declared(alloc: Global) -> Result<BundleReader, Stop> {
+/// A bundle that has come up to its first table. Its lines are of the language, so that memory alone can be wanting.
+fn nothing_declared(alloc: Global) -> Result<BundleReader, Stop>
+    ensures { IfErr result (λ stop. stop ≡ Memory) }
+{
     let mut bundle = BundleReader::start(alloc);
     let head = b"bundle 1\nreplica 00000000-0000-0000-0000-000000000000";
-    feed_bundle(alloc, &mut bundle, head)?;
-    Ok(bundle)
+    match feed_bundle(alloc, &mut bundle, head) {
+        Ok(()) => Ok(bundle),
+        Err(_) => Err(Stop::Memory),
+    }
 }
 
-/// A replica with the tables and rows that are declared.
-fn open_core(alloc: Global, declared: BundleReader, own: SourceId) -> Result<Core, Stop> {
+/// The bundle of the tables and rows that are declared.
+fn declared_bundle(alloc: Global, declared: BundleReader) -> Result<Bundle, Stop> {
     let mut declared = declared;
     feed_bundle(alloc, &mut declared, b"done")?;
-    let bundle = match declared.finish() {
-        Ok(bundle) => bundle,
-        Err(fault) => return Err(stop_of(fault)),
-    };
+    match declared.finish() {
+        Ok(bundle) => Ok(bundle),
+        Err(fault) => Err(stop_of(fault)),
+    }
+}
+
+/// A replica on the rows of a bundle.
+fn core_on(alloc: Global, bundle: &Bundle, own: SourceId) -> Result<Core, Stop> {
     match Core::open(alloc, own, bundle.rows().copy()?) {
         Ok(core) => Ok(core),
         Err(_) => Err(Stop::Memory),
     }
 }
 
+/// A replica with the tables and rows that are declared.
+fn open_core(alloc: Global, declared: BundleReader, own: SourceId) -> Result<Core, Stop> {
+    let bundle = declared_bundle(alloc, declared)?;
+    core_on(alloc, &bundle, own)
+}
+
 impl Stage {
-    /// Before the first line.
-    fn start(alloc: Global) -> Result<Stage, Stop> {
+    /// Before the first line. Only memory can be wanting.
+    fn start(alloc: Global) -> Result<Stage, Stop>
+        ensures { IfErr result (λ stop. stop ≡ Memory) }
+    {
         Ok(Stage {
             declared: nothing_declared(alloc)?,
             core: None,
@@ -292,24 +308,34 @@ impl Stage {
         }
     }
 
-    /// Takes the next line, and answers it.
-    fn take(&mut self, alloc: Global, line: &[u8]) -> Result<Vec<u8>, Stop> {
-        if is_passed_over(line) {
-            return Ok(Vec::new(alloc));
-        }
-        if let Some(pending) = self.pending.take() {
-            return self.take_change(alloc, pending, line);
-        }
+    /// Begins again, without tables, rows and replica.
+    fn restart(&mut self, alloc: Global) -> Result<(), Stop> {
+        *self = Stage::start(alloc)?;
+        Ok(())
+    }
+
+    /// Takes a line outside a transaction.
+    fn take_whole(&mut self, alloc: Global, line: &[u8]) -> Result<Vec<u8>, Stop> {
         if line == b"---".as_slice() {
-            let text = Vec::from_slice(alloc, b"---\n")?;
-            *self = Stage::start(alloc)?;
-            return Ok(text);
+            self.restart(alloc)?;
+            return Ok(Vec::from_slice(alloc, b"---\n")?);
         }
         if self.core.is_some() {
             return self.take_question(alloc, line);
         }
         self.declare(alloc, line)?;
         Ok(Vec::new(alloc))
+    }
+
+    /// Takes the next line, and answers it.
+    fn take(&mut self, alloc: Global, line: &[u8]) -> Result<Vec<u8>, Stop> {
+        if is_passed_over(line) {
+            return Ok(Vec::new(alloc));
+        }
+        match self.pending.take() {
+            Some(pending) => self.take_change(alloc, pending, line),
+            None => self.take_whole(alloc, line),
+        }
     }
 }
 
@@ -321,9 +347,10 @@ pub struct Script {
 }
 
 impl Script {
-    /// Before the first line.
+    /// Before the first line. Only memory can be wanting.
     pub fn start(alloc: Global) -> Result<Script, Stop>
-        ensures { IfOk result (λ script. script.stopped ≡ None) }
+        ensures fresh { IfOk result (λ script. script.stopped ≡ None) }
+        ensures memory { IfErr result (λ stop. stop ≡ Memory) }
     {
         Ok(Script {
             stage: Stage::start(alloc)?,

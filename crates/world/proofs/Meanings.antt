@@ -85,7 +85,7 @@ one_and : (m : ℕ) → 0 < m → 1 + (m - 1) ≡ m
 one_and m h = omega arith
 
 -- an entry that can be written has a number from 1 on
-numbered : (es : List Entry) (i : ℕ) (e : Entry) → list_all is_writable es ≡ true → slice_get es i ≡ Some e → 0 < e.gtid.number
+pub numbered : (es : List Entry) (i : ℕ) (e : Entry) → list_all is_writable es ≡ true → slice_get es i ≡ Some e → 0 < e.gtid.number
 numbered [] i e h at = not_none e at
 numbered (x ∷ es) zero e h at =
     let a = and_both (is_writable x) (list_all is_writable es) h in
