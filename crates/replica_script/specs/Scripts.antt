@@ -3,7 +3,7 @@ use Rattle.std.specs.Prelude.{◌≡◌, ℕ, Bool, true, false, List, Option, S
 use Rattle.gtid_set.specs.Sets.{Gtids}
 use Rattle.gtid_set.specs.declared.fault.SetFault.TheVariants.{SourcesFull}
 use Rattle.replica_core.specs.State.{Replica, State}
-use Rattle.replica_core.specs.Machine.{step}
+use Rattle.replica_core.specs.Machine.{step, is_numbered}
 use Rattle.replica_core.specs.Faults.{IsFaultIn, asking, made_by}
 use Rattle.replica_core.specs.declared.event.Event.{Event}
 use Rattle.replica_script.specs.declared.question.Query.{Query}
@@ -46,6 +46,12 @@ IsShown r query text = (text ≡ query_text r query) ⊎ IsFullLine (made_for qu
 abbrev pub Answers : Replica → Question → Replica → List ℕ → Type 0
 Answers old (question.Event event) new text = IsAnswer old event new text
 Answers old (question.Query query) new text = IsShown old query text × (new ≡ old)
+
+-- why a question stops a script: memory was refused, or it is an event whose number is out of range, which is a bad line
+abbrev pub IsStopAt : Question → Stop → Type 0
+IsStopAt asked stop.Memory = Unit {0}
+IsStopAt (question.Event event) stop.BadLine = is_numbered event ≡ false
+IsStopAt (question.Query query) stop.BadLine = ⊥
 
 -- ---- the end
 

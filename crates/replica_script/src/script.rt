@@ -2,7 +2,8 @@
 ghost use Rattle.std.specs.Prelude.{◌≡◌, None, Some, Err, IfOk, IfErr, OnOk, is_some, codes};
 ghost use Rattle.replica_script.specs.declared.script.Stop.{Stop};
 ghost use Rattle.replica_script.specs.declared.script.Stop.TheVariants.{Memory};
-ghost use Rattle.replica_script.specs.Scripts.{Answers, IsAnswer, IsShown, ending};
+ghost use Rattle.replica_script.specs.declared.question.Question.TheVariants as asked;
+ghost use Rattle.replica_script.specs.Scripts.{Answers, IsAnswer, IsShown, IsStopAt, ending};
 
 use crate::query::query_text;
 use crate::question::{Query, Question, number, question_in};
@@ -134,7 +135,8 @@ fn full_line(alloc: Global) -> Result<Vec<u8>, AllocError>
 
 /// Asks an event of a replica. Where the set that it makes would have too many sources that is the answer, and nothing has changed.
 fn answer_event(alloc: Global, core: &mut Core, event: &Event) -> Result<Vec<u8>, Stop>
-    ensures { IfOk result (λ text. IsAnswer core.old event.now core.new text.items) }
+    ensures answer { IfOk result (λ text. IsAnswer core.old event.now core.new text.items) }
+    ensures stop { IfErr result (IsStopAt (asked.Event event.now)) }
 {
     if !event.is_numbered() {
         return Err(Stop::BadLine);
@@ -151,7 +153,8 @@ fn answer_event(alloc: Global, core: &mut Core, event: &Event) -> Result<Vec<u8>
 
 /// Shows what a query asks for.
 fn answer_query(alloc: Global, core: &Core, query: Query) -> Result<Vec<u8>, Stop>
-    ensures { IfOk result (λ text. IsShown core.now query text.items) }
+    ensures shown { IfOk result (λ text. IsShown core.now query text.items) }
+    ensures stop { IfErr result (IsStopAt (asked.Query query)) }
 {
     match query_text(alloc, core, query) {
         Ok(text) => Ok(text),
@@ -162,7 +165,8 @@ fn answer_query(alloc: Global, core: &Core, query: Query) -> Result<Vec<u8>, Sto
 
 /// An answer to a question.
 fn answer(alloc: Global, core: &mut Core, question: Question) -> Result<Vec<u8>, Stop>
-    ensures { IfOk result (λ text. Answers core.old question core.new text.items) }
+    ensures answer { IfOk result (λ text. Answers core.old question core.new text.items) }
+    ensures stop { IfErr result (IsStopAt question) }
 {
     match question {
         Question::Event(event) => answer_event(alloc, core, &event),
