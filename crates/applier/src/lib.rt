@@ -13,6 +13,3 @@ pub use draining::drain;
 pub use gate::{Gate, NoGate};
 pub use hand::{Hand, Ticket, hands};
 pub use workers::{WorkersEnd, run_workers};
-
-#[cfg(test)]
-mod tests;

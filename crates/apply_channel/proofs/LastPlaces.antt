@@ -7,19 +7,19 @@ use Rattle.std.proofs.lemmas.List.{length_push}
 use Rattle.rows.specs.declared.change.Transaction.{Transaction}
 use Rattle.gtid_text.specs.declared.Gtid.{Gtid}
 use Rattle.gtid_text.specs.Gtids.{same_gtid}
-use Rattle.gtid_text.proofs.SameGtid.{both, same_itself, same_flip, same_is_equal}
+use Rattle.gtid_text.proofs.SameGtid.{same_itself, same_flip, same_is_equal}
 use Rattle.apply_channel.specs.declared.slot.Slot.{Slot}
 use Rattle.apply_channel.specs.Channels.{Received, settle, map_at, executed_one}
 use Rattle.apply_channel.specs.Kept.{entries_of, received_of, is_open_of, is_open_at, IsLastOpen, AreLinked, AreLast}
-use Rattle.apply_channel.proofs.Nodes.{same_some, not_none, get_below}
+use Rattle.std.proofs.lemmas.Bool.{and_parts, false_from_ne_true}
+use Rattle.std.proofs.lemmas.Option.{same_Some, slice_get_within}
+use Rattle.rows.proofs.Lists.{none_some, lt_cases}
+use Rattle.apply_channel.proofs.Nodes.{and_false}
 
 -- ---- places in order
 
 three : (i p : ℕ) → (i < p) ⊎ ((i ≡ p) ⊎ (p < i))
 three i p = grind arith
-
-two : (i n : ℕ) → i < n + 1 → (i < n) ⊎ (i ≡ n)
-two i n lt = grind arith
 
 -- ---- the last place
 
@@ -28,8 +28,8 @@ last_alike g es fs n None same h = λ i lt. same i lt ∙ h i lt
 last_alike g es fs n (Some p) same h = (h.0, same p h.0 ∙ h.1, λ i far lt. same i lt ∙ h.2 i far lt)
 
 last_more : (g : Gtid) (es : List Received) (n : ℕ) (o : Option ℕ) → IsLastOpen es g n o → is_open_at g es n ≡ false → IsLastOpen es g (n + 1) o
-last_more g es n None h shut = λ i lt. elim (two i n lt) [ inl less ↦ h i less | inr same ↦ ap (is_open_at g es) same ∙ shut ]
-last_more g es n (Some p) h shut = let below = h.0 in (omega (below, arith), h.1, λ i far lt. elim (two i n lt) [ inl less ↦ h.2 i far less | inr same ↦ ap (is_open_at g es) same ∙ shut ])
+last_more g es n None h shut = λ i lt. elim (lt_cases i n lt) [ inl less ↦ h i less | inr same ↦ ap (is_open_at g es) same ∙ shut ]
+last_more g es n (Some p) h shut = let below = h.0 in (omega (below, arith), h.1, λ i far lt. elim (lt_cases i n lt) [ inl less ↦ h.2 i far less | inr same ↦ ap (is_open_at g es) same ∙ shut ])
 
 last_here : (g : Gtid) (es : List Received) (n : ℕ) → is_open_at g es n ≡ true → IsLastOpen es g (n + 1) (Some n)
 last_here g es n holds = (omega arith, holds, λ i far lt. absurd (omega (far, lt, arith)))
@@ -73,14 +73,14 @@ open_end g [] s = refl
 open_end g (x ∷ slots) s = open_end g slots s
 
 push_cases : (slots : List Slot) (s : Slot) (i : ℕ) (t : Slot) → slice_get (slots ++ s ∷ []) i ≡ Some t → (slice_get slots i ≡ Some t) ⊎ ((i ≡ length slots) × (s ≡ t))
-push_cases [] s zero t e = inr (refl, same_some s t e)
-push_cases [] s (suc i) t e = not_none t e
+push_cases [] s zero t e = inr (refl, same_Some s t e)
+push_cases [] s (suc i) t e = none_some t e
 push_cases (x ∷ slots) s zero t e = inl e
 push_cases (x ∷ slots) s (suc i) t e = elim (push_cases slots s i t e) [ inl p ↦ inl p | inr q ↦ inr (ap suc q.0, q.1) ]
 
 pub linked_push : (slots : List Slot) (s : Slot) → AreLinked slots → IsLastOpen (entries_of slots) s.gtid (length slots) s.earlier → AreLinked (slots ++ s ∷ [])
 linked_push slots s linked last = λ i t is there. elim (push_cases slots s i t is) [
-  | inl old ↦ (let below = get_below slots i t old in last_alike t.gtid (entries_of slots) (entries_of (slots ++ s ∷ [])) i t.earlier (λ j lt. open_push t.gtid slots s j (omega (lt, below, arith))) (linked i t old there))
+  | inl old ↦ (let below = slice_get_within slots i t old in last_alike t.gtid (entries_of slots) (entries_of (slots ++ s ∷ [])) i t.earlier (λ j lt. open_push t.gtid slots s j (omega (lt, below, arith))) (linked i t old there))
   | inr new ↦ subst (λ (x : Slot). IsLastOpen (entries_of (slots ++ s ∷ [])) x.gtid i x.earlier) new.1
       (subst (λ m. IsLastOpen (entries_of (slots ++ s ∷ [])) s.gtid m s.earlier) (sym new.0)
       (last_alike s.gtid (entries_of slots) (entries_of (slots ++ s ∷ [])) (length slots) s.earlier (λ j lt. open_push s.gtid slots s j lt) last))
@@ -97,10 +97,6 @@ more slots s g o last shut =
 pub last_push_done : (slots : List Slot) (s : Slot) (last : Gtid → Option ℕ) → is_some s.txn ≡ false → AreLast slots last → AreLast (slots ++ s ∷ []) last
 last_push_done slots s last done h = λ g. more slots s g (last g) (h g) (ap (λ b. b && same_gtid s.gtid g) done)
 
-and_no : (a : Bool) → (a && false) ≡ false
-and_no true = refl
-and_no false = refl
-
 module _ (slots : List Slot) (s : Slot) (last next : Gtid → Option ℕ) (there : is_some s.txn ≡ true) (h : AreLast slots last) where
   push_by : (g : Gtid) (b : Bool) → same_gtid g s.gtid ≡ b → IsLastOpen (entries_of (slots ++ s ∷ [])) g (length (slots ++ s ∷ [])) (cond b (Some (length slots)) (last g))
   push_by g true e =
@@ -108,7 +104,7 @@ module _ (slots : List Slot) (s : Slot) (last next : Gtid → Option ℕ) (there
       let holds : is_open_of g (received_of s) ≡ true = ap (λ b. b && same_gtid s.gtid g) there ∙ same_flip s.gtid g ∙ e in
       subst (λ n. IsLastOpen (entries_of (slots ++ s ∷ [])) g n (Some (length slots))) (sym longer)
       (last_here g (entries_of (slots ++ s ∷ [])) (length slots) (open_end g slots s ∙ holds))
-  push_by g false e = more slots s g (last g) (h g) (ap (λ b. is_some s.txn && b) (same_flip s.gtid g ∙ e) ∙ and_no (is_some s.txn))
+  push_by g false e = more slots s g (last g) (h g) (ap (λ b. is_some s.txn && b) (same_flip s.gtid g ∙ e) ∙ and_false (is_some s.txn))
 
   pub last_push_open : ((g : Gtid) → next g ≡ cond (same_gtid g s.gtid) (Some (length slots)) (last g)) → AreLast (slots ++ s ∷ []) next
   last_push_open new = λ g. subst (λ o. IsLastOpen (entries_of (slots ++ s ∷ [])) g (length (slots ++ s ∷ [])) o) (sym (new g)) (push_by g (same_gtid g s.gtid) refl)
@@ -133,24 +129,20 @@ set_length (x ∷ slots) zero s = refl
 set_length (x ∷ slots) (suc p) s = ap suc (set_length slots p s)
 
 set_cases : (slots : List Slot) (p : ℕ) (s : Slot) (i : ℕ) (t : Slot) → slice_get (slice_set slots p s) i ≡ Some t → (s ≡ t) ⊎ ((i ≢ p) × (slice_get slots i ≡ Some t))
-set_cases [] p s i t e = not_none t e
-set_cases (x ∷ slots) zero s zero t e = inl (same_some s t e)
+set_cases [] p s i t e = none_some t e
+set_cases (x ∷ slots) zero s zero t e = inl (same_Some s t e)
 set_cases (x ∷ slots) zero s (suc i) t e = inr (λ same. absurd (omega (same, arith)), e)
 set_cases (x ∷ slots) (suc p) s zero t e = inr (λ same. absurd (omega (same, arith)), e)
 set_cases (x ∷ slots) (suc p) s (suc i) t e = elim (set_cases slots p s i t e) [ inl q ↦ inl q | inr q ↦ inr (λ same. q.0 (omega (same, arith)), q.1) ]
 
 open_slot : (g : Gtid) (slots : List Slot) (i : ℕ) (t : Slot) → slice_get slots i ≡ Some t → is_open_at g (entries_of slots) i ≡ is_open_of g (received_of t)
-open_slot g [] i t e = not_none t e
-open_slot g (x ∷ slots) zero t e = ap (λ (y : Slot). is_open_of g (received_of y)) (same_some x t e)
+open_slot g [] i t e = none_some t e
+open_slot g (x ∷ slots) zero t e = ap (λ (y : Slot). is_open_of g (received_of y)) (same_Some x t e)
 open_slot g (x ∷ slots) (suc i) t e = open_slot g slots i t e
 
 open_gtid : (g h : Gtid) (o : Option Received) → option_map_or (is_open_of g) o false ≡ true → option_map_or (is_open_of h) o false ≡ true → g ≡ h
 open_gtid g h None a b = absurd (true≢false (sym a))
-open_gtid g h (Some e) a b = sym (same_is_equal e.gtid g (both (is_some e.txn) (same_gtid e.gtid g) a).1) ∙ same_is_equal e.gtid h (both (is_some e.txn) (same_gtid e.gtid h) b).1
-
-is_false : (b : Bool) → (b ≡ true → ⊥) → b ≡ false
-is_false true h = absurd (h refl)
-is_false false h = refl
+open_gtid g h (Some e) a b = sym (same_is_equal e.gtid g (and_parts (is_some e.txn) (same_gtid e.gtid g) a).1) ∙ same_is_equal e.gtid h (and_parts (is_some e.txn) (same_gtid e.gtid h) b).1
 
 module _ (g : Gtid) (slots : List Slot) (p : ℕ) (s : Slot) (done : is_some s.txn ≡ false) (linked : AreLinked slots) (is_last : IsLastOpen (entries_of slots) g (length slots) (Some p)) where
   pub linked_settle : AreLinked (slice_set slots p s)
@@ -161,10 +153,10 @@ module _ (g : Gtid) (slots : List Slot) (p : ℕ) (s : Slot) (done : is_some s.t
           | inl less ↦ open_other t.gtid slots p s j (λ e. absurd (omega (e, less, arith)))
           | inr rest ↦ elim rest [
             | inl here ↦ ap (is_open_at t.gtid (entries_of (slice_set slots p s))) here ∙ open_here t.gtid slots p s done
-                ∙ sym (ap (is_open_at t.gtid (entries_of slots)) here ∙ is_false (is_open_at t.gtid (entries_of slots) p) (λ opens.
+                ∙ sym (ap (is_open_at t.gtid (entries_of slots)) here ∙ false_from_ne_true (is_open_at t.gtid (entries_of slots) p) (λ opens.
                 let same : t.gtid ≡ g = open_gtid t.gtid g (slice_get (entries_of slots) p) opens is_last.1 in
                 let holds : is_open_at g (entries_of slots) i ≡ true = open_slot g slots i t old.1 ∙ ap (λ b. b && same_gtid t.gtid g) there ∙ ap (λ k. same_gtid k g) same ∙ same_itself g in
-                let shut : is_open_at g (entries_of slots) i ≡ false = is_last.2 i (omega (lt, here, arith)) (get_below slots i t old.1) in
+                let shut : is_open_at g (entries_of slots) i ≡ false = is_last.2 i (omega (lt, here, arith)) (slice_get_within slots i t old.1) in
                 true≢false (sym holds ∙ shut)))
             | inr more ↦ open_other t.gtid slots p s j (λ e. absurd (omega (e, more, arith)))
           ]
@@ -175,7 +167,7 @@ module _ (g : Gtid) (slots : List Slot) (p : ℕ) (s : Slot) (done : is_some s.t
   pub before_last : (x : Slot) → slice_get slots p ≡ Some x → IsLastOpen (entries_of slots) g p x.earlier
   before_last x is =
       let opens : is_open_of g (received_of x) ≡ true = sym (open_slot g slots p x is) ∙ is_last.1 in
-      let parts = both (is_some x.txn) (same_gtid x.gtid g) opens in
+      let parts = and_parts (is_some x.txn) (same_gtid x.gtid g) opens in
       subst (λ k. IsLastOpen (entries_of slots) k p x.earlier) (same_is_equal x.gtid g parts.1) (linked p x is parts.0)
 
   -- the place before is the last one now
@@ -193,7 +185,7 @@ module _ (g : Gtid) (slots : List Slot) (p : ℕ) (s : Slot) (done : is_some s.t
         | inl less ↦ open_other k slots p s j (λ e. absurd (omega (e, less, arith)))
         | inr rest ↦ elim rest [
           | inl here ↦ ap (is_open_at k (entries_of (slice_set slots p s))) here ∙ open_here k slots p s done
-              ∙ sym (ap (is_open_at k (entries_of slots)) here ∙ is_false (is_open_at k (entries_of slots) p) (λ opens.
+              ∙ sym (ap (is_open_at k (entries_of slots)) here ∙ false_from_ne_true (is_open_at k (entries_of slots) p) (λ opens.
               let same : k ≡ g = open_gtid k g (slice_get (entries_of slots) p) opens is_last.1 in
               true≢false (sym (ap (λ q. same_gtid q g) same ∙ same_itself g) ∙ e)))
           | inr more ↦ open_other k slots p s j (λ e. absurd (omega (e, more, arith)))
@@ -206,9 +198,9 @@ module _ (g : Gtid) (slots : List Slot) (p : ℕ) (s : Slot) (done : is_some s.t
 
 -- the entries, once one is executed
 pub entries_settled : (slots : List Slot) (p : ℕ) (x s : Slot) → slice_get slots p ≡ Some x → s.gtid ≡ x.gtid → s.txn ≡ None → entries_of (slice_set slots p s) ≡ map_at p executed_one (entries_of slots)
-entries_settled [] p x s is gtid txn = not_none x is
+entries_settled [] p x s is gtid txn = none_some x is
 entries_settled (y ∷ slots) zero x s is gtid txn =
-    let same : s.gtid ≡ y.gtid = gtid ∙ sym (ap (λ (z : Slot). z.gtid) (same_some y x is)) in
+    let same : s.gtid ≡ y.gtid = gtid ∙ sym (ap (λ (z : Slot). z.gtid) (same_Some y x is)) in
     λ i. (record { gtid = same i; txn = txn i }) ∷ entries_of slots
 entries_settled (y ∷ slots) (suc p) x s is gtid txn = ap (λ es. received_of y ∷ es) (entries_settled slots p x s is gtid txn)
 
@@ -225,7 +217,7 @@ settle_twice e false h = absurd (true≢false (sym h))
 
 pub settle_again : (g : Gtid) (es : List Received) (p : ℕ) → is_open_at g es p ≡ true → map (settle g) (map_at p executed_one es) ≡ map (settle g) es
 settle_again g [] p h = refl
-settle_again g (e ∷ es) zero h = ap (λ x. x ∷ map (settle g) es) (settle_twice e (same_gtid e.gtid g) (both (is_some e.txn) (same_gtid e.gtid g) h).1)
+settle_again g (e ∷ es) zero h = ap (λ x. x ∷ map (settle g) es) (settle_twice e (same_gtid e.gtid g) (and_parts (is_some e.txn) (same_gtid e.gtid g) h).1)
 settle_again g (e ∷ es) (suc p) h = ap (λ xs. settle g e ∷ xs) (settle_again g es p h)
 
 settle_no : (e : Received) (o : Option Transaction) (b : Bool) → e.txn ≡ o → (is_some o && b) ≡ false → cond b (executed_one e) e ≡ e

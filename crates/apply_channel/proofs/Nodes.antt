@@ -14,6 +14,8 @@ use Rattle.dependency_graph.specs.Graphs.{Point, gone, unfinished, dropped, mark
 use Rattle.dependency_graph.proofs.Entries.{flip}
 use Rattle.apply_channel.specs.Channels.{Received, holds_back, txn_at, blocker, is_ready, next_ready, first_waiting, are_settled, map_at, executed_one}
 use Rattle.apply_channel.specs.Kept.{AreKeysOf, IsNodeOf, AreNodesOf}
+use Rattle.std.proofs.lemmas.Option.{same_Some, slice_get_within}
+use Rattle.rows.proofs.Lists.{none_some}
 
 -- ---- as many nodes as entries
 
@@ -153,22 +155,16 @@ from_zero (Some i) = ap Some (omega arith)
 
 -- ---- the node in a place
 
-pub same_some : {A : Type 0} (x y : A) → Some x ≡ Some y → x ≡ y
-same_some x y e = cc
-
-pub not_none : {A P : Type 0} (x : A) → None ≡ Some x → P
-not_none x e = cc
-
 pub node_at : (schema : List Table) (ps : List Point) (es : List Received) (n : ℕ) (e : Received) → AreNodesOf schema ps es → slice_get es n ≡ Some e → IsNodeOf schema (point_at ps n) e
-node_at schema [] [] n e h is = not_none e is
+node_at schema [] [] n e h is = none_some e is
 node_at schema [] (f ∷ es) n e h is = absurd h
 node_at schema (p ∷ ps) [] n e h is = absurd h
-node_at schema (p ∷ ps) (f ∷ es) zero e h is = subst (IsNodeOf schema p) (same_some f e is) h.0
+node_at schema (p ∷ ps) (f ∷ es) zero e h is = subst (IsNodeOf schema p) (same_Some f e is) h.0
 node_at schema (p ∷ ps) (f ∷ es) (suc n) e h is = node_at schema ps es n e h.1 is
 
 keys_of_some : (schema : List Table) (keys : List Key) (o : Option Transaction) (t : Transaction) → o ≡ Some t → AreKeysOf schema keys o → (k : Key) → is_among keys k ≡ touches schema t k
-keys_of_some schema keys None t is h = not_none t is
-keys_of_some schema keys (Some u) t is h = subst (λ (x : Transaction). (k : Key) → is_among keys k ≡ touches schema x k) (same_some u t is) h
+keys_of_some schema keys None t is h = none_some t is
+keys_of_some schema keys (Some u) t is h = subst (λ (x : Transaction). (k : Key) → is_among keys k ≡ touches schema x k) (same_Some u t is) h
 
 -- nothing holds back an executed one
 pub unblocked : (schema : List Table) (es : List Received) (n : ℕ) (e : Received) → slice_get es n ≡ Some e → e.txn ≡ None → None ≡ blocker schema es n
@@ -253,16 +249,16 @@ position_none r (x ∷ xs) h =
     ∙ ap (option_map suc) (position_none r xs (λ i y is. h (suc i) y is))
 
 position_at : {X : Type 0} (r : X → Bool) (xs : List X) (n : ℕ) (x : X) → slice_get xs n ≡ Some x → r x ≡ true → ((i : ℕ) (y : X) → i < n → slice_get xs i ≡ Some y → r y ≡ false) → position r xs ≡ Some n
-position_at r [] n x is pass h = not_none x is
-position_at r (y ∷ xs) zero x is pass h = position_cons r y xs ∙ ap (λ b. cond b (Some 0) (option_map suc (position r xs))) (ap r (same_some y x is) ∙ pass)
+position_at r [] n x is pass h = none_some x is
+position_at r (y ∷ xs) zero x is pass h = position_cons r y xs ∙ ap (λ b. cond b (Some 0) (option_map suc (position r xs))) (ap r (same_Some y x is) ∙ pass)
 position_at r (y ∷ xs) (suc n) x is pass h =
     position_cons r y xs
     ∙ ap (λ b. cond b (Some 0) (option_map suc (position r xs))) (h 0 y (omega arith) refl)
     ∙ ap (option_map suc) (position_at r xs n x is pass (λ i z lt there. h (suc i) z (omega (lt, arith)) there))
 
 take_back : {X : Type 0} (n : ℕ) (xs : List X) (i : ℕ) (x : X) → slice_get (take n xs) i ≡ Some x → (i < n) × (slice_get xs i ≡ Some x)
-take_back zero xs i x is = not_none x is
-take_back (suc n) [] i x is = not_none x is
+take_back zero xs i x is = none_some x is
+take_back (suc n) [] i x is = none_some x is
 take_back (suc n) (y ∷ xs) zero x is = (omega arith, is)
 take_back (suc n) (y ∷ xs) (suc i) x is = let back = take_back n xs i x is in let lt = back.0 in (omega (lt, arith), back.1)
 
@@ -304,11 +300,6 @@ module _ (schema : List Table) (es : List Received) where
   executed_below zero h = λ i e lt is. absurd (omega (lt, arith))
   executed_below (suc n) h = λ i e lt is. executed_next n i e (nat_lt i n) refl lt is (executed_below n (λ m le. h m (omega (le, arith)))) (h n (omega arith))
 
-pub get_below : {X : Type 0} (xs : List X) (i : ℕ) (x : X) → slice_get xs i ≡ Some x → i < length xs
-get_below [] i x is = not_none x is
-get_below (y ∷ xs) zero x is = omega arith
-get_below (y ∷ xs) (suc i) x is = let lt = get_below xs i x is in omega (lt, arith)
-
 ready_some : (o : Option Transaction) (b : Bool) → (is_some o && b) ≡ true → is_some o ≡ true
 ready_some None b h = h
 ready_some (Some t) b h = refl
@@ -321,13 +312,13 @@ all_by (e ∷ es) h = (λ i. none_of e.txn (h 0 e refl) i && all_by es (λ j f i
     none_of None h = refl
     none_of (Some t) h = absurd (true≢false h)
 
-and_false : (b : Bool) → (b && false) ≡ false
+pub and_false : (b : Bool) → (b && false) ≡ false
 and_false true = refl
 and_false false = refl
 
 one_open : (es : List Received) (n : ℕ) (e : Received) → slice_get es n ≡ Some e → is_some e.txn ≡ true → are_settled es ≡ false
-one_open [] n e is h = not_none e is
-one_open (f ∷ es) zero e is h = ap (λ b. b && are_settled es) (open_of f.txn (ap (λ (x : Received). is_some x.txn) (same_some f e is) ∙ h))
+one_open [] n e is h = none_some e is
+one_open (f ∷ es) zero e is h = ap (λ b. b && are_settled es) (open_of f.txn (ap (λ (x : Received). is_some x.txn) (same_Some f e is) ∙ h))
   where
     open_of : (o : Option Transaction) → is_some o ≡ true → is_none o ≡ false
     open_of None h = absurd (true≢false (sym h))
@@ -339,7 +330,7 @@ module _ (schema : List Table) (ps : List Point) (es : List Received) (h : AreNo
   unfolding AreExecuted
   all_done next i e is =
       let size = nodes_length schema ps es h in
-      executed_below schema es (length es) (λ m lt. sym (goes schema ps es h m lt) ∙ next m (omega arith) (omega (lt, size, arith))) i e (get_below es i e is) is
+      executed_below schema es (length es) (λ m lt. sym (goes schema ps es h m lt) ∙ next m (omega arith) (omega (lt, size, arith))) i e (slice_get_within es i e is) is
 
   done_before : (n : ℕ) → IsNextReady ps 0 (Some n) → AreExecuted es n
   done_before n next =

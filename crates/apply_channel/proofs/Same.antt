@@ -1,7 +1,5 @@
 -- When channels are the same, and the entries of a copy so far.
 use Rattle.std.proofs.Common.{◌≡◌, ℕ, zero, suc, ◌+◌, ◌<◌, Bool, true, false, not, List, [], ◌∷◌, ◌++◌, length, take, get_or, refl, sym, ap, ◌∙◌, arith, true≢false}
-use Rattle.std.specs.declared.cmp.Ordering.{Ordering}
-use Rattle.std.specs.declared.cmp.Ordering.TheVariants.{Less, Equal, Greater}
 use Rattle.std.specs.FinMap.{nat_cmp-IsAntisymmetric, slice_cmp-IsAntisymmetric}
 use Rattle.std.specs.Ordering.{nat_cmp, is_eq, eq_by_cmp}
 use Rattle.std.specs.Cmp.Lexicographic.{slice_cmp, nat_list_cmp_total}
@@ -10,6 +8,8 @@ use Rattle.std.proofs.lemmas.List.{take_more}
 use Rattle.apply_channel.specs.declared.slot.Slot.{Slot}
 use Rattle.apply_channel.specs.Channels.{Keyed, Received}
 use Rattle.apply_channel.specs.Kept.{entries_of, received_of}
+use Rattle.rows.proofs.Equal.{eq_of}
+use Rattle.apply_channel.proofs.Slots.{entries_length}
 
 -- channels are the same where all that is seen of them is
 pub same_keyed : (a b : Keyed) → a.schema ≡ b.schema → a.channel.name ≡ b.channel.name → a.channel.preserve ≡ b.channel.preserve → a.channel.stopped ≡ b.channel.stopped
@@ -24,23 +24,14 @@ read_entry [] i x e lt = absurd (omega (lt, arith))
 read_entry (y ∷ items) zero x e lt = ap received_of (sym e)
 read_entry (y ∷ items) (suc i) x e lt = read_entry items i x e (omega (lt, arith))
 
-entries_long : (items : List Slot) → length (entries_of items) ≡ length items
-entries_long [] = refl
-entries_long (y ∷ items) = ap suc (entries_long items)
-
 -- one entry more
 pub take_entry : (slots items : List Slot) (received : List Received) (i : ℕ) (x : Slot) → items ≡ slots → entries_of slots ≡ received → x ≡ get_or items i x → i < length items
     → take i received ++ received_of x ∷ [] ≡ take (i + 1) received
 take_entry slots items received i x same seen e lt =
     let all : entries_of items ≡ received = ap entries_of same ∙ seen in
-    let long = entries_long items in
+    let long = entries_length items in
     let lt' : i < length (entries_of items) = omega (long, lt, arith) in
     sym (ap (take (i + 1)) (sym all) ∙ take_more (entries_of items) i (received_of x) lt' ∙ ap (λ r. take i (entries_of items) ++ r ∷ []) (read_entry items i x e lt) ∙ ap (λ es. take i es ++ received_of x ∷ []) all)
-
-eq_of : (r : Ordering) → is_eq r ≡ true → r ≡ Equal
-eq_of Less e = cc
-eq_of Equal e = refl
-eq_of Greater e = cc
 
 pub names_same : (a b : List ℕ) → eq_by_cmp (slice_cmp nat_cmp) a b ≡ true → a ≡ b
 names_same a b e = slice_cmp-IsAntisymmetric nat_cmp-IsAntisymmetric a b (eq_of (slice_cmp nat_cmp a b) e)

@@ -7,10 +7,7 @@ use Rattle.gtid_set.proofs.SetLemmas.{set_push}
 use Rattle.apply_channel.specs.declared.slot.Slot.{Slot}
 use Rattle.apply_channel.specs.Channels.{Received, received_gtids}
 use Rattle.apply_channel.specs.Kept.{entries_of, received_of}
-
-map_push : {X Y : Type 0} (f : X → Y) (xs : List X) (x : X) → map f (xs ++ x ∷ []) ≡ map f xs ++ f x ∷ []
-map_push f [] x = refl
-map_push f (y ∷ ys) x = ap (λ zs. f y ∷ zs) (map_push f ys x)
+use Rattle.std.proofs.lemmas.List.{map_push}
 
 pub entries_of-push : (slots : List Slot) (s : Slot) → entries_of (slots ++ s ∷ []) ≡ entries_of slots ++ received_of s ∷ []
 entries_of-push slots s = map_push received_of slots s

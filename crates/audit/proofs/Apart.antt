@@ -1,11 +1,11 @@
 -- Where no key is touched last by another source, none is touched first by one.
-use Rattle.std.proofs.Common.{◌≡◌, ℕ, ◌+◌, drop, map, Bool, true, false, cond, ◌&&◌, List, [], ◌∷◌, Option, Some, None, refl, sym, ap, ◌∙◌, subst, arith}
+use Rattle.std.proofs.Common.{◌≡◌, ℕ, ◌+◌, drop, map, Bool, true, false, cond, ◌&&◌, List, [], ◌∷◌, Option, Some, None, refl, sym, ap, ◌∙◌, subst}
 use Rattle.std.specs.Prelude.{nat_lt, ◌==◌, is_some}
 use Rattle.std.specs.List.{list_all}
 use Rattle.std.specs.Option.{option_map, option_map_or}
 use Rattle.std.specs.FinMap as finmap
 use Rattle.std.specs.FinMap.{get-insert}
-use Rattle.std.proofs.lemmas.Bool.{eqb-true, eq-eqb, and_parts}
+use Rattle.std.proofs.lemmas.Bool.{eqb-true, eq-eqb, and_parts, and_from}
 use Rattle.gtid_text.specs.declared.Gtid.{Gtid}
 use Rattle.rows.specs.declared.change.Key.{Key}
 use Rattle.rows.specs.declared.schema.Table.{Table}
@@ -16,10 +16,11 @@ use Rattle.source_history.specs.World as history
 use Rattle.world.specs.declared.verdict.Verdict.TheVariants.{Shared}
 use Rattle.world.specs.Search.{or_next, first}
 use Rattle.world.specs.Folds.{FirstTouch, touched_by, shares_with, shared_from}
-use Rattle.world.proofs.Finding.{is_false}
 use Rattle.journal.specs.declared.Entry.{Entry}
 use Rattle.audit.specs.Contents.{as_pair}
 use Rattle.audit.specs.Gaps.{Needs, needs_over, touched_last, last_of_keys, is_own, own_in_turn}
+use Rattle.rows.proofs.Lists.{not_less}
+use Rattle.world.proofs.Finding.{none_next}
 
 abbrev source_of : Gtid → ℕ
 source_of g = g.source
@@ -35,21 +36,12 @@ own_source : (g : Gtid) (o : Option Gtid) → option_map_or (λ before. before.s
 own_source g None = refl
 own_source g (Some b) = refl
 
-not_less : (n : ℕ) → nat_lt n n ≡ false
-not_less n = is_false (nat_lt n n) (λ e. less_self n e)
-  where
-    less_self : (n : ℕ) → nat_lt n n ≡ true → ⊥
-    less_self n e = absurd (omega (arith, Rattle.std.proofs.lemmas.Bool.ltb-true n n e))
-
 -- what is of the own source isn't shared
 not_shared : (g : Gtid) (key : Key) (o : Option Gtid) → is_of g (option_map source_of o) ≡ true → shares_with g key o ≡ None
 not_shared g key None e = refl
 not_shared g key (Some b) e =
     let same : b.source ≡ g.source = eqb-true b.source g.source e in
     λ i. cond (((λ j. nat_lt (same j) g.source) ∙ not_less g.source) i) (Some (Shared b g key)) None
-
-none_next : {B : Type 0} (o p : Option B) → o ≡ None → p ≡ None → or_next o p ≡ None
-none_next o p e f = ap (λ x. or_next x p) e ∙ f
 
 none_shared : (g : Gtid) (keys : List Key) (seen last : FirstTouch) → AreAlike seen last → list_all (is_own g last) keys ≡ true
     → first (λ key. shares_with g key (finmap.get seen key)) keys ≡ None
@@ -96,14 +88,11 @@ all_before g key last (k ∷ keys) own e =
     let parts = and_parts (is_own g (finmap.insert last key g) k) (list_all (is_own g (finmap.insert last key g)) keys) e in
     λ i. own_before g key last k own parts.0 i && all_before g key last keys own parts.1 i
 
-both_true : (a b : Bool) → a ≡ true → b ≡ true → (a && b) ≡ true
-both_true a b e f = λ i. e i && f i
-
 pub all_own : (g : Gtid) (keys : List Key) (last : FirstTouch) → own_in_turn g keys last ≡ true → list_all (is_own g last) keys ≡ true
 all_own g [] last e = refl
 all_own g (key ∷ keys) last e =
     let parts = and_parts (is_own g last key) (own_in_turn g keys (finmap.insert last key g)) e in
-    both_true (is_own g last key) (list_all (is_own g last) keys) parts.0 (all_before g key last keys parts.0 (all_own g keys (finmap.insert last key g) parts.1))
+    and_from (is_own g last key) (list_all (is_own g last) keys) parts.0 (all_before g key last keys parts.0 (all_own g keys (finmap.insert last key g) parts.1))
 
 -- a key that was touched is touched by the own source
 was_own : (g : Gtid) (o p : Option Gtid) → is_some o ≡ true → option_map source_of o ≡ option_map source_of p → is_of g (option_map source_of p) ≡ true

@@ -7,7 +7,7 @@ use Rattle.std.specs.FinMap as finmap
 use Rattle.std.specs.FinMap.{get-insert, get-empty}
 use Rattle.std.specs.FinSet as set
 use Rattle.std.specs.FinSet.{contains-insert, contains-empty}
-use Rattle.std.proofs.lemmas.Bool.{eqb-true, eq-eqb}
+use Rattle.std.proofs.lemmas.Bool.{eqb-true, eq-eqb, cases_Bool, and_parts, false_from_ne_true, and_from, not_from_false, cases_lt}
 use Rattle.gtid_text.specs.declared.Gtid.{Gtid}
 use Rattle.gtid_text.specs.Gtids.{gtid_cmp, same_gtid}
 use Rattle.gtid_set.specs.Sets.{Gtids}
@@ -23,36 +23,37 @@ use Rattle.journal.specs.declared.Entry.{Entry}
 use Rattle.journal.specs.Journals.{JournalValue}
 use Rattle.source_history.specs.World.{World, content, is_opened}
 use Rattle.source_history.specs.World as history
-use Rattle.source_history.proofs.Tests.{true_or_false, not_both, and_both, or_grouped}
-use Rattle.source_history.proofs.Gtids.{gtid_total, number_less, gtid_same}
+use Rattle.source_history.proofs.Gtids.{number_less}
 use Rattle.source_history.proofs.Entries.{rising}
-use Rattle.faithful_journals.proofs.Lists.{same_some}
 use Rattle.world.specs.declared.verdict.Verdict.TheVariants.{NotClosed}
 use Rattle.world.specs.Search.{or_next, when, first_at}
 use Rattle.world.specs.Audit.{world_of, unequal, purged, stands_in, stands_before, is_left_out, not_closed}
 use Rattle.world.specs.Folds.{FirstTouch, touched_by, last_toucher, has_gap, least_left_out}
-use Rattle.world.proofs.Finding.{none_when, none_first, any_at, any_from, is_false, and_true, not_true, filtered, left_by_filter, below_test}
+use Rattle.world.proofs.Finding.{none_when, none_first, filtered, left_by_filter, below_test}
 use Rattle.world.proofs.Contents.{content_at}
 use Rattle.world.proofs.Gaps.{guarded, latest_in, latest_over, content_here, nothing_left_out, firsts_same}
 use Rattle.audit.specs.Gaps.{stands, lacks, gap_at, gap_among, first_gap, Needs, needs_over}
 use Rattle.audit.specs.Worlds.{IsWorldOf}
 use Rattle.audit.proofs.Needing.{rises, needs_are}
+use mathlib.Core.Bool.{or_assoc, or-false}
+use Rattle.std.proofs.lemmas.Option.{same_Some}
+use Rattle.std.proofs.lemmas.Map.Keys.{any_passes_from_place}
+use Rattle.gtid_text.proofs.SameGtid.{same_is_equal, gtid_total}
+use Rattle.rows.proofs.Patching.{not_both}
+use Rattle.rows.proofs.Lists.{any_at, not_out}
+use Rattle.world.proofs.Meanings.{le_cases}
 
 -- ---- a journal in one pass
-
-no_more : (b : Bool) → (b || false) ≡ b
-no_more true = refl
-no_more false = refl
 
 module _ (world : World) (needs : Needs) (previous : Gtids) where
   gap_pass : (es : List Entry) (standing : Gtids) (T : Gtid → Bool) → ((g : Gtid) → set.contains standing g ≡ T g)
       → gap_among world needs previous standing es ≡ first_at (λ place e. gap_at world needs (λ g. set.contains previous g || (T g || stands_in (take place es) g)) e) es
   gap_pass [] standing T same = refl
   gap_pass (e ∷ es) standing T same =
-      let one : (g : Gtid) → stands previous standing g ≡ (set.contains previous g || (T g || false)) = λ g i. set.contains previous g || (same g ∙ sym (no_more (T g))) i in
+      let one : (g : Gtid) → stands previous standing g ≡ (set.contains previous g || (T g || false)) = λ g i. set.contains previous g || (same g ∙ sym (or-false (T g))) i in
       let rest = gap_pass es (set.insert standing e.gtid) (λ g. T g || same_gtid g e.gtid) (λ g.
       contains-insert gtid_total standing e.gtid g ∙ (λ i. gtid_tied g e.gtid i || same g i) ∙ swapped (same_gtid g e.gtid) (T g)) in
-      λ i. or_next (gap_at world needs (λ g. one g i) e) ((rest ∙ (λ k. first_at (λ place x. gap_at world needs (λ g. set.contains previous g || or_grouped (T g) (same_gtid g e.gtid) (stands_in (take place es) g) k) x) es)) i)
+      λ i. or_next (gap_at world needs (λ g. one g i) e) ((rest ∙ (λ k. first_at (λ place x. gap_at world needs (λ g. set.contains previous g || or_assoc (T g) (same_gtid g e.gtid) (stands_in (take place es) g) k) x) es)) i)
     where
       swapped : (a b : Bool) → (a || b) ≡ (b || a)
       swapped true true = refl
@@ -70,10 +71,6 @@ and_false : (a b : Bool) → a ≡ true → (a && b) ≡ false → b ≡ false
 and_false true b x y = y
 and_false false b x y = cc
 
-not_out : (a b : Bool) → a ≡ true → (not a && b) ≡ false
-not_out true b e = refl
-not_out false b e = cc
-
 any_not : (P : Gtid → Bool) (o : Option history.Entry) → option_map_or (λ (x : history.Entry). not (P x.0)) o false ≡ true → (f : history.Entry) × (o ≡ Some f) × (not (P f.0) ≡ true)
 any_not P None e = cc
 any_not P (Some f) e = (f, refl, e)
@@ -81,17 +78,11 @@ any_not P (Some f) e = (f, refl, e)
 some_list : (P : Gtid → Bool) (o : Option (List Gtid)) (gs : List Gtid) → o ≡ Some gs → option_map_or (λ hs. list_any P hs) o false ≡ list_any P gs
 some_list P o gs e = ap (λ x. option_map_or (λ hs. list_any P hs) x false) e
 
-lt_order : (a b : ℕ) → (a < b) ⊎ (b ≤ a)
-lt_order a b = grind arith
-
-le_order : (a b : ℕ) → a ≤ b → (a < b) ⊎ (a ≡ b)
-le_order a b l = grind arith
-
 -- neither at the same place nor behind it
 in_front : (a b : ℕ) → (a ≡ b → ⊥) → (b < a → ⊥) → a < b
-in_front a b same more = elim (lt_order a b) [
+in_front a b same more = elim (cases_lt a b) [
   | inl l ↦ l
-  | inr m ↦ elim (le_order b a m) [ inl l ↦ absurd (more l) | inr e ↦ absurd (same (sym e)) ]
+  | inr m ↦ elim (le_cases b a m) [ inl l ↦ absurd (more l) | inr e ↦ absurd (same (sym e)) ]
 ]
 
 module _ (schema : List Table) (opened : Gtids) (rows : Rows) (journals : List JournalValue) where
@@ -107,26 +98,26 @@ module _ (schema : List Table) (opened : Gtids) (rows : Rows) (journals : List J
   module _ (equal : unequal w journals ≡ None) (none_purged : purged w journals ≡ None) (i : ℕ) (j : JournalValue) (hj : slice_get journals i ≡ Some j) where
     -- an entry that lacks nothing has no gap
     no_gap : (place : ℕ) (e : Entry) → slice_get j.entries place ≡ Some e → is_opened w e.gtid ≡ false → lacks needed (stands_before j place) e.gtid ≡ false → has_gap w j place e ≡ false
-    no_gap place e he out full = is_false (has_gap w j place e) (λ gap.
-        let some = and_both (not (is_opened w e.gtid)) (list_any (λ key. option_map_or (λ (h : history.Entry). not (stands_before j place h.0)) (last_toucher w e.gtid key) false) (write_set schema e.txn)) gap in
+    no_gap place e he out full = false_from_ne_true (has_gap w j place e) (λ gap.
+        let some = and_parts (not (is_opened w e.gtid)) (list_any (λ key. option_map_or (λ (h : history.Entry). not (stands_before j place h.0)) (last_toucher w e.gtid key) false) (write_set schema e.txn)) gap in
         let k = any_at (λ key. option_map_or (λ (h : history.Entry). not (stands_before j place h.0)) (last_toucher w e.gtid key) false) (write_set schema e.txn) some.1 in
         let f = any_not (stands_before j place) (last_toucher w e.gtid k.1) k.3 in
-        by k.1 (any_from (key_eq k.1) (write_set schema e.txn) k.0 k.1 k.2 (key_eq_self k.1)) f.0 f.1 f.2)
+        by k.1 (any_passes_from_place (key_eq k.1) (write_set schema e.txn) k.0 k.1 k.2 (key_eq_self k.1)) f.0 f.1 f.2)
       where
         by : (key : Key) → touches schema e.txn key ≡ true → (f : history.Entry) → last_toucher w e.gtid key ≡ Some f → not (stands_before j place f.0) ≡ true → ⊥
         by key touching f is_last stands_not =
             let p : history.Entry → Bool = λ x. (x.0.source == e.gtid.source) && (nat_lt x.0.number e.gtid.number && touches schema x.1 key) in
             let at = latest_in (filter p es0) f is_last in
             let ok = filtered p es0 at.0 f at.1 in
-            let parts = and_both (f.0.source == e.gtid.source) (nat_lt f.0.number e.gtid.number && touches schema f.1 key) ok.0 in
-            let rest = and_both (nat_lt f.0.number e.gtid.number) (touches schema f.1 key) parts.1 in
+            let parts = and_parts (f.0.source == e.gtid.source) (nat_lt f.0.number e.gtid.number && touches schema f.1 key) ok.0 in
+            let rest = and_parts (nat_lt f.0.number e.gtid.number) (touches schema f.1 key) parts.1 in
             let source : f.0.source ≡ e.gtid.source = eqb-true f.0.source e.gtid.source parts.0 in
             let less : f.0.number < e.gtid.number = below f.0.number e.gtid.number rest.0 in
             let there = content_at w e.gtid e.txn (content_here schema opened rows journals equal none_purged i j place e hj he out) in
             let up = rising w in
             let before : ok.1 < there.0 = in_front ok.1 there.0
             (λ same.
-            let is : f ≡ (e.gtid, e.txn) = same_some f (e.gtid, e.txn) (sym ok.2 ∙ (ap (slice_get es0) same ∙ there.1)) in
+            let is : f ≡ (e.gtid, e.txn) = same_Some f (e.gtid, e.txn) (sym ok.2 ∙ (ap (slice_get es0) same ∙ there.1)) in
             let n : f.0.number ≡ e.gtid.number = ap (λ (x : history.Entry). x.0.number) is in
             omega arith)
             (λ l.
@@ -136,20 +127,20 @@ module _ (schema : List Table) (opened : Gtids) (rows : Rows) (journals : List J
             let r = has.serves key ok.1 f touching before ok.2 source rest.1 in
             let t = r.toucher in
             let t_less : t.0.number < e.gtid.number = number_less t.0 e.gtid (rises es0 r.place there.0 t (e.gtid, e.txn) up r.there there.1 r.early) r.source in
-            let passes : p t ≡ true = and_true (t.0.source == e.gtid.source) (nat_lt t.0.number e.gtid.number && touches schema t.1 key) (eq-eqb t.0.source e.gtid.source r.source)
-            (and_true (nat_lt t.0.number e.gtid.number) (touches schema t.1 key) (below_test t.0.number e.gtid.number t_less) r.touching) in
+            let passes : p t ≡ true = and_from (t.0.source == e.gtid.source) (nat_lt t.0.number e.gtid.number && touches schema t.1 key) (eq-eqb t.0.source e.gtid.source r.source)
+            (and_from (nat_lt t.0.number e.gtid.number) (touches schema t.1 key) (below_test t.0.number e.gtid.number t_less) r.touching) in
             let t_at = left_by_filter p es0 r.place t r.there passes in
             let top = latest_over (filter p es0) t_at.0 t t_at.1 in
-            let top_is : top.0 ≡ f = same_some top.0 f (sym top.1 ∙ is_last) in
+            let top_is : top.0 ≡ f = same_Some top.0 f (sym top.1 ∙ is_last) in
             let no_later : t.0.number ≤ f.0.number = subst (λ (x : history.Entry). t.0.number ≤ x.0.number) top_is top.2 in
-            let is_f : t ≡ f = elim (le_order ok.1 r.place r.late) [
+            let is_f : t ≡ f = elim (le_cases ok.1 r.place r.late) [
               | inl l ↦ let n = number_less f.0 t.0 (rises es0 ok.1 r.place f t up ok.2 r.there l) (source ∙ sym r.source) in absurd (omega arith)
-              | inr same ↦ same_some t f (sym r.there ∙ (ap (slice_get es0) (sym same) ∙ ok.2))
+              | inr same ↦ same_Some t f (sym r.there ∙ (ap (slice_get es0) (sym same) ∙ ok.2))
             ] in
             let member = any_at (same_gtid t.0) has.gtids r.needed in
-            let is_gtid : member.1 ≡ f.0 = sym (gtid_same t.0 member.1 member.3) ∙ ap (λ (x : history.Entry). x.0) is_f in
+            let is_gtid : member.1 ≡ f.0 = sym (same_is_equal t.0 member.1 member.3) ∙ ap (λ (x : history.Entry). x.0) is_f in
             let lacking : list_any (λ h. not (stands_before j place h)) has.gtids ≡ true =
-            any_from (λ h. not (stands_before j place h)) has.gtids member.0 member.1 member.2 (ap (λ h. not (stands_before j place h)) is_gtid ∙ stands_not) in
+            any_passes_from_place (λ h. not (stands_before j place h)) has.gtids member.0 member.1 member.2 (ap (λ h. not (stands_before j place h)) is_gtid ∙ stands_not) in
             not_both (list_any (λ h. not (stands_before j place h)) has.gtids) lacking
             (sym (some_list (λ h. not (stands_before j place h)) (finmap.get needed e.gtid) has.gtids has.known) ∙ full)
           where
@@ -158,7 +149,7 @@ module _ (schema : List Table) (opened : Gtids) (rows : Rows) (journals : List J
 
     shut : (place : ℕ) (e : Entry) → slice_get j.entries place ≡ Some e → ((q : ℕ) (x : Entry) → q < place → slice_get j.entries q ≡ Some x → least_left_out w j q x ≡ None)
         → (not (is_opened w e.gtid) && lacks needed (stands_before j place) e.gtid) ≡ false → least_left_out w j place e ≡ None
-    shut place e he before held = by (true_or_false (is_opened w e.gtid))
+    shut place e he before held = by (cases_Bool (is_opened w e.gtid))
       where
         by : ((is_opened w e.gtid ≡ true) ⊎ (is_opened w e.gtid ≡ false)) → least_left_out w j place e ≡ None
         by (inl opened_it) =
@@ -166,7 +157,7 @@ module _ (schema : List Table) (opened : Gtids) (rows : Rows) (journals : List J
             (not_out (is_opened w e.gtid) ((h.0.source == e.gtid.source) && (nat_lt h.0.number e.gtid.number && (shares_key schema h.1 e.txn && not (stands_before j place h.0)))) opened_it))
         by (inr out) =
             nothing_left_out schema opened rows journals equal none_purged i j hj place e he before
-            (no_gap place e he out (and_false (not (is_opened w e.gtid)) (lacks needed (stands_before j place) e.gtid) (not_true (is_opened w e.gtid) out) held))
+            (no_gap place e he out (and_false (not (is_opened w e.gtid)) (lacks needed (stands_before j place) e.gtid) (not_from_false (is_opened w e.gtid) out) held))
 
     of_journal : gap_among w needed j.previous set.empty j.entries ≡ first_at (least_left_out w j) j.entries
     of_journal =
@@ -215,7 +206,7 @@ touched_is g (k ∷ keys) seen q =
     moved false false c = refl
 
 pub touched_here : (g : Gtid) (keys : List Key) (q : Key) → is_some (finmap.get (touched_by g keys finmap.empty) q) ≡ is_among keys q
-touched_here g keys q = touched_is g keys finmap.empty q ∙ ap (λ o. is_among keys q || is_some o) (get-empty key_cmp q) ∙ no_more (is_among keys q)
+touched_here g keys q = touched_is g keys finmap.empty q ∙ ap (λ o. is_among keys q || is_some o) (get-empty key_cmp q) ∙ or-false (is_among keys q)
 
 -- the test of sharing by that map
 pub shares_here : (schema : List Table) (t u : Transaction) (g : Gtid) → list_any (λ key. is_some (finmap.get (touched_by g (write_set schema u) finmap.empty) key)) (write_set schema t) ≡ shares_key schema t u

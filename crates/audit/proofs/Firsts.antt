@@ -16,9 +16,9 @@ use Rattle.gtid_text.specs.Gtids.{gtid_cmp, same_gtid}
 use Rattle.gtid_set.proofs.SetLemmas.{gtid_tied}
 use Rattle.rows.specs.declared.change.Transaction.{Transaction}
 use Rattle.journal.specs.declared.Entry.{Entry}
-use Rattle.source_history.proofs.Gtids.{gtid_total, gtid_exact, gtid_same}
 use Rattle.audit.specs.Contents.{IsRising, as_entry, as_pair, contents_of, in_order}
 use Rattle.audit.proofs.Stored.{at, entries-stored, get-stored}
+use Rattle.gtid_text.proofs.SameGtid.{same_is_equal, gtid_total, gtid_exact}
 
 abbrev pub gtid_of : Entry → Gtid
 gtid_of e = e.gtid
@@ -76,7 +76,7 @@ one_kept : (q : Gtid) (k e : Entry) (es : List Entry) (b : Bool) → has_same e 
     → first_at (dedup_from has_same e es) q ≡ first_at (e ∷ es) q → first_at (cond b (dedup_from has_same k es) (k ∷ dedup_from has_same e es)) q ≡ first_at (k ∷ e ∷ es) q
 one_kept q k e es true same rest more =
     rest ∙ twice (is_eq (gtid_cmp q k.gtid)) (Some k.txn) (Some e.txn) (first_at es q)
-    ∙ ap (λ g. cond (is_eq (gtid_cmp q k.gtid)) (Some k.txn) (cond (is_eq (gtid_cmp q g)) (Some e.txn) (first_at es q))) (sym (gtid_same e.gtid k.gtid same))
+    ∙ ap (λ g. cond (is_eq (gtid_cmp q k.gtid)) (Some k.txn) (cond (is_eq (gtid_cmp q g)) (Some e.txn) (first_at es q))) (sym (same_is_equal e.gtid k.gtid same))
 one_kept q k e es false same rest more = ap (cond (is_eq (gtid_cmp q k.gtid)) (Some k.txn)) more
 
 kept_first : (q : Gtid) (k : Entry) (es : List Entry) → first_at (dedup_from has_same k es) q ≡ first_at (k ∷ es) q

@@ -5,7 +5,7 @@ use Rattle.std.specs.List.{range_with_len, AllByRecursion}
 use Rattle.std.specs.FinMap as finmap
 use Rattle.std.specs.FinSet as set
 use Rattle.std.specs.declared.cmp.Ordering.TheVariants.{Less}
-use Rattle.std.proofs.lemmas.Bool.{eqb-true, eq-eqb}
+use Rattle.std.proofs.lemmas.Bool.{eqb-true, eq-eqb, false_from_ne_true}
 use Rattle.gtid_text.specs.declared.Gtid.{Gtid}
 use Rattle.gtid_text.specs.Gtids.{gtid_cmp}
 use Rattle.gtid_set.specs.Sets.{Gtids, gtid}
@@ -17,16 +17,18 @@ use Rattle.source_history.specs.World.{World, content, is_opened}
 use Rattle.source_history.specs.World as history
 use Rattle.source_history.proofs.Gtids.{number_less}
 use Rattle.source_history.proofs.Entries.{IsRising, AreFound, rising, found}
-use Rattle.faithful_journals.proofs.Lists.{same_some, not_none, all_at}
+use Rattle.faithful_journals.proofs.Lists.{all_at}
 use Rattle.world.specs.declared.verdict.Verdict.{Verdict}
 use Rattle.world.specs.declared.verdict.Verdict.TheVariants.{Missing}
 use Rattle.world.specs.Search.{or_next, when, first}
 use Rattle.world.specs.Audit.{all_entries, world_of, stands_in, is_absent, below, missing}
-use Rattle.world.proofs.Finding.{when_none, first_none, get_range, is_false}
+use Rattle.world.proofs.Finding.{when_none, first_none, get_range}
 use Rattle.world.proofs.Contents.{contents_entry, entry_content, content_at, some_of}
 use Rattle.world.proofs.OnePass.{source_le}
 use Rattle.audit.specs.Missing.{number_before, missing_between, missing_from}
 use Rattle.audit.specs.Worlds.{IsWorldOf}
+use Rattle.std.proofs.lemmas.Option.{same_Some}
+use Rattle.rows.proofs.Lists.{none_some}
 
 -- ---- a search over numbers
 
@@ -147,7 +149,7 @@ module _ (schema : List Table) (opened : Gtids) (rows : Rows) (journals : List J
 
   -- what has none is absent where it was not executed from the start
   absent : (g : Gtid) → ((t : Transaction) → content w g ≡ Some t → ⊥) → is_absent w journals g ≡ not (is_opened w g)
-  absent g h = absent_if (is_opened w g) (stands_in (all_entries journals) g) true (λ out. is_false (stands_in (all_entries journals) g) (λ stands.
+  absent g h = absent_if (is_opened w g) (stands_in (all_entries journals) g) true (λ out. false_from_ne_true (stands_in (all_entries journals) g) (λ stands.
       let s = some_of (content w g) (entry_content opened (all_entries journals) g stands out) in h s.0 s.1))
 
   abbrev Covered : Option Gtid → List history.Entry → Type 0
@@ -171,7 +173,7 @@ module _ (schema : List Table) (opened : Gtids) (rows : Rows) (journals : List J
       where
         of_place : (k : ℕ) → slice_get (e ∷ es) k ≡ Some (gtid e.0.source m, t) → ⊥
         of_place zero s =
-            let same : e.0.number ≡ m = ap (λ (x : history.Entry). x.0.number) (same_some e (gtid e.0.source m, t) s) in
+            let same : e.0.number ≡ m = ap (λ (x : history.Entry). x.0.number) (same_Some e (gtid e.0.source m, t) s) in
             omega arith
         of_place (suc k) s =
             let l = number_less e.0 (gtid e.0.source m) (all_at (λ f. gtid_cmp e.0 f.0 ≡ Less) es k (gtid e.0.source m, t) up.0 s) refl in
@@ -197,7 +199,7 @@ module _ (schema : List Table) (opened : Gtids) (rows : Rows) (journals : List J
     ]
       where
         of_place : (k : ℕ) → slice_get (e ∷ es) k ≡ Some h → Passed (Some e.0) h.0 ⊎ ((j : ℕ) × (slice_get es j ≡ Some h))
-        of_place zero x = inl (inr (ap (λ (y : history.Entry). y.0.source) (sym (same_some e h x)), le_of (ap (λ (y : history.Entry). y.0.number) (sym (same_some e h x)))))
+        of_place zero x = inl (inr (ap (λ (y : history.Entry). y.0.source) (sym (same_Some e h x)), le_of (ap (λ (y : history.Entry). y.0.number) (sym (same_Some e h x)))))
           where
             le_of : h.0.number ≡ e.0.number → h.0.number ≤ e.0.number
             le_of p = omega arith
@@ -220,8 +222,8 @@ module _ (schema : List Table) (opened : Gtids) (rows : Rows) (journals : List J
             (first_none (λ i h. when (is_absent w journals h) (Missing h)) (below e.0) none (m - 1) (gtid e.0.source m) (in_map (gtid e.0.source) (range_with_len 1 (e.0.number - 1)) (m - 1) m at))
           where
             in_map : (f : ℕ → Gtid) (xs : List ℕ) (i x : ℕ) → slice_get xs i ≡ Some x → slice_get (map f xs) i ≡ Some (f x)
-            in_map f [] i x p = not_none x p
-            in_map f (y ∷ xs) zero x p = ap (λ z. Some (f z)) (same_some y x p)
+            in_map f [] i x p = none_some x p
+            in_map f (y ∷ xs) zero x p = ap (λ z. Some (f z)) (same_Some y x p)
             in_map f (y ∷ xs) (suc i) x p = in_map f xs i x p
 
   all_after : (e : history.Entry) (es : List history.Entry) → AllByRecursion (λ f. gtid_cmp e.0 f.0 ≡ Less) es → AllByRecursion (λ (f : history.Entry). Precedes (Some e.0) f.0) es

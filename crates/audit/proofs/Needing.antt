@@ -1,11 +1,11 @@
 -- What each transaction needs has the last that touched each of its keys.
 use Rattle.std.proofs.Common.{◌≡◌, ℕ, zero, suc, ◌<◌, ◌≤◌, Bool, true, false, cond, ◌||◌, ◌⊎◌, inl, inr, List, [], ◌∷◌, ◌++◌, length, Option, Some, None, refl, sym, ap, ◌∙◌, subst, append_assoc, arith}
 use Rattle.std.specs.Prelude.{slice_get}
-use Rattle.std.specs.List.{list_any, AllByRecursion}
+use Rattle.std.specs.List.{list_any}
 use Rattle.std.specs.FinMap as finmap
 use Rattle.std.specs.FinMap.{get-insert}
 use Rattle.std.specs.declared.cmp.Ordering.TheVariants.{Less}
-use Rattle.std.proofs.lemmas.Bool.{eq-eqb}
+use Rattle.std.proofs.lemmas.Bool.{eq-eqb, cases_Bool, or_cases, or_left, or_right, false_from_ne_true}
 use Rattle.gtid_text.specs.declared.Gtid.{Gtid}
 use Rattle.gtid_text.specs.Gtids.{gtid_cmp, same_gtid}
 use Rattle.gtid_set.proofs.SetLemmas.{gtid_tied}
@@ -15,33 +15,28 @@ use Rattle.rows.specs.Order.{key_eq}
 use Rattle.rows.specs.Total.{key_total, key_eq_same}
 use Rattle.rows.specs.WriteSet.{write_set, touches, is_among}
 use Rattle.source_history.specs.World as history
-use Rattle.source_history.proofs.Tests.{true_or_false, not_both, or_either, or_left, or_right}
-use Rattle.source_history.proofs.Gtids.{gtid_total, number_less, same_gtid_self, gtid_same}
+use Rattle.source_history.proofs.Gtids.{number_less}
 use Rattle.source_history.proofs.Entries.{IsRising}
-use Rattle.faithful_journals.proofs.Lists.{same_some, not_none, all_at, get_append_left, get_push_cases, get_push, get_below}
+use Rattle.faithful_journals.proofs.Lists.{all_at, get_push_cases}
 use Rattle.world.specs.Folds.{FirstTouch}
-use Rattle.world.proofs.Finding.{is_false}
 use Rattle.world.proofs.OnePass.{source_le}
 use Rattle.audit.specs.Gaps.{touched_last, of_source, with_some, last_of_keys, Needs, needs_over}
+use Rattle.std.proofs.lemmas.Option.{same_Some, slice_get_within}
+use Rattle.gtid_text.proofs.SameGtid.{same_itself, same_is_equal, gtid_total}
+use Rattle.rows.proofs.Patching.{not_both}
+use Rattle.rows.proofs.Lists.{none_some, get_append_left, get_push}
+use Rattle.world.proofs.Touching.{rising_front}
 
 -- ---- places in a rising list
 
 pub rises : (es : List history.Entry) (i j : ℕ) (a b : history.Entry) → IsRising es → slice_get es i ≡ Some a → slice_get es j ≡ Some b → i < j → gtid_cmp a.0 b.0 ≡ Less
-rises [] i j a b up x y l = not_none a x
+rises [] i j a b up x y l = none_some a x
 rises (e ∷ es) zero zero a b up x y l = absurd (omega arith)
 rises (e ∷ es) (suc i) zero a b up x y l = absurd (omega arith)
 rises (e ∷ es) zero (suc j) a b up x y l =
-    let same : e ≡ a = same_some e a x in
+    let same : e ≡ a = same_Some e a x in
     subst (λ (z : history.Entry). gtid_cmp z.0 b.0 ≡ Less) same (all_at (λ f. gtid_cmp e.0 f.0 ≡ Less) es j b up.0 y)
 rises (e ∷ es) (suc i) (suc j) a b up x y l = rises es i j a b up.1 x y (omega arith)
-
-front_rises : (xs ys : List history.Entry) → IsRising (xs ++ ys) → IsRising xs
-front_rises [] ys up = tt
-front_rises (x ∷ xs) ys up = (front_all (λ f. gtid_cmp x.0 f.0 ≡ Less) xs ys up.0, front_rises xs ys up.1)
-  where
-    front_all : (P : history.Entry → Type 0) (us vs : List history.Entry) → AllByRecursion P (us ++ vs) → AllByRecursion P us
-    front_all P [] vs h = tt
-    front_all P (u ∷ us) vs h = (h.0, front_all P us vs h.1)
 
 -- between two of a source stand only its own
 between_source : (g h e : Gtid) → gtid_cmp g h ≡ Less → gtid_cmp h e ≡ Less → g.source ≡ e.source → h.source ≡ e.source
@@ -68,9 +63,9 @@ get-touched g (k ∷ keys) last key =
     ∙ cond_or (key_eq key k) (is_among keys key) (Some g) (finmap.get last key)
 
 of_source_some : (g t : Gtid) (o : Option Gtid) → o ≡ Some t → t.source ≡ g.source → of_source g o ≡ Some t
-of_source_some g t None e s = not_none t e
+of_source_some g t None e s = none_some t e
 of_source_some g t (Some u) e s =
-    let same : u ≡ t = same_some u t e in
+    let same : u ≡ t = same_Some u t e in
     ap (λ b. cond b (Some u) None) (eq-eqb u.source g.source (ap (λ (x : Gtid). x.source) same ∙ s)) ∙ ap Some same
 
 with_any : (p : Gtid → Bool) (o : Option Gtid) (gs : List Gtid) → list_any p gs ≡ true → list_any p (with_some o gs) ≡ true
@@ -80,11 +75,11 @@ with_any p (Some x) gs h = or_right (p x) (list_any p gs) h
 -- one of them is what touched one of the keys last
 last_among : (g t : Gtid) (keys : List Key) (last : FirstTouch) (key : Key) → is_among keys key ≡ true → finmap.get last key ≡ Some t → t.source ≡ g.source → list_any (same_gtid t) (last_of_keys g keys last) ≡ true
 last_among g t [] last key m e s = cc
-last_among g t (k ∷ keys) last key m e s = elim (or_either (key_eq key k) (is_among keys key) m) [
+last_among g t (k ∷ keys) last key m e s = elim (or_cases (key_eq key k) (is_among keys key) m) [
   | inl here ↦
       let same : key ≡ k = key_eq_same key k here in
       let o : of_source g (finmap.get last k) ≡ Some t = of_source_some g t (finmap.get last k) (ap (finmap.get last) (sym same) ∙ e) s in
-      ap (λ x. list_any (same_gtid t) (with_some x (last_of_keys g keys last))) o ∙ or_left (same_gtid t t) (list_any (same_gtid t) (last_of_keys g keys last)) (same_gtid_self t)
+      ap (λ x. list_any (same_gtid t) (with_some x (last_of_keys g keys last))) o ∙ or_left (same_gtid t t) (list_any (same_gtid t) (last_of_keys g keys last)) (same_itself t)
   | inr later ↦ with_any (same_gtid t) (of_source g (finmap.get last k)) (last_of_keys g keys last) (last_among g t keys last key later e s)
 ]
 
@@ -122,10 +117,10 @@ module _ (schema : List Table) where
 
   module _ (pre : List history.Entry) (e : history.Entry) (up : IsRising (pre ++ e ∷ [])) (last : FirstTouch) (needs : Needs) (touched : LastIs pre last) (had : NeedsAre pre needs) where
     less : (i : ℕ) (h : history.Entry) → slice_get pre i ≡ Some h → gtid_cmp h.0 e.0 ≡ Less
-    less i h x = rises (pre ++ e ∷ []) i (length pre) h e up (get_append_left pre (e ∷ []) i h x) (get_push pre e) (get_below pre i h x)
+    less i h x = rises (pre ++ e ∷ []) i (length pre) h e up (get_append_left pre (e ∷ []) i h x) (get_push pre e) (slice_get_within pre i h x)
 
     last_on : LastIs (pre ++ e ∷ []) (touched_last e.0 (write_set schema e.1) last)
-    last_on key i h x t = elim (true_or_false (touches schema e.1 key)) [
+    last_on key i h x t = elim (cases_Bool (touches schema e.1 key)) [
       | inl now ↦ record {
         place = length pre;
         toucher = e;
@@ -150,7 +145,7 @@ module _ (schema : List Table) where
     ]
       where
         late_of : ((slice_get pre i ≡ Some h) ⊎ ((i ≡ length pre) × (e ≡ h))) → i ≤ length pre
-        late_of (inl y) = let l = get_below pre i h y in omega arith
+        late_of (inl y) = let l = slice_get_within pre i h y in omega arith
         late_of (inr y) = let l = y.0 in omega arith
 
     needs_on : NeedsAre (pre ++ e ∷ []) (finmap.insert needs e.0 (last_of_keys e.0 (write_set schema e.1) last))
@@ -179,13 +174,13 @@ module _ (schema : List Table) where
                       source = v.source;
                       needed = v.needed;
                     }
-                | inr last_one ↦ let b = get_below pre i x before in let q = last_one.0 in absurd (omega arith)
+                | inr last_one ↦ let b = slice_get_within pre i x before in let q = last_one.0 in absurd (omega arith)
               ];
             }
           where
             other : same_gtid x.0 e.0 ≡ false
-            other = is_false (same_gtid x.0 e.0) (λ same.
-                let eq : x.0 ≡ e.0 = gtid_same x.0 e.0 same in
+            other = false_from_ne_true (same_gtid x.0 e.0) (λ same.
+                let eq : x.0 ≡ e.0 = same_is_equal x.0 e.0 same in
                 let l = number_less x.0 e.0 (less i x before) (ap (λ (g : Gtid). g.source) eq) in
                 let n : x.0.number ≡ e.0.number = ap (λ (g : Gtid). g.number) eq in
                 omega arith)
@@ -194,7 +189,7 @@ module _ (schema : List Table) where
         newest here = record {
           gtids = last_of_keys e.0 (write_set schema e.1) last;
           known = get-insert gtid_total needs e.0 (last_of_keys e.0 (write_set schema e.1) last) e.0
-              ∙ ap (λ b. cond b (Some (last_of_keys e.0 (write_set schema e.1) last)) (finmap.get needs e.0)) (gtid_tied e.0 e.0 ∙ same_gtid_self e.0);
+              ∙ ap (λ b. cond b (Some (last_of_keys e.0 (write_set schema e.1) last)) (finmap.get needs e.0)) (gtid_tied e.0 e.0 ∙ same_itself e.0);
           serves = λ key j h t l y s u. elim (get_push_cases pre e j h y) [
             | inl in_front ↦ serve key j h t in_front s u
             | inr last_one ↦ let q = last_one.0 in absurd (omega arith)
@@ -208,10 +203,10 @@ module _ (schema : List Table) where
             serve key j h t y s u =
                 let r = touched key j h y u in
                 let same : r.toucher.0.source ≡ e.0.source = elim (place_cases j r.place r.late) [
-                  | inl later ↦ between_source h.0 r.toucher.0 e.0 (rises pre j r.place h r.toucher (front_rises pre (e ∷ []) up) y r.there later) (less r.place r.toucher r.there) s
-                  | inr equal ↦ ap (λ (z : history.Entry). z.0.source) (sym (same_some h r.toucher (sym y ∙ (ap (slice_get pre) equal ∙ r.there)))) ∙ s
+                  | inl later ↦ between_source h.0 r.toucher.0 e.0 (rises pre j r.place h r.toucher (rising_front pre (e ∷ []) up) y r.there later) (less r.place r.toucher r.there) s
+                  | inr equal ↦ ap (λ (z : history.Entry). z.0.source) (sym (same_Some h r.toucher (sym y ∙ (ap (slice_get pre) equal ∙ r.there)))) ∙ s
                 ] in
-                let low = get_below pre r.place r.toucher r.there in
+                let low = slice_get_within pre r.place r.toucher r.there in
                 record {
                   place = r.place;
                   toucher = r.toucher;
@@ -232,10 +227,10 @@ module _ (schema : List Table) where
   over (e ∷ es) pre last needs up touched had =
       let parts : (pre ++ e ∷ []) ++ es ≡ pre ++ e ∷ es = append_assoc pre (e ∷ []) es in
       let up_too : IsRising ((pre ++ e ∷ []) ++ es) = subst (λ (xs : List history.Entry). IsRising xs) (sym parts) up in
-      let up_here = front_rises (pre ++ e ∷ []) es up_too in
+      let up_here = rising_front (pre ++ e ∷ []) es up_too in
       subst (λ (xs : List history.Entry). NeedsAre xs (needs_over schema last needs (e ∷ es))) parts
       (over es (pre ++ e ∷ []) (touched_last e.0 (write_set schema e.1) last) (finmap.insert needs e.0 (last_of_keys e.0 (write_set schema e.1) last)) up_too
       (last_on pre e up_here last needs touched had) (needs_on pre e up_here last needs touched had))
 
   pub needs_are : (es : List history.Entry) → IsRising es → NeedsAre es (needs_over schema finmap.empty finmap.empty es)
-  needs_are es up = over es [] finmap.empty finmap.empty up (λ key i h x t. not_none h x) (λ i e x. not_none e x)
+  needs_are es up = over es [] finmap.empty finmap.empty up (λ key i h x t. none_some h x) (λ i e x. none_some e x)

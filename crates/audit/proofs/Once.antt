@@ -16,17 +16,19 @@ use Rattle.journal.specs.declared.Entry.{Entry}
 use Rattle.journal.specs.Journals.{JournalValue}
 use Rattle.source_history.specs.World.{World, content, is_opened}
 use Rattle.source_history.specs.World as history
-use Rattle.source_history.proofs.Tests.{not_both, and_both}
-use Rattle.source_history.proofs.Gtids.{gtid_total, gtid_same, same_gtid_self}
-use Rattle.faithful_journals.proofs.Lists.{same_some, not_none, from_not}
 use Rattle.world.specs.declared.verdict.Verdict.TheVariants.{Unequal}
 use Rattle.world.specs.Equal.{txn_eq}
 use Rattle.world.specs.Audit.{all_entries, first_contents, world_of, is_content, is_unequal, unequal}
-use Rattle.world.proofs.Finding.{none_when, none_first, is_false}
+use Rattle.world.proofs.Finding.{none_when, none_first}
 use Rattle.world.proofs.Same.{txn_self}
 use Rattle.audit.specs.Contents.{Contents, as_entry, in_order}
 use Rattle.audit.specs.Counting.{count_new}
 use Rattle.audit.specs.Worlds.{IsWorldOf}
+use Rattle.std.proofs.lemmas.Bool.{and_parts, not-true, false_from_ne_true}
+use Rattle.std.proofs.lemmas.Option.{same_Some}
+use Rattle.gtid_text.proofs.SameGtid.{same_itself, same_is_equal, gtid_total}
+use Rattle.rows.proofs.Patching.{not_both}
+use Rattle.rows.proofs.Lists.{none_some, get_append_left}
 
 -- ---- counts
 
@@ -65,44 +67,39 @@ module _ (opened : Gtids) where
       → (count_new opened es ≤ finmap.len (first_contents opened es) → (k : ℕ) (x : Entry) → slice_get es k ≡ Some x → set.contains opened x.gtid ≡ false → finmap.get (first_contents opened es) x.gtid ≡ Some x.txn)
       → cond b 0 1 + count_new opened es ≤ finmap.len (cond b (first_contents opened es) (finmap.insert (first_contents opened es) e.gtid e.txn))
       → (k : ℕ) (x : Entry) → slice_get (e ∷ es) k ≡ Some x → set.contains opened x.gtid ≡ false → finmap.get (cond b (first_contents opened es) (finmap.insert (first_contents opened es) e.gtid e.txn)) x.gtid ≡ Some x.txn
-  one_here e es true c was has rest l zero x h out = not_both (set.contains opened e.gtid) was (ap (λ (y : Entry). set.contains opened y.gtid) (same_some e x h) ∙ out)
+  one_here e es true c was has rest l zero x h out = not_both (set.contains opened e.gtid) was (ap (λ (y : Entry). set.contains opened y.gtid) (same_Some e x h) ∙ out)
   one_here e es true c was has rest l (suc k) x h out = rest (omega arith) k x h out
   one_here e es false true was has rest l k x h out =
       let n = insert_len (first_contents opened es) e.gtid e.txn true has in
       let m = at_most es in
       absurd (omega arith)
   one_here e es false false was has rest l zero x h out =
-      let is : e ≡ x = same_some e x h in
+      let is : e ≡ x = same_Some e x h in
       inserted e x (first_contents opened es)
-      ∙ ap (λ b. cond b (Some e.txn) (finmap.get (first_contents opened es) x.gtid)) (ap (λ (y : Entry). same_gtid x.gtid y.gtid) is ∙ same_gtid_self x.gtid)
+      ∙ ap (λ b. cond b (Some e.txn) (finmap.get (first_contents opened es) x.gtid)) (ap (λ (y : Entry). same_gtid x.gtid y.gtid) is ∙ same_itself x.gtid)
       ∙ ap (λ (y : Entry). Some y.txn) is
   one_here e es false false was has rest l (suc k) x h out =
       let n = insert_len (first_contents opened es) e.gtid e.txn false has in
       inserted e x (first_contents opened es)
       ∙ get_by e x (finmap.get (first_contents opened es) x.gtid) (same_gtid x.gtid e.gtid) refl
-      (λ t. ap (λ g. is_some (finmap.get (first_contents opened es) g)) (gtid_same x.gtid e.gtid t) ∙ has)
+      (λ t. ap (λ g. is_some (finmap.get (first_contents opened es) g)) (same_is_equal x.gtid e.gtid t) ∙ has)
       (rest (omega arith) k x h out)
 
   all_here : (es : List Entry) → count_new opened es ≤ finmap.len (first_contents opened es) → (k : ℕ) (x : Entry) → slice_get es k ≡ Some x → set.contains opened x.gtid ≡ false
       → finmap.get (first_contents opened es) x.gtid ≡ Some x.txn
-  all_here [] l k x h out = not_none x h
+  all_here [] l k x h out = none_some x h
   all_here (e ∷ es) l k x h out =
       one_here e es (set.contains opened e.gtid) (finmap.contains_key (first_contents opened es) e.gtid) refl refl (all_here es) l k x h out
 
 -- ---- an entry of a journal is one of all
-
-front : {A : Type 0} (xs ys : List A) (k : ℕ) (x : A) → slice_get xs k ≡ Some x → slice_get (xs ++ ys) k ≡ Some x
-front [] ys k x h = not_none x h
-front (y ∷ xs) ys zero x h = h
-front (y ∷ xs) ys (suc k) x h = front xs ys k x h
 
 behind : {A : Type 0} (xs ys : List A) (k : ℕ) (x : A) → slice_get ys k ≡ Some x → (m : ℕ) × (slice_get (xs ++ ys) m ≡ Some x)
 behind [] ys k x h = (k, h)
 behind (y ∷ xs) ys k x h = let r = behind xs ys k x h in (suc r.0, r.1)
 
 among : (js : List JournalValue) (i : ℕ) (j : JournalValue) (k : ℕ) (e : Entry) → slice_get js i ≡ Some j → slice_get j.entries k ≡ Some e → (m : ℕ) × (slice_get (all_entries js) m ≡ Some e)
-among [] i j k e hj he = not_none j hj
-among (x ∷ js) zero j k e hj he = (k, front x.entries (all_entries js) k e (ap (λ (y : JournalValue). slice_get y.entries k) (same_some x j hj) ∙ he))
+among [] i j k e hj he = none_some j hj
+among (x ∷ js) zero j k e hj he = (k, get_append_left x.entries (all_entries js) k e (ap (λ (y : JournalValue). slice_get y.entries k) (same_Some x j hj) ∙ he))
 among (x ∷ js) (suc i) j k e hj he =
     let r = among js i j k e hj he in
     behind x.entries (all_entries js) r.0 e r.1
@@ -114,11 +111,11 @@ module _ (schema : List Table) (opened : Gtids) (rows : Rows) (journals : List J
   w = world_of schema opened rows journals
 
   equal_by : count_new opened (all_entries journals) ≤ finmap.len w.contents → unequal w journals ≡ None
-  equal_by l = none_first _ journals (λ i j hj. none_first _ j.entries (λ k e he. none_when (is_unequal w e) (Unequal e.gtid) (is_false (is_unequal w e) (λ t.
-      let p = and_both (not (is_opened w e.gtid)) (not (is_content w e)) t in
+  equal_by l = none_first _ journals (λ i j hj. none_first _ j.entries (λ k e he. none_when (is_unequal w e) (Unequal e.gtid) (false_from_ne_true (is_unequal w e) (λ t.
+      let p = and_parts (not (is_opened w e.gtid)) (not (is_content w e)) t in
       let at = among journals i j k e hj he in
-      let c : content w e.gtid ≡ Some e.txn = all_here opened (all_entries journals) l at.0 e at.1 (from_not (is_opened w e.gtid) p.0) in
-      not_both (is_content w e) (ap (λ o. option_map_or (txn_eq e.txn) o false) c ∙ txn_self e.txn) (from_not (is_content w e) p.1)))))
+      let c : content w e.gtid ≡ Some e.txn = all_here opened (all_entries journals) l at.0 e at.1 (not-true (is_opened w e.gtid) p.0) in
+      not_both (is_content w e) (ap (λ o. option_map_or (txn_eq e.txn) o false) c ∙ txn_self e.txn) (not-true (is_content w e) p.1)))))
 
 length_map : (es : List history.Entry) → length (map as_entry es) ≡ length es
 length_map [] = refl

@@ -32,10 +32,6 @@ pub goes_on : {B : Type 0} (o p : Option B) → is_some o ≡ false → or_next 
 goes_on (Some x) p e = cc
 goes_on None p e = refl
 
-pub found_none : {B : Type 0} (o : Option B) → is_some o ≡ false → o ≡ None
-found_none (Some x) e = cc
-found_none None e = refl
-
 -- ---- five searches one after another
 
 module _ {B : Type 0} where

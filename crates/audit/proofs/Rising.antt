@@ -1,9 +1,9 @@
 -- Nothing is left out of journals that bring the numbers of each source one after another.
-use Rattle.std.proofs.Common.{◌≡◌, ℕ, zero, suc, ◌+◌, [], ◌∷◌, length, get_or, ◌<◌, ◌≤◌, true, false, not, ◌⊎◌, inl, inr, List, take, Option, Some, None, refl, sym, ap, ◌∙◌, subst, arith}
+use Rattle.std.proofs.Common.{◌≡◌, ℕ, zero, suc, ◌+◌, [], ◌∷◌, length, get_or, ◌<◌, ◌≤◌, true, false, not, inl, inr, List, take, Option, Some, None, refl, sym, ap, ◌∙◌, subst, arith}
 use Rattle.std.specs.Prelude.{slice_get, nat_lt, ◌==◌}
 use Rattle.std.specs.FinMap as finmap
 use Rattle.std.specs.FinSet as set
-use Rattle.std.proofs.lemmas.Bool.{eqb-true}
+use Rattle.std.proofs.lemmas.Bool.{eqb-true, or_cases, or_left, or_right, and_parts, not-true, false_from_ne_true}
 use Rattle.gtid_text.specs.declared.Gtid.{Gtid}
 use Rattle.gtid_set.specs.Sets.{Gtids, gtid}
 use Rattle.rows.specs.declared.change.Transaction.{Transaction}
@@ -14,17 +14,20 @@ use Rattle.journal.specs.declared.Entry.{Entry}
 use Rattle.journal.specs.Journals.{JournalValue, IsJournal}
 use Rattle.source_history.specs.World.{World, content, is_opened}
 use Rattle.source_history.specs.World as history
-use Rattle.source_history.proofs.Tests.{not_both, and_both, or_either, or_left, or_right}
-use Rattle.faithful_journals.proofs.Lists.{same_some, not_none, from_not, get_take, all_at}
+use Rattle.faithful_journals.proofs.Lists.{get_take, all_at}
 use Rattle.world.specs.declared.verdict.Verdict.TheVariants.{NotClosed}
 use Rattle.world.specs.Search.{or_next}
 use Rattle.world.specs.Audit.{all_entries, world_of, stands_in, stands_before, is_left_out, shared, not_closed}
 use Rattle.world.specs.Meaning.{AreJournals}
-use Rattle.world.proofs.Finding.{none_when, none_first, is_false, taken}
+use Rattle.world.proofs.Finding.{none_when, none_first, taken}
 use Rattle.world.proofs.Contents.{entry_at, entry_from, in_all, at_content, contents_entry, contents_outside}
 use Rattle.world.proofs.Meanings.{numbered}
 use Rattle.audit.specs.Ordered.{is_there, AreBelow, IsInOrder, AreInOrder, AreTops, IsRaised}
 use Rattle.audit.specs.Worlds.{IsWorldOf}
+use Rattle.std.proofs.lemmas.Option.{same_Some}
+use Rattle.rows.proofs.Patching.{not_both}
+use Rattle.rows.proofs.Lists.{lt_cases}
+use Rattle.world.proofs.Gaps.{number_lt}
 
 -- ---- one entry more
 
@@ -33,20 +36,12 @@ get_here [] k x l e = absurd (omega arith)
 get_here (y ∷ xs) zero x l e = ap Some (sym e)
 get_here (y ∷ xs) (suc k) x l e = get_here xs k x (omega arith) e
 
-pub within : {A : Type 0} (xs : List A) (k : ℕ) (x : A) → slice_get xs k ≡ Some x → k < length xs
-within [] k x e = not_none x e
-within (y ∷ xs) zero x e = omega arith
-within (y ∷ xs) (suc k) x e = let l = within xs k x e in omega arith
-
 lt_more : (a b : ℕ) → a < b → a < b + 1
 lt_more a b l = omega arith
 
-lt_cases : (a b : ℕ) → a < b + 1 → (a < b) ⊎ (a ≡ b)
-lt_cases a b l = grind arith
-
 module _ (opened : Gtids) (es : List Entry) (i : ℕ) where
   stays : (g : Gtid) → is_there opened (take i es) g ≡ true → is_there opened (take (i + 1) es) g ≡ true
-  stays g h = elim (or_either (set.contains opened g) (stands_in (take i es) g) h) [
+  stays g h = elim (or_cases (set.contains opened g) (stands_in (take i es) g) h) [
     | inl p ↦ or_left (set.contains opened g) (stands_in (take (i + 1) es) g) p
     | inr e ↦
         let a = entry_at (take i es) g e in
@@ -99,14 +94,11 @@ module _ (opened : Gtids) (es : List Entry) (i : ℕ) where
     so_far_more before now place x l at = elim (lt_cases place i l) [
       | inl low ↦ before place x low at
       | inr same ↦
-          let is : e ≡ x = same_some e x (sym here ∙ (ap (slice_get es) (sym same) ∙ at)) in
+          let is : e ≡ x = same_Some e x (sym here ∙ (ap (slice_get es) (sym same) ∙ at)) in
           subst (λ (y : Entry). AreBelow opened (take place es) y.gtid.source y.gtid.number) is (subst (λ k. AreBelow opened (take k es) e.gtid.source e.gtid.number) (sym same) now)
     ]
 
 -- ---- nothing is left out
-
-number_lt : (a b : ℕ) → nat_lt a b ≡ true → a < b
-number_lt a b e = grind arith
 
 has_number : (schema : List Table) (opened : Gtids) (rows : Rows) (journals : List JournalValue) → AreJournals journals → (g : Gtid) (t : Transaction) → content (world_of schema opened rows journals) g ≡ Some t → 0 < g.number
 has_number schema opened rows journals are g t at =
@@ -125,18 +117,18 @@ module _ (schema : List Table) (opened : Gtids) (rows : Rows) (journals : List J
 
   none_left : (j : JournalValue) → IsInOrder opened j.entries → (place : ℕ) (e : Entry) → slice_get j.entries place ≡ Some e
       → (l : ℕ) (h : history.Entry) → slice_get (finmap.entries w.contents) l ≡ Some h → is_left_out w j place e h ≡ false
-  none_left j ordered place e he l h hl = is_false (is_left_out w j place e h) (λ t.
-      let a = and_both (not (is_opened w e.gtid)) _ t in
-      let b = and_both (h.0.source == e.gtid.source) _ a.1 in
-      let c = and_both (nat_lt h.0.number e.gtid.number) _ b.1 in
-      let d = and_both (shares_key schema h.1 e.txn) (not (stands_before j place h.0)) c.1 in
+  none_left j ordered place e he l h hl = false_from_ne_true (is_left_out w j place e h) (λ t.
+      let a = and_parts (not (is_opened w e.gtid)) _ t in
+      let b = and_parts (h.0.source == e.gtid.source) _ a.1 in
+      let c = and_parts (nat_lt h.0.number e.gtid.number) _ b.1 in
+      let d = and_parts (shares_key schema h.1 e.txn) (not (stands_before j place h.0)) c.1 in
       let at = at_content w l h hl in
       let there = ordered place e he h.0.number (from_one h at) (number_lt h.0.number e.gtid.number c.0) in
       let is : gtid e.gtid.source h.0.number ≡ h.0 = λ k. record { source = sym (eqb-true h.0.source e.gtid.source b.0) k; number = h.0.number } in
-      stands h.0 h.1 at (subst (λ (g : Gtid). is_there opened (take place j.entries) g ≡ true) is there) (from_not (stands_before j place h.0) d.1))
+      stands h.0 h.1 at (subst (λ (g : Gtid). is_there opened (take place j.entries) g ≡ true) is there) (not-true (stands_before j place h.0) d.1))
     where
       stands : (g : Gtid) (t : Transaction) → content w g ≡ Some t → is_there opened (take place j.entries) g ≡ true → stands_before j place g ≡ false → ⊥
-      stands g t at there not_before = elim (or_either (set.contains opened g) (stands_in (take place j.entries) g) there) [
+      stands g t at there not_before = elim (or_cases (set.contains opened g) (stands_in (take place j.entries) g) there) [
         | inl p ↦ not_both (set.contains opened g) p (contents_outside opened (all_entries journals) g t at)
         | inr q ↦ not_both (stands_before j place g) (or_right (set.contains j.previous g) (stands_in (take place j.entries) g) q) not_before
       ]

@@ -1,5 +1,5 @@
 -- The entries of a list as a finite map.
-use Rattle.std.proofs.Common.{◌≡◌, T, Bool, true, false, ◌&&◌, ◌||◌, map, subst, cond, List, [], ◌∷◌, Option, Some, refl, sym, ap, ◌∙◌}
+use Rattle.std.proofs.Common.{◌≡◌, T, Bool, true, false, ◌||◌, map, subst, cond, List, [], ◌∷◌, Option, Some, refl, sym, ap, ◌∙◌}
 use Rattle.std.specs.FinMap.{IsAntisymmetric, same_map, find, get, insert, entries, entries_sorted, get-entries, from_entries, get-from_entries, get-insert}
 use Rattle.std.specs.FinMap.Entries.{below_all, is_sorted, same_entries}
 use Rattle.std.specs.FinSet.{from_list, same_set, contains-from_list, contains-insert}
@@ -13,10 +13,7 @@ use Rattle.std.specs.declared.cmp.Ordering.TheVariants.{Less}
 use Rattle.std.specs.Map.{lookup}
 use Rattle.std.specs.BTreeMap.{is_at}
 use Rattle.std.proofs.lemmas.Cmp.{eq_by_cmp_equiv}
-
-both : (p q : Bool) → T p → T q → T (p && q)
-both true q h i = i
-both false q h i = h
+use Rattle.rows.proofs.Stored.{both}
 
 module _ {K X : Type 0} (R : K → K → Ordering) where
   -- the value at a key

@@ -1,6 +1,6 @@
 -- What a run that was served all journals says of their world.
-use Rattle.std.proofs.Common.{◌≡◌, ℕ, zero, suc, Bool, true, cond, not, ◌⊎◌, inl, inr, List, [], ◌∷◌, ◌++◌, Option, Some, None, Result, Ok, Err, refl, sym, ap, ◌∙◌}
-use Rattle.std.specs.Prelude.{slice_get, IsOk}
+use Rattle.std.proofs.Common.{◌≡◌, ℕ, zero, suc, Bool, true, cond, not, ◌⊎◌, inl, inr, List, [], ◌∷◌, ◌++◌, Option, Some, None, Ok, refl, sym, ap, ◌∙◌}
+use Rattle.std.specs.Prelude.{slice_get}
 use Rattle.std.specs.List.{filter}
 use Rattle.std.specs.Option.{unwrap_or}
 use Rattle.std.specs.FinMap as finmap
@@ -19,12 +19,10 @@ use Rattle.replica_core.specs.State.{State, Site}
 use Rattle.replica_core.specs.Machine.{step, after}
 use Rattle.source_history.specs.World.{World, content, apply_all, rows_of, of_source}
 use Rattle.source_history.specs.World as history
-use Rattle.source_history.proofs.Tests.{or_either, or_left, or_right, not_both}
-use Rattle.source_history.proofs.Gtids.{gtid_total, gtid_exact}
 use Rattle.source_history.proofs.Committing.{opening_is_closed}
 use Rattle.source_history.proofs.Merging.{alone_from_all}
 use Rattle.faithful_journals.specs.Faithful.{IsFaithful}
-use Rattle.faithful_journals.proofs.Lists.{same_some, not_none, all_at, same_test}
+use Rattle.faithful_journals.proofs.Lists.{all_at}
 use Rattle.faithful_journals.proofs.Covering.{is_entry, has, in_whole}
 use Rattle.auto_position.specs.Sending.{own_of}
 use Rattle.faithful_runs.specs.Faithful.{start_with, Since, IsFaithfulFrom}
@@ -46,10 +44,13 @@ use Rattle.world.proofs.Finding.{next_none, none_next}
 use Rattle.world.proofs.Contents.{in_all, at_content, contents_entry}
 use Rattle.world.proofs.Meanings.{none_of_sound, next_not, keys_not, applies_not, alone_here, keys_sound_mean}
 use Rattle.world.proofs.Saying.{applies_none}
-
-is_ok_of : {A E : Type 0} (r : Result A E) (a : A) → r ≡ Ok a → IsOk r
-is_ok_of (Ok x) a e = refl
-is_ok_of (Err d) a e = cc
+use Rattle.std.proofs.lemmas.Bool.{or_cases, or_left, or_right}
+use Rattle.std.proofs.lemmas.Option.{same_Some}
+use Rattle.gtid_text.proofs.SameGtid.{gtid_total, gtid_exact}
+use Rattle.gtid_set.proofs.SetSources.{same_bool}
+use Rattle.rows.proofs.Patching.{not_both}
+use Rattle.rows.proofs.Lists.{none_some}
+use Rattle.source_history.proofs.Closing.{is_ok_of}
 
 all_pass : (p : history.Entry → Bool) (es : List history.Entry) → ((i : ℕ) (e : history.Entry) → slice_get es i ≡ Some e → p e ≡ true) → filter p es ≡ es
 all_pass p [] h = refl
@@ -112,7 +113,7 @@ workers_decide site opened rows journals events are keys serves ended =
 
 in_all_of : (opened : Gtids) (js : List JournalValue) (g : Gtid) → set.contains (all_of opened js) g ≡ true → (set.contains opened g ≡ true) ⊎ ((i : ℕ) × (j : JournalValue) × (slice_get js i ≡ Some j) × (has j g ≡ true))
 in_all_of opened [] g h = inl h
-in_all_of opened (j ∷ js) g h = elim (or_either (set.contains (whole j) g) (set.contains (all_of opened js) g) (sym (contains-union gtid_total (whole j) (all_of opened js) g) ∙ h)) [
+in_all_of opened (j ∷ js) g h = elim (or_cases (set.contains (whole j) g) (set.contains (all_of opened js) g) (sym (contains-union gtid_total (whole j) (all_of opened js) g) ∙ h)) [
   | inl here ↦ inr (zero, j, refl, sym (in_whole j g) ∙ here)
   | inr later ↦ elim (in_all_of opened js g later) [ inl o ↦ inl o | inr r ↦ inr (suc r.0, r.1, r.2, r.3) ]
 ]
@@ -122,8 +123,8 @@ opened_in opened [] g h = h
 opened_in opened (j ∷ js) g h = contains-union gtid_total (whole j) (all_of opened js) g ∙ or_right (set.contains (whole j) g) (set.contains (all_of opened js) g) (opened_in opened js g h)
 
 whole_in : (opened : Gtids) (js : List JournalValue) (i : ℕ) (j : JournalValue) (g : Gtid) → slice_get js i ≡ Some j → has j g ≡ true → set.contains (all_of opened js) g ≡ true
-whole_in opened [] i j g e h = not_none j e
-whole_in opened (k ∷ js) zero j g e h = contains-union gtid_total (whole k) (all_of opened js) g ∙ or_left (set.contains (whole k) g) (set.contains (all_of opened js) g) (in_whole k g ∙ (ap (λ (x : JournalValue). has x g) (same_some k j e) ∙ h))
+whole_in opened [] i j g e h = none_some j e
+whole_in opened (k ∷ js) zero j g e h = contains-union gtid_total (whole k) (all_of opened js) g ∙ or_left (set.contains (whole k) g) (set.contains (all_of opened js) g) (in_whole k g ∙ (ap (λ (x : JournalValue). has x g) (same_Some k j e) ∙ h))
 whole_in opened (k ∷ js) (suc i) j g e h = contains-union gtid_total (whole k) (all_of opened js) g ∙ or_right (set.contains (whole k) g) (set.contains (all_of opened js) g) (whole_in opened js i j g e h)
 
 received_whole : (site : Site) (s : State) (events : List Event) (c : ℕ) (j : JournalValue) → WasServed site s events c j → (g : Gtid) → is_entry (received_on c site s events) g ≡ true → has j g ≡ true
@@ -149,11 +150,11 @@ served_holds_all site opened rows journals events are keys serves drained =
     let moves = run_moves site start events in
     let inv = (kept site opened rows journals events are keys serves).1 in
     let same : end.executed ≡ all_of opened journals = same_set gtid_total gtid_exact end.executed (all_of opened journals) (λ g.
-    same_test (set.contains end.executed g) (set.contains (all_of opened journals) g)
+    same_bool (set.contains end.executed g) (set.contains (all_of opened journals) g)
     (λ h. elim (moves.origin g (inl h)) [
       | inl known ↦ elim known [
         | inl was ↦ opened_in opened journals g was
-        | inr somewhere ↦ not_none somewhere.1 somewhere.2
+        | inr somewhere ↦ none_some somewhere.1 somewhere.2
       ]
       | inr brought ↦ elim brought [
         | inl here ↦ nothing g (ap (λ es. is_entry es g) (sym (no_commits site events start serves.no_local)) ∙ here)

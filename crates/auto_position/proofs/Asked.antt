@@ -12,16 +12,17 @@ use Rattle.std.specs.FinSet as set
 use Rattle.gtid_text.specs.declared.Gtid.{Gtid}
 use Rattle.gtid_text.specs.Gtids.{gtid_cmp}
 use Rattle.gtid_set.specs.Sets.{Gtids, gtid, only}
-use Rattle.gtid_set.proofs.SetLemmas.{gtid_total, gtid_same, same_members, gtid_tied}
+use Rattle.gtid_set.proofs.SetLemmas.{same_members, gtid_tied}
 use Rattle.journal.specs.declared.Entry.{Entry}
 use Rattle.journal.specs.Journals.{JournalValue, gtids_of, whole}
 use Rattle.auto_position.specs.Sending.{numbers_of, own_of, is_wanted, sent}
 use Rattle.auto_position.specs.declared.PositionFault.TheVariants.{ReplicaHasMore}
+use Rattle.gtid_text.proofs.SameGtid.{gtid_total, gtid_exact}
 
 -- the members of one source
 contains-only : (s : Gtids) (source : ℕ) (g : Gtid) → set.contains (only s source) g ≡ (set.contains s g && (g.source == source))
 unfolding only
-contains-only s source g = set.contains-retain s (λ x. x.source == source) g (λ x e. ap (λ (y : Gtid). y.source == source) (sym (gtid_same g x e)))
+contains-only s source g = set.contains-retain s (λ x. x.source == source) g (λ x e. ap (λ (y : Gtid). y.source == source) (sym (gtid_exact g x e)))
 
 -- ---- the GTIDs of one source among the entries
 
@@ -86,7 +87,7 @@ recorded_is source entries numbers moved =
 
 -- one more number, at the end
 pub recorded_push : (source : ℕ) (numbers : List ℕ) (n : ℕ) → set.from_list {R = gtid_cmp} (map (gtid source) (numbers ++ n ∷ [])) ≡ set.insert (set.from_list (map (gtid source) numbers)) (gtid source n)
-recorded_push source numbers n = ap set.from_list (map-append (gtid source) numbers (n ∷ [])) ∙ set.from_list_push gtid_total gtid_same (map (gtid source) numbers) (gtid source n)
+recorded_push source numbers n = ap set.from_list (map-append (gtid source) numbers (n ∷ [])) ∙ set.from_list_push gtid_total gtid_exact (map (gtid source) numbers) (gtid source n)
 
 -- ---- what the replica has of this source and the journal has no record of
 

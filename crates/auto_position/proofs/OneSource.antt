@@ -1,6 +1,6 @@
 -- A set of GTIDs of one source has one source.
-use Rattle.std.proofs.Common.{◌≡◌, ℕ, ◌+◌, ◌≤◌, Bool, true, false, cond, refl, sym, ap, subst, ◌∙◌, arith, Err, eq-eqb}
-use Rattle.std.specs.Prelude.{◌==◌, ◌&&◌, ◌||◌}
+use Rattle.std.proofs.Common.{◌≡◌, ℕ, ◌+◌, ◌≤◌, cond, sym, ap, subst, ◌∙◌, arith, Err}
+use Rattle.std.specs.Prelude.{◌==◌}
 use Rattle.std.specs.FinSet as set
 use Rattle.std.specs.Cmp.{nat_cmp_total}
 use Rattle.std.specs.Ordering.{eq_by_cmp}
@@ -10,23 +10,20 @@ use Rattle.gtid_set.specs.declared.fault.SetFault.{SetFault}
 use Rattle.gtid_set.specs.declared.fault.SetFault.TheVariants.{Memory}
 use Rattle.gtid_set.specs.Sets.{Gtids, gtid, sources_of, source_count}
 use Rattle.gtid_set.specs.Full.{IsFullExactly}
-use Rattle.gtid_set.proofs.SetLemmas.{gtid_total, gtid_tied}
+use Rattle.gtid_set.proofs.SetLemmas.{has_itself}
 use Rattle.gtid_set.proofs.SetSources.{no_sources, number_of_source, source_known, sources_with_interval, union_one}
 use Rattle.journal.proofs.FaultLemmas.{memory_alone}
+use Rattle.rows.proofs.Patching.{not_true}
 
 -- so many sources, with one more
 abbrev pub count_and : Gtids → ℕ → ℕ
 count_and s source = set.len (set.insert (sources_of s) source)
 
-is_none : (b : Bool) → (b ≡ true → false ≡ true) → b ≡ false
-is_none true h = sym (h refl)
-is_none false h = refl
-
 pub none_and_one : (s : Gtids) (source : ℕ) → s ≡ set.empty → count_and s source ≡ 1
 none_and_one s source e =
     ap (λ t. count_and t source) e
     ∙ set.len-insert nat_cmp_total (sources_of set.empty) source
-    ∙ ap (λ b. cond b (source_count set.empty) (source_count set.empty + 1)) (is_none (set.contains (sources_of set.empty) source) (λ h. let r = number_of_source set.empty source h in sym (set.contains-empty gtid_cmp (gtid source r.number)) ∙ r.is))
+    ∙ ap (λ b. cond b (source_count set.empty) (source_count set.empty + 1)) (not_true (set.contains (sources_of set.empty) source) (λ h. let r = number_of_source set.empty source h in sym (set.contains-empty gtid_cmp (gtid source r.number)) ∙ r.is))
     ∙ ap (λ n. n + 1) no_sources
 
 -- the sources of a set with one GTID more
@@ -34,11 +31,6 @@ with_gtid : (s : Gtids) (g : Gtid) → sources_of (set.insert s g) ≡ set.inser
 with_gtid s g =
     let low : g.number ≤ g.number = omega arith in
     ap sources_of (sym (union_one s g)) ∙ sources_with_interval s g.source g.number g.number low
-
-has_itself : (s : Gtids) (g : Gtid) → set.contains (set.insert s g) g ≡ true
-has_itself s g =
-    set.contains-insert gtid_total s g g
-    ∙ ap (λ b. b || set.contains s g) (gtid_tied g g ∙ (λ i. eq-eqb g.source g.source refl i && eq-eqb g.number g.number refl i))
 
 pub still_one : (s : Gtids) (source n : ℕ) → count_and s source ≡ 1 → count_and (set.insert s (gtid source n)) source ≡ 1
 still_one s source n one =

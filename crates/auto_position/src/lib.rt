@@ -138,6 +138,3 @@ fn places(alloc: Global, entries: &[Entry], ask: &GtidSet) -> Result<Vec<u64>, A
     }
     Ok(places)
 }
-
-#[cfg(test)]
-mod tests;

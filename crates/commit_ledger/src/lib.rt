@@ -6,8 +6,6 @@ ghost use Rattle.std.specs.Prelude.{◌≡◌, ◌<◌, ◌≤◌, IfOk, length,
 ghost use Rattle.commit_ledger.specs.Tallies.{Tally, no_tally, unused, one_more, counted, joined, gathered, tally_of};
 
 mod naming;
-#[cfg(test)]
-mod tests;
 
 pub use naming::{Blanks, CommitsOf, Ledgers, StepsOf};
 use std::alloc::{AllocError, Global};

@@ -1,6 +1,6 @@
 -- A node is added behind the others, and linked at each of its keys.
 use Rattle.std.proofs.Common.{◌≡◌, ℕ, zero, suc, ◌+◌, ◌-◌, ◌<◌, ◌≤◌, ◌⊎◌, Bool, true, false, ◌||◌, cond, List, [], ◌∷◌, ◌++◌, map, length, replicate, Option, is_some, refl, sym, ap, subst, ◌∙◌, ⊎_elim, inl, inr, arith, take, drop, append_assoc, nat_eq, eq-eqb}
-use Rattle.std.proofs.lemmas.Bool.{lt-ltb, le-ltb, cases_lt}
+use Rattle.std.proofs.lemmas.Bool.{lt-ltb, le-ltb, cases_lt, both_ways}
 use Rattle.std.proofs.lemmas.List.{take_more, drop_more, map-append, length_push, get_or_append_left, get_or_push, get_or_past}
 use Rattle.std.specs.Prelude.{slice_index_or, slice_set}
 use Rattle.std.specs.List.{AllByRecursion, IsDistinct, list_any}
@@ -14,10 +14,12 @@ use Rattle.dependency_graph.specs.Kept.{points, point_of, is_below, waiting, is_
 use Rattle.dependency_graph.specs.declared.graph.Node.{Node}
 use Rattle.dependency_graph.specs.declared.chains.Chains.{Chains}
 use Rattle.dependency_graph.proofs.Entries.{flip, all_stay}
-use Rattle.dependency_graph.proofs.Linked.{push_holds, same_holds, has_last, had_one_is, holds_alike, rising_push, all_both, all_push}
-use Rattle.dependency_graph.proofs.Chained.{not_true, waiting_same}
+use Rattle.dependency_graph.proofs.Linked.{push_holds, same_holds, has_last, had_one_is, holds_alike, rising_push, all_both}
+use Rattle.dependency_graph.proofs.Chained.{waiting_same}
 use Rattle.dependency_graph.proofs.Popping.{open_parts, open_made}
 use Rattle.dependency_graph.proofs.Kept.{length_points}
+use mathlib.Core.Bool.{or-false}
+use Rattle.rows.proofs.Lists.{all_push}
 
 -- ---- one key more
 all_at : (P : Key → Type 0) (ks : List Key) (i : ℕ) (k : Key) → AllByRecursion P ks → i < length ks → k ≡ slice_index_or ks i k → P k
@@ -49,10 +51,6 @@ or_true : (b : Bool) → (b || true) ≡ true
 or_true true = refl
 or_true false = refl
 
-or_none : (b : Bool) → (b || false) ≡ b
-or_none true = refl
-or_none false = refl
-
 module _ (f : Key → List ℕ) (ks : List Key) (k : Key) (node : ℕ) (out : is_among ks k ≡ false) where
   key_free : with_node f ks node k ≡ f k
   key_free = ap (λ b. cond b (f k ++ node ∷ []) (f k)) out
@@ -61,7 +59,7 @@ module _ (f : Key → List ℕ) (ks : List Key) (k : Key) (node : ℕ) (out : is
   same_by q true e =
       ap (λ ns. ns ++ node ∷ []) (key_free ∙ ap f (sym (key_eq_same q k e)))
       ∙ ap (λ b. cond b (f q ++ node ∷ []) (f q)) (sym (or_true (is_among ks q)))
-  same_by q false e = ap (λ b. cond b (f q ++ node ∷ []) (f q)) (sym (or_none (is_among ks q)))
+  same_by q false e = ap (λ b. cond b (f q ++ node ∷ []) (f q)) (sym (or-false (is_among ks q)))
 
   more_same : (q : Key) → with_chain (with_node f ks node) k (with_node f ks node k ++ node ∷ []) q ≡ with_node f (ks ++ k ∷ []) node q
   more_same q = same_by q (key_eq q k) refl ∙ ap (λ b. cond b (f q ++ node ∷ []) (f q)) (sym (among_push ks k q))
@@ -135,7 +133,7 @@ has_by n m ns true more e = refl
 has_by n m ns false more e = more e
 
 has_push : (ns : List ℕ) (n m : ℕ) → Has ns m → Has (ns ++ n ∷ []) m
-has_push [] n m h = absurd (not_true false refl h)
+has_push [] n m h = absurd (both_ways false refl h)
 has_push (x ∷ ns) n m h = has_by n m ns (nat_eq x m) (has_push ns n m) h
 
 has_last_one : (ns : List ℕ) (n : ℕ) → Has (ns ++ n ∷ []) n
@@ -205,12 +203,12 @@ module _ (d : ℕ) (nodes : List Node) (c new : Chains) (kept : IsKept d nodes c
 
   has_newest : (k : Key) (b : Bool) → is_among keys k ≡ b → is_among keys k ≡ true → Has (cond b (kept.chain k ++ n ∷ []) (kept.chain k)) n
   has_newest k true e h = has_last_one (kept.chain k) n
-  has_newest k false e h = absurd (not_true (is_among keys k) e h)
+  has_newest k false e h = absurd (both_ways (is_among keys k) e h)
 
   found_added : (k : Key) (m : ℕ) → is_open_at k (point_at qs m) ≡ true → Has (with_node kept.chain keys n k) m
   found_added k m h =
       ⊎_elim (λ lt. has_both k m (kept.chained.found k m (ap (is_open_at k) (sym (older m lt)) ∙ h)) (is_among keys k))
-      (λ le. ⊎_elim (λ far. absurd (not_true (is_open_at k gone) refl (ap (is_open_at k) (sym (past m far)) ∙ h)))
+      (λ le. ⊎_elim (λ far. absurd (both_ways (is_open_at k gone) refl (ap (is_open_at k) (sym (past m far)) ∙ h)))
       (λ near.
       let same : m ≡ n = omega (le, near, arith) in
       let inside : is_among keys k ≡ true =

@@ -1,6 +1,6 @@
 -- What the chains say of the unfinished nodes.
-use Rattle.std.proofs.Common.{◌≡◌, ℕ, zero, suc, ◌+◌, ◌<◌, ◌⊎◌, Bool, true, false, ◌||◌, cond, List, [], ◌∷◌, length, Option, Some, None, refl, sym, ap, subst, ◌∙◌, ⊎_elim, inl, inr, arith, nat_eq}
-use Rattle.std.proofs.lemmas.Bool.{eqb-true}
+use Rattle.std.proofs.Common.{◌≡◌, ℕ, zero, suc, ◌+◌, ◌<◌, ◌⊎◌, Bool, true, false, cond, List, [], ◌∷◌, length, Option, Some, None, refl, sym, ap, subst, ◌∙◌, ⊎_elim, inl, inr, arith, nat_eq}
+use Rattle.std.proofs.lemmas.Bool.{eqb-true, both_ways, or_cases}
 use Rattle.std.specs.List.{AllByRecursion, list_any}
 use Rattle.rows.specs.declared.change.Key.{Key}
 use Rattle.dependency_graph.specs.Graphs.{Point, point_at, least, is_open_at}
@@ -9,10 +9,6 @@ use Rattle.dependency_graph.specs.Kept.{points, is_below, waiting, is_finished_a
 use Rattle.dependency_graph.specs.declared.graph.Node.{Node}
 use Rattle.dependency_graph.specs.declared.chains.Chains.{Chains}
 use Rattle.dependency_graph.proofs.Linked.{first_is}
-
-pub not_true : (b : Bool) → b ≡ false → b ≡ true → ⊥
-not_true true h e = cc
-not_true false h e = cc
 
 least_cond_none : (b : Bool) (at : ℕ) (o : Option ℕ) → (b ≡ true → ⊥) → o ≡ None → cond b (Some at) o ≡ None
 least_cond_none true at o h e = absurd (h refl)
@@ -34,25 +30,21 @@ least_some p at (x ∷ xs) (suc n) lt h before =
     least_cond_some (p x) at (least p (suc at) xs) (Some (at + suc n)) (before zero (omega arith))
     (least_some p (suc at) xs n (omega (lt, arith)) h (λ m less. before (suc m) (omega (less, arith))) ∙ ap Some same)
 
-pub or_cases : (b c : Bool) → (b || c) ≡ true → (b ≡ true) ⊎ (c ≡ true)
-or_cases true c h = inl refl
-or_cases false c h = inr h
-
 -- one of the numbers is the first, or among the rest
 pub has_cases : (m n : ℕ) (ns : List ℕ) → Has (n ∷ ns) m → (m ≡ n) ⊎ Has ns m
 has_cases m n ns h = ⊎_elim (λ e. inl (sym (eqb-true n m e))) inr (or_cases (nat_eq n m) (list_any (λ k. nat_eq k m) ns) h)
 
 pub all_has : (P : ℕ → Type 0) (ns : List ℕ) (m : ℕ) → AllByRecursion P ns → Has ns m → P m
-all_has P [] m h e = absurd (not_true false refl e)
+all_has P [] m h e = absurd (both_ways false refl e)
 all_has P (n ∷ ns) m h e = ⊎_elim (λ same. subst P (sym same) h.0) (all_has P ns m h.1) (has_cases m n ns e)
 
 -- the first of a chain that starts open is the least unfinished node
 chain_front : (ps : List Point) (k : Key) (ns : List ℕ) → IsRising ns → AllByRecursion (λ n. n < length ps) ns
     → AllByRecursion (λ n. is_finished_at ps n ≡ false → is_open_at k (point_at ps n) ≡ true) ns
     → ((n : ℕ) → is_open_at k (point_at ps n) ≡ true → Has ns n) → StartsOpen ps false ns → first_number ns ≡ least (is_open_at k) 0 ps
-chain_front ps k [] rising below members found starts = sym (least_none (is_open_at k) 0 ps (λ n e. not_true false refl (found n e)))
+chain_front ps k [] rising below members found starts = sym (least_none (is_open_at k) 0 ps (λ n e. both_ways false refl (found n e)))
 chain_front ps k (n ∷ ns) rising below members found starts =
-    let open_one : is_finished_at ps n ≡ false = ⊎_elim (λ e. e) (λ e. absurd (not_true false refl e)) starts in
+    let open_one : is_finished_at ps n ≡ false = ⊎_elim (λ e. e) (λ e. absurd (both_ways false refl e)) starts in
     let same : 0 + n ≡ n = omega arith in
     sym (least_some (is_open_at k) 0 ps n below.0 (members.0 open_one)
     (λ m less e. ⊎_elim (λ is. omega (is, less, arith)) (λ in_rest. let far = all_has (λ j. n < j) ns m rising.0 in_rest in omega (far, less, arith)) (has_cases m n ns (found m e))) ∙ ap Some same)

@@ -3,7 +3,7 @@ use Rattle.std.proofs.Common.{◌≡◌, ℕ, zero, suc, ◌+◌, ◌-◌, ◌<�
 use Rattle.std.proofs.Common.{not, ◌&&◌, take}
 use Rattle.std.proofs.Math.Dec.{ltb, eqb-suc-zero}
 use Rattle.std.proofs.lemmas.Bool.{ltb-true, ltb-false}
-use Rattle.std.specs.Prelude.{slice_index_or, nat_eq, is_none, Option, Some, None}
+use Rattle.std.specs.Prelude.{slice_index_or, nat_eq, is_none, Option, None}
 use Rattle.std.proofs.lemmas.List.{take_more}
 use Rattle.rows.specs.declared.change.Key.{Key}
 use Rattle.dependency_graph.specs.Graphs.{Point, gone, point_at, least, holds_back, is_open_at, is_ready, may_go, blocker}
@@ -12,6 +12,8 @@ use Rattle.dependency_graph.specs.Kept.{points, point_of, IsSound}
 use Rattle.dependency_graph.specs.declared.chains.Chains.{Chains}
 use Rattle.dependency_graph.proofs.Least.{ready_count, none_at, key_more, earlier}
 use Rattle.dependency_graph.specs.declared.graph.Node.{Node}
+use Rattle.rows.proofs.Patching.{and_second}
+use Rattle.rows.proofs.Lists.{none_if}
 
 point_of_at : (nodes : List Node) (i : ℕ) (n : Node) → slice_index_or nodes i n ≡ n → i < length nodes → slice_index_or (map point_of nodes) i gone ≡ point_of n
 point_of_at (x ∷ nodes) zero n e h = ap point_of e
@@ -117,14 +119,6 @@ waits_on false w h = is_not_zero w h
 pub goes_now : (finished : Bool) (w : ℕ) → finished ≡ false → w ≡ 0 → (not finished && nat_eq w 0) ≡ true
 goes_now finished w f e = ap (λ b. not b && nat_eq w 0) f ∙ ap (λ n. nat_eq n 0) e
 
-and_last : (a b : Bool) → (a && b) ≡ true → b ≡ true
-and_last true b e = e
-and_last false b e = cc
-
-none_if : (o : Option ℕ) → is_none o ≡ true → o ≡ None
-none_if None e = refl
-none_if (Some n) e = cc
-
 -- nothing holds a node back that may go
 pub may_go_free : (ps : List Point) (n : ℕ) → may_go ps n ≡ true → blocker ps n ≡ None
-may_go_free ps n e = none_if (blocker ps n) (and_last (not (point_at ps n).finished) (is_ready ps n) e)
+may_go_free ps n e = none_if (blocker ps n) (and_second (not (point_at ps n).finished) (is_ready ps n) e)

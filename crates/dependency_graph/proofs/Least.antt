@@ -7,6 +7,7 @@ use Rattle.std.proofs.Math.Dec.{eqb-suc-zero}
 use Rattle.dependency_graph.specs.Graphs.{Point, least, is_open_at, holds_back}
 use Rattle.rows.specs.declared.change.Key.{Key}
 use Rattle.dependency_graph.specs.Kept.{is_below, waiting}
+use mathlib.Core.Bool.{or-false}
 
 -- the least so far, or an earlier one
 abbrev pub earlier : ℕ → Option ℕ → Option ℕ → Option ℕ
@@ -46,16 +47,12 @@ pub least_alike : (p q : Point → Bool) (at : ℕ) (xs : List Point) → ((e : 
 least_alike p q at [] h = refl
 least_alike p q at (x ∷ xs) h = ap (λ b. cond b (Some at) (least p (suc at) xs)) (h x) ∙ ap (λ o. cond (q x) (Some at) o) (least_alike p q (suc at) xs h)
 
-or_false : (b : Bool) → (b || false) ≡ b
-or_false true = refl
-or_false false = refl
-
 -- one key more
 pub key_more : (ks : List Key) (k : Key) (n : ℕ) (ps : List Point) → least (holds_back (ks ++ k ∷ [])) 0 (take n ps) ≡ earlier n (least (holds_back ks) 0 (take n ps)) (least (is_open_at k) 0 ps)
 key_more ks k n ps =
     let same : 0 + n ≡ n = omega arith in
     least_alike (holds_back (ks ++ k ∷ [])) (λ e. holds_back ks e || is_open_at k e) 0 (take n ps)
-    (λ e. list_any-append (λ k. is_open_at k e) ks (k ∷ []) ∙ ap (λ b. holds_back ks e || b) (or_false (is_open_at k e)))
+    (λ e. list_any-append (λ k. is_open_at k e) ks (k ∷ []) ∙ ap (λ b. holds_back ks e || b) (or-false (is_open_at k e)))
     ∙ least_either (holds_back ks) (is_open_at k) 0 n ps
     ∙ ap (λ m. earlier m (least (holds_back ks) 0 (take n ps)) (least (is_open_at k) 0 ps)) same
 

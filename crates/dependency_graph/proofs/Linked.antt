@@ -11,6 +11,7 @@ use Rattle.slab.specs.Slab as slots
 use Rattle.dependency_graph.specs.declared.chains.Chains.{Chains}
 use Rattle.dependency_graph.specs.declared.chains.Edge.{Edge}
 use Rattle.dependency_graph.specs.declared.chains.Ends.{Ends}
+use Rattle.rows.proofs.Lists.{all_push}
 
 -- edges changed elsewhere
 linked_elsewhere : (es new : ℕ → Option Edge) (ls : List Link) → AllByRecursion (λ (l : Link). new l.at ≡ es l.at) ls → IsLinked es ls → IsLinked new ls
@@ -24,10 +25,6 @@ all_of P (x ∷ xs) h = (h x, all_of P xs h)
 pub all_both : {X : Type 0} (P Q R : X → Type 0) (xs : List X) → ((x : X) → P x → Q x → R x) → AllByRecursion P xs → AllByRecursion Q xs → AllByRecursion R xs
 all_both P Q R [] f h g = tt
 all_both P Q R (x ∷ xs) f h g = (f x h.0 g.0, all_both P Q R xs f h.1 g.1)
-
-pub all_push : {X : Type 0} (P : X → Type 0) (xs : List X) (y : X) → AllByRecursion P xs → P y → AllByRecursion P (xs ++ y ∷ [])
-all_push P [] y h g = (g, tt)
-all_push P (x ∷ xs) y h g = (h.0, all_push P xs y h.1 g)
 
 -- the edges of these links differ from that one
 abbrev pub IsOff : ℕ → List Link → Type 0

@@ -14,6 +14,7 @@ use Rattle.dependency_graph.proofs.Kept.{kept_now, waits_on, may_go_kept, gone_a
 use Rattle.dependency_graph.proofs.Popping.{unfinished_kept, length_set}
 use Rattle.dependency_graph.proofs.Adding.{set_last}
 use Rattle.dependency_graph.proofs.Levels.{level_less, level_raise, level_lower}
+use Rattle.rows.proofs.Lists.{not_out}
 
 pub listing_same : (r : Ready) (base end : ℕ) (p q : ℕ → Bool) → ((m : ℕ) → p m ≡ q m) → IsListing r base end p → IsListing r base end q
 listing_same r base end p q same h = subst (IsListing r base end) (λ i m. same m i) h
@@ -43,15 +44,12 @@ goes_in_other (y ∷ nodes) (suc i) zero x ne = refl
 goes_in_other (y ∷ nodes) (suc i) (suc j) x ne = goes_in_other nodes i j x (λ e. ne (ap suc e))
 
 -- a number behind those that were dropped
-at_front : (d n : ℕ) (nodes : List Node) → n < d → goes_at d nodes n ≡ false
-at_front d n nodes lt = by (ltb n d) refl
+pub goes_before : (d n : ℕ) (nodes : List Node) → n < d → goes_at d nodes n ≡ false
+goes_before d n nodes lt = by (ltb n d) refl
   where
     by : (b : Bool) → ltb n d ≡ b → cond b false (goes_in nodes (n - d)) ≡ false
     by true e = refl
     by false e = absurd (let le = ltb-false n d e in omega (le, lt, arith))
-
-pub goes_before : (d n : ℕ) (nodes : List Node) → n < d → goes_at d nodes n ≡ false
-goes_before d n nodes lt = at_front d n nodes lt
 
 by_kept : (b : Bool) (d n : ℕ) (nodes : List Node) → ltb n d ≡ b → d ≤ n → cond b false (goes_in nodes (n - d)) ≡ goes_in nodes (n - d)
 by_kept true d n nodes e le = absurd (let lt = ltb-true n d e in omega (le, lt, arith))
@@ -122,10 +120,6 @@ goes_pushed d nodes x now is = record {
     by_front true m ne e = refl
     by_front false m ne e = goes_in_push nodes x (m - d) (λ same. ne (let le = ltb-false m d e in omega (le, same, arith)))
 
-not_both : (b c : Bool) → b ≡ true → (not b && c) ≡ false
-not_both true c e = refl
-not_both false c e = absurd (true≢false (sym e))
-
 -- the first node, which is finished, is gone
 pub goes_dropped : (d : ℕ) (x : Node) (nodes : List Node) → x.finished ≡ true → (m : ℕ) → goes_at d (x ∷ nodes) m ≡ goes_at (d + 1) nodes m
 goes_dropped d x nodes done m = by_front (ltb m d) refl
@@ -134,7 +128,7 @@ goes_dropped d x nodes done m = by_front (ltb m d) refl
     later lt = let next : m - d ≡ suc (m - (d + 1)) = omega (lt, arith) in ap (goes_in (x ∷ nodes)) next
 
     here : m ≡ d → goes_in (x ∷ nodes) (m - d) ≡ false
-    here e = let place : m - d ≡ zero = omega (e, arith) in ap (goes_in (x ∷ nodes)) place ∙ not_both x.finished (nat_eq x.waits 0) done
+    here e = let place : m - d ≡ zero = omega (e, arith) in ap (goes_in (x ∷ nodes)) place ∙ not_out x.finished (nat_eq x.waits 0) done
 
     by_next : (b : Bool) → ltb m (d + 1) ≡ b → d ≤ m → goes_in (x ∷ nodes) (m - d) ≡ goes_at (d + 1) nodes m
     by_next true e le = here (let lt = ltb-true m (d + 1) e in omega (lt, le, arith)) ∙ sym (goes_before (d + 1) m nodes (ltb-true m (d + 1) e))

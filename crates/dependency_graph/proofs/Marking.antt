@@ -1,6 +1,6 @@
 -- A node is marked as finished, its keys are settled one by one, and the finished beginning is dropped.
 use Rattle.std.proofs.Common.{◌≡◌, ℕ, zero, suc, ◌+◌, ◌<◌, Bool, true, false, not, ◌&&◌, ◌||◌, cond, List, [], ◌∷◌, ◌++◌, map, length, replicate, Some, refl, sym, ap, subst, ◌∙◌, ⊎_elim, inl, inr, arith, drop}
-use Rattle.std.proofs.lemmas.Bool.{cases_eq}
+use Rattle.std.proofs.lemmas.Bool.{cases_eq, both_ways}
 use Rattle.std.proofs.lemmas.List.{get_or-set_same, get_or-set_other}
 use Rattle.std.specs.Prelude.{slice_index_or, slice_set}
 use Rattle.std.specs.List.{AllByRecursion, IsDistinct}
@@ -14,7 +14,6 @@ use Rattle.dependency_graph.specs.Kept.{points, point_of, waiting, is_finished_a
 use Rattle.dependency_graph.specs.declared.graph.Node.{Node}
 use Rattle.dependency_graph.specs.declared.chains.Chains.{Chains}
 use Rattle.dependency_graph.proofs.Linked.{first_is}
-use Rattle.dependency_graph.proofs.Chained.{not_true}
 use Rattle.dependency_graph.proofs.Popping.{open_parts, node_in_set, length_set}
 use Rattle.dependency_graph.proofs.Kept.{kept_at, length_points}
 
@@ -27,7 +26,7 @@ record IsMarked (ps qs : List Point) (n : ℕ) : Type 0 where
 
 module _ (ps qs : List Point) (n : ℕ) (mark : IsMarked ps qs n) (chain : Key → List ℕ) (chained : IsChained ps chain []) where
   other : (m : ℕ) → is_finished_at qs m ≡ false → m ≡ n → ⊥
-  other m open_one same = not_true (is_finished_at qs m) open_one (ap (is_finished_at qs) same ∙ mark.here)
+  other m open_one same = both_ways (is_finished_at qs m) open_one (ap (is_finished_at qs) same ∙ mark.here)
 
   all_marked : (k : Key) (ns : List ℕ) → AllByRecursion (λ m. is_finished_at ps m ≡ false → is_open_at k (point_at ps m) ≡ true) ns
       → AllByRecursion (λ m. is_finished_at qs m ≡ false → is_open_at k (point_at qs m) ≡ true) ns
@@ -43,7 +42,7 @@ module _ (ps qs : List Point) (n : ℕ) (mark : IsMarked ps qs n) (chain : Key �
       → AllByRecursion (λ m. is_finished_at ps m ≡ false → is_open_at k (point_at ps m) ≡ true) ns → StartsOpen qs (is_among (point_at ps n).keys k) ns
   starts_marked k [] h members = tt
   starts_marked k (m ∷ ns) h members =
-      let open_one : is_finished_at ps m ≡ false = ⊎_elim (λ e. e) (λ e. absurd (not_true false refl e)) h in
+      let open_one : is_finished_at ps m ≡ false = ⊎_elim (λ e. e) (λ e. absurd (both_ways false refl e)) h in
       ⊎_elim (λ same. inr (ap (λ j. is_among (point_at ps j).keys k) (sym same) ∙ (open_parts k (point_at ps m) (members.0 open_one)).1))
       (λ far. inl (ap (λ (p : Point). p.finished) (mark.others m far) ∙ open_one)) (cases_eq m n)
 
@@ -98,7 +97,7 @@ module _ (d : ℕ) (nodes : List Node) (c : Chains) (kept : IsKept d nodes c [])
   counted_marked : IsCounted d (slice_set nodes i marked) kept.chain
   counted_marked j y in_range read unfinished =
       let size = length_set nodes i marked in
-      ⊎_elim (λ here. absurd (not_true y.finished unfinished (ap (λ (z : Node). z.finished) here.1)))
+      ⊎_elim (λ here. absurd (both_ways y.finished unfinished (ap (λ (z : Node). z.finished) here.1)))
       (λ far. kept.counted j y (omega (in_range, size, arith)) far.1 unfinished) (node_in_set nodes i j marked y lt read)
 
   pub kept_marked : IsKept d (slice_set nodes i marked) c (keys_at (slice_set nodes i marked) i)

@@ -1,6 +1,6 @@
 -- A finished node leaves the front of a chain.
 use Rattle.std.proofs.Common.{◌≡◌, ℕ, zero, suc, ◌+◌, ◌-◌, ◌<◌, ◌≤◌, ◌⊎◌, Bool, true, false, not, ◌&&◌, ◌||◌, cond, List, [], ◌∷◌, ◌++◌, map, length, replicate, Option, Some, refl, sym, ap, subst, ◌∙◌, ⊎_elim, inl, inr, arith}
-use Rattle.std.proofs.lemmas.Bool.{lt-ltb, le-ltb, cases_eq, cases_lt}
+use Rattle.std.proofs.lemmas.Bool.{lt-ltb, le-ltb, cases_eq, cases_lt, or_parts, both_ways}
 use Rattle.std.proofs.lemmas.List.{get_or-set_same, get_or-set_other, get_or_past}
 use Rattle.std.specs.Prelude.{slice_index_or, slice_set}
 use Rattle.std.specs.List.{AllByRecursion, IsDistinct}
@@ -14,21 +14,17 @@ use Rattle.dependency_graph.specs.Kept.{points, point_of, is_below, waiting, is_
 use Rattle.dependency_graph.specs.declared.graph.Node.{Node}
 use Rattle.dependency_graph.specs.declared.chains.Chains.{Chains}
 use Rattle.dependency_graph.proofs.Entries.{flip}
-use Rattle.dependency_graph.proofs.Chained.{not_true, has_cases, all_has}
+use Rattle.dependency_graph.proofs.Chained.{has_cases, all_has}
 use Rattle.dependency_graph.proofs.Kept.{kept_at, gone_at, length_points}
 
 -- ---- what one key counts
 abbrev pub bit : ℕ → Option ℕ → ℕ
 bit n o = cond (is_below n o) 1 0
 
-neither : (b c : Bool) → (b || c) ≡ false → (b ≡ false) × (c ≡ false)
-neither true c h = cc
-neither false c h = (refl, h)
-
 waiting_apart : (f g : Key → Option ℕ) (n : ℕ) (k : Key) → ((q : Key) → key_eq q k ≡ false → g q ≡ f q) → (ks : List Key) → is_among ks k ≡ false → waiting f n ks ≡ waiting g n ks
 waiting_apart f g n k h [] out = refl
 waiting_apart f g n k h (x ∷ ks) out =
-    let both = neither (key_eq k x) (is_among ks k) out in
+    let both = or_parts (key_eq k x) (is_among ks k) out in
     let here : g x ≡ f x = h x (flip x k ∙ both.0) in
     ap (λ w. cond (is_below n (f x)) 1 0 + w) (waiting_apart f g n k h ks both.1) ∙ ap (λ o. cond (is_below n o) 1 0 + waiting g n ks) (sym here)
 
@@ -63,7 +59,7 @@ once_by f g n k h x ks d true e inside rest =
 once_by f g n k h x ks d false e inside rest = once_later f g n k x ks (h x (flip x k ∙ e)) (rest inside)
 
 waiting_once : (f g : Key → Option ℕ) (n : ℕ) (k : Key) → ((q : Key) → key_eq q k ≡ false → g q ≡ f q) → (ks : List Key) → IsDistinct key_eq ks → is_among ks k ≡ true → waiting f n ks + bit n (g k) ≡ waiting g n ks + bit n (f k)
-waiting_once f g n k h [] d inside = absurd (not_true false refl inside)
+waiting_once f g n k h [] d inside = absurd (both_ways false refl inside)
 waiting_once f g n k h (x ∷ ks) d inside = once_by f g n k h x ks d (key_eq k x) refl inside (waiting_once f g n k h ks (distinct_rest x ks d))
 
 both_true : (a b : Bool) → (not a && b) ≡ true → (a ≡ false) × (b ≡ true)
@@ -76,7 +72,7 @@ open_parts k p h = both_true p.finished (is_among p.keys k) h
 pub open_made : (k : Key) (p : Point) → p.finished ≡ false → is_among p.keys k ≡ true → is_open_at k p ≡ true
 open_made k p a b = ap (λ x. not x && is_among p.keys k) a ∙ b
 
-same_some : (m n : ℕ) → Some m ≡ Some n → m ≡ n
+pub same_some : (m n : ℕ) → Some m ≡ Some n → m ≡ n
 same_some m n h = cc
 
 module _ (ps : List Point) (chain : Key → List ℕ) (late : List Key) (chained : IsChained ps chain late)
@@ -101,7 +97,7 @@ module _ (ps : List Point) (chain : Key → List ℕ) (late : List Key) (chained
 
   found_rest : (m : ℕ) → is_open_at k (point_at ps m) ≡ true → Has ns m
   found_rest m h =
-      ⊎_elim (λ same. absurd (not_true (is_finished_at ps m) (open_parts k (point_at ps m) h).0 (ap (is_finished_at ps) same ∙ done))) (λ e. e)
+      ⊎_elim (λ same. absurd (both_ways (is_finished_at ps m) (open_parts k (point_at ps m) h).0 (ap (is_finished_at ps) same ∙ done))) (λ e. e)
       (has_cases m n ns (subst (λ xs. Has xs m) is (chained.found k m h)))
 
   first_in : (P : ℕ → Type 0) (m : ℕ) (xs : List ℕ) → first_number xs ≡ Some m → AllByRecursion P xs → P m
@@ -112,7 +108,7 @@ module _ (ps : List Point) (chain : Key → List ℕ) (late : List Key) (chained
   later_first m x xs h r ne = ⊎_elim (λ same. absurd (ne (ap Some (sym same)))) (all_has (λ j. x < j) xs m r.0) (has_cases m x xs h)
 
   rest_bit : (m : ℕ) (xs : List ℕ) → Has xs m → IsRising xs → (first_number xs ≡ Some m → ⊥) → bit m (first_number xs) ≡ 1
-  rest_bit m [] h r ne = absurd (not_true false refl h)
+  rest_bit m [] h r ne = absurd (both_ways false refl h)
   rest_bit m (x ∷ xs) h r ne = ap (λ b. cond b 1 0) (lt-ltb x m (later_first m x xs h r ne))
 
   here_bit : (m : ℕ) (o : Option ℕ) → o ≡ Some m → bit m o ≡ 0
@@ -134,7 +130,7 @@ module _ (ps : List Point) (chain : Key → List ℕ) (late : List Key) (chained
 
     apart_step : is_among ks k ≡ false → Steps
     apart_step out = (
-      (λ first. absurd (not_true (is_among ks k) out
+      (λ first. absurd (both_ways (is_among ks k) out
           (ap (λ xs. is_among xs k) (sym keys) ∙ (open_parts k (point_at ps m) (first_in (λ j. is_finished_at ps j ≡ false → is_open_at k (point_at ps j) ≡ true) m ns first key_members.1 open_one)).1))),
       (λ other. waiting_apart before after m k apart ks out),
     )
@@ -197,11 +193,11 @@ same_points (n ∷ nodes) zero x y h lt e = ap (λ p. p ∷ map point_of nodes) 
 same_points (n ∷ nodes) (suc j) x y h lt e = ap (λ qs. point_of n ∷ qs) (same_points nodes j x y h (omega (lt, arith)) e)
 
 unfinished_by : (d : ℕ) (nodes : List Node) (m : ℕ) → (m < d) ⊎ (d ≤ m) → ((m - d) < length nodes) ⊎ (length nodes ≤ (m - d)) → is_finished_at (points d nodes) m ≡ false → (d ≤ m) × ((m - d) < length nodes)
-unfinished_by d nodes m (inl lt) b e = absurd (not_true (is_finished_at (points d nodes) m) e (ap (λ (p : Point). p.finished) (gone_at d m (map point_of nodes) lt)))
+unfinished_by d nodes m (inl lt) b e = absurd (both_ways (is_finished_at (points d nodes) m) e (ap (λ (p : Point). p.finished) (gone_at d m (map point_of nodes) lt)))
 unfinished_by d nodes m (inr le) (inl lt) e = (le, lt)
 unfinished_by d nodes m (inr le) (inr past) e =
     let size = length_points d nodes in
-    absurd (not_true (is_finished_at (points d nodes) m) e (ap (λ (p : Point). p.finished) (get_or_past (points d nodes) m gone (omega (size, past, le, arith)))))
+    absurd (both_ways (is_finished_at (points d nodes) m) e (ap (λ (p : Point). p.finished) (get_or_past (points d nodes) m gone (omega (size, past, le, arith)))))
 
 pub unfinished_kept : (d : ℕ) (nodes : List Node) (m : ℕ) → is_finished_at (points d nodes) m ≡ false → (d ≤ m) × ((m - d) < length nodes)
 unfinished_kept d nodes m e = unfinished_by d nodes m (cases_lt m d) (cases_lt (m - d) (length nodes)) e
@@ -242,7 +238,7 @@ module _ (d : ℕ) (nodes : List Node) (c new : Chains) (late : List Key) (kept 
     chained = chained_popped (points d nodes) kept.chain late kept.chained k n ns is done inside;
     counted = λ i x lt at open_one.
         kept.counted i x lt at open_one
-        ∙ (steps i x lt at open_one).1 (λ first. not_true (is_finished_at (points d nodes) (d + i))
+        ∙ (steps i x lt at open_one).1 (λ first. both_ways (is_finished_at (points d nodes) (d + i))
         (ap (λ (p : Point). p.finished) (kept_at d i nodes x (sym at) lt) ∙ open_one) (all_done (d + i) first));
   }
 

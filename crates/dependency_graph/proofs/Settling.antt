@@ -15,30 +15,27 @@ use Rattle.dependency_graph.specs.declared.graph.Node.{Node}
 use Rattle.dependency_graph.specs.declared.chains.Chains.{Chains}
 use Rattle.dependency_graph.proofs.Entries.{some_key}
 use Rattle.dependency_graph.proofs.Linked.{first_is, pop_holds, pop_fewer}
-use Rattle.dependency_graph.proofs.Chained.{not_true}
 use Rattle.dependency_graph.proofs.Kept.{kept_at}
-use Rattle.dependency_graph.proofs.Popping.{unfinished_kept, waits_one, popped_same, popped_less, same_points}
+use Rattle.dependency_graph.proofs.Popping.{unfinished_kept, waits_one, popped_same, popped_less, same_points, same_some}
 use Rattle.dependency_graph.proofs.Marking.{kept_settled, keys_here, points_set}
-
-some_same : (m n : ℕ) → Some m ≡ Some n → m ≡ n
-some_same m n h = cc
+use Rattle.std.proofs.lemmas.Bool.{both_ways}
 
 pub releases_at : (d : ℕ) (old : List Node) (x : Node) (node : ℕ) (first : Option ℕ) → first ≡ Some node → x ≡ slice_index_or old (node - d) x → is_finished_at (points d old) node ≡ false
     → Releases d old (slice_set old (node - d) (record x { waits = x.waits - 1 })) first
 releases_at d old x node first is at open_one = record {
   unfinished = λ n e unf.
-      let same : n ≡ node = some_same n node (sym e ∙ is) in
+      let same : n ≡ node = same_some n node (sym e ∙ is) in
       record {
         node = x;
         at = at ∙ ap (λ m. slice_index_or old (m - d) x) (sym same);
         is = ap (λ m. slice_set old (m - d) (record x { waits = x.waits - 1 })) (sym same);
       };
-  others = λ h. absurd (not_true (is_finished_at (points d old) node) open_one (h node is));
+  others = λ h. absurd (both_ways (is_finished_at (points d old) node) open_one (h node is));
 }
 
 first_rest : (n : ℕ) (xs : List ℕ) → first_number xs ≡ Some n → (ns : List ℕ) × (xs ≡ n ∷ ns)
 first_rest n [] e = cc
-first_rest n (x ∷ xs) e = (xs, ap (λ m. m ∷ xs) (some_same x n e))
+first_rest n (x ∷ xs) e = (xs, ap (λ m. m ∷ xs) (same_some x n e))
 
 module _ (d : ℕ) (nodes : List Node) (c new : Chains) (late : List Key) (kept : IsKept d nodes c late)
     (k : Key) (n : ℕ) (first : first_of c k ≡ Some n) (done : is_finished_at (points d nodes) n ≡ true) (inside : is_among late k ≡ true) (pops : PopsFirst c new k) where
@@ -80,7 +77,7 @@ module _ (d : ℕ) (nodes : List Node) (c new : Chains) (late : List Key) (kept 
 
       by_flag : (m : ℕ) → first_number rest.0 ≡ Some m → (b : Bool) → is_finished_at (points d nodes) m ≡ b → Goes
       by_flag m e true f =
-          let all_done : (j : ℕ) → first_number rest.0 ≡ Some j → is_finished_at (points d nodes) j ≡ true = λ j ej. ap (is_finished_at (points d nodes)) (some_same j m (sym ej ∙ e)) ∙ f in
+          let all_done : (j : ℕ) → first_number rest.0 ≡ Some j → is_finished_at (points d nodes) j ≡ true = λ j ej. ap (is_finished_at (points d nodes)) (same_some j m (sym ej ∙ e)) ∙ f in
           stays (r.others (λ j ej. all_done j (sym (is ∙ next_is) ∙ ej))) all_done
       by_flag m e false f = lowers m e f
 

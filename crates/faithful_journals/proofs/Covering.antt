@@ -1,6 +1,7 @@
 -- The members of journals, told entry by entry.
-use Rattle.std.proofs.Common.{◌≡◌, ℕ, ◌≤◌, Bool, ◌||◌, List, [], ◌∷◌, map, length, take, refl, sym, ap, ◌∙◌}
+use Rattle.std.proofs.Common.{◌≡◌, ℕ, ◌≤◌, Bool, ◌||◌, List, [], ◌∷◌, ◌++◌, map, length, take, refl, sym, ap, ◌∙◌}
 use Rattle.std.specs.List.{list_any}
+use Rattle.std.proofs.lemmas.List.Folds.{list_any-append}
 use Rattle.std.specs.Ordering.{eq_by_cmp}
 use Rattle.std.specs.FinSet as set
 use Rattle.gtid_text.specs.declared.Gtid.{Gtid}
@@ -12,15 +13,18 @@ use Rattle.journal.specs.Journals.{JournalValue, gtids_of, whole}
 use Rattle.journal.proofs.EntryLemmas.{contains-whole}
 use Rattle.rows.specs.declared.change.Transaction.{Transaction}
 use Rattle.source_history.specs.World.{World, is_opened, IsClosed}
-use Rattle.source_history.proofs.Gtids.{gtid_total}
 use Rattle.source_history.proofs.Closing.{closed_same}
 use Rattle.faithful_journals.specs.Faithful as journals
+use Rattle.gtid_text.proofs.SameGtid.{gtid_total}
 
 abbrev pub entry_of : Gtid → Transaction → Entry
 entry_of g t = record { gtid = g; txn = t }
 
 abbrev pub is_entry : List Entry → Gtid → Bool
 is_entry entries g = list_any (λ (e : Entry). same_gtid g e.gtid) entries
+
+pub entries_append : (xs ys : List Entry) (g : Gtid) → is_entry (xs ++ ys) g ≡ (is_entry xs g || is_entry ys g)
+entries_append xs ys g = list_any-append (λ (e : Entry). same_gtid g e.gtid) xs ys
 
 -- in the previous set, or one of these entries
 abbrev pub covered : Gtids → List Entry → Gtid → Bool
@@ -37,7 +41,7 @@ has journal = covered journal.previous journal.entries
 pub in_insert : (s : Gtids) (g h : Gtid) → set.contains (set.insert s g) h ≡ (same_gtid h g || set.contains s h)
 in_insert s g h = set.contains-insert gtid_total s g h ∙ ap (λ b. b || set.contains s h) (gtid_tied h g)
 
-any_tied : (gs : List Gtid) (g : Gtid) → list_any (eq_by_cmp gtid_cmp g) gs ≡ list_any (same_gtid g) gs
+pub any_tied : (gs : List Gtid) (g : Gtid) → list_any (eq_by_cmp gtid_cmp g) gs ≡ list_any (same_gtid g) gs
 any_tied [] g = refl
 any_tied (h ∷ gs) g = λ i. gtid_tied g h i || any_tied gs g i
 

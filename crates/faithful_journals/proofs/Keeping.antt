@@ -1,5 +1,5 @@
 -- A journal goes on, or its first entries are purged, and it stays faithful.
-use Rattle.std.proofs.Common.{◌≡◌, ℕ, zero, suc, ◌+◌, ◌≤◌, Bool, true, false, ◌||◌, ◌⊎◌, inl, inr, List, [], ◌∷◌, ◌++◌, length, take, drop, Option, Some, None, IsSome, refl, sym, ap, ◌∙◌, subst, arith, length-append, length-drop}
+use Rattle.std.proofs.Common.{◌≡◌, ℕ, ◌+◌, ◌≤◌, false, ◌||◌, ◌⊎◌, inl, inr, List, [], ◌∷◌, ◌++◌, length, take, drop, Some, refl, sym, ap, ◌∙◌, subst, arith, length-append, length-drop}
 use Rattle.std.specs.FinSet as set
 use Rattle.std.specs.FinSet.{contains-union}
 use Rattle.std.proofs.lemmas.List.{take-append-le}
@@ -8,47 +8,26 @@ use Rattle.std.proofs.Math.Seq.{take-add, take-append_seam}
 use Rattle.gtid_text.specs.declared.Gtid.{Gtid}
 use Rattle.gtid_text.specs.Gtids.{same_gtid}
 use Rattle.gtid_set.specs.Sets.{Gtids}
-use Rattle.gtid_set.proofs.SetLemmas.{union_empty}
 use Rattle.rows.specs.declared.change.Transaction.{Transaction}
 use Rattle.journal.specs.declared.Entry.{Entry}
-use Rattle.journal.specs.Journals.{JournalValue, gtids_of, whole, AreNew}
-use Rattle.journal.proofs.EntryLemmas.{union-gtids_of-cons}
+use Rattle.journal.specs.Journals.{JournalValue, gtids_of, whole}
+use Rattle.journal.proofs.EntryLemmas.{new_push, new_drop}
 use Rattle.source_history.specs.World.{World, content, is_opened, IsClosed}
-use Rattle.source_history.proofs.Gtids.{gtid_total}
 use Rattle.source_history.proofs.Closing.{closed_same, closed_sets_apply}
 use Rattle.faithful_journals.specs.Faithful.{IsFaithful}
 use Rattle.faithful_journals.specs.Laws.{known_to, WholeIsClosed, WholeApplies, FaithfulGoesOn, PurgedIsFaithful}
-use Rattle.faithful_journals.proofs.Lists.{all_append, all_drop}
+use Rattle.faithful_journals.proofs.Lists.{all_drop}
 use Rattle.faithful_journals.proofs.Covering.{entry_of, is_entry, covered, front, has, in_insert, in_covered, in_whole, fronts_of, to_fronts}
-
-or_assoc : (p q r : Bool) → (p || (q || r)) ≡ ((p || q) || r)
-or_assoc true q r = refl
-or_assoc false q r = refl
-
-or_false : (p : Bool) → (p || false) ≡ p
-or_false true = refl
-or_false false = refl
-
-or_swap : (p q : Bool) → (p || q) ≡ (q || p)
-or_swap true true = refl
-or_swap true false = refl
-or_swap false true = refl
-or_swap false false = refl
-
-or_three : (p q r : Bool) → (p || (q || r)) ≡ (q || (p || r))
-or_three true true r = refl
-or_three true false r = refl
-or_three false q r = refl
-
-pub some_is : {A : Type 0} (o : Option A) (x : A) → o ≡ Some x → IsSome o
-some_is (Some y) x e = refl
-some_is None x e = cc
+use mathlib.Core.Bool.{or-false, or_comm}
+use Rattle.gtid_text.proofs.SameGtid.{gtid_total}
+use Rattle.gtid_set.proofs.SpanLemmas.{or_swap, or_assoc}
+use Rattle.rows.proofs.Lists.{all_append}
 
 pub covered_push : (previous : Gtids) (entries : List Entry) (g : Gtid) (t : Transaction) (h : Gtid) → covered previous (entries ++ entry_of g t ∷ []) h ≡ (same_gtid h g || covered previous entries h)
 covered_push previous entries g t h =
-    ap (λ b. set.contains previous h || b) (list_any-append (λ (e : Entry). same_gtid h e.gtid) entries (entry_of g t ∷ []) ∙ ap (λ b. is_entry entries h || b) (or_false (same_gtid h g)))
+    ap (λ b. set.contains previous h || b) (list_any-append (λ (e : Entry). same_gtid h e.gtid) entries (entry_of g t ∷ []) ∙ ap (λ b. is_entry entries h || b) (or-false (same_gtid h g)))
     ∙ or_assoc (set.contains previous h) (is_entry entries h) (same_gtid h g)
-    ∙ or_swap (covered previous entries h) (same_gtid h g)
+    ∙ or_comm (covered previous entries h) (same_gtid h g)
 
 either_le : (k n : ℕ) → k ≤ n + 1 → (k ≤ n) ⊎ (k ≡ n + 1)
 either_le k n h = grind arith
@@ -62,24 +41,12 @@ take_all xs ys k e l =
     nothing_more [] = refl
     nothing_more (z ∷ zs) = ap (λ (t : List Entry). z ∷ t) (nothing_more zs)
 
--- new entries, and one more that is new to all of them
-new_push : (seen : Gtids) (es : List Entry) (e : Entry) → AreNew seen es → set.contains (set.union seen (gtids_of es)) e.gtid ≡ false → AreNew seen (es ++ e ∷ [])
-new_push seen [] e new h = (ap (λ (s : Gtids). set.contains s e.gtid) (union_empty seen) ∙ h, tt)
-new_push seen (x ∷ es) e new h =
-    (new.0, new_push (set.insert seen x.gtid) es e new.1 (ap (λ (s : Gtids). set.contains s e.gtid) (union-gtids_of-cons seen x es) ∙ h))
-
-new_drop : (n : ℕ) (seen : Gtids) (es : List Entry) → AreNew seen es → AreNew (set.union seen (gtids_of (take n es))) (drop n es)
-new_drop zero seen es new = subst (λ (s : Gtids). AreNew s es) (union_empty seen) new
-new_drop (suc n) seen [] new = tt
-new_drop (suc n) seen (x ∷ es) new =
-    subst (λ (s : Gtids). AreNew s (drop n es)) (union-gtids_of-cons seen x (take n es)) (new_drop n (set.insert seen x.gtid) es new.1)
-
 -- a journal goes on with one entry
 pub journal_push : (world : World) (j : JournalValue) (g : Gtid) (t : Transaction) → IsFaithful world j → content world g ≡ Some t → has j g ≡ false → IsClosed world (λ h. same_gtid h g || (is_opened world h || has j h)) → IsFaithful world (record { previous = j.previous; entries = j.entries ++ entry_of g t ∷ [] })
 journal_push world j g t f there new closed = record {
   fronts = to_fronts world (record { previous = j.previous; entries = j.entries ++ entry_of g t ∷ [] }) (λ k l. elim (either_le k (length j.entries) (subst (λ n. k ≤ n) (length-append j.entries (entry_of g t ∷ [])) l)) [
     | inl below ↦ subst (λ es. IsClosed world (front world j.previous es)) (sym (take-append-le k j.entries (entry_of g t ∷ []) below)) (fronts_of world j f k below)
-    | inr all ↦ subst (λ es. IsClosed world (front world j.previous es)) (sym (take_all j.entries (entry_of g t ∷ []) k all refl)) (closed_same world (λ h. same_gtid h g || (is_opened world h || has j h)) (front world j.previous (j.entries ++ entry_of g t ∷ [])) (λ h. ap (λ b. is_opened world h || b) (covered_push j.previous j.entries g t h) ∙ or_three (is_opened world h) (same_gtid h g) (has j h)) closed)
+    | inr all ↦ subst (λ es. IsClosed world (front world j.previous es)) (sym (take_all j.entries (entry_of g t ∷ []) k all refl)) (closed_same world (λ h. same_gtid h g || (is_opened world h || has j h)) (front world j.previous (j.entries ++ entry_of g t ∷ [])) (λ h. ap (λ b. is_opened world h || b) (covered_push j.previous j.entries g t h) ∙ or_swap (is_opened world h) (same_gtid h g) (has j h)) closed)
   ]);
   contents = all_append (λ (e : Entry). is_opened world e.gtid ≡ false → content world e.gtid ≡ Some e.txn) j.entries (entry_of g t ∷ []) f.contents (λ n. there, tt);
   new = new_push j.previous j.entries (entry_of g t) f.new (in_whole j g ∙ new);

@@ -1,54 +1,19 @@
 -- Places of lists, and options.
-use Rattle.std.proofs.Common.{◌≡◌, ◌≢◌, ℕ, zero, suc, ◌+◌, ◌<◌, ◌≤◌, Bool, true, false, cond, ◌||◌, not, ◌⊎◌, inl, inr, List, [], ◌∷◌, ◌++◌, map, length, take, drop, Option, Some, None, refl, sym, ap, ◌∙◌, subst, arith}
+use Rattle.std.proofs.Common.{◌≡◌, ◌≢◌, ℕ, zero, suc, ◌+◌, ◌<◌, ◌≤◌, Bool, true, false, cond, not, ◌⊎◌, inl, inr, List, [], ◌∷◌, ◌++◌, map, length, take, drop, Some, None, refl, sym, ap, ◌∙◌, subst, arith}
 use Rattle.std.specs.Prelude.{slice_get, slice_set, find, position}
-use Rattle.std.specs.Option.{option_map, option_and_then, option_map_or}
 use Rattle.std.specs.List.{filter, AllByRecursion}
-use Rattle.std.proofs.lemmas.Option.{get_or_from_slice_get}
+use Rattle.std.proofs.lemmas.Option.{get_or_from_slice_get, same_Some, slice_get_within}
 use Rattle.std.proofs.lemmas.List.Sums.{prefix_len_passes}
-use Rattle.std.proofs.lemmas.Bool.{ltb-false}
+use Rattle.std.proofs.lemmas.Bool.{ltb-false, or_from, not-true}
 use Rattle.std.specs.List.{position_or_len}
 use Rattle.std.specs.Prelude.{nat_lt}
-
-pub same_some : {A : Type 0} (x y : A) → Some x ≡ Some y → x ≡ y
-same_some x y e = cc
-
-pub not_none : {A P : Type 0} (x : A) → None ≡ Some x → P
-not_none x e = cc
-
-pub map_some : {A B : Type 0} (f : A → B) (o : Option A) (y : B) → option_map f o ≡ Some y → (x : A) × (o ≡ Some x) × (f x ≡ y)
-map_some f (Some x) y e = (x, refl, same_some (f x) y e)
-map_some f None y e = not_none y e
-
-pub and_then_some : {A B : Type 0} (f : A → Option B) (o : Option A) (y : B) → option_and_then f o ≡ Some y → (x : A) × (o ≡ Some x) × (f x ≡ Some y)
-and_then_some f (Some x) y e = (x, refl, e)
-and_then_some f None y e = not_none y e
-
-pub both_false : (a b : Bool) → a ≡ false → b ≡ false → (a || b) ≡ false
-both_false true b e f = cc
-both_false false b e f = f
-
-pub from_not : (b : Bool) → not b ≡ true → b ≡ false
-from_not true e = cc
-from_not false e = refl
-
-pub from_not_not : (b : Bool) → not b ≡ false → b ≡ true
-from_not_not true e = refl
-from_not_not false e = cc
-
-pub get_append_left : {A : Type 0} (xs ys : List A) (i : ℕ) (x : A) → slice_get xs i ≡ Some x → slice_get (xs ++ ys) i ≡ Some x
-get_append_left [] ys i x e = not_none x e
-get_append_left (y ∷ xs) ys zero x e = e
-get_append_left (y ∷ xs) ys (suc i) x e = get_append_left xs ys i x e
+use Rattle.rows.proofs.Lists.{none_some}
 
 pub get_push_cases : {A : Type 0} (xs : List A) (y : A) (i : ℕ) (x : A) → slice_get (xs ++ y ∷ []) i ≡ Some x → (slice_get xs i ≡ Some x) ⊎ ((i ≡ length xs) × (y ≡ x))
-get_push_cases [] y zero x e = inr (refl, same_some y x e)
-get_push_cases [] y (suc i) x e = not_none x e
+get_push_cases [] y zero x e = inr (refl, same_Some y x e)
+get_push_cases [] y (suc i) x e = none_some x e
 get_push_cases (z ∷ xs) y zero x e = inl e
 get_push_cases (z ∷ xs) y (suc i) x e = elim (get_push_cases xs y i x e) [ inl p ↦ inl p | inr q ↦ inr (ap suc q.0, q.1) ]
-
-pub get_push : {A : Type 0} (xs : List A) (y : A) → slice_get (xs ++ y ∷ []) (length xs) ≡ Some y
-get_push [] y = refl
-get_push (x ∷ xs) y = get_push xs y
 
 suc_apart : (m n : ℕ) → (m ≢ n) → suc m ≢ suc n
 suc_apart m n h e = h (omega arith)
@@ -60,29 +25,24 @@ apart_zero : (n : ℕ) → suc n ≢ zero
 apart_zero n e = omega arith
 
 pub get_set_cases : {A : Type 0} (xs : List A) (c : ℕ) (v : A) (d : ℕ) (x : A) → slice_get (slice_set xs c v) d ≡ Some x → ((d ≡ c) × (v ≡ x)) ⊎ ((d ≢ c) × (slice_get xs d ≡ Some x))
-get_set_cases [] c v d x e = not_none x e
-get_set_cases (y ∷ xs) zero v zero x e = inl (refl, same_some v x e)
+get_set_cases [] c v d x e = none_some x e
+get_set_cases (y ∷ xs) zero v zero x e = inl (refl, same_Some v x e)
 get_set_cases (y ∷ xs) zero v (suc d) x e = inr (apart_zero d, e)
 get_set_cases (y ∷ xs) (suc c) v zero x e = inr (zero_apart c, e)
 get_set_cases (y ∷ xs) (suc c) v (suc d) x e = elim (get_set_cases xs c v d x e) [ inl p ↦ inl (ap suc p.0, p.1) | inr q ↦ inr (suc_apart d c q.0, q.1) ]
 
 -- after a write at c: what was at d is there, or d is c
 pub get_set_from : {A : Type 0} (xs : List A) (c : ℕ) (v : A) (d : ℕ) (x : A) → slice_get xs d ≡ Some x → (slice_get (slice_set xs c v) d ≡ Some x) ⊎ ((d ≡ c) × (slice_get (slice_set xs c v) d ≡ Some v))
-get_set_from [] c v d x e = not_none x e
+get_set_from [] c v d x e = none_some x e
 get_set_from (y ∷ xs) zero v zero x e = inr (refl, refl)
 get_set_from (y ∷ xs) zero v (suc d) x e = inl e
 get_set_from (y ∷ xs) (suc c) v zero x e = inl e
 get_set_from (y ∷ xs) (suc c) v (suc d) x e = elim (get_set_from xs c v d x e) [ inl p ↦ inl p | inr q ↦ inr (ap suc q.0, q.1) ]
 
 pub get_map : {A B : Type 0} (f : A → B) (xs : List A) (i : ℕ) (x : A) → slice_get xs i ≡ Some x → slice_get (map f xs) i ≡ Some (f x)
-get_map f [] i x e = not_none x e
-get_map f (y ∷ xs) zero x e = ap (λ z. Some (f z)) (same_some y x e)
+get_map f [] i x e = none_some x e
+get_map f (y ∷ xs) zero x e = ap (λ z. Some (f z)) (same_Some y x e)
 get_map f (y ∷ xs) (suc i) x e = get_map f xs i x e
-
-pub get_map_cases : {A B : Type 0} (f : A → B) (xs : List A) (i : ℕ) (y : B) → slice_get (map f xs) i ≡ Some y → (x : A) × (slice_get xs i ≡ Some x) × (f x ≡ y)
-get_map_cases f [] i y e = not_none y e
-get_map_cases f (x ∷ xs) zero y e = (x, refl, same_some (f x) y e)
-get_map_cases f (x ∷ xs) (suc i) y e = get_map_cases f xs i y e
 
 pub get_drop : {A : Type 0} (k : ℕ) (xs : List A) (i : ℕ) → slice_get (drop k xs) i ≡ slice_get xs (k + i)
 get_drop zero [] i = refl
@@ -92,20 +52,11 @@ get_drop (suc k) (x ∷ xs) i =
     let e : suc k + i ≡ suc (k + i) = omega arith in
     get_drop k xs i ∙ sym (ap (slice_get (x ∷ xs)) e)
 
-pub get_below : {A : Type 0} (xs : List A) (i : ℕ) (x : A) → slice_get xs i ≡ Some x → i < length xs
-get_below [] i x e = not_none x e
-get_below (y ∷ xs) zero x e = omega arith
-get_below (y ∷ xs) (suc i) x e = let h = get_below xs i x e in omega arith
-
 pub get_take : {A : Type 0} (xs : List A) (n i : ℕ) (x : A) → slice_get xs i ≡ Some x → i < n → slice_get (take n xs) i ≡ Some x
-get_take [] n i x e h = not_none x e
+get_take [] n i x e h = none_some x e
 get_take (y ∷ xs) zero i x e h = absurd (omega arith)
 get_take (y ∷ xs) (suc n) zero x e h = e
 get_take (y ∷ xs) (suc n) (suc i) x e h = get_take xs n i x e (omega arith)
-
-pub all_append : {A : Type 0} (P : A → Type 0) (xs ys : List A) → AllByRecursion P xs → AllByRecursion P ys → AllByRecursion P (xs ++ ys)
-all_append P [] ys h g = g
-all_append P (x ∷ xs) ys h g = (h.0, all_append P xs ys h.1 g)
 
 pub all_drop : {A : Type 0} (P : A → Type 0) (k : ℕ) (xs : List A) → AllByRecursion P xs → AllByRecursion P (drop k xs)
 all_drop P zero xs h = h
@@ -113,8 +64,8 @@ all_drop P (suc k) [] h = tt
 all_drop P (suc k) (x ∷ xs) h = all_drop P k xs h.1
 
 pub all_at : {A : Type 0} (P : A → Type 0) (xs : List A) (i : ℕ) (x : A) → AllByRecursion P xs → slice_get xs i ≡ Some x → P x
-all_at P [] i x h e = not_none x e
-all_at P (y ∷ xs) zero x h e = subst P (same_some y x e) h.0
+all_at P [] i x h e = none_some x e
+all_at P (y ∷ xs) zero x h e = subst P (same_Some y x e) h.0
 all_at P (y ∷ xs) (suc i) x h e = all_at P xs i x h.1 e
 
 pub all_from : {A : Type 0} (P : A → Type 0) (xs : List A) → ((i : ℕ) (x : A) → slice_get xs i ≡ Some x → P x) → AllByRecursion P xs
@@ -139,11 +90,11 @@ located_by p y es rest e false t xs h g =
     (suc r.0, r.1, (λ i. cond (t i) (y ∷ filter p (take r.0 es)) (filter p (take r.0 es))) ∙ r.2)
 
 found_by : {A : Type 0} (p : A → Bool) (y : A) (xs : List A) (x : A) (b : Bool) → p y ≡ b → (find p xs ≡ Some x → p x ≡ true) → cond b (Some y) (find p xs) ≡ Some x → p x ≡ true
-found_by p y xs x true t h e = ap p (sym (same_some y x e)) ∙ t
+found_by p y xs x true t h e = ap p (sym (same_Some y x e)) ∙ t
 found_by p y xs x false t h e = h e
 
 none_by : {A : Type 0} (p : A → Bool) (y : A) (xs : List A) (b : Bool) → p y ≡ b → (find p xs ≡ None → AllByRecursion (λ x. p x ≡ false) xs) → cond b (Some y) (find p xs) ≡ None → (p y ≡ false) × AllByRecursion (λ x. p x ≡ false) xs
-none_by p y xs true t h e = not_none y (sym e)
+none_by p y xs true t h e = none_some y (sym e)
 none_by p y xs false t h e = (t, h e)
 
 -- what a filter gives first, and what stands before it
@@ -155,7 +106,7 @@ located p (y ∷ es) xs rest e h = located_by p y es rest e (p y) refl xs (λ zs
 -- ---- what a test or an option leads to
 
 pub found_passes : {A : Type 0} (p : A → Bool) (xs : List A) (x : A) → find p xs ≡ Some x → p x ≡ true
-found_passes p [] x e = not_none x e
+found_passes p [] x e = none_some x e
 found_passes p (y ∷ xs) x e = found_by p y xs x (p y) refl (found_passes p xs x) e
 
 pub none_passes : {A : Type 0} (p : A → Bool) (xs : List A) → find p xs ≡ None → AllByRecursion (λ x. p x ≡ false) xs
@@ -163,24 +114,15 @@ none_passes p [] e = tt
 none_passes p (y ∷ xs) e = none_by p y xs (p y) refl (none_passes p xs) e
 
 no_some : {A : Type 0} (b : Bool) (x : A) → cond b (Some x) None ≡ None → b ≡ false
-no_some true x e = not_none x (sym e)
+no_some true x e = none_some x (sym e)
 no_some false x e = refl
 
 pub position_none : {A : Type 0} (p : A → Bool) (xs : List A) → position p xs ≡ None → (i : ℕ) (x : A) → slice_get xs i ≡ Some x → p x ≡ false
 position_none p xs e i x h =
-    let below : i < length xs = get_below xs i x h in
+    let below : i < length xs = slice_get_within xs i x h in
     let far : length xs ≤ position_or_len p xs = ltb-false (position_or_len p xs) (length xs) (no_some (nat_lt (position_or_len p xs) (length xs)) (position_or_len p xs) e) in
-    from_not (p x) (ap (λ z. not (p z)) (sym (get_or_from_slice_get xs i x x h)) ∙ prefix_len_passes (λ y. not (p y)) xs i x (omega arith))
-
-pub same_test : (a b : Bool) → (a ≡ true → b ≡ true) → (b ≡ true → a ≡ true) → a ≡ b
-same_test true b f g = sym (f refl)
-same_test false true f g = g refl
-same_test false false f g = refl
+    not-true (p x) (ap (λ z. not (p z)) (sym (get_or_from_slice_get xs i x x h)) ∙ prefix_len_passes (λ y. not (p y)) xs i x (omega arith))
 
 pub on_test : {A : Type 0} (P : A → Type 0) (b : Bool) (x y : A) → (b ≡ true → P x) → (b ≡ false → P y) → P (cond b x y)
 on_test P true x y h g = h refl
 on_test P false x y h g = g refl
-
-pub on_option : {A B : Type 0} (P : B → Type 0) (f : A → B) (o : Option A) (d : B) → (o ≡ None → P d) → ((a : A) → o ≡ Some a → P (f a)) → P (option_map_or f o d)
-on_option P f None d h g = h refl
-on_option P f (Some a) d h g = g a refl

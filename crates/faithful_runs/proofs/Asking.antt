@@ -19,10 +19,12 @@ use Rattle.replica_core.specs.declared.event.Reply.{Reply}
 use Rattle.replica_core.specs.declared.event.Reply.TheVariants.{NotInSchema, Ask, SeatBusy, OwnedBy, Blocked, Early, RolledBack, Restarted}
 use Rattle.replica_core.specs.State.{State, Site, owned_by, owner}
 use Rattle.replica_core.specs.Machine.{Step, is_seat, ask, blocking, open_before, with_channel, without_seat, stopped_at, open_channel, position_on, receive, take_entry, take_place, held, commit_answer, commit_held, commit, rollback, restart, next_number, local_answer, local, purge, step}
-use Rattle.source_history.proofs.Tests.{not_both}
-use Rattle.faithful_journals.proofs.Lists.{on_test, on_option, same_some, and_then_some, get_append_left, get_set_from, get_map}
+use Rattle.faithful_journals.proofs.Lists.{on_test, get_set_from, get_map}
 use Rattle.faithful_runs.proofs.Receiving.{received_entry}
 use Rattle.faithful_runs.specs.Whole.{is_position}
+use Rattle.std.proofs.lemmas.Option.{same_Some}
+use Rattle.rows.proofs.Patching.{not_both}
+use Rattle.rows.proofs.Lists.{and_then_some, on_option, get_append_left}
 
 abbrev pub Asks : List ChannelValue → ℕ → Gtids → Type 0
 Asks channels k A = option_and_then (λ channel. channel.asked) (slice_get channels k) ≡ Some A
@@ -46,7 +48,7 @@ alike_set but channels c old new here change k A n h =
       | inr at ↦ elim change [
         | inl but_c ↦ not_both (but k) (ap but at.0 ∙ but_c) n
         | inr same ↦
-            let is_old : r.0 ≡ old = same_some r.0 old (sym r.1 ∙ (ap (slice_get channels) at.0 ∙ here)) in
+            let is_old : r.0 ≡ old = same_Some r.0 old (sym r.1 ∙ (ap (slice_get channels) at.0 ∙ here)) in
             asks_at (slice_set channels c new) k A new at.1 (same ∙ (ap (λ (x : ChannelValue). x.asked) (sym is_old) ∙ r.2))
       ]
     ]

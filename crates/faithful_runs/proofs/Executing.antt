@@ -1,5 +1,5 @@
 -- A transaction is executed.
-use Rattle.std.proofs.Common.{◌≡◌, ◌≢◌, Bool, true, false, ◌||◌, inl, inr, Option, Some, None, Ok, refl, sym, ap, ◌∙◌, subst}
+use Rattle.std.proofs.Common.{◌≡◌, ◌≢◌, Bool, true, false, ◌||◌, inl, inr, Some, Ok, refl, sym, ap, ◌∙◌, subst}
 use Rattle.std.specs.Prelude.{IsSome}
 use Rattle.std.specs.FinSet as set
 use Rattle.rows.specs.declared.change.Transaction.{Transaction}
@@ -10,10 +10,9 @@ use Rattle.replica_core.specs.State.{State, Seats}
 use Rattle.replica_core.specs.Machine.{executing}
 use Rattle.source_history.specs.World.{World, content, is_opened, rows_of, AreKeysSound, IsClosed}
 use Rattle.source_history.specs.Commits.{with_one}
-use Rattle.source_history.proofs.Tests.{or_either, or_left, or_right}
-use Rattle.source_history.proofs.Gtids.{same_gtid_self, gtid_same, same_gtid_other}
+use Rattle.source_history.proofs.Gtids.{same_gtid_other}
 use Rattle.source_history.proofs.Closing.{closed_same}
-use Rattle.source_history.proofs.Committing.{adds_one}
+use Rattle.source_history.proofs.Committing.{adds_one, some_is}
 use Rattle.source_history.proofs.Merging.{late_commit, early_commit}
 use Rattle.faithful_runs.specs.Faithful.{Since}
 use Rattle.faithful_journals.proofs.Covering.{has, in_insert}
@@ -21,26 +20,24 @@ use Rattle.faithful_journals.proofs.Keeping.{covered_push, journal_push}
 use Rattle.faithful_runs.proofs.Receiving.{all_settled, put_settled}
 use Rattle.faithful_runs.proofs.Seats.{IsFree, seats_over, seats_after}
 use Rattle.faithful_runs.proofs.Invariant.{AllApply, Needs, AreSeated, Invariant}
+use Rattle.std.proofs.lemmas.Bool.{or_cases, or_left, or_right}
+use Rattle.gtid_text.proofs.SameGtid.{same_itself, same_is_equal}
 
 -- sets with the same members stand for the same rows
 rows_of_same : (world : World) (S U : Gtid → Bool) → ((g : Gtid) → U g ≡ S g) → rows_of world U ≡ rows_of world S
 rows_of_same world S U same = λ i. rows_of world (λ g. same g i)
 
-is_some_of : {A : Type 0} (o : Option A) (x : A) → o ≡ Some x → IsSome o
-is_some_of (Some y) x e = refl
-is_some_of None x e = cc
-
 -- a closed set with one more, of which all that it needs is there
 pub closed_more : (world : World) (S : Gtid → Bool) (g : Gtid) (t : Transaction) → content world g ≡ Some t → ((h : Gtid) → Needs world h g → S h ≡ true) → IsClosed world S → IsClosed world (with_one S g)
 closed_more world S g t there needs c = record {
   opened = λ h e. or_right (same_gtid h g) (S h) (c.opened h e);
-  known = λ h e. elim (or_either (same_gtid h g) (S h) e) [
-    | inl same ↦ inr (subst (λ (x : Gtid). IsSome (content world x)) (sym (gtid_same h g same)) (is_some_of (content world g) t there))
+  known = λ h e. elim (or_cases (same_gtid h g) (S h) e) [
+    | inl same ↦ inr (subst (λ (x : Gtid). IsSome (content world x)) (sym (same_is_equal h g same)) (some_is (content world g) t there))
     | inr old ↦ c.known h old
   ];
-  earlier = λ a b x y f k s l m e. elim (or_either (same_gtid b g) (S b) e) [
+  earlier = λ a b x y f k s l m e. elim (or_cases (same_gtid b g) (S b) e) [
     | inl same ↦
-        let is_g : b ≡ g = gtid_same b g same in
+        let is_g : b ≡ g = same_is_equal b g same in
         or_right (same_gtid a g) (S a) (needs a (subst (Needs world a) is_g (record { t = x; u = y; content_h = f; content_g = k; source = s; number = l; shares = m })))
     | inr old ↦ or_right (same_gtid a g) (S a) (c.earlier a b x y f k s l m old)
   ];
@@ -74,7 +71,7 @@ executing_keeps world s since seats g t sound inv seated free there new needs ro
     let same : (h : Gtid) → S' h ≡ with_one S g h = executed_more s g in
     let more : (h : Gtid) → S h ≡ true → S' h ≡ true = λ h e. same h ∙ or_right (same_gtid h g) (S h) e in
     let others : (h : Gtid) → h ≢ g → S' h ≡ S h = λ h n. same h ∙ ap (λ b. b || S h) (same_gtid_other h g n) in
-    let now : S' g ≡ true = same g ∙ or_left (same_gtid g g) (S g) (same_gtid_self g) in
+    let now : S' g ≡ true = same g ∙ or_left (same_gtid g g) (S g) (same_itself g) in
     record {
       closed = closed_same world (with_one S g) S' same closed;
       rows = rows_of_same world (with_one S g) S' same ∙ step;

@@ -19,13 +19,15 @@ use Rattle.replica_core.specs.declared.event.Event.TheVariants.{OpenChannel, Pos
 use Rattle.replica_core.specs.declared.event.Reply.TheVariants.{NotInSchema, Ask, SeatBusy, OwnedBy, Blocked, Early, RolledBack, Restarted}
 use Rattle.replica_core.specs.State.{State, Site, owned_by, owner}
 use Rattle.replica_core.specs.Machine.{Step, is_seat, ask, blocking, open_before, with_channel, without_seat, stopped_at, open_channel, position_on, receive, take_entry, take_place, Held, held_of, held_at, held, commit_answer, commit_held, commit, rollback, restart, next_number, local_answer, local, purge, step}
-use Rattle.source_history.proofs.Tests.{or_either, or_left, or_right}
-use Rattle.source_history.proofs.Gtids.{same_gtid_self, gtid_same}
 use Rattle.faithful_runs.specs.Served.{accepted, IsNoLocalCommit}
-use Rattle.faithful_journals.proofs.Lists.{on_test, on_option, same_some, not_none, map_some, and_then_some, get_append_left, get_push_cases, get_push, get_set_cases, get_set_from, get_map, get_map_cases}
+use Rattle.faithful_journals.proofs.Lists.{on_test, get_push_cases, get_set_cases, get_set_from, get_map}
 use Rattle.faithful_runs.proofs.Receiving.{settle_gtid, received_entry}
 use Rattle.faithful_runs.proofs.Invariant.{Stands}
 use Rattle.faithful_journals.proofs.Covering.{is_entry, in_insert}
+use Rattle.std.proofs.lemmas.Bool.{or_cases, or_left, or_right}
+use Rattle.std.proofs.lemmas.Option.{same_Some}
+use Rattle.gtid_text.proofs.SameGtid.{same_itself, same_is_equal}
+use Rattle.rows.proofs.Lists.{none_some, map_some, and_then_some, on_option, get_append_left, get_push, get_map_cases}
 
 -- a GTID was received on some channel
 abbrev pub Somewhere : List ChannelValue → Gtid → Type 0
@@ -47,7 +49,7 @@ gains_push : (channels : List ChannelValue) (new : ChannelValue) → new.receive
 gains_push channels new none = record {
   origin = λ g w. elim (get_push_cases channels new w.0 w.1 w.2) [
     | inl old ↦ inl (w.0, w.1, old, w.3)
-    | inr last ↦ not_none w.3.1 (ap (λ rs. slice_get rs w.3.0) (sym none ∙ ap (λ (x : ChannelValue). x.received) last.1) ∙ w.3.2)
+    | inr last ↦ none_some w.3.1 (ap (λ rs. slice_get rs w.3.0) (sym none ∙ ap (λ (x : ChannelValue). x.received) last.1) ∙ w.3.2)
   ];
   kept = λ g w. (w.0, w.1, get_append_left channels (new ∷ []) w.0 w.1 w.2, w.3);
   arrived = λ g e. nothing g e;
@@ -63,7 +65,7 @@ gains_set channels c old new more here from on came = record {
   kept = λ g w. elim (get_set_from channels c new w.0 w.1 w.2) [
     | inl same ↦ (w.0, w.1, same, w.3)
     | inr at ↦
-        let is_old : w.1 ≡ old = same_some w.1 old (sym w.2 ∙ (ap (slice_get channels) at.0 ∙ here)) in
+        let is_old : w.1 ≡ old = same_Some w.1 old (sym w.2 ∙ (ap (slice_get channels) at.0 ∙ here)) in
         (w.0, new, at.1, on g (subst (λ (x : ChannelValue). Stands g x.received) is_old w.3))
   ];
   arrived = λ g e. elim (get_set_from channels c new c old here) [
@@ -73,12 +75,12 @@ gains_set channels c old new more here from on came = record {
 }
   where
     set_there : (xs : List ChannelValue) (i : ℕ) (x v : ChannelValue) → slice_get xs i ≡ Some x → slice_get (slice_set xs i v) i ≡ Some v
-    set_there [] i x v e = not_none x e
+    set_there [] i x v e = none_some x e
     set_there (y ∷ xs) zero x v e = refl
     set_there (y ∷ xs) (suc i) x v e = set_there xs i x v e
 
     stays : (g : Gtid) (x y : ChannelValue) → slice_get (slice_set channels c new) c ≡ Some x → is_entry more g ≡ true → Stands g x.received
-    stays g x y e m = subst (λ (z : ChannelValue). Stands g z.received) (same_some new x (sym (set_there channels c old new here) ∙ e)) (came g m)
+    stays g x y e m = subst (λ (z : ChannelValue). Stands g z.received) (same_Some new x (sym (set_there channels c old new here) ∙ e)) (came g m)
 
 gains_set_same : (channels : List ChannelValue) (c : ℕ) (old new : ChannelValue) → slice_get channels c ≡ Some old → new.received ≡ old.received → Gains channels (slice_set channels c new) []
 gains_set_same channels c old new here same =
@@ -91,11 +93,11 @@ gains_received channels c old new e entry here same id =
       | inl was ↦ inl (w.0, w.1, was, w.3)
       | inr last ↦
           let is_g : g ≡ entry.gtid = sym w.3 ∙ (ap (λ (x : Received). x.gtid) (sym last.1) ∙ id) in
-          inr (or_left (same_gtid g entry.gtid) false (ap (same_gtid g) (sym is_g) ∙ same_gtid_self g))
+          inr (or_left (same_gtid g entry.gtid) false (ap (same_gtid g) (sym is_g) ∙ same_itself g))
     ])
     (λ g w. (w.0, w.1, ap (λ rs. slice_get rs w.0) same ∙ get_append_left old.received (e ∷ []) w.0 w.1 w.2, w.3))
-    (λ g i. elim (or_either (same_gtid g entry.gtid) false i) [
-      | inl is ↦ (length old.received, e, ap (λ rs. slice_get rs (length old.received)) same ∙ get_push old.received e, id ∙ sym (gtid_same g entry.gtid is))
+    (λ g i. elim (or_cases (same_gtid g entry.gtid) false i) [
+      | inl is ↦ (length old.received, e, ap (λ rs. slice_get rs (length old.received)) same ∙ get_push old.received e, id ∙ sym (same_is_equal g entry.gtid is))
       | inr missing ↦ absurd (never missing)
     ])
   where
@@ -137,8 +139,8 @@ grows_channels s s' more same gains = record {
 grows_executing : (s s' : State) (g : Gtid) → s'.executed ≡ set.insert s.executed g → Gains s.channels s'.channels [] → Somewhere s.channels g → Grows s s' []
 grows_executing s s' g same gains w = record {
   origin = λ h k. elim k [
-    | inl done ↦ elim (or_either (same_gtid h g) (set.contains s.executed h) (sym (in_insert s.executed g h) ∙ (ap (λ (x : Gtids). set.contains x h) (sym same) ∙ done))) [
-      | inl is ↦ inl (inr (subst (Somewhere s.channels) (sym (gtid_same h g is)) w))
+    | inl done ↦ elim (or_cases (same_gtid h g) (set.contains s.executed h) (sym (in_insert s.executed g h) ∙ (ap (λ (x : Gtids). set.contains x h) (sym same) ∙ done))) [
+      | inl is ↦ inl (inr (subst (Somewhere s.channels) (sym (same_is_equal h g is)) w))
       | inr was ↦ inl (inl was)
     ]
     | inr v ↦ elim (gains.origin h v) [ inl was ↦ inl (inr was) | inr missing ↦ nothing h missing ]

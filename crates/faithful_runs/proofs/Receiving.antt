@@ -5,7 +5,7 @@ use Rattle.std.specs.Option.{option_map, option_and_then}
 use Rattle.std.specs.List.{list_any}
 use Rattle.std.specs.FinSet as set
 use Rattle.std.specs.FinSet.{contains-union}
-use Rattle.std.proofs.lemmas.Bool.{eqb-true, eq-eqb}
+use Rattle.std.proofs.lemmas.Bool.{eqb-true, eq-eqb, cases_Bool, or_cases}
 use Rattle.faithful_journals.proofs.Covering.{in_gtids}
 use Rattle.rows.specs.declared.change.Transaction.{Transaction}
 use Rattle.gtid_text.specs.declared.Gtid.{Gtid}
@@ -17,14 +17,16 @@ use Rattle.replica_core.specs.declared.event.Spot.{Spot}
 use Rattle.replica_core.specs.State.{State}
 use Rattle.replica_core.specs.Machine.{ask}
 use Rattle.source_history.specs.World.{World, content, is_opened}
-use Rattle.source_history.proofs.Tests.{true_or_false, not_both, or_either}
-use Rattle.source_history.proofs.Gtids.{gtid_total, gtid_same}
 use Rattle.auto_position.specs.Sending.{sent}
 use Rattle.faithful_runs.specs.Faithful.{Since}
-use Rattle.faithful_journals.proofs.Lists.{same_some, not_none, map_some, and_then_some, get_append_left, get_push_cases, get_push, get_set_cases, get_set_from, get_map, get_map_cases, get_below}
+use Rattle.faithful_journals.proofs.Lists.{get_push_cases, get_set_cases, get_set_from, get_map}
 use Rattle.faithful_runs.proofs.Sending.{Served}
 use Rattle.faithful_runs.proofs.Invariant.{gtid_at, IsIn, AllApply, Needs, Stands, StandsBefore, IsGood, AreGood}
 use Rattle.faithful_runs.proofs.Seats.{StaysPut}
+use Rattle.std.proofs.lemmas.Option.{same_Some, slice_get_within}
+use Rattle.gtid_text.proofs.SameGtid.{same_is_equal, gtid_total}
+use Rattle.rows.proofs.Patching.{not_both}
+use Rattle.rows.proofs.Lists.{none_some, map_some, and_then_some, get_append_left, get_push, get_map_cases}
 
 -- how an entry is kept that is received
 abbrev pub received_entry : State → Entry → Received
@@ -50,7 +52,7 @@ put_set channels c old new here extends spot g h =
     elim (get_set_from channels c new spot.channel p.0 p.2) [
       | inl same ↦ from_parts (slice_set channels c new) spot p.0 p.1 same p.3 ∙ ap Some p.4
       | inr changed ↦
-          let is_old : p.0 ≡ old = same_some p.0 old (sym p.2 ∙ (ap (slice_get channels) changed.0 ∙ here)) in
+          let is_old : p.0 ≡ old = same_Some p.0 old (sym p.2 ∙ (ap (slice_get channels) changed.0 ∙ here)) in
           let f = extends spot.place p.1 (ap (λ (x : ChannelValue). slice_get x.received spot.place) (sym is_old) ∙ p.3) in
           from_parts (slice_set channels c new) spot new f.0 changed.1 f.1 ∙ ap Some (f.2 ∙ p.4)
     ]
@@ -101,12 +103,12 @@ good_settled world ex ex' since ch g more now_in good = record {
   known = λ p e i new.
       let r = get_map_cases (settle g) ch.received p e i in
       let id : e.gtid ≡ r.0.gtid = ap (λ (x : Received). x.gtid) (sym r.2) ∙ settle_gtid g r.0 in
-      let not_g : same_gtid r.0.gtid g ≡ false = elim (true_or_false (same_gtid r.0.gtid g)) [
-        | inl same ↦ not_both (ex' e.gtid) (ap ex' (id ∙ gtid_same r.0.gtid g same) ∙ now_in) new
+      let not_g : same_gtid r.0.gtid g ≡ false = elim (cases_Bool (same_gtid r.0.gtid g)) [
+        | inl same ↦ not_both (ex' e.gtid) (ap ex' (id ∙ same_is_equal r.0.gtid g same) ∙ now_in) new
         | inr other ↦ other
       ] in
       let same : r.0 ≡ e = sym (settle_other (same_gtid r.0.gtid g) r.0 not_g) ∙ r.2 in
-      let was_new : ex e.gtid ≡ false = elim (true_or_false (ex e.gtid)) [ inl done ↦ not_both (ex' e.gtid) (more e.gtid done) new | inr n ↦ n ] in
+      let was_new : ex e.gtid ≡ false = elim (cases_Bool (ex e.gtid)) [ inl done ↦ not_both (ex' e.gtid) (more e.gtid done) new | inr n ↦ n ] in
       good.known p e (r.1 ∙ ap Some same) was_new;
   needed = λ p e h i n.
       let r = get_map_cases (settle g) ch.received p e i in
@@ -137,7 +139,7 @@ good_received world s since ch A entry opened a served good = record {
         let id : e.gtid ≡ entry.gtid = ap (λ (x : Received). x.gtid) (sym last.1) in (
           entry.txn,
           ap (λ (x : Received). x.txn) (sym last.1) ∙ no_txn (set.contains s.executed entry.gtid) entry.txn (ap (set.contains s.executed) (sym id) ∙ new),
-          ap (content world) id ∙ served.content_is (elim (true_or_false (is_opened world entry.gtid)) [ inl e ↦ not_both (set.contains s.executed entry.gtid) (opened entry.gtid e) (ap (set.contains s.executed) (sym id) ∙ new) | inr n ↦ n ]),
+          ap (content world) id ∙ served.content_is (elim (cases_Bool (is_opened world entry.gtid)) [ inl e ↦ not_both (set.contains s.executed entry.gtid) (opened entry.gtid e) (ap (set.contains s.executed) (sym id) ∙ new) | inr n ↦ n ]),
         )
   ];
   needed = λ p e h i n. elim (get_push_cases ch.received (received_entry s entry) p e i) [
@@ -147,11 +149,11 @@ good_received world s since ch A entry opened a served good = record {
         elim (served.needed h (subst (Needs world h) id n)) [
           | inl asked ↦ elim (good.asked A a h asked) [
             | inl done ↦ inl done
-            | inr there ↦ inr (there.0, there.1, get_append_left ch.received (received_entry s entry ∷ []) there.0 there.1 there.2, there.3, subst (λ m. there.0 < m) (sym last.0) (get_below ch.received there.0 there.1 there.2))
+            | inr there ↦ inr (there.0, there.1, get_append_left ch.received (received_entry s entry ∷ []) there.0 there.1 there.2, there.3, subst (λ m. there.0 < m) (sym last.0) (slice_get_within ch.received there.0 there.1 there.2))
           ]
           | inr sent ↦
               let there = good.recent sent.0 sent.2 in
-              inr (there.0, there.1, get_append_left ch.received (received_entry s entry ∷ []) there.0 there.1 there.2, there.3 ∙ sym (gtid_same h sent.0.gtid sent.1), subst (λ m. there.0 < m) (sym last.0) (get_below ch.received there.0 there.1 there.2))
+              inr (there.0, there.1, get_append_left ch.received (received_entry s entry ∷ []) there.0 there.1 there.2, there.3 ∙ sym (same_is_equal h sent.0.gtid sent.1), subst (λ m. there.0 < m) (sym last.0) (slice_get_within ch.received there.0 there.1 there.2))
         ]
   ];
   asked = λ B b h i. elim (good.asked B b h i) [ inl done ↦ inl done | inr there ↦ inr (stands_over h ch.received (received_entry s entry ∷ []) there) ];
@@ -164,8 +166,8 @@ good_received world s since ch A entry opened a served good = record {
 pub among_received : (rs : List Received) (g : Gtid) → list_any (λ x. same_gtid g x) (map (λ (e : Received). e.gtid) rs) ≡ true → Stands g rs
 among_received [] g h = cc
 among_received (r ∷ rs) g h =
-    elim (or_either (same_gtid g r.gtid) (list_any (λ x. same_gtid g x) (map (λ (e : Received). e.gtid) rs)) h) [
-      | inl here ↦ (zero, r, refl, sym (gtid_same g r.gtid here))
+    elim (or_cases (same_gtid g r.gtid) (list_any (λ x. same_gtid g x) (map (λ (e : Received). e.gtid) rs)) h) [
+      | inl here ↦ (zero, r, refl, sym (same_is_equal g r.gtid here))
       | inr later ↦ let s = among_received rs g later in (suc s.0, s.1, s.2, s.3)
     ]
 
@@ -177,9 +179,9 @@ good_asked world s since ch good = record {
   known = good.known;
   needed = good.needed;
   asked = λ A a g i.
-      let same : ask s ch ≡ A = same_some (ask s ch) A a in
+      let same : ask s ch ≡ A = same_Some (ask s ch) A a in
       let both = sym (contains-union gtid_total s.executed (set.from_list (map (λ (e : Received). e.gtid) ch.received)) g) ∙ (ap (λ (X : Gtids). set.contains X g) same ∙ i) in
-      elim (or_either (set.contains s.executed g) (set.contains (set.from_list {R = gtid_cmp} (map (λ (e : Received). e.gtid) ch.received)) g) both) [
+      elim (or_cases (set.contains s.executed g) (set.contains (set.from_list {R = gtid_cmp} (map (λ (e : Received). e.gtid) ch.received)) g) both) [
         | inl done ↦ inl done
         | inr there ↦ inr (among_received ch.received g (sym (in_gtids (map (λ (e : Received). e.gtid) ch.received) g) ∙ there))
       ];
@@ -197,16 +199,16 @@ good_stopped world ex since ch not_all good = record { running = λ a. absurd (n
 pub good_new : (world : World) (ex : Gtid → Bool) (name : List ℕ) (preserve : Bool) → IsGood world ex [] (record { name = name; preserve = preserve; stopped = false; asked = None; received = [] })
 good_new world ex name preserve = record {
   running = λ a. refl;
-  known = λ p e i n. not_none e i;
-  needed = λ p e h i n. not_none e i;
-  asked = λ A a g i. not_none A a;
+  known = λ p e i n. none_some e i;
+  needed = λ p e h i n. none_some e i;
+  asked = λ A a g i. none_some A a;
   recent = λ x i. absurd i;
 }
 
 -- ---- all channels
 
 eqb_other : (d c : ℕ) → d ≢ c → eqb d c ≡ false
-eqb_other d c n = elim (true_or_false (eqb d c)) [ inl same ↦ absurd (n (eqb-true d c same)) | inr other ↦ other ]
+eqb_other d c n = elim (cases_Bool (eqb d c)) [ inl same ↦ absurd (n (eqb-true d c same)) | inr other ↦ other ]
 
 -- one channel changes, and what it has received lately
 pub all_set : (world : World) (ex : Gtid → Bool) (since : Since) (channels : List ChannelValue) (c : ℕ) (new : ChannelValue) (recent : List Entry) → AreGood world ex since channels → IsGood world ex recent new → AreGood world ex (λ d. cond (eqb d c) recent (since d)) (slice_set channels c new)
@@ -227,7 +229,7 @@ pub all_push : (world : World) (ex : Gtid → Bool) (since : Since) (channels : 
 all_push world ex since channels new good one d ch i =
     elim (get_push_cases channels new d ch i) [
       | inl old ↦
-          let below : d < length channels = get_below channels d ch old in
+          let below : d < length channels = slice_get_within channels d ch old in
           subst (λ xs. IsGood world ex xs ch) (sym (ap (λ b. cond b [] (since d)) (eqb_other d (length channels) (λ e. omega arith)))) (good d ch old)
       | inr last ↦ subst (λ xs. IsGood world ex xs ch) (sym (ap (λ b. cond b [] (since d)) (eq-eqb d (length channels) last.0))) (subst (IsGood world ex []) last.1 one)
     ]

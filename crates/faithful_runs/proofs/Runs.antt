@@ -1,6 +1,5 @@
 -- Faithful runs.
 use Rattle.std.proofs.Common.{◌++◌}
-use Rattle.std.proofs.Common.{Bool, true, refl}
 use Rattle.std.proofs.Common.{◌≡◌, ℕ, zero, suc, false, ◌||◌, List, [], ◌∷◌, take, Some, Result, Ok, sym, ap, ◌∙◌, subst}
 use Rattle.std.specs.List.{AllByRecursion}
 use Rattle.std.specs.Ordering.{nat_cmp}
@@ -19,29 +18,28 @@ use Rattle.replica_core.specs.Machine.{step, replies, after}
 use Rattle.source_history.specs.World.{World, is_opened, rows_of, AreKeysSound, IsSound}
 use Rattle.source_history.proofs.Closing.{closed_same}
 use Rattle.faithful_runs.specs.Faithful.{start_with, IsOpening, Since, since_after, IsFaithfulFrom, IsFaithfulRun, IsNotRefused, IsMerged, FaithfulRunsMerge, EqualSetsEqualRows, RunsGoOn}
-use Rattle.faithful_journals.proofs.Lists.{not_none, all_from}
+use Rattle.faithful_journals.proofs.Lists.{all_from}
 use Rattle.faithful_journals.proofs.Covering.{covered, front, to_fronts}
 use Rattle.faithful_runs.proofs.Executing.{absorb}
 use Rattle.source_history.proofs.Writing.{last_writer_stands}
 use Rattle.faithful_runs.proofs.Invariant.{AllApply, Invariant}
 use Rattle.faithful_runs.proofs.Steps.{step_keeps}
-
-or_none : (p : Bool) → (p || false) ≡ p
-or_none true = refl
-or_none false = refl
+use mathlib.Core.Bool.{or-false}
+use Rattle.rows.proofs.Lists.{none_some}
+use Rattle.faithful_runs.proofs.Sharing.{after_append}
 
 no_more : (A : Gtids) (k : ℕ) (g : Gtid) → covered A (take k []) g ≡ set.contains A g
-no_more A zero g = or_none (set.contains A g)
-no_more A (suc k) g = or_none (set.contains A g)
+no_more A zero g = or-false (set.contains A g)
+no_more A (suc k) g = or-false (set.contains A g)
 
 no_seat : (a : ℕ) (spot : Spot) → finmap.get (finmap.empty {R = nat_cmp}) a ≡ Some spot → ⊥
-no_seat a spot e = not_none spot (sym (get-empty nat_cmp a) ∙ e)
+no_seat a spot e = none_some spot (sym (get-empty nat_cmp a) ∙ e)
 
 pub opening_holds : (world : World) (A : Gtids) (rows : Rows) → IsOpening world A rows → Invariant world (start_with A rows) (λ c. [])
 opening_holds world A rows start = record {
   closed = start.closed;
   rows = start.stands_for;
-  channels = λ c ch i. not_none ch i;
+  channels = λ c ch i. none_some ch i;
   seats = record {
     ready = λ a spot e. absurd (no_seat a spot e);
     in_range = λ a spot e. absurd (no_seat a spot e);
@@ -93,10 +91,6 @@ equal_sets_equal_rows world a b A B x y es fs p q sound h k f g same =
     let m = faithful_runs_merge world a A x es p sound h f in
     let n = faithful_runs_merge world b B y fs q sound k g in
     one_ok (rows_of world (set.contains (after a (start_with A x) es).executed)) _ _ m.0.rows (ap (λ (X : Gtids). rows_of world (set.contains X)) same ∙ n.0.rows)
-
-after_append : (site : Site) (s : State) (es fs : List Event) → after site s (es ++ fs) ≡ after site (after site s es) fs
-after_append site s [] fs = refl
-after_append site s (e ∷ es) fs = after_append site (step site s e).1 es fs
 
 pub runs_go_on : RunsGoOn
 runs_go_on world site A rows earlier events s same sound start reached f =

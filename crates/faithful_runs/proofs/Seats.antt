@@ -1,13 +1,11 @@
 -- The seats, and what they own.
 use Rattle.std.proofs.Common.{◌≡◌, ◌≢◌, ℕ, zero, suc, ◌+◌, ◌<◌, ◌≤◌, arith, Bool, true, false, cond, ◌⊎◌, inl, inr, List, Option, Some, None, refl, sym, ap, ◌∙◌, subst}
-use Rattle.std.specs.declared.cmp.Ordering.{Ordering}
-use Rattle.std.specs.declared.cmp.Ordering.TheVariants.{Less, Equal, Greater}
 use Rattle.std.specs.Prelude.{nat_le}
 use Rattle.std.specs.Option.{option_map, option_map_or, option_and_then}
 use Rattle.std.specs.List.{AllByRecursion, range_with_len}
 use Rattle.std.specs.Ordering.{nat_cmp, eq_by_cmp, is_eq}
 use Rattle.std.specs.FinMap as finmap
-use Rattle.std.specs.FinMap.{get-insert, get-remove, nat_cmp-IsAntisymmetric}
+use Rattle.std.specs.FinMap.{get-remove}
 use Rattle.std.proofs.lemmas.Cmp.{nat_cmp_total, tied_itself}
 use Rattle.gtid_text.specs.declared.Gtid.{Gtid}
 use Rattle.gtid_text.specs.Gtids.{same_gtid}
@@ -16,10 +14,14 @@ use Rattle.replica_core.specs.declared.event.Spot.{Spot}
 use Rattle.replica_core.specs.State.{State, Seats, owned_by, owner, seat_numbers, entry_at}
 use Rattle.replica_core.specs.Machine.{is_seat}
 use Rattle.source_history.specs.World.{World}
-use Rattle.source_history.proofs.Tests.{not_both, and_both}
-use Rattle.source_history.proofs.Gtids.{same_gtid_self}
-use Rattle.faithful_journals.proofs.Lists.{same_some, not_none, none_passes}
+use Rattle.faithful_journals.proofs.Lists.{none_passes}
 use Rattle.faithful_runs.proofs.Invariant.{IsReady, AreSeated, gtid_at}
+use Rattle.std.proofs.lemmas.Bool.{and_parts}
+use Rattle.std.proofs.lemmas.Option.{same_Some}
+use Rattle.gtid_text.proofs.SameGtid.{same_itself}
+use Rattle.rows.proofs.Patching.{not_both}
+use Rattle.rows.proofs.Lists.{none_some}
+use Rattle.replica_core.proofs.SeatLemmas.{after_put}
 
 -- GTIDs stay at their places
 abbrev pub StaysPut : List ChannelValue → List ChannelValue → Type 0
@@ -38,7 +40,7 @@ seats_over world ex old new seats stays h = record {
 }
 
 none_or : {A : Type 0} (b : Bool) (o : Option A) (x : A) → cond b None o ≡ Some x → o ≡ Some x
-none_or true o x e = not_none x e
+none_or true o x e = none_some x e
 none_or false o x e = e
 
 pub still_there : (seats : Seats) (k a : ℕ) (spot : Spot) → finmap.get (finmap.remove seats k) a ≡ Some spot → finmap.get seats a ≡ Some spot
@@ -55,33 +57,21 @@ seats_without world ex channels seats k h = record {
 abbrev pub IsFree : List ChannelValue → Seats → Gtid → Type 0
 IsFree channels seats g = (a : ℕ) (spot : Spot) → finmap.get seats a ≡ Some spot → gtid_at channels spot ≡ Some g → ⊥
 
-eq_of : (r : Ordering) → is_eq r ≡ true → r ≡ Equal
-eq_of Less e = cc
-eq_of Equal e = refl
-eq_of Greater e = cc
-
 one_or : {A : Type 0} (b : Bool) (o : Option A) (y x : A) → cond b (Some y) o ≡ Some x → ((b ≡ true) × (y ≡ x)) ⊎ (o ≡ Some x)
-one_or true o y x e = inl (refl, same_some y x e)
+one_or true o y x e = inl (refl, same_Some y x e)
 one_or false o y x e = inr e
-
-pub seat_cases : (seats : Seats) (k a : ℕ) (new spot : Spot) → finmap.get (finmap.insert seats k new) a ≡ Some spot → ((a ≡ k) × (new ≡ spot)) ⊎ (finmap.get seats a ≡ Some spot)
-seat_cases seats k a new spot e =
-    elim (one_or (eq_by_cmp nat_cmp a k) (finmap.get seats a) new spot (sym (get-insert nat_cmp_total seats k new a) ∙ e)) [
-      | inl p ↦ inl (nat_cmp-IsAntisymmetric a k (eq_of (nat_cmp a k) p.0), p.1)
-      | inr q ↦ inr q
-    ]
 
 pub seats_with : (world : World) (ex : Gtid → Bool) (channels : List ChannelValue) (seats : Seats) (k : ℕ) (new : Spot) (r : IsReady world ex channels new) → is_seat k ≡ true → IsFree channels seats r.gtid → AreSeated world ex channels seats → AreSeated world ex channels (finmap.insert seats k new)
 seats_with world ex channels seats k new r seat free h = record {
-  ready = λ a spot e. elim (seat_cases seats k a new spot e) [ inl p ↦ subst (IsReady world ex channels) p.1 r | inr q ↦ h.ready a spot q ];
-  in_range = λ a spot e. elim (seat_cases seats k a new spot e) [ inl p ↦ ap is_seat p.0 ∙ seat | inr q ↦ h.in_range a spot q ];
+  ready = λ a spot e. elim (after_put seats k a new spot e) [ inl p ↦ subst (IsReady world ex channels) p.1 r | inr q ↦ h.ready a spot q ];
+  in_range = λ a spot e. elim (after_put seats k a new spot e) [ inl p ↦ ap is_seat p.0 ∙ seat | inr q ↦ h.in_range a spot q ];
   distinct = λ a b x y g p q u v.
-      elim (seat_cases seats k a new x p) [
-        | inl i ↦ elim (seat_cases seats k b new y q) [
+      elim (after_put seats k a new x p) [
+        | inl i ↦ elim (after_put seats k b new y q) [
           | inl j ↦ i.0 ∙ sym j.0
           | inr j ↦ absurd (free b y j (v ∙ (sym u ∙ (ap (gtid_at channels) (sym i.1) ∙ r.there))))
         ]
-        | inr i ↦ elim (seat_cases seats k b new y q) [
+        | inr i ↦ elim (after_put seats k b new y q) [
           | inl j ↦ absurd (free a x i (u ∙ (sym v ∙ (ap (gtid_at channels) (sym j.1) ∙ r.there))))
           | inr j ↦ h.distinct a b x y g i j u v
         ]
@@ -133,7 +123,7 @@ le_of_test a b e = grind arith
 among_seats : (P : ℕ → Type 0) (a : ℕ) → AllByRecursion P seat_numbers → is_seat a ≡ true → P a
 unfolding seat_numbers
 among_seats P a h s =
-    let both = and_both (nat_le 1 a) (nat_le a 64) s in
+    let both = and_parts (nat_le 1 a) (nat_le a 64) s in
     let low : 1 ≤ a = le_of_test 1 a both.0 in
     let high : a ≤ 64 = le_of_test a 64 both.1 in
     in_range_all P 64 1 a h low (omega arith)
@@ -144,5 +134,5 @@ free_from world ex s g seated e a spot f u =
     let none = none_passes (λ seat. option_map_or (λ h. same_gtid h g) (owned_by s seat) false) seat_numbers e in
     let no : option_map_or (λ h. same_gtid h g) (owned_by s a) false ≡ false = among_seats (λ seat. option_map_or (λ h. same_gtid h g) (owned_by s seat) false ≡ false) a none (seated.in_range a spot f) in
     let owned : owned_by s a ≡ Some g = ap (λ o. option_map (λ (x : Received). x.gtid) (option_and_then (entry_at s) o)) f ∙ u in
-    let yes : option_map_or (λ h. same_gtid h g) (owned_by s a) false ≡ true = ap (λ o. option_map_or (λ h. same_gtid h g) o false) owned ∙ same_gtid_self g in
+    let yes : option_map_or (λ h. same_gtid h g) (owned_by s a) false ≡ true = ap (λ o. option_map_or (λ h. same_gtid h g) o false) owned ∙ same_itself g in
     not_both (option_map_or (λ h. same_gtid h g) (owned_by s a) false) yes no

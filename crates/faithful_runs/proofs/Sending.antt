@@ -10,15 +10,17 @@ use Rattle.gtid_set.specs.Sets.{Gtids}
 use Rattle.journal.specs.declared.Entry.{Entry}
 use Rattle.journal.specs.Journals.{whole}
 use Rattle.source_history.specs.World.{World, content, is_opened, AreKeysSound}
-use Rattle.source_history.proofs.Tests.{true_or_false, or_either, or_left, or_right}
-use Rattle.source_history.proofs.Gtids.{gtid_total, same_gtid_self, gtid_same}
 use Rattle.auto_position.specs.Sending.{own_of}
 use Rattle.auto_position.specs.declared.PositionFault.{PositionFault}
 use Rattle.faithful_runs.specs.Faithful.{WasSent}
-use Rattle.faithful_journals.proofs.Lists.{get_below, all_at, located, same_some, not_none}
+use Rattle.faithful_journals.proofs.Lists.{all_at, located}
 use Rattle.faithful_runs.proofs.Invariant.{Needs, IsIn}
 use Rattle.faithful_journals.proofs.Covering.{is_entry, covered, front, fronts_of}
-use Rattle.faithful_journals.proofs.Keeping.{some_is}
+use Rattle.std.proofs.lemmas.Bool.{cases_Bool, or_cases, or_left, or_right}
+use Rattle.std.proofs.lemmas.Option.{same_Some, slice_get_within}
+use Rattle.gtid_text.proofs.SameGtid.{same_itself, same_is_equal, gtid_total}
+use Rattle.rows.proofs.Lists.{none_some}
+use Rattle.source_history.proofs.Committing.{some_is}
 
 -- ---- what a faithful journal sends
 
@@ -41,35 +43,35 @@ in_later x e F false i = i
 pub in_filter : (p : Entry → Bool) (es : List Entry) (h : Gtid) → is_entry es h ≡ true → ((e : Entry) → same_gtid h e.gtid ≡ true → p e ≡ true) → (x : Entry) × (same_gtid h x.gtid ≡ true) × IsIn x (filter p es)
 in_filter p [] h i f = cc
 in_filter p (e ∷ es) h i f =
-    elim (or_either (same_gtid h e.gtid) (is_entry es h) i) [
+    elim (or_cases (same_gtid h e.gtid) (is_entry es h) i) [
       | inl here ↦ (e, here, in_first e (filter p es) (p e) (f e here))
       | inr later ↦ let r = in_filter p es h later f in (r.0, r.1, in_later r.0 e (filter p es) (p e) r.2)
     ]
 
 entry_there : (es : List Entry) (k : ℕ) (e : Entry) → slice_get es k ≡ Some e → is_entry (take (k + 1) es) e.gtid ≡ true
-entry_there [] k e i = not_none e i
-entry_there (x ∷ es) zero e i = or_left (same_gtid e.gtid x.gtid) _ (ap (λ (y : Entry). same_gtid e.gtid y.gtid) (same_some x e i) ∙ same_gtid_self e.gtid)
+entry_there [] k e i = none_some e i
+entry_there (x ∷ es) zero e i = or_left (same_gtid e.gtid x.gtid) _ (ap (λ (y : Entry). same_gtid e.gtid y.gtid) (same_Some x e i) ∙ same_itself e.gtid)
 entry_there (x ∷ es) (suc k) e i =
     let n : suc k + 1 ≡ suc (k + 1) = omega arith in
     ap (λ m. is_entry (take m (x ∷ es)) e.gtid) n ∙ or_right (same_gtid e.gtid x.gtid) (is_entry (take (k + 1) es) e.gtid) (entry_there es k e i)
 
 take_one_more : (es : List Entry) (k : ℕ) (e : Entry) (h : Gtid) → slice_get es k ≡ Some e → is_entry (take (k + 1) es) h ≡ true → (same_gtid h e.gtid ≡ true) ⊎ (is_entry (take k es) h ≡ true)
-take_one_more [] k e h i f = not_none e i
+take_one_more [] k e h i f = none_some e i
 take_one_more (x ∷ es) zero e h i f =
-    elim (or_either (same_gtid h x.gtid) _ f) [
-      | inl here ↦ inl (ap (λ (y : Entry). same_gtid h y.gtid) (sym (same_some x e i)) ∙ here)
+    elim (or_cases (same_gtid h x.gtid) _ f) [
+      | inl here ↦ inl (ap (λ (y : Entry). same_gtid h y.gtid) (sym (same_Some x e i)) ∙ here)
       | inr later ↦ inr later
     ]
 take_one_more (x ∷ es) (suc k) e h i f =
     let n : suc k + 1 ≡ suc (k + 1) = omega arith in
     let g : is_entry (take (suc (k + 1)) (x ∷ es)) h ≡ true = ap (λ m. is_entry (take m (x ∷ es)) h) (sym n) ∙ f in
-    elim (or_either (same_gtid h x.gtid) (is_entry (take (k + 1) es) h) g) [
+    elim (or_cases (same_gtid h x.gtid) (is_entry (take (k + 1) es) h) g) [
       | inl here ↦ inr (or_left (same_gtid h x.gtid) (is_entry (take k es) h) here)
       | inr later ↦ elim (take_one_more es k e h i later) [ inl same ↦ inl same | inr before ↦ inr (or_right (same_gtid h x.gtid) (is_entry (take k es) h) before) ]
     ]
 
 lower_other : (g h : Gtid) → h.number < g.number → same_gtid h g ≡ true → ⊥
-lower_other g h l e = let same : h.number ≡ g.number = ap (λ (x : Gtid). x.number) (gtid_same h g e) in omega arith
+lower_other g h l e = let same : h.number ≡ g.number = ap (λ (x : Gtid). x.number) (same_is_equal h g e) in omega arith
 
 pub record Served (world : World) (A : Gtids) (before : List Entry) (e : Entry) : Type 0 where
   pub content_is : is_opened world e.gtid ≡ false → content world e.gtid ≡ Some e.txn
@@ -85,7 +87,7 @@ served world sound A before e w =
     record {
       content_is = all_at (λ (x : Entry). is_opened world x.gtid ≡ false → content world x.gtid ≡ Some x.txn) j.entries at.0 e w.faithful.contents at.1;
       needed = λ h n.
-          let below : at.0 < length j.entries = get_below j.entries at.0 e at.1 in
+          let below : at.0 < length j.entries = slice_get_within j.entries at.0 e at.1 in
           let fits : at.0 + 1 ≤ length j.entries = omega arith in
           let closed = fronts_of world j w.faithful (at.0 + 1) fits in
           let before_and_it = take (at.0 + 1) j.entries in
@@ -93,14 +95,14 @@ served world sound A before e w =
           let with_h = closed.earlier h e.gtid n.t n.u n.content_h n.content_g n.source n.number n.shares there in
           let not_opened : is_opened world h ≡ false = sound.outside h (some_is (content world h) n.t n.content_h) in
           let covered_h : covered j.previous before_and_it h ≡ true = sym (ap (λ b. b || covered j.previous before_and_it h) not_opened) ∙ with_h in
-          elim (or_either (set.contains j.previous h) (is_entry before_and_it h) covered_h) [
+          elim (or_cases (set.contains j.previous h) (is_entry before_and_it h) covered_h) [
             | inl purged ↦ inl (is_subset-contains gtid_total j.previous A s.0 h purged)
-            | inr among ↦ elim (true_or_false (set.contains A h)) [
+            | inr among ↦ elim (cases_Bool (set.contains A h)) [
               | inl asked ↦ inl asked
               | inr not_asked ↦ elim (take_one_more j.entries at.0 e h at.1 among) [
                 | inl same ↦ absurd (lower_other e.gtid h n.number same)
                 | inr before_it ↦
-                    let r = in_filter F (take at.0 j.entries) h before_it (λ x same. ap (λ (y : Gtid). not (set.contains A y)) (sym (gtid_same h x.gtid same)) ∙ ap not not_asked) in
+                    let r = in_filter F (take at.0 j.entries) h before_it (λ x same. ap (λ (y : Gtid). not (set.contains A y)) (sym (same_is_equal h x.gtid same)) ∙ ap not not_asked) in
                     inr (r.0, r.1, subst (IsIn r.0) at.2 r.2)
               ]
             ]

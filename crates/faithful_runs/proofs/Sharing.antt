@@ -1,11 +1,11 @@
 -- What a replica has executed once several channels were served.
-use Rattle.std.proofs.Common.{◌≡◌, ℕ, zero, suc, Bool, true, false, cond, not, ◌||◌, ◌⊎◌, inl, inr, List, [], ◌∷◌, ◌++◌, map, Option, Some, None, Result, Ok, Err, refl, sym, ap, ◌∙◌, subst, eqb, append_assoc}
+use Rattle.std.proofs.Common.{◌≡◌, ℕ, Bool, true, false, cond, not, ◌||◌, ◌⊎◌, inl, inr, List, [], ◌∷◌, ◌++◌, map, Option, Some, None, Result, Ok, Err, refl, sym, ap, ◌∙◌, subst, eqb, append_assoc}
 use Rattle.std.specs.Prelude.{slice_get, ◌==◌}
 use Rattle.std.specs.Option.{option_map_or}
 use Rattle.std.specs.List.{list_any, filter}
 use Rattle.std.specs.FinSet as set
 use Rattle.std.specs.FinSet.{contains-empty, contains-union, is_subset-contains, same_set}
-use Rattle.std.proofs.lemmas.Bool.{eqb-true, eq-eqb}
+use Rattle.std.proofs.lemmas.Bool.{eqb-true, eq-eqb, cases_Bool, or_cases, or_left, or_right}
 use Rattle.rows.specs.declared.change.Transaction.{Transaction}
 use Rattle.rows.specs.declared.change.RowFault.{RowFault}
 use Rattle.rows.specs.Fits.{misfit}
@@ -23,16 +23,18 @@ use Rattle.replica_core.specs.declared.event.Reply.TheVariants.{NotInSchema, NoC
 use Rattle.replica_core.specs.State.{State, Site}
 use Rattle.replica_core.specs.Machine.{Step, ask, with_channel, executing, next_number, local_answer, local, step, after}
 use Rattle.source_history.specs.Join.{join}
-use Rattle.source_history.proofs.Tests.{true_or_false, or_either, or_left, or_right}
-use Rattle.source_history.proofs.Gtids.{gtid_total, gtid_exact, same_gtid_self, gtid_same}
 use Rattle.auto_position.specs.Sending.{own_of}
 use Rattle.faithful_runs.specs.Served.{accepted, on_channel, received_on, committed_here, local_commits, WasServed, Plan, is_planned, whole_sets, ServedAreJoined}
-use Rattle.faithful_journals.proofs.Lists.{on_option, same_test, same_some, not_none}
-use Rattle.faithful_journals.proofs.Covering.{is_entry, entry_of, has, in_insert, in_entries, in_gtids, in_whole}
+use Rattle.faithful_journals.proofs.Covering.{is_entry, entry_of, has, in_insert, in_entries, in_gtids, in_whole, entries_append}
 use Rattle.faithful_runs.proofs.Sending.{sent_cases}
 use Rattle.faithful_runs.proofs.Receiving.{among_received}
 use Rattle.faithful_runs.proofs.Growing.{nothing, Known, Grows, gains_settled, step_grows}
-use Rattle.faithful_runs.proofs.Serving.{entries_append, drained_known, in_filtered, passes}
+use Rattle.faithful_runs.proofs.Serving.{drained_known, in_filtered, passes}
+use Rattle.std.proofs.lemmas.Map.Keys.{any_passes_from_place}
+use Rattle.gtid_text.proofs.SameGtid.{same_itself, same_is_equal, gtid_total, gtid_exact}
+use Rattle.gtid_set.proofs.SetSources.{same_bool}
+use Rattle.rows.proofs.Lists.{on_option, any_at}
+use Rattle.faithful_runs.proofs.Wholes.{same_ask}
 
 -- what is known after events was known before, or is one of these; and these are known
 pub record Moves (s s' : State) (More : Gtid → Type 0) : Type 0 where
@@ -57,7 +59,7 @@ from_grows s s' xs More into back grows = record {
 on_itself : (d : ℕ) (xs : List Entry) (g : Gtid) → is_entry xs g ≡ true → is_entry (cond (eqb d d) xs []) g ≡ true
 on_itself d xs g h = ap (λ b. is_entry (cond b xs []) g) (eq-eqb d d refl) ∙ h
 
-on_some : (b : Bool) (xs : List Entry) (g : Gtid) → is_entry (cond b xs []) g ≡ true → is_entry xs g ≡ true
+pub on_some : (b : Bool) (xs : List Entry) (g : Gtid) → is_entry (cond b xs []) g ≡ true → is_entry xs g ≡ true
 on_some true xs g h = h
 on_some false xs g h = nothing g h
 
@@ -66,8 +68,8 @@ executing_moves s g t rows More it only =
     let gains = gains_settled s.channels g in
     record {
       origin = λ h k. elim k [
-        | inl done ↦ elim (or_either (same_gtid h g) (set.contains s.executed h) (sym (in_insert s.executed g h) ∙ done)) [
-          | inl is ↦ inr (subst More (sym (gtid_same h g is)) it)
+        | inl done ↦ elim (or_cases (same_gtid h g) (set.contains s.executed h) (sym (in_insert s.executed g h) ∙ done)) [
+          | inl is ↦ inr (subst More (sym (same_is_equal h g is)) it)
           | inr was ↦ inl (inl was)
         ]
         | inr w ↦ elim (gains.origin h w) [ inl was ↦ inl (inr was) | inr never ↦ nothing h never ]
@@ -76,7 +78,7 @@ executing_moves s g t rows More it only =
         | inl done ↦ inl (in_insert s.executed g h ∙ or_right (same_gtid h g) (set.contains s.executed h) done)
         | inr w ↦ inr (gains.kept h w)
       ];
-      came = λ h m. inl (in_insert s.executed g h ∙ or_left (same_gtid h g) (set.contains s.executed h) (ap (same_gtid h) (sym (only h m)) ∙ same_gtid_self h));
+      came = λ h m. inl (in_insert s.executed g h ∙ or_left (same_gtid h g) (set.contains s.executed h) (ap (same_gtid h) (sym (only h m)) ∙ same_itself h));
     }
 
 pub record StepMoves (s : State) (event : Event) (after : Step) : Type 0 where
@@ -92,10 +94,10 @@ none_came g (inr h) = h.1
 
 module _ (site : Site) (s : State) where
   local_by : (g : Gtid) (t : Transaction) (r : Result Rows RowFault) → StepMoves s (Local t) (local_answer g t s r)
-  local_by g t (Ok rows) = record { moves = executing_moves s g t rows _ (inl (or_left (same_gtid g g) false (same_gtid_self g))) only }
+  local_by g t (Ok rows) = record { moves = executing_moves s g t rows _ (inl (or_left (same_gtid g g) false (same_itself g))) only }
     where
       only : (h : Gtid) → ((is_entry (entry_of g t ∷ []) h ≡ true) ⊎ ((c : ℕ) × (is_entry [] h ≡ true))) → h ≡ g
-      only h (inl i) = elim (or_either (same_gtid h g) false i) [ inl is ↦ gtid_same h g is | inr never ↦ nothing h never ]
+      only h (inl i) = elim (or_cases (same_gtid h g) false i) [ inl is ↦ same_is_equal h g is | inr never ↦ nothing h never ]
       only h (inr i) = nothing h i.1
   local_by g t (Err fault) = record { moves = same_moves s _ no_locals }
 
@@ -137,8 +139,8 @@ brought_later site s e es g (inl h) = inl (entries_append (committed_here e (ste
 brought_later site s e es g (inr h) = inr (h.0, entries_append (on_channel h.0 e (accepted e (step site s e).0)) (received_on h.0 site (step site s e).1 es) g ∙ or_right (is_entry (on_channel h.0 e (accepted e (step site s e).0)) g) _ h.1)
 
 brought_cases : (site : Site) (s : State) (e : Event) (es : List Event) (g : Gtid) → Brought site s (e ∷ es) g → Brings e (step site s e).0 g ⊎ Brought site (step site s e).1 es g
-brought_cases site s e es g (inl h) = elim (or_either (is_entry (committed_here e (step site s e).0) g) (is_entry (local_commits site (step site s e).1 es) g) (sym (entries_append (committed_here e (step site s e).0) (local_commits site (step site s e).1 es) g) ∙ h)) [ inl a ↦ inl (inl a) | inr b ↦ inr (inl b) ]
-brought_cases site s e es g (inr h) = elim (or_either (is_entry (on_channel h.0 e (accepted e (step site s e).0)) g) (is_entry (received_on h.0 site (step site s e).1 es) g) (sym (entries_append (on_channel h.0 e (accepted e (step site s e).0)) (received_on h.0 site (step site s e).1 es) g) ∙ h.1)) [ inl a ↦ inl (inr (h.0, a)) | inr b ↦ inr (inr (h.0, b)) ]
+brought_cases site s e es g (inl h) = elim (or_cases (is_entry (committed_here e (step site s e).0) g) (is_entry (local_commits site (step site s e).1 es) g) (sym (entries_append (committed_here e (step site s e).0) (local_commits site (step site s e).1 es) g) ∙ h)) [ inl a ↦ inl (inl a) | inr b ↦ inr (inl b) ]
+brought_cases site s e es g (inr h) = elim (or_cases (is_entry (on_channel h.0 e (accepted e (step site s e).0)) g) (is_entry (received_on h.0 site (step site s e).1 es) g) (sym (entries_append (on_channel h.0 e (accepted e (step site s e).0)) (received_on h.0 site (step site s e).1 es) g) ∙ h.1)) [ inl a ↦ inl (inr (h.0, a)) | inr b ↦ inr (inr (h.0, b)) ]
 
 pub run_moves : (site : Site) (s : State) (events : List Event) → Moves s (after site s events) (Brought site s events)
 run_moves site s [] = same_moves s _ no_locals
@@ -164,9 +166,6 @@ received_append c site s (x ∷ xs) ys =
     ap (λ zs. on_channel c x (accepted x (step site s x).0) ++ zs) (received_append c site (step site s x).1 xs ys)
     ∙ sym (append_assoc (on_channel c x (accepted x (step site s x).0)) (received_on c site (step site s x).1 xs) (received_on c site (after site (step site s x).1 xs) ys))
 
-same_ask : (A B : Gtids) → Ask A ≡ Ask B → A ≡ B
-same_ask A B e = cc
-
 abbrev asking : State → ℕ → Option ChannelValue → Step
 asking s c o = option_map_or (λ channel. (Ask (ask s channel), with_channel s c (record channel { asked = Some (ask s channel) }))) o (NoChannel, s)
 
@@ -179,7 +178,7 @@ ask_known : (site : Site) (s : State) (c : ℕ) (A : Gtids) → (step site s (Po
 ask_known site s c A e g h =
     let r = asked_by s c (slice_get s.channels c) A e in
     let both = sym (contains-union gtid_total s.executed (set.from_list (map (λ (x : Received). x.gtid) r.0.received)) g) ∙ (ap (λ (X : Gtids). set.contains X g) r.2 ∙ h) in
-    elim (or_either (set.contains s.executed g) (set.contains (set.from_list {R = gtid_cmp} (map (λ (x : Received). x.gtid) r.0.received)) g) both) [
+    elim (or_cases (set.contains s.executed g) (set.contains (set.from_list {R = gtid_cmp} (map (λ (x : Received). x.gtid) r.0.received)) g) both) [
       | inl done ↦ inl done
       | inr there ↦ inr (c, r.0, r.1, among_received r.0.received g (sym (in_gtids (map (λ (x : Received). x.gtid) r.0.received) g) ∙ there))
     ]
@@ -198,12 +197,12 @@ served_known site s events c j w g h =
     let cases = sent_cases (set.is_subset j.previous w.ask) (set.is_subset (own_of w.ask w.own) (whole j)) _ _ (filter (λ (e : Entry). not (set.contains w.ask e.gtid)) j.entries) w.all w.all_sent in
     let ends : after site s events ≡ after site s1 (Position c ∷ w.later) = ap (after site s) w.parts ∙ after_append site s w.before (Position c ∷ w.later) in
     let asked : set.contains w.ask g ≡ true → Known (after site s events) g = λ i. subst (λ (x : State). Known x g) (sym ends) ((run_moves site s1 (Position c ∷ w.later)).stays g (ask_known site s1 c w.ask w.asked g i)) in
-    elim (or_either (set.contains j.previous g) (is_entry j.entries g) h) [
+    elim (or_cases (set.contains j.previous g) (is_entry j.entries g) h) [
       | inl purged ↦ asked (is_subset-contains gtid_total j.previous w.ask cases.0 g purged)
-      | inr entry ↦ elim (true_or_false (set.contains w.ask g)) [
+      | inr entry ↦ elim (cases_Bool (set.contains w.ask g)) [
         | inl i ↦ asked i
         | inr new ↦
-            let passed = passes (λ (e : Entry). not (set.contains w.ask e.gtid)) j.entries g (λ e same. ap (λ (x : Gtid). not (set.contains w.ask x)) (sym (gtid_same g e.gtid same)) ∙ ap not new) entry in
+            let passed = passes (λ (e : Entry). not (set.contains w.ask e.gtid)) j.entries g (λ e same. ap (λ (x : Gtid). not (set.contains w.ask x)) (sym (same_is_equal g e.gtid same)) ∙ ap not new) entry in
             (run_moves site s events).came g (inr (c, ap (λ es. is_entry es g) (served_all site s events c j w ∙ sym cases.1) ∙ passed))
       ]
     ]
@@ -211,18 +210,6 @@ served_known site s events c j w g h =
 in_wholes : (plan : Plan) (g : Gtid) → set.contains (whole_sets plan) g ≡ list_any (λ p. has p.1 g) plan
 in_wholes [] g = contains-empty gtid_cmp g
 in_wholes (p ∷ plan) g = contains-union gtid_total (whole p.1) (whole_sets plan) g ∙ (λ i. in_whole p.1 g i || in_wholes plan g i)
-
-any_at : {A : Type 0} (p : A → Bool) (xs : List A) → list_any p xs ≡ true → (i : ℕ) × (x : A) × (slice_get xs i ≡ Some x) × (p x ≡ true)
-any_at p [] e = cc
-any_at p (x ∷ xs) e = elim (or_either (p x) (list_any p xs) e) [
-  | inl here ↦ (zero, x, refl, here)
-  | inr later ↦ let r = any_at p xs later in (suc r.0, r.1, r.2, r.3)
-]
-
-any_from : {A : Type 0} (p : A → Bool) (xs : List A) (i : ℕ) (x : A) → slice_get xs i ≡ Some x → p x ≡ true → list_any p xs ≡ true
-any_from p [] i x h t = not_none x h
-any_from p (y ∷ xs) zero x h t = or_left (p y) (list_any p xs) (ap p (same_some y x h) ∙ t)
-any_from p (y ∷ xs) (suc i) x h t = or_right (p y) (list_any p xs) (any_from p xs i x h t)
 
 pub served_are_joined : ServedAreJoined
 served_are_joined site s events plan drained served others drained_after =
@@ -236,26 +223,26 @@ served_are_joined site s events plan drained served others drained_after =
     let split : set.contains (join s.executed (join (gtids_of locals) (whole_sets plan))) g ≡ (a || (b || c)) =
     contains-union gtid_total s.executed (join (gtids_of locals) (whole_sets plan)) g
     ∙ ap (λ x. a || x) (contains-union gtid_total (gtids_of locals) (whole_sets plan) g ∙ (λ i. (in_entries locals g) i || in_wholes plan g i)) in
-    same_test (set.contains end.executed g) (set.contains (join s.executed (join (gtids_of locals) (whole_sets plan))) g)
+    same_bool (set.contains end.executed g) (set.contains (join s.executed (join (gtids_of locals) (whole_sets plan))) g)
     (λ h. split ∙ elim (moves.origin g (inl h)) [
       | inl known ↦ or_left a (b || c) (drained_known s g drained known)
       | inr brought ↦ or_right a (b || c) (elim brought [
         | inl here ↦ or_left b c here
-        | inr came ↦ or_right b c (elim (true_or_false (is_planned plan came.0)) [
+        | inr came ↦ or_right b c (elim (cases_Bool (is_planned plan came.0)) [
           | inl planned ↦
               let p = any_at (λ (q : ℕ × JournalValue). q.0 == came.0) plan planned in
               let w = served p.0 p.1 p.2 in
               let on : is_entry (received_on p.1.0 site s events) g ≡ true = ap (λ n. is_entry (received_on n site s events) g) (eqb-true p.1.0 came.0 p.3) ∙ came.1 in
               let cases = sent_cases (set.is_subset p.1.1.previous w.ask) (set.is_subset (own_of w.ask w.own) (whole p.1.1)) _ _ (filter (λ (e : Entry). not (set.contains w.ask e.gtid)) p.1.1.entries) w.all w.all_sent in
               let entry = in_filtered (λ (e : Entry). not (set.contains w.ask e.gtid)) p.1.1.entries g (ap (λ es. is_entry es g) (cases.1 ∙ sym (served_all site s events p.1.0 p.1.1 w)) ∙ on) in
-              any_from (λ (q : ℕ × JournalValue). has q.1 g) plan p.0 p.1 p.2 (or_right (set.contains p.1.1.previous g) (is_entry p.1.1.entries g) entry)
+              any_passes_from_place (λ (q : ℕ × JournalValue). has q.1 g) plan p.0 p.1 p.2 (or_right (set.contains p.1.1.previous g) (is_entry p.1.1.entries g) entry)
           | inr unplanned ↦ nothing g (ap (λ es. is_entry es g) (sym (others came.0 unplanned)) ∙ came.1)
         ])
       ])
     ])
-    (λ h. elim (or_either a (b || c) (sym split ∙ h)) [
+    (λ h. elim (or_cases a (b || c) (sym split ∙ h)) [
       | inl was ↦ drained_known end g drained_after (moves.stays g (inl was))
-      | inr rest ↦ elim (or_either b c rest) [
+      | inr rest ↦ elim (or_cases b c rest) [
         | inl here ↦ drained_known end g drained_after (moves.came g (inl here))
         | inr in_journal ↦
             let p = any_at (λ (q : ℕ × JournalValue). has q.1 g) plan in_journal in

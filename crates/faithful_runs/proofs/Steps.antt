@@ -6,7 +6,7 @@ use Rattle.std.specs.Prelude.{is_none}
 use Rattle.std.specs.List.{list_any, range_with_len}
 use Rattle.std.specs.FinMap as finmap
 use Rattle.std.specs.FinSet as set
-use Rattle.std.proofs.lemmas.Bool.{ltb-false}
+use Rattle.std.proofs.lemmas.Bool.{ltb-false, cases_Bool, and_parts, not-true, not-false}
 use Rattle.std.proofs.lemmas.List.{take-append-drop}
 use Rattle.rows.specs.declared.change.Transaction.{Transaction}
 use Rattle.rows.specs.declared.change.RowFault.{RowFault}
@@ -23,9 +23,8 @@ use Rattle.replica_core.specs.declared.event.Reply.TheVariants.{NotInSchema, Ask
 use Rattle.replica_core.specs.State.{State, Site, owned_by, owner}
 use Rattle.replica_core.specs.Machine.{is_seat, ask, is_in_the_way, blocking, open_before, with_channel, without_seat, stopping, executing, open_channel, position_on, receive, take_entry, take_place, Held, held_of, held_at, held, commit_answer, commit_held, commit, rollback, restart, is_free, next_number, local_answer, local, purge, step}
 use Rattle.source_history.specs.World.{World, content, AreKeysSound}
-use Rattle.source_history.proofs.Tests.{true_or_false, not_both, and_both}
 use Rattle.faithful_runs.specs.Faithful.{Since, asked_with}
-use Rattle.faithful_journals.proofs.Lists.{not_none, same_some, map_some, and_then_some, from_not, from_not_not, found_passes, position_none, get_take, on_test, on_option}
+use Rattle.faithful_journals.proofs.Lists.{found_passes, position_none, get_take, on_test}
 use Rattle.faithful_runs.proofs.Invariant.{AllApply, Needs, IsReady, Invariant, Keeps}
 use Rattle.faithful_journals.proofs.Covering.{covered}
 use Rattle.faithful_journals.proofs.Keeping.{covered_purged, journal_purge}
@@ -33,17 +32,16 @@ use Rattle.faithful_runs.proofs.Sending.{served}
 use Rattle.faithful_runs.proofs.Receiving.{received_entry, put_set, put_push, from_parts, extends_push, good_received, good_asked, good_restarted, good_stopped, good_new, all_set, all_set_same, all_push}
 use Rattle.faithful_runs.proofs.Seats.{seats_over, seats_without, seats_with, free_without, free_from}
 use Rattle.faithful_runs.proofs.Executing.{must_apply, executing_keeps}
-
-none_is : (o : Option ℕ) → is_none o ≡ true → o ≡ None
-none_is None e = refl
-none_is (Some x) e = cc
+use Rattle.std.proofs.lemmas.Option.{same_Some}
+use Rattle.rows.proofs.Patching.{not_both}
+use Rattle.rows.proofs.Lists.{none_some, none_if, map_some, and_then_some, on_option}
 
 -- the number of a local commit is neither executed nor owned
 pub free_number : (site : Site) (s : State) (n : ℕ) → next_number site s ≡ Some n → (set.contains s.executed (gtid site.own n) ≡ false) × (owner s (gtid site.own n) ≡ None)
 unfolding least_number
 free_number site s n is =
-    let test = and_both (not (set.contains s.executed (gtid site.own n))) (is_none (owner s (gtid site.own n))) (found_passes (is_free site s) (range_with_len 1 greatest) n is) in
-    (from_not (set.contains s.executed (gtid site.own n)) test.0, none_is (owner s (gtid site.own n)) test.1)
+    let test = and_parts (not (set.contains s.executed (gtid site.own n))) (is_none (owner s (gtid site.own n))) (found_passes (is_free site s) (range_with_len 1 greatest) n is) in
+    (not-true (set.contains s.executed (gtid site.own n)) test.0, none_if (owner s (gtid site.own n)) test.1)
 
 module _ (world : World) (own : ℕ) (sound : AreKeysSound world) (s : State) (since : Since) (inv : Invariant world s since) where
   abbrev site : Site
@@ -179,7 +177,7 @@ module _ (world : World) (own : ℕ) (sound : AreKeysSound world) (s : State) (s
       ∙ (ap (λ o. option_map_or (λ x. shares_key world.schema x t) o false) has ∙ shares)
 
   one_content : (g : Gtid) (t u : Transaction) → content world g ≡ Some t → content world g ≡ Some u → t ≡ u
-  one_content g t u f k = same_some t u (sym f ∙ k)
+  one_content g t u f k = same_Some t u (sym f ∙ k)
 
   ready_at : (c p : ℕ) (ch : ChannelValue) (e : Received) → slice_get s.channels c ≡ Some ch → slice_get ch.received p ≡ Some e → set.contains s.executed e.gtid ≡ false → option_map_or (blocking world.schema s ch p) e.txn None ≡ None → IsReady world (set.contains s.executed) s.channels (record { channel = c; place = p })
   ready_at c p ch e here there new unblocked =
@@ -194,7 +192,7 @@ module _ (world : World) (own : ℕ) (sound : AreKeysSound world) (s : State) (s
           | inl done ↦ done
           | inr before ↦
               let f = before.1 in
-              elim (true_or_false (set.contains s.executed f.gtid)) [
+              elim (cases_Bool (set.contains s.executed f.gtid)) [
                 | inl done ↦ ap (set.contains s.executed) (sym before.3) ∙ done
                 | inr waits ↦
                     let its = good.known before.0 f before.2 waits in
@@ -229,7 +227,7 @@ module _ (world : World) (own : ℕ) (sound : AreKeysSound world) (s : State) (s
             closed = inv.closed;
             rows = inv.rows;
             channels = inv.channels;
-            seats = seats_with world (set.contains s.executed) s.channels s.seats seat (record { channel = c; place = p }) (ready_at c p ch x here there new unblocked) (from_not_not (is_seat seat) in_range) (free_from world (set.contains s.executed) s x.gtid inv.seats unowned) inv.seats;
+            seats = seats_with world (set.contains s.executed) s.channels s.seats seat (record { channel = c; place = p }) (ready_at c p ch x here there new unblocked) (not-false (is_seat seat) in_range) (free_from world (set.contains s.executed) s x.gtid inv.seats unowned) inv.seats;
             journal = inv.journal;
             recorded = inv.recorded;
           },
@@ -264,7 +262,7 @@ module _ (world : World) (own : ℕ) (sound : AreKeysSound world) (s : State) (s
   stopped_keeps : (seat c : ℕ) (ch : ChannelValue) → slice_get s.channels c ≡ Some ch → (AllApply world → ⊥) → Invariant world (stopping c (without_seat s seat)) since
   stopped_keeps seat c ch here not_all =
       on_option (λ xs. Invariant world (record { executed = s.executed; rows = s.rows; seats = finmap.remove s.seats seat; channels = xs; journal = s.journal }) since) (λ channel. slice_set s.channels c (record channel { stopped = true })) (slice_get s.channels c) s.channels
-      (λ e. absurd (not_none ch (sym e ∙ here)))
+      (λ e. absurd (none_some ch (sym e ∙ here)))
       (λ x e. record {
         closed = inv.closed;
         rows = inv.rows;
@@ -286,10 +284,10 @@ module _ (world : World) (own : ℕ) (sound : AreKeysSound world) (s : State) (s
       let q = held_parts seat h is in
       let r = inv.seats.ready seat h.spot q.spot in
       let at = from_parts s.channels h.spot h.channel q.entry q.channel q.there in
-      let is_g : r.gtid ≡ h.gtid = same_some r.gtid q.entry.gtid (sym r.there ∙ at) ∙ q.gtid in
+      let is_g : r.gtid ≡ h.gtid = same_Some r.gtid q.entry.gtid (sym r.there ∙ at) ∙ q.gtid in
       let new : set.contains s.executed h.gtid ≡ false = ap (set.contains s.executed) (sym is_g) ∙ r.new in
       let its = (inv.channels h.spot.channel h.channel q.channel).known h.spot.place q.entry q.there (ap (set.contains s.executed) q.gtid ∙ new) in
-      let is_t : its.0 ≡ h.txn = same_some its.0 h.txn (sym its.1 ∙ q.txn) in
+      let is_t : its.0 ≡ h.txn = same_Some its.0 h.txn (sym its.1 ∙ q.txn) in
       let there : content world h.gtid ≡ Some h.txn = ap (content world) (sym q.gtid) ∙ (its.2 ∙ ap Some is_t) in
       let needs : (x : Gtid) → Needs world x h.gtid → set.contains s.executed x ≡ true = λ x n. r.needs x (subst (Needs world x) (sym is_g) n) in
       committed_by seat h (apply world.schema h.txn s.rows) refl (λ a. must_apply world s since h.gtid h.txn sound a inv there new needs)

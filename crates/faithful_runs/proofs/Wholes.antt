@@ -3,7 +3,7 @@ use Rattle.std.proofs.Common.{◌≡◌, ℕ, zero, suc, ◌<◌, Ok, Bool, true
 use Rattle.std.specs.Prelude.{slice_get, slice_set, nat_le}
 use Rattle.std.specs.Option.{option_and_then, option_map_or}
 use Rattle.std.specs.List.{list_any, list_all}
-use Rattle.std.proofs.lemmas.Bool.{eqb-true, eq-eqb}
+use Rattle.std.proofs.lemmas.Bool.{eqb-true, eq-eqb, cases_Bool, and_parts, not-true}
 use Rattle.gtid_set.specs.Sets.{Gtids}
 use Rattle.rows.specs.Fits.{misfit}
 use Rattle.journal.specs.declared.Entry.{Entry}
@@ -16,17 +16,19 @@ use Rattle.replica_core.specs.declared.event.Reply.TheVariants.{NotInSchema, NoC
 use Rattle.replica_core.specs.State.{State, Site}
 use Rattle.replica_core.specs.Machine.{Step, ask, with_channel, open_channel, position_on, receive, step, after}
 use Rattle.source_history.specs.World.{World}
-use Rattle.source_history.proofs.Tests.{true_or_false, not_both, and_both}
 use Rattle.faithful_journals.specs.Faithful.{IsFaithful}
-use Rattle.faithful_journals.proofs.Lists.{on_test, on_option, same_some, not_none, from_not, and_then_some, get_below}
+use Rattle.faithful_journals.proofs.Lists.{on_test}
 use Rattle.auto_position.specs.Sending.{sent}
 use Rattle.faithful_runs.specs.Faithful.{Since, since_after, asked_with, WasSent, IsFaithfulStep, IsFaithfulFrom}
 use Rattle.faithful_runs.specs.Served.{accepted, on_channel, received_on, IsNoLocalCommit, NoLocalCommits}
 use Rattle.faithful_runs.specs.Whole.{is_position, WasServedOnce, ServedIsFaithful}
 use Rattle.faithful_runs.proofs.Asking.{step_asks}
+use Rattle.std.proofs.lemmas.Option.{same_Some, slice_get_within}
+use Rattle.rows.proofs.Patching.{not_both}
+use Rattle.rows.proofs.Lists.{none_some, and_then_some, on_option}
 
 eqb_swap : (a b : ℕ) → eqb a b ≡ false → eqb b a ≡ false
-eqb_swap a b e = elim (true_or_false (eqb b a)) [
+eqb_swap a b e = elim (cases_Bool (eqb b a)) [
   | inl same ↦ not_both (eqb a b) (eq-eqb a b (sym (eqb-true b a same))) e
   | inr other ↦ other
 ]
@@ -35,8 +37,8 @@ eqb_swap a b e = elim (true_or_false (eqb b a)) [
 old_channel : (s : State) (k : ℕ) (A : Gtids) → asked_with s k ≡ Some A → eqb k (length s.channels) ≡ false
 old_channel s k A h =
     let r = and_then_some (λ (x : ChannelValue). x.asked) (slice_get s.channels k) A h in
-    let below : k < length s.channels = get_below s.channels k r.0 r.1 in
-    elim (true_or_false (eqb k (length s.channels))) [
+    let below : k < length s.channels = slice_get_within s.channels k r.0 r.1 in
+    elim (cases_Bool (eqb k (length s.channels))) [
       | inl same ↦ let e : k ≡ length s.channels = eqb-true k (length s.channels) same in absurd (omega arith)
       | inr other ↦ other
     ]
@@ -121,12 +123,12 @@ none_before (x ∷ xs) ys e = cc
 abbrev asking : State → ℕ → Option ChannelValue → Step
 asking s k o = option_map_or (λ channel. (Ask (ask s channel), with_channel s k (record channel { asked = Some (ask s channel) }))) o (NoChannel, s)
 
-set_there : (xs : List ChannelValue) (i : ℕ) (x v : ChannelValue) → slice_get xs i ≡ Some x → slice_get (slice_set xs i v) i ≡ Some v
-set_there [] i x v e = not_none x e
+pub set_there : (xs : List ChannelValue) (i : ℕ) (x v : ChannelValue) → slice_get xs i ≡ Some x → slice_get (slice_set xs i v) i ≡ Some v
+set_there [] i x v e = none_some x e
 set_there (y ∷ xs) zero x v e = refl
 set_there (y ∷ xs) (suc i) x v e = set_there xs i x v e
 
-same_ask : (A B : Gtids) → Ask A ≡ Ask B → A ≡ B
+pub same_ask : (A B : Gtids) → Ask A ≡ Ask B → A ≡ B
 same_ask A B e = cc
 
 -- after a Position that was answered, the channel has asked with that set
@@ -157,8 +159,8 @@ module _ (world : World) (site : Site) (s : State) (since : Since) (e : Event) (
 
   runs_next : Runs world site s since (e ∷ es) k → Runs world site s' since' es k
   runs_next r =
-      let once = and_both (not (is_position k e)) (list_all (λ x. not (is_position k x)) es) r.once in
-      let other = from_not (is_position k e) once.0 in
+      let once = and_parts (not (is_position k e)) (list_all (λ x. not (is_position k x)) es) r.once in
+      let other = not-true (is_position k e) once.0 in
       record {
         journal = r.journal;
         own = r.own;
@@ -242,7 +244,7 @@ receive_sent world site s since c entry es p is phase ask asked =
             let same : Receive c entry ≡ x = cc in
             not_nothing entry (received_on c site (step site s (Receive c entry)).1 before) (sym (now before) ∙ (ap (λ y. received_on c site s (y ∷ before)) same ∙ none))
     by now (inr (inl r)) =
-        let same : r.ask ≡ ask = same_some r.ask ask (sym r.asked ∙ asked) in
+        let same : r.ask ≡ ask = same_Some r.ask ask (sym r.asked ∙ asked) in
         record {
           journal = r.journal;
           own = r.own;

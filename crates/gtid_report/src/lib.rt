@@ -17,6 +17,3 @@ pub use refusal::{LineCause, Refusal, push_number, render_fault};
 pub use state::{render_rows, render_state};
 pub use verdict::{push_row_fault, render_does_not_apply};
 pub use verdict_line::render_verdict;
-
-#[cfg(test)]
-mod tests;

@@ -5,11 +5,11 @@ use Rattle.std.specs.List.{list_all}
 use Rattle.std.proofs.lemmas.Bool.Decides.{nat_tests}
 use Rattle.gtid_text.specs.declared.Gtid.{Gtid}
 use Rattle.gtid_text.specs.declared.Span.{Span}
-use Rattle.gtid_text.proofs.SameGtid.{both}
 use Rattle.gtid_set.specs.Sets.{gtid}
 use Rattle.gtid_set.specs.Spans.{is_before, ends_before, is_merged, has}
 use Rattle.gtid_set.specs.Sweep.{is_kept, AddsFront, front_of, common_of, all_before_common, is_inside, Meets, all_before, all_reach, is_met, IsWithin, IsNotWithin, start_of, within, is_from}
 use Rattle.gtid_set.proofs.SpanLemmas.{all_weaker, all_weaker2, all_push, IsHead, merged_head, merged_filled, merged_push, has_push, has_later, from_other}
+use Rattle.std.proofs.lemmas.Bool.{and_parts, or_right}
 
 -- a span put before a hole
 pub adds_front : (old new : List Span) (t hole : Span) → new ≡ old ++ front_of t hole ∷ [] → is_merged old ≡ true → all_before old t ≡ true → is_met hole t ≡ true → t.lo < hole.lo → AddsFront old t hole new
@@ -56,7 +56,7 @@ pub record IsHole (rest : List Span) (t hole : Span) (more : List Span) : Type 0
 
 pub hole_of : (rest : List Span) (t hole : Span) (more : List Span) → Meets rest t hole more → is_merged rest ≡ true → all_reach t rest ≡ true → IsHole rest t hole more
 hole_of rest t hole more meets m r =
-    let v = both (not (ends_before (start_of t) hole)) (all_reach t more) (sym (ap (all_reach t) meets.parts) ∙ r) in
+    let v = and_parts (not (ends_before (start_of t) hole)) (all_reach t more) (sym (ap (all_reach t) meets.parts) ∙ r) in
     record { parts = meets.parts; met = meets.met; reached = v.0; head = merged_head hole more (sym (ap is_merged meets.parts) ∙ m); reach = v.1 }
 
 -- the step of a cut
@@ -122,7 +122,7 @@ more_from t more q h m = start (later_from t more q h.after m) h.filled
 -- what is before each of two lists' spans is before what is after the first
 pub before_later : (old new : List Span) (t : Span) (more : List Span) → ((u : Span) → is_before t u ≡ true → all_before old u ≡ true → all_before new u ≡ true)
     → list_all (is_before t) more ≡ true → list_all (all_before old) (t ∷ more) ≡ true → list_all (all_before new) more ≡ true
-before_later old new t more later after all = all_weaker2 (is_before t) (all_before old) (all_before new) more later after (both (all_before old t) (list_all (all_before old) more) all).1
+before_later old new t more later after all = all_weaker2 (is_before t) (all_before old) (all_before new) more later after (and_parts (all_before old t) (list_all (all_before old) more) all).1
 
 -- one turn of a pass: what the test keeps of the first span goes to the result
 pub kept_less : (o o' w m r r' g : Bool) → o' ≡ (o || (w && not r')) → (w ≡ true → r' ≡ r) → (m ≡ true → r' ≡ r) → (o || ((w || m) && not r)) ≡ g → (o' || (m && not r')) ≡ g
@@ -173,7 +173,7 @@ uncovered spans t first more e f m r i = cases (within first (start_of t)) refl
     head = merged_head first more (sym (ap is_merged e) ∙ m)
 
     reached : not (ends_before (start_of t) first) ≡ true
-    reached = (both (not (ends_before (start_of t) first)) (all_reach t more) (sym (ap (all_reach t) e) ∙ r)).0
+    reached = (and_parts (not (ends_before (start_of t) first)) (all_reach t more) (sym (ap (all_reach t) e) ∙ r)).0
 
     next : Gtid
     next = gtid t.source (first.hi + 1)
@@ -203,18 +203,14 @@ uncovered spans t first more e f m r i = cases (within first (start_of t)) refl
     )
 
 pub all_before_head : (out left : List Span) (t : Span) (more : List Span) → left ≡ t ∷ more → list_all (all_before out) left ≡ true → all_before out t ≡ true
-all_before_head out left t more e b = (both (all_before out t) (list_all (all_before out) more) (sym (ap (list_all (all_before out)) e) ∙ b)).0
-
-pub or_true : (a b : Bool) → b ≡ true → (a || b) ≡ true
-or_true true b e = refl
-or_true false b e = e
+all_before_head out left t more e b = (and_parts (all_before out t) (list_all (all_before out) more) (sym (ap (list_all (all_before out)) e) ∙ b)).0
 
 -- what a list has: its first span, or the later ones
 pub has_first : (left : List Span) (t : Span) (more : List Span) (q : Gtid) → left ≡ t ∷ more → within t q ≡ true → has left q ≡ true
 has_first left t more q e w = ap (λ ss. has ss q) e ∙ ap (λ b. b || has more q) w
 
 pub has_more : (left : List Span) (t : Span) (more : List Span) (q : Gtid) → left ≡ t ∷ more → has more q ≡ true → has left q ≡ true
-has_more left t more q e m = ap (λ ss. has ss q) e ∙ or_true (within t q) (has more q) m
+has_more left t more q e m = ap (λ ss. has ss q) e ∙ or_right (within t q) (has more q) m
 
 -- what is left to look at, once the first span has passed
 pub looked : (left : List Span) (t : Span) (more : List Span) (q : Gtid) (P : Type 0) → left ≡ t ∷ more → has more q ≡ false → (within t q ≡ true → P) → (has left q ≡ false → P) → P
@@ -265,13 +261,13 @@ pub common_next : (old new rest : List Span) (t other : Span) (more : List Span)
 common_next old new rest t other more h e b =
     all_weaker2 (is_before other) (λ s. all_before old (common_of t s)) (λ s. all_before new (common_of t s)) more
     (λ s k a. ap (λ ss. all_before ss (common_of t s)) e ∙ all_push (λ u. is_before u (common_of t s)) old (common_of t other) a (apart s k h.met))
-    h.head.after (both (all_before old (common_of t other)) (all_before_common old t more) (sym (ap (all_before_common old t) h.parts) ∙ b)).1
+    h.head.after (and_parts (all_before old (common_of t other)) (all_before_common old t more) (sym (ap (all_before_common old t) h.parts) ∙ b)).1
   where
     apart : (s : Span) → is_before other s ≡ true → is_met other t ≡ true → is_before (common_of t other) (common_of t s) ≡ true
     apart s k m = grind (arith, nat_tests)
 
 pub common_first : (old rest : List Span) (t other : Span) (more : List Span) → rest ≡ other ∷ more → all_before_common old t rest ≡ true → all_before old (common_of t other) ≡ true
-common_first old rest t other more e b = (both (all_before old (common_of t other)) (all_before_common old t more) (sym (ap (all_before_common old t) e) ∙ b)).0
+common_first old rest t other more e b = (and_parts (all_before old (common_of t other)) (all_before_common old t more) (sym (ap (all_before_common old t) e) ∙ b)).0
 
 pub common_before : (t other u : Span) → is_met other t ≡ true → is_before t u ≡ true → is_before (common_of t other) u ≡ true
 common_before t other u m b = grind (arith, nat_tests)
@@ -308,7 +304,7 @@ left_has false false m t h = refl
 pub kept_step : (old new : List Span) (source : ℕ) (wanted : Bool) (span : Span) (more : List Span) (keep : Bool) → IsHead span more → list_all (all_before old) (span ∷ more) ≡ true → is_merged old ≡ true
     → new ≡ (if keep then old ++ span ∷ [] else old) → keep ≡ is_kept source wanted span.source → IsKeptStep old new source wanted span more
 kept_step old new source wanted span more true h b m e k =
-    let w = both (all_before old span) (list_all (all_before old) more) b in
+    let w = and_parts (all_before old span) (list_all (all_before old) more) b in
     record {
       merged = ap is_merged e ∙ merged_push old span m w.0 h.filled;
       before = ap (λ ss. list_all (all_before ss) more) e
@@ -319,7 +315,7 @@ kept_step old new source wanted span more true h b m e k =
     }
 kept_step old new source wanted span more false h b m e k = record {
   merged = ap is_merged e ∙ m;
-  before = ap (λ ss. list_all (all_before ss) more) e ∙ (both (all_before old span) (list_all (all_before old) more) b).1;
+  before = ap (λ ss. list_all (all_before ss) more) e ∙ (and_parts (all_before old span) (list_all (all_before old) more) b).1;
   has = λ q. ap (λ ss. has ss q || (has more q && is_kept source wanted q.source)) e
       ∙ left_has (has old q) (within span q) (has more q) (is_kept source wanted q.source) (λ v. within_source span source wanted q v ∙ sym k);
 }

@@ -8,12 +8,12 @@ use Rattle.std.proofs.lemmas.Bool.Decides.{nat_tests}
 use Rattle.std.proofs.lemmas.List.Folds.{list_any-append, list_any_at}
 use Rattle.gtid_text.specs.declared.Gtid.{Gtid}
 use Rattle.gtid_text.specs.declared.Span.{Span}
-use Rattle.gtid_text.proofs.SameGtid.{both}
 use Rattle.gtid_set.specs.Sets.{gtid}
 use Rattle.gtid_set.specs.Spans.{is_before, ends_before, is_merged, has}
 use Rattle.gtid_set.specs.Sweep.{IsRest, is_inside, all_before, all_reach, all_touch, IsListOf, Absorbs, IsPlace, hull, HasSpan, KnowsSource, start_of, within, is_from}
 use Rattle.gtid_set.proofs.CutLemmas.{has_first}
-use Rattle.gtid_set.proofs.SpanLemmas.{and_of, before_trans, all_weaker, all_weaker2, any_none, IsHead, merged_head, merged_filled, has_later, from_itself, or_swap, merged_front, merged_back, front_before_back, merged_mid}
+use Rattle.gtid_set.proofs.SpanLemmas.{before_trans, all_weaker, all_weaker2, any_none, IsHead, merged_head, merged_filled, has_later, from_itself, or_swap, merged_front, merged_back, front_before_back, merged_mid}
+use Rattle.std.proofs.lemmas.Bool.{and_parts, false_from_ne_true, and_from}
 
 -- one list is the end of another
 pub record IsTail (spans rest : List Span) : Type 0 where
@@ -28,7 +28,7 @@ tail_more spans rest s more e t = record { front = t.front ++ s ∷ []; parts = 
 
 pub all_tail : (p : Span → Bool) (front rest : List Span) → list_all p (front ++ rest) ≡ true → list_all p rest ≡ true
 all_tail p [] rest h = h
-all_tail p (s ∷ ss) rest h = all_tail p ss rest (both (p s) (list_all p (ss ++ rest)) h).1
+all_tail p (s ∷ ss) rest h = all_tail p ss rest (and_parts (p s) (list_all p (ss ++ rest)) h).1
 
 -- two filled spans that touch, as the first of what is left does
 pub record DoTouch (t s : Span) : Type 0 where
@@ -53,37 +53,37 @@ pub hull_filled : (t s : Span) → t.lo ≤ t.hi → (hull t s).lo ≤ (hull t s
 hull_filled t s h = grind (arith, nat_tests)
 
 pub touch_hull : (t s : Span) (more : List Span) → all_touch t (s ∷ more) ≡ true → all_touch (hull t s) more ≡ true
-touch_hull t s more h = all_weaker (λ u. not (is_before u t)) (λ u. not (is_before u (hull t s))) more wider (both (not (is_before s t)) (all_touch t more) h).1
+touch_hull t s more h = all_weaker (λ u. not (is_before u t)) (λ u. not (is_before u (hull t s))) more wider (and_parts (not (is_before s t)) (all_touch t more) h).1
   where
     wider : (u : Span) → not (is_before u t) ≡ true → not (is_before u (hull t s)) ≡ true
     wider u h = grind (arith, nat_tests)
 
 -- what is before a span and all of a list is before the first of what is left of it
 pub all_first : (p : Span → Bool) (spans rest : List Span) (s : Span) (more : List Span) → IsTail spans rest → rest ≡ s ∷ more → list_all p spans ≡ true → p s ≡ true
-all_first p spans rest s more t e h = (both (p s) (list_all p more) (sym (ap (list_all p) e) ∙ all_tail p t.front rest (sym (ap (list_all p) t.parts) ∙ h))).0
+all_first p spans rest s more t e h = (and_parts (p s) (list_all p more) (sym (ap (list_all p) e) ∙ all_tail p t.front rest (sym (ap (list_all p) t.parts) ∙ h))).0
 
 -- all of a merged list is after what its first is after
 pub all_after : (t s : Span) (more : List Span) → IsHead s more → is_before t s ≡ true → list_all (is_before t) (s ∷ more) ≡ true
 all_after t s more h b =
     let f = h.filled in
     let le : nat_le s.lo s.hi ≡ true = grind (arith, nat_tests) in
-    and_of (is_before t s) (list_all (is_before t) more) b (all_weaker (is_before s) (is_before t) more (λ u k. before_trans t s u b le k) h.after)
+    and_from (is_before t s) (list_all (is_before t) more) b (all_weaker (is_before s) (is_before t) more (λ u k. before_trans t s u b le k) h.after)
 
 pub all_at : {X : Type 0} (p : X → Bool) (xs : List X) (i : ℕ) (d : X) → list_all p xs ≡ true → i < length xs → p (get_or xs i d) ≡ true
 all_at p [] i d h lt = absurd (omega arith)
-all_at p (x ∷ xs) zero d h lt = (both (p x) (list_all p xs) h).0
-all_at p (x ∷ xs) (suc i) d h lt = all_at p xs i d (both (p x) (list_all p xs) h).1 (omega arith)
+all_at p (x ∷ xs) zero d h lt = (and_parts (p x) (list_all p xs) h).0
+all_at p (x ∷ xs) (suc i) d h lt = all_at p xs i d (and_parts (p x) (list_all p xs) h).1 (omega arith)
 
 -- the front of a list before a partition point passes, and the back fails
 pub all_take : {X : Type 0} (p : X → Bool) (xs : List X) (i : ℕ) → i ≤ length xs → AllWithin (λ y. p y ≡ true) xs 0 i → list_all p (take i xs) ≡ true
 all_take p xs zero le h = refl
 all_take p [] (suc i) le h = refl
-all_take p (x ∷ xs) (suc i) le h = and_of (p x) (list_all p (take i xs)) (h 0 x (omega arith) (omega arith)) (all_take p xs i (omega arith) (λ k d a b. h (suc k) d (omega arith) (omega arith)))
+all_take p (x ∷ xs) (suc i) le h = and_from (p x) (list_all p (take i xs)) (h 0 x (omega arith) (omega arith)) (all_take p xs i (omega arith) (λ k d a b. h (suc k) d (omega arith) (omega arith)))
 
 pub all_drop : {X : Type 0} (p : X → Bool) (xs : List X) (i : ℕ) → AllWithin (λ y. p y ≡ false) xs i (length xs) → list_all (λ y. not (p y)) (drop i xs) ≡ true
 all_drop p [] zero h = refl
 all_drop p [] (suc i) h = refl
-all_drop p (x ∷ xs) zero h = and_of (not (p x)) (list_all (λ y. not (p y)) xs) (ap not (h 0 x (omega arith) (omega arith))) (all_drop p xs zero (λ k d a b. h (suc k) d (omega arith) (omega arith)))
+all_drop p (x ∷ xs) zero h = and_from (not (p x)) (list_all (λ y. not (p y)) xs) (ap not (h 0 x (omega arith) (omega arith))) (all_drop p xs zero (λ k d a b. h (suc k) d (omega arith) (omega arith)))
 all_drop p (x ∷ xs) (suc i) h = all_drop p xs i (λ k d a b. h (suc k) d (omega arith) (omega arith))
 
 -- a test that fails from some span of a merged list on
@@ -174,7 +174,7 @@ pub reached_at : (spans rest : List Span) (t first : Span) (more : List Span) �
 reached_at spans rest t first more r e = record {
   head = merged_head first more (sym (ap is_merged e) ∙ r.merged);
   parts = e;
-  reached = (both (not (ends_before (start_of t) first)) (all_reach t more) (sym (ap (all_reach t) e) ∙ r.reach)).0;
+  reached = (and_parts (not (ends_before (start_of t) first)) (all_reach t more) (sym (ap (all_reach t) e) ∙ r.reach)).0;
 }
 
 pub not_found : (spans rest : List Span) (q : Gtid) (first : Span) (more : List Span) → IsRest (one q) spans rest → rest ≡ first ∷ more → is_inside (one q) first ≡ false → has spans q ≡ false
@@ -247,11 +247,6 @@ knows_first spans rest source first more r e = cases (first.source == source) re
         λ n. sym (r.same (gtid source n) (from_zero n)) ∙ ap (λ ss. has ss (gtid source n)) e ∙ ap (λ b. b || has more (gtid source n)) (outside n k)
         ∙ has_later first more (gtid source n) at.head.after (start n k at.reached)
 
--- a place in a merged list, by the spans on both sides of it
-is_false : (b : Bool) → (b ≡ true → ⊥) → b ≡ false
-is_false true never = absurd (never refl)
-is_false false never = refl
-
 pub placed_between : (xs : List Span) (t : Span) (at : ℕ) → is_merged xs ≡ true → at ≤ length xs
     → (0 < at → (d : Span) → is_before (get_or xs (at - 1) d) t ≡ true) → (at < length xs → (d : Span) → is_before (get_or xs at d) t ≡ false) → IsPlace xs t at (drop at xs)
 placed_between xs t at m le front back = placed xs t at (drop at xs) m le refl (before, behind)
@@ -263,7 +258,7 @@ placed_between xs t at m le front back = placed xs t at (drop at xs) m le refl (
     before k d a b = falls k (at - 1) d (omega arith) (omega arith) (front (omega arith) d)
 
     behind : (k : ℕ) (d : Span) → at ≤ k → k < length xs → is_before (get_or xs k d) t ≡ false
-    behind k d a b = is_false (is_before (get_or xs k d) t) (λ e. true≢false (sym (falls at k d a b e) ∙ back (omega (arith, a, b)) d))
+    behind k d a b = false_from_ne_true (is_before (get_or xs k d) t) (λ e. true≢false (sym (falls at k d a b e) ∙ back (omega (arith, a, b)) d))
 
 -- one of the spans of a merged list has a number of its source
 pub knows_at : (xs : List Span) (i source : ℕ) (s : Span) → is_merged xs ≡ true → i < length xs → s ≡ get_or xs i s → s.source ≡ source → KnowsSource true xs source
@@ -281,7 +276,3 @@ knows_at xs i source s m lt e same = (s.lo, list_any_at (λ u. within u (gtid so
 -- what an element that was read passes
 pub read_at : (p : Span → Bool) (xs : List Span) (i : ℕ) (x d : Span) (b : Bool) → x ≡ get_or xs i x → i < length xs → p x ≡ b → p (get_or xs i d) ≡ b
 read_at p xs i x d b e lt h = ap p (sym (e ∙ get_or_default xs i x d lt)) ∙ h
-
-pub is_not : (b : Bool) → not b ≡ true → b ≡ false
-is_not true h = sym h
-is_not false h = refl

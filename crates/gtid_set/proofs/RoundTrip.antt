@@ -26,9 +26,9 @@ use Rattle.gtid_set.specs.Texts.{SpellsSet, set_from, set_in}
 use Rattle.gtid_set.specs.Laws.{AreUsable, HaveSources}
 use Rattle.gtid_set.proofs.SetLemmas.{contains-set_of}
 use Rattle.gtid_set.proofs.SpanLemmas.{merged_head}
-use Rattle.gtid_set.proofs.SetSources.{or_left, or_right}
 use Rattle.gtid_set.proofs.RunLemmas.{runs_are_merged, set_of_runs}
 use Rattle.gtid_set.proofs.TextLemmas.{ReadSpans, same_read, given_set, given_full}
+use Rattle.std.proofs.lemmas.Bool.{or_left, or_right}
 
 -- a filled span has its first number and its last
 has_low : (s : Span) → s.lo ≤ s.hi → within s (gtid s.source s.lo) ≡ true
@@ -72,7 +72,7 @@ numbered_by v value true e h =
     subst IsNumbered same (low, high)
 numbered_by v value false e h = absurd cc
 
-numbered : (digits : List ℕ) (value : ℕ) → number_of digits ≡ Some value → IsNumbered value
+pub numbered : (digits : List ℕ) (value : ℕ) → number_of digits ≡ Some value → IsNumbered value
 numbered digits value h = numbered_by (digits_value 10 digits) value (nat_le 1 (digits_value 10 digits) && nat_le (digits_value 10 digits) 9223372036854775807) refl h
 
 abbrev pub AreNumbered : List Span → Type 0

@@ -9,14 +9,16 @@ use Rattle.std.proofs.lemmas.List.Folds.{list_any-append}
 use Rattle.gtid_text.specs.declared.Gtid.{Gtid}
 use Rattle.gtid_text.specs.declared.Span.{Span}
 use Rattle.gtid_text.specs.Gtids.{gtid_cmp, same_gtid}
-use Rattle.gtid_text.proofs.SameGtid.{both, same_itself, same_is_equal}
+use Rattle.gtid_text.proofs.SameGtid.{same_itself, same_is_equal}
 use Rattle.gtid_set.specs.Sets.{Gtids, gtid}
 use Rattle.gtid_set.specs.Spans.{set_of, has, is_merged, is_before}
 use Rattle.gtid_set.specs.Runs.{is_less, place, in_order, run_before, runs_of, runs}
 use Rattle.gtid_set.specs.Sweep.{within}
 use Rattle.gtid_set.proofs.SetLemmas.{same_members, gtid_tied, contains-set_of, any-numbers}
 use Rattle.gtid_set.proofs.PlaceLemmas.{all_after}
-use Rattle.gtid_set.proofs.SpanLemmas.{merged_head, merged_cons, and_of}
+use Rattle.gtid_set.proofs.SpanLemmas.{merged_head, merged_cons, or_swap}
+use Rattle.std.proofs.lemmas.Bool.{and_parts, and_from}
+use mathlib.Core.Bool.{or_assoc}
 
 -- a GTID less than the first of others
 abbrev pub less_first : Gtid → List Gtid → Bool
@@ -30,11 +32,6 @@ climbs (g ∷ gs) = less_first g gs && climbs gs
 -- a GTID among others
 abbrev pub among : Gtid → List Gtid → Bool
 among q gs = list_any (same_gtid q) gs
-
-or_swap : (a b c : Bool) → (a || (b || c)) ≡ (b || (a || c))
-or_swap true true c = refl
-or_swap true false c = refl
-or_swap false b c = refl
 
 or_twice : (a b c : Bool) → a ≡ b → (b || c) ≡ (a || (b || c))
 or_twice true b c e = ap (λ x. x || c) (sym e)
@@ -73,16 +70,16 @@ less_place h g (k ∷ ks) e f = first_cases h g k ks (is_less g k) (same_gtid g 
 
 climbs_cases : (g h : Gtid) (hs : List Gtid) (a b : Bool) → is_less g h ≡ a → same_gtid g h ≡ b → climbs (h ∷ hs) ≡ true → climbs (place g hs) ≡ true
     → climbs (cond a (g ∷ h ∷ hs) (cond b (h ∷ hs) (h ∷ place g hs))) ≡ true
-climbs_cases g h hs true b e f c d = and_of (is_less g h) (climbs (h ∷ hs)) e c
+climbs_cases g h hs true b e f c d = and_from (is_less g h) (climbs (h ∷ hs)) e c
 climbs_cases g h hs false true e f c d = c
-climbs_cases g h hs false false e f c d = and_of (less_first h (place g hs)) (climbs (place g hs)) (less_place h g hs (greater e f) (both (less_first h hs) (climbs hs) c).0) d
+climbs_cases g h hs false false e f c d = and_from (less_first h (place g hs)) (climbs (place g hs)) (less_place h g hs (greater e f) (and_parts (less_first h hs) (climbs hs) c).0) d
   where
     greater : is_less g h ≡ false → same_gtid g h ≡ false → is_less h g ≡ true
     greater e f = grind (arith, nat_tests)
 
 climbs_place : (g : Gtid) (hs : List Gtid) → climbs hs ≡ true → climbs (place g hs) ≡ true
 climbs_place g [] c = refl
-climbs_place g (h ∷ hs) c = climbs_cases g h hs (is_less g h) (same_gtid g h) refl refl c (climbs_place g hs (both (less_first h hs) (climbs hs) c).1)
+climbs_place g (h ∷ hs) c = climbs_cases g h hs (is_less g h) (same_gtid g h) refl refl c (climbs_place g hs (and_parts (less_first h hs) (climbs hs) c).1)
 
 climbs_order : (gs : List Gtid) → climbs (in_order gs) ≡ true
 climbs_order [] = refl
@@ -92,7 +89,7 @@ climbs_order (g ∷ gs) = climbs_place g (in_order gs) (climbs_order gs)
 less_none : (g : Gtid) (gs : List Gtid) → less_first g gs ≡ true → climbs gs ≡ true → among g gs ≡ false
 less_none g [] e c = refl
 less_none g (h ∷ hs) e c =
-    let w = both (less_first h hs) (climbs hs) c in
+    let w = and_parts (less_first h hs) (climbs hs) c in
     ap (λ b. b || among g hs) (other e) ∙ less_none g hs (further h hs e w.0) w.1
   where
     other : is_less g h ≡ true → same_gtid g h ≡ false
@@ -115,8 +112,8 @@ same_rest x xs ys c d h q = cases (same_gtid q x) refl
   where
     cases : (b : Bool) → same_gtid q x ≡ b → among q xs ≡ among q ys
     cases true e =
-        let p = both (less_first x xs) (climbs xs) c in
-        let r = both (less_first x ys) (climbs ys) d in
+        let p = and_parts (less_first x xs) (climbs xs) c in
+        let r = and_parts (less_first x ys) (climbs ys) d in
         ap (λ g. among g xs) (same_is_equal q x e) ∙ less_none x xs p.0 p.1 ∙ sym (ap (λ g. among g ys) (same_is_equal q x e) ∙ less_none x ys r.0 r.1)
     cases false e = sym (ap (λ b. b || among q xs) e) ∙ h q ∙ ap (λ b. b || among q ys) e
 
@@ -143,7 +140,7 @@ same_climb (x ∷ xs) (y ∷ ys) c d h =
     let first : x ≡ y = same_firsts x y xs ys (is_less x y) (same_gtid x y) refl refl c d h in
     let P : Gtid → Type 0 = λ z. (climbs (z ∷ ys) ≡ true) × ((q : Gtid) → among q (x ∷ xs) ≡ among q (z ∷ ys)) in
     let moved : P x = subst P (sym first) (d, h) in
-    let rest = same_climb xs ys (both (less_first x xs) (climbs xs) c).1 (both (less_first x ys) (climbs ys) moved.0).1 (same_rest x xs ys c moved.0 moved.1) in
+    let rest = same_climb xs ys (and_parts (less_first x xs) (climbs xs) c).1 (and_parts (less_first x ys) (climbs ys) moved.0).1 (same_rest x xs ys c moved.0 moved.1) in
     λ i. first i ∷ rest i
 
 any_tied : (q : Gtid) (gs : List Gtid) → list_any (eq_by_cmp gtid_cmp q) gs ≡ among q gs
@@ -160,9 +157,9 @@ members_of (s ∷ ss) = numbers_of s.source s.lo (suc (s.hi - s.lo)) ++ members_
 
 numbers_climb : (source a n : ℕ) (rest : List Gtid) → climbs rest ≡ true → ((m : ℕ) → a ≤ m → m < a + n → less_first (gtid source m) rest ≡ true) → climbs (numbers_of source a n ++ rest) ≡ true
 numbers_climb source a zero rest c h = c
-numbers_climb source a (suc zero) rest c h = and_of (less_first (gtid source a) rest) (climbs rest) (h a (omega arith) (omega arith)) c
+numbers_climb source a (suc zero) rest c h = and_from (less_first (gtid source a) rest) (climbs rest) (h a (omega arith) (omega arith)) c
 numbers_climb source a (suc (suc n)) rest c h =
-    and_of (is_less (gtid source a) (gtid source (a + 1))) (climbs (numbers_of source (a + 1) (suc n) ++ rest)) (next source a)
+    and_from (is_less (gtid source a) (gtid source (a + 1))) (climbs (numbers_of source (a + 1) (suc n) ++ rest)) (next source a)
     (numbers_climb source (a + 1) (suc n) rest c (λ m lo hi. h m (omega arith) (omega arith)))
   where
     next : (source a : ℕ) → is_less (gtid source a) (gtid source (a + 1)) ≡ true
@@ -170,7 +167,7 @@ numbers_climb source a (suc (suc n)) rest c h =
 
 members_first : (s : Span) (ss : List Span) (m : ℕ) → list_all (is_before s) ss ≡ true → m ≤ s.hi → less_first (gtid s.source m) (members_of ss) ≡ true
 members_first s [] m b le = refl
-members_first s (t ∷ ts) m b le = later (both (is_before s t) (list_all (is_before s) ts) b).0 le
+members_first s (t ∷ ts) m b le = later (and_parts (is_before s t) (list_all (is_before s) ts) b).0 le
   where
     later : is_before s t ≡ true → m ≤ s.hi → is_less (gtid s.source m) (gtid t.source t.lo) ≡ true
     later b le = grind (arith, nat_tests)
@@ -203,7 +200,7 @@ items_merged ss m = same_climb (in_order (set.items (set_of ss))) (members_of ss
 apart_first : (source hi : ℕ) (ss : List Span) → list_all (is_before (record { source = source; lo = hi; hi = hi })) ss ≡ true → run_before (gtid source hi) ss ≡ record { source = source; lo = hi; hi = hi } ∷ ss
 apart_first source hi [] b = refl
 apart_first source hi (t ∷ ts) b =
-    ap (λ c. cond c (record { source = t.source; lo = hi; hi = t.hi } ∷ ts) (record { source = source; lo = hi; hi = hi } ∷ t ∷ ts)) (apart (both (is_before (record { source = source; lo = hi; hi = hi }) t) (list_all (is_before (record { source = source; lo = hi; hi = hi })) ts) b).0)
+    ap (λ c. cond c (record { source = t.source; lo = hi; hi = t.hi } ∷ ts) (record { source = source; lo = hi; hi = hi } ∷ t ∷ ts)) (apart (and_parts (is_before (record { source = source; lo = hi; hi = hi }) t) (list_all (is_before (record { source = source; lo = hi; hi = hi })) ts) b).0)
   where
     apart : is_before (record { source = source; lo = hi; hi = hi }) t ≡ true → ((t.source == source) && (t.lo == hi + 1)) ≡ false
     apart b = grind (arith, nat_tests)
@@ -262,10 +259,6 @@ within_single g q = grind (arith, nat_tests)
 within_front : (g q : Gtid) (s : Span) → s.lo ≤ s.hi → ((s.source == g.source) && (s.lo == g.number + 1)) ≡ true → within (longer_front g s) q ≡ (same_gtid q g || within s q)
 within_front g q s f e = grind (arith, nat_tests)
 
-or_group : (a b c : Bool) → ((a || b) || c) ≡ (a || (b || c))
-or_group true b c = refl
-or_group false b c = refl
-
 number_itself : (n : ℕ) → n ≤ n
 number_itself n = omega arith
 
@@ -279,7 +272,7 @@ run_step g gs s ss true e first r =
     let h = merged_head s ss r.merged in
     record {
       merged = merged_cons (longer_front g s) ss (record { filled = below h.filled e; after = h.after; tail = h.tail });
-      has = λ q. ap (λ b. b || has ss q) (within_front g q s h.filled e) ∙ or_group (same_gtid q g) (within s q) (has ss q) ∙ ap (λ b. same_gtid q g || b) (r.has q);
+      has = λ q. ap (λ b. b || has ss q) (within_front g q s h.filled e) ∙ or_assoc (same_gtid q g) (within s q) (has ss q) ∙ ap (λ b. same_gtid q g || b) (r.has q);
       later = λ k less. start k less e;
     }
   where
@@ -309,7 +302,7 @@ run_added g gs (s ∷ ss) first r = run_step g gs s ss ((s.source == g.source) &
 
 runs_are : (gs : List Gtid) → climbs gs ≡ true → AreRuns gs (runs_of gs)
 runs_are [] c = record { merged = refl; has = λ q. refl; later = λ g e. refl }
-runs_are (g ∷ gs) c = let w = both (less_first g gs) (climbs gs) c in run_added g gs (runs_of gs) w.0 (runs_are gs w.1)
+runs_are (g ∷ gs) c = let w = and_parts (less_first g gs) (climbs gs) c in run_added g gs (runs_of gs) w.0 (runs_are gs w.1)
 
 -- the runs of a set are merged, and are of that set
 pub runs_are_merged : (s : Gtids) → is_merged (runs s) ≡ true

@@ -1,12 +1,10 @@
 -- Membership decides a set, and what is a member after each operation.
-use Rattle.std.proofs.Common.{add_comm, cond, not, ◌≤◌, ◌<◌, ◌≡◌, ℕ, ◌+◌, ◌-◌, zero, suc, Bool, true, false, ◌&&◌, ◌||◌, List, [], ◌∷◌, ◌++◌, map, refl, sym, ap, subst, ◌∙◌, arith, nat_eq, nat_le, nat_lt}
-use Rattle.std.specs.Prelude.{T, ◌==◌}
+use Rattle.std.proofs.Common.{add_comm, eq-eqb, cond, not, ◌≤◌, ◌<◌, ◌≡◌, ℕ, ◌+◌, ◌-◌, zero, suc, Bool, true, false, ◌&&◌, ◌||◌, List, [], ◌∷◌, ◌++◌, map, refl, sym, ap, ◌∙◌, arith, nat_eq, nat_le, nat_lt}
+use Rattle.std.specs.Prelude.{◌==◌}
 use Rattle.std.proofs.lemmas.Bool.Decides.{nat_tests}
 use Rattle.std.specs.List.{range_with_len, list_any}
-use Rattle.std.specs.declared.cmp.Ordering.TheVariants.{Less, Equal, Greater}
-use Rattle.std.specs.Ordering.{nat_cmp, ordering_then, is_eq, eq_by_cmp}
-use Rattle.std.specs.Cmp.{IsTotalOrder, nat_cmp_total, on_total, then_total, tied_then, unsigned_tied}
-use Rattle.std.specs.FinMap.{IsAntisymmetric, nat_cmp-IsAntisymmetric}
+use Rattle.std.specs.Ordering.{nat_cmp, eq_by_cmp}
+use Rattle.std.specs.Cmp.{tied_then, unsigned_tied}
 use Rattle.std.specs.FinSet as set
 use Rattle.gtid_text.specs.declared.Gtid.{Gtid}
 use Rattle.gtid_text.specs.Gtids.{gtid_cmp}
@@ -16,25 +14,23 @@ use Rattle.std.specs.Prelude.{Option, Some, None, find, sum_by}
 use Rattle.std.proofs.lemmas.List.Sums.{sum_by-cons}
 use Rattle.std.proofs.lemmas.List.Folds.{list_any-append}
 use Rattle.gtid_set.specs.Spans.{set_of}
-
-pub gtid_total : IsTotalOrder gtid_cmp
-gtid_total = then_total (on_total (λ (g : Gtid). g.source) nat_cmp_total) (on_total (λ (g : Gtid). g.number) nat_cmp_total)
-
-pub gtid_same : IsAntisymmetric gtid_cmp
-gtid_same x y is =
-    elim (nat_cmp x.source y.source) as (λ r. nat_cmp x.source y.source ≡ r → ordering_then r (nat_cmp x.number y.number) ≡ Equal → x ≡ y) [
-      | Less ↦ λ p e. absurd (subst (λ r. T (is_eq r)) (sym e) tt)
-      | Equal ↦ λ p e. λ i. record { source = nat_cmp-IsAntisymmetric x.source y.source p i; number = nat_cmp-IsAntisymmetric x.number y.number e i }
-      | Greater ↦ λ p e. absurd (subst (λ r. T (is_eq r)) (sym e) tt)
-    ] refl is
+use mathlib.Core.Bool.{or-false}
+use Rattle.gtid_text.proofs.SameGtid.{gtid_total, gtid_exact}
+use Rattle.gtid_set.proofs.SpanLemmas.{or_swap}
 
 -- two sets with the same members are equal
 pub same_members : (s t : Gtids) → ((g : Gtid) → set.contains s g ≡ set.contains t g) → s ≡ t
-same_members s t h = set.same_set gtid_total gtid_same s t h
+same_members s t h = set.same_set gtid_total gtid_exact s t h
 
 -- the test by which a set knows a GTID
 pub gtid_tied : (x y : Gtid) → eq_by_cmp gtid_cmp x y ≡ ((x.source == y.source) && (x.number == y.number))
 gtid_tied x y = sym (tied_then (nat_cmp x.source y.source) (nat_cmp x.number y.number)) ∙ (λ i. unsigned_tied x.source y.source i && unsigned_tied x.number y.number i)
+
+-- a set has what was put into it
+pub has_itself : (s : Gtids) (g : Gtid) → set.contains (set.insert s g) g ≡ true
+has_itself s g =
+    set.contains-insert gtid_total s g g
+    ∙ ap (λ b. b || set.contains s g) (gtid_tied g g ∙ (λ i. eq-eqb g.source g.source refl i && eq-eqb g.number g.number refl i))
 
 both_or : (b e r : Bool) → ((b && e) || (b && r)) ≡ (b && (e || r))
 both_or true e r = refl
@@ -97,15 +93,6 @@ set_of_push ss g = same_members _ _ (λ q.
     ∙ (λ i. (ap (λ b. (q.source == g.source) && b) (one q.number g.number) ∙ sym (gtid_tied q g)) i || sym (contains-set_of ss q) i)
     ∙ sym (set.contains-insert gtid_total (set_of ss) g q))
 
-or-false : (a : Bool) → (a || false) ≡ a
-or-false true = refl
-or-false false = refl
-
-or_swap : (a b c : Bool) → (a || (b || c)) ≡ (b || (a || c))
-or_swap true true c = refl
-or_swap true false c = refl
-or_swap false b c = refl
-
 pub union_empty : (s : Gtids) → s ≡ set.union s set.empty
 union_empty s = same_members s (set.union s set.empty) (λ q. sym (set.contains-union gtid_total s set.empty q ∙ ap (λ b. set.contains s q || b) (set.contains-empty gtid_cmp q) ∙ or-false (set.contains s q)))
 
@@ -118,7 +105,7 @@ union_insert s t g = same_members _ _ (λ q.
 
 -- one GTID more in a list
 pub set_push : (gs : List Gtid) (g : Gtid) → set.from_list {R = gtid_cmp} (gs ++ g ∷ []) ≡ set.insert (set.from_list gs) g
-set_push gs g = set.from_list_push gtid_total gtid_same gs g
+set_push gs g = set.from_list_push gtid_total gtid_exact gs g
 
 -- the spans of two lists together
 pub set_of-append : (xs ys : List Span) → set_of (xs ++ ys) ≡ set.union (set_of xs) (set_of ys)

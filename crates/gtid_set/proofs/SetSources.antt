@@ -11,14 +11,15 @@ use Rattle.std.proofs.lemmas.List.{append-nil}
 use Rattle.gtid_text.specs.declared.Gtid.{Gtid}
 use Rattle.gtid_text.specs.declared.Span.{Span}
 use Rattle.gtid_text.specs.Gtids.{gtid_cmp}
-use Rattle.gtid_text.proofs.SameGtid.{both}
 use Rattle.gtid_set.specs.Sets.{Gtids, gtid, interval, covers, only, without, kept_sources, sources_of, source_count, most_sources}
 use Rattle.gtid_set.specs.Spans.{set_of, has, is_merged}
 use Rattle.gtid_set.specs.Sweep.{IsListOf, IsWithin, IsNotWithin, AreApart, HaveCommon, KnowsSource, is_kept, is_from, sources_in, within}
-use Rattle.gtid_set.proofs.SetLemmas.{same_members, gtid_total, gtid_tied, gtid_same, contains-set_of, contains-interval, set_of-append}
+use Rattle.gtid_set.proofs.SetLemmas.{same_members, gtid_tied, contains-set_of, contains-interval, set_of-append}
 use Rattle.gtid_set.proofs.SetLemmas.{AreApart as AreDisjoint}
 use Rattle.gtid_set.proofs.SpanLemmas.{merged_filled, all_joined, merged_head, has_later}
 use Rattle.gtid_set.proofs.SourceLemmas.{same_numbers, contains-sources_in, len_besides}
+use Rattle.std.proofs.lemmas.Bool.{and_parts, or_left, or_right}
+use Rattle.gtid_text.proofs.SameGtid.{gtid_total, gtid_exact}
 
 pub same_bool : (a b : Bool) → (a ≡ true → b ≡ true) → (b ≡ true → a ≡ true) → a ≡ b
 same_bool true b f g = sym (f refl)
@@ -29,14 +30,6 @@ ors : (a b : Bool) → (a ≡ true → b ≡ true) → (c d : Bool) → (c ≡ t
 ors true b f c d g h = ap (λ x. x || d) (f refl)
 ors false true f c d g h = refl
 ors false false f c d g h = g h
-
-pub or_left : (a b : Bool) → a ≡ true → (a || b) ≡ true
-or_left true b h = refl
-or_left false b h = absurd cc
-
-pub or_right : (a b : Bool) → b ≡ true → (a || b) ≡ true
-or_right true b h = refl
-or_right false b h = h
 
 or_else : (a b : Bool) → (a || b) ≡ true → a ≡ false → b ≡ true
 or_else true b h k = absurd cc
@@ -54,7 +47,7 @@ any_weaker p q (x ∷ xs) h a = ors (p x) (q x) (h x) (list_any p xs) (list_any 
 source_among : (g : Gtid) (gs : List Gtid) → list_any (eq_by_cmp gtid_cmp g) gs ≡ true → list_any (eq_by_cmp nat_cmp g.source) (map (λ g. g.source) gs) ≡ true
 source_among g [] e = e
 source_among g (x ∷ gs) e =
-    ors (eq_by_cmp gtid_cmp g x) (eq_by_cmp nat_cmp g.source x.source) (λ e. unsigned_tied g.source x.source ∙ (both (g.source == x.source) (g.number == x.number) (sym (gtid_tied g x) ∙ e)).0)
+    ors (eq_by_cmp gtid_cmp g x) (eq_by_cmp nat_cmp g.source x.source) (λ e. unsigned_tied g.source x.source ∙ (and_parts (g.source == x.source) (g.number == x.number) (sym (gtid_tied g x) ∙ e)).0)
     (list_any (eq_by_cmp gtid_cmp g) gs) (list_any (eq_by_cmp nat_cmp g.source) (map (λ g. g.source) gs)) (source_among g gs) e
 
 -- a GTID of a set has a source of it
@@ -181,7 +174,7 @@ span_first q t ts f later e false k =
 span_number : (q : ℕ) (ts : List Span) → list_all (λ s. nat_le s.lo s.hi) ts ≡ true → list_any (λ s. q == s.source) ts ≡ true → SpanNumber q ts
 span_number q [] f e = absurd cc
 span_number q (t ∷ ts) f e =
-    let w = both (nat_le t.lo t.hi) (list_all (λ s. nat_le s.lo s.hi) ts) f in
+    let w = and_parts (nat_le t.lo t.hi) (list_all (λ s. nat_le s.lo s.hi) ts) f in
     span_first q t ts w.0 (span_number q ts w.1) e (q == t.source) refl
 
 -- the sources of a merged list's set
@@ -189,7 +182,7 @@ pub sources_of-set_of : (ss : List Span) → list_all (λ s. nat_le s.lo s.hi) s
 sources_of-set_of ss filled = same_numbers _ _ (λ q. same_bool (set.contains (sources_of (set_of ss)) q) (set.contains (sources_in ss) q) (there q) (back q))
   where
     same_source : (q n : ℕ) (s : Span) → within s (gtid q n) ≡ true → (q == s.source) ≡ true
-    same_source q n s w = (both (q == s.source) (nat_le s.lo n && nat_le n s.hi) w).0
+    same_source q n s w = (and_parts (q == s.source) (nat_le s.lo n && nat_le n s.hi) w).0
 
     there : (q : ℕ) → set.contains (sources_of (set_of ss)) q ≡ true → set.contains (sources_in ss) q ≡ true
     there q h =
@@ -336,7 +329,7 @@ fewer_listed test xs new l part fits =
     omega (arith, fewer, fits)
 
 pub first_of_and : (a b : Bool) → (a && b) ≡ true → a ≡ true
-first_of_and a b h = (both a b h).0
+first_of_and a b h = (and_parts a b h).0
 
 -- being a subset, by a test of two lists
 pub subset_held : (b : Bool) (xs ys : List Span) → MatchBool b (IsWithin (has xs) (has ys)) (IsNotWithin (has xs) (has ys)) → b ≡ set.is_subset (set_of xs) (set_of ys)
@@ -382,7 +375,7 @@ equal_held false xs ys w m = (λ h. absurd cc, λ e. absurd (differ_held ys xs m
 
 -- the sets of one source's spans, and of the others
 same_source_test : (q x : Gtid) → gtid_cmp q x ≡ Equal → q ≡ x
-same_source_test q x e = gtid_same q x e
+same_source_test q x e = gtid_exact q x e
 
 only_kept : (a b : Bool) → (a && cond b true (not true)) ≡ (a && b)
 only_kept a true = refl

@@ -10,20 +10,22 @@ use Rattle.gtid_text.specs.declared.Span.{Span}
 use Rattle.gtid_text.specs.Gtids.{gtid_cmp}
 use Rattle.gtid_set.specs.Spans.{set_of}
 use Rattle.gtid_set.specs.Sweep.{start_of, is_from, rises, within}
-use Rattle.gtid_set.proofs.SetLemmas.{gtid_total, same_members, contains-set_of}
-use Rattle.gtid_set.proofs.SpanLemmas.{and_of, any_none}
+use Rattle.gtid_set.proofs.SetLemmas.{same_members, contains-set_of}
+use Rattle.gtid_set.proofs.SpanLemmas.{any_none}
+use Rattle.std.proofs.lemmas.Bool.{and_from}
+use Rattle.gtid_text.proofs.SameGtid.{gtid_total}
 
 from_not_less : (p q : Gtid) → is_lt (gtid_cmp q p) ≡ false → is_from p q ≡ true
 from_not_less p q e = grind (arith, nat_tests)
 
 all_far : (p : Span → Bool) (ss : List Span) → ((j : ℕ) (d : Span) → j < length ss → p (get_or ss j d) ≡ true) → list_all p ss ≡ true
 all_far p [] h = refl
-all_far p (s ∷ ss) h = and_of (p s) (list_all p ss) (h 0 s (omega arith)) (all_far p ss (λ j d lt. h (suc j) d (omega arith)))
+all_far p (s ∷ ss) h = and_from (p s) (list_all p ss) (h 0 s (omega arith)) (all_far p ss (λ j d lt. h (suc j) d (omega arith)))
 
 rises_far : (ss : List Span) → ((i j : ℕ) (d : Span) → i ≤ j → j < length ss → is_from (start_of (get_or ss i d)) (start_of (get_or ss j d)) ≡ true) → rises ss ≡ true
 rises_far [] h = refl
 rises_far (s ∷ ss) h =
-    and_of (list_all (λ t. is_from (start_of s) (start_of t)) ss) (rises ss)
+    and_from (list_all (λ t. is_from (start_of s) (start_of t)) ss) (rises ss)
     (all_far (λ t. is_from (start_of s) (start_of t)) ss (λ j d lt. h 0 (suc j) d (omega arith) (omega arith)))
     (rises_far ss (λ i j d le lt. h (suc i) (suc j) d (omega arith) (omega arith)))
 
@@ -38,7 +40,7 @@ same_set_sorted xs ys p = same_members (set_of ys) (set_of xs) (λ q.
 
 not_any : (ss : List Span) → list_any (λ s. not (nat_le s.lo s.hi)) ss ≡ false → list_all (λ s. nat_le s.lo s.hi) ss ≡ true
 not_any [] h = refl
-not_any (s ∷ ss) h = and_of (nat_le s.lo s.hi) (list_all (λ s. nat_le s.lo s.hi) ss) (this (nat_le s.lo s.hi) (list_any (λ s. not (nat_le s.lo s.hi)) ss) h) (not_any ss (rest (nat_le s.lo s.hi) (list_any (λ s. not (nat_le s.lo s.hi)) ss) h))
+not_any (s ∷ ss) h = and_from (nat_le s.lo s.hi) (list_all (λ s. nat_le s.lo s.hi) ss) (this (nat_le s.lo s.hi) (list_any (λ s. not (nat_le s.lo s.hi)) ss) h) (not_any ss (rest (nat_le s.lo s.hi) (list_any (λ s. not (nat_le s.lo s.hi)) ss) h))
   where
     this : (a b : Bool) → (not a || b) ≡ false → a ≡ true
     this true b h = refl

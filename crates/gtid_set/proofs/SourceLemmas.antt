@@ -10,7 +10,8 @@ use Rattle.std.proofs.lemmas.Bool.Decides.{nat_tests}
 use Rattle.std.proofs.lemmas.List.Folds.{list_any-append}
 use Rattle.gtid_text.specs.declared.Span.{Span}
 use Rattle.gtid_set.specs.Sweep.{TakesFirst, start_of, is_from, sources_in, is_new}
-use Rattle.gtid_set.proofs.SpanLemmas.{all_weaker, any_none, and_of, takes_all}
+use Rattle.gtid_set.proofs.SpanLemmas.{all_weaker, any_none, takes_all}
+use Rattle.std.proofs.lemmas.Bool.{and_from}
 
 pub Numbers : Type 0
 Numbers = set.FinSet nat_cmp
@@ -163,7 +164,7 @@ all_from_first x ss h = all_weaker (λ t. is_from (start_of x) (start_of t)) (λ
 
 pub first_from : (last : Option ℕ) (left right : List Span) (x : Span) (l r : List Span) → TakesFirst left right x l r → all_from last left ≡ true → all_from last right ≡ true → all_from last (x ∷ []) ≡ true
 first_from None left right x l r takes a b = refl
-first_from (Some q) left right x l r takes a b = and_of (nat_le q x.source) true (takes_all left right x l r takes (λ s. nat_le q s.source) a b).0 refl
+first_from (Some q) left right x l r takes a b = and_from (nat_le q x.source) true (takes_all left right x l r takes (λ s. nat_le q s.source) a b).0 refl
 
 pub count_end : (last : Option ℕ) (left right : List Span) (count total : ℕ) → left ≡ [] → right ≡ [] → count + set.len (besides last (sources_in (left ++ right))) ≡ total + (length left + length right) → count ≡ total
 count_end last left right count total e f h =

@@ -6,16 +6,10 @@ use Rattle.std.proofs.lemmas.Bool.Decides.{nat_tests}
 use Rattle.std.proofs.lemmas.List.Folds.{list_any-append, list_all-append}
 use Rattle.gtid_text.specs.declared.Gtid.{Gtid}
 use Rattle.gtid_text.specs.declared.Span.{Span}
-use Rattle.gtid_text.proofs.SameGtid.{both}
 use Rattle.gtid_set.specs.Sets.{gtid}
 use Rattle.gtid_set.specs.Spans.{is_before, ends_before, is_merged, has}
 use Rattle.gtid_set.specs.Sweep.{Joins, TakesFirst, all_start_by, all_before, all_reach, rises, is_met, start_of, within, is_from}
-
-pub and_of : (a b : Bool) → a ≡ true → b ≡ true → (a && b) ≡ true
-and_of a b h k = grind arith
-
-pub not_true : (a : Bool) → not a ≡ true → a ≡ false
-not_true a h = grind arith
+use Rattle.std.proofs.lemmas.Bool.{and_parts, and_from}
 
 pub before_trans : (s t u : Span) → is_before s t ≡ true → nat_le t.lo t.hi ≡ true → is_before t u ≡ true → is_before s u ≡ true
 before_trans s t u a b c = grind (arith, nat_tests)
@@ -23,30 +17,30 @@ before_trans s t u a b c = grind (arith, nat_tests)
 -- what each passes, if each passes something stronger
 pub all_weaker : {X : Type 0} (p q : X → Bool) (xs : List X) → ((x : X) → p x ≡ true → q x ≡ true) → list_all p xs ≡ true → list_all q xs ≡ true
 all_weaker p q [] h all = refl
-all_weaker p q (x ∷ xs) h all = let w = both (p x) (list_all p xs) all in and_of (q x) (list_all q xs) (h x w.0) (all_weaker p q xs h w.1)
+all_weaker p q (x ∷ xs) h all = let w = and_parts (p x) (list_all p xs) all in and_from (q x) (list_all q xs) (h x w.0) (all_weaker p q xs h w.1)
 
 pub all_weaker2 : {X : Type 0} (o p q : X → Bool) (xs : List X) → ((x : X) → o x ≡ true → p x ≡ true → q x ≡ true) → list_all o xs ≡ true → list_all p xs ≡ true → list_all q xs ≡ true
 all_weaker2 o p q [] h a b = refl
 all_weaker2 o p q (x ∷ xs) h a b =
-    let v = both (o x) (list_all o xs) a in
-    let w = both (p x) (list_all p xs) b in
-    and_of (q x) (list_all q xs) (h x v.0 w.0) (all_weaker2 o p q xs h v.1 w.1)
+    let v = and_parts (o x) (list_all o xs) a in
+    let w = and_parts (p x) (list_all p xs) b in
+    and_from (q x) (list_all q xs) (h x v.0 w.0) (all_weaker2 o p q xs h v.1 w.1)
 
 pub all_push : {X : Type 0} (p : X → Bool) (xs : List X) (y : X) → list_all p xs ≡ true → p y ≡ true → list_all p (xs ++ y ∷ []) ≡ true
-all_push p [] y a b = and_of (p y) true b refl
-all_push p (x ∷ xs) y a b = let w = both (p x) (list_all p xs) a in and_of (p x) (list_all p (xs ++ y ∷ [])) w.0 (all_push p xs y w.1 b)
+all_push p [] y a b = and_from (p y) true b refl
+all_push p (x ∷ xs) y a b = let w = and_parts (p x) (list_all p xs) a in and_from (p x) (list_all p (xs ++ y ∷ [])) w.0 (all_push p xs y w.1 b)
 
 pub all_pushed : {X : Type 0} (p : X → Bool) (xs : List X) (y : X) → list_all p (xs ++ y ∷ []) ≡ true → (list_all p xs ≡ true) × (p y ≡ true)
-all_pushed p [] y a = (refl, (both (p y) true a).0)
+all_pushed p [] y a = (refl, (and_parts (p y) true a).0)
 all_pushed p (x ∷ xs) y a =
-    let w = both (p x) (list_all p (xs ++ y ∷ [])) a in
+    let w = and_parts (p x) (list_all p (xs ++ y ∷ [])) a in
     let v = all_pushed p xs y w.1 in
-    (and_of (p x) (list_all p xs) w.0 v.0, v.1)
+    (and_from (p x) (list_all p xs) w.0 v.0, v.1)
 
 -- none passes, if each fails
 pub any_none : {X : Type 0} (p q : X → Bool) (xs : List X) → ((x : X) → q x ≡ true → p x ≡ false) → list_all q xs ≡ true → list_any p xs ≡ false
 any_none p q [] h a = refl
-any_none p q (x ∷ xs) h a = let w = both (q x) (list_all q xs) a in ap (λ b. b || list_any p xs) (h x w.0) ∙ any_none p q xs h w.1
+any_none p q (x ∷ xs) h a = let w = and_parts (q x) (list_all q xs) a in ap (λ b. b || list_any p xs) (h x w.0) ∙ any_none p q xs h w.1
 
 -- what the first of a merged list is
 pub record IsHead (s : Span) (ss : List Span) : Type 0 where
@@ -56,8 +50,8 @@ pub record IsHead (s : Span) (ss : List Span) : Type 0 where
 
 pub merged_head : (s : Span) (ss : List Span) → is_merged (s ∷ ss) ≡ true → IsHead s ss
 merged_head s ss h =
-    let a = both (nat_le s.lo s.hi) (list_all (is_before s) ss && is_merged ss) h in
-    let b = both (list_all (is_before s) ss) (is_merged ss) a.1 in
+    let a = and_parts (nat_le s.lo s.hi) (list_all (is_before s) ss && is_merged ss) h in
+    let b = and_parts (list_all (is_before s) ss) (is_merged ss) a.1 in
     let le : nat_le s.lo s.hi ≡ true = a.0 in
     record { filled = grind (arith, nat_tests); after = b.0; tail = b.1 }
 
@@ -65,20 +59,20 @@ pub merged_cons : (s : Span) (ss : List Span) → IsHead s ss → is_merged (s �
 merged_cons s ss h =
     let f = h.filled in
     let le : nat_le s.lo s.hi ≡ true = grind (arith, nat_tests) in
-    and_of (nat_le s.lo s.hi) (list_all (is_before s) ss && is_merged ss) le (and_of (list_all (is_before s) ss) (is_merged ss) h.after h.tail)
+    and_from (nat_le s.lo s.hi) (list_all (is_before s) ss && is_merged ss) le (and_from (list_all (is_before s) ss) (is_merged ss) h.after h.tail)
 
 pub merged_filled : (ss : List Span) → is_merged ss ≡ true → list_all (λ s. nat_le s.lo s.hi) ss ≡ true
 merged_filled [] h = refl
 merged_filled (s ∷ ss) h =
-    let a = both (nat_le s.lo s.hi) (list_all (is_before s) ss && is_merged ss) h in
-    and_of (nat_le s.lo s.hi) (list_all (λ s. nat_le s.lo s.hi) ss) a.0 (merged_filled ss (merged_head s ss h).tail)
+    let a = and_parts (nat_le s.lo s.hi) (list_all (is_before s) ss && is_merged ss) h in
+    and_from (nat_le s.lo s.hi) (list_all (λ s. nat_le s.lo s.hi) ss) a.0 (merged_filled ss (merged_head s ss h).tail)
 
 -- a list is merged with one span more at its end
 pub merged_push : (ss : List Span) (t : Span) → is_merged ss ≡ true → all_before ss t ≡ true → t.lo ≤ t.hi → is_merged (ss ++ t ∷ []) ≡ true
 merged_push [] t m b f = merged_cons t [] (record { filled = f; after = refl; tail = refl })
 merged_push (s ∷ ss) t m b f =
     let h = merged_head s ss m in
-    let w = both (is_before s t) (all_before ss t) b in
+    let w = and_parts (is_before s t) (all_before ss t) b in
     merged_cons s (ss ++ t ∷ []) (record { filled = h.filled; after = all_push (is_before s) ss t h.after w.0; tail = merged_push ss t h.tail w.1 f })
 
 pub record IsPushed (ss : List Span) (t : Span) : Type 0 where
@@ -94,7 +88,7 @@ merged_pushed (s ∷ ss) t m =
     let r = merged_pushed ss t h.tail in
     record {
       merged = merged_cons s ss (record { filled = h.filled; after = a.0; tail = r.merged });
-      before = and_of (is_before s t) (all_before ss t) a.1 r.before;
+      before = and_from (is_before s t) (all_before ss t) a.1 r.before;
       filled = r.filled;
     }
 
@@ -123,7 +117,7 @@ skip_over first t more q e f = ap (λ b. b || has more q) (outside first t q e f
 pub reach_all : (first t : Span) (more : List Span) → is_merged (first ∷ more) ≡ true → ends_before (start_of t) first ≡ false → all_reach t (first ∷ more) ≡ true
 reach_all first t more m e =
     let h = merged_head first more m in
-    and_of (not (ends_before (start_of t) first)) (all_reach t more) (ap not e) (all_weaker2 (λ s. nat_le s.lo s.hi) (is_before first) (λ s. not (ends_before (start_of t) s)) more (λ s f b. reaches s f b e) (merged_filled more h.tail) h.after)
+    and_from (not (ends_before (start_of t) first)) (all_reach t more) (ap not e) (all_weaker2 (λ s. nat_le s.lo s.hi) (is_before first) (λ s. not (ends_before (start_of t) s)) more (λ s f b. reaches s f b e) (merged_filled more h.tail) h.after)
   where
     reaches : (s : Span) → nat_le s.lo s.hi ≡ true → is_before first s ≡ true → ends_before (start_of t) first ≡ false → not (ends_before (start_of t) s) ≡ true
     reaches s f b e = grind (arith, nat_tests)
@@ -209,7 +203,7 @@ pub apart_after : (spans : List Span) (first t : Span) (more : List Span) → sp
     → (q : Gtid) → within t q ≡ true → has spans q ≡ false
 apart_after spans first t more e m r n q w =
     let h = merged_head first more (sym (ap is_merged e) ∙ m) in
-    let v = both (not (ends_before (start_of t) first)) (all_reach t more) (sym (ap (all_reach t) e) ∙ r) in
+    let v = and_parts (not (ends_before (start_of t) first)) (all_reach t more) (sym (ap (all_reach t) e) ∙ r) in
     ap (λ ss. has ss q) e
     ∙ ap (λ b. b || has more q) (outside v.0 n w)
     ∙ any_none (λ s. within s q) (is_before first) more (λ s b. later s b v.0 n w) h.after
@@ -229,8 +223,8 @@ from_other p q a = grind (arith, nat_tests)
 -- all of a rising list is from a GTID on, if its first is
 pub all_later : (g : Gtid) (s : Span) (ss : List Span) → is_from g (start_of s) ≡ true → rises (s ∷ ss) ≡ true → list_all (λ t. is_from g (start_of t)) (s ∷ ss) ≡ true
 all_later g s ss a r =
-    let v = both (list_all (λ t. is_from (start_of s) (start_of t)) ss) (rises ss) r in
-    and_of (is_from g (start_of s)) (list_all (λ t. is_from g (start_of t)) ss) a
+    let v = and_parts (list_all (λ t. is_from (start_of s) (start_of t)) ss) (rises ss) r in
+    and_from (is_from g (start_of s)) (list_all (λ t. is_from g (start_of t)) ss) a
     (all_weaker (λ t. is_from (start_of s) (start_of t)) (λ t. is_from g (start_of t)) ss (λ t h. from_trans g (start_of s) (start_of t) a h) v.0)
 
 pub or_swap : (a b c : Bool) → (a || (b || c)) ≡ (b || (a || c))
@@ -240,7 +234,7 @@ or_swap false b c = refl
 
 pub takes_left : (left right : List Span) (a : Span) (more : List Span) → left ≡ a ∷ more → rises left ≡ true → rises right ≡ true → list_all (λ t. is_from (start_of a) (start_of t)) right ≡ true → TakesFirst left right a more right
 takes_left left right a more e l r later =
-    let v = both (list_all (λ t. is_from (start_of a) (start_of t)) more) (rises more) (sym (ap rises e) ∙ l) in
+    let v = and_parts (list_all (λ t. is_from (start_of a) (start_of t)) more) (rises more) (sym (ap rises e) ∙ l) in
     let long = ap length e in
     record {
       any = λ p. ap (λ ss. list_any p ss || list_any p right) e ∙ sym (or_assoc (p a) (list_any p more) (list_any p right));
@@ -253,7 +247,7 @@ takes_left left right a more e l r later =
 
 pub takes_right : (left right : List Span) (b : Span) (more : List Span) → right ≡ b ∷ more → rises left ≡ true → rises right ≡ true → list_all (λ t. is_from (start_of b) (start_of t)) left ≡ true → TakesFirst left right b left more
 takes_right left right b more e l r later =
-    let v = both (list_all (λ t. is_from (start_of b) (start_of t)) more) (rises more) (sym (ap rises e) ∙ r) in
+    let v = and_parts (list_all (λ t. is_from (start_of b) (start_of t)) more) (rises more) (sym (ap rises e) ∙ r) in
     let long = ap length e in
     record {
       any = λ p. ap (λ ss. list_any p left || list_any p ss) e ∙ or_swap (list_any p left) (p b) (list_any p more);
@@ -266,7 +260,7 @@ takes_right left right b more e l r later =
 
 pub all_true : {X : Type 0} (p : X → Bool) (xs : List X) → ((x : X) → p x ≡ true) → list_all p xs ≡ true
 all_true p [] h = refl
-all_true p (x ∷ xs) h = and_of (p x) (list_all p xs) (h x) (all_true p xs h)
+all_true p (x ∷ xs) h = and_from (p x) (list_all p xs) (h x) (all_true p xs h)
 
 -- what is true of all spans of two lists is true of the one taken and of what is left
 pub takes_all : (left right : List Span) (x : Span) (l r : List Span) → TakesFirst left right x l r → (q : Span → Bool) → list_all q left ≡ true → list_all q right ≡ true
@@ -290,7 +284,7 @@ takes_all left right x l r takes q a b =
 
     none_left : {X : Type 0} (q : X → Bool) (xs : List X) → list_any (λ s. not (q s)) xs ≡ false → list_all q xs ≡ true
     none_left q [] h = refl
-    none_left q (s ∷ ss) h = let w = neither (not (q s)) (list_any (λ s. not (q s)) ss) h in and_of (q s) (list_all q ss) (not_false (q s) w.0) (none_left q ss w.1)
+    none_left q (s ∷ ss) h = let w = neither (not (q s)) (list_any (λ s. not (q s)) ss) h in and_from (q s) (list_all q ss) (not_false (q s) w.0) (none_left q ss w.1)
 
 -- what is true of no span
 pub record IsNothing (out : List Span) : Type 0 where
@@ -318,10 +312,10 @@ pub moved : (o o' w a b l r g : Bool) → o' ≡ (o || w) → (a || b) ≡ (w ||
 moved o o' w a b l r g e f h = ap (λ x. x || (l || r)) e ∙ sym (or_assoc o w (l || r)) ∙ ap (λ x. o || x) (sym f) ∙ h
 
 pub all_parts : {X : Type 0} (p : X → Bool) (xs ys : List X) → list_all p (xs ++ ys) ≡ true → (list_all p xs ≡ true) × (list_all p ys ≡ true)
-all_parts p xs ys h = both (list_all p xs) (list_all p ys) (sym (list_all-append p xs ys) ∙ h)
+all_parts p xs ys h = and_parts (list_all p xs) (list_all p ys) (sym (list_all-append p xs ys) ∙ h)
 
 pub all_joined : {X : Type 0} (p : X → Bool) (xs ys : List X) → list_all p xs ≡ true → list_all p ys ≡ true → list_all p (xs ++ ys) ≡ true
-all_joined p xs ys a b = list_all-append p xs ys ∙ and_of (list_all p xs) (list_all p ys) a b
+all_joined p xs ys a b = list_all-append p xs ys ∙ and_from (list_all p xs) (list_all p ys) a b
 
 -- the parts of a merged list
 pub merged_front : (xs ys : List Span) → is_merged (xs ++ ys) ≡ true → is_merged xs ≡ true
@@ -339,18 +333,18 @@ pub front_before_back : (xs ys : List Span) → is_merged (xs ++ ys) ≡ true �
 front_before_back [] ys m = refl
 front_before_back (x ∷ xs) ys m =
     let h = merged_head x (xs ++ ys) m in
-    and_of (list_all (is_before x) ys) (list_all (λ x. list_all (is_before x) ys) xs) (all_parts (is_before x) xs ys h.after).1 (front_before_back xs ys h.tail)
+    and_from (list_all (is_before x) ys) (list_all (λ x. list_all (is_before x) ys) xs) (all_parts (is_before x) xs ys h.after).1 (front_before_back xs ys h.tail)
 
 -- a span between a front and a back
 pub merged_mid : (xs : List Span) (t : Span) (ys : List Span) → is_merged xs ≡ true → is_merged ys ≡ true → t.lo ≤ t.hi → all_before xs t ≡ true → list_all (is_before t) ys ≡ true → is_merged (xs ++ t ∷ ys) ≡ true
 merged_mid [] t ys a b f c d = merged_cons t ys (record { filled = f; after = d; tail = b })
 merged_mid (x ∷ xs) t ys a b f c d =
     let h = merged_head x xs a in
-    let w = both (is_before x t) (all_before xs t) c in
+    let w = and_parts (is_before x t) (all_before xs t) c in
     let le : nat_le t.lo t.hi ≡ true = grind (arith, nat_tests) in
     merged_cons x (xs ++ t ∷ ys) (record {
       filled = h.filled;
-      after = all_joined (is_before x) xs (t ∷ ys) h.after (and_of (is_before x t) (list_all (is_before x) ys) w.0 (all_weaker (is_before t) (is_before x) ys (λ s k. before_trans x t s w.0 le k) d));
+      after = all_joined (is_before x) xs (t ∷ ys) h.after (and_from (is_before x t) (list_all (is_before x) ys) w.0 (all_weaker (is_before t) (is_before x) ys (λ s k. before_trans x t s w.0 le k) d));
       tail = merged_mid xs t ys h.tail b f w.1 d;
     })
 
@@ -359,7 +353,7 @@ pub merged_rises : (ss : List Span) → is_merged ss ≡ true → rises ss ≡ t
 merged_rises [] m = refl
 merged_rises (s ∷ ss) m =
     let h = merged_head s ss m in
-    and_of (list_all (λ t. is_from (start_of s) (start_of t)) ss) (rises ss) (all_weaker (is_before s) (λ t. is_from (start_of s) (start_of t)) ss (λ t b. later t b h.filled) h.after) (merged_rises ss h.tail)
+    and_from (list_all (λ t. is_from (start_of s) (start_of t)) ss) (rises ss) (all_weaker (is_before s) (λ t. is_from (start_of s) (start_of t)) ss (λ t b. later t b h.filled) h.after) (merged_rises ss h.tail)
   where
     later : (t : Span) → is_before s t ≡ true → s.lo ≤ s.hi → is_from (start_of s) (start_of t) ≡ true
     later t b f = grind (arith, nat_tests)

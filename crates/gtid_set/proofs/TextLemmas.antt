@@ -19,7 +19,8 @@ use Rattle.gtid_set.specs.Spans.{set_of}
 use Rattle.gtid_set.specs.Full.{IsFullExactly}
 use Rattle.gtid_set.specs.Texts.{set_from, set_in}
 use Rattle.gtid_set.proofs.SortLemmas.{same_set_sorted}
-use Rattle.gtid_set.proofs.SpanLemmas.{and_of, all_joined}
+use Rattle.gtid_set.proofs.SpanLemmas.{all_joined}
+use Rattle.std.proofs.lemmas.Bool.{and_from}
 
 abbrev pub are_filled : List Span → Bool
 are_filled ss = list_all (λ s. nat_le s.lo s.hi) ss
@@ -32,7 +33,7 @@ intervals_filled : (id : SourceId) (ps : List (List ℕ × Interval)) (ss : List
 intervals_filled id [] [] h = refl
 intervals_filled id [] (s ∷ ss) h = absurd h
 intervals_filled id (p ∷ ps) [] h = refl
-intervals_filled id (p ∷ ps) (s ∷ ss) h = and_of (nat_le s.lo s.hi) (are_filled ss) (upper_filled p.1.upper s h.1.upper) (intervals_filled id ps ss h.2)
+intervals_filled id (p ∷ ps) (s ∷ ss) h = and_from (nat_le s.lo s.hi) (are_filled ss) (upper_filled p.1.upper s h.1.upper) (intervals_filled id ps ss h.2)
 
 element_filled : (e : Element) (ss : List Span) → IsElement e ss → are_filled ss ≡ true
 element_filled (None, gap) ss h = ap are_filled h.1

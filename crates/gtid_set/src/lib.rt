@@ -16,8 +16,6 @@ mod fault;
 pub mod laws;
 mod single;
 mod sweep;
-#[cfg(test)]
-mod tests;
 mod text;
 
 pub use fault::{SetFault, SetTextFault};

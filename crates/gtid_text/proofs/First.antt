@@ -12,10 +12,11 @@ use Rattle.gtid_text.specs.declared.SourceId.{SourceId}
 use Rattle.gtid_text.specs.declared.Span.{Span}
 use Rattle.gtid_text.specs.declared.scan.Refusal.{Refusal}
 use Rattle.gtid_text.proofs.Tokens.{run_passes}
-use Rattle.gtid_text.proofs.Turns.{bind_ok, ok_is, chosen, run_past, found_source_ok, some_is, left_of, left_of-turn}
+use Rattle.gtid_text.proofs.Turns.{bind_ok, ok_is, chosen, run_past, found_source_ok, left_of, left_of-turn}
 use Rattle.gtid_text.proofs.Spelled.{starts, starts_gap, starts_blank, past_cut, past_front, source_reads, interval_reads_at, NoDash, is_dash, turn_interval, turn_element, element_uuid, uuid_some, uuid_no_comma, spells_read}
 use Rattle.gtid_text.proofs.Found.{gap_of, split, FoundInterval, interval_found, Separated, separator_cases, Begun, element_cases, colon_is, read_spells}
 use Rattle.gtid_text.proofs.Stuck.{bind_err, Refusing, refusing_inside, refusing_outside}
+use Rattle.std.proofs.lemmas.Option.{same_Some}
 
 -- ---- a turn reads its own bytes alone
 
@@ -63,7 +64,7 @@ unfolding turn_at
 local_inside id rest t e =
     let q = bind_ok (interval_at id rest) (λ i. separator_at id i.1 >>= λ next. Ok (Some (Some i.0, next.0, next.1))) (Some t) e in
     let r = bind_ok (separator_at id q.0.1) (λ next. Ok (Some (Some q.0.0, next.0, next.1))) (Some t) q.2 in
-    let same : with_next q.0.0 r.0 ≡ t = some_is (with_next q.0.0 r.0) t (ok_is (Some (with_next q.0.0 r.0)) (Some t) r.2) in
+    let same : with_next q.0.0 r.0 ≡ t = same_Some (with_next q.0.0 r.0) t (ok_is (Some (with_next q.0.0 r.0)) (Some t) r.2) in
     subst (λ (u : Turn). AtEnd u ⊎ Local (Some id) rest u) same (local_separated id rest q.0 r.0 (interval_found id rest q.0 q.1) (separator_cases id q.0.1 r.0 r.1))
 
 abbrev without : Option SourceId × List ℕ → Turn
@@ -110,7 +111,7 @@ local_outside rest t e =
       | inr p ↦
           let ne = eqb-false (length (past is_blank rest)) 0 p.0 in
           let r = bind_ok (element_at (past is_blank rest)) (λ next. Ok (Some (None, next.0, next.1))) (Some t) p.1 in
-          let same : without r.0 ≡ t = some_is (without r.0) t (ok_is (Some (without r.0)) (Some t) r.2) in
+          let same : without r.0 ≡ t = same_Some (without r.0) t (ok_is (Some (without r.0)) (Some t) r.2) in
           subst (Local None rest) same (local_element rest r.0 (element_cases (past is_blank rest) r.0 (omega arith) r.1))
     ]
 

@@ -4,7 +4,7 @@ use Rattle.std.specs.Prelude.{◌&&◌, option_map, decimal}
 use Rattle.std.specs.List.{list_all}
 use Rattle.std.specs.Int.{w128, from_be_bytes, to_be_bytes, bytes_high_first}
 use Rattle.std.proofs.lemmas.Fmt.{digits_value-decimal}
-use Rattle.std.proofs.lemmas.Bool.{le-leb}
+use Rattle.std.proofs.lemmas.Bool.{le-leb, cond-true}
 use Rattle.std.proofs.lemmas.List.Elements.{All-from_recursion}
 use Rattle.std.specs.List.{AllByRecursion}
 use Rattle.std.proofs.lemmas.Bool.Decides.{nat_tests}
@@ -15,7 +15,7 @@ use Rattle.uuid.proofs.OrderLemmas.{from_be_bytes-to_be_bytes_16}
 use Rattle.gtid_text.specs.Scan.{is_uuid_byte, source_of, number_of}
 use Rattle.gtid_text.specs.Canonical.{source_text}
 use Rattle.gtid_text.specs.declared.SourceId.{SourceId}
-use Rattle.gtid_text.proofs.Tokens.{own, if_yes}
+use Rattle.gtid_text.proofs.Tokens.{own}
 
 list_all-more : (p : ℕ → Bool) (xs : List ℕ) (x : ℕ) → list_all p xs ≡ true → p x ≡ true → list_all p (xs ++ x ∷ []) ≡ true
 list_all-more p [] x e f = rw f refl
@@ -57,7 +57,7 @@ source_again id fits =
     let f : List ℕ → SourceId = λ bytes. from_be_bytes w128 bytes in
     let long : length text ≡ 36 = by_index_length 36 _ in
     let back : Some (to_be_bytes w128 id) ≡ parsed_hyphenated text = parses_hyphenated_text lower (to_be_bytes w128 id) (inl refl) refl (bytes_small id) in
-    if_yes (eqb (length text) 36) (option_map f (parsed_hyphenated text)) None (eq-eqb (length text) 36 long)
+    cond-true (eqb (length text) 36) (option_map f (parsed_hyphenated text)) None (eq-eqb (length text) 36 long)
     ∙ ap (option_map f) (sym back)
     ∙ ap (λ (n : ℕ). Some (n)) (from_be_bytes-to_be_bytes_16 id fits)
 

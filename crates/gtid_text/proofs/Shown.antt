@@ -3,7 +3,7 @@ use Rattle.std.proofs.Common.{◌≡◌, ℕ, ◌<◌, Bool, true, false, cond, 
 use Rattle.std.specs.Prelude.{decimal}
 use Rattle.std.specs.Char.{is_ascii_digit, to_ascii_lowercase}
 use Rattle.std.specs.List.{list_all}
-use Rattle.std.proofs.lemmas.Bool.{eqb-true}
+use Rattle.std.proofs.lemmas.Bool.{eqb-true, and_parts}
 use Rattle.std.proofs.lemmas.Bool.Decides.{nat_tests}
 use Rattle.std.proofs.lemmas.Fmt.{digits_decimal, decimal_nonempty}
 use Rattle.std.proofs.lemmas.List.{append-nil, length-append}
@@ -20,7 +20,6 @@ use Rattle.gtid_text.proofs.Spelled.{starts, starts_gap, starts_blank, past_cut,
 use Rattle.gtid_text.proofs.Found.{read_spells}
 use Rattle.gtid_text.proofs.RoundTrip.{source_bytes, source_again, number_again}
 use Rattle.gtid_text.proofs.Letters.{low_lower, source_same, uuid_bytes_same}
-use Rattle.gtid_text.proofs.SameGtid.{both}
 
 -- ---- tokens without letters are shown as they are
 
@@ -29,7 +28,7 @@ same_low p low [] [] all e = refl
 same_low p low [] (d ∷ ds) all e = absurd cc
 same_low p low (x ∷ xs) [] all e = absurd cc
 same_low p low (x ∷ xs) (d ∷ ds) all e =
-    let b = both (p d) (list_all p ds) all in
+    let b = and_parts (p d) (list_all p ds) all in
     let head : to_ascii_lowercase x ≡ to_ascii_lowercase d = ap (λ (l : List ℕ). get_or l 0 0) e in
     let tail : SameButCase xs ds = ap (λ (l : List ℕ). drop 1 l) e in
     ap (λ (y : ℕ). y ∷ xs) (low_lower x d (low d b.0) head) ∙ ap (λ (ys : List ℕ). d ∷ ys) (same_low p low xs ds b.1 tail)

@@ -1,17 +1,15 @@
 -- What is spelled is read.
-use Rattle.std.proofs.Common.{◌≡◌, ℕ, ◌<◌, Bool, true, false, eqb, List, [], ◌∷◌, ◌++◌, length, Option, Some, None, Result, Ok, Err, refl, sym, ap, subst, ◌∙◌, append_assoc, arith}
+use Rattle.std.proofs.Common.{◌≡◌, ℕ, ◌<◌, Bool, true, false, eqb, List, [], ◌∷◌, ◌++◌, length, Option, Some, None, Ok, refl, sym, ap, subst, ◌∙◌, append_assoc, arith}
 use Rattle.std.specs.List.{list_all, flat_map}
 use Rattle.std.specs.Char.{is_ascii_digit}
-use Rattle.std.proofs.lemmas.Bool.{eqb-true, ne_eqb, le-ltb}
+use Rattle.std.proofs.lemmas.Bool.{eqb-true, ne_eqb, le-ltb, and_parts}
 use Rattle.std.proofs.lemmas.List.{append-nil, length-append}
 use Rattle.gtid_text.specs.Scan.{is_blank, is_uuid_byte, run, past, source_of, found_source, source_at, number_at, colon_at}
 use Rattle.gtid_text.specs.Reading.{span, upper_at, interval_at, separator_at, element_at, turn_at, with_front, spans_in}
 use Rattle.gtid_text.specs.Grammar.{Number, Interval, Named, Element, number_text, upper_text, interval_text, behind_colon, named_text, element_text, set_text, IsGap, IsNumber, IsUpper, IsInterval, AreIntervals, IsNamed, IsElement, AreElements, Spells}
 use Rattle.gtid_text.specs.declared.SourceId.{SourceId}
 use Rattle.gtid_text.specs.declared.Span.{Span}
-use Rattle.gtid_text.specs.declared.scan.Refusal.{Refusal}
-use Rattle.gtid_text.proofs.Turns.{source_length, left_of, left_of-turn, left_of-end, with_front-twice}
-use Rattle.gtid_text.proofs.SameGtid.{both}
+use Rattle.gtid_text.proofs.Turns.{source_length, left_of, left_of-turn, left_of-end, with_front-twice, with_nothing}
 
 -- ---- runs
 
@@ -30,11 +28,11 @@ run_cut p (b ∷ bs) e = rw e refl
 
 pub past_front : (p : ℕ → Bool) (xs r : List ℕ) → list_all p xs ≡ true → past p (xs ++ r) ≡ past p r
 past_front p [] r e = refl
-past_front p (x ∷ xs) r e = let h = both (p x) (list_all p xs) e in rw h.0 (past_front p xs r h.1)
+past_front p (x ∷ xs) r e = let h = and_parts (p x) (list_all p xs) e in rw h.0 (past_front p xs r h.1)
 
 pub run_front : (p : ℕ → Bool) (xs r : List ℕ) → list_all p xs ≡ true → starts p r ≡ false → run p (xs ++ r) ≡ xs
 run_front p [] r e cut = run_cut p r cut
-run_front p (x ∷ xs) r e cut = let h = both (p x) (list_all p xs) e in rw h.0 (ap (λ (t : List ℕ). x ∷ t) (run_front p xs r h.1 cut))
+run_front p (x ∷ xs) r e cut = let h = and_parts (p x) (list_all p xs) e in rw h.0 (ap (λ (t : List ℕ). x ∷ t) (run_front p xs r h.1 cut))
 
 -- a blank is one of four bytes
 blank_is : (P : ℕ → Type 0) (b : ℕ) → P 32 → P 9 → P 13 → P 10 → is_blank b ≡ true → P b
@@ -53,7 +51,7 @@ blank_is P b p q r s e =
 -- no blank passes these tests, so that blanks end a run
 pub starts_gap : (p : ℕ → Bool) (gap r : List ℕ) → p 32 ≡ false → p 9 ≡ false → p 13 ≡ false → p 10 ≡ false → IsGap gap → starts p r ≡ false → starts p (gap ++ r) ≡ false
 starts_gap p [] r a b c d g cut = cut
-starts_gap p (x ∷ xs) r a b c d g cut = blank_is (λ y. p y ≡ false) x a b c d (both (is_blank x) (list_all is_blank xs) g).0
+starts_gap p (x ∷ xs) r a b c d g cut = blank_is (λ y. p y ≡ false) x a b c d (and_parts (is_blank x) (list_all is_blank xs) g).0
 
 -- a text of such bytes begins with no blank
 blank_apart : (p : ℕ → Bool) (b : ℕ) → p 32 ≡ false → p 9 ≡ false → p 13 ≡ false → p 10 ≡ false → p b ≡ true → is_blank b ≡ false
@@ -65,7 +63,7 @@ blank_apart p b w x y z e =
 
 pub starts_blank : (p : ℕ → Bool) (xs r : List ℕ) → p 32 ≡ false → p 9 ≡ false → p 13 ≡ false → p 10 ≡ false → list_all p xs ≡ true → 0 < length xs → starts is_blank (xs ++ r) ≡ false
 starts_blank p [] r w x y z e some = absurd (omega arith)
-starts_blank p (b ∷ bs) r w x y z e some = blank_apart p b w x y z (both (p b) (list_all p bs) e).0
+starts_blank p (b ∷ bs) r w x y z e some = blank_apart p b w x y z (and_parts (p b) (list_all p bs) e).0
 
 -- ---- tokens
 
@@ -203,10 +201,6 @@ reads_intervals id i s (q ∷ qs) (t ∷ ts) tail next h hs e =
 
 -- ---- elements
 
-with_nothing : (r : Result (List Span) Refusal) → with_front [] r ≡ r
-with_nothing (Ok xs) = refl
-with_nothing (Err e) = refl
-
 abbrev pub is_comma : ℕ → Bool
 is_comma b = eqb b 44
 
@@ -235,7 +229,7 @@ pub uuid_no_comma : (uuid r : List ℕ) → list_all is_uuid_byte uuid ≡ true 
 uuid_no_comma [] r e some = absurd (omega arith)
 uuid_no_comma (b ∷ bs) r e some =
     elim (eqb b 44) as (λ v. eqb b 44 ≡ v → v ≡ false) [
-      | true ↦ λ h. absurd (let k = eqb-true b 44 h in let y = (both (is_uuid_byte b) (list_all is_uuid_byte bs) e).0 in no_comma b k y)
+      | true ↦ λ h. absurd (let k = eqb-true b 44 h in let y = (and_parts (is_uuid_byte b) (list_all is_uuid_byte bs) e).0 in no_comma b k y)
       | false ↦ λ h. refl
     ] refl
 

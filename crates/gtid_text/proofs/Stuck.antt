@@ -3,7 +3,7 @@ use Rattle.std.proofs.Common.{◌≡◌, ℕ, ◌<◌, ◌≤◌, ◌⊎◌, Boo
 use Rattle.std.specs.Prelude.{◌&&◌, codes}
 use Rattle.std.specs.Char.{is_ascii_digit}
 use Rattle.std.specs.Str.Parse.{digits_value}
-use Rattle.std.proofs.lemmas.Bool.{eqb-true, eqb-false, ne_eqb, leb-true}
+use Rattle.std.proofs.lemmas.Bool.{eqb-true, eqb-false, ne_eqb, leb-true, and_parts}
 use Rattle.std.proofs.lemmas.List.{append-nil, length-append}
 use Rattle.gtid_text.specs.Scan.{is_blank, is_uuid_byte, run, past, ◌>>=◌, refuse, source_of, found_source, source_at, number_of, found_number, number_at, colon_at}
 use Rattle.gtid_text.specs.Reading.{span, ordered, upper_at, interval_at, separator_at, element_at, turn_at, with_front}
@@ -14,12 +14,12 @@ use Rattle.gtid_text.specs.declared.Span.{Span}
 use Rattle.gtid_text.specs.declared.scan.Kind.TheVariants as kinds
 use Rattle.gtid_text.specs.declared.scan.Refusal.{Refusal}
 use Rattle.gtid_text.proofs.Tokens.{run_passes}
-use Rattle.gtid_text.proofs.Turns.{chosen, run_past, number_ok, found_source_ok, some_is, left_of, left_of-end}
+use Rattle.gtid_text.proofs.Turns.{chosen, run_past, number_ok, found_source_ok, left_of, left_of-end}
 use Rattle.gtid_text.specs.Canonical.{source_text}
 use Rattle.gtid_text.proofs.RoundTrip.{source_bytes, source_again}
 use Rattle.gtid_text.proofs.Spelled.{run_front, starts, starts_gap, starts_blank, past_cut, past_front, number_reads, source_reads, interval_reads_at, NoDash, is_dash, is_comma, ends_last, turn_end, uuid_some, uuid_no_comma, reads_intervals, named_reads}
 use Rattle.gtid_text.proofs.Found.{past_starts, gap_of, split, number_found, interval_found}
-use Rattle.gtid_text.proofs.SameGtid.{both}
+use Rattle.std.proofs.lemmas.Option.{same_Some}
 
 abbrev refused : {A : Type 0} → Refusal → Result A Refusal
 refused e = Err e
@@ -131,8 +131,8 @@ number_bound : (digits : List ℕ) (n : ℕ) → number_of digits ≡ Some n →
 number_bound digits n e =
     elim (chosen (leb 1 (digits_value 10 digits) && leb (digits_value 10 digits) greatest) (Some (digits_value 10 digits)) None (Some n) e) [
       | inl p ↦
-          let high = leb-true (digits_value 10 digits) greatest (both (leb 1 (digits_value 10 digits)) (leb (digits_value 10 digits) greatest) p.0).1 in
-          let same = some_is (digits_value 10 digits) n p.1 in
+          let high = leb-true (digits_value 10 digits) greatest (and_parts (leb 1 (digits_value 10 digits)) (leb (digits_value 10 digits) greatest) p.0).1 in
+          let same = same_Some (digits_value 10 digits) n p.1 in
           omega arith
       | inr p ↦ absurd cc
     ]

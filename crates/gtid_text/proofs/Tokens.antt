@@ -4,7 +4,7 @@ use Rattle.std.specs.List.{list_all}
 use Rattle.std.specs.Char.{is_ascii_digit}
 use Rattle.std.specs.Str.Parse.{digits_value}
 use Rattle.std.proofs.lemmas.Str.Parse.{IsNumeralModel, numerals_by_value}
-use Rattle.std.proofs.lemmas.Bool.{cases_lt, le-ltb, lt-ltb}
+use Rattle.std.proofs.lemmas.Bool.{cases_lt, le-ltb, lt-ltb, cond-true}
 use Rattle.std.specs.Prelude.{option_map}
 use Rattle.std.specs.Int.{w128, from_be_bytes}
 use Rattle.uuid.specs.Text.{parsed, parsed_hyphenated}
@@ -82,11 +82,8 @@ no_source : (f : List ℕ → SourceId) (o : Option (List ℕ)) → ((u : List �
 no_source f (Some u) none = absurd (none (u, refl))
 no_source f None none = refl
 
-pub if_yes : {A : Type 0} (b : Bool) (x y : A) → b ≡ true → cond b x y ≡ x
-if_yes b x y e = rw e refl
-
 pub source_none : (text : List ℕ) → length text ≡ 36 → ((u : List ℕ) × (parsed text ≡ Some u) → ⊥) → None ≡ source_of text
 source_none text len none =
     let same : parsed text ≡ parsed_hyphenated text = rw len refl in
     let f : List ℕ → SourceId = λ bytes. from_be_bytes w128 bytes in
-    no_source f (parsed_hyphenated text) (λ u. none (u.0, same ∙ u.1)) ∙ sym (if_yes (eqb (length text) 36) (option_map f (parsed_hyphenated text)) None (eq-eqb (length text) 36 len))
+    no_source f (parsed_hyphenated text) (λ u. none (u.0, same ∙ u.1)) ∙ sym (cond-true (eqb (length text) 36) (option_map f (parsed_hyphenated text)) None (eq-eqb (length text) 36 len))

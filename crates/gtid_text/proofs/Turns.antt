@@ -10,6 +10,7 @@ use Rattle.gtid_text.specs.declared.SourceId.{SourceId}
 use Rattle.gtid_text.specs.declared.Span.{Span}
 use Rattle.gtid_text.specs.declared.scan.Refusal.{Refusal}
 use Rattle.gtid_text.specs.declared.scan.Kind.TheVariants as kinds
+use Rattle.std.proofs.lemmas.Option.{same_Some}
 
 -- ---- steps that may fail
 
@@ -140,15 +141,12 @@ element_shorter (b ∷ bs) x some e =
           omega (arith, source_shorter (b ∷ bs) q.0 q.1, skip_shorter q.0.1, colon_shorter (past is_blank q.0.1) r.0 r.1, ap (λ (y : Option SourceId × List ℕ). length y.1) (ok_is (Some q.0.0, r.0) x r.2))
     ]
 
-pub some_is : {A : Type 0} (x y : A) → Some x ≡ Some y → x ≡ y
-some_is x y e = cc
-
 pub turn_shorter : (inside : Option SourceId) (rest : List ℕ) (t : Turn) → turn_at inside rest ≡ Ok (Some t) → length t.2 < length rest
 unfolding turn_at
 turn_shorter (Some id) rest t e =
     let q = bind_ok (interval_at id rest) (λ i. separator_at id i.1 >>= λ next. Ok (Some (Some i.0, next.0, next.1))) (Some t) e in
     let r = bind_ok (separator_at id q.0.1) (λ next. Ok (Some (Some q.0.0, next.0, next.1))) (Some t) q.2 in
-    omega (arith, interval_shorter id rest q.0 q.1, separator_shorter id q.0.1 r.0 r.1, ap (λ (y : Turn). length y.2) (some_is (Some q.0.0, r.0.0, r.0.1) t (ok_is _ _ r.2)))
+    omega (arith, interval_shorter id rest q.0 q.1, separator_shorter id q.0.1 r.0 r.1, ap (λ (y : Turn). length y.2) (same_Some (Some q.0.0, r.0.0, r.0.1) t (ok_is _ _ r.2)))
 turn_shorter None rest t e =
     elim (chosen (eqb (length (past is_blank rest)) 0) (Ok None) (element_at (past is_blank rest) >>= λ next. Ok (Some (None, next.0, next.1))) (Ok (Some t)) e) [
       | inl p ↦ absurd cc
@@ -156,7 +154,7 @@ turn_shorter None rest t e =
           let r = bind_ok (element_at (past is_blank rest)) (λ next. Ok (Some (None, next.0, next.1))) (Some t) p.1 in
           let ne = eqb-false (length (past is_blank rest)) 0 p.0 in
           let some : 0 < length (past is_blank rest) = omega arith in
-          omega (arith, element_shorter (past is_blank rest) r.0 some r.1, skip_shorter rest, ap (λ (y : Turn). length y.2) (some_is (None, r.0.0, r.0.1) t (ok_is _ _ r.2)))
+          omega (arith, element_shorter (past is_blank rest) r.0 some r.1, skip_shorter rest, ap (λ (y : Turn). length y.2) (same_Some (None, r.0.0, r.0.1) t (ok_is _ _ r.2)))
     ]
 
 -- ---- enough turns
@@ -180,7 +178,7 @@ pub with_front-twice : (xs ys : List Span) (r : Result (List Span) Refusal) → 
 with_front-twice xs ys (Ok zs) = ap Ok (sym (append_assoc xs ys zs))
 with_front-twice xs ys (Err e) = refl
 
-with_nothing : (r : Result (List Span) Refusal) → with_front [] r ≡ r
+pub with_nothing : (r : Result (List Span) Refusal) → with_front [] r ≡ r
 with_nothing (Ok xs) = refl
 with_nothing (Err e) = refl
 

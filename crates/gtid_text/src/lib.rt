@@ -7,16 +7,12 @@ mod scan;
 mod set_text;
 mod write;
 
-pub use fault::TextFault;
-pub use set_text::{parse_gtid, parse_source, parse_spans};
-pub use write::{write_gtid, write_next_span, write_source, write_span};
-
-#[cfg(test)]
-mod tests;
-
 ghost use Rattle.std.specs.Prelude.{◌≡◌, ℕ};
 
+pub use fault::TextFault;
+pub use set_text::{parse_gtid, parse_source, parse_spans};
 use std::marker::Model;
+pub use write::{write_gtid, write_next_span, write_source, write_span};
 
 /// The UUID of a server, which contracts see as a number below 2^128.
 #[derive(Clone, Copy, Debug, PartialEq, Eq, PartialOrd, Ord, Hash, Drop)]

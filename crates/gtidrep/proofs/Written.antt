@@ -16,7 +16,6 @@ use Rattle.journal.specs.declared.Entry.{Entry}
 use Rattle.journal.specs.Journals.{JournalValue}
 use Rattle.journal.specs.Writing.{is_value_writable, is_image_writable, is_change_writable, is_txn_writable, is_number, is_writable}
 use Rattle.apply_channel.specs.Channels.{most_received}
-use Rattle.source_history.proofs.Tests.{and_both}
 use Rattle.serving.specs.Served.{HaveChannels}
 use Rattle.serving.specs.Faults.{IsHeld, IsServable, HasMisfit}
 use Rattle.serving.proofs.Beginning.{audit_fault}
@@ -30,6 +29,7 @@ use Rattle.gtid_report.specs.declared.fault.Fault.TheVariants.{Memory, Refused}
 use Rattle.gtidrep.specs.Bundles.{HasTooMany, IsUnapplied, IsUnaudited}
 use Rattle.gtidrep.specs.declared.answer.Answer.{Answer}
 use Rattle.gtidrep.proofs.Holding.{GivesUp}
+use Rattle.std.proofs.lemmas.Bool.{and_parts}
 
 -- ---- a row
 
@@ -44,7 +44,7 @@ value_short (Bytes b) h = short (length b) h
 values_short : (row : List Value) → list_all is_value_writable row ≡ true → list_any is_too_long row ≡ false
 values_short [] h = refl
 values_short (v ∷ row) h =
-    let each = and_both (is_value_writable v) (list_all is_value_writable row) h in
+    let each = and_parts (is_value_writable v) (list_all is_value_writable row) h in
     λ i. value_short v each.0 i || values_short row each.1 i
 
 none_met : {X : Type 0} (x y z : X) (a b c : Bool) → (a && not b) ≡ true → c ≡ false → cond (not a) (Some x) (cond b (Some y) (cond c (Some z) None)) ≡ None
@@ -55,8 +55,8 @@ none_met x y z false b c taken short = absurd (cc taken)
 
 row_fits : (table : Table) (row : List Value) → is_row_of table row ≡ true → is_image_writable row ≡ true → row_misfit table row ≡ None
 row_fits table row is writable =
-    let some = and_both (nat_le 1 (length row)) (nat_le (length row) 64 && list_all is_value_writable row) writable in
-    let few = and_both (nat_le (length row) 64) (list_all is_value_writable row) some.1 in
+    let some = and_parts (nat_le 1 (length row)) (nat_le (length row) 64 && list_all is_value_writable row) writable in
+    let few = and_parts (nat_le (length row) 64) (list_all is_value_writable row) some.1 in
     none_met Columns NullInPrimary TooLong (length row == table.columns) (has_primary_null table row) (list_any is_too_long row) is (values_short row few.1)
 
 -- ---- a change
@@ -65,8 +65,8 @@ images_fit : (table : Table) (c : Change) → are_rows_of table c ≡ true → i
 images_fit table (Insert name after) are writable = row_fits table after are writable
 images_fit table (Delete name before) are writable = row_fits table before are writable
 images_fit table (Update name before after) are writable =
-    let rows = and_both (is_row_of table before) (is_row_of table after) are in
-    let images = and_both (is_image_writable before) (is_image_writable after) writable in
+    let rows = and_parts (is_row_of table before) (is_row_of table after) are in
+    let images = and_parts (is_image_writable before) (is_image_writable after) writable in
     λ i. first_cause (row_fits table before rows.0 images.0 i) (row_fits table after rows.1 images.1 i)
 
 change_fits : (o : Option Table) (c : Change) → takes_change o c ≡ true → is_change_writable c ≡ true → misfit_in o c ≡ None
@@ -84,8 +84,8 @@ few_changes n h = grind (arith, nat_tests, h)
 changes_fit : (tables : List Table) (n : ℕ) (cs : List Change) → list_all (fits (Some tables)) cs ≡ true → list_all is_change_writable cs ≡ true → n + length cs ≤ 65536 → misfit_from tables n cs ≡ None
 changes_fit tables n [] fit writable few = refl
 changes_fit tables n (c ∷ cs) fit writable few =
-    let each = and_both (fits (Some tables) c) (list_all (fits (Some tables)) cs) fit in
-    let can = and_both (is_change_writable c) (list_all is_change_writable cs) writable in
+    let each = and_parts (fits (Some tables) c) (list_all (fits (Some tables)) cs) fit in
+    let can = and_parts (is_change_writable c) (list_all is_change_writable cs) writable in
     let one = change_fits (table_named (table_of c) tables) c each.0 can.0 in
     let room = not_yet n (omega (arith, few)) in
     let rest = changes_fit tables (n + 1) cs each.1 can.1 (omega (arith, few)) in
@@ -93,8 +93,8 @@ changes_fit tables n (c ∷ cs) fit writable few =
 
 entry_taken : (tables : List Table) (e : Entry) → entry_fits tables e ≡ true → is_writable e ≡ true → Fits tables e.txn
 entry_taken tables e fit writable =
-    let txn = and_both (is_number e.gtid.number) (is_txn_writable e.txn) writable in
-    let changes = and_both (nat_le (length e.txn.changes) 65536) (list_all is_change_writable e.txn.changes) txn.1 in
+    let txn = and_parts (is_number e.gtid.number) (is_txn_writable e.txn) writable in
+    let changes = and_parts (nat_le (length e.txn.changes) 65536) (list_all is_change_writable e.txn.changes) txn.1 in
     changes_fit tables 0 e.txn.changes fit changes.1 (few_changes (length e.txn.changes) changes.0)
 
 -- ---- journals
@@ -102,8 +102,8 @@ entry_taken tables e fit writable =
 entries_taken : (tables : List Table) (es : List Entry) → list_all (entry_fits tables) es ≡ true → list_all is_writable es ≡ true → AllByRecursion (λ (e : Entry). Fits tables e.txn) es
 entries_taken tables [] fit writable = tt
 entries_taken tables (e ∷ es) fit writable =
-    let each = and_both (entry_fits tables e) (list_all (entry_fits tables) es) fit in
-    let can = and_both (is_writable e) (list_all is_writable es) writable in
+    let each = and_parts (entry_fits tables e) (list_all (entry_fits tables) es) fit in
+    let can = and_parts (is_writable e) (list_all is_writable es) writable in
     (entry_taken tables e each.0 can.0, entries_taken tables es each.1 can.1)
 
 has_room : (n : ℕ) → n ≤ 4294967294 → n ≤ most_received

@@ -5,12 +5,14 @@ use Rattle.std.specs.List.{list_all, list_any}
 use Rattle.std.specs.FinSet as set
 use Rattle.gtid_text.specs.declared.Gtid.{Gtid}
 use Rattle.gtid_text.specs.Gtids.{gtid_cmp, same_gtid}
-use Rattle.gtid_text.proofs.SameGtid.{both}
 use Rattle.gtid_set.specs.Sets.{Gtids}
-use Rattle.gtid_set.proofs.SetLemmas.{set_push, union_empty, same_members, gtid_total, gtid_tied}
+use Rattle.gtid_set.proofs.SetLemmas.{set_push, union_empty, same_members, gtid_tied}
 use Rattle.journal.specs.declared.Entry.{Entry}
 use Rattle.journal.specs.Writing.{is_writable}
 use Rattle.journal.specs.Journals.{gtids_of, AreNew, IsJournal}
+use Rattle.std.proofs.lemmas.Bool.{and_parts}
+use Rattle.gtid_text.proofs.SameGtid.{gtid_total}
+use Rattle.gtid_set.proofs.SpanLemmas.{all_push}
 
 map_push : (es : List Entry) (e : Entry) → map (λ (e : Entry). e.gtid) (es ++ e ∷ []) ≡ map (λ (e : Entry). e.gtid) es ++ e.gtid ∷ []
 map_push [] e = refl
@@ -34,7 +36,7 @@ union-gtids_of-cons seen e es = same_members _ _ (λ q.
     ∙ sym (set.contains-union gtid_total seen (gtids_of (e ∷ es)) q ∙ ap (λ b. set.contains seen q || b) (set.contains-from_list gtid_total (map (λ (e : Entry). e.gtid) (e ∷ es)) q)))
 
 -- new entries, and one more that is new to all of them
-new_push : (seen : Gtids) (es : List Entry) (e : Entry) → AreNew seen es → set.contains (set.union seen (gtids_of es)) e.gtid ≡ false → AreNew seen (es ++ e ∷ [])
+pub new_push : (seen : Gtids) (es : List Entry) (e : Entry) → AreNew seen es → set.contains (set.union seen (gtids_of es)) e.gtid ≡ false → AreNew seen (es ++ e ∷ [])
 new_push seen [] e new h = (ap (λ s. set.contains s e.gtid) (union_empty seen) ∙ h, tt)
 new_push seen (x ∷ es) e new h =
     (new.0, new_push (set.insert seen x.gtid) es e new.1 (ap (λ s. set.contains s e.gtid) (union-gtids_of-cons seen x es) ∙ h))
@@ -44,29 +46,23 @@ new_take zero seen es new = tt
 new_take (suc n) seen [] new = tt
 new_take (suc n) seen (x ∷ es) new = (new.0, new_take n (set.insert seen x.gtid) es new.1)
 
-new_drop : (n : ℕ) (seen : Gtids) (es : List Entry) → AreNew seen es → AreNew (set.union seen (gtids_of (take n es))) (drop n es)
+pub new_drop : (n : ℕ) (seen : Gtids) (es : List Entry) → AreNew seen es → AreNew (set.union seen (gtids_of (take n es))) (drop n es)
 new_drop zero seen es new = subst (λ s. AreNew s es) (union_empty seen) new
 new_drop (suc n) seen [] new = tt
 new_drop (suc n) seen (x ∷ es) new =
     subst (λ s. AreNew s (drop n es)) (union-gtids_of-cons seen x (take n es)) (new_drop n (set.insert seen x.gtid) es new.1)
 
-all_push : {X : Type 0} (p : X → Bool) (xs : List X) (x : X) → list_all p xs ≡ true → p x ≡ true → list_all p (xs ++ x ∷ []) ≡ true
-all_push p [] x all h = ap (λ b. b && true) h
-all_push p (y ∷ ys) x all h =
-    let now = both (p y) (list_all p ys) all in
-    ap (λ b. b && list_all p (ys ++ x ∷ [])) now.0 ∙ all_push p ys x now.1 h
-
 all_take : {X : Type 0} (p : X → Bool) (n : ℕ) (xs : List X) → list_all p xs ≡ true → list_all p (take n xs) ≡ true
 all_take p zero xs all = refl
 all_take p (suc n) [] all = refl
 all_take p (suc n) (x ∷ xs) all =
-    let now = both (p x) (list_all p xs) all in
+    let now = and_parts (p x) (list_all p xs) all in
     ap (λ b. b && list_all p (take n xs)) now.0 ∙ all_take p n xs now.1
 
 all_drop : {X : Type 0} (p : X → Bool) (n : ℕ) (xs : List X) → list_all p xs ≡ true → list_all p (drop n xs) ≡ true
 all_drop p zero xs all = all
 all_drop p (suc n) [] all = refl
-all_drop p (suc n) (x ∷ xs) all = all_drop p n xs (both (p x) (list_all p xs) all).1
+all_drop p (suc n) (x ∷ xs) all = all_drop p n xs (and_parts (p x) (list_all p xs) all).1
 
 -- a journal with one entry more
 pub journal_push : (previous : Gtids) (es : List Entry) (e : Entry) → IsJournal previous es → set.contains (set.union previous (gtids_of es)) e.gtid ≡ false → is_writable e ≡ true → IsJournal previous (es ++ e ∷ [])

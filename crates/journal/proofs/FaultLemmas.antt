@@ -16,7 +16,7 @@ use Rattle.journal.specs.Journals.{gtids_of}
 use Rattle.journal.specs.Faults.{IsFaultOf}
 use Rattle.journal.proofs.EntryLemmas.{union-gtids_of-cons}
 
-no_less : (b : Bool) (n : ℕ) → n ≤ cond b n (n + 1)
+pub no_less : (b : Bool) (n : ℕ) → n ≤ cond b n (n + 1)
 no_less true n = omega arith
 no_less false n = omega arith
 
@@ -33,7 +33,7 @@ more (e ∷ es) s =
     subst (λ t. source_count s ≤ source_count t) (union-gtids_of-cons s e es)
     (le_trans (one_more s e.gtid) (more es (set.insert s e.gtid)))
 
-joined : (n : ℕ) (seen : Gtids) (es : List Entry) → set.union (set.union seen (gtids_of (take n es))) (gtids_of (drop n es)) ≡ set.union seen (gtids_of es)
+pub joined : (n : ℕ) (seen : Gtids) (es : List Entry) → set.union (set.union seen (gtids_of (take n es))) (gtids_of (drop n es)) ≡ set.union seen (gtids_of es)
 joined zero seen es = ap (λ s. set.union s (gtids_of es)) (sym (union_empty seen))
 joined (suc n) seen [] = ap (λ s. set.union s (gtids_of [])) (sym (union_empty seen))
 joined (suc n) seen (x ∷ es) =

@@ -1,5 +1,5 @@
 -- Words and lines: what is read is spelled so, and what is spelled so is read.
-use Rattle.std.proofs.Common.{◌≡◌, ℕ, zero, suc, ◌+◌, ◌^◌, ◌<◌, ◌≤◌, ◌⊎◌, Bool, true, false, cond, eqb, ltb, not, List, [], ◌∷◌, ◌++◌, length, get_or, take, drop, Option, Some, None, Result, Ok, Err, refl, sym, ap, subst, ◌∙◌, append_assoc, arith, inl, inr, rules, eq-eqb}
+use Rattle.std.proofs.Common.{◌≡◌, ℕ, zero, suc, ◌+◌, ◌^◌, ◌<◌, ◌≤◌, Bool, true, false, cond, eqb, ltb, not, List, [], ◌∷◌, ◌++◌, length, get_or, take, drop, Option, Some, None, Result, Ok, Err, refl, sym, ap, subst, ◌∙◌, append_assoc, arith, inl, inr, rules, eq-eqb}
 use Rattle.std.specs.Prelude.{◌&&◌, ◌||◌, codes}
 use Rattle.std.specs.List.{list_all}
 use Rattle.std.specs.Char.{is_ascii_digit}
@@ -7,21 +7,13 @@ use Rattle.std.specs.Str.{bytes_eq}
 use Rattle.std.specs.Str.Parse.{digits_value}
 use Rattle.std.specs.Fmt.{decimal}
 use Rattle.std.proofs.lemmas.Fmt.{digits_decimal, digits_value-decimal, decimal-digits_value, first_decimal, decimal_nonempty, decimal_digit}
-use Rattle.std.proofs.lemmas.Bool.{cases_lt, ltb-false, le-ltb, lt-ltb, ltb-true, eqb-true, ne_eqb}
+use Rattle.std.proofs.lemmas.Bool.{cases_lt, ltb-false, le-ltb, lt-ltb, ltb-true, eqb-true, ne_eqb, and_parts}
 use Rattle.std.proofs.lemmas.Slice.Eq.{bytes_eq-Decides}
-use Rattle.gtid_text.proofs.SameGtid.{both}
 use Rattle.journal_words.specs.Words.{is_count, count_of, first_word, others}
-use Rattle.journal_words.proofs.Numerals.{own, digits_in}
-
--- ---- tests
-
--- which way a choice went
-pub chosen : {A : Type 0} (b : Bool) (x y z : A) → cond b x y ≡ z → ((b ≡ true) × (x ≡ z)) ⊎ ((b ≡ false) × (y ≡ z))
-chosen true x y z e = inl (refl, e)
-chosen false x y z e = inr (refl, e)
-
-pub some_is : {A : Type 0} (x y : A) → Some x ≡ Some y → x ≡ y
-some_is x y e = cc
+use Rattle.journal_words.proofs.Numerals.{digits_in}
+use Rattle.std.proofs.lemmas.Option.{same_Some}
+use Rattle.gtid_text.proofs.Tokens.{own}
+use Rattle.gtid_text.proofs.Turns.{chosen}
 
 -- ---- words
 
@@ -29,8 +21,8 @@ some_is x y e = cc
 abbrev pub lacks : ℕ → List ℕ → Bool
 lacks c bytes = list_all (λ b. not (eqb b c)) bytes
 
-lacks-parts : (c b : ℕ) (bs : List ℕ) → lacks c (b ∷ bs) ≡ true → (eqb b c ≡ false) × (lacks c bs ≡ true)
-lacks-parts c b bs e = let p = both (not (eqb b c)) (lacks c bs) e in (elim (eqb b c) as (λ v. not v ≡ true → v ≡ false) [ true ↦ λ h. absurd cc | false ↦ λ h. refl ] p.0, p.1)
+pub lacks-parts : (c b : ℕ) (bs : List ℕ) → lacks c (b ∷ bs) ≡ true → (eqb b c ≡ false) × (lacks c bs ≡ true)
+lacks-parts c b bs e = let p = and_parts (not (eqb b c)) (lacks c bs) e in (elim (eqb b c) as (λ v. not v ≡ true → v ≡ false) [ true ↦ λ h. absurd cc | false ↦ λ h. refl ] p.0, p.1)
 
 pub first_word-whole : (w : List ℕ) → lacks 32 w ≡ true → first_word w ≡ w
 first_word-whole [] e = refl
@@ -60,7 +52,7 @@ pub word_and_more : (line r : List ℕ) → others line ≡ Some r → line ≡ 
 word_and_more [] r e = absurd cc
 word_and_more (b ∷ bs) r e =
     elim (chosen (eqb b 32) (Some bs) (others bs) (Some r) e) [
-      | inl p ↦ rw (p.0, eqb-true _ _ p.0, some_is bs r p.1) refl
+      | inl p ↦ rw (p.0, eqb-true _ _ p.0, same_Some bs r p.1) refl
       | inr p ↦ rw p.0 (ap (λ (t : List ℕ). b ∷ t) (word_and_more bs r p.1))
     ]
 
@@ -76,7 +68,7 @@ digit_lacks c b out digit =
 digits_lack : (c : ℕ) (ds : List ℕ) → is_ascii_digit c ≡ false → list_all is_ascii_digit ds ≡ true → lacks c ds ≡ true
 digits_lack c [] out e = refl
 digits_lack c (d ∷ ds) out e =
-    let p = both (is_ascii_digit d) (list_all is_ascii_digit ds) e in
+    let p = and_parts (is_ascii_digit d) (list_all is_ascii_digit ds) e in
     rw (digit_lacks c d out p.0) (digits_lack c ds out p.1)
 
 pub decimal_lacks : (c n : ℕ) → is_ascii_digit c ≡ false → n < 2 ^ 64 → lacks c (decimal n) ≡ true
@@ -120,9 +112,9 @@ count_found w n e =
     elim (chosen (is_count w && ltb (digits_value 10 w) (2 ^ 64)) (Some (digits_value 10 w)) None (Some n) e) [
       | inr p ↦ absurd cc
       | inl p ↦
-          let q = both (is_count w) (ltb (digits_value 10 w) (2 ^ 64)) p.0 in
+          let q = and_parts (is_count w) (ltb (digits_value 10 w) (2 ^ 64)) p.0 in
           let d = digits_in w q.0 in
           let lt : digits_value 10 w < 2 ^ 64 = ltb-true _ _ q.1 in
-          let v : digits_value 10 w ≡ n = some_is _ _ p.1 in
+          let v : digits_value 10 w ≡ n = same_Some _ _ p.1 in
           (sym (decimal-digits_value own w d.1 d.0 (zero_alone w q.0) lt) ∙ ap decimal v, rw (← v) lt)
     ]

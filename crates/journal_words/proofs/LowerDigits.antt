@@ -2,9 +2,8 @@
 use Rattle.std.proofs.Common.{◌≡◌, ℕ, zero, suc, ◌+◌, ◌*◌, ◌/◌, ◌%◌, ◌<◌, Bool, true, false, eqb, ltb, not, List, [], ◌∷◌, length, get_or, Option, Some, None, Result, Ok, Err, refl, sym, ap, ◌∙◌, arith, inl, inr}
 use Rattle.std.specs.Prelude.{◌&&◌, ◌||◌, MatchResult}
 use Rattle.std.specs.List.{list_all}
-use Rattle.std.proofs.lemmas.Bool.{eqb-true, ltb-true, cases_lt, cases_eq}
+use Rattle.std.proofs.lemmas.Bool.{eqb-true, ltb-true, cases_lt, cases_eq, and_parts}
 use Rattle.std.proofs.lemmas.Bool.Decides.{nat_tests}
-use Rattle.gtid_text.proofs.SameGtid.{both}
 use Rattle.hex.specs.Hex.{IsBytes, hex_digit_value, pair_value, decode_pairs, decode_of, decode_sized, encode_lower, encode_with, lower_digits}
 use Rattle.hex.specs.declared.error.FromHexError.{FromHexError}
 use Rattle.hex.proofs.HexLemmas.{decode_of-even, decode_of-odd, decode_sized-odd, decode_sized-twice}
@@ -28,7 +27,7 @@ all_back (suc n) = is_back n && all_back n
 back_at : (n b : ℕ) → all_back n ≡ true → b < n → is_back b ≡ true
 back_at zero b h lt = absurd (omega arith)
 back_at (suc n) b h lt =
-    let parts = both (is_back n) (all_back n) h in
+    let parts = and_parts (is_back n) (all_back n) h in
     elim (cases_lt b n) [
       | inl below ↦ back_at n b parts.1 below
       | inr top ↦
@@ -47,7 +46,7 @@ record Place (b : ℕ) : Type 0 where
 
 place_in : (b : ℕ) (o : Option ℕ) → hex_digit_value b ≡ o → is_place b o ≡ true → Place b
 place_in b (Some v) e h =
-    let parts = both (eqb (get_or lower_digits v 0) b) (ltb v 16) h in
+    let parts = and_parts (eqb (get_or lower_digits v 0) b) (ltb v 16) h in
     record { value = v; is = e; small = ltb-true v 16 parts.1; back = eqb-true _ b parts.0 }
 place_in b None e h = absurd cc
 
@@ -71,8 +70,8 @@ unfolding decode_pairs encode_with
 spelled i [] all even = record { bytes = []; decodes = refl; again = refl }
 spelled i (h ∷ []) all even = absurd (omega (arith, even))
 spelled i (h ∷ l ∷ rest) all even =
-    let first = both (is_lower_digit h) (list_all is_lower_digit (l ∷ rest)) all in
-    let second = both (is_lower_digit l) (list_all is_lower_digit rest) first.1 in
+    let first = and_parts (is_lower_digit h) (list_all is_lower_digit (l ∷ rest)) all in
+    let second = and_parts (is_lower_digit l) (list_all is_lower_digit rest) first.1 in
     let a = place h first.0 in
     let b = place l second.0 in
     let r = spelled (i + 2) rest second.1 (omega (arith, even)) in
@@ -142,7 +141,7 @@ all_lower (suc n) = is_lower_digit (get_or lower_digits n 0) && all_lower n
 lower_at : (n k : ℕ) → all_lower n ≡ true → k < n → is_lower_digit (get_or lower_digits k 0) ≡ true
 lower_at zero k h lt = absurd (omega arith)
 lower_at (suc n) k h lt =
-    let parts = both (is_lower_digit (get_or lower_digits n 0)) (all_lower n) h in
+    let parts = and_parts (is_lower_digit (get_or lower_digits n 0)) (all_lower n) h in
     elim (cases_lt k n) [
       | inl below ↦ lower_at n k parts.1 below
       | inr top ↦

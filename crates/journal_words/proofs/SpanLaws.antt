@@ -8,9 +8,9 @@ use Rattle.gtid_set.specs.declared.fault.SetFault.{SetFault}
 use Rattle.gtid_set.specs.declared.fault.SetFault.TheVariants.{Memory, PoolFull, SourcesFull}
 use Rattle.gtid_set.specs.Sets.{Gtids, interval, source_count}
 use Rattle.gtid_set.specs.Full.{IsFullExactly}
-use Rattle.gtid_set.proofs.SetLemmas.{gtid_total}
 use Rattle.gtid_set.proofs.SetSources.{fewer_sources}
 use Rattle.journal_words.specs.Gtids.{set_with, IsWordFault}
+use Rattle.gtid_text.proofs.SameGtid.{gtid_total}
 
 no_fewer : (s t : Gtids) → source_count s ≤ source_count (set.union s t)
 no_fewer s t = fewer_sources s (set.union s t) (λ q e. set.contains-union gtid_total s t q ∙ rw e refl)

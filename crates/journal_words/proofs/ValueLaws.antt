@@ -8,21 +8,23 @@ use Rattle.std.specs.Char.{is_ascii_digit}
 use Rattle.std.specs.Str.{bytes_eq}
 use Rattle.std.specs.Str.Parse.{digits_value}
 use Rattle.std.proofs.lemmas.Fmt.{digits_decimal, digits_value-decimal, decimal_nonempty}
-use Rattle.std.proofs.lemmas.Bool.{lt-ltb, ltb-true, eqb-true, ne_eqb}
+use Rattle.std.proofs.lemmas.Bool.{lt-ltb, ltb-true, eqb-true, ne_eqb, and_parts}
 use Rattle.std.proofs.lemmas.Slice.Eq.{bytes_eq-Decides}
-use Rattle.gtid_text.proofs.SameGtid.{both}
 use Rattle.hex.specs.Hex.{IsBytes, decode_of, encode_lower, encode_with, lower_digits}
 use Rattle.hex.specs.declared.error.FromHexError.{FromHexError}
 use Rattle.hex.proofs.HexLemmas.{decode_of-encode_lower, decode_of-ok}
 use Rattle.rows.specs.declared.value.Value.{Value}
 use Rattle.rows.specs.declared.value.Value.TheVariants.{Null, Int, Bytes}
 use Rattle.journal_words.specs.Values.{value_text, where_same, below_zero, signed_value, is_small, int_of, bytes_found, bytes_of, other_value, value_of, FitsValue}
-use Rattle.journal_words.proofs.Numerals.{own}
-use Rattle.journal_words.proofs.Counts.{chosen, some_is, lacks, decimal_lacks}
+use Rattle.journal_words.proofs.Counts.{lacks, decimal_lacks}
+use Rattle.std.proofs.lemmas.Option.{same_Some}
+use Rattle.gtid_text.proofs.Tokens.{own}
+use Rattle.gtid_text.proofs.Turns.{chosen}
+use Rattle.rows.proofs.Lists.{map_some}
 
 -- ---- the text of what is found is the word
 
-same_bytes : (w : List ℕ) → bytes_eq w w ≡ true
+pub same_bytes : (w : List ℕ) → bytes_eq w w ≡ true
 same_bytes w = (bytes_eq-Decides w w).1 refl
 
 pub where_same-again : {A : Type 0} (text : A → List ℕ) (x : A) → where_same text (text x) x ≡ Some x
@@ -31,7 +33,7 @@ where_same-again text x = rw (same_bytes (text x)) refl
 pub where_same-found : {A : Type 0} (text : A → List ℕ) (word : List ℕ) (x y : A) → where_same text word x ≡ Some y → (word ≡ text y) × (x ≡ y)
 where_same-found text word x y e =
     elim (chosen (bytes_eq (text x) word) (Some x) None (Some y) e) [
-      | inl p ↦ let same = some_is x y p.1 in (sym ((bytes_eq-Decides (text x) word).0 p.0) ∙ ap text same, same)
+      | inl p ↦ let same = same_Some x y p.1 in (sym ((bytes_eq-Decides (text x) word).0 p.0) ∙ ap text same, same)
       | inr p ↦ absurd cc
     ]
 
@@ -50,7 +52,7 @@ no_sign b digit =
 
 digits_signed : (w : List ℕ) → list_all is_ascii_digit w ≡ true → 0 < length w → signed_value w ≡ pos (digits_value 10 w)
 digits_signed [] all some = absurd (omega arith)
-digits_signed (b ∷ bs) all some = rw (no_sign b (both (is_ascii_digit b) (list_all is_ascii_digit bs) all).0) refl
+digits_signed (b ∷ bs) all some = rw (no_sign b (and_parts (is_ascii_digit b) (list_all is_ascii_digit bs) all).0) refl
 
 value_again : (z : ℤ) → FitsSigned w64 z → (signed_value (signed_decimal z) ≡ z) × (is_small z ≡ true)
 value_again (pos n) fits =
@@ -100,7 +102,7 @@ no_digit b c out digit = ne_eqb b c (λ e. let k = ap is_ascii_digit e in cc)
 number_word : (w : List ℕ) → list_all is_ascii_digit w ≡ true → 0 < length w → value_of w ≡ option_map Int (int_of w)
 number_word [] all some = absurd (omega arith)
 number_word (b ∷ bs) all some =
-    let digit = (both (is_ascii_digit b) (list_all is_ascii_digit bs) all).0 in
+    let digit = (and_parts (is_ascii_digit b) (list_all is_ascii_digit bs) all).0 in
     rw (no_digit b 110 refl digit, no_digit b 120 refl digit) refl
 
 int_word : (z : ℤ) → FitsSigned w64 z → value_of (signed_decimal z) ≡ option_map Int (int_of (signed_decimal z))
@@ -114,17 +116,13 @@ value_of-text Null fits = refl
 value_of-text (Int z) fits = int_word z fits ∙ ap (option_map Int) (int_again z fits)
 value_of-text (Bytes bs) fits = ap (option_map Bytes) (bytes_again bs fits)
 
-mapped : {A B : Type 0} (f : A → B) (o : Option A) (y : B) → option_map f o ≡ Some y → (x : A) × (o ≡ Some x) × (f x ≡ y)
-mapped f (Some x) y e = (x, refl, some_is (f x) y e)
-mapped f None y e = absurd cc
-
 Found : List ℕ → Value → Type 0
 Found w v = (w ≡ value_text v) × FitsValue v
 
 int_value : (w : List ℕ) (v : Value) → option_map Int (int_of w) ≡ Some v → Found w v
 unfolding Found
 int_value w v e =
-    let m = mapped Int (int_of w) v e in
+    let m = map_some Int (int_of w) v e in
     let f = int_found w m.0 m.1 in
     subst (λ (x : Value). (w ≡ value_text x) × FitsValue x) m.2 f
 
@@ -134,7 +132,7 @@ other_found [] v e = int_value [] v e
 other_found (b ∷ bs) v e =
     elim (chosen (eqb b 120) (option_map Bytes (bytes_of bs)) (option_map Int (int_of (b ∷ bs))) (Some v) e) [
       | inl p ↦
-          let m = mapped Bytes (bytes_of bs) v p.1 in
+          let m = map_some Bytes (bytes_of bs) v p.1 in
           let f = bytes_found-same bs m.0 m.1 in
           subst (λ (x : Value). (b ∷ bs ≡ value_text x) × FitsValue x) m.2 ((λ i. eqb-true b 120 p.0 i ∷ f.0 i), f.1)
       | inr p ↦ int_value (b ∷ bs) v p.1
@@ -144,7 +142,7 @@ pub value_of-found : (w : List ℕ) (v : Value) → value_of w ≡ Some v → (w
 unfolding Found
 value_of-found w v e =
     elim (chosen (bytes_eq w (codes "null")) (Some Null) (other_value w) (Some v) e) [
-      | inl p ↦ subst (λ (x : Value). (w ≡ value_text x) × FitsValue x) (some_is Null v p.1) ((bytes_eq-Decides w (codes "null")).0 p.0, tt)
+      | inl p ↦ subst (λ (x : Value). (w ≡ value_text x) × FitsValue x) (same_Some Null v p.1) ((bytes_eq-Decides w (codes "null")).0 p.0, tt)
       | inr p ↦ other_found w v p.1
     ]
 
@@ -152,8 +150,8 @@ value_of-found w v e =
 
 at_lacks : (c : ℕ) (xs : List ℕ) (k : ℕ) → lacks c xs ≡ true → eqb 0 c ≡ false → not (eqb (get_or xs k 0) c) ≡ true
 at_lacks c [] k all nul = ap not nul
-at_lacks c (x ∷ xs) zero all nul = (both (not (eqb x c)) (lacks c xs) all).0
-at_lacks c (x ∷ xs) (suc k) all nul = at_lacks c xs k (both (not (eqb x c)) (lacks c xs) all).1 nul
+at_lacks c (x ∷ xs) zero all nul = (and_parts (not (eqb x c)) (lacks c xs) all).0
+at_lacks c (x ∷ xs) (suc k) all nul = at_lacks c xs k (and_parts (not (eqb x c)) (lacks c xs) all).1 nul
 
 digits_lack : (c : ℕ) (bs : List ℕ) → lacks c lower_digits ≡ true → eqb 0 c ≡ false → lacks c (encode_lower bs) ≡ true
 unfolding encode_with

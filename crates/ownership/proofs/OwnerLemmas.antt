@@ -31,7 +31,7 @@ owner_next owned gtid seat n m e = ap (λ k. find (owns owned gtid) (range_with_
 
 -- ---- what the owner is
 
-equal_numbers : (a b : ℕ) → (a == b) ≡ true → a ≡ b
+pub equal_numbers : (a b : ℕ) → (a == b) ≡ true → a ≡ b
 equal_numbers a b e = grind (arith, nat_tests)
 
 held : (o : Option Gtid) (g : Gtid) → option_map_or (λ h. same_gtid h g) o false ≡ true → o ≡ Some g
@@ -63,7 +63,7 @@ find_owner owned gtid (suc n) seat other e =
       | inr p ↦ find_owner owned gtid n (seat + 1) other p.1
     ]
 
-not_chosen : (b : Bool) (x : ℕ) (o : Option ℕ) → cond b (Some x) o ≡ None → (b ≡ false) × (o ≡ None)
+pub not_chosen : (b : Bool) (x : ℕ) (o : Option ℕ) → cond b (Some x) o ≡ None → (b ≡ false) × (o ≡ None)
 not_chosen true x o e = cc
 not_chosen false x o e = (refl, e)
 

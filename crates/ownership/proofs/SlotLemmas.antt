@@ -8,10 +8,11 @@ use Rattle.std.specs.FinMap as map
 use Rattle.std.specs.FinMap.{nat_cmp-IsAntisymmetric, find, is_sorted}
 use Rattle.std.specs.FinMap.Entries.{below_all}
 use Rattle.std.specs.declared.cmp.Ordering.TheVariants.{Less}
-use Rattle.std.proofs.lemmas.List.{at_drop_more, at_drop_all}
+use Rattle.std.proofs.lemmas.List.{at_drop_more, at_drop_all, get_or_default}
 use Rattle.gtid_text.specs.declared.Gtid.{Gtid}
 use Rattle.ownership.specs.Slots.{taken_from, of_slots, owned_of}
 use Rattle.ownership.specs.Ownership.{IsSeat, IsOwnedOnce, IsOfSeats}
+use Rattle.std.proofs.lemmas.Option.{none-some}
 
 off : (q n : ℕ) → q < n → (q == n) ≡ false
 off q n h = grind (arith, nat_tests)
@@ -67,7 +68,7 @@ at_set d v (x ∷ xs) (suc i) (suc j) b e h = at_set d v xs i j b (less_one ∙ 
 next_test : (j i : ℕ) → (suc j == (i + 1)) ≡ (j == i)
 next_test j i = grind (arith, nat_tests)
 
-pred-suc : (j : ℕ) → suc j - 1 ≡ j
+pub pred-suc : (j : ℕ) → suc j - 1 ≡ j
 pred-suc j = omega arith
 
 -- a slot that takes a GTID
@@ -112,12 +113,9 @@ beyond [] i h = refl
 beyond (x ∷ slots) zero h = absurd (omega arith)
 beyond (x ∷ slots) (suc i) h = beyond slots i (omega arith)
 
-none_is_not_some : {A : Type 0} (x : A) → None ≡ Some x → ⊥
-none_is_not_some x e = cc
-
 pub of_seats : (slots : List (Option Gtid)) (seat : ℕ) (g : Gtid) → map.get (owned_of slots) seat ≡ Some g → (1 ≤ seat) × (seat ≤ length slots)
-of_seats slots zero g e = absurd (none_is_not_some g (sym (get-zero slots) ∙ e))
-of_seats slots (suc i) g e = (omega arith, elim (le_or (suc i) (length slots)) [ inl h ↦ h | inr h ↦ absurd (none_is_not_some g (sym (get-of_slots slots (suc i) (omega arith) ∙ beyond slots (suc i - 1) (omega arith)) ∙ e)) ])
+of_seats slots zero g e = absurd (none-some g (sym (get-zero slots) ∙ e))
+of_seats slots (suc i) g e = (omega arith, elim (le_or (suc i) (length slots)) [ inl h ↦ h | inr h ↦ absurd (none-some g (sym (get-of_slots slots (suc i) (omega arith) ∙ beyond slots (suc i - 1) (omega arith)) ∙ e)) ])
   where
     le_or : (a b : ℕ) → (a ≤ b) ⊎ (b < a)
     le_or a b = grind arith
@@ -129,7 +127,7 @@ pub vacant_slots : (slots : List (Option Gtid)) → taken_from 1 slots ≡ [] �
 vacant_slots slots e = ap (λ es. map.from_entries {R = nat_cmp} es) e
 
 pub once-empty : IsOwnedOnce map.empty
-once-empty a b g p q = absurd (none_is_not_some g (sym (map.get-empty nat_cmp a) ∙ p))
+once-empty a b g p q = absurd (none-some g (sym (map.get-empty nat_cmp a) ∙ p))
 
 -- the slot of a seat that comes to own a GTID, and of one that gives it up
 pub put_at_seat : (slots : List (Option Gtid)) (seat : ℕ) (gtid : Gtid) → IsSeat seat → length slots ≡ 64 → owned_of (set slots (seat - 1) (Some gtid)) ≡ map.insert (owned_of slots) seat gtid
@@ -164,15 +162,10 @@ entries-owned_of slots =
     map.get-from_entries nat_cmp_total (taken_from 1 slots) q ∙ sym (map.get-from_sorted nat_cmp (taken_from 1 slots) q (rising 1 slots))))
     ∙ map.entries-from_sorted nat_cmp (taken_from 1 slots) (rising 1 slots)
 
-any_default : {X : Type 0} (xs : List X) (i : ℕ) (d e : X) → i < length xs → get_or xs i d ≡ get_or xs i e
-any_default [] i d e h = absurd (omega arith)
-any_default (x ∷ xs) zero d e h = refl
-any_default (x ∷ xs) (suc i) d e h = any_default xs i d e (omega arith)
-
 -- what a seat's slot has is what the seat owns
 pub slot_is : (slots : List (Option Gtid)) (seat : ℕ) (held : Option Gtid) → IsSeat seat → length slots ≡ 64 → held ≡ get_or slots (seat - 1) held → held ≡ map.get (owned_of slots) seat
 slot_is slots seat held is full e =
-    e ∙ any_default slots (seat - 1) held None (omega (arith, is.0, is.1)) ∙ sym (get-of_slots slots seat is.0)
+    e ∙ get_or_default slots (seat - 1) held None (omega (arith, is.0, is.1)) ∙ sym (get-of_slots slots seat is.0)
 
 -- one slot more, free or not
 pub taken_free : (front : List (ℕ × Gtid)) (slots : List (Option Gtid)) (i : ℕ) (held : Option Gtid) → i < length slots → held ≡ get_or slots i held → held ≡ None

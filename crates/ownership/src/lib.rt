@@ -134,6 +134,3 @@ impl Owners {
         let _ = &self.slots;
     }
 }
-
-#[cfg(test)]
-mod tests;

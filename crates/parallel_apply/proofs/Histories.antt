@@ -17,6 +17,7 @@ use Rattle.txn_journal.specs.declared.bundle.Channel.{Channel}
 use Rattle.serving.specs.Serving.{is_work, Receives, ServesEach, Works, IsReady, IsRun, IsNamed}
 use Rattle.serving.proofs.Runs.{each_at_work}
 use Rattle.serving.proofs.Shaping.{works_named}
+use Rattle.std.proofs.lemmas.Bool.{and_from}
 
 one_works : (e : Event) → IsApply e → is_work e ≡ true
 one_works (Take seat c p) h = refl
@@ -33,12 +34,9 @@ one_works Look h = absurd h
 abbrev is_work_step : Step → Bool
 is_work_step s = is_work s.event
 
-both_parts : (a b : Bool) → a ≡ true → b ≡ true → (a && b) ≡ true
-both_parts a b p q = (λ i. p i && b) ∙ q
-
 each_works : (steps : List Step) → AllApply steps → list_all is_work_step steps ≡ true
 each_works [] h = refl
-each_works (s ∷ steps) h = both_parts (is_work s.event) (list_all is_work_step steps) (one_works s.event h.0) (each_works steps h.1)
+each_works (s ∷ steps) h = and_from (is_work s.event) (list_all is_work_step steps) (one_works s.event h.0) (each_works steps h.1)
 
 -- the events of steps that are work are work
 events_work : (steps : List Step) → list_all is_work (events_of steps) ≡ list_all is_work_step steps
@@ -54,7 +52,7 @@ history_works now worked left work drains is legal =
     let replay : IsReplay core left.steps now = subst (λ (x : Replica). IsReplay core left.steps x) (sym is) (subst (λ (x : Replica). IsReplay x left.steps left.now) from legal) in
     let all : list_all is_work_step left.steps ≡ true =
     ap (list_all is_work_step) drains.steps ∙ list_all-append is_work_step worked.steps drains.more
-    ∙ both_parts (list_all is_work_step worked.steps) (list_all is_work_step drains.more) (each_works worked.steps work) (each_works drains.more drains.apply)
+    ∙ and_from (list_all is_work_step worked.steps) (list_all is_work_step drains.more) (each_works worked.steps work) (each_works drains.more drains.apply)
     in
     (replay.site, record { events = events_of left.steps; work = events_work left.steps ∙ all; now = replay.state })
 

@@ -1,16 +1,17 @@
 -- The executed set, as entries are put, taken away and purged.
-use Rattle.std.proofs.Common.{◌≡◌, ◌≤◌, ℕ, ◌-◌, true, List, [], ◌∷◌, ◌++◌, take, drop, length, refl, sym, ap, subst, ◌∙◌, zero, suc, arith, length-append, true≢false}
+use Rattle.std.proofs.Common.{◌≡◌, ◌≤◌, ℕ, ◌-◌, true, List, [], ◌∷◌, ◌++◌, take, length, refl, sym, ap, subst, ◌∙◌, suc, arith, length-append, true≢false}
 use Rattle.std.specs.FinSet as set
 use Rattle.gtid_set.specs.Sets.{Gtids, source_count, most_sources}
 use Rattle.gtid_set.proofs.SetLemmas.{union_empty, union_insert}
 use Rattle.journal.specs.declared.Entry.{Entry}
 use Rattle.journal.specs.Journals.{JournalValue, gtids_of, whole}
-use Rattle.journal.proofs.EntryLemmas.{gtids_of-push, union-gtids_of-cons}
+use Rattle.journal.proofs.EntryLemmas.{gtids_of-push}
 use Rattle.relay.specs.declared.Behind.{Behind}
 use Rattle.relay.specs.declared.Behind.TheVariants.{Equal, ByLast, By, Ahead}
 use Rattle.relay.specs.Known.{IsNear, IsNearBy, is_undoable, equal_to, ahead_by, step_back_by, stepped_back, settle_by, lasting}
 use Rattle.relay.specs.declared.Known.{Known}
 use Rattle.relay.specs.Own.{IsOwn, IsBefore, with_last, without_last, purged_to}
+use Rattle.journal.proofs.FaultLemmas.{joined}
 
 -- one entry more
 pub whole-with_last : (e : Entry) (j : JournalValue) → whole (with_last e j) ≡ set.insert (whole j) e.gtid
@@ -27,17 +28,9 @@ take_before (y ∷ ys) x = ap (λ n. take n (y ∷ (ys ++ x ∷ []))) (one_more 
 pub without_last-with_last : (e : Entry) (j : JournalValue) → without_last (with_last e j) ≡ j
 without_last-with_last e j = λ i. let r : JournalValue = record j { entries = take_before j.entries e i } in r
 
-union_purged : (n : ℕ) (seen : Gtids) (es : List Entry) → set.union (set.union seen (gtids_of (take n es))) (gtids_of (drop n es)) ≡ set.union seen (gtids_of es)
-union_purged zero seen es = ap (λ s. set.union s (gtids_of es)) (sym (union_empty seen))
-union_purged (suc n) seen [] = ap (λ s. set.union s (gtids_of [])) (sym (union_empty seen))
-union_purged (suc n) seen (x ∷ es) =
-    ap (λ s. set.union s (gtids_of (drop n es))) (sym (union-gtids_of-cons seen x (take n es)))
-    ∙ union_purged n (set.insert seen x.gtid) es
-    ∙ union-gtids_of-cons seen x es
-
 -- a purge leaves the executed set
 pub whole-purged_to : (n : ℕ) (j : JournalValue) → whole (purged_to n j) ≡ whole j
-whole-purged_to n j = union_purged n j.previous j.entries
+whole-purged_to n j = joined n j.previous j.entries
 
 near_lasting : (b : Behind) (spare executed : Gtids) → IsNearBy b spare executed → IsNear (settle_by b (record { executed = executed; spare = spare; behind = b }))
 near_lasting Equal spare executed near = near

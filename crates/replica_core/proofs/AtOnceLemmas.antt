@@ -1,5 +1,5 @@
 -- What is left of an entry that is received, taken and committed at once.
-use Rattle.std.proofs.Common.{◌≡◌, ℕ, ◌+◌, ◌<◌, Bool, true, false, cond, ◌&&◌, List, [], ◌∷◌, ◌++◌, length, map, refl, sym, ap, ◌∙◌, subst, arith, length-append, get_or-set_same}
+use Rattle.std.proofs.Common.{◌≡◌, ℕ, ◌+◌, ◌<◌, Bool, true, cond, List, [], ◌∷◌, ◌++◌, length, map, refl, sym, ap, ◌∙◌, subst, arith, get_or-set_same}
 use Rattle.std.specs.Prelude.{Option, Some, None, All, Result, Ok, Err, slice_get, slice_set, option_map, is_none, nat_le}
 use Rattle.std.specs.List.{list_all}
 use Rattle.std.specs.Option.{option_map_or}
@@ -12,7 +12,6 @@ use Rattle.std.proofs.lemmas.List.{length-set, map-append, map-set, length-map}
 use Rattle.std.proofs.lemmas.List.Elements.{All-cons, All-nil}
 use Rattle.std.proofs.lemmas.Option.{slice_get_within, slice_get-get_or, get_or_from_slice_get, slice_get-map}
 use Rattle.std.proofs.Math.ListN.{get_or-append}
-use Rattle.std.proofs.Math.Seq.{get_or-append_seam}
 use Rattle.gtid_text.specs.declared.Gtid.{Gtid}
 use Rattle.gtid_text.specs.Gtids.{same_gtid}
 use Rattle.gtid_text.proofs.SameGtid.{same_itself}
@@ -39,14 +38,13 @@ use Rattle.replica_core.specs.AtOnce.{received_and_taken, received_and_committed
 use Rattle.replica_core.proofs.KeptLemmas.{found, gone_by}
 use Rattle.replica_core.proofs.ReceiveLemmas.{received_is, was_asked}
 use Rattle.replica_core.proofs.TakeLemmas.{commit_is}
-use Rattle.replica_core.proofs.MoveLemmas.{IsFront, took, none_before, any_way, put_there, at_rest, settle_gtid, is_in}
+use Rattle.replica_core.proofs.MoveLemmas.{IsFront, took, none_before, any_way, put_there, at_rest, settle_gtid}
+use Rattle.gtid_set.proofs.SetLemmas.{has_itself}
+use Rattle.gtid_set.proofs.SetSources.{first_of_and}
+use Rattle.rows.proofs.Patching.{and_second}
+use Rattle.rows.proofs.Lists.{get_push}
 
 -- ---- lists
-
-at_end : {X : Type 0} (xs : List X) (x : X) → slice_get (xs ++ x ∷ []) (length xs) ≡ Some x
-at_end xs x =
-    let within : length xs < length (xs ++ x ∷ []) = omega (arith, length-append xs (x ∷ [])) in
-    slice_get-get_or (xs ++ x ∷ []) (length xs) x within ∙ ap (λ y. Some y) (get_or-append_seam xs x [] x)
 
 in_front : {X : Type 0} (xs ys : List X) (i : ℕ) (x : X) → i < length xs → slice_get (xs ++ ys) i ≡ Some x → slice_get xs i ≡ Some x
 in_front xs ys i x within at =
@@ -58,17 +56,9 @@ set_at xs i y x at =
     let longer : i < length (slice_set xs i y) = omega (arith, length-set xs i y, within) in
     slice_get-get_or (slice_set xs i y) i y longer ∙ ap (λ z. Some z) (get_or-set_same xs i y y within)
 
-first : (a b : Bool) → (a && b) ≡ true → a ≡ true
-first true b h = refl
-first false b h = absurd (cc h)
-
-second : (a b : Bool) → (a && b) ≡ true → b ≡ true
-second true b h = h
-second false b h = absurd (cc h)
-
 all_pass : {X : Type 0} (p : X → Bool) (xs : List X) → list_all p xs ≡ true → All (λ x. p x ≡ true) xs
 all_pass p [] h = All-nil (λ x. p x ≡ true)
-all_pass p (x ∷ xs) h = All-cons (λ y. p y ≡ true) x xs (first (p x) (list_all p xs) h) (all_pass p xs (second (p x) (list_all p xs) h))
+all_pass p (x ∷ xs) h = All-cons (λ y. p y ≡ true) x xs (first_of_and (p x) (list_all p xs) h) (all_pass p xs (and_second (p x) (list_all p xs) h))
 
 -- ---- no seat has a place
 
@@ -130,7 +120,7 @@ module _ (r : Replica) (seat c p : ℕ) (e : Entry) (may : IsReadyAtOnce r seat 
       ∙ set_at r.state.channels c grown may.channel may.at
 
   at_place : slice_get grown.received p ≡ Some (entry_of e)
-  at_place = ap (slice_get (may.channel.received ++ entry_of e ∷ [])) may.next.last ∙ at_end may.channel.received (entry_of e)
+  at_place = ap (slice_get (may.channel.received ++ entry_of e ∷ [])) may.next.last ∙ get_push may.channel.received (entry_of e)
 
   is_front : IsFront got grown p
   is_front q x less at =
@@ -189,7 +179,7 @@ module _ (r : Replica) (seat c p : ℕ) (e : Entry) (may : IsReadyAtOnce r seat 
     is_received_done =
         let asked = was_asked may.channel may.next.asked in
         received_is r.site ahead c e (settled e.gtid may.channel) asked.0 (length (map (settle e.gtid) may.channel.received)) (changed_at c (with_received (done_of e)) ahead.channels)
-        at_settled asked.1 may.fits (ap (nat_le most_received) same_len ∙ may.next.room) refl (ap (λ b. changed_at c (with_received (received_as b e)) ahead.channels) (sym (is_in r.state.executed e.gtid)))
+        at_settled asked.1 may.fits (ap (nat_le most_received) same_len ∙ may.next.room) refl (ap (λ b. changed_at c (with_received (received_as b e)) ahead.channels) (sym (has_itself r.state.executed e.gtid)))
 
     same_channels : map (settled e.gtid) got.channels ≡ changed_at c (with_received (done_of e)) ahead.channels
     same_channels =

@@ -4,7 +4,7 @@ use Rattle.std.specs.Prelude.{Option, Some, None, slice_get, option_map, option_
 use Rattle.std.specs.List.{filter_map, cons_option, list_any, range_with_len}
 use Rattle.std.specs.Cmp.{nat_cmp_total, unsigned_tied}
 use Rattle.std.specs.FinMap as finmap
-use Rattle.std.proofs.lemmas.Bool.{cases_eq, cond_both}
+use Rattle.std.proofs.lemmas.Bool.{cases_eq, cond_both, or_parts}
 use Rattle.std.proofs.lemmas.Bool.Decides.{nat_tests}
 use Rattle.gtid_text.specs.declared.Gtid.{Gtid}
 use Rattle.rows.specs.declared.change.Transaction.{Transaction}
@@ -15,7 +15,9 @@ use Rattle.replica_core.specs.State.{State, Seats, entry_at, owned_by, owned, wi
 use Rattle.replica_core.specs.Machine.{Step, is_seat, Held, held, held_at, held_of, rollback}
 use Rattle.replica_core.specs.Seated.{AreSeated}
 use Rattle.replica_core.specs.Draining.{NothingIsOwned}
-use Rattle.replica_core.proofs.LookLemmas.{on_option, none_by, equal_numbers, same_number}
+use Rattle.replica_core.proofs.LookLemmas.{none_by, same_number}
+use Rattle.rows.proofs.Lists.{on_option}
+use Rattle.ownership.proofs.OwnerLemmas.{equal_numbers}
 
 -- ---- what a busy seat holds
 
@@ -43,7 +45,7 @@ held_busy s seat spot seated at =
 idle : (s : State) (seat : ℕ) → AreSeated s.channels s.seats → held s seat ≡ None → finmap.get s.seats seat ≡ None
 idle s seat seated none = none_by (finmap.get s.seats seat) (λ spot at. let w = held_busy s seat spot seated at in let no : ◌≡◌ {A = Option Held} None (Some w.0) = sym none ∙ w.1 in cc no)
 
-entry_with : (o : Option Received) → is_some (option_and_then (λ (e : Received). e.txn) o) ≡ true → (e : Received) × (o ≡ Some e)
+pub entry_with : (o : Option Received) → is_some (option_and_then (λ (e : Received). e.txn) o) ≡ true → (e : Received) × (o ≡ Some e)
 entry_with None h = absurd (cc h)
 entry_with (Some e) h = (e, refl)
 
@@ -56,18 +58,14 @@ unowned s seat seated none = none_by (finmap.get s.seats seat) (λ spot at.
 
 -- ---- what the list of the owned tells
 
-either_false : (a b : Bool) → (a || b) ≡ false → (a ≡ false) × (b ≡ false)
-either_false true b h = absurd (cc h)
-either_false false b h = (refl, h)
-
 not_owned_by : (s : State) (seat x : ℕ) (xs : List ℕ) (o : Option Gtid) → owned_by s x ≡ o → (b : Bool) → (x == seat) ≡ b
     → (list_any (λ (p : ℕ × Gtid). p.0 == seat) (filter_map (with_gtid s) xs) ≡ false → list_any (λ n. n == seat) xs ≡ true → owned_by s seat ≡ None)
     → list_any (λ (p : ℕ × Gtid). p.0 == seat) (cons_option (option_map (λ (g : Gtid). let p : ℕ × Gtid = (x, g) in p) o) (filter_map (with_gtid s) xs)) ≡ false
     → (b || list_any (λ n. n == seat) xs) ≡ true → owned_by s seat ≡ None
 not_owned_by s seat x xs None none true is rest list any = ap (owned_by s) (sym (equal_numbers x seat is)) ∙ none
 not_owned_by s seat x xs None none false is rest list any = rest list any
-not_owned_by s seat x xs (Some g) at true is rest list any = absurd (true≢false (sym is ∙ (either_false (x == seat) _ list).0))
-not_owned_by s seat x xs (Some g) at false is rest list any = rest (either_false (x == seat) _ list).1 any
+not_owned_by s seat x xs (Some g) at true is rest list any = absurd (true≢false (sym is ∙ (or_parts (x == seat) _ list).0))
+not_owned_by s seat x xs (Some g) at false is rest list any = rest (or_parts (x == seat) _ list).1 any
 
 not_owned : (s : State) (seat : ℕ) (xs : List ℕ) → list_any (λ (p : ℕ × Gtid). p.0 == seat) (filter_map (with_gtid s) xs) ≡ false → list_any (λ n. n == seat) xs ≡ true → owned_by s seat ≡ None
 not_owned s seat [] list any = absurd (cc any)

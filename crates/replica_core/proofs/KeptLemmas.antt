@@ -1,5 +1,5 @@
 -- A received entry has its transaction exactly where its GTID is not executed: so a channel knows by itself what is in the way.
-use Rattle.std.proofs.Common.{◌≡◌, ℕ, ◌+◌, ◌<◌, suc, Bool, true, false, cond, not, ◌&&◌, List, [], ◌∷◌, refl, sym, ap, subst, ◌∙◌, arith, length, take, inl, inr, map, ◌||◌}
+use Rattle.std.proofs.Common.{◌≡◌, ℕ, ◌+◌, suc, Bool, true, false, cond, not, ◌&&◌, List, [], ◌∷◌, refl, sym, ap, subst, ◌∙◌, arith, length, take, inl, inr, map, ◌||◌}
 use Rattle.std.specs.Prelude.{Option, Some, None, All, position, slice_get, option_and_then, is_some, is_none, nat_lt, slice_set}
 use Rattle.std.specs.List.{prefix_len, list_all}
 use Rattle.std.specs.Option.{option_map_or}
@@ -14,11 +14,12 @@ use Rattle.journal.specs.Writing.{is_number}
 use Rattle.gtid_text.specs.declared.Gtid.{Gtid}
 use Rattle.gtid_text.specs.Gtids.{same_gtid}
 use Rattle.gtid_set.specs.Sets.{Gtids}
-use Rattle.gtid_set.proofs.SetLemmas.{gtid_total, gtid_tied}
+use Rattle.gtid_set.proofs.SetLemmas.{gtid_tied}
 use Rattle.apply_channel.specs.Channels.{ChannelValue, Received, blocker, first_waiting, are_settled, holds_back, settle, settled, with_stopped, with_asked, with_received, received_as}
 use Rattle.replica_core.specs.State.{State}
 use Rattle.replica_core.specs.Machine.{is_in_the_way, is_open, blocking, open_before, changed_at}
 use Rattle.replica_core.specs.Kept.{FitsIf, IsKept, AreKept}
+use Rattle.gtid_text.proofs.SameGtid.{gtid_total}
 
 prefix_alike : {X : Type 0} (p q : X → Bool) (xs : List X) → All (λ x. p x ≡ q x) xs → prefix_len (λ x. not (p x)) xs ≡ prefix_len (λ x. not (q x)) xs
 prefix_alike p q [] all = refl
@@ -53,13 +54,6 @@ pub found : {X : Type 0} (P : X → Type 0) (xs : List X) (i : ℕ) (x : X) → 
 found P xs i x all at =
     elim ((slice_get_cases xs i).1) [
       | inl h ↦ subst P (get_or_from_slice_get xs i x x at) (all i x h.1)
-      | inr h ↦ absurd (cc (sym at ∙ h.1))
-    ]
-
-pub there : {X : Type 0} (xs : List X) (i : ℕ) (x : X) → slice_get xs i ≡ Some x → i < length xs
-there xs i x at =
-    elim ((slice_get_cases xs i).1) [
-      | inl h ↦ h.1
       | inr h ↦ absurd (cc (sym at ∙ h.1))
     ]
 

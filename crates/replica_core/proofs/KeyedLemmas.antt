@@ -1,6 +1,6 @@
 -- Channels with their schema, and the channels alone.
 use Rattle.std.proofs.Common.{◌≡◌, ℕ, zero, suc, Bool, false, ◌||◌, List, [], ◌∷◌, ◌++◌, map, length, refl, sym, ap, ◌∙◌}
-use Rattle.std.specs.Prelude.{Option, Some, None, Result, Ok, Err, OnOk, slice_get, slice_set, option_map}
+use Rattle.std.specs.Prelude.{Option, Some, None, slice_get, slice_set, option_map}
 use Rattle.std.specs.List.{list_any}
 use Rattle.std.specs.Option.{option_map_or}
 use Rattle.std.proofs.lemmas.List.Elements.{All-map, All-append, All-cons, All-nil}
@@ -78,8 +78,3 @@ full_as c ks = full_by (slice_get ks c) ∙ ap (λ o. option_map_or (λ (x : Cha
 
 pub len_as : (c : ℕ) (ks : List Keyed) → keyed_len_at c ks ≡ len_at c (map channel_of ks)
 len_as c ks = len_by (slice_get ks c) ∙ ap (λ o. option_map_or (λ (x : ChannelValue). length x.received) o 0) (sym (slice_get-map channel_of ks c))
-
--- what follows where a call succeeded
-pub on_ok : {X E A B : Type 0} (r : Result X E) → (A → B) → OnOk r A → OnOk r B
-on_ok (Ok x) f a = f a
-on_ok (Err e) f a = tt

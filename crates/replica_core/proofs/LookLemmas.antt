@@ -1,40 +1,24 @@
 -- Look-ups in lists and options.
-use Rattle.std.proofs.Common.{◌≡◌, ◌≢◌, ◌⊎◌, inl, inr, ℕ, suc, ◌+◌, ◌<◌, ◌≤◌, Bool, true, false, not, cond, nat_lt, List, [], ◌∷◌, length, get_or, map, take, refl, sym, ap, ◌∙◌, subst, arith, get_or-set_same, get_or-set_other}
-use Rattle.std.specs.Prelude.{Option, Some, None, All, position, find, slice_get, slice_set, option_map, ◌==◌}
+use Rattle.std.proofs.Common.{◌≡◌, ◌≢◌, ◌⊎◌, inl, inr, ℕ, suc, ◌+◌, ◌<◌, ◌≤◌, Bool, true, false, not, cond, nat_lt, List, [], ◌∷◌, length, get_or, take, refl, sym, ap, ◌∙◌, subst, arith, get_or-set_same, get_or-set_other}
+use Rattle.std.specs.Prelude.{Option, Some, None, All, position, find, slice_get, slice_set, ◌==◌}
 use Rattle.std.specs.List.{prefix_len}
-use Rattle.std.specs.Option.{option_map_or}
 use Rattle.std.proofs.lemmas.Bool.Decides.{nat_tests}
 use Rattle.std.proofs.lemmas.List.{length-set, get_or-take, length-take}
-use Rattle.std.proofs.lemmas.Option.{slice_get_within, slice_get-get_or, get_or_from_slice_get, slice_get_cases, slice_get-map}
+use Rattle.std.proofs.lemmas.Option.{slice_get_within, slice_get-get_or, get_or_from_slice_get, slice_get_cases}
+use Rattle.rows.proofs.Lists.{not_less}
+use Rattle.ownership.proofs.OwnerLemmas.{equal_numbers}
 
 pub one_value : {A : Type 0} (x y : A) → ◌≡◌ {A = Option A} (Some x) (Some y) → x ≡ y
 one_value x y e = cc
-
-pub mapped : {A B : Type 0} (f : A → B) (o : Option A) (y : B) → option_map f o ≡ Some y → (x : A) × (o ≡ Some x) × (f x ≡ y)
-mapped f None y h = absurd (cc h)
-mapped f (Some x) y h = (x, refl, one_value (f x) y h)
-
-pub on_option : {A B : Type 0} (P : B → Type 0) (f : A → B) (o : Option A) (d : B) → (o ≡ None → P d) → ((a : A) → o ≡ Some a → P (f a)) → P (option_map_or f o d)
-on_option P f None d p q = p refl
-on_option P f (Some a) d p q = q a refl
 
 pub none_by : {A : Type 0} (o : Option A) → ((x : A) → o ≡ Some x → ⊥) → o ≡ None
 none_by None h = refl
 none_by (Some x) h = absurd (h x refl)
 
-pub equal_numbers : (a b : ℕ) → (a == b) ≡ true → a ≡ b
-equal_numbers a b e = grind (arith, nat_tests)
-
 pub same_number : (a : ℕ) → (a == a) ≡ true
 same_number a = grind (arith, nat_tests)
 
-pub not_itself : (n : ℕ) → nat_lt n n ≡ false
-not_itself n = grind (arith, nat_tests)
-
 -- ---- lists
-
-pub found_in_map : {A B : Type 0} (f : A → B) (xs : List A) (i : ℕ) (y : B) → slice_get (map f xs) i ≡ Some y → (x : A) × (slice_get xs i ≡ Some x) × (f x ≡ y)
-found_in_map f xs i y h = mapped f (slice_get xs i) y (sym (slice_get-map f xs i) ∙ h)
 
 set_by : {X : Type 0} (xs : List X) (i j : ℕ) (y x : X) (b : Bool) → (j == i) ≡ b → slice_get (slice_set xs i y) j ≡ Some x → ((j ≡ i) × (x ≡ y)) ⊎ (slice_get xs j ≡ Some x)
 set_by xs i j y x true is at =
@@ -76,7 +60,7 @@ prefix_whole p (x ∷ xs) all =
 pub position_none : {X : Type 0} (p : X → Bool) (xs : List X) → All (λ x. p x ≡ false) xs → position p xs ≡ None
 position_none p xs all =
     ap (λ n. cond (nat_lt n (length xs)) (Some n) None) (prefix_whole p xs all)
-    ∙ ap (λ b. cond b (Some (length xs)) None) (not_itself (length xs))
+    ∙ ap (λ b. cond b (Some (length xs)) None) (not_less (length xs))
 
 pub find_none : {X : Type 0} (p : X → Bool) (xs : List X) → ((x : X) → p x ≡ false) → find p xs ≡ None
 find_none p [] all = refl

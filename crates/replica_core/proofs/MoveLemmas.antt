@@ -7,9 +7,9 @@ use Rattle.std.specs.FinSet as set
 use Rattle.std.specs.FinMap as finmap
 use Rattle.gtid_text.specs.declared.Gtid.{Gtid}
 use Rattle.gtid_text.specs.Gtids.{same_gtid}
-use Rattle.gtid_text.proofs.SameGtid.{same_itself}
+use Rattle.gtid_text.proofs.SameGtid.{gtid_total}
 use Rattle.gtid_set.specs.Sets.{Gtids}
-use Rattle.gtid_set.proofs.SetLemmas.{gtid_total, gtid_tied}
+use Rattle.gtid_set.proofs.SetLemmas.{gtid_tied, has_itself}
 use Rattle.rows.specs.declared.schema.Table.{Table}
 use Rattle.rows.specs.declared.change.RowFault.{RowFault}
 use Rattle.rows.specs.declared.change.Transaction.{Transaction}
@@ -26,8 +26,10 @@ use Rattle.replica_core.specs.Machine.{Step, is_seat, is_open, is_in_the_way, bl
 use Rattle.replica_core.proofs.KeptLemmas.{found}
 use Rattle.replica_core.proofs.TakeLemmas.{commit_is}
 use Rattle.replica_core.specs.Draining.{NothingIsOwned, IsDoneBelow, IsWaiting, IsSettledAt, Follows, SameGtids, SameChannels}
-use Rattle.replica_core.proofs.LookLemmas.{one_value, equal_numbers, same_number, found_in_map, found_in_set, set_here, position_none, find_none, all_before}
+use Rattle.replica_core.proofs.LookLemmas.{one_value, same_number, found_in_set, set_here, position_none, find_none, all_before}
 use Rattle.replica_core.proofs.FreeLemmas.{cleared, cleared_itself}
+use Rattle.rows.proofs.Lists.{get_map_cases}
+use Rattle.ownership.proofs.OwnerLemmas.{equal_numbers}
 
 -- all earlier places of a channel are executed
 abbrev pub IsFront : State → ChannelValue → ℕ → Type 0
@@ -115,12 +117,12 @@ settle_gtid g e b is = ap (λ x. (cond x (record e { txn = None }) e).gtid) is �
 
 gtids_settled : (g : Gtid) (rs : List Received) → SameGtids rs (map (settle g) rs)
 gtids_settled g rs p e at =
-    let w = found_in_map (settle g) rs p e at in
+    let w = get_map_cases (settle g) rs p e at in
     (w.0, w.1, ap (λ (x : Received). x.gtid) (sym w.2) ∙ settle_gtid g w.0 (same_gtid w.0.gtid g) refl)
 
 channels_settled : (g : Gtid) (channels : List ChannelValue) → SameChannels channels (map (settled g) channels)
 channels_settled g channels c after at =
-    let w = found_in_map (settled g) channels c after at in (
+    let w = get_map_cases (settled g) channels c after at in (
       w.0,
       w.1,
       (λ h. ap (λ (x : ChannelValue). x.stopped) (sym w.2) ∙ h),
@@ -170,9 +172,6 @@ stays_in s g h at = with_one s g h (same_gtid h g) true refl at ∙ last (same_g
     last true = refl
     last false = refl
 
-pub is_in : (s : Gtids) (g : Gtid) → set.contains (set.insert s g) g ≡ true
-is_in s g = with_one s g g true (set.contains s g) (same_itself g) refl
-
 -- the GTID that stands at a place afterwards is the one that stood there
 gtid_there : (s : State) (c p : ℕ) (w : IsWaiting p c s) (channels : List ChannelValue) (after : ChannelValue) (e : Received) → SameChannels s.channels channels → slice_get channels c ≡ Some after → slice_get after.received p ≡ Some e → e.gtid ≡ w.entry.gtid
 gtid_there s c p w channels after e same at there =
@@ -187,7 +186,7 @@ after_ok s c p w t rows none = record {
   rests = at_rest s 1 (record { channel = c; place = p }) none;
   follows = record { executed = λ h at. stays_in s.executed w.entry.gtid h at; channels = channels_settled w.entry.gtid s.channels };
   done = λ after at. inr (λ e there.
-      ap (set.contains (set.insert s.executed w.entry.gtid)) (gtid_there s c p w (map (settled w.entry.gtid) s.channels) after e (channels_settled w.entry.gtid s.channels) at there) ∙ is_in s.executed w.entry.gtid);
+      ap (set.contains (set.insert s.executed w.entry.gtid)) (gtid_there s c p w (map (settled w.entry.gtid) s.channels) after e (channels_settled w.entry.gtid s.channels) at there) ∙ has_itself s.executed w.entry.gtid);
 }
 
 is_stopped : (c : ℕ) (channels : List ChannelValue) (x after : ChannelValue) → slice_get channels c ≡ Some x → slice_get (stopped_at true c channels) c ≡ Some after → after.stopped ≡ true

@@ -1,5 +1,5 @@
 -- The owner, seat by seat.
-use Rattle.std.proofs.Common.{◌≡◌, ℕ, ◌+◌, ◌≤◌, ◌<◌, ◌⊎◌, inl, inr, zero, suc, Bool, true, false, cond, refl, sym, ap, ◌∙◌, arith, true≢false}
+use Rattle.std.proofs.Common.{◌≡◌, ℕ, ◌+◌, ◌≤◌, ◌<◌, ◌⊎◌, inl, inr, zero, suc, true, false, cond, refl, sym, ap, ◌∙◌, arith, true≢false}
 use Rattle.std.specs.Prelude.{Option, Some, None, find, option_map, option_and_then}
 use Rattle.std.specs.Option.{option_map_or}
 use Rattle.std.specs.List.{range_with_len}
@@ -12,6 +12,7 @@ use Rattle.replica_core.specs.declared.event.Spot.{Spot}
 use Rattle.replica_core.specs.State.{State, entry_at, owns, owner, seat_numbers}
 use Rattle.replica_core.specs.Machine.{is_seat}
 use Rattle.replica_core.specs.Seated.{HasEntry, AreSeated, IsUnowned}
+use Rattle.ownership.proofs.OwnerLemmas.{not_chosen}
 
 unfoldable pub owner_from : State → Gtid → ℕ → ℕ → Option ℕ
 owner_from s gtid seat n = find (λ seat. owns s gtid seat) (range_with_len seat n)
@@ -30,10 +31,6 @@ unfolding owner_from
 owner_next s gtid seat n m e = ap (λ k. find (λ seat. owns s gtid seat) (range_with_len seat k)) (sym e)
 
 -- ---- nobody owns a GTID
-
-not_chosen : (b : Bool) (x : ℕ) (o : Option ℕ) → cond b (Some x) o ≡ None → (b ≡ false) × (o ≡ None)
-not_chosen true x o e = absurd (cc e)
-not_chosen false x o e = (refl, e)
 
 here_or_later : (a b : ℕ) → a ≤ b → (a ≡ b) ⊎ (a + 1 ≤ b)
 here_or_later a b h = grind arith

@@ -21,19 +21,17 @@ use Rattle.replica_core.specs.Core.{IsCore}
 use Rattle.replica_core.proofs.OwnerLemmas.{unowned_is}
 use Rattle.replica_core.proofs.KeptLemmas.{kept_entry, kept_received}
 use Rattle.replica_core.proofs.SeatLemmas.{seated_changed, keeps_front}
+use Rattle.std.proofs.lemmas.Bool.{false_from_ne_true}
+use Rattle.rows.proofs.Lists.{none_if}
 
 -- ---- Receive
 
 pub received_is : (site : Site) (s : State) (c : ℕ) (e : Entry) (channel : ChannelValue) (asked : Gtids) (place : ℕ) (list : List ChannelValue) → slice_get s.channels c ≡ Some channel → channel.asked ≡ Some asked → misfit site.schema e.txn ≡ None → is_full channel ≡ false → place ≡ length channel.received → list ≡ changed_at c (with_received (received_as (set.contains s.executed e.gtid) e)) s.channels → ◌≡◌ {A = Step} (reply.Received place, record s { channels = list }) (receive site c e s)
 received_is site s c e channel asked place list at is_asked fits full is_place is_list = simp (at, is_asked, fits, full, is_place, is_list) refl
 
-not_true : (b : Bool) → (b ≡ true → ⊥) → b ≡ false
-not_true true h = absurd (h refl)
-not_true false h = refl
-
 -- a channel that took an entry was not full
 pub was_not_full : (c : ℕ) (channels : List ChannelValue) (channel : ChannelValue) → slice_get channels c ≡ Some channel → (full_at c channels ≡ true → ⊥) → is_full channel ≡ false
-was_not_full c channels channel at h = not_true (is_full channel) (λ full. h (ap (λ o. option_map_or (λ (x : ChannelValue). is_full x) o false) at ∙ full))
+was_not_full c channels channel at h = false_from_ne_true (is_full channel) (λ full. h (ap (λ o. option_map_or (λ (x : ChannelValue). is_full x) o false) at ∙ full))
 
 pub len_is : (c : ℕ) (channels : List ChannelValue) (channel : ChannelValue) → slice_get channels c ≡ Some channel → len_at c channels ≡ length channel.received
 len_is c channels channel at = ap (λ o. option_map_or (λ (x : ChannelValue). length x.received) o 0) at
@@ -54,7 +52,7 @@ core_received schema channels new_channels executed seats c e core fits number m
 
 -- ---- Local
 
-found_by : (test : ℕ → Bool) (a n : ℕ) (b : Bool) (rest : Option ℕ) → test a ≡ b → (rest ≡ Some n → test n ≡ true) → cond b (Some a) rest ≡ Some n → test n ≡ true
+pub found_by : (test : ℕ → Bool) (a n : ℕ) (b : Bool) (rest : Option ℕ) → test a ≡ b → (rest ≡ Some n → test n ≡ true) → cond b (Some a) rest ≡ Some n → test n ≡ true
 found_by test a n true rest is h at = let same : a ≡ n = cc at in ap test (sym same) ∙ is
 found_by test a n false rest is h at = h at
 
@@ -93,15 +91,11 @@ none_by : (a b : Bool) → (not a && b) ≡ true → b ≡ true
 none_by true b h = absurd (cc h)
 none_by false b h = h
 
-is_none_of : (o : Option ℕ) → is_none o ≡ true → o ≡ None
-is_none_of None h = refl
-is_none_of (Some n) h = absurd (cc h)
-
 -- and no seat has a place of it
 pub next_is_unowned : (site : Site) (s : State) (n own : ℕ) → own ≡ site.own → next_number site s ≡ Some n → AreSeated s.channels s.seats → IsUnowned s.channels s.seats (gtid own n)
 next_is_unowned site s n own same at seated =
     subst (λ (o : ℕ). IsUnowned s.channels s.seats (gtid o n)) (sym same)
-    (unowned_is s (gtid site.own n) (is_none_of _ (none_by (set.contains s.executed (gtid site.own n)) _ (least_passes (is_free site s) n at))) seated)
+    (unowned_is s (gtid site.own n) (none_if _ (none_by (set.contains s.executed (gtid site.own n)) _ (least_passes (is_free site s) n at))) seated)
 
 -- a reference that is there points to something
 pub there_is : {X : Type 0} (o : Option (Bor X)) (b : Bool) → is_some o ≡ not b → b ≡ false → is_none (option_copied o) ≡ false

@@ -13,7 +13,7 @@ use Rattle.replica_core.specs.Slots.{seats_of}
 use Rattle.replica_core.specs.State.{Replica}
 use Rattle.replica_core.specs.Kept.{ChannelsValue, AreOf}
 use Rattle.replica_core.proofs.KeyedLemmas.{channel_of, IsOf}
-use Rattle.ownership.proofs.SlotLemmas.{get-of_slots}
+use Rattle.ownership.proofs.SlotLemmas.{get-of_slots, pred-suc}
 
 same_slots : (xs ys : List (Option Spot)) → length xs ≡ length ys → ((i : ℕ) → get_or xs i None ≡ get_or ys i None) → xs ≡ ys
 same_slots [] [] long at = refl
@@ -21,20 +21,17 @@ same_slots [] (y ∷ ys) long at = absurd (omega (long, arith))
 same_slots (x ∷ xs) [] long at = absurd (omega (long, arith))
 same_slots (x ∷ xs) (y ∷ ys) long at = λ i. at 0 i ∷ same_slots xs ys (omega (long, arith)) (λ n. at (suc n)) i
 
-one_less : (i : ℕ) → suc i - 1 ≡ i
-one_less i = omega arith
-
 -- as many slots that stand for one map are the same
 pub seats_same : (xs ys : List (Option Spot)) → length xs ≡ length ys → seats_of xs ≡ seats_of ys → xs ≡ ys
 seats_same xs ys long same = same_slots xs ys long at
   where
     at : (i : ℕ) → get_or xs i None ≡ get_or ys i None
     at i =
-        ap (λ m. get_or xs m None) (sym (one_less i))
+        ap (λ m. get_or xs m None) (sym (pred-suc i))
         ∙ sym (get-of_slots xs (suc i) (omega arith))
         ∙ ap (λ seats. finmap.get seats (suc i)) same
         ∙ get-of_slots ys (suc i) (omega arith)
-        ∙ ap (λ m. get_or ys m None) (one_less i)
+        ∙ ap (λ m. get_or ys m None) (pred-suc i)
 
 same_by : (schema : List Table) (xs ys : List Keyed) → AllByRecursion (IsOf schema) xs → AllByRecursion (IsOf schema) ys → map channel_of xs ≡ map channel_of ys → xs ≡ ys
 same_by schema [] [] p q same = refl

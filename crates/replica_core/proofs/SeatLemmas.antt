@@ -1,5 +1,5 @@
 -- What the seats keep, after each change.
-use Rattle.std.proofs.Common.{◌≡◌, ◌≢◌, ℕ, ◌<◌, ◌⊎◌, inl, inr, Bool, true, false, cond, List, [], ◌∷◌, ◌++◌, length, map, refl, sym, ap, subst, ◌∙◌, arith, length-append, get_or-set_same, get_or-set_other}
+use Rattle.std.proofs.Common.{◌≡◌, ◌≢◌, ℕ, ◌<◌, ◌⊎◌, inl, inr, Bool, true, false, cond, List, [], ◌∷◌, ◌++◌, length, map, refl, sym, ap, subst, ◌∙◌, arith, get_or-set_same, get_or-set_other}
 use Rattle.std.specs.Prelude.{Option, Some, None, slice_get, slice_set, option_and_then, option_map, is_some, ◌==◌}
 use Rattle.std.specs.Option.{option_map_or}
 use Rattle.std.specs.Ordering.{nat_cmp}
@@ -8,7 +8,6 @@ use Rattle.std.specs.FinMap as finmap
 use Rattle.std.proofs.lemmas.Bool.Decides.{nat_tests}
 use Rattle.std.proofs.lemmas.List.{length-set}
 use Rattle.std.proofs.lemmas.Option.{slice_get_within, slice_get-get_or, get_or_from_slice_get, slice_get-map}
-use Rattle.std.proofs.Math.ListN.{get_or-append}
 use Rattle.gtid_text.specs.declared.Gtid.{Gtid}
 use Rattle.gtid_text.specs.Gtids.{same_gtid}
 use Rattle.gtid_text.proofs.SameGtid.{same_is_equal}
@@ -17,13 +16,12 @@ use Rattle.replica_core.specs.declared.event.Spot.{Spot}
 use Rattle.replica_core.specs.State.{Seats}
 use Rattle.replica_core.specs.Machine.{is_seat, changed_at}
 use Rattle.replica_core.specs.Seated.{entry_of, txn_of, HasEntry, AreSeated, IsUnowned, freed_of}
-use Rattle.replica_core.proofs.LookLemmas.{one_value, equal_numbers}
+use Rattle.replica_core.proofs.LookLemmas.{one_value}
+use Rattle.rows.proofs.Lists.{get_append_left}
+use Rattle.ownership.proofs.OwnerLemmas.{equal_numbers}
+use Rattle.replica_core.proofs.FreeLemmas.{entry_with}
 
 -- ---- other channels, the same seats
-
-with_txn : (o : Option Received) → is_some (option_and_then (λ (e : Received). e.txn) o) ≡ true → (e : Received) × (o ≡ Some e)
-with_txn None h = absurd (cc h)
-with_txn (Some e) h = (e, refl)
 
 -- where the busy seats' places show the same entries
 pub seated_alike : (old new : List ChannelValue) (seats : Seats) → ((seat : ℕ) (spot : Spot) → finmap.get seats seat ≡ Some spot → entry_of new spot ≡ entry_of old spot) → AreSeated old seats → AreSeated new seats
@@ -36,13 +34,7 @@ seated_alike old new seats same s = record {
 -- where the entries that were there stay
 pub seated_grown : (old new : List ChannelValue) (seats : Seats) → ((spot : Spot) (e : Received) → entry_of old spot ≡ Some e → entry_of new spot ≡ Some e) → AreSeated old seats → AreSeated new seats
 seated_grown old new seats grows s =
-    seated_alike old new seats (λ seat spot at. let w = with_txn (entry_of old spot) (s.busy seat spot at) in grows spot w.0 w.1 ∙ sym w.1) s
-
-still : {X : Type 0} (xs ys : List X) (i : ℕ) (x : X) → slice_get xs i ≡ Some x → slice_get (xs ++ ys) i ≡ Some x
-still xs ys i x e =
-    let within = slice_get_within xs i x e in
-    let longer : i < length (xs ++ ys) = omega (arith, length-append xs ys, within) in
-    slice_get-get_or (xs ++ ys) i x longer ∙ ap (λ y. Some y) (get_or-append xs ys x i within ∙ get_or_from_slice_get xs i x x e)
+    seated_alike old new seats (λ seat spot at. let w = entry_with (entry_of old spot) (s.busy seat spot at) in grows spot w.0 w.1 ∙ sym w.1) s
 
 through : {X Y : Type 0} (f : X → Option Y) (o n : Option X) (e : Y) → ((x : X) → o ≡ Some x → n ≡ Some x) → option_and_then f o ≡ Some e → option_and_then f n ≡ Some e
 through f None n e keeps h = absurd (cc h)
@@ -52,7 +44,7 @@ through f (Some x) n e keeps h = ap (option_and_then f) (keeps x refl) ∙ h
 pub seated_pushed : (channels : List ChannelValue) (one : ChannelValue) (seats : Seats) → AreSeated channels seats → AreSeated (channels ++ one ∷ []) seats
 seated_pushed channels one seats s =
     seated_grown channels (channels ++ one ∷ []) seats
-    (λ spot e at. through (λ (c : ChannelValue). slice_get c.received spot.place) (slice_get channels spot.channel) (slice_get (channels ++ one ∷ []) spot.channel) e (λ x is. still channels (one ∷ []) spot.channel x is) at) s
+    (λ spot e at. through (λ (c : ChannelValue). slice_get c.received spot.place) (slice_get channels spot.channel) (slice_get (channels ++ one ∷ []) spot.channel) e (λ x is. get_append_left channels (one ∷ []) spot.channel x is) at) s
 
 -- a change of a channel in which the entries that were there stay
 abbrev pub Keeps : (ChannelValue → ChannelValue) → Type 0
@@ -91,7 +83,7 @@ seated_changed f c channels seats keeps s =
     (λ spot e at. grown_by f keeps c channels spot e (slice_get channels c) (slice_get channels spot.channel) refl refl at) s
 
 pub keeps_front : (e : Received) (c : ChannelValue) (i : ℕ) (x : Received) → slice_get c.received i ≡ Some x → slice_get (c.received ++ e ∷ []) i ≡ Some x
-keeps_front e c i x at = still c.received (e ∷ []) i x at
+keeps_front e c i x at = get_append_left c.received (e ∷ []) i x at
 
 -- ---- a GTID is executed that no seat owns any more
 
@@ -112,7 +104,7 @@ pub seated_settled : (g : Gtid) (channels : List ChannelValue) (seats : Seats) �
 seated_settled g channels seats free s =
     seated_alike channels (map (settled g) channels) seats
     (λ seat spot at.
-    let w = with_txn (entry_of channels spot) (s.busy seat spot at) in
+    let w = entry_with (entry_of channels spot) (s.busy seat spot at) in
     entry_settled g channels spot ∙ ap (option_map (settle g)) w.1
     ∙ ap (λ (e : Received). Some e) (unsettled g w.0 (same_gtid w.0.gtid g) refl (free seat w.0 (spot, at, w.1))) ∙ sym w.1) s
 
@@ -125,7 +117,7 @@ taken_by true x y o e = inl (refl, one_spot x y e)
     one_spot x y e = cc
 taken_by false x y o e = inr e
 
-after_put : (seats : Seats) (seat a : ℕ) (x y : Spot) → finmap.get (finmap.insert seats seat x) a ≡ Some y → ((a ≡ seat) × (x ≡ y)) ⊎ (finmap.get seats a ≡ Some y)
+pub after_put : (seats : Seats) (seat a : ℕ) (x y : Spot) → finmap.get (finmap.insert seats seat x) a ≡ Some y → ((a ≡ seat) × (x ≡ y)) ⊎ (finmap.get seats a ≡ Some y)
 after_put seats seat a x y e =
     elim (taken_by (a == seat) x y (finmap.get seats a) (ap (λ b. cond b (Some x) (finmap.get seats a)) (sym (unsigned_tied a seat)) ∙ sym (finmap.get-insert nat_cmp_total seats seat x a) ∙ e)) [
       | inl p ↦ inl (equal_numbers a seat p.0, p.1)

@@ -1,11 +1,10 @@
 -- What a schema takes can be written.
-use Rattle.std.proofs.Common.{◌≡◌, ℕ, ◌+◌, ◌≤◌, Bool, true, false, not, ◌&&◌, ◌||◌, List, [], ◌∷◌, length, refl, sym, subst, arith, nat_le, nat_lt, cond}
+use Rattle.std.proofs.Common.{◌≡◌, ℕ, ◌+◌, ◌≤◌, Bool, true, false, not, ◌&&◌, List, [], ◌∷◌, length, refl, sym, subst, arith, nat_le, nat_lt, cond}
 use Rattle.std.specs.Prelude.{Option, Some, None, ◌==◌}
 use Rattle.std.specs.List.{list_all, list_any}
 use Rattle.std.specs.Ordering.{nat_cmp, eq_by_cmp}
 use Rattle.std.specs.Cmp.Lexicographic.{slice_cmp}
 use Rattle.std.proofs.lemmas.Bool.Decides.{nat_tests}
-use Rattle.gtid_text.proofs.SameGtid.{both}
 use Rattle.rows.specs.declared.value.Value.{Value}
 use Rattle.rows.specs.declared.value.Value.TheVariants.{Null, Int, Bytes}
 use Rattle.rows.specs.declared.change.Change.{Change}
@@ -17,10 +16,7 @@ use Rattle.rows.specs.Tables.{AreTables, is_table, is_within_limits, has_column_
 use Rattle.rows.specs.Fits.{Fits, misfit_from, change_misfit, misfit_in, images_misfit, row_misfit, is_too_long, has_primary_null, table_of, count_misfit}
 use Rattle.rows.proofs.FitLemmas.{no_cause, none_later, few_changes}
 use Rattle.journal.specs.Writing.{is_txn_writable, is_change_writable, is_image_writable, is_value_writable}
-
-neither : (a b : Bool) → (a || b) ≡ false → (a ≡ false) × (b ≡ false)
-neither true b h = absurd (cc h)
-neither false b h = (refl, h)
+use Rattle.std.proofs.lemmas.Bool.{and_parts, or_parts}
 
 -- ---- a value and a row
 
@@ -35,7 +31,7 @@ value_writable (Bytes b) h = short (length b) h
 values_writable : (row : List Value) → list_any is_too_long row ≡ false → list_all is_value_writable row ≡ true
 values_writable [] h = refl
 values_writable (v ∷ row) h =
-    let each = neither (is_too_long v) (list_any is_too_long row) h in
+    let each = or_parts (is_too_long v) (list_any is_too_long row) h in
     λ i. value_writable v each.0 i && values_writable row each.1 i
 
 tests_pass : {X : Type 0} (x y z : X) (a b c : Bool) → (cond a (Some x) (cond b (Some y) (cond c (Some z) None))) ≡ None → (a ≡ false) × (c ≡ false)
@@ -65,7 +61,7 @@ named_by name table tables false t one rest at = rest at
 named : (name : List ℕ) (tables : List Table) (t : Table) → list_all is_table tables ≡ true → table_named name tables ≡ Some t → is_table t ≡ true
 named name [] t all at = absurd (cc at)
 named name (table ∷ tables) t all at =
-    let each = both (is_table table) (list_all is_table tables) all in
+    let each = and_parts (is_table table) (list_all is_table tables) all in
     named_by name table tables (eq_by_cmp (slice_cmp nat_cmp) name table.name) t each.0 (named name tables t each.1) at
 
 change_writable : (c : Change) (table : Table) → nat_le 1 table.columns ≡ true → nat_le table.columns 64 ≡ true → images_misfit table c ≡ None → is_change_writable c ≡ true
@@ -78,10 +74,10 @@ change_writable (Update name before after) table low high h =
 change_by : (schema : List Table) (c : Change) (o : Option Table) → list_all is_table schema ≡ true → table_named (table_of c) schema ≡ o → misfit_in o c ≡ None → is_change_writable c ≡ true
 change_by schema c None all at h = absurd (cc h)
 change_by schema c (Some table) all at h =
-    let is = both (has_column_lists table && is_within_limits table) (has_its_columns table) (named (table_of c) schema table all at) in
-    let within = both (has_column_lists table) (is_within_limits table) is.0 in
-    let limits = both (nat_le 1 table.columns && nat_le table.columns 64) _ within.1 in
-    let columns = both (nat_le 1 table.columns) (nat_le table.columns 64) limits.0 in
+    let is = and_parts (has_column_lists table && is_within_limits table) (has_its_columns table) (named (table_of c) schema table all at) in
+    let within = and_parts (has_column_lists table) (is_within_limits table) is.0 in
+    let limits = and_parts (nat_le 1 table.columns && nat_le table.columns 64) _ within.1 in
+    let columns = and_parts (nat_le 1 table.columns) (nat_le table.columns 64) limits.0 in
     change_writable c table columns.0 columns.1 h
 
 changes_writable : (schema : List Table) (n : ℕ) (cs : List Change) → list_all is_table schema ≡ true → misfit_from schema n cs ≡ None → list_all is_change_writable cs ≡ true

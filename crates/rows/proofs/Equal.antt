@@ -1,5 +1,5 @@
 -- When tests of equality tell that values are equal.
-use Rattle.std.proofs.Common.{◌≡◌, ℕ, Bool, true, false, ◌&&◌, ◌==◌, nat_eq, List, refl, sym, ap, ◌∙◌}
+use Rattle.std.proofs.Common.{◌≡◌, ℕ, Bool, true, ◌&&◌, ◌==◌, nat_eq, List, refl, sym, ap, ◌∙◌}
 use Rattle.std.specs.Bool.{Decides}
 use Rattle.std.specs.declared.cmp.Ordering.{Ordering}
 use Rattle.std.specs.declared.cmp.Ordering.TheVariants.{Less, Equal, Greater}
@@ -19,16 +19,9 @@ use Rattle.rows.specs.declared.schema.Table.{Table}
 use Rattle.rows.specs.Prepared.{table_eq}
 use Rattle.rows.specs.Order.{row_eq}
 use Rattle.rows.specs.Total.{row_eq_same, row_eq_self}
+use Rattle.std.proofs.lemmas.Bool.{and_parts, and_from}
 
-both : (p q : Bool) → (p && q) ≡ true → (p ≡ true) × (q ≡ true)
-both true q e = (refl, e)
-both false q e = cc
-
-and_true : (p q : Bool) → p ≡ true → q ≡ true → (p && q) ≡ true
-and_true true q e f = f
-and_true false q e f = cc
-
-eq_of : (r : Ordering) → is_eq r ≡ true → r ≡ Equal
+pub eq_of : (r : Ordering) → is_eq r ≡ true → r ≡ Equal
 eq_of Less e = cc
 eq_of Equal e = refl
 eq_of Greater e = cc
@@ -54,16 +47,16 @@ key_test a b = eq_by_cmp (slice_cmp nat_cmp) a.table b.table && (a.index == b.in
 pub keys-Decide : (a b : Key) → Decides (key_test a b) (a ≡ b)
 keys-Decide a b =
     let same : key_test a b ≡ true → a ≡ b = λ e.
-    let p = both (eq_by_cmp (slice_cmp nat_cmp) a.table b.table) (a.index == b.index && row_eq a.values b.values) e in
-    let q = both (a.index == b.index) (row_eq a.values b.values) p.1 in
+    let p = and_parts (eq_by_cmp (slice_cmp nat_cmp) a.table b.table) (a.index == b.index && row_eq a.values b.values) e in
+    let q = and_parts (a.index == b.index) (row_eq a.values b.values) p.1 in
     let t = (names-Decide a.table b.table).0 p.0 in
     let i = (unsigned_Decides a.index b.index).0 q.0 in
     let v = (rows-Decide a.values b.values).0 q.1 in
     λ j. record { table = t j; index = i j; values = v j } in (
       same,
-      λ e. and_true (eq_by_cmp (slice_cmp nat_cmp) a.table b.table) (a.index == b.index && row_eq a.values b.values)
+      λ e. and_from (eq_by_cmp (slice_cmp nat_cmp) a.table b.table) (a.index == b.index && row_eq a.values b.values)
           ((names-Decide a.table b.table).1 (ap (λ (k : Key). k.table) e))
-          (and_true (a.index == b.index) (row_eq a.values b.values) ((unsigned_Decides a.index b.index).1 (ap (λ (k : Key). k.index) e)) ((rows-Decide a.values b.values).1 (ap (λ (k : Key). k.values) e))),
+          (and_from (a.index == b.index) (row_eq a.values b.values) ((unsigned_Decides a.index b.index).1 (ap (λ (k : Key). k.index) e)) ((rows-Decide a.values b.values).1 (ap (λ (k : Key). k.values) e))),
     )
 
 pub tables-Decide : (a b : Table) → Decides (table_eq a b) (a ≡ b)
@@ -73,18 +66,18 @@ tables-Decide a b =
     let p = pointwise nat_eq a.primary b.primary in
     let u = pointwise (pointwise nat_eq) a.uniques b.uniques in
     let same : table_eq a b ≡ true → a ≡ b = λ e.
-    let x = both n (c && (p && u)) e in
-    let y = both c (p && u) x.1 in
-    let z = both p u y.1 in
+    let x = and_parts n (c && (p && u)) e in
+    let y = and_parts c (p && u) x.1 in
+    let z = and_parts p u y.1 in
     let name = (names-Decide a.name b.name).0 x.0 in
     let columns = (unsigned_Decides a.columns b.columns).0 y.0 in
     let primary = (columns-Decide a.primary b.primary).0 z.0 in
     let uniques = (lists-Decide a.uniques b.uniques).0 z.1 in
     λ j. record { name = name j; columns = columns j; primary = primary j; uniques = uniques j } in (
       same,
-      λ e. and_true n (c && (p && u)) ((names-Decide a.name b.name).1 (ap (λ (t : Table). t.name) e))
-          (and_true c (p && u) ((unsigned_Decides a.columns b.columns).1 (ap (λ (t : Table). t.columns) e))
-          (and_true p u ((columns-Decide a.primary b.primary).1 (ap (λ (t : Table). t.primary) e)) ((lists-Decide a.uniques b.uniques).1 (ap (λ (t : Table). t.uniques) e)))),
+      λ e. and_from n (c && (p && u)) ((names-Decide a.name b.name).1 (ap (λ (t : Table). t.name) e))
+          (and_from c (p && u) ((unsigned_Decides a.columns b.columns).1 (ap (λ (t : Table). t.columns) e))
+          (and_from p u ((columns-Decide a.primary b.primary).1 (ap (λ (t : Table). t.primary) e)) ((lists-Decide a.uniques b.uniques).1 (ap (λ (t : Table). t.uniques) e)))),
     )
 
 -- the images of a change, or those of another kind of change
@@ -100,8 +93,8 @@ last_image (Update table before after) = after
 
 two-Decide : {A B C : Type 0} {p q : Bool} → Decides p A → Decides q B → (A → B → C) → (C → A) → (C → B) → Decides (p && q) C
 two-Decide {p = p} {q = q} a b made first second = (
-  λ e. made (a.0 (both p q e).0) (b.0 (both p q e).1),
-  λ c. and_true p q (a.1 (first c)) (b.1 (second c)),
+  λ e. made (a.0 (and_parts p q e).0) (b.0 (and_parts p q e).1),
+  λ c. and_from p q (a.1 (first c)) (b.1 (second c)),
 )
 
 pub changes-Decide : (a b : Change) → Decides (it.eq-value.it a b) (a ≡ b)

@@ -1,5 +1,5 @@
 -- What a transaction that fits keeps to.
-use Rattle.std.proofs.Common.{arith, ◌≡◌, ℕ, ◌+◌, ◌≤◌, ◌<◌, nat_le, Bool, true, false, cond, ◌&&◌, ◌⊎◌, inl, inr, List, [], ◌∷◌, length, Option, Some, None, Result, Ok, Err, sym, ap, subst, ◌∙◌}
+use Rattle.std.proofs.Common.{arith, ◌≡◌, ℕ, ◌+◌, ◌≤◌, ◌<◌, nat_le, Bool, true, false, cond, ◌⊎◌, inl, inr, List, [], ◌∷◌, length, Option, Some, None, Result, Ok, Err, sym, ap, subst, ◌∙◌}
 use Rattle.std.specs.FinMap.{get, empty, get-empty}
 use Rattle.std.specs.Option.{unwrap_or}
 use Rattle.std.proofs.lemmas.Bool.Decides.{nat_tests}
@@ -24,7 +24,10 @@ use Rattle.rows.specs.Prepared.{same_table, same_tables}
 use Rattle.rows.specs.WriteSet.{is_among, left_by_change, or_earlier, left_by_changes, left_by}
 use Rattle.rows.proofs.Equal.{tables-Decide}
 use Rattle.rows.proofs.Local.{after_apply}
-use Rattle.rows.proofs.Carriers.{carried_table, none_some, apply_keeps_carriers, no_carriers}
+use Rattle.rows.proofs.Carriers.{carried_table, apply_keeps_carriers, no_carriers}
+use Rattle.rows.proofs.Lists.{none_some}
+use Rattle.std.proofs.lemmas.Option.{same_Some}
+use Rattle.std.proofs.lemmas.Bool.{and_parts, and_from}
 
 some_by : (p : Bool) (a b : Misfit) → cond p (Some a) (Some b) ≡ None → ⊥
 some_by true a b e = cc
@@ -58,11 +61,8 @@ few_changes schema txn e = omega (arith, few_from schema 0 txn.changes e (omega 
 
 -- ---- what a transaction that fits leaves
 
-some_same : {A : Type 0} (x y : A) → Some x ≡ Some y → x ≡ y
-some_same x y e = cc
-
 left_row : (b : Bool) (after row : List Value) (rest : Option (Option (List Value))) → cond b (Some (Some after)) rest ≡ Some (Some row) → ((b ≡ true) × (after ≡ row)) ⊎ (rest ≡ Some (Some row))
-left_row true after row rest e = inl (λ _. true, some_same after row (some_same (Some after) (Some row) e))
+left_row true after row rest e = inl (λ _. true, same_Some after row (same_Some (Some after) (Some row) e))
 left_row false after row rest e = inr e
 
 no_row : (b : Bool) (row : List Value) → cond b (Some None) None ≡ Some (Some row) → ⊥
@@ -128,7 +128,7 @@ no_rows schema = record { carriers = no_carriers schema; fitting = λ k row e. n
 -- where each row stands under all its keys, no two rows carry one key
 pub no_two_carry : (schema : List Table) (rows : Rows) → AreRowsOf schema rows → NoTwoCarry schema rows
 no_two_carry schema rows h p q k a b there_a there_b by_a by_b =
-    some_same a b (sym (h.carriers.everywhere p k a there_a by_a) ∙ h.carriers.everywhere q k b there_b by_b)
+    same_Some a b (sym (h.carriers.everywhere p k a there_a by_a) ∙ h.carriers.everywhere q k b there_b by_b)
 
 -- ---- the tables that a transaction names
 
@@ -152,15 +152,7 @@ same_table_tells : (a b : Option Table) → a ≡ b → same_table a b ≡ true
 same_table_tells None None e = λ _. true
 same_table_tells None (Some b) e = cc
 same_table_tells (Some a) None e = cc
-same_table_tells (Some a) (Some b) e = (tables-Decide a b).1 (some_same a b e)
-
-and_parts : (p q : Bool) → (p && q) ≡ true → (p ≡ true) × (q ≡ true)
-and_parts true q e = (λ _. true, e)
-and_parts false q e = cc
-
-and_both : (p q : Bool) → p ≡ true → q ≡ true → (p && q) ≡ true
-and_both true q e f = f
-and_both false q e f = cc
+same_table_tells (Some a) (Some b) e = (tables-Decide a b).1 (same_Some a b e)
 
 -- the test of tables tells that they are the same, and it fails only where they are not
 pub tables_told : (a b : List Table) (changes : List Change) → same_tables a b changes ≡ true → SameTables a b changes
@@ -172,12 +164,8 @@ tables_told a b (change ∷ changes) e =
 pub tables_tell : (a b : List Table) (changes : List Change) → SameTables a b changes → same_tables a b changes ≡ true
 tables_tell a b [] same = λ _. true
 tables_tell a b (change ∷ changes) same =
-    and_both (same_table (table_named (table_of change) a) (table_named (table_of change) b)) (same_tables a b changes)
+    and_from (same_table (table_named (table_of change) a) (table_named (table_of change) b)) (same_tables a b changes)
     (same_table_tells (table_named (table_of change) a) (table_named (table_of change) b) same.0) (tables_tell a b changes same.1)
-
-pub not_both : {A : Type 0} (b : Bool) → b ≡ true → b ≡ false → A
-not_both true p q = cc
-not_both false p q = cc
 
 -- an install is done, is stale, or wants memory
 pub by_outcome : {E P : Type 0} (r : Result Outcome E) → (r ≡ Ok Installed → P) → (r ≡ Ok Stale → P) → ((e : E) → r ≡ Err e → P) → P

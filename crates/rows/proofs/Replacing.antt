@@ -13,18 +13,19 @@ use Rattle.rows.specs.Keys.{keys_carried}
 use Rattle.rows.specs.WriteSet.{is_among}
 use Rattle.rows.specs.Apply.{Rows, ◌>>=◌, with_row, without_keys, or_else, taken, insert_if_free, inserted, delete_if_same, deleted, apply_change}
 use Rattle.rows.specs.Patch.{IsAsSeen, footprint_of, installed, PutsAlike, replacing}
-use Rattle.rows.proofs.Local.{same_rows, get-with_row, get-without_keys, or_first, or_second}
+use Rattle.rows.proofs.Local.{same_rows, get-with_row, get-without_keys}
 use Rattle.rows.proofs.Patching.{Carrier, Puts, touched_in, get-installed}
+use Rattle.std.proofs.lemmas.Bool.{or_left, or_right}
 
 all_among : (x : Key) (keys : List Key) → is_among (x ∷ keys) x ≡ true
-all_among x keys = or_first (key_eq x x) (is_among keys x) (key_eq_self x)
+all_among x keys = or_left (key_eq x x) (is_among keys x) (key_eq_self x)
 
 -- ---- the keys of the row that went are free
 
 taken_of_free : (keys : List Key) (rows : Rows) → ((k : Key) → is_among keys k ≡ true → get rows k ≡ None) → taken keys rows ≡ None
 taken_of_free [] rows h = refl
 taken_of_free (x ∷ keys) rows h =
-    let later = taken_of_free keys rows (λ k e. h k (or_second (key_eq k x) (is_among keys k) e)) in
+    let later = taken_of_free keys rows (λ k e. h k (or_right (key_eq k x) (is_among keys k) e)) in
     let here = h x (all_among x keys) in
     λ i. or_else (later i) (here i) x.index
 
@@ -49,7 +50,7 @@ puts_row : (ks keys : List Key) (before after : List Value) (rows : Rows) → ((
 puts_row [] keys before after rows h = tt
 puts_row (x ∷ ks) keys before after rows h = (
   sym (get-with_row keys after rows x ∙ ap (λ (b : Bool). cond b (Some after) (get rows x)) (h x (all_among x ks))),
-  puts_row ks keys before after rows (λ k e. h k (or_second (key_eq k x) (is_among ks k) e)),
+  puts_row ks keys before after rows (λ k e. h k (or_right (key_eq k x) (is_among ks k) e)),
 )
 
 pub replacing_alike : (keys : List Key) (before after : List Value) → PutsAlike (replacing before after keys)

@@ -10,37 +10,22 @@ use Rattle.rows.specs.Keys.{table_named}
 use Rattle.rows.specs.Tables.{is_table, has_column_lists, is_within_limits, has_its_columns, is_taken, table_fault, are_named_once, AreTables}
 use Rattle.rows.specs.declared.schema.TableFault.TheVariants.{Body, Limit, Schema}
 use Rattle.rows.specs.declared.schema.Table.{Table}
+use Rattle.std.proofs.lemmas.Bool.{and_parts, and_from, not-false, or_parts, not_from_false, not-true}
 
 -- each table has at most eight unique keys
 abbrev pub HaveFewUniques : List Table → Type 0
 HaveFewUniques [] = Unit {0}
 HaveFewUniques (table ∷ tables) = (length table.uniques ≤ 8) × HaveFewUniques tables
 
-both : (p q : Bool) → (p && q) ≡ true → (p ≡ true) × (q ≡ true)
-both true q e = (λ _. true, e)
-both false q e = cc
-
 pub few_uniques : (tables : List Table) → list_all is_table tables ≡ true → HaveFewUniques tables
 few_uniques [] e = tt
 few_uniques (table ∷ tables) e =
-    let here = both (is_table table) (list_all is_table tables) e in
-    let limits = both (has_column_lists table) (is_within_limits table) (both (has_column_lists table && is_within_limits table) (has_its_columns table) here.0).0 in
-    let count = both (nat_le 1 table.columns && nat_le table.columns 64) (nat_le (length table.uniques) 8) limits.1 in
+    let here = and_parts (is_table table) (list_all is_table tables) e in
+    let limits = and_parts (has_column_lists table) (is_within_limits table) (and_parts (has_column_lists table && is_within_limits table) (has_its_columns table) here.0).0 in
+    let count = and_parts (nat_le 1 table.columns && nat_le table.columns 64) (nat_le (length table.uniques) 8) limits.1 in
     (grind (arith, nat_tests, count.1), few_uniques tables here.1)
 
 -- ---- one more table
-
-and_true : (p q : Bool) → p ≡ true → q ≡ true → (p && q) ≡ true
-and_true true q e f = f
-and_true false q e f = cc
-
-not_false : (b : Bool) → not b ≡ false → b ≡ true
-not_false true e = λ _. true
-not_false false e = cc
-
-neither : (p q : Bool) → (p || q) ≡ false → (p ≡ false) × (q ≡ false)
-neither true q e = cc
-neither false q e = (λ _. false, e)
 
 no_fault : (a b c : Bool) → cond a (Some Body) (cond b (Some Limit) (cond c (Some Schema) None)) ≡ None → (a ≡ false) × (b ≡ false) × (c ≡ false)
 no_fault true b c e = cc
@@ -62,37 +47,29 @@ is_taken-push name (x ∷ tables) table e f =
     let parts = untaken_by (eq_by_cmp (slice_cmp nat_cmp) name x.name) x (table_named name tables) e in
     by_untaken (eq_by_cmp (slice_cmp nat_cmp) name x.name) x (table_named name (tables ++ table ∷ [])) parts.0 (is_taken-push name tables table parts.1 f)
 
-untaken : (b : Bool) → b ≡ false → not b ≡ true
-untaken true e = cc
-untaken false e = λ _. true
-
-not_true : (b : Bool) → not b ≡ true → b ≡ false
-not_true true e = cc
-not_true false e = λ _. false
-
 are_named_once-push : (tables : List Table) (table : Table) → are_named_once tables ≡ true → is_taken table.name tables ≡ false → are_named_once (tables ++ table ∷ []) ≡ true
 are_named_once-push [] table e f = λ _. true
 are_named_once-push (x ∷ tables) table e f =
-    let parts = both (not (is_taken x.name tables)) (are_named_once tables) e in
+    let parts = and_parts (not (is_taken x.name tables)) (are_named_once tables) e in
     let other = untaken_by (eq_by_cmp (slice_cmp nat_cmp) table.name x.name) x (table_named table.name tables) f in
     let turned : eq_by_cmp (slice_cmp nat_cmp) x.name table.name ≡ false = (eq_by_cmp_equiv nat_list_cmp_total).symm x.name table.name ∙ other.0 in
-    and_true (not (is_taken x.name (tables ++ table ∷ []))) (are_named_once (tables ++ table ∷ []))
-    (untaken (is_taken x.name (tables ++ table ∷ [])) (is_taken-push x.name tables table (not_true (is_taken x.name tables) parts.0) turned))
+    and_from (not (is_taken x.name (tables ++ table ∷ []))) (are_named_once (tables ++ table ∷ []))
+    (not_from_false (is_taken x.name (tables ++ table ∷ [])) (is_taken-push x.name tables table (not-true (is_taken x.name tables) parts.0) turned))
     (are_named_once-push tables table parts.1 other.1)
 
 -- a table that is not refused may come after the others
 pub table_added : (tables : List Table) (table : Table) → AreTables tables → table_fault tables table ≡ None → AreTables (tables ++ table ∷ [])
 table_added tables table h e =
     let n = no_fault (not (has_column_lists table)) (not (is_within_limits table && nat_lt (length tables) 256)) (is_taken table.name tables || not (has_its_columns table)) e in
-    let limits = both (is_within_limits table) (nat_lt (length tables) 256) (not_false (is_within_limits table && nat_lt (length tables) 256) n.1) in
-    let names = neither (is_taken table.name tables) (not (has_its_columns table)) n.2 in
+    let limits = and_parts (is_within_limits table) (nat_lt (length tables) 256) (not-false (is_within_limits table && nat_lt (length tables) 256) n.1) in
+    let names = or_parts (is_taken table.name tables) (not (has_its_columns table)) n.2 in
     let sound : is_table table ≡ true =
-    and_true (has_column_lists table && is_within_limits table) (has_its_columns table)
-    (and_true (has_column_lists table) (is_within_limits table) (not_false (has_column_lists table) n.0) limits.0)
-    (not_false (has_its_columns table) names.1) in
+    and_from (has_column_lists table && is_within_limits table) (has_its_columns table)
+    (and_from (has_column_lists table) (is_within_limits table) (not-false (has_column_lists table) n.0) limits.0)
+    (not-false (has_its_columns table) names.1) in
     let below : length tables < 256 = grind (arith, nat_tests, limits.1) in
     record {
       count = omega (arith, length-append tables (table ∷ []), below);
-      each = list_all-append is_table tables (table ∷ []) ∙ and_true (list_all is_table tables) (list_all is_table (table ∷ [])) h.each (and_true (is_table table) true sound (λ _. true));
+      each = list_all-append is_table tables (table ∷ []) ∙ and_from (list_all is_table tables) (list_all is_table (table ∷ [])) h.each (and_from (is_table table) true sound (λ _. true));
       once = are_named_once-push tables table h.once names.0;
     }

@@ -25,15 +25,13 @@ use Rattle.replica_core.specs.declared.event.Event.{Event}
 use Rattle.replica_core.specs.declared.event.Event.TheVariants.{OpenChannel, Position}
 use Rattle.replica_core.specs.State.{State, Site}
 use Rattle.replica_core.specs.Machine.{step, opening}
-use Rattle.source_history.proofs.Tests.{or_left, or_right, or_either, and_both}
-use Rattle.source_history.proofs.Gtids.{gtid_total, gtid_same}
-use Rattle.std.proofs.lemmas.Bool.{cases_eq}
+use Rattle.std.proofs.lemmas.Bool.{cases_eq, or_cases, or_left, or_right, and_parts, ne_eqb, not-false}
 use Rattle.gtid_text.specs.Gtids.{same_gtid}
 use Rattle.faithful_journals.proofs.Covering.{is_entry}
 use Rattle.faithful_runs.specs.Served.{received_on}
 use Rattle.faithful_runs.proofs.Growing.{nothing}
 use Rattle.faithful_runs.proofs.Sharing.{Brought, run_moves}
-use Rattle.faithful_journals.proofs.Lists.{not_none, same_some, get_map_cases, all_at, all_from, all_append}
+use Rattle.faithful_journals.proofs.Lists.{all_at, all_from}
 use Rattle.world.specs.Audit.{all_entries, first_contents, world_of, found_in_keys, purged, unequal}
 use Rattle.world.specs.Meaning.{AreJournals}
 use Rattle.world.specs.declared.verdict.Verdict.TheVariants.{Sound, Purged}
@@ -50,12 +48,11 @@ use Rattle.serving.specs.Serving.{Naming, names_of, names_asked, ServesOne, Rece
 use Rattle.serving.specs.Faults.{HasMisfit, IsAuditFault, IsKeysFault, IsHeld, IsServable, IsServeFault}
 use Rattle.serving.proofs.Within.{knows_step, fault_where}
 use Rattle.serving.proofs.Feeding.{sent_all, of_whole}
-use Rattle.serving.proofs.Runs.{all_true, no_receipts, no_commits, feeds_quiet, feeds_apart, differ}
+use Rattle.serving.proofs.Runs.{all_true, no_receipts, no_commits, feeds_quiet, feeds_apart}
 use Rattle.serving.proofs.Truths.{no_truth}
-
-not_not : (b : Bool) → not b ≡ false → b ≡ true
-not_not true e = refl
-not_not false e = no_truth (sym e)
+use Rattle.std.proofs.lemmas.Option.{same_Some}
+use Rattle.gtid_text.proofs.SameGtid.{same_is_equal, gtid_total}
+use Rattle.rows.proofs.Lists.{none_some, get_map_cases, all_append}
 
 -- ---- names
 
@@ -74,8 +71,8 @@ same_any cs before n is = sym (any_named cs n) ∙ ap (list_any (λ (x : Naming)
 
 among : (es : List Entry) (all : Gtids) (g : Gtid) → AllByRecursion (λ (e : Entry). set.contains all e.gtid ≡ true) es → is_entry es g ≡ true → set.contains all g ≡ true
 among [] all g h i = nothing g i
-among (e ∷ es) all g h i = elim (or_either (same_gtid g e.gtid) (is_entry es g) i) [
-  | inl is ↦ ap (set.contains all) (gtid_same g e.gtid is) ∙ h.0
+among (e ∷ es) all g h i = elim (or_cases (same_gtid g e.gtid) (is_entry es g) i) [
+  | inl is ↦ ap (set.contains all) (same_is_equal g e.gtid is) ∙ h.0
   | inr there ↦ among es all g h.1 there
 ]
 
@@ -85,7 +82,7 @@ fed_brings : (all : Gtids) (site : Site) (s t : State) (c : ℕ) (entries : List
 fed_brings all site s t c entries r h g (inl local) = nothing g (ap (λ es. is_entry es g) (sym (no_commits site s r.events (feeds_quiet c r.events r.feeds))) ∙ local)
 fed_brings all site s t c entries r h g (inr came) = elim (cases_eq c came.0) [
   | inl same ↦ among entries all g h (ap (λ es. is_entry es g) (sym r.got ∙ ap (λ d. received_on d site s r.events) same) ∙ came.1)
-  | inr other ↦ nothing g (ap (λ es. is_entry es g) (sym (no_receipts came.0 site s r.events (feeds_apart came.0 c r.events r.feeds (differ c came.0 other)))) ∙ came.1)
+  | inr other ↦ nothing g (ap (λ es. is_entry es g) (sym (no_receipts came.0 site s r.events (feeds_apart came.0 c r.events r.feeds (ne_eqb c came.0 other)))) ∙ came.1)
 ]
 
 pub knows_one : (all : Gtids) (site : Site) (s t : State) (c : ℕ) (j : JournalValue) → ServesOne ReceivesAtWork site s c j t → set.is_subset (whole j) all ≡ true → Knows s all → Knows t all
@@ -170,13 +167,13 @@ no_channels rows g = set.contains-empty gtid_cmp g
 
 pub knows_opening : (rows : Rows) (all : Gtids) → Knows (opening rows) all
 knows_opening rows all g (inl h) = no_truth (sym (no_channels rows g) ∙ h)
-knows_opening rows all g (inr h) = not_none h.1 h.2
+knows_opening rows all g (inr h) = none_some h.1 h.2
 
 whole_in_all : (js : List JournalValue) (i : ℕ) (j : JournalValue) → slice_get js i ≡ Some j → set.is_subset (whole j) (all_of set.empty js) ≡ true
-whole_in_all [] i j at = not_none j at
+whole_in_all [] i j at = none_some j at
 whole_in_all (k ∷ js) zero j at =
     set.contains-is_subset gtid_total (whole j) (all_of set.empty (k ∷ js)) (λ q h.
-    set.contains-union gtid_total (whole k) (all_of set.empty js) q ∙ or_left (set.contains (whole k) q) (set.contains (all_of set.empty js) q) (ap (λ (x : JournalValue). set.contains (whole x) q) (same_some k j at) ∙ h))
+    set.contains-union gtid_total (whole k) (all_of set.empty js) q ∙ or_left (set.contains (whole k) q) (set.contains (all_of set.empty js) q) (ap (λ (x : JournalValue). set.contains (whole x) q) (same_Some k j at) ∙ h))
 whole_in_all (k ∷ js) (suc i) j at =
     let later = whole_in_all js i j at in
     set.contains-is_subset gtid_total (whole j) (all_of set.empty (k ∷ js)) (λ q h.
@@ -192,14 +189,14 @@ unpurged start js sound i j at =
     let w = world_of start.schema set.empty start.rows js in
     let a = next_none (unequal w js) _ (none_of_sound (found_in_keys w js) (keys_not w js) sound) in
     let b = next_none (purged w js) _ a.1 in
-    not_not (set.is_subset j.previous set.empty) (when_none (not (set.is_subset j.previous set.empty)) (Purged i (set.difference j.previous set.empty)) (first_none _ js b.0 i j at))
+    not-false (set.is_subset j.previous set.empty) (when_none (not (set.is_subset j.previous set.empty)) (Purged i (set.difference j.previous set.empty)) (first_none _ js b.0 i j at))
 
 can_send : (schema : List Table) (j : JournalValue) → set.is_subset j.previous set.empty ≡ true → IsJournal j.previous j.entries → IsHeld schema j → CanSend schema j
 can_send schema j kept rules held = record {
   whole = kept;
   taken = all_from (IsTaken schema) j.entries (λ i e at. record {
     fits = all_at (λ (x : Entry). Fits schema x.txn) j.entries i e held.fit at;
-    number = (and_both (is_number e.gtid.number) (is_txn_writable e.txn) (all_true is_writable j.entries i e rules.writable at)).0;
+    number = (and_parts (is_number e.gtid.number) (is_txn_writable e.txn) (all_true is_writable j.entries i e rules.writable at)).0;
   });
   room = held.room;
 }
@@ -224,7 +221,7 @@ serve_fault SourcesFull start channels js sound rules h = h (all_of set.empty js
 -- what a world has under a GTID is taken, where all entries are
 fits_by : (schema : List Table) (e : Entry) (o : Option Transaction) (t : Transaction) (b c : Bool) → Fits schema e.txn → (o ≡ Some t → Fits schema t) → cond b o (cond c (Some e.txn) o) ≡ Some t → Fits schema t
 fits_by schema e o t true c here more h = more h
-fits_by schema e o t false true here more h = subst (Fits schema) (same_some e.txn t h) here
+fits_by schema e o t false true here more h = subst (Fits schema) (same_Some e.txn t h) here
 fits_by schema e o t false false here more h = more h
 
 abbrev AllFit : List Table → List Entry → Type 0
@@ -236,7 +233,7 @@ get_more e es g true = refl
 get_more e es g false = get-insert gtid_total (first_contents set.empty es) e.gtid e.txn g
 
 contents_fit : (schema : List Table) (es : List Entry) (g : Gtid) (t : Transaction) → AllFit schema es → finmap.get (first_contents set.empty es) g ≡ Some t → Fits schema t
-contents_fit schema [] g t fit h = not_none t (sym (get-empty gtid_cmp g) ∙ h)
+contents_fit schema [] g t fit h = none_some t (sym (get-empty gtid_cmp g) ∙ h)
 contents_fit schema (e ∷ es) g t fit h =
     fits_by schema e (finmap.get (first_contents set.empty es) g) t (set.contains set.empty e.gtid) (eq_by_cmp gtid_cmp g e.gtid) fit.0 (contents_fit schema es g t fit.1)
     (sym (get_more e es g (set.contains set.empty e.gtid)) ∙ h)
@@ -253,7 +250,7 @@ taken_all start js held has =
     let at = get_map_cases as_entry (finmap.entries (first_contents set.empty (all_entries js))) it.place it.entry it.there in
     let content = at_content (world_of start.schema set.empty start.rows js) it.place at.0 at.1 in
     let fits : Fits start.schema at.0.1 = contents_fit start.schema (all_entries js) at.0.0 at.0.1 (all_fit start.schema js held) content in
-    not_none why (sym fits ∙ ap (λ (e : Entry). misfit start.schema e.txn) at.2 ∙ it.unfit)
+    none_some why (sym fits ∙ ap (λ (e : Entry). misfit start.schema e.txn) at.2 ∙ it.unfit)
 
 pub audit_fault : (f : SetFault) (start : Database) (channels : List Channel) (js : List JournalValue) → IsAuditFault f start js → IsServeFault f start channels js
 audit_fault Memory start channels js h = tt

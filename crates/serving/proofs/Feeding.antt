@@ -1,7 +1,7 @@
 -- A replica that can be served answers so, and why it is not served.
-use Rattle.std.proofs.Common.{◌≡◌, ℕ, ◌+◌, ◌≤◌, ◌<◌, zero, suc, Bool, true, false, cond, not, List, [], ◌∷◌, ◌++◌, length, Option, Some, None, Ok, Err, refl, sym, ap, ◌∙◌, subst, arith, length-append, drop, get_or, drop-cons}
+use Rattle.std.proofs.Common.{◌≡◌, ℕ, ◌+◌, ◌≤◌, ◌<◌, suc, Bool, true, false, cond, not, List, [], ◌∷◌, ◌++◌, length, Option, Some, None, Ok, Err, refl, sym, ap, ◌∙◌, subst, arith, length-append, drop, get_or, drop-cons}
 use Rattle.std.proofs.lemmas.Bool.Decides.{nat_tests}
-use Rattle.std.specs.Prelude.{Result, IfErr, slice_get, slice_set, nat_le, is_some}
+use Rattle.std.specs.Prelude.{Result, IfErr, slice_get, nat_le, is_some}
 use Rattle.std.specs.List.{filter, AllByRecursion}
 use Rattle.std.specs.FinSet as set
 use Rattle.gtid_text.specs.declared.Gtid.{Gtid}
@@ -18,16 +18,18 @@ use Rattle.replica_core.specs.declared.event.Reply.TheVariants as reply
 use Rattle.replica_core.specs.State.{State, Site}
 use Rattle.replica_core.specs.Machine.{Step, step, ask, with_channel}
 use Rattle.replica_core.specs.Faults.{made_by, IsFault}
-use Rattle.source_history.proofs.Gtids.{gtid_total}
-use Rattle.faithful_journals.proofs.Lists.{not_none, get_push, all_from}
+use Rattle.faithful_journals.proofs.Lists.{all_from}
 use Rattle.faithful_journals.proofs.Covering.{is_entry, in_whole}
-use Rattle.source_history.proofs.Tests.{or_right}
 use Rattle.world.proofs.Contents.{entry_from}
 use Rattle.faithful_runs.proofs.Sending.{sent_cases}
 use Rattle.auto_position.specs.Sending.{sent, own_of}
 use Rattle.serving.specs.Served.{IsFaultWhere, IsAny, Knows, KnowsWith, KnowsToo, CanOpen, IsOpen, IsTaken, CanReceive, CanServe, LeadsTo}
 use Rattle.serving.proofs.Within.{knows_step, step_fault_where, fault_where}
 use Rattle.serving.proofs.Truths.{no_truth}
+use Rattle.std.proofs.lemmas.Bool.{or_right}
+use Rattle.gtid_text.proofs.SameGtid.{gtid_total}
+use Rattle.rows.proofs.Lists.{get_push}
+use Rattle.faithful_runs.proofs.Wholes.{set_there}
 
 pub on_err : {A E : Type 0} {P Q : E → Type 0} (r : Result A E) → ((e : E) → P e → Q e) → IfErr r P → IfErr r Q
 on_err (Ok x) f h = tt
@@ -57,11 +59,6 @@ receives : (site : Site) (s : State) (c : ℕ) (e : Entry) (ch : ChannelValue) (
 receives site s c e ch A at asked fits room = simp (at, asked, fits, room) refl
 
 -- ---- one entry more
-
-set_there : (xs : List ChannelValue) (i : ℕ) (x v : ChannelValue) → slice_get xs i ≡ Some x → slice_get (slice_set xs i v) i ≡ Some v
-set_there [] i x v e = not_none x e
-set_there (y ∷ xs) zero x v e = refl
-set_there (y ∷ xs) (suc i) x v e = set_there xs i x v e
 
 has_room : (schema : List Table) (c : ℕ) (e : Entry) (es : List Entry) (s : State) (can : CanReceive schema c (e ∷ es) s) → is_full can.channel ≡ false
 has_room schema c e es s can = let room = can.room in not_below most_received (length can.channel.received) (omega (arith, room))

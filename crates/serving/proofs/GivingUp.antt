@@ -14,7 +14,6 @@ use Rattle.replica_core.specs.State.{State, Site, Replica}
 use Rattle.replica_core.specs.Machine.{Step, step, opening}
 use Rattle.replica_core.specs.Faults.{committing, IsFault, IsFaultIn}
 use Rattle.replica_core.specs.AtOnce.{received_and_taken, IsFaultAtOnce}
-use Rattle.source_history.proofs.Tests.{and_both}
 use Rattle.replica_core.specs.Draining.{AreStoppedOrDone}
 use Rattle.audited_runs.specs.Deciding.{all_of}
 use Rattle.txn_journal.specs.declared.bundle.Channel.{Channel}
@@ -26,6 +25,7 @@ use Rattle.serving.specs.Faults.{IsServeFault, IsConcludeFault}
 use Rattle.serving.proofs.Within.{is_of, knows_step, knows_after, step_fault_where, fault_where}
 use Rattle.serving.proofs.Beginning.{knows_one, knows_opening, journals_in, audit_fault}
 use Rattle.serving.proofs.Truths.{no_truth}
+use Rattle.std.proofs.lemmas.Bool.{and_parts}
 
 -- ---- work brings nothing
 
@@ -44,7 +44,7 @@ work_of all Look h = no_truth h
 all_work_of : (all : Gtids) (es : List Event) → list_all is_work es ≡ true → list_all (is_of all) es ≡ true
 all_work_of all [] h = refl
 all_work_of all (e ∷ es) h =
-    let b = and_both (is_work e) (list_all is_work es) h in
+    let b = and_parts (is_work e) (list_all is_work es) h in
     (λ i. work_of all e b.0 i && list_all (is_of all) es) ∙ all_work_of all es b.1
 
 pub knows_works : (all : Gtids) (site : Site) (s t : State) → Works site s t → Knows s all → Knows t all

@@ -2,7 +2,6 @@
 use Rattle.std.proofs.Common.{◌≡◌, ℕ, zero, suc, Bool, List, [], ◌∷◌, ◌++◌, length, Some, refl, ap, sym, ◌∙◌}
 use Rattle.std.specs.Prelude.{slice_get, slice_set, nat_le}
 use Rattle.std.specs.List.{list_any}
-use Rattle.std.specs.Option.{unwrap_or}
 use Rattle.std.proofs.lemmas.List.{map-append}
 use Rattle.journal.specs.declared.Entry.{Entry}
 use Rattle.rows.specs.Fits.{misfit}
@@ -11,18 +10,17 @@ use Rattle.replica_core.specs.declared.event.Event.TheVariants.{OpenChannel, Rec
 use Rattle.replica_core.specs.declared.event.Reply.TheVariants.{NameTaken, ChannelsFull, Opened, Ask, NotInSchema}
 use Rattle.replica_core.specs.State.{State, Site}
 use Rattle.replica_core.specs.Machine.{Step, step, position_on, ask, with_channel}
-use Rattle.faithful_journals.proofs.Lists.{on_test, on_option}
+use Rattle.faithful_journals.proofs.Lists.{on_test}
 use Rattle.serving.specs.Serving.{names_of}
-
-some_same : {X : Type 0} (x y : X) → Some x ≡ Some y → x ≡ y
-some_same x y e = ap (λ o. unwrap_or o x) e
+use Rattle.std.proofs.lemmas.Option.{same_Some}
+use Rattle.rows.proofs.Lists.{on_option}
 
 -- a channel that keeps its name is put in its place
 pub names_set : (xs : List ChannelValue) (i : ℕ) (old new : ChannelValue) → slice_get xs i ≡ Some old → (new.name ≡ old.name) × (new.preserve ≡ old.preserve)
     → names_of (slice_set xs i new) ≡ names_of xs
 names_set [] i old new e f = refl
 names_set (x ∷ xs) zero old new e f =
-    let same : old ≡ x = some_same old x (sym e) in
+    let same : old ≡ x = same_Some old x (sym e) in
     λ k. ((f.0 ∙ ap (λ (c : ChannelValue). c.name) same) k, (f.1 ∙ ap (λ (c : ChannelValue). c.preserve) same) k) ∷ names_of xs
 names_set (x ∷ xs) (suc i) old new e f = ap (λ ns. (x.name, x.preserve) ∷ ns) (names_set xs i old new e f)
 

@@ -1,10 +1,10 @@
 -- A run that serves journals, and what the laws say of it.
-use Rattle.std.proofs.Common.{◌≡◌, ℕ, zero, suc, ◌+◌, inr, Bool, true, false, cond, not, eqb, ◌&&◌, List, [], ◌∷◌, ◌++◌, map, Option, Some, None, refl, sym, ap, ◌∙◌, subst, append_assoc, append-nil, arith}
-use Rattle.std.specs.Prelude.{slice_get, Result, Ok, Err, IfOk, OnOk}
+use Rattle.std.proofs.Common.{◌≡◌, ℕ, zero, suc, ◌+◌, inr, Bool, true, false, cond, not, eqb, List, [], ◌∷◌, ◌++◌, map, Option, Some, None, refl, sym, ap, ◌∙◌, subst, append_assoc, append-nil, arith}
+use Rattle.std.specs.Prelude.{slice_get, Ok}
 use Rattle.std.specs.List.{list_all}
 use Rattle.std.specs.Option.{unwrap_or}
 use Rattle.std.specs.FinSet as set
-use Rattle.std.proofs.lemmas.Bool.{eqb-true, eq-eqb}
+use Rattle.std.proofs.lemmas.Bool.{eqb-true, eq-eqb, and_from, ne_eqb}
 use Rattle.std.proofs.lemmas.List.Folds.{list_all-append}
 use Rattle.gtid_set.specs.Sets.{Gtids}
 use Rattle.rows.specs.declared.schema.Table.{Table}
@@ -20,7 +20,6 @@ use Rattle.replica_core.specs.declared.event.Reply.{Reply}
 use Rattle.replica_core.specs.declared.event.Reply.TheVariants as reply
 use Rattle.replica_core.specs.Machine.{Step, step, after, opening, drained}
 use Rattle.replica_core.specs.Core.{opened}
-use Rattle.faithful_journals.proofs.Lists.{same_some, not_none}
 use Rattle.faithful_runs.specs.Faithful.{start_with}
 use Rattle.auto_position.specs.Sending.{sent}
 use Rattle.faithful_runs.specs.Served.{IsDrained, NoLocalCommits, received_on, accepted, on_channel, local_commits}
@@ -31,27 +30,27 @@ use Rattle.world.specs.Audit.{world_of, verdict_of_keys, verdict, found_in_keys,
 use Rattle.world.specs.Meaning.{AreJournals}
 use Rattle.world.specs.declared.verdict.Verdict.{Verdict}
 use Rattle.world.specs.declared.verdict.Verdict.TheVariants.{Unequal, Purged, Missing, Shared, NotClosed, DoesNotApply, Sound}
-use Rattle.world.proofs.Finding.{is_false}
 use Rattle.replica_core.specs.Draining.{AreStoppedOrDone}
 use Rattle.audited_runs.specs.Deciding.{ServesAll, WorkersDecide, ServedHoldsAll, HoldsAll}
 use Rattle.txn_journal.specs.declared.bundle.Channel.{Channel}
 use Rattle.serving.specs.declared.receiving.Work.{Work}
 use Rattle.serving.specs.declared.receiving.Work.TheVariants.{Later, AtOnce}
 use Rattle.serving.specs.Serving.{Receives, coming, with_channel, Asks, Feeding, ServesOne, ServesEach, is_work, Works, is_feed, ReceivesAtWork, IsReady, IsRun, IsConcluded, IsFoundInKeys, is_sound, keys_over, verdict_over}
-use Rattle.serving.proofs.Truths.{no_truth, first_part, second_part}
+use Rattle.serving.proofs.Truths.{no_truth}
+use Rattle.std.proofs.lemmas.Option.{same_Some}
+use Rattle.gtid_set.proofs.SetSources.{first_of_and}
+use Rattle.rows.proofs.Patching.{and_second}
+use Rattle.rows.proofs.Lists.{none_some}
 
 -- ---- words
 
 some_not_none : {A P : Type 0} (x : A) → Some x ≡ None → P
 some_not_none x e = cc
 
-both_parts : (a b : Bool) → a ≡ true → b ≡ true → (a && b) ≡ true
-both_parts a b p q = (λ i. p i && b) ∙ q
-
 pub all_true : {A : Type 0} (p : A → Bool) (xs : List A) (i : ℕ) (x : A) → list_all p xs ≡ true → slice_get xs i ≡ Some x → p x ≡ true
-all_true p [] i x h e = not_none x e
-all_true p (y ∷ ys) zero x h e = subst (λ z. p z ≡ true) (same_some y x e) (first_part (p y) (list_all p ys) h)
-all_true p (y ∷ ys) (suc i) x h e = all_true p ys i x (second_part (p y) (list_all p ys) h) e
+all_true p [] i x h e = none_some x e
+all_true p (y ∷ ys) zero x h e = subst (λ z. p z ≡ true) (same_Some y x e) (first_of_and (p y) (list_all p ys) h)
+all_true p (y ∷ ys) (suc i) x h e = all_true p ys i x (and_second (p y) (list_all p ys) h) e
 
 -- ---- events that bring nothing to a channel
 
@@ -99,8 +98,8 @@ nothing_at d site s Look h = refl
 pub no_receipts : (d : ℕ) (site : Site) (s : State) (es : List Event) → list_all (is_apart d) es ≡ true → received_on d site s es ≡ []
 no_receipts d site s [] h = refl
 no_receipts d site s (e ∷ es) h =
-    (λ i. nothing_at d site s e (first_part (is_apart d e) (list_all (is_apart d) es) h) i ++ received_on d site (step site s e).1 es)
-    ∙ no_receipts d site (step site s e).1 es (second_part (is_apart d e) (list_all (is_apart d) es) h)
+    (λ i. nothing_at d site s e (first_of_and (is_apart d e) (list_all (is_apart d) es) h) i ++ received_on d site (step site s e).1 es)
+    ∙ no_receipts d site (step site s e).1 es (and_second (is_apart d e) (list_all (is_apart d) es) h)
 
 not_positioned_at : (d : ℕ) (e : Event) → is_apart d e ≡ true → not (is_position d e) ≡ true
 not_positioned_at d (OpenChannel name preserve) h = refl
@@ -117,9 +116,9 @@ not_positioned_at d Look h = refl
 not_positioned : (d : ℕ) (es : List Event) → list_all (is_apart d) es ≡ true → list_all (λ e. not (is_position d e)) es ≡ true
 not_positioned d [] h = refl
 not_positioned d (e ∷ es) h =
-    both_parts (not (is_position d e)) (list_all (λ x. not (is_position d x)) es)
-    (not_positioned_at d e (first_part (is_apart d e) (list_all (is_apart d) es) h))
-    (not_positioned d es (second_part (is_apart d e) (list_all (is_apart d) es) h))
+    and_from (not (is_position d e)) (list_all (λ x. not (is_position d x)) es)
+    (not_positioned_at d e (first_of_and (is_apart d e) (list_all (is_apart d) es) h))
+    (not_positioned d es (and_second (is_apart d e) (list_all (is_apart d) es) h))
 
 no_locals : (site : Site) (s : State) (es : List Event) → list_all is_quiet es ≡ true → NoLocalCommits site s es
 no_locals site s [] h = tt
@@ -150,7 +149,7 @@ no_commits site s (Look ∷ es) h = no_commits site (step site s Look).1 es h
 
 -- all of two lists
 all_of_both : (p : Event → Bool) (es fs : List Event) → list_all p es ≡ true → list_all p fs ≡ true → list_all p (es ++ fs) ≡ true
-all_of_both p es fs h k = list_all-append p es fs ∙ both_parts (list_all p es) (list_all p fs) h k
+all_of_both p es fs h k = list_all-append p es fs ∙ and_from (list_all p es) (list_all p fs) h k
 
 -- work is apart from each channel
 pub work_apart : (d : ℕ) (es : List Event) → list_all is_work es ≡ true → list_all (is_apart d) es ≡ true
@@ -219,7 +218,7 @@ feed_unpositioned c d Look h = no_truth h
 -- what holds of each event for which another test holds
 all_by : (p q : Event → Bool) → ((e : Event) → p e ≡ true → q e ≡ true) → (es : List Event) → list_all p es ≡ true → list_all q es ≡ true
 all_by p q each [] h = refl
-all_by p q each (e ∷ es) h = both_parts (q e) (list_all q es) (each e (first_part (p e) (list_all p es) h)) (all_by p q each es (second_part (p e) (list_all p es) h))
+all_by p q each (e ∷ es) h = and_from (q e) (list_all q es) (each e (first_of_and (p e) (list_all p es) h)) (all_by p q each es (and_second (p e) (list_all p es) h))
 
 pub feeds_apart : (d c : ℕ) (es : List Event) → list_all (is_feed c) es ≡ true → eqb c d ≡ false → list_all (is_apart d) es ≡ true
 feeds_apart d c es h k = all_by (is_feed c) (is_apart d) (λ e f. feed_apart d c e f k) es h
@@ -320,7 +319,7 @@ more_comes site site1 site2 s t u v c entries e same1 same2 comes now got works 
     record {
       events = comes.events ++ (Receive c e ∷ w.events);
       feeds = all_of_both (is_feed c) comes.events (Receive c e ∷ w.events) comes.feeds
-          (both_parts (eqb c c) (list_all (is_feed c) w.events) (same_is c) (all_by is_work (is_feed c) (work_feeds c) w.events w.work));
+          (and_from (eqb c c) (list_all (is_feed c) w.events) (same_is c) (all_by is_work (is_feed c) (work_feeds c) w.events w.work));
       now = w.now
           ∙ (λ i. after site (step1 i) w.events)
           ∙ ap (λ (y : State). after site y (Receive c e ∷ w.events)) comes.now
@@ -332,7 +331,7 @@ more_comes site site1 site2 s t u v c entries e same1 same2 comes now got works 
 
 fed_by_one : (c : ℕ) (entries : List Entry) → list_all (is_feed c) (map (Receive c) entries) ≡ true
 fed_by_one c [] = refl
-fed_by_one c (e ∷ es) = both_parts (eqb c c) (list_all (is_feed c) (map (Receive c) es)) (same_is c) (fed_by_one c es)
+fed_by_one c (e ∷ es) = and_from (eqb c c) (list_all (is_feed c) (map (Receive c) es)) (same_is c) (fed_by_one c es)
 
 -- what is received without work is received
 pub comes_at_work : (site : Site) (s : State) (c : ℕ) (entries : List Entry) (s' : State) → Receives site s c entries s' → ReceivesAtWork site s c entries s'
@@ -348,14 +347,6 @@ one_coming Later site s c j s' x = one_at_work site s c j s' x
 pub each_at_work : (site : Site) (s : State) (c : ℕ) (js : List JournalValue) (s' : State) → ServesEach Receives site s c js s' → ServesEach ReceivesAtWork site s c js s'
 each_at_work site s c [] s' x = x
 each_at_work site s c (j ∷ js) s' x = (x.0, one_at_work site s c j x.0 x.1, each_at_work site x.0 (c + 1) js s' x.2)
-
-pub if_ok : {A E : Type 0} {P Q : A → Type 0} (r : Result A E) → ((x : A) → P x → Q x) → IfOk r P → IfOk r Q
-if_ok (Ok x) f h = f x h
-if_ok (Err e) f h = tt
-
-pub on_ok : {A E P Q : Type 0} (r : Result A E) → (P → Q) → OnOk r P → OnOk r Q
-on_ok (Ok x) f h = f h
-on_ok (Err e) f h = tt
 
 -- one journal, and then the others
 pub serves_more : (Comes : Feeding) (site site' : Site) (s t s' : State) (c : ℕ) (j : JournalValue) (js all : List JournalValue) → all ≡ j ∷ js → site' ≡ site
@@ -373,7 +364,7 @@ one_after site s c j t one = one.received.now ∙ ap (λ (y : State). after site
 
 one_apart : (site : Site) (s : State) (c : ℕ) (j : JournalValue) (t : State) (one : ServesOne ReceivesAtWork site s c j t) (d : ℕ) → eqb c d ≡ false
     → list_all (is_apart d) (events_one site s c j t one) ≡ true
-one_apart site s c j t one d h = both_parts (not (eqb c d)) (list_all (is_apart d) one.received.events) (ap not h) (feeds_apart d c one.received.events one.received.feeds h)
+one_apart site s c j t one d h = and_from (not (eqb c d)) (list_all (is_apart d) one.received.events) (ap not h) (feeds_apart d c one.received.events one.received.feeds h)
 
 -- what comes later may not touch the channel
 served_first : (site : Site) (s t : State) (c : ℕ) (j : JournalValue) (one : ServesOne ReceivesAtWork site s c j t) (rest : List Event) → list_all (is_apart c) rest ≡ true
@@ -399,7 +390,7 @@ served_first site s t c j one rest apart =
             ∙ append-nil one.all;
       };
       once = list_all-append (λ e. not (is_position c e)) fed rest
-          ∙ both_parts (list_all (λ e. not (is_position c e)) fed) (list_all (λ e. not (is_position c e)) rest) (feeds_unpositioned c c fed one.received.feeds) (not_positioned c rest apart);
+          ∙ and_from (list_all (λ e. not (is_position c e)) fed) (list_all (λ e. not (is_position c e)) rest) (feeds_unpositioned c c fed one.received.feeds) (not_positioned c rest apart);
     }
 
 -- what comes before may not touch the channel
@@ -438,16 +429,13 @@ each_after site s c (j ∷ js) s' x =
     ∙ ap (λ (y : State). after site y rest) (one_after site s c j x.0 x.1)
     ∙ sym (after_append site s (events_one site s c j x.0 x.1) rest)
 
-pub differ : (c d : ℕ) → (c ≡ d → ⊥) → eqb c d ≡ false
-differ c d h = is_false (eqb c d) (λ e. h (eqb-true c d e))
-
 -- where no journal has the channel's number, nothing touches it
 each_apart : (site : Site) (s : State) (c : ℕ) (js : List JournalValue) (s' : State) (x : ServesEach ReceivesAtWork site s c js s') (d : ℕ) → ((k : ℕ) → d ≡ c + k → slice_get js k ≡ None)
     → list_all (is_apart d) (events_each site s c js s' x) ≡ true
 each_apart site s c [] s' x d h = refl
 each_apart site s c (j ∷ js) s' x d h =
     all_of_both (is_apart d) (events_one site s c j x.0 x.1) (events_each site x.0 (c + 1) js s' x.2)
-    (one_apart site s c j x.0 x.1 d (differ c d (λ e. let z : d ≡ c + zero = omega (arith, e) in some_not_none j (h zero z))))
+    (one_apart site s c j x.0 x.1 d (ne_eqb c d (λ e. let z : d ≡ c + zero = omega (arith, e) in some_not_none j (h zero z))))
     (each_apart site x.0 (c + 1) js s' x.2 d (λ k e. let z : d ≡ c + suc k = omega (arith, e) in h (suc k) z))
 
 each_quiet : (site : Site) (s : State) (c : ℕ) (js : List JournalValue) (s' : State) (x : ServesEach ReceivesAtWork site s c js s') → list_all is_quiet (events_each site s c js s' x) ≡ true
@@ -457,7 +445,7 @@ each_quiet site s c (j ∷ js) s' x =
 
 each_served : (site : Site) (s : State) (c : ℕ) (js : List JournalValue) (s' : State) (x : ServesEach ReceivesAtWork site s c js s') (work : List Event) → list_all is_work work ≡ true
     → (k d : ℕ) (j : JournalValue) → d ≡ c + k → slice_get js k ≡ Some j → WasServedOnce site s (events_each site s c js s' x ++ work) d j
-each_served site s c [] s' x work h k d j e at = not_none j at
+each_served site s c [] s' x work h k d j e at = none_some j at
 each_served site s c (i ∷ js) s' x work h zero d j e at =
     let own = events_one site s c i x.0 x.1 in
     let rest = events_each site x.0 (c + 1) js s' x.2 in
@@ -466,13 +454,13 @@ each_served site s c (i ∷ js) s' x work h zero d j e at =
     let first = served_first site s x.0 c i x.1 (rest ++ work) apart in
     let split = append_assoc own rest work in
     subst (λ (n : ℕ). WasServedOnce site s ((own ++ rest) ++ work) n j) same
-    (subst (λ (es : List Event). WasServedOnce site s es c j) (sym split) (subst (λ (y : JournalValue). WasServedOnce site s (own ++ (rest ++ work)) c y) (same_some i j at) first))
+    (subst (λ (es : List Event). WasServedOnce site s es c j) (sym split) (subst (λ (y : JournalValue). WasServedOnce site s (own ++ (rest ++ work)) c y) (same_Some i j at) first))
 each_served site s c (i ∷ js) s' x work h (suc k) d j e at =
     let own = events_one site s c i x.0 x.1 in
     let rest = events_each site x.0 (c + 1) js s' x.2 in
     let later : d ≡ (c + 1) + k = omega (arith, e) in
     let split = append_assoc own rest work in
-    let apart = one_apart site s c i x.0 x.1 d (differ c d (λ z. absurd (omega (arith, z, later)))) in
+    let apart = one_apart site s c i x.0 x.1 d (ne_eqb c d (λ z. absurd (omega (arith, z, later)))) in
     subst (λ (es : List Event). WasServedOnce site s es d j) (sym split)
     (served_later site s x.0 d j own (rest ++ work) (one_after site s c i x.0 x.1) apart (each_served site x.0 (c + 1) js s' x.2 work h k d j later at))
 
@@ -572,7 +560,7 @@ audit_concluded start js state found is h = (is, sound_not found h)
 
 all_from : {A : Type 0} (p : A → Bool) (xs : List A) → ((i : ℕ) (x : A) → slice_get xs i ≡ Some x → p x ≡ true) → list_all p xs ≡ true
 all_from p [] h = refl
-all_from p (x ∷ xs) h = both_parts (p x) (list_all p xs) (h 0 x refl) (all_from p xs (λ i y at. h (suc i) y at))
+all_from p (x ∷ xs) h = and_from (p x) (list_all p xs) (h 0 x refl) (all_from p xs (λ i y at. h (suc i) y at))
 
 all_drained : (s : State) → IsDrained s → drained s ≡ true
 all_drained s h =

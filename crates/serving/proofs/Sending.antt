@@ -7,15 +7,14 @@ use Rattle.std.specs.List.{list_all}
 use Rattle.std.proofs.lemmas.Bool.{lt-ltb, ltb-true, and_parts}
 use Rattle.std.specs.Option.{option_map_or}
 use Rattle.std.specs.FinSet as set
-use Rattle.gtid_text.specs.Gtids.{gtid_cmp}
 use Rattle.gtid_set.specs.Sets.{Gtids}
-use Rattle.source_history.proofs.Gtids.{gtid_total}
 use Rattle.journal.specs.declared.Entry.{Entry}
 use Rattle.journal.specs.Journals.{JournalValue, whole}
 use Rattle.auto_position.specs.Sending.{AreAt, IsPlan, IsRefusal, sent}
 use Rattle.auto_position.specs.declared.PositionFault.{PositionFault}
 use Rattle.auto_position.specs.declared.PositionFault.TheVariants.{ReplicaHasMore}
 use Rattle.serving.specs.Serving.{picked}
+use Rattle.auto_position.proofs.Asked.{none_own}
 
 taken : (o : Option Entry) (e : Entry) (more : List Entry) → o ≡ Some e → option_map_or (λ x. x ∷ more) o more ≡ e ∷ more
 taken o e more at = ap (λ (x : Option Entry). option_map_or (λ y. y ∷ more) x more) at
@@ -59,10 +58,6 @@ below_at entries [] i all lt = absurd (omega arith)
 below_at entries (p ∷ ps) zero all lt = ltb-true _ _ (and_parts (nat_lt p (length entries)) (list_all (λ q. nat_lt q (length entries)) ps) all).0
 below_at entries (p ∷ ps) (suc k) all lt = below_at entries ps k (and_parts (nat_lt p (length entries)) (list_all (λ q. nat_lt q (length entries)) ps) all).1 (omega (arith, lt))
 
--- an empty set is part of each
-empty_part : (S : Gtids) → set.is_subset set.empty S ≡ true
-empty_part S = set.contains-is_subset gtid_total set.empty S (λ q h. let none = sym (set.contains-empty gtid_cmp q) ∙ h in absurd cc)
-
 abbrev pub sent_ok : List Entry → Result (List Entry) PositionFault
 sent_ok es = Ok es
 
@@ -79,4 +74,4 @@ never_refused false c x y z all known kept e = cc
 pub refused_for_more : (j : JournalValue) (ask more : Gtids) (p : PositionFault) → IsRefusal p (sent j ask None) → p ≡ ReplicaHasMore more → set.is_subset j.previous ask ≡ true → ⊥
 refused_for_more j ask more p h is kept =
     let e : sent j ask None ≡ Err (ReplicaHasMore more) = subst (λ (x : PositionFault). IsRefusal x (sent j ask None)) is h in
-    never_refused (set.is_subset j.previous ask) (set.is_subset set.empty (whole j)) _ _ (ReplicaHasMore more) _ (empty_part (whole j)) kept e
+    never_refused (set.is_subset j.previous ask) (set.is_subset set.empty (whole j)) _ _ (ReplicaHasMore more) _ (none_own (whole j)) kept e

@@ -9,8 +9,6 @@ use Rattle.replica_core.specs.declared.event.Reply.{Reply}
 use Rattle.replica_core.specs.State.{State, Site}
 use Rattle.replica_core.specs.Kept.{AreKept}
 use Rattle.replica_core.specs.Machine.{Step, step, take_place, commit, rollback}
-use Rattle.source_history.proofs.Tests.{true_or_false}
-use Rattle.faithful_journals.proofs.Lists.{not_none, same_some}
 use Rattle.replica_core.specs.Draining.{NothingIsOwned, IsDone, IsWaiting, IsSettledAt, AreStoppedOrDone}
 use Rattle.replica_core.proofs.MoveLemmas.{nothing_owned, settled_by}
 use Rattle.replica_core.proofs.FreeLemmas.{freed, more_seats}
@@ -18,6 +16,9 @@ use Rattle.replica_core.specs.Seated.{AreSeated}
 use Rattle.replica_core.proofs.DrainLemmas.{follows_self, follows_further, nothing_below, below_follows, one_more_place, one_more_channel, whole_channel, all_channels}
 use Rattle.serving.specs.Serving.{Works}
 use Rattle.serving.specs.Working.{Leaves, Settles, Finishes}
+use Rattle.std.proofs.lemmas.Bool.{cases_Bool}
+use Rattle.std.proofs.lemmas.Option.{same_Some}
+use Rattle.rows.proofs.Lists.{none_some}
 
 option_cases : {A : Type 0} (o : Option A) → (o ≡ None) ⊎ ((x : A) × (o ≡ Some x))
 option_cases None = inl refl
@@ -31,18 +32,18 @@ waits_or_rests : (site : Site) (s : State) (c p : ℕ) → NothingIsOwned s → 
 waits_or_rests site s c p none =
     let idle = nothing_owned s 1 none in
     elim (option_cases (slice_get s.channels c)) [
-      | inl no_channel ↦ inr ((λ channel at. not_none channel (sym no_channel ∙ at)), simp (idle, no_channel) refl)
-      | inr ch ↦ elim (true_or_false ch.0.stopped) [
-        | inl stops ↦ inr ((λ channel at. inl (ap (λ (x : ChannelValue). x.stopped) (same_some channel ch.0 (sym at ∙ ch.1)) ∙ stops)), stopped_take ch.0 ch.1 stops)
+      | inl no_channel ↦ inr ((λ channel at. none_some channel (sym no_channel ∙ at)), simp (idle, no_channel) refl)
+      | inr ch ↦ elim (cases_Bool ch.0.stopped) [
+        | inl stops ↦ inr ((λ channel at. inl (ap (λ (x : ChannelValue). x.stopped) (same_Some channel ch.0 (sym at ∙ ch.1)) ∙ stops)), stopped_take ch.0 ch.1 stops)
         | inr runs ↦ elim (option_cases (slice_get ch.0.received p)) [
           | inl no_place ↦ inr (
-            (λ channel at. inr (λ e there. not_none e (sym no_place ∙ (ap (λ (x : ChannelValue). slice_get x.received p) (same_some ch.0 channel (sym ch.1 ∙ at)) ∙ there)))),
+            (λ channel at. inr (λ e there. none_some e (sym no_place ∙ (ap (λ (x : ChannelValue). slice_get x.received p) (same_Some ch.0 channel (sym ch.1 ∙ at)) ∙ there)))),
             no_take ch.0 ch.1 no_place,
           )
-          | inr e ↦ elim (true_or_false (set.contains s.executed e.0.gtid)) [
+          | inr e ↦ elim (cases_Bool (set.contains s.executed e.0.gtid)) [
             | inl done ↦ inr (
               (λ channel at. inr (λ f there.
-                  let same = same_some e.0 f (sym e.1 ∙ (ap (λ (x : ChannelValue). slice_get x.received p) (same_some ch.0 channel (sym ch.1 ∙ at)) ∙ there)) in
+                  let same = same_Some e.0 f (sym e.1 ∙ (ap (λ (x : ChannelValue). slice_get x.received p) (same_Some ch.0 channel (sym ch.1 ∙ at)) ∙ there)) in
                   ap (λ (x : Received). set.contains s.executed x.gtid) (sym same) ∙ done)),
               done_take ch.0 ch.1 runs e.0 e.1 done,
             )

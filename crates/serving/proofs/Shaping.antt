@@ -17,11 +17,13 @@ use Rattle.replica_core.specs.declared.event.Event.TheVariants.{OpenChannel, Pos
 use Rattle.replica_core.specs.declared.event.Reply.TheVariants.{SeatBusy, OwnedBy, Blocked, Early, RolledBack}
 use Rattle.replica_core.specs.State.{State, Site, owned_by, owner}
 use Rattle.replica_core.specs.Machine.{Step, is_seat, blocking, open_before, without_seat, stopped_at, take_entry, take_place, held, commit_answer, commit_held, commit, rollback, step, after}
-use Rattle.faithful_journals.proofs.Lists.{on_test, on_option, get_map, get_map_cases, same_some}
+use Rattle.faithful_journals.proofs.Lists.{on_test, get_map}
 use Rattle.serving.specs.Served.{CanReceive}
 use Rattle.serving.specs.Serving.{Naming, names_of, is_work, Works}
 use Rattle.std.proofs.lemmas.Bool.{and_parts}
 use Rattle.serving.proofs.Truths.{no_truth}
+use Rattle.std.proofs.lemmas.Option.{same_Some}
+use Rattle.rows.proofs.Lists.{on_option, get_map_cases}
 
 pub record Shape : Type 0 where
   pub naming : Naming
@@ -45,7 +47,7 @@ settled_shapes g (c ∷ cs) = λ i. (record { naming = (c.name, c.preserve); ask
 
 set_shapes : (cs : List ChannelValue) (i : ℕ) (c : ChannelValue) → slice_get cs i ≡ Some c → map shape (slice_set cs i (with_stopped true c)) ≡ map shape cs
 set_shapes [] i c at = refl
-set_shapes (d ∷ cs) zero c at = λ i. shape (sym (same_some d c at) i) ∷ map shape cs
+set_shapes (d ∷ cs) zero c at = λ i. shape (sym (same_Some d c at) i) ∷ map shape cs
 set_shapes (d ∷ cs) (suc i) c at = ap (λ (xs : List Shape). shape d ∷ xs) (set_shapes cs i c at)
 
 stopped_shapes : (i : ℕ) (cs : List ChannelValue) → map shape (stopped_at true i cs) ≡ map shape cs

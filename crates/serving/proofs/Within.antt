@@ -1,5 +1,5 @@
 -- What is executed and received stays within a set, and so does each set that an event makes.
-use Rattle.std.proofs.Common.{◌≡◌, ℕ, ◌+◌, ◌≤◌, ◌<◌, Bool, true, false, cond, ◌||◌, ◌⊎◌, inl, inr, List, [], ◌∷◌, map, Option, Some, None, refl, sym, ap, ◌∙◌, subst, arith}
+use Rattle.std.proofs.Common.{◌≡◌, ℕ, ◌≤◌, ◌<◌, Bool, true, false, ◌||◌, ◌⊎◌, inl, inr, List, [], ◌∷◌, map, Option, Some, None, refl, sym, ap, ◌∙◌, subst, arith}
 use Rattle.std.proofs.Math.Nat.{le_trans}
 use Rattle.std.specs.Prelude.{slice_get}
 use Rattle.std.specs.List.{list_any, list_all}
@@ -15,7 +15,7 @@ use Rattle.gtid_set.specs.declared.fault.SetFault.{SetFault}
 use Rattle.gtid_set.specs.declared.fault.SetFault.TheVariants.{Memory, PoolFull, SourcesFull}
 use Rattle.gtid_set.specs.Sets.{Gtids, sources_of, source_count, most_sources, gtid}
 use Rattle.gtid_set.proofs.SourceLemmas.{same_numbers}
-use Rattle.gtid_set.proofs.SetSources.{source_known, number_of_source}
+use Rattle.gtid_set.proofs.SetSources.{source_known, number_of_source, same_bool, first_of_and}
 use Rattle.rows.specs.declared.change.Transaction.{Transaction}
 use Rattle.journal.specs.declared.Entry.{Entry}
 use Rattle.journal.specs.Faults.{IsFaultOf}
@@ -28,22 +28,20 @@ use Rattle.replica_core.specs.declared.event.Reply.TheVariants.{Received as TheR
 use Rattle.replica_core.specs.State.{State, Site}
 use Rattle.replica_core.specs.Machine.{step, after, ask, Held, held_of, held_at, held}
 use Rattle.replica_core.specs.Faults.{made_by, executing_too, IsFaultIn}
-use Rattle.source_history.proofs.Tests.{or_either, or_left}
-use Rattle.source_history.proofs.Gtids.{gtid_total, gtid_same}
-use Rattle.faithful_journals.proofs.Lists.{same_test, map_some, and_then_some, not_none}
 use Rattle.faithful_journals.proofs.Covering.{is_entry, in_insert, in_gtids}
 use Rattle.faithful_runs.specs.Served.{accepted, on_channel, committed_here}
 use Rattle.faithful_runs.proofs.Receiving.{among_received}
 use Rattle.faithful_runs.proofs.Growing.{nothing}
-use Rattle.faithful_runs.proofs.Sharing.{step_moves}
+use Rattle.faithful_runs.proofs.Sharing.{step_moves, on_some}
 use Rattle.serving.specs.Served.{IsFaultWhere, IsKnown, Knows}
-use Rattle.serving.proofs.Truths.{no_truth, first_part, second_part}
+use Rattle.serving.proofs.Truths.{no_truth}
+use Rattle.std.proofs.lemmas.Bool.{or_cases, or_left}
+use Rattle.gtid_text.proofs.SameGtid.{same_is_equal, gtid_total}
+use Rattle.rows.proofs.Patching.{and_second}
+use Rattle.rows.proofs.Lists.{none_some, map_some, and_then_some}
+use Rattle.journal.proofs.FaultLemmas.{no_less}
 
 -- ---- a larger set has no fewer sources
-
-no_less : (b : Bool) (n : ℕ) → n ≤ cond b n (n + 1)
-no_less true n = omega arith
-no_less false n = omega arith
 
 abbrev with_numbers : set.FinSet nat_cmp → List ℕ → set.FinSet nat_cmp
 with_numbers s [] = s
@@ -72,8 +70,8 @@ part_len : (s t : set.FinSet nat_cmp) → ((q : ℕ) → set.contains s q ≡ tr
 part_len s t part =
     let same : with_numbers s (set.items t) ≡ t = same_numbers _ _ (λ q.
     in_numbers s (set.items t) q
-    ∙ same_test (list_any (eq_by_cmp nat_cmp q) (set.items t) || set.contains s q) (set.contains t q)
-    (λ h. elim (or_either (list_any (eq_by_cmp nat_cmp q) (set.items t)) (set.contains s q) h) [ inl there ↦ set.contains-items t q ∙ there | inr was ↦ part q was ])
+    ∙ same_bool (list_any (eq_by_cmp nat_cmp q) (set.items t) || set.contains s q) (set.contains t q)
+    (λ h. elim (or_cases (list_any (eq_by_cmp nat_cmp q) (set.items t)) (set.contains s q) h) [ inl there ↦ set.contains-items t q ∙ there | inr was ↦ part q was ])
     (λ h. or_left (list_any (eq_by_cmp nat_cmp q) (set.items t)) (set.contains s q) (sym (set.contains-items t q) ∙ h))) in
     subst (λ (u : set.FinSet nat_cmp). set.len s ≤ set.len u) same (no_fewer s (set.items t))
 
@@ -99,16 +97,12 @@ abbrev Brought : Event → Reply → Gtid → Type 0
 Brought e r g = (is_entry (committed_here e r) g ≡ true) ⊎ ((c : ℕ) × (is_entry (on_channel c e (accepted e r)) g ≡ true))
 
 accepted_alone : (c : ℕ) (entry : Entry) (r : Reply) (g : Gtid) → is_entry (accepted (Receive c entry) r) g ≡ true → g ≡ entry.gtid
-accepted_alone c entry (TheReceived p) g h = gtid_same g entry.gtid (one (same_gtid g entry.gtid) h)
+accepted_alone c entry (TheReceived p) g h = same_is_equal g entry.gtid (one (same_gtid g entry.gtid) h)
   where
     one : (b : Bool) → (b || false) ≡ true → b ≡ true
     one true e = refl
     one false e = no_truth e
 accepted_alone c entry r g h = nothing g h
-
-where_true : (b : Bool) (xs : List Entry) (g : Gtid) → is_entry (cond b xs []) g ≡ true → is_entry xs g ≡ true
-where_true true xs g h = h
-where_true false xs g h = nothing g h
 
 none_brought : {P : Type 0} (g : Gtid) → ((is_entry [] g ≡ true) ⊎ ((c : ℕ) × (is_entry [] g ≡ true))) → P
 none_brought g (inl h) = nothing g h
@@ -118,7 +112,7 @@ brings_of : (all : Gtids) (e : Event) (r : Reply) (g : Gtid) → is_of all e ≡
 brings_of all (OpenChannel name preserve) r g of b = none_brought g b
 brings_of all (Position c) r g of b = none_brought g b
 brings_of all (Receive c entry) r g of (inl h) = nothing g h
-brings_of all (Receive c entry) r g of (inr h) = ap (set.contains all) (accepted_alone c entry r g (where_true _ (accepted (Receive c entry) r) g h.1)) ∙ of
+brings_of all (Receive c entry) r g of (inr h) = ap (set.contains all) (accepted_alone c entry r g (on_some _ (accepted (Receive c entry) r) g h.1)) ∙ of
 brings_of all (Take seat c p) r g of b = none_brought g b
 brings_of all (Commit seat) r g of b = none_brought g b
 brings_of all (Rollback seat) r g of b = none_brought g b
@@ -135,7 +129,7 @@ knows_step all site s e of within g k = elim ((step_moves site s e).origin g k) 
 pub knows_after : (all : Gtids) (site : Site) (s : State) (es : List Event) → list_all (is_of all) es ≡ true → Knows s all → Knows (after site s es) all
 knows_after all site s [] of within = within
 knows_after all site s (e ∷ es) of within =
-    knows_after all site (step site s e).1 es (second_part (is_of all e) (list_all (is_of all) es) of) (knows_step all site s e (first_part (is_of all e) (list_all (is_of all) es) of) within)
+    knows_after all site (step site s e).1 es (and_second (is_of all e) (list_all (is_of all) es) of) (knows_step all site s e (first_of_and (is_of all e) (list_all (is_of all) es) of) within)
 
 -- ---- the set that an event makes
 
@@ -143,7 +137,7 @@ known_received : (s : State) (c : ℕ) (ch : ChannelValue) (g : Gtid) → slice_
 known_received s c ch g at h = inr (c, ch, at, among_received ch.received g (sym (in_gtids (map (λ (e : Received). e.gtid) ch.received) g) ∙ h))
 
 known_asked : (s : State) (c : ℕ) (ch : ChannelValue) (g : Gtid) → slice_get s.channels c ≡ Some ch → set.contains (ask s ch) g ≡ true → IsKnown s g
-known_asked s c ch g at h = elim (or_either (set.contains s.executed g) (set.contains (received_gtids ch.received) g) (sym (contains-union gtid_total s.executed (received_gtids ch.received) g) ∙ h)) [
+known_asked s c ch g at h = elim (or_cases (set.contains s.executed g) (set.contains (received_gtids ch.received) g) (sym (contains-union gtid_total s.executed (received_gtids ch.received) g) ∙ h)) [
   | inl done ↦ inl done
   | inr there ↦ known_received s c ch g at there
 ]
@@ -158,8 +152,8 @@ known_held s seat h e =
     inr (a.0.channel, b.0, b.1, (a.0.place, c.0, c.1, ap (λ (x : Held). x.gtid) d.2))
 
 with_one : (all s : Gtids) (g h : Gtid) → set.contains all g ≡ true → (set.contains s h ≡ true → set.contains all h ≡ true) → set.contains (set.insert s g) h ≡ true → set.contains all h ≡ true
-with_one all s g h here there i = elim (or_either (same_gtid h g) (set.contains s h) (sym (in_insert s g h) ∙ i)) [
-  | inl is ↦ ap (set.contains all) (gtid_same h g is) ∙ here
+with_one all s g h here there i = elim (or_cases (same_gtid h g) (set.contains s h) (sym (in_insert s g h) ∙ i)) [
+  | inl is ↦ ap (set.contains all) (same_is_equal h g is) ∙ here
   | inr was ↦ there was
 ]
 
@@ -167,22 +161,22 @@ abbrev IsPart : Gtids → Gtids → Type 0
 IsPart s t = (g : Gtid) → set.contains s g ≡ true → set.contains t g ≡ true
 
 made_part : (all : Gtids) (site : Site) (s : State) (e : Event) (made : Gtids) → is_of all e ≡ true → Knows s all → made_by site s e ≡ Some made → IsPart made all
-made_part all site s (OpenChannel name preserve) made of within is g h = not_none made is
+made_part all site s (OpenChannel name preserve) made of within is g h = none_some made is
 made_part all site s (Position c) made of within is g h =
     let r = map_some (ask s) (slice_get s.channels c) made is in
     within g (known_asked s c r.0 g r.1 (ap (λ (x : Gtids). set.contains x g) r.2 ∙ h))
 made_part all site s (Receive c entry) made of within is g h =
     let r = map_some (gtids_with entry) (slice_get s.channels c) made is in
     with_one all (received_gtids r.0.received) entry.gtid g of (λ there. within g (known_received s c r.0 g r.1 there)) (ap (λ (x : Gtids). set.contains x g) r.2 ∙ h)
-made_part all site s (Take seat c p) made of within is g h = not_none made is
+made_part all site s (Take seat c p) made of within is g h = none_some made is
 made_part all site s (Commit seat) made of within is g h =
     let r = map_some (λ (x : Held). executing_too s x.gtid) (held s seat) made is in
     with_one all s.executed r.0.gtid g (within r.0.gtid (known_held s seat r.0 r.1)) (λ there. within g (inl there)) (ap (λ (x : Gtids). set.contains x g) r.2 ∙ h)
-made_part all site s (Rollback seat) made of within is g h = not_none made is
-made_part all site s (Restart c) made of within is g h = not_none made is
+made_part all site s (Rollback seat) made of within is g h = none_some made is
+made_part all site s (Restart c) made of within is g h = none_some made is
 made_part all site s (Local txn) made of within is g h = no_truth of
 made_part all site s (Purge k) made of within is g h = no_truth of
-made_part all site s Look made of within is g h = not_none made is
+made_part all site s Look made of within is g h = none_some made is
 
 -- ---- faults
 

@@ -2,9 +2,7 @@
 use Rattle.std.proofs.Common.{◌≡◌, ℕ, ◌==◌, true, List, refl, sym, ◌∙◌}
 use Rattle.std.specs.Prelude.{Option, Some, None, if◌then◌else◌}
 use Rattle.std.specs.FinSet as set
-use Rattle.std.specs.Ordering.{is_eq, eq_by_cmp, nat_cmp}
-use Rattle.std.specs.declared.cmp.Ordering.{Ordering}
-use Rattle.std.specs.declared.cmp.Ordering.TheVariants.{Less, Equal, Greater}
+use Rattle.std.specs.Ordering.{eq_by_cmp, nat_cmp}
 use Rattle.std.specs.Cmp.Lexicographic.{slice_cmp}
 use Rattle.std.specs.FinMap.{nat_cmp-IsAntisymmetric, slice_cmp-IsAntisymmetric}
 use Rattle.gtid_set.specs.Sets.{Gtids}
@@ -18,6 +16,7 @@ use Rattle.replica_core.specs.declared.event.Reply.{Reply}
 use Rattle.replica_core.specs.declared.event.Reply.TheVariants as reply
 use Rattle.shared_replica.specs.declared.same.Form.{Form}
 use Rattle.shared_replica.specs.Forms.{no_gtid, with_fault, cause_number, form_of, set_in}
+use Rattle.rows.proofs.Equal.{eq_of}
 
 abbrev pub cause_of : ℕ → Misfit
 cause_of n = if n == 0 then NoTable else if n == 1 then Columns else if n == 2 then NullInPrimary else if n == 3 then TooLong else TooMany
@@ -123,11 +122,6 @@ same_reply a b f s = sym (reply_back a) ∙ (λ i. reply_of (f i) (s i)) ∙ rep
 
 -- ---- names
 
-eq_of_test : (r : Ordering) → is_eq r ≡ true → r ≡ Equal
-eq_of_test Less e = cc
-eq_of_test Equal e = refl
-eq_of_test Greater e = cc
-
 -- two names that are tested equal are one name
 pub name_same : (a b : List ℕ) → eq_by_cmp (slice_cmp nat_cmp) a b ≡ true → a ≡ b
-name_same a b e = slice_cmp-IsAntisymmetric nat_cmp-IsAntisymmetric a b (eq_of_test (slice_cmp nat_cmp a b) e)
+name_same a b e = slice_cmp-IsAntisymmetric nat_cmp-IsAntisymmetric a b (eq_of (slice_cmp nat_cmp a b) e)

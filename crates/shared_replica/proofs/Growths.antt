@@ -1,6 +1,6 @@
 -- With each Committed the executed set grows by one.
 use Rattle.std.proofs.Common.{◌≡◌, ℕ, ◌+◌, Bool, true, false, not, cond, refl, sym, ap, subst, ◌∙◌, arith, length, nat_lt}
-use Rattle.std.specs.Prelude.{Option, Some, None, All, List, [], ◌∷◌, Result, Ok, Err, find, is_some, ◌&&◌, slice_get, option_map, option_and_then, if◌then◌else◌}
+use Rattle.std.specs.Prelude.{Option, Some, None, All, List, [], ◌∷◌, Result, Ok, Err, find, is_some, ◌&&◌, slice_get, option_and_then, if◌then◌else◌}
 use Rattle.std.specs.Option.{option_map_or}
 use Rattle.std.specs.List.{range_with_len}
 use Rattle.std.specs.FinSet as set
@@ -10,7 +10,6 @@ use Rattle.std.proofs.lemmas.List.Elements.{All-get_or}
 use Rattle.std.proofs.lemmas.Option.{slice_get_within, get_or_from_slice_get}
 use Rattle.gtid_text.specs.declared.Gtid.{Gtid}
 use Rattle.gtid_set.specs.Sets.{Gtids, gtid, least_number, greatest}
-use Rattle.gtid_set.proofs.SetLemmas.{gtid_total}
 use Rattle.rows.specs.declared.schema.Table.{Table}
 use Rattle.rows.specs.declared.change.RowFault.{RowFault}
 use Rattle.rows.specs.declared.change.Transaction.{Transaction}
@@ -29,6 +28,9 @@ use Rattle.replica_core.specs.Machine.{Step, is_seat, Held, held, held_at, held_
 use Rattle.shared_replica.specs.History.{is_commit, IsStep}
 use Rattle.commit_ledger.specs.Tallies.{one_if}
 use Rattle.shared_replica.proofs.Quiet.{Quiet, either_way, any_option, quiet_open, quiet_receive, quiet_take, quiet_rollback, quiet_restart}
+use Rattle.gtid_text.proofs.SameGtid.{gtid_total}
+use Rattle.rows.proofs.Lists.{map_some, and_then_some}
+use Rattle.replica_core.proofs.ReceiveLemmas.{found_by}
 
 -- the executed set has grown by one where the reply is Committed, and not else
 abbrev pub Grows : State → Step → Type 0
@@ -54,14 +56,6 @@ known_option P f (Some x) d p q = p x refl
 get_of : {X : Type 0} (P : X → Type 0) (xs : List X) (i : ℕ) (x : X) → slice_get xs i ≡ Some x → All P xs → P x
 get_of P xs i x at all = subst P (get_or_from_slice_get xs i x x at) (All-get_or P xs i x (slice_get_within xs i x at) all)
 
-inner : {A B : Type 0} (f : A → Option B) (o : Option A) (y : B) → option_and_then f o ≡ Some y → (x : A) × (o ≡ Some x) × (f x ≡ Some y)
-inner f None y h = absurd (cc h)
-inner f (Some x) y h = (x, refl, h)
-
-mapped : {A B : Type 0} (f : A → B) (o : Option A) (y : B) → option_map f o ≡ Some y → (x : A) × (o ≡ Some x) × (f x ≡ y)
-mapped f None y h = absurd (cc h)
-mapped f (Some x) y h = (x, refl, cc h)
-
 not_there : (b : Bool) → true ≡ not b → b ≡ false
 not_there true h = absurd (cc h)
 not_there false h = refl
@@ -69,13 +63,13 @@ not_there false h = refl
 -- the GTID that a seat holds is not executed
 held_is_new : (schema : List Table) (s : State) (seat : ℕ) (h : Held) → AreKept schema s.executed s.channels → held s seat ≡ Some h → set.contains s.executed h.gtid ≡ false
 held_is_new schema s seat h kept at =
-    let a = inner (held_at s) (finmap.get s.seats seat) h at in
+    let a = and_then_some (held_at s) (finmap.get s.seats seat) h at in
     let spot = a.0 in
-    let b = inner (λ (channel : ChannelValue). option_and_then (held_of spot channel) (slice_get channel.received spot.place)) (slice_get s.channels spot.channel) h a.2 in
+    let b = and_then_some (λ (channel : ChannelValue). option_and_then (held_of spot channel) (slice_get channel.received spot.place)) (slice_get s.channels spot.channel) h a.2 in
     let channel = b.0 in
-    let c = inner (held_of spot channel) (slice_get channel.received spot.place) h b.2 in
+    let c = and_then_some (held_of spot channel) (slice_get channel.received spot.place) h b.2 in
     let e = c.0 in
-    let d = mapped (λ (t : Transaction). let x : Held = record { spot = spot; channel = channel; gtid = e.gtid; txn = t } in x) e.txn h c.2 in
+    let d = map_some (λ (t : Transaction). let x : Held = record { spot = spot; channel = channel; gtid = e.gtid; txn = t } in x) e.txn h c.2 in
     let keeps : IsKept schema s.executed e = get_of (IsKept schema s.executed) channel.received spot.place e c.1
     (get_of (λ (x : ChannelValue). All (IsKept schema s.executed) x.received) s.channels spot.channel channel b.1 kept) in
     let there : is_some e.txn ≡ true = ap (λ (o : Option Transaction). is_some o) d.1 in
@@ -94,10 +88,6 @@ commit_grows site seat s kept =
     (answer_grows h.gtid h.txn seat h.spot.channel s (held_is_new site.schema s seat h kept at) (apply site.schema h.txn s.rows))) (omega arith))
 
 -- ---- Local
-
-found_by : (test : ℕ → Bool) (a n : ℕ) (b : Bool) (rest : Option ℕ) → test a ≡ b → (rest ≡ Some n → test n ≡ true) → cond b (Some a) rest ≡ Some n → test n ≡ true
-found_by test a n true rest is h at = let same : a ≡ n = cc at in ap test (sym same) ∙ is
-found_by test a n false rest is h at = h at
 
 found_test : (test : ℕ → Bool) (xs : List ℕ) (n : ℕ) → find test xs ≡ Some n → test n ≡ true
 found_test test [] n at = absurd (cc at)

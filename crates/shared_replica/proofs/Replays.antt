@@ -4,12 +4,13 @@ use Rattle.std.proofs.lemmas.List.Sums.{sum_by-append}
 use Rattle.commit_ledger.specs.Tallies.{Tally, one_if, one_more}
 use Rattle.replica_core.specs.declared.event.Event.{Event}
 use Rattle.replica_core.specs.declared.event.Reply.{Reply}
-use Rattle.replica_core.specs.State.{Site, State, Replica}
+use Rattle.replica_core.specs.State.{State, Replica}
 use Rattle.replica_core.specs.Machine.{step, replies, after}
 use Rattle.replica_core.specs.Kept.{AreKept}
 use Rattle.shared_replica.specs.declared.step.Step.{Step}
 use Rattle.shared_replica.specs.History.{line, events_of, replies_of, is_commit, commits_in, tally_in, IsStep, IsReplay, IsBook}
 use Rattle.shared_replica.proofs.Growths.{step_grows}
+use Rattle.replica_core.proofs.RunLemmas.{replies_more, after_more}
 
 events_more : (steps : List Step) (e : Event) (r : Reply) → events_of (steps ++ line e r ∷ []) ≡ events_of steps ++ e ∷ []
 events_more [] e r = refl
@@ -18,14 +19,6 @@ events_more (s ∷ ss) e r = ap (λ l. s.event ∷ l) (events_more ss e r)
 replies_of_more : (steps : List Step) (e : Event) (r : Reply) → replies_of (steps ++ line e r ∷ []) ≡ replies_of steps ++ r ∷ []
 replies_of_more [] e r = refl
 replies_of_more (s ∷ ss) e r = ap (λ l. s.reply ∷ l) (replies_of_more ss e r)
-
-replies_more : (site : Site) (s : State) (es : List Event) (e : Event) → replies site s (es ++ e ∷ []) ≡ replies site s es ++ (step site (after site s es) e).0 ∷ []
-replies_more site s [] e = refl
-replies_more site s (x ∷ es) e = ap (λ rs. (step site s x).0 ∷ rs) (replies_more site (step site s x).1 es e)
-
-after_more : (site : Site) (s : State) (es : List Event) (e : Event) → after site s (es ++ e ∷ []) ≡ (step site (after site s es) e).1
-after_more site s [] e = refl
-after_more site s (x ∷ es) e = after_more site (step site s x).1 es e
 
 -- the step was made of the replica to which the steps lead
 made_after : (opening : Replica) (steps : List Step) (old : Replica) (e : Event) (r : Reply) (new : Replica)

@@ -15,11 +15,13 @@ use Rattle.rows.proofs.Carriers.{apply_keeps_carriers}
 use Rattle.source_history.specs.World.{World, Entry, apply_all, rows_of, entries_in, of_source, IsClosed}
 use Rattle.source_history.specs.Join.{join, either, both, JoinLaws}
 use Rattle.source_history.specs.Laws.{ClosedSetsApply, AloneOrTogether, RowsAreCarriers, ClosedUnderUnion, ClosedUnderIntersection, ClosedSetsAreALattice}
-use Rattle.source_history.proofs.Tests.{or_either, or_left, or_right, and_both, both_and, or_swapped, or_grouped, or_itself}
-use Rattle.source_history.proofs.Gtids.{gtid_total, gtid_exact}
+use Rattle.source_history.proofs.Tests.{or_itself}
 use Rattle.source_history.proofs.Merging.{got, closed_applies, all_histories, alone_from_all}
+use Rattle.std.proofs.lemmas.Bool.{or_cases, or_left, or_right, and_parts, and_from}
+use mathlib.Core.Bool.{or_comm, or_assoc}
+use Rattle.gtid_text.proofs.SameGtid.{gtid_total, gtid_exact}
 
-is_ok_of : {A E : Type 0} (r : Result A E) (a : A) → r ≡ Ok a → IsOk r
+pub is_ok_of : {A E : Type 0} (r : Result A E) (a : A) → r ≡ Ok a → IsOk r
 is_ok_of (Ok x) a e = refl
 is_ok_of (Err d) a e = cc
 
@@ -35,7 +37,7 @@ alone_or_together world keys = (
 
 -- ---- no key has a second row
 
-ok_same : (a b : Rows) → ◌≡◌ {A = Result Rows RowFault} (Ok a) (Ok b) → a ≡ b
+pub ok_same : (a b : Rows) → ◌≡◌ {A = Result Rows RowFault} (Ok a) (Ok b) → a ≡ b
 ok_same a b e = cc
 
 carriers_after : (schema : List Table) (es : List Entry) (rows new : Rows) → AreCarriers schema rows → apply_all schema es rows ≡ Ok new → AreCarriers schema new
@@ -52,8 +54,8 @@ rows_are_carriers world S rows opening e = carriers_after world.schema (entries_
 pub closed_under_union : ClosedUnderUnion
 closed_under_union world S U c d = record {
   opened = λ g e. or_left (S g) (U g) (c.opened g e);
-  known = λ g e. elim (or_either (S g) (U g) e) [ inl p ↦ c.known g p | inr q ↦ d.known g q ];
-  earlier = λ g h t u f k s l m e. elim (or_either (S h) (U h) e) [
+  known = λ g e. elim (or_cases (S g) (U g) e) [ inl p ↦ c.known g p | inr q ↦ d.known g q ];
+  earlier = λ g h t u f k s l m e. elim (or_cases (S h) (U h) e) [
     | inl p ↦ or_left (S g) (U g) (c.earlier g h t u f k s l m p)
     | inr q ↦ or_right (S g) (U g) (d.earlier g h t u f k s l m q)
   ];
@@ -61,9 +63,9 @@ closed_under_union world S U c d = record {
 
 pub closed_under_intersection : ClosedUnderIntersection
 closed_under_intersection world S U c d = record {
-  opened = λ g e. both_and (S g) (U g) (c.opened g e) (d.opened g e);
-  known = λ g e. c.known g (and_both (S g) (U g) e).0;
-  earlier = λ g h t u f k s l m e. let two = and_both (S h) (U h) e in both_and (S g) (U g) (c.earlier g h t u f k s l m two.0) (d.earlier g h t u f k s l m two.1);
+  opened = λ g e. and_from (S g) (U g) (c.opened g e) (d.opened g e);
+  known = λ g e. c.known g (and_parts (S g) (U g) e).0;
+  earlier = λ g h t u f k s l m e. let two = and_parts (S h) (U h) e in and_from (S g) (U g) (c.earlier g h t u f k s l m two.0) (d.earlier g h t u f k s l m two.1);
 }
 
 -- a set that is equal to a closed one is closed
@@ -87,16 +89,16 @@ in_join a b g = contains-union gtid_total a b g
 
 pub join_laws : JoinLaws
 join_laws = record {
-  commutative = λ a b. same_set gtid_total gtid_exact _ _ (λ g. in_join a b g ∙ (or_swapped (set.contains a g) (set.contains b g) ∙ sym (in_join b a g)));
+  commutative = λ a b. same_set gtid_total gtid_exact _ _ (λ g. in_join a b g ∙ (or_comm (set.contains a g) (set.contains b g) ∙ sym (in_join b a g)));
   associative = λ a b c. same_set gtid_total gtid_exact _ _ (λ g.
       in_join (join a b) c g ∙ (ap (λ x. x || set.contains c g) (in_join a b g)
-      ∙ (or_grouped (set.contains a g) (set.contains b g) (set.contains c g)
+      ∙ (or_assoc (set.contains a g) (set.contains b g) (set.contains c g)
       ∙ (ap (λ x. set.contains a g || x) (sym (in_join b c g)) ∙ sym (in_join a (join b c) g)))));
   idempotent = λ a. same_set gtid_total gtid_exact _ _ (λ g. in_join a a g ∙ or_itself (set.contains a g));
   above_left = λ a b. contains-is_subset gtid_total a (join a b) (λ g h. in_join a b g ∙ or_left (set.contains a g) (set.contains b g) h);
   above_right = λ a b. contains-is_subset gtid_total b (join a b) (λ g h. in_join a b g ∙ or_right (set.contains a g) (set.contains b g) h);
   least = λ a b c p q. contains-is_subset gtid_total (join a b) c (λ g h.
-      elim (or_either (set.contains a g) (set.contains b g) (sym (in_join a b g) ∙ h)) [
+      elim (or_cases (set.contains a g) (set.contains b g) (sym (in_join a b g) ∙ h)) [
         | inl i ↦ is_subset-contains gtid_total a c p g i
         | inr j ↦ is_subset-contains gtid_total b c q g j
       ]);

@@ -1,25 +1,26 @@
 -- Transactions that are committed one after another.
-use Rattle.std.proofs.Common.{cond, ◌≡◌, Bool, true, false, ◌||◌, ◌⊎◌, inl, inr, List, [], ◌∷◌, Option, Some, None, Result, Ok, refl, sym, ap, ◌∙◌}
+use Rattle.std.proofs.Common.{cond, ◌≡◌, Bool, true, false, ◌||◌, ◌⊎◌, inl, inr, List, [], ◌∷◌, Option, Some, None, Ok, refl, sym, ap, ◌∙◌}
 use Rattle.std.specs.Prelude.{IsSome}
 use Rattle.std.specs.List.{filter, AllByRecursion}
 use Rattle.std.specs.FinMap.{entries}
 use Rattle.rows.specs.declared.change.Transaction.{Transaction}
-use Rattle.rows.specs.declared.change.RowFault.{RowFault}
 use Rattle.rows.specs.Apply.{Rows, ◌>>=◌}
 use Rattle.gtid_text.specs.declared.Gtid.{Gtid}
 use Rattle.source_history.specs.World.{World, Entry, apply_all, content, is_opened, rows_of, AreKeysSound, IsSound, IsClosed}
 use Rattle.source_history.specs.Commits.{with_one, with_each, apply_known, rows_after, IsCommitOrder}
 use Rattle.source_history.specs.Laws.{CommitOrderIsFree, CommitOrdersAgree, LateCommit, EarlyCommit, OpeningIsClosed}
-use Rattle.source_history.proofs.Tests.{not_both}
-use Rattle.source_history.proofs.Gtids.{same_gtid_self, same_gtid_other}
+use Rattle.source_history.proofs.Gtids.{same_gtid_other}
 use Rattle.source_history.proofs.Placing.{AddsOne, all_map}
 use Rattle.source_history.proofs.Entries.{found}
 use Rattle.source_history.proofs.Merging.{late_commit, early_commit}
+use Rattle.gtid_text.proofs.SameGtid.{same_itself}
+use Rattle.rows.proofs.Patching.{not_both}
+use Rattle.source_history.proofs.Closing.{ok_same}
 
 pub adds_one : (S : Gtid → Bool) (g : Gtid) → S g ≡ false → AddsOne S (with_one S g) g
 adds_one S g n = record {
   absent = n;
-  present = ap (λ b. b || S g) (same_gtid_self g);
+  present = ap (λ b. b || S g) (same_itself g);
   others = λ h other. ap (λ b. b || S h) (same_gtid_other h g other);
 }
 
@@ -48,7 +49,7 @@ commits world S (g ∷ gs) rows sound closed order e =
     let rest = commits world (with_one S g) gs step.0 sound order.1 order.2 step.2 in
     (rest.0, ap (λ o. apply_known world.schema o rows >>= rows_after world gs) t.1 ∙ ap (λ r. r >>= rows_after world gs) step.1 ∙ rest.1, rest.2)
 
-some_is : {A : Type 0} (o : Option A) (x : A) → o ≡ Some x → IsSome o
+pub some_is : {A : Type 0} (o : Option A) (x : A) → o ≡ Some x → IsSome o
 some_is (Some y) x e = refl
 some_is None x e = cc
 
@@ -76,9 +77,6 @@ commit_order_is_free world gs sound order = commits world (is_opened world) gs w
 -- equal sets stand for the same rows
 pub same_rows_of : (world : World) (S U : Gtid → Bool) → ((g : Gtid) → S g ≡ U g) → rows_of world S ≡ rows_of world U
 same_rows_of world S U h = λ i. rows_of world (λ g. h g i)
-
-ok_same : (a b : Rows) → ◌≡◌ {A = Result Rows RowFault} (Ok a) (Ok b) → a ≡ b
-ok_same a b e = cc
 
 pub commit_orders_agree : CommitOrdersAgree
 commit_orders_agree world gs hs sound order other same =

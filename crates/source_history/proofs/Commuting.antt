@@ -14,7 +14,8 @@ use Rattle.rows.specs.WriteSet.{touches, shares_key, write_set, is_among, left_b
 use Rattle.rows.specs.Total.{key_eq_same}
 use Rattle.rows.proofs.Local.{same_rows, bind_ok, after_apply, left-touches, apply_alike}
 use Rattle.source_history.specs.World.{Entry, apply_all}
-use Rattle.source_history.proofs.Tests.{true_or_false, not_both, or_either, neither}
+use Rattle.std.proofs.lemmas.Bool.{cases_Bool, or_cases, or_parts}
+use Rattle.rows.proofs.Patching.{not_both}
 
 -- no key is touched by both
 abbrev pub AreApart : List Table → Transaction → Transaction → Type 0
@@ -22,13 +23,13 @@ AreApart schema t u = (k : Key) → touches schema t k ≡ true → touches sche
 
 pub apart_back : (schema : List Table) (t u : Transaction) → AreApart schema t u → AreApart schema u t
 apart_back schema t u h k e =
-    elim (true_or_false (touches schema t k)) [ inl p ↦ not_both (touches schema u k) e (h k p) | inr n ↦ n ]
+    elim (cases_Bool (touches schema t k)) [ inl p ↦ not_both (touches schema u k) e (h k p) | inr n ↦ n ]
 
 none_passes : (p : Key → Bool) (keys : List Key) → list_any p keys ≡ false → (k : Key) → is_among keys k ≡ true → p k ≡ false
 none_passes p [] n k e = cc
 none_passes p (x ∷ keys) n k e =
-    let both = neither (p x) (list_any p keys) n in
-    elim (or_either (key_eq k x) (is_among keys k) e) [
+    let both = or_parts (p x) (list_any p keys) n in
+    elim (or_cases (key_eq k x) (is_among keys k) e) [
       | inl here ↦ ap p (key_eq_same k x here) ∙ both.0
       | inr later ↦ none_passes p keys both.1 k later
     ]
@@ -36,7 +37,7 @@ none_passes p (x ∷ keys) n k e =
 pub apart_from_test : (schema : List Table) (t u : Transaction) → shares_key schema t u ≡ false → AreApart schema t u
 apart_from_test schema t u n k e = none_passes (touches schema u) (write_set schema t) n k e
 
-none_of : {A : Type 0} (o : Option A) → is_some o ≡ false → o ≡ None
+pub none_of : {A : Type 0} (o : Option A) → is_some o ≡ false → o ≡ None
 none_of None e = refl
 none_of (Some x) e = cc
 
@@ -76,7 +77,7 @@ swap schema t u a b c h e f =
     (m.0, m.1, n.1 ∙ ap Ok same)
   where
     one_untouched : (k : Key) → (left_by schema t k ≡ None) ⊎ (left_by schema u k ≡ None)
-    one_untouched k = elim (true_or_false (touches schema t k)) [ inl p ↦ inr (not_touched schema u k (h k p)) | inr n ↦ inl (not_touched schema t k n) ]
+    one_untouched k = elim (cases_Bool (touches schema t k)) [ inl p ↦ inr (not_touched schema u k (h k p)) | inr n ↦ inl (not_touched schema t k n) ]
 
 -- A transaction may be moved behind others that share no key with it.
 pub move_behind : (schema : List Table) (t : Transaction) (es : List Entry) (a b c : Rows) → AllByRecursion (λ e. AreApart schema t e.1) es → apply schema t a ≡ Ok b → apply_all schema es b ≡ Ok c → (m : Rows) × (apply_all schema es a ≡ Ok m) × (apply schema t m ≡ Ok c)

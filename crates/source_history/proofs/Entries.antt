@@ -6,17 +6,18 @@ use Rattle.std.specs.Ordering.{is_lt, is_eq, ordering_reverse}
 use Rattle.std.specs.List.{AllByRecursion}
 use Rattle.std.specs.FinMap.{entries, entries_sorted, get-entries, find, is_sorted}
 use Rattle.std.specs.FinMap.Entries.{below_all}
-use Rattle.std.proofs.lemmas.Bool.{eqb-true, eq-eqb}
+use Rattle.std.proofs.lemmas.Bool.{eqb-true, eq-eqb, cases_Bool}
 use Rattle.std.proofs.lemmas.Cmp.{tied_itself}
 use Rattle.rows.specs.declared.change.Transaction.{Transaction}
 use Rattle.rows.specs.WriteSet.{shares_key}
 use Rattle.gtid_text.specs.declared.Gtid.{Gtid}
 use Rattle.gtid_text.specs.Gtids.{gtid_cmp}
 use Rattle.source_history.specs.World.{World, Entry, content, of_source, AreKeysSound, IsClosed}
-use Rattle.source_history.proofs.Tests.{true_or_false, not_both}
-use Rattle.source_history.proofs.Gtids.{gtid_total, gtid_exact, number_less}
+use Rattle.source_history.proofs.Gtids.{number_less}
 use Rattle.source_history.proofs.Commuting.{AreApart, apart_from_test}
 use Rattle.source_history.proofs.Placing.{IsClosedIn, AreDistinct, AreSourcesApart, IsIn, all_map, all_map_two}
+use Rattle.gtid_text.proofs.SameGtid.{gtid_total, gtid_exact}
+use Rattle.rows.proofs.Patching.{not_both}
 
 abbrev pub IsRising : List Entry → Type 0
 IsRising [] = Unit {0}
@@ -115,10 +116,10 @@ sources_apart world sound (e ∷ es) h = (
 -- one that is left out, and a later one that is in the set
 apart_left_out : (world : World) (S : Gtid → Bool) → AreKeysSound world → IsClosed world S → (g h : Gtid) (t u : Transaction) → content world g ≡ Some t → content world h ≡ Some u → gtid_cmp g h ≡ Less → S g ≡ false → S h ≡ true → AreApart world.schema t u
 apart_left_out world S sound closed g h t u f k l n y =
-    elim (true_or_false (eqb g.source h.source)) [
+    elim (cases_Bool (eqb g.source h.source)) [
       | inl same ↦
           let s : g.source ≡ h.source = eqb-true g.source h.source same in
-          elim (true_or_false (shares_key world.schema t u)) [
+          elim (cases_Bool (shares_key world.schema t u)) [
             | inl shares ↦ not_both (S g) (closed.earlier g h t u f k s (number_less g h l s) shares y) n
             | inr none ↦ apart_from_test world.schema t u none
           ]

@@ -1,30 +1,13 @@
 -- The order of identifiers.
-use Rattle.std.proofs.Common.{◌≡◌, ◌≢◌, ℕ, ◌<◌, true, false, eqb, refl, sym, ap, ◌∙◌, subst}
+use Rattle.std.proofs.Common.{◌≡◌, ◌≢◌, ℕ, ◌<◌, false, refl, sym, ap, ◌∙◌, subst}
 use Rattle.std.specs.declared.cmp.Ordering.{Ordering}
 use Rattle.std.specs.declared.cmp.Ordering.TheVariants.{Less, Equal, Greater}
 use Rattle.std.specs.Ordering.{nat_cmp, ordering_then, MatchOrdering}
-use Rattle.std.proofs.lemmas.Bool.{eqb-true, eq-eqb}
-use Rattle.std.specs.Cmp.{IsTotalOrder}
-use Rattle.std.specs.FinMap.{IsAntisymmetric, nat_cmp-IsAntisymmetric}
-use Rattle.std.proofs.lemmas.Cmp.{then_total, on_total, nat_cmp_total, ranked, tied_itself}
+use Rattle.std.proofs.lemmas.Bool.{false_from_ne_true}
+use Rattle.std.proofs.lemmas.Cmp.{nat_cmp_total, ranked, tied_itself}
 use Rattle.gtid_text.specs.declared.Gtid.{Gtid}
 use Rattle.gtid_text.specs.Gtids.{gtid_cmp, same_gtid}
-use Rattle.source_history.proofs.Tests.{not_true, and_both, both_and}
-
-pub gtid_total : IsTotalOrder gtid_cmp
-gtid_total = then_total (on_total (λ g. g.source) nat_cmp_total) (on_total (λ g. g.number) nat_cmp_total)
-
-both_equal : (a b : Ordering) → ordering_then a b ≡ Equal → (a ≡ Equal) × (b ≡ Equal)
-both_equal Less b e = cc
-both_equal Equal b e = (refl, e)
-both_equal Greater b e = cc
-
-pub gtid_exact : IsAntisymmetric gtid_cmp
-gtid_exact g h e =
-    let p = both_equal (nat_cmp g.source h.source) _ e in
-    let s : g.source ≡ h.source = nat_cmp-IsAntisymmetric _ _ p.0 in
-    let n : g.number ≡ h.number = nat_cmp-IsAntisymmetric _ _ p.1 in
-    λ j. record { source = s j; number = n j }
+use Rattle.gtid_text.proofs.SameGtid.{same_is_equal}
 
 second_less : (r t : Ordering) → r ≡ Equal → ordering_then r t ≡ Less → t ≡ Less
 second_less Less t p e = cc
@@ -40,15 +23,5 @@ number_less g h e s =
     nat_itself : (n : ℕ) → nat_cmp n n ≡ Equal
     nat_itself n = tied_itself nat_cmp_total n
 
-pub same_gtid_self : (g : Gtid) → same_gtid g g ≡ true
-same_gtid_self g = both_and (eqb g.source g.source) (eqb g.number g.number) (eq-eqb g.source g.source refl) (eq-eqb g.number g.number refl)
-
-pub gtid_same : (g h : Gtid) → same_gtid g h ≡ true → g ≡ h
-gtid_same g h e =
-    let p = and_both (eqb g.source h.source) (eqb g.number h.number) e in
-    let s : g.source ≡ h.source = eqb-true g.source h.source p.0 in
-    let n : g.number ≡ h.number = eqb-true g.number h.number p.1 in
-    λ j. record { source = s j; number = n j }
-
 pub same_gtid_other : (g h : Gtid) → g ≢ h → same_gtid g h ≡ false
-same_gtid_other g h n = not_true (same_gtid g h) (λ e. n (gtid_same g h e))
+same_gtid_other g h n = false_from_ne_true (same_gtid g h) (λ e. n (same_is_equal g h e))

@@ -19,11 +19,12 @@ use Rattle.rows.specs.WriteSet.{shares_key}
 use Rattle.source_history.specs.World.{Entry, content, is_opened, apply_all, HasNumber, AreKeysSound, IsSound, IsClosed}
 use Rattle.source_history.specs.Commits.{with_one, IsCommitOrder}
 use Rattle.source_history.specs.SmallWorld.{accounts, account, nth_of, opens_first, changes_first, opens_second, small_history, small_world, first_of_each, SoundWorldsExist}
-use Rattle.source_history.proofs.Tests.{or_either, not_both}
-use Rattle.source_history.proofs.Gtids.{gtid_same}
 use Rattle.source_history.proofs.Placing.{IsIn, all_in}
 use Rattle.source_history.proofs.Entries.{is_in}
 use Rattle.source_history.proofs.Closing.{alone_or_together}
+use Rattle.std.proofs.lemmas.Bool.{or_cases}
+use Rattle.gtid_text.proofs.SameGtid.{same_is_equal}
+use Rattle.rows.proofs.Patching.{not_both}
 
 -- ---- what is in it
 
@@ -189,7 +190,7 @@ closed_if S known h = record {
 }
 
 has_content : (s n : ℕ) (t : Transaction) (g : Gtid) → map.find gtid_cmp (nth_of s n) small_history ≡ Some t → same_gtid g (nth_of s n) ≡ true → IsSome (content small_world g)
-has_content s n t g e same = is_some_of (content small_world g) t (ap (content small_world) (gtid_same g (nth_of s n) same) ∙ (content_is (nth_of s n) ∙ e))
+has_content s n t g e same = is_some_of (content small_world g) t (ap (content small_world) (same_is_equal g (nth_of s n) same) ∙ (content_is (nth_of s n) ∙ e))
 
 first_content : (g : Gtid) → same_gtid g (nth_of 1 1) ≡ true → IsSome (content small_world g)
 first_content g e = has_content 1 1 opens_first g refl e
@@ -202,7 +203,7 @@ second_content g e = has_content 2 1 opens_second g refl e
 
 -- a set that grows by one GTID that has content
 more : (S : Gtid → Bool) (g : Gtid) → ((h : Gtid) → same_gtid h g ≡ true → IsSome (content small_world h)) → ((h : Gtid) → S h ≡ true → IsSome (content small_world h)) → (h : Gtid) → with_one S g h ≡ true → IsSome (content small_world h)
-more S g one all h e = elim (or_either (same_gtid h g) (S h) e) [ inl p ↦ one h p | inr q ↦ all h q ]
+more S g one all h e = elim (or_cases (same_gtid h g) (S h) e) [ inl p ↦ one h p | inr q ↦ all h q ]
 
 none_yet : (g : Gtid) → is_opened small_world g ≡ true → IsSome (content small_world g)
 none_yet g e = not_both (is_opened small_world g) e (not_opened g)
@@ -246,7 +247,7 @@ sound_worlds_exist = record {
   changed = content_is (nth_of 1 2);
   second = content_is (nth_of 2 1);
   shared = refl;
-  closed = closed_if first_of_each (λ g e. elim (or_either (same_gtid g (nth_of 1 1)) (same_gtid g (nth_of 2 1)) e) [ inl p ↦ first_content g p | inr q ↦ second_content g q ]) (λ y. refl);
+  closed = closed_if first_of_each (λ g e. elim (or_cases (same_gtid g (nth_of 1 1)) (same_gtid g (nth_of 2 1)) e) [ inl p ↦ first_content g p | inr q ↦ second_content g q ]) (λ y. refl);
   not_closed = not_closed;
   one_order = one_order;
   other_order = other_order;

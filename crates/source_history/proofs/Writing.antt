@@ -3,7 +3,7 @@ use Rattle.std.proofs.Common.{◌≡◌, ◌<◌, Bool, true, false, cond, inl, 
 use Rattle.std.specs.Option.{unwrap_or, is_some}
 use Rattle.std.specs.List.{filter, AllByRecursion}
 use Rattle.std.specs.FinMap.{get, entries}
-use Rattle.std.proofs.lemmas.Bool.{eqb-true, eq-eqb, le-ltb}
+use Rattle.std.proofs.lemmas.Bool.{eqb-true, eq-eqb, le-ltb, cases_Bool}
 use Rattle.std.specs.declared.cmp.Ordering.TheVariants.{Less}
 use Rattle.rows.specs.declared.value.Value.{Value}
 use Rattle.rows.specs.declared.change.Key.{Key}
@@ -19,7 +19,7 @@ use Rattle.source_history.proofs.Gtids.{number_less}
 use Rattle.source_history.proofs.Commuting.{not_touched}
 use Rattle.source_history.proofs.Placing.{kept, all_map, all_map_two}
 use Rattle.source_history.proofs.Entries.{IsRising, AreFound, rising, found, apart_sources}
-use Rattle.source_history.proofs.Tests.{true_or_false, not_both}
+use Rattle.rows.proofs.Patching.{not_both}
 
 -- what stands under a key after each of these in turn
 abbrev written : List Table → Key → List Entry → Option (List Value) → Option (List Value)
@@ -82,7 +82,7 @@ newest_wins schema k (e ∷ es) row h = wins_by schema k e es row (touches schem
 -- two that touch one key are of one source
 number_rises : (world : World) (k : Key) → AreKeysSound world → (e f : Entry) → content world e.0 ≡ Some e.1 → content world f.0 ≡ Some f.1 → gtid_cmp e.0 f.0 ≡ Less → touches world.schema e.1 k ≡ true → touches world.schema f.1 k ≡ true → e.0.number < f.0.number
 number_rises world k sound e f p q l t u =
-    elim (true_or_false (eqb e.0.source f.0.source)) [
+    elim (cases_Bool (eqb e.0.source f.0.source)) [
       | inl same ↦ number_less e.0 f.0 l (eqb-true e.0.source f.0.source same)
       | inr other ↦ not_both (touches world.schema f.1 k) u (apart_sources world sound e.0 f.0 e.1 f.1 p q (λ s. not_both (eqb e.0.source f.0.source) (eq-eqb e.0.source f.0.source s) other) k t)
     ]

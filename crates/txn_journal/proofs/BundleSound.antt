@@ -3,7 +3,7 @@ use Rattle.std.proofs.Common.{◌≡◌, ℕ, ◌<◌, inl, inr, true, false, co
 use Rattle.std.specs.List.{list_all, AllByRecursion}
 use Rattle.std.specs.FinMap as map_of
 use Rattle.std.proofs.lemmas.Bool.{leb-false}
-use Rattle.std.proofs.lemmas.List.{append-nil, length-append}
+use Rattle.std.proofs.lemmas.List.{append-nil, length-append, map_push}
 use Rattle.gtid_text.specs.Written.{IsSource}
 use Rattle.gtid_set.proofs.SpanLemmas.{all_push}
 use Rattle.rows.specs.Names.{is_name}
@@ -14,7 +14,6 @@ use Rattle.rows.specs.declared.schema.Table.{Table}
 use Rattle.rows.specs.declared.change.TableRow.{TableRow}
 use Rattle.journal.specs.Journals.{JournalValue}
 use Rattle.journal.specs.Writing.{is_image_writable}
-use Rattle.journal_words.proofs.Counts.{chosen}
 use Rattle.txn_journal.specs.Lines.{◌>>=◌}
 use Rattle.txn_journal.specs.Machine.{Standing, empty, is_last, fits, closed, judge}
 use Rattle.txn_journal.specs.Heard.{said}
@@ -33,12 +32,14 @@ use Rattle.txn_journal.specs.declared.lines.Place.{Place}
 use Rattle.txn_journal.specs.declared.lines.Place.TheVariants as places
 use Rattle.txn_journal.specs.declared.lines.Version.{Version}
 use Rattle.txn_journal.specs.declared.lines.Version.TheVariants.{One}
-use Rattle.txn_journal.proofs.LineRuns.{all_join}
 use Rattle.txn_journal.proofs.LineReads.{bind_ok, ok_is, put, read_line, judge_reads}
 use Rattle.txn_journal.proofs.SoundLines.{IsSound, Sound_at, whole_written, add_found, begin_found, judge_found}
 use Rattle.txn_journal.proofs.ShapeLaws.{with_found}
 use Rattle.txn_journal.proofs.OwnReads.{own_put, read_own, own_reads}
 use Rattle.txn_journal.proofs.OwnLaws.{own_found}
+use Rattle.gtid_text.proofs.Turns.{chosen}
+use Rattle.rows.proofs.Lists.{all_append}
+use Rattle.txn_journal.proofs.BundleWhole.{last_place}
 
 -- ---- what the tables take is kept by a line of a journal
 
@@ -90,10 +91,6 @@ abbrev pub IsBundleSound : List TableRow → BundleStanding → Type 0
 IsBundleSound rows s = SoundAt s.part s.tables rows s.bundle s.channel s.draft
 
 -- ---- lists with one more
-
-map_more : {A B : Type 0} (f : A → B) (xs : List A) (x : A) → map f (xs ++ x ∷ []) ≡ map f xs ++ f x ∷ []
-map_more f [] x = refl
-map_more f (y ∷ ys) x = ap (λ t. f y ∷ t) (map_more f ys x)
 
 added_more : (before ts : List Table) (t : Table) → AreAdded before ts → is_name t.name ≡ true → table_fault (before ++ ts) t ≡ None → AreAdded before (ts ++ t ∷ [])
 added_more before [] t h name free = (name, subst (λ (x : List Table). table_fault x t ≡ None) (append-nil before) free, tt)
@@ -160,7 +157,7 @@ row_keeps_in version tables rows b r channel draft old t f none fit writable e =
     let w = f.written in
     let o = w.opening in
     let lines : bundle_front version (rows ++ r ∷ []) c ≡ old ++ Own (Puts r) ∷ [] =
-    (λ i. (tables_lines version b.replica b.start.schema ++ map_more (λ x. Own (Puts x)) rows r i) ++ channels_lines version (none.channels i) b.journals)
+    (λ i. (tables_lines version b.replica b.start.schema ++ map_push (λ x. Own (Puts x)) rows r i) ++ channels_lines version (none.channels i) b.journals)
     ∙ append-nil (tables_lines version b.replica b.start.schema ++ (row_lines rows ++ Own (Puts r) ∷ []))
     ∙ sym (append_assoc (tables_lines version b.replica b.start.schema) (row_lines rows) (Own (Puts r) ∷ []))
     ∙ ap (λ (ls : List BundleLine). ls ++ Own (Puts r) ∷ []) (sym (append-nil (start_lines version b.replica b.start.schema rows)) ∙ (λ i. start_lines version b.replica b.start.schema rows ++ channels_lines version (sym none.channels i) b.journals) ∙ sym f.lines) in
@@ -185,7 +182,7 @@ row_keeps_in version tables rows b r channel draft old t f none fit writable e =
     })
   where
     all_join_one : {A : Type 0} (P : A → Type 0) (xs : List A) (x : A) → AllByRecursion P xs → P x → AllByRecursion P (xs ++ x ∷ [])
-    all_join_one P xs x h p = all_join P xs (x ∷ []) h (p, tt)
+    all_join_one P xs x h p = all_append P xs (x ∷ []) h (p, tt)
 
 -- a channel is opened
 open_keeps_in : (version : Version) (tables : List Table) (rows : List TableRow) (b : BundleValue) (c : Channel) (old : List BundleLine) → Front version rows b old → is_name c.name ≡ true → length b.channels < 256 → has_channel b.channels c.name ≡ false
@@ -237,7 +234,7 @@ keeps_own parts.Tables version tables rows b channel draft t (Has shape) h is fi
     let f = with_found tables shape a.0 fits a.1 in
     subst (KeepsBundle (tables_lines version b.replica tables) (Own (Has shape))) (ap (λ (ts : List Table). state parts.Tables version ts b channel draft) f.after ∙ ok_is (state parts.Tables version a.0 b channel draft) t a.2) (record {
       rows = [];
-      says = ap (λ (ls : List BundleLine). Own (Heads version) ∷ Own (Names b.replica) ∷ ls) (map_more (λ x. Own (Has (shape_for x))) tables f.table ∙ ap (λ (x : Shape). table_lines tables ++ Own (Has x) ∷ []) (sym f.shape));
+      says = ap (λ (ls : List BundleLine). Own (Heads version) ∷ Own (Names b.replica) ∷ ls) (map_push (λ x. Own (Has (shape_for x))) tables f.table ∙ ap (λ (x : Shape). table_lines tables ++ Own (Has x) ∷ []) (sym f.shape));
       sound = (h.0, added_more [] tables f.table h.1 f.name f.free, h.2);
     })
 keeps_own parts.Tables version tables rows b channel draft t (Puts r) h is fits e =
@@ -272,13 +269,6 @@ keeps_own part version tables rows b channel draft t l h is fits e = absurd cc
 same_version : (v w : Version) → v ≡ w
 same_version One One = refl
 
-last_place : (p : Place) → is_last p ≡ true → p ≡ places.Ended
-last_place places.Ended e = refl
-last_place places.Header e = absurd cc
-last_place places.Previous e = absurd cc
-last_place places.Between e = absurd cc
-last_place places.Within e = absurd cc
-
 -- a journal that has ended
 record EndedDraft (version : Version) (d : Standing) : Type 0 where
   lines : said d ≡ journal_lines version d.journal
@@ -296,7 +286,7 @@ ended_at version d p e f h =
 inner_more : (c : Channel) (front : List BundleLine) (old new : List Line) (l : Line) → new ≡ old ++ l ∷ [] → front ++ (Own (Opens c) ∷ map Inner new) ≡ (front ++ (Own (Opens c) ∷ map Inner old)) ++ Inner l ∷ []
 inner_more c front old new l e =
     ap (λ (ls : List Line). front ++ (Own (Opens c) ∷ map Inner ls)) e
-    ∙ ap (λ (ls : List BundleLine). front ++ (Own (Opens c) ∷ ls)) (map_more Inner old l)
+    ∙ ap (λ (ls : List BundleLine). front ++ (Own (Opens c) ∷ ls)) (map_push Inner old l)
     ∙ sym (append_assoc front (Own (Opens c) ∷ map Inner old) (Inner l ∷ []))
 
 pub record InnerTaken (old : List BundleLine) (line : List ℕ) (t : BundleStanding) : Type 0 where

@@ -1,9 +1,8 @@
 -- What a bundle spells is read to its end.
 use Rattle.std.proofs.Common.{◌≡◌, ℕ, ◌+◌, ◌<◌, ◌≤◌, Bool, true, false, cond, List, [], ◌∷◌, ◌++◌, length, map, Option, Some, None, Result, Ok, Err, refl, sym, ap, subst, ◌∙◌, append_assoc, arith}
 use Rattle.std.specs.List.{list_all, flat_map, AllByRecursion}
-use Rattle.std.proofs.lemmas.Bool.{lt-leb}
+use Rattle.std.proofs.lemmas.Bool.{lt-leb, and_parts}
 use Rattle.std.proofs.lemmas.List.{append-nil, length-append}
-use Rattle.gtid_text.proofs.SameGtid.{both}
 use Rattle.rows.specs.Names.{is_name}
 use Rattle.rows.specs.Apply.{Rows}
 use Rattle.rows.specs.declared.schema.Table.{Table}
@@ -33,12 +32,13 @@ use Rattle.txn_journal.specs.declared.lines.Place.TheVariants as places
 use Rattle.txn_journal.specs.declared.lines.Keyword.{Keyword}
 use Rattle.txn_journal.specs.declared.lines.Keyword.TheVariants as keywords
 use Rattle.txn_journal.specs.declared.lines.Version.TheVariants.{One}
-use Rattle.txn_journal.proofs.LineRuns.{runs, runs_then, fed, eats_runs, all_join}
+use Rattle.txn_journal.proofs.LineRuns.{runs, runs_then, fed, eats_runs}
 use Rattle.txn_journal.proofs.SoundLines.{at}
 use Rattle.txn_journal.proofs.WholeLines.{texts_of, reads_all}
 use Rattle.txn_journal.proofs.ShapeLaws.{allowed, shape_fits, with_again}
 use Rattle.txn_journal.proofs.OwnReads.{own_put, own_reads}
 use Rattle.txn_journal.proofs.OwnLaws.{own_again, own_one}
+use Rattle.rows.proofs.Lists.{all_append}
 
 abbrev state : Part → List Table → BundleValue → Option Channel → Standing → BundleStanding
 state part tables b channel draft = record { part = part; version = One; tables = tables; bundle = b; channel = channel; draft = draft }
@@ -63,7 +63,7 @@ goes_none s = record { one = tt; run = refl }
 
 goes_both : (s t u : BundleStanding) (ks ls : List BundleLine) → Goes s ks t → Goes t ls u → Goes s (ks ++ ls) u
 goes_both s t u ks ls a b = record {
-  one = subst (λ (x : List (List ℕ)). AllByRecursion IsOneLine x) (sym (lines_join ks ls)) (all_join IsOneLine (lines_of ks) (lines_of ls) a.one b.one);
+  one = subst (λ (x : List (List ℕ)). AllByRecursion IsOneLine x) (sym (lines_join ks ls)) (all_append IsOneLine (lines_of ks) (lines_of ls) a.one b.one);
   run = ap (runs judge_bundle s) (lines_join ks ls) ∙ runs_then judge_bundle s t (lines_of ks) (lines_of ls) a.run ∙ b.run;
 }
 
@@ -118,7 +118,7 @@ goes_rows b draft [] new fit writable e =
     ok_rows_is : (x y : Rows) → rows_done x ≡ rows_done y → x ≡ y
     ok_rows_is x y e = cc
 goes_rows b draft (r ∷ rs) new fit writable e =
-    let p = both (is_image_writable r.row) (list_all (λ r. is_image_writable r.row) rs) writable in
+    let p = and_parts (is_image_writable r.row) (list_all (λ r. is_image_writable r.row) rs) writable in
     let a = rows_on b r rs new (with_opening b.start r) refl e in
     let s = state parts.Rows [] b None draft in
     let u = state parts.Rows [] (with_rows b a.0) None draft in
@@ -154,7 +154,7 @@ unfolding judge
 after_last schema d line e =
     ap (λ (r : Result Keyword Cause). r >>= λ word. step schema d word (others line)) (ap (λ (p : Place). due_word p (keyword_of (first_word line))) e ∙ none_due (keyword_of (first_word line)))
 
-last_place : (p : Place) → is_last p ≡ true → p ≡ places.Ended
+pub last_place : (p : Place) → is_last p ≡ true → p ≡ places.Ended
 last_place places.Ended e = refl
 last_place places.Header e = absurd cc
 last_place places.Previous e = absurd cc

@@ -1,9 +1,9 @@
 -- The cause that judging gives is what is wrong with the line.
-use Rattle.std.proofs.Common.{◌≡◌, ℕ, ◌⊎◌, inl, inr, Bool, true, false, not, cond, leb, List, [], ◌∷◌, ◌++◌, length, Option, Some, None, Result, Ok, Err, refl, sym, ap, subst, ◌∙◌, arith}
+use Rattle.std.proofs.Common.{◌≡◌, ℕ, ◌⊎◌, inl, inr, true, false, not, cond, leb, List, [], ◌∷◌, ◌++◌, length, Option, Some, None, Result, Ok, Err, refl, sym, ap, subst, ◌∙◌, arith}
 use Rattle.std.specs.Prelude.{◌||◌, codes}
 use Rattle.std.specs.FinSet as set
 use Rattle.std.specs.Str.{bytes_eq}
-use Rattle.std.proofs.lemmas.Bool.{leb-true, leb-false, le-leb}
+use Rattle.std.proofs.lemmas.Bool.{leb-true, leb-false, le-leb, or_cases, not-true, or_parts}
 use Rattle.gtid_text.specs.declared.Gtid.{Gtid}
 use Rattle.gtid_text.specs.Written.{IsNumbered}
 use Rattle.gtid_set.specs.Sets.{greatest}
@@ -13,7 +13,7 @@ use Rattle.rows.specs.declared.change.Change.TheVariants.{Insert, Delete, Update
 use Rattle.journal.specs.Writing.{is_number, is_change_writable}
 use Rattle.journal_words.specs.Words.{is_count, first_word, others}
 use Rattle.journal_words.specs.Gtids.{gtid_of_word, set_of_word}
-use Rattle.journal_words.proofs.Counts.{chosen, some_is, word_and_more}
+use Rattle.journal_words.proofs.Counts.{word_and_more}
 use Rattle.txn_journal.specs.Words.{name_of}
 use Rattle.txn_journal.specs.Due.{is_due}
 use Rattle.txn_journal.specs.Lines.{◌>>=◌, some_or_body, keyword_of, due_word, takes_one, known, version_in, gtid_in, set_in, nothing_in, words_of, Image, values_from, one_image, with_after, both_images, image_in, images_in, table_in}
@@ -30,6 +30,8 @@ use Rattle.txn_journal.specs.declared.lines.Keyword.TheVariants as keywords
 use Rattle.txn_journal.specs.declared.lines.Version.{Version}
 use Rattle.txn_journal.specs.declared.lines.Version.TheVariants.{One}
 use Rattle.txn_journal.proofs.LineReads.{body_of, put, read_line, judge_reads, keyword_found, due_found, read_found, read_again}
+use Rattle.std.proofs.lemmas.Option.{same_Some}
+use Rattle.gtid_text.proofs.Turns.{chosen}
 
 abbrev pub wrong : {A : Type 0} → Cause → Result A Cause
 wrong c = Err c
@@ -142,7 +144,7 @@ due_err place None c e = (cc, λ k h d. cc)
 due_err place (Some j) c e =
     elim (chosen (is_due place j) (Ok j) (Err causes.Keyword) (Err c) e) [
       | inl p ↦ absurd (let k = p.1 in cc)
-      | inr p ↦ (wrong_is {A = Keyword} causes.Keyword c p.1, λ k h d. let same = some_is j k h in let t = ap (is_due place) same in cc)
+      | inr p ↦ (wrong_is {A = Keyword} causes.Keyword c p.1, λ k h d. let same = same_Some j k h in let t = ap (is_due place) same in cc)
     ]
 
 nothing_said : (s : Standing) (line : List ℕ) (c : Cause) → read_line s.due s.place line ≡ Err c → (l : Line) → Says s line l → ⊥
@@ -167,23 +169,11 @@ read_cause schema s line c e =
           ]
     ]
 
-either : (a b : Bool) → (a || b) ≡ true → (a ≡ true) ⊎ (b ≡ true)
-either true b e = inl refl
-either false b e = inr e
-
-not_true : (a : Bool) → not a ≡ true → a ≡ false
-not_true true e = absurd cc
-not_true false e = refl
-
 limit_of : (s : Standing) (x : Change) → (leb 65536 (length s.changes) || not (is_change_writable x)) ≡ true → PassesLimit s (Makes x)
-limit_of s x e = elim (either (leb 65536 (length s.changes)) (not (is_change_writable x)) e) [
+limit_of s x e = elim (or_cases (leb 65536 (length s.changes)) (not (is_change_writable x)) e) [
   | inl p ↦ inl (leb-true _ _ p)
-  | inr p ↦ inr (not_true (is_change_writable x) p)
+  | inr p ↦ inr (not-true (is_change_writable x) p)
 ]
-
-neither : (a b : Bool) → (a || b) ≡ false → (a ≡ false) × (b ≡ false)
-neither true b e = absurd cc
-neither false b e = (refl, e)
 
 -- it is within the limits, and yet no table takes it
 record Misfits (schema : Option (List Table)) (s : Standing) (x : Change) : Type 0 where
@@ -191,8 +181,8 @@ record Misfits (schema : Option (List Table)) (s : Standing) (x : Change) : Type
   misfit : fits schema x ≡ false
 
 within_limits : (s : Standing) (x : Change) → (leb 65536 (length s.changes) || not (is_change_writable x)) ≡ false → PassesLimit s (Makes x) → ⊥
-within_limits s x e (inl many) = let p = neither (leb 65536 (length s.changes)) (not (is_change_writable x)) e in let k = leb-false _ _ p.0 in omega (arith, many)
-within_limits s x e (inr long) = let p = neither (leb 65536 (length s.changes)) (not (is_change_writable x)) e in let k = p.1 in let m : not (is_change_writable x) ≡ true = ap not long in cc
+within_limits s x e (inl many) = let p = or_parts (leb 65536 (length s.changes)) (not (is_change_writable x)) e in let k = leb-false _ _ p.0 in omega (arith, many)
+within_limits s x e (inr long) = let p = or_parts (leb 65536 (length s.changes)) (not (is_change_writable x)) e in let k = p.1 in let m : not (is_change_writable x) ≡ true = ap not long in cc
 
 AddErr : Option (List Table) → Standing → Change → Cause → Type 0
 AddErr schema s x c = ((causes.Limit ≡ c) × PassesLimit s (Makes x)) ⊎ ((causes.Schema ≡ c) × Misfits schema s x)
@@ -205,7 +195,7 @@ add_err schema s x c e =
     elim (chosen (leb 65536 (length s.changes) || not (is_change_writable x)) (Err causes.Limit) second (Err c) e) [
       | inl p ↦ inl (wrong_is {A = Standing} causes.Limit c p.1, limit_of s x p.0)
       | inr p ↦ elim (chosen (not (fits schema x)) (Err causes.Schema) last (Err c) p.1) [
-        | inl q ↦ inr (wrong_is {A = Standing} causes.Schema c q.1, record { within = within_limits s x p.0; misfit = not_true (fits schema x) q.0 })
+        | inl q ↦ inr (wrong_is {A = Standing} causes.Schema c q.1, record { within = within_limits s x p.0; misfit = not-true (fits schema x) q.0 })
         | inr q ↦ absurd (let k = q.1 in cc)
       ]
     ]

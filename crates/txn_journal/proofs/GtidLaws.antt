@@ -1,30 +1,30 @@
 -- Sources, GTIDs and sets: what is read is spelled so, and what is spelled so is read.
-use Rattle.std.proofs.Common.{◌≡◌, ℕ, zero, suc, ◌+◌, ◌*◌, ◌^◌, ◌<◌, Bool, true, false, cond, eqb, leb, not, List, [], ◌∷◌, ◌++◌, length, get_or, Option, Some, None, Result, Ok, Err, refl, ap, subst, arith, inl, inr}
+use Rattle.std.proofs.Common.{◌≡◌, ℕ, zero, suc, ◌+◌, ◌*◌, ◌^◌, ◌<◌, Bool, true, false, cond, eqb, not, List, [], ◌∷◌, ◌++◌, length, get_or, Option, Some, None, Result, Ok, Err, refl, ap, subst, arith, inl, inr}
 use Rattle.std.specs.Prelude.{◌&&◌, ◌||◌, decimal, option_map}
 use Rattle.std.specs.List.{list_all}
 use Rattle.std.specs.Char.{is_ascii_digit}
 use Rattle.std.specs.Int.{w128, from_be_bytes}
-use Rattle.std.specs.Str.Parse.{digits_value}
-use Rattle.std.proofs.lemmas.Bool.{leb-true}
+use Rattle.std.proofs.lemmas.Bool.{and_parts}
 use Rattle.std.proofs.lemmas.Bool.Decides.{nat_tests}
 use Rattle.std.proofs.lemmas.Fmt.{digits_decimal}
 use Rattle.uuid.specs.Text.{by_index, is_hex_digit, value_of, byte_of_digits, digits_of, parsed_hyphenated, parsed_simple, has_hyphens}
 use Rattle.gtid_text.specs.declared.Gtid.{Gtid}
 use Rattle.gtid_text.specs.declared.scan.Refusal.{Refusal}
-use Rattle.gtid_text.specs.Scan.{is_uuid_byte, source_of, number_of}
+use Rattle.gtid_text.specs.Scan.{is_uuid_byte, source_of}
 use Rattle.gtid_text.specs.Reading.{gtid_in}
 use Rattle.gtid_text.specs.Grammar.{SpellsGtid}
-use Rattle.gtid_text.specs.Written.{IsSource, IsNumbered, IsUsable, IsSpaced, gtid_tokens}
+use Rattle.gtid_text.specs.Written.{IsSource, IsUsable, IsSpaced, gtid_tokens}
 use Rattle.gtid_text.specs.Canonical.{source_text, gtid_text}
 use Rattle.gtid_text.proofs.RoundTrip.{source_bytes}
 use Rattle.gtid_text.proofs.Shown.{gtid_shown, joined_gtid, spaced_joined}
 use Rattle.gtid_text.proofs.Single.{gtid_reads_back, gtid_spelled}
-use Rattle.gtid_text.proofs.SameGtid.{both}
 use Rattle.gtid_set.proofs.SpanLemmas.{all_weaker}
 use Rattle.journal_words.specs.Gtids.{is_ascii_byte, same_or_none, if_ascii, gtid_of_word}
-use Rattle.journal_words.proofs.Numerals.{own}
-use Rattle.journal_words.proofs.Counts.{chosen, some_is}
 use Rattle.journal_words.proofs.ValueLaws.{where_same-again, where_same-found}
+use Rattle.std.proofs.lemmas.Option.{same_Some}
+use Rattle.gtid_text.proofs.Tokens.{own}
+use Rattle.gtid_text.proofs.Turns.{chosen}
+use Rattle.gtid_set.proofs.RoundTrip.{numbered}
 
 -- ---- a source is a number of 128 bits
 
@@ -33,8 +33,8 @@ hex_small c e = grind (arith, nat_tests)
 
 digit_small : (hex : List ℕ) (k : ℕ) → list_all is_hex_digit hex ≡ true → value_of (get_or hex k 0) < 16
 digit_small [] k e = omega arith
-digit_small (c ∷ cs) zero e = hex_small c (both (is_hex_digit c) (list_all is_hex_digit cs) e).0
-digit_small (c ∷ cs) (suc k) e = digit_small cs k (both (is_hex_digit c) (list_all is_hex_digit cs) e).1
+digit_small (c ∷ cs) zero e = hex_small c (and_parts (is_hex_digit c) (list_all is_hex_digit cs) e).0
+digit_small (c ∷ cs) (suc k) e = digit_small cs k (and_parts (is_hex_digit c) (list_all is_hex_digit cs) e).1
 
 byte_small : (hex : List ℕ) (j : ℕ) → list_all is_hex_digit hex ≡ true → byte_of_digits hex j < 256
 byte_small hex j e = sum (value_of (get_or hex (2 * j) 0)) (value_of (get_or hex (2 * j + 1) 0)) (digit_small hex (2 * j) e) (digit_small hex (2 * j + 1) e)
@@ -56,7 +56,7 @@ number bytes = from_be_bytes w128 bytes
 simple_small : (hex : List ℕ) (id : ℕ) → option_map number (parsed_simple hex) ≡ Some id → id < 2 ^ 128
 simple_small hex id e =
     elim ((eqb (length hex) 32) && list_all is_hex_digit hex) as (λ v. ((eqb (length hex) 32) && list_all is_hex_digit hex) ≡ v → option_map number (cond v (Some (by_index 16 (byte_of_digits hex))) None) ≡ Some id → id < 2 ^ 128) [
-      | true ↦ λ p q. subst (λ (n : ℕ). n < 2 ^ 128) (some_is _ id q) (bytes_small (byte_of_digits hex) (λ k. byte_small hex k (both (eqb (length hex) 32) (list_all is_hex_digit hex) p).1))
+      | true ↦ λ p q. subst (λ (n : ℕ). n < 2 ^ 128) (same_Some _ id q) (bytes_small (byte_of_digits hex) (λ k. byte_small hex k (and_parts (eqb (length hex) 32) (list_all is_hex_digit hex) p).1))
       | false ↦ λ p q. absurd cc
     ] refl e
 
@@ -71,15 +71,6 @@ pub source_small : (text : List ℕ) (id : ℕ) → source_of text ≡ Some id �
 source_small text id e =
     elim (chosen (eqb (length text) 36) (option_map number (parsed_hyphenated text)) None (Some id) e) [
       | inl p ↦ hyphens_small text id p.1
-      | inr p ↦ absurd cc
-    ]
-
-pub number_range : (digits : List ℕ) (n : ℕ) → number_of digits ≡ Some n → IsNumbered n
-number_range digits n e =
-    elim (chosen (leb 1 (digits_value 10 digits) && leb (digits_value 10 digits) 9223372036854775807) (Some (digits_value 10 digits)) None (Some n) e) [
-      | inl p ↦
-          let q = both (leb 1 (digits_value 10 digits)) (leb (digits_value 10 digits) 9223372036854775807) p.0 in
-          subst (λ (m : ℕ). IsNumbered m) (some_is _ n p.1) (leb-true _ _ q.0, leb-true _ _ q.1)
       | inr p ↦ absurd cc
     ]
 
@@ -112,7 +103,7 @@ decimal_set n lt = all_weaker is_ascii_digit is_set_byte (decimal n) digit_set (
 
 pub joins : (p : ℕ → Bool) (xs ys : List ℕ) → list_all p xs ≡ true → list_all p ys ≡ true → list_all p (xs ++ ys) ≡ true
 joins p [] ys a b = b
-joins p (x ∷ xs) ys a b = let w = both (p x) (list_all p xs) a in rw w.0 (joins p xs ys w.1 b)
+joins p (x ∷ xs) ys a b = let w = and_parts (p x) (list_all p xs) a in rw w.0 (joins p xs ys w.1 b)
 
 pub gtid_set_bytes : (g : Gtid) → IsUsable g → list_all is_set_byte (gtid_text g) ≡ true
 gtid_set_bytes g u = joins is_set_byte (source_text g.source) (58 ∷ decimal g.number) (source_set g.source) (decimal_set g.number (omega (arith, u.number.1)))
@@ -130,7 +121,7 @@ pub gtid_found : (w : List ℕ) (g : Gtid) → gtid_of_word w ≡ Some g → (w 
 gtid_found w g e =
     let f = same_found gtid_text w (gtid_in w) g (ascii_found w (same_or_none gtid_text w (gtid_in w)) g e) in
     let s : SpellsGtid w g = gtid_spelled w g f.1 in
-    (f.0, record { source = source_small s.uuid g.source s.is_uuid.names; number = number_range s.number.digits g.number s.is_number.spells })
+    (f.0, record { source = source_small s.uuid g.source s.is_uuid.names; number = numbered s.number.digits g.number s.is_number.spells })
 
 pub gtid_again : (g : Gtid) → IsUsable g → gtid_of_word (gtid_text g) ≡ Some g
 gtid_again g u =

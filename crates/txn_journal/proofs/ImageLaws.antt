@@ -1,17 +1,19 @@
 -- Images: what is read is spelled so, and what is spelled so is read.
-use Rattle.std.proofs.Common.{◌≡◌, ℕ, ◌<◌, inl, inr, Bool, true, false, cond, eqb, List, [], ◌∷◌, ◌++◌, length, map, Option, Some, None, Result, Ok, Err, refl, sym, ap, subst, ◌∙◌, append_assoc, arith}
+use Rattle.std.proofs.Common.{◌≡◌, ℕ, ◌<◌, inl, inr, true, false, cond, eqb, List, [], ◌∷◌, ◌++◌, length, map, Option, Some, None, Result, Ok, Err, refl, sym, ap, subst, ◌∙◌, append_assoc, arith}
 use Rattle.std.specs.Prelude.{codes}
-use Rattle.std.proofs.lemmas.Bool.{eqb-true}
+use Rattle.std.proofs.lemmas.Bool.{eqb-true, false_from_ne_true}
 use Rattle.std.proofs.lemmas.List.{append-nil, length-append}
 use Rattle.std.proofs.lemmas.Slice.Eq.{bytes_eq-Decides}
 use Rattle.rows.specs.declared.value.Value.{Value}
 use Rattle.journal_words.specs.Values.{value_text, value_of, FitsValue}
-use Rattle.journal_words.proofs.Counts.{chosen, some_is, lacks, first_word-whole, others-whole, first_word-front, others-front}
+use Rattle.journal_words.proofs.Counts.{lacks, first_word-whole, others-whole, first_word-front, others-front}
 use Rattle.journal_words.proofs.ValueLaws.{value_of-text, value_of-found, value_lacks, blank_is_none, no_bar}
 use Rattle.txn_journal.specs.Lines.{cons_head, words_of, Image, stop_at, and_value, is_bar, values_from, one_image, with_after, both_images, image_in, images_in}
 use Rattle.txn_journal.specs.Spelling.{values_text, AreValues}
 use Rattle.txn_journal.specs.declared.fault.Cause.{Cause}
 use Rattle.txn_journal.proofs.ValueSteps.{more_words, words_cut}
+use Rattle.std.proofs.lemmas.Option.{same_Some}
+use Rattle.gtid_text.proofs.Turns.{chosen}
 
 -- ---- words with a blank between
 
@@ -106,7 +108,7 @@ record ValuesFound (before : List Value) (ws : List (List ℕ)) (vs : List Value
   stands : Stands vs rest
 
 image_is : (a b : List Value) (o p : Option (List (List ℕ))) → some_image (a, o) ≡ Some (b, p) → (a ≡ b) × (o ≡ p)
-image_is a b o p e = let k = some_is (a, o) (b, p) e in (ap (λ (x : Image). x.0) k, ap (λ (x : Image). x.1) k)
+image_is a b o p e = let k = same_Some (a, o) (b, p) e in (ap (λ (x : Image). x.0) k, ap (λ (x : Image). x.1) k)
 
 bar_word : (w : List ℕ) → is_bar w ≡ true → w ≡ codes "|"
 bar_word w e = (bytes_eq-Decides w (codes "|")).0 e
@@ -221,12 +223,8 @@ images_found text p e =
 
 -- ---- what is spelled
 
-bool_is : (b : Bool) → (b ≡ true → ⊥) → b ≡ false
-bool_is true h = absurd (h refl)
-bool_is false h = refl
-
 not_bar : (v : Value) → FitsValue v → is_bar (value_text v) ≡ false
-not_bar v fits = bool_is (is_bar (value_text v)) (λ e. let k = ap value_of (sym (bar_word (value_text v) e)) ∙ value_of-text v fits in let n = no_bar in absurd cc)
+not_bar v fits = false_from_ne_true (is_bar (value_text v)) (λ e. let k = ap value_of (sym (bar_word (value_text v) e)) ∙ value_of-text v fits in let n = no_bar in absurd cc)
 
 values_again : (before vs : List Value) → 0 < length vs → AreValues vs → values_from before (map value_text vs) ≡ Some (before ++ vs, None)
 unfolding values_from

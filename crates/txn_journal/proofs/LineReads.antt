@@ -13,7 +13,7 @@ use Rattle.rows.specs.Names.{is_name}
 use Rattle.journal_words.specs.Words.{is_count, first_word, others}
 use Rattle.journal_words.specs.Gtids.{gtid_of_word, set_of_word}
 use Rattle.txn_journal.specs.WrittenSets.{set_text, IsWrittenSet}
-use Rattle.journal_words.proofs.Counts.{chosen, some_is, word_alone, word_and_more, first_word-front, others-front}
+use Rattle.journal_words.proofs.Counts.{word_alone, word_and_more, first_word-front, others-front}
 use Rattle.txn_journal.proofs.GtidLaws.{gtid_found, gtid_again}
 use Rattle.txn_journal.proofs.SetLaws.{set_found, set_again}
 use Rattle.txn_journal.specs.Words.{name_of}
@@ -32,6 +32,8 @@ use Rattle.txn_journal.specs.declared.lines.Version.{Version}
 use Rattle.txn_journal.specs.declared.lines.Version.TheVariants.{One}
 use Rattle.txn_journal.proofs.NameLemmas.{name_no_blank}
 use Rattle.txn_journal.proofs.ImageLaws.{image_found, images_found, image_again, images_again}
+use Rattle.std.proofs.lemmas.Option.{same_Some}
+use Rattle.gtid_text.proofs.Turns.{chosen}
 
 -- ---- steps that may fail
 
@@ -50,11 +52,11 @@ some_or_body_ok (Some y) x e = ap Some (ok_is y x e)
 some_or_body_ok None x e = absurd cc
 
 -- two steps, and what they make
-one_step : {B C D : Type 0} (r : Result B Cause) (mk : B → C) (put : C → Result D Cause) → (r >>= λ y. put (mk y)) ≡ ((r >>= λ y. Ok (mk y)) >>= put)
+pub one_step : {B C D : Type 0} (r : Result B Cause) (mk : B → C) (put : C → Result D Cause) → (r >>= λ y. put (mk y)) ≡ ((r >>= λ y. Ok (mk y)) >>= put)
 one_step (Ok y) mk put = refl
 one_step (Err e) mk put = refl
 
-two_steps : {A B C D : Type 0} (r : Result A Cause) (f : A → Result B Cause) (mk : A → B → C) (put : C → Result D Cause) → (r >>= λ x. f x >>= λ y. put (mk x y)) ≡ ((r >>= λ x. f x >>= λ y. Ok (mk x y)) >>= put)
+pub two_steps : {A B C D : Type 0} (r : Result A Cause) (f : A → Result B Cause) (mk : A → B → C) (put : C → Result D Cause) → (r >>= λ x. f x >>= λ y. put (mk x y)) ≡ ((r >>= λ x. f x >>= λ y. Ok (mk x y)) >>= put)
 two_steps (Ok x) f mk put = one_step (f x) (mk x) put
 two_steps (Err e) f mk put = refl
 
@@ -123,7 +125,7 @@ among_found : (ks : List Keyword) (w : List ℕ) (k : Keyword) → keyword_among
 among_found [] w k e = absurd cc
 among_found (j ∷ js) w k e =
     elim (chosen (bytes_eq w (text_of j)) (Some j) (keyword_among js w) (Some k) e) [
-      | inl p ↦ (bytes_eq-Decides w (text_of j)).0 p.0 ∙ ap text_of (some_is j k p.1)
+      | inl p ↦ (bytes_eq-Decides w (text_of j)).0 p.0 ∙ ap text_of (same_Some j k p.1)
       | inr p ↦ among_found js w k p.1
     ]
 
@@ -194,7 +196,7 @@ nothing_found (Some t) u e = absurd cc
 pub name_found : (w name : List ℕ) → name_of w ≡ Some name → (w ≡ name) × (is_name name ≡ true)
 name_found w name e =
     elim (chosen (is_name w) (Some w) None (Some name) e) [
-      | inl p ↦ let same = some_is w name p.1 in (same, ap is_name (sym same) ∙ p.0)
+      | inl p ↦ let same = same_Some w name p.1 in (same, ap is_name (sym same) ∙ p.0)
       | inr p ↦ absurd cc
     ]
 

@@ -46,7 +46,3 @@ eats_on judge s t l ls n (Err c) one more j h = absurd cc
 pub eats_runs : {S : Type 0} (judge : Judge S) (s t : S) (ls : List (List ℕ)) (n : ℕ) → AllByRecursion IsOneLine ls → runs judge s ls ≡ Ok t → EatsTo judge s n ls t
 eats_runs {S} judge s t [] n one e = (n, let k : s ≡ t = cc in ap (reading_at n) k)
 eats_runs {S} judge s t (l ∷ ls) n one e = eats_on judge s t l ls n (judge s l) one.0 (λ u h. eats_runs judge u t ls (next_number n) one.1 h) refl e
-
-pub all_join : {A : Type 0} (P : A → Type 0) (xs ys : List A) → AllByRecursion P xs → AllByRecursion P ys → AllByRecursion P (xs ++ ys)
-all_join P [] ys h k = k
-all_join P (x ∷ xs) ys h k = (h.0, all_join P xs ys h.1 k)

@@ -72,14 +72,6 @@ new_next keys words new i d all lt so_far found inserted =
     let step : are_new_to (seen_in keys) (texts (drop i words)) ≡ are_new_to (λ v. bytes_eq v w.now || seen_in keys v) (texts (drop (suc i) words)) = ap (λ (t : List Word). are_new_to (seen_in keys) (texts t)) (drop-cons words i d lt) ∙ ap (λ (b : Bool). not b && are_new_to (λ v. bytes_eq v w.now || seen_in keys v) (texts (drop (suc i) words))) apart in
     after ∙ sym step ∙ so_far
 
-pub not_true : (b : Bool) → not b ≡ true → b ≡ false
-not_true true e = absurd cc
-not_true false e = refl
-
-pub not_false : (b : Bool) → not b ≡ false → b ≡ true
-not_false true e = refl
-not_false false e = absurd cc
-
 -- ---- unique keys
 
 take_all : {X : Type 0} (xs : List X) → take (length xs) xs ≡ xs

@@ -17,7 +17,6 @@ use Rattle.rows.specs.WriteSet.{is_among}
 use Rattle.rows.specs.Total.{key_eq_self}
 use Rattle.rows.proofs.Carriers.{carried_table, all_free}
 use Rattle.rows.proofs.Local.{get-with_row}
-use Rattle.journal_words.proofs.Counts.{chosen}
 use Rattle.txn_journal.specs.Lines.{◌>>=◌}
 use Rattle.txn_journal.specs.BundleStates.{BundleValue, ok_rows, with_opening}
 use Rattle.txn_journal.specs.BundleText.{put_all, WritesBundle}
@@ -27,6 +26,7 @@ use Rattle.txn_journal.specs.declared.fault.Cause.TheVariants as causes
 use Rattle.txn_journal.specs.declared.fault.JournalFault.{JournalFault}
 use Rattle.txn_journal.proofs.LineReads.{bind_ok, ok_is}
 use Rattle.txn_journal.proofs.BundleTells.{reads_writing}
+use Rattle.gtid_text.proofs.Turns.{chosen}
 
 abbrev gives : BundleValue → Result BundleValue JournalFault
 gives b = Ok b

@@ -15,7 +15,7 @@ use Rattle.rows.specs.declared.change.TableRow.{TableRow}
 use Rattle.journal.specs.Writing.{is_image_writable}
 use Rattle.journal_words.specs.Words.{count_of, first_word, others}
 use Rattle.journal_words.specs.Gtids.{source_of_word}
-use Rattle.journal_words.proofs.Counts.{chosen, some_is, word_and_more, count_again}
+use Rattle.journal_words.proofs.Counts.{word_and_more, count_again}
 use Rattle.txn_journal.specs.Words.{name_of}
 use Rattle.txn_journal.specs.Lines.{◌>>=◌, some_or_body, version_in, nothing_in, words_of, values_from, table_in, image_in}
 use Rattle.txn_journal.specs.Machine.{empty}
@@ -36,6 +36,8 @@ use Rattle.txn_journal.proofs.CauseLines.{bind_err, wrong_is, some_or_body_err, 
 use Rattle.txn_journal.proofs.ShapeLaws.{bounds_of, allowed, table_again, table_found, width_found, WidthFound}
 use Rattle.txn_journal.proofs.OwnReads.{shape_behind, own_body, own_put, read_own, own_reads}
 use Rattle.txn_journal.proofs.OwnLaws.{word_found, due_found, own_found, own_again}
+use Rattle.std.proofs.lemmas.Option.{same_Some}
+use Rattle.gtid_text.proofs.Turns.{chosen}
 
 -- ---- the body
 
@@ -121,7 +123,7 @@ due_err p None c e = (wrong_is {A = Word} causes.Keyword c e, λ w h d. cc)
 due_err p (Some j) c e =
     elim (chosen (is_due_in p j) (Ok j) (Err causes.Keyword) (Err c) e) [
       | inl q ↦ absurd (let k = q.1 in cc)
-      | inr q ↦ (wrong_is {A = Word} causes.Keyword c q.1, λ w h d. let same = some_is j w h in let t = ap (is_due_in p) same in cc)
+      | inr q ↦ (wrong_is {A = Word} causes.Keyword c q.1, λ w h d. let same = same_Some j w h in let t = ap (is_due_in p) same in cc)
     ]
 
 nothing_said : (p : Part) (line : List ℕ) (c : Cause) → read_own p line ≡ Err c → (l : OwnLine) → SaysOwn p line l → ⊥
@@ -163,7 +165,7 @@ few_err None c e = (wrong_is {A = ℕ} causes.Limit c e, λ n h a b. cc)
 few_err (Some m) c e =
     elim (chosen (leb 1 m && leb m 64) (Ok m) (Err causes.Limit) (Err c) e) [
       | inl p ↦ absurd (let k = p.1 in cc)
-      | inr p ↦ (wrong_is {A = ℕ} causes.Limit c p.1, λ n h a b. let same = some_is m n h in within m (subst (λ (x : ℕ). 1 ≤ x) (sym same) a) (subst (λ (x : ℕ). x ≤ 64) (sym same) b) p.0)
+      | inr p ↦ (wrong_is {A = ℕ} causes.Limit c p.1, λ n h a b. let same = same_Some m n h in within m (subst (λ (x : ℕ). 1 ≤ x) (sym same) a) (subst (λ (x : ℕ). x ≤ 64) (sym same) b) p.0)
     ]
   where
     within : (m : ℕ) → 1 ≤ m → m ≤ 64 → (leb 1 m && leb m 64) ≡ false → ⊥
@@ -224,7 +226,7 @@ read_table tables s n t w same free =
     let a = allowed tables t free in
     let g = table_again tables t a in
     let small = bounds_of tables t a in
-    let width : t.columns ≡ n = some_is t.columns n (sym (count_again t.columns (omega (arith, small))) ∙ ap (λ (x : Shape). count_of x.columns) (sym same) ∙ w) in
+    let width : t.columns ≡ n = same_Some t.columns n (sym (count_again t.columns (omega (arith, small))) ∙ ap (λ (x : Shape). count_of x.columns) (sym same) ∙ w) in
     (λ i. table_of (same i) (sym width i)) ∙ g.1
 
 within_of : (tables : List Table) (s : Shape) (n : ℕ) → WidthFound s n → leb 256 (length tables) ≡ false → LimitOf tables s → ⊥
@@ -248,7 +250,7 @@ only_schema tables t f lists limits room e =
     let none : Option TableFault = None in
     let k : cond (is_taken t.name tables || not (has_its_columns t)) (Some table_faults.Schema) none ≡ Some f = sym (let l : table_fault tables t ≡ cond (is_taken t.name tables || not (has_its_columns t)) (Some table_faults.Schema) none = rw (lists, limits, room) refl in l) ∙ e in
     elim (chosen (is_taken t.name tables || not (has_its_columns t)) (Some table_faults.Schema) none (Some f) k) [
-      | inl p ↦ some_is table_faults.Schema f p.1
+      | inl p ↦ same_Some table_faults.Schema f p.1
       | inr p ↦ absurd (let x = p.1 in cc)
     ]
 

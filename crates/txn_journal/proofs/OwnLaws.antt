@@ -15,7 +15,7 @@ use Rattle.gtid_set.proofs.SpanLemmas.{all_weaker}
 use Rattle.rows.specs.Names.{is_name}
 use Rattle.journal_words.specs.Words.{first_word, others}
 use Rattle.journal_words.specs.Gtids.{is_ascii_byte, same_or_none, source_of_word}
-use Rattle.journal_words.proofs.Counts.{chosen, some_is, lacks, word_alone, word_and_more, first_word-front, others-front, first_word-whole, others-whole}
+use Rattle.journal_words.proofs.Counts.{lacks, word_alone, word_and_more, first_word-front, others-front, first_word-whole, others-whole}
 use Rattle.journal_words.proofs.ValueLaws.{where_same-again}
 use Rattle.txn_journal.specs.Words.{name_of}
 use Rattle.txn_journal.specs.Lines.{◌>>=◌, some_or_body, version_in, nothing_in, table_in, image_in}
@@ -37,6 +37,8 @@ use Rattle.txn_journal.proofs.LineReads.{bind_ok, ok_is, some_or_body_ok, versio
 use Rattle.txn_journal.proofs.ShapeLaws.{shape_found, shape_again, shape_one}
 use Rattle.txn_journal.proofs.OwnReads.{shape_behind, own_body, read_own}
 use Rattle.txn_journal.proofs.WholeLines.{values_one, table_one}
+use Rattle.std.proofs.lemmas.Option.{same_Some}
+use Rattle.gtid_text.proofs.Turns.{chosen}
 
 -- ---- the first word
 
@@ -56,7 +58,7 @@ among_found : (ks : List Word) (w : List ℕ) (k : Word) → word_among ks w ≡
 among_found [] w k e = absurd cc
 among_found (j ∷ js) w k e =
     elim (chosen (bytes_eq w (own_word_text j)) (Some j) (word_among js w) (Some k) e) [
-      | inl p ↦ (bytes_eq-Decides w (own_word_text j)).0 p.0 ∙ ap own_word_text (some_is j k p.1)
+      | inl p ↦ (bytes_eq-Decides w (own_word_text j)).0 p.0 ∙ ap own_word_text (same_Some j k p.1)
       | inr p ↦ among_found js w k p.1
     ]
 

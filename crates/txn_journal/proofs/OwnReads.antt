@@ -12,7 +12,7 @@ use Rattle.txn_journal.specs.declared.bundle_draft.Word.{Word}
 use Rattle.txn_journal.specs.declared.bundle_draft.Word.TheVariants as words
 use Rattle.txn_journal.specs.declared.fault.Cause.{Cause}
 use Rattle.txn_journal.specs.declared.fault.Cause.TheVariants as causes
-use Rattle.txn_journal.proofs.LineReads.{bind_assoc}
+use Rattle.txn_journal.proofs.LineReads.{bind_assoc, one_step, two_steps}
 
 -- what the rest of a table's line says
 abbrev pub shape_behind : Option (List ℕ) → Result Shape Cause
@@ -36,14 +36,6 @@ own_put s (Has shape) = with_table s.tables shape >>= λ tables. Ok (record s { 
 own_put s (Puts r) = cond (is_image_writable r.row) (put_row (behind_tables s) r) (Err causes.Limit)
 own_put s (Opens c) = joined_channel s c
 own_put s Done = Ok (record (behind_tables s) { part = parts.Ended })
-
-one_step : {B C D : Type 0} (r : Result B Cause) (mk : B → C) (put : C → Result D Cause) → (r >>= λ y. put (mk y)) ≡ ((r >>= λ y. Ok (mk y)) >>= put)
-one_step (Ok y) mk put = refl
-one_step (Err e) mk put = refl
-
-two_steps : {A B C D : Type 0} (r : Result A Cause) (f : A → Result B Cause) (mk : A → B → C) (put : C → Result D Cause) → (r >>= λ x. f x >>= λ y. put (mk x y)) ≡ ((r >>= λ x. f x >>= λ y. Ok (mk x y)) >>= put)
-two_steps (Ok x) f mk put = one_step (f x) (mk x) put
-two_steps (Err e) f mk put = refl
 
 -- a table's line
 table_step : (s : BundleStanding) (r : Result Shape Cause) → ((r >>= λ shape. with_table s.tables shape) >>= λ tables. Ok (record s { tables = tables })) ≡ ((r >>= λ shape. Ok (Has shape)) >>= own_put s)

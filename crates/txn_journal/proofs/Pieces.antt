@@ -2,7 +2,6 @@
 use Rattle.std.proofs.Common.{◌≡◌, ℕ, true, false, eqb, not, List, [], ◌∷◌, ◌++◌, Option, None, Result, Ok, Err, refl, sym, ap, subst, ◌∙◌, append_assoc, inr}
 use Rattle.std.specs.List.{list_all}
 use Rattle.std.proofs.lemmas.List.{append-nil}
-use Rattle.gtid_text.proofs.SameGtid.{both}
 use Rattle.gtid_set.specs.declared.fault.SetFault.{SetFault}
 use Rattle.gtid_set.specs.declared.fault.SetFault.TheVariants.{Memory, PoolFull, SourcesFull}
 use Rattle.txn_journal.specs.declared.fault.Cause.{Cause}
@@ -10,6 +9,7 @@ use Rattle.txn_journal.specs.declared.fault.JournalFault.{JournalFault}
 use Rattle.txn_journal.specs.declared.fault.JournalFault.TheVariants as faults
 use Rattle.txn_journal.specs.Words.{IsOneLine}
 use Rattle.txn_journal.specs.Stream.{Judge, Progress, Reading, Stopped, unless_stopped, next_number, judged, eat, eats, IsLineFault, HasFull, IsPieceFault, IsAfter, TakesPiece, answer}
+use Rattle.std.proofs.lemmas.Bool.{and_parts}
 
 pub stopped_stays : {S : Type 0} (judge : Judge S) (f : JournalFault) (bs : List ℕ) → eats judge (Stopped f) bs ≡ Stopped f
 unfolding eat
@@ -29,7 +29,7 @@ pub eats_rest : {S : Type 0} (judge : Judge S) (s : S) (n : ℕ) (rest bs : List
 unfolding eat
 eats_rest judge s n rest [] one = ap (Reading s n) (sym (append-nil rest))
 eats_rest judge s n rest (b ∷ bs) one =
-    let p = both (not (eqb b 10)) (list_all (λ c. not (eqb c 10)) bs) one in
+    let p = and_parts (not (eqb b 10)) (list_all (λ c. not (eqb c 10)) bs) one in
     rw (no_feed b p.0) (eats_rest judge s n (rest ++ b ∷ []) bs p.1 ∙ ap (Reading s n) (append_assoc rest (b ∷ []) bs))
 
 pub eats_line : {S : Type 0} (judge : Judge S) (s : S) (n : ℕ) (rest line : List ℕ) → IsOneLine line → eats judge (Reading s n rest) (line ++ 10 ∷ []) ≡ judged (judge s (rest ++ line)) (next_number n)
@@ -58,9 +58,9 @@ line_wrong {S} judge o s n m rest line cause goes one made next =
     ∙ sym (λ i. Stopped (faults.Line (next i) cause))
 
 -- a line in front of what is left
-after_line : {S : Type 0} (judge : Judge S) (now then total : Progress S) (left line after : List ℕ)
+pub line_taken : {S : Type 0} (judge : Judge S) (now then total : Progress S) (left line after : List ℕ)
     → left ≡ line ++ 10 ∷ after → eats judge now (line ++ 10 ∷ []) ≡ then → eats judge now left ≡ total → eats judge then after ≡ total
-after_line {S} judge now then total left line after parts took so_far =
+line_taken {S} judge now then total left line after parts took so_far =
     sym (ap (λ (p : Progress S). eats judge p after) took)
     ∙ sym (eats_append judge now (line ++ 10 ∷ []) after)
     ∙ sym (ap (eats judge now) (parts ∙ sym (append_assoc line (10 ∷ []) after)))
@@ -117,12 +117,8 @@ pub line_fails : {S : Type 0} (full : S → Type 0) (judge : Judge S) (fault : J
     → ((f : SetFault) → IsPieceFault full judge now left f → may f) → TakesPiece may (Err fault) newer total
 line_fails full judge (faults.Set fault) may now new newer total left line after parts took so_far wider = wider fault (line_in_front full judge fault now left line after parts took)
 line_fails full judge (faults.Line n cause) may now new newer total left line after parts took so_far wider =
-    sym (after_line judge now _ total left line after parts took so_far) ∙ stopped_stays judge (faults.Line n cause) after
+    sym (line_taken judge now _ total left line after parts took so_far) ∙ stopped_stays judge (faults.Line n cause) after
 line_fails full judge (faults.Truncated n) may now new newer total left line after parts took so_far wider = absurd took
-
-pub line_taken : {S : Type 0} (judge : Judge S) (now new total : Progress S) (left line after : List ℕ)
-    → left ≡ line ++ 10 ∷ after → eats judge now (line ++ 10 ∷ []) ≡ new → eats judge now left ≡ total → eats judge new after ≡ total
-line_taken judge now new total left line after parts took so_far = after_line judge now new total left line after parts took so_far
 
 pub rest_kept : {S : Type 0} (judge : Judge S) (o : Option JournalFault) (s : S) (n : ℕ) (rest new left : List ℕ) (total : Progress S)
     → o ≡ None → IsOneLine left → new ≡ rest ++ left → eats judge (unless_stopped o (Reading s n rest)) left ≡ total → total ≡ unless_stopped o (Reading s n new)

@@ -1,19 +1,16 @@
 -- Each GTID of a journal was seen: at its start, when its entries are taken, and with one entry more.
-use Rattle.std.proofs.Common.{◌≡◌, Bool, true, false, ◌||◌, [], ◌∷◌, ◌++◌, refl, sym, ap, ◌∙◌}
+use Rattle.std.proofs.Common.{◌≡◌, false, ◌||◌, [], ◌∷◌, ◌++◌, sym, ap, ◌∙◌}
 use Rattle.std.specs.Ordering.{eq_by_cmp}
 use Rattle.std.specs.FinSet as set
 use Rattle.gtid_text.specs.declared.Gtid.{Gtid}
 use Rattle.gtid_text.specs.Gtids.{gtid_cmp}
 use Rattle.gtid_set.specs.Sets.{Gtids}
-use Rattle.gtid_set.proofs.SetLemmas.{gtid_total}
 use Rattle.journal.specs.declared.Entry.{Entry}
 use Rattle.journal.specs.Journals.{JournalValue, whole, gtids_of}
 use Rattle.journal.proofs.EntryLemmas.{gtids_of-push, contains-whole}
 use Rattle.txn_journal.specs.Kept.{IsSeen}
-
-parts : (a b : Bool) → (a || b) ≡ false → (a ≡ false) × (b ≡ false)
-parts true b e = absurd cc
-parts false b e = (refl, e)
+use Rattle.std.proofs.lemmas.Bool.{or_parts}
+use Rattle.gtid_text.proofs.SameGtid.{gtid_total}
 
 abbrev pub of_set : Gtids → JournalValue
 of_set s = record { previous = s; entries = [] }
@@ -23,13 +20,13 @@ seen_start j s is = λ g h. ap (λ (k : JournalValue). set.contains (whole k) g)
 
 pub seen_taken : (j k : JournalValue) (s : Gtids) → IsSeen j s → k ≡ record j { entries = [] } → IsSeen k s
 seen_taken j k s seen is = λ g h.
-    let p = parts (set.contains j.previous g) (set.contains (gtids_of j.entries) g) (sym (set.contains-union gtid_total j.previous (gtids_of j.entries) g) ∙ seen g h) in
+    let p = or_parts (set.contains j.previous g) (set.contains (gtids_of j.entries) g) (sym (set.contains-union gtid_total j.previous (gtids_of j.entries) g) ∙ seen g h) in
     ap (λ (k : JournalValue). set.contains (whole k) g) is ∙ contains-whole j.previous [] g ∙ ap (λ b. b || false) p.0
 
 pub seen_pushed : (j k : JournalValue) (s t : Gtids) (e : Entry) → IsSeen j s → k ≡ record j { entries = j.entries ++ e ∷ [] } → t ≡ set.insert s e.gtid → IsSeen k t
 seen_pushed j k s t e seen is added = λ g h.
-    let p = parts (eq_by_cmp gtid_cmp g e.gtid) (set.contains s g) (sym (ap (λ (u : Gtids). set.contains u g) added ∙ set.contains-insert gtid_total s e.gtid g) ∙ h) in
-    let q = parts (set.contains j.previous g) (set.contains (gtids_of j.entries) g) (sym (set.contains-union gtid_total j.previous (gtids_of j.entries) g) ∙ seen g p.1) in
+    let p = or_parts (eq_by_cmp gtid_cmp g e.gtid) (set.contains s g) (sym (ap (λ (u : Gtids). set.contains u g) added ∙ set.contains-insert gtid_total s e.gtid g) ∙ h) in
+    let q = or_parts (set.contains j.previous g) (set.contains (gtids_of j.entries) g) (sym (set.contains-union gtid_total j.previous (gtids_of j.entries) g) ∙ seen g p.1) in
     ap (λ (k : JournalValue). set.contains (whole k) g) is
     ∙ set.contains-union gtid_total j.previous (gtids_of (j.entries ++ e ∷ [])) g
     ∙ ap (λ (u : Gtids). set.contains j.previous g || set.contains u g) (gtids_of-push j.entries e)
@@ -39,5 +36,5 @@ seen_pushed j k s t e seen is added = λ g h.
 -- one GTID more was seen
 pub seen_more : (j k : JournalValue) (s t : Gtids) (x : Gtid) → IsSeen j s → k ≡ j → t ≡ set.insert s x → IsSeen k t
 seen_more j k s t x seen is added = λ g h.
-    let p = parts (eq_by_cmp gtid_cmp g x) (set.contains s g) (sym (ap (λ (u : Gtids). set.contains u g) added ∙ set.contains-insert gtid_total s x g) ∙ h) in
+    let p = or_parts (eq_by_cmp gtid_cmp g x) (set.contains s g) (sym (ap (λ (u : Gtids). set.contains u g) added ∙ set.contains-insert gtid_total s x g) ∙ h) in
     ap (λ (k : JournalValue). set.contains (whole k) g) is ∙ seen g p.1

@@ -4,7 +4,7 @@ use Rattle.std.specs.Prelude.{◌&&◌, ◌||◌, codes, decimal, option_map}
 use Rattle.std.specs.List.{list_all}
 use Rattle.std.specs.FinSet as set
 use Rattle.std.specs.Str.{bytes_eq}
-use Rattle.std.proofs.lemmas.Bool.{le-leb}
+use Rattle.std.proofs.lemmas.Bool.{le-leb, and_parts}
 use Rattle.std.proofs.lemmas.Slice.Eq.{bytes_eq-Decides}
 use Rattle.gtid_text.specs.declared.Span.{Span}
 use Rattle.gtid_text.specs.declared.scan.Refusal.{Refusal}
@@ -15,19 +15,24 @@ use Rattle.gtid_text.specs.Canonical.{source_text, numbers_text, span_text, next
 use Rattle.gtid_text.proofs.Found.{read_spells}
 use Rattle.gtid_text.proofs.Spelled.{spells_read}
 use Rattle.gtid_text.proofs.Shown.{spans_shown, joined_spans, spaced_joined}
-use Rattle.gtid_text.proofs.SameGtid.{both}
 use Rattle.gtid_set.specs.Sets.{Gtids, interval}
 use Rattle.gtid_set.specs.Spans.{set_of, is_before, is_merged}
-use Rattle.gtid_set.proofs.SetLemmas.{gtid_total, same_members, union_empty}
+use Rattle.gtid_set.proofs.SetLemmas.{same_members, union_empty}
 use Rattle.gtid_set.proofs.SpanLemmas.{all_weaker, before_trans}
 use Rattle.gtid_set.specs.Runs.{runs}
 use Rattle.gtid_set.proofs.RunLemmas.{runs_merged}
 use Rattle.journal_words.specs.Values.{where_same}
 use Rattle.journal_words.specs.Gtids.{is_ascii_byte, if_ascii, are_tidy_behind, some_tidy, tidy_or_none, spans_of_word, set_with, set_of_word}
 use Rattle.txn_journal.specs.WrittenSets.{spans_word, set_text, IsWrittenSet}
-use Rattle.journal_words.proofs.Counts.{chosen, some_is, lacks}
+use Rattle.journal_words.proofs.Counts.{lacks}
 use Rattle.journal_words.proofs.ValueLaws.{where_same-again, where_same-found}
-use Rattle.txn_journal.proofs.GtidLaws.{source_small, number_range, is_set_byte, set_ascii, set_no_blank, set_no_feed, source_set, decimal_set, joins, ascii_found}
+use Rattle.txn_journal.proofs.GtidLaws.{source_small, is_set_byte, set_ascii, set_no_blank, set_no_feed, source_set, decimal_set, joins, ascii_found}
+use Rattle.std.proofs.lemmas.Option.{same_Some}
+use Rattle.gtid_text.proofs.Turns.{chosen}
+use Rattle.gtid_text.proofs.SameGtid.{gtid_total}
+use Rattle.gtid_set.proofs.LawLemmas.{union_swap}
+use Rattle.gtid_set.proofs.RoundTrip.{numbered}
+use Rattle.rows.proofs.Lists.{map_some}
 
 -- ---- what a text spells is usable
 
@@ -36,7 +41,7 @@ usable_append [] ys a b = b
 usable_append (x ∷ xs) ys a b = (a.0, usable_append xs ys a.1 b)
 
 number_is : (n : Number) (value : ℕ) → IsNumber n value → IsNumbered value
-number_is n value h = number_range n.digits value h.spells
+number_is n value h = numbered n.digits value h.spells
 
 upper_is : (u : Option (List ℕ × Number)) (s : Span) → IsUpper u s → IsNumbered s.lo → IsNumbered s.hi × (s.lo ≤ s.hi)
 upper_is None s h low = (subst IsNumbered (sym h) low, omega (arith, h))
@@ -67,21 +72,21 @@ elements_are (e ∷ es) ss h = subst AreUsable (sym h.2) (usable_append h.0 h.1 
 all_behind : (s : Span) (ss : List Span) → are_tidy_behind (Some s) ss ≡ true → AreUsable ss → list_all (is_before s) ss ≡ true
 all_behind s [] e u = refl
 all_behind s (t ∷ ts) e u =
-    let p = both (is_before s t) (are_tidy_behind (Some t) ts) e in
+    let p = and_parts (is_before s t) (are_tidy_behind (Some t) ts) e in
     rw p.0 (all_weaker (is_before t) (is_before s) ts (λ v c. before_trans s t v p.0 (le-leb _ _ u.0.ordered) c) (all_behind t ts p.1 u.1))
 
 tidy_merged : (s : Span) (ss : List Span) → are_tidy_behind (Some s) ss ≡ true → AreUsable (s ∷ ss) → is_merged (s ∷ ss) ≡ true
 tidy_merged s [] e u = rw (le-leb _ _ u.0.ordered) refl
 tidy_merged s (t ∷ ts) e u =
-    let p = both (is_before s t) (are_tidy_behind (Some t) ts) e in
+    let p = and_parts (is_before s t) (are_tidy_behind (Some t) ts) e in
     rw (le-leb _ _ u.0.ordered, all_behind s (t ∷ ts) e u.1) (tidy_merged t ts p.1 u.1)
 
 merged_tidy : (s : Span) (ss : List Span) → is_merged (s ∷ ss) ≡ true → are_tidy_behind (Some s) ss ≡ true
 merged_tidy s [] e = refl
 merged_tidy s (t ∷ ts) e =
-    let p = both (leb s.lo s.hi) (list_all (is_before s) (t ∷ ts) && is_merged (t ∷ ts)) e in
-    let q = both (list_all (is_before s) (t ∷ ts)) (is_merged (t ∷ ts)) p.1 in
-    rw (both (is_before s t) (list_all (is_before s) ts) q.0).0 (merged_tidy t ts q.1)
+    let p = and_parts (leb s.lo s.hi) (list_all (is_before s) (t ∷ ts) && is_merged (t ∷ ts)) e in
+    let q = and_parts (list_all (is_before s) (t ∷ ts)) (is_merged (t ∷ ts)) p.1 in
+    rw (and_parts (is_before s t) (list_all (is_before s) ts) q.0).0 (merged_tidy t ts q.1)
 
 -- ---- the set of intervals, one after another
 
@@ -99,17 +104,8 @@ turned s t u = same_members _ _ (λ g.
     ∙ or_turned (set.contains s g) (set.contains t g) (set.contains u g)
     ∙ sym (set.contains-union gtid_total s (set.union u t) g ∙ ap (λ b. set.contains s g || b) (set.contains-union gtid_total u t g)))
 
-or_turn : (a b : Bool) → (a || b) ≡ (b || a)
-or_turn true true = refl
-or_turn true false = refl
-or_turn false true = refl
-or_turn false false = refl
-
-swapped : (s t : Gtids) → set.union s t ≡ set.union t s
-swapped s t = same_members _ _ (λ g. set.contains-union gtid_total s t g ∙ or_turn (set.contains s g) (set.contains t g) ∙ sym (set.contains-union gtid_total t s g))
-
 none_before : (s : Gtids) → set.union set.empty s ≡ s
-none_before s = swapped set.empty s ∙ sym (union_empty s)
+none_before s = union_swap set.empty s ∙ sym (union_empty s)
 
 with_all : (s : Gtids) (ts : List Span) → set_with s ts ≡ set.union s (set_of ts)
 with_all s [] = union_empty s
@@ -166,7 +162,7 @@ read_tidy w (Err x) ss read e = absurd cc
 spans_found : (w : List ℕ) (ss : List Span) → spans_of_word w ≡ Some ss → SpansFound w ss
 spans_found w ss e =
     elim (chosen (bytes_eq w (codes "-")) (Some []) (if_ascii w (tidy_or_none w (spans_in w))) (Some ss) e) [
-      | inl p ↦ subst (SpansFound w) (some_is [] ss p.1) (record { text = (bytes_eq-Decides w (codes "-")).0 p.0; merged = refl; usable = tt })
+      | inl p ↦ subst (SpansFound w) (same_Some [] ss p.1) (record { text = (bytes_eq-Decides w (codes "-")).0 p.0; merged = refl; usable = tt })
       | inr p ↦ read_tidy w (spans_in w) ss refl (ascii_found w (tidy_or_none w (spans_in w)) ss p.1)
     ]
 
@@ -195,10 +191,6 @@ spans_again (s ∷ ss) m u =
 
 -- ---- sets
 
-mapped : {A B : Type 0} (f : A → B) (o : Option A) (y : B) → option_map f o ≡ Some y → (x : A) × (o ≡ Some x) × (f x ≡ y)
-mapped f (Some x) y e = (x, refl, some_is (f x) y e)
-mapped f None y e = absurd cc
-
 written : (ss : List Span) → is_merged ss ≡ true → AreUsable ss → IsWrittenSet (set_of ss)
 written ss m u =
     let r : ss ≡ runs (set_of ss) = sym (runs_merged ss m) in
@@ -206,7 +198,7 @@ written ss m u =
 
 pub set_found : (w : List ℕ) (s : Gtids) → set_of_word w ≡ Some s → (w ≡ set_text s) × IsWrittenSet s
 set_found w s e =
-    let m = mapped (set_with set.empty) (spans_of_word w) s e in
+    let m = map_some (set_with set.empty) (spans_of_word w) s e in
     let f = spans_found w m.0 m.1 in
     let same : set_of m.0 ≡ s = sym (with_none m.0) ∙ m.2 in
     (f.text ∙ ap spans_word (sym (runs_merged m.0 f.merged) ∙ ap runs same), subst IsWrittenSet same (written m.0 f.merged f.usable))

@@ -1,19 +1,18 @@
 -- A table's line: what is read is spelled so, and what is spelled so is read.
-use Rattle.std.proofs.Common.{◌≡◌, ℕ, ◌<◌, ◌≤◌, inl, inr, Bool, true, false, not, cond, leb, ltb, List, [], ◌∷◌, ◌++◌, length, map, Option, Some, None, Result, Ok, Err, refl, sym, ap, subst, ◌∙◌, append_assoc, arith}
+use Rattle.std.proofs.Common.{◌≡◌, ℕ, ◌<◌, ◌≤◌, inl, inr, true, false, not, cond, leb, ltb, List, [], ◌∷◌, ◌++◌, length, map, Option, Some, None, Result, Ok, Err, refl, sym, ap, subst, ◌∙◌, append_assoc, arith}
 use Rattle.std.specs.Prelude.{◌&&◌, ◌||◌, codes, decimal}
 use Rattle.std.specs.List.{list_all}
 use Rattle.std.specs.Str.{bytes_eq}
-use Rattle.std.proofs.lemmas.Bool.{leb-true, le-leb, lt-leb, ltb-true, le-ltb}
+use Rattle.std.proofs.lemmas.Bool.{leb-true, le-leb, lt-leb, ltb-true, le-ltb, and_parts, not-false, or_parts}
 use Rattle.std.proofs.lemmas.List.{append-nil, length-map}
 use Rattle.std.proofs.lemmas.Slice.Eq.{bytes_eq-Decides}
-use Rattle.gtid_text.proofs.SameGtid.{both}
 use Rattle.rows.specs.Names.{is_name}
 use Rattle.rows.specs.declared.schema.Table.{Table}
 use Rattle.rows.specs.declared.schema.TableFault.{TableFault}
 use Rattle.rows.specs.declared.schema.TableFault.TheVariants as table_faults
 use Rattle.rows.specs.Tables.{are_distinct, is_column_list, has_column_lists, is_within_limits, are_below, has_its_columns, is_taken, table_fault}
 use Rattle.journal_words.specs.Words.{is_count, count_of}
-use Rattle.journal_words.proofs.Counts.{chosen, lacks, is_count_decimal, count_again, count_found}
+use Rattle.journal_words.proofs.Counts.{lacks, is_count_decimal, count_again, count_found}
 use Rattle.txn_journal.specs.Words.{name_of}
 use Rattle.txn_journal.specs.Lines.{◌>>=◌, some_or_body}
 use Rattle.txn_journal.specs.Splits.{parts_of, joined_by, are_new_to, are_columns, is_columns_text, column_words, columns_text}
@@ -23,6 +22,7 @@ use Rattle.txn_journal.specs.declared.fault.Cause.TheVariants as causes
 use Rattle.txn_journal.proofs.NameLemmas.{name_no_blank, name_no_feed}
 use Rattle.txn_journal.proofs.LineReads.{bind_ok, ok_is, some_or_body_ok, name_found}
 use Rattle.txn_journal.proofs.SplitLaws.{parts_joined, parts_cut, AllLack, parts_again, joined_lacks, count_no_blank, count_no_feed, columns_no_blank, columns_no_feed, are_small, new_distinct, columns_parts, columns_written}
+use Rattle.gtid_text.proofs.Turns.{chosen}
 
 -- ---- what is read is spelled so
 
@@ -39,7 +39,7 @@ uniques_found before (key ∷ []) us e = absurd cc
 uniques_found before (key ∷ columns ∷ words) us e =
     elim (chosen (bytes_eq key (codes "uk") && is_columns_text columns) (uniques_from (before ++ columns ∷ []) words) (Err causes.Body) (Ok us) e) [
       | inl p ↦
-          let q = both (bytes_eq key (codes "uk")) (is_columns_text columns) p.0 in
+          let q = and_parts (bytes_eq key (codes "uk")) (is_columns_text columns) p.0 in
           let more = uniques_found (before ++ columns ∷ []) words us p.1 in
           record {
             read = columns ∷ more.read;
@@ -67,8 +67,8 @@ shape_of_found (n ∷ c ∷ k ∷ p ∷ words) s e =
       | inl h ↦
           let b = bind_ok (uniques_from [] words) (λ us. Ok (record { name = a.0; columns = c; primary = p; uniques = us })) s h.1 in
           let u = uniques_found [] words b.0 b.1 in
-          let q = both (is_count c) (bytes_eq k (codes "pk") && is_columns_text p) h.0 in
-          let r = both (bytes_eq k (codes "pk")) (is_columns_text p) q.1 in
+          let q = and_parts (is_count c) (bytes_eq k (codes "pk") && is_columns_text p) h.0 in
+          let r = and_parts (bytes_eq k (codes "pk")) (is_columns_text p) q.1 in
           let words_are : words ≡ unique_words b.0 = u.spelt ∙ ap unique_words u.whole in
           subst (ShapeFound (n ∷ c ∷ k ∷ p ∷ words)) (ok_is (record { name = a.0; columns = c; primary = p; uniques = b.0 }) s b.2) (record {
             spelt = (λ i. name.0 i ∷ c ∷ (bytes_eq-Decides k (codes "pk")).0 r.0 i ∷ p ∷ words_are i);
@@ -92,12 +92,12 @@ uniques_again : (before us : List (List ℕ)) → list_all is_columns_text us �
 unfolding uniques_from
 uniques_again before [] e = ap ok_list (sym (append-nil before))
 uniques_again before (u ∷ us) e =
-    let p = both (is_columns_text u) (list_all is_columns_text us) e in
+    let p = and_parts (is_columns_text u) (list_all is_columns_text us) e in
     rw p.0 (uniques_again (before ++ u ∷ []) us p.1) ∙ ap ok_list (append_assoc before (u ∷ []) us)
 
 unique_words_lack : (c : ℕ) (us : List (List ℕ)) → lacks c (codes "uk") ≡ true → ((t : List ℕ) → is_columns_text t ≡ true → lacks c t ≡ true) → list_all is_columns_text us ≡ true → AllLack c (unique_words us)
 unique_words_lack c [] key none e = tt
-unique_words_lack c (u ∷ us) key none e = let p = both (is_columns_text u) (list_all is_columns_text us) e in (key, (none u p.0, unique_words_lack c us key none p.1))
+unique_words_lack c (u ∷ us) key none e = let p = and_parts (is_columns_text u) (list_all is_columns_text us) e in (key, (none u p.0, unique_words_lack c us key none p.1))
 
 shape_words_no_blank : (s : Shape) → FitsShape s → AllLack 32 (shape_words s)
 shape_words_no_blank s f = (name_no_blank s.name f.name, (count_no_blank s.columns f.columns, (refl, (columns_no_blank s.primary f.primary, unique_words_lack 32 s.uniques refl columns_no_blank f.uniques))))
@@ -159,7 +159,7 @@ columns_found limit text cs fits e =
     let f = numbers_found limit [] (parts_of 44 text) cs e in
     let words : parts_of 44 text ≡ column_words cs = f.spelt ∙ ap column_words f.whole in
     let some : 0 < length cs = some_words cs _ _ (sym (parts_cut 44 text) ∙ words) in
-    let new = both (list_all is_count (column_words cs)) (are_new_to (λ v. false) (column_words cs)) (ap are_columns (sym words) ∙ fits) in
+    let new = and_parts (list_all is_count (column_words cs)) (are_new_to (λ v. false) (column_words cs)) (ap are_columns (sym words) ∙ fits) in
     record {
       spelt = sym (parts_joined 44 text) ∙ ap (joined_by 44) words;
       below = ap (are_below limit) (sym f.whole) ∙ f.below;
@@ -177,7 +177,7 @@ keys_found : (limit : ℕ) (before texts keys : List (List ℕ)) → list_all is
 unfolding keys_from
 keys_found limit before [] keys fits e = record { read = []; whole = append-nil before ∙ ok_is before keys e; spelt = refl; below = refl; lists = refl }
 keys_found limit before (t ∷ ts) keys fits e =
-    let p = both (is_columns_text t) (list_all is_columns_text ts) fits in
+    let p = and_parts (is_columns_text t) (list_all is_columns_text ts) fits in
     let a = bind_ok (columns_in limit t) (λ columns. keys_from limit (before ++ columns ∷ []) ts) keys e in
     let c = columns_found limit t a.0 p.0 a.1 in
     let more = keys_found limit (before ++ a.0 ∷ []) ts keys p.1 a.2 in
@@ -208,7 +208,7 @@ unfolding width_of
 width_found s n e =
     elim (chosen (ltb 8 (length s.uniques)) (Err causes.Limit) (few_columns (count_of s.columns)) (Ok n) e) [
       | inl p ↦ absurd (let k = p.1 in cc)
-      | inr p ↦ let f = few_found (count_of s.columns) n p.1 in let q = both (leb 1 n) (leb n 64) f.1 in record { few_uniques = p.0; written = f.0; some = q.0; few = q.1 }
+      | inr p ↦ let f = few_found (count_of s.columns) n p.1 in let q = and_parts (leb 1 n) (leb n 64) f.1 in record { few_uniques = p.0; written = f.0; some = q.0; few = q.1 }
     ]
 
 -- the table of a shape is spelled so
@@ -251,17 +251,17 @@ ok_numbers x = Ok x
 
 small_below : (limit : ℕ) (cs : List ℕ) → limit ≤ 64 → are_below limit cs ≡ true → are_small cs
 small_below limit [] few e = tt
-small_below limit (c ∷ cs) few e = let p = both (ltb c limit) (are_below limit cs) e in let lt = ltb-true c limit p.0 in (omega (arith, lt, few), small_below limit cs few p.1)
+small_below limit (c ∷ cs) few e = let p = and_parts (ltb c limit) (are_below limit cs) e in let lt = ltb-true c limit p.0 in (omega (arith, lt, few), small_below limit cs few p.1)
 
 numbers_again : (limit : ℕ) (before cs : List ℕ) → are_small cs → are_below limit cs ≡ true → numbers_from limit before (column_words cs) ≡ Ok (before ++ cs)
 unfolding numbers_from
 numbers_again limit before [] small e = ap ok_numbers (sym (append-nil before))
 numbers_again limit before (c ∷ cs) small e =
-    let p = both (ltb c limit) (are_below limit cs) e in
+    let p = and_parts (ltb c limit) (are_below limit cs) e in
     rw (count_again c small.0, p.0) (numbers_again limit (before ++ c ∷ []) cs small.1 p.1) ∙ ap ok_numbers (append_assoc before (c ∷ []) cs)
 
 list_some : (cs : List ℕ) → is_column_list cs ≡ true → (0 < length cs) × (are_distinct cs ≡ true)
-list_some cs e = let p = both (leb 1 (length cs)) (are_distinct cs) e in let some = leb-true 1 (length cs) p.0 in (omega (arith, some), p.1)
+list_some cs e = let p = and_parts (leb 1 (length cs)) (are_distinct cs) e in let some = leb-true 1 (length cs) p.0 in (omega (arith, some), p.1)
 
 columns_again : (limit : ℕ) (cs : List ℕ) → limit ≤ 64 → are_below limit cs ≡ true → is_column_list cs ≡ true → columns_in limit (columns_text cs) ≡ Ok cs
 unfolding columns_in
@@ -273,8 +273,8 @@ keys_again : (limit : ℕ) (before keys : List (List ℕ)) → limit ≤ 64 → 
 unfolding keys_from
 keys_again limit before [] few e lists = ap ok_list (sym (append-nil before))
 keys_again limit before (k ∷ ks) few e lists =
-    let p = both (are_below limit k) (list_all (are_below limit) ks) e in
-    let q = both (is_column_list k) (list_all is_column_list ks) lists in
+    let p = and_parts (are_below limit k) (list_all (are_below limit) ks) e in
+    let q = and_parts (is_column_list k) (list_all is_column_list ks) lists in
     rw (columns_again limit k few p.0 q.0) (keys_again limit (before ++ k ∷ []) ks few p.1 q.1) ∙ ap ok_list (append_assoc before (k ∷ []) ks)
 
 columns_fit : (limit : ℕ) (cs : List ℕ) → limit ≤ 64 → are_below limit cs ≡ true → is_column_list cs ≡ true → is_columns_text (columns_text cs) ≡ true
@@ -283,8 +283,8 @@ columns_fit limit cs few e list = let l = list_some cs list in columns_written c
 keys_fit : (limit : ℕ) (keys : List (List ℕ)) → limit ≤ 64 → list_all (are_below limit) keys ≡ true → list_all is_column_list keys ≡ true → list_all is_columns_text (map columns_text keys) ≡ true
 keys_fit limit [] few e lists = refl
 keys_fit limit (k ∷ ks) few e lists =
-    let p = both (are_below limit k) (list_all (are_below limit) ks) e in
-    let q = both (is_column_list k) (list_all is_column_list ks) lists in
+    let p = and_parts (are_below limit k) (list_all (are_below limit) ks) e in
+    let q = and_parts (is_column_list k) (list_all is_column_list ks) lists in
     rw (columns_fit limit k few p.0 q.0) (keys_fit limit ks few p.1 q.1)
 
 -- what a table is that may come after others
@@ -298,14 +298,6 @@ pub record Allowed (tables : List Table) (t : Table) : Type 0 where
 abbrev some_fault : TableFault → Option TableFault
 some_fault f = Some f
 
-not_false : (a : Bool) → not a ≡ false → a ≡ true
-not_false true e = refl
-not_false false e = absurd cc
-
-either_none : (a b : Bool) → (a || b) ≡ false → (a ≡ false) × (b ≡ false)
-either_none true b e = absurd cc
-either_none false b e = (refl, e)
-
 pub allowed : (tables : List Table) (t : Table) → table_fault tables t ≡ None → Allowed tables t
 allowed tables t e =
     let third : Option TableFault = cond (is_taken t.name tables || not (has_its_columns t)) (Some table_faults.Schema) None in
@@ -317,9 +309,9 @@ allowed tables t e =
         | inr q ↦ elim (chosen (is_taken t.name tables || not (has_its_columns t)) (Some table_faults.Schema) None None q.1) [
           | inl r ↦ absurd (let k = r.1 in cc)
           | inr r ↦
-              let w = both (is_within_limits t) (ltb (length tables) 256) (not_false (is_within_limits t && ltb (length tables) 256) q.0) in
-              let n = either_none (is_taken t.name tables) (not (has_its_columns t)) r.0 in
-              record { lists = not_false (has_column_lists t) p.0; limits = w.0; room = w.1; new = n.0; below = not_false (has_its_columns t) n.1 }
+              let w = and_parts (is_within_limits t) (ltb (length tables) 256) (not-false (is_within_limits t && ltb (length tables) 256) q.0) in
+              let n = or_parts (is_taken t.name tables) (not (has_its_columns t)) r.0 in
+              record { lists = not-false (has_column_lists t) p.0; limits = w.0; room = w.1; new = n.0; below = not-false (has_its_columns t) n.1 }
         ]
       ]
     ]
@@ -335,10 +327,10 @@ record Bounds (t : Table) : Type 0 where
 
 bounds : (tables : List Table) (t : Table) → Allowed tables t → Bounds t
 bounds tables t a =
-    let p = both (leb 1 t.columns && leb t.columns 64) (leb (length t.uniques) 8) a.limits in
-    let q = both (leb 1 t.columns) (leb t.columns 64) p.0 in
-    let l = both (is_column_list t.primary) (list_all is_column_list t.uniques) a.lists in
-    let b = both (are_below t.columns t.primary) (list_all (are_below t.columns) t.uniques) a.below in
+    let p = and_parts (leb 1 t.columns && leb t.columns 64) (leb (length t.uniques) 8) a.limits in
+    let q = and_parts (leb 1 t.columns) (leb t.columns 64) p.0 in
+    let l = and_parts (is_column_list t.primary) (list_all is_column_list t.uniques) a.lists in
+    let b = and_parts (are_below t.columns t.primary) (list_all (are_below t.columns) t.uniques) a.below in
     record { some = q.0; few = q.1; uniques = p.1; primary_list = l.0; unique_lists = l.1; primary_below = b.0; uniques_below = b.1 }
 
 pub bounds_of : (tables : List Table) (t : Table) → Allowed tables t → t.columns ≤ 64

@@ -1,10 +1,10 @@
 -- What the lines so far have said is kept by one line more.
-use Rattle.std.proofs.Common.{◌≡◌, ℕ, ◌+◌, ◌<◌, ◌≤◌, inl, inr, Bool, true, false, not, cond, leb, List, [], ◌∷◌, ◌++◌, length, map, Option, Result, Ok, Err, refl, sym, ap, subst, ◌∙◌, append_assoc, arith}
+use Rattle.std.proofs.Common.{◌≡◌, ℕ, ◌+◌, ◌<◌, ◌≤◌, inl, inr, true, false, not, cond, leb, List, [], ◌∷◌, ◌++◌, length, map, Option, Result, Ok, Err, refl, sym, ap, subst, ◌∙◌, append_assoc, arith}
 use Rattle.std.specs.Prelude.{◌||◌}
 use Rattle.std.specs.List.{list_all, flat_map, AllByRecursion}
 use Rattle.std.specs.FinSet as set
-use Rattle.std.proofs.lemmas.Bool.{leb-false}
-use Rattle.std.proofs.lemmas.List.{append-nil, length-append}
+use Rattle.std.proofs.lemmas.Bool.{leb-false, le-leb, or_parts, not-false}
+use Rattle.std.proofs.lemmas.List.{append-nil, length-append, map_push}
 use Rattle.std.proofs.lemmas.List.Concat.{flat_map-append}
 use Rattle.gtid_text.specs.declared.Gtid.{Gtid}
 use Rattle.gtid_text.specs.Written.{IsUsable}
@@ -17,7 +17,6 @@ use Rattle.journal.specs.declared.Entry.{Entry}
 use Rattle.journal.specs.Journals.{JournalValue, AreNew}
 use Rattle.journal.specs.Writing.{is_number, is_change_writable, is_writable}
 use Rattle.txn_journal.specs.WrittenSets.{IsWrittenSet}
-use Rattle.journal_words.proofs.Counts.{chosen}
 use Rattle.txn_journal.specs.Due.{is_due}
 use Rattle.txn_journal.specs.Machine.{Standing, fits, closed, add, begin, judge}
 use Rattle.txn_journal.specs.Spelling.{Line, Header, Previous, Begin, Makes, End, Close, line_text, entry_lines, front_lines, FitsChange, FitsEntry, IsWritten}
@@ -29,6 +28,8 @@ use Rattle.txn_journal.specs.declared.lines.Place.TheVariants as places
 use Rattle.txn_journal.specs.declared.lines.Version.{Version}
 use Rattle.txn_journal.specs.Causes.{word_for, FitsLine}
 use Rattle.txn_journal.proofs.LineReads.{bind_ok, ok_is, put, read_line, read_found, judge_reads}
+use Rattle.gtid_text.proofs.Turns.{chosen}
+use Rattle.rows.proofs.Lists.{all_push as all_more}
 
 -- ---- the lines so far, and what is known of them
 
@@ -75,14 +76,6 @@ IsSound s = Sound_at s.place s.journal s.seen s.count s.gtid s.changes
 
 -- ---- lists with one more
 
-map-more : {A B : Type 0} (f : A → B) (xs : List A) (x : A) → map f (xs ++ x ∷ []) ≡ map f xs ++ f x ∷ []
-map-more f [] x = refl
-map-more f (y ∷ ys) x = ap (λ t. f y ∷ t) (map-more f ys x)
-
-all_more : {A : Type 0} (P : A → Type 0) (xs : List A) (x : A) → AllByRecursion P xs → P x → AllByRecursion P (xs ++ x ∷ [])
-all_more P [] x h p = (p, tt)
-all_more P (y ∷ ys) x h p = (h.0, all_more P ys x h.1 p)
-
 new_more : (seen : Gtids) (es : List Entry) (e : Entry) → AreNew seen es → set.contains (seen_after seen es) e.gtid ≡ false → AreNew seen (es ++ e ∷ [])
 new_more seen [] e new apart = (apart, tt)
 new_more seen (f ∷ fs) e new apart = (new.0, new_more (set.insert seen f.gtid) fs e new.1 apart)
@@ -97,11 +90,8 @@ entry_of g cs = record { gtid = g; txn = record { changes = cs } }
 abbrev pub with_entry : JournalValue → Entry → JournalValue
 with_entry j e = record j { entries = j.entries ++ e ∷ [] }
 
-le_leb : (a b : ℕ) → a ≤ b → leb a b ≡ true
-le_leb a b h = grind arith
-
 entry_writable : (g : Gtid) (cs : List Change) → is_number g.number ≡ true → length cs ≤ 65536 → list_all is_change_writable cs ≡ true → is_writable (entry_of g cs) ≡ true
-entry_writable g cs number few all = rw (number, le_leb (length cs) 65536 few, all) refl
+entry_writable g cs number few all = rw (number, le-leb (length cs) 65536 few, all) refl
 
 pub whole_more : (j : JournalValue) (seen : Gtids) (count : ℕ) (g : Gtid) (cs : List Change) → Opened j seen count g cs → Whole (with_entry j (entry_of g cs)) (set.insert seen g) (count + 1)
 whole_more j seen count g cs o =
@@ -117,14 +107,6 @@ whole_more j seen count g cs o =
     }
 
 -- ---- one line more
-
-none_of : (a b : Bool) → (a || b) ≡ false → (a ≡ false) × (b ≡ false)
-none_of true b e = absurd cc
-none_of false b e = (refl, e)
-
-not_false : (a : Bool) → not a ≡ false → a ≡ true
-not_false true e = refl
-not_false false e = absurd cc
 
 pub record Begun (s : Standing) (g : Gtid) (t : Standing) : Type 0 where
   pub number : is_number g.number ≡ true
@@ -144,7 +126,7 @@ begin_found s t g e =
         | inl q ↦ absurd (let k = q.1 in cc)
         | inr q ↦ elim (chosen (set.contains s.seen g) (Err (causes.Twice g)) last (Ok t) q.1) [
           | inl r ↦ absurd (let k = r.1 in cc)
-          | inr r ↦ record { number = not_false (is_number g.number) p.0; room = leb-false _ _ q.0; unseen = r.0; after = ok_is _ _ r.1 }
+          | inr r ↦ record { number = not-false (is_number g.number) p.0; room = leb-false _ _ q.0; unseen = r.0; after = ok_is _ _ r.1 }
         ]
       ]
     ]
@@ -165,8 +147,8 @@ add_found schema s t c e =
       | inr p ↦ elim (chosen (not (fits schema c)) (Err causes.Schema) last (Ok t) p.1) [
         | inl q ↦ absurd (let k = q.1 in cc)
         | inr q ↦
-            let n = none_of (leb 65536 (length s.changes)) (not (is_change_writable c)) p.0 in
-            record { room = leb-false _ _ n.0; writable = not_false (is_change_writable c) n.1; taken = not_false (fits schema c) q.0; after = ok_is _ _ q.1 }
+            let n = or_parts (leb 65536 (length s.changes)) (not (is_change_writable c)) p.0 in
+            record { room = leb-false _ _ n.0; writable = not-false (is_change_writable c) n.1; taken = not-false (fits schema c) q.0; after = ok_is _ _ q.1 }
       ]
     ]
 
@@ -180,7 +162,7 @@ keeps_change schema due version j seen count g cs c t o fits e =
     let s = at places.Within due version j seen count g cs in
     let f = add_found schema s t c e in
     subst (λ (u : Standing). Keeps (said s) (Makes c) u) f.after (record {
-      says = ap (λ (ls : List Line). front_lines version j ++ (Begin g ∷ ls)) (map-more Makes cs c) ∙ sym (append_assoc (front_lines version j) (Begin g ∷ map Makes cs) (Makes c ∷ []));
+      says = ap (λ (ls : List Line). front_lines version j ++ (Begin g ∷ ls)) (map_push Makes cs c) ∙ sym (append_assoc (front_lines version j) (Begin g ∷ map Makes cs) (Makes c ∷ []));
       sound = record { whole = o.whole; unseen = o.unseen; number = o.number; usable = o.usable; room = o.room; few = omega (arith, f.room, length-append cs (c ∷ [])); writable = all_push is_change_writable cs c o.writable f.writable; fits = all_more FitsChange cs c o.fits fits };
     })
 

@@ -4,19 +4,20 @@ use Rattle.std.specs.Prelude.{◌||◌, decimal}
 use Rattle.std.specs.List.{list_all, list_any, AllByRecursion}
 use Rattle.std.specs.Char.{is_ascii_digit}
 use Rattle.std.specs.Str.{bytes_eq}
-use Rattle.std.proofs.lemmas.Bool.{eqb-true, eq-eqb}
+use Rattle.std.proofs.lemmas.Bool.{eqb-true, eq-eqb, and_parts, or_parts, not-true}
 use Rattle.std.proofs.lemmas.Bool.Decides.{nat_tests}
 use Rattle.std.proofs.lemmas.Slice.Eq.{bytes_eq-Decides}
-use Rattle.gtid_text.proofs.SameGtid.{both}
 use Rattle.gtid_set.proofs.SpanLemmas.{all_weaker}
 use Rattle.rows.specs.Tables.{are_distinct}
-use Rattle.journal_words.specs.Words.{is_count, count_of}
+use Rattle.journal_words.specs.Words.{is_count}
 use Rattle.journal_words.proofs.Numerals.{digits_in}
-use Rattle.journal_words.proofs.Counts.{some_is, lacks, is_count_decimal, count_again}
+use Rattle.journal_words.proofs.Counts.{lacks, is_count_decimal, lacks-parts}
 use Rattle.txn_journal.specs.Words.{before, behind}
 use Rattle.txn_journal.specs.Lines.{cons_head}
 use Rattle.txn_journal.specs.Splits.{parts_of, joined_by, are_new_to, are_columns, is_columns_text, column_words, columns_text}
 use Rattle.txn_journal.proofs.GtidLaws.{joins}
+use Rattle.std.proofs.lemmas.Fmt.{decimal_injective}
+use Rattle.journal_words.proofs.ValueLaws.{same_bytes}
 
 -- ---- the first part, and those behind it
 
@@ -50,18 +51,15 @@ parts_joined c (b ∷ bs) =
       | false ↦ λ e. joined_head c b (parts_of c bs) ∙ ap (λ (t : List ℕ). b ∷ t) (parts_joined c bs)
     ] refl
 
-not_here : (c b : ℕ) (bs : List ℕ) → lacks c (b ∷ bs) ≡ true → (eqb b c ≡ false) × (lacks c bs ≡ true)
-not_here c b bs e = let p = both (not (eqb b c)) (lacks c bs) e in (elim (eqb b c) as (λ v. not v ≡ true → v ≡ false) [ true ↦ λ h. absurd cc | false ↦ λ h. refl ] p.0, p.1)
-
 pub parts_one : (c : ℕ) (w : List ℕ) → lacks c w ≡ true → parts_of c w ≡ w ∷ []
 unfolding parts_of
 parts_one c [] e = refl
-parts_one c (b ∷ bs) e = let p = not_here c b bs e in rw (p.0, parts_one c bs p.1) refl
+parts_one c (b ∷ bs) e = let p = lacks-parts c b bs e in rw (p.0, parts_one c bs p.1) refl
 
 parts_more : (c : ℕ) (w r : List ℕ) → lacks c w ≡ true → parts_of c (w ++ c ∷ r) ≡ w ∷ parts_of c r
 unfolding parts_of
 parts_more c [] r e = rw (eq-eqb c c refl) refl
-parts_more c (b ∷ bs) r e = let p = not_here c b bs e in rw (p.0, parts_more c bs r p.1) refl
+parts_more c (b ∷ bs) r e = let p = lacks-parts c b bs e in rw (p.0, parts_more c bs r p.1) refl
 
 abbrev pub AllLack : ℕ → List (List ℕ) → Type 0
 AllLack c ws = AllByRecursion (λ w. lacks c w ≡ true) ws
@@ -98,11 +96,11 @@ count_no_comma w e = all_weaker is_ascii_digit (λ b. not (eqb b 44)) w no_comma
 
 counts_lack : (c : ℕ) (ws : List (List ℕ)) → ((w : List ℕ) → is_count w ≡ true → lacks c w ≡ true) → list_all is_count ws ≡ true → AllLack c ws
 counts_lack c [] none e = tt
-counts_lack c (w ∷ ws) none e = let p = both (is_count w) (list_all is_count ws) e in (none w p.0, counts_lack c ws none p.1)
+counts_lack c (w ∷ ws) none e = let p = and_parts (is_count w) (list_all is_count ws) e in (none w p.0, counts_lack c ws none p.1)
 
 columns_lack : (c : ℕ) (t : List ℕ) → eqb 44 c ≡ false → ((w : List ℕ) → is_count w ≡ true → lacks c w ≡ true) → is_columns_text t ≡ true → lacks c t ≡ true
 columns_lack c t ne none e =
-    let p = both (list_all is_count (parts_of 44 t)) (are_new_to (λ v. false) (parts_of 44 t)) e in
+    let p = and_parts (list_all is_count (parts_of 44 t)) (are_new_to (λ v. false) (parts_of 44 t)) e in
     subst (λ (x : List ℕ). lacks c x ≡ true) (parts_joined 44 t) (joined_lacks 44 c (parts_of 44 t) ne (counts_lack c (parts_of 44 t) none p.0))
 
 pub columns_no_blank : (t : List ℕ) → is_columns_text t ≡ true → lacks 32 t ≡ true
@@ -121,26 +119,12 @@ words_counts : (cs : List ℕ) → are_small cs → list_all is_count (column_wo
 words_counts [] h = refl
 words_counts (c ∷ cs) h = rw (is_count_decimal c h.0) (words_counts cs h.1)
 
-decimal_same : (a b : ℕ) → a < 2 ^ 64 → b < 2 ^ 64 → decimal a ≡ decimal b → a ≡ b
-decimal_same a b x y e = some_is a b (sym (count_again a x) ∙ ap count_of e ∙ count_again b y)
-
-same_bytes : (a : List ℕ) → bytes_eq a a ≡ true
-same_bytes a = (bytes_eq-Decides a a).1 refl
-
-none_of : (a b : Bool) → (a || b) ≡ false → (a ≡ false) × (b ≡ false)
-none_of true b e = absurd cc
-none_of false b e = (refl, e)
-
-not_true : (a : Bool) → not a ≡ true → a ≡ false
-not_true true e = absurd cc
-not_true false e = refl
-
 -- a new column's word was not seen
 any_apart : (seen : List ℕ → Bool) (c : ℕ) (cs : List ℕ) → list_any (λ x. bytes_eq (decimal x) (decimal c) || seen (decimal x)) cs ≡ false → (list_any (λ x. eqb x c) cs ≡ false) × (list_any (λ x. seen (decimal x)) cs ≡ false)
 any_apart seen c [] e = (refl, refl)
 any_apart seen c (x ∷ xs) e =
-    let p = none_of (bytes_eq (decimal x) (decimal c) || seen (decimal x)) (list_any (λ x. bytes_eq (decimal x) (decimal c) || seen (decimal x)) xs) e in
-    let q = none_of (bytes_eq (decimal x) (decimal c)) (seen (decimal x)) p.0 in
+    let p = or_parts (bytes_eq (decimal x) (decimal c) || seen (decimal x)) (list_any (λ x. bytes_eq (decimal x) (decimal c) || seen (decimal x)) xs) e in
+    let q = or_parts (bytes_eq (decimal x) (decimal c)) (seen (decimal x)) p.0 in
     let more = any_apart seen c xs p.1 in
     let apart : eqb x c ≡ false = elim (eqb x c) as (λ v. eqb x c ≡ v → v ≡ false) [
       | true ↦ λ h. absurd (let k = sym (same_bytes (decimal c)) ∙ ap (λ (y : ℕ). bytes_eq (decimal y) (decimal c)) (sym (eqb-true x c h)) ∙ q.0 in cc)
@@ -152,18 +136,18 @@ pub new_distinct : (seen : List ℕ → Bool) (cs : List ℕ) → are_new_to see
 unfolding are_new_to
 new_distinct seen [] e = (refl, refl)
 new_distinct seen (c ∷ cs) e =
-    let p = both (not (seen (decimal c))) (are_new_to (λ v. bytes_eq v (decimal c) || seen v) (column_words cs)) e in
+    let p = and_parts (not (seen (decimal c))) (are_new_to (λ v. bytes_eq v (decimal c) || seen v) (column_words cs)) e in
     let more = new_distinct (λ v. bytes_eq v (decimal c) || seen v) cs p.1 in
     let apart = any_apart seen c cs more.1 in
-    (rw (apart.0, more.0) refl, rw (not_true (seen (decimal c)) p.0, apart.1) refl)
+    (rw (apart.0, more.0) refl, rw (not-true (seen (decimal c)) p.0, apart.1) refl)
 
 any_together : (seen : List ℕ → Bool) (c : ℕ) (cs : List ℕ) → c < 2 ^ 64 → are_small cs → list_any (λ x. eqb x c) cs ≡ false → list_any (λ x. seen (decimal x)) cs ≡ false → list_any (λ x. bytes_eq (decimal x) (decimal c) || seen (decimal x)) cs ≡ false
 any_together seen c [] lt small a b = refl
 any_together seen c (x ∷ xs) lt small a b =
-    let p = none_of (eqb x c) (list_any (λ x. eqb x c) xs) a in
-    let q = none_of (seen (decimal x)) (list_any (λ x. seen (decimal x)) xs) b in
+    let p = or_parts (eqb x c) (list_any (λ x. eqb x c) xs) a in
+    let q = or_parts (seen (decimal x)) (list_any (λ x. seen (decimal x)) xs) b in
     let apart : bytes_eq (decimal x) (decimal c) ≡ false = elim (bytes_eq (decimal x) (decimal c)) as (λ v. bytes_eq (decimal x) (decimal c) ≡ v → v ≡ false) [
-      | true ↦ λ h. absurd (let k = sym (eq-eqb x c (decimal_same x c small.0 lt ((bytes_eq-Decides (decimal x) (decimal c)).0 h))) ∙ p.0 in cc)
+      | true ↦ λ h. absurd (let k = sym (eq-eqb x c (decimal_injective x c small.0 lt ((bytes_eq-Decides (decimal x) (decimal c)).0 h))) ∙ p.0 in cc)
       | false ↦ λ h. refl
     ] refl in
     rw (apart, q.0) (any_together seen c xs lt small.1 p.1 q.1)
@@ -172,9 +156,9 @@ pub distinct_new : (seen : List ℕ → Bool) (cs : List ℕ) → are_small cs �
 unfolding are_new_to
 distinct_new seen [] small e f = refl
 distinct_new seen (c ∷ cs) small e f =
-    let p = both (not (list_any (λ x. eqb x c) cs)) (are_distinct cs) e in
-    let q = none_of (seen (decimal c)) (list_any (λ x. seen (decimal x)) cs) f in
-    rw q.0 (distinct_new (λ v. bytes_eq v (decimal c) || seen v) cs small.1 p.1 (any_together seen c cs small.0 small.1 (not_true (list_any (λ x. eqb x c) cs) p.0) q.1))
+    let p = and_parts (not (list_any (λ x. eqb x c) cs)) (are_distinct cs) e in
+    let q = or_parts (seen (decimal c)) (list_any (λ x. seen (decimal x)) cs) f in
+    rw q.0 (distinct_new (λ v. bytes_eq v (decimal c) || seen v) cs small.1 p.1 (any_together seen c cs small.0 small.1 (not-true (list_any (λ x. eqb x c) cs) p.0) q.1))
 
 none_seen : (cs : List ℕ) → list_any (λ x. false) cs ≡ false
 none_seen [] = refl

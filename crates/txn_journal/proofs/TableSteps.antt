@@ -1,5 +1,5 @@
 -- The words of a table's line, step by step.
-use Rattle.std.proofs.Common.{◌≡◌, ℕ, Bool, true, false, cond, List, [], ◌∷◌, ◌++◌, map, Option, Some, None, Result, Ok, Err, refl, sym, ap, subst, ◌∙◌, append_assoc}
+use Rattle.std.proofs.Common.{◌≡◌, ℕ, Bool, true, false, cond, List, [], ◌∷◌, ◌++◌, Option, Some, None, Result, Ok, Err, refl, sym, ap, subst, ◌∙◌, append_assoc}
 use Rattle.std.specs.Prelude.{is_some}
 use Rattle.rows.specs.Apply.{Rows, apply}
 use Rattle.rows.specs.Fits.{misfit}
@@ -25,10 +25,6 @@ use Rattle.txn_journal.proofs.LineReads.{done}
 use Rattle.txn_journal.proofs.SplitLaws.{parts_cut, more_parts}
 
 -- ---- parts
-
-pub map_more : {X Y : Type 0} (f : X → Y) (xs : List X) (x : X) → map f (xs ++ x ∷ []) ≡ map f xs ++ f x ∷ []
-map_more f [] x = refl
-map_more f (y ∷ ys) x = ap (λ t. f y ∷ t) (map_more f ys x)
 
 pub last_part : (all done : List (List ℕ)) (c : ℕ) (left w : List ℕ) (m : Option (List ℕ)) → all ≡ done ++ parts_of c left → w ≡ before c left → m ≡ behind c left → m ≡ None → done ++ w ∷ [] ≡ all
 last_part all done c left w m so_far word rest none =

@@ -2,12 +2,11 @@
 use Rattle.std.proofs.Common.{◌≡◌, ℕ, ◌+◌, ◌<◌, ◌≤◌, Bool, true, false, not, eqb, leb, List, [], ◌∷◌, ◌++◌, length, map, Option, None, Result, Ok, refl, sym, ap, subst, ◌∙◌, append_assoc, arith}
 use Rattle.std.specs.List.{list_all, flat_map, AllByRecursion}
 use Rattle.std.specs.FinSet as set
-use Rattle.std.proofs.lemmas.Bool.{lt-leb}
+use Rattle.std.proofs.lemmas.Bool.{lt-leb, and_parts, leb-true}
 use Rattle.std.proofs.lemmas.List.{append-nil, length-append}
 use Rattle.gtid_text.specs.declared.Gtid.{Gtid}
 use Rattle.gtid_text.specs.Written.{IsUsable}
 use Rattle.gtid_text.specs.Canonical.{gtid_text}
-use Rattle.gtid_text.proofs.SameGtid.{both}
 use Rattle.gtid_set.specs.Sets.{Gtids, greatest}
 use Rattle.gtid_set.proofs.SpanLemmas.{all_weaker}
 use Rattle.rows.specs.declared.value.Value.{Value}
@@ -32,11 +31,12 @@ use Rattle.txn_journal.specs.declared.lines.Version.TheVariants.{One}
 use Rattle.txn_journal.proofs.NameLemmas.{name_no_feed}
 use Rattle.txn_journal.proofs.GtidLaws.{gtid_set_bytes, is_set_byte, set_no_feed, joins}
 use Rattle.txn_journal.proofs.SetLaws.{set_no_feeds}
-use Rattle.txn_journal.proofs.LineRuns.{runs, runs_then, fed, eats_runs, all_join}
+use Rattle.txn_journal.proofs.LineRuns.{runs, runs_then, fed, eats_runs}
 use Rattle.txn_journal.specs.Words.{IsOneLine}
 use Rattle.txn_journal.specs.Causes.{word_for, FitsLine, HasImages, IsDueVersion}
 use Rattle.txn_journal.proofs.LineReads.{put, read_again, judge_reads}
 use Rattle.txn_journal.proofs.SoundLines.{at, seen_after, with_entry}
+use Rattle.rows.proofs.Lists.{all_append}
 
 -- ---- no line feed stands in a line
 
@@ -92,7 +92,7 @@ texts_join (k ∷ ks) ls = ap (λ (t : List (List ℕ)). line_text k ∷ t) (tex
 
 leads_both : (schema : Option (List Table)) (s t u : Standing) (ks ls : List Line) → Leads schema s ks t → Leads schema t ls u → Leads schema s (ks ++ ls) u
 leads_both schema s t u ks ls a b = record {
-  one = subst (λ (x : List (List ℕ)). AllByRecursion IsOneLine x) (sym (texts_join ks ls)) (all_join IsOneLine (texts_of ks) (texts_of ls) a.one b.one);
+  one = subst (λ (x : List (List ℕ)). AllByRecursion IsOneLine x) (sym (texts_join ks ls)) (all_append IsOneLine (texts_of ks) (texts_of ls) a.one b.one);
   run = ap (runs (judge schema) s) (texts_join ks ls) ∙ runs_then (judge schema) s t (texts_of ks) (texts_of ls) a.run ∙ b.run;
 }
 
@@ -108,7 +108,7 @@ image_some (v ∷ vs) e = omega arith
 change_images : (c : Change) → is_change_writable c ≡ true → HasImages (Makes c)
 change_images (Insert table after) e = image_some after e
 change_images (Delete table before) e = image_some before e
-change_images (Update table before after) e = let p = both (is_image_writable before) (is_image_writable after) e in (image_some before p.0, image_some after p.1)
+change_images (Update table before after) e = let p = and_parts (is_image_writable before) (is_image_writable after) e in (image_some before p.0, image_some after p.1)
 
 due_change : (c : Change) → is_due places.Within (word_for (Makes c)) ≡ true
 due_change (Insert table after) = refl
@@ -124,8 +124,8 @@ leads_changes : (schema : Option (List Table)) (due : Option Version) (version :
 unfolding put
 leads_changes schema due version j seen count g cs [] fit all taken few = subst (λ (x : List Change). Leads schema (at places.Within due version j seen count g cs) [] (at places.Within due version j seen count g x)) (sym (append-nil cs)) (leads_none schema (at places.Within due version j seen count g cs))
 leads_changes schema due version j seen count g cs (d ∷ ds) fit all taken few =
-    let p = both (is_change_writable d) (list_all is_change_writable ds) all in
-    let q = both (fits schema d) (list_all (fits schema) ds) taken in
+    let p = and_parts (is_change_writable d) (list_all is_change_writable ds) all in
+    let q = and_parts (fits schema d) (list_all (fits schema) ds) taken in
     let s = at places.Within due version j seen count g cs in
     let t = at places.Within due version j seen count g (cs ++ d ∷ []) in
     let u = at places.Within due version j seen count g (cs ++ d ∷ ds) in
@@ -139,12 +139,9 @@ begin_again : (s : Standing) (g : Gtid) → is_number g.number ≡ true → s.co
 unfolding begin
 begin_again s g number few apart = rw (number, lt-leb 4294967294 s.count few, apart) refl
 
-leb_true : (a b : ℕ) → leb a b ≡ true → a ≤ b
-leb_true a b e = grind arith
-
 number_in : (n : ℕ) → is_number n ≡ true → (1 ≤ n) × (n ≤ 9223372036854775807)
 unfolding greatest
-number_in n e = let p = both (leb 1 n) (leb n 9223372036854775807) e in (leb_true 1 n p.0, leb_true n 9223372036854775807 p.1)
+number_in n e = let p = and_parts (leb 1 n) (leb n 9223372036854775807) e in (leb-true 1 n p.0, leb-true n 9223372036854775807 p.1)
 
 record Parts (e : Entry) : Type 0 where
   number : is_number e.gtid.number ≡ true
@@ -157,9 +154,9 @@ fits_in schema e = list_all (fits schema) e.txn.changes
 
 parts_of : (e : Entry) → is_writable e ≡ true → Parts e
 parts_of e w =
-    let p = both (is_number e.gtid.number) (is_txn_writable e.txn) w in
-    let q = both (leb (length e.txn.changes) 65536) (list_all is_change_writable e.txn.changes) p.1 in
-    record { number = p.0; few = leb_true _ _ q.0; all = q.1 }
+    let p = and_parts (is_number e.gtid.number) (is_txn_writable e.txn) w in
+    let q = and_parts (leb (length e.txn.changes) 65536) (list_all is_change_writable e.txn.changes) p.1 in
+    record { number = p.0; few = leb-true _ _ q.0; all = q.1 }
 
 leads_entry : (schema : Option (List Table)) (due : Option Version) (version : Version) (j : JournalValue) (seen : Gtids) (count : ℕ) (g : Gtid) (e : Entry) → FitsEntry e → is_writable e ≡ true → fits_in schema e ≡ true → count < 4294967294 → set.contains seen e.gtid ≡ false
     → Leads schema (at places.Between due version j seen count g []) (entry_lines e) (at places.Between due version (with_entry j e) (set.insert seen e.gtid) (count + 1) e.gtid [])
@@ -193,8 +190,8 @@ leads_entries schema due version j seen count g [] fit all taken new few =
       leads = subst (λ (t : Standing). Leads schema s [] t) (λ i. at places.Between due version (record j { entries = same i }) seen (zero_more i) g []) (leads_none schema s);
     }
 leads_entries schema due version j seen count g (e ∷ es) fit all taken new few =
-    let p = both (is_writable e) (list_all is_writable es) all in
-    let q = both (fits_in schema e) (list_all (fits_in schema) es) taken in
+    let p = and_parts (is_writable e) (list_all is_writable es) all in
+    let q = and_parts (fits_in schema e) (list_all (fits_in schema) es) taken in
     let one = leads_entry schema due version j seen count g e fit.0 p.0 q.0 (omega arith) new.0 in
     let k = with_entry j e in
     let more = leads_entries schema due version k (set.insert seen e.gtid) (count + 1) e.gtid es fit.1 p.1 q.1 new.1 (omega arith) in

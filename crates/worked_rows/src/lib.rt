@@ -6,6 +6,8 @@ mod bundles;
 #[cfg(test)]
 mod channels;
 #[cfg(test)]
+mod gates;
+#[cfg(test)]
 mod journals;
 #[cfg(test)]
 mod limits;

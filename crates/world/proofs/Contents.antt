@@ -1,13 +1,11 @@
 -- The contents of a world of journals.
-use Rattle.std.proofs.Common.{◌≡◌, ℕ, zero, suc, Bool, true, false, cond, ◌||◌, ◌⊎◌, inl, inr, List, [], ◌∷◌, ◌++◌, Option, Some, None, refl, sym, ap, ◌∙◌, subst}
+use Rattle.std.proofs.Common.{◌≡◌, ℕ, zero, suc, Bool, true, false, cond, ◌⊎◌, inl, inr, List, [], ◌∷◌, Option, Some, None, refl, sym, ap, ◌∙◌, subst}
 use Rattle.std.specs.Prelude.{slice_get, IsSome}
 use Rattle.std.specs.List.{list_any}
 use Rattle.std.specs.FinMap as finmap
 use Rattle.std.specs.FinMap.{get-empty, get-insert}
-use Rattle.std.specs.Ordering.{eq_by_cmp}
 use Rattle.std.specs.FinSet as set
 use Rattle.gtid_set.proofs.SetLemmas.{gtid_tied}
-use Rattle.std.proofs.lemmas.List.Folds.{list_any-append}
 use Rattle.rows.specs.declared.change.Transaction.{Transaction}
 use Rattle.gtid_text.specs.declared.Gtid.{Gtid}
 use Rattle.gtid_text.specs.Gtids.{gtid_cmp, same_gtid}
@@ -16,34 +14,34 @@ use Rattle.journal.specs.declared.Entry.{Entry}
 use Rattle.journal.specs.Journals.{JournalValue}
 use Rattle.source_history.specs.World.{World, content, is_opened, of_source, entries_in, apply_all, rows_of, HasNumber, IsClosed, AreKeysSound, IsSound}
 use Rattle.source_history.specs.World as history
-use Rattle.source_history.proofs.Tests.{not_both, or_either, or_left, or_right}
-use Rattle.source_history.proofs.Gtids.{gtid_total, same_gtid_self, gtid_same}
 use Rattle.source_history.proofs.Placing.{IsIn}
 use Rattle.source_history.proofs.Entries.{is_in, found}
-use Rattle.faithful_journals.proofs.Lists.{same_some, not_none, all_at}
-use Rattle.faithful_journals.proofs.Covering.{is_entry}
+use Rattle.faithful_journals.proofs.Lists.{all_at}
+use Rattle.faithful_journals.proofs.Covering.{is_entry, entries_append, any_tied}
 use Rattle.world.specs.Audit.{all_entries, first_contents}
-use Rattle.world.proofs.Finding.{any_at, any_from}
+use Rattle.std.proofs.lemmas.Bool.{or_cases, or_left, or_right}
+use Rattle.std.proofs.lemmas.Option.{same_Some}
+use Rattle.std.proofs.lemmas.Map.Keys.{any_passes_from_place}
+use Rattle.gtid_text.proofs.SameGtid.{same_itself, same_is_equal, gtid_total}
+use Rattle.rows.proofs.Patching.{not_both}
+use Rattle.rows.proofs.Lists.{none_some, any_at}
 
 -- ---- entries and places
 
 pub entry_at : (es : List Entry) (g : Gtid) → is_entry es g ≡ true → (i : ℕ) × (e : Entry) × (slice_get es i ≡ Some e) × (e.gtid ≡ g)
-entry_at es g h = let r = any_at (λ (e : Entry). same_gtid g e.gtid) es h in (r.0, r.1, r.2, sym (gtid_same g r.1.gtid r.3))
+entry_at es g h = let r = any_at (λ (e : Entry). same_gtid g e.gtid) es h in (r.0, r.1, r.2, sym (same_is_equal g r.1.gtid r.3))
 
 pub entry_from : (es : List Entry) (i : ℕ) (e : Entry) → slice_get es i ≡ Some e → is_entry es e.gtid ≡ true
-entry_from es i e h = any_from (λ (x : Entry). same_gtid e.gtid x.gtid) es i e h (same_gtid_self e.gtid)
-
-append_any : (xs ys : List Entry) (g : Gtid) → is_entry (xs ++ ys) g ≡ (is_entry xs g || is_entry ys g)
-append_any xs ys g = list_any-append (λ (e : Entry). same_gtid g e.gtid) xs ys
+entry_from es i e h = any_passes_from_place (λ (x : Entry). same_gtid e.gtid x.gtid) es i e h (same_itself e.gtid)
 
 pub of_all : (js : List JournalValue) (i : ℕ) (j : JournalValue) (g : Gtid) → slice_get js i ≡ Some j → is_entry j.entries g ≡ true → is_entry (all_entries js) g ≡ true
-of_all [] i j g h e = not_none j h
-of_all (k ∷ js) zero j g h e = append_any k.entries (all_entries js) g ∙ or_left (is_entry k.entries g) (is_entry (all_entries js) g) (ap (λ (x : JournalValue). is_entry x.entries g) (same_some k j h) ∙ e)
-of_all (k ∷ js) (suc i) j g h e = append_any k.entries (all_entries js) g ∙ or_right (is_entry k.entries g) (is_entry (all_entries js) g) (of_all js i j g h e)
+of_all [] i j g h e = none_some j h
+of_all (k ∷ js) zero j g h e = entries_append k.entries (all_entries js) g ∙ or_left (is_entry k.entries g) (is_entry (all_entries js) g) (ap (λ (x : JournalValue). is_entry x.entries g) (same_Some k j h) ∙ e)
+of_all (k ∷ js) (suc i) j g h e = entries_append k.entries (all_entries js) g ∙ or_right (is_entry k.entries g) (is_entry (all_entries js) g) (of_all js i j g h e)
 
 pub in_all : (js : List JournalValue) (g : Gtid) → is_entry (all_entries js) g ≡ true → (i : ℕ) × (j : JournalValue) × (slice_get js i ≡ Some j) × (is_entry j.entries g ≡ true)
 in_all [] g e = cc
-in_all (k ∷ js) g e = elim (or_either (is_entry k.entries g) (is_entry (all_entries js) g) (sym (append_any k.entries (all_entries js) g) ∙ e)) [
+in_all (k ∷ js) g e = elim (or_cases (is_entry k.entries g) (is_entry (all_entries js) g) (sym (entries_append k.entries (all_entries js) g) ∙ e)) [
   | inl here ↦ (zero, k, refl, here)
   | inr later ↦ let r = in_all js g later in (suc r.0, r.1, r.2, r.3)
 ]
@@ -60,22 +58,14 @@ content_at world g t e = in_at (g, t) (finmap.entries world.contents) (is_in wor
 pub at_content : (world : World) (i : ℕ) (e : history.Entry) → slice_get (finmap.entries world.contents) i ≡ Some e → content world e.0 ≡ Some e.1
 at_content world i e h = all_at (λ (x : history.Entry). content world x.0 ≡ Some x.1) (finmap.entries world.contents) i e (found world) h
 
-items_tied : (gs : List Gtid) (g : Gtid) → list_any (eq_by_cmp gtid_cmp g) gs ≡ list_any (same_gtid g) gs
-items_tied [] g = refl
-items_tied (h ∷ gs) g = λ i. gtid_tied g h i || items_tied gs g i
-
 pub in_items : (s : Gtids) (g : Gtid) → set.contains s g ≡ list_any (same_gtid g) (set.items s)
-in_items s g = set.contains-items s g ∙ items_tied (set.items s) g
+in_items s g = set.contains-items s g ∙ any_tied (set.items s) g
 
 -- ---- first contents
 
 pub some_of : {A : Type 0} (o : Option A) → IsSome o → (x : A) × (o ≡ Some x)
 some_of (Some x) h = (x, refl)
 some_of None h = cc
-
-pub is_some_of : {A : Type 0} (o : Option A) (x : A) → o ≡ Some x → IsSome o
-is_some_of (Some y) x e = refl
-is_some_of None x e = cc
 
 module _ (opened : Gtids) where
   get_more : (e : Entry) (es : List Entry) (g : Gtid) (b : Bool) → finmap.get (cond b (first_contents opened es) (finmap.insert (first_contents opened es) e.gtid e.txn)) g ≡ cond b (finmap.get (first_contents opened es) g) (cond (same_gtid g e.gtid) (Some e.txn) (finmap.get (first_contents opened es) g))
@@ -85,11 +75,11 @@ module _ (opened : Gtids) where
   -- what has a content was not executed from the start
   outside_by : (e : Entry) (o : Option Transaction) (g : Gtid) (t : Transaction) (b c : Bool) → set.contains opened e.gtid ≡ b → same_gtid g e.gtid ≡ c → (o ≡ Some t → set.contains opened g ≡ false) → cond b o (cond c (Some e.txn) o) ≡ Some t → set.contains opened g ≡ false
   outside_by e o g t true c p q h f = h f
-  outside_by e o g t false true p q h f = ap (set.contains opened) (gtid_same g e.gtid q) ∙ p
+  outside_by e o g t false true p q h f = ap (set.contains opened) (same_is_equal g e.gtid q) ∙ p
   outside_by e o g t false false p q h f = h f
 
   pub contents_outside : (es : List Entry) (g : Gtid) (t : Transaction) → finmap.get (first_contents opened es) g ≡ Some t → set.contains opened g ≡ false
-  contents_outside [] g t f = not_none t (sym (get-empty gtid_cmp g) ∙ f)
+  contents_outside [] g t f = none_some t (sym (get-empty gtid_cmp g) ∙ f)
   contents_outside (e ∷ es) g t f = outside_by e (finmap.get (first_contents opened es) g) g t (set.contains opened e.gtid) (same_gtid g e.gtid) refl refl (contents_outside es g t) (sym (get_more e es g (set.contains opened e.gtid)) ∙ f)
 
   -- what has a content is an entry
@@ -99,12 +89,12 @@ module _ (opened : Gtids) where
   entry_by e es o g t false false q h f = or_right (same_gtid g e.gtid) (is_entry es g) (h f)
 
   pub contents_entry : (es : List Entry) (g : Gtid) (t : Transaction) → finmap.get (first_contents opened es) g ≡ Some t → is_entry es g ≡ true
-  contents_entry [] g t f = not_none t (sym (get-empty gtid_cmp g) ∙ f)
+  contents_entry [] g t f = none_some t (sym (get-empty gtid_cmp g) ∙ f)
   contents_entry (e ∷ es) g t f = entry_by e es (finmap.get (first_contents opened es) g) g t (set.contains opened e.gtid) (same_gtid g e.gtid) refl (contents_entry es g t) (sym (get_more e es g (set.contains opened e.gtid)) ∙ f)
 
   -- an entry that was not executed from the start has a content
   has_by : (e : Entry) (o : Option Transaction) (g : Gtid) (b c : Bool) → set.contains opened e.gtid ≡ b → same_gtid g e.gtid ≡ c → set.contains opened g ≡ false → (c ≡ true) ⊎ IsSome o → IsSome (cond b o (cond c (Some e.txn) o))
-  has_by e o g true true p q n h = not_both (set.contains opened g) (ap (set.contains opened) (gtid_same g e.gtid q) ∙ p) n
+  has_by e o g true true p q n h = not_both (set.contains opened g) (ap (set.contains opened) (same_is_equal g e.gtid q) ∙ p) n
   has_by e o g true false p q n (inl x) = absurd (never x)
     where
       never : false ≡ true → ⊥
@@ -122,4 +112,4 @@ module _ (opened : Gtids) where
   entry_content (e ∷ es) g h n =
       subst (λ (o : Option Transaction). IsSome o) (sym (get_more e es g (set.contains opened e.gtid)))
       (has_by e (finmap.get (first_contents opened es) g) g (set.contains opened e.gtid) (same_gtid g e.gtid) refl refl n
-      (elim (or_either (same_gtid g e.gtid) (is_entry es g) h) [ inl here ↦ inl here | inr later ↦ inr (entry_content es g later n) ]))
+      (elim (or_cases (same_gtid g e.gtid) (is_entry es g) h) [ inl here ↦ inl here | inr later ↦ inr (entry_content es g later n) ]))

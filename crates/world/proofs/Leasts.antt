@@ -7,7 +7,7 @@ use Rattle.std.specs.declared.cmp.Ordering.{Ordering}
 use Rattle.std.specs.declared.cmp.Ordering.TheVariants.{Less, Equal, Greater}
 use Rattle.std.specs.Ordering.{nat_cmp, ordering_then, ordering_reverse, MatchOrdering}
 use Rattle.std.proofs.lemmas.Cmp.{ranked}
-use Rattle.std.proofs.lemmas.Bool.{eqb-true}
+use Rattle.std.proofs.lemmas.Bool.{eqb-true, and_from, not_from_false}
 use Rattle.gtid_text.specs.declared.Gtid.{Gtid}
 use Rattle.gtid_text.specs.Gtids.{gtid_cmp}
 use Rattle.gtid_set.specs.Sets.{gtid}
@@ -18,20 +18,23 @@ use Rattle.rows.specs.Total.{key_eq_same}
 use Rattle.rows.specs.WriteSet.{write_set, touches}
 use Rattle.source_history.specs.World.{World, content, of_source, entries_in, rows_of, is_opened}
 use Rattle.source_history.specs.World as history
-use Rattle.source_history.proofs.Tests.{not_both}
-use Rattle.source_history.proofs.Gtids.{gtid_total, number_less}
+use Rattle.source_history.proofs.Gtids.{number_less}
 use Rattle.source_history.proofs.Entries.{IsRising, rising}
-use Rattle.faithful_journals.proofs.Lists.{same_some, not_none, map_some, get_map, get_map_cases, all_at}
+use Rattle.faithful_journals.proofs.Lists.{get_map, all_at}
 use Rattle.world.specs.declared.verdict.Verdict.TheVariants.{Missing, Shared, DoesNotApply}
 use Rattle.world.specs.Search.{first, when}
 use Rattle.world.specs.Audit.{all_entries, world_of, stands_in, present, is_absent, below, first_fault}
 use Rattle.world.specs.Cases.{IsShared}
 use Rattle.world.specs.Least.{MissingIsLeast, SharedIsLeast, FirstSourceFails}
-use Rattle.world.proofs.Finding.{when_none, when_some, first_none, first_some, any_at, and_true, not_true, below_test, get_range, filtered}
+use Rattle.world.proofs.Finding.{when_none, when_some, first_none, first_some, below_test, get_range, filtered}
 use Rattle.world.proofs.Contents.{content_at, at_content, some_of, entry_content}
-use Rattle.world.proofs.Meanings.{alone_from_none}
+use Rattle.world.proofs.Meanings.{alone_from_none, one_and}
 use Rattle.world.proofs.Standing.{fails_in}
 use Rattle.world.proofs.OnePass.{source_le}
+use Rattle.std.proofs.lemmas.Option.{same_Some}
+use Rattle.gtid_text.proofs.SameGtid.{gtid_total}
+use Rattle.rows.proofs.Patching.{not_both}
+use Rattle.rows.proofs.Lists.{none_some, map_some, get_map_cases, any_at}
 
 -- ---- places of a rising list
 
@@ -46,13 +49,13 @@ never_before a b p q = by (gtid_cmp a b) (gtid_cmp b a) (gtid_total.antisymm a b
     by Greater s e p q = cc
 
 pub index_less : (es : List history.Entry) → IsRising es → (i j : ℕ) (a b : history.Entry) → slice_get es i ≡ Some a → slice_get es j ≡ Some b → gtid_cmp a.0 b.0 ≡ Less → i < j
-index_less [] r i j a b p q l = not_none a p
+index_less [] r i j a b p q l = none_some a p
 index_less (x ∷ es) r zero zero a b p q l =
-    let same : a ≡ b = same_some a b (sym p ∙ q) in
+    let same : a ≡ b = same_Some a b (sym p ∙ q) in
     absurd (never_before a.0 b.0 l (ap (λ (y : history.Entry). gtid_cmp b.0 y.0) same ∙ (ap (λ (y : history.Entry). gtid_cmp y.0 b.0) (sym same) ∙ l)))
 index_less (x ∷ es) r zero (suc j) a b p q l = omega arith
 index_less (x ∷ es) r (suc i) zero a b p q l =
-    let is_b : x ≡ b = same_some x b q in
+    let is_b : x ≡ b = same_Some x b q in
     absurd (never_before a.0 b.0 l (ap (λ (y : history.Entry). gtid_cmp y.0 a.0) (sym is_b) ∙ all_at (λ (f : history.Entry). gtid_cmp x.0 f.0 ≡ Less) es i a r.0 p))
 index_less (x ∷ es) r (suc i) (suc j) a b p q l = let h = index_less es r.1 i j a b p q l in omega arith
 
@@ -66,17 +69,14 @@ less_source a b l = ap (λ r. ordering_then r (nat_cmp a.number b.number)) (is_l
 
 -- ---- the lower numbers of a source
 
-one_and : (m : ℕ) → 0 < m → 1 + (m - 1) ≡ m
-one_and m h = omega arith
-
 below_at : (G h : Gtid) → h.source ≡ G.source → 0 < h.number → h.number < G.number → slice_get (below G) (h.number - 1) ≡ Some h
 below_at G h s low less =
     get_map (gtid G.source) (range_with_len 1 (G.number - 1)) (h.number - 1) (1 + (h.number - 1)) (get_range 1 (G.number - 1) (h.number - 1) (omega arith))
     ∙ λ i. Some (record { source = (sym s) i; number = one_and h.number low i })
 
 range_exact : (a n i m : ℕ) → slice_get (range_with_len a n) i ≡ Some m → m ≡ a + i
-range_exact a zero i m e = not_none m e
-range_exact a (suc n) zero m e = let h : a ≡ m = same_some a m e in omega arith
+range_exact a zero i m e = none_some m e
+range_exact a (suc n) zero m e = let h : a ≡ m = same_Some a m e in omega arith
 range_exact a (suc n) (suc i) m e = let h = range_exact (a + 1) n i m e in omega arith
 
 below_number : (G g : Gtid) (i : ℕ) → slice_get (below G) i ≡ Some g → (g.number ≡ 1 + i) × (g.source ≡ G.source)
@@ -96,7 +96,7 @@ missing_is_least world journals g found h m less =
     let of_g = below_number a.element.0 b.element b.place b.there in
     let g_source : g.source ≡ a.element.0.source = ap (λ (x : Gtid). x.source) (sym is_g) ∙ of_g.1 in
     let g_number : g.number ≡ 1 + b.place = ap (λ (x : Gtid). x.number) (sym is_g) ∙ of_g.0 in
-    let absent : is_absent world journals h ≡ true = and_true (not (is_opened world h)) (not (stands_in (all_entries journals) h)) (not_true (is_opened world h) m.new) (not_true (stands_in (all_entries journals) h) m.absent) in
+    let absent : is_absent world journals h ≡ true = and_from (not (is_opened world h)) (not (stands_in (all_entries journals) h)) (not_from_false (is_opened world h) m.new) (not_from_false (stands_in (all_entries journals) h) m.absent) in
     elim (source_le h g less) [
       | inl smaller ↦
           let t = some_of (content w m.greater) (entry_content world.opening_set (all_entries journals) m.greater m.there m.beyond) in
@@ -120,7 +120,7 @@ missing_is_least world journals g found h m less =
     lower_still m n p k a b c = omega arith
 
     range_top : (a n i m : ℕ) → slice_get (range_with_len a n) i ≡ Some m → i < n
-    range_top a zero i m e = not_none m e
+    range_top a zero i m e = none_some m e
     range_top a (suc n) zero m e = omega arith
     range_top a (suc n) (suc i) m e = let h = range_top (a + 1) n i m e in omega arith
 
@@ -154,17 +154,17 @@ shared_is_least world g h key found =
       place = b.place;
       stands = b.there ∙ ap Some same.2;
       earlier = λ i k x l at s.
-          let is_u : s.u ≡ a.element.1 = same_some s.u a.element.1 (sym s.second ∙ u_there) in
+          let is_u : s.u ≡ a.element.1 = same_Some s.u a.element.1 (sym s.second ∙ u_there) in
           let p = content_at world x s.t s.first in
           let none = first_none _ es (b.earlier i k l at) p.0 (x, s.t) p.1 in
           not_both (nat_lt x.source a.element.0.source && touches world.schema s.t k)
-          (and_true (nat_lt x.source a.element.0.source) (touches world.schema s.t k) (below_test x.source a.element.0.source (subst (λ (y : Gtid). x.source < y.source) (sym same.1) s.smaller)) s.touches_first)
+          (and_from (nat_lt x.source a.element.0.source) (touches world.schema s.t k) (below_test x.source a.element.0.source (subst (λ (y : Gtid). x.source < y.source) (sym same.1) s.smaller)) s.touches_first)
           (when_none (nat_lt x.source a.element.0.source && touches world.schema s.t k) (Shared x a.element.0 k) none);
       first = λ x s less.
           let p = content_at world x s.t s.first in
           let l = index_less es (rising world) p.0 c.place (x, s.t) c.element p.1 c.there (ap (gtid_cmp x) same.0 ∙ less) in
           not_both (nat_lt x.source a.element.0.source && touches world.schema s.t b.element)
-          (and_true (nat_lt x.source a.element.0.source) (touches world.schema s.t b.element) (below_test x.source a.element.0.source (subst (λ (y : Gtid). x.source < y.source) (sym same.1) s.smaller)) (ap (touches world.schema s.t) same.2 ∙ s.touches_first))
+          (and_from (nat_lt x.source a.element.0.source) (touches world.schema s.t b.element) (below_test x.source a.element.0.source (subst (λ (y : Gtid). x.source < y.source) (sym same.1) s.smaller)) (ap (touches world.schema s.t) same.2 ∙ s.touches_first))
           (when_none (nat_lt x.source a.element.0.source && touches world.schema s.t b.element) (Shared x a.element.0 b.element) (c.earlier p.0 (x, s.t) l p.1));
     }
   where
@@ -176,7 +176,7 @@ shared_is_least world g h key found =
         let p = content_at world x s.t s.first in
         let one = first_none _ (finmap.entries world.contents) (first_none _ (write_set world.schema s.u) none r.0 r.1 r.2) p.0 (x, s.t) p.1 in
         not_both (nat_lt x.source y.source && touches world.schema s.t r.1)
-        (and_true (nat_lt x.source y.source) (touches world.schema s.t r.1) (below_test x.source y.source s.smaller) (ap (touches world.schema s.t) (sym is_k) ∙ s.touches_first))
+        (and_from (nat_lt x.source y.source) (touches world.schema s.t r.1) (below_test x.source y.source s.smaller) (ap (touches world.schema s.t) (sym is_k) ∙ s.touches_first))
         (when_none (nat_lt x.source y.source && touches world.schema s.t r.1) (Shared x y r.1) one)
 
 -- ---- DoesNotApply

@@ -6,7 +6,7 @@ use Rattle.std.specs.Option.{option_map, option_map_or, unwrap_or}
 use Rattle.std.specs.FinMap as finmap
 use Rattle.std.specs.FinSet as set
 use Rattle.std.specs.FinSet.{is_subset-contains}
-use Rattle.std.proofs.lemmas.Bool.{eqb-true, eq-eqb}
+use Rattle.std.proofs.lemmas.Bool.{eqb-true, eq-eqb, cases_Bool, or_cases, or_left, or_right, and_parts, false_from_ne_true, true_from_ne_false, and_from, not_from_false}
 use Rattle.rows.specs.declared.change.Transaction.{Transaction}
 use Rattle.rows.specs.declared.change.RowFault.{RowFault}
 use Rattle.rows.specs.declared.schema.Table.{Table}
@@ -21,11 +21,9 @@ use Rattle.journal.specs.Writing.{is_writable, is_number, is_txn_writable}
 use Rattle.journal.specs.Journals.{JournalValue, IsJournal}
 use Rattle.source_history.specs.World.{World, content, is_opened, of_source, entries_in, apply_all, rows_of, HasNumber, IsClosed, AreKeysSound, IsSound}
 use Rattle.source_history.specs.World as history
-use Rattle.source_history.proofs.Tests.{true_or_false, not_both, or_either, or_left, or_right, and_both}
-use Rattle.source_history.proofs.Gtids.{gtid_total}
 use Rattle.source_history.proofs.Commuting.{AreApart, apart_back}
 use Rattle.faithful_journals.specs.Faithful.{IsFaithful}
-use Rattle.faithful_journals.proofs.Lists.{same_some, not_none, map_some, get_map, get_take, all_at, all_from}
+use Rattle.faithful_journals.proofs.Lists.{get_map, get_take, all_at, all_from}
 use Rattle.faithful_journals.proofs.Covering.{is_entry, covered, front, to_fronts}
 use Rattle.world.specs.declared.verdict.Verdict.{Verdict}
 use Rattle.world.specs.declared.verdict.Verdict.TheVariants.{Unequal, Purged, Missing, Shared, NotClosed, DoesNotApply, Sound}
@@ -33,9 +31,15 @@ use Rattle.world.specs.Search.{or_next, when, first_at}
 use Rattle.world.specs.Equal.{txn_eq}
 use Rattle.world.specs.Audit.{all_entries, world_of, is_content, is_unequal, unequal, purged, present, is_absent, below, missing, shared, is_left_out, not_closed, fault_after, first_fault, does_not_apply, found_in_keys}
 use Rattle.world.specs.Meaning.{AreJournals, SoundMeansSound, KeysSoundMeans}
-use Rattle.world.proofs.Finding.{below_test, next_none, next_some, when_none, when_some, first_none, first_some, any_at, any_from, is_false, is_true, and_true, not_true, taken, get_range}
+use Rattle.world.proofs.Finding.{below_test, next_none, next_some, when_none, when_some, first_none, first_some, taken, get_range}
 use Rattle.world.proofs.Same.{txn_same}
-use Rattle.world.proofs.Contents.{entry_at, entry_from, in_all, content_at, some_of, is_some_of, contents_outside, contents_entry, entry_content}
+use Rattle.world.proofs.Contents.{entry_at, entry_from, in_all, content_at, some_of, contents_outside, contents_entry, entry_content}
+use Rattle.std.proofs.lemmas.Option.{same_Some}
+use Rattle.std.proofs.lemmas.Map.Keys.{any_passes_from_place}
+use Rattle.gtid_text.proofs.SameGtid.{gtid_total}
+use Rattle.rows.proofs.Patching.{not_both}
+use Rattle.rows.proofs.Lists.{none_some, map_some, any_at}
+use Rattle.source_history.proofs.Committing.{some_is}
 
 -- ---- nothing that is found is called Sound
 
@@ -72,7 +76,7 @@ pub content_is_by : (t : Transaction) (o : Option Transaction) → option_map_or
 content_is_by t None e = cc
 content_is_by t (Some u) e = ap Some (sym (txn_same t u e))
 
-le_cases : (m n : ℕ) → m ≤ n → (m < n) ⊎ (m ≡ n)
+pub le_cases : (m n : ℕ) → m ≤ n → (m < n) ⊎ (m ≡ n)
 le_cases m n h = grind arith
 
 two_sides : (a b : ℕ) → a ≢ b → (a < b) ⊎ (b < a)
@@ -81,26 +85,26 @@ two_sides a b h = by (nat_lt a b) (nat_lt b a) refl refl
     by : (x y : Bool) → nat_lt a b ≡ x → nat_lt b a ≡ y → (a < b) ⊎ (b < a)
     by x y e f = grind arith
 
-one_and : (m : ℕ) → 0 < m → 1 + (m - 1) ≡ m
+pub one_and : (m : ℕ) → 0 < m → 1 + (m - 1) ≡ m
 one_and m h = omega arith
 
 -- an entry that can be written has a number from 1 on
 pub numbered : (es : List Entry) (i : ℕ) (e : Entry) → list_all is_writable es ≡ true → slice_get es i ≡ Some e → 0 < e.gtid.number
-numbered [] i e h at = not_none e at
+numbered [] i e h at = none_some e at
 numbered (x ∷ es) zero e h at =
-    let a = and_both (is_writable x) (list_all is_writable es) h in
-    let b = and_both (is_number x.gtid.number) (is_txn_writable x.txn) a.0 in
-    let c = and_both (nat_le 1 x.gtid.number) (nat_le x.gtid.number greatest) b.0 in
-    subst (λ (y : Entry). 0 < y.gtid.number) (same_some x e at) (from_test x.gtid.number c.0)
+    let a = and_parts (is_writable x) (list_all is_writable es) h in
+    let b = and_parts (is_number x.gtid.number) (is_txn_writable x.txn) a.0 in
+    let c = and_parts (nat_le 1 x.gtid.number) (nat_le x.gtid.number greatest) b.0 in
+    subst (λ (y : Entry). 0 < y.gtid.number) (same_Some x e at) (from_test x.gtid.number c.0)
   where
     from_test : (n : ℕ) → nat_le 1 n ≡ true → 0 < n
     from_test n t = grind arith
-numbered (x ∷ es) (suc i) e h at = numbered es i e (and_both (is_writable x) (list_all is_writable es) h).1 at
+numbered (x ∷ es) (suc i) e h at = numbered es i e (and_parts (is_writable x) (list_all is_writable es) h).1 at
 
 pub shares_from : (schema : List Table) (t u : Transaction) → AreApart schema t u → shares_key schema t u ≡ false
-shares_from schema t u apart = is_false (shares_key schema t u) (λ e.
+shares_from schema t u apart = false_from_ne_true (shares_key schema t u) (λ e.
     let r = any_at (touches schema u) (write_set schema t) e in
-    not_both (touches schema u r.1) r.3 (apart r.1 (any_from (key_eq r.1) (write_set schema t) r.0 r.1 r.2 (key_eq_self r.1))))
+    not_both (touches schema u r.1) r.3 (apart r.1 (any_passes_from_place (key_eq r.1) (write_set schema t) r.0 r.1 r.2 (key_eq_self r.1))))
 
 module _ (schema : List Table) (opened : Gtids) (rows : Rows) (journals : List JournalValue) (are : AreJournals journals) where
   abbrev w : World
@@ -126,8 +130,8 @@ module _ (schema : List Table) (opened : Gtids) (rows : Rows) (journals : List J
     equal_here i j k e hj he out =
         let inner = first_none _ journals n.unequal_none i j hj in
         let test : is_unequal w e ≡ false = when_none (is_unequal w e) (Unequal e.gtid) (first_none _ j.entries inner k e he) in
-        content_is_by e.txn (content w e.gtid) (is_true (is_content w e) (λ no.
-        not_both (is_unequal w e) (and_true (not (is_opened w e.gtid)) (not (is_content w e)) (not_true (is_opened w e.gtid) out) (not_true (is_content w e) no)) test))
+        content_is_by e.txn (content w e.gtid) (true_from_ne_false (is_content w e) (λ no.
+        not_both (is_unequal w e) (and_from (not (is_opened w e.gtid)) (not (is_content w e)) (not_from_false (is_opened w e.gtid) out) (not_from_false (is_content w e) no)) test))
 
     journal_at : (i : ℕ) (j : JournalValue) → slice_get journals i ≡ Some j → IsJournal j.previous j.entries
     journal_at i j hj = all_at (λ (x : JournalValue). IsJournal x.previous x.entries) journals i j are hj
@@ -135,7 +139,7 @@ module _ (schema : List Table) (opened : Gtids) (rows : Rows) (journals : List J
     within : (i : ℕ) (j : JournalValue) → slice_get journals i ≡ Some j → set.is_subset j.previous opened ≡ true
     within i j hj =
         let test = when_none (not (set.is_subset j.previous opened)) (Purged i (set.difference j.previous opened)) (first_none _ journals n.purged_none i j hj) in
-        is_true (set.is_subset j.previous opened) (λ no. not_both (not (set.is_subset j.previous opened)) (not_true (set.is_subset j.previous opened) no) test)
+        true_from_ne_false (set.is_subset j.previous opened) (λ no. not_both (not (set.is_subset j.previous opened)) (not_from_false (set.is_subset j.previous opened) no) test)
 
     previous_opened : (i : ℕ) (j : JournalValue) (g : Gtid) → slice_get journals i ≡ Some j → set.contains j.previous g ≡ true → is_opened w g ≡ true
     previous_opened i j g hj h = is_subset-contains gtid_total j.previous opened (within i j hj) g h
@@ -162,11 +166,11 @@ module _ (schema : List Table) (opened : Gtids) (rows : Rows) (journals : List J
         let at : slice_get (below g) (m - 1) ≡ Some (record { source = s; number = 1 + (m - 1) }) = get_map (λ (x : ℕ). record { source = s; number = x }) (range_with_len 1 (k - 1)) (m - 1) (1 + (m - 1)) (get_range 1 (k - 1) (m - 1) (omega arith)) in
         let is_h : slice_get (below g) (m - 1) ≡ Some h = at ∙ ap (λ (x : ℕ). Some (record { source = s; number = x })) (one_and m pos) in
         let test : is_absent w journals h ≡ false = when_none (is_absent w journals h) (Missing h) (first_none _ (below g) inner (m - 1) h is_h) in
-        elim (true_or_false (is_opened w h)) [
+        elim (cases_Bool (is_opened w h)) [
           | inl yes_opened ↦ inl yes_opened
           | inr out ↦
-              let there : is_entry (all_entries journals) h ≡ true = is_true (is_entry (all_entries journals) h) (λ no.
-              not_both (is_absent w journals h) (and_true (not (is_opened w h)) (not (is_entry (all_entries journals) h)) (not_true (is_opened w h) out) (not_true (is_entry (all_entries journals) h) no)) test) in
+              let there : is_entry (all_entries journals) h ≡ true = true_from_ne_false (is_entry (all_entries journals) h) (λ no.
+              not_both (is_absent w journals h) (and_from (not (is_opened w h)) (not (is_entry (all_entries journals) h)) (not_from_false (is_opened w h) out) (not_from_false (is_entry (all_entries journals) h) no)) test) in
               inr (entry_content opened (all_entries journals) h there out)
         ]
 
@@ -185,7 +189,7 @@ module _ (schema : List Table) (opened : Gtids) (rows : Rows) (journals : List J
         let one = first_none _ (finmap.entries w.contents) n.shared_none a.0 (h, u) a.1 in
         let two = first_none _ (write_set schema u) one b.0 b.1 b.2 in
         let test = when_none (nat_lt g.source h.source && touches schema t b.1) (Shared g h b.1) (first_none _ (finmap.entries w.contents) two c.0 (g, t) c.1) in
-        is_false (touches schema t k) (λ e. not_both (nat_lt g.source h.source && touches schema t b.1) (and_true (nat_lt g.source h.source) (touches schema t b.1) (below_test g.source h.source less) (ap (touches schema t) (sym is_k) ∙ e)) test)
+        false_from_ne_true (touches schema t k) (λ e. not_both (nat_lt g.source h.source && touches schema t b.1) (and_from (nat_lt g.source h.source) (touches schema t b.1) (below_test g.source h.source less) (ap (touches schema t) (sym is_k) ∙ e)) test)
 
     apart : (g h : Gtid) (t u : Transaction) → content w g ≡ Some t → content w h ≡ Some u → g.source ≢ h.source → shares_key schema t u ≡ false
     apart g h t u eg eh other = elim (two_sides g.source h.source other) [
@@ -209,35 +213,35 @@ module _ (schema : List Table) (opened : Gtids) (rows : Rows) (journals : List J
         let one = first_none _ journals n.closed_none i j hj in
         let two = first_none _ j.entries one k e he in
         let test : is_left_out w j k e (g, t) ≡ false = when_none (is_left_out w j k e (g, t)) (NotClosed e.gtid g) (first_none _ (finmap.entries w.contents) two c.0 (g, t) c.1) in
-        is_true (covered j.previous (take k j.entries) g) (λ no.
+        true_from_ne_false (covered j.previous (take k j.entries) g) (λ no.
         not_both (is_left_out w j k e (g, t))
-        (and_true (not (is_opened w e.gtid)) _ (not_true (is_opened w e.gtid) out)
-        (and_true (g.source == e.gtid.source) _ (eq-eqb g.source e.gtid.source same)
-        (and_true (nat_lt g.number e.gtid.number) _ (below_test g.number e.gtid.number less)
-        (and_true (shares_key schema t e.txn) (not (covered j.previous (take k j.entries) g)) shares (not_true (covered j.previous (take k j.entries) g) no))))) test)
+        (and_from (not (is_opened w e.gtid)) _ (not_from_false (is_opened w e.gtid) out)
+        (and_from (g.source == e.gtid.source) _ (eq-eqb g.source e.gtid.source same)
+        (and_from (nat_lt g.number e.gtid.number) _ (below_test g.number e.gtid.number less)
+        (and_from (shares_key schema t e.txn) (not (covered j.previous (take k j.entries) g)) shares (not_from_false (covered j.previous (take k j.entries) g) no))))) test)
 
     front_closed : (i : ℕ) (j : JournalValue) → slice_get journals i ≡ Some j → (k : ℕ) → IsClosed w (front w j.previous (take k j.entries))
     front_closed i j hj k = record {
       opened = λ g e. or_left (is_opened w g) (covered j.previous (take k j.entries) g) e;
-      known = λ g e. elim (true_or_false (is_opened w g)) [
+      known = λ g e. elim (cases_Bool (is_opened w g)) [
         | inl o ↦ inl o
-        | inr out ↦ elim (or_either (is_opened w g) (covered j.previous (take k j.entries) g) e) [
+        | inr out ↦ elim (or_cases (is_opened w g) (covered j.previous (take k j.entries) g) e) [
           | inl o ↦ inl o
-          | inr c ↦ elim (or_either (set.contains j.previous g) (is_entry (take k j.entries) g) c) [
+          | inr c ↦ elim (or_cases (set.contains j.previous g) (is_entry (take k j.entries) g) c) [
             | inl p ↦ inl (previous_opened i j g hj p)
             | inr en ↦
                 let a = entry_at (take k j.entries) g en in
                 let b = taken j.entries k a.0 a.1 a.2 in
                 let c = equal_here i j a.0 a.1 hj b.0 (ap (is_opened w) a.3 ∙ out) in
-                inr (subst (λ (x : Gtid). IsSome (content w x)) a.3 (is_some_of (content w a.1.gtid) a.1.txn c))
+                inr (subst (λ (x : Gtid). IsSome (content w x)) a.3 (some_is (content w a.1.gtid) a.1.txn c))
           ]
         ]
       ];
       earlier = λ g h t u eg eh same less shares e.
-          let out : is_opened w h ≡ false = outside h (is_some_of (content w h) u eh) in
-          let cov : (set.contains j.previous h ≡ true) ⊎ (is_entry (take k j.entries) h ≡ true) = elim (or_either (is_opened w h) (covered j.previous (take k j.entries) h) e) [
+          let out : is_opened w h ≡ false = outside h (some_is (content w h) u eh) in
+          let cov : (set.contains j.previous h ≡ true) ⊎ (is_entry (take k j.entries) h ≡ true) = elim (or_cases (is_opened w h) (covered j.previous (take k j.entries) h) e) [
             | inl o ↦ not_both (is_opened w h) o out
-            | inr c ↦ or_either (set.contains j.previous h) (is_entry (take k j.entries) h) c
+            | inr c ↦ or_cases (set.contains j.previous h) (is_entry (take k j.entries) h) c
           ] in
           or_right (is_opened w g) (covered j.previous (take k j.entries) g) (elim cov [
             | inl p ↦ not_both (is_opened w h) (previous_opened i j h hj p) out
@@ -245,9 +249,9 @@ module _ (schema : List Table) (opened : Gtids) (rows : Rows) (journals : List J
                 let a = entry_at (take k j.entries) h en in
                 let b = taken j.entries k a.0 a.1 a.2 in
                 let c = equal_here i j a.0 a.1 hj b.0 (ap (is_opened w) a.3 ∙ out) in
-                let is_u : u ≡ a.1.txn = same_some u a.1.txn (sym eh ∙ (ap (content w) (sym a.3) ∙ c)) in
+                let is_u : u ≡ a.1.txn = same_Some u a.1.txn (sym eh ∙ (ap (content w) (sym a.3) ∙ c)) in
                 let d = needed_here i j a.0 a.1 g t hj b.0 (ap (is_opened w) a.3 ∙ out) eg (same ∙ ap (λ (x : Gtid). x.source) (sym a.3)) (subst (λ (x : Gtid). g.number < x.number) (sym a.3) less) (ap (shares_key schema t) (sym is_u) ∙ shares) in
-                elim (or_either (set.contains j.previous g) (is_entry (take a.0 j.entries) g) d) [
+                elim (or_cases (set.contains j.previous g) (is_entry (take a.0 j.entries) g) d) [
                   | inl p ↦ or_left (set.contains j.previous g) (is_entry (take k j.entries) g) p
                   | inr f ↦ or_right (set.contains j.previous g) (is_entry (take k j.entries) g) (earlier_too j.entries a.0 k g (omega arith) f)
                 ]
@@ -274,7 +278,7 @@ no_fault schema (e ∷ es) rows h =
     subst (λ (x : Result Rows RowFault). IsOk (x >>= apply_all schema es)) (sym r.1) (no_fault schema es r.0 r.2)
 
 nothing_chosen : (p : history.Entry → Bool) (es : List history.Entry) → ((i : ℕ) × (e : history.Entry) × (slice_get es i ≡ Some e) × (p e ≡ true)) ⊎ (filter p es ≡ [])
-nothing_chosen p es = elim (true_or_false (list_any p es)) [ inl t ↦ inl (any_at p es t) | inr f ↦ inr (empty es f) ]
+nothing_chosen p es = elim (cases_Bool (list_any p es)) [ inl t ↦ inl (any_at p es t) | inr f ↦ inr (empty es f) ]
   where
     empty_by : (e : history.Entry) (es : List history.Entry) (b : Bool) → (list_any p es ≡ false → filter p es ≡ []) → (b || list_any p es) ≡ false → cond b (e ∷ filter p es) (filter p es) ≡ []
     empty_by e es true h f = cc

@@ -7,7 +7,7 @@ use Rattle.std.specs.declared.cmp.Ordering.{Ordering}
 use Rattle.std.specs.declared.cmp.Ordering.TheVariants.{Less, Equal, Greater}
 use Rattle.std.specs.Ordering.{nat_cmp, ordering_then, MatchOrdering}
 use Rattle.std.proofs.lemmas.Cmp.{ranked}
-use Rattle.std.proofs.lemmas.Bool.{eqb-true, eq-eqb}
+use Rattle.std.proofs.lemmas.Bool.{eqb-true, eq-eqb, cases_Bool}
 use Rattle.gtid_text.specs.declared.Gtid.{Gtid}
 use Rattle.gtid_text.specs.Gtids.{gtid_cmp}
 use Rattle.rows.specs.declared.change.Key.{Key}
@@ -19,7 +19,6 @@ use Rattle.rows.specs.WriteSet.{touches, left_by, AgreeOn, Alike}
 use Rattle.rows.proofs.Local.{bind_ok, after_apply, apply_alike}
 use Rattle.source_history.specs.World.{World, content, is_opened, of_source, entries_in, apply_all, rows_of, AreKeysSound}
 use Rattle.source_history.specs.World as history
-use Rattle.source_history.proofs.Tests.{true_or_false, not_both}
 use Rattle.source_history.proofs.Commuting.{frame}
 use Rattle.source_history.proofs.Placing.{all_map, chosen_applies}
 use Rattle.source_history.proofs.Entries.{IsRising, AreFound, rising, found, apart_sources, source_closed}
@@ -30,8 +29,9 @@ use Rattle.world.specs.Audit.{fault_after, first_fault, does_not_apply}
 use Rattle.world.specs.Folds.{OnePassApplies}
 use Rattle.world.proofs.Meanings.{no_fault}
 use Rattle.world.proofs.Standing.{fails_in}
-use Rattle.world.proofs.Saying.{fault_free, applies_none, is_ok_of}
-use Rattle.source_history.proofs.Closing.{alone_or_together}
+use Rattle.world.proofs.Saying.{fault_free, applies_none}
+use Rattle.source_history.proofs.Closing.{alone_or_together, is_ok_of}
+use Rattle.rows.proofs.Patching.{not_both, fits_err}
 
 -- ---- rows after a part of a list
 
@@ -116,7 +116,7 @@ pub source_le : (g h : Gtid) → gtid_cmp g h ≡ Less → (g.source < h.source)
 source_le g h e = source_cases g.source h.source (nat_cmp g.source h.source) (nat_cmp g.number h.number) refl e
 
 below_other : (s t u : ℕ) → s < t → (t < u) ⊎ (t ≡ u) → eqb s u ≡ false
-below_other s t u l h = elim (true_or_false (eqb s u)) [
+below_other s t u l h = elim (cases_Bool (eqb s u)) [
   | inl same ↦ let e : s ≡ u = eqb-true s u same in absurd (elim h [ inl m ↦ no s t u l m e | inr m ↦ not_self s t u l m e ])
   | inr other ↦ other
 ]
@@ -126,10 +126,6 @@ below_other s t u l h = elim (true_or_false (eqb s u)) [
 
     not_self : (s t u : ℕ) → s < t → t ≡ u → s ≡ u → ⊥
     not_self s t u a b c = omega arith
-
-alike_err : (w : Key → Bool) (f : RowFault) (r : Result Rows RowFault) → Alike w (Err f) r → r ≡ Err f
-alike_err w f (Ok b) h = absurd h
-alike_err w f (Err e) h = ap Err (sym h)
 
 fault_here : (e : history.Entry) (r : Result Rows RowFault) (more : Rows → Option (Gtid × RowFault)) (f : RowFault) → r ≡ Err f → fault_after e r more ≡ Some (e.0, f)
 fault_here e r more f h = ap (λ x. fault_after e x more) h
@@ -175,7 +171,7 @@ module _ (world : World) (sound : AreKeysSound world) where
         let s = g.source in
         let m = before_applies s in
         let agree = agree_after world.schema (touches world.schema t) (λ e. of_source s e.0) before world.opening_rows world.opening_rows r m.0 (λ k u. refl) others_apart reached m.1 in
-        let fails : apply world.schema t m.0 ≡ Err fault = alike_err (touches world.schema t) fault (apply world.schema t m.0) (subst (λ (x : Result Rows RowFault). Alike (touches world.schema t) x (apply world.schema t m.0)) refused (apply_alike world.schema t r m.0 agree)) in
+        let fails : apply world.schema t m.0 ≡ Err fault = fits_err (touches world.schema t) fault (apply world.schema t m.0) (subst (λ (x : Result Rows RowFault). Alike (touches world.schema t) x (apply world.schema t m.0)) refused (apply_alike world.schema t r m.0 agree)) in
         let F = filter (λ (e : history.Entry). of_source s e.0) later in
         let here : filter (λ e. of_source s e.0) ((g, t) ∷ later) ≡ (g, t) ∷ F = λ i. cond (eq-eqb s s refl i) ((g, t) ∷ F) F in
         ap (λ zs. first_fault world.schema zs world.opening_rows) (of_parts s ∙ ap (λ zs. filter (λ e. of_source s e.0) before ++ zs) here)

@@ -1,11 +1,11 @@
 -- Each verdict names a case that stands.
-use Rattle.std.proofs.Common.{◌≡◌, ℕ, ◌<◌, ◌-◌, true, false, not, ◌&&◌, inl, inr, List, [], ◌∷◌, ◌++◌, take, Option, Some, None, Result, Ok, Err, refl, ap, ◌∙◌, subst, arith}
+use Rattle.std.proofs.Common.{◌≡◌, ℕ, ◌-◌, false, not, ◌&&◌, inl, inr, List, [], ◌∷◌, ◌++◌, take, Option, Some, None, Result, Ok, Err, refl, ap, ◌∙◌, subst, arith}
 use Rattle.std.specs.Prelude.{nat_lt, ◌==◌}
 use Rattle.std.specs.List.{range_with_len}
 use Rattle.std.specs.Option.{option_map_or, unwrap_or}
 use Rattle.std.specs.FinMap as finmap
 use Rattle.std.specs.FinSet as set
-use Rattle.std.proofs.lemmas.Bool.{eqb-true}
+use Rattle.std.proofs.lemmas.Bool.{eqb-true, and_parts, not-true}
 use Rattle.rows.specs.declared.change.Transaction.{Transaction}
 use Rattle.rows.specs.declared.change.RowFault.{RowFault}
 use Rattle.rows.specs.declared.schema.Table.{Table}
@@ -17,8 +17,6 @@ use Rattle.gtid_text.specs.declared.Gtid.{Gtid}
 use Rattle.journal.specs.Journals.{JournalValue}
 use Rattle.source_history.specs.World.{World, content, is_opened, of_source, entries_in, apply_all, rows_of, HasNumber, IsClosed, AreKeysSound, IsSound}
 use Rattle.source_history.specs.World as history
-use Rattle.source_history.proofs.Tests.{not_both, and_both}
-use Rattle.faithful_journals.proofs.Lists.{same_some, not_none, map_some, from_not, get_map_cases}
 use Rattle.faithful_journals.proofs.Covering.{is_entry, covered}
 use Rattle.world.specs.declared.verdict.Verdict.{Verdict}
 use Rattle.world.specs.declared.verdict.Verdict.TheVariants.{Unequal, Purged, Missing, Shared, NotClosed, DoesNotApply, Sound}
@@ -26,12 +24,14 @@ use Rattle.world.specs.Search.{or_next}
 use Rattle.world.specs.Equal.{txn_eq}
 use Rattle.world.specs.Audit.{all_entries, world_of, is_content, is_unequal, unequal, purged, present, is_absent, below, missing, shared, is_left_out, not_closed, fault_after, first_fault, does_not_apply, found_in_keys}
 use Rattle.world.specs.Cases.{Stands, VerdictsStand}
-use Rattle.world.proofs.Finding.{next_some, when_some, first_some, any_from, range_above}
+use Rattle.world.proofs.Finding.{next_some, when_some, first_some, range_above}
 use Rattle.world.proofs.Same.{txn_self}
 use Rattle.world.proofs.Contents.{at_content, contents_outside, contents_entry}
-
-less_of : (a b : ℕ) → nat_lt a b ≡ true → a < b
-less_of a b h = grind arith
+use Rattle.std.proofs.lemmas.Option.{same_Some}
+use Rattle.std.proofs.lemmas.Map.Keys.{any_passes_from_place}
+use Rattle.rows.proofs.Patching.{not_both}
+use Rattle.rows.proofs.Lists.{none_some, map_some, get_map_cases}
+use Rattle.world.proofs.Gaps.{number_lt}
 
 module _ (world : World) (journals : List JournalValue) where
   unequal_stands : (v : Verdict) → unequal world journals ≡ Some v → Stands world journals v
@@ -39,20 +39,20 @@ module _ (world : World) (journals : List JournalValue) where
       let a = first_some _ journals v f in
       let b = first_some _ a.element.entries v a.gives in
       let c = when_some (is_unequal world b.element) (Unequal b.element.gtid) v b.gives in
-      let p = and_both (not (is_opened world b.element.gtid)) (not (is_content world b.element)) c.0 in
+      let p = and_parts (not (is_opened world b.element.gtid)) (not (is_content world b.element)) c.0 in
       subst (Stands world journals) c.1 (record {
         entry = b.element;
         there = record { number = a.place; journal = a.element; place = b.place; listed = a.there; there = b.there };
         named = refl;
-        new = from_not (is_opened world b.element.gtid) p.0;
-        differs = λ e. not_both (is_content world b.element) (ap (λ o. option_map_or (txn_eq b.element.txn) o false) e ∙ txn_self b.element.txn) (from_not (is_content world b.element) p.1);
+        new = not-true (is_opened world b.element.gtid) p.0;
+        differs = λ e. not_both (is_content world b.element) (ap (λ o. option_map_or (txn_eq b.element.txn) o false) e ∙ txn_self b.element.txn) (not-true (is_content world b.element) p.1);
       })
 
   purged_stands : (v : Verdict) → purged world journals ≡ Some v → Stands world journals v
   purged_stands v f =
       let a = first_some _ journals v f in
       let c = when_some (not (set.is_subset a.element.previous world.opening_set)) (Purged a.place (set.difference a.element.previous world.opening_set)) v a.gives in
-      subst (Stands world journals) c.1 (record { journal = a.element; there = a.there; named = refl; more = from_not (set.is_subset a.element.previous world.opening_set) c.0 })
+      subst (Stands world journals) c.1 (record { journal = a.element; there = a.there; named = refl; more = not-true (set.is_subset a.element.previous world.opening_set) c.0 })
 
   missing_stands : (v : Verdict) → missing world journals ≡ Some v → Stands world journals v
   missing_stands v f =
@@ -61,13 +61,13 @@ module _ (world : World) (journals : List JournalValue) where
       let b = first_some _ (below a.element.0) v a.gives in
       let h = b.element in
       let c = when_some (is_absent world journals h) (Missing h) v b.gives in
-      let p = and_both (not (is_opened world h)) (not (is_entry (all_entries journals) h)) c.0 in
+      let p = and_parts (not (is_opened world h)) (not (is_entry (all_entries journals) h)) c.0 in
       let r = get_map_cases (λ (n : ℕ). record { source = a.element.0.source; number = n }) (range_with_len 1 (a.element.0.number - 1)) b.place h b.there in
       let q = range_above 1 (a.element.0.number - 1) b.place r.0 r.1 in
       let is_number : r.0 ≡ h.number = ap (λ (x : Gtid). x.number) r.2 in
       subst (Stands world journals) c.1 (record {
-        new = from_not (is_opened world h) p.0;
-        absent = from_not (is_entry (all_entries journals) h) p.1;
+        new = not-true (is_opened world h) p.0;
+        absent = not-true (is_entry (all_entries journals) h) p.1;
         positive = omega arith;
         greater = a.element.0;
         beyond = contents_outside world.opening_set (all_entries journals) a.element.0 a.element.1 there;
@@ -82,15 +82,15 @@ module _ (world : World) (journals : List JournalValue) where
       let b = first_some _ (write_set world.schema a.element.1) v a.gives in
       let g = first_some _ (finmap.entries world.contents) v b.gives in
       let c = when_some (nat_lt g.element.0.source a.element.0.source && touches world.schema g.element.1 b.element) (Shared g.element.0 a.element.0 b.element) v g.gives in
-      let p = and_both (nat_lt g.element.0.source a.element.0.source) (touches world.schema g.element.1 b.element) c.0 in
+      let p = and_parts (nat_lt g.element.0.source a.element.0.source) (touches world.schema g.element.1 b.element) c.0 in
       subst (Stands world journals) c.1 (record {
         t = g.element.1;
         u = a.element.1;
         first = at_content world g.place g.element g.there;
         second = at_content world a.place a.element a.there;
-        smaller = less_of g.element.0.source a.element.0.source p.0;
+        smaller = number_lt g.element.0.source a.element.0.source p.0;
         touches_first = p.1;
-        touches_second = any_from (key_eq b.element) (write_set world.schema a.element.1) b.place b.element b.there (key_eq_self b.element);
+        touches_second = any_passes_from_place (key_eq b.element) (write_set world.schema a.element.1) b.place b.element b.there (key_eq_self b.element);
       })
 
   closed_stands : (v : Verdict) → not_closed world journals ≡ Some v → Stands world journals v
@@ -99,10 +99,10 @@ module _ (world : World) (journals : List JournalValue) where
       let b = first_some _ a.element.entries v a.gives in
       let g = first_some _ (finmap.entries world.contents) v b.gives in
       let c = when_some (is_left_out world a.element b.place b.element g.element) (NotClosed b.element.gtid g.element.0) v g.gives in
-      let p = and_both (not (is_opened world b.element.gtid)) _ c.0 in
-      let q = and_both (g.element.0.source == b.element.gtid.source) _ p.1 in
-      let r = and_both (nat_lt g.element.0.number b.element.gtid.number) _ q.1 in
-      let s = and_both (shares_key world.schema g.element.1 b.element.txn) (not (covered a.element.previous (take b.place a.element.entries) g.element.0)) r.1 in
+      let p = and_parts (not (is_opened world b.element.gtid)) _ c.0 in
+      let q = and_parts (g.element.0.source == b.element.gtid.source) _ p.1 in
+      let r = and_parts (nat_lt g.element.0.number b.element.gtid.number) _ q.1 in
+      let s = and_parts (shares_key world.schema g.element.1 b.element.txn) (not (covered a.element.previous (take b.place a.element.entries) g.element.0)) r.1 in
       subst (Stands world journals) c.1 (record {
         entry = b.element;
         there = record { number = a.place; journal = a.element; place = b.place; listed = a.there; there = b.there };
@@ -110,9 +110,9 @@ module _ (world : World) (journals : List JournalValue) where
         u = g.element.1;
         content = at_content world g.place g.element g.there;
         source = eqb-true g.element.0.source b.element.gtid.source q.0;
-        smaller = less_of g.element.0.number b.element.gtid.number r.0;
+        smaller = number_lt g.element.0.number b.element.gtid.number r.0;
         shares = s.0;
-        left_out = from_not (covered a.element.previous (take b.place a.element.entries) g.element.0) s.1;
+        left_out = not-true (covered a.element.previous (take b.place a.element.entries) g.element.0) s.1;
       })
 
 pub record FailsIn (schema : List Table) (es : List history.Entry) (rows : Rows) (g : Gtid) (fault : RowFault) : Type 0 where
@@ -129,11 +129,11 @@ fault_some schema e es rows f (Ok new) a h g =
     let r = h new g in
     record { before = e ∷ r.before; later = r.later; t = r.t; reached_rows = r.reached_rows; parts = ap (λ (xs : List history.Entry). e ∷ xs) r.parts; reached = ap (λ x. x >>= apply_all schema r.before) a ∙ r.reached; refused = r.refused }
 fault_some schema e es rows f (Err fault) a h g =
-    let same : (e.0, fault) ≡ f = same_some (e.0, fault) f g in
+    let same : (e.0, fault) ≡ f = same_Some (e.0, fault) f g in
     subst (λ (x : Gtid × RowFault). FailsIn schema (e ∷ es) rows x.0 x.1) same (record { before = []; later = es; t = e.1; reached_rows = rows; parts = refl; reached = refl; refused = a })
 
 pub fails_in : (schema : List Table) (es : List history.Entry) (rows : Rows) (f : Gtid × RowFault) → first_fault schema es rows ≡ Some f → FailsIn schema es rows f.0 f.1
-fails_in schema [] rows f h = not_none f h
+fails_in schema [] rows f h = none_some f h
 fails_in schema (e ∷ es) rows f h = fault_some schema e es rows f (apply schema e.1 rows) refl (λ new g. fails_in schema es new f g) h
 
 applies_stands : (world : World) (journals : List JournalValue) (v : Verdict) → does_not_apply world ≡ Some v → Stands world journals v

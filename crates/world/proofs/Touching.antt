@@ -128,7 +128,7 @@ before_shares schema h key (g ∷ es) r =
     before_by schema h key g es (touches schema g.1 key) (nat_lt g.0.source h.0.source) refl refl
     (all_map (λ x. gtid_cmp g.0 x.0 ≡ Less) (λ x. g.0.source ≤ x.0.source) es (λ x l. source_up g.0 x.0 l) r.0) (before_shares schema h key es r.1)
 
-rising_front : (xs ys : List history.Entry) → IsRising (xs ++ ys) → IsRising xs
+pub rising_front : (xs ys : List history.Entry) → IsRising (xs ++ ys) → IsRising xs
 rising_front [] ys h = tt
 rising_front (x ∷ xs) ys h = (front xs ys h.0, rising_front xs ys h.1)
   where

@@ -1,7 +1,7 @@
 -- What is inserted into a set key by key.
 use Rattle.std.proofs.Common.{◌≡◌, Bool, true, false, not, cond, ◌&&◌, ◌||◌, List, [], ◌∷◌, ◌++◌, filter, append_assoc, append-nil, refl, sym, ap, subst, ◌∙◌}
 use Rattle.std.specs.List.{list_any, AllByRecursion, IsDistinct}
-use Rattle.std.specs.Prelude.{◌≢◌, AllPairs, IfOk, Result, Ok, Err, fold}
+use Rattle.std.specs.Prelude.{◌≢◌, AllPairs, fold}
 use Rattle.std.proofs.lemmas.Cmp.{eq_by_cmp_equiv}
 use Rattle.std.proofs.lemmas.Map.Made.{AllPairs-from_IsDistinct}
 use Rattle.std.proofs.lemmas.List.Elements.{filter_agree}
@@ -136,7 +136,3 @@ once_members list keys is k = ap (λ ks. is_among ks k) is ∙ same_members keys
 
 pub once_pairs : (list keys : List Key) → list ≡ each_once keys → AllPairs (λ a b. a ≢ b) list
 once_pairs list keys is = subst (λ (ks : List Key). AllPairs (λ a b. a ≢ b) ks) (sym is) (AllPairs-from_IsDistinct keys-Decide (each_once keys) (distinct_once keys))
-
-pub when_ok : {X E : Type 0} {P Q : X → Type 0} (r : Result X E) → ((x : X) → P x → Q x) → IfOk r P → IfOk r Q
-when_ok (Ok x) h p = h x p
-when_ok (Err e) h p = tt

@@ -109,6 +109,3 @@ pub fn share_key<'a>(a: &'a IndexSet<Key>, b: &IndexSet<Key>) -> Option<&'a Key>
     }
     None
 }
-
-#[cfg(test)]
-mod tests;

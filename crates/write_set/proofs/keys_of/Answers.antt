@@ -1,13 +1,14 @@
 use Rattle.std.proofs.Common.{ap, ◌∙◌}
 use Rattle.rows.specs.WriteSet.{write_set}
 use Rattle.write_set.specs.FirstTouch.{each_once}
-use Rattle.write_set.proofs.Firsts.{when_ok, once_members, once_pairs}
+use Rattle.write_set.proofs.Firsts.{once_members, once_pairs}
 use Rattle.write_set.proofs.keys_of.Goals as goal
+use Rattle.rows.proofs.Lists.{if_ok}
 
 pub returns-clause-members : goal.returns-clause-members
 returns-clause-members c =
-    when_ok c.hashed.result (λ set is. once_members set.keys (write_set c.args.schema.now c.args.txn.now) (is ∙ ap each_once c.in_ok-keys_touched.ensures)) c.hashed.ensures
+    if_ok c.hashed.result (λ set is. once_members set.keys (write_set c.args.schema.now c.args.txn.now) (is ∙ ap each_once c.in_ok-keys_touched.ensures)) c.hashed.ensures
 
 pub returns-clause-once : goal.returns-clause-once
 returns-clause-once c =
-    when_ok c.hashed.result (λ set is. once_pairs set.keys (write_set c.args.schema.now c.args.txn.now) (is ∙ ap each_once c.in_ok-keys_touched.ensures)) c.hashed.ensures
+    if_ok c.hashed.result (λ set is. once_pairs set.keys (write_set c.args.schema.now c.args.txn.now) (is ∙ ap each_once c.in_ok-keys_touched.ensures)) c.hashed.ensures

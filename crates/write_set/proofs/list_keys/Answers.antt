@@ -1,21 +1,22 @@
 use Rattle.std.proofs.Common.{ap, ◌∙◌}
 use Rattle.rows.specs.WriteSet.{write_set}
 use Rattle.write_set.specs.FirstTouch.{each_once}
-use Rattle.write_set.proofs.Firsts.{when_ok, once_members, once_pairs}
+use Rattle.write_set.proofs.Firsts.{once_members, once_pairs}
 use Rattle.write_set.proofs.list_keys.Goals as goal
+use Rattle.rows.proofs.Lists.{if_ok}
 
 pub returns-then-len-le-FEW-clause-members : goal.returns-then-len-le-FEW-clause-members
 returns-then-len-le-FEW-clause-members c =
-    when_ok c.compared.result (λ list is. once_members list.items (write_set c.args.schema.now c.args.txn.now) (is ∙ ap each_once c.in_ok-touched.ensures)) c.compared.ensures
+    if_ok c.compared.result (λ list is. once_members list.items (write_set c.args.schema.now c.args.txn.now) (is ∙ ap each_once c.in_ok-touched.ensures)) c.compared.ensures
 
 pub returns-then-len-le-FEW-clause-once : goal.returns-then-len-le-FEW-clause-once
 returns-then-len-le-FEW-clause-once c =
-    when_ok c.compared.result (λ list is. once_pairs list.items (write_set c.args.schema.now c.args.txn.now) (is ∙ ap each_once c.in_ok-touched.ensures)) c.compared.ensures
+    if_ok c.compared.result (λ list is. once_pairs list.items (write_set c.args.schema.now c.args.txn.now) (is ∙ ap each_once c.in_ok-touched.ensures)) c.compared.ensures
 
 pub returns-in_ok-hashed-clause-members : goal.returns-in_ok-hashed-clause-members
 returns-in_ok-hashed-clause-members c =
-    when_ok c.listed.result (λ list is. once_members list.items (write_set c.args.schema.now c.args.txn.now) (is ∙ c.in_ok-hashed.ensures ∙ ap each_once c.in_ok-touched.ensures)) c.listed.ensures
+    if_ok c.listed.result (λ list is. once_members list.items (write_set c.args.schema.now c.args.txn.now) (is ∙ c.in_ok-hashed.ensures ∙ ap each_once c.in_ok-touched.ensures)) c.listed.ensures
 
 pub returns-in_ok-hashed-clause-once : goal.returns-in_ok-hashed-clause-once
 returns-in_ok-hashed-clause-once c =
-    when_ok c.listed.result (λ list is. once_pairs list.items (write_set c.args.schema.now c.args.txn.now) (is ∙ c.in_ok-hashed.ensures ∙ ap each_once c.in_ok-touched.ensures)) c.listed.ensures
+    if_ok c.listed.result (λ list is. once_pairs list.items (write_set c.args.schema.now c.args.txn.now) (is ∙ c.in_ok-hashed.ensures ∙ ap each_once c.in_ok-touched.ensures)) c.listed.ensures

@@ -2,8 +2,9 @@ use Rattle.std.proofs.Common.{◌≡◌, ◌+◌, Some, take, sym, subst, arith}
 use Rattle.std.specs.Prelude.{slice_get}
 use Rattle.journal.specs.declared.Entry.{Entry}
 use Rattle.audit.specs.Ordered.{AreBelow}
-use Rattle.audit.proofs.Rising.{get_here, within, tops_stay, entry_below, next_below, so_far_more}
+use Rattle.audit.proofs.Rising.{get_here, tops_stay, entry_below, next_below, so_far_more}
 use Rattle.audit.proofs.ordered.is_in_order.Goals as goal
+use Rattle.std.proofs.lemmas.Option.{slice_get_within}
 
 pub loop-entry-preserved : goal.loop-entry-preserved
 loop-entry-preserved c =
@@ -27,4 +28,4 @@ loop-entry-preserved c =
 
 pub returns : goal.returns
 returns c = λ _ place e here.
-    c.loop-entry.invariant.so_far place e (omega (arith, within c.args.entries.now place e here, c.loop-entry-test.false, c.loop-entry.auto.entry-index-end)) here
+    c.loop-entry.invariant.so_far place e (omega (arith, slice_get_within c.args.entries.now place e here, c.loop-entry-test.false, c.loop-entry.auto.entry-index-end)) here

@@ -1,12 +1,12 @@
 use Rattle.std.proofs.Common.{◌≤◌, not, ◌||◌, ap, sym, subst, ◌∙◌}
 use Rattle.std.specs.List.{list_all}
 use Rattle.gtid_text.specs.declared.Span.{Span}
-use Rattle.gtid_text.proofs.SameGtid.{both}
 use Rattle.gtid_set.specs.Spans.{has, is_merged, is_before}
 use Rattle.gtid_set.specs.Sweep.{within, all_touch}
 use Rattle.gtid_set.proofs.PlaceLemmas.{DoTouch, within_hull, before_hull, hull_filled, touch_hull, all_first, all_after, tail_more}
 use Rattle.gtid_set.proofs.SpanLemmas.{merged_head, or_assoc}
 use Rattle.gtid_set.proofs.sweep.absorb.Goals as goal
+use Rattle.std.proofs.lemmas.Bool.{and_parts}
 
 pub returns-then-is_before : goal.returns-then-is_before
 returns-then-is_before c =
@@ -41,7 +41,7 @@ loop-first-preserved c =
     let touch : DoTouch t first = record {
       mine = inv.filled;
       theirs = head.filled;
-      not_before = (both (not (is_before first t)) (all_touch t more) touched).0;
+      not_before = (and_parts (not (is_before first t)) (all_touch t more) touched).0;
       not_after = sym c.is_before.ensures ∙ c.if-is_before.false;
     } in
     let P : Span → Type 0 = λ j. j.lo ≤ j.hi in

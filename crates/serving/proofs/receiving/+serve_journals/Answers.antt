@@ -2,12 +2,13 @@ use Rattle.std.proofs.Common.{rules}
 use Rattle.serving.specs.Serving.{coming}
 use Rattle.serving.proofs.Beginning.{first_fault, rest_fault}
 use Rattle.serving.proofs.Feeding.{on_err}
-use Rattle.serving.proofs.Runs.{on_ok, serves_more, one_coming}
+use Rattle.serving.proofs.Runs.{serves_more, one_coming}
 use Rattle.serving.proofs.receiving.+serve_journals.Goals as goal
+use Rattle.std.proofs.lemmas.Result.{on_ok_weaker}
 
 pub returns-clause-served : goal.returns-clause-served
 returns-clause-served t c =
-    on_ok c.serve_journals.result
+    on_ok_weaker c.serve_journals.result
     (λ rest. serves_more (coming c.args.work) c.args.core.now.site c.serve_journal.new.core.site c.args.core.now.state c.serve_journal.new.core.state c.serve_journals.new.core.state
     c.args.number c.in-Some.journal.now c.in-Some.others.now c.args.journals.now c.in-Some.ensures.cases.0 c.serve_journal.ensures.site c.in_ok-serve_journal.ensures.served rest)
     c.serve_journals.ensures.served

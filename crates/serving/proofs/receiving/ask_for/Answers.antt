@@ -1,8 +1,9 @@
 use Rattle.std.proofs.Common.{rules}
 use Rattle.gtid_set.specs.declared.fault.SetFault.TheVariants.{Memory}
 use Rattle.serving.proofs.Feeding.{not_open, not_positioned_at, not_sent, leads_to, on_err}
-use Rattle.serving.proofs.Runs.{if_ok, asks_all}
+use Rattle.serving.proofs.Runs.{asks_all}
 use Rattle.serving.proofs.receiving.ask_for.Goals as goal
+use Rattle.rows.proofs.Lists.{if_ok}
 
 pub returns-clause-asks : goal.returns-clause-asks
 returns-clause-asks c =

@@ -3,12 +3,13 @@ use Rattle.journal.specs.declared.Entry.{Entry}
 use Rattle.serving.specs.Served.{IsFaultWhere, KnowsWith, CanReceive}
 use Rattle.serving.specs.Serving.{coming}
 use Rattle.serving.proofs.Feeding.{not_received_at, on_err}
-use Rattle.serving.proofs.Runs.{on_ok, serves_one}
+use Rattle.serving.proofs.Runs.{serves_one}
 use Rattle.serving.proofs.receiving.serve_journal.Goals as goal
+use Rattle.std.proofs.lemmas.Result.{on_ok_weaker}
 
 pub returns-clause-served : goal.returns-clause-served
 returns-clause-served c =
-    on_ok c.feed.result
+    on_ok_weaker c.feed.result
     (λ received. serves_one (coming c.args.work) c.args.core.now.site c.ask_for.new.core.site c.args.core.now.state c.ask_for.new.core.state c.feed.new.core.state
     c.args.number c.in_ok-entries.entries.items c.args.journal.now
     c.ask_for.ensures.site c.in_ok-entries.ensures.asks

@@ -2,9 +2,9 @@ use Rattle.std.proofs.Common.{sym, ap, ◌∙◌}
 use Rattle.std.specs.FinSet as set
 use Rattle.gtid_text.specs.Gtids.{gtid_cmp, same_gtid}
 use Rattle.gtid_set.proofs.SetLemmas.{gtid_tied}
-use Rattle.source_history.proofs.Gtids.{gtid_total}
 use Rattle.audit.proofs.Hashed.{hashed_in}
 use Rattle.audit.proofs.standing.Standing.has.Goals as goal
+use Rattle.gtid_text.proofs.SameGtid.{gtid_total}
 
 pub returns : goal.returns
 returns c =

@@ -4,8 +4,9 @@ use Rattle.apply_channel.specs.Full.{IsFull}
 use Rattle.replica_core.specs.Kept.{ChannelsValue}
 use Rattle.replica_core.specs.Keyed.{changed, full_at}
 use Rattle.replica_core.specs.Machine.{changed_at}
-use Rattle.replica_core.proofs.KeyedLemmas.{channel_of, received_as_one, full_as, on_ok}
+use Rattle.replica_core.proofs.KeyedLemmas.{channel_of, received_as_one, full_as}
 use Rattle.replica_core.proofs.channels.Channels.receive.Goals as goal
+use Rattle.std.proofs.lemmas.Result.{on_ok_weaker}
 
 pub returns-clause-put : goal.returns-clause-put
 returns-clause-put c =
@@ -15,7 +16,7 @@ returns-clause-put c =
     let put = λ (is : c.receive_one.new.channels.items ≡ changed_at n (with_entry c.args.executed e) old).
     ap (λ (cs : List ChannelValue). let v : ChannelsValue = record { schema = c.self.inside.schema; list = cs } in v) (ap (map channel_of) is ∙ received_as_one n c.args.executed e old)
     ∙ ap (λ (v : ChannelsValue). changed (changed_at n (with_received (received_as c.args.executed e)) v.list) v) c.self.view_is in
-    on_ok c.receive_one.result put c.receive_one.ensures.put
+    on_ok_weaker c.receive_one.result put c.receive_one.ensures.put
 
 pub returns-clause-full : goal.returns-clause-full
 returns-clause-full c =

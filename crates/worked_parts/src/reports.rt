@@ -1,5 +1,7 @@
-use crate::{Fault, LineCause, Refusal, render_fault, render_verdict, set_function};
-use gtid_text::{Gtid, SourceId};
+//! Lines that are printed.
+
+use crate::entries::gtid;
+use gtid_report::{Fault, LineCause, Refusal, render_fault, render_verdict, set_function};
 use rows::RowFault;
 use std::alloc::{AllocError, Global};
 use std::process::Abort;
@@ -9,8 +11,7 @@ use world::Verdict;
 /// The printed lines of the journal's and the command line's refusals.
 #[test]
 fn prints_refusals(rt: HostRuntime) -> Result<(), Fail> {
-    let source = SourceId::from_bits(0xaaaa_aaaa_aaaa_aaaa_aaaa_aaaa_aaaa_aaaa);
-    let twice = Refusal::Twice(Gtid { source, number: 1 });
+    let twice = Refusal::Twice(gtid(1));
     let lines = [
         (Refusal::NumberRange(37), "refused E5 number-range at 37"),
         (Refusal::SourcesFull, "refused E9 sources-full"),
@@ -41,13 +42,6 @@ fn says(rt: &impl Abort, alloc: Global, verdict: &Verdict, want: &str) -> Result
     Ok(())
 }
 
-fn gtid(number: u64) -> Gtid {
-    Gtid {
-        source: SourceId::from_bits(0xaaaa_aaaa_aaaa_aaaa_aaaa_aaaa_aaaa_aaaa),
-        number,
-    }
-}
-
 fn taken() -> RowFault {
     RowFault::DuplicateKey { change: 0, key: 1 }
 }
@@ -71,7 +65,7 @@ fn prints_verdicts(rt: HostRuntime) -> Result<(), Fail> {
 }
 
 /// A text in which A and B stand for two UUIDs.
-fn spelled(alloc: Global, short: &str) -> Result<String, AllocError> {
+pub(crate) fn spelled(alloc: Global, short: &str) -> Result<String, AllocError> {
     let mut text = String::new(alloc);
     for letter in short.chars() {
         match letter {

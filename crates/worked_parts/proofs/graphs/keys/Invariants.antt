@@ -1,6 +1,6 @@
 use Rattle.std.specs.List.{IsDistinct}
 use Rattle.rows.specs.Order.{key_eq}
-use Rattle.dependency_graph.proofs.tests.keys.Given as goal
+use Rattle.worked_parts.proofs.graphs.keys.Given as goal
 
 abbrev pub invariant-loop-number : goal.invariant-loop-number
 invariant-loop-number l = IsDistinct key_eq l.keys.items

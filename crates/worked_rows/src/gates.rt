@@ -1,6 +1,8 @@
-ghost use Rattle.std.specs.Prelude.{◌≡◌, ◌≤◌};
+//! Workers with a gate between their steps, and the hands from which they steal.
 
-use super::*;
+ghost use Rattle.std.specs.Prelude.{◌≡◌};
+
+use applier::{Gate, Hand, Ticket, drain, hands, run_workers};
 use commit_ledger::Blanks;
 use gtid_text::{Gtid, SourceId};
 use journal::Entry;
@@ -12,7 +14,7 @@ use std::marker::Brand;
 use std::process::Abort;
 use std::sync::Wait;
 use std::sync::atomic::{AtomicU64, Ordering};
-use std::test::*;
+use std::test::Fail;
 use std::thread::Threads;
 
 /// A worker that waits before it prepares doesn't keep the other from committing.

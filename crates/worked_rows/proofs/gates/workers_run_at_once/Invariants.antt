@@ -1,4 +1,4 @@
-use Rattle.applier.proofs.tests.workers_run_at_once.Given as goal
+use Rattle.worked_rows.proofs.gates.workers_run_at_once.Given as goal
 
 -- the ledgers that were just opened, and the core that is shared
 abbrev pub ghosts-two_workers : goal.ghosts-two_workers

@@ -1,10 +1,10 @@
-//! Worked rows, and a long chain.
+//! Which nodes of a graph are ready, and a long chain.
 
 ghost use Rattle.std.specs.Prelude.{◌≡◌, ◌≢◌, IfOk};
 ghost use Rattle.std.specs.List.{AllPairs};
 ghost use Rattle.rows.specs.WriteSet.{is_among};
 
-use super::Graph;
+use dependency_graph::Graph;
 use rows::{Key, KeyValues, Name, Value};
 use std::alloc::Global;
 use std::test::Fail;

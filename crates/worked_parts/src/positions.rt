@@ -1,8 +1,12 @@
-use super::*;
-use rows::{Changes, Transaction};
-use std::test::Fail;
+//! What a source answers a replica that asks.
 
-const A: u128 = 0xaaaaaaaa_aaaa_aaaa_aaaa_aaaaaaaaaaaa;
+use crate::entries::{A, entry, gtid};
+use auto_position::{PositionFault, plan};
+use gtid_set::{GtidSet, SetFault};
+use gtid_text::SourceId;
+use journal::Journal;
+use std::alloc::Global;
+use std::test::Fail;
 
 /// What was answered: the places, or the first and the last number of the set.
 #[derive(Clone, Copy, Debug, PartialEq, Eq)]
@@ -13,27 +17,12 @@ enum Answer {
     Failed,
 }
 
-fn gtid(number: u64) -> Gtid {
-    Gtid {
-        source: SourceId::from_bits(A),
-        number,
-    }
-}
-
 fn numbers(alloc: Global, lo: u64, hi: u64) -> Result<GtidSet, SetFault> {
     let mut numbers = GtidSet::empty(alloc);
     for number in lo..=hi {
         numbers.add(gtid(number))?;
     }
     Ok(numbers)
-}
-
-fn entry(alloc: Global, number: u64) -> Result<Entry, AllocError> {
-    let changes = Changes::new(Vec::new(alloc))?;
-    Ok(Entry {
-        gtid: gtid(number),
-        txn: Transaction { changes },
-    })
 }
 
 fn first(numbers: &GtidSet) -> Option<u64> {

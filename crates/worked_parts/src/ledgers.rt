@@ -1,11 +1,12 @@
+//! The ledger of steps and commits.
 ghost use Rattle.std.specs.Prelude.{◌≡◌, ℕ, ◌<◌, IfOk, vec_len, slice_index_or};
-ghost use Rattle.std.specs.List.{sum_by};
 ghost use Rattle.commit_ledger.specs.Tallies.{gathered, unused};
 
-use super::*;
+use commit_ledger::{Blanks, Ledgers, Share, Total, count, gather, open_shares};
+use std::alloc::{AllocError, Global};
 use std::marker::Brand;
 use std::process::Abort;
-use std::test::*;
+use std::test::Fail;
 
 /// Of three seats the first makes a commit, the second a commit and another step, the third one other step.
 #[test]

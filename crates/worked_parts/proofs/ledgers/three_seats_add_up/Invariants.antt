@@ -1,4 +1,4 @@
-use Rattle.commit_ledger.proofs.tests.three_seats_add_up.Given as goal
+use Rattle.worked_parts.proofs.ledgers.three_seats_add_up.Given as goal
 
 -- the ledgers that were just made
 abbrev pub ghosts-count_four : goal.ghosts-count_four

@@ -1,49 +1,58 @@
-use super::*;
-use std::test::*;
+//! Texts of GTIDs and of sets, read and written.
 
-const A: SourceId = SourceId {
-    bits: 0xaaaaaaaa_aaaa_aaaa_aaaa_aaaaaaaaaaaa,
+use crate::entries::{A, B};
+use gtid_text::{
+    Gtid, SourceId, Span, TextFault, parse_gtid, parse_source, parse_spans, write_gtid,
+    write_next_span, write_source, write_span,
 };
+use std::test::Fail;
 
-const B: SourceId = SourceId {
-    bits: 0xbbbbbbbb_bbbb_bbbb_bbbb_bbbbbbbbbbbb,
-};
+/// The bits of a source, and the first and the last number.
+type Short = (u128, u64, u64);
 
-const fn span(source: SourceId, lo: u64, hi: u64) -> Span {
-    Span { source, lo, hi }
+fn source(bits: u128) -> SourceId {
+    SourceId::from_bits(bits)
+}
+
+fn span(short: Short) -> Span {
+    Span {
+        source: source(short.0),
+        lo: short.1,
+        hi: short.2,
+    }
 }
 
 #[test]
 fn sets_that_are_read(rt: HostRuntime) -> Result<(), Fail> {
-    let rows: [(&str, &[Span]); 9] = [
+    let rows: [(&str, &[Short]); 9] = [
         ("", &[]),
         (",,", &[]),
         (" \t\r\n", &[]),
-        ("aaaaaaaa-aaaa-aaaa-aaaa-aaaaaaaaaaaa:007", &[span(A, 7, 7)]),
+        ("aaaaaaaa-aaaa-aaaa-aaaa-aaaaaaaaaaaa:007", &[(A, 7, 7)]),
         (
             "aaaaaaaa-aaaa-aaaa-aaaa-aaaaaaaaaaaa:1-2:3",
-            &[span(A, 1, 2), span(A, 3, 3)],
+            &[(A, 1, 2), (A, 3, 3)],
         ),
-        (
-            "AAAAAAAA-aaaa-AAAA-aaaa-aaaaaaaaAAAA : 1 - 2",
-            &[span(A, 1, 2)],
-        ),
+        ("AAAAAAAA-aaaa-AAAA-aaaa-aaaaaaaaAAAA : 1 - 2", &[(A, 1, 2)]),
         (
             "aaaaaaaa-aaaa-aaaa-aaaa-aaaaaaaaaaaa:9223372036854775807",
-            &[span(A, 9223372036854775807, 9223372036854775807)],
+            &[(A, 9223372036854775807, 9223372036854775807)],
         ),
         (
             "aaaaaaaa-aaaa-aaaa-aaaa-aaaaaaaaaaaa:1-3,\nbbbbbbbb-bbbb-bbbb-bbbb-bbbbbbbbbbbb:7",
-            &[span(A, 1, 3), span(B, 7, 7)],
+            &[(A, 1, 3), (B, 7, 7)],
         ),
         (
             "bbbbbbbb-bbbb-bbbb-bbbb-bbbbbbbbbbbb:1, aaaaaaaa-aaaa-aaaa-aaaa-aaaaaaaaaaaa:3:1-2,,aaaaaaaa-aaaa-aaaa-aaaa-aaaaaaaaaaaa:2-5",
-            &[span(B, 1, 1), span(A, 3, 3), span(A, 1, 2), span(A, 2, 5)],
+            &[(B, 1, 1), (A, 3, 3), (A, 1, 2), (A, 2, 5)],
         ),
     ];
     for (text, spans) in rows {
         let read = parse_spans(rt.alloc(), text)?;
-        assert_eq!(rt; read.as_slice(), spans, "{text}");
+        assert_eq!(rt; read.len(), spans.len(), "{text}");
+        for (read, short) in read.iter().zip(spans) {
+            assert_eq!(rt; *read, span(*short), "{text}");
+        }
     }
     Ok(())
 }
@@ -110,7 +119,7 @@ fn sets_that_are_refused(rt: HostRuntime) {
 #[test]
 fn one_source_and_one_gtid(rt: HostRuntime) {
     let text = " aaaaaaaa-aaaa-aaaa-aaaa-aaaaaaaaaaaa ";
-    assert_eq!(rt; parse_source(text), Ok(A));
+    assert_eq!(rt; parse_source(text), Ok(source(A)));
     assert_eq!(rt; parse_source(""), Err(TextFault::BadUuid(0)));
     assert_eq!(rt; parse_source("  "), Err(TextFault::BadUuid(2)));
     assert_eq!(rt;
@@ -121,7 +130,7 @@ fn one_source_and_one_gtid(rt: HostRuntime) {
     assert_eq!(rt;
         parse_gtid(text),
         Ok(Gtid {
-            source: B,
+            source: source(B),
             number: 7
         })
     );
@@ -139,12 +148,12 @@ fn one_source_and_one_gtid(rt: HostRuntime) {
 #[test]
 fn texts_that_are_written(rt: HostRuntime) -> Result<(), Fail> {
     let mut out = String::new(rt.alloc());
-    write_source(&mut out, A)?;
+    write_source(&mut out, source(A))?;
     out.push_str(" ")?;
     write_gtid(
         &mut out,
         Gtid {
-            source: B,
+            source: source(B),
             number: 9223372036854775807,
         },
     )?;
@@ -153,9 +162,9 @@ fn texts_that_are_written(rt: HostRuntime) -> Result<(), Fail> {
         "aaaaaaaa-aaaa-aaaa-aaaa-aaaaaaaaaaaa bbbbbbbb-bbbb-bbbb-bbbb-bbbbbbbbbbbb:9223372036854775807"
     );
     out.clear();
-    write_span(&mut out, span(A, 1, 5))?;
-    write_next_span(&mut out, Some(A), span(A, 7, 7))?;
-    write_next_span(&mut out, Some(A), span(B, 1, 1))?;
+    write_span(&mut out, span((A, 1, 5)))?;
+    write_next_span(&mut out, Some(source(A)), span((A, 7, 7)))?;
+    write_next_span(&mut out, Some(source(A)), span((B, 1, 1)))?;
     assert_eq!(rt;
         out.as_str(),
         "aaaaaaaa-aaaa-aaaa-aaaa-aaaaaaaaaaaa:1-5:7,bbbbbbbb-bbbb-bbbb-bbbb-bbbbbbbbbbbb:1"

@@ -1,14 +1,9 @@
-use crate::{Attempt, Owners};
-use gtid_text::{Gtid, SourceId};
+//! Seats that own GTIDs.
+
+use crate::entries::gtid;
+use ownership::{Attempt, Owners};
 use std::process::Abort;
 use std::test::Fail;
-
-fn gtid(number: u64) -> Gtid {
-    Gtid {
-        source: SourceId::from_bits(0xaaaa),
-        number,
-    }
-}
 
 fn answers(rt: &impl Abort, owners: &mut Owners, tries: &[(u64, u8, Attempt)]) {
     for (number, seat, want) in tries {

@@ -2,7 +2,7 @@ use Rattle.std.proofs.Common.{List, sym, ap, subst, ◌∙◌}
 use Rattle.rows.specs.declared.schema.Table.{Table}
 use Rattle.rows.specs.Patch.{SeesAll}
 use Rattle.rows.specs.WriteSet.{touches}
-use Rattle.write_set.proofs.tests.patch.Goals as goal
+use Rattle.worked_parts.proofs.keys.patch.Goals as goal
 
 pub prepare-requires-clause-all : goal.prepare-requires-clause-all
 prepare-requires-clause-all c =

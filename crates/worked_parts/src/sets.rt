@@ -1,23 +1,15 @@
-//! Worked rows, and calls that no other crate's rows make.
-use super::GtidSet;
+//! Numbers of a set, and sets that grow.
+
+use crate::entries::{A, B};
+use crate::reports::spelled;
+use gtid_set::GtidSet;
 use gtid_text::{Gtid, SourceId};
 use std::alloc::Global;
 use std::test::Fail;
 
-const A: u128 = 0xaaaaaaaa_aaaa_aaaa_aaaa_aaaaaaaaaaaa;
-
-const B: u128 = 0xbbbbbbbb_bbbb_bbbb_bbbb_bbbbbbbbbbbb;
-
 /// The set of a text in which A and B stand for two UUIDs.
 fn set_of(alloc: Global, short: &str) -> Result<GtidSet, Fail> {
-    let mut text = String::new(alloc);
-    for letter in short.chars() {
-        match letter {
-            'A' => text.push_str("aaaaaaaa-aaaa-aaaa-aaaa-aaaaaaaaaaaa")?,
-            'B' => text.push_str("bbbbbbbb-bbbb-bbbb-bbbb-bbbbbbbbbbbb")?,
-            other => text.push(other)?,
-        }
-    }
+    let text = spelled(alloc, short)?;
     let set = GtidSet::from_text(alloc, text.as_str())?;
     Ok(set)
 }

@@ -6,7 +6,7 @@ use Rattle.rows.specs.Order.{key_eq}
 use Rattle.rows.specs.Total.{key_total}
 use Rattle.rows.specs.WriteSet.{is_among}
 use Rattle.dependency_graph.proofs.Entries.{pairs_of}
-use Rattle.dependency_graph.proofs.tests.keys.Goals as goal
+use Rattle.worked_parts.proofs.graphs.keys.Goals as goal
 
 pub loop-number-init : goal.loop-number-init
 unfolding IsDistinct

@@ -1,10 +1,11 @@
-//! Keys of transactions, and the rows that they leave. Rows are tested here, so that their crate is proved once.
-use super::*;
+//! The keys that transactions touch, the rows that they leave, and patches.
 use rows::{
-    ApplyFault, ByteString, Change, Changes, ColumnLists, Columns, KeyValues, Name, Row, RowFault,
-    Rows, Table, Value, fits,
+    ApplyFault, ByteString, Change, Changes, ColumnLists, Columns, Key, KeyValues, Name, Outcome,
+    Patch, Row, RowFault, Rows, Schema, Table, Transaction, Value, fits, prepare,
 };
-use std::test::*;
+use std::alloc::{AllocError, Global};
+use std::test::Fail;
+use write_set::{footprint, install, keys_of, share_key};
 
 fn name(alloc: Global) -> Result<Name, Fail> {
     Ok(
