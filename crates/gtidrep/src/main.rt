@@ -8,14 +8,10 @@ mod answer;
 mod apply_command;
 mod audit_command;
 mod edge;
-#[cfg(test)]
-mod fake;
 mod line;
 mod position_command;
 mod reading;
 mod set_command;
-#[cfg(test)]
-mod tests;
 mod wrap;
 
 use crate::apply_command::apply_bundle;
