@@ -1,7 +1,9 @@
 -- What a script answers, and how it ends.
-use Rattle.std.specs.Prelude.{◌≡◌, ℕ, Bool, true, false, List, Option, Some, None, Result, Ok, Err, ◌⊎◌, codes}
+use Rattle.std.specs.Prelude.{◌≡◌, ℕ, Bool, true, false, List, [], ◌∷◌, Option, Some, None, Result, Ok, Err, ◌⊎◌, codes, String, string_bytes, if◌then◌else◌}
+use Rattle.std.specs.Str.{bytes_eq}
 use Rattle.gtid_set.specs.Sets.{Gtids}
-use Rattle.gtid_set.specs.declared.fault.SetFault.TheVariants.{SourcesFull}
+use Rattle.gtid_set.specs.declared.fault.SetFault.{SetFault}
+use Rattle.gtid_set.specs.declared.fault.SetFault.TheVariants.{SourcesFull, PoolFull, Memory as SetMemory}
 use Rattle.replica_core.specs.State.{Replica, State}
 use Rattle.replica_core.specs.Machine.{step, is_numbered}
 use Rattle.replica_core.specs.Faults.{IsFaultIn, asking, made_by}
@@ -10,10 +12,14 @@ use Rattle.replica_script.specs.declared.question.Query.{Query}
 use Rattle.replica_script.specs.declared.question.Query.TheVariants as query
 use Rattle.replica_script.specs.declared.question.Question.{Question}
 use Rattle.replica_script.specs.declared.question.Question.TheVariants as question
-use Rattle.replica_script.specs.declared.script.Stop.{Stop}
-use Rattle.replica_script.specs.declared.script.Stop.TheVariants as stop
+use Rattle.replica_script.specs.declared.answer.Asking.{Asking}
+use Rattle.replica_script.specs.declared.answer.Asking.TheVariants as asking
+use Rattle.replica_script.specs.declared.answer.Unanswered.{Unanswered}
+use Rattle.replica_script.specs.declared.answer.Unanswered.TheVariants as unasked
+use Rattle.replica_script.specs.declared.answer.Stop.{Stop}
+use Rattle.replica_script.specs.declared.answer.Stop.TheVariants as stop
 use Rattle.replica_script.specs.declared.edge.Fault.{Fault}
-use Rattle.replica_script.specs.declared.edge.Fault.TheVariants.{BadLine, Memory, Read, Write}
+use Rattle.replica_script.specs.declared.edge.Fault.TheVariants.{BadLine, Memory, Changed, Read, Write}
 use Rattle.replica_script.specs.Replies.{ended, reply_line}
 use Rattle.replica_script.specs.Texts.{query_text}
 
@@ -47,11 +53,42 @@ abbrev pub Answers : Replica → Question → Replica → List ℕ → Type 0
 Answers old (question.Event event) new text = IsAnswer old event new text
 Answers old (question.Query query) new text = IsShown old query text × (new ≡ old)
 
--- why a question stops a script: memory was refused, or it is an event whose number is out of range, which is a bad line
+-- why a question stops a script: memory was refused, or it is an event whose number is out of range, which is a bad line; never that a call which was refused memory has changed the replica
 abbrev pub IsStopAt : Question → Stop → Type 0
 IsStopAt asked stop.Memory = Unit {0}
+IsStopAt asked stop.Changed = ⊥
 IsStopAt (question.Event event) stop.BadLine = is_numbered event ≡ false
 IsStopAt (question.Query query) stop.BadLine = ⊥
+
+-- what a question leaves where its answer is wanting: what it was asked of, or the state after the event whose reply was not told
+abbrev pub IsLeft : Replica → Event → Replica → Type 0
+IsLeft old event new = (new ≡ old) ⊎ ((new.state ≡ (step old.site old.state event).1) × (new.site ≡ old.site))
+
+abbrev pub IsLeftBy : Replica → Question → Replica → Type 0
+IsLeftBy old (question.Event event) new = IsLeft old event new
+IsLeftBy old (question.Query query) new = new ≡ old
+
+-- ---- a replica that does not answer
+
+-- what a fault of a set means
+abbrev pub unanswered : SetFault → Unanswered
+unanswered SourcesFull = unasked.SourcesFull
+unanswered SetMemory = unasked.Memory
+unanswered PoolFull = unasked.Memory
+
+-- why there is no answer: memory was refused, or the set that is made, if any, would have too many sources
+abbrev pub IsUnanswered : Option Gtids → Unanswered → Type 0
+IsUnanswered made unasked.Memory = Unit {0}
+IsUnanswered made unasked.SourcesFull = IsFaultIn SourcesFull made
+IsUnanswered made unasked.Changed = ⊥
+
+-- ---- the words of the command line
+
+-- how often a replica is asked, if the words say that
+abbrev pub asking_of : {Z : Type 0} → List (String Z) → Option Asking
+asking_of [] = Some asking.Once
+asking_of (word ∷ []) = if bytes_eq (string_bytes word) (codes "--again") then Some asking.Again else None
+asking_of (word ∷ next ∷ more) = None
 
 -- ---- the end
 
@@ -65,11 +102,13 @@ ending None false = Ok tt
 abbrev pub fault_of : Stop → Fault
 fault_of stop.BadLine = BadLine
 fault_of stop.Memory = Memory
+fault_of stop.Changed = Changed
 
 -- the status that the program ends with
 abbrev pub status_of : Result (Unit {0}) Fault → ℕ
 status_of (Ok done) = 0
 status_of (Err BadLine) = 2
 status_of (Err Memory) = 3
+status_of (Err Changed) = 5
 status_of (Err Read) = 4
 status_of (Err Write) = 4

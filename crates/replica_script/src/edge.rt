@@ -2,7 +2,8 @@
 ghost use Rattle.std.specs.Prelude.{◌≡◌};
 ghost use Rattle.replica_script.specs.Scripts.{fault_of};
 
-use crate::script::{Script, Stop};
+use crate::answer::{Asking, Stop};
+use crate::script::Script;
 use std::alloc::Global;
 use std::io::{BufRead, Error, ErrorKind, Write};
 
@@ -13,6 +14,8 @@ pub enum Fault {
     BadLine,
     /// Memory was refused.
     Memory,
+    /// A call that was refused memory has changed the replica.
+    Changed,
     /// Reading failed.
     Read,
     /// Writing failed.
@@ -25,6 +28,7 @@ fn fault_of(stop: Stop) -> Fault
     match stop {
         Stop::BadLine => Fault::BadLine,
         Stop::Memory => Fault::Memory,
+        Stop::Changed => Fault::Changed,
     }
 }
 
@@ -105,11 +109,10 @@ fn answer_lines<R: BufRead, W: Write>(
 /// Reads a script line by line, and writes the answers.
 pub fn run_script<R: BufRead, W: Write>(
     alloc: Global,
+    asking: Asking,
     reader: &mut R,
     writer: &mut W,
 ) -> Result<(), Fault> {
-    match Script::start(alloc) {
-        Ok(mut script) => answer_lines(alloc, reader, writer, &mut script),
-        Err(stop) => Err(fault_of(stop)),
-    }
+    let mut script = Script::start(alloc, asking);
+    answer_lines(alloc, reader, writer, &mut script)
 }

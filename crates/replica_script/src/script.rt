@@ -1,38 +1,19 @@
 //! A script, line by line.
-ghost use Rattle.std.specs.Prelude.{◌≡◌, None, Some, Err, IfOk, IfErr, OnOk, is_some, codes};
-ghost use Rattle.replica_script.specs.declared.script.Stop.{Stop};
-ghost use Rattle.replica_script.specs.declared.script.Stop.TheVariants.{Memory};
-ghost use Rattle.replica_script.specs.declared.question.Question.TheVariants as asked;
-ghost use Rattle.replica_script.specs.Scripts.{Answers, IsAnswer, IsShown, IsStopAt, ending};
+ghost use Rattle.std.specs.Prelude.{◌≡◌, None, Some, Err, IfErr, OnOk, is_some};
+ghost use Rattle.replica_script.specs.declared.answer.Stop.{Stop};
+ghost use Rattle.replica_script.specs.declared.answer.Stop.TheVariants.{Memory};
+ghost use Rattle.replica_script.specs.Scripts.{ending};
 
-use crate::query::query_text;
-use crate::question::{Query, Question, number, question_in};
-use crate::reply::reply_text;
+use crate::answer::{Asking, Stop, answer, answer_event};
+use crate::question::{number, question_in};
 use gtid_set::SetFault;
 use gtid_text::SourceId;
 use journal::Entry;
 use journal_words::{cut, source_word};
 use replica_core::{Core, Event};
-use std::alloc::{AllocError, Global};
+use std::alloc::Global;
 use std::mem;
 use txn_journal::{Bundle, BundleReader, JournalFault, Reader};
-
-/// Why a script ends before its input does.
-#[derive(Clone, Copy, Debug, PartialEq, Eq, Drop)]
-pub enum Stop {
-    /// A line that is not in the language where it stands, or an end inside a transaction.
-    BadLine,
-    /// Memory was refused.
-    Memory,
-}
-
-impl From<AllocError> for Stop {
-    ghost from_gives = { λ _ e. e ≡ Memory };
-
-    fn from(_e: AllocError) -> Stop {
-        Stop::Memory
-    }
-}
 
 /// What a fault of a reader means: its text is made of the script's lines.
 fn stop_of(fault: JournalFault) -> Stop {
@@ -104,73 +85,34 @@ fn of_its_own(alloc: Global) -> Result<Pending, Stop> {
     })
 }
 
-/// The event of a transaction whose last line has come.
-fn event_of(alloc: Global, pending: Pending) -> Result<Event, Stop> {
-    let Pending {
-        channel,
-        mut reader,
-    } = pending;
-    let mut entries = match reader.take_entries(alloc) {
-        Ok(entries) => entries,
-        Err(fault) => return Err(stop_of(fault)),
-    };
-    let Some(entry) = entries.pop() else {
-        return Err(Stop::BadLine);
-    };
-    match channel {
-        Some(channel) => Ok(Event::Receive(channel, entry)),
-        None => {
-            let Entry { gtid: _, txn } = entry;
-            Ok(Event::Local(txn))
-        }
-    }
-}
-
-/// The line of a set that would have too many sources.
-fn full_line(alloc: Global) -> Result<Vec<u8>, AllocError>
-    ensures { IfOk result (λ text. text.items ≡ codes "SourcesFull\n") }
-{
-    Vec::from_slice(alloc, b"SourcesFull\n")
-}
-
-/// Asks an event of a replica. Where the set that it makes would have too many sources that is the answer, and nothing has changed.
-fn answer_event(alloc: Global, core: &mut Core, event: &Event) -> Result<Vec<u8>, Stop>
-    ensures answer { IfOk result (λ text. IsAnswer core.old event.now core.new text.items) }
-    ensures stop { IfErr result (IsStopAt (asked.Event event.now)) }
-{
-    if !event.is_numbered() {
-        return Err(Stop::BadLine);
-    }
-    match core.step(alloc, event) {
-        Ok(reply) => match reply_text(alloc, &reply) {
-            Ok(text) => Ok(text.into_bytes()),
-            Err(_) => Err(Stop::Memory),
+/// The entry whose last line has come.
+fn last_entry(alloc: Global, reader: &mut Reader) -> Result<Entry, Stop> {
+    match reader.take_entries(alloc) {
+        Ok(mut entries) => match entries.pop() {
+            Some(entry) => Ok(entry),
+            None => Err(Stop::BadLine),
         },
-        Err(SetFault::SourcesFull) => Ok(full_line(alloc)?),
-        Err(SetFault::Memory | SetFault::PoolFull) => Err(Stop::Memory),
+        Err(fault) => Err(stop_of(fault)),
     }
 }
 
-/// Shows what a query asks for.
-fn answer_query(alloc: Global, core: &Core, query: Query) -> Result<Vec<u8>, Stop>
-    ensures shown { IfOk result (λ text. IsShown core.now query text.items) }
-    ensures stop { IfErr result (IsStopAt (asked.Query query)) }
-{
-    match query_text(alloc, core, query) {
-        Ok(text) => Ok(text),
-        Err(SetFault::SourcesFull) => Ok(full_line(alloc)?),
-        Err(SetFault::Memory | SetFault::PoolFull) => Err(Stop::Memory),
+impl Pending {
+    /// Takes a line: the event, where that was the last line.
+    fn take_line(&mut self, alloc: Global, line: &[u8]) -> Result<Option<Event>, Stop> {
+        feed_reader(alloc, &mut self.reader, line)?;
+        if line != b"end".as_slice() {
+            return Ok(None);
+        }
+        let entry = last_entry(alloc, &mut self.reader)?;
+        Ok(Some(event_with(self.channel, entry)))
     }
 }
 
-/// An answer to a question.
-fn answer(alloc: Global, core: &mut Core, question: Question) -> Result<Vec<u8>, Stop>
-    ensures answer { IfOk result (λ text. Answers core.old question core.new text.items) }
-    ensures stop { IfErr result (IsStopAt question) }
-{
-    match question {
-        Question::Event(event) => answer_event(alloc, core, &event),
-        Question::Query(query) => answer_query(alloc, core, query),
+/// The event that receives an entry on a channel, or makes its transaction the replica's own.
+fn event_with(channel: Option<usize>, entry: Entry) -> Event {
+    match channel {
+        Some(channel) => Event::Receive(channel, entry),
+        None => Event::Local(entry.txn),
     }
 }
 
@@ -182,36 +124,52 @@ fn is_passed_over(line: &[u8]) -> bool {
     }
 }
 
-/// Where a script stands.
+/// The tables and rows that are declared.
 #[derive(Drop)]
-struct Stage {
-    /// The tables and rows that are declared, as a bundle as far as its lines have come.
-    declared: BundleReader,
-    /// The replica, once it is declared.
-    core: Option<Core>,
-    /// The transaction whose change lines are due.
-    pending: Option<Pending>,
+struct Declared {
+    /// A bundle, as far as its lines have come.
+    bundle: BundleReader,
+    /// Whether the lines before its first table have come.
+    is_begun: bool,
 }
 
-/// A bundle that has come up to its first table. Its lines are of the language, so that memory alone can be wanting.
-fn nothing_declared(alloc: Global) -> Result<BundleReader, Stop>
-    ensures { IfErr result (λ stop. stop ≡ Memory) }
-{
-    let mut bundle = BundleReader::start(alloc);
-    let head = b"bundle 1\nreplica 00000000-0000-0000-0000-000000000000";
-    match feed_bundle(alloc, &mut bundle, head) {
-        Ok(()) => Ok(bundle),
-        Err(_) => Err(Stop::Memory),
+impl Declared {
+    /// Before the first line.
+    fn start(alloc: Global) -> Declared {
+        Declared {
+            bundle: BundleReader::start(alloc),
+            is_begun: false,
+        }
     }
-}
 
-/// The bundle of the tables and rows that are declared.
-fn declared_bundle(alloc: Global, declared: BundleReader) -> Result<Bundle, Stop> {
-    let mut declared = declared;
-    feed_bundle(alloc, &mut declared, b"done")?;
-    match declared.finish() {
-        Ok(bundle) => Ok(bundle),
-        Err(fault) => Err(stop_of(fault)),
+    /// Takes the lines before the first table. They are of the language, so that memory alone can be wanting.
+    fn begin(&mut self, alloc: Global) -> Result<(), Stop>
+        ensures { IfErr result (λ stop. stop ≡ Memory) }
+    {
+        let head = b"bundle 1\nreplica 00000000-0000-0000-0000-000000000000";
+        match feed_bundle(alloc, &mut self.bundle, head) {
+            Ok(()) => {
+                self.is_begun = true;
+                Ok(())
+            }
+            Err(_) => Err(Stop::Memory),
+        }
+    }
+
+    /// Takes the next line.
+    fn take_line(&mut self, alloc: Global, line: &[u8]) -> Result<(), Stop> {
+        if !self.is_begun {
+            self.begin(alloc)?;
+        }
+        feed_bundle(alloc, &mut self.bundle, line)
+    }
+
+    /// The bundle, whose last line has come.
+    fn finish(self) -> Result<Bundle, Stop> {
+        match self.bundle.finish() {
+            Ok(bundle) => Ok(bundle),
+            Err(fault) => Err(stop_of(fault)),
+        }
     }
 }
 
@@ -224,28 +182,50 @@ fn core_on(alloc: Global, bundle: &Bundle, own: SourceId) -> Result<Core, Stop> 
 }
 
 /// A replica with the tables and rows that are declared.
-fn open_core(alloc: Global, declared: BundleReader, own: SourceId) -> Result<Core, Stop> {
-    let bundle = declared_bundle(alloc, declared)?;
-    core_on(alloc, &bundle, own)
+fn core_with(alloc: Global, declared: Declared, own: SourceId) -> Result<Core, Stop> {
+    match declared.finish() {
+        Ok(bundle) => core_on(alloc, &bundle, own),
+        Err(stop) => Err(stop),
+    }
+}
+
+/// Where a script stands.
+#[derive(Drop)]
+struct Stage {
+    /// How often the replica is asked.
+    asking: Asking,
+    /// What is declared, until the replica is.
+    declared: Declared,
+    /// The replica, once it is declared.
+    core: Option<Core>,
+    /// The transaction whose change lines are due.
+    pending: Option<Pending>,
 }
 
 impl Stage {
-    /// Before the first line. Only memory can be wanting.
-    fn start(alloc: Global) -> Result<Stage, Stop>
-        ensures { IfErr result (λ stop. stop ≡ Memory) }
-    {
-        Ok(Stage {
-            declared: nothing_declared(alloc)?,
+    /// Before the first line.
+    fn start(alloc: Global, asking: Asking) -> Stage {
+        Stage {
+            asking,
+            declared: Declared::start(alloc),
             core: None,
             pending: None,
-        })
+        }
+    }
+
+    /// Opens the replica with the tables and rows that are declared.
+    fn open_core(&mut self, alloc: Global, own: SourceId) -> Result<(), Stop> {
+        self.declared.take_line(alloc, b"done")?;
+        let declared = mem::replace(&mut self.declared, Declared::start(alloc));
+        self.core = Some(core_with(alloc, declared, own)?);
+        Ok(())
     }
 
     /// Takes a line of a declaration.
     fn declare(&mut self, alloc: Global, line: &[u8]) -> Result<(), Stop> {
         let (word, rest) = cut(line);
         if word == b"table".as_slice() || word == b"row".as_slice() {
-            return feed_bundle(alloc, &mut self.declared, line);
+            return self.declared.take_line(alloc, line);
         }
         if word != b"core".as_slice() {
             return Err(Stop::BadLine);
@@ -253,12 +233,10 @@ impl Stage {
         let Some(rest) = rest else {
             return Err(Stop::BadLine);
         };
-        let Some(own) = source_word(alloc, rest)? else {
-            return Err(Stop::BadLine);
-        };
-        let declared = mem::replace(&mut self.declared, BundleReader::start(alloc));
-        self.core = Some(open_core(alloc, declared, own)?);
-        Ok(())
+        match source_word(alloc, rest)? {
+            Some(own) => self.open_core(alloc, own),
+            None => Err(Stop::BadLine),
+        }
     }
 
     /// Begins a transaction, where the line does that.
@@ -278,26 +256,6 @@ impl Stage {
         Ok(true)
     }
 
-    /// Takes a line of a transaction, and asks the event with its last one.
-    fn take_change(
-        &mut self,
-        alloc: Global,
-        pending: Pending,
-        line: &[u8],
-    ) -> Result<Vec<u8>, Stop> {
-        let mut pending = pending;
-        feed_reader(alloc, &mut pending.reader, line)?;
-        if line != b"end".as_slice() {
-            self.pending = Some(pending);
-            return Ok(Vec::new(alloc));
-        }
-        let event = event_of(alloc, pending)?;
-        match &mut self.core {
-            Some(core) => answer_event(alloc, core, &event),
-            None => Err(Stop::BadLine),
-        }
-    }
-
     /// Takes a line that stands by itself.
     fn take_question(&mut self, alloc: Global, line: &[u8]) -> Result<Vec<u8>, Stop> {
         if self.begins(alloc, line)? {
@@ -307,21 +265,20 @@ impl Stage {
             return Err(Stop::BadLine);
         };
         match &mut self.core {
-            Some(core) => answer(alloc, core, question),
+            Some(core) => answer(alloc, core, question, self.asking),
             None => Err(Stop::BadLine),
         }
     }
 
     /// Begins again, without tables, rows and replica.
-    fn restart(&mut self, alloc: Global) -> Result<(), Stop> {
-        *self = Stage::start(alloc)?;
-        Ok(())
+    fn restart(&mut self, alloc: Global) {
+        *self = Stage::start(alloc, self.asking);
     }
 
     /// Takes a line outside a transaction.
     fn take_whole(&mut self, alloc: Global, line: &[u8]) -> Result<Vec<u8>, Stop> {
         if line == b"---".as_slice() {
-            self.restart(alloc)?;
+            self.restart(alloc);
             return Ok(Vec::from_slice(alloc, b"---\n")?);
         }
         if self.core.is_some() {
@@ -331,14 +288,26 @@ impl Stage {
         Ok(Vec::new(alloc))
     }
 
+    /// Asks the event of a transaction whose last line has come.
+    fn end_transaction(&mut self, alloc: Global, event: &Event) -> Result<Vec<u8>, Stop> {
+        self.pending = None;
+        match &mut self.core {
+            Some(core) => answer_event(alloc, core, event, self.asking),
+            None => Err(Stop::BadLine),
+        }
+    }
+
     /// Takes the next line, and answers it.
     fn take(&mut self, alloc: Global, line: &[u8]) -> Result<Vec<u8>, Stop> {
         if is_passed_over(line) {
             return Ok(Vec::new(alloc));
         }
-        match self.pending.take() {
-            Some(pending) => self.take_change(alloc, pending, line),
-            None => self.take_whole(alloc, line),
+        let Some(pending) = &mut self.pending else {
+            return self.take_whole(alloc, line);
+        };
+        match pending.take_line(alloc, line)? {
+            Some(event) => self.end_transaction(alloc, &event),
+            None => Ok(Vec::new(alloc)),
         }
     }
 }
@@ -351,15 +320,14 @@ pub struct Script {
 }
 
 impl Script {
-    /// Before the first line. Only memory can be wanting.
-    pub fn start(alloc: Global) -> Result<Script, Stop>
-        ensures fresh { IfOk result (λ script. script.stopped ≡ None) }
-        ensures memory { IfErr result (λ stop. stop ≡ Memory) }
+    /// Before the first line.
+    pub fn start(alloc: Global, asking: Asking) -> Script
+        ensures { result.stopped ≡ None }
     {
-        Ok(Script {
-            stage: Stage::start(alloc)?,
+        Script {
+            stage: Stage::start(alloc, asking),
             stopped: None,
-        })
+        }
     }
 
     /// Takes the next line, and answers it: no line, one or several. After a stop every later call answers that stop.
