@@ -3,7 +3,7 @@ ghost use Rattle.std.specs.Prelude.{◌≡◌, ◌≤◌, IfOk, IfErr, ℕ, List
 ghost use Rattle.world.specs.declared.verdict.Verdict.TheVariants.{Sound};
 ghost use Rattle.txn_journal.specs.declared.bundle.Channel.{Channel};
 ghost use Rattle.serving.specs.Faults.{IsServeFault};
-ghost use Rattle.serving.specs.Serving.{keys_over, IsNamed, IsReady};
+ghost use Rattle.serving.specs.Serving.{keys_over, IsConcluded, IsNamed, IsReady};
 ghost use Rattle.applier.specs.Draining.{AllApply};
 ghost use Rattle.parallel_apply.specs.Applying.{IsApplied, IsAppliedAs};
 
@@ -31,7 +31,27 @@ pub enum Applied {
 }
 
 /// What a history of work over a replica that was served all journals comes to, once what it left is
-/// drained.
+/// drained: nothing where all is executed, or else the verdict of the audit.
+fn drain_and_conclude(
+    alloc: Global,
+    rows: &Rows,
+    journals: &[Journal],
+    book: &mut ClosedBook,
+) -> Result<Option<Verdict>, SetFault>
+    requires keys { keys_over rows.now journals.now ≡ Sound }
+    requires ready { IsReady rows.now journals.now book.old.opening }
+    requires work { AllApply book.old.steps }
+    ensures found { IfOk result (IsConcluded rows.now journals.now book.new.now.state) }
+    ensures named { (own : ℕ) (channels : List Channel) → IsNamed own channels journals.now book.old.opening → IsNamed own channels journals.now book.new.now }
+    ensures fault { IfErr result (λ f. (channels : List Channel) → IsServeFault f rows.now channels journals.now) }
+{
+    let drained = drain(alloc, book);
+    let core = book.state();
+    drained?;
+    conclude(alloc, rows, journals, core)
+}
+
+/// What a history of work over a replica that was served all journals comes to.
 fn ended(
     alloc: Global,
     rows: &Rows,
@@ -45,10 +65,7 @@ fn ended(
     ensures named { (own : ℕ) (channels : List Channel) → IsNamed own channels journals.now book.opening → IfOk result (IsAppliedAs own channels journals.now) }
     ensures fault { IfErr result (λ f. (channels : List Channel) → IsServeFault f rows.now channels journals.now) }
 {
-    let drained = drain(alloc, &mut book);
-    let core = book.state();
-    drained?;
-    match conclude(alloc, rows, journals, core)? {
+    match drain_and_conclude(alloc, rows, journals, &mut book)? {
         None => Ok(Applied::State(book)),
         Some(verdict) => Ok(Applied::Verdict(verdict)),
     }

@@ -1,10 +1,11 @@
 //! What journals come to.
-ghost use Rattle.std.specs.Prelude.{◌≡◌, ◌≤◌, length, IfOk, IfErr, IsOkUnless};
+ghost use Rattle.std.specs.Prelude.{◌≡◌, ◌≤◌, List, length, IfOk, IfErr, OnOk, IsOkUnless};
 ghost use Rattle.gtid_set.specs.declared.fault.SetFault.TheVariants.{Memory};
+ghost use Rattle.txn_journal.specs.declared.bundle.Channel.{Channel};
 ghost use Rattle.world.specs.Meaning.{AreJournals};
 ghost use Rattle.world.specs.declared.verdict.Verdict.TheVariants.{Sound};
 ghost use Rattle.replica_core.specs.Core.{opened};
-ghost use Rattle.serving.specs.Serving.{is_sound, world_over, keys_over, verdict_over, IsReady, IsNamed, IsBegun, IsBegunAs, IsRun, IsConcluded, IsServed, IsServedAs, IsFoundInKeys};
+ghost use Rattle.serving.specs.Serving.{is_sound, world_over, keys_over, verdict_over, names_of, IsReady, IsNamed, IsBegun, IsBegunAs, IsRun, IsConcluded, IsServed, IsServedAs, IsFoundInKeys};
 ghost use Rattle.replica_core.specs.Machine.{opening};
 ghost use Rattle.serving.specs.Served.{IsFaultWhere, KnowsToo, CanServeEach};
 ghost use Rattle.serving.specs.Faults.{IsAuditFault, IsKeysFault, IsConcludeFault, IsServeFault};
@@ -221,6 +222,25 @@ fn applied(
     Ok(core)
 }
 
+/// What a replica that was served all journals has come to, as `conclude` says, once one seat has applied
+/// what is left.
+fn finish_and_conclude(
+    alloc: Global,
+    rows: &Rows,
+    journals: &[Journal],
+    core: &mut Core,
+) -> Result<Option<Verdict>, SetFault>
+    requires keys { keys_over rows.now journals.now ≡ Sound }
+    requires run { IsRun rows.now journals.now core.old }
+    ensures found { IfOk result (IsConcluded rows.now journals.now core.new.state) }
+    ensures site { core.new.site ≡ core.old.site }
+    ensures named { OnOk result (names_of core.new.state.channels ≡ names_of core.old.state.channels) }
+    ensures fault { IfErr result (λ f. (channels : List Channel) → IsServeFault f rows.now channels journals.now) }
+{
+    finish(alloc, core)?;
+    conclude(alloc, rows, journals, core)
+}
+
 /// What the journals that channels bring come to over opening rows: all of them executed together,
 /// or the verdict of their audit, where that is not Sound. Channel by channel, one seat applies each
 /// entry as it is received, and what is left at the end. Where not everything was executed, the audit
@@ -241,8 +261,7 @@ pub fn serve(
     }
     keep_rules(journals);
     let mut core = applied(alloc, own, rows, channels, journals)?;
-    finish(alloc, &mut core)?;
-    match conclude(alloc, rows, journals, &core)? {
+    match finish_and_conclude(alloc, rows, journals, &mut core)? {
         None => Ok(Served::State(core)),
         Some(verdict) => Ok(Served::Verdict(verdict)),
     }

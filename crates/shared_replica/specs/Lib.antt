@@ -6,3 +6,4 @@ pub mod Closing
 pub mod Spare
 pub mod Forms
 pub mod Naming
+pub mod Drafts

@@ -12,7 +12,8 @@ ghost use Rattle.shared_replica.specs.Closing.{sheet, IsMerge, tally_of_passes};
 
 use crate::closed::ClosedBook;
 use crate::closing::is_merge;
-use crate::copies::{copy_of, foresee, is_commit, twin};
+use crate::copies::is_commit;
+use crate::draft::{Drafts, drafts_of};
 use crate::naming::{LedgersOf, Naming};
 use crate::pass::Pass;
 use crate::room::add;
@@ -67,40 +68,36 @@ impl<N: Naming> Book<N> {
 
     /// One step, with its line in the history and its receipt. A Commit uses a patch, where there is
     /// one. After an error nothing has changed.
-    #[tactic(auto, using(crate::proofs::Faulty::memory_anywhere, crate::proofs::Faulty::fault_for))]
+    #[tactic(auto, using(crate::proofs::Faulty::fault_for))]
     pub(crate) fn make(
         &mut self,
         alloc: Global,
-        event: Event,
+        event: &Event,
         patch: Option<Patch>,
         mine: &mut Pass<N>,
     ) -> Result<Reply, SetFault>
-        requires { is_numbered event ≡ true }
-        ensures step { IfOk result (λ r. IsStep self.old.now event r self.new.now) }
-        ensures line { IfOk result (λ r. self.new ≡ with_step event r self.new.now self.old) }
-        ensures told { IfOk result (λ r. mine.new ≡ told (length self.old.steps) event r mine.old) }
+        requires { is_numbered event.now ≡ true }
+        ensures step { IfOk result (λ r. IsStep self.old.now event.now r self.new.now) }
+        ensures line { IfOk result (λ r. self.new ≡ with_step event.now r self.new.now self.old) }
+        ensures told { IfOk result (λ r. mine.new ≡ told (length self.old.steps) event.now r mine.old) }
         ensures err { OnErr result ((self.new ≡ self.old) × (mine.new ≡ mine.old)) }
-        ensures fault { IfErr result (λ f. IsFaultIn f (made_by self.old.now.site self.old.now.state event)) }
-        ensures kind { IfErr result (IsFaultFor event) }
+        ensures fault { IfErr result (λ f. IsFaultIn f (made_by self.old.now.site self.old.now.state event.now)) }
+        ensures kind { IfErr result (IsFaultFor event.now) }
     {
-        self.steps.reserve(1)?;
-        mine.receipts.reserve(1)?;
-        let copy = copy_of(&event)?;
-        let first = foresee(&self.core, alloc, &event)?;
-        let second = foresee(&self.core, alloc, &event)?;
-        self.core.entries_are_kept();
-        let reply = step_of(&mut self.core, alloc, &event, patch)?;
-        let place = self.steps.len() as u64;
-        let line = Step {
+        let drafts = drafts_of(
+            &self.core,
+            alloc,
             event,
-            reply: twin(&reply, first),
-        };
-        let step = Step {
-            event: copy,
-            reply: twin(&reply, second),
-        };
+            &mut self.steps,
+            &mut mine.receipts,
+        )?;
+        self.core.entries_are_kept();
+        let reply = step_of(&mut self.core, alloc, event, patch)?;
+        let Drafts { line, receipt } = drafts;
+        let place = self.steps.len() as u64;
+        let step = receipt.answered(&reply);
         count(&mut self.total, &mut mine.share, is_commit(&reply));
-        add(&mut self.steps, line);
+        add(&mut self.steps, line.answered(&reply));
         add(&mut mine.receipts, Receipt { place, step });
         Ok(reply)
     }

@@ -5,7 +5,7 @@ ghost use Rattle.replica_core.specs.Faults.{IsFaultIn, made_by};
 ghost use Rattle.shared_replica.specs.History.{line, IsStep, IsReplay};
 ghost use Rattle.shared_replica.specs.Closing.{started, receipts_of};
 
-use crate::copies::{copy_of, foresee, twin};
+use crate::draft::Draft;
 use crate::room::add;
 use crate::step::{Receipt, Sheet, Step};
 use commit_ledger::Counts;
@@ -114,14 +114,9 @@ impl ClosedBook {
         ensures fault { IfErr result (λ f. IsFaultIn f (made_by self.old.now.site self.old.now.state event.now)) }
     {
         self.steps.reserve(1)?;
-        let copy = copy_of(event)?;
-        let spare = foresee(&self.core, alloc, event)?;
+        let draft = Draft::of(&self.core, alloc, event)?;
         let reply = self.core.step(alloc, event)?;
-        let line = Step {
-            event: copy,
-            reply: twin(&reply, spare),
-        };
-        add(&mut self.steps, line);
+        add(&mut self.steps, draft.answered(&reply));
         Ok(reply)
     }
 }

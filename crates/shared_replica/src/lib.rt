@@ -5,6 +5,7 @@ mod book;
 mod closed;
 mod closing;
 mod copies;
+mod draft;
 mod naming;
 mod pass;
 mod replica;

@@ -4,6 +4,7 @@ ghost use Rattle.std.specs.Vec.{vec_capacity};
 ghost use Rattle.commit_ledger.specs.Tallies.{no_tally, unused};
 ghost use Rattle.journal.specs.Writing.{is_number};
 ghost use Rattle.replica_core.specs.declared.event.Event.TheVariants.{OpenChannel, Position, Receive, Take, Commit, Rollback, Restart, Local, Purge, Look};
+ghost use Rattle.replica_core.specs.Machine.{is_numbered};
 ghost use Rattle.shared_replica.specs.Faults.{IsFaultFor};
 ghost use Rattle.shared_replica.specs.Passes.{fresh, IsTold};
 ghost use Rattle.shared_replica.specs.Preparing.{MayPrepare};
@@ -161,7 +162,7 @@ impl<N: Naming> SharedReplica<N> {
         ensures fault { IfErr result (IsFaultFor (OpenChannel name preserve)) }
     {
         let event = Event::OpenChannel(name, preserve);
-        self.book.lock(rt).make(alloc, event, None, pass)
+        self.make(rt, alloc, pass, event, None)
     }
 
     /// Asks for the set with which a channel goes to its source. ("GTID Auto-Positioning")
@@ -177,7 +178,7 @@ impl<N: Naming> SharedReplica<N> {
         ensures fault { IfErr result (IsFaultFor (Position channel)) }
     {
         let event = Event::Position(channel);
-        self.book.lock(rt).make(alloc, event, None, pass)
+        self.make(rt, alloc, pass, event, None)
     }
 
     /// A channel receives an entry. Its number is 1 to 9223372036854775807.
@@ -195,7 +196,7 @@ impl<N: Naming> SharedReplica<N> {
         ensures fault { IfErr result (IsFaultFor (Receive channel entry)) }
     {
         let event = Event::Receive(channel, entry);
-        self.book.lock(rt).make(alloc, event, None, pass)
+        self.make(rt, alloc, pass, event, None)
     }
 
     /// The seat takes the transaction at a place of a channel.
@@ -212,7 +213,7 @@ impl<N: Naming> SharedReplica<N> {
         ensures fault { IfErr result (IsFaultFor (Take pass.old.seat channel place)) }
     {
         let event = Event::Take(pass.seat(), channel, place);
-        self.book.lock(rt).make(alloc, event, None, pass)
+        self.make(rt, alloc, pass, event, None)
     }
 
     /// The seat commits what it took.
@@ -227,7 +228,7 @@ impl<N: Naming> SharedReplica<N> {
         ensures fault { IfErr result (IsFaultFor (Commit pass.old.seat)) }
     {
         let event = Event::Commit(pass.seat());
-        self.book.lock(rt).make(alloc, event, None, pass)
+        self.make(rt, alloc, pass, event, None)
     }
 
     /// The seat commits what it took, by a patch that was prepared without the lock. The patch is spent
@@ -244,7 +245,7 @@ impl<N: Naming> SharedReplica<N> {
         ensures fault { IfErr result (IsFaultFor (Commit pass.old.seat)) }
     {
         let event = Event::Commit(pass.seat());
-        self.book.lock(rt).make(alloc, event, Some(patch), pass)
+        self.make(rt, alloc, pass, event, Some(patch))
     }
 
     /// The seat gives up what it took.
@@ -259,7 +260,7 @@ impl<N: Naming> SharedReplica<N> {
         ensures fault { IfErr result (IsFaultFor (Rollback pass.old.seat)) }
     {
         let event = Event::Rollback(pass.seat());
-        self.book.lock(rt).make(alloc, event, None, pass)
+        self.make(rt, alloc, pass, event, None)
     }
 
     /// A stopped channel goes on.
@@ -275,7 +276,7 @@ impl<N: Naming> SharedReplica<N> {
         ensures fault { IfErr result (IsFaultFor (Restart channel)) }
     {
         let event = Event::Restart(channel);
-        self.book.lock(rt).make(alloc, event, None, pass)
+        self.make(rt, alloc, pass, event, None)
     }
 
     /// A transaction of the server's own.
@@ -291,7 +292,7 @@ impl<N: Naming> SharedReplica<N> {
         ensures fault { IfErr result (IsFaultFor (Local changes)) }
     {
         let event = Event::Local(changes);
-        self.book.lock(rt).make(alloc, event, None, pass)
+        self.make(rt, alloc, pass, event, None)
     }
 
     /// This many of the own journal's first entries are purged.
@@ -307,7 +308,7 @@ impl<N: Naming> SharedReplica<N> {
         ensures fault { IfErr result (IsFaultFor (Purge count)) }
     {
         let event = Event::Purge(count);
-        self.book.lock(rt).make(alloc, event, None, pass)
+        self.make(rt, alloc, pass, event, None)
     }
 
     /// Asks for the executed set.
@@ -322,7 +323,26 @@ impl<N: Naming> SharedReplica<N> {
         ensures fault { IfErr result (IsFaultFor Look) }
     {
         let event = Event::Look;
-        self.book.lock(rt).make(alloc, event, None, pass)
+        self.make(rt, alloc, pass, event, None)
+    }
+}
+
+impl<N: Naming> SharedReplica<N> {
+    /// One event under the lock. A Commit uses a patch, where there is one.
+    fn make<R: Wait>(
+        &self,
+        rt: &R,
+        alloc: Global,
+        pass: &mut Pass<N>,
+        event: Event,
+        patch: Option<Patch>,
+    ) -> Result<Reply, SetFault>
+        requires { is_numbered event ≡ true }
+        ensures ok { IfOk result (λ r. IsTold pass.old event r pass.new) }
+        ensures err { OnErr result (pass.new ≡ pass.old) }
+        ensures fault { IfErr result (IsFaultFor event) }
+    {
+        self.book.lock(rt).make(alloc, &event, patch, pass)
     }
 }
 

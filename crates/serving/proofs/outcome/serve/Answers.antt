@@ -2,8 +2,6 @@ use Rattle.std.proofs.Common.{◌≡◌, rules}
 use Rattle.world.specs.declared.verdict.Verdict.TheVariants.{Sound}
 use Rattle.serving.specs.Serving.{keys_over}
 use Rattle.serving.proofs.Beginning.{keys_fault, serve_fault}
-use Rattle.serving.proofs.GivingUp.{run_fault, conclude_fault}
-use Rattle.serving.proofs.Runs.{run_further}
 use Rattle.serving.proofs.outcome.serve.Goals as goal
 
 pub returns-in_err-verdict-clause-fault : goal.returns-in_err-verdict-clause-fault
@@ -15,18 +13,4 @@ pub returns-in_err-core-clause-fault : goal.returns-in_err-core-clause-fault
 returns-in_err-core-clause-fault c =
     let sound : keys_over c.args.rows.now c.args.journals.now ≡ Sound = search rules in
     let h = serve_fault c.in_err-core.field-0.0 c.args.rows.now c.args.channels.now c.args.journals.now sound c.keep_rules.ensures c.in_err-core.ensures.fault in
-    search rules
-
-pub returns-in_err-finish-clause-fault : goal.returns-in_err-finish-clause-fault
-returns-in_err-finish-clause-fault c =
-    let h = run_fault c.in_err-finish.field-0.0 c.args.rows.now c.args.channels.now c.args.journals.now c.in_ok-core.core c.in_ok-core.ensures.run c.in_err-finish.ensures.fault in
-    search rules
-
-pub conclude-requires-clause-run : goal.conclude-requires-clause-run
-conclude-requires-clause-run c =
-    run_further c.args.rows.now c.args.journals.now c.in_ok-core.core c.finish.new.core c.in_ok-core.ensures.run c.finish.ensures.site c.in_ok-finish.ensures.works
-
-pub returns-in_err-conclude-clause-fault : goal.returns-in_err-conclude-clause-fault
-returns-in_err-conclude-clause-fault c =
-    let h = conclude_fault c.in_err-conclude.field-0.0 c.args.rows.now c.args.channels.now c.args.journals.now c.finish.new.core.state c.in_ok-finish.ensures.ends c.in_err-conclude.ensures.fault in
     search rules
