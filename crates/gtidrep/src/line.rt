@@ -78,15 +78,16 @@ fn value<'a>(alloc: Global, id: &'a str, help: &'a str) -> Arg<'a> {
 }
 
 fn set_command<'a>(alloc: Global) -> Result<clap::Command<'a>, AllocError> {
-    let second = Arg::new(alloc, "b")
-        .action(ArgAction::Set)
-        .help("the second set, or a UUID");
     clap::Command::new(alloc, "set")
         .about("Computes with GTID sets: set union <a> <b>")
         .after_help(SET_EXAMPLE)
         .arg(value(alloc, "function", "what is computed"))?
         .arg(value(alloc, "a", "the first set"))?
-        .arg(second)
+        .arg(
+            Arg::new(alloc, "b")
+                .action(ArgAction::Set)
+                .help("the second set, or a UUID"),
+        )
 }
 
 fn option<'a>(alloc: Global, id: &'a str, help: &'a str) -> Arg<'a> {
@@ -126,14 +127,22 @@ fn apply_command<'a>(alloc: Global) -> Result<clap::Command<'a>, AllocError> {
         .arg(workers)
 }
 
+/// The program with one command more, if there was memory for that command.
+fn with_command<'a>(
+    program: clap::Command<'a>,
+    command: Result<clap::Command<'a>, AllocError>,
+) -> Result<clap::Command<'a>, AllocError> {
+    program.subcommand(command?)
+}
+
 fn all_commands<'a>(alloc: Global) -> Result<clap::Command<'a>, AllocError> {
-    clap::Command::new(alloc, "gtidrep")
+    let program = clap::Command::new(alloc, "gtidrep")
         .about("The replica side of GTID replication, over files of journals.")
-        .subcommand_required(true)
-        .subcommand(set_command(alloc)?)?
-        .subcommand(position_command(alloc)?)?
-        .subcommand(audit_command(alloc))?
-        .subcommand(apply_command(alloc)?)
+        .subcommand_required(true);
+    let program = with_command(program, set_command(alloc))?;
+    let program = with_command(program, position_command(alloc))?;
+    let program = program.subcommand(audit_command(alloc))?;
+    with_command(program, apply_command(alloc))
 }
 
 fn workers_of(matches: &ArgMatches) -> Option<u8>
