@@ -16,7 +16,7 @@ use replica_core::{Core, Event, Reply};
 use std::alloc::{AllocError, Global};
 
 /// Why a script ends before its input does.
-#[derive(Clone, Copy, Debug, PartialEq, Eq, Drop)]
+#[derive(Clone, Copy, Drop)]
 pub enum Stop {
     /// A line that is not in the language where it stands, or an end inside a transaction.
     BadLine,
@@ -35,7 +35,7 @@ impl From<AllocError> for Stop {
 }
 
 /// How often a replica is asked where it is refused memory.
-#[derive(Clone, Copy, Debug, PartialEq, Eq, Drop)]
+#[derive(Clone, Copy, Drop)]
 pub enum Asking {
     /// Once.
     Once,
@@ -44,7 +44,7 @@ pub enum Asking {
 }
 
 /// Why a replica does not answer.
-#[derive(Clone, Copy, Debug, PartialEq, Eq, Drop)]
+#[derive(Clone, Copy, Drop)]
 enum Unanswered {
     /// The set that is made would have too many sources.
     SourcesFull,
