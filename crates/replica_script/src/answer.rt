@@ -106,7 +106,11 @@ fn step_again(alloc: Global, core: &mut Core, event: &Event) -> Result<Reply, Un
     ensures fault { IfErr result (IsUnanswered (made_by core.old.site core.old.state event.now)) }
 {
     match copy_of(alloc, core) {
-        Ok(before) => step_beside(alloc, core, event, &before),
+        Ok(before) => {
+            let reply = step_beside(alloc, core, event, &before);
+            drop(before);
+            reply
+        }
         Err(_) => Err(Unanswered::Memory),
     }
 }
@@ -150,7 +154,11 @@ fn show_again(alloc: Global, core: &Core, query: Query) -> Result<Vec<u8>, Unans
     ensures fault { IfErr result (IsUnanswered (made_for query core.now.state)) }
 {
     match copy_of(alloc, core) {
-        Ok(before) => show_beside(alloc, core, query, &before),
+        Ok(before) => {
+            let text = show_beside(alloc, core, query, &before);
+            drop(before);
+            text
+        }
         Err(_) => Err(Unanswered::Memory),
     }
 }

@@ -215,6 +215,13 @@ fn core_with(alloc: Global, declared: Declared, own: SourceId) -> Result<Core, S
     }
 }
 
+/// Puts a value in the place of another, which is let go.
+fn put<T: Drop>(place: &mut T, value: T)
+    ensures { place.new ≡ value }
+{
+    *place = value;
+}
+
 /// Where a script stands.
 #[derive(Drop)]
 struct Stage {
@@ -243,7 +250,7 @@ impl Stage {
     fn open_core(&mut self, alloc: Global, own: SourceId) -> Result<(), Stop> {
         self.declared.take_line(alloc, b"done")?;
         let declared = mem::replace(&mut self.declared, Declared::start(alloc));
-        self.core = Some(core_with(alloc, declared, own)?);
+        put(&mut self.core, Some(core_with(alloc, declared, own)?));
         Ok(())
     }
 
@@ -268,7 +275,7 @@ impl Stage {
     /// Takes a line that stands by itself.
     fn take_question(&mut self, alloc: Global, line: &[u8]) -> Result<Vec<u8>, Stop> {
         if let Some(heading) = heading_in(line)? {
-            self.pending = Some(Pending::start(alloc, heading)?);
+            put(&mut self.pending, Some(Pending::start(alloc, heading)?));
             return Ok(Vec::new(alloc));
         }
         let Some(question) = question_in(alloc, line)? else {
@@ -283,7 +290,7 @@ impl Stage {
     /// Begins again, without tables, rows and replica.
     fn restart(&mut self, alloc: Global) {
         let fresh = Stage::start(alloc, self.asking);
-        drop(mem::replace(self, fresh));
+        put(self, fresh);
     }
 
     /// Takes a line outside a transaction.
@@ -301,7 +308,7 @@ impl Stage {
 
     /// Asks the event of a transaction whose last line has come.
     fn end_transaction(&mut self, alloc: Global, event: &Event) -> Result<Vec<u8>, Stop> {
-        self.pending = None;
+        put(&mut self.pending, None);
         match &mut self.core {
             Some(core) => answer_event(alloc, core, event, self.asking),
             None => Err(Stop::BadLine),
