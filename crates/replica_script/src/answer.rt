@@ -16,7 +16,7 @@ use replica_core::{Core, Event, Reply};
 use std::alloc::{AllocError, Global};
 
 /// Why a script ends before its input does.
-#[derive(Clone, Copy, Debug, PartialEq, Eq, Drop)]
+#[derive(Clone, Copy, Drop)]
 pub enum Stop {
     /// A line that is not in the language where it stands, or an end inside a transaction.
     BadLine,
@@ -35,7 +35,7 @@ impl From<AllocError> for Stop {
 }
 
 /// How often a replica is asked where it is refused memory.
-#[derive(Clone, Copy, Debug, PartialEq, Eq, Drop)]
+#[derive(Clone, Copy, Drop)]
 pub enum Asking {
     /// Once.
     Once,
@@ -44,7 +44,7 @@ pub enum Asking {
 }
 
 /// Why a replica does not answer.
-#[derive(Clone, Copy, Debug, PartialEq, Eq, Drop)]
+#[derive(Clone, Copy, Drop)]
 enum Unanswered {
     /// The set that is made would have too many sources.
     SourcesFull,
@@ -106,7 +106,11 @@ fn step_again(alloc: Global, core: &mut Core, event: &Event) -> Result<Reply, Un
     ensures fault { IfErr result (IsUnanswered (made_by core.old.site core.old.state event.now)) }
 {
     match copy_of(alloc, core) {
-        Ok(before) => step_beside(alloc, core, event, &before),
+        Ok(before) => {
+            let reply = step_beside(alloc, core, event, &before);
+            drop(before);
+            reply
+        }
         Err(_) => Err(Unanswered::Memory),
     }
 }
@@ -150,7 +154,11 @@ fn show_again(alloc: Global, core: &Core, query: Query) -> Result<Vec<u8>, Unans
     ensures fault { IfErr result (IsUnanswered (made_for query core.now.state)) }
 {
     match copy_of(alloc, core) {
-        Ok(before) => show_beside(alloc, core, query, &before),
+        Ok(before) => {
+            let text = show_beside(alloc, core, query, &before);
+            drop(before);
+            text
+        }
         Err(_) => Err(Unanswered::Memory),
     }
 }

@@ -114,5 +114,7 @@ pub fn run_script<R: BufRead, W: Write>(
     writer: &mut W,
 ) -> Result<(), Fault> {
     let mut script = Script::start(alloc, asking);
-    answer_lines(alloc, reader, writer, &mut script)
+    let ended = answer_lines(alloc, reader, writer, &mut script);
+    drop(script);
+    ended
 }

@@ -9,7 +9,7 @@ use rows::{Name, NameFault};
 use std::alloc::{AllocError, Global};
 
 /// What a replica shows without changing.
-#[derive(Clone, Copy, Debug, PartialEq, Eq, Drop)]
+#[derive(Clone, Copy, Drop)]
 pub enum Query {
     /// The rows, in order.
     Rows,

@@ -52,37 +52,51 @@ fn feed_bundle(alloc: Global, bundle: &mut BundleReader, line: &[u8]) -> Result<
     }
 }
 
-/// A journal that has come up to the change lines of its one entry.
-fn entry_reader(alloc: Global, gtid: &[u8]) -> Result<Reader, Stop> {
-    let mut reader = Reader::start(alloc);
-    feed_reader(alloc, &mut reader, b"journal 1\nprevious -")?;
+/// Takes the lines of a journal before the change lines of its one entry.
+fn begin_entry(alloc: Global, reader: &mut Reader, gtid: &[u8]) -> Result<(), Stop> {
+    feed_reader(alloc, reader, b"journal 1\nprevious -")?;
     let mut line = Vec::from_slice(alloc, b"txn ")?;
     line.extend_from_slice(gtid)?;
-    feed_reader(alloc, &mut reader, &line)?;
-    Ok(reader)
+    feed_reader(alloc, reader, &line)
+}
+
+/// A line that begins a transaction.
+#[derive(Drop)]
+struct Heading<'a> {
+    /// The channel that receives it; none for one of the replica's own.
+    channel: Option<usize>,
+    /// Its GTID, as it is spelled.
+    gtid: &'a [u8],
 }
 
 /// The receiving of a transaction, from what stands behind its first word.
-fn receiving(alloc: Global, rest: &[u8]) -> Result<Pending, Stop> {
-    let (word, more) = cut(rest);
-    let Some(channel) = number(word) else {
-        return Err(Stop::BadLine);
-    };
-    let Some(gtid) = more else {
-        return Err(Stop::BadLine);
-    };
-    Ok(Pending {
-        channel: Some(channel),
-        reader: entry_reader(alloc, gtid)?,
+fn receiving(rest: &[u8]) -> Option<Heading<'_>> {
+    let (word, gtid) = cut(rest);
+    Some(Heading {
+        channel: Some(number(word)?),
+        gtid: gtid?,
     })
 }
 
-/// A transaction of the replica's own. Its GTID is not read by anyone: the replica gives it one.
-fn of_its_own(alloc: Global) -> Result<Pending, Stop> {
-    Ok(Pending {
-        channel: None,
-        reader: entry_reader(alloc, b"00000000-0000-0000-0000-000000000000:1")?,
-    })
+/// A line as the beginning of a transaction, if it is one. The GTID of one of the replica's own is not read by anyone: the replica gives it one.
+fn heading_in(line: &[u8]) -> Result<Option<Heading<'_>>, Stop> {
+    if line == b"local".as_slice() {
+        return Ok(Some(Heading {
+            channel: None,
+            gtid: b"00000000-0000-0000-0000-000000000000:1",
+        }));
+    }
+    let (word, rest) = cut(line);
+    if word != b"receive".as_slice() {
+        return Ok(None);
+    }
+    let Some(rest) = rest else {
+        return Err(Stop::BadLine);
+    };
+    match receiving(rest) {
+        Some(heading) => Ok(Some(heading)),
+        None => Err(Stop::BadLine),
+    }
 }
 
 /// The entry whose last line has come.
@@ -97,6 +111,18 @@ fn last_entry(alloc: Global, reader: &mut Reader) -> Result<Entry, Stop> {
 }
 
 impl Pending {
+    /// Before the first change line.
+    fn start(alloc: Global, heading: Heading<'_>) -> Result<Pending, Stop> {
+        let mut reader = Reader::start(alloc);
+        match begin_entry(alloc, &mut reader, heading.gtid) {
+            Ok(()) => Ok(Pending {
+                channel: heading.channel,
+                reader,
+            }),
+            Err(stop) => Err(stop),
+        }
+    }
+
     /// Takes a line: the event, where that was the last line.
     fn take_line(&mut self, alloc: Global, line: &[u8]) -> Result<Option<Event>, Stop> {
         feed_reader(alloc, &mut self.reader, line)?;
@@ -189,6 +215,13 @@ fn core_with(alloc: Global, declared: Declared, own: SourceId) -> Result<Core, S
     }
 }
 
+/// Puts a value in the place of another, which is let go.
+fn put<T: Drop>(place: &mut T, value: T)
+    ensures { place.new ≡ value }
+{
+    *place = value;
+}
+
 /// Where a script stands.
 #[derive(Drop)]
 struct Stage {
@@ -217,7 +250,7 @@ impl Stage {
     fn open_core(&mut self, alloc: Global, own: SourceId) -> Result<(), Stop> {
         self.declared.take_line(alloc, b"done")?;
         let declared = mem::replace(&mut self.declared, Declared::start(alloc));
-        self.core = Some(core_with(alloc, declared, own)?);
+        put(&mut self.core, Some(core_with(alloc, declared, own)?));
         Ok(())
     }
 
@@ -239,26 +272,10 @@ impl Stage {
         }
     }
 
-    /// Begins a transaction, where the line does that.
-    fn begins(&mut self, alloc: Global, line: &[u8]) -> Result<bool, Stop> {
-        if line == b"local".as_slice() {
-            self.pending = Some(of_its_own(alloc)?);
-            return Ok(true);
-        }
-        let (word, rest) = cut(line);
-        if word != b"receive".as_slice() {
-            return Ok(false);
-        }
-        let Some(rest) = rest else {
-            return Err(Stop::BadLine);
-        };
-        self.pending = Some(receiving(alloc, rest)?);
-        Ok(true)
-    }
-
     /// Takes a line that stands by itself.
     fn take_question(&mut self, alloc: Global, line: &[u8]) -> Result<Vec<u8>, Stop> {
-        if self.begins(alloc, line)? {
+        if let Some(heading) = heading_in(line)? {
+            put(&mut self.pending, Some(Pending::start(alloc, heading)?));
             return Ok(Vec::new(alloc));
         }
         let Some(question) = question_in(alloc, line)? else {
@@ -272,7 +289,8 @@ impl Stage {
 
     /// Begins again, without tables, rows and replica.
     fn restart(&mut self, alloc: Global) {
-        *self = Stage::start(alloc, self.asking);
+        let fresh = Stage::start(alloc, self.asking);
+        put(self, fresh);
     }
 
     /// Takes a line outside a transaction.
@@ -290,7 +308,7 @@ impl Stage {
 
     /// Asks the event of a transaction whose last line has come.
     fn end_transaction(&mut self, alloc: Global, event: &Event) -> Result<Vec<u8>, Stop> {
-        self.pending = None;
+        put(&mut self.pending, None);
         match &mut self.core {
             Some(core) => answer_event(alloc, core, event, self.asking),
             None => Err(Stop::BadLine),
