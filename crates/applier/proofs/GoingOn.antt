@@ -1,10 +1,10 @@
-use Rattle.std.proofs.Common.{◌≡◌, ℕ, ◌<◌, length, map, get_or, arith, subst, Result, Ok, Err, IfOk, OnErr, List, [], ◌∷◌, ◌++◌, refl, sym, ap, ◌∙◌, append_assoc}
+use Rattle.std.proofs.Common.{◌≡◌, ℕ, ◌<◌, length, map, get_or, arith, subst, Result, Ok, Err, List, [], ◌∷◌, ◌++◌, refl, sym, ap, ◌∙◌, append_assoc}
 use Rattle.std.proofs.lemmas.List.{append-nil, get_or-map, length-map}
 use Rattle.replica_core.specs.declared.event.Event.{Event}
 use Rattle.replica_core.specs.declared.event.Reply.{Reply}
 use Rattle.gtid_set.specs.declared.fault.SetFault.{SetFault}
 use Rattle.shared_replica.specs.declared.step.Receipt.{Receipt}
-use Rattle.shared_replica.specs.Passes.{PassValue, IsTold, receipt}
+use Rattle.shared_replica.specs.Passes.{PassValue, IsTold, Makes, receipt}
 use Rattle.applier.specs.Applies.{IsApply, AreApply, GoesOn}
 
 pub goes_self : (p : PassValue) → GoesOn p p
@@ -31,9 +31,9 @@ goes_one a b e r ok told = record {
 }
 
 -- what a call of the replica tells of the pass, whatever it answers
-pub told_goes : (a b : PassValue) (e : Event) (o : Result Reply SetFault) → IsApply e → IfOk o (λ r. IsTold a e r b) → OnErr o (b ≡ a) → GoesOn a b
-told_goes a b e (Ok r) ok told same = goes_one a b e r ok told
-told_goes a b e (Err f) ok told same = subst (λ (h : PassValue). GoesOn a h) (sym same) (goes_self a)
+pub makes_on : (a b : PassValue) (e : Event) (o : Result Reply SetFault) → IsApply e → Makes e a o b → GoesOn a b
+makes_on a b e (Ok r) ok told = goes_one a b e r ok told
+makes_on a b e (Err f) ok same = subst (λ (h : PassValue). GoesOn a h) (sym same.0) (goes_self a)
 
 -- what goes on of each worker goes on of each pass
 pub each_pass : {W : Type 0} (pass : W → PassValue) (old new : List W) (ps qs : List PassValue) (w : W) → map pass old ≡ ps → qs ≡ map pass new → length new ≡ length old

@@ -1,5 +1,5 @@
 -- What a worker adds to a pass.
-use Rattle.std.specs.Prelude.{◌≡◌, ⊤, List, [], ◌∷◌, ◌++◌}
+use Rattle.std.specs.Prelude.{◌≡◌, ⊤, ℕ, ◌<◌, List, [], ◌∷◌, ◌++◌, length, slice_index_or}
 use Rattle.replica_core.specs.declared.event.Event.{Event}
 use Rattle.replica_core.specs.declared.event.Event.TheVariants.{Take, Commit, Rollback}
 use Rattle.shared_replica.specs.declared.step.Receipt.{Receipt}
@@ -22,3 +22,7 @@ pub record GoesOn (old new : PassValue) : Type 0 where
   pub more : List Receipt
   pub receipts : new.receipts ≡ old.receipts ++ more
   pub apply : AreApply more
+
+-- each pass goes on in the one at its place
+abbrev pub AllGoOn : List PassValue → List PassValue → Type 0
+AllGoOn old new = (i : ℕ) (d : PassValue) → i < length old → GoesOn (slice_index_or old i d) (slice_index_or new i d)

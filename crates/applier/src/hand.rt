@@ -1,6 +1,6 @@
 //! Tickets, and the deques through which they travel.
-ghost use Rattle.std.specs.Prelude.{◌≡◌, ℕ, IfOk, replicate, ◌++◌, ◌∷◌, [], ◌<◌, ◌≤◌, length, MatchOption, MatchResult, slice_index_or, set};
-ghost use Rattle.applier.specs.Tickets.{seen, took, put_one, reached, nowhere, fresh_on, passes_on, own_views, ReachAll};
+ghost use Rattle.std.specs.Prelude.{◌≡◌, ℕ, IfOk, replicate, ◌++◌, ◌∷◌, [], ◌<◌, ◌≤◌, length, MatchOption, slice_index_or, set};
+ghost use Rattle.applier.specs.Tickets.{seen, took, reached, nowhere, fresh_on, passes_on, own_views, ReachAll, IsPush, IsPop, IsSteal};
 ghost use Rattle.applier.specs.declared.hand.Seen.{Seen};
 
 use crossbeam_deque::protocol::{Outcome, Protocol};
@@ -113,14 +113,14 @@ impl Model for Hand {
 impl Hand {
     /// Puts a ticket at the back of its own deque, in one step. A ticket that finds no room comes back.
     pub fn push(&mut self, ticket: Ticket) -> Result<(), Ticket>
-        ensures { MatchResult result (λ _. self.new ≡ reached (put_one ticket self.old.own) self.old.others) (λ t. (t ≡ ticket) × (self.new ≡ self.old)) }
+        ensures { IsPush ticket self.old result self.new }
     {
         self.own.push_as::<Puts>(ticket)
     }
 
     /// Takes the first ticket of its own deque, in one step.
     pub fn pop(&mut self) -> Option<Ticket>
-        ensures { MatchOption result (self.new ≡ self.old) (λ t. self.new ≡ reached (took t self.old.own) self.old.others) }
+        ensures { IsPop self.old result self.new }
     {
         self.own.pop_as::<Takes>()
     }
@@ -135,7 +135,7 @@ impl Hand {
     /// Takes the first ticket of the deque of worker `from`, in one step.
     pub fn steal(&mut self, from: usize) -> Option<Ticket>
         requires { from < length self.old.others }
-        ensures { MatchOption result (self.new ≡ self.old) (λ t. self.new ≡ reached self.old.own (set self.old.others from (took t (slice_index_or self.old.others from nowhere)))) }
+        ensures { IsSteal from self.old result self.new }
     {
         let reach = &mut self.others[from];
         reach.steal()

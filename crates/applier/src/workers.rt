@@ -1,8 +1,7 @@
 //! Workers, one for each pass.
 ghost use Rattle.std.specs.Prelude.{◌≡◌, ℕ, ◌<◌, ◌+◌, ◌++◌, ◌∷◌, ◌≤◌, [], IfOk, map, vec_len, slice_index_or, length};
 ghost use Rattle.std.specs.Vec.{vec_capacity};
-ghost use Rattle.shared_replica.specs.Passes.{PassValue};
-ghost use Rattle.applier.specs.Applies.{GoesOn};
+ghost use Rattle.applier.specs.Applies.{GoesOn, AllGoOn};
 
 use crate::gate::Gate;
 use crate::hand::{Hand, hands};
@@ -47,7 +46,7 @@ pub fn run_workers<N: Naming + Send + Sync, G: Gate + Sync, R: Threads + Wait + 
 ) -> WorkersEnd<N>
     requires { length passes.items ≤ 64 }
     ensures count { length result.passes.items ≡ length passes.items }
-    ensures each { (i : ℕ) (d : PassValue) → i < length passes.items → GoesOn (slice_index_or passes.items i d) (slice_index_or result.passes.items i d) }
+    ensures each { AllGoOn passes.items result.passes.items }
 {
     let count = passes.len();
     if count == 0 {

@@ -2,25 +2,15 @@
 #![tactic(auto)]
 
 ghost use Rattle.std.specs.Prelude.{◌≡◌};
-ghost use Rattle.gtidrep.specs.Edge.{status_of};
+ghost use Rattle.gtidrep.specs.Line.{IsForOneToMost};
+ghost use Rattle.gtidrep.specs.Status.{status_of};
 
-mod answer;
-mod apply_command;
-mod audit_command;
-mod edge;
 mod line;
-mod position_command;
-mod reading;
-mod set_command;
-mod wrap;
 
-use crate::apply_command::apply_bundle;
-use crate::audit_command::run_audit;
-use crate::edge::{Outcome, RunFault};
 use crate::line::{Command, LineFault, parse_line};
-use crate::position_command::run_position;
-use crate::set_command::run_set;
-use crate::wrap::{StdSink, StdSource};
+use commands::{
+    Outcome, RunFault, StdSink, StdSource, Streams, apply_bundle, run_audit, run_position, run_set,
+};
 use std::env;
 use std::io::{self, ErrorKind};
 use std::process::ExitCode;
@@ -41,34 +31,31 @@ pub fn exit_status(ended: &Result<Outcome, RunFault>) -> u8
     }
 }
 
-fn run<T: Threads + Wait + Sync>(rt: &HostRuntime, threads: &T, words: &[String]) -> u8 {
+/// Runs a command over standard input and standard output.
+fn run_command<T: Threads + Wait + Sync>(
+    rt: &HostRuntime,
+    threads: &T,
+    command: Command,
+) -> Result<Outcome, RunFault>
+    requires { IsForOneToMost command }
+{
     let alloc = rt.alloc();
-    match parse_line(alloc, words) {
-        Ok(Command::Position { own, ask }) => {
-            let mut reader = StdSource::new(rt.reader());
-            let mut writer = StdSink::new(io::writer(rt));
-            exit_status(&run_position(alloc, &mut reader, &mut writer, own, ask))
-        }
-        Ok(Command::Audit) => {
-            let mut reader = StdSource::new(rt.reader());
-            let mut writer = StdSink::new(io::writer(rt));
-            exit_status(&run_audit(alloc, &mut reader, &mut writer))
-        }
-        Ok(Command::Apply { workers }) => {
-            let mut reader = StdSource::new(rt.reader());
-            let mut writer = StdSink::new(io::writer(rt));
-            exit_status(&apply_bundle(threads, alloc, &mut reader, &mut writer, workers))
-        }
-        Ok(
-            Command::Set {
-                function,
-                first,
-                second,
-            },
-        ) => {
-            let mut writer = StdSink::new(io::writer(rt));
-            exit_status(&run_set(alloc, function, first, second, &mut writer))
-        }
+    let mut streams = Streams::new(StdSource::new(rt.reader()), StdSink::new(io::writer(rt)));
+    match command {
+        Command::Set {
+            function,
+            first,
+            second,
+        } => run_set(alloc, function, first, second, &mut streams),
+        Command::Position { own, ask } => run_position(alloc, own, ask, &mut streams),
+        Command::Audit => run_audit(alloc, &mut streams),
+        Command::Apply { workers } => apply_bundle(threads, alloc, workers, &mut streams),
+    }
+}
+
+fn run<T: Threads + Wait + Sync>(rt: &HostRuntime, threads: &T, words: &[String]) -> u8 {
+    match parse_line(rt.alloc(), words) {
+        Ok(command) => exit_status(&run_command(rt, threads, command)),
         Err(LineFault::Memory) => 3,
         Err(LineFault::Line(text)) => {
             let _ = eprint!(rt; "{text}");

@@ -1,10 +1,7 @@
-pub mod Truths
 pub mod Sending
-pub mod Within
-pub mod Feeding
 pub mod Runs
-pub mod Naming
-pub mod Beginning
-pub mod GivingUp
-pub mod Shaping
+pub mod Shapes
+pub mod Conditions
+pub mod Knowing
 pub mod Settling
+pub mod Written

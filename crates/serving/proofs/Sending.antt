@@ -12,7 +12,6 @@ use Rattle.journal.specs.declared.Entry.{Entry}
 use Rattle.journal.specs.Journals.{JournalValue, whole}
 use Rattle.auto_position.specs.Sending.{AreAt, IsPlan, IsRefusal, sent}
 use Rattle.auto_position.specs.declared.PositionFault.{PositionFault}
-use Rattle.auto_position.specs.declared.PositionFault.TheVariants.{ReplicaHasMore}
 use Rattle.serving.specs.Serving.{picked}
 use Rattle.auto_position.proofs.Asked.{none_own}
 
@@ -71,7 +70,7 @@ never_refused true false x y z all known kept e = cc
 never_refused false c x y z all known kept e = cc
 
 -- a source without a UUID refuses nothing that is asked for rightly
-pub refused_for_more : (j : JournalValue) (ask more : Gtids) (p : PositionFault) → IsRefusal p (sent j ask None) → p ≡ ReplicaHasMore more → set.is_subset j.previous ask ≡ true → ⊥
-refused_for_more j ask more p h is kept =
-    let e : sent j ask None ≡ Err (ReplicaHasMore more) = subst (λ (x : PositionFault). IsRefusal x (sent j ask None)) is h in
-    never_refused (set.is_subset j.previous ask) (set.is_subset set.empty (whole j)) _ _ (ReplicaHasMore more) _ (none_own (whole j)) kept e
+pub never_refuses : (j : JournalValue) (ask : Gtids) (p q : PositionFault) → q ≡ p → IsRefusal q (sent j ask None) → (IsRefusal p (sent j ask None) → sent j ask None ≡ Err p) → set.is_subset j.previous ask ≡ true → ⊥
+never_refuses j ask p q is h says kept =
+    let e : sent j ask None ≡ Err p = says (subst (λ (x : PositionFault). IsRefusal x (sent j ask None)) is h) in
+    never_refused (set.is_subset j.previous ask) (set.is_subset set.empty (whole j)) _ _ p _ (none_own (whole j)) kept e

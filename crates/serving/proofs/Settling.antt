@@ -1,86 +1,30 @@
 -- What one seat does with one place.
-use Rattle.std.proofs.Common.{◌≡◌, ◌⊎◌, inl, inr, ℕ, ◌+◌, ◌<◌, ◌≤◌, true, false, [], ◌∷◌, Option, Some, None, refl, sym, ap, ◌∙◌, subst, arith, length}
+use Rattle.std.proofs.Common.{◌≡◌, ℕ, ◌+◌, ◌<◌, ◌≤◌, Some, None, arith, length}
 use Rattle.std.specs.Prelude.{slice_get}
-use Rattle.std.specs.FinSet as set
 use Rattle.std.specs.FinMap as finmap
-use Rattle.apply_channel.specs.Channels.{ChannelValue, Received}
-use Rattle.replica_core.specs.declared.event.Event.TheVariants.{Take, Commit, Rollback}
+use Rattle.apply_channel.specs.Channels.{ChannelValue}
+use Rattle.replica_core.specs.declared.event.Event.TheVariants.{Take, Commit}
 use Rattle.replica_core.specs.declared.event.Reply.{Reply}
 use Rattle.replica_core.specs.State.{State, Site}
 use Rattle.replica_core.specs.Kept.{AreKept}
-use Rattle.replica_core.specs.Machine.{Step, step, take_place, commit, rollback}
+use Rattle.replica_core.specs.Machine.{Step, step, rollback}
 use Rattle.replica_core.specs.Draining.{NothingIsOwned, IsDone, IsWaiting, IsSettledAt, AreStoppedOrDone}
-use Rattle.replica_core.proofs.MoveLemmas.{nothing_owned, settled_by}
+use Rattle.replica_core.proofs.MoveLemmas.{settled_by}
 use Rattle.replica_core.proofs.FreeLemmas.{freed, more_seats}
 use Rattle.replica_core.specs.Seated.{AreSeated}
 use Rattle.replica_core.proofs.DrainLemmas.{follows_self, follows_further, nothing_below, below_follows, one_more_place, one_more_channel, whole_channel, all_channels}
-use Rattle.serving.specs.Serving.{Works}
-use Rattle.serving.specs.Working.{Leaves, Settles, Finishes}
-use Rattle.std.proofs.lemmas.Bool.{cases_Bool}
-use Rattle.std.proofs.lemmas.Option.{same_Some}
-use Rattle.rows.proofs.Lists.{none_some}
+use Rattle.serving.specs.Working.{Settles, Finishes}
 
-option_cases : {A : Type 0} (o : Option A) → (o ≡ None) ⊎ ((x : A) × (o ≡ Some x))
-option_cases None = inl refl
-option_cases (Some x) = inr (x, refl)
+-- nothing is left to do at a place
+pub settles_none : (c p : ℕ) (s : State) → IsSettledAt p c s → Settles c p s s
+settles_none c p s settled none done = record { rests = none; follows = follows_self s; done = one_more_place s p c done settled }
 
--- a place waits, or nothing is left to do there and a take of it leaves all as it was
-abbrev Rests : Site → ℕ → ℕ → State → Type 0
-Rests site c p s = IsSettledAt p c s × ((take_place site 1 c p s).1 ≡ s)
-
-waits_or_rests : (site : Site) (s : State) (c p : ℕ) → NothingIsOwned s → IsWaiting p c s ⊎ Rests site c p s
-waits_or_rests site s c p none =
-    let idle = nothing_owned s 1 none in
-    elim (option_cases (slice_get s.channels c)) [
-      | inl no_channel ↦ inr ((λ channel at. none_some channel (sym no_channel ∙ at)), simp (idle, no_channel) refl)
-      | inr ch ↦ elim (cases_Bool ch.0.stopped) [
-        | inl stops ↦ inr ((λ channel at. inl (ap (λ (x : ChannelValue). x.stopped) (same_Some channel ch.0 (sym at ∙ ch.1)) ∙ stops)), stopped_take ch.0 ch.1 stops)
-        | inr runs ↦ elim (option_cases (slice_get ch.0.received p)) [
-          | inl no_place ↦ inr (
-            (λ channel at. inr (λ e there. none_some e (sym no_place ∙ (ap (λ (x : ChannelValue). slice_get x.received p) (same_Some ch.0 channel (sym ch.1 ∙ at)) ∙ there)))),
-            no_take ch.0 ch.1 no_place,
-          )
-          | inr e ↦ elim (cases_Bool (set.contains s.executed e.0.gtid)) [
-            | inl done ↦ inr (
-              (λ channel at. inr (λ f there.
-                  let same = same_Some e.0 f (sym e.1 ∙ (ap (λ (x : ChannelValue). slice_get x.received p) (same_Some ch.0 channel (sym ch.1 ∙ at)) ∙ there)) in
-                  ap (λ (x : Received). set.contains s.executed x.gtid) (sym same) ∙ done)),
-              done_take ch.0 ch.1 runs e.0 e.1 done,
-            )
-            | inr waits ↦ inl (record { channel = ch.0; entry = e.0; at = ch.1; runs = runs; there = e.1; waits = waits })
-          ]
-        ]
-      ]
-    ]
-  where
-    no_take : (ch : ChannelValue) → slice_get s.channels c ≡ Some ch → slice_get ch.received p ≡ None → (take_place site 1 c p s).1 ≡ s
-    no_take ch at none_there = let idle = nothing_owned s 1 none in simp (idle, at, none_there) refl
-
-    stopped_take : (ch : ChannelValue) → slice_get s.channels c ≡ Some ch → ch.stopped ≡ true → (take_place site 1 c p s).1 ≡ s
-    stopped_take ch at stops = elim (option_cases (slice_get ch.received p)) [
-      | inl no_place ↦ no_take ch at no_place
-      | inr e ↦ let idle = nothing_owned s 1 none in let there = e.1 in simp (idle, at, there, stops) refl
-    ]
-
-    done_take : (ch : ChannelValue) → slice_get s.channels c ≡ Some ch → ch.stopped ≡ false → (e : Received) → slice_get ch.received p ≡ Some e → set.contains s.executed e.gtid ≡ true → (take_place site 1 c p s).1 ≡ s
-    done_take ch at runs e there done = let idle = nothing_owned s 1 none in simp (idle, at, there, runs, done) refl
-
-idle_commit : (site : Site) (s : State) → NothingIsOwned s → (commit site 1 s).1 ≡ s
-idle_commit site s none = let free = none 1 in simp (free) refl
-
--- a take and a commit, whatever the place is
-pub settles : (site site1 : Site) (s t u : State) (r q : Reply) (c p : ℕ) → AreKept site.schema s.executed s.channels → site1 ≡ site → ◌≡◌ {A = Step} (r, t) (step site s (Take 1 c p)) → ◌≡◌ {A = Step} (q, u) (step site1 t (Commit 1))
-    → Settles c p s u
-settles site site1 s t u r q c p kept same takes commits none done =
-    elim (waits_or_rests site s c p none) [
-      | inl w ↦
-          let all = settled_by site site1 s t u r q c p none done w kept same takes commits in
-          record { rests = all.rests; follows = all.follows; done = one_more_place u p c (below_follows s u p c all.follows done) all.done }
-      | inr rests ↦
-          let there : t ≡ s = ap (λ (x : Step). x.1) takes ∙ rests.1 in
-          let back : u ≡ s = ap (λ (x : Step). x.1) commits ∙ (λ i. (step site1 (there i) (Commit 1)).1) ∙ idle_commit site1 s none in
-          subst (λ (x : State). Leaves c (p + 1) s x) (sym back) (record { rests = none; follows = follows_self s; done = one_more_place s p c done rests.0 })
-    ]
+-- a take and a commit of a place that waits
+pub settles : (site site1 : Site) (s t u : State) (r q : Reply) (c p : ℕ) → IsWaiting p c s → AreKept site.schema s.executed s.channels → site1 ≡ site → ◌≡◌ {A = Step} (r, t) (step site s (Take 1 c p))
+    → ◌≡◌ {A = Step} (q, u) (step site1 t (Commit 1)) → Settles c p s u
+settles site site1 s t u r q c p waits kept same takes commits none done =
+    let all = settled_by site site1 s t u r q c p none done waits kept same takes commits in
+    record { rests = all.rests; follows = all.follows; done = one_more_place u p c (below_follows s u p c all.follows done) all.done }
 
 pub finishes_none : (c : ℕ) (s : State) → Finishes c 0 s s
 finishes_none c s none = record { rests = none; follows = follows_self s; done = nothing_below c s }
@@ -120,6 +64,3 @@ pub one_more_free : (s t : State) (r : Reply) (seat : ℕ) → 1 ≤ seat → se
 one_more_free s t r n low high seated made free seat l less =
     let f = freed s t r n low high seated made in
     more_seats s t n seat free f.0 f.1 l less
-
-pub rollback_works : (site : Site) (s t : State) (r : Reply) (seat : ℕ) → ◌≡◌ {A = Step} (r, t) (step site s (Rollback seat)) → Works site s t
-rollback_works site s t r seat made = record { events = Rollback seat ∷ []; work = refl; now = ap (λ (x : Step). x.1) made }

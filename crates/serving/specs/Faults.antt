@@ -1,62 +1,41 @@
--- Why journals are not served or audited.
-use Rattle.std.specs.Prelude.{◌⊎◌, ◌<◌, ◌≤◌, List, [], length}
+-- Why journals are not served.
+use Rattle.std.specs.Prelude.{◌≡◌, ℕ, ◌<◌, ◌⊎◌, true, List, slice_get, Some}
 use Rattle.std.specs.List.{AllByRecursion}
 use Rattle.std.specs.FinSet as set
 use Rattle.gtid_text.specs.declared.Gtid.{Gtid}
 use Rattle.gtid_set.specs.declared.fault.SetFault.{SetFault}
-use Rattle.gtid_set.specs.declared.fault.SetFault.TheVariants.{Memory, PoolFull, SourcesFull}
-use Rattle.gtid_set.specs.Sets.{source_count, most_sources}
-use Rattle.rows.specs.Database.{Database}
-use Rattle.rows.specs.Fits.{Fits}
-use Rattle.rows.specs.declared.schema.Table.{Table}
+use Rattle.gtid_set.specs.declared.fault.SetFault.TheVariants.{Memory, SourcesFull}
+use Rattle.gtid_set.specs.Sets.{Gtids, source_count, most_sources}
 use Rattle.journal.specs.declared.Entry.{Entry}
-use Rattle.apply_channel.specs.Channels.{most_received}
-use Rattle.rows.specs.declared.change.NotInSchema.{NotInSchema}
 use Rattle.journal.specs.Journals.{JournalValue}
-use Rattle.world.specs.Audit.{all_entries, first_contents}
-use Rattle.audit.specs.Contents.{in_order}
-use Rattle.audit.specs.Worlds.{IsMisfit}
+use Rattle.apply_channel.specs.Channels.{ChannelValue, Received}
 use Rattle.replica_core.specs.State.{State}
-use Rattle.replica_core.specs.Draining.{AreStoppedOrDone}
-use Rattle.audited_runs.specs.Deciding.{all_of}
-use Rattle.txn_journal.specs.declared.bundle.Channel.{Channel}
-use Rattle.serving.specs.Served.{HaveChannels}
 
--- the schema does not take a transaction that journals bring first under its GTID
-abbrev pub HasMisfit : Database → List JournalValue → Type 0
-HasMisfit start journals = (g : Gtid) × (why : NotInSchema) × IsMisfit start.schema (in_order (first_contents set.empty (all_entries journals))) g why
+-- memory was refused, or each such set has too many sources
+abbrev pub IsFaultWhere : (Gtids → Type 0) → SetFault → Type 0
+IsFaultWhere Has Memory = Unit {0}
+IsFaultWhere Has SourcesFull = (all : Gtids) → Has all → most_sources < source_count all
+IsFaultWhere Has _ = ⊥
 
--- an audit gives no verdict: memory was refused, or the schema does not take a transaction
-abbrev pub IsAuditFault : SetFault → Database → List JournalValue → Type 0
-IsAuditFault Memory start journals = Unit {0}
-IsAuditFault PoolFull start journals = HasMisfit start journals
-IsAuditFault SourcesFull start journals = ⊥
+-- a GTID stands among received entries
+abbrev pub IsAmong : Gtid → List Received → Type 0
+IsAmong g received = (p : ℕ) × (e : Received) × (slice_get received p ≡ Some e) × (e.gtid ≡ g)
 
--- ... or there are more journals than a replica has channels
-abbrev pub IsKeysFault : SetFault → Database → List JournalValue → Type 0
-IsKeysFault Memory start journals = Unit {0}
-IsKeysFault PoolFull start journals = (256 < length journals) ⊎ HasMisfit start journals
-IsKeysFault SourcesFull start journals = ⊥
+-- a GTID is executed, or was received on some channel
+abbrev pub IsKnown : State → Gtid → Type 0
+IsKnown s g = (set.contains s.executed g ≡ true) ⊎ ((c : ℕ) × (channel : ChannelValue) × (slice_get s.channels c ≡ Some channel) × IsAmong g channel.received)
 
--- an audit gives no verdict, or a channel is neither stopped nor done
-abbrev pub IsConcludeFault : SetFault → Database → List JournalValue → State → Type 0
-IsConcludeFault Memory start journals s = Unit {0}
-IsConcludeFault PoolFull start journals s = HasMisfit start journals ⊎ (AreStoppedOrDone s → ⊥)
-IsConcludeFault SourcesFull start journals s = ⊥
+-- a set has all that is executed or received
+abbrev pub Knows : State → Gtids → Type 0
+Knows s all = (g : Gtid) → IsKnown s g → set.contains all g ≡ true
 
--- the schema takes the transactions of a journal, and a channel has room for its entries
-pub record IsHeld (schema : List Table) (journal : JournalValue) : Type 0 where
-  pub fit : AllByRecursion (λ (e : Entry). Fits schema e.txn) journal.entries
-  pub room : length journal.entries ≤ most_received
+-- a set has the GTIDs of these entries
+abbrev pub HasEntries : Gtids → List Entry → Type 0
+HasEntries all entries = AllByRecursion (λ (e : Entry). set.contains all e.gtid ≡ true) entries
 
--- At most 256 journals, each with a channel of its own name, whose entries such a replica takes.
-pub record IsServable (start : Database) (channels : List Channel) (journals : List JournalValue) : Type 0 where
-  pub few : length journals ≤ 256
-  pub have : HaveChannels [] channels journals
-  pub held : AllByRecursion (IsHeld start.schema) journals
+abbrev pub KnowsWith : State → List Entry → Gtids → Type 0
+KnowsWith s entries all = Knows s all × HasEntries all entries
 
--- A replica is not served: memory was refused, the journals are not such, or their GTIDs are of too many sources.
-abbrev pub IsServeFault : SetFault → Database → List Channel → List JournalValue → Type 0
-IsServeFault Memory start channels journals = Unit {0}
-IsServeFault PoolFull start channels journals = IsServable start channels journals → ⊥
-IsServeFault SourcesFull start channels journals = most_sources < source_count (all_of set.empty journals)
+-- ... and of all entries of these journals
+abbrev pub KnowsToo : State → List JournalValue → Gtids → Type 0
+KnowsToo s journals all = Knows s all × AllByRecursion (λ (j : JournalValue). HasEntries all j.entries) journals

@@ -1,4 +1,5 @@
+pub mod Verdicts
 pub mod Serving
-pub mod Served
+pub mod Servable
 pub mod Faults
 pub mod Working

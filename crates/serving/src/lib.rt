@@ -6,5 +6,5 @@ mod outcome;
 mod receiving;
 mod working;
 
-pub use outcome::{Begun, Served, begin, conclude, serve, verdict_over};
+pub use outcome::{StateOrVerdict, begin, conclude, serve, verdict_over, written_is_servable};
 pub use receiving::entries_sent;

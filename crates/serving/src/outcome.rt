@@ -1,57 +1,47 @@
 //! What journals come to.
-ghost use Rattle.std.specs.Prelude.{◌≡◌, ◌≤◌, List, length, IfOk, IfErr, OnOk, IsOkUnless};
+ghost use Rattle.std.specs.Prelude.{◌≡◌, IfOk, IfErr, IsOkUnless};
+ghost use Rattle.std.specs.FinSet as set;
 ghost use Rattle.gtid_set.specs.declared.fault.SetFault.TheVariants.{Memory};
-ghost use Rattle.txn_journal.specs.declared.bundle.Channel.{Channel};
+ghost use Rattle.journal.specs.Faults.{IsFaultOf};
 ghost use Rattle.world.specs.Meaning.{AreJournals};
-ghost use Rattle.world.specs.declared.verdict.Verdict.TheVariants.{Sound};
-ghost use Rattle.replica_core.specs.Core.{opened};
-ghost use Rattle.serving.specs.Serving.{is_sound, world_over, keys_over, verdict_over, names_of, IsReady, IsNamed, IsBegun, IsBegunAs, IsRun, IsConcluded, IsServed, IsServedAs, IsFoundInKeys};
-ghost use Rattle.replica_core.specs.Machine.{opening};
-ghost use Rattle.serving.specs.Served.{IsFaultWhere, KnowsToo, CanServeEach};
-ghost use Rattle.serving.specs.Faults.{IsAuditFault, IsKeysFault, IsConcludeFault, IsServeFault};
+ghost use Rattle.replica_core.specs.Draining.{AreStoppedOrDone};
+ghost use Rattle.audited_runs.specs.Deciding.{all_of};
+ghost use Rattle.serving.specs.Faults.{IsFaultWhere, KnowsToo};
+ghost use Rattle.serving.specs.Servable.{IsFitting, IsServable, CanServeEach, WrittenIsServable};
+ghost use Rattle.serving.specs.Serving.{opening, ServesEach, HasReceived, IsReady, IsRun};
+ghost use Rattle.serving.specs.Verdicts.{is_sound, world_over, keys_over, verdict_over, IsFoundInKeys, IsStateOrVerdict, HasMerged, IsConcluded};
 
-use crate::receiving::{Work, serve_journals};
+use crate::receiving::{Apply, serve_journals};
 use crate::working::finish;
 use audit::{World, WorldFault, audit, audit_keys, world_of};
 use audited_runs::{served_holds_all, workers_decide};
 use gtid_set::{GtidSet, SetFault};
-use gtid_text::SourceId;
 use journal::Journal;
 use replica_core::Core;
-use rows::Rows;
-use std::alloc::Global;
-use txn_journal::Channel;
+use std::alloc::{AllocError, Global};
+use txn_journal::Bundle;
 use world::Verdict;
 
-/// A replica that was served journals.
+/// A state, or why there is none.
 #[derive(Drop)]
-pub enum Begun {
-    /// It has received all that they send, and executed nothing.
-    Ready(Core),
-    /// The journals cannot be merged.
+pub enum StateOrVerdict<S> {
+    /// The journals can be merged, as far as was asked: a replica, or what holds one.
+    State(S),
+    /// The journals cannot be merged: the verdict of their audit, which is not Sound.
     Verdict(Verdict),
 }
 
-/// What journals come to.
-#[derive(Drop)]
-pub enum Served {
-    /// All is executed.
-    State(Core),
-    /// The journals cannot be merged.
-    Verdict(Verdict),
-}
+/// A bundle that was read can be served. It does nothing: its contract is the law.
+pub fn written_is_servable()
+    ensures { WrittenIsServable }
+{}
 
 fn is_sound(verdict: &Verdict) -> bool
     ensures { result ≡ is_sound verdict.now }
 {
     match verdict {
         Verdict::Sound => true,
-        Verdict::Unequal(_) => false,
-        Verdict::Purged(_, _) => false,
-        Verdict::Missing(_) => false,
-        Verdict::Shared(_, _, _) => false,
-        Verdict::NotClosed(_, _) => false,
-        Verdict::DoesNotApply(_, _) => false,
+        _ => false,
     }
 }
 
@@ -65,80 +55,49 @@ fn keep_rules(journals: &[Journal])
 }
 
 /// The world of journals over opening rows, on which nothing is executed.
-fn opening_world(alloc: Global, rows: &Rows, journals: &[Journal]) -> Result<World, SetFault>
-    ensures found { IfOk result (λ world. world ≡ world_over rows.now journals.now) }
-    ensures fault { IfErr result (λ f. IsAuditFault f rows.now journals.now) }
+fn opening_world(alloc: Global, bundle: &Bundle) -> Result<World, AllocError>
+    requires { IsFitting bundle.now }
+    ensures { IfOk result (λ world. world ≡ world_over bundle.now) }
 {
     let opened = GtidSet::empty(alloc);
-    match world_of(alloc, &opened, rows, journals) {
+    match world_of(alloc, &opened, bundle.rows(), bundle.journals()) {
         Ok(world) => Ok(world),
-        Err(WorldFault::Memory) => Err(SetFault::Memory),
-        Err(WorldFault::NotInSchema(_, _)) => Err(SetFault::PoolFull),
+        Err(WorldFault::Memory) => Err(AllocError),
+        Err(WorldFault::NotInSchema(_, _)) => unreachable!(),
     }
 }
 
-/// What an audit of the journals' keys over opening rows finds first.
-fn keys_verdict(alloc: Global, rows: &Rows, journals: &[Journal]) -> Result<Verdict, SetFault>
-    ensures found { IfOk result (λ found. found ≡ keys_over rows.now journals.now) }
-    ensures fault { IfErr result (λ f. IsAuditFault f rows.now journals.now) }
+/// What an audit of the journals' keys over the opening rows finds first.
+fn keys_verdict(alloc: Global, bundle: &Bundle) -> Result<Verdict, AllocError>
+    requires { IsFitting bundle.now }
+    ensures { IfOk result (λ found. found ≡ keys_over bundle.now) }
 {
-    let world = opening_world(alloc, rows, journals)?;
-    Ok(audit_keys(alloc, &world, journals)?)
+    let world = opening_world(alloc, bundle)?;
+    let found = audit_keys(alloc, &world, bundle.journals());
+    drop(world);
+    found
 }
 
-/// What an audit of journals over opening rows finds first, where nothing is executed from the start.
-/// `Memory` is want of memory; `PoolFull` comes only where there is a transaction that the schema does
-/// not take, as none stands in a bundle that was read, and `SourcesFull` never.
-pub fn verdict_over(alloc: Global, rows: &Rows, journals: &[Journal]) -> Result<Verdict, SetFault>
-    ensures found { IfOk result (λ found. found ≡ verdict_over rows.now journals.now) }
-    ensures fault { IfErr result (λ f. IsAuditFault f rows.now journals.now) }
+/// What an audit of a bundle's journals over its opening rows finds first, where nothing is executed
+/// from the start. The tables take the transactions, as those of a bundle that was read do. The error
+/// is want of memory.
+pub fn verdict_over(alloc: Global, bundle: &Bundle) -> Result<Verdict, AllocError>
+    requires { IsFitting bundle.now }
+    ensures { IfOk result (λ found. found ≡ verdict_over bundle.now) }
 {
-    let world = opening_world(alloc, rows, journals)?;
-    Ok(audit(alloc, &world, journals)?)
-}
-
-/// A replica with these rows that has no channel yet.
-fn opened(alloc: Global, own: SourceId, rows: &Rows) -> Result<Core, SetFault>
-    ensures ok { IfOk result (λ core. core ≡ opened own rows.now) }
-    ensures fault { IsOkUnless result Memory }
-{
-    Core::open(alloc, own, rows.copy()?)
-}
-
-/// A replica with these rows that was served all journals.
-fn ready(
-    alloc: Global,
-    own: SourceId,
-    rows: &Rows,
-    channels: &[Channel],
-    journals: &[Journal],
-) -> Result<Core, SetFault>
-    requires { length journals.now ≤ 256 }
-    ensures ready { IfOk result (IsReady rows.now journals.now) }
-    ensures named { IfOk result (IsNamed own channels.now journals.now) }
-    ensures fault { IfErr result (λ f. IsFaultWhere f (KnowsToo (opening rows.now.rows) journals.now) (CanServeEach rows.now.schema 0 channels.now journals.now (opening rows.now.rows))) }
-{
-    let mut core = opened(alloc, own, rows)?;
-    serve_journals(alloc, &mut core, 0, channels, journals, Work::Later)?;
-    Ok(core)
+    let world = opening_world(alloc, bundle)?;
+    let found = audit(alloc, &world, bundle.journals());
+    drop(world);
+    found
 }
 
 /// What an audit of the journals' keys finds, where that isn't Sound: the whole audit finds it too.
-/// A replica has at most 256 channels.
 #[tactic(auto, using(crate::proofs::Runs::keys_found, crate::proofs::Runs::keys_sound))]
-fn unsound_keys(
-    alloc: Global,
-    rows: &Rows,
-    journals: &[Journal],
-) -> Result<Option<Verdict>, SetFault>
-    ensures count { IfOk result (λ found. length journals.now ≤ 256) }
-    ensures found { IfOk result (IsFoundInKeys rows.now journals.now) }
-    ensures fault { IfErr result (λ f. IsKeysFault f rows.now journals.now) }
+fn unsound_keys(alloc: Global, bundle: &Bundle) -> Result<Option<Verdict>, AllocError>
+    requires { IsFitting bundle.now }
+    ensures { IfOk result (IsFoundInKeys bundle.now) }
 {
-    if journals.len() > 256 {
-        return Err(SetFault::PoolFull);
-    }
-    let keys = keys_verdict(alloc, rows, journals)?;
+    let keys = keys_verdict(alloc, bundle)?;
     if is_sound(&keys) {
         Ok(None)
     } else {
@@ -146,123 +105,117 @@ fn unsound_keys(
     }
 }
 
-/// Audits the keys of the journals that channels bring, opens a replica over the opening rows, opens
-/// and positions each channel, and lets it receive what its journal sends. Where the audit of keys
-/// isn't Sound, its verdict is answered, which is that of the whole audit.
-///
-/// `Memory` is want of memory, and `SourcesFull` comes only where the GTIDs of all journals together
-/// are of more than 65,536 sources. `PoolFull` comes only where there are more than 256 journals, a
-/// journal without a channel whose name no channel before it has, a transaction that the schema does
-/// not take, or a journal of more than 4,294,967,294 entries: none of these stands in a bundle that
-/// was read.
-pub fn begin(
-    alloc: Global,
-    own: SourceId,
-    rows: &Rows,
-    channels: &[Channel],
-    journals: &[Journal],
-) -> Result<Begun, SetFault>
-    ensures begun { IfOk result (IsBegun rows.now journals.now) }
-    ensures named { IfOk result (IsBegunAs own channels.now journals.now) }
-    ensures fault { IfErr result (λ f. IsServeFault f rows.now channels.now journals.now) }
+/// The replica of a bundle, with its opening rows and no channel yet.
+fn open_replica(alloc: Global, bundle: &Bundle) -> Result<Core, SetFault>
+    ensures ok { IfOk result (λ core. core ≡ opening bundle.now) }
+    ensures fault { IsOkUnless result Memory }
 {
-    if let Some(verdict) = unsound_keys(alloc, rows, journals)? {
-        return Ok(Begun::Verdict(verdict));
-    }
-    keep_rules(journals);
-    let core = ready(alloc, own, rows, channels, journals)?;
-    Ok(Begun::Ready(core))
+    Core::open(alloc, bundle.replica(), bundle.rows().copy()?)
 }
 
-/// What a replica that worked has come to: nothing where all that it received is executed, or else the
-/// verdict of the audit, which isn't Sound then. `Memory` is want of memory; `PoolFull` comes only where
-/// there is a transaction that the schema does not take, or a channel that is neither stopped nor done,
-/// as there is none once a replica was drained, and `SourcesFull` never.
-#[tactic(auto, using(crate::proofs::Runs::state_concluded, crate::proofs::Runs::audit_concluded))]
-pub fn conclude(
-    alloc: Global,
-    rows: &Rows,
-    journals: &[Journal],
-    core: &Core,
-) -> Result<Option<Verdict>, SetFault>
-    requires keys { keys_over rows.now journals.now ≡ Sound }
-    requires run { IsRun rows.now journals.now core.now }
-    ensures found { IfOk result (IsConcluded rows.now journals.now core.now.state) }
-    ensures fault { IfErr result (λ f. IsConcludeFault f rows.now journals.now core.now.state) }
+/// The replica of a bundle, once it was served all journals.
+fn serve_all(alloc: Global, bundle: &Bundle, apply: Apply) -> Result<Core, SetFault>
+    requires { CanServeEach 0 bundle.now.channels bundle.now.journals (opening bundle.now) }
+    ensures served { IfOk result (ServesEach apply (opening bundle.now) 0 bundle.now.channels bundle.now.journals) }
+    ensures fault { IfErr result (IsFaultWhere (KnowsToo (opening bundle.now).state bundle.now.journals)) }
 {
-    workers_decide();
-    served_holds_all();
-    keep_rules(journals);
-    let drained = core.drained();
-    if drained {
-        return Ok(None);
-    }
-    let verdict = verdict_over(alloc, rows, journals)?;
-    if is_sound(&verdict) {
-        return Err(SetFault::PoolFull);
-    }
-    Ok(Some(verdict))
-}
-
-/// A replica with these rows that was served all journals, and applied what came, entry by entry.
-fn applied(
-    alloc: Global,
-    own: SourceId,
-    rows: &Rows,
-    channels: &[Channel],
-    journals: &[Journal],
-) -> Result<Core, SetFault>
-    requires { length journals.now ≤ 256 }
-    ensures run { IfOk result (IsRun rows.now journals.now) }
-    ensures named { IfOk result (IsNamed own channels.now journals.now) }
-    ensures fault { IfErr result (λ f. IsFaultWhere f (KnowsToo (opening rows.now.rows) journals.now) (CanServeEach rows.now.schema 0 channels.now journals.now (opening rows.now.rows))) }
-{
-    let mut core = opened(alloc, own, rows)?;
-    serve_journals(alloc, &mut core, 0, channels, journals, Work::AtOnce)?;
+    let mut core = open_replica(alloc, bundle)?;
+    serve_journals(
+        alloc,
+        &mut core,
+        0,
+        bundle.channels(),
+        bundle.journals(),
+        apply,
+    )?;
     Ok(core)
 }
 
-/// What a replica that was served all journals has come to, as `conclude` says, once one seat has applied
-/// what is left.
-fn finish_and_conclude(
+/// The replica of a bundle, once it was served all journals, where the audit of their keys is Sound.
+#[tactic(auto, using(crate::proofs::Conditions::can_serve_all))]
+fn receive_all(
     alloc: Global,
-    rows: &Rows,
-    journals: &[Journal],
-    core: &mut Core,
-) -> Result<Option<Verdict>, SetFault>
-    requires keys { keys_over rows.now journals.now ≡ Sound }
-    requires run { IsRun rows.now journals.now core.old }
-    ensures found { IfOk result (IsConcluded rows.now journals.now core.new.state) }
-    ensures site { core.new.site ≡ core.old.site }
-    ensures named { OnOk result (names_of core.new.state.channels ≡ names_of core.old.state.channels) }
-    ensures fault { IfErr result (λ f. (channels : List Channel) → IsServeFault f rows.now channels journals.now) }
+    bundle: &Bundle,
+    apply: Apply,
+) -> Result<StateOrVerdict<Core>, SetFault>
+    requires { IsServable bundle.now }
+    ensures received { IfOk result (IsStateOrVerdict (HasReceived apply bundle.now) bundle.now) }
+    ensures fault { IfErr result (λ f. IsFaultOf f (all_of set.empty bundle.now.journals)) }
 {
-    finish(alloc, core)?;
-    conclude(alloc, rows, journals, core)
+    if let Some(verdict) = unsound_keys(alloc, bundle)? {
+        return Ok(StateOrVerdict::Verdict(verdict));
+    }
+    keep_rules(bundle.journals());
+    let core = serve_all(alloc, bundle, apply)?;
+    Ok(StateOrVerdict::State(core))
 }
 
-/// What the journals that channels bring come to over opening rows: all of them executed together,
-/// or the verdict of their audit, where that is not Sound. Channel by channel, one seat applies each
-/// entry as it is received, and what is left at the end. Where not everything was executed, the audit
-/// says why. The faults are those of `begin`.
-pub fn serve(
-    alloc: Global,
-    own: SourceId,
-    rows: &Rows,
-    channels: &[Channel],
-    journals: &[Journal],
-) -> Result<Served, SetFault>
-    ensures served { IfOk result (IsServed rows.now journals.now) }
-    ensures named { IfOk result (IsServedAs own channels.now journals.now) }
-    ensures fault { IfErr result (λ f. IsServeFault f rows.now channels.now journals.now) }
+/// Audits the keys of a bundle's journals, opens its replica over the opening rows, opens and positions
+/// each channel, and lets it receive what its journal sends. Where the audit of keys isn't Sound, its
+/// verdict is answered, which is that of the whole audit. The bundle can be served, as each that was
+/// read can.
+///
+/// `Memory` is want of memory, and `SourcesFull` comes only where the GTIDs of all journals together
+/// are of more than 65,536 sources.
+pub fn begin(alloc: Global, bundle: &Bundle) -> Result<StateOrVerdict<Core>, SetFault>
+    requires { IsServable bundle.now }
+    ensures begun { IfOk result (IsStateOrVerdict (IsReady bundle.now) bundle.now) }
+    ensures fault { IfErr result (λ f. IsFaultOf f (all_of set.empty bundle.now.journals)) }
 {
-    if let Some(verdict) = unsound_keys(alloc, rows, journals)? {
-        return Ok(Served::Verdict(verdict));
+    receive_all(alloc, bundle, Apply::Later)
+}
+
+/// What a replica that was served all journals comes to, once each of its channels is stopped or has
+/// executed all that it received: nothing where all is executed, or else the verdict of the audit, which
+/// isn't Sound then. The error is want of memory.
+pub fn conclude(alloc: Global, bundle: &Bundle, core: &Core) -> Result<Option<Verdict>, AllocError>
+    requires fits { IsFitting bundle.now }
+    requires run { IsRun bundle.now core.now }
+    requires ends { AreStoppedOrDone core.now.state }
+    ensures { IfOk result (IsConcluded bundle.now core.now) }
+{
+    workers_decide();
+    served_holds_all();
+    keep_rules(bundle.journals());
+    if core.drained() {
+        return Ok(None);
     }
-    keep_rules(journals);
-    let mut core = applied(alloc, own, rows, channels, journals)?;
-    match finish_and_conclude(alloc, rows, journals, &mut core)? {
-        None => Ok(Served::State(core)),
-        Some(verdict) => Ok(Served::Verdict(verdict)),
+    let verdict = verdict_over(alloc, bundle)?;
+    Ok(Some(verdict))
+}
+
+/// What a replica that was served all journals comes to, once one seat has applied what is left.
+#[tactic(auto, using(crate::proofs::Runs::run_further))]
+fn finish_and_conclude(
+    alloc: Global,
+    bundle: &Bundle,
+    core: &mut Core,
+) -> Result<Option<Verdict>, SetFault>
+    requires fits { IsFitting bundle.now }
+    requires run { IsRun bundle.now core.old }
+    ensures found { IfOk result (IsConcluded bundle.now core.new) }
+    ensures fault { IfErr result (λ f. IsFaultOf f (all_of set.empty bundle.now.journals)) }
+{
+    finish(alloc, core)?;
+    Ok(conclude(alloc, bundle, core)?)
+}
+
+/// What the journals of a bundle come to over its opening rows: all of them executed together, or the
+/// verdict of their audit, where that is not Sound. Channel by channel, one seat applies each entry as
+/// it is received, and what is left at the end. Where not everything was executed, the audit says why.
+/// What is asked, and the faults, are those of `begin`.
+#[tactic(auto, using(crate::proofs::Runs::run_begun))]
+pub fn serve(alloc: Global, bundle: &Bundle) -> Result<StateOrVerdict<Core>, SetFault>
+    requires { IsServable bundle.now }
+    ensures served { IfOk result (IsStateOrVerdict (HasMerged bundle.now) bundle.now) }
+    ensures fault { IfErr result (λ f. IsFaultOf f (all_of set.empty bundle.now.journals)) }
+{
+    let mut core = match receive_all(alloc, bundle, Apply::AtOnce)? {
+        StateOrVerdict::State(core) => core,
+        StateOrVerdict::Verdict(verdict) => return Ok(StateOrVerdict::Verdict(verdict)),
+    };
+    match finish_and_conclude(alloc, bundle, &mut core)? {
+        None => Ok(StateOrVerdict::State(core)),
+        Some(verdict) => Ok(StateOrVerdict::Verdict(verdict)),
     }
 }

@@ -1,14 +1,14 @@
 //! Channels that receive what sources send.
-ghost use Rattle.std.specs.Prelude.{◌≡◌, ◌≤◌, ◌+◌, ◌++◌, [], ◌∷◌, IfOk, IfErr, OnOk, IsOkUnless, nat_lt, true, length, take, Ok, None};
+ghost use Rattle.std.specs.Prelude.{◌≡◌, [], ◌∷◌, IfOk, IfErr, OnOk, IsOkUnless, nat_lt, true, length, Ok, None};
 ghost use Rattle.std.specs.List.{list_all};
 ghost use Rattle.std.specs.FinSet as set;
 ghost use Rattle.gtid_set.specs.declared.fault.SetFault.TheVariants.{Memory};
 ghost use Rattle.auto_position.specs.Sending.{IsRefusal, sent};
-ghost use Rattle.serving.specs.Served.{IsFaultWhere, IsAny, KnowsWith, KnowsToo, CanReceive, CanServe, CanServeEach, LeadsTo};
-ghost use Rattle.serving.specs.Serving.{picked, Receives, coming, Asks, ServesOne, ServesEach, names_of, names_asked};
+ghost use Rattle.serving.specs.Faults.{IsFaultWhere, Knows, KnowsWith, KnowsToo};
+ghost use Rattle.serving.specs.Servable.{CanReceive, CanServe, CanServeEach};
+ghost use Rattle.serving.specs.Serving.{picked, Receives, Asks, ServesOne, ServesEach};
 
 use crate::event::{open_channel, position, receive};
-use crate::working::apply_entries;
 use auto_position::{PositionFault, plan};
 use gtid_set::{GtidSet, SetFault};
 use gtid_text::SourceId;
@@ -18,6 +18,7 @@ use std::alloc::Global;
 use txn_journal::Channel;
 
 /// The entries at these places.
+#[tactic(auto, using(crate::proofs::Sending::picked_more))]
 fn entries_at(alloc: Global, entries: &[Entry], places: &[u64]) -> Result<Vec<Entry>, SetFault>
     requires { list_all (λ p. nat_lt p (length entries.now)) places.now ≡ true }
     ensures found { IfOk result (λ found. found.items ≡ picked entries.now places.now) }
@@ -38,6 +39,7 @@ fn entries_at(alloc: Global, entries: &[Entry], places: &[u64]) -> Result<Vec<En
 
 /// The entries that a journal sends to a replica that asks with a set, in journal order, or why its source refuses.
 /// `own` is the source's own UUID, where it has one. (MySQL 8.0 Reference Manual, "GTID Auto-Positioning".)
+#[tactic(auto, using(crate::proofs::Sending::places_below))]
 pub fn entries_sent(
     alloc: Global,
     own: Option<SourceId>,
@@ -57,37 +59,51 @@ pub fn entries_sent(
 }
 
 /// What a journal sends to a replica that asks with this set, and no source's UUID is known.
+#[tactic(auto, using(crate::proofs::Sending::never_refuses))]
 fn sent_to(alloc: Global, journal: &Journal, asked: &GtidSet) -> Result<Vec<Entry>, SetFault>
+    requires { set.is_subset journal.now.previous asked.now ≡ true }
     ensures ok { IfOk result (λ entries. sent journal.now asked.now None ≡ Ok entries.items) }
-    ensures fault { IfErr result (λ f. IsFaultWhere f IsAny (set.is_subset journal.now.previous asked.now ≡ true)) }
+    ensures fault { IsOkUnless result Memory }
 {
     match entries_sent(alloc, None, journal, asked) {
         Ok(entries) => Ok(entries),
         Err(PositionFault::Set(fault)) => Err(fault),
-        Err(PositionFault::PurgedRequired(_)) => Err(SetFault::PoolFull),
-        Err(PositionFault::ReplicaHasMore(_)) => Err(SetFault::PoolFull),
+        Err(PositionFault::PurgedRequired(_)) => unreachable!(),
+        Err(PositionFault::ReplicaHasMore(_)) => unreachable!(),
     }
 }
 
-/// A channel receives these entries.
-fn receive_all(
+/// When what a channel receives is applied.
+#[derive(Clone, Copy, Drop)]
+pub(crate) enum Apply {
+    /// By whoever takes it afterwards.
+    Later,
+    /// By seat 1, before the next entry is received.
+    AtOnce,
+}
+
+/// A channel receives these entries. Where each is applied before the next is received, only one waits,
+/// whatever their number.
+#[tactic(auto, using(crate::proofs::Runs::receives_none, crate::proofs::Conditions::can_next))]
+fn feed(
     alloc: Global,
     core: &mut Core,
     channel: usize,
     entries: &[Entry],
+    apply: Apply,
 ) -> Result<(), SetFault>
-    ensures site { core.new.site ≡ core.old.site }
-    ensures received { OnOk result (Receives core.old.site core.old.state channel entries.now core.new.state) }
-    ensures named { OnOk result (names_of core.new.state.channels ≡ names_of core.old.state.channels) }
-    ensures fault { IfErr result (λ f. IsFaultWhere f (KnowsWith core.old.state entries.now) (CanReceive core.old.site.schema channel entries.now core.old.state)) }
+    requires { CanReceive channel entries.now core.old }
+    ensures received { OnOk result (Receives apply core.old channel entries.now core.new) }
+    ensures fault { IfErr result (IsFaultWhere (KnowsWith core.old.state entries.now)) }
 {
-    for entry in entries {
-        receive(alloc, core, channel, entry)?;
+    for (place, entry) in entries.iter().enumerate() {
+        receive(alloc, core, channel, place, entry, apply)?;
     }
     Ok(())
 }
 
 /// A channel is opened and positioned: what its journal sends to one that asks so.
+#[tactic(auto, using(crate::proofs::Conditions::none_missing, crate::proofs::Conditions::asks))]
 fn ask_for(
     alloc: Global,
     core: &mut Core,
@@ -95,84 +111,53 @@ fn ask_for(
     channel: &Channel,
     journal: &Journal,
 ) -> Result<Vec<Entry>, SetFault>
-    ensures site { core.new.site ≡ core.old.site }
-    ensures asks { IfOk result (λ entries. Asks core.old.site core.old.state number journal.now entries.items core.new.state) }
-    ensures leads { IfOk result (λ entries. LeadsTo core.old.site.schema number channel.now.name journal.now core.old.state entries.items core.new.state) }
-    ensures fault { IfErr result (λ f. IsFaultWhere f (KnowsToo core.old.state (journal.now ∷ [])) (CanServe core.old.site.schema number channel.now.name journal.now core.old.state)) }
-    ensures named { OnOk result (names_of core.new.state.channels ≡ names_of core.old.state.channels ++ (channel.now.name, channel.now.preserve) ∷ []) }
+    requires { CanServe number channel.now.name journal.now core.old }
+    ensures asks { IfOk result (λ entries. Asks core.old number channel.now journal.now entries.items core.new) }
+    ensures fault { IfErr result (IsFaultWhere (Knows core.old.state)) }
 {
     open_channel(alloc, core, channel)?;
     let asked = position(alloc, core, number)?;
     sent_to(alloc, journal, &asked)
 }
 
-/// When what a channel receives is applied.
-#[derive(Clone, Copy, Drop)]
-pub(crate) enum Work {
-    /// By whoever takes it afterwards.
-    Later,
-    /// By seat 1, before the next entry is received.
-    AtOnce,
-}
-
-/// A channel receives these entries, and applies each before the next if it works at once.
-fn feed(
-    alloc: Global,
-    core: &mut Core,
-    channel: usize,
-    entries: &[Entry],
-    work: Work,
-) -> Result<(), SetFault>
-    ensures site { core.new.site ≡ core.old.site }
-    ensures fed { OnOk result (coming work core.old.site core.old.state channel entries.now core.new.state) }
-    ensures named { OnOk result (names_of core.new.state.channels ≡ names_of core.old.state.channels) }
-    ensures fault { IfErr result (λ f. IsFaultWhere f (KnowsWith core.old.state entries.now) (CanReceive core.old.site.schema channel entries.now core.old.state)) }
-{
-    match work {
-        Work::AtOnce => apply_entries(alloc, core, channel, entries),
-        Work::Later => receive_all(alloc, core, channel, entries),
-    }
-}
-
 /// A channel is opened and positioned, and receives all that its journal sends.
+#[tactic(auto, using(crate::proofs::Conditions::can_receive, crate::proofs::Knowing::sent_fault))]
 fn serve_journal(
     alloc: Global,
     core: &mut Core,
     number: usize,
     channel: &Channel,
     journal: &Journal,
-    work: Work,
+    apply: Apply,
 ) -> Result<(), SetFault>
-    ensures site { core.new.site ≡ core.old.site }
-    ensures served { OnOk result (ServesOne (coming work) core.old.site core.old.state number journal.now core.new.state) }
-    ensures fault { IfErr result (λ f. IsFaultWhere f (KnowsToo core.old.state (journal.now ∷ [])) (CanServe core.old.site.schema number channel.now.name journal.now core.old.state)) }
-    ensures named { OnOk result (names_of core.new.state.channels ≡ names_of core.old.state.channels ++ (channel.now.name, channel.now.preserve) ∷ []) }
+    requires { CanServe number channel.now.name journal.now core.old }
+    ensures served { OnOk result (ServesOne apply core.old number channel.now journal.now core.new) }
+    ensures fault { IfErr result (IsFaultWhere (KnowsToo core.old.state (journal.now ∷ []))) }
 {
     let entries = ask_for(alloc, core, number, channel, journal)?;
-    feed(alloc, core, number, &entries, work)
+    feed(alloc, core, number, &entries, apply)
 }
 
 /// Each journal in turn, on a channel of its own; the first has this number.
+#[tactic(auto, using(crate::proofs::Conditions::serve_rest, crate::proofs::Runs::serves_more, crate::proofs::Knowing::first_fault, crate::proofs::Knowing::rest_fault))]
 pub(crate) fn serve_journals(
     alloc: Global,
     core: &mut Core,
     number: usize,
     channels: &[Channel],
     journals: &[Journal],
-    work: Work,
+    apply: Apply,
 ) -> Result<(), SetFault>
-    requires { number + length journals.now ≤ 256 }
-    ensures site { core.new.site ≡ core.old.site }
-    ensures served { OnOk result (ServesEach (coming work) core.old.site core.old.state number journals.now core.new.state) }
-    ensures fault { IfErr result (λ f. IsFaultWhere f (KnowsToo core.old.state journals.now) (CanServeEach core.old.site.schema number channels.now journals.now core.old.state)) }
-    ensures named { OnOk result (names_of core.new.state.channels ≡ names_of core.old.state.channels ++ names_asked (take (length journals.now) channels.now)) }
+    requires { CanServeEach number channels.now journals.now core.old }
+    ensures served { OnOk result (ServesEach apply core.old number channels.now journals.now core.new) }
+    ensures fault { IfErr result (IsFaultWhere (KnowsToo core.old.state journals.now)) }
 {
     let Some((journal, others)) = journals.split_first() else {
         return Ok(());
     };
     let Some((channel, rest)) = channels.split_first() else {
-        return Err(SetFault::PoolFull);
+        unreachable!()
     };
-    serve_journal(alloc, core, number, channel, journal, work)?;
-    serve_journals(alloc, core, number + 1, rest, others, work)
+    serve_journal(alloc, core, number, channel, journal, apply)?;
+    serve_journals(alloc, core, number + 1, rest, others, apply)
 }

@@ -1,54 +1,55 @@
-//! One seat applies what channels receive, as it comes.
-ghost use Rattle.std.specs.Prelude.{◌≡◌, IfErr, OnOk};
-ghost use Rattle.replica_core.specs.Draining.{NothingIsOwned, AreStoppedOrDone};
-ghost use Rattle.serving.specs.Served.{IsFaultWhere, Knows, KnowsWith, CanReceive};
-ghost use Rattle.serving.specs.Serving.{Works, ReceivesAtWork, names_of};
+//! One seat applies what is left.
+ghost use Rattle.std.specs.Prelude.{◌≡◌, true, false, IfErr, OnOk, IsOkUnless};
+ghost use Rattle.gtid_set.specs.declared.fault.SetFault.TheVariants.{Memory};
+ghost use Rattle.replica_core.specs.Draining.{NothingIsOwned, IsWaiting, IsSettledAt, AreStoppedOrDone};
+ghost use Rattle.serving.specs.Faults.{IsFaultWhere, Knows};
+ghost use Rattle.serving.specs.Serving.{Applies};
 ghost use Rattle.serving.specs.Working.{Settles, Finishes};
+ghost use Rattle.serving.specs.declared.receiving.Apply.TheVariants.{AtOnce};
 
-use crate::event::receive_at_work;
 use gtid_set::SetFault;
-use journal::Entry;
 use replica_core::{Core, Event};
 use std::alloc::Global;
 
-/// Seat 1 takes a place and commits it, where that is left to do.
-fn work_at(alloc: Global, core: &mut Core, channel: usize, place: usize) -> Result<(), SetFault>
-    ensures site { core.new.site ≡ core.old.site }
-    ensures works { OnOk result (Works core.old.site core.old.state core.new.state) }
-    ensures settles { OnOk result (Settles channel place core.old.state core.new.state) }
-    ensures fault { IfErr result (λ f. IsFaultWhere f (Knows core.old.state) (Unit {0})) }
+/// Whether the GTID at a place is not executed, and its channel not stopped.
+fn is_waiting(core: &Core, channel: usize, place: usize) -> bool
+    ensures open { result ≡ true → IsWaiting place channel core.now.state }
+    ensures shut { result ≡ false → IsSettledAt place channel core.now.state }
 {
+    let Some(one) = core.channel(channel) else {
+        return false;
+    };
+    if one.stopped() {
+        return false;
+    }
+    match one.entry(place) {
+        Some((gtid, _)) => !core.executed().contains(&gtid),
+        None => false,
+    }
+}
+
+/// Seat 1 takes a place and commits it, where that is left to do.
+#[tactic(auto, using(crate::proofs::Runs::applies_none, crate::proofs::Settling::settles_none))]
+fn work_at(alloc: Global, core: &mut Core, channel: usize, place: usize) -> Result<(), SetFault>
+    ensures applies { OnOk result (Applies AtOnce core.old core.new) }
+    ensures settles { OnOk result (Settles channel place core.old.state core.new.state) }
+    ensures fault { IfErr result (IsFaultWhere (Knows core.old.state)) }
+{
+    if !is_waiting(core, channel, place) {
+        return Ok(());
+    }
     core.entries_are_kept();
     core.step(alloc, &Event::Take(1, channel, place))?;
     core.step(alloc, &Event::Commit(1))?;
     Ok(())
 }
 
-/// A channel receives these entries, and each is applied before the next is received: so only one waits,
-/// whatever their number.
-pub(crate) fn apply_entries(
-    alloc: Global,
-    core: &mut Core,
-    channel: usize,
-    entries: &[Entry],
-) -> Result<(), SetFault>
-    ensures site { core.new.site ≡ core.old.site }
-    ensures applied { OnOk result (ReceivesAtWork core.old.site core.old.state channel entries.now core.new.state) }
-    ensures named { OnOk result (names_of core.new.state.channels ≡ names_of core.old.state.channels) }
-    ensures fault { IfErr result (λ f. IsFaultWhere f (KnowsWith core.old.state entries.now) (CanReceive core.old.site.schema channel entries.now core.old.state)) }
-{
-    for (place, entry) in entries.iter().enumerate() {
-        receive_at_work(alloc, core, channel, place, entry)?;
-    }
-    Ok(())
-}
-
 /// The places of a channel, in order.
+#[tactic(auto, using(crate::proofs::Runs::applies_none, crate::proofs::Runs::applies_more, crate::proofs::Settling::finishes_none, crate::proofs::Settling::finishes_more))]
 fn work_on(alloc: Global, core: &mut Core, channel: usize, places: usize) -> Result<(), SetFault>
-    ensures site { core.new.site ≡ core.old.site }
-    ensures works { OnOk result (Works core.old.site core.old.state core.new.state) }
+    ensures applies { OnOk result (Applies AtOnce core.old core.new) }
     ensures finishes { OnOk result (Finishes channel places core.old.state core.new.state) }
-    ensures fault { IfErr result (λ f. IsFaultWhere f (Knows core.old.state) (Unit {0})) }
+    ensures fault { IfErr result (IsFaultWhere (Knows core.old.state)) }
 {
     for place in 0..places {
         work_at(alloc, core, channel, place)?;
@@ -57,11 +58,11 @@ fn work_on(alloc: Global, core: &mut Core, channel: usize, places: usize) -> Res
 }
 
 /// All channels, in order.
+#[tactic(auto, using(crate::proofs::Runs::applies_none))]
 fn work_on_all(alloc: Global, core: &mut Core) -> Result<(), SetFault>
-    ensures site { core.new.site ≡ core.old.site }
-    ensures works { OnOk result (Works core.old.site core.old.state core.new.state) }
+    ensures applies { OnOk result (Applies AtOnce core.old core.new) }
     ensures ends { OnOk result (NothingIsOwned core.old.state → AreStoppedOrDone core.new.state) }
-    ensures fault { IfErr result (λ f. IsFaultWhere f (Knows core.old.state) (Unit {0})) }
+    ensures fault { IfErr result (IsFaultWhere (Knows core.old.state)) }
 {
     for channel in 0..usize::MAX {
         let Some(count) = core.places(channel) else {
@@ -75,10 +76,9 @@ fn work_on_all(alloc: Global, core: &mut Core) -> Result<(), SetFault>
 
 /// Each seat gives up what it has taken.
 fn free_all(alloc: Global, core: &mut Core) -> Result<(), SetFault>
-    ensures site { core.new.site ≡ core.old.site }
-    ensures works { OnOk result (Works core.old.site core.old.state core.new.state) }
+    ensures applies { OnOk result (Applies AtOnce core.old core.new) }
     ensures rests { OnOk result (NothingIsOwned core.new.state) }
-    ensures fault { IfErr result (λ f. IsFaultWhere f (Knows core.old.state) (Unit {0})) }
+    ensures fault { IsOkUnless result Memory }
 {
     for seat in 1..65u8 {
         core.one_seat_each();
@@ -90,13 +90,11 @@ fn free_all(alloc: Global, core: &mut Core) -> Result<(), SetFault>
 
 /// One seat applies what is left, if anything is: each channel is stopped then, or all that it received is
 /// executed.
-#[tactic(auto, using(crate::proofs::Runs::works_none, crate::proofs::Runs::drained_done))]
+#[tactic(auto, using(crate::proofs::Runs::applies_none, crate::proofs::Runs::drained_done, crate::proofs::Runs::applies_more, crate::proofs::Knowing::later_fault))]
 pub(crate) fn finish(alloc: Global, core: &mut Core) -> Result<(), SetFault>
-    ensures site { core.new.site ≡ core.old.site }
-    ensures works { OnOk result (Works core.old.site core.old.state core.new.state) }
+    ensures applies { OnOk result (Applies AtOnce core.old core.new) }
     ensures ends { OnOk result (AreStoppedOrDone core.new.state) }
-    ensures named { OnOk result (names_of core.new.state.channels ≡ names_of core.old.state.channels) }
-    ensures fault { IfErr result (λ f. IsFaultWhere f (Knows core.old.state) (Unit {0})) }
+    ensures fault { IfErr result (IsFaultWhere (Knows core.old.state)) }
 {
     if core.drained() {
         return Ok(());

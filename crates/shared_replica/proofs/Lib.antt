@@ -1,4 +1,3 @@
-pub mod Equals
 pub mod Replays
 pub mod Quiet
 pub mod Spares

@@ -4,6 +4,5 @@ pub mod Faults
 pub mod Preparing
 pub mod Closing
 pub mod Spare
-pub mod Forms
 pub mod Naming
 pub mod Drafts

@@ -1,10 +1,12 @@
 -- What a pass holds, and what a call tells it.
-use Rattle.std.specs.Prelude.{◌≡◌, ℕ, ◌+◌, List, [], ◌∷◌, ◌++◌}
+use Rattle.std.specs.Prelude.{◌≡◌, ℕ, ◌+◌, List, [], ◌∷◌, ◌++◌, Result, MatchResult}
 use Rattle.commit_ledger.specs.Tallies.{one_if}
+use Rattle.gtid_set.specs.declared.fault.SetFault.{SetFault}
 use Rattle.replica_core.specs.State.{Replica}
 use Rattle.replica_core.specs.declared.event.Event.{Event}
 use Rattle.replica_core.specs.declared.event.Reply.{Reply}
 use Rattle.shared_replica.specs.declared.step.Receipt.{Receipt}
+use Rattle.shared_replica.specs.Faults.{IsFaultFor}
 use Rattle.shared_replica.specs.History.{line, is_commit}
 
 -- the seat, what its share has counted, and its receipts
@@ -28,6 +30,10 @@ told place event reply p =
 -- the pass after a call that made this event and was answered so: one step more in its share, and one receipt
 abbrev pub IsTold : PassValue → Event → Reply → PassValue → Type 0
 IsTold old event reply new = (place : ℕ) × (new ≡ told place event reply old)
+
+-- a call that makes this event: the pass is told of the reply; or the pass is as it was, and the fault is one that the event may have
+abbrev pub Makes : Event → PassValue → Result Reply SetFault → PassValue → Type 0
+Makes event old result new = MatchResult result (λ reply. IsTold old event reply new) (λ fault. (new ≡ old) × IsFaultFor event fault)
 
 -- the core that was handed in, and the number of seats
 pub record SharedValue : Type 0 where

@@ -1,12 +1,11 @@
 //! A replica that threads share.
-ghost use Rattle.std.specs.Prelude.{◌≡◌, ℕ, ◌+◌, ◌<◌, ◌≤◌, true, [], IfOk, IfErr, IfSome, OnErr, vec_len, slice_index_or};
+ghost use Rattle.std.specs.Prelude.{◌≡◌, ℕ, ◌+◌, ◌<◌, ◌≤◌, true, [], IfOk, IfErr, IfSome, vec_len, slice_index_or};
 ghost use Rattle.std.specs.Vec.{vec_capacity};
 ghost use Rattle.commit_ledger.specs.Tallies.{no_tally, unused};
 ghost use Rattle.journal.specs.Writing.{is_number};
 ghost use Rattle.replica_core.specs.declared.event.Event.TheVariants.{OpenChannel, Position, Receive, Take, Commit, Rollback, Restart, Local, Purge, Look};
 ghost use Rattle.replica_core.specs.Machine.{is_numbered};
-ghost use Rattle.shared_replica.specs.Faults.{IsFaultFor};
-ghost use Rattle.shared_replica.specs.Passes.{fresh, IsTold};
+ghost use Rattle.shared_replica.specs.Passes.{fresh, Makes};
 ghost use Rattle.shared_replica.specs.Preparing.{MayPrepare};
 ghost use Rattle.shared_replica.specs.Closing.{IsClosed};
 
@@ -157,12 +156,9 @@ impl<N: Naming> SharedReplica<N> {
         name: Name,
         preserve: bool,
     ) -> Result<Reply, SetFault>
-        ensures ok { IfOk result (λ r. IsTold pass.old (OpenChannel name preserve) r pass.new) }
-        ensures err { OnErr result (pass.new ≡ pass.old) }
-        ensures fault { IfErr result (IsFaultFor (OpenChannel name preserve)) }
+        ensures { Makes (OpenChannel name preserve) pass.old result pass.new }
     {
-        let event = Event::OpenChannel(name, preserve);
-        self.make(rt, alloc, pass, event, None)
+        self.make(rt, alloc, Event::OpenChannel(name, preserve), None, pass)
     }
 
     /// Asks for the set with which a channel goes to its source. ("GTID Auto-Positioning")
@@ -173,12 +169,9 @@ impl<N: Naming> SharedReplica<N> {
         pass: &mut Pass<N>,
         channel: usize,
     ) -> Result<Reply, SetFault>
-        ensures ok { IfOk result (λ r. IsTold pass.old (Position channel) r pass.new) }
-        ensures err { OnErr result (pass.new ≡ pass.old) }
-        ensures fault { IfErr result (IsFaultFor (Position channel)) }
+        ensures { Makes (Position channel) pass.old result pass.new }
     {
-        let event = Event::Position(channel);
-        self.make(rt, alloc, pass, event, None)
+        self.make(rt, alloc, Event::Position(channel), None, pass)
     }
 
     /// A channel receives an entry. Its number is 1 to 9223372036854775807.
@@ -191,12 +184,9 @@ impl<N: Naming> SharedReplica<N> {
         entry: Entry,
     ) -> Result<Reply, SetFault>
         requires { is_number entry.gtid.number ≡ true }
-        ensures ok { IfOk result (λ r. IsTold pass.old (Receive channel entry) r pass.new) }
-        ensures err { OnErr result (pass.new ≡ pass.old) }
-        ensures fault { IfErr result (IsFaultFor (Receive channel entry)) }
+        ensures { Makes (Receive channel entry) pass.old result pass.new }
     {
-        let event = Event::Receive(channel, entry);
-        self.make(rt, alloc, pass, event, None)
+        self.make(rt, alloc, Event::Receive(channel, entry), None, pass)
     }
 
     /// The seat takes the transaction at a place of a channel.
@@ -208,12 +198,15 @@ impl<N: Naming> SharedReplica<N> {
         channel: usize,
         place: usize,
     ) -> Result<Reply, SetFault>
-        ensures ok { IfOk result (λ r. IsTold pass.old (Take pass.old.seat channel place) r pass.new) }
-        ensures err { OnErr result (pass.new ≡ pass.old) }
-        ensures fault { IfErr result (IsFaultFor (Take pass.old.seat channel place)) }
+        ensures { Makes (Take pass.old.seat channel place) pass.old result pass.new }
     {
-        let event = Event::Take(pass.seat(), channel, place);
-        self.make(rt, alloc, pass, event, None)
+        self.make(
+            rt,
+            alloc,
+            Event::Take(pass.seat(), channel, place),
+            None,
+            pass,
+        )
     }
 
     /// The seat commits what it took.
@@ -223,12 +216,9 @@ impl<N: Naming> SharedReplica<N> {
         alloc: Global,
         pass: &mut Pass<N>,
     ) -> Result<Reply, SetFault>
-        ensures ok { IfOk result (λ r. IsTold pass.old (Commit pass.old.seat) r pass.new) }
-        ensures err { OnErr result (pass.new ≡ pass.old) }
-        ensures fault { IfErr result (IsFaultFor (Commit pass.old.seat)) }
+        ensures { Makes (Commit pass.old.seat) pass.old result pass.new }
     {
-        let event = Event::Commit(pass.seat());
-        self.make(rt, alloc, pass, event, None)
+        self.make(rt, alloc, Event::Commit(pass.seat()), None, pass)
     }
 
     /// The seat commits what it took, by a patch that was prepared without the lock. The patch is spent
@@ -240,12 +230,9 @@ impl<N: Naming> SharedReplica<N> {
         pass: &mut Pass<N>,
         patch: Patch,
     ) -> Result<Reply, SetFault>
-        ensures ok { IfOk result (λ r. IsTold pass.old (Commit pass.old.seat) r pass.new) }
-        ensures err { OnErr result (pass.new ≡ pass.old) }
-        ensures fault { IfErr result (IsFaultFor (Commit pass.old.seat)) }
+        ensures { Makes (Commit pass.old.seat) pass.old result pass.new }
     {
-        let event = Event::Commit(pass.seat());
-        self.make(rt, alloc, pass, event, Some(patch))
+        self.make(rt, alloc, Event::Commit(pass.seat()), Some(patch), pass)
     }
 
     /// The seat gives up what it took.
@@ -255,12 +242,9 @@ impl<N: Naming> SharedReplica<N> {
         alloc: Global,
         pass: &mut Pass<N>,
     ) -> Result<Reply, SetFault>
-        ensures ok { IfOk result (λ r. IsTold pass.old (Rollback pass.old.seat) r pass.new) }
-        ensures err { OnErr result (pass.new ≡ pass.old) }
-        ensures fault { IfErr result (IsFaultFor (Rollback pass.old.seat)) }
+        ensures { Makes (Rollback pass.old.seat) pass.old result pass.new }
     {
-        let event = Event::Rollback(pass.seat());
-        self.make(rt, alloc, pass, event, None)
+        self.make(rt, alloc, Event::Rollback(pass.seat()), None, pass)
     }
 
     /// A stopped channel goes on.
@@ -271,12 +255,9 @@ impl<N: Naming> SharedReplica<N> {
         pass: &mut Pass<N>,
         channel: usize,
     ) -> Result<Reply, SetFault>
-        ensures ok { IfOk result (λ r. IsTold pass.old (Restart channel) r pass.new) }
-        ensures err { OnErr result (pass.new ≡ pass.old) }
-        ensures fault { IfErr result (IsFaultFor (Restart channel)) }
+        ensures { Makes (Restart channel) pass.old result pass.new }
     {
-        let event = Event::Restart(channel);
-        self.make(rt, alloc, pass, event, None)
+        self.make(rt, alloc, Event::Restart(channel), None, pass)
     }
 
     /// A transaction of the server's own.
@@ -287,12 +268,9 @@ impl<N: Naming> SharedReplica<N> {
         pass: &mut Pass<N>,
         changes: Transaction,
     ) -> Result<Reply, SetFault>
-        ensures ok { IfOk result (λ r. IsTold pass.old (Local changes) r pass.new) }
-        ensures err { OnErr result (pass.new ≡ pass.old) }
-        ensures fault { IfErr result (IsFaultFor (Local changes)) }
+        ensures { Makes (Local changes) pass.old result pass.new }
     {
-        let event = Event::Local(changes);
-        self.make(rt, alloc, pass, event, None)
+        self.make(rt, alloc, Event::Local(changes), None, pass)
     }
 
     /// This many of the own journal's first entries are purged.
@@ -303,12 +281,9 @@ impl<N: Naming> SharedReplica<N> {
         pass: &mut Pass<N>,
         count: usize,
     ) -> Result<Reply, SetFault>
-        ensures ok { IfOk result (λ r. IsTold pass.old (Purge count) r pass.new) }
-        ensures err { OnErr result (pass.new ≡ pass.old) }
-        ensures fault { IfErr result (IsFaultFor (Purge count)) }
+        ensures { Makes (Purge count) pass.old result pass.new }
     {
-        let event = Event::Purge(count);
-        self.make(rt, alloc, pass, event, None)
+        self.make(rt, alloc, Event::Purge(count), None, pass)
     }
 
     /// Asks for the executed set.
@@ -318,12 +293,9 @@ impl<N: Naming> SharedReplica<N> {
         alloc: Global,
         pass: &mut Pass<N>,
     ) -> Result<Reply, SetFault>
-        ensures ok { IfOk result (λ r. IsTold pass.old Look r pass.new) }
-        ensures err { OnErr result (pass.new ≡ pass.old) }
-        ensures fault { IfErr result (IsFaultFor Look) }
+        ensures { Makes Look pass.old result pass.new }
     {
-        let event = Event::Look;
-        self.make(rt, alloc, pass, event, None)
+        self.make(rt, alloc, Event::Look, None, pass)
     }
 }
 
@@ -333,14 +305,12 @@ impl<N: Naming> SharedReplica<N> {
         &self,
         rt: &R,
         alloc: Global,
-        pass: &mut Pass<N>,
         event: Event,
         patch: Option<Patch>,
+        pass: &mut Pass<N>,
     ) -> Result<Reply, SetFault>
         requires { is_numbered event ≡ true }
-        ensures ok { IfOk result (λ r. IsTold pass.old event r pass.new) }
-        ensures err { OnErr result (pass.new ≡ pass.old) }
-        ensures fault { IfErr result (IsFaultFor event) }
+        ensures { Makes event pass.old result pass.new }
     {
         self.book.lock(rt).make(alloc, &event, patch, pass)
     }

@@ -1,30 +1,47 @@
--- Sources, GTIDs and sets: what is read is spelled so, and what is spelled so is read.
-use Rattle.std.proofs.Common.{◌≡◌, ℕ, zero, suc, ◌+◌, ◌*◌, ◌^◌, ◌<◌, Bool, true, false, cond, eqb, not, List, [], ◌∷◌, ◌++◌, length, get_or, Option, Some, None, Result, Ok, Err, refl, ap, subst, arith, inl, inr}
-use Rattle.std.specs.Prelude.{◌&&◌, ◌||◌, decimal, option_map}
+-- Sources, GTIDs and sets as words: what is read is spelled so, and what is spelled so is read.
+use Rattle.std.proofs.Common.{◌≡◌, ℕ, zero, suc, ◌+◌, ◌*◌, ◌^◌, ◌<◌, Bool, true, false, cond, eqb, not, List, [], ◌∷◌, ◌++◌, length, get_or, Option, Some, None, Result, Ok, Err, refl, ap, subst, arith, inl, inr, ◌≤◌, leb, sym, ◌∙◌}
+use Rattle.std.specs.Prelude.{◌&&◌, ◌||◌, decimal, option_map, codes}
 use Rattle.std.specs.List.{list_all}
 use Rattle.std.specs.Char.{is_ascii_digit}
 use Rattle.std.specs.Int.{w128, from_be_bytes}
-use Rattle.std.proofs.lemmas.Bool.{and_parts}
+use Rattle.std.proofs.lemmas.Bool.{and_parts, le-leb, false_from_ne_true}
 use Rattle.std.proofs.lemmas.Bool.Decides.{nat_tests}
 use Rattle.std.proofs.lemmas.Fmt.{digits_decimal}
 use Rattle.uuid.specs.Text.{by_index, is_hex_digit, value_of, byte_of_digits, digits_of, parsed_hyphenated, parsed_simple, has_hyphens}
 use Rattle.gtid_text.specs.declared.Gtid.{Gtid}
 use Rattle.gtid_text.specs.declared.scan.Refusal.{Refusal}
 use Rattle.gtid_text.specs.Scan.{is_uuid_byte, source_of}
-use Rattle.gtid_text.specs.Reading.{gtid_in}
-use Rattle.gtid_text.specs.Grammar.{SpellsGtid}
-use Rattle.gtid_text.specs.Written.{IsSource, IsUsable, IsSpaced, gtid_tokens}
-use Rattle.gtid_text.specs.Canonical.{source_text, gtid_text}
+use Rattle.gtid_text.specs.Reading.{gtid_in, spans_in, turn_at, element_at}
+use Rattle.gtid_text.specs.Grammar.{SpellsGtid, Number, Interval, Element, IsNumber, IsUpper, IsInterval, AreIntervals, IsElement, AreElements, Spells}
+use Rattle.gtid_text.specs.Written.{IsSource, IsUsable, IsSpaced, gtid_tokens, IsNumbered, IsUsableSpan, AreUsable, spans_tokens}
+use Rattle.gtid_text.specs.Canonical.{source_text, gtid_text, numbers_text, span_text, next_text, text_behind, spans_text}
 use Rattle.gtid_text.proofs.RoundTrip.{source_bytes}
-use Rattle.gtid_text.proofs.Shown.{gtid_shown, joined_gtid, spaced_joined}
+use Rattle.gtid_text.proofs.Shown.{gtid_shown, joined_gtid, spaced_joined, spans_shown, joined_spans}
 use Rattle.gtid_text.proofs.Single.{gtid_reads_back, gtid_spelled}
-use Rattle.gtid_set.proofs.SpanLemmas.{all_weaker}
-use Rattle.journal_words.specs.Gtids.{is_ascii_byte, same_or_none, if_ascii, gtid_of_word}
+use Rattle.gtid_set.proofs.SpanLemmas.{all_weaker, before_trans}
+use Rattle.journal_words.specs.Gtids.{is_ascii_byte, same_or_none, if_ascii, gtid_of_word, are_tidy_behind, some_tidy, tidy_or_none, spans_of_word, set_with, set_of_word}
 use Rattle.journal_words.proofs.ValueLaws.{where_same-again, where_same-found}
 use Rattle.std.proofs.lemmas.Option.{same_Some}
 use Rattle.gtid_text.proofs.Tokens.{own}
 use Rattle.gtid_text.proofs.Turns.{chosen}
 use Rattle.gtid_set.proofs.RoundTrip.{numbered}
+use Rattle.std.specs.FinSet as set
+use Rattle.std.specs.Str.{bytes_eq}
+use Rattle.std.proofs.lemmas.Slice.Eq.{bytes_eq-Decides}
+use Rattle.gtid_text.specs.declared.Span.{Span}
+use Rattle.gtid_text.proofs.Found.{read_spells}
+use Rattle.gtid_text.proofs.Spelled.{spells_read}
+use Rattle.gtid_set.specs.Sets.{Gtids, interval}
+use Rattle.gtid_set.specs.Spans.{set_of, is_before, is_merged}
+use Rattle.gtid_set.proofs.SetLemmas.{same_members, union_empty}
+use Rattle.gtid_set.specs.Runs.{runs}
+use Rattle.gtid_set.proofs.RunLemmas.{runs_merged}
+use Rattle.journal_words.specs.Values.{where_same}
+use Rattle.txn_journal.specs.WrittenSets.{spans_word, set_text, IsWrittenSet}
+use Rattle.journal_words.proofs.Counts.{lacks}
+use Rattle.gtid_text.proofs.SameGtid.{gtid_total}
+use Rattle.gtid_set.proofs.LawLemmas.{union_swap}
+use Rattle.rows.proofs.Lists.{map_some}
 
 -- ---- a source is a number of 128 bits
 
@@ -129,3 +146,179 @@ gtid_again g u =
     let read : gtid_in (gtid_text g) ≡ Ok g = gtid_reads_back (gtid_text g) g (gtid_shown g u (gtid_text g) spaced) in
     let ascii : list_all is_ascii_byte (gtid_text g) ≡ true = all_weaker is_set_byte is_ascii_byte (gtid_text g) set_ascii (gtid_set_bytes g u) in
     rw (ascii, read) (where_same-again gtid_text g)
+
+-- ---- what a text spells is usable
+
+usable_append : (xs ys : List Span) → AreUsable xs → AreUsable ys → AreUsable (xs ++ ys)
+usable_append [] ys a b = b
+usable_append (x ∷ xs) ys a b = (a.0, usable_append xs ys a.1 b)
+
+number_is : (n : Number) (value : ℕ) → IsNumber n value → IsNumbered value
+number_is n value h = numbered n.digits value h.spells
+
+upper_is : (u : Option (List ℕ × Number)) (s : Span) → IsUpper u s → IsNumbered s.lo → IsNumbered s.hi × (s.lo ≤ s.hi)
+upper_is None s h low = (subst IsNumbered (sym h) low, omega (arith, h))
+upper_is (Some u) s h low = (number_is u.1 s.hi h.1, h.2)
+
+interval_is : (i : Interval) (id : ℕ) (s : Span) → IsSource id → IsInterval i id s → IsUsableSpan s
+interval_is i id s fits h =
+    let low = number_is i.lo s.lo h.lo in
+    let up = upper_is i.upper s h.upper low in
+    record { source = subst IsSource (sym h.source) fits; low = low; high = up.0; ordered = up.1 }
+
+intervals_are : (id : ℕ) (ps : List (List ℕ × Interval)) (ss : List Span) → IsSource id → AreIntervals id ps ss → AreUsable ss
+intervals_are id [] [] fits h = tt
+intervals_are id [] (s ∷ ss) fits h = absurd h
+intervals_are id (p ∷ ps) [] fits h = tt
+intervals_are id (p ∷ ps) (s ∷ ss) fits h = (interval_is p.1 id s fits h.1, intervals_are id ps ss fits h.2)
+
+element_is : (e : Element) (ss : List Span) → IsElement e ss → AreUsable ss
+element_is (None, gap) ss h = subst AreUsable (sym h.1) tt
+element_is (Some n, gap) ss h = intervals_are h.1.id (n.first ∷ n.more) ss (source_small n.uuid h.1.id h.1.uuid) h.1.intervals
+
+elements_are : (es : List Element) (ss : List Span) → AreElements es ss → AreUsable ss
+elements_are [] ss h = subst AreUsable (sym h) tt
+elements_are (e ∷ es) ss h = subst AreUsable (sym h.2) (usable_append h.0 h.1 (element_is e h.0 h.3) (elements_are es h.1 h.4))
+
+-- ---- tidy intervals are a merged list
+
+all_behind : (s : Span) (ss : List Span) → are_tidy_behind (Some s) ss ≡ true → AreUsable ss → list_all (is_before s) ss ≡ true
+all_behind s [] e u = refl
+all_behind s (t ∷ ts) e u =
+    let p = and_parts (is_before s t) (are_tidy_behind (Some t) ts) e in
+    rw p.0 (all_weaker (is_before t) (is_before s) ts (λ v c. before_trans s t v p.0 (le-leb _ _ u.0.ordered) c) (all_behind t ts p.1 u.1))
+
+tidy_merged : (s : Span) (ss : List Span) → are_tidy_behind (Some s) ss ≡ true → AreUsable (s ∷ ss) → is_merged (s ∷ ss) ≡ true
+tidy_merged s [] e u = rw (le-leb _ _ u.0.ordered) refl
+tidy_merged s (t ∷ ts) e u =
+    let p = and_parts (is_before s t) (are_tidy_behind (Some t) ts) e in
+    rw (le-leb _ _ u.0.ordered, all_behind s (t ∷ ts) e u.1) (tidy_merged t ts p.1 u.1)
+
+merged_tidy : (s : Span) (ss : List Span) → is_merged (s ∷ ss) ≡ true → are_tidy_behind (Some s) ss ≡ true
+merged_tidy s [] e = refl
+merged_tidy s (t ∷ ts) e =
+    let p = and_parts (leb s.lo s.hi) (list_all (is_before s) (t ∷ ts) && is_merged (t ∷ ts)) e in
+    let q = and_parts (list_all (is_before s) (t ∷ ts)) (is_merged (t ∷ ts)) p.1 in
+    rw (and_parts (is_before s t) (list_all (is_before s) ts) q.0).0 (merged_tidy t ts q.1)
+
+-- ---- the set of intervals, one after another
+
+or_turned : (a b c : Bool) → ((a || b) || c) ≡ (a || (c || b))
+or_turned a b c = grind arith
+
+turned : (s t u : Gtids) → set.union (set.union s t) u ≡ set.union s (set.union u t)
+turned s t u = same_members _ _ (λ g.
+    set.contains-union gtid_total (set.union s t) u g
+    ∙ ap (λ b. b || set.contains u g) (set.contains-union gtid_total s t g)
+    ∙ or_turned (set.contains s g) (set.contains t g) (set.contains u g)
+    ∙ sym (set.contains-union gtid_total s (set.union u t) g ∙ ap (λ b. set.contains s g || b) (set.contains-union gtid_total u t g)))
+
+none_before : (s : Gtids) → set.union set.empty s ≡ s
+none_before s = union_swap set.empty s ∙ sym (union_empty s)
+
+with_all : (s : Gtids) (ts : List Span) → set_with s ts ≡ set.union s (set_of ts)
+with_all s [] = union_empty s
+with_all s (t ∷ ts) = with_all (set.union s (interval t.source t.lo t.hi)) ts ∙ turned s (interval t.source t.lo t.hi) (set_of ts)
+
+pub with_none : (ts : List Span) → set_with set.empty ts ≡ set_of ts
+with_none ts = with_all set.empty ts ∙ none_before (set_of ts)
+
+-- ---- the bytes of the text
+
+numbers_set : (lo hi : ℕ) → lo < 2 ^ 64 → hi < 2 ^ 64 → list_all is_set_byte (numbers_text lo hi) ≡ true
+numbers_set lo hi a b = elim (eqb lo hi) as (λ v. list_all is_set_byte (cond v (decimal lo) (decimal lo ++ 45 ∷ decimal hi)) ≡ true) [
+  | true ↦ decimal_set lo a
+  | false ↦ joins is_set_byte (decimal lo) (45 ∷ decimal hi) (decimal_set lo a) (decimal_set hi b)
+]
+
+span_set : (s : Span) → IsUsableSpan s → list_all is_set_byte (span_text s) ≡ true
+span_set s u = joins is_set_byte (source_text s.source) (58 ∷ numbers_text s.lo s.hi) (source_set s.source) (numbers_set s.lo s.hi (omega (arith, u.low.1)) (omega (arith, u.high.1)))
+
+next_set : (before : Option ℕ) (s : Span) → IsUsableSpan s → list_all is_set_byte (next_text before s) ≡ true
+next_set None s u = span_set s u
+next_set (Some id) s u = elim (eqb id s.source) as (λ v. list_all is_set_byte (cond v (58 ∷ numbers_text s.lo s.hi) (44 ∷ span_text s)) ≡ true) [
+  | true ↦ numbers_set s.lo s.hi (omega (arith, u.low.1)) (omega (arith, u.high.1))
+  | false ↦ span_set s u
+]
+
+behind_set : (before : Option ℕ) (ss : List Span) → AreUsable ss → list_all is_set_byte (text_behind before ss) ≡ true
+behind_set before [] u = refl
+behind_set before (s ∷ ss) u = joins is_set_byte (next_text before s) (text_behind (Some s.source) ss) (next_set before s u.0) (behind_set (Some s.source) ss u.1)
+
+-- ---- the intervals of a word
+
+record SpansFound (w : List ℕ) (ss : List Span) : Type 0 where
+  text : w ≡ spans_word ss
+  merged : is_merged ss ≡ true
+  usable : AreUsable ss
+
+tidy_found : (w : List ℕ) (us ss : List Span) → spans_in w ≡ Ok us → some_tidy w us ≡ Some ss → SpansFound w ss
+tidy_found w [] ss read e = absurd cc
+tidy_found w (u ∷ us) ss read e =
+    elim (chosen (are_tidy_behind None (u ∷ us)) (where_same spans_text w (u ∷ us)) None (Some ss) e) [
+      | inl p ↦
+          let f = where_same-found spans_text w (u ∷ us) ss p.1 in
+          let spelt : Spells w (u ∷ us) = read_spells w (u ∷ us) read in
+          let usable = elements_are spelt.elements (u ∷ us) spelt.says in
+          subst (SpansFound w) f.1 (record { text = f.0 ∙ ap spans_text (sym f.1); merged = tidy_merged u us p.0 usable; usable = usable })
+      | inr p ↦ absurd cc
+    ]
+
+read_tidy : (w : List ℕ) (r : Result (List Span) Refusal) (ss : List Span) → spans_in w ≡ r → tidy_or_none w r ≡ Some ss → SpansFound w ss
+read_tidy w (Ok us) ss read e = tidy_found w us ss read e
+read_tidy w (Err x) ss read e = absurd cc
+
+spans_found : (w : List ℕ) (ss : List Span) → spans_of_word w ≡ Some ss → SpansFound w ss
+spans_found w ss e =
+    elim (chosen (bytes_eq w (codes "-")) (Some []) (if_ascii w (tidy_or_none w (spans_in w))) (Some ss) e) [
+      | inl p ↦ subst (SpansFound w) (same_Some [] ss p.1) (record { text = (bytes_eq-Decides w (codes "-")).0 p.0; merged = refl; usable = tt })
+      | inr p ↦ read_tidy w (spans_in w) ss refl (ascii_found w (tidy_or_none w (spans_in w)) ss p.1)
+    ]
+
+dash_fails : (us : List Span) → spans_in (codes "-") ≡ Ok us → ⊥
+unfolding spans_in turn_at element_at
+dash_fails us e = cc
+
+spans_again : (ss : List Span) → is_merged ss ≡ true → AreUsable ss → spans_of_word (spans_word ss) ≡ Some ss
+spans_again [] m u = refl
+spans_again (s ∷ ss) m u =
+    let w = spans_text (s ∷ ss) in
+    let spaced : IsSpaced (spans_tokens (s ∷ ss)) w = subst (IsSpaced (spans_tokens (s ∷ ss))) (joined_spans (s ∷ ss)) (spaced_joined (spans_tokens (s ∷ ss))) in
+    let read : spans_in w ≡ Ok (s ∷ ss) = spells_read w (s ∷ ss) (spans_shown (s ∷ ss) u w spaced) in
+    let bytes : list_all is_set_byte w ≡ true = behind_set None (s ∷ ss) u in
+    let ascii : list_all is_ascii_byte w ≡ true = all_weaker is_set_byte is_ascii_byte w set_ascii bytes in
+    let tidy : are_tidy_behind (Some s) ss ≡ true = merged_tidy s ss m in
+    let other : bytes_eq w (codes "-") ≡ false = no_dash w (s ∷ ss) read in
+    rw (other, ascii, read, tidy) (where_same-again spans_text (s ∷ ss))
+  where
+    no_dash : (w : List ℕ) (us : List Span) → spans_in w ≡ Ok us → bytes_eq w (codes "-") ≡ false
+    no_dash w us read = false_from_ne_true (bytes_eq w (codes "-")) (λ e. let k = ap spans_in (sym ((bytes_eq-Decides w (codes "-")).0 e)) ∙ read in dash_fails us k)
+
+-- ---- sets
+
+written : (ss : List Span) → is_merged ss ≡ true → AreUsable ss → IsWrittenSet (set_of ss)
+written ss m u =
+    let r : ss ≡ runs (set_of ss) = sym (runs_merged ss m) in
+    record { merged = subst (λ (x : List Span). is_merged x ≡ true) r m; usable = subst AreUsable r u; whole = ap set_of (sym r) }
+
+pub set_found : (w : List ℕ) (s : Gtids) → set_of_word w ≡ Some s → (w ≡ set_text s) × IsWrittenSet s
+set_found w s e =
+    let m = map_some (set_with set.empty) (spans_of_word w) s e in
+    let f = spans_found w m.0 m.1 in
+    let same : set_of m.0 ≡ s = sym (with_none m.0) ∙ m.2 in
+    (f.text ∙ ap spans_word (sym (runs_merged m.0 f.merged) ∙ ap runs same), subst IsWrittenSet same (written m.0 f.merged f.usable))
+
+pub set_again : (s : Gtids) → IsWrittenSet s → set_of_word (set_text s) ≡ Some s
+set_again s h = ap (option_map (set_with set.empty)) (spans_again (runs s) h.merged h.usable) ∙ ap Some (with_none (runs s) ∙ h.whole)
+
+-- a set's word has no blank and no line feed
+spans_word_lacks : (c : ℕ) (ss : List Span) → ((b : ℕ) → is_set_byte b ≡ true → not (eqb b c) ≡ true) → not (eqb 45 c) ≡ true → AreUsable ss → lacks c (spans_word ss) ≡ true
+spans_word_lacks c [] h dash u = rw dash refl
+spans_word_lacks c (s ∷ ss) h dash u = all_weaker is_set_byte (λ b. not (eqb b c)) (spans_text (s ∷ ss)) h (behind_set None (s ∷ ss) u)
+
+pub set_no_feeds : (s : Gtids) → IsWrittenSet s → lacks 10 (set_text s) ≡ true
+set_no_feeds s h = spans_word_lacks 10 (runs s) set_no_feed refl h.usable
+
+-- the empty set
+pub none_written : IsWrittenSet set.empty
+none_written = written [] refl tt

@@ -1,85 +1,48 @@
 -- Images: what is read is spelled so, and what is spelled so is read.
-use Rattle.std.proofs.Common.{◌≡◌, ℕ, ◌<◌, inl, inr, true, false, cond, eqb, List, [], ◌∷◌, ◌++◌, length, map, Option, Some, None, Result, Ok, Err, refl, sym, ap, subst, ◌∙◌, append_assoc, arith}
-use Rattle.std.specs.Prelude.{codes}
-use Rattle.std.proofs.lemmas.Bool.{eqb-true, false_from_ne_true}
+use Rattle.std.proofs.Common.{◌≡◌, ℕ, ◌<◌, inl, inr, true, false, List, [], ◌∷◌, ◌++◌, length, map, Option, Some, None, Ok, refl, sym, ap, subst, ◌∙◌, append_assoc, arith}
+use Rattle.std.specs.Prelude.{codes, MatchResult}
+use Rattle.std.proofs.lemmas.Bool.{false_from_ne_true}
 use Rattle.std.proofs.lemmas.List.{append-nil, length-append}
 use Rattle.std.proofs.lemmas.Slice.Eq.{bytes_eq-Decides}
 use Rattle.rows.specs.declared.value.Value.{Value}
 use Rattle.journal_words.specs.Values.{value_text, value_of, FitsValue}
-use Rattle.journal_words.proofs.Counts.{lacks, first_word-whole, others-whole, first_word-front, others-front}
+use Rattle.journal_words.proofs.Counts.{lacks}
 use Rattle.journal_words.proofs.ValueLaws.{value_of-text, value_of-found, value_lacks, blank_is_none, no_bar}
-use Rattle.txn_journal.specs.Lines.{cons_head, words_of, Image, stop_at, and_value, is_bar, values_from, one_image, with_after, both_images, image_in, images_in}
+use Rattle.txn_journal.specs.Lines.{words_of, Image, stop_at, and_value, is_bar, values_from, one_image, with_after, both_images, image_in, images_in}
 use Rattle.txn_journal.specs.Spelling.{values_text, AreValues}
-use Rattle.txn_journal.specs.declared.fault.Cause.{Cause}
-use Rattle.txn_journal.proofs.ValueSteps.{more_words, words_cut}
+use Rattle.txn_journal.proofs.Judged.{IsBody, found_weaker}
+use Rattle.txn_journal.specs.Splits.{joined_by}
+use Rattle.txn_journal.proofs.SplitLaws.{AllLack, parts_joined, parts_again, parts_more}
 use Rattle.std.proofs.lemmas.Option.{same_Some}
 use Rattle.gtid_text.proofs.Turns.{chosen}
-
--- ---- words with a blank between
-
-joined_words : List (List ℕ) → List ℕ
-joined_words [] = []
-joined_words (w ∷ []) = w
-joined_words (w ∷ x ∷ ws) = w ++ 32 ∷ joined_words (x ∷ ws)
-
-joined_head : (b : ℕ) (ws : List (List ℕ)) → joined_words (cons_head b ws) ≡ b ∷ joined_words ws
-unfolding joined_words
-joined_head b [] = refl
-joined_head b (w ∷ []) = refl
-joined_head b (w ∷ x ∷ ws) = refl
-
-joined_blank : (ws : List (List ℕ)) (w : List ℕ) (vs : List (List ℕ)) → ws ≡ w ∷ vs → joined_words ([] ∷ ws) ≡ 32 ∷ joined_words ws
-unfolding joined_words
-joined_blank ws w vs e = rw e refl
-
--- the words of a text make it again
-words_joined : (t : List ℕ) → joined_words (words_of t) ≡ t
-unfolding joined_words words_of
-words_joined [] = refl
-words_joined (b ∷ bs) =
-    elim (eqb b 32) as (λ v. eqb b 32 ≡ v → joined_words (cond v ([] ∷ words_of bs) (cons_head b (words_of bs))) ≡ b ∷ bs) [
-      | true ↦ λ e. joined_blank (words_of bs) _ _ (words_cut bs) ∙ (λ i. sym (eqb-true b 32 e) i ∷ words_joined bs i)
-      | false ↦ λ e. joined_head b (words_of bs) ∙ ap (λ (t : List ℕ). b ∷ t) (words_joined bs)
-    ] refl
-
--- a word alone, and a word before others
-pub words_one : (w : List ℕ) → lacks 32 w ≡ true → words_of w ≡ w ∷ []
-words_one w none = words_cut w ∙ (λ i. first_word-whole w none i ∷ more_words (others-whole w none i))
-
-pub words_more : (w r : List ℕ) → lacks 32 w ≡ true → words_of (w ++ 32 ∷ r) ≡ w ∷ words_of r
-words_more w r none = words_cut (w ++ 32 ∷ r) ∙ (λ i. first_word-front w r none i ∷ more_words (others-front w r none i))
 
 -- ---- the words of values
 
 abbrev texts : List Value → List (List ℕ)
 texts vs = map value_text vs
 
-joined_texts : (vs : List Value) → joined_words (texts vs) ≡ values_text vs
-unfolding joined_words
-joined_texts [] = refl
-joined_texts (v ∷ []) = refl
-joined_texts (v ∷ w ∷ vs) = ap (λ (t : List ℕ). value_text v ++ 32 ∷ t) (joined_texts (w ∷ vs))
-
 -- values, a bar, and words behind it
-joined_bar : (v : Value) (vs : List Value) (x : List ℕ) (ws : List (List ℕ)) → joined_words (texts (v ∷ vs) ++ (codes "|") ∷ x ∷ ws) ≡ values_text (v ∷ vs) ++ 32 ∷ (124 ∷ 32 ∷ joined_words (x ∷ ws))
-unfolding joined_words
+joined_bar : (v : Value) (vs : List Value) (x : List ℕ) (ws : List (List ℕ)) → joined_by 32 (texts (v ∷ vs) ++ (codes "|") ∷ x ∷ ws) ≡ values_text (v ∷ vs) ++ 32 ∷ (124 ∷ 32 ∷ joined_by 32 (x ∷ ws))
 joined_bar v [] x ws = refl
 joined_bar v (w ∷ vs) x ws =
     ap (λ (t : List ℕ). value_text v ++ 32 ∷ t) (joined_bar w vs x ws)
-    ∙ sym (append_assoc (value_text v) (32 ∷ values_text (w ∷ vs)) (32 ∷ (124 ∷ 32 ∷ joined_words (x ∷ ws))))
+    ∙ sym (append_assoc (value_text v) (32 ∷ values_text (w ∷ vs)) (32 ∷ (124 ∷ 32 ∷ joined_by 32 (x ∷ ws))))
 
 no_blank : (v : Value) → FitsValue v → lacks 32 (value_text v) ≡ true
 no_blank v fits = value_lacks 32 v blank_is_none fits
 
-pub words_texts : (v : Value) (vs : List Value) → AreValues (v ∷ vs) → words_of (values_text (v ∷ vs)) ≡ texts (v ∷ vs)
-words_texts v [] fits = words_one (value_text v) (no_blank v fits.0)
-words_texts v (w ∷ vs) fits = words_more (value_text v) (values_text (w ∷ vs)) (no_blank v fits.0) ∙ ap (λ (t : List (List ℕ)). value_text v ∷ t) (words_texts w vs fits.1)
+pub texts_lack : (c : ℕ) (vs : List Value) → ((v : Value) → FitsValue v → lacks c (value_text v) ≡ true) → AreValues vs → AllLack c (texts vs)
+texts_lack c [] none fits = tt
+texts_lack c (v ∷ vs) none fits = (none v fits.0, texts_lack c vs none fits.1)
+
+words_texts : (v : Value) (vs : List Value) → AreValues (v ∷ vs) → words_of (values_text (v ∷ vs)) ≡ texts (v ∷ vs)
+words_texts v vs fits = parts_again 32 (value_text v) (texts vs) (texts_lack 32 (v ∷ vs) no_blank fits)
 
 words_bar : (v : Value) (vs : List Value) (r : List ℕ) → AreValues (v ∷ vs) → words_of (values_text (v ∷ vs) ++ 32 ∷ (124 ∷ 32 ∷ r)) ≡ texts (v ∷ vs) ++ (codes "|") ∷ words_of r
-words_bar v [] r fits = words_more (value_text v) (124 ∷ 32 ∷ r) (no_blank v fits.0) ∙ ap (λ (t : List (List ℕ)). value_text v ∷ t) (words_more (codes "|") r refl)
+words_bar v [] r fits = parts_more 32 (value_text v) (124 ∷ 32 ∷ r) (no_blank v fits.0) ∙ ap (λ (t : List (List ℕ)). value_text v ∷ t) (parts_more 32 (codes "|") r refl)
 words_bar v (w ∷ vs) r fits =
     ap words_of (append_assoc (value_text v) (32 ∷ values_text (w ∷ vs)) (32 ∷ (124 ∷ 32 ∷ r)))
-    ∙ words_more (value_text v) (values_text (w ∷ vs) ++ 32 ∷ (124 ∷ 32 ∷ r)) (no_blank v fits.0)
+    ∙ parts_more 32 (value_text v) (values_text (w ∷ vs) ++ 32 ∷ (124 ∷ 32 ∷ r)) (no_blank v fits.0)
     ∙ ap (λ (t : List (List ℕ)). value_text v ∷ t) (words_bar w vs r fits.1)
 
 -- ---- what is read
@@ -163,38 +126,32 @@ values_found before (w ∷ x ∷ ws) vs rest e =
 
 -- ---- one image, and two
 
-abbrev read_ok : {A : Type 0} → A → Result A Cause
-read_ok x = Ok x
+one_both : (o : Option Image) → MatchResult (one_image o) (λ vs. o ≡ Some (vs, None)) IsBody
+one_both None = tt
+one_both (Some (vs, None)) = refl
+one_both (Some (vs, Some words)) = tt
 
-one_found : (o : Option Image) (vs : List Value) → one_image o ≡ Ok vs → o ≡ Some (vs, None)
-one_found None vs e = absurd cc
-one_found (Some (us, None)) vs e = let k : us ≡ vs = cc in ap (λ (t : List Value). some_image (t, None)) k
-one_found (Some (us, Some words)) vs e = absurd cc
-
-pub image_found : (text : List ℕ) (vs : List Value) → image_in text ≡ Ok vs → (text ≡ values_text vs) × AreValues vs × (0 < length vs)
-image_found text vs e =
-    let f = values_found [] (words_of text) vs None (one_found (values_from [] (words_of text)) vs e) in
-    (sym (words_joined text) ∙ ap joined_words (f.words ∙ append-nil (map value_text f.read)) ∙ joined_texts f.read ∙ ap values_text f.whole, subst AreValues f.whole f.fits, f.stands)
-
-after_found : (before : List Value) (r : Result (List Value) Cause) (p : List Value × List Value) → with_after before r ≡ Ok p → (before ≡ p.0) × (r ≡ Ok p.1)
-after_found before (Ok after) p e =
-    let k : (before, after) ≡ p = cc in
-    (ap (λ (q : List Value × List Value). q.0) k, ap (λ (q : List Value × List Value). read_ok q.1) k)
-after_found before (Err c) p e = absurd cc
+pub image_both : (text : List ℕ) → MatchResult (image_in text) (λ vs. (text ≡ values_text vs) × AreValues vs × (0 < length vs)) IsBody
+image_both text = found_weaker (image_in text) _ _ _ (λ vs e.
+    let f = values_found [] (words_of text) vs None e in
+    (sym (parts_joined 32 text) ∙ ap (joined_by 32) (f.words ∙ append-nil (map value_text f.read)) ∙ ap values_text f.whole, subst AreValues f.whole f.fits, f.stands)) (one_both (values_from [] (words_of text)))
 
 record BothFound (o : Option Image) (p : List Value × List Value) : Type 0 where
   words : List (List ℕ)
   front : o ≡ Some (p.0, Some words)
-  back : one_image (values_from [] words) ≡ Ok p.1
+  back : values_from [] words ≡ Some (p.1, None)
 
-both_found : (o : Option Image) (p : List Value × List Value) → both_images o ≡ Ok p → BothFound o p
-both_found None p e = absurd cc
-both_found (Some (vs, None)) p e = absurd cc
-both_found (Some (vs, Some words)) p e =
-    let f = after_found vs (one_image (values_from [] words)) p e in
-    record { words = words; front = ap (λ (t : List Value). some_image (t, Some words)) f.0; back = f.1 }
+after_both : (before : List Value) (words : List (List ℕ)) (o : Option Image) → values_from [] words ≡ o → MatchResult (with_after before (one_image o)) (BothFound (Some (before, Some words))) IsBody
+after_both before words None e = tt
+after_both before words (Some (vs, None)) e = record { words = words; front = refl; back = e }
+after_both before words (Some (vs, Some more)) e = tt
 
-bar_text : (vs : List Value) (words : List (List ℕ)) → 0 < length vs → 0 < length words → joined_words (map value_text vs ++ (codes "|") ∷ words) ≡ values_text vs ++ 32 ∷ (124 ∷ 32 ∷ joined_words words)
+both_both : (o : Option Image) → MatchResult (both_images o) (BothFound o) IsBody
+both_both None = tt
+both_both (Some (vs, None)) = tt
+both_both (Some (vs, Some words)) = after_both vs words (values_from [] words) refl
+
+bar_text : (vs : List Value) (words : List (List ℕ)) → 0 < length vs → 0 < length words → joined_by 32 (map value_text vs ++ (codes "|") ∷ words) ≡ values_text vs ++ 32 ∷ (124 ∷ 32 ∷ joined_by 32 words)
 bar_text [] words some more = absurd (omega arith)
 bar_text (v ∷ vs) [] some more = absurd (omega arith)
 bar_text (v ∷ vs) (x ∷ ws) some more = joined_bar v vs x ws
@@ -206,20 +163,19 @@ pub record ImagesFound (text : List ℕ) (before after : List Value) : Type 0 wh
   pub before_some : 0 < length before
   pub after_some : 0 < length after
 
-pub images_found : (text : List ℕ) (p : List Value × List Value) → images_in text ≡ Ok p → ImagesFound text p.0 p.1
-images_found text p e =
-    let b = both_found (values_from [] (words_of text)) p e in
+pub images_both : (text : List ℕ) → MatchResult (images_in text) (λ p. ImagesFound text p.0 p.1) IsBody
+images_both text = found_weaker (images_in text) _ _ _ (λ p b.
     let f = values_found [] (words_of text) p.0 (Some b.words) b.front in
-    let g = values_found [] b.words p.1 None (one_found (values_from [] b.words) p.1 b.back) in
+    let g = values_found [] b.words p.1 None b.back in
     let front : words_of text ≡ map value_text p.0 ++ (codes "|") ∷ b.words = f.words ∙ ap (λ (us : List Value). map value_text us ++ (codes "|") ∷ b.words) f.whole in
-    let back : joined_words b.words ≡ values_text p.1 = ap joined_words (g.words ∙ append-nil (map value_text g.read)) ∙ joined_texts g.read ∙ ap values_text g.whole in
+    let back : joined_by 32 b.words ≡ values_text p.1 = ap (joined_by 32) (g.words ∙ append-nil (map value_text g.read)) ∙ ap values_text g.whole in
     record {
-      spelt = sym (words_joined text) ∙ ap joined_words front ∙ bar_text p.0 b.words f.stands.0 f.stands.1 ∙ ap (λ (t : List ℕ). values_text p.0 ++ 32 ∷ (124 ∷ 32 ∷ t)) back;
+      spelt = sym (parts_joined 32 text) ∙ ap (joined_by 32) front ∙ bar_text p.0 b.words f.stands.0 f.stands.1 ∙ ap (λ (t : List ℕ). values_text p.0 ++ 32 ∷ (124 ∷ 32 ∷ t)) back;
       before_fits = subst AreValues f.whole f.fits;
       after_fits = subst AreValues g.whole g.fits;
       before_some = f.stands.0;
       after_some = g.stands;
-    }
+    }) (both_both (values_from [] (words_of text)))
 
 -- ---- what is spelled
 

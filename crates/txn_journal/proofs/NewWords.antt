@@ -9,6 +9,7 @@ use Rattle.std.specs.declared.cmp.Ordering.TheVariants.{Less, Equal, Greater}
 use Rattle.std.specs.Cmp.Lexicographic.{slice_cmp}
 use Rattle.std.specs.BTreeSet.{insert_key}
 use Rattle.std.proofs.Math.Seq.{drop-cons}
+use Rattle.std.proofs.lemmas.List.{take_rest}
 use Rattle.std.proofs.lemmas.Map.Text.{is_eq-slice_cmp}
 use Rattle.std.proofs.lemmas.Slice.Eq.{bytes_eq-Decides}
 use Rattle.txn_journal.specs.Splits.{are_new_to, is_columns_text}
@@ -34,13 +35,10 @@ found_seen [] w = refl
 found_seen (k ∷ ks) w = rw (is_eq-slice_cmp w.now k.now, found_seen ks w) refl
 
 or_twice : (a r : Bool) → (a || r) ≡ (a || (a || r))
-or_twice true r = refl
-or_twice false r = refl
+or_twice a r = grind arith
 
 or_swap : (a b r : Bool) → (b || (a || r)) ≡ (a || (b || r))
-or_swap true true r = refl
-or_swap true false r = refl
-or_swap false b r = refl
+or_swap a b r = grind arith
 
 insert_on : (o : Ordering) (v : List ℕ) (w x : Word) (xs ys : List Word) → is_eq o ≡ bytes_eq w.now x.now → seen_in ys v ≡ (bytes_eq v w.now || seen_in xs v) → seen_in (match_ordering o (w ∷ x ∷ xs) (x ∷ xs) (x ∷ ys)) v ≡ (bytes_eq v w.now || (bytes_eq v x.now || seen_in xs v))
 insert_on Less v w x xs ys e more = refl
@@ -74,18 +72,12 @@ new_next keys words new i d all lt so_far found inserted =
 
 -- ---- unique keys
 
-take_all : {X : Type 0} (xs : List X) → take (length xs) xs ≡ xs
-take_all [] = refl
-take_all (x ∷ xs) = ap (λ t. x ∷ t) (take_all xs)
-
 pub pair_step : (before pushed : List (List ℕ)) (left : List Word) (d e : Word) (all : Result (List (List ℕ)) Cause) → pushed ≡ before ++ (get_or left 1 e).now ∷ [] → 2 ≤ length left → uniques_from before (texts left) ≡ all → (bytes_eq (get_or left 0 d).now (codes "uk") && is_columns_text (get_or left 1 e).now) ≡ true → uniques_from pushed (texts (take (length left - 2) (drop 2 left))) ≡ all
 unfolding uniques_from
 pair_step before pushed [] d e all is_pushed two so_far is = absurd (omega arith)
 pair_step before pushed (x ∷ []) d e all is_pushed two so_far is = absurd (omega arith)
 pair_step before pushed (x ∷ y ∷ zs) d e all is_pushed two so_far is =
-    let n : length (x ∷ y ∷ zs) - 2 ≡ length zs = omega arith in
     ap (λ (us : List (List ℕ)). uniques_from us (texts (take (length (x ∷ y ∷ zs) - 2) zs))) is_pushed
-    ∙ ap (λ (k : ℕ). uniques_from (before ++ y.now ∷ []) (texts (take k zs))) n
-    ∙ ap (λ (t : List Word). uniques_from (before ++ y.now ∷ []) (texts t)) (take_all zs)
+    ∙ ap (λ (t : List Word). uniques_from (before ++ y.now ∷ []) (texts t)) (take_rest (x ∷ y ∷ zs) 2)
     ∙ sym (ap (λ (b : Bool). cond b (uniques_from (before ++ y.now ∷ []) (texts zs)) (Err causes.Body)) is)
     ∙ so_far

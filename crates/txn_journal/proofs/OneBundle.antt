@@ -1,6 +1,7 @@
 -- A bundle has one text but for the order of its `row` lines.
-use Rattle.std.proofs.Common.{◌≡◌, ℕ, ◌⊎◌, inl, inr, Bool, true, false, cond, List, [], ◌∷◌, Option, Some, None, Result, Ok, Err, refl, sym, ap, subst, ◌∙◌}
-use Rattle.std.specs.Prelude.{is_some}
+use Rattle.std.proofs.Common.{◌≡◌, ℕ, ◌⊎◌, inl, inr, Bool, true, false, cond, List, [], ◌∷◌, Option, Some, None, Result, Ok, refl, sym, ap, subst, ◌∙◌}
+use Rattle.std.specs.Prelude.{is_some, MatchResult}
+use Rattle.std.proofs.lemmas.Result.{MatchResult-at_ok}
 use Rattle.std.specs.FinMap.{get, empty, get-empty}
 use Rattle.rows.specs.declared.change.Change.TheVariants.{Insert}
 use Rattle.rows.specs.declared.change.Key.{Key}
@@ -22,20 +23,9 @@ use Rattle.txn_journal.specs.BundleStates.{BundleValue, ok_rows, with_opening}
 use Rattle.txn_journal.specs.BundleText.{put_all, WritesBundle}
 use Rattle.txn_journal.specs.RowOrders.{IsOneOf, AreOnce, DifferInOrder}
 use Rattle.txn_journal.specs.declared.fault.Cause.{Cause}
-use Rattle.txn_journal.specs.declared.fault.Cause.TheVariants as causes
-use Rattle.txn_journal.specs.declared.fault.JournalFault.{JournalFault}
-use Rattle.txn_journal.proofs.LineReads.{bind_ok, ok_is}
-use Rattle.txn_journal.proofs.BundleTells.{reads_writing}
+use Rattle.txn_journal.proofs.Judged.{if_both, found_weaker, IsSchema, bind_ok, ok_is}
+use Rattle.std.proofs.lemmas.Option.{same_Some}
 use Rattle.gtid_text.proofs.Turns.{chosen}
-
-abbrev gives : BundleValue → Result BundleValue JournalFault
-gives b = Ok b
-
-same_bundle : (a b : BundleValue) → gives a ≡ gives b → a ≡ b
-same_bundle a b e = cc
-
-pub one_bundle : (bytes : List ℕ) (a b : BundleValue) → WritesBundle bytes a → WritesBundle bytes b → a ≡ b
-one_bundle bytes a b x y = same_bundle a b (sym (reads_writing bytes a x) ∙ reads_writing bytes b y)
 
 -- ---- one row that is put
 
@@ -46,28 +36,26 @@ keys d r = keys_carried d.schema r.table r.row
 abbrev with_rows : Database → Rows → Database
 with_rows d rows = record d { rows = rows }
 
-record Put (d : Database) (r : TableRow) (new : Rows) : Type 0 where
+pub record Put (d : Database) (r : TableRow) (new : Rows) : Type 0 where
   fits : misfit d.schema (opening r.table r.row) ≡ None
   free : taken (keys d r) d.rows ≡ None
   after : with_row (keys d r) r.row d.rows ≡ new
 
-inserted_found : (o : Option ℕ) (ks : List Key) (row : List Value) (rows new : Rows) (schema : List Table) → ok_rows (insert_if_free o 0 ks row rows andthen apply_from schema 1 []) ≡ Ok new → (o ≡ None) × (with_row ks row rows ≡ new)
-inserted_found None ks row rows new schema e = (refl, ok_is (with_row ks row rows) new e)
-inserted_found (Some index) ks row rows new schema e = absurd cc
+inserted_both : (o : Option ℕ) (ks : List Key) (row : List Value) (rows : Rows) (schema : List Table) → MatchResult (ok_rows (insert_if_free o 0 ks row rows andthen apply_from schema 1 [])) (λ new. (o ≡ None) × (with_row ks row rows ≡ new)) IsSchema
+inserted_both None ks row rows schema = (refl, refl)
+inserted_both (Some index) ks row rows schema = tt
 
 none_is : (o : Option NotInSchema) → is_some o ≡ false → o ≡ None
 none_is None e = refl
 none_is (Some x) e = absurd cc
 
-put_found : (d : Database) (r : TableRow) (new : Rows) → with_opening d r ≡ Ok new → Put d r new
+pub put_both : (d : Database) (r : TableRow) → MatchResult (with_opening d r) (Put d r) IsSchema
 unfolding with_opening
-put_found d r new e =
-    elim (chosen (is_some (misfit d.schema (opening r.table r.row))) (Err causes.Schema) (ok_rows (apply d.schema (opening r.table r.row) d.rows)) (Ok new) e) [
-      | inl p ↦ absurd (let k = p.1 in cc)
-      | inr p ↦
-          let f = inserted_found (taken (keys d r) d.rows) (keys d r) r.row d.rows new d.schema p.1 in
-          record { fits = none_is (misfit d.schema (opening r.table r.row)) p.0; free = f.0; after = f.1 }
-    ]
+put_both d r = if_both _ _ (is_some (misfit d.schema (opening r.table r.row))) _ _ (λ misfits. tt) (λ fits. found_weaker (ok_rows (apply d.schema (opening r.table r.row) d.rows)) _ _ _
+    (λ new h. record { fits = none_is (misfit d.schema (opening r.table r.row)) fits; free = h.0; after = h.1 }) (inserted_both (taken (keys d r) d.rows) (keys d r) r.row d.rows d.schema))
+
+put_found : (d : Database) (r : TableRow) (new : Rows) → with_opening d r ≡ Ok new → Put d r new
+put_found d r new e = MatchResult-at_ok (Put d r) IsSchema new e (put_both d r)
 
 record HasKey (schema : List Table) (r : TableRow) : Type 0 where
   key : Key
@@ -90,9 +78,6 @@ record IsPut (schema : List Table) (rs : List TableRow) (k : Key) (row : List Va
   among : IsOneOf rs one
   row_is : one.row ≡ row
   carries : is_among (keys_carried schema one.table one.row) k ≡ true
-
-some_row : (a b : List Value) → Some a ≡ Some b → a ≡ b
-some_row a b e = cc
 
 -- a row that stands stays
 stays : (d : Database) (rs : List TableRow) (new : Rows) (k : Key) (row : List Value) → put_all d rs ≡ Ok new → get d.rows k ≡ Some row → get new k ≡ Some row
@@ -117,7 +102,7 @@ came d (r ∷ rs) new k row e g =
       | inl h ↦
           let at : cond (is_among (keys d r) k) (Some r.row) (get d.rows k) ≡ Some row = sym (get-with_row (keys d r) r.row d.rows k) ∙ ap (λ (m : Rows). get m k) p.after ∙ h in
           elim (chosen (is_among (keys d r) k) (Some r.row) (get d.rows k) (Some row) at) [
-            | inl q ↦ inr (record { one = r; among = inl refl; row_is = some_row r.row row q.1; carries = q.0 })
+            | inl q ↦ inr (record { one = r; among = inl refl; row_is = same_Some r.row row q.1; carries = q.0 })
             | inr q ↦ inl q.1
           ]
       | inr h ↦ inr (record { one = h.one; among = inr h.among; row_is = h.row_is; carries = h.carries })

@@ -1,18 +1,44 @@
--- A bundle's own lines are read, and then they act.
-use Rattle.std.proofs.Common.{◌≡◌, ℕ, cond, List, [], Option, Some, None, Result, Ok, Err, refl}
-use Rattle.journal.specs.Writing.{is_image_writable}
+-- A bundle's own lines: what is read is spelled so, what is spelled so is read, and then it acts.
+use Rattle.std.proofs.Common.{◌≡◌, ℕ, Bool, true, false, not, cond, eqb, List, [], ◌∷◌, ◌++◌, Option, Some, None, Ok, Err, refl, sym, ap, subst, ◌∙◌, Result}
+use Rattle.std.specs.Prelude.{codes, MatchResult}
+use Rattle.std.specs.List.{list_all}
+use Rattle.std.specs.Str.{bytes_eq}
+use Rattle.std.proofs.lemmas.List.{append-nil}
+use Rattle.std.proofs.lemmas.Slice.Eq.{bytes_eq-Decides}
+use Rattle.gtid_text.specs.Canonical.{source_text}
+use Rattle.gtid_text.specs.Written.{IsSource, IsSpaced, source_tokens}
+use Rattle.gtid_text.specs.Reading.{source_in}
+use Rattle.gtid_text.specs.Grammar.{SpellsSource}
+use Rattle.gtid_text.proofs.Shown.{source_shown, spaced_joined}
+use Rattle.gtid_text.proofs.Single.{source_reads_back, source_spelled}
+use Rattle.gtid_set.proofs.SpanLemmas.{all_weaker}
+use Rattle.rows.specs.Names.{is_name}
 use Rattle.journal_words.specs.Words.{first_word, others}
-use Rattle.txn_journal.specs.Lines.{◌>>=◌, version_in, nothing_in, table_in, image_in}
-use Rattle.txn_journal.specs.Shapes.{Shape, shape_in, with_table, added_table}
-use Rattle.txn_journal.specs.BundleStates.{BundleStanding, bare, word_of, due_in, replica_in, channel_in, behind_tables, put_row, joined_channel, headed, named, tabled, rowed, channelled, all_done, own_step, judge_own}
-use Rattle.txn_journal.specs.BundleText.{OwnLine, Heads, Names, Has, Puts, Opens, Done}
-use Rattle.txn_journal.specs.declared.bundle_draft.Part.{Part}
-use Rattle.txn_journal.specs.declared.bundle_draft.Part.TheVariants as parts
+use Rattle.journal_words.specs.Gtids.{is_ascii_byte, same_or_none, source_of_word}
+use Rattle.journal_words.proofs.Counts.{lacks, word_alone, word_and_more, first_word-front, others-front, first_word-whole, others-whole}
+use Rattle.journal_words.proofs.ValueLaws.{where_same-again}
+use Rattle.txn_journal.specs.Words.{name_of}
+use Rattle.txn_journal.specs.Lines.{◌>>=◌, some_or_body, version_in, nothing_in, table_in, image_in, due}
+use Rattle.txn_journal.specs.Shapes.{Shape, shape_text, FitsShape, shape_in, with_table, added_table}
+use Rattle.txn_journal.specs.BundleStates.{word_of, is_due_in, replica_in, preserve_in, channel_in, BundleStanding, bare, behind_tables, put_row, joined_channel, headed, named, tabled, rowed, channelled, all_done, own_step, judge_own}
+use Rattle.txn_journal.specs.BundleText.{OwnLine, Heads, Names, Has, Puts, Opens, Done, preserve_text, own_text}
+use Rattle.txn_journal.specs.BundleCauses.{own_word_text, own_word, FitsOwn, own_wording}
+use Rattle.txn_journal.specs.Spelling.{version_text, values_text}
 use Rattle.txn_journal.specs.declared.bundle_draft.Word.{Word}
-use Rattle.txn_journal.specs.declared.bundle_draft.Word.TheVariants as words
+use Rattle.txn_journal.specs.declared.lines.Version.TheVariants.{One}
+use Rattle.txn_journal.proofs.NameLemmas.{name_no_blank, name_no_feed}
+use Rattle.txn_journal.proofs.GtidLaws.{is_set_byte, set_ascii, set_no_feed, source_set, source_small, same_found, ascii_found, joins}
+use Rattle.txn_journal.proofs.JournalLaws.{values_one, table_one}
+use Rattle.journal.specs.Writing.{is_image_writable}
 use Rattle.txn_journal.specs.declared.fault.Cause.{Cause}
+use Rattle.txn_journal.specs.declared.bundle_draft.Word.TheVariants as words
 use Rattle.txn_journal.specs.declared.fault.Cause.TheVariants as causes
-use Rattle.txn_journal.proofs.LineReads.{bind_assoc, one_step, two_steps}
+use Rattle.txn_journal.specs.declared.bundle_draft.Part.TheVariants as parts
+use Rattle.txn_journal.proofs.Judged.{then_both, if_both, some_both, found_weaker, IsBody, one_step, two_steps, bind_assoc}
+use Rattle.txn_journal.proofs.WordLaws.{among_found, IsRestFault, Spells, read_by, read_at, RestLaws, of_body, of_header}
+use Rattle.txn_journal.proofs.ImageLaws.{image_both, image_again}
+use Rattle.txn_journal.proofs.LineReads.{version_both, nothing_both, name_both, table_both, table_again, with_more, with_none, with_table as table_line}
+use Rattle.txn_journal.proofs.ShapeLaws.{shape_both, shape_again, shape_one}
 
 -- what the rest of a table's line says
 abbrev pub shape_behind : Option (List ℕ) → Result Shape Cause
@@ -53,9 +79,92 @@ step_reads s words.Row rest = two_steps (table_in rest) (λ table. image_in tabl
 step_reads s words.Channel rest = one_step (channel_in rest) Opens (own_put s)
 step_reads s words.Done rest = one_step (nothing_in rest) (λ nothing. Done) (own_put s)
 
-unfoldable pub read_own : Part → List ℕ → Result OwnLine Cause
-read_own part line = due_in part (word_of (first_word line)) >>= λ word. own_body word (others line)
+pub own_reads : (s : BundleStanding) (line : List ℕ) → judge_own s line ≡ (read_by (own_wording s) own_body line >>= own_put s)
+unfolding judge_own
+own_reads s line = bind_assoc (due (is_due_in s.part) (word_of (first_word line))) (λ word. own_body word (others line)) (λ word. own_step s word (others line)) (own_put s) (λ word. step_reads s word (others line))
 
-pub own_reads : (s : BundleStanding) (line : List ℕ) → judge_own s line ≡ (read_own s.part line >>= own_put s)
-unfolding judge_own read_own
-own_reads s line = bind_assoc (due_in s.part (word_of (first_word line))) (λ word. own_body word (others line)) (λ word. own_step s word (others line)) (own_put s) (λ word. step_reads s word (others line))
+abbrev every_word : List Word
+every_word = words.Bundle ∷ words.Replica ∷ words.Table ∷ words.Row ∷ words.Channel ∷ words.Done ∷ []
+
+-- ---- sources
+
+source_word_found : (w : List ℕ) (id : ℕ) → source_of_word w ≡ Some id → (w ≡ source_text id) × IsSource id
+source_word_found w id e =
+    let f = same_found source_text w (source_in w) id (ascii_found w (same_or_none source_text w (source_in w)) id e) in
+    let s : SpellsSource w id = source_spelled w id f.1 in
+    (f.0, source_small s.uuid id s.is_uuid.names)
+
+source_word_again : (id : ℕ) → IsSource id → source_of_word (source_text id) ≡ Some id
+source_word_again id small =
+    let spaced : IsSpaced (source_tokens id) (source_text id) = subst (IsSpaced (source_tokens id)) (append-nil (source_text id)) (spaced_joined (source_tokens id)) in
+    let read : source_in (source_text id) ≡ Ok id = source_reads_back (source_text id) id (source_shown id small (source_text id) spaced) in
+    let ascii : list_all is_ascii_byte (source_text id) ≡ true = all_weaker is_set_byte is_ascii_byte (source_text id) set_ascii (source_set id) in
+    rw (ascii, read) (where_same-again source_text id)
+
+-- ---- what is read is spelled so
+
+replica_both : (rest : Option (List ℕ)) → MatchResult (replica_in rest) (λ id. (rest ≡ Some (source_text id)) × IsSource id) IsBody
+replica_both None = tt
+replica_both (Some w) = some_both _ _ (source_of_word w) (λ id e. let f = source_word_found w id e in (ap Some f.0, f.1)) tt
+
+shape_behind_both : (rest : Option (List ℕ)) → MatchResult (shape_behind rest) (λ s. (rest ≡ Some (shape_text s)) × FitsShape s) IsBody
+shape_behind_both None = tt
+shape_behind_both (Some text) = found_weaker (shape_in text) _ _ _ (λ s f. (ap Some f.0, f.1)) (shape_both text)
+
+preserve_both : (text : List ℕ) (rest : Option (List ℕ)) → others text ≡ rest → MatchResult (preserve_in rest) (λ p. text ≡ first_word text ++ preserve_text p) IsBody
+preserve_both text None o = word_alone text o ∙ sym (append-nil (first_word text))
+preserve_both text (Some w) o = if_both _ _ (bytes_eq w (codes "preserve")) _ _ (λ is. word_and_more text w o ∙ ap (λ (x : List ℕ). first_word text ++ 32 ∷ x) ((bytes_eq-Decides w (codes "preserve")).0 is)) (λ no. tt)
+
+channel_both : (rest : Option (List ℕ)) → MatchResult (channel_in rest) (λ c. (rest ≡ Some (c.name ++ preserve_text c.preserve)) × (is_name c.name ≡ true)) IsBody
+unfolding channel_in
+channel_both None = tt
+channel_both (Some text) = then_both _ _ (some_or_body (name_of (first_word text))) _ (name_both (first_word text)) (λ name n. then_both _ _ (preserve_in (others text)) _ (preserve_both text (others text) refl)
+    (λ p f. (ap Some (f ∙ ap (λ (w : List ℕ). w ++ preserve_text p) n.0), n.1)))
+
+rest_both : (s : BundleStanding) (k : Word) (line : List ℕ) → first_word line ≡ own_word_text k → MatchResult (own_body k (others line)) (Spells (own_wording s) k line) (IsRestFault (own_wording s) k (others line))
+unfolding own_body
+rest_both s words.Bundle line first =
+    of_header (own_wording s) (others line) (Spells (own_wording s) words.Bundle line) _ (then_both _ _ (version_in None (others line)) _ (version_both None (others line)) (λ v f. record { text = with_more line (codes "bundle") (version_text v) first f.0; fits = tt; word = refl }))
+rest_both s words.Replica line first =
+    of_body (own_wording s) words.Replica (others line) (Spells (own_wording s) words.Replica line) _ (then_both _ _ (replica_in (others line)) _ (replica_both (others line)) (λ id f. record { text = with_more line (codes "replica") (source_text id) first f.0; fits = f.1; word = refl }))
+rest_both s words.Table line first =
+    of_body (own_wording s) words.Table (others line) (Spells (own_wording s) words.Table line) _ (then_both _ _ (shape_behind (others line)) _ (shape_behind_both (others line)) (λ shape f. record { text = with_more line (codes "table") (shape_text shape) first f.0; fits = f.1; word = refl }))
+rest_both s words.Row line first =
+    of_body (own_wording s) words.Row (others line) (Spells (own_wording s) words.Row line) _ (then_both _ _ (table_in (others line)) _ (table_both (others line)) (λ t h. then_both _ _ (image_in t.1) _ (image_both t.1)
+    (λ row f. record { text = table_line line (codes "row") t.0 t.1 (values_text row) first h.0 f.0; fits = record { name = h.1; values = f.1; some = f.2 }; word = refl })))
+rest_both s words.Channel line first =
+    of_body (own_wording s) words.Channel (others line) (Spells (own_wording s) words.Channel line) _ (then_both _ _ (channel_in (others line)) _ (channel_both (others line)) (λ c f. record { text = with_more line (codes "channel") (c.name ++ preserve_text c.preserve) first f.0; fits = f.1; word = refl }))
+rest_both s words.Done line first =
+    of_body (own_wording s) words.Done (others line) (Spells (own_wording s) words.Done line) _ (then_both _ _ (nothing_in (others line)) _ (nothing_both (others line)) (λ u none. record { text = with_none line (codes "done") first none; fits = tt; word = refl }))
+
+-- ---- what is spelled is read
+
+channel_again : (name : List ℕ) (p : Bool) → is_name name ≡ true → channel_in (Some (name ++ preserve_text p)) ≡ Ok (record { name = name; preserve = p })
+unfolding channel_in
+channel_again name false e = rw (append-nil name, others-whole name (name_no_blank name e), first_word-whole name (name_no_blank name e), e) refl
+channel_again name true e = rw (others-front name (codes "preserve") (name_no_blank name e), first_word-front name (codes "preserve") (name_no_blank name e), e) refl
+
+own_again : (st : BundleStanding) (l : OwnLine) → is_due_in st.part (own_word l) ≡ true → FitsOwn l → read_by (own_wording st) own_body (own_text l) ≡ Ok l
+unfolding own_body
+own_again st (Heads One) is fits = read_at (own_wording st) own_body (own_text (Heads One)) words.Bundle (Some (codes "1")) refl refl refl is
+own_again st (Names id) is fits = read_at (own_wording st) own_body (own_text (Names id)) words.Replica (Some (source_text id)) refl refl refl is ∙ rw (source_word_again id fits) refl
+own_again st (Has s) is fits = read_at (own_wording st) own_body (own_text (Has s)) words.Table (Some (shape_text s)) refl refl refl is ∙ rw (shape_again s fits) refl
+own_again st (Puts r) is fits = read_at (own_wording st) own_body (own_text (Puts r)) words.Row (Some (r.table ++ 32 ∷ values_text r.row)) refl refl refl is ∙ rw (table_again r.table (values_text r.row) fits.name, image_again r.row fits.some fits.values) refl
+own_again st (Opens c) is fits = read_at (own_wording st) own_body (own_text (Opens c)) words.Channel (Some (c.name ++ preserve_text c.preserve)) refl refl refl is ∙ rw (channel_again c.name c.preserve fits) refl
+own_again st Done is fits = read_at (own_wording st) own_body (own_text Done) words.Done None refl refl refl is
+
+pub own_laws : (s : BundleStanding) → RestLaws (own_wording s) own_body
+own_laws s = record { found = λ t k e. among_found own_word_text every_word t k e; reads = rest_both s; again = own_again s }
+
+-- no line feed stands in it
+preserve_one : (p : Bool) → lacks 10 (preserve_text p) ≡ true
+preserve_one true = refl
+preserve_one false = refl
+
+pub own_one : (l : OwnLine) → FitsOwn l → lacks 10 (own_text l) ≡ true
+own_one (Heads One) fits = refl
+own_one (Names id) fits = all_weaker is_set_byte (λ b. not (eqb b 10)) (source_text id) set_no_feed (source_set id)
+own_one (Has s) fits = shape_one s fits
+own_one (Puts r) fits = table_one r.table (values_text r.row) (name_no_feed r.table fits.name) (values_one r.row fits.values)
+own_one (Opens c) fits = joins (λ b. not (eqb b 10)) c.name (preserve_text c.preserve) (name_no_feed c.name fits) (preserve_one c.preserve)
+own_one Done fits = refl

@@ -1,15 +1,15 @@
 -- Reading byte by byte, line by line and piece by piece.
-use Rattle.std.proofs.Common.{◌≡◌, ℕ, true, false, eqb, not, List, [], ◌∷◌, ◌++◌, Option, None, Result, Ok, Err, refl, sym, ap, subst, ◌∙◌, append_assoc, inr}
+use Rattle.std.proofs.Common.{◌≡◌, ℕ, eqb, not, List, [], ◌∷◌, ◌++◌, Option, None, Result, Ok, Err, refl, sym, ap, subst, ◌∙◌, append_assoc, inr}
 use Rattle.std.specs.List.{list_all}
 use Rattle.std.proofs.lemmas.List.{append-nil}
 use Rattle.gtid_set.specs.declared.fault.SetFault.{SetFault}
-use Rattle.gtid_set.specs.declared.fault.SetFault.TheVariants.{Memory, PoolFull, SourcesFull}
+use Rattle.gtid_set.specs.declared.fault.SetFault.TheVariants.{SourcesFull}
 use Rattle.txn_journal.specs.declared.fault.Cause.{Cause}
 use Rattle.txn_journal.specs.declared.fault.JournalFault.{JournalFault}
 use Rattle.txn_journal.specs.declared.fault.JournalFault.TheVariants as faults
 use Rattle.txn_journal.specs.Words.{IsOneLine}
-use Rattle.txn_journal.specs.Stream.{Judge, Progress, Reading, Stopped, unless_stopped, next_number, judged, eat, eats, IsLineFault, HasFull, IsPieceFault, IsAfter, TakesPiece, answer}
-use Rattle.std.proofs.lemmas.Bool.{and_parts}
+use Rattle.txn_journal.specs.Stream.{Judge, Progress, Reading, Stopped, unless_stopped, next_number, judged, eat, eats, IsMemoryOr, GivesFull, HasFull, IsPieceFault, IsAfter, TakesPiece, answer}
+use Rattle.std.proofs.lemmas.Bool.{and_parts, not-true}
 
 pub stopped_stays : {S : Type 0} (judge : Judge S) (f : JournalFault) (bs : List ℕ) → eats judge (Stopped f) bs ≡ Stopped f
 unfolding eat
@@ -21,16 +21,13 @@ pub eats_append : {S : Type 0} (judge : Judge S) (p : Progress S) (xs ys : List 
 eats_append judge p [] ys = refl
 eats_append judge p (x ∷ xs) ys = eats_append judge (eat judge p x) xs ys
 
-no_feed : (b : ℕ) → not (eqb b 10) ≡ true → eqb b 10 ≡ false
-no_feed b = elim (eqb b 10) as (λ v. not v ≡ true → v ≡ false) [ true ↦ λ h. absurd cc | false ↦ λ h. refl ]
-
 -- the bytes of a line are kept until its line feed
 pub eats_rest : {S : Type 0} (judge : Judge S) (s : S) (n : ℕ) (rest bs : List ℕ) → IsOneLine bs → eats judge (Reading s n rest) bs ≡ Reading s n (rest ++ bs)
 unfolding eat
 eats_rest judge s n rest [] one = ap (Reading s n) (sym (append-nil rest))
 eats_rest judge s n rest (b ∷ bs) one =
     let p = and_parts (not (eqb b 10)) (list_all (λ c. not (eqb c 10)) bs) one in
-    rw (no_feed b p.0) (eats_rest judge s n (rest ++ b ∷ []) bs p.1 ∙ ap (Reading s n) (append_assoc rest (b ∷ []) bs))
+    rw (not-true (eqb b 10) p.0) (eats_rest judge s n (rest ++ b ∷ []) bs p.1 ∙ ap (Reading s n) (append_assoc rest (b ∷ []) bs))
 
 pub eats_line : {S : Type 0} (judge : Judge S) (s : S) (n : ℕ) (rest line : List ℕ) → IsOneLine line → eats judge (Reading s n rest) (line ++ 10 ∷ []) ≡ judged (judge s (rest ++ line)) (next_number n)
 unfolding eat
@@ -68,49 +65,47 @@ line_taken {S} judge now then total left line after parts took so_far =
 
 -- ---- faults that may be
 
-judged_full : {S : Type 0} (full : S → Type 0) (r : Result S Cause) (n : ℕ) → IsLineFault full SourcesFull r → HasFull full (judged r n)
+pub memory_or : {P Q : Type 0} (f : SetFault) → (P → Q) → IsMemoryOr P f → IsMemoryOr Q f
+memory_or SourcesFull more h = more h
+memory_or f more h = h
+
+judged_full : {S : Type 0} (full : S → Type 0) (r : Result S Cause) (n : ℕ) → GivesFull full r → HasFull full (judged r n)
 judged_full full (Ok s) n h = h
 judged_full full (Err cause) n h = absurd h
 
 -- a fault of a line is one of its bytes
 pub line_fault : {S : Type 0} (full : S → Type 0) (judge : Judge S) (f : SetFault) (o : Option JournalFault) (s : S) (n : ℕ) (rest line : List ℕ)
-    → o ≡ None → IsOneLine line → IsLineFault full f (judge s (rest ++ line)) → IsPieceFault full judge (unless_stopped o (Reading s n rest)) (line ++ 10 ∷ []) f
-line_fault full judge Memory o s n rest line goes one h = tt
-line_fault full judge PoolFull o s n rest line goes one h = h
-line_fault {S} full judge SourcesFull o s n rest line goes one h =
+    → o ≡ None → IsOneLine line → IsMemoryOr (GivesFull full (judge s (rest ++ line))) f → IsPieceFault full judge (unless_stopped o (Reading s n rest)) (line ++ 10 ∷ []) f
+line_fault {S} full judge f o s n rest line goes one h =
     let is = ap (λ (k : Option JournalFault). eats judge (unless_stopped k (Reading s n rest)) (line ++ 10 ∷ [])) goes ∙ eats_line judge s n rest line one in
-    record {
+    memory_or f (λ k. record {
       front = line ++ 10 ∷ [];
       rest = [];
       parts = sym (append-nil (line ++ 10 ∷ []));
-      is_full = subst (λ (p : Progress S). HasFull full p) (sym is) (judged_full full (judge s (rest ++ line)) (next_number n) h);
-    }
+      is_full = subst (λ (p : Progress S). HasFull full p) (sym is) (judged_full full (judge s (rest ++ line)) (next_number n) k);
+    }) h
 
 -- more bytes may follow
 line_in_front : {S : Type 0} (full : S → Type 0) (judge : Judge S) (f : SetFault) (now : Progress S) (left line after : List ℕ)
     → left ≡ line ++ 10 ∷ after → IsPieceFault full judge now (line ++ 10 ∷ []) f → IsPieceFault full judge now left f
-line_in_front full judge Memory now left line after parts h = tt
-line_in_front full judge PoolFull now left line after parts h = h
-line_in_front full judge SourcesFull now left line after parts h = record {
-  front = h.front;
-  rest = h.rest ++ after;
-  parts = parts ∙ sym (append_assoc line (10 ∷ []) after) ∙ ap (λ x. x ++ after) h.parts ∙ append_assoc h.front h.rest after;
-  is_full = h.is_full;
-}
+line_in_front full judge f now left line after parts h = memory_or f (λ k. record {
+  front = k.front;
+  rest = k.rest ++ after;
+  parts = parts ∙ sym (append_assoc line (10 ∷ []) after) ∙ ap (λ x. x ++ after) k.parts ∙ append_assoc k.front k.rest after;
+  is_full = k.is_full;
+}) h
 
 -- a line that was taken may come before
 pub behind_line : {S : Type 0} (full : S → Type 0) (judge : Judge S) (f : SetFault) (now then : Progress S) (left line after : List ℕ)
     → left ≡ line ++ 10 ∷ after → eats judge now (line ++ 10 ∷ []) ≡ then → IsPieceFault full judge then after f → IsPieceFault full judge now left f
-behind_line full judge Memory now then left line after parts took h = tt
-behind_line full judge PoolFull now then left line after parts took h = h
-behind_line {S} full judge SourcesFull now then left line after parts took h =
+behind_line {S} full judge f now then left line after parts took h =
     let whole = line ++ 10 ∷ [] in
-    record {
-      front = whole ++ h.front;
-      rest = h.rest;
-      parts = parts ∙ sym (append_assoc line (10 ∷ []) after) ∙ ap (λ x. whole ++ x) h.parts ∙ sym (append_assoc whole h.front h.rest);
-      is_full = subst (λ (p : Progress S). HasFull full p) (sym (eats_append judge now whole h.front ∙ ap (λ (p : Progress S). eats judge p h.front) took)) h.is_full;
-    }
+    memory_or f (λ k. record {
+      front = whole ++ k.front;
+      rest = k.rest;
+      parts = parts ∙ sym (append_assoc line (10 ∷ []) after) ∙ ap (λ x. whole ++ x) k.parts ∙ sym (append_assoc whole k.front k.rest);
+      is_full = subst (λ (p : Progress S). HasFull full p) (sym (eats_append judge now whole k.front ∙ ap (λ (p : Progress S). eats judge p k.front) took)) k.is_full;
+    }) h
 
 pub line_fails : {S : Type 0} (full : S → Type 0) (judge : Judge S) (fault : JournalFault) (may : SetFault → Type 0) (now new newer total : Progress S) (left line after : List ℕ)
     → left ≡ line ++ 10 ∷ after → TakesPiece (IsPieceFault full judge now (line ++ 10 ∷ [])) (Err fault) new (eats judge now (line ++ 10 ∷ [])) → eats judge now left ≡ total

@@ -1,9 +1,10 @@
 -- A table's line: what is read is spelled so, and what is spelled so is read.
-use Rattle.std.proofs.Common.{◌≡◌, ℕ, ◌<◌, ◌≤◌, inl, inr, true, false, not, cond, leb, ltb, List, [], ◌∷◌, ◌++◌, length, map, Option, Some, None, Result, Ok, Err, refl, sym, ap, subst, ◌∙◌, append_assoc, arith}
-use Rattle.std.specs.Prelude.{◌&&◌, ◌||◌, codes, decimal}
+use Rattle.std.proofs.Common.{◌≡◌, ℕ, ◌<◌, ◌≤◌, inl, inr, Bool, true, false, not, cond, leb, ltb, List, [], ◌∷◌, ◌++◌, length, map, Option, Some, None, Result, Ok, Err, refl, sym, ap, ◌∙◌, append_assoc, arith}
+use Rattle.std.specs.Prelude.{◌&&◌, ◌||◌, codes, MatchResult}
 use Rattle.std.specs.List.{list_all}
 use Rattle.std.specs.Str.{bytes_eq}
-use Rattle.std.proofs.lemmas.Bool.{leb-true, le-leb, lt-leb, ltb-true, le-ltb, and_parts, not-false, or_parts}
+use Rattle.std.proofs.lemmas.Bool.{leb-true, leb-false, le-leb, lt-leb, ltb-true, lt-ltb, le-ltb, and_parts, not-false, or_parts}
+use Rattle.std.proofs.lemmas.Option.{same_Some}
 use Rattle.std.proofs.lemmas.List.{append-nil, length-map}
 use Rattle.std.proofs.lemmas.Slice.Eq.{bytes_eq-Decides}
 use Rattle.rows.specs.Names.{is_name}
@@ -14,15 +15,16 @@ use Rattle.rows.specs.Tables.{are_distinct, is_column_list, has_column_lists, is
 use Rattle.journal_words.specs.Words.{is_count, count_of}
 use Rattle.journal_words.proofs.Counts.{lacks, is_count_decimal, count_again, count_found}
 use Rattle.txn_journal.specs.Words.{name_of}
-use Rattle.txn_journal.specs.Lines.{◌>>=◌, some_or_body}
+use Rattle.txn_journal.specs.Lines.{some_or_body}
 use Rattle.txn_journal.specs.Splits.{parts_of, joined_by, are_new_to, are_columns, is_columns_text, column_words, columns_text}
-use Rattle.txn_journal.specs.Shapes.{Shape, unique_words, shape_words, shape_text, FitsShape, uniques_from, is_head, shape_with, shape_of, shape_in, few_columns, width_of, column_below, numbers_from, columns_in, keys_from, table_of, shape_for, after_fault, with_table}
+use Rattle.txn_journal.specs.Shapes.{Shape, unique_words, shape_words, shape_text, FitsShape, uniques_from, is_head, shape_of, shape_in, few_columns, width_of, column_below, numbers_from, columns_in, keys_from, table_of, shape_for, after_fault, with_table}
 use Rattle.txn_journal.specs.declared.fault.Cause.{Cause}
 use Rattle.txn_journal.specs.declared.fault.Cause.TheVariants as causes
 use Rattle.txn_journal.proofs.NameLemmas.{name_no_blank, name_no_feed}
-use Rattle.txn_journal.proofs.LineReads.{bind_ok, ok_is, some_or_body_ok, name_found}
+use Rattle.txn_journal.specs.BundleCauses.{PassesTableLimit, HasNoPlace}
+use Rattle.txn_journal.proofs.Judged.{then_both, if_both, found_weaker, IsBody, IsSchema, ok_is}
+use Rattle.txn_journal.proofs.LineReads.{name_both}
 use Rattle.txn_journal.proofs.SplitLaws.{parts_joined, parts_cut, AllLack, parts_again, joined_lacks, count_no_blank, count_no_feed, columns_no_blank, columns_no_feed, are_small, new_distinct, columns_parts, columns_written}
-use Rattle.gtid_text.proofs.Turns.{chosen}
 
 -- ---- what is read is spelled so
 
@@ -32,56 +34,40 @@ record UniquesFound (before words us : List (List ℕ)) : Type 0 where
   spelt : words ≡ unique_words read
   fits : list_all is_columns_text read ≡ true
 
-uniques_found : (before words us : List (List ℕ)) → uniques_from before words ≡ Ok us → UniquesFound before words us
+uniques_both : (before words : List (List ℕ)) → MatchResult (uniques_from before words) (UniquesFound before words) IsBody
 unfolding uniques_from
-uniques_found before [] us e = record { read = []; whole = append-nil before ∙ ok_is before us e; spelt = refl; fits = refl }
-uniques_found before (key ∷ []) us e = absurd cc
-uniques_found before (key ∷ columns ∷ words) us e =
-    elim (chosen (bytes_eq key (codes "uk") && is_columns_text columns) (uniques_from (before ++ columns ∷ []) words) (Err causes.Body) (Ok us) e) [
-      | inl p ↦
-          let q = and_parts (bytes_eq key (codes "uk")) (is_columns_text columns) p.0 in
-          let more = uniques_found (before ++ columns ∷ []) words us p.1 in
-          record {
-            read = columns ∷ more.read;
-            whole = sym (append_assoc before (columns ∷ []) more.read) ∙ more.whole;
-            spelt = (λ i. (bytes_eq-Decides key (codes "uk")).0 q.0 i ∷ columns ∷ more.spelt i);
-            fits = rw q.1 more.fits;
-          }
-      | inr p ↦ absurd (let k = p.1 in cc)
-    ]
+uniques_both before [] = record { read = []; whole = append-nil before; spelt = refl; fits = refl }
+uniques_both before (key ∷ []) = tt
+uniques_both before (key ∷ columns ∷ words) = if_both _ _ (bytes_eq key (codes "uk") && is_columns_text columns) _ _ (λ is.
+    let q = and_parts (bytes_eq key (codes "uk")) (is_columns_text columns) is in
+    found_weaker (uniques_from (before ++ columns ∷ []) words) _ _ _ (λ us more. record {
+      read = columns ∷ more.read;
+      whole = sym (append_assoc before (columns ∷ []) more.read) ∙ more.whole;
+      spelt = (λ i. (bytes_eq-Decides key (codes "uk")).0 q.0 i ∷ columns ∷ more.spelt i);
+      fits = rw q.1 more.fits;
+    }) (uniques_both (before ++ columns ∷ []) words)) (λ no. tt)
 
 pub record ShapeFound (words : List (List ℕ)) (s : Shape) : Type 0 where
   pub spelt : words ≡ shape_words s
   pub fits : FitsShape s
 
-shape_of_found : (words : List (List ℕ)) (s : Shape) → shape_of words ≡ Ok s → ShapeFound words s
+words_both : (words : List (List ℕ)) → MatchResult (shape_of words) (ShapeFound words) IsBody
 unfolding shape_of
-shape_of_found [] s e = absurd cc
-shape_of_found (n ∷ []) s e = absurd cc
-shape_of_found (n ∷ c ∷ []) s e = absurd cc
-shape_of_found (n ∷ c ∷ k ∷ []) s e = absurd cc
-shape_of_found (n ∷ c ∷ k ∷ p ∷ words) s e =
-    let a = bind_ok (some_or_body (name_of n)) (λ named. shape_with named c k p words) s e in
-    let name = name_found n a.0 (some_or_body_ok (name_of n) a.0 a.1) in
-    elim (chosen (is_head c k p) (uniques_from [] words >>= λ us. Ok (record { name = a.0; columns = c; primary = p; uniques = us })) (Err causes.Body) (Ok s) a.2) [
-      | inl h ↦
-          let b = bind_ok (uniques_from [] words) (λ us. Ok (record { name = a.0; columns = c; primary = p; uniques = us })) s h.1 in
-          let u = uniques_found [] words b.0 b.1 in
-          let q = and_parts (is_count c) (bytes_eq k (codes "pk") && is_columns_text p) h.0 in
-          let r = and_parts (bytes_eq k (codes "pk")) (is_columns_text p) q.1 in
-          let words_are : words ≡ unique_words b.0 = u.spelt ∙ ap unique_words u.whole in
-          subst (ShapeFound (n ∷ c ∷ k ∷ p ∷ words)) (ok_is (record { name = a.0; columns = c; primary = p; uniques = b.0 }) s b.2) (record {
-            spelt = (λ i. name.0 i ∷ c ∷ (bytes_eq-Decides k (codes "pk")).0 r.0 i ∷ p ∷ words_are i);
-            fits = record { name = name.1; columns = q.0; primary = r.1; uniques = ap (list_all is_columns_text) (sym u.whole) ∙ u.fits };
-          })
-      | inr h ↦ absurd (let k = h.1 in cc)
-    ]
+words_both [] = tt
+words_both (n ∷ []) = tt
+words_both (n ∷ c ∷ []) = tt
+words_both (n ∷ c ∷ k ∷ []) = tt
+words_both (n ∷ c ∷ k ∷ p ∷ words) = then_both _ _ (some_or_body (name_of n)) _ (name_both n) (λ name h. if_both _ _ (is_head c k p) _ _ (λ head.
+    let q = and_parts (is_count c) (bytes_eq k (codes "pk") && is_columns_text p) head in
+    let r = and_parts (bytes_eq k (codes "pk")) (is_columns_text p) q.1 in
+    then_both _ _ (uniques_from [] words) _ (uniques_both [] words) (λ us u. record {
+      spelt = (λ i. h.0 i ∷ c ∷ (bytes_eq-Decides k (codes "pk")).0 r.0 i ∷ p ∷ (u.spelt ∙ ap unique_words u.whole) i);
+      fits = record { name = h.1; columns = q.0; primary = r.1; uniques = ap (list_all is_columns_text) (sym u.whole) ∙ u.fits };
+    })) (λ no. tt))
 
-pub shape_found : (text : List ℕ) (s : Shape) → shape_in text ≡ Ok s → (text ≡ shape_text s) × FitsShape s
+pub shape_both : (text : List ℕ) → MatchResult (shape_in text) (λ s. (text ≡ shape_text s) × FitsShape s) IsBody
 unfolding shape_in
-shape_found text s e =
-    let f = shape_of_found (parts_of 32 text) s e in
-    (sym (parts_joined 32 text) ∙ ap (joined_by 32) f.spelt, f.fits)
+shape_both text = found_weaker (shape_of (parts_of 32 text)) _ _ _ (λ s f. (sym (parts_joined 32 text) ∙ ap (joined_by 32) f.spelt, f.fits)) (words_both (parts_of 32 text))
 
 -- ---- what is spelled is read
 
@@ -122,27 +108,20 @@ record NumbersFound (limit : ℕ) (before : List ℕ) (words : List (List ℕ)) 
   spelt : words ≡ column_words read
   below : are_below limit read ≡ true
 
-below_found : (limit : ℕ) (o : Option ℕ) (n : ℕ) → column_below limit o ≡ Ok n → (o ≡ Some n) × (ltb n limit ≡ true)
-below_found limit None n e = absurd cc
-below_found limit (Some m) n e =
-    elim (chosen (ltb m limit) (Ok m) (Err causes.Schema) (Ok n) e) [
-      | inl p ↦ let same = ok_is m n p.1 in (ap Some same, ap (λ (x : ℕ). ltb x limit) (sym same) ∙ p.0)
-      | inr p ↦ absurd (let k = p.1 in cc)
-    ]
+below_both : (limit : ℕ) (o : Option ℕ) → MatchResult (column_below limit o) (λ n. (o ≡ Some n) × (ltb n limit ≡ true)) IsSchema
+below_both limit None = tt
+below_both limit (Some m) = if_both _ _ (ltb m limit) _ _ (λ lt. (refl, lt)) (λ no. tt)
 
-numbers_found : (limit : ℕ) (before : List ℕ) (words : List (List ℕ)) (cs : List ℕ) → numbers_from limit before words ≡ Ok cs → NumbersFound limit before words cs
+numbers_both : (limit : ℕ) (before : List ℕ) (words : List (List ℕ)) → MatchResult (numbers_from limit before words) (NumbersFound limit before words) IsSchema
 unfolding numbers_from
-numbers_found limit before [] cs e = record { read = []; whole = append-nil before ∙ ok_is before cs e; spelt = refl; below = refl }
-numbers_found limit before (w ∷ ws) cs e =
-    let a = bind_ok (column_below limit (count_of w)) (λ n. numbers_from limit (before ++ n ∷ []) ws) cs e in
-    let b = below_found limit (count_of w) a.0 a.1 in
-    let more = numbers_found limit (before ++ a.0 ∷ []) ws cs a.2 in
-    record {
-      read = a.0 ∷ more.read;
-      whole = sym (append_assoc before (a.0 ∷ []) more.read) ∙ more.whole;
-      spelt = (λ i. (count_found w a.0 b.0).0 i ∷ more.spelt i);
+numbers_both limit before [] = record { read = []; whole = append-nil before; spelt = refl; below = refl }
+numbers_both limit before (w ∷ ws) = then_both _ _ (column_below limit (count_of w)) _ (below_both limit (count_of w)) (λ n b.
+    found_weaker (numbers_from limit (before ++ n ∷ []) ws) _ _ _ (λ cs more. record {
+      read = n ∷ more.read;
+      whole = sym (append_assoc before (n ∷ []) more.read) ∙ more.whole;
+      spelt = (λ i. (count_found w n b.0).0 i ∷ more.spelt i);
       below = rw b.1 more.below;
-    }
+    }) (numbers_both limit (before ++ n ∷ []) ws))
 
 pub record ColumnsFound (limit : ℕ) (text : List ℕ) (cs : List ℕ) : Type 0 where
   pub spelt : text ≡ columns_text cs
@@ -153,10 +132,9 @@ some_words : (cs : List ℕ) (w : List ℕ) (ws : List (List ℕ)) → w ∷ ws 
 some_words [] w ws e = absurd (let k = ap (λ (x : List (List ℕ)). length x) e in omega arith)
 some_words (c ∷ cs) w ws e = omega arith
 
-columns_found : (limit : ℕ) (text cs : List ℕ) → is_columns_text text ≡ true → columns_in limit text ≡ Ok cs → ColumnsFound limit text cs
+columns_both : (limit : ℕ) (text : List ℕ) → is_columns_text text ≡ true → MatchResult (columns_in limit text) (ColumnsFound limit text) IsSchema
 unfolding columns_in
-columns_found limit text cs fits e =
-    let f = numbers_found limit [] (parts_of 44 text) cs e in
+columns_both limit text fits = found_weaker (numbers_from limit [] (parts_of 44 text)) _ _ _ (λ cs f.
     let words : parts_of 44 text ≡ column_words cs = f.spelt ∙ ap column_words f.whole in
     let some : 0 < length cs = some_words cs _ _ (sym (parts_cut 44 text) ∙ words) in
     let new = and_parts (list_all is_count (column_words cs)) (are_new_to (λ v. false) (column_words cs)) (ap are_columns (sym words) ∙ fits) in
@@ -164,7 +142,7 @@ columns_found limit text cs fits e =
       spelt = sym (parts_joined 44 text) ∙ ap (joined_by 44) words;
       below = ap (are_below limit) (sym f.whole) ∙ f.below;
       list = rw (le-leb 1 (length cs) (omega arith), (new_distinct (λ v. false) cs new.1).0) refl;
-    }
+    }) (numbers_both limit [] (parts_of 44 text))
 
 record KeysFound (limit : ℕ) (before : List (List ℕ)) (texts : List (List ℕ)) (keys : List (List ℕ)) : Type 0 where
   read : List (List ℕ)
@@ -173,76 +151,40 @@ record KeysFound (limit : ℕ) (before : List (List ℕ)) (texts : List (List �
   below : list_all (are_below limit) read ≡ true
   lists : list_all is_column_list read ≡ true
 
-keys_found : (limit : ℕ) (before texts keys : List (List ℕ)) → list_all is_columns_text texts ≡ true → keys_from limit before texts ≡ Ok keys → KeysFound limit before texts keys
+keys_both : (limit : ℕ) (before texts : List (List ℕ)) → list_all is_columns_text texts ≡ true → MatchResult (keys_from limit before texts) (KeysFound limit before texts) IsSchema
 unfolding keys_from
-keys_found limit before [] keys fits e = record { read = []; whole = append-nil before ∙ ok_is before keys e; spelt = refl; below = refl; lists = refl }
-keys_found limit before (t ∷ ts) keys fits e =
+keys_both limit before [] fits = record { read = []; whole = append-nil before; spelt = refl; below = refl; lists = refl }
+keys_both limit before (t ∷ ts) fits =
     let p = and_parts (is_columns_text t) (list_all is_columns_text ts) fits in
-    let a = bind_ok (columns_in limit t) (λ columns. keys_from limit (before ++ columns ∷ []) ts) keys e in
-    let c = columns_found limit t a.0 p.0 a.1 in
-    let more = keys_found limit (before ++ a.0 ∷ []) ts keys p.1 a.2 in
-    record {
-      read = a.0 ∷ more.read;
-      whole = sym (append_assoc before (a.0 ∷ []) more.read) ∙ more.whole;
+    then_both _ _ (columns_in limit t) _ (columns_both limit t p.0) (λ columns c. found_weaker (keys_from limit (before ++ columns ∷ []) ts) _ _ _ (λ keys more. record {
+      read = columns ∷ more.read;
+      whole = sym (append_assoc before (columns ∷ []) more.read) ∙ more.whole;
       spelt = (λ i. c.spelt i ∷ more.spelt i);
       below = rw c.below more.below;
       lists = rw c.list more.lists;
-    }
-
-few_found : (o : Option ℕ) (n : ℕ) → few_columns o ≡ Ok n → (o ≡ Some n) × ((leb 1 n && leb n 64) ≡ true)
-few_found None n e = absurd cc
-few_found (Some m) n e =
-    elim (chosen (leb 1 m && leb m 64) (Ok m) (Err causes.Limit) (Ok n) e) [
-      | inl p ↦ let same = ok_is m n p.1 in (ap Some same, ap (λ (x : ℕ). leb 1 x && leb x 64) (sym same) ∙ p.0)
-      | inr p ↦ absurd (let k = p.1 in cc)
-    ]
-
-pub record WidthFound (s : Shape) (n : ℕ) : Type 0 where
-  pub few_uniques : ltb 8 (length s.uniques) ≡ false
-  pub written : count_of s.columns ≡ Some n
-  pub some : leb 1 n ≡ true
-  pub few : leb n 64 ≡ true
-
-pub width_found : (s : Shape) (n : ℕ) → width_of s ≡ Ok n → WidthFound s n
-unfolding width_of
-width_found s n e =
-    elim (chosen (ltb 8 (length s.uniques)) (Err causes.Limit) (few_columns (count_of s.columns)) (Ok n) e) [
-      | inl p ↦ absurd (let k = p.1 in cc)
-      | inr p ↦ let f = few_found (count_of s.columns) n p.1 in let q = and_parts (leb 1 n) (leb n 64) f.1 in record { few_uniques = p.0; written = f.0; some = q.0; few = q.1 }
-    ]
+    }) (keys_both limit (before ++ columns ∷ []) ts p.1))
 
 -- the table of a shape is spelled so
-pub record TableFound (s : Shape) (t : Table) : Type 0 where
-  pub shape : s ≡ shape_for t
-  pub lists : has_column_lists t ≡ true
-  pub below : has_its_columns t ≡ true
-  pub columns : ℕ
-  pub width : columns ≡ t.columns
+record TableFound (s : Shape) (n : ℕ) (t : Table) : Type 0 where
+  shape : s ≡ shape_for t
+  lists : has_column_lists t ≡ true
+  below : has_its_columns t ≡ true
+  width : t.columns ≡ n
+  name : t.name ≡ s.name
+  uniques : length t.uniques ≡ length s.uniques
 
-shape_is : (s : Shape) (name columns primary : List ℕ) (uniques : List (List ℕ)) → s.name ≡ name → s.columns ≡ columns → s.primary ≡ primary → s.uniques ≡ uniques → s ≡ record { name = name; columns = columns; primary = primary; uniques = uniques }
-shape_is s name columns primary uniques a b c d = λ i. record { name = a i; columns = b i; primary = c i; uniques = d i }
-
-pub table_found : (s : Shape) (n : ℕ) (t : Table) → FitsShape s → count_of s.columns ≡ Some n → table_of s n ≡ Ok t → (TableFound s t) × (t.columns ≡ n) × (length t.uniques ≡ length s.uniques) × (t.name ≡ s.name)
+table_both : (s : Shape) (n : ℕ) → FitsShape s → count_of s.columns ≡ Some n → MatchResult (table_of s n) (TableFound s n) IsSchema
 unfolding table_of
-table_found s n t f w e =
-    let a = bind_ok (columns_in n s.primary) (λ primary. keys_from n [] s.uniques >>= λ uniques. Ok (record { name = s.name; columns = n; primary = primary; uniques = uniques })) t e in
-    let b = bind_ok (keys_from n [] s.uniques) (λ uniques. Ok (record { name = s.name; columns = n; primary = a.0; uniques = uniques })) t a.2 in
-    let c = columns_found n s.primary a.0 f.primary a.1 in
-    let k = keys_found n [] s.uniques b.0 f.uniques b.1 in
-    let made : Table = record { name = s.name; columns = n; primary = a.0; uniques = b.0 } in
-    let uniques : s.uniques ≡ map columns_text b.0 = k.spelt ∙ ap (map columns_text) k.whole in
-    subst (λ (x : Table). (TableFound s x) × (x.columns ≡ n) × (length x.uniques ≡ length s.uniques) × (x.name ≡ s.name)) (ok_is made t b.2) ((
-      record {
-        shape = shape_is s s.name (decimal n) (columns_text a.0) (map columns_text b.0) refl (count_found s.columns n w).0 c.spelt uniques;
-        lists = rw (c.list, ap (list_all is_column_list) (sym k.whole) ∙ k.lists) refl;
-        below = rw (c.below, ap (list_all (are_below n)) (sym k.whole) ∙ k.below) refl;
-        columns = n;
-        width = refl;
-      },
-      refl,
-      sym (ap (λ (x : List (List ℕ)). length x) uniques ∙ length-map b.0 columns_text),
-      refl,
-    ))
+table_both s n f w = then_both _ _ (columns_in n s.primary) _ (columns_both n s.primary f.primary) (λ primary c. then_both _ _ (keys_from n [] s.uniques) _ (keys_both n [] s.uniques f.uniques) (λ keys k.
+    let uniques : s.uniques ≡ map columns_text keys = k.spelt ∙ ap (map columns_text) k.whole in
+    record {
+      shape = (λ i. record { name = s.name; columns = (count_found s.columns n w).0 i; primary = c.spelt i; uniques = uniques i });
+      lists = rw (c.list, ap (list_all is_column_list) (sym k.whole) ∙ k.lists) refl;
+      below = rw (c.below, ap (list_all (are_below n)) (sym k.whole) ∙ k.below) refl;
+      width = refl;
+      name = refl;
+      uniques = sym (ap (λ (x : List (List ℕ)). length x) uniques ∙ length-map keys columns_text);
+    }))
 
 -- ---- the line of a table is read
 
@@ -295,26 +237,20 @@ pub record Allowed (tables : List Table) (t : Table) : Type 0 where
   pub new : is_taken t.name tables ≡ false
   pub below : has_its_columns t ≡ true
 
-abbrev some_fault : TableFault → Option TableFault
-some_fault f = Some f
+none_if : {A : Type 0} (b : Bool) (x : A) (o : Option A) → cond b (Some x) o ≡ None → (b ≡ false) × (o ≡ None)
+none_if true x o e = absurd cc
+none_if false x o e = (refl, e)
 
 pub allowed : (tables : List Table) (t : Table) → table_fault tables t ≡ None → Allowed tables t
 allowed tables t e =
     let third : Option TableFault = cond (is_taken t.name tables || not (has_its_columns t)) (Some table_faults.Schema) None in
     let second : Option TableFault = cond (not (is_within_limits t && ltb (length tables) 256)) (Some table_faults.Limit) third in
-    elim (chosen (not (has_column_lists t)) (Some table_faults.Body) second None e) [
-      | inl p ↦ absurd (let k = p.1 in cc)
-      | inr p ↦ elim (chosen (not (is_within_limits t && ltb (length tables) 256)) (Some table_faults.Limit) third None p.1) [
-        | inl q ↦ absurd (let k = q.1 in cc)
-        | inr q ↦ elim (chosen (is_taken t.name tables || not (has_its_columns t)) (Some table_faults.Schema) None None q.1) [
-          | inl r ↦ absurd (let k = r.1 in cc)
-          | inr r ↦
-              let w = and_parts (is_within_limits t) (ltb (length tables) 256) (not-false (is_within_limits t && ltb (length tables) 256) q.0) in
-              let n = or_parts (is_taken t.name tables) (not (has_its_columns t)) r.0 in
-              record { lists = not-false (has_column_lists t) p.0; limits = w.0; room = w.1; new = n.0; below = not-false (has_its_columns t) n.1 }
-        ]
-      ]
-    ]
+    let p = none_if (not (has_column_lists t)) table_faults.Body second e in
+    let q = none_if (not (is_within_limits t && ltb (length tables) 256)) table_faults.Limit third p.1 in
+    let r = none_if (is_taken t.name tables || not (has_its_columns t)) table_faults.Schema None q.1 in
+    let w = and_parts (is_within_limits t) (ltb (length tables) 256) (not-false (is_within_limits t && ltb (length tables) 256) q.0) in
+    let n = or_parts (is_taken t.name tables) (not (has_its_columns t)) r.0 in
+    record { lists = not-false (has_column_lists t) p.0; limits = w.0; room = w.1; new = n.0; below = not-false (has_its_columns t) n.1 }
 
 record Bounds (t : Table) : Type 0 where
   some : leb 1 t.columns ≡ true
@@ -378,23 +314,81 @@ pub record Adds (tables : List Table) (s : Shape) (new : List Table) : Type 0 wh
   pub free : table_fault tables table ≡ None
   pub after : tables ++ table ∷ [] ≡ new
 
-after_found : (o : Option TableFault) (ts new : List Table) → after_fault o ts ≡ Ok new → (o ≡ None) × (ts ≡ new)
-after_found None ts new e = (refl, ok_is ts new e)
-after_found (Some f) ts new e = absurd cc
+-- a limit is passed, or else the tables before do not allow it
+unfoldable pub TableErr : List Table → Shape → Cause → Type 0
+TableErr tables s causes.Limit = PassesTableLimit tables s
+TableErr tables s causes.Schema = (PassesTableLimit tables s → ⊥) × HasNoPlace tables s
+TableErr tables s _ = ⊥
 
-limit_or_table : ℕ → Shape → ℕ → Result Table Cause
-limit_or_table count s n = cond (leb 256 count) (Err causes.Limit) (table_of s n)
+record WidthFound (s : Shape) (n : ℕ) : Type 0 where
+  few_uniques : ltb 8 (length s.uniques) ≡ false
+  written : count_of s.columns ≡ Some n
+  some : leb 1 n ≡ true
+  few : leb n 64 ≡ true
 
-pub with_found : (tables : List Table) (s : Shape) (new : List Table) → FitsShape s → with_table tables s ≡ Ok new → Adds tables s new
-unfolding with_table
-with_found tables s new f e =
-    let a = bind_ok (width_of s) (λ n. cond (leb 256 (length tables)) (Err causes.Limit) (table_of s n) >>= λ t. after_fault (table_fault tables t) (tables ++ t ∷ [])) new e in
-    let b = bind_ok (cond (leb 256 (length tables)) (Err causes.Limit) (table_of s a.0)) (λ t. after_fault (table_fault tables t) (tables ++ t ∷ [])) new a.2 in
-    let w = width_found s a.0 a.1 in
-    let last = after_found (table_fault tables b.0) (tables ++ b.0 ∷ []) new b.2 in
-    elim (chosen (leb 256 (length tables)) (Err causes.Limit) (table_of s a.0) (Ok b.0) b.1) [
-      | inl p ↦ absurd (let k = p.1 in cc)
-      | inr p ↦
-          let t = table_found s a.0 b.0 f w.written p.1 in
-          record { table = b.0; shape = t.0.shape; name = ap is_name t.3 ∙ f.name; free = last.0; after = last.1 }
-    ]
+few_both : (tables : List Table) (s : Shape) (o : Option ℕ) → ltb 8 (length s.uniques) ≡ false → count_of s.columns ≡ o → MatchResult (few_columns o) (WidthFound s) (TableErr tables s)
+unfolding TableErr
+few_both tables s None few e = inr (inl (λ w. let k = sym e ∙ w.written in cc))
+few_both tables s (Some m) few e = if_both _ _ (leb 1 m && leb m 64) _ _
+    (λ within. let q = and_parts (leb 1 m) (leb m 64) within in record { few_uniques = few; written = e; some = q.0; few = q.1 })
+    (λ out. inr (inl (λ w.
+    let same = same_Some m w.width (sym e ∙ w.written) in
+    let k : (leb 1 m && leb m 64) ≡ true = ap (λ (x : ℕ). leb 1 x && leb x 64) same ∙ rw (le-leb 1 w.width w.some, le-leb w.width 64 w.few) refl in cc)))
+
+width_both : (tables : List Table) (s : Shape) → MatchResult (width_of s) (WidthFound s) (TableErr tables s)
+unfolding width_of TableErr
+width_both tables s = if_both _ _ (ltb 8 (length s.uniques)) _ _ (λ many. inl (ltb-true 8 (length s.uniques) many)) (λ few. few_both tables s (count_of s.columns) few refl)
+
+-- a table of this shape that may come is the one that is read
+read_table : (tables : List Table) (s : Shape) (n : ℕ) (t : Table) → count_of s.columns ≡ Some n → s ≡ shape_for t → table_fault tables t ≡ None → table_of s n ≡ Ok t
+read_table tables s n t w same free =
+    let a = allowed tables t free in
+    let width : t.columns ≡ n = same_Some t.columns n (sym (count_again t.columns (omega (arith, bounds_of tables t a))) ∙ ap (λ (x : Shape). count_of x.columns) (sym same) ∙ w) in
+    (λ i. table_of (same i) (sym width i)) ∙ (table_again tables t a).1
+
+within_of : (tables : List Table) (s : Shape) (n : ℕ) → WidthFound s n → leb 256 (length tables) ≡ false → PassesTableLimit tables s → ⊥
+within_of tables s n w room (inl many) = let k = lt-ltb 8 (length s.uniques) many in let f = w.few_uniques in cc
+within_of tables s n w room (inr (inl none)) = none (record { width = n; written = w.written; some = leb-true 1 n w.some; few = leb-true n 64 w.few })
+within_of tables s n w room (inr (inr full)) = let k = le-leb 256 (length tables) full in cc
+
+-- what is in the grammar and within the limits does not fit the tables before, where it fails
+only_schema : (tables : List Table) (t : Table) → has_column_lists t ≡ true → is_within_limits t ≡ true → ltb (length tables) 256 ≡ true → table_fault tables t ≡ cond (is_taken t.name tables || not (has_its_columns t)) (Some table_faults.Schema) None
+only_schema tables t lists limits room = rw (lists, limits, room) refl
+
+within_t : (t : Table) (n m : ℕ) → t.columns ≡ n → length t.uniques ≡ m → leb 1 n ≡ true → leb n 64 ≡ true → ltb 8 m ≡ false → is_within_limits t ≡ true
+within_t t n m width uniques a b c = rw (width, uniques, a, b) (few_of m c)
+  where
+    few_of : (n : ℕ) → ltb 8 n ≡ false → leb n 8 ≡ true
+    few_of n e = grind arith
+
+-- where the table was read
+added_both : (tables : List Table) (s : Shape) (n : ℕ) (t : Table) (b : Bool) → FitsShape s → WidthFound s n → leb 256 (length tables) ≡ false → table_of s n ≡ Ok t → TableFound s n t → table_fault tables t ≡ cond b (Some table_faults.Schema) None
+    → MatchResult (after_fault (cond b (Some table_faults.Schema) None) (tables ++ t ∷ [])) (Adds tables s) (TableErr tables s)
+unfolding TableErr
+added_both tables s n t true f w room e h fault = (
+  within_of tables s n w room,
+  λ u same free.
+      let one : t ≡ u = ok_is t u (sym e ∙ read_table tables s n u w.written same free) in
+      let k = sym (ap (table_fault tables) one ∙ free) ∙ fault in cc,
+)
+added_both tables s n t false f w room e h fault = record { table = t; shape = h.shape; name = ap is_name h.name ∙ f.name; free = fault; after = refl }
+
+table_read : (tables : List Table) (s : Shape) (n : ℕ) (r : Result Table Cause) → WidthFound s n → leb 256 (length tables) ≡ false → table_of s n ≡ r → MatchResult r (TableFound s n) IsSchema → MatchResult r (λ t. (leb 256 (length tables) ≡ false) × (table_of s n ≡ Ok t) × TableFound s n t) (TableErr tables s)
+unfolding TableErr
+table_read tables s n (Ok t) w room e h = (room, e, h)
+table_read tables s n (Err causes.Schema) w room e h = (within_of tables s n w room, λ t same free. let k = sym (read_table tables s n t w.written same free) ∙ e in cc)
+table_read tables s n (Err c) w room e h = absurd h
+
+pub with_both : (tables : List Table) (s : Shape) → FitsShape s → MatchResult (with_table tables s) (Adds tables s) (TableErr tables s)
+unfolding with_table TableErr
+with_both tables s f = then_both _ _ (width_of s) _ (width_both tables s) (λ n w.
+    then_both _ _ (cond (leb 256 (length tables)) (Err causes.Limit) (table_of s n)) _
+    (if_both (λ t. (leb 256 (length tables) ≡ false) × (table_of s n ≡ Ok t) × TableFound s n t) _ (leb 256 (length tables)) _ _ (λ full. inr (inr (leb-true 256 (length tables) full)))
+    (λ room. table_read tables s n (table_of s n) w room refl (table_both s n f w.written)))
+    (λ t h.
+    let limits = within_t t n (length s.uniques) h.2.width h.2.uniques w.some w.few w.few_uniques in
+    let fault = only_schema tables t h.2.lists limits (not_leb (length tables) h.0) in
+    rw fault (added_both tables s n t (is_taken t.name tables || not (has_its_columns t)) f w h.0 h.1 h.2 fault)))
+  where
+    not_leb : (n : ℕ) → leb 256 n ≡ false → ltb n 256 ≡ true
+    not_leb n e = let k = leb-false 256 n e in lt-ltb n 256 k

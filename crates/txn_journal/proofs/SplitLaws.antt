@@ -4,7 +4,7 @@ use Rattle.std.specs.Prelude.{◌||◌, decimal}
 use Rattle.std.specs.List.{list_all, list_any, AllByRecursion}
 use Rattle.std.specs.Char.{is_ascii_digit}
 use Rattle.std.specs.Str.{bytes_eq}
-use Rattle.std.proofs.lemmas.Bool.{eqb-true, eq-eqb, and_parts, or_parts, not-true}
+use Rattle.std.proofs.lemmas.Bool.{false_from_ne_true, eqb-true, eq-eqb, and_parts, or_parts, not-true}
 use Rattle.std.proofs.lemmas.Bool.Decides.{nat_tests}
 use Rattle.std.proofs.lemmas.Slice.Eq.{bytes_eq-Decides}
 use Rattle.gtid_set.proofs.SpanLemmas.{all_weaker}
@@ -13,8 +13,7 @@ use Rattle.journal_words.specs.Words.{is_count}
 use Rattle.journal_words.proofs.Numerals.{digits_in}
 use Rattle.journal_words.proofs.Counts.{lacks, is_count_decimal, lacks-parts}
 use Rattle.txn_journal.specs.Words.{before, behind}
-use Rattle.txn_journal.specs.Lines.{cons_head}
-use Rattle.txn_journal.specs.Splits.{parts_of, joined_by, are_new_to, are_columns, is_columns_text, column_words, columns_text}
+use Rattle.txn_journal.specs.Splits.{cons_head, parts_of, joined_by, are_new_to, are_columns, is_columns_text, column_words, columns_text}
 use Rattle.txn_journal.proofs.GtidLaws.{joins}
 use Rattle.std.proofs.lemmas.Fmt.{decimal_injective}
 use Rattle.journal_words.proofs.ValueLaws.{same_bytes}
@@ -56,7 +55,7 @@ unfolding parts_of
 parts_one c [] e = refl
 parts_one c (b ∷ bs) e = let p = lacks-parts c b bs e in rw (p.0, parts_one c bs p.1) refl
 
-parts_more : (c : ℕ) (w r : List ℕ) → lacks c w ≡ true → parts_of c (w ++ c ∷ r) ≡ w ∷ parts_of c r
+pub parts_more : (c : ℕ) (w r : List ℕ) → lacks c w ≡ true → parts_of c (w ++ c ∷ r) ≡ w ∷ parts_of c r
 unfolding parts_of
 parts_more c [] r e = rw (eq-eqb c c refl) refl
 parts_more c (b ∷ bs) r e = let p = lacks-parts c b bs e in rw (p.0, parts_more c bs r p.1) refl
@@ -126,10 +125,7 @@ any_apart seen c (x ∷ xs) e =
     let p = or_parts (bytes_eq (decimal x) (decimal c) || seen (decimal x)) (list_any (λ x. bytes_eq (decimal x) (decimal c) || seen (decimal x)) xs) e in
     let q = or_parts (bytes_eq (decimal x) (decimal c)) (seen (decimal x)) p.0 in
     let more = any_apart seen c xs p.1 in
-    let apart : eqb x c ≡ false = elim (eqb x c) as (λ v. eqb x c ≡ v → v ≡ false) [
-      | true ↦ λ h. absurd (let k = sym (same_bytes (decimal c)) ∙ ap (λ (y : ℕ). bytes_eq (decimal y) (decimal c)) (sym (eqb-true x c h)) ∙ q.0 in cc)
-      | false ↦ λ h. refl
-    ] refl in
+    let apart = false_from_ne_true (eqb x c) (λ h. let k = sym (same_bytes (decimal c)) ∙ ap (λ (y : ℕ). bytes_eq (decimal y) (decimal c)) (sym (eqb-true x c h)) ∙ q.0 in cc) in
     (rw apart more.0, rw q.1 more.1)
 
 pub new_distinct : (seen : List ℕ → Bool) (cs : List ℕ) → are_new_to seen (column_words cs) ≡ true → (are_distinct cs ≡ true) × (list_any (λ x. seen (decimal x)) cs ≡ false)
@@ -146,10 +142,7 @@ any_together seen c [] lt small a b = refl
 any_together seen c (x ∷ xs) lt small a b =
     let p = or_parts (eqb x c) (list_any (λ x. eqb x c) xs) a in
     let q = or_parts (seen (decimal x)) (list_any (λ x. seen (decimal x)) xs) b in
-    let apart : bytes_eq (decimal x) (decimal c) ≡ false = elim (bytes_eq (decimal x) (decimal c)) as (λ v. bytes_eq (decimal x) (decimal c) ≡ v → v ≡ false) [
-      | true ↦ λ h. absurd (let k = sym (eq-eqb x c (decimal_injective x c small.0 lt ((bytes_eq-Decides (decimal x) (decimal c)).0 h))) ∙ p.0 in cc)
-      | false ↦ λ h. refl
-    ] refl in
+    let apart = false_from_ne_true (bytes_eq (decimal x) (decimal c)) (λ h. let k = sym (eq-eqb x c (decimal_injective x c small.0 lt ((bytes_eq-Decides (decimal x) (decimal c)).0 h))) ∙ p.0 in cc) in
     rw (apart, q.0) (any_together seen c xs lt small.1 p.1 q.1)
 
 pub distinct_new : (seen : List ℕ → Bool) (cs : List ℕ) → are_small cs → are_distinct cs ≡ true → list_any (λ x. seen (decimal x)) cs ≡ false → are_new_to seen (column_words cs) ≡ true

@@ -1,6 +1,8 @@
 -- The words of a table's line, step by step.
-use Rattle.std.proofs.Common.{◌≡◌, ℕ, Bool, true, false, cond, List, [], ◌∷◌, ◌++◌, Option, Some, None, Result, Ok, Err, refl, sym, ap, subst, ◌∙◌, append_assoc}
+use Rattle.std.proofs.Common.{◌≡◌, ℕ, ◌<◌, inl, inr, Bool, true, false, cond, eqb, List, [], ◌∷◌, ◌++◌, length, arith, Option, Some, None, Result, Ok, Err, refl, sym, ap, subst, ◌∙◌, append_assoc}
 use Rattle.std.specs.Prelude.{is_some}
+use Rattle.std.proofs.lemmas.Option.{same_Some}
+use Rattle.gtid_text.proofs.Turns.{chosen}
 use Rattle.rows.specs.Apply.{Rows, apply}
 use Rattle.rows.specs.Fits.{misfit}
 use Rattle.rows.specs.Database.{Database, opening}
@@ -12,19 +14,26 @@ use Rattle.txn_journal.specs.Words.{before, behind}
 use Rattle.txn_journal.specs.Splits.{parts_of}
 use Rattle.rows.specs.declared.schema.Table.{Table}
 use Rattle.txn_journal.specs.Lines.{◌>>=◌}
-use Rattle.txn_journal.specs.Stream.{IsLineFault, TakesLine}
+use Rattle.txn_journal.specs.Stream.{IsMemoryOr, GivesFull, TakesLine}
 use Rattle.txn_journal.specs.BundleStates.{BundleStanding, IsFullBundle, with_opening, closed_channel, after_inner, judge_inner, ok_rows}
-use Rattle.gtid_set.specs.declared.fault.SetFault.{SetFault}
-use Rattle.gtid_set.specs.declared.fault.SetFault.TheVariants.{Memory, PoolFull, SourcesFull}
 use Rattle.txn_journal.specs.declared.fault.LineFault.{LineFault}
 use Rattle.txn_journal.specs.declared.fault.LineFault.TheVariants as wrong
 use Rattle.txn_journal.specs.Machine.{Standing, IsFull, is_last, judge}
 use Rattle.txn_journal.specs.declared.fault.Cause.{Cause}
 use Rattle.txn_journal.specs.declared.fault.Cause.TheVariants as causes
-use Rattle.txn_journal.proofs.LineReads.{done}
+use Rattle.txn_journal.proofs.Judged.{done}
+use Rattle.txn_journal.proofs.Pieces.{memory_or}
 use Rattle.txn_journal.proofs.SplitLaws.{parts_cut, more_parts}
 
 -- ---- parts
+
+-- what follows a separator is shorter than the text
+pub behind-shorter : (separator : ℕ) (text rest : List ℕ) → behind separator text ≡ Some rest → length rest < length text
+behind-shorter separator [] rest e = absurd cc
+behind-shorter separator (b ∷ bs) rest e = elim (chosen (eqb b separator) (Some bs) (behind separator bs) (Some rest) e) [
+  | inl p ↦ let k = ap (λ (x : List ℕ). length x) (same_Some bs rest p.1) in omega arith
+  | inr p ↦ let k = behind-shorter separator bs rest p.1 in omega arith
+]
 
 pub last_part : (all done : List (List ℕ)) (c : ℕ) (left w : List ℕ) (m : Option (List ℕ)) → all ≡ done ++ parts_of c left → w ≡ before c left → m ≡ behind c left → m ≡ None → done ++ w ∷ [] ≡ all
 last_part all done c left w m so_far word rest none =
@@ -70,12 +79,10 @@ inner_taken s tables d line r new same judged h =
 abbrev go_on : BundleStanding → Standing → Result BundleStanding Cause
 go_on s d = done (after_inner s d)
 
-inner_full : (s : BundleStanding) (f : SetFault) (r : Result Standing Cause) → IsLineFault IsFull f r → IsLineFault IsFullBundle f (r >>= go_on s)
+inner_full : (s : BundleStanding) (r : Result Standing Cause) → GivesFull IsFull r → GivesFull IsFullBundle (r >>= go_on s)
 unfolding after_inner
-inner_full s Memory r h = tt
-inner_full s PoolFull r h = h
-inner_full s SourcesFull (Ok d) h = subst (λ v. IsFull (ended_or_not s d v).draft) (sym (ap is_last h.0)) h
-inner_full s SourcesFull (Err cause) h = h
+inner_full s (Ok d) h = subst (λ v. IsFull (ended_or_not s d v).draft) (sym (ap is_last h.0)) h
+inner_full s (Err cause) h = h
 
 -- a line of the open journal that is not taken is none of the bundle's
 pub inner_failed : (s : BundleStanding) (tables : List Table) (d : Standing) (line : List ℕ) (fault : LineFault) (new : BundleStanding) → tables ≡ s.bundle.start.schema
@@ -84,4 +91,4 @@ unfolding judge_inner
 inner_failed s tables d line (wrong.Wrong cause) new same h =
     ap (λ (r : Result Standing Cause). r >>= go_on s) (ap (λ (t : List Table). judge (Some t) s.draft line) (sym same) ∙ h)
 inner_failed s tables d line (wrong.Set f) new same h =
-    inner_full s f (judge (Some s.bundle.start.schema) s.draft line) (subst (λ (t : List Table). IsLineFault IsFull f (judge (Some t) s.draft line)) same h)
+    memory_or f (inner_full s (judge (Some s.bundle.start.schema) s.draft line)) (subst (λ (t : List Table). IsMemoryOr (GivesFull IsFull (judge (Some t) s.draft line)) f) same h)

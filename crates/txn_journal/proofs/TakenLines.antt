@@ -1,10 +1,8 @@
 -- Entries that were taken are those that would have come in front.
-use Rattle.std.proofs.Common.{◌≡◌, ℕ, Bool, true, false, not, cond, eqb, leb, List, [], ◌∷◌, ◌++◌, length, None, Result, Ok, Err, refl, sym, ap, ◌∙◌, append_assoc}
-use Rattle.std.specs.Prelude.{◌||◌}
+use Rattle.std.proofs.Common.{◌≡◌, ℕ, Bool, true, false, not, cond, eqb, leb, List, [], ◌∷◌, ◌++◌, length, None, Result, Ok, Err, refl, sym, ap, ◌∙◌, append_assoc, arith}
+use Rattle.std.specs.Prelude.{◌||◌, MatchResult}
 use Rattle.std.specs.FinSet as set
 use Rattle.std.proofs.lemmas.List.{append-nil}
-use Rattle.rows.specs.declared.change.Change.{Change}
-use Rattle.gtid_text.specs.declared.Gtid.{Gtid}
 use Rattle.journal.specs.declared.Entry.{Entry}
 use Rattle.journal.specs.Journals.{JournalValue}
 use Rattle.journal.specs.Writing.{is_number, is_change_writable}
@@ -12,16 +10,20 @@ use Rattle.txn_journal.specs.Due.{is_due}
 use Rattle.txn_journal.specs.Lines.{◌>>=◌}
 use Rattle.txn_journal.specs.Machine.{Standing, is_last, closed, add, begin, judge}
 use Rattle.txn_journal.specs.Stream.{Progress, Reading, Stopped, judged, next_number, eat, ended, at_end}
+use Rattle.txn_journal.specs.Formats.{closing_by}
 use Rattle.txn_journal.specs.Reading.{eats_alone, entries_of, without_entries, closing, in_front, behind_entries, with_front, has_begun, HasBegun}
 use Rattle.txn_journal.specs.Spelling.{Line, Header, Previous, Begin, Makes, End, Close}
-use Rattle.txn_journal.specs.Causes.{word_for}
+use Rattle.txn_journal.specs.Wordings.{Says}
+use Rattle.txn_journal.specs.Causes.{word_for, wording, HasCause}
 use Rattle.txn_journal.specs.declared.fault.Cause.{Cause}
 use Rattle.txn_journal.specs.declared.fault.Cause.TheVariants as causes
 use Rattle.txn_journal.specs.declared.fault.JournalFault.{JournalFault}
 use Rattle.txn_journal.specs.declared.lines.Place.{Place}
 use Rattle.txn_journal.specs.declared.lines.Place.TheVariants as places
 use Rattle.txn_journal.specs.declared.lines.Keyword.TheVariants as keywords
-use Rattle.txn_journal.proofs.LineReads.{bind_ok, ok_is, put, read_line, read_found, judge_reads}
+use Rattle.txn_journal.proofs.WordLaws.{read_by, read_both, judged_both}
+use Rattle.txn_journal.proofs.LineReads.{body_of, put, judge_reads, rest_laws}
+use Rattle.txn_journal.proofs.SoundLines.{begin_both, add_both}
 
 abbrev with_taken : List Entry → Standing → Standing
 with_taken front s = record s { journal = in_front front s.journal }
@@ -38,11 +40,10 @@ behind_cond front true c x y e = refl
 behind_cond front false c x y e = e
 
 no_previous : (place : Place) → has_begun place ≡ true → is_due place keywords.Previous ≡ true → ⊥
-no_previous places.Header b e = absurd cc
-no_previous places.Previous b e = absurd cc
-no_previous places.Between b e = absurd cc
-no_previous places.Within b e = absurd cc
-no_previous places.Ended b e = absurd cc
+no_previous place b e = grind arith
+
+no_header : (place : Place) → has_begun place ≡ true → is_due place keywords.Journal ≡ true → ⊥
+no_header place b e = grind arith
 
 put_behind : (front : List Entry) (s : Standing) (l : Line) → has_begun s.place ≡ true → is_due s.place (word_for l) ≡ true → put None (with_taken front s) l ≡ behind_ok front (put None s l)
 unfolding put begin add
@@ -63,66 +64,32 @@ put_behind front s End b e =
     ap (λ (es : List Entry). ok_standing (record (closed s) { journal = record s.journal { entries = es } })) (append_assoc front s.journal.entries (one ∷ []))
 put_behind front s Close b e = refl
 
-then_behind : (front : List Entry) (s : Standing) (line : List ℕ) (r : Result Line Cause) → has_begun s.place ≡ true → read_line s.due s.place line ≡ r → (r >>= put None (with_taken front s)) ≡ behind_ok front (r >>= put None s)
-then_behind front s line (Ok l) b e = put_behind front s l b (read_found s.due s.place line l e).due_there
-then_behind front s line (Err c) b e = refl
+then_behind : (front : List Entry) (s : Standing) (line : List ℕ) (r : Result Line Cause) → has_begun s.place ≡ true → MatchResult r (Says (wording None s) line) (HasCause None s line) → (r >>= put None (with_taken front s)) ≡ behind_ok front (r >>= put None s)
+then_behind front s line (Ok l) b h = put_behind front s l b h.due
+then_behind front s line (Err c) b h = refl
 
 judge_behind : (front : List Entry) (s : Standing) (line : List ℕ) → has_begun s.place ≡ true → judge None (with_taken front s) line ≡ behind_ok front (judge None s line)
 judge_behind front s line b =
     judge_reads None (with_taken front s) line
-    ∙ then_behind front s line (read_line s.due s.place line) b refl
+    ∙ then_behind front s line (read_by (wording None s) (body_of s.due) line) b (read_both (wording None s) (body_of s.due) (rest_laws None s) line)
     ∙ ap (behind_ok front) (sym (judge_reads None s line))
 
 -- ---- a journal that has begun stays so
 
-begun_last : (s t : Standing) → has_begun s.place ≡ true → s.place ≡ t.place → has_begun t.place ≡ true
-begun_last s t b e = ap has_begun (sym e) ∙ b
+abbrev StaysBegun : Standing → Type 0
+StaysBegun t = has_begun t.place ≡ true
 
-at_begun : (s t : Standing) (place : Place) → has_begun place ≡ true → (record s { place = place }) ≡ t → has_begun t.place ≡ true
-at_begun s t place b e = ap (λ (u : Standing). has_begun u.place) (sym e) ∙ b
-
-begin_begun : (s t : Standing) (g : Gtid) → begin s g ≡ Ok t → has_begun t.place ≡ true
-unfolding begin
-begin_begun s t g e =
-    elim (not (is_number g.number)) as (λ v. cond v (Err causes.Body) (cond (leb 4294967294 s.count) (Err causes.Limit) (cond (set.contains s.seen g) (Err (causes.Twice g)) (Ok (record s { place = places.Within; gtid = g })))) ≡ Ok t → has_begun t.place ≡ true) [
-      | true ↦ λ h. absurd cc
-      | false ↦ elim (leb 4294967294 s.count) as (λ v. cond v (Err causes.Limit) (cond (set.contains s.seen g) (Err (causes.Twice g)) (Ok (record s { place = places.Within; gtid = g }))) ≡ Ok t → has_begun t.place ≡ true) [
-        | true ↦ λ h. absurd cc
-        | false ↦ elim (set.contains s.seen g) as (λ v. cond v (Err (causes.Twice g)) (Ok (record s { place = places.Within; gtid = g })) ≡ Ok t → has_begun t.place ≡ true) [
-          | true ↦ λ h. absurd cc
-          | false ↦ λ h. ap (λ (u : Standing). has_begun u.place) (sym (ok_is (record s { place = places.Within; gtid = g }) t h))
-        ]
-      ]
-    ] e
-
-add_begun : (s t : Standing) (c : Change) → has_begun s.place ≡ true → add None s c ≡ Ok t → has_begun t.place ≡ true
-unfolding add
-add_begun s t c b e =
-    elim (leb 65536 (length s.changes) || not (is_change_writable c)) as (λ v. cond v (Err causes.Limit) (Ok (record s { changes = s.changes ++ c ∷ [] })) ≡ Ok t → has_begun t.place ≡ true) [
-      | true ↦ λ h. absurd cc
-      | false ↦ λ h. ap (λ (u : Standing). has_begun u.place) (sym (ok_is (record s { changes = s.changes ++ c ∷ [] }) t h)) ∙ b
-    ] e
-
-no_header : (place : Place) → has_begun place ≡ true → is_due place keywords.Journal ≡ true → ⊥
-no_header places.Header b e = absurd cc
-no_header places.Previous b e = absurd cc
-no_header places.Between b e = absurd cc
-no_header places.Within b e = absurd cc
-no_header places.Ended b e = absurd cc
-
-put_begun : (s t : Standing) (l : Line) → has_begun s.place ≡ true → is_due s.place (word_for l) ≡ true → put None s l ≡ Ok t → has_begun t.place ≡ true
+put_begun : (s : Standing) (line : List ℕ) (l : Line) → has_begun s.place ≡ true → is_due s.place (word_for l) ≡ true → Says (wording None s) line l → MatchResult (put None s l) StaysBegun (HasCause None s line)
 unfolding put
-put_begun s t (Header v) b due e = absurd (no_header s.place b due)
-put_begun s t (Previous p) b due e = absurd (no_previous s.place b due)
-put_begun s t (Begin g) b due e = begin_begun s t g e
-put_begun s t (Makes c) b due e = add_begun s t c b e
-put_begun s t End b due e = ap (λ (u : Standing). has_begun u.place) (sym (ok_is (closed s) t e))
-put_begun s t Close b due e = ap (λ (u : Standing). has_begun u.place) (sym (ok_is (record s { place = places.Ended }) t e))
+put_begun s line (Header v) b due h = absurd (no_header s.place b due)
+put_begun s line (Previous p) b due h = absurd (no_previous s.place b due)
+put_begun s line (Begin g) b due h = begin_both None s line g StaysBegun h (λ number room unseen. refl)
+put_begun s line (Makes c) b due h = add_both None s line c StaysBegun h (λ room writable taken. b)
+put_begun s line End b due h = refl
+put_begun s line Close b due h = refl
 
-judge_begun : (s t : Standing) (line : List ℕ) → has_begun s.place ≡ true → judge None s line ≡ Ok t → has_begun t.place ≡ true
-judge_begun s t line b e =
-    let k = bind_ok (read_line s.due s.place line) (put None s) t (sym (judge_reads None s line) ∙ e) in
-    put_begun s t k.0 b (read_found s.due s.place line k.0 k.1).due_there k.2
+judge_begun : (s : Standing) (line : List ℕ) → has_begun s.place ≡ true → MatchResult (judge None s line) StaysBegun (HasCause None s line)
+judge_begun s line b = rw (judge_reads None s line) (judged_both (wording None s) (body_of s.due) (rest_laws None s) StaysBegun (put None s) line (λ l h. put_begun s line l b h.due h))
 
 -- ---- bytes
 
@@ -130,15 +97,15 @@ judged_behind : (front : List Entry) (r : Result Standing Cause) (n : ℕ) → j
 judged_behind front (Ok s) n = refl
 judged_behind front (Err c) n = refl
 
-judged_begun : (s : Standing) (line : List ℕ) (r : Result Standing Cause) (n : ℕ) → has_begun s.place ≡ true → judge None s line ≡ r → HasBegun (judged r n)
-judged_begun s line (Ok t) n b e = judge_begun s t line b e
-judged_begun s line (Err c) n b e = tt
+judged_begun : (s : Standing) (line : List ℕ) (r : Result Standing Cause) (n : ℕ) → MatchResult r StaysBegun (HasCause None s line) → HasBegun (judged r n)
+judged_begun s line (Ok t) n h = h
+judged_begun s line (Err c) n h = tt
 
 eat_behind : (front : List Entry) (p : Progress Standing) (b : ℕ) → HasBegun p → (eat (judge None) (behind_entries front p) b ≡ behind_entries front (eat (judge None) p b)) × HasBegun (eat (judge None) p b)
 unfolding eat
 eat_behind front (Reading s n rest) b h =
     elim (eqb b 10) as (λ v. (cond v (judged (judge None (with_taken front s) rest) (next_number n)) (Reading (with_taken front s) n (rest ++ b ∷ [])) ≡ behind_entries front (cond v (judged (judge None s rest) (next_number n)) (Reading s n (rest ++ b ∷ [])))) × HasBegun (cond v (judged (judge None s rest) (next_number n)) (Reading s n (rest ++ b ∷ [])))) [
-      | true ↦ (ap (λ (r : Result Standing Cause). judged r (next_number n)) (judge_behind front s rest h) ∙ judged_behind front (judge None s rest) (next_number n), judged_begun s rest (judge None s rest) (next_number n) h refl)
+      | true ↦ (ap (λ (r : Result Standing Cause). judged r (next_number n)) (judge_behind front s rest h) ∙ judged_behind front (judge None s rest) (next_number n), judged_begun s rest (judge None s rest) (next_number n) (judge_begun s rest h))
       | false ↦ (refl, h)
     ]
 eat_behind front (Stopped f) b h = (refl, tt)
@@ -160,6 +127,6 @@ whole_behind front (Ok u) j = refl
 whole_behind front (Err f) j = refl
 
 pub closing_behind : (front : List Entry) (p : Progress Standing) → closing (behind_entries front p) ≡ with_front front (closing p)
-unfolding closing
+unfolding closing_by
 closing_behind front (Reading s n rest) = whole_behind front (ended (is_last s.place) rest n) s.journal
 closing_behind front (Stopped f) = refl

@@ -4,15 +4,16 @@ use Rattle.std.specs.Prelude.{option_map}
 use Rattle.rows.specs.declared.value.Value.{Value}
 use Rattle.journal_words.specs.Words.{first_word, others}
 use Rattle.journal_words.specs.Values.{value_of}
-use Rattle.txn_journal.specs.Lines.{cons_head, words_of, Image, stop_at, and_value, is_bar, stopped, values_from}
+use Rattle.txn_journal.specs.Splits.{cons_head, parts_of}
+use Rattle.txn_journal.proofs.SplitLaws.{more_parts}
+use Rattle.txn_journal.specs.Lines.{words_of, Image, stop_at, and_value, is_bar, stopped, values_from}
 
 abbrev pub more_words : Option (List ℕ) → List (List ℕ)
-more_words None = []
-more_words (Some r) = words_of r
+more_words rest = more_parts 32 rest
 
 -- the words of a text are its first word and those behind it
 pub words_cut : (t : List ℕ) → words_of t ≡ first_word t ∷ more_words (others t)
-unfolding words_of
+unfolding parts_of
 words_cut [] = refl
 words_cut (b ∷ bs) =
     elim (eqb b 32) as (λ v. cond v ([] ∷ words_of bs) (cons_head b (words_of bs)) ≡ cond v [] (b ∷ first_word bs) ∷ more_words (cond v (Some bs) (others bs))) [

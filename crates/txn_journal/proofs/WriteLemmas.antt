@@ -1,8 +1,8 @@
 -- Lines that are written one after another.
-use Rattle.std.proofs.Common.{◌≡◌, ℕ, ◌≤◌, ◌-◌, List, [], ◌∷◌, ◌++◌, length, map, take, drop, get_or, Result, Ok, Err, OnOk, refl, sym, ap, ◌∙◌, append_assoc, arith}
+use Rattle.std.proofs.Common.{◌≡◌, ℕ, ◌≤◌, ◌-◌, List, [], ◌∷◌, ◌++◌, length, map, take, drop, get_or, refl, sym, ap, ◌∙◌, append_assoc, arith}
 use Rattle.std.specs.Prelude.{codes}
 use Rattle.std.specs.List.{flat_map}
-use Rattle.std.proofs.lemmas.List.{append-nil}
+use Rattle.std.proofs.lemmas.List.{append-nil, take_rest}
 use Rattle.std.proofs.lemmas.List.Concat.{flat_map-append}
 use Rattle.gtid_text.specs.declared.Gtid.{Gtid}
 use Rattle.gtid_text.specs.Canonical.{gtid_text}
@@ -25,22 +25,13 @@ pub values_first : (out : List ℕ) (v : Value) (vs : List Value) → (out ++ va
 values_first out v vs = append_assoc out (value_text v) (values_behind vs) ∙ ap (λ (t : List ℕ). out ++ t) (sym (first_value v vs))
 
 pub image_appended : (out word table : List ℕ) (image : List Value) → ((((out ++ word) ++ codes " ") ++ table) ++ codes " ") ++ values_text image ≡ out ++ image_text word table image
-image_appended out word table image =
-    append_assoc (((out ++ word) ++ codes " ") ++ table) (codes " ") (values_text image)
-    ∙ append_assoc ((out ++ word) ++ codes " ") table (32 ∷ values_text image)
-    ∙ append_assoc (out ++ word) (codes " ") (table ++ 32 ∷ values_text image)
-    ∙ append_assoc out word (32 ∷ (table ++ 32 ∷ values_text image))
+image_appended out word table image = simp append_assoc
 
 pub two_images_text : (out table : List ℕ) (before after : List Value) → ((out ++ image_text (codes "upd") table before) ++ codes " | ") ++ values_text after ≡ out ++ change_text (Update table before after)
-two_images_text out table before after =
-    append_assoc (out ++ image_text (codes "upd") table before) (codes " | ") (values_text after)
-    ∙ append_assoc out (image_text (codes "upd") table before) (codes " | " ++ values_text after)
-    ∙ ap (λ (t : List ℕ). out ++ (codes "upd" ++ 32 ∷ t)) (append_assoc table (32 ∷ values_text before) (codes " | " ++ values_text after))
+two_images_text out table before after = simp append_assoc
 
 pub begin_appended : (out : List ℕ) (g : Gtid) → ((out ++ codes "txn ") ++ gtid_text g) ++ codes "\n" ≡ out ++ ended_line (Begin g)
-begin_appended out g =
-    append_assoc (out ++ codes "txn ") (gtid_text g) (codes "\n")
-    ∙ append_assoc out (codes "txn ") (gtid_text g ++ codes "\n")
+begin_appended out g = simp append_assoc
 
 -- the lines of changes, and of entries
 changes_lines : (cs : List Change) → changes_text cs ≡ lines_text (map Makes cs)
@@ -58,16 +49,11 @@ entry_appended out e =
     ∙ ap (λ (t : List ℕ). out ++ (ended_line (Begin e.gtid) ++ t)) (ap (λ (t : List ℕ). t ++ codes "end\n") (changes_lines e.txn.changes) ∙ sym (flat_map-append ended_line (map Makes e.txn.changes) (End ∷ [])))
 
 pub previous_appended : (out : List ℕ) (s : Gtids) → ((out ++ codes "previous ") ++ set_text s) ++ codes "\n" ≡ out ++ ended_line (Previous s)
-previous_appended out s =
-    append_assoc (out ++ codes "previous ") (set_text s) (codes "\n")
-    ∙ append_assoc out (codes "previous ") (set_text s ++ codes "\n")
+previous_appended out s = simp append_assoc
 
 pub journal_appended : (out : List ℕ) (s : Gtids) (es : List Entry) → (((out ++ codes "journal 1\n") ++ ended_line (Previous s)) ++ entries_text es) ++ codes "close\n" ≡ out ++ parts_text s es
 unfolding parts_text
-journal_appended out s es =
-    append_assoc ((out ++ codes "journal 1\n") ++ ended_line (Previous s)) (entries_text es) (codes "close\n")
-    ∙ append_assoc (out ++ codes "journal 1\n") (ended_line (Previous s)) (entries_text es ++ codes "close\n")
-    ∙ append_assoc out (codes "journal 1\n") (ended_line (Previous s) ++ (entries_text es ++ codes "close\n"))
+journal_appended out s es = simp append_assoc
 
 -- the parts of a journal's text are the text of its lines
 pub journal_parts : (s : Gtids) (es : List Entry) → parts_text s es ≡ spelling (record { previous = s; entries = es })
@@ -76,21 +62,10 @@ journal_parts s es =
     ap (λ (t : List ℕ). codes "journal 1\n" ++ (ended_line (Previous s) ++ (t ++ codes "close\n"))) (entries_lines es)
     ∙ ap (λ (t : List ℕ). codes "journal 1\n" ++ (ended_line (Previous s) ++ t)) (sym (flat_map-append ended_line (flat_map entry_lines es) (Close ∷ [])))
 
-all_taken : (vs : List Value) → take (length vs) vs ≡ vs
-all_taken [] = refl
-all_taken (v ∷ vs) = ap (λ (t : List Value). v ∷ t) (all_taken vs)
-
-others_whole : (v : Value) (vs : List Value) → take (length (v ∷ vs) - 1) vs ≡ vs
-others_whole v vs = let e : length (v ∷ vs) - 1 ≡ length vs = omega arith in ap (λ (n : ℕ). take n vs) e ∙ all_taken vs
-
 -- values that a slice has, by its first and the others
 pub values_cut : (out : List ℕ) (v : Value) (vs : List Value) → 1 ≤ length vs → v ≡ get_or vs 0 v → (out ++ value_text v) ++ values_behind (take (length vs - 1) (drop 1 vs)) ≡ out ++ values_text vs
 values_cut out v [] some is = absurd (omega arith)
 values_cut out v (w ∷ ws) some is =
-    ap (λ (t : List Value). (out ++ value_text v) ++ values_behind t) (others_whole w ws)
+    ap (λ (t : List Value). (out ++ value_text v) ++ values_behind t) (take_rest (w ∷ ws) 1)
     ∙ ap (λ (x : Value). (out ++ value_text x) ++ values_behind ws) is
     ∙ values_first out w ws
-
-pub on_ok : {X E : Type 0} (r : Result X E) (P Q : Type 0) → (P → Q) → OnOk r P → OnOk r Q
-on_ok (Ok x) P Q f h = f h
-on_ok (Err e) P Q f h = tt

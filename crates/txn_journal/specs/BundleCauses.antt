@@ -1,12 +1,13 @@
 -- What is wrong with a line of a bundle, said of its words and not of the way in which it is read.
-use Rattle.std.specs.Prelude.{◌≡◌, ◌⊎◌, ℕ, ◌<◌, ◌≤◌, true, false, List, ◌∷◌, ◌++◌, length, Some, None, Ok, codes}
+use Rattle.std.specs.Prelude.{◌≡◌, ◌⊎◌, ℕ, ◌<◌, ◌≤◌, true, false, List, length, Some, None, Ok, codes}
 use Rattle.gtid_text.specs.Written.{IsSource}
 use Rattle.rows.specs.declared.schema.Table.{Table}
 use Rattle.rows.specs.Apply.{Rows}
 use Rattle.rows.specs.Names.{is_name}
 use Rattle.rows.specs.Tables.{table_fault}
 use Rattle.journal.specs.Writing.{is_image_writable}
-use Rattle.journal_words.specs.Words.{is_count, count_of, first_word}
+use Rattle.journal_words.specs.Words.{count_of}
+use Rattle.txn_journal.specs.Wordings.{Wording, HasCauseBy}
 use Rattle.txn_journal.specs.Causes.{HasCause}
 use Rattle.txn_journal.specs.Shapes.{Shape, FitsShape, shape_for}
 use Rattle.txn_journal.specs.BundleStates.{BundleStanding, word_of, is_due_in, behind_tables, has_channel, with_opening}
@@ -16,7 +17,14 @@ use Rattle.txn_journal.specs.declared.bundle_draft.Part.TheVariants as parts
 use Rattle.txn_journal.specs.declared.bundle_draft.Word.{Word}
 use Rattle.txn_journal.specs.declared.bundle_draft.Word.TheVariants as words
 use Rattle.txn_journal.specs.declared.fault.Cause.{Cause}
-use Rattle.txn_journal.specs.declared.fault.Cause.TheVariants as causes
+
+abbrev pub own_word_text : Word → List ℕ
+own_word_text words.Bundle = codes "bundle"
+own_word_text words.Replica = codes "replica"
+own_word_text words.Table = codes "table"
+own_word_text words.Row = codes "row"
+own_word_text words.Channel = codes "channel"
+own_word_text words.Done = codes "done"
 
 -- the first word of a line
 abbrev pub own_word : OwnLine → Word
@@ -36,12 +44,6 @@ FitsOwn (Puts r) = FitsRow r
 FitsOwn (Opens c) = is_name c.name ≡ true
 FitsOwn Done = Unit {0}
 
--- the line is the spelling of l, which is due there
-pub record SaysOwn (part : Part) (line : List ℕ) (l : OwnLine) : Type 0 where
-  pub text : line ≡ own_text l
-  pub fits : FitsOwn l
-  pub due : is_due_in part (own_word l) ≡ true
-
 -- a table has 1 to 64 columns
 pub record HasWidth (s : Shape) : Type 0 where
   pub width : ℕ
@@ -49,35 +51,48 @@ pub record HasWidth (s : Shape) : Type 0 where
   pub some : 1 ≤ width
   pub few : width ≤ 64
 
+-- too many unique keys, no number of columns that a table has, or too many tables before
+abbrev pub PassesTableLimit : List Table → Shape → Type 0
+PassesTableLimit tables shape = (8 < length shape.uniques) ⊎ ((HasWidth shape → ⊥) ⊎ (256 ≤ length tables))
+
+-- no table of this shape may come after the others
+abbrev pub HasNoPlace : List Table → Shape → Type 0
+HasNoPlace tables shape = (t : Table) → shape ≡ shape_for t → table_fault tables t ≡ None → ⊥
+
 -- a limit that the line passes: of tables, unique keys and columns, of values of a row and their bytes, and of channels
 abbrev pub PassesOwnLimit : BundleStanding → OwnLine → Type 0
-PassesOwnLimit s (Has shape) = (8 < length shape.uniques) ⊎ ((HasWidth shape → ⊥) ⊎ (256 ≤ length s.tables))
+PassesOwnLimit s (Has shape) = PassesTableLimit s.tables shape
 PassesOwnLimit s (Puts r) = is_image_writable r.row ≡ false
 PassesOwnLimit s (Opens c) = 256 ≤ length s.bundle.channels
 PassesOwnLimit s _ = ⊥
 
 -- what the lines before do not allow: a table that may not come after the others, a row that may not be put, a name that a channel has
 abbrev pub Clashes : BundleStanding → OwnLine → Type 0
-Clashes s (Has shape) = (t : Table) → shape ≡ shape_for t → table_fault s.tables t ≡ None → ⊥
+Clashes s (Has shape) = HasNoPlace s.tables shape
 Clashes s (Puts r) = (rows : Rows) → with_opening (behind_tables s).bundle.start r ≡ Ok rows → ⊥
 Clashes s (Opens c) = has_channel s.bundle.channels c.name ≡ true
 Clashes s _ = ⊥
 
-abbrev pub HasOwnCause : BundleStanding → List ℕ → Cause → Type 0
--- the first word is none of those due there
-HasOwnCause s line causes.Keyword = (w : Word) → word_of (first_word line) ≡ Some w → is_due_in s.part w ≡ true → ⊥
--- a header is due and stands there, with a count that is no version known
-HasOwnCause s line causes.Version = (w : List ℕ) × (line ≡ codes "bundle" ++ 32 ∷ w) × (is_count w ≡ true) × (is_due_in s.part words.Bundle ≡ true) × ((l : OwnLine) → SaysOwn s.part line l → ⊥)
--- a word is due and stands first, and the line spells nothing
-HasOwnCause s line causes.Body = (w : Word) × (word_of (first_word line) ≡ Some w) × (is_due_in s.part w ≡ true) × ((l : OwnLine) → SaysOwn s.part line l → ⊥)
-HasOwnCause s line causes.Limit = (l : OwnLine) × SaysOwn s.part line l × PassesOwnLimit s l
-HasOwnCause s line causes.Schema = (l : OwnLine) × SaysOwn s.part line l × (PassesOwnLimit s l → ⊥) × Clashes s l
--- no GTID stands in it
-HasOwnCause s line (causes.Twice g) = ⊥
+-- the lines of the bundle's own that may come next; no GTID stands in them
+abbrev pub own_wording : BundleStanding → Wording
+own_wording s = record {
+  Word = Word;
+  Line = OwnLine;
+  word_of = word_of;
+  is_due = is_due_in s.part;
+  header = words.Bundle;
+  word_text = own_word_text;
+  line_text = own_text;
+  word = own_word;
+  Fits = FitsOwn;
+  PassesLimit = PassesOwnLimit s;
+  Clashes = Clashes s;
+  IsTwice = λ l g. ⊥;
+}
 
 abbrev pub bundle_cause_at : Part → BundleStanding → List ℕ → Cause → Type 0
 bundle_cause_at parts.Journal s line cause = HasCause (Some s.bundle.start.schema) s.draft line cause
-bundle_cause_at _ s line cause = HasOwnCause s line cause
+bundle_cause_at _ s line cause = HasCauseBy (own_wording s) line cause
 
 abbrev pub HasBundleCause : BundleStanding → List ℕ → Cause → Type 0
 HasBundleCause s line cause = bundle_cause_at s.part s line cause

@@ -16,7 +16,7 @@ use Rattle.journal.specs.Writing.{is_image_writable}
 use Rattle.journal_words.specs.Words.{first_word, others}
 use Rattle.journal_words.specs.Gtids.{source_of_word}
 use Rattle.txn_journal.specs.Words.{name_of}
-use Rattle.txn_journal.specs.Lines.{◌>>=◌, some_or_body, version_in, nothing_in, table_in, image_in}
+use Rattle.txn_journal.specs.Lines.{◌>>=◌, some_or_body, due, version_in, nothing_in, table_in, image_in}
 use Rattle.txn_journal.specs.Machine.{Standing, empty, is_last, IsFull, judge}
 use Rattle.txn_journal.specs.Shapes.{added_table}
 use Rattle.txn_journal.specs.declared.bundle.Channel.{Channel}
@@ -87,10 +87,6 @@ is_due_in parts.Rows words.Done = true
 is_due_in parts.Channels words.Channel = true
 is_due_in parts.Channels words.Done = true
 is_due_in _ _ = false
-
-abbrev pub due_in : Part → Option Word → Result Word Cause
-due_in part None = Err causes.Keyword
-due_in part (Some word) = if is_due_in part word then Ok word else Err causes.Keyword
 
 -- ---- the rest of a line
 
@@ -184,7 +180,7 @@ own_step s words.Done rest = all_done s rest
 -- a line of the bundle's own
 unfoldable pub judge_own : BundleStanding → List ℕ → Result BundleStanding Cause
 judge_own s line = do
-  word ← due_in s.part (word_of (first_word line))
+  word ← due (is_due_in s.part) (word_of (first_word line))
   own_step s word (others line)
 
 -- the channel that is open joins the others with its journal

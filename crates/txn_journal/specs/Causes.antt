@@ -1,22 +1,31 @@
 -- What is wrong with a line, said of its words and not of the way in which it is read.
-use Rattle.std.specs.Prelude.{◌≡◌, ◌⊎◌, ℕ, ◌<◌, ◌≤◌, true, false, List, ◌∷◌, ◌++◌, length, Option, Some, codes}
+use Rattle.std.specs.Prelude.{◌≡◌, ◌⊎◌, ℕ, ◌<◌, ◌≤◌, true, false, List, length, Option, codes}
 use Rattle.std.specs.FinSet as set
 use Rattle.gtid_text.specs.Written.{IsUsable}
-use Rattle.rows.specs.declared.change.Change.{Change}
 use Rattle.rows.specs.declared.change.Change.TheVariants.{Insert, Delete, Update}
 use Rattle.rows.specs.declared.schema.Table.{Table}
 use Rattle.journal.specs.Writing.{is_change_writable}
-use Rattle.journal_words.specs.Words.{is_count, first_word}
+use Rattle.gtid_text.specs.declared.Gtid.{Gtid}
 use Rattle.txn_journal.specs.Due.{is_due}
 use Rattle.txn_journal.specs.Lines.{keyword_of, takes_one}
 use Rattle.txn_journal.specs.Machine.{Standing, fits}
+use Rattle.txn_journal.specs.Wordings.{Wording, HasCauseBy}
 use Rattle.txn_journal.specs.WrittenSets.{IsWrittenSet}
 use Rattle.txn_journal.specs.Spelling.{Line, Header, Previous, Begin, Makes, End, Close, line_text, FitsChange}
 use Rattle.txn_journal.specs.declared.fault.Cause.{Cause}
-use Rattle.txn_journal.specs.declared.fault.Cause.TheVariants as causes
 use Rattle.txn_journal.specs.declared.lines.Keyword.{Keyword}
 use Rattle.txn_journal.specs.declared.lines.Keyword.TheVariants as keywords
 use Rattle.txn_journal.specs.declared.lines.Version.{Version}
+
+abbrev pub keyword_text : Keyword → List ℕ
+keyword_text keywords.Journal = codes "journal"
+keyword_text keywords.Previous = codes "previous"
+keyword_text keywords.Txn = codes "txn"
+keyword_text keywords.Ins = codes "ins"
+keyword_text keywords.Upd = codes "upd"
+keyword_text keywords.Del = codes "del"
+keyword_text keywords.End = codes "end"
+keyword_text keywords.Close = codes "close"
 
 -- the first word of a line
 abbrev pub word_for : Line → Keyword
@@ -50,13 +59,11 @@ abbrev pub IsDueVersion : Option Version → Line → Type 0
 IsDueVersion due (Header version) = takes_one due ≡ true
 IsDueVersion due _ = Unit {0}
 
--- the line is the spelling of l, which is due there
-pub record Says (s : Standing) (line : List ℕ) (l : Line) : Type 0 where
-  pub text : line ≡ line_text l
-  pub fits : FitsLine l
+-- its words can be spelled, and may stand there
+pub record FitsAt (due : Option Version) (l : Line) : Type 0 where
+  pub words : FitsLine l
   pub images : HasImages l
-  pub version : IsDueVersion s.due l
-  pub due : is_due s.place (word_for l) ≡ true
+  pub version : IsDueVersion due l
 
 -- a limit that the line passes: of entries, of changes, of values of an image and of bytes of a value
 abbrev pub PassesLimit : Standing → Line → Type 0
@@ -64,15 +71,32 @@ PassesLimit s (Begin g) = 4294967294 ≤ s.count
 PassesLimit s (Makes change) = (65536 ≤ length s.changes) ⊎ (is_change_writable change ≡ false)
 PassesLimit s _ = ⊥
 
-abbrev pub HasCause : Option (List Table) → Standing → List ℕ → Cause → Type 0
--- the first word is none of those due there
-HasCause schema s line causes.Keyword = (k : Keyword) → keyword_of (first_word line) ≡ Some k → is_due s.place k ≡ true → ⊥
--- a header is due and stands there, with a count that is no version known there
-HasCause schema s line causes.Version = (w : List ℕ) × (line ≡ codes "journal" ++ 32 ∷ w) × (is_count w ≡ true) × (is_due s.place keywords.Journal ≡ true) × ((l : Line) → Says s line l → ⊥)
--- a word is due and stands first, and the line spells nothing
-HasCause schema s line causes.Body = (k : Keyword) × (keyword_of (first_word line) ≡ Some k) × (is_due s.place k ≡ true) × ((l : Line) → Says s line l → ⊥)
-HasCause schema s line causes.Limit = (l : Line) × Says s line l × PassesLimit s l
 -- a change that no table takes, where there is a schema
-HasCause schema s line causes.Schema = (change : Change) × Says s line (Makes change) × (PassesLimit s (Makes change) → ⊥) × (fits schema change ≡ false)
+abbrev pub IsMisfit : Option (List Table) → Line → Type 0
+IsMisfit schema (Makes change) = fits schema change ≡ false
+IsMisfit schema _ = ⊥
+
 -- the GTID is in the previous set, or stood before
-HasCause schema s line (causes.Twice g) = Says s line (Begin g) × (s.count < 4294967294) × (set.contains s.seen g ≡ true)
+abbrev pub IsTwice : Standing → Line → Gtid → Type 0
+IsTwice s (Begin h) g = (h ≡ g) × (set.contains s.seen g ≡ true)
+IsTwice s _ g = ⊥
+
+-- the lines of a journal that may come next
+abbrev pub wording : Option (List Table) → Standing → Wording
+wording schema s = record {
+  Word = Keyword;
+  Line = Line;
+  word_of = keyword_of;
+  is_due = is_due s.place;
+  header = keywords.Journal;
+  word_text = keyword_text;
+  line_text = line_text;
+  word = word_for;
+  Fits = FitsAt s.due;
+  PassesLimit = PassesLimit s;
+  Clashes = IsMisfit schema;
+  IsTwice = IsTwice s;
+}
+
+abbrev pub HasCause : Option (List Table) → Standing → List ℕ → Cause → Type 0
+HasCause schema s line cause = HasCauseBy (wording schema s) line cause

@@ -1,5 +1,5 @@
 -- What the words of a line say.
-use Rattle.std.specs.Prelude.{ℕ, ◌==◌, Bool, true, List, [], ◌∷◌, ◌++◌, Option, Some, None, Result, Ok, Err, codes, if◌then◌else◌}
+use Rattle.std.specs.Prelude.{ℕ, Bool, true, List, [], ◌∷◌, ◌++◌, Option, Some, None, Result, Ok, Err, codes, if◌then◌else◌}
 use Rattle.std.specs.Str.{bytes_eq}
 use Rattle.gtid_text.specs.declared.Gtid.{Gtid}
 use Rattle.gtid_set.specs.Sets.{Gtids}
@@ -8,10 +8,9 @@ use Rattle.journal_words.specs.Words.{is_count, first_word, others}
 use Rattle.journal_words.specs.Values.{value_of}
 use Rattle.journal_words.specs.Gtids.{gtid_of_word, set_of_word}
 use Rattle.txn_journal.specs.Words.{name_of}
-use Rattle.txn_journal.specs.Due.{is_due}
+use Rattle.txn_journal.specs.Splits.{parts_of}
 use Rattle.txn_journal.specs.declared.fault.Cause.{Cause}
 use Rattle.txn_journal.specs.declared.fault.Cause.TheVariants as causes
-use Rattle.txn_journal.specs.declared.lines.Place.{Place}
 use Rattle.txn_journal.specs.declared.lines.Keyword.{Keyword}
 use Rattle.txn_journal.specs.declared.lines.Keyword.TheVariants as keywords
 use Rattle.txn_journal.specs.declared.lines.Version.{Version}
@@ -43,9 +42,9 @@ keyword_of word =
     else None
 
 -- the word is due, or it is the wrong word
-abbrev pub due_word : Place → Option Keyword → Result Keyword Cause
-due_word place None = Err causes.Keyword
-due_word place (Some word) = if is_due place word then Ok word else Err causes.Keyword
+abbrev pub due : {W : Type 0} → (W → Bool) → Option W → Result W Cause
+due is_due None = Err causes.Keyword
+due is_due (Some word) = if is_due word then Ok word else Err causes.Keyword
 
 -- ---- versions
 
@@ -77,14 +76,9 @@ nothing_in (Some text) = Err causes.Body
 
 -- ---- images
 
-abbrev pub cons_head : ℕ → List (List ℕ) → List (List ℕ)
-cons_head b [] = (b ∷ []) ∷ []
-cons_head b (w ∷ ws) = (b ∷ w) ∷ ws
-
 -- the words between blanks
-unfoldable pub words_of : List ℕ → List (List ℕ)
-words_of [] = [] ∷ []
-words_of (b ∷ bs) = if b == 32 then [] ∷ words_of bs else cons_head b (words_of bs)
+abbrev pub words_of : List ℕ → List (List ℕ)
+words_of text = parts_of 32 text
 
 -- values up to a bar or the end, and the words behind the bar
 abbrev pub Image : Type 0

@@ -12,9 +12,12 @@ use Rattle.rows.specs.Fits.{has_primary_null, table_of}
 use Rattle.journal.specs.Journals.{JournalValue}
 use Rattle.journal.specs.Writing.{is_number, is_change_writable}
 use Rattle.journal_words.specs.Words.{first_word, others}
-use Rattle.txn_journal.specs.Lines.{◌>>=◌, keyword_of, due_word, version_in, gtid_in, set_in, nothing_in, table_in, image_in, images_in}
+use Rattle.txn_journal.specs.Due.{is_due}
+use Rattle.txn_journal.specs.Lines.{◌>>=◌, keyword_of, due, version_in, gtid_in, set_in, nothing_in, table_in, image_in, images_in}
 use Rattle.txn_journal.specs.declared.fault.Cause.{Cause}
 use Rattle.txn_journal.specs.declared.fault.Cause.TheVariants as causes
+use Rattle.txn_journal.specs.Stream.{TakesLine}
+use Rattle.txn_journal.specs.declared.fault.LineFault.{LineFault}
 use Rattle.txn_journal.specs.declared.lines.Place.{Place}
 use Rattle.txn_journal.specs.declared.lines.Place.TheVariants as places
 use Rattle.txn_journal.specs.declared.lines.Keyword.{Keyword}
@@ -152,5 +155,9 @@ step schema s keywords.Close rest = finished s rest
 -- a line at the place where it stands
 unfoldable pub judge : Option (List Table) → Standing → List ℕ → Result Standing Cause
 judge schema s line = do
-  word ← due_word s.place (keyword_of (first_word line))
+  word ← due (is_due s.place) (keyword_of (first_word line))
   step schema s word (others line)
+
+-- what a call did with a line, where the schema is this
+abbrev pub TakesIn : Option (List Table) → Standing → List ℕ → Result (Unit {0}) LineFault → Standing → Type 0
+TakesIn schema old line result new = TakesLine IsFull result (judge schema old line) new

@@ -13,6 +13,7 @@ use Rattle.journal.specs.declared.Entry.{Entry}
 use Rattle.journal.specs.Journals.{JournalValue, IsJournal}
 use Rattle.journal_words.specs.Values.{value_text, FitsValue}
 use Rattle.txn_journal.specs.WrittenSets.{set_text, IsWrittenSet}
+use Rattle.txn_journal.specs.Splits.{joined_by}
 use Rattle.txn_journal.specs.declared.lines.Version.{Version}
 use Rattle.txn_journal.specs.declared.lines.Version.TheVariants.{One}
 
@@ -32,9 +33,7 @@ version_text One = codes "1"
 
 -- values with a blank between
 abbrev pub values_text : List Value → List ℕ
-values_text [] = []
-values_text (v ∷ []) = value_text v
-values_text (v ∷ w ∷ vs) = value_text v ++ 32 ∷ values_text (w ∷ vs)
+values_text vs = joined_by 32 (map value_text vs)
 
 -- values, each behind a blank
 abbrev pub values_behind : List Value → List ℕ

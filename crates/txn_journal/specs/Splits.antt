@@ -3,7 +3,10 @@ use Rattle.std.specs.Prelude.{ℕ, ◌==◌, Bool, true, false, not, ◌&&◌, �
 use Rattle.std.specs.List.{list_all}
 use Rattle.std.specs.Str.{bytes_eq}
 use Rattle.journal_words.specs.Words.{is_count}
-use Rattle.txn_journal.specs.Lines.{cons_head}
+
+abbrev pub cons_head : ℕ → List (List ℕ) → List (List ℕ)
+cons_head b [] = (b ∷ []) ∷ []
+cons_head b (w ∷ ws) = (b ∷ w) ∷ ws
 
 -- the parts of a text between separators
 unfoldable pub parts_of : ℕ → List ℕ → List (List ℕ)

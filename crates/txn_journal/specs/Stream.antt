@@ -13,18 +13,22 @@ use Rattle.txn_journal.specs.declared.fault.JournalFault.TheVariants as faults
 abbrev pub Judge : Type 0 → Type 0
 Judge S = S → List ℕ → Result S Cause
 
--- Why a line that says something is not taken: memory was refused, or what it makes is full. A pool never wants room.
-abbrev pub IsLineFault : {S : Type 0} → (S → Type 0) → SetFault → Result S Cause → Type 0
-IsLineFault full Memory judged = Unit {0}
-IsLineFault full PoolFull judged = ⊥
-IsLineFault full SourcesFull (Ok s) = full s
-IsLineFault full SourcesFull (Err cause) = ⊥
+-- memory was refused, or there are too many sources, which says when; a pool never wants room
+abbrev pub IsMemoryOr : Type 0 → SetFault → Type 0
+IsMemoryOr HasTooMany Memory = Unit {0}
+IsMemoryOr HasTooMany PoolFull = ⊥
+IsMemoryOr HasTooMany SourcesFull = HasTooMany
+
+-- what a line makes is full
+abbrev pub GivesFull : {S : Type 0} → (S → Type 0) → Result S Cause → Type 0
+GivesFull full (Ok s) = full s
+GivesFull full (Err cause) = ⊥
 
 -- What a call did with a line is what judging it gives, unless memory ran out or what it makes is full.
 abbrev pub TakesLine : {S : Type 0} → (S → Type 0) → Result (Unit {0}) LineFault → Result S Cause → S → Type 0
 TakesLine full (Ok _) judged new = judged ≡ Ok new
 TakesLine full (Err (wrong.Wrong cause)) judged new = judged ≡ Err cause
-TakesLine full (Err (wrong.Set fault)) judged new = IsLineFault full fault judged
+TakesLine full (Err (wrong.Set fault)) judged new = IsMemoryOr (GivesFull full judged) fault
 
 -- What a call did with a part of a line is what judging it gives, unless memory ran out.
 abbrev pub TakesPart : {S : Type 0} → Result (Unit {0}) LineFault → Result S Cause → S → Type 0
@@ -76,15 +80,17 @@ pub record Fills {S : Type 0} (full : S → Type 0) (judge : Judge S) (p : Progr
   pub parts : bytes ≡ front ++ rest
   pub is_full : HasFull full (eats judge p front)
 
--- Why bytes are not taken, though nothing is wrong with them: memory was refused, or what some of them make is full. A pool never wants room.
+-- why bytes are not taken, though nothing is wrong with them: memory was refused, or what some of them make is full
 abbrev pub IsPieceFault : {S : Type 0} → (S → Type 0) → Judge S → Progress S → List ℕ → SetFault → Type 0
-IsPieceFault full judge p bytes Memory = Unit {0}
-IsPieceFault full judge p bytes PoolFull = ⊥
-IsPieceFault full judge p bytes SourcesFull = Fills full judge p bytes
+IsPieceFault full judge p bytes fault = IsMemoryOr (Fills full judge p bytes) fault
 
 -- it is this, or it has stopped at a fault that may be
 abbrev pub IsAfter : {S : Type 0} → (SetFault → Type 0) → Progress S → Progress S → Type 0
 IsAfter may new after = ((fault : SetFault) × (new ≡ Stopped (faults.Set fault)) × may fault) ⊎ (new ≡ after)
+
+-- what has come after a piece is what eating it gives, or the reading has stopped at a fault that may be
+abbrev pub Feeds : {S : Type 0} → (S → Type 0) → Judge S → Progress S → List ℕ → Progress S → Type 0
+Feeds full judge old piece new = IsAfter (IsPieceFault full judge old piece) new (eats judge old piece)
 
 abbrev pub answer : {S : Type 0} → Progress S → Result (Unit {0}) JournalFault
 answer (Reading s n rest) = Ok tt

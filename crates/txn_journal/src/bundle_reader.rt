@@ -68,8 +68,9 @@ pub struct BundleReader {
 }
 
 impl BundleReader {
-    ghost use Rattle.txn_journal.specs.Stream.{IsAfter, answer};
-    ghost use Rattle.txn_journal.specs.BundleReading.{bundle_start, IsFaultOfBundle, eats_bundle, closing_bundle};
+    ghost use Rattle.txn_journal.specs.Stream.{answer};
+    ghost use Rattle.txn_journal.specs.Formats.{FeedsBy};
+    ghost use Rattle.txn_journal.specs.BundleReading.{bundles, bundle_start, closing_bundle};
     ghost use Rattle.txn_journal.specs.BundleReaders.{bundle_reading};
 
     /// Before the first byte.
@@ -86,14 +87,14 @@ impl BundleReader {
 
     /// Takes the next piece. After an error every later call answers that error.
     pub fn feed(&mut self, alloc: Global, piece: &[u8]) -> Result<(), JournalFault>
-        ensures next { IsAfter (IsFaultOfBundle (bundle_reading self.old) piece.now) (bundle_reading self.new) (eats_bundle (bundle_reading self.old) piece.now) }
+        ensures next { FeedsBy bundles (bundle_reading self.old) piece.now (bundle_reading self.new) }
         ensures answer { result ≡ answer (bundle_reading self.new) }
     {
         self.feed.feed(alloc, piece)
     }
 
     /// The bundle, where its last line has come.
-    #[tactic(auto, unfolding(crate::specs::BundleReading::closing_bundle))]
+    #[tactic(auto, unfolding(crate::specs::Formats::closing_by))]
     pub fn finish(self) -> Result<Bundle, JournalFault>
         ensures { result ≡ closing_bundle (bundle_reading self) }
     {

@@ -101,7 +101,7 @@ fn fits(schema: Option<&Schema>, change: &Change) -> bool
 impl Draft {
     ghost use Rattle.std.specs.Prelude.{option_map, [], Ok};
     ghost use Rattle.txn_journal.specs.Stream.{TakesLine};
-    ghost use Rattle.txn_journal.specs.Machine.{Standing, IsFull, empty, is_last, emptied, add, opened, followed, begun, ended, finished, step, judge};
+    ghost use Rattle.txn_journal.specs.Machine.{Standing, IsFull, TakesIn, empty, is_last, emptied, add, opened, followed, begun, ended, finished, step};
     ghost use Rattle.txn_journal.specs.Drafts.{standing};
 
     /// Before the first line.
@@ -154,7 +154,7 @@ impl Draft {
         names: &mut Names,
         line: &[u8],
     ) -> Result<(), LineFault>
-        ensures { TakesLine IsFull result (judge (option_map (λ tables. tables.now) schema.entry) (standing self.old) line.now) (standing self.new) }
+        ensures { TakesIn (option_map (λ tables. tables.now) schema.entry) (standing self.old) line.now result (standing self.new) }
     {
         let (word, rest) = cut(line);
         match keyword_at(word) {

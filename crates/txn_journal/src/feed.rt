@@ -94,12 +94,12 @@ impl<T> Feed<T> {
 
 impl<T: TakeLine> Feed<T> {
     ghost use Rattle.std.specs.Prelude.{[], ◌∷◌, ◌++◌, None, OnOk};
-    ghost use Rattle.txn_journal.specs.Stream.{eats, IsPieceFault, IsAfter, TakesPiece, answer};
+    ghost use Rattle.txn_journal.specs.Stream.{eats, IsPieceFault, Feeds, TakesPiece, answer};
     ghost use Rattle.txn_journal.specs.Feeds.{progress};
 
     /// Takes the next piece. After an error every later call answers that error.
     pub fn feed(&mut self, alloc: Global, piece: &[u8]) -> Result<(), JournalFault>
-        ensures next { IsAfter (IsPieceFault T.full T.judge (progress self.old) piece.now) (progress self.new) (eats T.judge (progress self.old) piece.now) }
+        ensures next { Feeds T.full T.judge (progress self.old) piece.now (progress self.new) }
         ensures answer { result ≡ answer (progress self.new) }
     {
         if let Err(fault) = self.answer() {

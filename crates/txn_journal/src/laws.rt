@@ -4,7 +4,7 @@ ghost use Rattle.journal.specs.declared.Entry.{Entry};
 ghost use Rattle.journal.specs.Journals.{JournalValue};
 ghost use Rattle.txn_journal.specs.Machine.{Standing};
 ghost use Rattle.txn_journal.specs.Stream.{Progress};
-ghost use Rattle.txn_journal.specs.Reading.{eats_alone, entries_of, without_entries, behind_entries, closing, with_front, HasBegun};
+ghost use Rattle.txn_journal.specs.Reading.{entries_of, without_entries, behind_entries, closing, with_front, HasBegun, EatsBehind};
 ghost use Rattle.txn_journal.specs.Spelling.{Writes};
 ghost use Rattle.txn_journal.specs.BundleStates.{BundleValue};
 ghost use Rattle.txn_journal.specs.BundleText.{WritesBundle};
@@ -19,7 +19,7 @@ pub fn one_spelling()
 /// Entries that were taken are those that would have come in front.
 pub fn taken_in_front()
     ensures taken { (p : Progress Standing) → behind_entries (entries_of p) (without_entries p) ≡ p }
-    ensures eats { (front : List Entry) (p : Progress Standing) (bytes : List ℕ) → HasBegun p → eats_alone (behind_entries front p) bytes ≡ behind_entries front (eats_alone p bytes) }
+    ensures eats { (front : List Entry) (p : Progress Standing) (bytes : List ℕ) → HasBegun p → EatsBehind front p bytes }
     ensures closing { (front : List Entry) (p : Progress Standing) → closing (behind_entries front p) ≡ with_front front (closing p) }
 {}
 

@@ -80,8 +80,9 @@ pub struct Reader {
 
 impl Reader {
     ghost use Rattle.std.specs.Prelude.{Ok, Err, IfOk, IfErr, OnOk};
-    ghost use Rattle.txn_journal.specs.Stream.{IsAfter, answer};
-    ghost use Rattle.txn_journal.specs.Reading.{before_first, IsFaultAlone, eats_alone, entries_of, without_entries, closing};
+    ghost use Rattle.txn_journal.specs.Stream.{answer};
+    ghost use Rattle.txn_journal.specs.Formats.{FeedsBy};
+    ghost use Rattle.txn_journal.specs.Reading.{journals, before_first, entries_of, without_entries, closing};
     ghost use Rattle.txn_journal.specs.Readers.{reading};
 
     /// Before the first byte.
@@ -99,7 +100,7 @@ impl Reader {
 
     /// Takes the next piece. After an error every later call answers that error.
     pub fn feed(&mut self, alloc: Global, piece: &[u8]) -> Result<(), JournalFault>
-        ensures next { IsAfter (IsFaultAlone (reading self.old) piece.now) (reading self.new) (eats_alone (reading self.old) piece.now) }
+        ensures next { FeedsBy journals (reading self.old) piece.now (reading self.new) }
         ensures answer { result ≡ answer (reading self.new) }
     {
         self.feed.feed(alloc, piece)
@@ -118,7 +119,7 @@ impl Reader {
     }
 
     /// The journal, where its last line has come, with the entries that were not taken.
-    #[tactic(auto, unfolding(crate::specs::Reading::closing))]
+    #[tactic(auto, unfolding(crate::specs::Formats::closing_by))]
     pub fn finish(self) -> Result<Journal, JournalFault>
         ensures { result ≡ closing (reading self) }
     {

@@ -1,11 +1,9 @@
-//! Tests of calls that no program makes, of threads and of gates, by public calls alone. What they must answer was written down by hand
+//! Tests of calls that no program makes, and of threads, by public calls alone. What they must answer was written down by hand
 //! before anything ran. What a program prints for an input stands in tests/cases.
 #![tactic(auto)]
 
 #[cfg(test)]
 mod entries;
-#[cfg(test)]
-mod gates;
 #[cfg(test)]
 mod graphs;
 #[cfg(test)]

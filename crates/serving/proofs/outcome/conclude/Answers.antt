@@ -1,14 +1,19 @@
-use Rattle.std.proofs.Common.{rules, ◌≡◌, true, false, sym, ◌∙◌, inr}
+use Rattle.std.proofs.Common.{rules, ◌≡◌, true, false, subst}
 use Rattle.replica_core.specs.Machine.{drained}
-use Rattle.serving.proofs.Runs.{state_concluded, not_stopped, sound_is}
+use Rattle.world.specs.Meaning.{AreJournals}
+use Rattle.serving.proofs.Runs.{holds_all, audit_concluded}
+use Rattle.serving.proofs.Shapes.{run_named}
 use Rattle.serving.proofs.outcome.conclude.Goals as goal
 
-pub returns-then-drained-clause-found : goal.returns-then-drained-clause-found
-returns-then-drained-clause-found c =
-    let done : drained c.args.core.now.state ≡ true = search rules in
-    state_concluded c.args.rows.now c.args.journals.now c.args.core.now c.requires.keys c.requires.run c.keep_rules.ensures done c.workers_decide.ensures c.served_holds_all.ensures
+pub returns-then-drained : goal.returns-then-drained
+returns-then-drained c =
+    let b = c.args.bundle.now in
+    let core = c.args.core.now in
+    let done : drained core.state ≡ true = search rules in
+    let all = holds_all b core c.requires.run (subst AreJournals c.journals.ensures c.keep_rules.ensures) done c.workers_decide.ensures c.served_holds_all.ensures in
+    record { sound = all.0; holds = all.1; named = run_named b core c.requires.run }
 
-pub returns-then-is_sound-clause-fault : goal.returns-then-is_sound-clause-fault
-returns-then-is_sound-clause-fault c =
+pub returns : goal.returns
+returns c =
     let undone : drained c.args.core.now.state ≡ false = search rules in
-    inr (not_stopped c.args.rows.now c.args.journals.now c.args.core.now c.requires.keys c.requires.run c.keep_rules.ensures undone (sym c.in_ok-verdict.ensures.found ∙ sound_is c.in_ok-verdict.verdict (sym c.is_sound.ensures ∙ c.if-is_sound.true)) c.workers_decide.ensures)
+    audit_concluded c.args.bundle.now c.args.core.now c.in_ok-verdict.verdict c.requires.run (subst AreJournals c.journals.ensures c.keep_rules.ensures) undone c.requires.ends c.in_ok-verdict.ensures c.workers_decide.ensures

@@ -1,11 +1,10 @@
-use Rattle.std.proofs.Common.{◌≡◌}
-use Rattle.serving.specs.Serving.{Works}
+use Rattle.serving.specs.declared.receiving.Apply.TheVariants.{AtOnce}
+use Rattle.serving.specs.Serving.{Applies}
 use Rattle.serving.proofs.Settling.{AreFree}
 use Rattle.serving.proofs.working.free_all.Given as goal
 
 abbrev pub invariant-loop-seat : goal.invariant-loop-seat
 invariant-loop-seat l = record {
-  site : l.core.site ≡ l.fn.core.site;
-  works : Works l.fn.core.site l.fn.core.state l.core.state;
+  applies : Applies AtOnce l.fn.core l.core;
   free : AreFree l.seat l.core.state;
 }

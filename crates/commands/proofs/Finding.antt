@@ -1,0 +1,54 @@
+-- What is found for bytes, and what is written for it.
+use Rattle.std.proofs.Common.{◌≡◌, ℕ, List, inl, inr, refl, sym, ap, subst}
+use Rattle.std.specs.Prelude.{Result, Ok, Err, IfOk, IfErr}
+use Rattle.gtid_set.specs.declared.fault.SetFault.TheVariants as sets
+use Rattle.txn_journal.specs.Stream.{IsWhole}
+use Rattle.txn_journal.specs.declared.fault.JournalFault.{JournalFault}
+use Rattle.txn_journal.specs.declared.fault.JournalFault.TheVariants as faults
+use Rattle.gtid_report.specs.Faults.{journal_fault}
+use Rattle.gtid_report.specs.declared.fault.Fault.{Fault}
+use Rattle.gtid_report.specs.declared.fault.Fault.TheVariants as fault
+use Rattle.commands.specs.Said.{Said, Holds, HoldsOne, Finds, Settles, Tells, GivesUp, answered, refused_with}
+use Rattle.commands.specs.declared.answer.Answer.{Answer}
+use Rattle.commands.specs.declared.edge.RunFault.{RunFault}
+
+abbrev ok_of : {V : Type 0} → V → Result V JournalFault
+ok_of v = Ok v
+
+abbrev error_of : {V : Type 0} → JournalFault → Result V JournalFault
+error_of f = Err f
+
+read_as : {V : Type 0} (v : V) (read : Result V JournalFault) → IsWhole (ok_of v) read → ok_of v ≡ read
+read_as v read (inl (fault, e)) = cc
+read_as v read (inr e) = e
+
+-- what was found for the value that was decoded is what is found for the bytes
+pub found_in : {V : Type 0} (Spells : List ℕ → Result V JournalFault → Type 0) (decoded : List ℕ → Result V JournalFault) (says : V → Said) (HasTooMany : V → Type 0) (bytes : List ℕ) (v : V) (found : Result Answer Fault)
+    → Spells bytes (ok_of v) → IsWhole (ok_of v) (decoded bytes) → IfOk found (λ answer. Holds answer (says v)) → IfErr found (GivesUp (HasTooMany v)) → Finds (Tells Spells decoded says HasTooMany) bytes found
+found_in Spells decoded says HasTooMany bytes v (Ok answer) w whole held none =
+    let e = read_as v (decoded bytes) whole in
+    (says v, inl (subst (Spells bytes) e w, ap (answered says) e), held)
+found_in Spells decoded says HasTooMany bytes v (Err (fault.Refused r)) w whole held full =
+    inr (inr (v, w, sym (read_as v (decoded bytes) whole), full.1), ap refused_with full.0)
+found_in Spells decoded says HasTooMany bytes v (Err fault.Memory) w whole held full = tt
+
+faulty : {V : Type 0} (Spells : List ℕ → Result V JournalFault → Type 0) (decoded : List ℕ → Result V JournalFault) (says : V → Said) (bytes : List ℕ) (f : JournalFault)
+    → Spells bytes (error_of f) → error_of f ≡ decoded bytes → Spells bytes (decoded bytes) × (answered says (error_of f) ≡ answered says (decoded bytes))
+faulty Spells decoded says bytes f r e = (subst (Spells bytes) e r, ap (answered says) e)
+
+-- the refusal of the bytes
+pub fault_in : {V : Type 0} (Spells : List ℕ → Result V JournalFault → Type 0) (decoded : List ℕ → Result V JournalFault) (says : V → Said) (HasTooMany : V → Type 0) (bytes : List ℕ) (f : JournalFault)
+    → (Spells bytes (error_of (faults.Set sets.PoolFull)) → ⊥) → Spells bytes (error_of f) → IsWhole (error_of f) (decoded bytes) → Finds (Tells Spells decoded says HasTooMany) bytes (Err (journal_fault f))
+fault_in Spells decoded says HasTooMany bytes (faults.Set sets.Memory) no_pool r whole = tt
+fault_in Spells decoded says HasTooMany bytes (faults.Set sets.PoolFull) no_pool r whole = absurd (no_pool r)
+fault_in Spells decoded says HasTooMany bytes (faults.Set sets.SourcesFull) no_pool r whole = inr (inl r, refl)
+fault_in Spells decoded says HasTooMany bytes f no_pool r (inl (fault, e)) = cc
+fault_in Spells decoded says HasTooMany bytes f no_pool r (inr e) = inl (faulty Spells decoded says bytes f r e)
+
+-- what is settled holds the answer, where each refusal is one
+pub settled : (says : List ℕ → Said → Type 0) (found : Result Answer Fault) (settled : Result Answer RunFault) (bytes : List ℕ)
+    → Finds says bytes found → IfOk settled (Settles found) → IfOk settled (HoldsOne says bytes)
+settled says found (Err e) bytes f s = tt
+settled says (Ok x) (Ok a) bytes f s = subst (HoldsOne says bytes) (sym s) f
+settled says (Err (fault.Refused r)) (Ok a) bytes f s = (refused_with r, f, s)
+settled says (Err fault.Memory) (Ok a) bytes f s = absurd s

@@ -1,0 +1,4 @@
+pub mod Finding
+pub mod Histories
+pub mod Receipts
+pub mod Written

@@ -1,0 +1,8 @@
+-- What the journals of a bundle come to where workers apply them.
+use Rattle.txn_journal.specs.BundleStates.{BundleValue}
+use Rattle.shared_replica.specs.Closing.{ClosedValue}
+use Rattle.serving.specs.Verdicts.{HasMerged}
+
+-- the audit says Sound, and all journals together are executed on the replica that a history leaves
+abbrev pub HasMergedIn : BundleValue → ClosedValue → Type 0
+HasMergedIn b book = HasMerged b book.now

@@ -1,0 +1,75 @@
+-- What a bundle is asked for, and what is answered.
+use Rattle.std.specs.Prelude.{ℕ, ◌<◌, List, Result, Ok, Err}
+use Rattle.std.specs.FinSet as set
+use Rattle.rows.specs.declared.change.RowFault.{RowFault}
+use Rattle.rows.specs.Apply.{Rows}
+use Rattle.world.specs.declared.verdict.Verdict.{Verdict}
+use Rattle.world.specs.declared.verdict.Verdict.TheVariants.{Sound}
+use Rattle.source_history.specs.World.{rows_of}
+use Rattle.gtid_set.specs.Sets.{Gtids, source_count, most_sources}
+use Rattle.audited_runs.specs.Deciding.{all_of}
+use Rattle.txn_journal.specs.BundleStates.{BundleValue}
+use Rattle.txn_journal.specs.BundleReading.{bundle_start, eats_bundle, closing_bundle}
+use Rattle.txn_journal.specs.BundleText.{WritesBundle}
+use Rattle.txn_journal.specs.BundleRefused.{RefusesBundle}
+use Rattle.txn_journal.specs.declared.fault.JournalFault.{JournalFault}
+use Rattle.gtid_report.specs.State.{state_text}
+use Rattle.gtid_report.specs.VerdictLines.{verdict_line}
+use Rattle.serving.specs.Verdicts.{world_over, verdict_over}
+use Rattle.commands.specs.Said.{Said, ended, Tells}
+use Rattle.commands.specs.declared.edge.Outcome.{Outcome}
+use Rattle.commands.specs.declared.edge.Outcome.TheVariants.{Done, Refused}
+
+-- ---- what the bytes are
+
+-- the bundle that the bytes spell, or the first fault
+abbrev pub bundle_in : List ℕ → Result BundleValue JournalFault
+bundle_in bytes = closing_bundle (eats_bundle bundle_start bytes)
+
+-- the grammar of bundles says so
+abbrev pub SpellsBundle : List ℕ → Result BundleValue JournalFault → Type 0
+SpellsBundle bytes (Ok b) = WritesBundle bytes b
+SpellsBundle bytes (Err fault) = RefusesBundle fault bytes
+
+-- ---- the audit
+
+abbrev pub verdict_ending : Verdict → Outcome
+verdict_ending Sound = Done
+verdict_ending v = Refused
+
+abbrev pub verdict_said : Verdict → Said
+verdict_said v = record { text = ended (verdict_line v); outcome = verdict_ending v }
+
+-- the verdict of the audit
+abbrev pub audited : BundleValue → Said
+audited b = verdict_said (verdict_over b)
+
+-- it is the answer of an audit to these bytes
+abbrev pub Audits : List ℕ → Said → Type 0
+Audits bytes said = Tells SpellsBundle bundle_in audited (λ b. ⊥) bytes said
+
+-- ---- the state
+
+abbrev pub state_said : Gtids → Rows → Said
+state_said executed rows = record { text = state_text executed rows; outcome = Done }
+
+-- the GTIDs of all journals together
+abbrev pub union_told : BundleValue → Gtids
+union_told b = all_of set.empty b.journals
+
+-- the state, where the verdict is Sound (these transactions then apply); else the verdict
+abbrev pub state_or_verdict : Verdict → Gtids → Result Rows RowFault → Said
+state_or_verdict Sound executed (Ok rows) = state_said executed rows
+state_or_verdict v executed rows = verdict_said v
+
+-- The executed set is that of all journals together, and the rows are those that this set stands for, where the audit says Sound; else its verdict.
+abbrev pub applied : BundleValue → Said
+applied b = state_or_verdict (verdict_over b) (union_told b) (rows_of (world_over b) (set.contains (union_told b)))
+
+-- the GTIDs of all journals together are of too many sources
+abbrev pub HasTooMany : BundleValue → Type 0
+HasTooMany b = most_sources < source_count (union_told b)
+
+-- it is what applying answers to these bytes
+abbrev pub Applies : List ℕ → Said → Type 0
+Applies bytes said = Tells SpellsBundle bundle_in applied HasTooMany bytes said

@@ -1,0 +1,6 @@
+pub mod Edge
+pub mod SetCommand
+pub mod Said
+pub mod Applying
+pub mod Bundles
+pub mod Positions

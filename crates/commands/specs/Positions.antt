@@ -1,0 +1,61 @@
+-- What `position` answers.
+use Rattle.std.specs.Prelude.{ℕ, List, Result, Ok, Err, Some}
+use Rattle.gtid_text.specs.declared.SourceId.{SourceId}
+use Rattle.gtid_set.specs.Sets.{Gtids}
+use Rattle.journal.specs.declared.Entry.{Entry}
+use Rattle.journal.specs.Journals.{JournalValue}
+use Rattle.auto_position.specs.Sending.{sent}
+use Rattle.auto_position.specs.declared.PositionFault.{PositionFault}
+use Rattle.auto_position.specs.declared.PositionFault.TheVariants as faults
+use Rattle.txn_journal.specs.Reading.{before_first, eats_alone, closing}
+use Rattle.txn_journal.specs.Spelling.{Writes}
+use Rattle.txn_journal.specs.Refused.{Refuses}
+use Rattle.txn_journal.specs.declared.fault.JournalFault.{JournalFault}
+use Rattle.gtid_report.specs.Faults.{set_fault}
+use Rattle.gtid_report.specs.Positions.{sending_text, required_line, more_line}
+use Rattle.gtid_report.specs.SetAnswers.{◌>>=◌, set_word, source_word}
+use Rattle.gtid_report.specs.declared.fault.Fault.{Fault}
+use Rattle.commands.specs.Said.{Said, Answering, at_once, to_all, ended, fault_said, Tells}
+use Rattle.commands.specs.declared.edge.Outcome.{Outcome}
+use Rattle.commands.specs.declared.edge.Outcome.TheVariants.{Done, Refused}
+
+-- ---- what the bytes are
+
+-- the journal that the bytes spell, or the first fault
+abbrev pub journal_in : List ℕ → Result JournalValue JournalFault
+journal_in bytes = closing (eats_alone before_first bytes)
+
+-- the grammar of journals says so
+abbrev pub SpellsJournal : List ℕ → Result JournalValue JournalFault → Type 0
+SpellsJournal bytes (Ok j) = Writes bytes j
+SpellsJournal bytes (Err fault) = Refuses fault bytes
+
+-- ---- what is answered
+
+-- the source's own UUID and the set that is asked with
+abbrev pub Asking : Type 0
+Asking = SourceId × Gtids
+
+-- what two words name; a bad UUID is named first
+abbrev pub asking_in : List ℕ → List ℕ → Result Asking Fault
+asking_in own ask = source_word own >>= λ source. set_word ask >>= λ gtids. Ok (source, gtids)
+
+-- what is sent, or why nothing is
+abbrev pub sending_said : Result (List Entry) PositionFault → Said
+sending_said (Ok entries) = record { text = sending_text entries; outcome = Done }
+sending_said (Err (faults.PurgedRequired gtids)) = record { text = ended (required_line gtids); outcome = Refused }
+sending_said (Err (faults.ReplicaHasMore gtids)) = record { text = ended (more_line gtids); outcome = Refused }
+sending_said (Err (faults.Set fault)) = fault_said (set_fault fault)
+
+-- what the source answers whose journal this is
+abbrev pub positioned : Asking → JournalValue → Said
+positioned asking j = sending_said (sent j asking.1 (Some asking.0))
+
+-- it is the answer to a journal's bytes
+abbrev pub Positions : Asking → List ℕ → Said → Type 0
+Positions asking bytes said = Tells SpellsJournal journal_in (positioned asking) (λ j. ⊥) bytes said
+
+-- a bad word is answered with its line, and nothing is read; else what is read is
+abbrev pub to_asking : Result Asking Fault → Answering
+to_asking (Ok asking) = to_all (Positions asking)
+to_asking (Err fault) = at_once (fault_said fault)

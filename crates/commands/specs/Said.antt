@@ -1,0 +1,111 @@
+-- What a command reads, and what it answers.
+use Rattle.std.specs.Prelude.{◌≡◌, ◌⊎◌, ℕ, List, [], ◌∷◌, ◌++◌, Option, Result, Ok, Err}
+use Rattle.std.specs.String.{string_bytes}
+use Rattle.std.specs.Io.KnownBytes.{Appends}
+use Rattle.gtid_set.specs.declared.fault.SetFault.TheVariants as sets
+use Rattle.txn_journal.specs.declared.fault.JournalFault.{JournalFault}
+use Rattle.txn_journal.specs.declared.fault.JournalFault.TheVariants as journals
+use Rattle.gtid_report.specs.Refusals.{refusal_line}
+use Rattle.gtid_report.specs.Faults.{journal_fault}
+use Rattle.gtid_report.specs.declared.refusal.Refusal.{Refusal}
+use Rattle.gtid_report.specs.declared.refusal.Refusal.TheVariants as refusal
+use Rattle.gtid_report.specs.declared.fault.Fault.{Fault}
+use Rattle.gtid_report.specs.declared.fault.Fault.TheVariants as fault
+use Rattle.commands.specs.Edge.{StreamsValue, Input, one_more, Begins, HasRead, IsReadFault}
+use Rattle.commands.specs.declared.answer.Answer.{Answer}
+use Rattle.commands.specs.declared.edge.Outcome.{Outcome}
+use Rattle.commands.specs.declared.edge.Outcome.TheVariants.{Refused}
+use Rattle.commands.specs.declared.edge.RunFault.{RunFault}
+use Rattle.commands.specs.declared.edge.RunFault.TheVariants.{Memory, Read, Write}
+
+-- what is printed, and how the command ends
+pub record Said : Type 0 where
+  pub text : List ℕ
+  pub outcome : Outcome
+
+abbrev pub ended : List ℕ → List ℕ
+ended line = line ++ 10 ∷ []
+
+abbrev pub refused_with : Refusal → Said
+refused_with r = record { text = ended (refusal_line r); outcome = Refused }
+
+-- the line of a fault; want of memory has none
+abbrev pub fault_said : Fault → Said
+fault_said (fault.Refused r) = refused_with r
+fault_said fault.Memory = record { text = []; outcome = Refused }
+
+-- the answer to what was decoded, or the line of the refusal
+abbrev pub answered : {V : Type 0} → (V → Said) → Result V JournalFault → Said
+answered says (Ok value) = says value
+answered says (Err f) = fault_said (journal_fault f)
+
+-- A set that is made has too many sources: one that reading the bytes makes, or one for the answer to what they spell.
+abbrev pub IsFullFor : {V : Type 0} → (List ℕ → Result V JournalFault → Type 0) → (List ℕ → Result V JournalFault) → (V → Type 0) → List ℕ → Type 0
+IsFullFor {V} Spells decoded HasTooMany bytes =
+    Spells bytes (Err (journals.Set sets.SourcesFull)) ⊎ ((value : V) × Spells bytes (Ok value) × (decoded bytes ≡ Ok value) × HasTooMany value)
+
+-- It is the answer to what the bytes are, by their fold and by their grammar; or a set has too many sources, and it is the line of that.
+abbrev pub Tells : {V : Type 0} → (List ℕ → Result V JournalFault → Type 0) → (List ℕ → Result V JournalFault) → (V → Said) → (V → Type 0) → List ℕ → Said → Type 0
+Tells Spells decoded says HasTooMany bytes said =
+    (Spells bytes (decoded bytes) × (said ≡ answered says (decoded bytes)))
+    ⊎ (IsFullFor Spells decoded HasTooMany bytes × (said ≡ refused_with refusal.SourcesFull))
+
+-- the answer that is held is this
+abbrev pub Holds : Answer → Said → Type 0
+Holds answer said = (string_bytes answer.text ≡ said.text) × (answer.outcome ≡ said.outcome)
+
+-- the answer that is held is what these bytes are answered with
+abbrev pub HoldsOne : (List ℕ → Said → Type 0) → List ℕ → Answer → Type 0
+HoldsOne says bytes answer = (said : Said) × says bytes said × Holds answer said
+
+-- it is what these bytes are answered with; or memory ran out
+abbrev pub Finds : (List ℕ → Said → Type 0) → List ℕ → Result Answer Fault → Type 0
+Finds says bytes (Ok answer) = HoldsOne says bytes answer
+Finds says bytes (Err (fault.Refused r)) = says bytes (refused_with r)
+Finds says bytes (Err fault.Memory) = Unit {0}
+
+-- there is no answer: memory was refused, or a set for it has too many sources
+abbrev pub GivesUp : Type 0 → Fault → Type 0
+GivesUp TooMany fault.Memory = Unit {0}
+GivesUp TooMany (fault.Refused r) = (r ≡ refusal.SourcesFull) × TooMany
+
+-- an answer stands as it is, and a refusal is its line
+abbrev pub Settles : Result Answer Fault → Answer → Type 0
+Settles (Ok found) answer = answer ≡ found
+Settles (Err (fault.Refused r)) answer = Holds answer (refused_with r)
+Settles (Err fault.Memory) answer = ⊥
+
+-- How a command comes to its answer: by its words alone, with nothing read, or by all bytes that it reads.
+pub data Answering : Type 1 where
+  at_once : Said → Answering
+  to_all : (List ℕ → Said → Type 0) → Answering
+
+-- it is the answer, and so much was read for it
+abbrev pub IsAnswer : {S : Type 0} → Answering → Input S → Input S → Said → Type 0
+IsAnswer (at_once answer) old new said = (new ≡ old) × (said ≡ answer)
+IsAnswer (to_all says) old new said = (bytes : List ℕ) × HasRead old.left new.left bytes × says bytes said
+
+-- what is to be read can't be
+abbrev pub IsUnread : {S : Type 0} → Answering → Input S → Input S → Type 0
+IsUnread (at_once answer) old new = ⊥
+IsUnread (to_all says) old new = IsReadFault old new
+
+-- The answer was written, and nothing else.
+pub record IsDone {S W : Type 0} (answering : Answering) (old new : StreamsValue S W) (outcome : Outcome) : Type 0 where
+  pub said : Said
+  pub answer : IsAnswer answering old.input new.input said
+  pub wrote : Appends old.output.written new.output.written said.text
+  pub ends : outcome ≡ said.outcome
+
+-- The writer failed once more, and a prefix of the answer was written.
+pub record IsCutOff {S W : Type 0} (answering : Answering) (old new : StreamsValue S W) : Type 0 where
+  pub said : Said
+  pub answer : IsAnswer answering old.input new.input said
+  pub wrote : Begins old.output.written new.output.written said.text
+  pub counted : new.output.failed ≡ one_more old.output.failed
+
+-- Memory was refused, or reading failed, and nothing was written; or writing failed.
+abbrev pub HasFailed : {S W : Type 0} → Answering → StreamsValue S W → StreamsValue S W → RunFault → Type 0
+HasFailed answering old new Memory = new.output ≡ old.output
+HasFailed answering old new Read = (new.output ≡ old.output) × IsUnread answering old.input new.input
+HasFailed answering old new Write = IsCutOff answering old new

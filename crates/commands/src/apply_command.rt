@@ -1,0 +1,136 @@
+//! The command `apply`.
+ghost use Rattle.std.specs.Prelude.{◌≤◌, IfOk, IfErr};
+ghost use Rattle.std.specs.Thread.{IsSync};
+ghost use Rattle.serving.specs.Servable.{IsServable};
+ghost use Rattle.commands.specs.Said.{Holds, GivesUp, to_all, IsDone, HasFailed};
+ghost use Rattle.commands.specs.Bundles.{state_said, applied, Applies, HasTooMany};
+
+use crate::answer::Answer;
+use crate::audit_command::verdict_answer;
+use crate::edge::{Outcome, RunFault, Sink, Source};
+use crate::parallel::apply_journals;
+use crate::request::{Request, run};
+use crate::streams::Streams;
+use applier::{Gate, NoGate};
+use gtid_report::{Fault, render_state};
+use replica_core::Core;
+use serving::{StateOrVerdict, serve};
+use std::alloc::{AllocError, Global};
+use std::mem;
+use std::sync::Wait;
+use std::thread::Threads;
+use txn_journal::Bundle;
+
+/// The lines of a replica's state.
+fn state_answer(alloc: Global, core: &Core) -> Result<Answer, AllocError>
+    ensures { IfOk result (λ answer. Holds answer (state_said core.now.state.executed core.now.state.rows)) }
+{
+    Ok(Answer {
+        outcome: Outcome::Done,
+        text: render_state(alloc, core.executed(), core.rows())?,
+    })
+}
+
+/// What a bundle comes to where one thread applies it. What was served is left to the end of the
+/// process.
+fn apply_alone(alloc: Global, bundle: &Bundle) -> Result<Answer, Fault>
+    requires { IsServable bundle.now }
+    ensures comes { IfOk result (λ answer. Holds answer (applied bundle.now)) }
+    ensures fault { IfErr result (GivesUp (HasTooMany bundle.now)) }
+{
+    match serve(alloc, bundle)? {
+        StateOrVerdict::State(core) => {
+            let answer = state_answer(alloc, &core);
+            mem::forget(core);
+            Ok(answer?)
+        }
+        StateOrVerdict::Verdict(verdict) => Ok(verdict_answer(alloc, &verdict)?),
+    }
+}
+
+/// What a bundle comes to where workers apply it. What they leave is left to the end of the process.
+fn apply_together<G: Gate + Sync, R: Threads + Wait + Sync>(
+    rt: &R,
+    alloc: Global,
+    bundle: &Bundle,
+    workers: u8,
+    gate: &G,
+) -> Result<Answer, Fault>
+    requires can { IsServable bundle.now }
+    requires workers { (1 ≤ workers) × (workers ≤ 64) }
+    ensures comes { IfOk result (λ answer. Holds answer (applied bundle.now)) }
+    ensures fault { IfErr result (GivesUp (HasTooMany bundle.now)) }
+{
+    match apply_journals(rt, alloc, bundle, workers, gate)? {
+        StateOrVerdict::State(book) => {
+            let answer = state_answer(alloc, book.state());
+            mem::forget(book);
+            Ok(answer?)
+        }
+        StateOrVerdict::Verdict(verdict) => Ok(verdict_answer(alloc, &verdict)?),
+    }
+}
+
+/// What a bundle comes to: the same for every number of workers and every order of their steps. One
+/// worker is the calling thread, which passes no gate. The bundle can be served, as each that was read
+/// can. A refusal is `SourcesFull` alone, where the GTIDs of all journals together are of more than
+/// 65,536 sources.
+pub fn apply_decoded<G: Gate + Sync, R: Threads + Wait + Sync>(
+    rt: &R,
+    alloc: Global,
+    bundle: &Bundle,
+    workers: u8,
+    gate: &G,
+) -> Result<Answer, Fault>
+    requires can { IsServable bundle.now }
+    requires workers { (1 ≤ workers) × (workers ≤ 64) }
+    ensures comes { IfOk result (λ answer. Holds answer (applied bundle.now)) }
+    ensures fault { IfErr result (GivesUp (HasTooMany bundle.now)) }
+{
+    if workers == 1 {
+        apply_alone(alloc, bundle)
+    } else {
+        apply_together(rt, alloc, bundle, workers, gate)
+    }
+}
+
+/// A bundle is applied by so many workers, 1 to 64.
+#[derive(Drop)]
+struct Apply<'a, R: Threads + Wait + Sync> {
+    threads: &'a R,
+    workers: u8,
+}
+
+impl<'a, R: Threads + Wait + Sync> Request for Apply<'a, R> {
+    type Value = Bundle;
+
+    ghost ready = { λ asked. (1 ≤ asked.workers) × (asked.workers ≤ 64) × IsSync R.row };
+
+    ghost says = { λ _ b. applied b };
+
+    ghost too_many = { λ _ b. HasTooMany b };
+
+    fn answer(&self, alloc: Global, bundle: &Bundle) -> Result<Answer, Fault> {
+        apply_decoded(self.threads, alloc, bundle, self.workers, &NoGate)
+    }
+}
+
+/// Reads a bundle, and writes the state in which all its journals are executed, or the line of its
+/// audit's verdict where that is not Sound, or the line of its refusal, and nothing else.
+pub fn apply_bundle<S: Source, W: Sink, R: Threads + Wait + Sync>(
+    rt: &R,
+    alloc: Global,
+    workers: u8,
+    streams: &mut Streams<S, W>,
+) -> Result<Outcome, RunFault>
+    requires low { 1 ≤ workers }
+    requires high { workers ≤ 64 }
+    ensures done { IfOk result (IsDone (to_all Applies) streams.old streams.new) }
+    ensures failed { IfErr result (HasFailed (to_all Applies) streams.old streams.new) }
+{
+    let request = Apply {
+        threads: rt,
+        workers,
+    };
+    run(alloc, &request, streams)
+}

@@ -1,0 +1,60 @@
+//! The command `audit`.
+ghost use Rattle.std.specs.Prelude.{◌≡◌, IfOk, IfErr};
+ghost use Rattle.commands.specs.Said.{Holds, to_all, IsDone, HasFailed};
+ghost use Rattle.commands.specs.Bundles.{Audits, audited, verdict_ending, verdict_said};
+
+use crate::answer::{Answer, ended};
+use crate::edge::{Outcome, RunFault, Sink, Source};
+use crate::request::{Request, run};
+use crate::streams::Streams;
+use gtid_report::{Fault, render_verdict};
+use serving::verdict_over;
+use std::alloc::{AllocError, Global};
+use txn_journal::Bundle;
+use world::Verdict;
+
+/// How a verdict ends a command.
+fn verdict_ending(verdict: &Verdict) -> Outcome
+    ensures { result ≡ verdict_ending verdict.now }
+{
+    match verdict {
+        Verdict::Sound => Outcome::Done,
+        _ => Outcome::Refused,
+    }
+}
+
+/// The one line of a verdict.
+pub(crate) fn verdict_answer(alloc: Global, verdict: &Verdict) -> Result<Answer, AllocError>
+    ensures { IfOk result (λ answer. Holds answer (verdict_said verdict.now)) }
+{
+    let line = render_verdict(alloc, verdict)?;
+    Ok(Answer {
+        outcome: verdict_ending(verdict),
+        text: ended(line)?,
+    })
+}
+
+/// A bundle is audited.
+struct Audit;
+
+impl Request for Audit {
+    type Value = Bundle;
+
+    ghost says = { λ _ b. audited b };
+
+    fn answer(&self, alloc: Global, bundle: &Bundle) -> Result<Answer, Fault> {
+        let verdict = verdict_over(alloc, bundle)?;
+        Ok(verdict_answer(alloc, &verdict)?)
+    }
+}
+
+/// Reads a bundle, and writes the line of its audit's verdict, or of its refusal, and nothing else.
+pub fn run_audit<S: Source, W: Sink>(
+    alloc: Global,
+    streams: &mut Streams<S, W>,
+) -> Result<Outcome, RunFault>
+    ensures done { IfOk result (IsDone (to_all Audits) streams.old streams.new) }
+    ensures failed { IfErr result (HasFailed (to_all Audits) streams.old streams.new) }
+{
+    run(alloc, &Audit, streams)
+}

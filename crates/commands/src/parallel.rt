@@ -1,0 +1,103 @@
+//! What the journals of a bundle come to where workers apply them.
+ghost use Rattle.std.specs.Prelude.{◌≤◌, IfOk, IfErr};
+ghost use Rattle.std.specs.FinSet as set;
+ghost use Rattle.journal.specs.Faults.{IsFaultOf};
+ghost use Rattle.audited_runs.specs.Deciding.{all_of};
+ghost use Rattle.applier.specs.Draining.{AllApply};
+ghost use Rattle.serving.specs.Servable.{IsFitting, IsServable};
+ghost use Rattle.serving.specs.Serving.{IsReady};
+ghost use Rattle.serving.specs.Verdicts.{IsConcluded, IsStateOrVerdict};
+ghost use Rattle.commands.specs.Applying.{HasMergedIn};
+
+use crate::history::worked;
+use applier::{Gate, drain};
+use gtid_set::SetFault;
+use serving::{StateOrVerdict, begin, conclude};
+use shared_replica::ClosedBook;
+use std::alloc::Global;
+use std::sync::Wait;
+use std::thread::Threads;
+use txn_journal::Bundle;
+use world::Verdict;
+
+/// What a history of work over a replica that was served all journals comes to, once what it left is
+/// drained: nothing where all is executed, or else the verdict of the audit.
+fn drain_and_conclude(
+    alloc: Global,
+    bundle: &Bundle,
+    book: &mut ClosedBook,
+) -> Result<Option<Verdict>, SetFault>
+    requires fits { IsFitting bundle.now }
+    requires ready { IsReady bundle.now book.old.opening }
+    requires work { AllApply book.old.steps }
+    ensures found { IfOk result (IsConcluded bundle.now book.new.now) }
+    ensures fault { IfErr result (λ f. IsFaultOf f (all_of set.empty bundle.now.journals)) }
+{
+    let drained = drain(alloc, book);
+    let core = book.state();
+    drained?;
+    Ok(conclude(alloc, bundle, core)?)
+}
+
+/// What a history of work over a replica that was served all journals comes to.
+fn conclude_history(
+    alloc: Global,
+    bundle: &Bundle,
+    mut book: ClosedBook,
+) -> Result<StateOrVerdict<ClosedBook>, SetFault>
+    requires fits { IsFitting bundle.now }
+    requires ready { IsReady bundle.now book.opening }
+    requires work { AllApply book.steps }
+    ensures applied { IfOk result (IsStateOrVerdict (HasMergedIn bundle.now) bundle.now) }
+    ensures fault { IfErr result (λ f. IsFaultOf f (all_of set.empty bundle.now.journals)) }
+{
+    match drain_and_conclude(alloc, bundle, &mut book)? {
+        None => Ok(StateOrVerdict::State(book)),
+        Some(verdict) => Ok(StateOrVerdict::Verdict(verdict)),
+    }
+}
+
+/// What the journals come to where no worker's history is known: a replica that is opened anew is
+/// drained.
+fn drain_anew(alloc: Global, bundle: &Bundle) -> Result<StateOrVerdict<ClosedBook>, SetFault>
+    requires { IsServable bundle.now }
+    ensures applied { IfOk result (IsStateOrVerdict (HasMergedIn bundle.now) bundle.now) }
+    ensures fault { IfErr result (λ f. IsFaultOf f (all_of set.empty bundle.now.journals)) }
+{
+    match begin(alloc, bundle)? {
+        StateOrVerdict::State(core) => {
+            conclude_history(alloc, bundle, ClosedBook::start(alloc, core))
+        }
+        StateOrVerdict::Verdict(verdict) => Ok(StateOrVerdict::Verdict(verdict)),
+    }
+}
+
+/// What the journals of a bundle come to over its opening rows: all of them executed together, or the
+/// verdict of their audit, where that is not Sound. So many workers apply them, each on a thread of
+/// its own where one can be started; what they leave is applied when they have ended. What is answered
+/// does not depend on their number, nor on the order of their steps. The bundle can be served, as each
+/// that was read can.
+///
+/// `Memory` is want of memory, and `SourcesFull` comes only where the GTIDs of all journals together
+/// are of more than 65,536 sources. A worker's fault is never the answer.
+pub fn apply_journals<G: Gate + Sync, R: Threads + Wait + Sync>(
+    rt: &R,
+    alloc: Global,
+    bundle: &Bundle,
+    workers: u8,
+    gate: &G,
+) -> Result<StateOrVerdict<ClosedBook>, SetFault>
+    requires can { IsServable bundle.now }
+    requires workers { (1 ≤ workers) × (workers ≤ 64) }
+    ensures applied { IfOk result (IsStateOrVerdict (HasMergedIn bundle.now) bundle.now) }
+    ensures fault { IfErr result (λ f. IsFaultOf f (all_of set.empty bundle.now.journals)) }
+{
+    let core = match begin(alloc, bundle)? {
+        StateOrVerdict::State(core) => core,
+        StateOrVerdict::Verdict(verdict) => return Ok(StateOrVerdict::Verdict(verdict)),
+    };
+    match worked(rt, alloc, core, workers, gate) {
+        Some(book) => conclude_history(alloc, bundle, book),
+        None => drain_anew(alloc, bundle),
+    }
+}

@@ -1,0 +1,75 @@
+//! What a command reads and answers, and how it is run.
+ghost use Rattle.std.specs.Prelude.{◌≡◌, IfOk, IfErr};
+ghost use Rattle.commands.specs.Said.{Said, Holds, HoldsOne, Finds, Tells, GivesUp, to_all, IsDone, HasFailed};
+
+use crate::answer::{Answer, settle};
+use crate::edge::{Outcome, RunFault, Sink, Source};
+use crate::streams::Streams;
+use crate::text::Text;
+use gtid_report::Fault;
+use std::alloc::Global;
+use std::mem;
+
+/// What a command answers to the value that it reads.
+pub(crate) trait Request {
+    /// What is read.
+    type Value: Text;
+
+    /// It may be asked.
+    ghost ready: { Self → Type 0 } = { λ _. Unit {0} };
+
+    /// What is printed for a value, and how the command ends.
+    ghost says: { Self → Self.Value → Said };
+
+    /// The sets that the answer wants have too many sources.
+    ghost too_many: { Self → Self.Value → Type 0 } = { λ _ _. ⊥ };
+
+    /// The answer to a value that was read.
+    fn answer(&self, alloc: Global, value: &Self::Value) -> Result<Answer, Fault>
+        requires ready { ready self.now }
+        requires read { Self.Value.is_read value.now }
+        ensures comes { IfOk result (λ answer. Holds answer (says self.now value.now)) }
+        ensures fault { IfErr result (GivesUp (too_many self.now value.now)) };
+}
+
+/// The answer to the bytes. They are let go once they are decoded; the value is left to the end of the
+/// process, which takes it back at once and not piece by piece.
+fn find<Q: Request>(alloc: Global, request: &Q, bytes: Vec<u8>) -> Result<Answer, Fault>
+    requires { Q.ready request.now }
+    ensures { Finds (Tells Q.Value.spells Q.Value.decoded (Q.says request.now) (Q.too_many request.now)) bytes.items result }
+{
+    let decoded = Q::Value::decode(alloc, &bytes);
+    drop(bytes);
+    match decoded {
+        Ok(value) => {
+            let answer = request.answer(alloc, &value);
+            mem::forget(value);
+            answer
+        }
+        Err(fault) => Err(Fault::from(fault)),
+    }
+}
+
+/// What is written for the bytes.
+fn answer_bytes<Q: Request>(alloc: Global, request: &Q, bytes: Vec<u8>) -> Result<Answer, RunFault>
+    requires { Q.ready request.now }
+    ensures ok { IfOk result (HoldsOne (Tells Q.Value.spells Q.Value.decoded (Q.says request.now) (Q.too_many request.now)) bytes.items) }
+    ensures memory { IfErr result (λ f. f ≡ RunFault.Memory) }
+{
+    settle(alloc, find(alloc, request, bytes))
+}
+
+/// Reads all, and writes the answer to it and nothing else.
+pub(crate) fn run<Q: Request, S: Source, W: Sink>(
+    alloc: Global,
+    request: &Q,
+    streams: &mut Streams<S, W>,
+) -> Result<Outcome, RunFault>
+    requires { Q.ready request.now }
+    ensures done { let says = Tells Q.Value.spells Q.Value.decoded (Q.says request.now) (Q.too_many request.now) in IfOk result (IsDone (to_all says) streams.old streams.new) }
+    ensures failed { let says = Tells Q.Value.spells Q.Value.decoded (Q.says request.now) (Q.too_many request.now) in IfErr result (HasFailed (to_all says) streams.old streams.new) }
+{
+    let bytes = streams.read_all(alloc)?;
+    let answer = answer_bytes(alloc, request, bytes)?;
+    streams.send(&answer)
+}

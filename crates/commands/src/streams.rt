@@ -1,0 +1,68 @@
+//! A reader and a writer between which a command stands.
+ghost use Rattle.std.specs.Prelude.{◌≡◌, IfOk, IfErr, OnOk, OnErr, string_bytes};
+ghost use Rattle.std.specs.Io.KnownBytes.{Appends};
+ghost use Rattle.commands.specs.Edge.{input_of, output_of, one_more, Begins, HasRead, ReadFault};
+
+use crate::answer::Answer;
+use crate::edge::{Outcome, RunFault, Sink, Source};
+use crate::reading::read_all;
+use std::alloc::Global;
+use std::marker::Model;
+
+/// A reader and a writer: what a command reads, and where it writes its answer.
+#[derive(Drop)]
+pub struct Streams<S: Source, W: Sink> {
+    reader: S,
+    writer: W,
+}
+
+impl<S: Source, W: Sink> Model for Streams<S, W> {
+    ghost use Rattle.commands.specs.Edge.{StreamsValue, input_of, output_of};
+
+    ghost Value = { StreamsValue S W };
+
+    ghost view = { λ s. record { input = input_of S.left S.failed s.reader; output = output_of W.written W.failed s.writer } };
+}
+
+impl<S: Source, W: Sink> Streams<S, W> {
+    /// Streams of this reader and this writer.
+    pub fn new(reader: S, writer: W) -> Self
+        ensures input { result.input ≡ input_of S.left S.failed reader }
+        ensures output { result.output ≡ output_of W.written W.failed writer }
+    {
+        Streams { reader, writer }
+    }
+
+    /// The reader and the writer, as the commands left them.
+    pub fn into_parts(self) -> (S, W)
+        ensures input { self.input ≡ input_of S.left S.failed result.0 }
+        ensures output { self.output ≡ output_of W.written W.failed result.1 }
+    {
+        let Streams { reader, writer } = self;
+        (reader, writer)
+    }
+
+    /// All bytes that the reader has left.
+    pub(crate) fn read_all(&mut self, alloc: Global) -> Result<Vec<u8>, RunFault>
+        ensures output { self.new.output ≡ self.old.output }
+        ensures read { IfOk result (λ bytes. HasRead self.old.input.left self.new.input.left bytes.items) }
+        ensures fault { IfErr result (ReadFault self.old.input self.new.input) }
+    {
+        read_all(alloc, &mut self.reader)
+    }
+
+    /// Writes an answer.
+    pub(crate) fn send(&mut self, answer: &Answer) -> Result<Outcome, RunFault>
+        ensures input { self.new.input ≡ self.old.input }
+        ensures done { OnOk result (Appends self.old.output.written self.new.output.written (string_bytes answer.now.text)) }
+        ensures ends { IfOk result (λ outcome. outcome ≡ answer.now.outcome) }
+        ensures write { IfErr result (λ f. f ≡ RunFault.Write) }
+        ensures begins { OnErr result (Begins self.old.output.written self.new.output.written (string_bytes answer.now.text)) }
+        ensures counted { OnErr result (self.new.output.failed ≡ one_more self.old.output.failed) }
+    {
+        match self.writer.write(answer.text.as_bytes()) {
+            Ok(()) => Ok(answer.outcome),
+            Err(_) => Err(RunFault::Write),
+        }
+    }
+}

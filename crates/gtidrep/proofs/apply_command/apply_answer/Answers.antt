@@ -1,6 +1,0 @@
-use Rattle.gtidrep.specs.Bundles.{Applies}
-use Rattle.gtidrep.proofs.Holding.{settled}
-use Rattle.gtidrep.proofs.apply_command.apply_answer.Goals as goal
-
-pub returns-clause-ok : goal.returns-clause-ok
-returns-clause-ok g c = settled Applies c.bytes_answer.result c.settle.result c.args.bytes.items c.bytes_answer.ensures c.settle.ensures.ok

@@ -1,0 +1,291 @@
+-- A replica that can be served answers so, and can be served what is left.
+use Rattle.std.proofs.Common.{◌≡◌, ℕ, ◌+◌, ◌≤◌, ◌<◌, ◌||◌, suc, Bool, true, false, true≢false, cond, not, List, [], ◌∷◌, ◌++◌, map, length, Option, Some, None, Ok, refl, sym, ap, ◌∙◌, subst, arith, length-append, drop, get_or, drop-cons}
+use Rattle.std.proofs.lemmas.Bool.Decides.{nat_tests}
+use Rattle.std.proofs.lemmas.Bool.{and_parts, not-false}
+use Rattle.std.proofs.lemmas.List.{map-append, length-map}
+use Rattle.std.proofs.lemmas.List.Filters.{length-filter_both}
+use Rattle.std.specs.Prelude.{slice_get, nat_le}
+use Rattle.std.specs.List.{filter, list_any, AllByRecursion}
+use Rattle.std.specs.FinSet as set
+use Rattle.std.specs.FinMap as finmap
+use Rattle.std.specs.FinMap.{get-empty, get-insert}
+use Rattle.std.specs.Ordering.{eq_by_cmp}
+use Rattle.std.proofs.lemmas.Option.{same_Some}
+use Rattle.gtid_text.specs.declared.Gtid.{Gtid}
+use Rattle.gtid_text.specs.Gtids.{gtid_cmp}
+use Rattle.gtid_text.proofs.SameGtid.{gtid_total}
+use Rattle.gtid_set.specs.Sets.{Gtids}
+use Rattle.rows.specs.declared.schema.Table.{Table}
+use Rattle.rows.specs.declared.change.NotInSchema.{NotInSchema}
+use Rattle.rows.specs.declared.change.Transaction.{Transaction}
+use Rattle.rows.specs.Database.{Database}
+use Rattle.rows.specs.Fits.{misfit, Fits}
+use Rattle.rows.proofs.Lists.{get_push, get_map_cases, none_some, all_append}
+use Rattle.journal.specs.declared.Entry.{Entry}
+use Rattle.journal.specs.Journals.{JournalValue, whole, IsJournal}
+use Rattle.journal.specs.Writing.{is_number, is_txn_writable, is_writable}
+use Rattle.apply_channel.specs.Channels.{ChannelValue, Received, is_full, most_received, same_name, with_asked, with_received, received_as}
+use Rattle.apply_channel.specs.Channels as channels
+use Rattle.replica_core.specs.declared.event.Event.{Event}
+use Rattle.replica_core.specs.declared.event.Event.TheVariants.{OpenChannel, Position, Receive}
+use Rattle.replica_core.specs.declared.event.Reply.TheVariants.{Opened, Ask}
+use Rattle.replica_core.specs.declared.event.Reply.TheVariants as reply
+use Rattle.replica_core.specs.State.{State, Site, Replica}
+use Rattle.replica_core.specs.Machine.{Step, step, ask, with_channel}
+use Rattle.auto_position.specs.Sending.{sent, own_of}
+use Rattle.faithful_journals.proofs.Lists.{all_at, all_from}
+use Rattle.faithful_runs.specs.Served.{accepted}
+use Rattle.faithful_runs.proofs.Sending.{sent_cases}
+use Rattle.faithful_runs.proofs.Wholes.{set_there}
+use Rattle.audit.specs.Contents.{in_order, as_entry}
+use Rattle.audit.specs.Worlds.{IsMisfit}
+use Rattle.world.specs.Audit.{all_entries, first_contents, found_in_keys, purged, unequal}
+use Rattle.world.specs.Meaning.{AreJournals}
+use Rattle.world.specs.declared.verdict.Verdict.TheVariants.{Sound, Purged}
+use Rattle.world.proofs.Contents.{at_content, some_of}
+use Rattle.world.proofs.Finding.{next_none, when_none, first_none}
+use Rattle.world.proofs.Meanings.{keys_not, none_of_sound}
+use Rattle.txn_journal.specs.BundleStates.{BundleValue}
+use Rattle.txn_journal.specs.declared.bundle.Channel.{Channel}
+use Rattle.serving.specs.declared.receiving.Apply.{Apply}
+use Rattle.serving.specs.Servable.{FitsJournal, IsFitting, HasRoom, IsServable, CanOpen, IsTaken, CanReceive, CanSend, CanServe, CanServeEach}
+use Rattle.serving.specs.Serving.{run, IsBetween, with_opened, Asks, ServesOne, opening}
+use Rattle.serving.specs.Verdicts.{Naming, names_of, world_over, keys_over}
+use Rattle.serving.proofs.Runs.{all_true, one_run}
+use Rattle.serving.proofs.Shapes.{applies_can, one_named}
+
+not_below : (m n : ℕ) → n < m → nat_le m n ≡ false
+not_below m n h = grind (arith, nat_tests)
+
+-- ---- one event
+
+opens : (site : Site) (s : State) (name : List ℕ) (preserve : Bool) → CanOpen name s
+    → step site s (OpenChannel name preserve) ≡ (Opened (length s.channels), record s { channels = s.channels ++ channels.opened name preserve ∷ [] })
+opens site s name preserve can =
+    let new = can.new in
+    let few = not_below 256 (length s.channels) can.few in
+    simp (new, few) refl
+
+positions : (site : Site) (s : State) (c : ℕ) (ch : ChannelValue) → slice_get s.channels c ≡ Some ch → step site s (Position c) ≡ (Ask (ask s ch), with_channel s c (with_asked (ask s ch) ch))
+positions site s c ch at = simp (at) refl
+
+receives : (site : Site) (s : State) (c : ℕ) (e : Entry) (ch : ChannelValue) (A : Gtids) → slice_get s.channels c ≡ Some ch → ch.asked ≡ Some A → misfit site.schema e.txn ≡ None → is_full ch ≡ false
+    → step site s (Receive c e) ≡ (reply.Received (length ch.received), with_channel s c (with_received (received_as (set.contains s.executed e.gtid) e) ch))
+receives site s c e ch A at asked fits room = simp (at, asked, fits, room) refl
+
+module _ (r : Replica) (c : ℕ) (e : Entry) (es : List Entry) (can : CanReceive c (e ∷ es) r) where
+  receives_as : step r.site r.state (Receive c e) ≡ (reply.Received (length can.channel.received), with_channel r.state c (with_received (received_as (set.contains r.state.executed e.gtid) e) can.channel))
+  receives_as =
+      let A = some_of can.channel.asked can.asked in
+      let room = can.room in
+      receives r.site r.state c e can.channel A.0 can.at A.1 can.taken.0.fits (not_below most_received (length can.channel.received) (omega (arith, room)))
+
+  pub is_accepted : accepted (Receive c e) (step r.site r.state (Receive c e)).0 ≡ e ∷ []
+  is_accepted = ap (λ (x : Step). accepted (Receive c e) x.0) receives_as
+
+  room_left : CanReceive c es (run r (Receive c e ∷ []))
+  room_left =
+      let more : Received = received_as (set.contains r.state.executed e.gtid) e in
+      let new : ChannelValue = with_received more can.channel in
+      let room = can.room in
+      let longer = length-append can.channel.received (more ∷ []) in
+      let now : CanReceive c es (record { site = r.site; state = with_channel r.state c new }) = record {
+        channel = new;
+        at = set_there r.state.channels c can.channel new can.at;
+        asked = can.asked;
+        room = omega (arith, room, longer);
+        taken = can.taken.1;
+      } in
+      subst (λ (x : State). CanReceive c es (record { site = r.site; state = x })) (sym (ap (λ (x : Step). x.1) receives_as)) now
+
+-- an entry is received, and what may come has come: there is room for the others
+pub goes_on : (apply : Apply) (r t : Replica) (c : ℕ) (e : Entry) (more : List Event) → AllByRecursion (IsBetween apply) more → t ≡ run r (Receive c e ∷ more)
+    → (es : List Entry) → CanReceive c (e ∷ es) r → CanReceive c es t
+goes_on apply r t c e more between now es can = applies_can apply (run r (Receive c e ∷ [])) t c es (record { events = more; between = between; now = now }) (room_left r c e es can)
+
+-- what can be received of a list can be received of its first
+pub can_next : (r : Replica) (c i : ℕ) (e : Entry) (es : List Entry) → i < length es → e ≡ get_or es i e → CanReceive c (drop i es) r → CanReceive c (e ∷ drop (i + 1) es) r
+can_next r c i e es few is can =
+    let next : suc i ≡ i + 1 = omega arith in
+    subst (λ (xs : List Entry). CanReceive c xs r) (drop-cons es i e few ∙ (λ k. sym is k ∷ drop (next k) es)) can
+
+-- ---- what a journal sends
+
+kept_all : (P : Entry → Type 0) (e : Entry) (es : List Entry) (b : Bool) → P e → AllByRecursion P es → AllByRecursion P (cond b (e ∷ es) es)
+kept_all P e es true one all = (one, all)
+kept_all P e es false one all = all
+
+all_filtered : (P : Entry → Type 0) (p : Entry → Bool) (es : List Entry) → AllByRecursion P es → AllByRecursion P (filter p es)
+all_filtered P p [] all = tt
+all_filtered P p (e ∷ es) all = kept_all P e (filter p es) (p e) all.0 (all_filtered P p es all.1)
+
+-- what is sent is of the journal
+sent_is : (j : JournalValue) (asked : Gtids) (es : List Entry) → sent j asked None ≡ Ok es → filter (λ (e : Entry). not (set.contains asked e.gtid)) j.entries ≡ es
+sent_is j asked es h = (sent_cases (set.is_subset j.previous asked) (set.is_subset (own_of asked None) (whole j)) _ _ (filter (λ (e : Entry). not (set.contains asked e.gtid)) j.entries) es h).1
+
+pub sent_all : (P : Entry → Type 0) (j : JournalValue) (asked : Gtids) (es : List Entry) → sent j asked None ≡ Ok es → AllByRecursion P j.entries → AllByRecursion P es
+sent_all P j asked es h all = subst (AllByRecursion P) (sent_is j asked es h) (all_filtered P (λ (e : Entry). not (set.contains asked e.gtid)) j.entries all)
+
+sent_few : (j : JournalValue) (asked : Gtids) (es : List Entry) → sent j asked None ≡ Ok es → length es ≤ length j.entries
+sent_few j asked es h =
+    let both = length-filter_both (λ (e : Entry). not (set.contains asked e.gtid)) (λ e. not (not (set.contains asked e.gtid))) (λ e. refl) j.entries in
+    subst (λ (xs : List Entry). length xs ≤ length j.entries) (sent_is j asked es h) (omega (arith, both))
+
+-- nothing is purged for a replica, whatever it asks with
+pub none_missing : (s t : Gtids) → set.is_subset s set.empty ≡ true → set.is_subset s t ≡ true
+none_missing s t none = set.contains-is_subset gtid_total s t (λ q h.
+    absurd (true≢false (sym (set.is_subset-contains gtid_total s set.empty none q h) ∙ set.contains-empty gtid_cmp q)))
+
+-- ---- a channel is opened and positioned
+
+module _ (r : Replica) (c : ℕ) (channel : Channel) (j : JournalValue) (can : CanServe c channel.name j r) where
+  abbrev fresh : ChannelValue
+  fresh = channels.opened channel.name channel.preserve
+
+  opened_is : step r.site r.state (OpenChannel channel.name channel.preserve) ≡ (Opened (length r.state.channels), record r.state { channels = r.state.channels ++ fresh ∷ [] })
+  opened_is = opens r.site r.state channel.name channel.preserve can.opens
+
+  fresh_at : slice_get (with_opened r channel).state.channels c ≡ Some fresh
+  fresh_at =
+      ap (λ (x : Step). slice_get x.1.channels c) opened_is
+      ∙ ap (slice_get (r.state.channels ++ fresh ∷ [])) (sym can.next)
+      ∙ get_push r.state.channels fresh
+
+  pub asks : (s t : Replica) (asked : Gtids) (es : List Entry) → s ≡ with_opened r channel → (step s.site s.state (Position c)).0 ≡ Ask asked → sent j asked None ≡ Ok es → t ≡ run s (Position c ∷ []) → Asks r c channel j es t
+  asks s t asked es is asks_so sends now = record {
+    ask = asked;
+    number = ap (λ (x : Step). x.0) opened_is ∙ ap Opened can.next;
+    asked = subst (λ (x : Replica). (step x.site x.state (Position c)).0 ≡ Ask asked) is asks_so;
+    all_sent = sends;
+    now = now ∙ ap (λ (x : Replica). run x (Position c ∷ [])) is;
+  }
+
+  pub can_receive : (t : Replica) (es : List Entry) → Asks r c channel j es t → CanReceive c es t
+  can_receive t es asked =
+      let s : State = (with_opened r channel).state in
+      let ch : ChannelValue = with_asked (ask s fresh) fresh in
+      let room = can.sends.room in
+      let few = sent_few j asked.ask es asked.all_sent in
+      let now : CanReceive c es (record { site = r.site; state = with_channel s c ch }) = record {
+        channel = ch;
+        at = set_there s.channels c fresh ch fresh_at;
+        asked = refl;
+        room = omega (arith, room, few);
+        taken = sent_all (IsTaken r.site.schema) j asked.ask es asked.all_sent can.sends.taken;
+      } in
+      subst (CanReceive c es) (sym asked.now) (subst (λ (x : State). CanReceive c es (record { site = r.site; state = x })) (sym (ap (λ (x : Step). x.1) (positions r.site s c fresh fresh_at))) now)
+
+-- ---- one journal, and then the others
+
+any_map : {X Y : Type 0} (p : Y → Bool) (f : X → Y) (xs : List X) → list_any p (map f xs) ≡ list_any (λ x. p (f x)) xs
+any_map p f [] = refl
+any_map p f (x ∷ xs) = ap (λ b. p (f x) || b) (any_map p f xs)
+
+module _ (r : Replica) (c : ℕ) (channel : Channel) (chs rest : List Channel) (j : JournalValue) (js journals : List JournalValue) (of : chs ≡ channel ∷ rest) (is : journals ≡ j ∷ js) (all : CanServeEach c chs journals r) where
+  split : CanServeEach c (channel ∷ rest) (j ∷ js) r
+  split = subst (λ (xs : List JournalValue). CanServeEach c (channel ∷ rest) xs r) is (subst (λ (cs : List Channel). CanServeEach c cs journals r) of all)
+
+  pub serve_first : CanServe c channel.name j r
+  serve_first =
+      let can = split in
+      let few = can.few in
+      let next = can.next in
+      let test : Naming → Bool = λ x. same_name x.0 channel.name in
+      record {
+        next = can.next;
+        opens = record {
+          new = sym (any_map test (λ (x : ChannelValue). (x.name, x.preserve)) r.state.channels) ∙ ap (list_any test) can.named
+              ∙ any_map test (λ (x : Channel). (x.name, x.preserve)) can.before ∙ can.have.0;
+          few = omega (arith, few, next);
+        };
+        sends = can.send.0;
+      }
+
+  pub serve_rest : (apply : Apply) (t : Replica) → ServesOne apply r c channel j t → CanServeEach (c + 1) rest js t
+  serve_rest apply t one =
+      let can = split in
+      let few = can.few in
+      let named = one_named apply r c channel j t one in
+      let longer : length t.state.channels ≡ length r.state.channels + 1 =
+      sym (length-map t.state.channels (λ (x : ChannelValue). (x.name, x.preserve))) ∙ ap length named
+      ∙ length-append (names_of r.state.channels) ((channel.name, channel.preserve) ∷ [])
+      ∙ ap (λ (n : ℕ). n + 1) (length-map r.state.channels (λ (x : ChannelValue). (x.name, x.preserve)))
+      in
+      record {
+        before = can.before ++ channel ∷ [];
+        named = named ∙ ap (λ (ns : List Naming). ns ++ (channel.name, channel.preserve) ∷ []) can.named ∙ sym (map-append (λ (x : Channel). (x.name, x.preserve)) can.before (channel ∷ []));
+        next = longer ∙ ap (λ (n : ℕ). n + 1) can.next;
+        few = omega (arith, few);
+        have = can.have.1;
+        send = subst (λ (x : Replica). AllByRecursion (CanSend x.site.schema) js) (sym (one_run apply r c channel j t one)) can.send.1;
+      }
+
+-- ---- from the opening
+
+-- where the audit of keys is sound, nothing was purged
+unpurged : (b : BundleValue) → keys_over b ≡ Sound → (i : ℕ) (j : JournalValue) → slice_get b.journals i ≡ Some j → set.is_subset j.previous set.empty ≡ true
+unpurged b sound i j at =
+    let w = world_over b in
+    let all = next_none (unequal w b.journals) _ (none_of_sound (found_in_keys w b.journals) (keys_not w b.journals) sound) in
+    let none = next_none (purged w b.journals) _ all.1 in
+    not-false (set.is_subset j.previous set.empty) (when_none (not (set.is_subset j.previous set.empty)) (Purged i (set.difference j.previous set.empty)) (first_none _ b.journals none.0 i j at))
+
+can_send : (schema : List Table) (j : JournalValue) → set.is_subset j.previous set.empty ≡ true → IsJournal j.previous j.entries → FitsJournal schema j → HasRoom j → CanSend schema j
+can_send schema j unpurged rules fits room = record {
+  unpurged = unpurged;
+  taken = all_from (IsTaken schema) j.entries (λ i e at. record {
+    fits = all_at (λ (x : Entry). Fits schema x.txn) j.entries i e fits at;
+    number = (and_parts (is_number e.gtid.number) (is_txn_writable e.txn) (all_true is_writable j.entries i e rules.writable at)).0;
+  });
+  room = room;
+}
+
+-- a bundle that can be served, and whose keys are sound, can be served to its replica
+pub can_serve_all : (b : BundleValue) → IsServable b → keys_over b ≡ Sound → AreJournals b.journals → CanServeEach 0 b.channels b.journals (opening b)
+can_serve_all b can sound rules = record {
+  before = [];
+  named = refl;
+  next = refl;
+  few = let few = can.few in omega (arith, few);
+  have = can.have;
+  send = all_from (CanSend b.start.schema) b.journals (λ i j at.
+      can_send b.start.schema j (unpurged b sound i j at) (all_at (λ (x : JournalValue). IsJournal x.previous x.entries) b.journals i j rules at)
+      (all_at (FitsJournal b.start.schema) b.journals i j can.fits at) (all_at HasRoom b.journals i j can.room at));
+}
+
+-- ---- the world of a bundle
+
+abbrev AllFit : List Table → List Entry → Type 0
+AllFit schema es = AllByRecursion (λ (e : Entry). Fits schema e.txn) es
+
+fits_by : (schema : List Table) (b : Bool) (u t : Transaction) (o : Option Transaction) → Fits schema u → (o ≡ Some t → Fits schema t) → cond b (Some u) o ≡ Some t → Fits schema t
+fits_by schema true u t o here more h = subst (Fits schema) (same_Some u t h) here
+fits_by schema false u t o here more h = more h
+
+-- what a world has under a GTID is taken, where all entries are
+contents_fit : (schema : List Table) (es : List Entry) (g : Gtid) (t : Transaction) → AllFit schema es → finmap.get (first_contents set.empty es) g ≡ Some t → Fits schema t
+contents_fit schema [] g t fit h = none_some t (sym (get-empty gtid_cmp g) ∙ h)
+contents_fit schema (e ∷ es) g t fit h =
+    let rest = first_contents set.empty es in
+    let new = ap (λ (b : Bool). finmap.get (cond b rest (finmap.insert rest e.gtid e.txn)) g) (set.contains-empty gtid_cmp e.gtid) in
+    fits_by schema (eq_by_cmp gtid_cmp g e.gtid) e.txn t (finmap.get rest g) fit.0 (contents_fit schema es g t fit.1) (sym (get-insert gtid_total rest e.gtid e.txn g) ∙ sym new ∙ h)
+
+all_fit : (schema : List Table) (js : List JournalValue) → AllByRecursion (FitsJournal schema) js → AllFit schema (all_entries js)
+all_fit schema [] fits = tt
+all_fit schema (j ∷ js) fits = all_append (λ (e : Entry). Fits schema e.txn) j.entries (all_entries js) fits.0 (all_fit schema js fits.1)
+
+-- no transaction is refused by the tables
+no_misfit : (b : BundleValue) (g : Gtid) (why : NotInSchema) → IsFitting b → IsMisfit b.start.schema (in_order (first_contents set.empty (all_entries b.journals))) g why → ⊥
+no_misfit b g why fits it =
+    let schema : List Table = b.start.schema in
+    let at = get_map_cases as_entry (finmap.entries (first_contents set.empty (all_entries b.journals))) it.place it.entry it.there in
+    let taken : Fits schema at.0.1 = contents_fit schema (all_entries b.journals) at.0.0 at.0.1 (all_fit schema b.journals fits) (at_content (world_over b) it.place at.0 at.1) in
+    none_some why (sym taken ∙ ap (λ (e : Entry). misfit schema e.txn) at.2 ∙ it.unfit)
+
+pub none_refused : (b : BundleValue) (d : Database) (opened : Gtids) (js : List JournalValue) (g : Gtid) (why : NotInSchema) → d ≡ b.start → opened ≡ set.empty → js ≡ b.journals → IsFitting b
+    → IsMisfit d.schema (in_order (first_contents opened (all_entries js))) g why → ⊥
+none_refused b d opened js g why same none all fits it =
+    no_misfit b g why fits
+    (subst (λ (x : Database). IsMisfit x.schema (in_order (first_contents set.empty (all_entries b.journals))) g why) same
+    (subst (λ (x : Gtids). IsMisfit d.schema (in_order (first_contents x (all_entries b.journals))) g why) none
+    (subst (λ (x : List JournalValue). IsMisfit d.schema (in_order (first_contents opened (all_entries x))) g why) all it)))

@@ -1,0 +1,241 @@
+-- What holds of the texts of each format whose single lines obey these laws.
+use Rattle.std.proofs.Common.{◌≡◌, ℕ, List, [], ◌∷◌, ◌++◌, Result, Ok, Err, refl, ap, ◌∙◌, Bool, true, false, not, cond, eqb, length, map, sym, subst, append_assoc, arith, inl, inr}
+use Rattle.std.specs.List.{flat_map, AllByRecursion, list_all}
+use Rattle.txn_journal.specs.Words.{IsOneLine}
+use Rattle.txn_journal.specs.Lines.{◌>>=◌}
+use Rattle.txn_journal.specs.Stream.{Judge, Progress, Reading, judged, next_number, eats, Stopped, eat, ended, at_end, IsAfter, answer, IsWhole, IsWholeOr, IsRead}
+use Rattle.txn_journal.specs.declared.fault.Cause.{Cause}
+use Rattle.txn_journal.proofs.Judged.{bind_ok, ok_is}
+use Rattle.txn_journal.proofs.Pieces.{eats_append, eats_line, stopped_stays}
+use Rattle.std.specs.Prelude.{IfOk, IfErr, MatchResult}
+use Rattle.std.proofs.lemmas.List.{map-append, append-nil, length-append, flat_map_more}
+use Rattle.std.proofs.lemmas.List.Concat.{flat_map-append}
+use Rattle.std.proofs.lemmas.Bool.{eqb-true, and_parts}
+use Rattle.gtid_set.specs.declared.fault.SetFault.{SetFault}
+use Rattle.rows.proofs.Lists.{all_push, all_append}
+use Rattle.txn_journal.specs.Formats.{Format, ended_line_of, text_of, AreWhole, start_of, eats_by, IsFaultBy, closing_by, whole_by, BeginsBy, capped, RefusesBy, SpellsBy}
+use Rattle.txn_journal.specs.declared.fault.JournalFault.{JournalFault}
+use Rattle.txn_journal.specs.declared.fault.JournalFault.TheVariants as faults
+
+-- what lines make, one after another
+abbrev pub runs : {S : Type 0} → Judge S → S → List (List ℕ) → Result S Cause
+runs judge s [] = Ok s
+runs judge s (l ∷ ls) = judge s l >>= λ t. runs judge t ls
+
+pub runs_then : {S : Type 0} (judge : Judge S) (s t : S) (ks ls : List (List ℕ)) → runs judge s ks ≡ Ok t → runs judge s (ks ++ ls) ≡ runs judge t ls
+runs_then {S} judge s t [] ls e = ap (λ (u : S). runs judge u ls) (ok_is s t e)
+runs_then {S} judge s t (k ∷ ks) ls e =
+    let a = bind_ok (judge s k) (λ u. runs judge u ks) t e in
+    ap (λ (r : Result S Cause). r >>= λ u. runs judge u (ks ++ ls)) a.1 ∙ runs_then judge a.0 t ks ls a.2
+
+-- lines, each with its line feed
+eats_runs : {S L : Type 0} (judge : Judge S) (text : L → List ℕ) (s t : S) (ls : List L) (n : ℕ) → AllByRecursion (λ l. IsOneLine (text l)) ls → runs judge s (map text ls) ≡ Ok t → (m : ℕ) × (eats judge (Reading s n []) (flat_map (λ l. text l ++ 10 ∷ []) ls) ≡ Reading t m [])
+eats_runs {S} judge text s t [] n whole e = (n, ap (λ (u : S). Reading u n []) (ok_is s t e))
+eats_runs {S} judge text s t (l ∷ ls) n whole e =
+    let rest = flat_map (λ l. text l ++ 10 ∷ []) ls in
+    let a = bind_ok (judge s (text l)) (λ u. runs judge u (map text ls)) t e in
+    let more = eats_runs judge text a.0 t ls (next_number n) whole.1 a.2 in (
+      more.0,
+      eats_append judge (Reading s n []) (text l ++ 10 ∷ []) rest
+          ∙ ap (λ (p : Progress S). eats judge p rest) (eats_line judge s n [] (text l) whole.0 ∙ ap (λ (r : Result S Cause). judged r (next_number n)) a.1)
+          ∙ more.1,
+    )
+
+-- ---- from one state to another by whole lines
+
+pub record Leads {S L : Type 0} (judge : Judge S) (text : L → List ℕ) (s : S) (ls : List L) (t : S) : Type 0 where
+  pub whole : AllByRecursion (λ l. IsOneLine (text l)) ls
+  pub run : runs judge s (map text ls) ≡ Ok t
+
+pub leads_none : {S L : Type 0} (judge : Judge S) (text : L → List ℕ) (s : S) → Leads judge text s [] s
+leads_none judge text s = record { whole = tt; run = refl }
+
+pub leads_one : {S L : Type 0} (judge : Judge S) (text : L → List ℕ) (s t : S) (l : L) → IsOneLine (text l) → judge s (text l) ≡ Ok t → Leads judge text s (l ∷ []) t
+leads_one {S} judge text s t l one e = record { whole = (one, tt); run = ap (λ (r : Result S Cause). r >>= λ u. Ok u) e }
+
+pub leads_both : {S L : Type 0} {judge : Judge S} {text : L → List ℕ} {s t u : S} {ks ls : List L} → Leads judge text s ks t → Leads judge text t ls u → Leads judge text s (ks ++ ls) u
+leads_both {judge} {text} {s} {t} {u} {ks} {ls} a b = record {
+  whole = all_append (λ l. IsOneLine (text l)) ks ls a.whole b.whole;
+  run = ap (runs judge s) (map-append text ks ls) ∙ runs_then judge s t (map text ks) (map text ls) a.run ∙ b.run;
+}
+
+-- ---- laws of single lines
+
+-- a text of the value is read to its end
+pub record Reads (f : Format) (bytes : List ℕ) (v : f.Value) : Type 0 where
+  pub lines : List f.Line
+  pub last : f.State
+  pub parts : bytes ≡ text_of f lines
+  pub leads : Leads f.judge f.line_text f.start lines last
+  pub done : f.is_last last ≡ true
+  pub value : f.value last ≡ v
+
+-- one line more
+pub record OneMore (f : Format) (Sound : f.State → List f.Line → Type 0) (old : List f.Line) (line : List ℕ) (t : f.State) : Type 0 where
+  pub l : f.Line
+  pub text : line ≡ f.line_text l
+  pub sound : Sound t (old ++ l ∷ [])
+
+-- the lines can be gone on with
+pub record CanGoOn (f : Format) (ls : List f.Line) : Type 0 where
+  pub value : f.Value
+  pub more : List f.Line
+  pub writes : f.Writes (text_of f (ls ++ more)) value
+
+-- Sound is what is known of lines and of what they have made
+pub record Laws (f : Format) (Sound : f.State → List f.Line → Type 0) : Type 0 where
+  pub starts : Sound f.start []
+  pub heard : (s : f.State) (ls : List f.Line) → Sound s ls → f.HasHeard s ls
+  pub begins : (s : f.State) (ls : List f.Line) → Sound s ls → CanGoOn f ls
+  pub judges : (s : f.State) (ls : List f.Line) (line : List ℕ) → Sound s ls → MatchResult (f.judge s line) (OneMore f Sound ls line) (f.HasCause s line)
+  pub ends : (s : f.State) (ls : List f.Line) → Sound s ls → f.is_last s ≡ true → f.Writes (text_of f ls) (f.value s)
+  pub reads : (bytes : List ℕ) (v : f.Value) → f.Writes bytes v → Reads f bytes v
+
+-- ---- lines
+
+-- one line more
+texts_more : (f : Format) (ls : List f.Line) (l : f.Line) (more : List ℕ) → text_of f ls ++ (ended_line_of f l ++ more) ≡ text_of f (ls ++ l ∷ []) ++ more
+texts_more f ls l more =
+    sym (append_assoc (text_of f ls) (ended_line_of f l) more)
+    ∙ ap (λ (x : List ℕ). x ++ more) (flat_map_more (ended_line_of f) [] ls l)
+
+one_line_more : (rest : List ℕ) (b : ℕ) → eqb b 10 ≡ false → IsOneLine rest → IsOneLine (rest ++ b ∷ [])
+one_line_more [] b ne h = rw ne refl
+one_line_more (c ∷ cs) b ne h = let p = and_parts (not (eqb c 10)) (list_all (λ x. not (eqb x 10)) cs) h in rw p.0 (one_line_more cs b ne p.1)
+
+-- the fault of a feed is that of the whole
+pub stopped_with : (f : Format) (bytes : List ℕ) (e : JournalFault) (p : Progress f.State) → Err e ≡ answer p → IsAfter (IsFaultBy f (start_of f) bytes) p (eats_by f (start_of f) bytes) → IsWholeOr (IsFaultBy f (start_of f) bytes) (Err e) (whole_by f bytes)
+unfolding closing_by
+stopped_with f bytes e (Reading s n rest) a h = absurd cc
+stopped_with f bytes e (Stopped g) a (inl x) = inl (x.0, let k = x.1 in cc, x.2)
+stopped_with f bytes e (Stopped g) a (inr x) = inr (let k : Err g ≡ whole_by f bytes = ap (closing_by f) x in cc)
+
+-- which fault it was may be left out
+pub whole_of : {V : Type 0} (may : SetFault → Type 0) (r w : Result V JournalFault) → IsWholeOr may r w → IsWhole r w
+whole_of may r w (inl x) = inl (x.0, x.1)
+whole_of may r w (inr x) = inr x
+
+module _ (f : Format) (Sound : f.State → List f.Line → Type 0) (laws : Laws f Sound) where
+  -- ---- what is spelled is read
+
+  pub reads_back : (bytes : List ℕ) (v : f.Value) → f.Writes bytes v → whole_by f bytes ≡ Ok v
+  unfolding closing_by
+  reads_back bytes v w =
+      let r = laws.reads bytes v w in
+      let eaten = eats_runs f.judge f.line_text f.start r.last r.lines 0 r.leads.whole r.leads.run in
+      ap (whole_by f) r.parts ∙ ap (closing_by f) eaten.1 ∙ (λ i. at_end (ended (r.done i) [] eaten.0) (r.value i))
+
+  pub one_value : (bytes : List ℕ) (v w : f.Value) → f.Writes bytes v → f.Writes bytes w → v ≡ w
+  one_value bytes v w a b = let k = sym (reads_back bytes v a) ∙ reads_back bytes w b in cc
+
+  begins : (s : f.State) (ls : List f.Line) → Sound s ls → BeginsBy f (text_of f ls)
+  begins s ls h =
+      let k = laws.begins s ls h in
+      (k.value, text_of f k.more, subst (λ (x : List ℕ). f.Writes x k.value) (flat_map-append (ended_line_of f) ls k.more) k.writes)
+
+  -- ---- what is read is spelled
+
+  -- so much of the text was read, and this is left
+  record Stands (bytes : List ℕ) (s : f.State) (n : ℕ) (rest left : List ℕ) : Type 0 where
+    lines : List f.Line
+    parts : bytes ≡ text_of f lines ++ (rest ++ left)
+    whole : AreWhole f lines
+    part : IsOneLine rest
+    number : n ≡ capped (length lines)
+    sound : Sound s lines
+    eaten : (more : List ℕ) → eats_by f (start_of f) (text_of f lines ++ (rest ++ more)) ≡ eats_by f (Reading s n rest) more
+
+  -- the text ends here
+  ends_here : (bytes : List ℕ) (s : f.State) (n : ℕ) (rest : List ℕ) (v : Bool) → f.is_last s ≡ v → Stands bytes s n rest [] → whole_by f bytes ≡ at_end (ended v rest n) (f.value s) → SpellsBy f bytes (at_end (ended v rest n) (f.value s))
+  ends_here bytes s n rest false last h e = (
+    record { before = h.lines; rest = rest; parts = h.parts ∙ ap (λ (x : List ℕ). text_of f h.lines ++ x) (append-nil rest); lines = h.whole; part = h.part; number = omega (arith, h.number); begins = begins s h.lines h.sound },
+    λ v w. absurd (let k = sym e ∙ reads_back bytes v w in cc),
+  )
+  ends_here bytes s n [] true last h e = subst (λ (x : List ℕ). f.Writes x (f.value s)) (sym (h.parts ∙ append-nil (text_of f h.lines))) (laws.ends s h.lines h.sound last)
+  ends_here bytes s n (c ∷ cs) true last h e = inr (record { value = f.value s; before = h.lines; rest = c ∷ cs; parts = h.parts ∙ ap (λ (x : List ℕ). text_of f h.lines ++ x) (append-nil (c ∷ cs)); lines = h.whole; written = laws.ends s h.lines h.sound last; part = h.part; some = omega arith; number = omega (arith, h.number) }, refl)
+
+  -- the line that is read, with its line feed, in front of more
+  line_more : (ls : List f.Line) (l : f.Line) (rest more : List ℕ) → rest ≡ f.line_text l → text_of f ls ++ (rest ++ 10 ∷ more) ≡ text_of f (ls ++ l ∷ []) ++ more
+  line_more ls l rest more e =
+      ap (λ (x : List ℕ). text_of f ls ++ (x ++ 10 ∷ more)) e
+      ∙ ap (λ (x : List ℕ). text_of f ls ++ x) (sym (append_assoc (f.line_text l) (10 ∷ []) more))
+      ∙ texts_more f ls l more
+
+  -- a line that is taken, or the first that is not
+  next_line : (bytes bs : List ℕ) (s : f.State) (n : ℕ) (rest : List ℕ) (h : Stands bytes s n rest (10 ∷ bs)) (r : Result f.State Cause) → f.judge s rest ≡ r → MatchResult r (OneMore f Sound h.lines rest) (f.HasCause s rest)
+      → ((t : f.State) (m : ℕ) (new : List ℕ) → Stands bytes t m new bs → SpellsBy f bytes (closing_by f (eats_by f (Reading t m new) bs)))
+      → SpellsBy f bytes (closing_by f (eats_by f (judged r (next_number n)) bs))
+  unfolding closing_by eat
+  next_line bytes bs s n rest h (Ok t) j k more =
+      more t (next_number n) [] (record {
+        lines = h.lines ++ k.l ∷ [];
+        parts = h.parts ∙ line_more h.lines k.l rest bs k.text;
+        whole = all_push (λ l. IsOneLine (f.line_text l)) h.lines k.l h.whole (subst IsOneLine k.text h.part);
+        part = refl;
+        number = omega (arith, h.number, length-append h.lines (k.l ∷ []));
+        sound = k.sound;
+        eaten = λ m. ap (eats_by f (start_of f)) (sym (line_more h.lines k.l rest m k.text)) ∙ h.eaten (10 ∷ m) ∙ ap (λ (x : Result f.State Cause). eats_by f (judged x (next_number n)) m) j;
+      })
+  next_line bytes bs s n rest h (Err c) j cause more =
+      let fault = faults.Line (next_number n) c in
+      let stopped : (m : List ℕ) → eats_by f (Reading s n rest) (10 ∷ m) ≡ Stopped fault = λ m. ap (λ (x : Result f.State Cause). eats_by f (judged x (next_number n)) m) j ∙ stopped_stays f.judge fault m in
+      let front = text_of f h.lines ++ (rest ++ 10 ∷ []) in
+      subst (λ (p : Progress f.State). SpellsBy f bytes (closing_by f p)) (sym (stopped_stays f.judge fault bs)) (inl (record {
+        before = h.lines;
+        line = rest;
+        rest = bs;
+        parts = h.parts;
+        lines = h.whole;
+        whole = h.part;
+        number = omega (arith, h.number);
+        begins = begins s h.lines h.sound;
+        faulty = λ b.
+            let at : eats_by f (start_of f) (front ++ b.1) ≡ Stopped fault = eats_append f.judge (start_of f) front b.1 ∙ ap (λ (p : Progress f.State). eats_by f p b.1) (h.eaten (10 ∷ []) ∙ stopped []) ∙ stopped_stays f.judge fault b.1 in
+            let k = sym (reads_back (front ++ b.1) b.0 b.2) ∙ ap (closing_by f) at in cc;
+        state = s;
+        heard = laws.heard s h.lines h.sound;
+        has_cause = cause;
+      }))
+
+  next_byte : (bytes bs : List ℕ) (s : f.State) (n : ℕ) (rest : List ℕ) (b : ℕ) (v : Bool) → eqb b 10 ≡ v → Stands bytes s n rest (b ∷ bs)
+      → ((t : f.State) (m : ℕ) (new : List ℕ) → Stands bytes t m new bs → SpellsBy f bytes (closing_by f (eats_by f (Reading t m new) bs)))
+      → SpellsBy f bytes (closing_by f (eats_by f (cond v (judged (f.judge s rest) (next_number n)) (Reading s n (rest ++ b ∷ []))) bs))
+  unfolding eat
+  next_byte bytes bs s n rest b true e h more =
+      let k : Stands bytes s n rest (10 ∷ bs) = subst (λ (x : ℕ). Stands bytes s n rest (x ∷ bs)) (eqb-true b 10 e) h in
+      next_line bytes bs s n rest k (f.judge s rest) refl (laws.judges s k.lines rest k.sound) more
+  next_byte bytes bs s n rest b false e h more = more s n (rest ++ b ∷ []) (record {
+    lines = h.lines;
+    parts = h.parts ∙ ap (λ (x : List ℕ). text_of f h.lines ++ x) (sym (append_assoc rest (b ∷ []) bs));
+    whole = h.whole;
+    part = one_line_more rest b e h.part;
+    number = h.number;
+    sound = h.sound;
+    eaten = λ m.
+        ap (λ (x : List ℕ). eats_by f (start_of f) (text_of f h.lines ++ x)) (append_assoc rest (b ∷ []) m)
+        ∙ h.eaten (b ∷ m)
+        ∙ ap (λ (x : Bool). eats_by f (cond x (judged (f.judge s rest) (next_number n)) (Reading s n (rest ++ b ∷ []))) m) e;
+  })
+
+  goes_on : (bytes left : List ℕ) (s : f.State) (n : ℕ) (rest : List ℕ) → Stands bytes s n rest left → SpellsBy f bytes (closing_by f (eats_by f (Reading s n rest) left))
+  unfolding closing_by eat
+  goes_on bytes [] s n rest h = ends_here bytes s n rest (f.is_last s) refl h (ap (whole_by f) h.parts ∙ ap (closing_by f) (h.eaten []))
+  goes_on bytes (b ∷ bs) s n rest h = next_byte bytes bs s n rest b (eqb b 10) refl h (λ t m new k. goes_on bytes bs t m new k)
+
+  -- ---- what the calls answer
+
+  spells : (r : Result f.Value JournalFault) (bytes : List ℕ) → IsWholeOr (IsFaultBy f (start_of f) bytes) r (whole_by f bytes) → SpellsBy f bytes r
+  spells r bytes (inl e) = subst (SpellsBy f bytes) (sym e.1) e.2
+  spells r bytes (inr e) = subst (SpellsBy f bytes) (sym e) (goes_on bytes bytes f.start 0 [] (record { lines = []; parts = refl; whole = tt; part = refl; number = omega arith; sound = laws.starts; eaten = λ m. refl }))
+
+  pub is_found : (r : Result f.Value JournalFault) (bytes : List ℕ) → IsWholeOr (IsFaultBy f (start_of f) bytes) r (whole_by f bytes) → IfOk r (λ v. f.Writes bytes v)
+  is_found (Ok v) bytes h = spells (Ok v) bytes h
+  is_found (Err e) bytes h = tt
+
+  pub is_refused : (r : Result f.Value JournalFault) (bytes : List ℕ) → IsWholeOr (IsFaultBy f (start_of f) bytes) r (whole_by f bytes) → IfErr r (λ fault. RefusesBy f fault bytes)
+  is_refused (Ok v) bytes h = tt
+  is_refused (Err e) bytes h = spells (Err e) bytes h
+
+  pub is_only : (r : Result f.Value JournalFault) (bytes : List ℕ) → IsWholeOr (IsFaultBy f (start_of f) bytes) r (whole_by f bytes) → (v : f.Value) → f.Writes bytes v → IsRead r v
+  is_only r bytes (inl e) v w = subst (λ (x : Result f.Value JournalFault). IsRead x v) (sym e.1) tt
+  is_only r bytes (inr e) v w = subst (λ (x : Result f.Value JournalFault). IsRead x v) (sym (e ∙ reads_back bytes v w)) refl

@@ -1,0 +1,181 @@
+//! Workers with a gate between their steps, and the hands from which they steal.
+
+ghost use Rattle.std.specs.Prelude.{◌≡◌};
+
+use applier::{Gate, Hand, Ticket, drain, hands, run_workers};
+use commands::apply_journals;
+use commit_ledger::Blanks;
+use gtid_text::{Gtid, SourceId};
+use journal::Entry;
+use replica_core::{Core, Event};
+use rows::{Changes, Name, Rows, Schema, Transaction};
+use serving::{StateOrVerdict, written_is_servable};
+use shared_replica::{Naming, SharedReplica};
+use std::alloc::Global;
+use std::marker::Brand;
+use std::process::Abort;
+use std::sync::Wait;
+use std::sync::atomic::{AtomicU64, Ordering};
+use std::test::Fail;
+use std::thread::Threads;
+use txn_journal::decode_bundle;
+
+/// A worker that waits before it prepares doesn't keep the other from committing.
+#[test]
+fn workers_run_at_once(rt: HostRuntime) -> Result<(), Fail> {
+    let alloc = rt.alloc();
+    let core = core_with_twenty(alloc)?;
+    let gate = Meeting {
+        prepared: AtomicU64::new(0),
+        committed: AtomicU64::new(0),
+        met: AtomicU64::new(0),
+    };
+    two_workers::<Brand, _>(&rt, alloc, Blanks::new(2), core, &gate)?;
+    assert_eq!(rt; gate.met.load(Ordering::SeqCst), 1);
+    Ok(())
+}
+
+fn two_workers<N: Naming + Send + Sync, R: Threads + Wait + Abort + Sync>(
+    rt: &R,
+    alloc: Global,
+    blanks: Blanks,
+    core: Core,
+    gate: &Meeting,
+) -> Result<(), Fail>
+    requires steps { (blanks.steps.name ≡ N.steps_name) × (blanks.steps.parts ≡ N.seats) }
+    requires commits { (blanks.commits.name ≡ N.commits_name) × (blanks.commits.parts ≡ N.seats) }
+    requires opening { core ≡ N.opening }
+    requires two { N.seats ≡ 2 }
+{
+    let Ok((replica, passes)) = SharedReplica::<N>::open(alloc, blanks, core, 2) else {
+        return Err(Fail::from("no memory"));
+    };
+    let end = run_workers(rt, alloc, &replica, passes, gate);
+    assert!(rt; end.fault.is_none());
+    let Ok(mut book) = replica.close(end.passes) else {
+        return Err(Fail::from("not closed"));
+    };
+    assert!(rt; book.state().drained());
+    assert_eq!(rt; book.counts().commits, 20);
+    let steps = book.steps().len();
+    drain(alloc, &mut book)?;
+    assert_eq!(rt; book.steps().len(), steps);
+    Ok(())
+}
+
+/// A replica that has received twenty empty transactions on a channel.
+fn core_with_twenty(alloc: Global) -> Result<Core, Fail> {
+    let rows = Rows::open(alloc, Schema::empty(alloc));
+    let mut core = Core::open(alloc, SourceId::from_bits(1), rows)?;
+    let name = Name::new(format!(in alloc; "c")?)?;
+    let _opened = core.step(alloc, &Event::OpenChannel(name, false))?;
+    let _asked = core.step(alloc, &Event::Position(0))?;
+    for number in 1..21u64 {
+        let gtid = Gtid {
+            source: SourceId::from_bits(2),
+            number,
+        };
+        let changes = Changes::new(Vec::new(alloc))?;
+        let txn = Transaction { changes };
+        let entry = Entry { gtid, txn };
+        if !entry.is_writable() {
+            return Err(Fail::from("not writable"));
+        }
+        let _received = core.step(alloc, &Event::Receive(0, entry))?;
+    }
+    Ok(core)
+}
+
+/// The first seat that is about to prepare waits until another has committed.
+#[derive(Drop)]
+struct Meeting {
+    prepared: AtomicU64,
+    committed: AtomicU64,
+    met: AtomicU64,
+}
+
+impl Gate for Meeting {
+    fn before_prepare(&self, _seat: u8, _gtid: Gtid) {
+        if self.prepared.fetch_add(1, Ordering::SeqCst) != 0 {
+            return;
+        }
+        for _ in 0..1_000_000_000u64 {
+            if self.committed.load(Ordering::SeqCst) != 0 {
+                self.met.store(1, Ordering::SeqCst);
+                return;
+            }
+        }
+    }
+
+    fn after_commit(&self, _seat: u8, _gtid: Gtid) {
+        self.committed.fetch_add(1, Ordering::SeqCst);
+    }
+}
+
+/// A bundle of one channel that brings two transactions without a common key.
+const TWO_INSERTS: &str = "bundle 1
+replica cccccccc-cccc-cccc-cccc-cccccccccccc
+table t 3 pk 0 uk 1
+channel x
+journal 1
+previous -
+txn aaaaaaaa-aaaa-aaaa-aaaa-aaaaaaaaaaaa:1
+ins t 1 x61 null
+end
+txn aaaaaaaa-aaaa-aaaa-aaaa-aaaaaaaaaaaa:2
+ins t 2 x62 null
+end
+close
+done
+";
+
+/// Of two workers one is held before it prepares until the other has committed: so both apply, and
+/// nothing is left for the drain.
+#[test]
+fn two_workers_apply_at_once(rt: HostRuntime) -> Result<(), Fail> {
+    let alloc = rt.alloc();
+    let bundle = decode_bundle(alloc, TWO_INSERTS.as_bytes())
+        .ok()
+        .ok_or("a bundle")?;
+    let gate = Meeting {
+        prepared: AtomicU64::new(0),
+        committed: AtomicU64::new(0),
+        met: AtomicU64::new(0),
+    };
+    written_is_servable();
+    match apply_journals(&rt, alloc, &bundle, 2, &gate)? {
+        StateOrVerdict::State(book) => {
+            assert_eq!(rt; book.state().rows().list_sorted(alloc)?.len(), 2)
+        }
+        StateOrVerdict::Verdict(_) => return Err(Fail::from("a verdict")),
+    }
+    assert_eq!(rt; gate.met.load(Ordering::SeqCst), 1);
+    Ok(())
+}
+
+/// Of three tickets the owner pops the first, the other steals the second, and the owner pops the
+/// third.
+#[test]
+fn first_in_first_out(rt: HostRuntime) -> Result<(), Fail> {
+    let mut all = hands(rt.alloc(), 2)?;
+    let first = &mut all[0];
+    for place in 0..3usize {
+        assert!(rt; first.push(Ticket { channel: 0, place }).is_ok());
+    }
+    let one = first.pop().map(|ticket| ticket.place);
+    let two = steal_first(&mut all[1]);
+    let first = &mut all[0];
+    let three = first.pop().map(|ticket| ticket.place);
+    let four = first.pop().map(|ticket| ticket.place);
+    let five = steal_first(&mut all[1]);
+    assert_eq!(rt; (one, two, three), (Some(0), Some(1), Some(2)));
+    assert_eq!(rt; (four, five), (None, None));
+    Ok(())
+}
+
+fn steal_first(hand: &mut Hand) -> Option<usize> {
+    if hand.count() == 0 {
+        return None;
+    }
+    hand.steal(0).map(|ticket| ticket.place)
+}
