@@ -7,8 +7,11 @@ use Rattle.rows.specs.Fits.{misfit, Fits}
 use Rattle.journal.specs.declared.Entry.{Entry}
 use Rattle.journal.specs.Journals.{JournalValue}
 use Rattle.source_history.specs.World.{World}
-use Rattle.world.specs.Audit.{world_of}
+use Rattle.gtid_set.specs.Sets.{Gtids}
+use Rattle.world.specs.Audit.{all_entries, first_contents, world_of}
 use Rattle.audit.specs.Contents.{Contents, in_order}
+use Rattle.audit.specs.declared.sources.WorldFault.{WorldFault}
+use Rattle.audit.specs.declared.sources.WorldFault.TheVariants as world
 
 -- The world of these journals: what they brought first under each GTID beyond the opening set.
 abbrev pub IsWorldOf : World → List JournalValue → Type 0
@@ -30,3 +33,8 @@ pub record IsMisfit (schema : List Table) (entries : List Entry) (g : Gtid) (fau
   pub there : slice_get entries place ≡ Some entry
   pub named : entry.gtid ≡ g
   pub unfit : misfit schema entry.txn ≡ Some fault
+
+-- Why there is no world: memory was refused, or the schema does not take what journals bring first under this GTID.
+abbrev pub IsWorldFault : List Table → Gtids → List JournalValue → WorldFault → Type 0
+IsWorldFault schema opened journals world.Memory = Unit {0}
+IsWorldFault schema opened journals (world.NotInSchema g fault) = IsMisfit schema (in_order (first_contents opened (all_entries journals))) g fault

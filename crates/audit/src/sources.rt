@@ -1,10 +1,7 @@
 //! What sources committed, as their journals bring it.
-ghost use Rattle.std.specs.Prelude.{◌≡◌, Err, IfOk, OnOk};
-ghost use Rattle.gtid_text.specs.declared.Gtid.{Gtid};
-ghost use Rattle.rows.specs.declared.change.NotInSchema.{NotInSchema};
-ghost use Rattle.world.specs.Audit.{all_entries, first_contents, world_of};
-ghost use Rattle.audit.specs.Contents.{in_order};
-ghost use Rattle.audit.specs.Worlds.{AllFit, IsKept, IsMisfit, IsWorldOf};
+ghost use Rattle.std.specs.Prelude.{◌≡◌, IfOk, IfErr, OnOk};
+ghost use Rattle.world.specs.Audit.{world_of};
+ghost use Rattle.audit.specs.Worlds.{AllFit, IsKept, IsMisfit, IsWorldFault, IsWorldOf};
 
 use crate::contents::Contents;
 use gtid_set::GtidSet;
@@ -87,7 +84,7 @@ pub fn world_of(
 ) -> Result<World, WorldFault>
     ensures ok { IfOk result (λ world. world ≡ world_of rows.now.schema opened.now rows.now.rows journals.now) }
     ensures of_journals { IfOk result (λ world. IsWorldOf world journals.now) }
-    ensures unfit { (g : Gtid) (fault : NotInSchema) → result ≡ Err (WorldFault.NotInSchema g fault) → IsMisfit rows.now.schema (in_order (first_contents opened.now (all_entries journals.now))) g fault }
+    ensures unfit { IfErr result (IsWorldFault rows.now.schema opened.now journals.now) }
 {
     let Ok(contents) = Contents::of_journals(alloc, opened, journals) else {
         return Err(WorldFault::Memory);

@@ -12,7 +12,7 @@ use Rattle.gtid_set.specs.Sets.{Gtids, gtid, sources_of, source_count}
 use Rattle.gtid_set.specs.Full.{IsFullExactly}
 use Rattle.gtid_set.proofs.SetLemmas.{has_itself}
 use Rattle.gtid_set.proofs.SetSources.{no_sources, number_of_source, source_known, sources_with_interval, union_one}
-use Rattle.journal.proofs.FaultLemmas.{memory_alone}
+use Rattle.gtid_set.proofs.FaultLemmas.{full_fault, memory_only}
 use Rattle.rows.proofs.Patching.{not_true}
 
 -- so many sources, with one more
@@ -45,4 +45,4 @@ still_one s source n one =
 pub memory_of_one : (f : SetFault) (s : Gtids) (source n : ℕ) → count_and s source ≡ 1 → IsFullExactly {T = Unit {0}} (Err f) (set.insert s (gtid source n)) → f ≡ Memory
 memory_of_one f s source n one h =
     let count = ap set.len (with_gtid s (gtid source n)) ∙ one in
-    memory_alone f (set.insert s (gtid source n)) h (omega (arith, count))
+    memory_only f (λ over. omega (arith, count, over)) (full_fault f (set.insert s (gtid source n)) h)

@@ -1,6 +1,8 @@
 -- What is found for bytes, and what is written for it.
 use Rattle.std.proofs.Common.{◌≡◌, ℕ, List, inl, inr, refl, sym, ap, subst}
 use Rattle.std.specs.Prelude.{Result, Ok, Err, IfOk, IfErr}
+use Rattle.gtid_set.specs.Full.{IsMemoryOr}
+use Rattle.gtid_set.specs.declared.fault.SetFault.{SetFault}
 use Rattle.gtid_set.specs.declared.fault.SetFault.TheVariants as sets
 use Rattle.txn_journal.specs.Stream.{IsWhole}
 use Rattle.txn_journal.specs.declared.fault.JournalFault.{JournalFault}
@@ -36,14 +38,19 @@ faulty : {V : Type 0} (Spells : List ℕ → Result V JournalFault → Type 0) (
     → Spells bytes (error_of f) → error_of f ≡ decoded bytes → Spells bytes (decoded bytes) × (answered says (error_of f) ≡ answered says (decoded bytes))
 faulty Spells decoded says bytes f r e = (subst (Spells bytes) e r, ap (answered says) e)
 
+-- the refusal of a set that was not made
+set_in : {V : Type 0} (Spells : List ℕ → Result V JournalFault → Type 0) (decoded : List ℕ → Result V JournalFault) (says : V → Said) (HasTooMany : V → Type 0) (bytes : List ℕ) (f : SetFault)
+    → IsMemoryOr (Spells bytes (error_of (faults.Set sets.SourcesFull))) f → Finds (Tells Spells decoded says HasTooMany) bytes (Err (journal_fault (faults.Set f)))
+set_in Spells decoded says HasTooMany bytes sets.Memory full = tt
+set_in Spells decoded says HasTooMany bytes sets.SourcesFull full = inr (inl full, refl)
+set_in Spells decoded says HasTooMany bytes f full = absurd full
+
 -- the refusal of the bytes
 pub fault_in : {V : Type 0} (Spells : List ℕ → Result V JournalFault → Type 0) (decoded : List ℕ → Result V JournalFault) (says : V → Said) (HasTooMany : V → Type 0) (bytes : List ℕ) (f : JournalFault)
-    → (Spells bytes (error_of (faults.Set sets.PoolFull)) → ⊥) → Spells bytes (error_of f) → IsWhole (error_of f) (decoded bytes) → Finds (Tells Spells decoded says HasTooMany) bytes (Err (journal_fault f))
-fault_in Spells decoded says HasTooMany bytes (faults.Set sets.Memory) no_pool r whole = tt
-fault_in Spells decoded says HasTooMany bytes (faults.Set sets.PoolFull) no_pool r whole = absurd (no_pool r)
-fault_in Spells decoded says HasTooMany bytes (faults.Set sets.SourcesFull) no_pool r whole = inr (inl r, refl)
-fault_in Spells decoded says HasTooMany bytes f no_pool r (inl (fault, e)) = cc
-fault_in Spells decoded says HasTooMany bytes f no_pool r (inr e) = inl (faulty Spells decoded says bytes f r e)
+    → ((f : SetFault) → Spells bytes (error_of (faults.Set f)) → IsMemoryOr (Spells bytes (error_of (faults.Set sets.SourcesFull))) f) → Spells bytes (error_of f) → IsWhole (error_of f) (decoded bytes) → Finds (Tells Spells decoded says HasTooMany) bytes (Err (journal_fault f))
+fault_in Spells decoded says HasTooMany bytes (faults.Set f) full r whole = set_in Spells decoded says HasTooMany bytes f (full f r)
+fault_in Spells decoded says HasTooMany bytes f full r (inl (fault, e)) = cc
+fault_in Spells decoded says HasTooMany bytes f full r (inr e) = inl (faulty Spells decoded says bytes f r e)
 
 -- what is settled holds the answer, where each refusal is one
 pub settled : (says : List ℕ → Said → Type 0) (found : Result Answer Fault) (settled : Result Answer RunFault) (bytes : List ℕ)

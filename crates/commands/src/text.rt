@@ -1,5 +1,7 @@
 //! What commands read: bundles and journals.
 ghost use Rattle.std.specs.Prelude.{List, ℕ, Result, Err, IfOk};
+ghost use Rattle.gtid_set.specs.Full.{IsMemoryOr};
+ghost use Rattle.gtid_set.specs.declared.fault.SetFault.{SetFault};
 ghost use Rattle.gtid_set.specs.declared.fault.SetFault.TheVariants as sets;
 ghost use Rattle.txn_journal.specs.Stream.{IsWhole};
 ghost use Rattle.txn_journal.specs.declared.fault.JournalFault.{JournalFault};
@@ -30,8 +32,8 @@ pub(crate) trait Text: Drop {
         ensures exact { IsWhole result (decoded bytes.now) }
         ensures holds { IfOk result is_read };
 
-    /// A pool never wants room.
-    ghost no_pool: { (bytes : List ℕ) → spells bytes (Err (journals.Set sets.PoolFull)) → ⊥ };
+    /// A set is not made for want of memory, or since the grammar says that it has too many sources.
+    ghost full: { (bytes : List ℕ) (f : SetFault) → spells bytes (Err (journals.Set f)) → IsMemoryOr (spells bytes (Err (journals.Set sets.SourcesFull))) f };
 }
 
 impl Text for Bundle {
@@ -41,7 +43,7 @@ impl Text for Bundle {
 
     ghost is_read = { IsServable };
 
-    ghost no_pool = { λ bytes h. h };
+    ghost full = { λ bytes f h. h };
 
     fn decode(alloc: Global, bytes: &[u8]) -> Result<Bundle, JournalFault> {
         written_is_servable();
@@ -54,7 +56,7 @@ impl Text for Journal {
 
     ghost decoded = { journal_in };
 
-    ghost no_pool = { λ bytes h. h };
+    ghost full = { λ bytes f h. h };
 
     fn decode(alloc: Global, bytes: &[u8]) -> Result<Journal, JournalFault> {
         decode(alloc, bytes)

@@ -31,6 +31,22 @@ pub record Turns (p q : ℕ → Bool) (n : ℕ) (now : Bool) : Type 0 where
   pub after : q n ≡ now
   pub others : (m : ℕ) → (m ≡ n → ⊥) → q m ≡ p m
 
+-- what is listed before a number stays so, and the number has room
+abbrev pub HasRoomAt : ℕ → Ready → Ready → Type 0
+HasRoomAt n old new = (base : ℕ) (p : ℕ → Bool) → base ≤ n → IsListing old base n p → IsListing new base (n + 1) p
+
+-- a number that was not listed is now, if it is wanted
+abbrev pub Inserts : ℕ → Bool → Ready → Ready → Type 0
+Inserts n wanted old new = (base end : ℕ) (p q : ℕ → Bool) → base ≤ n → n < end → Turns p q n wanted → IsListing old base end p → IsListing new base end q
+
+-- a number is not listed any more, if it was
+abbrev pub Removes : ℕ → Bool → Ready → Ready → Type 0
+Removes n was old new = (base end : ℕ) (p q : ℕ → Bool) → base ≤ n → n < end → Turns p q n was → IsListing old base end q → IsListing new base end p
+
+-- what is listed from a number on stays so, where nothing below it passes
+abbrev pub Forgets : ℕ → Ready → Ready → Type 0
+Forgets base old new = (first end : ℕ) (p : ℕ → Bool) → first ≤ base → base ≤ end → ((m : ℕ) → m < base → p m ≡ false) → IsListing old first end p → IsListing new base end p
+
 -- the block has a place
 abbrev pub IsBlock : Level → ℕ → Type 0
 IsBlock l b = (l.first ≤ b) × (b < l.first + length l.counts.items)

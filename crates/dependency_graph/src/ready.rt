@@ -1,7 +1,7 @@
 //! Which numbers are ready, counted in blocks of three sizes, so that a search passes over blocks without any.
 
 ghost use Rattle.std.specs.Prelude.{◌≡◌, ◌≤◌, ◌<◌, ◌+◌, ℕ, Bool, true, false, length, OnOk};
-ghost use Rattle.dependency_graph.specs.Ready.{IsListing, Lowers, Opens, Passes, Raises, Turns, count_at};
+ghost use Rattle.dependency_graph.specs.Ready.{Forgets, HasRoomAt, Inserts, IsListing, Lowers, Opens, Passes, Raises, Removes, count_at};
 
 use std::alloc::{AllocError, Global};
 use std::collections::VecDeque;
@@ -109,7 +109,7 @@ impl Ready {
     /// Makes room for the next number.
     pub fn reserve(&mut self, number: usize) -> Result<(), AllocError>
         ensures same { (base end : ℕ) (p : ℕ → Bool) → IsListing self.old base end p → IsListing self.new base end p }
-        ensures room { OnOk result ((base : ℕ) (p : ℕ → Bool) → base ≤ number → IsListing self.old base number p → IsListing self.new base (number + 1) p) }
+        ensures room { OnOk result (HasRoomAt number self.old self.new) }
     {
         self.small.open(number / SMALL)?;
         self.middle.open(number / MIDDLE)?;
@@ -119,7 +119,7 @@ impl Ready {
 
     /// A number is ready now, if it is wanted.
     pub fn insert_if(&mut self, number: usize, wanted: bool)
-        ensures { (base end : ℕ) (p q : ℕ → Bool) → base ≤ number → number < end → Turns p q number wanted → IsListing self.old base end p → IsListing self.new base end q }
+        ensures { Inserts number wanted self.old self.new }
     {
         if wanted {
             self.small.raise(number / SMALL);
@@ -130,7 +130,7 @@ impl Ready {
 
     /// A number is not ready any more, if it was.
     pub fn remove_if(&mut self, number: usize, was: bool)
-        ensures { (base end : ℕ) (p q : ℕ → Bool) → base ≤ number → number < end → Turns p q number was → IsListing self.old base end q → IsListing self.new base end p }
+        ensures { Removes number was self.old self.new }
     {
         if was {
             self.small.lower(number / SMALL);
@@ -141,7 +141,7 @@ impl Ready {
 
     /// The numbers below this one are gone. From number to number it keeps up: it drops a block of each size at most.
     pub fn pass(&mut self, base: usize)
-        ensures { (old end : ℕ) (p : ℕ → Bool) → old ≤ base → base ≤ end → ((m : ℕ) → m < base → p m ≡ false) → IsListing self.old old end p → IsListing self.new base end p }
+        ensures { Forgets base self.old self.new }
     {
         self.small.pass(base / SMALL);
         self.middle.pass(base / MIDDLE);

@@ -6,6 +6,12 @@ use Rattle.gtid_set.specs.declared.fault.SetFault.TheVariants.{Memory, PoolFull,
 use Rattle.gtid_set.specs.Sets.{Gtids, source_count, most_sources}
 use Rattle.gtid_set.specs.Spans.{set_of, is_merged}
 
+-- Why a call that makes a set fails: memory was refused, or the set would have too many sources. The pool of intervals always has room.
+abbrev pub IsMemoryOr : Type 0 → SetFault → Type 0
+IsMemoryOr TooMany Memory = Unit {0}
+IsMemoryOr TooMany PoolFull = ⊥
+IsMemoryOr TooMany SourcesFull = TooMany
+
 -- a call is refused for its sources exactly where the set that it would make has too many, and never for want of room in a pool
 abbrev pub IsFullExactly : {T : Type 0} → Result T SetFault → Gtids → Type 0
 IsFullExactly (Ok _) s = source_count s ≤ most_sources

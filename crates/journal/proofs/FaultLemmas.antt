@@ -1,14 +1,12 @@
 -- A set with more GTIDs has no fewer sources.
 use Rattle.std.proofs.Common.{◌≡◌, ℕ, ◌≤◌, ◌+◌, zero, suc, Bool, true, false, cond, List, [], ◌∷◌, take, drop, refl, sym, ap, subst, ◌∙◌, arith}
 use Rattle.std.proofs.Math.Nat.{le_trans}
-use Rattle.std.specs.Prelude.{Err}
 use Rattle.std.specs.FinSet as set
 use Rattle.std.specs.Cmp.{nat_cmp_total}
 use Rattle.gtid_text.specs.declared.Gtid.{Gtid}
 use Rattle.gtid_set.specs.declared.fault.SetFault.{SetFault}
-use Rattle.gtid_set.specs.declared.fault.SetFault.TheVariants.{Memory, PoolFull, SourcesFull}
 use Rattle.gtid_set.specs.Sets.{Gtids, sources_of, source_count, most_sources}
-use Rattle.gtid_set.specs.Full.{IsFullExactly}
+use Rattle.gtid_set.proofs.FaultLemmas.{fault_map}
 use Rattle.gtid_set.proofs.SetLemmas.{union_empty}
 use Rattle.gtid_set.proofs.SetSources.{sources_with_interval, union_one}
 use Rattle.journal.specs.declared.Entry.{Entry}
@@ -47,24 +45,6 @@ fewer n s es =
     subst (λ t. source_count (set.union s (gtids_of (take n es))) ≤ source_count t) (joined n s es)
     (more (drop n es) (set.union s (gtids_of (take n es))))
 
--- a call that was refused exactly was refused for a cause
-pub fault_of : (f : SetFault) (s : Gtids) → IsFullExactly {T = Unit {0}} (Err f) s → IsFaultOf f s
-fault_of Memory s h = tt
-fault_of PoolFull s h = h
-fault_of SourcesFull s h = h
-
 -- what is too much for the first entries is too much for all
 pub fault_of_all : (f : SetFault) (n : ℕ) (s : Gtids) (es : List Entry) → IsFaultOf f (set.union s (gtids_of (take n es))) → IsFaultOf f (set.union s (gtids_of es))
-fault_of_all Memory n s es h = tt
-fault_of_all PoolFull n s es h = h
-fault_of_all SourcesFull n s es h = let low = fewer n s es in let high = h in omega (arith, low, high)
-
--- a set with not too many sources is only refused for want of memory
-pub memory_alone : (f : SetFault) (s : Gtids) → IsFullExactly {T = Unit {0}} (Err f) s → source_count s ≤ most_sources → f ≡ Memory
-memory_alone Memory s h fits = refl
-memory_alone PoolFull s h fits = absurd h
-memory_alone SourcesFull s h fits = let over = h in absurd (omega (arith, over, fits))
-
--- want of memory may come with any set
-pub memory_may : (f : SetFault) (s : Gtids) → f ≡ Memory → IsFaultOf f s
-memory_may f s is = subst (λ x. IsFaultOf x s) (sym is) tt
+fault_of_all f n s es h = fault_map f (λ over. let low = fewer n s es in omega (arith, low, over)) h

@@ -5,9 +5,9 @@ use Rattle.std.proofs.Math.Nat.{le_trans}
 use Rattle.std.specs.FinSet as set
 use Rattle.gtid_text.specs.declared.Span.{Span}
 use Rattle.gtid_set.specs.declared.fault.SetFault.{SetFault}
-use Rattle.gtid_set.specs.declared.fault.SetFault.TheVariants.{Memory, PoolFull, SourcesFull}
 use Rattle.gtid_set.specs.Sets.{Gtids, interval, source_count}
 use Rattle.gtid_set.specs.Full.{IsFullExactly}
+use Rattle.gtid_set.proofs.FaultLemmas.{full_fault, fault_map}
 use Rattle.gtid_set.proofs.SetSources.{fewer_sources}
 use Rattle.journal_words.specs.Gtids.{set_with, IsWordFault}
 use Rattle.gtid_text.proofs.SameGtid.{gtid_total}
@@ -23,10 +23,7 @@ more (t ∷ ts) s =
 
 -- a set that is full before the last interval was added is full behind it
 pub fault_behind : (f : SetFault) (s all : Gtids) (spans : List Span) → IsFullExactly {T = Unit {0}} (Err f) s → set_with s spans ≡ all → IsWordFault f (Some all)
-fault_behind Memory s all spans h e = tt
-fault_behind PoolFull s all spans h e = absurd h
-fault_behind SourcesFull s all spans h e =
-    let over = h in
+fault_behind f s all spans h e =
     let low = more spans s in
     let same = ap source_count e in
-    omega (arith, over, low, same)
+    fault_map f (λ over. omega (arith, over, low, same)) (full_fault f s h)

@@ -14,7 +14,7 @@ use Rattle.replica_core.specs.declared.event.Event.TheVariants as event
 use Rattle.replica_core.specs.declared.event.Reply.{Reply}
 use Rattle.replica_core.specs.declared.event.Reply.TheVariants.{NameTaken, ChannelsFull, Opened, NoChannel, Ask, NotPositioned, NotInSchema, ChannelFull, Received, NoSeat, SeatBusy, NoPlace, Stopped, Done, OwnedBy, Blocked, Taken, SeatIdle, Early, RowRefused, Committed, RolledBack, Restarted, NumbersUsedUp, LocalRefused, TooMany, Purged, Shown}
 use Rattle.replica_core.specs.State.{Site, State}
-use Rattle.replica_core.specs.Machine.{Step, ask, held, next_number}
+use Rattle.replica_core.specs.Machine.{Step, step, ask, held, next_number}
 
 -- ---- the set that an event makes
 
@@ -97,6 +97,10 @@ takes_memory (Shown s) = true
 pub record IsFault (f : SetFault) (made : Option Gtids) (answer : Step) : Type 0 where
   pub cause : IsFaultIn f made
   pub instead : takes_memory answer.0 ≡ true
+
+-- a fault in place of this step
+abbrev pub IsStepFault : SetFault → Site → State → Event → Type 0
+IsStepFault f site s e = IsFault f (made_by site s e) (step site s e)
 
 -- a fault of the event that comes next, if any comes; want of memory may come before its step
 abbrev pub IsFaultAt : SetFault → Site → State → Option Event → Type 0

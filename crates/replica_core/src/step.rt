@@ -2,7 +2,7 @@
 ghost use Rattle.std.specs.Prelude.{◌≡◌, ◌<◌, ◌∷◌, [], ◌++◌, IfOk, IfErr, IfSome, OnErr, None, true, length, vec_len, vec_capacity, slice_get};
 ghost use Rattle.replica_core.specs.Machine.{purge, look, step, is_numbered, AreNumbered, replies, after};
 ghost use Rattle.replica_core.specs.Replies.{answered};
-ghost use Rattle.replica_core.specs.Faults.{IsFault, IsFaultAt, made_by, purging};
+ghost use Rattle.replica_core.specs.Faults.{IsFault, IsFaultAt, IsStepFault, purging};
 
 use crate::event::{Event, Reply};
 use crate::machine::Core;
@@ -45,7 +45,7 @@ impl Core {
         ensures ok { IfOk result (λ r. (r, self.new.state) ≡ step self.old.site self.old.state event.now) }
         ensures site { self.new.site ≡ self.old.site }
         ensures err { OnErr result (self.new ≡ self.old) }
-        ensures fault { IfErr result (λ f. IsFault f (made_by self.old.site self.old.state event.now) (step self.old.site self.old.state event.now)) }
+        ensures fault { IfErr result (λ f. IsStepFault f self.old.site self.old.state event.now) }
     {
         match event {
             Event::Take(seat, channel, place) => Ok(self.take(*seat, *channel, *place)),

@@ -3,7 +3,7 @@ use Rattle.std.specs.Prelude.{◌≡◌, ℕ, Bool, true, false, List, [], ◌�
 use Rattle.std.specs.Str.{bytes_eq}
 use Rattle.gtid_set.specs.Sets.{Gtids}
 use Rattle.gtid_set.specs.declared.fault.SetFault.{SetFault}
-use Rattle.gtid_set.specs.declared.fault.SetFault.TheVariants.{SourcesFull, PoolFull, Memory as SetMemory}
+use Rattle.gtid_set.specs.declared.fault.SetFault.TheVariants.{SourcesFull}
 use Rattle.replica_core.specs.State.{Replica, State}
 use Rattle.replica_core.specs.Machine.{step, is_numbered}
 use Rattle.replica_core.specs.Faults.{IsFaultIn, asking, made_by}
@@ -73,8 +73,7 @@ IsLeftBy old (question.Query query) new = new ≡ old
 -- what a fault of a set means
 abbrev pub unanswered : SetFault → Unanswered
 unanswered SourcesFull = unasked.SourcesFull
-unanswered SetMemory = unasked.Memory
-unanswered PoolFull = unasked.Memory
+unanswered _ = unasked.Memory
 
 -- why there is no answer: memory was refused, or the set that is made, if any, would have too many sources
 abbrev pub IsUnanswered : Option Gtids → Unanswered → Type 0

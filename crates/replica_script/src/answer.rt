@@ -60,7 +60,7 @@ impl From<SetFault> for Unanswered {
     fn from(fault: SetFault) -> Unanswered {
         match fault {
             SetFault::SourcesFull => Unanswered::SourcesFull,
-            SetFault::Memory | SetFault::PoolFull => Unanswered::Memory,
+            _ => Unanswered::Memory,
         }
     }
 }

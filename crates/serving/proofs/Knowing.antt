@@ -12,7 +12,7 @@ use Rattle.gtid_text.specs.declared.Gtid.{Gtid}
 use Rattle.gtid_text.specs.Gtids.{gtid_cmp, same_gtid}
 use Rattle.gtid_text.proofs.SameGtid.{same_is_equal, gtid_total}
 use Rattle.gtid_set.specs.declared.fault.SetFault.{SetFault}
-use Rattle.gtid_set.specs.declared.fault.SetFault.TheVariants.{Memory, PoolFull, SourcesFull}
+use Rattle.gtid_set.proofs.FaultLemmas.{fault_map, memory_fault}
 use Rattle.gtid_set.specs.Sets.{Gtids}
 use Rattle.gtid_set.proofs.SetSources.{fewer_sources}
 use Rattle.rows.specs.declared.change.Transaction.{Transaction}
@@ -172,18 +172,13 @@ with_one all s g h here there i = elim (or_cases (same_gtid h g) (set.contains s
 
 -- a fault where less is asked of a set
 pub weaker : (f : SetFault) (Has Has' : Gtids → Type 0) → ((all : Gtids) → Has' all → Has all) → IsFaultWhere Has f → IsFaultWhere Has' f
-weaker Memory Has Has' has h = tt
-weaker SourcesFull Has Has' has h = λ all a. h all (has all a)
-weaker f Has Has' has h = h
+weaker f Has Has' has h = fault_map f (λ full all a. full all (has all a)) h
 
 -- a set that an event makes has too many sources: so has each of which it is a part
 option_fault : (f : SetFault) (Has : Gtids → Type 0) (o : Option Gtids)
     → ((all : Gtids) → Has all → (made : Gtids) → o ≡ Some made → (g : Gtid) → set.contains made g ≡ true → set.contains all g ≡ true) → IsFaultIn f o → IsFaultWhere Has f
-option_fault Memory Has o part h = tt
-option_fault PoolFull Has None part h = absurd (cc h)
-option_fault PoolFull Has (Some made) part h = h
-option_fault SourcesFull Has None part h = absurd (cc h)
-option_fault SourcesFull Has (Some made) part h = λ all a. let low = fewer_sources made all (part all a made refl) in let high = h in omega (arith, low, high)
+option_fault f Has None part h = memory_fault f h
+option_fault f Has (Some made) part h = fault_map f (λ high all a. let low = fewer_sources made all (part all a made refl) in omega (arith, low, high)) h
 
 pub position_fault : (f : SetFault) (s : State) (c : ℕ) → IsFaultIn f (asking c s) → IsFaultWhere (Knows s) f
 position_fault f s c h = option_fault f (Knows s) (asking c s) (λ all within made is g k.
@@ -222,9 +217,7 @@ memory_where f Has is = subst (IsFaultWhere Has) (sym is) tt
 
 -- a fault where such a set is there
 pub fault_of : (f : SetFault) (Has : Gtids → Type 0) (all : Gtids) → Has all → IsFaultWhere Has f → IsFaultOf f all
-fault_of Memory Has all a h = tt
-fault_of SourcesFull Has all a h = h all a
-fault_of f Has all a h = h
+fault_of f Has all a h = fault_map f (λ full. full all a) h
 
 -- a fault of work that is done after other work
 pub later_fault : (f : SetFault) (apply : Apply) (r t : Replica) → Applies apply r t → IsFaultWhere (Knows t.state) f → IsFaultWhere (Knows r.state) f

@@ -4,7 +4,7 @@ use Rattle.std.specs.List.{AllByRecursion}
 use Rattle.std.specs.FinSet as set
 use Rattle.gtid_text.specs.declared.Gtid.{Gtid}
 use Rattle.gtid_set.specs.declared.fault.SetFault.{SetFault}
-use Rattle.gtid_set.specs.declared.fault.SetFault.TheVariants.{Memory, SourcesFull}
+use Rattle.gtid_set.specs.Full.{IsMemoryOr}
 use Rattle.gtid_set.specs.Sets.{Gtids, source_count, most_sources}
 use Rattle.journal.specs.declared.Entry.{Entry}
 use Rattle.journal.specs.Journals.{JournalValue}
@@ -13,9 +13,7 @@ use Rattle.replica_core.specs.State.{State}
 
 -- memory was refused, or each such set has too many sources
 abbrev pub IsFaultWhere : (Gtids → Type 0) → SetFault → Type 0
-IsFaultWhere Has Memory = Unit {0}
-IsFaultWhere Has SourcesFull = (all : Gtids) → Has all → most_sources < source_count all
-IsFaultWhere Has _ = ⊥
+IsFaultWhere Has f = IsMemoryOr ((all : Gtids) → Has all → most_sources < source_count all) f
 
 -- a GTID stands among received entries
 abbrev pub IsAmong : Gtid → List Received → Type 0

@@ -1,9 +1,10 @@
 -- Want of memory may come anywhere, and too many sources only where a set is made.
-use Rattle.std.proofs.Common.{◌≡◌, true, refl, sym, subst}
+use Rattle.std.proofs.Common.{◌≡◌, true, refl}
 use Rattle.std.specs.Prelude.{Option, Some, None}
 use Rattle.gtid_set.specs.Sets.{Gtids}
 use Rattle.gtid_set.specs.declared.fault.SetFault.{SetFault}
-use Rattle.gtid_set.specs.declared.fault.SetFault.TheVariants.{Memory, PoolFull, SourcesFull}
+use Rattle.gtid_set.specs.declared.fault.SetFault.TheVariants.{Memory}
+use Rattle.gtid_set.proofs.FaultLemmas.{fault_map, memory_fault}
 use Rattle.replica_core.specs.declared.event.Event.{Event}
 use Rattle.replica_core.specs.declared.event.Event.TheVariants as event
 use Rattle.replica_core.specs.State.{Site, State}
@@ -15,13 +16,11 @@ memory_anywhere None = refl
 memory_anywhere (Some made) = tt
 
 memory_for : (f : SetFault) (e : Event) → f ≡ Memory → IsFaultFor e f
-memory_for f e is = subst (λ (x : SetFault). IsFaultFor e x) (sym is) tt
+memory_for f e is = memory_fault f is
 
 set_for : (f : SetFault) (e : Event) (made : Option Gtids) → makes_a_set e ≡ true → IsFaultIn f made → IsFaultFor e f
 set_for f e None makes is = memory_for f e is
-set_for Memory e (Some made) makes is = tt
-set_for PoolFull e (Some made) makes is = is
-set_for SourcesFull e (Some made) makes is = makes
+set_for f e (Some made) makes is = fault_map f (λ full. makes) is
 
 -- a fault of an event at a state is one that the event may have
 pub fault_for : (f : SetFault) (site : Site) (s : State) (e : Event) → IsFaultIn f (made_by site s e) → IsFaultFor e f

@@ -1,7 +1,7 @@
 -- Why a call is not answered, said of its event alone: other threads may have changed the replica.
 use Rattle.std.specs.Prelude.{◌≡◌, Bool, true, false}
 use Rattle.gtid_set.specs.declared.fault.SetFault.{SetFault}
-use Rattle.gtid_set.specs.declared.fault.SetFault.TheVariants.{Memory, PoolFull, SourcesFull}
+use Rattle.gtid_set.specs.Full.{IsMemoryOr}
 use Rattle.replica_core.specs.declared.event.Event.{Event}
 use Rattle.replica_core.specs.declared.event.Event.TheVariants as event
 
@@ -18,8 +18,6 @@ makes_a_set (event.Local changes) = true
 makes_a_set (event.Purge count) = true
 makes_a_set event.Look = false
 
--- memory was refused, or the set that the event makes would have too many sources; a pool never wants room
+-- memory was refused, or the set that the event makes would have too many sources
 abbrev pub IsFaultFor : Event → SetFault → Type 0
-IsFaultFor e Memory = Unit {0}
-IsFaultFor e SourcesFull = makes_a_set e ≡ true
-IsFaultFor e PoolFull = ⊥
+IsFaultFor e f = IsMemoryOr (makes_a_set e ≡ true) f

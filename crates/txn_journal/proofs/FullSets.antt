@@ -3,12 +3,12 @@ use Rattle.std.specs.Prelude.{is_some, option_map}
 use Rattle.std.proofs.Common.{◌≡◌, ℕ, false, List, [], Option, Some, None, Result, Ok, Err, refl}
 use Rattle.std.specs.FinSet as set
 use Rattle.gtid_set.specs.declared.fault.SetFault.{SetFault}
-use Rattle.gtid_set.specs.declared.fault.SetFault.TheVariants.{Memory, SourcesFull}
 use Rattle.gtid_set.specs.Sets.{Gtids}
-use Rattle.gtid_set.specs.Full.{IsFullExactly}
+use Rattle.gtid_set.specs.Full.{IsFullExactly, IsMemoryOr}
+use Rattle.gtid_set.proofs.FaultLemmas.{fault_map, full_fault}
 use Rattle.journal_words.specs.Gtids.{set_of_word, IsWordFault}
 use Rattle.txn_journal.specs.Lines.{◌>>=◌, some_or_body}
-use Rattle.txn_journal.specs.Stream.{IsMemoryOr, GivesFull}
+use Rattle.txn_journal.specs.Stream.{GivesFull}
 use Rattle.txn_journal.specs.Machine.{Standing, IsFull, followed, ended}
 use Rattle.txn_journal.specs.declared.fault.Cause.{Cause}
 use Rattle.txn_journal.specs.declared.lines.Place.TheVariants as places
@@ -17,8 +17,8 @@ abbrev after_previous : Standing → Gtids → Result Standing Cause
 after_previous s previous = Ok (record s { place = places.Between; journal = record { previous = previous; entries = [] }; seen = previous })
 
 found_full : (s : Standing) (f : SetFault) (found : Option Gtids) → IsWordFault f found → IsMemoryOr (GivesFull IsFull (some_or_body found >>= after_previous s)) f
-found_full s SourcesFull (Some previous) h = (refl, h)
-found_full s f found h = h
+found_full s f None h = fault_map f (λ full. absurd full) h
+found_full s f (Some previous) h = fault_map f (λ full. (refl, full)) h
 
 -- the previous set
 pub previous_full : (s : Standing) (word : List ℕ) (f : SetFault) → IsWordFault f (set_of_word word) → IsMemoryOr (GivesFull IsFull (followed s (Some word))) f
@@ -32,7 +32,5 @@ no_rest f (Some x) e = absurd cc
 -- what was seen with one GTID more
 pub seen_full : (s : Standing) (f : SetFault) (rest : Option (List ℕ)) → is_some rest ≡ false → IsFullExactly {T = Unit {0}} (Err f) (set.insert s.seen s.gtid) → IsMemoryOr (GivesFull IsFull (ended s rest)) f
 unfolding ended
-seen_full s Memory rest none h = tt
-seen_full s SourcesFull None none h = (refl, h)
-seen_full s SourcesFull (Some text) none h = absurd cc
-seen_full s f rest none h = h
+seen_full s f None none h = fault_map f (λ full. (refl, full)) (full_fault f (set.insert s.seen s.gtid) h)
+seen_full s f (Some text) none h = absurd cc

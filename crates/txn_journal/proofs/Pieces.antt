@@ -3,12 +3,13 @@ use Rattle.std.proofs.Common.{◌≡◌, ℕ, eqb, not, List, [], ◌∷◌, ◌
 use Rattle.std.specs.List.{list_all}
 use Rattle.std.proofs.lemmas.List.{append-nil}
 use Rattle.gtid_set.specs.declared.fault.SetFault.{SetFault}
-use Rattle.gtid_set.specs.declared.fault.SetFault.TheVariants.{SourcesFull}
+use Rattle.gtid_set.specs.Full.{IsMemoryOr}
+use Rattle.gtid_set.proofs.FaultLemmas.{fault_map}
 use Rattle.txn_journal.specs.declared.fault.Cause.{Cause}
 use Rattle.txn_journal.specs.declared.fault.JournalFault.{JournalFault}
 use Rattle.txn_journal.specs.declared.fault.JournalFault.TheVariants as faults
 use Rattle.txn_journal.specs.Words.{IsOneLine}
-use Rattle.txn_journal.specs.Stream.{Judge, Progress, Reading, Stopped, unless_stopped, next_number, judged, eat, eats, IsMemoryOr, GivesFull, HasFull, IsPieceFault, IsAfter, TakesPiece, answer}
+use Rattle.txn_journal.specs.Stream.{Judge, Progress, Reading, Stopped, unless_stopped, next_number, judged, eat, eats, GivesFull, HasFull, IsPieceFault, IsAfter, TakesPiece, answer}
 use Rattle.std.proofs.lemmas.Bool.{and_parts, not-true}
 
 pub stopped_stays : {S : Type 0} (judge : Judge S) (f : JournalFault) (bs : List ℕ) → eats judge (Stopped f) bs ≡ Stopped f
@@ -65,10 +66,6 @@ line_taken {S} judge now then total left line after parts took so_far =
 
 -- ---- faults that may be
 
-pub memory_or : {P Q : Type 0} (f : SetFault) → (P → Q) → IsMemoryOr P f → IsMemoryOr Q f
-memory_or SourcesFull more h = more h
-memory_or f more h = h
-
 judged_full : {S : Type 0} (full : S → Type 0) (r : Result S Cause) (n : ℕ) → GivesFull full r → HasFull full (judged r n)
 judged_full full (Ok s) n h = h
 judged_full full (Err cause) n h = absurd h
@@ -78,7 +75,7 @@ pub line_fault : {S : Type 0} (full : S → Type 0) (judge : Judge S) (f : SetFa
     → o ≡ None → IsOneLine line → IsMemoryOr (GivesFull full (judge s (rest ++ line))) f → IsPieceFault full judge (unless_stopped o (Reading s n rest)) (line ++ 10 ∷ []) f
 line_fault {S} full judge f o s n rest line goes one h =
     let is = ap (λ (k : Option JournalFault). eats judge (unless_stopped k (Reading s n rest)) (line ++ 10 ∷ [])) goes ∙ eats_line judge s n rest line one in
-    memory_or f (λ k. record {
+    fault_map f (λ k. record {
       front = line ++ 10 ∷ [];
       rest = [];
       parts = sym (append-nil (line ++ 10 ∷ []));
@@ -88,7 +85,7 @@ line_fault {S} full judge f o s n rest line goes one h =
 -- more bytes may follow
 line_in_front : {S : Type 0} (full : S → Type 0) (judge : Judge S) (f : SetFault) (now : Progress S) (left line after : List ℕ)
     → left ≡ line ++ 10 ∷ after → IsPieceFault full judge now (line ++ 10 ∷ []) f → IsPieceFault full judge now left f
-line_in_front full judge f now left line after parts h = memory_or f (λ k. record {
+line_in_front full judge f now left line after parts h = fault_map f (λ k. record {
   front = k.front;
   rest = k.rest ++ after;
   parts = parts ∙ sym (append_assoc line (10 ∷ []) after) ∙ ap (λ x. x ++ after) k.parts ∙ append_assoc k.front k.rest after;
@@ -100,7 +97,7 @@ pub behind_line : {S : Type 0} (full : S → Type 0) (judge : Judge S) (f : SetF
     → left ≡ line ++ 10 ∷ after → eats judge now (line ++ 10 ∷ []) ≡ then → IsPieceFault full judge then after f → IsPieceFault full judge now left f
 behind_line {S} full judge f now then left line after parts took h =
     let whole = line ++ 10 ∷ [] in
-    memory_or f (λ k. record {
+    fault_map f (λ k. record {
       front = whole ++ k.front;
       rest = k.rest;
       parts = parts ∙ sym (append_assoc line (10 ∷ []) after) ∙ ap (λ x. whole ++ x) k.parts ∙ sym (append_assoc whole k.front k.rest);

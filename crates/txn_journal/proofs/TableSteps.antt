@@ -14,7 +14,8 @@ use Rattle.txn_journal.specs.Words.{before, behind}
 use Rattle.txn_journal.specs.Splits.{parts_of}
 use Rattle.rows.specs.declared.schema.Table.{Table}
 use Rattle.txn_journal.specs.Lines.{◌>>=◌}
-use Rattle.txn_journal.specs.Stream.{IsMemoryOr, GivesFull, TakesLine}
+use Rattle.gtid_set.specs.Full.{IsMemoryOr}
+use Rattle.txn_journal.specs.Stream.{GivesFull, TakesLine}
 use Rattle.txn_journal.specs.BundleStates.{BundleStanding, IsFullBundle, with_opening, closed_channel, after_inner, judge_inner, ok_rows}
 use Rattle.txn_journal.specs.declared.fault.LineFault.{LineFault}
 use Rattle.txn_journal.specs.declared.fault.LineFault.TheVariants as wrong
@@ -22,7 +23,7 @@ use Rattle.txn_journal.specs.Machine.{Standing, IsFull, is_last, judge}
 use Rattle.txn_journal.specs.declared.fault.Cause.{Cause}
 use Rattle.txn_journal.specs.declared.fault.Cause.TheVariants as causes
 use Rattle.txn_journal.proofs.Judged.{done}
-use Rattle.txn_journal.proofs.Pieces.{memory_or}
+use Rattle.gtid_set.proofs.FaultLemmas.{fault_map}
 use Rattle.txn_journal.proofs.SplitLaws.{parts_cut, more_parts}
 
 -- ---- parts
@@ -91,4 +92,4 @@ unfolding judge_inner
 inner_failed s tables d line (wrong.Wrong cause) new same h =
     ap (λ (r : Result Standing Cause). r >>= go_on s) (ap (λ (t : List Table). judge (Some t) s.draft line) (sym same) ∙ h)
 inner_failed s tables d line (wrong.Set f) new same h =
-    memory_or f (inner_full s (judge (Some s.bundle.start.schema) s.draft line)) (subst (λ (t : List Table). IsMemoryOr (GivesFull IsFull (judge (Some t) s.draft line)) f) same h)
+    fault_map f (inner_full s (judge (Some s.bundle.start.schema) s.draft line)) (subst (λ (t : List Table). IsMemoryOr (GivesFull IsFull (judge (Some t) s.draft line)) f) same h)

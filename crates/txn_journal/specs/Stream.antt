@@ -1,7 +1,8 @@
 -- A text that comes byte by byte. S is what its whole lines have made.
 use Rattle.std.specs.Prelude.{◌≡◌, ◌⊎◌, ℕ, ◌+◌, ◌-◌, ◌^◌, min, Bool, true, false, ◌==◌, List, [], ◌∷◌, ◌++◌, Option, Some, None, Result, Ok, Err, if◌then◌else◌}
 use Rattle.gtid_set.specs.declared.fault.SetFault.{SetFault}
-use Rattle.gtid_set.specs.declared.fault.SetFault.TheVariants.{Memory, PoolFull, SourcesFull}
+use Rattle.gtid_set.specs.declared.fault.SetFault.TheVariants.{Memory}
+use Rattle.gtid_set.specs.Full.{IsMemoryOr}
 use Rattle.txn_journal.specs.declared.fault.Cause.{Cause}
 use Rattle.txn_journal.specs.declared.fault.Cause.TheVariants as causes
 use Rattle.txn_journal.specs.declared.fault.LineFault.{LineFault}
@@ -12,12 +13,6 @@ use Rattle.txn_journal.specs.declared.fault.JournalFault.TheVariants as faults
 -- what a line makes of what the lines before it have made, or the first thing that is wrong with it
 abbrev pub Judge : Type 0 → Type 0
 Judge S = S → List ℕ → Result S Cause
-
--- memory was refused, or there are too many sources, which says when; a pool never wants room
-abbrev pub IsMemoryOr : Type 0 → SetFault → Type 0
-IsMemoryOr HasTooMany Memory = Unit {0}
-IsMemoryOr HasTooMany PoolFull = ⊥
-IsMemoryOr HasTooMany SourcesFull = HasTooMany
 
 -- what a line makes is full
 abbrev pub GivesFull : {S : Type 0} → (S → Type 0) → Result S Cause → Type 0

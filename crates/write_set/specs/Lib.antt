@@ -1,1 +1,2 @@
 pub mod FirstTouch
+pub mod Seeing

@@ -1,12 +1,10 @@
 //! Footprints of write sets, and patches that are installed where what they saw is still true.
 
 ghost use Rattle.std.specs.Prelude.{◌≡◌, IfOk, Ok, OnErr};
-ghost use Rattle.rows.specs.declared.change.Key.{Key as KeyValue};
-ghost use Rattle.rows.specs.declared.change.Transaction.{Transaction};
 ghost use Rattle.rows.specs.Apply.{apply};
-ghost use Rattle.rows.specs.Patch.{SeesAll, seen_of_keys};
+ghost use Rattle.rows.specs.Patch.{seen_of_keys};
 ghost use Rattle.rows.specs.Prepared.{IsStillTrue};
-ghost use Rattle.rows.specs.WriteSet.{is_among, touches};
+ghost use Rattle.write_set.specs.Seeing.{SeesAllOf};
 
 use crate::listed;
 use indexmap::IndexSet;
@@ -18,7 +16,7 @@ use std::alloc::{AllocError, Global};
 pub fn footprint(alloc: Global, rows: &Rows, keys: IndexSet<Key>) -> Result<Footprint, AllocError>
     ensures schema { IfOk result (λ footprint. footprint.schema ≡ rows.now.schema) }
     ensures seen { IfOk result (λ footprint. footprint.seen ≡ seen_of_keys rows.now.rows keys.keys) }
-    ensures all { IfOk result (λ footprint. (txn : Transaction) → ((key : KeyValue) → is_among keys.keys key ≡ touches rows.now.schema txn key) → SeesAll rows.now.schema txn footprint.seen) }
+    ensures all { IfOk result (λ footprint. SeesAllOf rows.now.schema keys.keys footprint.seen) }
 {
     rows.footprint(alloc, listed(alloc, keys)?)
 }

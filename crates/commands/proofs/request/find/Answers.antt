@@ -22,4 +22,4 @@ returns-in-Err g c =
     let full = g.Q.Request.too_many c.args.request.now in
     subst (λ (bytes : List ℕ). Finds (Tells spells decoded says full) bytes (Err c.from.result)) c.deref.ensures.value
     (subst (λ (fault : Fault). Finds (Tells spells decoded says full) c.deref.result.now (Err fault)) (sym c.from.ensures)
-    (fault_in spells decoded says full c.deref.result.now c.in-Err.fault (g.met.Q.Value.Text.no_pool c.deref.result.now) c.in-Err.ensures.spelled c.in-Err.ensures.exact))
+    (fault_in spells decoded says full c.deref.result.now c.in-Err.fault (g.met.Q.Value.Text.full c.deref.result.now) c.in-Err.ensures.spelled c.in-Err.ensures.exact))
