@@ -7,7 +7,7 @@ use Rattle.world.specs.declared.verdict.Verdict.{Verdict}
 use Rattle.world.specs.declared.verdict.Verdict.TheVariants.{Sound}
 use Rattle.source_history.specs.World.{rows_of}
 use Rattle.gtid_set.specs.Sets.{Gtids, source_count, most_sources}
-use Rattle.audited_runs.specs.Deciding.{all_of}
+use Rattle.faithful_runs.specs.Deciding.{all_of}
 use Rattle.txn_journal.specs.BundleStates.{BundleValue}
 use Rattle.txn_journal.specs.BundleReading.{bundle_start, eats_bundle, closing_bundle}
 use Rattle.txn_journal.specs.BundleText.{WritesBundle}

@@ -2,7 +2,7 @@
 ghost use Rattle.std.specs.Prelude.{◌≤◌, IfOk, IfErr};
 ghost use Rattle.std.specs.FinSet as set;
 ghost use Rattle.journal.specs.Faults.{IsFaultOf};
-ghost use Rattle.audited_runs.specs.Deciding.{all_of};
+ghost use Rattle.faithful_runs.specs.Deciding.{all_of};
 ghost use Rattle.applier.specs.Draining.{AllApply};
 ghost use Rattle.serving.specs.Servable.{IsFitting, IsServable};
 ghost use Rattle.serving.specs.Serving.{IsReady};

@@ -19,7 +19,7 @@ use Rattle.replica_core.specs.declared.event.Reply.{Reply}
 use Rattle.replica_core.specs.declared.event.Reply.TheVariants.{NotInSchema, Ask, SeatBusy, OwnedBy, Blocked, Early, RolledBack, Restarted}
 use Rattle.replica_core.specs.State.{State, Site, owned_by, owner}
 use Rattle.replica_core.specs.Machine.{Step, is_seat, ask, blocking, open_before, with_channel, without_seat, stopped_at, open_channel, position_on, receive, take_entry, take_place, held, commit_answer, commit_held, commit, rollback, restart, next_number, local_answer, local, purge, step}
-use Rattle.faithful_journals.proofs.Lists.{on_test, get_set_from, get_map}
+use Rattle.source_history.proofs.Lists.{on_test, get_set_from, get_map}
 use Rattle.faithful_runs.proofs.Receiving.{received_entry}
 use Rattle.faithful_runs.specs.Whole.{is_position}
 use Rattle.std.proofs.lemmas.Option.{same_Some}

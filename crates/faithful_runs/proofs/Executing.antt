@@ -15,8 +15,8 @@ use Rattle.source_history.proofs.Closing.{closed_same}
 use Rattle.source_history.proofs.Committing.{adds_one, some_is}
 use Rattle.source_history.proofs.Merging.{late_commit, early_commit}
 use Rattle.faithful_runs.specs.Faithful.{Since}
-use Rattle.faithful_journals.proofs.Covering.{has, in_insert}
-use Rattle.faithful_journals.proofs.Keeping.{covered_push, journal_push}
+use Rattle.source_history.proofs.Covering.{has, in_insert}
+use Rattle.source_history.proofs.Keeping.{covered_push, journal_push}
 use Rattle.faithful_runs.proofs.Receiving.{all_settled, put_settled}
 use Rattle.faithful_runs.proofs.Seats.{IsFree, seats_over, seats_after}
 use Rattle.faithful_runs.proofs.Invariant.{AllApply, Needs, AreSeated, Invariant}

@@ -20,10 +20,10 @@ use Rattle.replica_core.specs.declared.event.Reply.TheVariants.{NotInSchema, Ask
 use Rattle.replica_core.specs.State.{State, Site, owned_by, owner}
 use Rattle.replica_core.specs.Machine.{Step, is_seat, ask, blocking, open_before, with_channel, without_seat, stopped_at, open_channel, position_on, receive, take_entry, take_place, Held, held_of, held_at, held, commit_answer, commit_held, commit, rollback, restart, next_number, local_answer, local, purge, step}
 use Rattle.faithful_runs.specs.Served.{accepted, IsNoLocalCommit}
-use Rattle.faithful_journals.proofs.Lists.{on_test, get_push_cases, get_set_cases, get_set_from, get_map}
+use Rattle.source_history.proofs.Lists.{on_test, get_push_cases, get_set_cases, get_set_from, get_map}
 use Rattle.faithful_runs.proofs.Receiving.{settle_gtid, received_entry}
 use Rattle.faithful_runs.proofs.Invariant.{Stands}
-use Rattle.faithful_journals.proofs.Covering.{is_entry, in_insert}
+use Rattle.source_history.proofs.Covering.{is_entry, in_insert}
 use Rattle.std.proofs.lemmas.Bool.{or_cases, or_left, or_right}
 use Rattle.std.proofs.lemmas.Option.{same_Some}
 use Rattle.gtid_text.proofs.SameGtid.{same_itself, same_is_equal}

@@ -1,7 +1,7 @@
 -- What every faithful run keeps.
 use Rattle.std.proofs.Common.{◌≡◌, ℕ, ◌<◌, Bool, true, false, ◌⊎◌, List, Some, Ok}
 use Rattle.std.specs.Prelude.{slice_get, IsOk, option_map, option_and_then, [], ◌∷◌, Option}
-use Rattle.faithful_journals.proofs.Covering.{has}
+use Rattle.source_history.proofs.Covering.{has}
 use Rattle.std.specs.FinMap as finmap
 use Rattle.std.specs.FinSet as set
 use Rattle.rows.specs.declared.change.Transaction.{Transaction}
@@ -15,7 +15,7 @@ use Rattle.replica_core.specs.declared.event.Event.{Event}
 use Rattle.replica_core.specs.State.{State, Site, Seats}
 use Rattle.replica_core.specs.Machine.{Step, is_seat}
 use Rattle.source_history.specs.World.{World, content, rows_of, of_source, IsClosed}
-use Rattle.faithful_journals.specs.Faithful.{IsFaithful}
+use Rattle.source_history.specs.Faithful.{IsFaithful}
 use Rattle.faithful_runs.specs.Faithful.{Since, since_after, IsFaithfulStep, IsNotRefused}
 
 -- each source's transactions, taken alone, apply to the opening rows

@@ -6,7 +6,7 @@ use Rattle.std.specs.List.{list_any}
 use Rattle.std.specs.FinSet as set
 use Rattle.std.specs.FinSet.{contains-union}
 use Rattle.std.proofs.lemmas.Bool.{eqb-true, eq-eqb, cases_Bool, or_cases}
-use Rattle.faithful_journals.proofs.Covering.{in_gtids}
+use Rattle.source_history.proofs.Covering.{in_gtids}
 use Rattle.rows.specs.declared.change.Transaction.{Transaction}
 use Rattle.gtid_text.specs.declared.Gtid.{Gtid}
 use Rattle.gtid_text.specs.Gtids.{gtid_cmp, same_gtid}
@@ -19,7 +19,7 @@ use Rattle.replica_core.specs.Machine.{ask}
 use Rattle.source_history.specs.World.{World, content, is_opened}
 use Rattle.auto_position.specs.Sending.{sent}
 use Rattle.faithful_runs.specs.Faithful.{Since}
-use Rattle.faithful_journals.proofs.Lists.{get_push_cases, get_set_cases, get_set_from, get_map}
+use Rattle.source_history.proofs.Lists.{get_push_cases, get_set_cases, get_set_from, get_map}
 use Rattle.faithful_runs.proofs.Sending.{Served}
 use Rattle.faithful_runs.proofs.Invariant.{gtid_at, IsIn, AllApply, Needs, Stands, StandsBefore, IsGood, AreGood}
 use Rattle.faithful_runs.proofs.Seats.{StaysPut}

@@ -18,8 +18,8 @@ use Rattle.replica_core.specs.Machine.{step, replies, after}
 use Rattle.source_history.specs.World.{World, is_opened, rows_of, AreKeysSound, IsSound}
 use Rattle.source_history.proofs.Closing.{closed_same}
 use Rattle.faithful_runs.specs.Faithful.{start_with, IsOpening, Since, since_after, IsFaithfulFrom, IsFaithfulRun, IsNotRefused, IsMerged, FaithfulRunsMerge, EqualSetsEqualRows, RunsGoOn}
-use Rattle.faithful_journals.proofs.Lists.{all_from}
-use Rattle.faithful_journals.proofs.Covering.{covered, front, to_fronts}
+use Rattle.source_history.proofs.Lists.{all_from}
+use Rattle.source_history.proofs.Covering.{covered, front, to_fronts}
 use Rattle.faithful_runs.proofs.Executing.{absorb}
 use Rattle.source_history.proofs.Writing.{last_writer_stands}
 use Rattle.faithful_runs.proofs.Invariant.{AllApply, Invariant}

@@ -14,7 +14,7 @@ use Rattle.replica_core.specs.declared.event.Spot.{Spot}
 use Rattle.replica_core.specs.State.{State, Seats, owned_by, owner, seat_numbers, entry_at}
 use Rattle.replica_core.specs.Machine.{is_seat}
 use Rattle.source_history.specs.World.{World}
-use Rattle.faithful_journals.proofs.Lists.{none_passes}
+use Rattle.source_history.proofs.Lists.{none_passes}
 use Rattle.faithful_runs.proofs.Invariant.{IsReady, AreSeated, gtid_at}
 use Rattle.std.proofs.lemmas.Bool.{and_parts}
 use Rattle.std.proofs.lemmas.Option.{same_Some}

@@ -13,9 +13,9 @@ use Rattle.source_history.specs.World.{World, content, is_opened, AreKeysSound}
 use Rattle.auto_position.specs.Sending.{own_of}
 use Rattle.auto_position.specs.declared.PositionFault.{PositionFault}
 use Rattle.faithful_runs.specs.Faithful.{WasSent}
-use Rattle.faithful_journals.proofs.Lists.{all_at, located}
+use Rattle.source_history.proofs.Lists.{all_at, located}
 use Rattle.faithful_runs.proofs.Invariant.{Needs, IsIn}
-use Rattle.faithful_journals.proofs.Covering.{is_entry, covered, front, fronts_of}
+use Rattle.source_history.proofs.Covering.{is_entry, covered, front, fronts_of}
 use Rattle.std.proofs.lemmas.Bool.{cases_Bool, or_cases, or_left, or_right}
 use Rattle.std.proofs.lemmas.Option.{same_Some, slice_get_within}
 use Rattle.gtid_text.proofs.SameGtid.{same_itself, same_is_equal, gtid_total}

@@ -14,7 +14,7 @@ use Rattle.source_history.specs.Join.{join}
 use Rattle.auto_position.specs.Sending.{own_of}
 use Rattle.faithful_runs.specs.Served.{IsDrained, accepted, received_in, NoLocalCommits, ServedIsJoined}
 use Rattle.faithful_runs.proofs.Sending.{sent_cases}
-use Rattle.faithful_journals.proofs.Covering.{is_entry, has, in_whole, entries_append}
+use Rattle.source_history.proofs.Covering.{is_entry, has, in_whole, entries_append}
 use Rattle.faithful_runs.proofs.Growing.{Known, Grows, gains_none, grows_channels, step_grows}
 use Rattle.std.proofs.lemmas.Bool.{cases_Bool, or_cases, or_left, or_right}
 use Rattle.gtid_text.proofs.SameGtid.{same_is_equal, gtid_total, gtid_exact}

@@ -25,7 +25,7 @@ use Rattle.replica_core.specs.Machine.{Step, ask, with_channel, executing, next_
 use Rattle.source_history.specs.Join.{join}
 use Rattle.auto_position.specs.Sending.{own_of}
 use Rattle.faithful_runs.specs.Served.{accepted, on_channel, received_on, committed_here, local_commits, WasServed, Plan, is_planned, whole_sets, ServedAreJoined}
-use Rattle.faithful_journals.proofs.Covering.{is_entry, entry_of, has, in_insert, in_entries, in_gtids, in_whole, entries_append}
+use Rattle.source_history.proofs.Covering.{is_entry, entry_of, has, in_insert, in_entries, in_gtids, in_whole, entries_append}
 use Rattle.faithful_runs.proofs.Sending.{sent_cases}
 use Rattle.faithful_runs.proofs.Receiving.{among_received}
 use Rattle.faithful_runs.proofs.Growing.{nothing, Known, Grows, gains_settled, step_grows}

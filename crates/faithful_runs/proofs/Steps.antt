@@ -24,10 +24,10 @@ use Rattle.replica_core.specs.State.{State, Site, owned_by, owner}
 use Rattle.replica_core.specs.Machine.{is_seat, ask, is_in_the_way, blocking, open_before, with_channel, without_seat, stopping, executing, open_channel, position_on, receive, take_entry, take_place, Held, held_of, held_at, held, commit_answer, commit_held, commit, rollback, restart, is_free, next_number, local_answer, local, purge, step}
 use Rattle.source_history.specs.World.{World, content, AreKeysSound}
 use Rattle.faithful_runs.specs.Faithful.{Since, asked_with}
-use Rattle.faithful_journals.proofs.Lists.{found_passes, position_none, get_take, on_test}
+use Rattle.source_history.proofs.Lists.{found_passes, position_none, get_take, on_test}
 use Rattle.faithful_runs.proofs.Invariant.{AllApply, Needs, IsReady, Invariant, Keeps}
-use Rattle.faithful_journals.proofs.Covering.{covered}
-use Rattle.faithful_journals.proofs.Keeping.{covered_purged, journal_purge}
+use Rattle.source_history.proofs.Covering.{covered}
+use Rattle.source_history.proofs.Keeping.{covered_purged, journal_purge}
 use Rattle.faithful_runs.proofs.Sending.{served}
 use Rattle.faithful_runs.proofs.Receiving.{received_entry, put_set, put_push, from_parts, extends_push, good_received, good_asked, good_restarted, good_stopped, good_new, all_set, all_set_same, all_push}
 use Rattle.faithful_runs.proofs.Seats.{seats_over, seats_without, seats_with, free_without, free_from}

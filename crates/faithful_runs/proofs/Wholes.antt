@@ -16,8 +16,8 @@ use Rattle.replica_core.specs.declared.event.Reply.TheVariants.{NotInSchema, NoC
 use Rattle.replica_core.specs.State.{State, Site}
 use Rattle.replica_core.specs.Machine.{Step, ask, with_channel, open_channel, position_on, receive, step, after}
 use Rattle.source_history.specs.World.{World}
-use Rattle.faithful_journals.specs.Faithful.{IsFaithful}
-use Rattle.faithful_journals.proofs.Lists.{on_test}
+use Rattle.source_history.specs.Faithful.{IsFaithful}
+use Rattle.source_history.proofs.Lists.{on_test}
 use Rattle.auto_position.specs.Sending.{sent}
 use Rattle.faithful_runs.specs.Faithful.{Since, since_after, asked_with, WasSent, IsFaithfulStep, IsFaithfulFrom}
 use Rattle.faithful_runs.specs.Served.{accepted, on_channel, received_on, IsNoLocalCommit, NoLocalCommits}

@@ -17,7 +17,7 @@ use Rattle.replica_core.specs.State.{State, Site}
 use Rattle.replica_core.specs.Machine.{step, replies, after}
 use Rattle.source_history.specs.World.{World, content, rows_of, IsSound, IsClosed}
 use Rattle.source_history.specs.LastWriter.{last_writer}
-use Rattle.faithful_journals.specs.Faithful.{IsFaithful}
+use Rattle.source_history.specs.Faithful.{IsFaithful}
 use Rattle.auto_position.specs.Sending.{sent}
 
 -- a replica on which this set was executed, with these rows

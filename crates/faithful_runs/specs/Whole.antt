@@ -6,7 +6,7 @@ use Rattle.replica_core.specs.declared.event.Event.{Event}
 use Rattle.replica_core.specs.declared.event.Event.TheVariants.{Position}
 use Rattle.replica_core.specs.State.{State, Site}
 use Rattle.source_history.specs.World.{World}
-use Rattle.faithful_journals.specs.Faithful.{IsFaithful}
+use Rattle.source_history.specs.Faithful.{IsFaithful}
 use Rattle.faithful_runs.specs.Faithful.{IsFaithfulFrom}
 use Rattle.faithful_runs.specs.Served.{NoLocalCommits, received_on, WasServed}
 

@@ -33,7 +33,7 @@ use Rattle.replica_core.specs.declared.event.Reply.TheVariants as reply
 use Rattle.replica_core.specs.State.{State, Site, Replica}
 use Rattle.replica_core.specs.Machine.{Step, step, ask, with_channel}
 use Rattle.auto_position.specs.Sending.{sent, own_of}
-use Rattle.faithful_journals.proofs.Lists.{all_at, all_from}
+use Rattle.source_history.proofs.Lists.{all_at, all_from}
 use Rattle.faithful_runs.specs.Served.{accepted}
 use Rattle.faithful_runs.proofs.Sending.{sent_cases}
 use Rattle.faithful_runs.proofs.Wholes.{set_there}

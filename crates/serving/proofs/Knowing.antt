@@ -30,14 +30,14 @@ use Rattle.replica_core.specs.State.{State, Replica}
 use Rattle.replica_core.specs.Machine.{step, ask, Held, held_of, held_at, held}
 use Rattle.replica_core.specs.AtOnce.{IsFaultAtOnce}
 use Rattle.replica_core.specs.Faults.{asking, receiving, committing, executing_too, IsFaultIn}
-use Rattle.faithful_journals.proofs.Covering.{is_entry, in_insert, in_gtids, in_whole}
-use Rattle.faithful_journals.proofs.Lists.{all_at, all_from, all_drop}
+use Rattle.source_history.proofs.Covering.{is_entry, in_insert, in_gtids, in_whole}
+use Rattle.source_history.proofs.Lists.{all_at, all_from, all_drop}
 use Rattle.faithful_runs.specs.Served.{accepted, received_on, local_commits}
 use Rattle.faithful_runs.proofs.Receiving.{among_received}
 use Rattle.faithful_runs.proofs.Growing.{nothing}
 use Rattle.faithful_runs.proofs.Sharing.{Brought, run_moves}
 use Rattle.world.proofs.Contents.{entry_at, entry_from}
-use Rattle.audited_runs.specs.Deciding.{all_of}
+use Rattle.faithful_runs.specs.Deciding.{all_of}
 use Rattle.txn_journal.specs.BundleStates.{BundleValue}
 use Rattle.txn_journal.specs.declared.bundle.Channel.{Channel}
 use Rattle.serving.specs.declared.receiving.Apply.{Apply}

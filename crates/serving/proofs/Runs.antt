@@ -25,7 +25,7 @@ use Rattle.world.specs.Audit.{found_in_keys, does_not_apply}
 use Rattle.world.specs.Meaning.{AreJournals}
 use Rattle.world.specs.declared.verdict.Verdict.{Verdict}
 use Rattle.world.specs.declared.verdict.Verdict.TheVariants.{Sound}
-use Rattle.audited_runs.specs.Deciding.{ServesAll, WorkersDecide, ServedHoldsAll, HoldsAll}
+use Rattle.faithful_runs.specs.Deciding.{ServesAll, WorkersDecide, ServedHoldsAll, HoldsAll}
 use Rattle.txn_journal.specs.BundleStates.{BundleValue}
 use Rattle.txn_journal.specs.declared.bundle.Channel.{Channel}
 use Rattle.serving.specs.declared.receiving.Apply.{Apply}

@@ -21,7 +21,7 @@ use Rattle.replica_core.specs.declared.event.Event.TheVariants.{OpenChannel, Rec
 use Rattle.replica_core.specs.declared.event.Reply.TheVariants.{NameTaken, ChannelsFull, Opened, Ask, NotInSchema, SeatBusy, OwnedBy, Blocked, Early, RolledBack}
 use Rattle.replica_core.specs.State.{State, Site, Replica, owned_by, owner}
 use Rattle.replica_core.specs.Machine.{Step, is_seat, blocking, open_before, without_seat, take_entry, take_place, held, commit_answer, commit_held, commit, position_on, ask, with_channel, step, after}
-use Rattle.faithful_journals.proofs.Lists.{get_map}
+use Rattle.source_history.proofs.Lists.{get_map}
 use Rattle.txn_journal.specs.BundleStates.{BundleValue}
 use Rattle.txn_journal.specs.declared.bundle.Channel.{Channel}
 use Rattle.serving.specs.declared.receiving.Apply.{Apply}

@@ -7,7 +7,7 @@ use Rattle.source_history.specs.World.{World}
 use Rattle.world.specs.Audit.{world_of, verdict, verdict_of_keys}
 use Rattle.world.specs.declared.verdict.Verdict.{Verdict}
 use Rattle.world.specs.declared.verdict.Verdict.TheVariants.{Sound}
-use Rattle.audited_runs.specs.Deciding.{HoldsAll}
+use Rattle.faithful_runs.specs.Deciding.{HoldsAll}
 use Rattle.txn_journal.specs.BundleStates.{BundleValue}
 use Rattle.txn_journal.specs.declared.bundle.Channel.{Channel}
 use Rattle.serving.specs.declared.outcome.StateOrVerdict.{StateOrVerdict}

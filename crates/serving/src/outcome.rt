@@ -5,7 +5,7 @@ ghost use Rattle.gtid_set.specs.declared.fault.SetFault.TheVariants.{Memory};
 ghost use Rattle.journal.specs.Faults.{IsFaultOf};
 ghost use Rattle.world.specs.Meaning.{AreJournals};
 ghost use Rattle.replica_core.specs.Draining.{AreStoppedOrDone};
-ghost use Rattle.audited_runs.specs.Deciding.{all_of};
+ghost use Rattle.faithful_runs.specs.Deciding.{all_of};
 ghost use Rattle.serving.specs.Faults.{IsFaultWhere, KnowsToo};
 ghost use Rattle.serving.specs.Servable.{IsFitting, IsServable, CanServeEach, WrittenIsServable};
 ghost use Rattle.serving.specs.Serving.{opening, ServesEach, HasReceived, IsReady, IsRun};
@@ -14,7 +14,7 @@ ghost use Rattle.serving.specs.Verdicts.{is_sound, world_over, keys_over, verdic
 use crate::receiving::{Apply, serve_journals};
 use crate::working::finish;
 use audit::{World, WorldFault, audit, audit_keys, world_of};
-use audited_runs::{served_holds_all, workers_decide};
+use faithful_runs::{served_holds_all, workers_decide};
 use gtid_set::{GtidSet, SetFault};
 use journal::Journal;
 use replica_core::Core;

@@ -9,3 +9,6 @@ pub mod Writing
 pub mod Committing
 pub mod Closing
 pub mod Small
+pub mod Lists
+pub mod Covering
+pub mod Keeping

@@ -3,8 +3,10 @@
 //! Order doesn't matter where no key is shared, and each source's own order is kept where it is.
 #![tactic(auto)]
 
+mod journals;
 mod laws;
 
+pub use journals::{faithful_goes_on, purged_is_faithful, whole_applies, whole_is_closed};
 pub use laws::{
     alone_or_together, apart_commute, closed_sets_apply, closed_sets_are_a_lattice,
     closed_under_intersection, closed_under_union, commit_order_is_free, commit_orders_agree,

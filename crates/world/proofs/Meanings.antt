@@ -22,9 +22,9 @@ use Rattle.journal.specs.Journals.{JournalValue, IsJournal}
 use Rattle.source_history.specs.World.{World, content, is_opened, of_source, entries_in, apply_all, rows_of, HasNumber, IsClosed, AreKeysSound, IsSound}
 use Rattle.source_history.specs.World as history
 use Rattle.source_history.proofs.Commuting.{AreApart, apart_back}
-use Rattle.faithful_journals.specs.Faithful.{IsFaithful}
-use Rattle.faithful_journals.proofs.Lists.{get_map, get_take, all_at, all_from}
-use Rattle.faithful_journals.proofs.Covering.{is_entry, covered, front, to_fronts}
+use Rattle.source_history.specs.Faithful.{IsFaithful}
+use Rattle.source_history.proofs.Lists.{get_map, get_take, all_at, all_from}
+use Rattle.source_history.proofs.Covering.{is_entry, covered, front, to_fronts}
 use Rattle.world.specs.declared.verdict.Verdict.{Verdict}
 use Rattle.world.specs.declared.verdict.Verdict.TheVariants.{Unequal, Purged, Missing, Shared, NotClosed, DoesNotApply, Sound}
 use Rattle.world.specs.Search.{or_next, when, first_at}

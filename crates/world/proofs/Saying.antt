@@ -17,9 +17,9 @@ use Rattle.journal.specs.declared.Entry.{Entry}
 use Rattle.journal.specs.Journals.{JournalValue}
 use Rattle.source_history.specs.World.{World, content, is_opened, of_source, entries_in, apply_all, rows_of, HasNumber, IsClosed, AreKeysSound, IsSound}
 use Rattle.source_history.specs.World as history
-use Rattle.faithful_journals.specs.Faithful.{IsFaithful}
-use Rattle.faithful_journals.proofs.Lists.{get_take, all_at}
-use Rattle.faithful_journals.proofs.Covering.{is_entry, covered, front, fronts_of}
+use Rattle.source_history.specs.Faithful.{IsFaithful}
+use Rattle.source_history.proofs.Lists.{get_take, all_at}
+use Rattle.source_history.proofs.Covering.{is_entry, covered, front, fronts_of}
 use Rattle.world.specs.declared.verdict.Verdict.TheVariants.{Unequal, Purged, Missing, Shared, NotClosed, DoesNotApply, Sound}
 use Rattle.world.specs.Equal.{txn_eq}
 use Rattle.world.specs.Audit.{all_entries, world_of, is_content, is_unequal, unequal, purged, present, is_absent, below, missing, shared, is_left_out, not_closed, fault_after, first_fault, does_not_apply, found_in_keys}

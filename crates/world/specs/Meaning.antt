@@ -7,7 +7,7 @@ use Rattle.rows.specs.declared.schema.Table.{Table}
 use Rattle.rows.specs.Apply.{Rows}
 use Rattle.journal.specs.Journals.{JournalValue, IsJournal}
 use Rattle.source_history.specs.World.{AreKeysSound, IsSound}
-use Rattle.faithful_journals.specs.Faithful.{IsFaithful}
+use Rattle.source_history.specs.Faithful.{IsFaithful}
 use Rattle.world.specs.declared.verdict.Verdict.TheVariants.{Sound}
 use Rattle.world.specs.Audit.{world_of, verdict_of_keys, verdict}
 

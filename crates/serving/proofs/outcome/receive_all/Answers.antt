@@ -1,6 +1,6 @@
 use Rattle.std.proofs.Common.{rules}
 use Rattle.std.specs.FinSet as set
-use Rattle.audited_runs.specs.Deciding.{all_of}
+use Rattle.faithful_runs.specs.Deciding.{all_of}
 use Rattle.serving.specs.Faults.{KnowsToo}
 use Rattle.serving.specs.Serving.{opening}
 use Rattle.serving.proofs.Knowing.{fault_of, knows_opening}

@@ -5,7 +5,7 @@ use Rattle.gtid_set.specs.Sets.{Gtids}
 use Rattle.journal.specs.declared.Entry.{Entry}
 use Rattle.journal.specs.Journals.{JournalValue, gtids_of, whole}
 use Rattle.source_history.specs.World.{World, content, rows_of, IsSound, IsClosed}
-use Rattle.faithful_journals.specs.Faithful.{IsFaithful}
+use Rattle.source_history.specs.Faithful.{IsFaithful}
 
 -- the opening set with all that a journal has a record of
 abbrev pub known_to : World → JournalValue → Gtids

@@ -1,5 +1,5 @@
 //! What an audit says of runs. Each function's contract is a law, and its body is empty.
-ghost use Rattle.audited_runs.specs.Deciding.{WorkersDecide, ServedHoldsAll};
+ghost use Rattle.faithful_runs.specs.Deciding.{WorkersDecide, ServedHoldsAll};
 
 /// Where the audit of keys says Sound, a run that was served all journals and whose every channel is
 /// stopped or done has executed all that it received exactly where the audit says Sound.

@@ -21,9 +21,9 @@ use Rattle.source_history.specs.World.{World, content, apply_all, rows_of, of_so
 use Rattle.source_history.specs.World as history
 use Rattle.source_history.proofs.Committing.{opening_is_closed}
 use Rattle.source_history.proofs.Merging.{alone_from_all}
-use Rattle.faithful_journals.specs.Faithful.{IsFaithful}
-use Rattle.faithful_journals.proofs.Lists.{all_at}
-use Rattle.faithful_journals.proofs.Covering.{is_entry, has, in_whole}
+use Rattle.source_history.specs.Faithful.{IsFaithful}
+use Rattle.source_history.proofs.Lists.{all_at}
+use Rattle.source_history.proofs.Covering.{is_entry, has, in_whole}
 use Rattle.auto_position.specs.Sending.{own_of}
 use Rattle.faithful_runs.specs.Faithful.{start_with, Since, IsFaithfulFrom}
 use Rattle.faithful_runs.specs.Served.{IsDrained, NoLocalCommits, received_on, local_commits, committed_here, IsNoLocalCommit, WasServed}
@@ -39,7 +39,7 @@ use Rattle.world.specs.Search.{or_next}
 use Rattle.world.specs.Audit.{all_entries, world_of, does_not_apply, found_in_keys, verdict_of_keys, verdict}
 use Rattle.world.specs.Meaning.{AreJournals}
 use Rattle.replica_core.specs.Draining.{AreStoppedOrDone}
-use Rattle.audited_runs.specs.Deciding.{ServesAll, WorkersDecide, all_of, ServedHoldsAll}
+use Rattle.faithful_runs.specs.Deciding.{ServesAll, WorkersDecide, all_of, ServedHoldsAll}
 use Rattle.world.proofs.Finding.{next_none, none_next}
 use Rattle.world.proofs.Contents.{in_all, at_content, contents_entry}
 use Rattle.world.proofs.Meanings.{none_of_sound, next_not, keys_not, applies_not, alone_here, keys_sound_mean}

@@ -14,7 +14,7 @@ use Rattle.journal.proofs.EntryLemmas.{contains-whole}
 use Rattle.rows.specs.declared.change.Transaction.{Transaction}
 use Rattle.source_history.specs.World.{World, is_opened, IsClosed}
 use Rattle.source_history.proofs.Closing.{closed_same}
-use Rattle.faithful_journals.specs.Faithful as journals
+use Rattle.source_history.specs.Faithful as journals
 use Rattle.gtid_text.proofs.SameGtid.{gtid_total}
 
 abbrev pub entry_of : Gtid → Transaction → Entry

@@ -14,10 +14,10 @@ use Rattle.journal.specs.Journals.{JournalValue, gtids_of, whole}
 use Rattle.journal.proofs.EntryLemmas.{new_push, new_drop}
 use Rattle.source_history.specs.World.{World, content, is_opened, IsClosed}
 use Rattle.source_history.proofs.Closing.{closed_same, closed_sets_apply}
-use Rattle.faithful_journals.specs.Faithful.{IsFaithful}
-use Rattle.faithful_journals.specs.Laws.{known_to, WholeIsClosed, WholeApplies, FaithfulGoesOn, PurgedIsFaithful}
-use Rattle.faithful_journals.proofs.Lists.{all_drop}
-use Rattle.faithful_journals.proofs.Covering.{entry_of, is_entry, covered, front, has, in_insert, in_covered, in_whole, fronts_of, to_fronts}
+use Rattle.source_history.specs.Faithful.{IsFaithful}
+use Rattle.source_history.specs.JournalLaws.{known_to, WholeIsClosed, WholeApplies, FaithfulGoesOn, PurgedIsFaithful}
+use Rattle.source_history.proofs.Lists.{all_drop}
+use Rattle.source_history.proofs.Covering.{entry_of, is_entry, covered, front, has, in_insert, in_covered, in_whole, fronts_of, to_fronts}
 use mathlib.Core.Bool.{or-false, or_comm}
 use Rattle.gtid_text.proofs.SameGtid.{gtid_total}
 use Rattle.gtid_set.proofs.SpanLemmas.{or_swap, or_assoc}

@@ -1,5 +1,5 @@
 //! The laws of faithful journals. Each function's contract is a law, and its body is empty.
-ghost use Rattle.faithful_journals.specs.Laws.{WholeIsClosed, WholeApplies, FaithfulGoesOn, PurgedIsFaithful};
+ghost use Rattle.source_history.specs.JournalLaws.{WholeIsClosed, WholeApplies, FaithfulGoesOn, PurgedIsFaithful};
 
 /// What a faithful journal has a record of is closed.
 pub fn whole_is_closed()

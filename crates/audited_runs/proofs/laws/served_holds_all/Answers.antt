@@ -1,5 +1,0 @@
-use Rattle.audited_runs.proofs.Deciding.{served_holds_all}
-use Rattle.audited_runs.proofs.laws.served_holds_all.Goals as goal
-
-pub returns : goal.returns
-returns c = served_holds_all
