@@ -1,6 +1,9 @@
-//! What several sources committed, and the rows that a set of their transactions stands for.
+//! What several sources committed, the rows that a set of their transactions stands for, and which
+//! journals tell the truth about them.
 //!
-//! Order doesn't matter where no key is shared, and each source's own order is kept where it is.
+//! Order doesn't matter where no key is shared, and each source's own order is kept where it is. A
+//! journal tells the truth where each of its fronts is closed and each entry is what its source
+//! committed.
 #![tactic(auto)]
 
 mod journals;
