@@ -19,8 +19,8 @@ fault_map PoolFull more h = h
 fault_map SourcesFull more h = more h
 
 -- memory may be refused to any call
-pub memory_fault : {A : Type 0} (f : SetFault) → f ≡ Memory → IsMemoryOr A f
-memory_fault {A} f is = subst (IsMemoryOr A) (sym is) tt
+pub memory_fault : (A : Type 0) (f : SetFault) → f ≡ Memory → IsMemoryOr A f
+memory_fault A f is = subst (IsMemoryOr A) (sym is) tt
 
 -- where there can't be too many sources, memory was refused
 pub memory_only : {A : Type 0} (f : SetFault) → (A → ⊥) → IsMemoryOr A f → f ≡ Memory

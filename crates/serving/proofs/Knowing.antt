@@ -177,7 +177,7 @@ weaker f Has Has' has h = fault_map f (λ full all a. full all (has all a)) h
 -- a set that an event makes has too many sources: so has each of which it is a part
 option_fault : (f : SetFault) (Has : Gtids → Type 0) (o : Option Gtids)
     → ((all : Gtids) → Has all → (made : Gtids) → o ≡ Some made → (g : Gtid) → set.contains made g ≡ true → set.contains all g ≡ true) → IsFaultIn f o → IsFaultWhere Has f
-option_fault f Has None part h = memory_fault f h
+option_fault f Has None part h = memory_fault _ f h
 option_fault f Has (Some made) part h = fault_map f (λ high all a. let low = fewer_sources made all (part all a made refl) in omega (arith, low, high)) h
 
 pub position_fault : (f : SetFault) (s : State) (c : ℕ) → IsFaultIn f (asking c s) → IsFaultWhere (Knows s) f

@@ -16,7 +16,7 @@ memory_anywhere None = refl
 memory_anywhere (Some made) = tt
 
 memory_for : (f : SetFault) (e : Event) → f ≡ Memory → IsFaultFor e f
-memory_for f e is = memory_fault f is
+memory_for f e is = memory_fault _ f is
 
 set_for : (f : SetFault) (e : Event) (made : Option Gtids) → makes_a_set e ≡ true → IsFaultIn f made → IsFaultFor e f
 set_for f e None makes is = memory_for f e is
