@@ -134,9 +134,9 @@ done
 #[test]
 fn two_workers_apply_at_once(rt: HostRuntime) -> Result<(), Fail> {
     let alloc = rt.alloc();
-    let bundle = decode_bundle(alloc, TWO_INSERTS.as_bytes())
-        .ok()
-        .ok_or("a bundle")?;
+    let Ok(bundle) = decode_bundle(alloc, TWO_INSERTS.as_bytes()) else {
+        return Err(Fail::from("no bundle"));
+    };
     let gate = Meeting {
         prepared: AtomicU64::new(0),
         committed: AtomicU64::new(0),
