@@ -212,9 +212,6 @@ fault_at_once f r c p e (inr h) =
     (λ all has. knows_run all r (Receive c e ∷ Take 1 c p ∷ []) refl (λ d g k. ap (set.contains all) (received_alone (eqb c d) c e (step r.site r.state (Receive c e)).0 g k) ∙ has.1.0) has.0)
     (commit_fault f taken.state 1 h.cause)
 
-pub memory_where : (f : SetFault) (Has : Gtids → Type 0) → f ≡ Memory → IsFaultWhere Has f
-memory_where f Has is = subst (IsFaultWhere Has) (sym is) tt
-
 -- a fault where such a set is there
 pub fault_of : (f : SetFault) (Has : Gtids → Type 0) (all : Gtids) → Has all → IsFaultWhere Has f → IsFaultOf f all
 fault_of f Has all a h = fault_map f (λ full. full all a) h

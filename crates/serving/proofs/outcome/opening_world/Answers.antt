@@ -1,4 +1,5 @@
-use Rattle.std.proofs.Common.{ap, Err}
+use Rattle.std.proofs.Common.{subst}
+use Rattle.audit.specs.Worlds.{IsWorldFault}
 use Rattle.serving.proofs.Conditions.{none_refused}
 use Rattle.serving.proofs.outcome.opening_world.Goals as goal
 
@@ -6,4 +7,4 @@ pub unreachable-requires : goal.unreachable-requires
 unreachable-requires c =
     none_refused c.args.bundle.now c.rows.result.now c.empty-opened.result c.journals.result.now c.in-Err-NotInSchema.field-0-0 c.in-Err-NotInSchema.field-0-1
     c.rows.ensures c.empty-opened.ensures c.journals.ensures c.requires
-    (c.in-Err-NotInSchema.ensures.unfit c.in-Err-NotInSchema.field-0-0 c.in-Err-NotInSchema.field-0-1 (ap Err c.in-Err-NotInSchema.field-0-is))
+    (subst (IsWorldFault c.rows.result.now.schema c.empty-opened.result c.journals.result.now) c.in-Err-NotInSchema.field-0-is c.in-Err-NotInSchema.ensures.unfit)
