@@ -3,7 +3,7 @@ use Rattle.std.proofs.lemmas.List.{take_all}
 use Rattle.std.proofs.Math.Seq.{take-add}
 use Rattle.std.specs.Io.KnownBytes.{Appends}
 use Rattle.std.proofs.KnownBytes.{Appends-trans}
-use Rattle.commands.proofs.wrap.StdSinkSink.write.Goals as goal
+use Rattle.commands.proofs.wrap.write_whole.Goals as goal
 
 -- a part that is written after the first ones
 part_after : (done n : ℕ) (bytes : List ℕ) → done ≤ length bytes → n ≤ length bytes - done → take done bytes ++ take n (take (length bytes - done) (drop done bytes)) ≡ take (done + n) bytes
@@ -20,6 +20,5 @@ loop-done-preserved g c =
     let sent = Appends-trans _ _ _ _ _ c.loop-done.invariant.sent c.in-Ok.ensures.bytes in
     record {
       within = omega arith;
-      sent = subst (λ (bytes : List ℕ). Appends (g.W.Write.contents c.args.self.now.writer) (g.W.Write.contents c.write.new.self) bytes) (part_after done c.in-Ok.n all inside few) sent;
-      calm = c.loop-done.invariant.calm;
+      sent = subst (λ (bytes : List ℕ). Appends (g.W.Write.contents c.args.writer.now) (g.W.Write.contents c.write_again.new.writer) bytes) (part_after done c.in-Ok.n all inside few) sent;
     }
