@@ -1,15 +1,35 @@
--- How the program ends.
-use Rattle.std.specs.Prelude.{ℕ, Result, Ok, Err}
-use Rattle.commands.specs.declared.edge.Outcome.{Outcome}
+-- How the program ends: its exit status, and what standard error is told.
+use Rattle.std.specs.Prelude.{ℕ, List, [], Ok, Err, codes, string_bytes}
 use Rattle.commands.specs.declared.edge.Outcome.TheVariants.{Done, Refused, Misused}
-use Rattle.commands.specs.declared.edge.RunFault.{RunFault}
 use Rattle.commands.specs.declared.edge.RunFault.TheVariants.{Memory, Read, Write}
+use Rattle.gtidrep.specs.declared.line.LineFault.TheVariants as line
+use Rattle.gtidrep.specs.declared.ending.Ending.{Ending}
+use Rattle.gtidrep.specs.declared.ending.Ending.TheVariants.{Ran, NoCommand}
 
 -- the status that the program ends with
-abbrev pub status_of : Result Outcome RunFault → ℕ
-status_of (Ok Done) = 0
-status_of (Ok Refused) = 1
-status_of (Ok Misused) = 2
-status_of (Err Memory) = 3
-status_of (Err Read) = 4
-status_of (Err Write) = 4
+abbrev pub status_of : Ending → ℕ
+status_of (Ran (Ok Done)) = 0
+status_of (Ran (Ok Refused)) = 1
+status_of (Ran (Ok Misused)) = 2
+status_of (Ran (Err Memory)) = 3
+status_of (Ran (Err Read)) = 4
+status_of (Ran (Err Write)) = 4
+status_of (NoCommand line.Memory) = 3
+status_of (NoCommand line.NotUtf8) = 2
+status_of (NoCommand (line.Line text)) = 2
+
+-- the functions of `set`, by the words that they take
+abbrev pub functions_text : List ℕ
+functions_text = codes "Functions of one set: normalize, count. Of two sets: union, intersect, subtract, symmetric,\nsubset, equal, disjoint. Of a set and a UUID: only, without.\n"
+
+-- What standard error is told. A refusal is said on standard output; one of the words of `set` comes with the functions that there are.
+abbrev pub message_of : Ending → List ℕ
+message_of (Ran (Ok Done)) = []
+message_of (Ran (Ok Refused)) = []
+message_of (Ran (Ok Misused)) = functions_text
+message_of (Ran (Err Memory)) = codes "gtidrep: out of memory\n"
+message_of (Ran (Err Read)) = codes "gtidrep: reading standard input failed\n"
+message_of (Ran (Err Write)) = codes "gtidrep: writing failed\n"
+message_of (NoCommand line.Memory) = codes "gtidrep: out of memory\n"
+message_of (NoCommand line.NotUtf8) = codes "gtidrep: a word of the command line is not UTF-8\n"
+message_of (NoCommand (line.Line text)) = string_bytes text

@@ -28,21 +28,38 @@ pub enum Command<'a> {
     },
 }
 
-/// Why the words are no command: memory, or the text that is shown.
+/// Why the words are no command.
 #[derive(Drop)]
 pub enum LineFault {
     Memory,
+    /// A word is not UTF-8.
+    NotUtf8,
+    /// The text that says so, in whole lines.
     Line(String),
 }
 
-const SET_EXAMPLE: &str =
-    "Functions of one set: normalize, count. Of two sets: union, intersect, subtract, symmetric,
+/// The functions of `set`, and then this text.
+macro_rules! functions_and {
+    ($rest:literal) => {
+        concat!(
+            "Functions of one set: normalize, count. Of two sets: union, intersect, subtract, symmetric,
 subset, equal, disjoint. Of a set and a UUID: only, without.
+",
+            $rest
+        )
+    };
+}
 
+/// The functions of `set`, by the words that they take, in whole lines.
+pub const FUNCTIONS: &str = functions_and!("");
+
+const SET_EXAMPLE: &str = functions_and!(
+    "
 Example:
   gtidrep set subtract aaaaaaaa-aaaa-aaaa-aaaa-aaaaaaaaaaaa:1-10 aaaaaaaa-aaaa-aaaa-aaaa-aaaaaaaaaaaa:3:5-6
 
-Status: 0 the answer is printed, 1 an argument is refused, 2 the command line, 3 memory, 4 writing failed.";
+Status: 0 the answer is printed, 1 an argument is refused, 2 the command line, 3 memory, 4 writing failed."
+);
 
 const POSITION_EXAMPLE: &str =
     "Prints how many entries of the journal the source with this UUID sends to a replica that asks with this set, and

@@ -1,12 +1,12 @@
 //! The program `gtidrep`: functions of sets, what a source sends, and bundles audited and applied.
 #![tactic(auto)]
 
-ghost use Rattle.std.specs.Prelude.{◌≡◌};
 ghost use Rattle.gtidrep.specs.Line.{IsForOneToMost};
-ghost use Rattle.gtidrep.specs.Status.{status_of};
 
+mod ending;
 mod line;
 
+use crate::ending::{Ending, exit_status, message};
 use crate::line::{Command, LineFault, parse_line};
 use commands::{
     Outcome, RunFault, StdSink, StdSource, Streams, apply_bundle, run_audit, run_position, run_set,
@@ -17,17 +17,17 @@ use std::process::ExitCode;
 use std::sync::Wait;
 use std::thread::Threads;
 
-/// The status that the program ends with.
-pub fn exit_status(ended: &Result<Outcome, RunFault>) -> u8
-    ensures { result ≡ status_of ended.now }
-{
-    match ended {
-        Ok(Outcome::Done) => 0,
-        Ok(Outcome::Refused) => 1,
-        Ok(Outcome::Misused) => 2,
-        Err(RunFault::Memory) => 3,
-        Err(RunFault::Read) => 4,
-        Err(RunFault::Write) => 4,
+/// The words after the program's name. What `env::args` refuses but for memory is a word that is not
+/// UTF-8.
+fn read_words(rt: &HostRuntime) -> Result<Vec<String>, LineFault> {
+    let args = match env::args(rt) {
+        Ok(args) => args,
+        Err(error) if error.kind() == ErrorKind::OutOfMemory => return Err(LineFault::Memory),
+        Err(_) => return Err(LineFault::NotUtf8),
+    };
+    match args.skip(1).collect(rt.alloc()) {
+        Ok(words) => Ok(words),
+        Err(_) => Err(LineFault::Memory),
     }
 }
 
@@ -53,26 +53,19 @@ fn run_command<T: Threads + Wait + Sync>(
     }
 }
 
-fn run<T: Threads + Wait + Sync>(rt: &HostRuntime, threads: &T, words: &[String]) -> u8 {
+/// Runs the command that the words name.
+fn run<T: Threads + Wait + Sync>(rt: &HostRuntime, threads: &T, words: &[String]) -> Ending {
     match parse_line(rt.alloc(), words) {
-        Ok(command) => exit_status(&run_command(rt, threads, command)),
-        Err(LineFault::Memory) => 3,
-        Err(LineFault::Line(text)) => {
-            let _ = eprint!(rt; "{text}");
-            2
-        }
+        Ok(command) => Ending::Ran(run_command(rt, threads, command)),
+        Err(fault) => Ending::NoCommand(fault),
     }
 }
 
 fn main(rt: HostRuntime) -> ExitCode {
-    let args = match env::args(&rt) {
-        Ok(args) => args,
-        Err(error) if error.kind() == ErrorKind::OutOfMemory => return ExitCode::from(3),
-        Err(_) => return ExitCode::from(4),
+    let ending = match read_words(&rt) {
+        Ok(words) => run(&rt, &rt, words.as_slice()),
+        Err(fault) => Ending::NoCommand(fault),
     };
-    let words: Vec<String> = match args.skip(1).collect(rt.alloc()) {
-        Ok(words) => words,
-        Err(_) => return ExitCode::from(3),
-    };
-    ExitCode::from(run(&rt, &rt, words.as_slice()))
+    let _ = eprint!(rt; "{}", message(&ending));
+    ExitCode::from(exit_status(&ending))
 }

@@ -1,0 +1,51 @@
+//! How the program ends: its exit status, and what it says of that on standard error.
+ghost use Rattle.std.specs.Prelude.{◌≡◌};
+ghost use Rattle.gtidrep.specs.Status.{message_of, status_of};
+
+use crate::line::{FUNCTIONS, LineFault};
+use commands::{Outcome, RunFault};
+
+/// How the program ends.
+#[derive(Drop)]
+pub enum Ending {
+    /// A command ran.
+    Ran(Result<Outcome, RunFault>),
+    /// The words of the command line are no command.
+    NoCommand(LineFault),
+}
+
+/// The status that the program ends with (our own rule).
+pub fn exit_status(ending: &Ending) -> u8
+    ensures { result ≡ status_of ending.now }
+{
+    match ending {
+        Ending::Ran(Ok(Outcome::Done)) => 0,
+        Ending::Ran(Ok(Outcome::Refused)) => 1,
+        Ending::Ran(Ok(Outcome::Misused)) => 2,
+        Ending::Ran(Err(RunFault::Memory)) => 3,
+        Ending::Ran(Err(RunFault::Read)) => 4,
+        Ending::Ran(Err(RunFault::Write)) => 4,
+        Ending::NoCommand(LineFault::Memory) => 3,
+        Ending::NoCommand(LineFault::NotUtf8) => 2,
+        Ending::NoCommand(LineFault::Line(_)) => 2,
+    }
+}
+
+/// What standard error is told: whole lines, and nothing where standard output says all (our own
+/// rule). It takes no memory.
+pub fn message(ending: &Ending) -> &str
+    ensures { result.now ≡ message_of ending.now }
+{
+    match ending {
+        Ending::Ran(Ok(Outcome::Done)) => "",
+        Ending::Ran(Ok(Outcome::Refused)) => "",
+        Ending::Ran(Ok(Outcome::Misused)) => FUNCTIONS,
+        Ending::Ran(Err(RunFault::Memory)) => "gtidrep: out of memory\n",
+        Ending::Ran(Err(RunFault::Read)) => "gtidrep: reading standard input failed\n",
+        Ending::Ran(Err(RunFault::Write)) => "gtidrep: writing failed\n",
+        Ending::NoCommand(LineFault::Memory) => "gtidrep: out of memory\n",
+        Ending::NoCommand(LineFault::NotUtf8) =>
+            "gtidrep: a word of the command line is not UTF-8\n",
+        Ending::NoCommand(LineFault::Line(text)) => text.as_str(),
+    }
+}
