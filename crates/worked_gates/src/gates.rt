@@ -1,6 +1,7 @@
 //! Workers with a gate between their steps, and the hands from which they steal.
 
-ghost use Rattle.std.specs.Prelude.{◌≡◌};
+ghost use Rattle.std.specs.Prelude.{◌≡◌, true};
+ghost use Rattle.replica_core.specs.Machine.{is_numbered};
 
 use applier::{Gate, Hand, Ticket, drain, hands, run_workers};
 use commands::apply_journals;
@@ -63,27 +64,51 @@ fn two_workers<N: Naming + Send + Sync, R: Threads + Wait + Abort + Sync>(
     Ok(())
 }
 
+/// One event. Its reply is let go.
+fn make(alloc: Global, core: &mut Core, event: &Event) -> Result<(), Fail>
+    requires { is_numbered event.now ≡ true }
+{
+    drop(core.step(alloc, event)?);
+    Ok(())
+}
+
+/// A channel of this name is opened and positioned.
+fn open_channel(alloc: Global, core: &mut Core, name: &str) -> Result<(), Fail> {
+    let name = Name::new(String::from_str(alloc, name)?)?;
+    make(alloc, core, &Event::OpenChannel(name, false))?;
+    make(alloc, core, &Event::Position(0))
+}
+
+/// An empty transaction of this number is received.
+fn receive_empty(alloc: Global, core: &mut Core, number: u64) -> Result<(), Fail> {
+    let source = SourceId::from_bits(2);
+    let changes = Changes::new(Vec::new(alloc))?;
+    let entry = Entry {
+        gtid: Gtid { source, number },
+        txn: Transaction { changes },
+    };
+    if !entry.is_writable() {
+        return Err(Fail::from("not writable"));
+    }
+    make(alloc, core, &Event::Receive(0, entry))
+}
+
+fn receive_twenty(alloc: Global, core: &mut Core) -> Result<(), Fail> {
+    open_channel(alloc, core, "c")?;
+    for number in 1..21u64 {
+        receive_empty(alloc, core, number)?;
+    }
+    Ok(())
+}
+
 /// A replica that has received twenty empty transactions on a channel.
 fn core_with_twenty(alloc: Global) -> Result<Core, Fail> {
     let rows = Rows::open(alloc, Schema::empty(alloc));
     let mut core = Core::open(alloc, SourceId::from_bits(1), rows)?;
-    let name = Name::new(format!(in alloc; "c")?)?;
-    let _opened = core.step(alloc, &Event::OpenChannel(name, false))?;
-    let _asked = core.step(alloc, &Event::Position(0))?;
-    for number in 1..21u64 {
-        let gtid = Gtid {
-            source: SourceId::from_bits(2),
-            number,
-        };
-        let changes = Changes::new(Vec::new(alloc))?;
-        let txn = Transaction { changes };
-        let entry = Entry { gtid, txn };
-        if !entry.is_writable() {
-            return Err(Fail::from("not writable"));
-        }
-        let _received = core.step(alloc, &Event::Receive(0, entry))?;
+    match receive_twenty(alloc, &mut core) {
+        Ok(()) => Ok(core),
+        Err(fail) => Err(fail),
     }
-    Ok(core)
 }
 
 /// The first seat that is about to prepare waits until another has committed.
