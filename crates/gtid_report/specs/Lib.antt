@@ -6,3 +6,4 @@ pub mod Verdicts
 pub mod State
 pub mod VerdictLines
 pub mod Positions
+pub mod Status

@@ -71,7 +71,7 @@ fn push_word(out: &mut String, spans: &[Span]) -> Result<(), AllocError>
 }
 
 /// Appends the word of a set: its canonical text, or `-` where it is empty.
-pub(crate) fn push_set(alloc: Global, out: &mut String, set: &GtidSet) -> Result<(), AllocError>
+pub fn push_set(alloc: Global, out: &mut String, set: &GtidSet) -> Result<(), AllocError>
     ensures { OnOk result (string_bytes out.new ≡ string_bytes out.old ++ set_text set.now) }
 {
     let spans = set.spans(alloc)?;

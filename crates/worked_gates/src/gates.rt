@@ -1,6 +1,7 @@
 //! Workers with a gate between their steps, and the hands from which they steal.
 
-ghost use Rattle.std.specs.Prelude.{◌≡◌};
+ghost use Rattle.std.specs.Prelude.{◌≡◌, true};
+ghost use Rattle.replica_core.specs.Machine.{is_numbered};
 
 use applier::{Gate, Hand, Ticket, drain, hands, run_workers};
 use commands::apply_journals;
@@ -10,7 +11,7 @@ use journal::Entry;
 use replica_core::{Core, Event};
 use rows::{Changes, Name, Rows, Schema, Transaction};
 use serving::{StateOrVerdict, written_is_servable};
-use shared_replica::{Naming, SharedReplica};
+use shared_replica::{ClosedBook, Naming, Pass, SharedReplica};
 use std::alloc::Global;
 use std::marker::Brand;
 use std::process::Abort;
@@ -35,6 +36,26 @@ fn workers_run_at_once(rt: HostRuntime) -> Result<(), Fail> {
     Ok(())
 }
 
+/// Whether all twenty transactions are committed, and nothing is left for the drain.
+fn shows_twenty(alloc: Global, book: &mut ClosedBook) -> Result<bool, Fail> {
+    let steps = book.steps().len();
+    let is_whole = book.state().drained() && book.counts().commits == 20;
+    drain(alloc, book)?;
+    Ok(is_whole && book.steps().len() == steps)
+}
+
+/// Whether all passes close a book that shows the twenty commits.
+fn closes_with_twenty<N: Naming>(
+    alloc: Global,
+    replica: SharedReplica<N>,
+    passes: Vec<Pass<N>>,
+) -> Result<bool, Fail> {
+    match replica.close(passes) {
+        Ok(mut book) => shows_twenty(alloc, &mut book),
+        Err(_) => Ok(false),
+    }
+}
+
 fn two_workers<N: Naming + Send + Sync, R: Threads + Wait + Abort + Sync>(
     rt: &R,
     alloc: Global,
@@ -51,15 +72,47 @@ fn two_workers<N: Naming + Send + Sync, R: Threads + Wait + Abort + Sync>(
         return Err(Fail::from("no memory"));
     };
     let end = run_workers(rt, alloc, &replica, passes, gate);
-    assert!(rt; end.fault.is_none());
-    let Ok(mut book) = replica.close(end.passes) else {
-        return Err(Fail::from("not closed"));
+    let has_fault = end.fault.is_some();
+    let shown = closes_with_twenty(alloc, replica, end.passes)?;
+    assert!(rt; !has_fault);
+    assert!(rt; shown);
+    Ok(())
+}
+
+/// One event. Its reply is let go.
+fn make(alloc: Global, core: &mut Core, event: &Event) -> Result<(), Fail>
+    requires { is_numbered event.now ≡ true }
+{
+    drop(core.step(alloc, event)?);
+    Ok(())
+}
+
+/// A channel of this name is opened and positioned.
+fn open_channel(alloc: Global, core: &mut Core, name: &str) -> Result<(), Fail> {
+    let name = Name::new(String::from_str(alloc, name)?)?;
+    make(alloc, core, &Event::OpenChannel(name, false))?;
+    make(alloc, core, &Event::Position(0))
+}
+
+/// An empty transaction of this number is received.
+fn receive_empty(alloc: Global, core: &mut Core, number: u64) -> Result<(), Fail> {
+    let source = SourceId::from_bits(2);
+    let changes = Changes::new(Vec::new(alloc))?;
+    let entry = Entry {
+        gtid: Gtid { source, number },
+        txn: Transaction { changes },
     };
-    assert!(rt; book.state().drained());
-    assert_eq!(rt; book.counts().commits, 20);
-    let steps = book.steps().len();
-    drain(alloc, &mut book)?;
-    assert_eq!(rt; book.steps().len(), steps);
+    if !entry.is_writable() {
+        return Err(Fail::from("not writable"));
+    }
+    make(alloc, core, &Event::Receive(0, entry))
+}
+
+fn receive_twenty(alloc: Global, core: &mut Core) -> Result<(), Fail> {
+    open_channel(alloc, core, "c")?;
+    for number in 1..21u64 {
+        receive_empty(alloc, core, number)?;
+    }
     Ok(())
 }
 
@@ -67,23 +120,10 @@ fn two_workers<N: Naming + Send + Sync, R: Threads + Wait + Abort + Sync>(
 fn core_with_twenty(alloc: Global) -> Result<Core, Fail> {
     let rows = Rows::open(alloc, Schema::empty(alloc));
     let mut core = Core::open(alloc, SourceId::from_bits(1), rows)?;
-    let name = Name::new(format!(in alloc; "c")?)?;
-    let _opened = core.step(alloc, &Event::OpenChannel(name, false))?;
-    let _asked = core.step(alloc, &Event::Position(0))?;
-    for number in 1..21u64 {
-        let gtid = Gtid {
-            source: SourceId::from_bits(2),
-            number,
-        };
-        let changes = Changes::new(Vec::new(alloc))?;
-        let txn = Transaction { changes };
-        let entry = Entry { gtid, txn };
-        if !entry.is_writable() {
-            return Err(Fail::from("not writable"));
-        }
-        let _received = core.step(alloc, &Event::Receive(0, entry))?;
+    match receive_twenty(alloc, &mut core) {
+        Ok(()) => Ok(core),
+        Err(fail) => Err(fail),
     }
-    Ok(core)
 }
 
 /// The first seat that is about to prepare waits until another has committed.
