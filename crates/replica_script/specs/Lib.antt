@@ -2,3 +2,4 @@ pub mod Replies
 pub mod Questions
 pub mod Texts
 pub mod Scripts
+pub mod Messages

@@ -16,6 +16,7 @@ alone word =
     else if bytes_eq word (codes "purged") then Some (Query query.Purged)
     else if bytes_eq word (codes "journal") then Some (Query query.Journal)
     else if bytes_eq word (codes "drained") then Some (Query query.Drained)
+    else if bytes_eq word (codes "status") then Some (Query query.Status)
     else None
 
 -- a seat as an event has it: 255, which is no seat, stands for those above it

@@ -18,8 +18,11 @@ use Rattle.replica_script.specs.declared.answer.Unanswered.{Unanswered}
 use Rattle.replica_script.specs.declared.answer.Unanswered.TheVariants as unasked
 use Rattle.replica_script.specs.declared.answer.Stop.{Stop}
 use Rattle.replica_script.specs.declared.answer.Stop.TheVariants as stop
+use Rattle.replica_script.specs.declared.edge.Line.{Line}
 use Rattle.replica_script.specs.declared.edge.Fault.{Fault}
-use Rattle.replica_script.specs.declared.edge.Fault.TheVariants.{BadLine, Memory, Changed, Read, Write}
+use Rattle.replica_script.specs.declared.edge.Fault.TheVariants.{BadLine, CutShort, Memory, Changed, Read, Write}
+use Rattle.replica_script.specs.declared.Command.{Command}
+use Rattle.replica_script.specs.declared.Command.TheVariants.{Run, Help}
 use Rattle.replica_script.specs.Replies.{ended, reply_line}
 use Rattle.replica_script.specs.Texts.{query_text}
 
@@ -83,11 +86,18 @@ IsUnanswered made unasked.Changed = ⊥
 
 -- ---- the words of the command line
 
--- how often a replica is asked, if the words say that
-abbrev pub asking_of : {Z : Type 0} → List (String Z) → Option Asking
-asking_of [] = Some asking.Once
-asking_of (word ∷ []) = if bytes_eq (string_bytes word) (codes "--again") then Some asking.Again else None
-asking_of (word ∷ next ∷ more) = None
+-- what one word asks for, if anything
+abbrev pub command_named : List ℕ → Option Command
+command_named word =
+    if bytes_eq word (codes "--again") then Some (Run asking.Again)
+    else if bytes_eq word (codes "--help") then Some Help
+    else None
+
+-- what the words ask for, if anything
+abbrev pub command_of : {Z : Type 0} → List (String Z) → Option Command
+command_of [] = Some (Run asking.Once)
+command_of (word ∷ []) = command_named (string_bytes word)
+command_of (word ∷ next ∷ more) = None
 
 -- ---- the end
 
@@ -97,16 +107,23 @@ ending (Some stop) inside = Err stop
 ending None true = Err stop.BadLine
 ending None false = Ok tt
 
--- what a stop means for the program
-abbrev pub fault_of : Stop → Fault
-fault_of stop.BadLine = BadLine
-fault_of stop.Memory = Memory
-fault_of stop.Changed = Changed
+-- what a stop at a line means for the program
+abbrev pub fault_at : Line → Stop → Fault
+fault_at line stop.BadLine = BadLine line
+fault_at line stop.Memory = Memory
+fault_at line stop.Changed = Changed
+
+-- what a stop means where no line follows
+abbrev pub fault_at_end : Stop → Fault
+fault_at_end stop.BadLine = CutShort
+fault_at_end stop.Memory = Memory
+fault_at_end stop.Changed = Changed
 
 -- the status that the program ends with
 abbrev pub status_of : Result (Unit {0}) Fault → ℕ
 status_of (Ok done) = 0
-status_of (Err BadLine) = 2
+status_of (Err (BadLine line)) = 2
+status_of (Err CutShort) = 2
 status_of (Err Memory) = 3
 status_of (Err Changed) = 5
 status_of (Err Read) = 4

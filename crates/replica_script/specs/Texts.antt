@@ -9,6 +9,7 @@ use Rattle.apply_channel.specs.Channels.{Received}
 use Rattle.txn_journal.specs.WrittenSets.{set_text}
 use Rattle.txn_journal.specs.Spelling.{spelling}
 use Rattle.gtid_report.specs.State.{row_line}
+use Rattle.gtid_report.specs.Status.{status_text}
 use Rattle.replica_core.specs.State.{Replica, State, entry_at}
 use Rattle.replica_core.specs.Machine.{ask, drained, next_ready}
 use Rattle.replica_script.specs.declared.question.Query.{Query}
@@ -53,6 +54,7 @@ query_text r query.Executed = ended (set_text r.state.executed)
 query_text r query.Purged = ended (set_text r.state.journal.previous)
 query_text r query.Journal = spelling r.state.journal
 query_text r query.Drained = ended (truth (drained r.state))
+query_text r query.Status = status_text r.state
 query_text r (query.Ask channel) = ended (set_or_none (asks r.state channel))
 query_text r (query.Next channel from) = ended (place_or_none (next_ready r.site r.state channel from))
 query_text r (query.Entry channel place) = ended (entry_or_none (entry_at r.state (record { channel = channel; place = place })))

@@ -1,17 +1,28 @@
 //! A script from a reader to a writer.
 ghost use Rattle.std.specs.Prelude.{◌≡◌};
-ghost use Rattle.replica_script.specs.Scripts.{fault_of};
+ghost use Rattle.replica_script.specs.Scripts.{fault_at, fault_at_end};
 
 use crate::answer::{Asking, Stop};
 use crate::script::Script;
 use std::alloc::Global;
 use std::io::{BufRead, Error, ErrorKind, Write};
 
+/// A line of a script.
+#[derive(Drop)]
+pub struct Line {
+    /// Its number, from 1.
+    pub number: u64,
+    /// Its bytes, without the line feed.
+    pub text: Vec<u8>,
+}
+
 /// Why a script was not answered to its end.
-#[derive(Clone, Copy, Debug, PartialEq, Eq, Drop)]
+#[derive(Drop)]
 pub enum Fault {
     /// A line that is not in the language where it stands.
-    BadLine,
+    BadLine(Line),
+    /// An end inside a transaction.
+    CutShort,
     /// Memory was refused.
     Memory,
     /// A call that was refused memory has changed the replica.
@@ -22,11 +33,23 @@ pub enum Fault {
     Write,
 }
 
-fn fault_of(stop: Stop) -> Fault
-    ensures { result ≡ fault_of stop }
+/// What a stop at this line means.
+fn fault_at(line: Line, stop: Stop) -> Fault
+    ensures { result ≡ fault_at line stop }
 {
     match stop {
-        Stop::BadLine => Fault::BadLine,
+        Stop::BadLine => Fault::BadLine(line),
+        Stop::Memory => Fault::Memory,
+        Stop::Changed => Fault::Changed,
+    }
+}
+
+/// What a stop means where no line follows.
+fn fault_at_end(stop: Stop) -> Fault
+    ensures { result ≡ fault_at_end stop }
+{
+    match stop {
+        Stop::BadLine => Fault::CutShort,
         Stop::Memory => Fault::Memory,
         Stop::Changed => Fault::Changed,
     }
@@ -40,51 +63,56 @@ fn read_fault(error: Error) -> Fault {
     }
 }
 
-/// A line without its line feed. The last one may have none.
-fn without_feed(line: &[u8]) -> &[u8] {
-    match line {
-        [front @ .., b'\n'] => front,
-        _ => line,
+/// Takes the line feed from a line. The last one may have none.
+fn drop_feed(text: &mut Vec<u8>) {
+    if let [.., b'\n'] = text.as_slice() {
+        let _feed = text.pop();
     }
+}
+
+/// Writes an answer, and hands it on at once.
+fn write_answer<W: Write>(text: &[u8], writer: &mut W) -> Result<(), Fault> {
+    if writer.write_all(text).is_err() || writer.flush().is_err() {
+        return Err(Fault::Write);
+    }
+    Ok(())
 }
 
 /// Answers a line, and writes the answer before the next line is read.
 fn answer_line<W: Write>(
     alloc: Global,
     script: &mut Script,
-    line: &[u8],
+    line: Line,
     writer: &mut W,
 ) -> Result<(), Fault> {
-    let text = match script.take_line(alloc, line) {
-        Ok(text) => text,
-        Err(stop) => return Err(fault_of(stop)),
-    };
-    if writer.write_all(&text).is_err() || writer.flush().is_err() {
-        return Err(Fault::Write);
+    match script.take_line(alloc, &line.text) {
+        Ok(text) => write_answer(&text, writer),
+        Err(stop) => Err(fault_at(line, stop)),
     }
-    Ok(())
 }
 
 /// How a script has ended, where no line follows.
 fn ended(script: &Script) -> Result<(), Fault> {
     match script.end() {
         Ok(()) => Ok(()),
-        Err(stop) => Err(fault_of(stop)),
+        Err(stop) => Err(fault_at_end(stop)),
     }
 }
 
-/// Reads a line and writes the answer to it. Whether there was a line.
+/// Reads the line of this number and writes the answer to it. Whether there was a line.
 fn answer_next<R: BufRead, W: Write>(
     alloc: Global,
+    number: u64,
     reader: &mut R,
     writer: &mut W,
     script: &mut Script,
 ) -> Result<bool, Fault> {
-    let mut line = Vec::new(alloc);
-    match reader.read_until(b'\n', &mut line) {
+    let mut text = Vec::new(alloc);
+    match reader.read_until(b'\n', &mut text) {
         Ok(0) => Ok(false),
         Ok(_) => {
-            answer_line(alloc, script, without_feed(&line), writer)?;
+            drop_feed(&mut text);
+            answer_line(alloc, script, Line { number, text }, writer)?;
             Ok(true)
         }
         Err(error) => Err(read_fault(error)),
@@ -98,8 +126,8 @@ fn answer_lines<R: BufRead, W: Write>(
     writer: &mut W,
     script: &mut Script,
 ) -> Result<(), Fault> {
-    for _ in 0..u64::MAX {
-        if !answer_next(alloc, reader, writer, script)? {
+    for before in 0..u64::MAX {
+        if !answer_next(alloc, before + 1, reader, writer, script)? {
             return ended(script);
         }
     }

@@ -2,10 +2,11 @@
 #![tactic(auto)]
 
 ghost use Rattle.std.specs.Prelude.{◌≡◌};
-ghost use Rattle.replica_script.specs.Scripts.{asking_of, status_of};
+ghost use Rattle.replica_script.specs.Scripts.{command_named, command_of, status_of};
 
 mod answer;
 mod edge;
+mod message;
 mod query;
 mod question;
 mod reply;
@@ -13,9 +14,30 @@ mod script;
 
 use crate::answer::Asking;
 use crate::edge::{Fault, run_script};
+use crate::message::{bad_line_text, fault_word};
 use std::env;
 use std::io::{self, BufReader, ErrorKind};
 use std::process::ExitCode;
+
+/// What the words of the command line ask for.
+#[derive(Clone, Copy, Drop)]
+pub enum Command {
+    /// The answers to the script on standard input.
+    Run(Asking),
+    /// How the program is called.
+    Help,
+}
+
+const USAGE: &str = "usage: replica_script [--again] < script";
+
+const HELP: &str = "\
+usage: replica_script [--again] < script
+       replica_script --help
+
+Reads a script of events and queries, asks a replica line by line, and prints its answers.
+With --again each event and query that is refused memory is asked once more.
+The language of scripts stands in docs/SCRIPTS.md.
+";
 
 /// The status that the program ends with.
 pub fn exit_status(ended: &Result<(), Fault>) -> u8
@@ -23,7 +45,8 @@ pub fn exit_status(ended: &Result<(), Fault>) -> u8
 {
     match ended {
         Ok(()) => 0,
-        Err(Fault::BadLine) => 2,
+        Err(Fault::BadLine(_)) => 2,
+        Err(Fault::CutShort) => 2,
         Err(Fault::Memory) => 3,
         Err(Fault::Changed) => 5,
         Err(Fault::Read) => 4,
@@ -31,39 +54,97 @@ pub fn exit_status(ended: &Result<(), Fault>) -> u8
     }
 }
 
-/// How often a replica is asked, if the words of the command line say that.
-fn asking_of(words: &[String]) -> Option<Asking>
-    ensures { result ≡ asking_of words.now }
+/// What one word asks for, if anything.
+fn command_named(word: &[u8]) -> Option<Command>
+    ensures { result ≡ command_named word.now }
+{
+    if word == b"--again".as_slice() {
+        Some(Command::Run(Asking::Again))
+    } else if word == b"--help".as_slice() {
+        Some(Command::Help)
+    } else {
+        None
+    }
+}
+
+/// What the words of the command line ask for, if anything.
+fn command_of(words: &[String]) -> Option<Command>
+    ensures { result ≡ command_of words.now }
 {
     match words {
-        [] => Some(Asking::Once),
-        [word] if word.as_bytes() == b"--again".as_slice() => Some(Asking::Again),
+        [] => Some(Command::Run(Asking::Once)),
+        [word] => command_named(word.as_bytes()),
         _ => None,
     }
 }
 
-fn run(rt: &HostRuntime, words: &[String]) -> u8 {
-    let Some(asking) = asking_of(words) else {
-        let _ = eprintln!(rt; "usage: replica_script [--again] < script");
-        return 2;
-    };
+/// Writes a line on standard error.
+fn complain(rt: &HostRuntime, line: &str) {
+    let _ = eprintln!(rt; "replica_script: {line}");
+}
+
+/// Says on standard error why a script was not answered to its end.
+fn report(rt: &HostRuntime, fault: &Fault) {
+    if let Fault::BadLine(line) = fault {
+        if let Ok(text) = bad_line_text(rt.alloc(), line) {
+            complain(rt, text.as_str());
+            return;
+        }
+    }
+    complain(rt, fault_word(fault));
+}
+
+/// Answers the script on standard input.
+fn answer_input(rt: &HostRuntime, asking: Asking) -> Result<(), Fault> {
     let alloc = rt.alloc();
     let Ok(mut reader) = BufReader::new(alloc, rt.reader()) else {
-        return 3;
+        return Err(Fault::Memory);
     };
     let mut writer = io::writer(rt);
-    exit_status(&run_script(alloc, asking, &mut reader, &mut writer))
+    run_script(alloc, asking, &mut reader, &mut writer)
+}
+
+/// Prints how the program is called.
+fn print_help(rt: &HostRuntime) -> Result<(), Fault> {
+    match print!(rt; "{HELP}") {
+        Ok(()) => Ok(()),
+        Err(_) => Err(Fault::Write),
+    }
+}
+
+fn run(rt: &HostRuntime, words: &[String]) -> u8 {
+    let ended = match command_of(words) {
+        Some(Command::Run(asking)) => answer_input(rt, asking),
+        Some(Command::Help) => print_help(rt),
+        None => {
+            let _ = eprintln!(rt; "{USAGE}");
+            return 2;
+        }
+    };
+    if let Err(fault) = &ended {
+        report(rt, fault);
+    }
+    exit_status(&ended)
+}
+
+/// Says that memory was refused, with the status for it.
+fn out_of_memory(rt: &HostRuntime) -> ExitCode {
+    complain(rt, fault_word(&Fault::Memory));
+    ExitCode::from(3)
 }
 
 fn main(rt: HostRuntime) -> ExitCode {
     let args = match env::args(&rt) {
         Ok(args) => args,
-        Err(error) if error.kind() == ErrorKind::OutOfMemory => return ExitCode::from(3),
-        Err(_) => return ExitCode::from(4),
+        Err(error) if error.kind() == ErrorKind::OutOfMemory => return out_of_memory(&rt),
+        Err(_) => {
+            complain(&rt, "reading the command line failed");
+            return ExitCode::from(4);
+        }
     };
     let words: Vec<String> = match args.skip(1).collect(rt.alloc()) {
         Ok(words) => words,
-        Err(_) => return ExitCode::from(3),
+        Err(_) => return out_of_memory(&rt),
     };
     ExitCode::from(run(&rt, words.as_slice()))
 }

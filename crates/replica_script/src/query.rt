@@ -8,8 +8,7 @@ ghost use Rattle.replica_script.specs.Scripts.{made_for};
 ghost use Rattle.replica_script.specs.Texts.{changes_or_gone, place_or_none, query_text, shown_entry, truth};
 
 use crate::question::Query;
-use crate::reply::push_set;
-use gtid_report::{push_number, render_rows};
+use gtid_report::{push_number, push_set, render_rows, status};
 use gtid_set::{GtidSet, SetFault};
 use gtid_text::{Gtid, write_gtid};
 use replica_core::Core;
@@ -123,6 +122,7 @@ pub fn query_text(alloc: Global, core: &Core, query: Query) -> Result<Vec<u8>, S
         Query::Purged => Ok(set_line(alloc, core.purged())?.into_bytes()),
         Query::Journal => Ok(encode(alloc, core.journal().as_journal())?),
         Query::Drained => Ok(truth_line(alloc, core.drained())?.into_bytes()),
+        Query::Status => Ok(status(alloc, core)?.into_bytes()),
         Query::Ask(channel) => Ok(ask_line(alloc, core, channel)?.into_bytes()),
         Query::Next(channel, from) => Ok(next_line(alloc, core, channel, from)?.into_bytes()),
         Query::Entry(channel, place) => Ok(entry_line(alloc, core, channel, place)?.into_bytes()),

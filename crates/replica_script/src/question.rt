@@ -21,6 +21,8 @@ pub enum Query {
     Journal,
     /// Whether every received GTID is executed.
     Drained,
+    /// The status: the sets, what is owned, and the channels.
+    Status,
     /// The set with which this channel would ask now.
     Ask(usize),
     /// The least place of this channel from this number on that a seat may take: channel, number.
@@ -52,6 +54,8 @@ fn alone(word: &[u8]) -> Option<Question>
         Some(Question::Query(Query::Journal))
     } else if word == b"drained".as_slice() {
         Some(Question::Query(Query::Drained))
+    } else if word == b"status".as_slice() {
+        Some(Question::Query(Query::Status))
     } else {
         None
     }

@@ -4,23 +4,12 @@ ghost use Rattle.gtid_text.specs.Canonical.{gtid_text};
 ghost use Rattle.txn_journal.specs.WrittenSets.{set_text};
 ghost use Rattle.replica_script.specs.Replies.{ended, within, misfit_word, not_in_schema_text, refusal_text, refused_text, reply_line};
 
-use gtid_report::{push_number, push_row_fault};
+use gtid_report::{push_number, push_row_fault, push_set};
 use gtid_set::GtidSet;
 use gtid_text::{Gtid, write_gtid};
 use replica_core::Reply;
 use rows::{Misfit, NotInSchema, RowFault};
 use std::alloc::{AllocError, Global};
-
-/// Appends the word of a set.
-pub fn push_set(alloc: Global, out: &mut String, set: &GtidSet) -> Result<(), AllocError>
-    ensures { OnOk result (string_bytes out.new ≡ string_bytes out.old ++ set_text set.now) }
-{
-    let text = set.to_text(alloc)?;
-    if text.is_empty() {
-        return out.push_str("-");
-    }
-    out.push_str(text.as_str())
-}
 
 fn misfit_word(cause: Misfit) -> &'static str
     ensures { result.now ≡ misfit_word cause }
