@@ -1,15 +1,19 @@
 """Runs of the built programs under a preloaded library that lets one call fail, for the sweeps beside this file."""
 import os
+import resource
 import subprocess
 import sys
 
 sys.dont_write_bytecode = True
+resource.setrlimit(resource.RLIMIT_CORE, (0, 0))
 HERE = os.path.dirname(os.path.abspath(__file__))
 TOP = os.path.dirname(HERE)
 
 RING = "examples/ring.bundle"
 FIRST = "examples/first.bundle"
 THREE = "sweep/three.bundle"
+STOPPED = "sweep/stopped.bundle"  # the second transaction of its first channel is refused, and that channel is stopped
+VERDICT = "sweep/stopped.answer"
 PURGED = "sweep/purged.journal"
 A = "aaaaaaaa-aaaa-aaaa-aaaa-aaaaaaaaaaaa"
 REPLICAS = "sweep/three.script"
@@ -25,14 +29,14 @@ def library(folder, name):
 
 
 def run(words, given, more=None, mark=""):
-    """Status, output, and whether the call that was to fail was made (the library makes the file of that name)."""
+    """Status, output, and what the library tells: none where the call that was to fail never came, else how many calls of its kind came later."""
     with open(os.path.join(TOP, given) if given else os.devnull, "rb") as it:
         how = {"stdin": it, "stdout": subprocess.PIPE, "stderr": subprocess.DEVNULL, "timeout": 60, "check": False}
         ran = subprocess.run(words, env={**os.environ, **(more or {})}, **how)
-    was = bool(mark) and os.path.exists(mark)
-    if was:
+    later = os.path.getsize(mark) if mark and os.path.exists(mark) else None
+    if later is not None:
         os.remove(mark)
-    return ran.returncode, ran.stdout, was
+    return ran.returncode, ran.stdout, later
 
 
 def built(name):
