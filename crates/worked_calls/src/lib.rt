@@ -3,28 +3,12 @@
 #![tactic(auto)]
 
 #[cfg(test)]
-mod entries;
-#[cfg(test)]
-mod graphs;
-#[cfg(test)]
-mod journals;
-#[cfg(test)]
-mod keys;
-#[cfg(test)]
-mod ledgers;
-#[cfg(test)]
-mod lines;
-#[cfg(test)]
 mod pieces;
 #[cfg(test)]
 mod positions;
-#[cfg(test)]
-mod relays;
-#[cfg(test)]
-mod replicas;
 #[cfg(test)]
 mod seats;
 #[cfg(test)]
 mod sets;
 #[cfg(test)]
-mod workers;
+mod sources;

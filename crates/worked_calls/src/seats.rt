@@ -1,146 +1,527 @@
-//! Seats of one replica under its lock, and what its book shows once it is closed.
+//! Two seats of one replica, by turns and on threads of their own, and what the book shows that they close.
 ghost use Rattle.std.specs.Prelude.{◌≡◌};
 
-use crate::replicas::{entry, gtid, name, opened, txn};
+use crate::sources::bundle;
+use applier::{NoGate, WorkersEnd, drain, run_workers};
 use commit_ledger::{Blanks, Counts};
-use replica_core::{Core, Reply};
-use rows::{Name, Transaction};
-use shared_replica::{ClosedBook, Naming, Pass, Receipt, SharedReplica};
+use gtid_report::render_state;
+use journal::{Journal, is_number};
+use replica_core::{Core, Event, Reply};
+use rows::{Patch, RowFault, prepare};
+use shared_replica::{ClosedBook, Naming, Pass, Receipt, SharedReplica, Step};
 use std::alloc::Global;
 use std::marker::Brand;
 use std::process::Abort;
 use std::sync::Wait;
 use std::test::Fail;
+use std::thread;
+use std::thread::Threads;
+use txn_journal::Bundle;
 
-const A: u128 = 0xaaaa_aaaa_aaaa_aaaa_aaaa_aaaa_aaaa_aaaa;
+/// What is done with two seats.
+#[derive(Clone, Copy)]
+enum Task {
+    /// The first seat commits, the second one looks and commits.
+    ByTurns,
+    /// The first seat's patch is late: before it commits, the second seat commits a row under the same key.
+    Late,
+    /// The first seat makes the calls that no worker makes.
+    OtherCalls,
+    /// Each seat commits on a thread of its own.
+    AtOnce,
+    /// The first seat holds what the second one's worker waits for.
+    LeftToDrain,
+}
 
-const C: u128 = 0xcccc_cccc_cccc_cccc_cccc_cccc_cccc_cccc;
+/// What the closed book shows.
+#[derive(Drop)]
+struct Ending {
+    counts: Counts,
+    /// The places of the second seat's receipts, where they are sure.
+    second: Option<&'static [u64]>,
+    /// The lines of the state.
+    state: &'static str,
+}
 
-/// A channel is opened and positioned, and receives two inserts of different rows.
-pub(crate) fn receives<N: Naming, R: Wait>(
+/// A channel is opened and positioned, and receives the entries of its journal.
+fn receive<N: Naming, R: Wait>(
     rt: &R,
     alloc: Global,
     replica: &SharedReplica<N>,
     pass: &mut Pass<N>,
+    bundle: &Bundle,
+    channel: usize,
 ) -> Result<(), Fail> {
-    let one = entry(alloc, A, 1, &["ins t 1 x61 null"])?;
-    let two = entry(alloc, A, 2, &["ins t 2 x62 null"])?;
-    replica.open_channel(rt, alloc, pass, name(alloc, "x")?, false)?;
-    replica.position(rt, alloc, pass, 0)?;
-    replica.receive(rt, alloc, pass, 0, one)?;
-    replica.receive(rt, alloc, pass, 0, two)?;
+    let opened = bundle.channels().get(channel).ok_or("a channel")?;
+    let journal = bundle.journals().get(channel).ok_or("a journal")?;
+    drop(replica.open_channel(rt, alloc, pass, opened.name.clone()?, false)?);
+    drop(replica.position(rt, alloc, pass, channel)?);
+    receive_entries(rt, alloc, replica, pass, journal, channel)
+}
+
+fn receive_entries<N: Naming, R: Wait>(
+    rt: &R,
+    alloc: Global,
+    replica: &SharedReplica<N>,
+    pass: &mut Pass<N>,
+    journal: &Journal,
+    channel: usize,
+) -> Result<(), Fail> {
+    for entry in journal.entries() {
+        if is_number(entry.gtid.number) {
+            drop(replica.receive(rt, alloc, pass, channel, entry.clone()?)?);
+        }
+    }
     Ok(())
 }
 
-/// A place is taken and committed.
-pub(crate) fn commits<N: Naming, R: Wait>(
+/// Whether a seat takes a place.
+fn takes<N: Naming, R: Wait>(
+    rt: &R,
+    alloc: Global,
+    replica: &SharedReplica<N>,
+    pass: &mut Pass<N>,
+    channel: usize,
+    place: usize,
+) -> bool {
+    matches!(
+        replica.take(rt, alloc, pass, channel, place),
+        Ok(Reply::Taken(_))
+    )
+}
+
+/// Whether a seat takes and commits a place.
+fn commits<N: Naming, R: Wait>(
+    rt: &R,
+    alloc: Global,
+    replica: &SharedReplica<N>,
+    pass: &mut Pass<N>,
+    channel: usize,
+    place: usize,
+) -> bool {
+    takes(rt, alloc, replica, pass, channel, place)
+        && matches!(replica.commit(rt, alloc, pass), Ok(Reply::Committed(_)))
+}
+
+/// Whether the executed set is shown with one GTID.
+fn looks_at_one<N: Naming, R: Wait>(
+    rt: &R,
+    alloc: Global,
+    replica: &SharedReplica<N>,
+    pass: &mut Pass<N>,
+) -> bool {
+    match replica.look(rt, alloc, pass) {
+        Ok(Reply::Shown(set)) => set.count() == 1,
+        _ => false,
+    }
+}
+
+fn by_turns<N: Naming, R: Wait>(
+    rt: &R,
+    alloc: Global,
+    replica: &SharedReplica<N>,
+    passes: &mut [Pass<N>],
+    bundle: &Bundle,
+) -> Result<bool, Fail> {
+    let [first, second] = passes else {
+        return Ok(false);
+    };
+    receive(rt, alloc, replica, first, bundle, 0)?;
+    Ok(
+        commits(rt, alloc, replica, first, 0, 0)
+            && looks_at_one(rt, alloc, replica, second)
+            && commits(rt, alloc, replica, second, 0, 1),
+    )
+}
+
+/// What the seat holds, prepared without the lock; None where it holds nothing.
+fn prepared<N: Naming, R: Wait>(
+    rt: &R,
+    alloc: Global,
+    replica: &SharedReplica<N>,
+    pass: &Pass<N>,
+) -> Result<Option<Patch>, Fail> {
+    match replica.footprint(rt, alloc, pass)? {
+        Some((held, seen)) => Ok(prepare(alloc, held, seen).ok()),
+        None => Ok(None),
+    }
+}
+
+/// Whether the patch of what the seat holds is installed.
+fn commits_prepared<N: Naming, R: Wait>(
+    rt: &R,
+    alloc: Global,
+    replica: &SharedReplica<N>,
+    pass: &mut Pass<N>,
+) -> Result<bool, Fail> {
+    match prepared(rt, alloc, replica, pass)? {
+        Some(patch) => {
+            let reply = replica.commit_prepared(rt, alloc, pass, patch)?;
+            Ok(matches!(&reply, Reply::Committed(_)))
+        }
+        None => Ok(false),
+    }
+}
+
+/// Whether a patch is refused because a row stands under its primary key.
+fn is_late<N: Naming, R: Wait>(
+    rt: &R,
+    alloc: Global,
+    replica: &SharedReplica<N>,
+    pass: &mut Pass<N>,
+    patch: Patch,
+) -> Result<bool, Fail> {
+    let reply = replica.commit_prepared(rt, alloc, pass, patch)?;
+    let fault = RowFault::DuplicateKey { change: 0, key: 0 };
+    Ok(matches!(&reply, Reply::RowRefused(_, why) if *why == fault))
+}
+
+/// Whether the second seat commits a patch of its own, and then B's row.
+fn second_commits<N: Naming, R: Wait>(
+    rt: &R,
+    alloc: Global,
+    replica: &SharedReplica<N>,
+    second: &mut Pass<N>,
+) -> Result<bool, Fail> {
+    Ok(
+        takes(rt, alloc, replica, second, 0, 1)
+            && commits_prepared(rt, alloc, replica, second)?
+            && commits(rt, alloc, replica, second, 1, 0),
+    )
+}
+
+fn late<N: Naming, R: Wait>(
+    rt: &R,
+    alloc: Global,
+    replica: &SharedReplica<N>,
+    passes: &mut [Pass<N>],
+    bundle: &Bundle,
+) -> Result<bool, Fail> {
+    let [first, second] = passes else {
+        return Ok(false);
+    };
+    receive(rt, alloc, replica, first, bundle, 0)?;
+    receive(rt, alloc, replica, first, bundle, 1)?;
+    if commits_prepared(rt, alloc, replica, first)? || !takes(rt, alloc, replica, first, 0, 0) {
+        return Ok(false);
+    }
+    match prepared(rt, alloc, replica, first)? {
+        Some(patch) => {
+            let goes_on = second_commits(rt, alloc, replica, second)?;
+            Ok(goes_on && is_late(rt, alloc, replica, first, patch)?)
+        }
+        None => Ok(false),
+    }
+}
+
+/// Whether a channel is opened as number 0 and may go on, and a seat that holds nothing is idle.
+fn opens<N: Naming, R: Wait>(
+    rt: &R,
+    alloc: Global,
+    replica: &SharedReplica<N>,
+    pass: &mut Pass<N>,
+    bundle: &Bundle,
+) -> Result<bool, Fail> {
+    let channel = bundle.channels().first().ok_or("a channel")?;
+    let opened = replica.open_channel(rt, alloc, pass, channel.name.clone()?, true)?;
+    let restarted = replica.restart(rt, alloc, pass, 0)?;
+    let idle = replica.rollback(rt, alloc, pass)?;
+    Ok(
+        matches!(&opened, Reply::Opened(0))
+            && matches!(&restarted, Reply::Restarted)
+            && matches!(&idle, Reply::SeatIdle),
+    )
+}
+
+/// Whether a transaction of the server's own commits and is purged.
+fn commits_own<N: Naming, R: Wait>(
+    rt: &R,
+    alloc: Global,
+    replica: &SharedReplica<N>,
+    pass: &mut Pass<N>,
+    bundle: &Bundle,
+) -> Result<bool, Fail> {
+    let journal = bundle.journals().first().ok_or("a journal")?;
+    let entry = journal.entries().first().ok_or("an entry")?;
+    let committed = replica.local(rt, alloc, pass, entry.txn.clone()?)?;
+    let purged = replica.purge(rt, alloc, pass, 1)?;
+    Ok(matches!(&committed, Reply::Committed(_)) && matches!(&purged, Reply::Purged(_)))
+}
+
+fn other_calls<N: Naming, R: Wait>(
+    rt: &R,
+    alloc: Global,
+    replica: &SharedReplica<N>,
+    passes: &mut [Pass<N>],
+    bundle: &Bundle,
+) -> Result<bool, Fail> {
+    let first = passes.first_mut().ok_or("a first pass")?;
+    Ok(opens(rt, alloc, replica, first, bundle)? && commits_own(rt, alloc, replica, first, bundle)?)
+}
+
+/// A seat takes and commits a place; what the book shows later tells whether it did.
+fn go<N: Naming, R: Wait>(
     rt: &R,
     alloc: Global,
     replica: &SharedReplica<N>,
     pass: &mut Pass<N>,
     place: usize,
+) {
+    let _done = commits(rt, alloc, replica, pass, 0, place);
+}
+
+fn at_once<N: Naming + Send + Sync, R: Threads + Wait + Sync>(
+    rt: &R,
+    alloc: Global,
+    replica: &SharedReplica<N>,
+    passes: &mut [Pass<N>],
+    bundle: &Bundle,
+) -> Result<bool, Fail> {
+    let first = passes.first_mut().ok_or("a first pass")?;
+    receive(rt, alloc, replica, first, bundle, 0)?;
+    commit_at_once(rt, alloc, replica, passes);
+    Ok(true)
+}
+
+/// Each seat commits a place, the first seat place 0 and the next one place 1, on threads of their own.
+fn commit_at_once<N: Naming + Send + Sync, R: Threads + Wait + Sync>(
+    rt: &R,
+    alloc: Global,
+    replica: &SharedReplica<N>,
+    passes: &mut [Pass<N>],
+) {
+    thread::for_each_mut(
+        rt,
+        passes,
+        2,
+        &|place, pass: &mut Pass<N>| go(rt, alloc, replica, pass, place),
+    );
+}
+
+/// The second seat's worker works alone, and its pass comes back.
+fn work_alone<N: Naming + Send + Sync, R: Threads + Wait + Sync>(
+    rt: &R,
+    alloc: Global,
+    replica: &SharedReplica<N>,
+    passes: &mut Vec<Pass<N>>,
 ) -> bool {
-    let Ok(Reply::Taken(_)) = replica.take(rt, alloc, pass, 0, place) else {
-        return false;
-    };
-    let Ok(Reply::Committed(_)) = replica.commit(rt, alloc, pass) else {
-        return false;
-    };
-    true
-}
-
-/// The places of receipts are these numbers in a row.
-fn are_from(receipts: &[Receipt], first: u64) -> bool {
-    let mut place = first;
-    for receipt in receipts {
-        if receipt.place != place {
-            return false;
+    let mut alone = Vec::new(alloc);
+    while passes.len() > 1 && alone.len() == 0 {
+        if let Some(pass) = passes.pop() {
+            let _room = alone.push(pass);
         }
-        place = place.saturating_add(1);
     }
-    true
+    if alone.len() > 64 {
+        return false;
+    }
+    let WorkersEnd {
+        passes: mut back,
+        fault,
+    } = run_workers(rt, alloc, replica, alone, &NoGate);
+    passes.append(&mut back).is_ok() && fault.is_none()
 }
 
-/// Both entries are executed, and nothing else.
-pub(crate) fn has_both(book: &ClosedBook) -> bool {
-    let executed = book.state().executed();
-    executed.contains(&gtid(A, 1)) && executed.contains(&gtid(A, 2)) && executed.count() == 2
+fn left_to_drain<N: Naming + Send + Sync, R: Threads + Wait + Sync>(
+    rt: &R,
+    alloc: Global,
+    replica: &SharedReplica<N>,
+    passes: &mut Vec<Pass<N>>,
+    bundle: &Bundle,
+) -> Result<bool, Fail> {
+    let first = passes.first_mut().ok_or("a first pass")?;
+    receive(rt, alloc, replica, first, bundle, 0)?;
+    let taken = takes(rt, alloc, replica, first, 0, 0);
+    Ok(taken && work_alone(rt, alloc, replica, passes))
 }
 
-/// Closing with the first pass alone hands all back; with both it is a book.
-fn closed<N: Naming>(
+fn work<N: Naming + Send + Sync, R: Threads + Wait + Sync>(
+    rt: &R,
+    alloc: Global,
+    replica: &SharedReplica<N>,
+    passes: &mut Vec<Pass<N>>,
+    bundle: &Bundle,
+    wish: Task,
+) -> Result<bool, Fail> {
+    match wish {
+        Task::ByTurns => by_turns(rt, alloc, replica, passes.as_mut_slice(), bundle),
+        Task::Late => late(rt, alloc, replica, passes.as_mut_slice(), bundle),
+        Task::OtherCalls => other_calls(rt, alloc, replica, passes.as_mut_slice(), bundle),
+        Task::AtOnce => at_once(rt, alloc, replica, passes.as_mut_slice(), bundle),
+        Task::LeftToDrain => left_to_drain(rt, alloc, replica, passes, bundle),
+    }
+}
+
+/// What the book of that work shows, with both entries of A that insert, or what else is said there.
+fn wanted(wish: Task) -> Ending {
+    let both = concat!(
+        "executed aaaaaaaa-aaaa-aaaa-aaaa-aaaaaaaaaaaa:1-2\n",
+        "row t 1 x61 null\n",
+        "row t 2 x62 null\n",
+    );
+    let late = concat!(
+        "executed aaaaaaaa-aaaa-aaaa-aaaa-aaaaaaaaaaaa:2,bbbbbbbb-bbbb-bbbb-bbbb-bbbbbbbbbbbb:1\n",
+        "row t 1 x63 null\n",
+        "row t 2 x62 null\n",
+    );
+    let own = "executed cccccccc-cccc-cccc-cccc-cccccccccccc:1\nrow t 1 x61 null\n";
+    let second = "executed aaaaaaaa-aaaa-aaaa-aaaa-aaaaaaaaaaaa:2\nrow t 2 x62 null\n";
+    match wish {
+        Task::ByTurns => shown(10, 2, Some(&[7, 8, 9]), both),
+        Task::Late => shown(14, 2, Some(&[9, 10, 11, 12]), late),
+        Task::OtherCalls => shown(5, 1, Some(&[]), own),
+        Task::AtOnce => shown(9, 2, None, both),
+        Task::LeftToDrain => shown(8, 1, Some(&[6, 7]), second),
+    }
+}
+
+fn shown(steps: u64, commits: u64, second: Option<&'static [u64]>, state: &'static str) -> Ending {
+    Ending {
+        counts: Counts { steps, commits },
+        second,
+        state,
+    }
+}
+
+/// Whether the places of receipts rise.
+fn rise(receipts: &[Receipt]) -> bool {
+    receipts.windows(2).all(|two| two[0].place < two[1].place)
+}
+
+fn are_at(receipts: &[Receipt], places: &[u64]) -> bool {
+    let found = receipts.iter().map(|receipt| &receipt.place);
+    found.eq(places)
+}
+
+/// Whether a book's state has these lines.
+fn has_state(alloc: Global, book: &ClosedBook, lines: &str) -> bool {
+    match render_state(alloc, book.state().executed(), book.state().rows()) {
+        Ok(state) => state.as_str() == lines,
+        Err(_) => false,
+    }
+}
+
+fn has_receipts(book: &ClosedBook, second: Option<&'static [u64]>) -> bool {
+    let receipts = book.receipts(2);
+    let are_wanted = match second {
+        Some(places) => are_at(receipts, places),
+        None => receipts.len() == 2 && rise(receipts),
+    };
+    are_wanted && rise(book.receipts(1))
+}
+
+fn shows(alloc: Global, book: &ClosedBook, want: Ending) -> bool {
+    book.counts() == want.counts
+        && book.steps().len() as u64 == want.counts.steps
+        && has_receipts(book, want.second)
+        && has_state(alloc, book, want.state)
+}
+
+fn is_fresh(book: &ClosedBook) -> bool {
+    book.steps().is_empty()
+        && book.counts()
+            == Counts {
+                steps: 0,
+                commits: 0,
+            }
+}
+
+/// Whether a copy of what a book shows opens a book with that state and without a step.
+fn starts_again(alloc: Global, book: &ClosedBook) -> bool {
+    match book.state().copy(alloc) {
+        Ok(copy) => {
+            let other = ClosedBook::start(alloc, copy);
+            is_fresh(&other) && other.state().is_equal(book.state())
+        }
+        Err(_) => false,
+    }
+}
+
+/// Whether a step is a Take of a place by the first seat.
+fn is_take(step: &Step, place: usize) -> bool {
+    matches!(&step.event, Event::Take(1, 0, at) if *at == place)
+}
+
+/// Whether a step is a Commit of the first seat.
+fn is_commit(step: &Step) -> bool {
+    matches!(&step.event, Event::Commit(1))
+}
+
+/// Whether the first seat gave up what it had, and then took and committed the places 0 and 2.
+fn is_drain(added: &[Step]) -> bool {
+    let [one, two, three, four, five] = added else {
+        return false;
+    };
+    matches!(&one.event, Event::Rollback(1))
+        && is_take(two, 0)
+        && is_commit(three)
+        && is_take(four, 2)
+        && is_commit(five)
+}
+
+/// Whether the drain makes five steps of what is left, which nobody counts, and ends in this state.
+fn drains(alloc: Global, book: &mut ClosedBook) -> bool {
+    let counts = book.counts();
+    let before = book.steps().len();
+    if drain(alloc, book).is_err() {
+        return false;
+    }
+    let whole = concat!(
+        "executed aaaaaaaa-aaaa-aaaa-aaaa-aaaaaaaaaaaa:1-3\n",
+        "row t 1 x61 5\n",
+        "row t 2 x62 null\n",
+    );
+    let added = book.steps().get(before..).unwrap_or(&[]);
+    is_drain(added) && book.counts() == counts && has_state(alloc, book, whole)
+}
+
+/// Whether the book shows the work, and the drain ends what is left.
+fn shows_all(alloc: Global, book: &mut ClosedBook, wish: Task) -> bool {
+    let is_left = matches!(wish, Task::LeftToDrain);
+    shows(alloc, book, wanted(wish))
+        && starts_again(alloc, book)
+        && (!is_left || drains(alloc, book))
+}
+
+/// Whether all passes close a book that shows the work.
+fn closes<N: Naming>(
+    alloc: Global,
     replica: SharedReplica<N>,
     passes: Vec<Pass<N>>,
-    first: Pass<N>,
-    second: Pass<N>,
-) -> Result<ClosedBook, Fail> {
-    let mut passes = passes;
-    if passes.push(first).is_err() {
-        return Err("memory".into());
-    }
-    let Err((replica, mut passes)) = replica.close(passes) else {
-        return Err("closed without a pass".into());
-    };
-    if passes.push(second).is_err() {
-        return Err("memory".into());
-    }
-    Ok(replica.close(passes).ok().ok_or("a closed book")?)
-}
-
-/// Whether the executed set is shown with the first entry alone.
-fn looks_once<N: Naming, R: Wait>(
-    rt: &R,
-    alloc: Global,
-    replica: &SharedReplica<N>,
-    pass: &mut Pass<N>,
+    wish: Task,
 ) -> bool {
-    let Ok(Reply::Shown(shown)) = replica.look(rt, alloc, pass) else {
-        return false;
-    };
-    shown.contains(&gtid(A, 1)) && shown.count() == 1
+    match replica.close(passes) {
+        Ok(mut book) => shows_all(alloc, &mut book, wish),
+        Err(_) => false,
+    }
 }
 
-/// The first seat receives both entries and commits the first of them, the second seat the other one;
-/// before that it may look.
-fn work<N: Naming, R: Wait>(
-    rt: &R,
+/// Whether one pass too few hands all back, and all passes close a book that shows the work.
+fn ends<N: Naming>(
     alloc: Global,
-    replica: &SharedReplica<N>,
-    first: &mut Pass<N>,
-    second: &mut Pass<N>,
-    looks: bool,
-) -> Result<bool, Fail> {
-    receives(rt, alloc, replica, first)?;
-    if !commits(rt, alloc, replica, first, 0) {
-        return Ok(false);
+    replica: SharedReplica<N>,
+    passes: Vec<Pass<N>>,
+    wish: Task,
+) -> bool {
+    let mut passes = passes;
+    let last = passes.pop();
+    match replica.close(passes) {
+        Ok(_) => false,
+        Err((replica, mut passes)) => {
+            if let Some(pass) = last {
+                let _room = passes.push(pass);
+            }
+            closes(alloc, replica, passes, wish)
+        }
     }
-    if looks && !looks_once(rt, alloc, replica, second) {
-        return Ok(false);
-    }
-    Ok(commits(rt, alloc, replica, second, 1))
 }
 
-/// Whether the book has this many steps and two commits, the receipts of the first seat at places 0 to
-/// 5 and those of the second behind them, and both entries executed.
-fn shows(book: &ClosedBook, steps: usize) -> bool {
-    let counts = book.counts();
-    let second = book.receipts(2);
-    counts.commits == 2
-        && counts.steps == steps as u64
-        && book.steps().len() == steps
-        && book.receipts(1).len() == 6
-        && are_from(book.receipts(1), 0)
-        && second.len().saturating_add(6) == steps
-        && are_from(second, 6)
-        && has_both(book)
-}
-
-fn two_seats<N: Naming, R: Abort + Wait>(
+fn two_seats<N: Naming + Send + Sync, R: Threads + Wait + Abort + Sync>(
     rt: &R,
     alloc: Global,
     blanks: Blanks,
     core: Core,
-    looks: bool,
+    bundle: &Bundle,
+    wish: Task,
 ) -> Result<(), Fail>
     requires steps { (blanks.steps.name ≡ N.steps_name) × (blanks.steps.parts ≡ N.seats) }
     requires commits { (blanks.commits.name ≡ N.commits_name) × (blanks.commits.parts ≡ N.seats) }
@@ -150,148 +531,45 @@ fn two_seats<N: Naming, R: Abort + Wait>(
     let Ok((replica, mut passes)) = SharedReplica::<N>::open(alloc, blanks, core, 2) else {
         return Err("memory".into());
     };
-    let mut second = passes.pop().ok_or("a second pass")?;
-    let mut first = passes.pop().ok_or("a first pass")?;
-    assert!(rt; work(rt, alloc, &replica, &mut first, &mut second, looks)?);
-    let book = closed(replica, passes, first, second)?;
-    assert!(rt; shows(&book, if looks { 9 } else { 8 }));
+    let worked = work(rt, alloc, &replica, &mut passes, bundle, wish);
+    let ended = ends(alloc, replica, passes, wish);
+    assert!(rt; worked?);
+    assert!(rt; ended);
     Ok(())
 }
 
-/// Two seats by turns: eight steps, two commits, and each receipt at its place.
+fn try_work<R: Threads + Wait + Abort + Sync>(
+    rt: &R,
+    alloc: Global,
+    wish: Task,
+) -> Result<(), Fail> {
+    let bundle = bundle(alloc)?;
+    let core = Core::open(alloc, bundle.replica(), bundle.rows().copy()?)?;
+    two_seats::<Brand, _>(rt, alloc, Blanks::new(2), core, &bundle, wish)
+}
+
 #[test]
 fn two_seats_by_turns(rt: HostRuntime) -> Result<(), Fail> {
-    let alloc = rt.alloc();
-    two_seats::<Brand, _>(&rt, alloc, Blanks::new(2), opened(alloc)?, false)
+    try_work(&rt, rt.alloc(), Task::ByTurns)
 }
 
-/// The second seat looks first: it sees the first commit, and its receipts begin there.
 #[test]
-fn the_second_seat_looks(rt: HostRuntime) -> Result<(), Fail> {
-    let alloc = rt.alloc();
-    two_seats::<Brand, _>(&rt, alloc, Blanks::new(2), opened(alloc)?, true)
+fn a_patch_that_is_late(rt: HostRuntime) -> Result<(), Fail> {
+    try_work(&rt, rt.alloc(), Task::Late)
 }
 
-/// Whether a channel is opened as number 0 and may go on.
-fn opens<N: Naming, R: Wait>(
-    rt: &R,
-    alloc: Global,
-    replica: &SharedReplica<N>,
-    pass: &mut Pass<N>,
-    name: Name,
-) -> bool {
-    let Ok(Reply::Opened(0)) = replica.open_channel(rt, alloc, pass, name, false) else {
-        return false;
-    };
-    let Ok(Reply::Restarted) = replica.restart(rt, alloc, pass, 0) else {
-        return false;
-    };
-    true
-}
-
-/// Whether a seat that holds nothing is idle, and then a transaction of the server's own commits.
-fn commits_own<N: Naming, R: Wait>(
-    rt: &R,
-    alloc: Global,
-    replica: &SharedReplica<N>,
-    pass: &mut Pass<N>,
-    changes: Transaction,
-) -> bool {
-    let Ok(Reply::SeatIdle) = replica.rollback(rt, alloc, pass) else {
-        return false;
-    };
-    let Ok(Reply::Committed(_)) = replica.local(rt, alloc, pass, changes) else {
-        return false;
-    };
-    true
-}
-
-/// Whether one entry is purged.
-fn purges<N: Naming, R: Wait>(
-    rt: &R,
-    alloc: Global,
-    replica: &SharedReplica<N>,
-    pass: &mut Pass<N>,
-) -> bool {
-    let Ok(Reply::Purged(_)) = replica.purge(rt, alloc, pass, 1) else {
-        return false;
-    };
-    true
-}
-
-/// The five calls in turn.
-fn calls<N: Naming, R: Wait>(
-    rt: &R,
-    alloc: Global,
-    replica: &SharedReplica<N>,
-    pass: &mut Pass<N>,
-) -> Result<bool, Fail> {
-    let name = name(alloc, "x")?;
-    let changes = txn(alloc, &[])?;
-    Ok(
-        opens(rt, alloc, replica, pass, name)
-            && commits_own(rt, alloc, replica, pass, changes)
-            && purges(rt, alloc, replica, pass),
-    )
-}
-
-/// Whether a book has purged number 1 of its own source, and has no step and no count.
-fn is_fresh(book: &ClosedBook) -> bool {
-    let counts = book.counts();
-    counts.steps == 0
-        && counts.commits == 0
-        && book.steps().is_empty()
-        && book.state().purged().contains(&gtid(C, 1))
-}
-
-/// A book that is opened with a copy of what another one shows.
-fn again(alloc: Global, book: &ClosedBook) -> Result<ClosedBook, Fail> {
-    let copy = book.state().copy(alloc)?;
-    Ok(ClosedBook::start(alloc, copy))
-}
-
-/// Whether a copy of what a book shows opens a book with that state and without a step.
-fn starts_again(alloc: Global, book: &ClosedBook) -> Result<bool, Fail> {
-    let other = again(alloc, book)?;
-    Ok(is_fresh(&other) && other.state().is_equal(book.state()))
-}
-
-fn one_seat<N: Naming, R: Abort + Wait>(
-    rt: &R,
-    alloc: Global,
-    blanks: Blanks,
-    core: Core,
-) -> Result<(), Fail>
-    requires steps { (blanks.steps.name ≡ N.steps_name) × (blanks.steps.parts ≡ N.seats) }
-    requires commits { (blanks.commits.name ≡ N.commits_name) × (blanks.commits.parts ≡ N.seats) }
-    requires opening { core ≡ N.opening }
-    requires one { N.seats ≡ 1 }
-{
-    let Ok((replica, mut passes)) = SharedReplica::<N>::open(alloc, blanks, core, 1) else {
-        return Err("memory".into());
-    };
-    let mut pass = passes.pop().ok_or("a pass")?;
-    assert!(rt; calls(rt, alloc, &replica, &mut pass)?);
-    if passes.push(pass).is_err() {
-        return Err("memory".into());
-    }
-    let Ok(book) = replica.close(passes) else {
-        return Err("a closed book".into());
-    };
-    assert_eq!(rt;
-        book.counts(),
-        Counts {
-            steps: 5,
-            commits: 1
-        }
-    );
-    assert!(rt; starts_again(alloc, &book)?);
-    Ok(())
-}
-
-/// One seat's other calls; a copy of what they leave opens a book without a step.
 #[test]
-fn one_seat_alone(rt: HostRuntime) -> Result<(), Fail> {
-    let alloc = rt.alloc();
-    one_seat::<Brand, _>(&rt, alloc, Blanks::new(1), opened(alloc)?)
+fn calls_that_no_worker_makes(rt: HostRuntime) -> Result<(), Fail> {
+    try_work(&rt, rt.alloc(), Task::OtherCalls)
+}
+
+#[test]
+fn two_seats_at_once(rt: HostRuntime) -> Result<(), Fail> {
+    try_work(&rt, rt.alloc(), Task::AtOnce)
+}
+
+/// What one seat holds and what waits for it is left by the other seat's worker.
+#[test]
+fn a_worker_leaves_the_rest(rt: HostRuntime) -> Result<(), Fail> {
+    try_work(&rt, rt.alloc(), Task::LeftToDrain)
 }

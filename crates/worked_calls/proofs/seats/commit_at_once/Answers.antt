@@ -1,8 +1,8 @@
 use denote.Param.Send.{IsSync, sendable, param_sync}
 use Rattle.std.proofs.Crossing as plain
 use Rattle.applier.proofs.Crossing.{replica_sync}
-use Rattle.worked_calls.proofs.workers.commit_at_once.Lts.{arg-0-2}
-use Rattle.worked_calls.proofs.workers.commit_at_once.Goals as goal
+use Rattle.worked_calls.proofs.seats.commit_at_once.Lts.{arg-0-2}
+use Rattle.worked_calls.proofs.seats.commit_at_once.Goals as goal
 
 -- the closure borrows a replica that any thread may share
 pub for_each_mut-requires-sync-F : goal.for_each_mut-requires-sync-F

@@ -1,4 +1,4 @@
-use Rattle.worked_calls.proofs.seats.the_second_seat_looks.Given as goal
+use Rattle.worked_calls.proofs.seats.try_work.Given as goal
 
 -- the ledgers that were just made, and the replica as it was opened
 abbrev pub ghosts-two_seats : goal.ghosts-two_seats
