@@ -14,7 +14,7 @@ use Rattle.replica_core.specs.declared.event.Event.TheVariants.{Receive, Positio
 use Rattle.replica_core.specs.declared.event.Reply.{Reply}
 use Rattle.replica_core.specs.declared.event.Reply.TheVariants.{Opened, Received, Ask, Committed, RowRefused}
 use Rattle.replica_core.specs.State.{State, Site}
-use Rattle.replica_core.specs.Machine.{step, replies, after}
+use Rattle.replica_core.specs.Machine.{opening, step, replies, after}
 use Rattle.source_history.specs.World.{World, content, rows_of, IsSound, IsClosed}
 use Rattle.source_history.specs.LastWriter.{last_writer}
 use Rattle.source_history.specs.Faithful.{IsFaithful}
@@ -22,13 +22,7 @@ use Rattle.auto_position.specs.Sending.{sent}
 
 -- a replica on which this set was executed, with these rows
 abbrev pub start_with : Gtids → Rows → State
-start_with executed rows = record {
-  executed = executed;
-  rows = rows;
-  seats = map.empty;
-  channels = [];
-  journal = record { previous = executed; entries = [] };
-}
+start_with = opening
 
 -- a start: a closed set, with the rows that it stands for
 pub record IsOpening (world : World) (executed : Gtids) (rows : Rows) : Type 0 where

@@ -21,7 +21,7 @@ use Rattle.apply_channel.specs.Channels.{Keyed}
 use Rattle.replica_core.specs.Kept.{ChannelsValue, IsKept, AreKept}
 use Rattle.replica_core.specs.Keyed.{IsAt, IsNotAt, changed}
 use Rattle.replica_core.specs.Machine.{Step, changed_at, restart}
-use Rattle.replica_core.specs.Core.{opened, IsCore, IsAtCore, IsNotAtCore}
+use Rattle.replica_core.specs.Core.{opened_with, IsCore, IsAtCore, IsNotAtCore}
 use Rattle.replica_core.proofs.KeptLemmas.{found, kept_stopped}
 use Rattle.replica_core.proofs.SeatLemmas.{seated_changed, seated_pushed, seated_empty}
 
@@ -32,15 +32,15 @@ replica_of own rows seats channels journal = record {
   state = record { executed = whole journal; rows = rows.rows; seats = seats; channels = channels; journal = journal };
 }
 
-pub opened_is : (own : ℕ) (rows : Database) (slots : List (Option Spot)) (channels : ChannelsValue) (journal : JournalValue) → seats_of slots ≡ finmap.empty → channels.list ≡ [] → journal ≡ record { previous = set.empty; entries = [] } → replica_of own rows (seats_of slots) channels.list journal ≡ opened own rows
-opened_is own rows slots channels journal seats none start =
+pub opened_is : (own : ℕ) (rows : Database) (executed : Gtids) (slots : List (Option Spot)) (channels : ChannelsValue) (journal : JournalValue) → seats_of slots ≡ finmap.empty → channels.list ≡ [] → journal ≡ record { previous = executed; entries = [] } → replica_of own rows (seats_of slots) channels.list journal ≡ opened_with own rows executed
+opened_is own rows executed slots channels journal seats none start =
     λ i. let r : Replica = record {
       site = record { own = own; schema = rows.schema };
-      state = record { executed = executed i; rows = rows.rows; seats = seats i; channels = none i; journal = start i };
+      state = record { executed = is_executed i; rows = rows.rows; seats = seats i; channels = none i; journal = start i };
     } in r
   where
-    executed : whole journal ≡ set.empty
-    executed = ap whole start ∙ sym (union_empty set.empty)
+    is_executed : whole journal ≡ executed
+    is_executed = ap whole start ∙ sym (union_empty executed)
 
 -- what a replica keeps that was just opened
 pub core_opened : (schema : List Table) (channels : ChannelsValue) (executed : Gtids) (seats : Seats) → channels.schema ≡ schema → channels.list ≡ [] → seats ≡ finmap.empty → IsCore schema channels executed seats

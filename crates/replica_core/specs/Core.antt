@@ -1,5 +1,6 @@
 -- A replica as it is opened, and what it keeps.
 use Rattle.std.specs.Prelude.{◌≡◌, ℕ, true, List, Option, Some, None, All, slice_get}
+use Rattle.std.specs.FinSet as set
 use Rattle.rows.specs.declared.schema.Table.{Table}
 use Rattle.rows.specs.Database.{Database}
 use Rattle.rows.specs.declared.change.Transaction.{Transaction}
@@ -19,9 +20,13 @@ pub record IsCore (schema : List Table) (channels : ChannelsValue) (executed : G
   pub kept : AreKept schema executed channels.list
   pub seated : AreSeated channels.list seats
 
+-- a replica with this executed set, which is purged, these rows and nothing else
+abbrev pub opened_with : ℕ → Database → Gtids → Replica
+opened_with own rows executed = record { site = record { own = own; schema = rows.schema }; state = opening executed rows.rows }
+
 -- a replica with these rows and nothing else
 abbrev pub opened : ℕ → Database → Replica
-opened own rows = record { site = record { own = own; schema = rows.schema }; state = opening rows.rows }
+opened own rows = opened_with own rows set.empty
 
 abbrev pub IsNotAtCore : Replica → ℕ → Type 0
 IsNotAtCore r channel = slice_get r.state.channels channel ≡ None

@@ -208,9 +208,9 @@ step site s event.Look = look s
 
 -- ---- runs
 
--- where a run begins: with these rows and nothing else
-abbrev pub opening : Rows → State
-opening rows = record { executed = set.empty; rows = rows; seats = finmap.empty; channels = []; journal = record { previous = set.empty; entries = [] } }
+-- where a run begins: with this executed set, which is purged, these rows and nothing else
+abbrev pub opening : Gtids → Rows → State
+opening executed rows = record { executed = executed; rows = rows; seats = finmap.empty; channels = []; journal = record { previous = executed; entries = [] } }
 
 -- the replies to events in turn
 abbrev pub replies : Site → State → List Event → List Reply

@@ -4,7 +4,7 @@ ghost use Rattle.gtid_set.specs.declared.fault.SetFault.TheVariants.{Memory};
 ghost use Rattle.std.specs.FinMap as finmap;
 ghost use Rattle.replica_core.specs.State.{gtid_at, owned_by, owner, owns};
 ghost use Rattle.replica_core.specs.Slots.{seats_of};
-ghost use Rattle.replica_core.specs.Core.{opened};
+ghost use Rattle.replica_core.specs.Core.{opened, opened_with};
 ghost use Rattle.replica_core.specs.Seated.{MayHave, IsFreeable, freed_of};
 ghost use Rattle.replica_core.specs.Machine.{drained, is_seat, taking, without_seat, stopping};
 
@@ -85,8 +85,23 @@ impl Core {
         ensures ok { IfOk result (λ core. core ≡ opened own rows) }
         ensures fault { IsOkUnless result Memory }
     {
+        Core::open_snapshot(alloc, own, rows, GtidSet::empty(alloc))
+    }
+
+    /// A replica that begins with a snapshot: these rows, and the set of the GTIDs whose transactions they hold, which are executed
+    /// and purged. It has no channel. (`gtid_purged` of a restored dump, MySQL 8.0 Reference Manual, "Replication Options and Variables":
+    /// the GTIDs are in `gtid_executed`, and in no binary log.)
+    pub fn open_snapshot(
+        alloc: Global,
+        own: SourceId,
+        rows: Rows,
+        executed: GtidSet,
+    ) -> Result<Core, SetFault>
+        ensures ok { IfOk result (λ core. core ≡ opened_with own rows executed) }
+        ensures fault { IsOkUnless result Memory }
+    {
         let schema = rows.schema().clone()?;
-        let journal = OwnJournal::start(alloc, GtidSet::empty(alloc))?;
+        let journal = OwnJournal::start(alloc, executed)?;
         Ok(Core {
             own,
             rows,

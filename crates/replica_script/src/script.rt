@@ -6,10 +6,10 @@ ghost use Rattle.replica_script.specs.Scripts.{ending};
 
 use crate::answer::{Asking, Stop, answer, answer_event};
 use crate::question::{number, question_in};
-use gtid_set::SetFault;
+use gtid_set::{GtidSet, SetFault};
 use gtid_text::SourceId;
 use journal::Entry;
-use journal_words::{cut, source_word};
+use journal_words::{cut, set_word, source_word};
 use replica_core::{Core, Event};
 use std::alloc::Global;
 use std::mem;
@@ -199,18 +199,40 @@ impl Declared {
     }
 }
 
+/// The executed set of a replica that is declared: empty where no word stands for it.
+fn executed_word(alloc: Global, word: Option<&[u8]>) -> Result<GtidSet, Stop> {
+    let Some(word) = word else {
+        return Ok(GtidSet::empty(alloc));
+    };
+    match set_word(alloc, word) {
+        Ok(Some(executed)) => Ok(executed),
+        Err(SetFault::Memory) => Err(Stop::Memory),
+        Ok(None) | Err(_) => Err(Stop::BadLine),
+    }
+}
+
 /// A replica on the rows of a bundle.
-fn core_on(alloc: Global, bundle: &Bundle, own: SourceId) -> Result<Core, Stop> {
-    match Core::open(alloc, own, bundle.rows().copy()?) {
+fn core_on(
+    alloc: Global,
+    bundle: &Bundle,
+    own: SourceId,
+    executed: GtidSet,
+) -> Result<Core, Stop> {
+    match Core::open_snapshot(alloc, own, bundle.rows().copy()?, executed) {
         Ok(core) => Ok(core),
         Err(_) => Err(Stop::Memory),
     }
 }
 
 /// A replica with the tables and rows that are declared.
-fn core_with(alloc: Global, declared: Declared, own: SourceId) -> Result<Core, Stop> {
+fn core_with(
+    alloc: Global,
+    declared: Declared,
+    own: SourceId,
+    executed: GtidSet,
+) -> Result<Core, Stop> {
     match declared.finish() {
-        Ok(bundle) => core_on(alloc, &bundle, own),
+        Ok(bundle) => core_on(alloc, &bundle, own, executed),
         Err(stop) => Err(stop),
     }
 }
@@ -247,10 +269,16 @@ impl Stage {
     }
 
     /// Opens the replica with the tables and rows that are declared.
-    fn open_core(&mut self, alloc: Global, own: SourceId) -> Result<(), Stop> {
+    fn open_core(
+        &mut self,
+        alloc: Global,
+        own: SourceId,
+        executed: GtidSet,
+    ) -> Result<(), Stop> {
         self.declared.take_line(alloc, b"done")?;
         let declared = mem::replace(&mut self.declared, Declared::start(alloc));
-        put(&mut self.core, Some(core_with(alloc, declared, own)?));
+        let core = core_with(alloc, declared, own, executed)?;
+        put(&mut self.core, Some(core));
         Ok(())
     }
 
@@ -266,8 +294,9 @@ impl Stage {
         let Some(rest) = rest else {
             return Err(Stop::BadLine);
         };
-        match source_word(alloc, rest)? {
-            Some(own) => self.open_core(alloc, own),
+        let (source, set) = cut(rest);
+        match source_word(alloc, source)? {
+            Some(own) => self.open_core(alloc, own, executed_word(alloc, set)?),
             None => Err(Stop::BadLine),
         }
     }

@@ -1,16 +1,13 @@
-use Rattle.std.proofs.Common.{ap, ◌∙◌, []}
-use Rattle.gtid_set.specs.Sets.{Gtids}
-use Rattle.journal.specs.Journals.{JournalValue}
+use Rattle.std.proofs.Common.{ap, ◌∙◌}
 use Rattle.replica_core.specs.Kept.{ChannelsValue}
 use Rattle.journal.specs.Journals.{whole}
 use Rattle.replica_core.specs.Slots.{seats_of}
 use Rattle.replica_core.proofs.CoreLemmas.{opened_is, core_opened}
-use Rattle.replica_core.proofs.machine.Core.open.Goals as goal
+use Rattle.replica_core.proofs.machine.Core.open_snapshot.Goals as goal
 
 pub returns-clause-ok : goal.returns-clause-ok
 returns-clause-ok c =
-    let journal = c.in_ok-journal.ensures.ok ∙ ap (λ (s : Gtids). let j : JournalValue = record { previous = s; entries = [] } in j) c.empty.ensures in
-    opened_is c.args.own c.args.rows c.no_seats.result c.new.result c.in_ok-journal.journal.journal c.no_seats.ensures (ap (λ (v : ChannelsValue). v.list) c.new.ensures) journal
+    opened_is c.args.own c.args.rows c.args.executed c.no_seats.result c.new.result c.in_ok-journal.journal.journal c.no_seats.ensures (ap (λ (v : ChannelsValue). v.list) c.new.ensures) c.in_ok-journal.ensures.ok
 
 pub invariant_of-result : goal.invariant_of-result
 invariant_of-result c =
