@@ -33,7 +33,7 @@ journal_spelled bytes (Ok j) writes refused = writes
 journal_spelled bytes (Err f) writes refused = refused
 
 -- a bundle is not applied for want of memory, or since there are too many sources
-pub unapplied : (b : BundleValue) (f : SetFault) → IsFaultOf f (all_of set.empty b.journals) → GivesUp (HasTooMany b) (set_fault f)
+pub unapplied : (b : BundleValue) (f : SetFault) → IsFaultOf f (all_of b.opened b.journals) → GivesUp (HasTooMany b) (set_fault f)
 unapplied b Memory h = tt
 unapplied b SourcesFull h = (refl, h)
 unapplied b f h = absurd h

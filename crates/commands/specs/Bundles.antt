@@ -55,7 +55,7 @@ state_said executed rows = record { text = state_text executed rows; outcome = D
 
 -- the GTIDs of all journals together
 abbrev pub union_told : BundleValue → Gtids
-union_told b = all_of set.empty b.journals
+union_told b = all_of b.opened b.journals
 
 -- the state, where the verdict is Sound (these transactions then apply); else the verdict
 abbrev pub state_or_verdict : Verdict → Gtids → Result Rows RowFault → Said

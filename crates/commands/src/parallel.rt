@@ -1,6 +1,5 @@
 //! What the journals of a bundle come to where workers apply them.
 ghost use Rattle.std.specs.Prelude.{◌≤◌, IfOk, IfErr};
-ghost use Rattle.std.specs.FinSet as set;
 ghost use Rattle.journal.specs.Faults.{IsFaultOf};
 ghost use Rattle.faithful_runs.specs.Deciding.{all_of};
 ghost use Rattle.applier.specs.Draining.{AllApply};
@@ -31,7 +30,7 @@ fn drain_and_conclude(
     requires ready { IsReady bundle.now book.old.opening }
     requires work { AllApply book.old.steps }
     ensures found { IfOk result (IsConcluded bundle.now book.new.now) }
-    ensures fault { IfErr result (λ f. IsFaultOf f (all_of set.empty bundle.now.journals)) }
+    ensures fault { IfErr result (λ f. IsFaultOf f (all_of bundle.now.opened bundle.now.journals)) }
 {
     let drained = drain(alloc, book);
     let core = book.state();
@@ -49,7 +48,7 @@ fn conclude_history(
     requires ready { IsReady bundle.now book.opening }
     requires work { AllApply book.steps }
     ensures applied { IfOk result (IsStateOrVerdict (HasMergedIn bundle.now) bundle.now) }
-    ensures fault { IfErr result (λ f. IsFaultOf f (all_of set.empty bundle.now.journals)) }
+    ensures fault { IfErr result (λ f. IsFaultOf f (all_of bundle.now.opened bundle.now.journals)) }
 {
     match drain_and_conclude(alloc, bundle, &mut book)? {
         None => Ok(StateOrVerdict::State(book)),
@@ -62,7 +61,7 @@ fn conclude_history(
 fn drain_anew(alloc: Global, bundle: &Bundle) -> Result<StateOrVerdict<ClosedBook>, SetFault>
     requires { IsServable bundle.now }
     ensures applied { IfOk result (IsStateOrVerdict (HasMergedIn bundle.now) bundle.now) }
-    ensures fault { IfErr result (λ f. IsFaultOf f (all_of set.empty bundle.now.journals)) }
+    ensures fault { IfErr result (λ f. IsFaultOf f (all_of bundle.now.opened bundle.now.journals)) }
 {
     match begin(alloc, bundle)? {
         StateOrVerdict::State(core) => {
@@ -90,7 +89,7 @@ pub fn apply_journals<G: Gate + Sync, R: Threads + Wait + Sync>(
     requires can { IsServable bundle.now }
     requires workers { (1 ≤ workers) × (workers ≤ 64) }
     ensures applied { IfOk result (IsStateOrVerdict (HasMergedIn bundle.now) bundle.now) }
-    ensures fault { IfErr result (λ f. IsFaultOf f (all_of set.empty bundle.now.journals)) }
+    ensures fault { IfErr result (λ f. IsFaultOf f (all_of bundle.now.opened bundle.now.journals)) }
 {
     let core = match begin(alloc, bundle)? {
         StateOrVerdict::State(core) => core,

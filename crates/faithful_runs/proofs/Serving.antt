@@ -37,7 +37,7 @@ then_grows s t u xs ys f h = record {
   ];
 }
 
-run_grows : (site : Site) (s : State) (events : List Event) → NoLocalCommits site s events → Grows s (after site s events) (received_in site s events)
+pub run_grows : (site : Site) (s : State) (events : List Event) → NoLocalCommits site s events → Grows s (after site s events) (received_in site s events)
 run_grows site s [] n = grows_channels s s [] refl (gains_none s.channels)
 run_grows site s (e ∷ es) n =
     then_grows s (step site s e).1 (after site (step site s e).1 es) (accepted e (step site s e).0) (received_in site (step site s e).1 es)

@@ -1,7 +1,7 @@
 -- A replica that can be served answers so, and can be served what is left.
-use Rattle.std.proofs.Common.{◌≡◌, ℕ, ◌+◌, ◌≤◌, ◌<◌, ◌||◌, suc, Bool, true, false, true≢false, cond, not, List, [], ◌∷◌, ◌++◌, map, length, Option, Some, None, Ok, refl, sym, ap, ◌∙◌, subst, arith, length-append, drop, get_or, drop-cons}
+use Rattle.std.proofs.Common.{◌≡◌, ℕ, ◌+◌, ◌≤◌, ◌<◌, ◌||◌, suc, Bool, true, false, cond, not, List, [], ◌∷◌, ◌++◌, map, length, Option, Some, None, Ok, refl, sym, ap, ◌∙◌, subst, arith, length-append, drop, get_or, drop-cons}
 use Rattle.std.proofs.lemmas.Bool.Decides.{nat_tests}
-use Rattle.std.proofs.lemmas.Bool.{and_parts, not-false}
+use Rattle.std.proofs.lemmas.Bool.{and_parts, not-false, or_left}
 use Rattle.std.proofs.lemmas.List.{map-append, length-map}
 use Rattle.std.proofs.lemmas.List.Filters.{length-filter_both}
 use Rattle.std.specs.Prelude.{slice_get, nat_le}
@@ -24,10 +24,11 @@ use Rattle.rows.proofs.Lists.{get_push, get_map_cases, none_some, all_append}
 use Rattle.journal.specs.declared.Entry.{Entry}
 use Rattle.journal.specs.Journals.{JournalValue, whole, IsJournal}
 use Rattle.journal.specs.Writing.{is_number, is_txn_writable, is_writable}
-use Rattle.apply_channel.specs.Channels.{ChannelValue, Received, is_full, most_received, same_name, with_asked, with_received, received_as}
+use Rattle.apply_channel.specs.Channels.{ChannelValue, Received, received_gtids, is_full, most_received, same_name, with_asked, with_received, received_as}
 use Rattle.apply_channel.specs.Channels as channels
 use Rattle.replica_core.specs.declared.event.Event.{Event}
 use Rattle.replica_core.specs.declared.event.Event.TheVariants.{OpenChannel, Position, Receive}
+use Rattle.replica_core.specs.declared.event.Reply.{Reply}
 use Rattle.replica_core.specs.declared.event.Reply.TheVariants.{Opened, Ask}
 use Rattle.replica_core.specs.declared.event.Reply.TheVariants as reply
 use Rattle.replica_core.specs.State.{State, Site, Replica}
@@ -51,7 +52,7 @@ use Rattle.serving.specs.declared.receiving.Apply.{Apply}
 use Rattle.serving.specs.Servable.{FitsJournal, IsFitting, HasRoom, IsServable, CanOpen, IsTaken, CanReceive, CanSend, CanServe, CanServeEach}
 use Rattle.serving.specs.Serving.{run, IsBetween, with_opened, Asks, ServesOne, opening}
 use Rattle.serving.specs.Verdicts.{Naming, names_of, world_over, keys_over}
-use Rattle.serving.proofs.Runs.{all_true, one_run}
+use Rattle.serving.proofs.Runs.{all_by, all_true, one_run, one_keeps}
 use Rattle.serving.proofs.Shapes.{applies_can, one_named}
 
 not_below : (m n : ℕ) → n < m → nat_le m n ≡ false
@@ -131,12 +132,14 @@ sent_few j asked es h =
     let both = length-filter_both (λ (e : Entry). not (set.contains asked e.gtid)) (λ e. not (not (set.contains asked e.gtid))) (λ e. refl) j.entries in
     subst (λ (xs : List Entry). length xs ≤ length j.entries) (sent_is j asked es h) (omega (arith, both))
 
--- nothing is purged for a replica, whatever it asks with
-pub none_missing : (s t : Gtids) → set.is_subset s set.empty ≡ true → set.is_subset s t ≡ true
-none_missing s t none = set.contains-is_subset gtid_total s t (λ q h.
-    absurd (true≢false (sym (set.is_subset-contains gtid_total s set.empty none q h) ∙ set.contains-empty gtid_cmp q)))
-
 -- ---- a channel is opened and positioned
+
+asked_in : Reply → Gtids
+asked_in (Ask s) = s
+asked_in reply = set.empty
+
+subset_more : (s a b : Gtids) → ((q : Gtid) → set.contains a q ≡ true → set.contains b q ≡ true) → set.is_subset s a ≡ true → set.is_subset s b ≡ true
+subset_more s a b more within = set.contains-is_subset gtid_total s b (λ q h. more q (set.is_subset-contains gtid_total s a within q h))
 
 module _ (r : Replica) (c : ℕ) (channel : Channel) (j : JournalValue) (can : CanServe c channel.name j r) where
   abbrev fresh : ChannelValue
@@ -150,6 +153,18 @@ module _ (r : Replica) (c : ℕ) (channel : Channel) (j : JournalValue) (can : C
       ap (λ (x : Step). slice_get x.1.channels c) opened_is
       ∙ ap (slice_get (r.state.channels ++ fresh ∷ [])) (sym can.next)
       ∙ get_push r.state.channels fresh
+
+  -- what is asked with has all that is executed
+  pub asked_has : (s : Replica) (asked : Gtids) → s ≡ with_opened r channel → (step s.site s.state (Position c)).0 ≡ Ask asked → set.is_subset j.previous asked ≡ true
+  asked_has s asked is asks_so =
+      let opened : State = record r.state { channels = r.state.channels ++ fresh ∷ [] } in
+      let says : (step r.site opened (Position c)).0 ≡ Ask asked =
+      ap (λ (x : Step). (step r.site x.1 (Position c)).0) (sym opened_is) ∙ subst (λ (x : Replica). (step x.site x.state (Position c)).0 ≡ Ask asked) is asks_so in
+      let at : slice_get opened.channels c ≡ Some fresh = ap (slice_get opened.channels) (sym can.next) ∙ get_push r.state.channels fresh in
+      let same : set.union r.state.executed (received_gtids []) ≡ asked = ap asked_in (sym (ap (λ (x : Step). x.0) (positions r.site opened c fresh at)) ∙ says) in
+      subst (λ (x : Gtids). set.is_subset j.previous x ≡ true) same
+      (subset_more j.previous r.state.executed (set.union r.state.executed (received_gtids [])) (λ q h.
+          set.contains-union gtid_total r.state.executed (received_gtids []) q ∙ or_left (set.contains r.state.executed q) (set.contains (received_gtids []) q) h) can.sends.unpurged)
 
   pub asks : (s t : Replica) (asked : Gtids) (es : List Entry) → s ≡ with_opened r channel → (step s.site s.state (Position c)).0 ≡ Ask asked → sent j asked None ≡ Ok es → t ≡ run s (Position c ∷ []) → Asks r c channel j es t
   asks s t asked es is asks_so sends now = record {
@@ -217,21 +232,26 @@ module _ (r : Replica) (c : ℕ) (channel : Channel) (chs rest : List Channel) (
         next = longer ∙ ap (λ (n : ℕ). n + 1) can.next;
         few = omega (arith, few);
         have = can.have.1;
-        send = subst (λ (x : Replica). AllByRecursion (CanSend x.site.schema) js) (sym (one_run apply r c channel j t one)) can.send.1;
+        send = subst (λ (x : Replica). AllByRecursion (CanSend x.site.schema t.state.executed) js) (sym (one_run apply r c channel j t one))
+            (all_by (CanSend r.site.schema r.state.executed) (CanSend r.site.schema t.state.executed) (λ x h. record {
+                unpurged = subset_more x.previous r.state.executed t.state.executed (one_keeps apply r c channel j t one) h.unpurged;
+                taken = h.taken;
+                room = h.room;
+              }) js can.send.1);
       }
 
 -- ---- from the opening
 
--- where the audit of keys is sound, nothing was purged
-unpurged : (b : BundleValue) → keys_over b ≡ Sound → (i : ℕ) (j : JournalValue) → slice_get b.journals i ≡ Some j → set.is_subset j.previous set.empty ≡ true
+-- where the audit of keys is sound, what was purged is executed from the start
+unpurged : (b : BundleValue) → keys_over b ≡ Sound → (i : ℕ) (j : JournalValue) → slice_get b.journals i ≡ Some j → set.is_subset j.previous b.opened ≡ true
 unpurged b sound i j at =
     let w = world_over b in
     let all = next_none (unequal w b.journals) _ (none_of_sound (found_in_keys w b.journals) (keys_not w b.journals) sound) in
     let none = next_none (purged w b.journals) _ all.1 in
-    not-false (set.is_subset j.previous set.empty) (when_none (not (set.is_subset j.previous set.empty)) (Purged i (set.difference j.previous set.empty)) (first_none _ b.journals none.0 i j at))
+    not-false (set.is_subset j.previous b.opened) (when_none (not (set.is_subset j.previous b.opened)) (Purged i (set.difference j.previous b.opened)) (first_none _ b.journals none.0 i j at))
 
-can_send : (schema : List Table) (j : JournalValue) → set.is_subset j.previous set.empty ≡ true → IsJournal j.previous j.entries → FitsJournal schema j → HasRoom j → CanSend schema j
-can_send schema j unpurged rules fits room = record {
+can_send : (schema : List Table) (executed : Gtids) (j : JournalValue) → set.is_subset j.previous executed ≡ true → IsJournal j.previous j.entries → FitsJournal schema j → HasRoom j → CanSend schema executed j
+can_send schema executed j unpurged rules fits room = record {
   unpurged = unpurged;
   taken = all_from (IsTaken schema) j.entries (λ i e at. record {
     fits = all_at (λ (x : Entry). Fits schema x.txn) j.entries i e fits at;
@@ -248,8 +268,8 @@ can_serve_all b can sound rules = record {
   next = refl;
   few = let few = can.few in omega (arith, few);
   have = can.have;
-  send = all_from (CanSend b.start.schema) b.journals (λ i j at.
-      can_send b.start.schema j (unpurged b sound i j at) (all_at (λ (x : JournalValue). IsJournal x.previous x.entries) b.journals i j rules at)
+  send = all_from (CanSend b.start.schema b.opened) b.journals (λ i j at.
+      can_send b.start.schema b.opened j (unpurged b sound i j at) (all_at (λ (x : JournalValue). IsJournal x.previous x.entries) b.journals i j rules at)
       (all_at (FitsJournal b.start.schema) b.journals i j can.fits at) (all_at HasRoom b.journals i j can.room at));
 }
 
@@ -262,30 +282,34 @@ fits_by : (schema : List Table) (b : Bool) (u t : Transaction) (o : Option Trans
 fits_by schema true u t o here more h = subst (Fits schema) (same_Some u t h) here
 fits_by schema false u t o here more h = more h
 
+fits_in : (schema : List Table) (b : Bool) (rest : finmap.FinMap gtid_cmp Transaction) (e : Entry) (g : Gtid) (t : Transaction) → Fits schema e.txn → (finmap.get rest g ≡ Some t → Fits schema t)
+    → finmap.get (cond b rest (finmap.insert rest e.gtid e.txn)) g ≡ Some t → Fits schema t
+fits_in schema true rest e g t here more h = more h
+fits_in schema false rest e g t here more h =
+    fits_by schema (eq_by_cmp gtid_cmp g e.gtid) e.txn t (finmap.get rest g) here more (sym (get-insert gtid_total rest e.gtid e.txn g) ∙ h)
+
 -- what a world has under a GTID is taken, where all entries are
-contents_fit : (schema : List Table) (es : List Entry) (g : Gtid) (t : Transaction) → AllFit schema es → finmap.get (first_contents set.empty es) g ≡ Some t → Fits schema t
-contents_fit schema [] g t fit h = none_some t (sym (get-empty gtid_cmp g) ∙ h)
-contents_fit schema (e ∷ es) g t fit h =
-    let rest = first_contents set.empty es in
-    let new = ap (λ (b : Bool). finmap.get (cond b rest (finmap.insert rest e.gtid e.txn)) g) (set.contains-empty gtid_cmp e.gtid) in
-    fits_by schema (eq_by_cmp gtid_cmp g e.gtid) e.txn t (finmap.get rest g) fit.0 (contents_fit schema es g t fit.1) (sym (get-insert gtid_total rest e.gtid e.txn g) ∙ sym new ∙ h)
+contents_fit : (schema : List Table) (opened : Gtids) (es : List Entry) (g : Gtid) (t : Transaction) → AllFit schema es → finmap.get (first_contents opened es) g ≡ Some t → Fits schema t
+contents_fit schema opened [] g t fit h = none_some t (sym (get-empty gtid_cmp g) ∙ h)
+contents_fit schema opened (e ∷ es) g t fit h =
+    fits_in schema (set.contains opened e.gtid) (first_contents opened es) e g t fit.0 (contents_fit schema opened es g t fit.1) h
 
 all_fit : (schema : List Table) (js : List JournalValue) → AllByRecursion (FitsJournal schema) js → AllFit schema (all_entries js)
 all_fit schema [] fits = tt
 all_fit schema (j ∷ js) fits = all_append (λ (e : Entry). Fits schema e.txn) j.entries (all_entries js) fits.0 (all_fit schema js fits.1)
 
 -- no transaction is refused by the tables
-no_misfit : (b : BundleValue) (g : Gtid) (why : NotInSchema) → IsFitting b → IsMisfit b.start.schema (in_order (first_contents set.empty (all_entries b.journals))) g why → ⊥
+no_misfit : (b : BundleValue) (g : Gtid) (why : NotInSchema) → IsFitting b → IsMisfit b.start.schema (in_order (first_contents b.opened (all_entries b.journals))) g why → ⊥
 no_misfit b g why fits it =
     let schema : List Table = b.start.schema in
-    let at = get_map_cases as_entry (finmap.entries (first_contents set.empty (all_entries b.journals))) it.place it.entry it.there in
-    let taken : Fits schema at.0.1 = contents_fit schema (all_entries b.journals) at.0.0 at.0.1 (all_fit schema b.journals fits) (at_content (world_over b) it.place at.0 at.1) in
+    let at = get_map_cases as_entry (finmap.entries (first_contents b.opened (all_entries b.journals))) it.place it.entry it.there in
+    let taken : Fits schema at.0.1 = contents_fit schema b.opened (all_entries b.journals) at.0.0 at.0.1 (all_fit schema b.journals fits) (at_content (world_over b) it.place at.0 at.1) in
     none_some why (sym taken ∙ ap (λ (e : Entry). misfit schema e.txn) at.2 ∙ it.unfit)
 
-pub none_refused : (b : BundleValue) (d : Database) (opened : Gtids) (js : List JournalValue) (g : Gtid) (why : NotInSchema) → d ≡ b.start → opened ≡ set.empty → js ≡ b.journals → IsFitting b
+pub none_refused : (b : BundleValue) (d : Database) (opened : Gtids) (js : List JournalValue) (g : Gtid) (why : NotInSchema) → d ≡ b.start → opened ≡ b.opened → js ≡ b.journals → IsFitting b
     → IsMisfit d.schema (in_order (first_contents opened (all_entries js))) g why → ⊥
 none_refused b d opened js g why same none all fits it =
     no_misfit b g why fits
-    (subst (λ (x : Database). IsMisfit x.schema (in_order (first_contents set.empty (all_entries b.journals))) g why) same
+    (subst (λ (x : Database). IsMisfit x.schema (in_order (first_contents b.opened (all_entries b.journals))) g why) same
     (subst (λ (x : Gtids). IsMisfit d.schema (in_order (first_contents x (all_entries b.journals))) g why) none
     (subst (λ (x : List JournalValue). IsMisfit d.schema (in_order (first_contents opened (all_entries x))) g why) all it)))

@@ -1,5 +1,5 @@
 -- What is executed and received stays within a set, and so does each set that an event makes.
-use Rattle.std.proofs.Common.{◌≡◌, ℕ, ◌+◌, ◌<◌, zero, suc, Bool, true, false, true≢false, cond, eqb, ◌||◌, inl, inr, List, [], ◌∷◌, ◌++◌, map, take, drop, drop-cons, length, get_or, Option, Some, None, refl, sym, ap, ◌∙◌, subst, arith}
+use Rattle.std.proofs.Common.{◌≡◌, ℕ, ◌+◌, ◌<◌, zero, suc, Bool, true, false, cond, eqb, ◌||◌, inl, inr, List, [], ◌∷◌, ◌++◌, map, take, drop, drop-cons, length, get_or, Option, Some, None, refl, sym, ap, ◌∙◌, subst, arith}
 use Rattle.std.specs.Prelude.{slice_get}
 use Rattle.std.specs.List.{AllByRecursion}
 use Rattle.std.specs.Option.{option_and_then}
@@ -9,7 +9,7 @@ use Rattle.std.specs.FinSet.{contains-union}
 use Rattle.std.proofs.lemmas.Bool.{cases_eq, or_cases, or_left, or_right, ne_eqb}
 use Rattle.std.proofs.lemmas.Option.{same_Some}
 use Rattle.gtid_text.specs.declared.Gtid.{Gtid}
-use Rattle.gtid_text.specs.Gtids.{gtid_cmp, same_gtid}
+use Rattle.gtid_text.specs.Gtids.{same_gtid}
 use Rattle.gtid_text.proofs.SameGtid.{same_is_equal, gtid_total}
 use Rattle.gtid_set.specs.declared.fault.SetFault.{SetFault}
 use Rattle.gtid_set.proofs.FaultLemmas.{fault_map, memory_fault}
@@ -102,29 +102,34 @@ knows_each all apply r c (channel ∷ channels) (j ∷ js) t x h within =
 
 -- ---- from the opening
 
-in_all : (js : List JournalValue) (i : ℕ) (j : JournalValue) (g : Gtid) → slice_get js i ≡ Some j → set.contains (whole j) g ≡ true → set.contains (all_of set.empty js) g ≡ true
-in_all [] i j g at h = none_some j at
-in_all (k ∷ js) zero j g at h =
-    set.contains-union gtid_total (whole k) (all_of set.empty js) g ∙ or_left (set.contains (whole k) g) (set.contains (all_of set.empty js) g) (ap (λ (x : JournalValue). set.contains (whole x) g) (same_Some k j at) ∙ h)
-in_all (k ∷ js) (suc i) j g at h =
-    set.contains-union gtid_total (whole k) (all_of set.empty js) g ∙ or_right (set.contains (whole k) g) (set.contains (all_of set.empty js) g) (in_all js i j g at h)
+in_all : (opened : Gtids) (js : List JournalValue) (i : ℕ) (j : JournalValue) (g : Gtid) → slice_get js i ≡ Some j → set.contains (whole j) g ≡ true → set.contains (all_of opened js) g ≡ true
+in_all opened [] i j g at h = none_some j at
+in_all opened (k ∷ js) zero j g at h =
+    set.contains-union gtid_total (whole k) (all_of opened js) g ∙ or_left (set.contains (whole k) g) (set.contains (all_of opened js) g) (ap (λ (x : JournalValue). set.contains (whole x) g) (same_Some k j at) ∙ h)
+in_all opened (k ∷ js) (suc i) j g at h =
+    set.contains-union gtid_total (whole k) (all_of opened js) g ∙ or_right (set.contains (whole k) g) (set.contains (all_of opened js) g) (in_all opened js i j g at h)
 
-journals_in : (js : List JournalValue) → AllByRecursion (λ (j : JournalValue). HasEntries (all_of set.empty js) j.entries) js
-journals_in js = all_from (λ (j : JournalValue). HasEntries (all_of set.empty js) j.entries) js (λ i j at.
-    all_from (λ (e : Entry). set.contains (all_of set.empty js) e.gtid ≡ true) j.entries (λ p e there.
-    in_all js i j e.gtid at (in_whole j e.gtid ∙ or_right (set.contains j.previous e.gtid) (is_entry j.entries e.gtid) (entry_from j.entries p e there))))
+opened_in : (opened : Gtids) (js : List JournalValue) (g : Gtid) → set.contains opened g ≡ true → set.contains (all_of opened js) g ≡ true
+opened_in opened [] g h = h
+opened_in opened (k ∷ js) g h =
+    set.contains-union gtid_total (whole k) (all_of opened js) g ∙ or_right (set.contains (whole k) g) (set.contains (all_of opened js) g) (opened_in opened js g h)
 
--- the GTIDs of all journals together are known to the replica of a bundle, and are all that it comes to know
-pub knows_opening : (b : BundleValue) → KnowsToo (opening b).state b.journals (all_of set.empty b.journals)
-knows_opening b = (none, journals_in b.journals)
+journals_in : (opened : Gtids) (js : List JournalValue) → AllByRecursion (λ (j : JournalValue). HasEntries (all_of opened js) j.entries) js
+journals_in opened js = all_from (λ (j : JournalValue). HasEntries (all_of opened js) j.entries) js (λ i j at.
+    all_from (λ (e : Entry). set.contains (all_of opened js) e.gtid ≡ true) j.entries (λ p e there.
+    in_all opened js i j e.gtid at (in_whole j e.gtid ∙ or_right (set.contains j.previous e.gtid) (is_entry j.entries e.gtid) (entry_from j.entries p e there))))
+
+-- the GTIDs of the opening set and of all journals are all that the replica of a bundle comes to know
+pub knows_opening : (b : BundleValue) → KnowsToo (opening b).state b.journals (all_of b.opened b.journals)
+knows_opening b = (known, journals_in b.opened b.journals)
   where
-    none : Knows (opening b).state (all_of set.empty b.journals)
-    none g (inl h) = absurd (true≢false (sym h ∙ set.contains-empty gtid_cmp g))
-    none g (inr h) = none_some h.1 h.2
+    known : Knows (opening b).state (all_of b.opened b.journals)
+    known g (inl h) = opened_in b.opened b.journals g h
+    known g (inr h) = none_some h.1 h.2
 
-knows_all : (b : BundleValue) (core : Replica) → IsRun b core → Knows core.state (all_of set.empty b.journals)
+knows_all : (b : BundleValue) (core : Replica) → IsRun b core → Knows core.state (all_of b.opened b.journals)
 knows_all b core r =
-    let all = all_of set.empty b.journals in
+    let all = all_of b.opened b.journals in
     let start = knows_opening b in
     knows_applied all AtOnce r.served core r.applies (knows_each all r.apply (opening b) 0 b.channels b.journals r.served r.received.1 start.1 start.0)
 
@@ -221,11 +226,11 @@ pub later_fault : (f : SetFault) (apply : Apply) (r t : Replica) → Applies app
 later_fault f apply r t applies h = weaker f (Knows t.state) (Knows r.state) (λ all within. knows_applied all apply r t applies within) h
 
 -- a fault of a replica that was served the journals of a bundle
-pub run_fault : (f : SetFault) (b : BundleValue) (core : Replica) → IsRun b core → IsFaultWhere (Knows core.state) f → IsFaultOf f (all_of set.empty b.journals)
-run_fault f b core r h = fault_of f (Knows core.state) (all_of set.empty b.journals) (knows_all b core r) h
+pub run_fault : (f : SetFault) (b : BundleValue) (core : Replica) → IsRun b core → IsFaultWhere (Knows core.state) f → IsFaultOf f (all_of b.opened b.journals)
+run_fault f b core r h = fault_of f (Knows core.state) (all_of b.opened b.journals) (knows_all b core r) h
 
 -- ... by which a commit of some seat is answered
-pub seat_fault : (f : SetFault) (b : BundleValue) (core : Replica) (seat : ℕ) → IsRun b core → IsFaultIn f (committing seat core.state) → IsFaultOf f (all_of set.empty b.journals)
+pub seat_fault : (f : SetFault) (b : BundleValue) (core : Replica) (seat : ℕ) → IsRun b core → IsFaultIn f (committing seat core.state) → IsFaultOf f (all_of b.opened b.journals)
 seat_fault f b core seat r h = run_fault f b core r (commit_fault f core.state seat h)
 
 -- a fault of the first journal, and one of the others

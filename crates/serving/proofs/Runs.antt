@@ -7,6 +7,7 @@ use Rattle.std.specs.FinSet as set
 use Rattle.std.proofs.lemmas.Bool.{and_from, and_parts, ne_eqb}
 use Rattle.std.proofs.lemmas.List.Folds.{list_all-append}
 use Rattle.std.proofs.lemmas.Option.{same_Some, slice_get_past}
+use Rattle.gtid_text.specs.declared.Gtid.{Gtid}
 use Rattle.journal.specs.declared.Entry.{Entry}
 use Rattle.journal.specs.Journals.{JournalValue}
 use Rattle.apply_channel.specs.Channels.{ChannelValue, Received}
@@ -19,6 +20,7 @@ use Rattle.replica_core.specs.Draining.{AreStoppedOrDone}
 use Rattle.faithful_runs.specs.Served.{IsDrained, IsNoLocalCommit, NoLocalCommits, received_on, accepted, on_channel, committed_here, local_commits}
 use Rattle.faithful_runs.specs.Whole.{is_position, WasServedOnce}
 use Rattle.faithful_runs.proofs.Sharing.{after_append, received_append}
+use Rattle.faithful_runs.proofs.Serving.{run_grows}
 use Rattle.rows.proofs.Lists.{none_some, all_append}
 use Rattle.world.specs.Search.{or_next}
 use Rattle.world.specs.Audit.{found_in_keys, does_not_apply}
@@ -169,6 +171,13 @@ module _ (apply : Apply) (r : Replica) (c : ℕ) (channel : Channel) (j : Journa
 
   one_apart : (d : ℕ) → eqb c d ≡ false → AllByRecursion (IsApart d) events_one
   one_apart d other = (tt, (other, all_by (IsFeed apply c) (IsApart d) (λ e h. feed_apart apply c d e other h) one.received.events one.received.feeds))
+
+  -- what was executed stays so
+  pub one_keeps : (g : Gtid) → set.contains r.state.executed g ≡ true → set.contains t.state.executed g ≡ true
+  one_keeps g h =
+      let other : eqb c (suc c) ≡ false = ne_eqb c (suc c) (λ e. absurd (omega (arith, e))) in
+      subst (λ (x : Replica). set.contains x.state.executed g ≡ true) (sym one_run)
+      ((run_grows r.site r.state events_one (no_locals (suc c) r.site r.state events_one (one_apart (suc c) other))).kept g h)
 
   -- what comes later may not touch the channel
   served_first : (rest : List Event) → AllByRecursion (IsApart c) rest → WasServedOnce r.site r.state (events_one ++ rest) c j
@@ -352,13 +361,13 @@ keys_sound b keys is h = sym is ∙ sound_is keys h
 
 -- what is drained is what an audit calls sound, and holds all journals
 pub holds_all : (b : BundleValue) (core : Replica) → IsRun b core → AreJournals b.journals → drained core.state ≡ true → WorkersDecide → ServedHoldsAll
-    → (verdict_over b ≡ Sound) × HoldsAll b.start.schema set.empty b.start.rows b.journals core.state
+    → (verdict_over b ≡ Sound) × HoldsAll b.start.schema b.opened b.start.rows b.journals core.state
 holds_all b core r rules done decide holds =
     let w = run_of b core r in
     let at : core.state ≡ after (opening b).site (opening b).state w.events = ap (λ (x : Replica). x.state) w.reached in
     let dry = subst IsDrained at (is_drained core.state done) in (
-      (decide (opening b).site set.empty b.start.rows b.journals w.events rules r.received.0 w.serves (stopped_or_done (after (opening b).site (opening b).state w.events) dry)).0 dry,
-      subst (HoldsAll b.start.schema set.empty b.start.rows b.journals) (sym at) (holds (opening b).site set.empty b.start.rows b.journals w.events rules r.received.0 w.serves dry),
+      (decide (opening b).site b.opened b.start.rows b.journals w.events rules r.received.0 w.serves (stopped_or_done (after (opening b).site (opening b).state w.events) dry)).0 dry,
+      subst (HoldsAll b.start.schema b.opened b.start.rows b.journals) (sym at) (holds (opening b).site b.opened b.start.rows b.journals w.events rules r.received.0 w.serves dry),
     )
 
 -- where not all is executed, and each channel is stopped or done, the audit's verdict is another
@@ -369,7 +378,7 @@ audit_concluded b core v r rules undone ends is decide = (
   λ sound.
       let w = run_of b core r in
       let at : core.state ≡ after (opening b).site (opening b).state w.events = ap (λ (x : Replica). x.state) w.reached in
-      let dry = (decide (opening b).site set.empty b.start.rows b.journals w.events rules r.received.0 w.serves (subst AreStoppedOrDone at ends)).1 (sym is ∙ sound) in
+      let dry = (decide (opening b).site b.opened b.start.rows b.journals w.events rules r.received.0 w.serves (subst AreStoppedOrDone at ends)).1 (sym is ∙ sound) in
       let done : drained core.state ≡ true = all_drained core.state (subst IsDrained (sym at) dry) in
       cc,
 )

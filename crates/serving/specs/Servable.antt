@@ -4,6 +4,7 @@ use Rattle.std.specs.List.{list_any, AllByRecursion}
 use Rattle.std.specs.FinSet as set
 use Rattle.rows.specs.declared.schema.Table.{Table}
 use Rattle.rows.specs.Fits.{Fits}
+use Rattle.gtid_set.specs.Sets.{Gtids}
 use Rattle.journal.specs.declared.Entry.{Entry}
 use Rattle.journal.specs.Journals.{JournalValue}
 use Rattle.journal.specs.Writing.{is_number}
@@ -69,9 +70,9 @@ pub record CanReceive (c : ℕ) (entries : List Entry) (r : Replica) : Type 0 wh
   pub room : length channel.received + length entries ≤ most_received
   pub taken : AllByRecursion (IsTaken r.site.schema) entries
 
--- nothing of a journal is purged, its entries are taken, and a new channel has room for them
-pub record CanSend (schema : List Table) (journal : JournalValue) : Type 0 where
-  pub unpurged : set.is_subset journal.previous set.empty ≡ true
+-- what is purged of a journal is executed, its entries are taken, and a new channel has room for them
+pub record CanSend (schema : List Table) (executed : Gtids) (journal : JournalValue) : Type 0 where
+  pub unpurged : set.is_subset journal.previous executed ≡ true
   pub taken : AllByRecursion (IsTaken schema) journal.entries
   pub room : HasRoom journal
 
@@ -79,7 +80,7 @@ pub record CanSend (schema : List Table) (journal : JournalValue) : Type 0 where
 pub record CanServe (c : ℕ) (name : List ℕ) (journal : JournalValue) (r : Replica) : Type 0 where
   pub next : length r.state.channels ≡ c
   pub opens : CanOpen name r.state
-  pub sends : CanSend r.site.schema journal
+  pub sends : CanSend r.site.schema r.state.executed journal
 
 -- the next channels can be opened, and served these journals
 pub record CanServeEach (c : ℕ) (channels : List Channel) (journals : List JournalValue) (r : Replica) : Type 0 where
@@ -88,4 +89,4 @@ pub record CanServeEach (c : ℕ) (channels : List Channel) (journals : List Jou
   pub next : length r.state.channels ≡ c
   pub few : c + length journals ≤ 256
   pub have : HaveChannels before channels journals
-  pub send : AllByRecursion (CanSend r.site.schema) journals
+  pub send : AllByRecursion (CanSend r.site.schema r.state.executed) journals

@@ -10,7 +10,7 @@ use Rattle.replica_core.specs.declared.event.Event.TheVariants.{OpenChannel, Pos
 use Rattle.replica_core.specs.declared.event.Reply.TheVariants.{Opened, Ask}
 use Rattle.replica_core.specs.State.{Replica}
 use Rattle.replica_core.specs.Machine.{step, after}
-use Rattle.replica_core.specs.Core.{opened}
+use Rattle.replica_core.specs.Core.{opened_with}
 use Rattle.auto_position.specs.Sending.{sent}
 use Rattle.faithful_runs.specs.Served.{received_on}
 use Rattle.world.specs.declared.verdict.Verdict.TheVariants.{Sound}
@@ -85,7 +85,7 @@ ServesEach apply r c (ch ∷ channels) (j ∷ js) t = (s : Replica) × ServesOne
 
 -- the replica of a bundle, before it has a channel
 abbrev pub opening : BundleValue → Replica
-opening b = opened b.replica b.start
+opening b = opened_with b.replica b.start b.opened
 
 -- the audit of keys says Sound, and the replica of the bundle has received all that its journals send
 abbrev pub HasReceived : Apply → BundleValue → Replica → Type 0

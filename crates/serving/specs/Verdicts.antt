@@ -1,6 +1,5 @@
 -- What the audit of a bundle finds, and what its journals come to.
 use Rattle.std.specs.Prelude.{◌≡◌, ℕ, Bool, true, false, List, map, take, length, Option, None, Some}
-use Rattle.std.specs.FinSet as set
 use Rattle.apply_channel.specs.Channels.{ChannelValue}
 use Rattle.replica_core.specs.State.{Replica}
 use Rattle.source_history.specs.World.{World}
@@ -17,9 +16,9 @@ abbrev pub is_sound : Verdict → Bool
 is_sound Sound = true
 is_sound _ = false
 
--- the world of the journals over the opening rows; nothing is executed from the start
+-- the world of the journals over the opening rows and the opening set
 abbrev pub world_over : BundleValue → World
-world_over b = world_of b.start.schema set.empty b.start.rows b.journals
+world_over b = world_of b.start.schema b.opened b.start.rows b.journals
 
 abbrev pub verdict_over : BundleValue → Verdict
 verdict_over b = verdict (world_over b) b.journals
@@ -54,7 +53,7 @@ pub record IsNamed (b : BundleValue) (core : Replica) : Type 0 where
 -- The audit says Sound, and all journals together are executed on the replica of the bundle, with its channels.
 pub record HasMerged (b : BundleValue) (core : Replica) : Type 0 where
   pub sound : verdict_over b ≡ Sound
-  pub holds : HoldsAll b.start.schema set.empty b.start.rows b.journals core.state
+  pub holds : HoldsAll b.start.schema b.opened b.start.rows b.journals core.state
   pub named : IsNamed b core
 
 -- all is executed, or it is the audit's verdict, which is not Sound

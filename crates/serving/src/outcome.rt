@@ -1,6 +1,5 @@
 //! What journals come to.
 ghost use Rattle.std.specs.Prelude.{◌≡◌, IfOk, IfErr, IsOkUnless};
-ghost use Rattle.std.specs.FinSet as set;
 ghost use Rattle.gtid_set.specs.declared.fault.SetFault.TheVariants.{Memory};
 ghost use Rattle.journal.specs.Faults.{IsFaultOf};
 ghost use Rattle.world.specs.Meaning.{AreJournals};
@@ -15,7 +14,7 @@ use crate::receiving::{Apply, serve_journals};
 use crate::working::finish;
 use audit::{World, WorldFault, audit, audit_keys, world_of};
 use faithful_runs::{served_holds_all, workers_decide};
-use gtid_set::{GtidSet, SetFault};
+use gtid_set::SetFault;
 use journal::Journal;
 use replica_core::Core;
 use std::alloc::{AllocError, Global};
@@ -54,13 +53,12 @@ fn keep_rules(journals: &[Journal])
     }
 }
 
-/// The world of journals over opening rows, on which nothing is executed.
+/// The world of journals over opening rows and an opening set.
 fn opening_world(alloc: Global, bundle: &Bundle) -> Result<World, AllocError>
     requires { IsFitting bundle.now }
     ensures { IfOk result (λ world. world ≡ world_over bundle.now) }
 {
-    let opened = GtidSet::empty(alloc);
-    match world_of(alloc, &opened, bundle.rows(), bundle.journals()) {
+    match world_of(alloc, bundle.opened(), bundle.rows(), bundle.journals()) {
         Ok(world) => Ok(world),
         Err(WorldFault::Memory) => Err(AllocError),
         Err(WorldFault::NotInSchema(_, _)) => unreachable!(),
@@ -78,9 +76,8 @@ fn keys_verdict(alloc: Global, bundle: &Bundle) -> Result<Verdict, AllocError>
     found
 }
 
-/// What an audit of a bundle's journals over its opening rows finds first, where nothing is executed
-/// from the start. The tables take the transactions, as those of a bundle that was read do. The error
-/// is want of memory.
+/// What an audit of a bundle's journals over its opening rows and opening set finds first. The tables
+/// take the transactions, as those of a bundle that was read do. The error is want of memory.
 pub fn verdict_over(alloc: Global, bundle: &Bundle) -> Result<Verdict, AllocError>
     requires { IsFitting bundle.now }
     ensures { IfOk result (λ found. found ≡ verdict_over bundle.now) }
@@ -105,12 +102,14 @@ fn unsound_keys(alloc: Global, bundle: &Bundle) -> Result<Option<Verdict>, Alloc
     }
 }
 
-/// The replica of a bundle, with its opening rows and no channel yet.
+/// The replica of a bundle, with its opening rows and opening set and no channel yet.
 fn open_replica(alloc: Global, bundle: &Bundle) -> Result<Core, SetFault>
     ensures ok { IfOk result (λ core. core ≡ opening bundle.now) }
     ensures fault { IsOkUnless result Memory }
 {
-    Core::open(alloc, bundle.replica(), bundle.rows().copy()?)
+    let rows = bundle.rows().copy()?;
+    let executed = bundle.opened().copy(alloc)?;
+    Core::open_snapshot(alloc, bundle.replica(), rows, executed)
 }
 
 /// The replica of a bundle, once it was served all journals.
@@ -140,7 +139,7 @@ fn receive_all(
 ) -> Result<StateOrVerdict<Core>, SetFault>
     requires { IsServable bundle.now }
     ensures received { IfOk result (IsStateOrVerdict (HasReceived apply bundle.now) bundle.now) }
-    ensures fault { IfErr result (λ f. IsFaultOf f (all_of set.empty bundle.now.journals)) }
+    ensures fault { IfErr result (λ f. IsFaultOf f (all_of bundle.now.opened bundle.now.journals)) }
 {
     if let Some(verdict) = unsound_keys(alloc, bundle)? {
         return Ok(StateOrVerdict::Verdict(verdict));
@@ -150,7 +149,7 @@ fn receive_all(
     Ok(StateOrVerdict::State(core))
 }
 
-/// Audits the keys of a bundle's journals, opens its replica over the opening rows, opens and positions
+/// Audits the keys of a bundle's journals, opens its replica over the opening rows and set, opens and positions
 /// each channel, and lets it receive what its journal sends. Where the audit of keys isn't Sound, its
 /// verdict is answered, which is that of the whole audit. The bundle can be served, as each that was
 /// read can.
@@ -160,7 +159,7 @@ fn receive_all(
 pub fn begin(alloc: Global, bundle: &Bundle) -> Result<StateOrVerdict<Core>, SetFault>
     requires { IsServable bundle.now }
     ensures begun { IfOk result (IsStateOrVerdict (IsReady bundle.now) bundle.now) }
-    ensures fault { IfErr result (λ f. IsFaultOf f (all_of set.empty bundle.now.journals)) }
+    ensures fault { IfErr result (λ f. IsFaultOf f (all_of bundle.now.opened bundle.now.journals)) }
 {
     receive_all(alloc, bundle, Apply::Later)
 }
@@ -194,13 +193,13 @@ fn finish_and_conclude(
     requires fits { IsFitting bundle.now }
     requires run { IsRun bundle.now core.old }
     ensures found { IfOk result (IsConcluded bundle.now core.new) }
-    ensures fault { IfErr result (λ f. IsFaultOf f (all_of set.empty bundle.now.journals)) }
+    ensures fault { IfErr result (λ f. IsFaultOf f (all_of bundle.now.opened bundle.now.journals)) }
 {
     finish(alloc, core)?;
     Ok(conclude(alloc, bundle, core)?)
 }
 
-/// What the journals of a bundle come to over its opening rows: all of them executed together, or the
+/// What the journals of a bundle come to over its opening rows and set: all of them executed together, or the
 /// verdict of their audit, where that is not Sound. Channel by channel, one seat applies each entry as
 /// it is received, and what is left at the end. Where not everything was executed, the audit says why.
 /// What is asked, and the faults, are those of `begin`.
@@ -208,7 +207,7 @@ fn finish_and_conclude(
 pub fn serve(alloc: Global, bundle: &Bundle) -> Result<StateOrVerdict<Core>, SetFault>
     requires { IsServable bundle.now }
     ensures served { IfOk result (IsStateOrVerdict (HasMerged bundle.now) bundle.now) }
-    ensures fault { IfErr result (λ f. IsFaultOf f (all_of set.empty bundle.now.journals)) }
+    ensures fault { IfErr result (λ f. IsFaultOf f (all_of bundle.now.opened bundle.now.journals)) }
 {
     let mut core = match receive_all(alloc, bundle, Apply::AtOnce)? {
         StateOrVerdict::State(core) => core,

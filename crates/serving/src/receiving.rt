@@ -103,7 +103,7 @@ fn feed(
 }
 
 /// A channel is opened and positioned: what its journal sends to one that asks so.
-#[tactic(auto, using(crate::proofs::Conditions::none_missing, crate::proofs::Conditions::asks))]
+#[tactic(auto, using(crate::proofs::Conditions::asked_has, crate::proofs::Conditions::asks))]
 fn ask_for(
     alloc: Global,
     core: &mut Core,

@@ -190,16 +190,18 @@ reads_bundle bytes b written =
     let tables : Goes two (table_lines ts) three = goes_tables (bare b.replica []) d [] ts w.tables in
     let put = brings_rows three (bare b.replica ts) rows b.start.rows (after_tables b.replica ts d) w.opening.fit w.opening.writable w.opening.put in
     let channels = brings_channels put.last (with_rows (bare b.replica ts) b.start.rows) b.channels b.journals put.late w.named (omega (arith, w.few)) w.brought in
-    let six = state parts.Ended [] b None channels.last.draft in
+    let read : BundleValue = record b { opened = set.empty } in
+    let six = state parts.Ended [] read None channels.last.draft in
     let ends : Goes channels.last (Own Done ∷ []) six = goes_own channels.last six Done channels.late.own channels.late.done tt channels.late.ends in
-    record {
+    let reads : Reads bundles bytes read = record {
       lines = bundle_lines One rows b;
       last = six;
       parts = written.2;
       leads = subst (λ (ls : List BundleLine). Goes no_bundle ls six) (sym (parts_of_lines rows b)) (leads_both heads (leads_both tables (leads_both put.goes (leads_both channels.goes ends))));
       done = refl;
       value = refl;
-    }
+    } in
+    subst (Reads bundles bytes) (λ i. record b { opened = sym w.unopened i }) reads
 
 -- ---- what has been read can be gone on with
 

@@ -123,7 +123,7 @@ record Front (version : Version) (rows : List TableRow) (b : BundleValue) (old :
 
 -- the tables as a bundle without rows and channels
 pub tables_written : (replica : ℕ) (tables : List Table) → IsSource replica → AreAdded [] tables → IsWrittenBundle [] (bare replica tables)
-tables_written replica tables small added = record { replica = small; tables = added; opening = record { fit = tt; writable = refl; put = refl }; named = tt; few = omega arith; brought = tt }
+tables_written replica tables small added = record { replica = small; unopened = refl; tables = added; opening = record { fit = tt; writable = refl; put = refl }; named = tt; few = omega arith; brought = tt }
 
 pub tables_front : (version : Version) (replica : ℕ) (tables : List Table) → tables_lines version replica tables ≡ bundle_front version [] (bare replica tables)
 tables_front version replica tables = sym (append-nil (start_lines version replica tables []) ∙ append-nil (tables_lines version replica tables))
@@ -151,6 +151,7 @@ row_keeps_in version tables rows b r channel draft old new f none fit writable p
       sound = (
         record {
           replica = w.replica;
+          unopened = w.unopened;
           tables = w.tables;
           opening = record {
             fit = all_append FitsRow rows (r ∷ []) o.fit (fit, tt);
@@ -258,6 +259,7 @@ pub record InnerTaken (old : List BundleLine) (line : List ℕ) (t : BundleStand
 pub channel_written : (rows : List TableRow) (b : BundleValue) (c : Channel) (draft : Standing) (j : JournalValue) → IsWrittenBundle rows b → IsOpen b c draft → IsWritten j → list_all (entry_fits b.start.schema) j.entries ≡ true → IsWrittenBundle rows (with_journal (Some c) b j)
 channel_written rows b c draft j w o written fitting = record {
   replica = w.replica;
+  unopened = w.unopened;
   tables = w.tables;
   opening = w.opening;
   named = named_more [] b.channels c w.named o.name o.new;

@@ -29,16 +29,17 @@ use Rattle.txn_journal.specs.declared.fault.Cause.TheVariants as causes
 use Rattle.txn_journal.specs.declared.lines.Version.{Version}
 use Rattle.txn_journal.specs.declared.lines.Version.TheVariants.{One}
 
--- a replica, its tables and opening rows, and its channels, each with the journal that it brings
+-- a replica, the set of GTIDs with which it begins, its tables and opening rows, and its channels, each with the journal that it brings
 pub record BundleValue : Type 0 where
   pub replica : ℕ
+  pub opened : Gtids
   pub start : Database
   pub channels : List Channel
   pub journals : List JournalValue
 
 -- a bundle without rows and channels
 abbrev pub bare : ℕ → List Table → BundleValue
-bare replica tables = record { replica = replica; start = record { schema = tables; rows = map.empty }; channels = []; journals = [] }
+bare replica tables = record { replica = replica; opened = set.empty; start = record { schema = tables; rows = map.empty }; channels = []; journals = [] }
 
 -- What the lines so far have said. The tables stand in `tables` until the first line behind them.
 pub record BundleStanding : Type 0 where

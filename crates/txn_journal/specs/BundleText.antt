@@ -140,9 +140,10 @@ AreBrought tables [] [] = Unit {0}
 AreBrought tables (c ∷ cs) (j ∷ js) = IsWrittenIn tables j × AreBrought tables cs js
 AreBrought tables _ _ = ⊥
 
--- what a bundle keeps, where its rows come in this order
+-- what a bundle keeps, where its rows come in this order; by version 1 of the format nothing is executed from the start
 pub record IsWrittenBundle (rows : List TableRow) (b : BundleValue) : Type 0 where
   pub replica : IsSource b.replica
+  pub unopened : b.opened ≡ set.empty
   pub tables : AreAdded [] b.start.schema
   pub opening : AreOpening b.start.schema rows b.start.rows
   pub named : AreNamed [] b.channels

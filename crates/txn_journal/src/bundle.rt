@@ -1,10 +1,11 @@
 //! Bundles: a replica's tables and opening rows, and the journals that its channels bring.
 ghost use Rattle.std.specs.Prelude.{◌≡◌, ◌∷◌, ◌++◌, [], OnOk, OnErr};
+ghost use Rattle.std.specs.FinSet as set;
 ghost use Rattle.txn_journal.specs.Stream.{TakesPart};
 ghost use Rattle.txn_journal.specs.BundleStates.{with_opening};
 
 use crate::fault::{Cause, LineFault};
-use gtid_set::SetFault;
+use gtid_set::{GtidSet, SetFault};
 use gtid_text::SourceId;
 use journal::Journal;
 use rows::{ApplyFault, Name, Row, Rows, Schema};
@@ -20,10 +21,11 @@ pub struct Channel {
     pub preserve: bool,
 }
 
-/// A replica, its opening rows, and its channels, each with the journal that it brings.
+/// A replica, the set of GTIDs with which it begins, its opening rows, and its channels, each with the journal that it brings.
 #[derive(Drop)]
 pub struct Bundle {
     replica: SourceId,
+    opened: GtidSet,
     rows: Rows,
     channels: Vec<Channel>,
     journals: Vec<Journal>,
@@ -39,16 +41,17 @@ impl Model for Bundle {
 
     ghost coded = { Prim.hlevel (codes, gtids_code, rows_code) };
 
-    ghost view = { λ b. record { replica = b.replica; start = b.rows; channels = b.channels.items; journals = b.journals.items } };
+    ghost view = { λ b. record { replica = b.replica; opened = b.opened; start = b.rows; channels = b.channels.items; journals = b.journals.items } };
 }
 
 impl Bundle {
-    /// A bundle without channels.
+    /// A bundle without channels, in which nothing is executed from the start.
     pub(crate) fn open(alloc: Global, replica: SourceId, rows: Rows) -> Bundle
-        ensures { result ≡ record { replica = replica; start = rows; channels = []; journals = [] } }
+        ensures { result ≡ record { replica = replica; opened = set.empty; start = rows; channels = []; journals = [] } }
     {
         Bundle {
             replica,
+            opened: GtidSet::empty(alloc),
             rows,
             channels: Vec::new(alloc),
             journals: Vec::new(alloc),
@@ -70,6 +73,13 @@ impl Bundle {
         ensures { result ≡ self.now.replica }
     {
         self.replica
+    }
+
+    /// The opening set: the GTIDs that are executed from the start, and purged. It is empty in version 1 of the format.
+    pub fn opened(&self) -> &GtidSet
+        ensures { result.now ≡ self.now.opened }
+    {
+        &self.opened
     }
 
     /// The tables.

@@ -1,5 +1,4 @@
 use Rattle.std.proofs.Common.{rules}
-use Rattle.std.specs.FinSet as set
 use Rattle.faithful_runs.specs.Deciding.{all_of}
 use Rattle.serving.specs.Faults.{KnowsToo}
 use Rattle.serving.specs.Serving.{opening}
@@ -9,5 +8,5 @@ use Rattle.serving.proofs.outcome.receive_all.Goals as goal
 pub returns-in_err-core-clause-fault : goal.returns-in_err-core-clause-fault
 returns-in_err-core-clause-fault c =
     let b = c.args.bundle.now in
-    let h = fault_of c.in_err-core.field-0.0 (KnowsToo (opening b).state b.journals) (all_of set.empty b.journals) (knows_opening b) c.in_err-core.ensures.fault in
+    let h = fault_of c.in_err-core.field-0.0 (KnowsToo (opening b).state b.journals) (all_of b.opened b.journals) (knows_opening b) c.in_err-core.ensures.fault in
     search rules
