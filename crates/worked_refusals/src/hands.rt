@@ -87,7 +87,7 @@ fn work_alone<N: Naming + Send + Sync, R: Threads + Wait + Abort + Sync>(
 }
 
 /// What the worker left, and what the drain makes of it; which case was met.
-fn end<R: Abort>(rt: &R, alloc: Global, mut book: ClosedBook, stopped: bool) -> &'static str {
+fn end<R: Abort>(rt: &R, alloc: Global, book: &mut ClosedBook, stopped: bool) -> &'static str {
     let counts = book.counts();
     if !stopped {
         let wanted = Counts {
@@ -100,8 +100,8 @@ fn end<R: Abort>(rt: &R, alloc: Global, mut book: ClosedBook, stopped: bool) -> 
         counts.steps >= 6 && counts.commits <= 1,
         "what a worker may leave"
     );
-    let refused = drain_again(rt, alloc, &mut book);
-    shows(rt, alloc, &book, DONE, 3);
+    let refused = drain_again(rt, alloc, book);
+    shows(rt, alloc, book, DONE, 3);
     match (stopped, refused) {
         (true, _) => "a worker refused",
         (false, true) => "a drain refused",
@@ -129,10 +129,11 @@ fn one_works_alone<N: Naming + Send + Sync, R: Threads + Wait + Abort + Print + 
     };
     take_by_hand(rt, alloc, &replica, passes.as_mut_slice(), entries);
     let stopped = work_alone(rt, alloc, &replica, &mut passes, alone);
-    let Ok(book) = replica.close(passes) else {
+    let Ok(mut book) = replica.close(passes) else {
         panic!(rt; "the receipts are not the history");
     };
-    let met = end(rt, alloc, book, stopped);
+    let met = end(rt, alloc, &mut book, stopped);
+    drop(book);
     tell(rt, met)
 }
 

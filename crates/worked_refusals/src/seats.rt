@@ -243,6 +243,7 @@ fn two_seats<N: Naming, R: Abort + Wait + Print>(
         panic!(rt; "the receipts are not the history");
     };
     shows_turns(rt, &book, refused);
+    drop(book);
     let met = if refused == 0 {
         "no call refused"
     } else {

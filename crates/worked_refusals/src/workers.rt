@@ -105,12 +105,12 @@ fn receive_all<R: Abort>(
     let Ok(name) = Name::new(String::from_str(alloc, "x")?) else {
         return Err(SetFault::Memory);
     };
-    core.step(alloc, &Event::OpenChannel(name, false))?;
-    core.step(alloc, &Event::Position(0))?;
+    drop(core.step(alloc, &Event::OpenChannel(name, false))?);
+    drop(core.step(alloc, &Event::Position(0))?);
     for entry in entries {
         let event = Event::Receive(0, entry.clone()?);
         assert!(rt; event.is_numbered(), "a number");
-        core.step(alloc, &event)?;
+        drop(core.step(alloc, &event)?);
     }
     Ok(())
 }
@@ -149,7 +149,7 @@ fn left_by_one<R: Abort>(rt: &R, alloc: Global, book: &ClosedBook, marks: &Marks
 fn end<R: Abort>(
     rt: &R,
     alloc: Global,
-    mut book: ClosedBook,
+    book: &mut ClosedBook,
     fault: Option<SetFault>,
     marks: &Marks,
 ) -> &'static str {
@@ -160,11 +160,11 @@ fn end<R: Abort>(
         }
         Some(fault) => {
             assert_eq!(rt; fault, SetFault::Memory, "memory was refused");
-            left_by_one(rt, alloc, &book, marks)
+            left_by_one(rt, alloc, book, marks)
         }
     };
-    let _refused = drain_again(rt, alloc, &mut book);
-    shows(rt, alloc, &book, DONE, 4);
+    let _refused = drain_again(rt, alloc, book);
+    shows(rt, alloc, book, DONE, 4);
     met
 }
 
@@ -184,10 +184,11 @@ fn two_work<N: Naming + Send + Sync, R: Threads + Wait + Abort + Print + Sync>(
         return tell(rt, NOTHING_BEGAN);
     };
     let WorkersEnd { passes, fault } = run_workers(rt, alloc, &replica, passes, marks);
-    let Ok(book) = replica.close(passes) else {
+    let Ok(mut book) = replica.close(passes) else {
         panic!(rt; "a pass is lost, or the receipts are not the history");
     };
-    let met = end(rt, alloc, book, fault, marks);
+    let met = end(rt, alloc, &mut book, fault, marks);
+    drop(book);
     tell(rt, met)
 }
 
