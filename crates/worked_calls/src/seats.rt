@@ -2,13 +2,12 @@
 ghost use Rattle.std.specs.Prelude.{◌≡◌};
 
 use crate::sources::bundle;
-use applier::{NoGate, WorkersEnd, drain, run_workers};
 use commit_ledger::{Blanks, Counts};
 use gtid_report::render_state;
 use journal::{Journal, is_number};
-use replica_core::{Core, Event, Reply};
+use replica_core::{Core, Reply};
 use rows::{Patch, RowFault, prepare};
-use shared_replica::{ClosedBook, Naming, Pass, Receipt, SharedReplica, Step};
+use shared_replica::{ClosedBook, Naming, Pass, Receipt, SharedReplica};
 use std::alloc::Global;
 use std::marker::Brand;
 use std::process::Abort;
@@ -21,16 +20,10 @@ use txn_journal::Bundle;
 /// What is done with two seats.
 #[derive(Clone, Copy)]
 enum Task {
-    /// The first seat commits, the second one looks and commits.
-    ByTurns,
     /// The first seat's patch is late: before it commits, the second seat commits a row under the same key.
     Late,
-    /// The first seat makes the calls that no worker makes.
-    OtherCalls,
     /// Each seat commits on a thread of its own.
     AtOnce,
-    /// The first seat holds what the second one's worker waits for.
-    LeftToDrain,
 }
 
 /// What the closed book shows.
@@ -103,48 +96,31 @@ fn commits<N: Naming, R: Wait>(
         && matches!(replica.commit(rt, alloc, pass), Ok(Reply::Committed(_)))
 }
 
-/// Whether the executed set is shown with one GTID.
-fn looks_at_one<N: Naming, R: Wait>(
-    rt: &R,
-    alloc: Global,
-    replica: &SharedReplica<N>,
-    pass: &mut Pass<N>,
-) -> bool {
-    match replica.look(rt, alloc, pass) {
-        Ok(Reply::Shown(set)) => set.count() == 1,
-        _ => false,
-    }
-}
-
-fn by_turns<N: Naming, R: Wait>(
-    rt: &R,
-    alloc: Global,
-    replica: &SharedReplica<N>,
-    passes: &mut [Pass<N>],
-    bundle: &Bundle,
-) -> Result<bool, Fail> {
-    let [first, second] = passes else {
-        return Ok(false);
-    };
-    receive(rt, alloc, replica, first, bundle, 0)?;
-    Ok(
-        commits(rt, alloc, replica, first, 0, 0)
-            && looks_at_one(rt, alloc, replica, second)
-            && commits(rt, alloc, replica, second, 0, 1),
-    )
-}
-
 /// What the seat holds, prepared without the lock; None where it holds nothing.
 fn prepared<N: Naming, R: Wait>(
     rt: &R,
     alloc: Global,
     replica: &SharedReplica<N>,
     pass: &Pass<N>,
-) -> Result<Option<Patch>, Fail> {
-    match replica.footprint(rt, alloc, pass)? {
-        Some((held, seen)) => Ok(prepare(alloc, held, seen).ok()),
-        None => Ok(None),
+) -> Option<Patch> {
+    match replica.footprint(rt, alloc, pass) {
+        Ok(Some((held, seen))) => prepare(alloc, held, seen).ok(),
+        _ => None,
     }
+}
+
+/// Whether a patch is installed.
+fn is_installed<N: Naming, R: Wait>(
+    rt: &R,
+    alloc: Global,
+    replica: &SharedReplica<N>,
+    pass: &mut Pass<N>,
+    patch: Patch,
+) -> bool {
+    matches!(
+        replica.commit_prepared(rt, alloc, pass, patch),
+        Ok(Reply::Committed(_))
+    )
 }
 
 /// Whether the patch of what the seat holds is installed.
@@ -153,13 +129,10 @@ fn commits_prepared<N: Naming, R: Wait>(
     alloc: Global,
     replica: &SharedReplica<N>,
     pass: &mut Pass<N>,
-) -> Result<bool, Fail> {
-    match prepared(rt, alloc, replica, pass)? {
-        Some(patch) => {
-            let reply = replica.commit_prepared(rt, alloc, pass, patch)?;
-            Ok(matches!(&reply, Reply::Committed(_)))
-        }
-        None => Ok(false),
+) -> bool {
+    match prepared(rt, alloc, replica, &*pass) {
+        Some(patch) => is_installed(rt, alloc, replica, pass, patch),
+        None => false,
     }
 }
 
@@ -170,10 +143,12 @@ fn is_late<N: Naming, R: Wait>(
     replica: &SharedReplica<N>,
     pass: &mut Pass<N>,
     patch: Patch,
-) -> Result<bool, Fail> {
-    let reply = replica.commit_prepared(rt, alloc, pass, patch)?;
+) -> bool {
     let fault = RowFault::DuplicateKey { change: 0, key: 0 };
-    Ok(matches!(&reply, Reply::RowRefused(_, why) if *why == fault))
+    match replica.commit_prepared(rt, alloc, pass, patch) {
+        Ok(Reply::RowRefused(_, why)) => why == fault,
+        _ => false,
+    }
 }
 
 /// Whether the second seat commits a patch of its own, and then B's row.
@@ -182,12 +157,39 @@ fn second_commits<N: Naming, R: Wait>(
     alloc: Global,
     replica: &SharedReplica<N>,
     second: &mut Pass<N>,
+) -> bool {
+    takes(rt, alloc, replica, second, 0, 1)
+        && commits_prepared(rt, alloc, replica, second)
+        && commits(rt, alloc, replica, second, 1, 0)
+}
+
+/// The first seat receives both journals, and has nothing to commit before it takes A's first entry.
+fn begins_late<N: Naming, R: Wait>(
+    rt: &R,
+    alloc: Global,
+    replica: &SharedReplica<N>,
+    first: &mut Pass<N>,
+    bundle: &Bundle,
 ) -> Result<bool, Fail> {
-    Ok(
-        takes(rt, alloc, replica, second, 0, 1)
-            && commits_prepared(rt, alloc, replica, second)?
-            && commits(rt, alloc, replica, second, 1, 0),
-    )
+    receive(rt, alloc, replica, first, bundle, 0)?;
+    receive(rt, alloc, replica, first, bundle, 1)?;
+    Ok(!commits_prepared(rt, alloc, replica, first) && takes(rt, alloc, replica, first, 0, 0))
+}
+
+/// Whether what the first seat holds is refused where the second one commits before it.
+fn ends_late<N: Naming, R: Wait>(
+    rt: &R,
+    alloc: Global,
+    replica: &SharedReplica<N>,
+    first: &mut Pass<N>,
+    second: &mut Pass<N>,
+) -> bool {
+    let held = prepared(rt, alloc, replica, &*first);
+    let commits = second_commits(rt, alloc, replica, second);
+    match held {
+        Some(patch) => commits && is_late(rt, alloc, replica, first, patch),
+        None => false,
+    }
 }
 
 fn late<N: Naming, R: Wait>(
@@ -197,66 +199,12 @@ fn late<N: Naming, R: Wait>(
     passes: &mut [Pass<N>],
     bundle: &Bundle,
 ) -> Result<bool, Fail> {
-    let [first, second] = passes else {
-        return Ok(false);
-    };
-    receive(rt, alloc, replica, first, bundle, 0)?;
-    receive(rt, alloc, replica, first, bundle, 1)?;
-    if commits_prepared(rt, alloc, replica, first)? || !takes(rt, alloc, replica, first, 0, 0) {
-        return Ok(false);
-    }
-    match prepared(rt, alloc, replica, first)? {
-        Some(patch) => {
-            let goes_on = second_commits(rt, alloc, replica, second)?;
-            Ok(goes_on && is_late(rt, alloc, replica, first, patch)?)
-        }
-        None => Ok(false),
-    }
-}
-
-/// Whether a channel is opened as number 0 and may go on, and a seat that holds nothing is idle.
-fn opens<N: Naming, R: Wait>(
-    rt: &R,
-    alloc: Global,
-    replica: &SharedReplica<N>,
-    pass: &mut Pass<N>,
-    bundle: &Bundle,
-) -> Result<bool, Fail> {
-    let channel = bundle.channels().first().ok_or("a channel")?;
-    let opened = replica.open_channel(rt, alloc, pass, channel.name.clone()?, true)?;
-    let restarted = replica.restart(rt, alloc, pass, 0)?;
-    let idle = replica.rollback(rt, alloc, pass)?;
+    let (first, rest) = passes.split_first_mut().ok_or("a first pass")?;
+    let second = rest.first_mut().ok_or("a second pass")?;
     Ok(
-        matches!(&opened, Reply::Opened(0))
-            && matches!(&restarted, Reply::Restarted)
-            && matches!(&idle, Reply::SeatIdle),
+        begins_late(rt, alloc, replica, first, bundle)?
+            && ends_late(rt, alloc, replica, first, second),
     )
-}
-
-/// Whether a transaction of the server's own commits and is purged.
-fn commits_own<N: Naming, R: Wait>(
-    rt: &R,
-    alloc: Global,
-    replica: &SharedReplica<N>,
-    pass: &mut Pass<N>,
-    bundle: &Bundle,
-) -> Result<bool, Fail> {
-    let journal = bundle.journals().first().ok_or("a journal")?;
-    let entry = journal.entries().first().ok_or("an entry")?;
-    let committed = replica.local(rt, alloc, pass, entry.txn.clone()?)?;
-    let purged = replica.purge(rt, alloc, pass, 1)?;
-    Ok(matches!(&committed, Reply::Committed(_)) && matches!(&purged, Reply::Purged(_)))
-}
-
-fn other_calls<N: Naming, R: Wait>(
-    rt: &R,
-    alloc: Global,
-    replica: &SharedReplica<N>,
-    passes: &mut [Pass<N>],
-    bundle: &Bundle,
-) -> Result<bool, Fail> {
-    let first = passes.first_mut().ok_or("a first pass")?;
-    Ok(opens(rt, alloc, replica, first, bundle)? && commits_own(rt, alloc, replica, first, bundle)?)
 }
 
 /// A seat takes and commits a place; what the book shows later tells whether it did.
@@ -298,87 +246,47 @@ fn commit_at_once<N: Naming + Send + Sync, R: Threads + Wait + Sync>(
     );
 }
 
-/// The second seat's worker works alone, and its pass comes back.
-fn work_alone<N: Naming + Send + Sync, R: Threads + Wait + Sync>(
-    rt: &R,
-    alloc: Global,
-    replica: &SharedReplica<N>,
-    passes: &mut Vec<Pass<N>>,
-) -> bool {
-    let mut alone = Vec::new(alloc);
-    while passes.len() > 1 && alone.len() == 0 {
-        if let Some(pass) = passes.pop() {
-            let _room = alone.push(pass);
-        }
-    }
-    if alone.len() > 64 {
-        return false;
-    }
-    let WorkersEnd {
-        passes: mut back,
-        fault,
-    } = run_workers(rt, alloc, replica, alone, &NoGate);
-    passes.append(&mut back).is_ok() && fault.is_none()
-}
-
-fn left_to_drain<N: Naming + Send + Sync, R: Threads + Wait + Sync>(
-    rt: &R,
-    alloc: Global,
-    replica: &SharedReplica<N>,
-    passes: &mut Vec<Pass<N>>,
-    bundle: &Bundle,
-) -> Result<bool, Fail> {
-    let first = passes.first_mut().ok_or("a first pass")?;
-    receive(rt, alloc, replica, first, bundle, 0)?;
-    let taken = takes(rt, alloc, replica, first, 0, 0);
-    Ok(taken && work_alone(rt, alloc, replica, passes))
-}
-
 fn work<N: Naming + Send + Sync, R: Threads + Wait + Sync>(
     rt: &R,
     alloc: Global,
     replica: &SharedReplica<N>,
-    passes: &mut Vec<Pass<N>>,
+    passes: &mut [Pass<N>],
     bundle: &Bundle,
     wish: Task,
 ) -> Result<bool, Fail> {
     match wish {
-        Task::ByTurns => by_turns(rt, alloc, replica, passes.as_mut_slice(), bundle),
-        Task::Late => late(rt, alloc, replica, passes.as_mut_slice(), bundle),
-        Task::OtherCalls => other_calls(rt, alloc, replica, passes.as_mut_slice(), bundle),
-        Task::AtOnce => at_once(rt, alloc, replica, passes.as_mut_slice(), bundle),
-        Task::LeftToDrain => left_to_drain(rt, alloc, replica, passes, bundle),
+        Task::Late => late(rt, alloc, replica, passes, bundle),
+        Task::AtOnce => at_once(rt, alloc, replica, passes, bundle),
     }
 }
 
-/// What the book of that work shows, with both entries of A that insert, or what else is said there.
+/// What the book of a task shows.
 fn wanted(wish: Task) -> Ending {
-    let both = concat!(
-        "executed aaaaaaaa-aaaa-aaaa-aaaa-aaaaaaaaaaaa:1-2\n",
-        "row t 1 x61 null\n",
-        "row t 2 x62 null\n",
-    );
-    let late = concat!(
-        "executed aaaaaaaa-aaaa-aaaa-aaaa-aaaaaaaaaaaa:2,bbbbbbbb-bbbb-bbbb-bbbb-bbbbbbbbbbbb:1\n",
-        "row t 1 x63 null\n",
-        "row t 2 x62 null\n",
-    );
-    let own = "executed cccccccc-cccc-cccc-cccc-cccccccccccc:1\nrow t 1 x61 null\n";
-    let second = "executed aaaaaaaa-aaaa-aaaa-aaaa-aaaaaaaaaaaa:2\nrow t 2 x62 null\n";
     match wish {
-        Task::ByTurns => shown(10, 2, Some(&[7, 8, 9]), both),
-        Task::Late => shown(14, 2, Some(&[9, 10, 11, 12]), late),
-        Task::OtherCalls => shown(5, 1, Some(&[]), own),
-        Task::AtOnce => shown(9, 2, None, both),
-        Task::LeftToDrain => shown(8, 1, Some(&[6, 7]), second),
-    }
-}
-
-fn shown(steps: u64, commits: u64, second: Option<&'static [u64]>, state: &'static str) -> Ending {
-    Ending {
-        counts: Counts { steps, commits },
-        second,
-        state,
+        Task::Late => Ending {
+            counts: Counts {
+                steps: 14,
+                commits: 2,
+            },
+            second: Some(&[9, 10, 11, 12]),
+            state: concat!(
+                "executed aaaaaaaa-aaaa-aaaa-aaaa-aaaaaaaaaaaa:2,bbbbbbbb-bbbb-bbbb-bbbb-bbbbbbbbbbbb:1\n",
+                "row t 1 x63 null\n",
+                "row t 2 x62 null\n",
+            ),
+        },
+        Task::AtOnce => Ending {
+            counts: Counts {
+                steps: 9,
+                commits: 2,
+            },
+            second: None,
+            state: concat!(
+                "executed aaaaaaaa-aaaa-aaaa-aaaa-aaaaaaaaaaaa:1-2\n",
+                "row t 1 x61 null\n",
+                "row t 2 x62 null\n",
+            ),
+        },
     }
 }
 
@@ -436,52 +344,6 @@ fn starts_again(alloc: Global, book: &ClosedBook) -> bool {
     }
 }
 
-/// Whether a step is a Take of a place by the first seat.
-fn is_take(step: &Step, place: usize) -> bool {
-    matches!(&step.event, Event::Take(1, 0, at) if *at == place)
-}
-
-/// Whether a step is a Commit of the first seat.
-fn is_commit(step: &Step) -> bool {
-    matches!(&step.event, Event::Commit(1))
-}
-
-/// Whether the first seat gave up what it had, and then took and committed the places 0 and 2.
-fn is_drain(added: &[Step]) -> bool {
-    let [one, two, three, four, five] = added else {
-        return false;
-    };
-    matches!(&one.event, Event::Rollback(1))
-        && is_take(two, 0)
-        && is_commit(three)
-        && is_take(four, 2)
-        && is_commit(five)
-}
-
-/// Whether the drain makes five steps of what is left, which nobody counts, and ends in this state.
-fn drains(alloc: Global, book: &mut ClosedBook) -> bool {
-    let counts = book.counts();
-    let before = book.steps().len();
-    if drain(alloc, book).is_err() {
-        return false;
-    }
-    let whole = concat!(
-        "executed aaaaaaaa-aaaa-aaaa-aaaa-aaaaaaaaaaaa:1-3\n",
-        "row t 1 x61 5\n",
-        "row t 2 x62 null\n",
-    );
-    let added = book.steps().get(before..).unwrap_or(&[]);
-    is_drain(added) && book.counts() == counts && has_state(alloc, book, whole)
-}
-
-/// Whether the book shows the work, and the drain ends what is left.
-fn shows_all(alloc: Global, book: &mut ClosedBook, wish: Task) -> bool {
-    let is_left = matches!(wish, Task::LeftToDrain);
-    shows(alloc, book, wanted(wish))
-        && starts_again(alloc, book)
-        && (!is_left || drains(alloc, book))
-}
-
 /// Whether all passes close a book that shows the work.
 fn closes<N: Naming>(
     alloc: Global,
@@ -490,7 +352,7 @@ fn closes<N: Naming>(
     wish: Task,
 ) -> bool {
     match replica.close(passes) {
-        Ok(mut book) => shows_all(alloc, &mut book, wish),
+        Ok(book) => shows(alloc, &book, wanted(wish)) && starts_again(alloc, &book),
         Err(_) => false,
     }
 }
@@ -531,7 +393,7 @@ fn two_seats<N: Naming + Send + Sync, R: Threads + Wait + Abort + Sync>(
     let Ok((replica, mut passes)) = SharedReplica::<N>::open(alloc, blanks, core, 2) else {
         return Err("memory".into());
     };
-    let worked = work(rt, alloc, &replica, &mut passes, bundle, wish);
+    let worked = work(rt, alloc, &replica, passes.as_mut_slice(), bundle, wish);
     let ended = ends(alloc, replica, passes, wish);
     assert!(rt; worked?);
     assert!(rt; ended);
@@ -549,27 +411,11 @@ fn try_work<R: Threads + Wait + Abort + Sync>(
 }
 
 #[test]
-fn two_seats_by_turns(rt: HostRuntime) -> Result<(), Fail> {
-    try_work(&rt, rt.alloc(), Task::ByTurns)
-}
-
-#[test]
 fn a_patch_that_is_late(rt: HostRuntime) -> Result<(), Fail> {
     try_work(&rt, rt.alloc(), Task::Late)
 }
 
 #[test]
-fn calls_that_no_worker_makes(rt: HostRuntime) -> Result<(), Fail> {
-    try_work(&rt, rt.alloc(), Task::OtherCalls)
-}
-
-#[test]
 fn two_seats_at_once(rt: HostRuntime) -> Result<(), Fail> {
     try_work(&rt, rt.alloc(), Task::AtOnce)
-}
-
-/// What one seat holds and what waits for it is left by the other seat's worker.
-#[test]
-fn a_worker_leaves_the_rest(rt: HostRuntime) -> Result<(), Fail> {
-    try_work(&rt, rt.alloc(), Task::LeftToDrain)
 }
