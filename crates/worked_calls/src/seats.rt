@@ -273,6 +273,7 @@ fn wanted(wish: Task) -> Ending {
                 "executed aaaaaaaa-aaaa-aaaa-aaaa-aaaaaaaaaaaa:2,bbbbbbbb-bbbb-bbbb-bbbb-bbbbbbbbbbbb:1\n",
                 "row t 1 x63 null\n",
                 "row t 2 x62 null\n",
+                "row t 9 x39 null\n",
             ),
         },
         Task::AtOnce => Ending {
@@ -285,6 +286,7 @@ fn wanted(wish: Task) -> Ending {
                 "executed aaaaaaaa-aaaa-aaaa-aaaa-aaaaaaaaaaaa:1-2\n",
                 "row t 1 x61 null\n",
                 "row t 2 x62 null\n",
+                "row t 9 x39 null\n",
             ),
         },
     }
