@@ -40,8 +40,9 @@ def run(words, given, more=None, mark=""):
 
 
 def built(name):
-    """The program of that name as it was built, by one compiler or by both."""
-    found = [os.path.join(TOP, "crates", name, "out", name + end) for end in ("", ".by-rattle")]
+    """The program of that name as it was built, by one compiler or by both. A crate of tests is `NAME_tests`, and one compiler builds it."""
+    crate = name.removesuffix("_tests")
+    found = [os.path.join(TOP, "crates", crate, "out", name + end) for end in ("", ".by-rattle")]
     return [it for it in found if os.path.isfile(it)]
 
 

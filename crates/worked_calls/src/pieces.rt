@@ -16,21 +16,32 @@ fn takes(alloc: Global, reader: &mut Reader, piece: &str) -> bool {
     reader.feed(alloc, piece.as_bytes()).is_ok()
 }
 
+/// Whether each call behind a line that is no journal's first one is refused.
+fn refuses_all(alloc: Global, reader: &mut Reader) -> bool {
+    takes(alloc, reader, "journals")
+        && !takes(alloc, reader, "\n")
+        && !takes(alloc, reader, "j")
+        && !takes(alloc, reader, HEAD)
+        && reader.take_entries(alloc).is_err()
+}
+
+/// Whether the first line is refused at the end.
+fn is_refused(reader: Reader) -> bool {
+    matches!(reader.finish(), Err(JournalFault::Line { line: 1, .. }))
+}
+
 /// After a refusal every later call answers it again.
 #[test]
 fn a_refusal_stays(rt: HostRuntime) -> Result<(), Fail> {
     let alloc = rt.alloc();
     let mut reader = Reader::start(alloc);
-    assert!(rt; takes(alloc, &mut reader, "journals"));
-    for piece in ["\n", "j", HEAD] {
-        assert!(rt; !takes(alloc, &mut reader, piece));
-    }
-    assert!(rt; reader.take_entries(alloc).is_err());
-    assert!(rt; matches!(reader.finish(), Err(JournalFault::Line { line: 1, .. })));
+    let refuses = refuses_all(alloc, &mut reader);
+    let refused = is_refused(reader);
+    assert!(rt; refuses && refused);
     Ok(())
 }
 
-/// The numbers of the entries so far, whose sum and count stand for them.
+/// How many entries there are so far, and the number of the last one.
 fn taken(alloc: Global, reader: &mut Reader) -> Option<(usize, u64)> {
     let entries = reader.take_entries(alloc).ok()?;
     let mut last = 0;
@@ -40,18 +51,33 @@ fn taken(alloc: Global, reader: &mut Reader) -> Option<(usize, u64)> {
     Some((entries.len(), last))
 }
 
+/// Whether the entries so far are taken once.
+fn are_taken_once(alloc: Global, reader: &mut Reader) -> bool {
+    takes(alloc, reader, HEAD)
+        && takes(alloc, reader, FIRST)
+        && taken(alloc, reader) == Some((1, 1))
+        && taken(alloc, reader) == Some((0, 0))
+        && takes(alloc, reader, REST)
+}
+
+/// Whether the journal that was read has the head and the rest.
+fn is_rest(alloc: Global, reader: Reader) -> bool {
+    match reader.finish() {
+        Ok(journal) => match encode(alloc, &journal) {
+            Ok(text) => text.as_slice().strip_prefix(HEAD.as_bytes()) == Some(REST.as_bytes()),
+            Err(_) => false,
+        },
+        Err(_) => false,
+    }
+}
+
 /// The entries so far are taken once, and what comes later ends with the rest.
 #[test]
 fn entries_are_taken_in_front(rt: HostRuntime) -> Result<(), Fail> {
     let alloc = rt.alloc();
     let mut reader = Reader::start(alloc);
-    assert!(rt; takes(alloc, &mut reader, HEAD) && takes(alloc, &mut reader, FIRST));
-    assert_eq!(rt; taken(alloc, &mut reader), Some((1, 1)));
-    assert_eq!(rt; taken(alloc, &mut reader), Some((0, 0)));
-    assert!(rt; takes(alloc, &mut reader, REST));
-    let journal = reader.finish()?;
-    let mut want = String::from_str(alloc, HEAD)?;
-    want.push_str(REST)?;
-    assert_eq!(rt; encode(alloc, &journal)?.as_slice(), want.as_bytes());
+    let taken = are_taken_once(alloc, &mut reader);
+    let rest = is_rest(alloc, reader);
+    assert!(rt; taken && rest);
     Ok(())
 }

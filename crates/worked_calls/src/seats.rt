@@ -102,11 +102,25 @@ fn prepared<N: Naming, R: Wait>(
     alloc: Global,
     replica: &SharedReplica<N>,
     pass: &Pass<N>,
-) -> Result<Option<Patch>, Fail> {
-    match replica.footprint(rt, alloc, pass)? {
-        Some((held, seen)) => Ok(prepare(alloc, held, seen).ok()),
-        None => Ok(None),
+) -> Option<Patch> {
+    match replica.footprint(rt, alloc, pass) {
+        Ok(Some((held, seen))) => prepare(alloc, held, seen).ok(),
+        _ => None,
     }
+}
+
+/// Whether a patch is installed.
+fn is_installed<N: Naming, R: Wait>(
+    rt: &R,
+    alloc: Global,
+    replica: &SharedReplica<N>,
+    pass: &mut Pass<N>,
+    patch: Patch,
+) -> bool {
+    matches!(
+        replica.commit_prepared(rt, alloc, pass, patch),
+        Ok(Reply::Committed(_))
+    )
 }
 
 /// Whether the patch of what the seat holds is installed.
@@ -115,13 +129,10 @@ fn commits_prepared<N: Naming, R: Wait>(
     alloc: Global,
     replica: &SharedReplica<N>,
     pass: &mut Pass<N>,
-) -> Result<bool, Fail> {
-    match prepared(rt, alloc, replica, pass)? {
-        Some(patch) => {
-            let reply = replica.commit_prepared(rt, alloc, pass, patch)?;
-            Ok(matches!(&reply, Reply::Committed(_)))
-        }
-        None => Ok(false),
+) -> bool {
+    match prepared(rt, alloc, replica, &*pass) {
+        Some(patch) => is_installed(rt, alloc, replica, pass, patch),
+        None => false,
     }
 }
 
@@ -132,10 +143,12 @@ fn is_late<N: Naming, R: Wait>(
     replica: &SharedReplica<N>,
     pass: &mut Pass<N>,
     patch: Patch,
-) -> Result<bool, Fail> {
-    let reply = replica.commit_prepared(rt, alloc, pass, patch)?;
+) -> bool {
     let fault = RowFault::DuplicateKey { change: 0, key: 0 };
-    Ok(matches!(&reply, Reply::RowRefused(_, why) if *why == fault))
+    match replica.commit_prepared(rt, alloc, pass, patch) {
+        Ok(Reply::RowRefused(_, why)) => why == fault,
+        _ => false,
+    }
 }
 
 /// Whether the second seat commits a patch of its own, and then B's row.
@@ -144,12 +157,39 @@ fn second_commits<N: Naming, R: Wait>(
     alloc: Global,
     replica: &SharedReplica<N>,
     second: &mut Pass<N>,
+) -> bool {
+    takes(rt, alloc, replica, second, 0, 1)
+        && commits_prepared(rt, alloc, replica, second)
+        && commits(rt, alloc, replica, second, 1, 0)
+}
+
+/// The first seat receives both journals, and has nothing to commit before it takes A's first entry.
+fn begins_late<N: Naming, R: Wait>(
+    rt: &R,
+    alloc: Global,
+    replica: &SharedReplica<N>,
+    first: &mut Pass<N>,
+    bundle: &Bundle,
 ) -> Result<bool, Fail> {
-    Ok(
-        takes(rt, alloc, replica, second, 0, 1)
-            && commits_prepared(rt, alloc, replica, second)?
-            && commits(rt, alloc, replica, second, 1, 0),
-    )
+    receive(rt, alloc, replica, first, bundle, 0)?;
+    receive(rt, alloc, replica, first, bundle, 1)?;
+    Ok(!commits_prepared(rt, alloc, replica, first) && takes(rt, alloc, replica, first, 0, 0))
+}
+
+/// Whether what the first seat holds is refused where the second one commits before it.
+fn ends_late<N: Naming, R: Wait>(
+    rt: &R,
+    alloc: Global,
+    replica: &SharedReplica<N>,
+    first: &mut Pass<N>,
+    second: &mut Pass<N>,
+) -> bool {
+    let held = prepared(rt, alloc, replica, &*first);
+    let commits = second_commits(rt, alloc, replica, second);
+    match held {
+        Some(patch) => commits && is_late(rt, alloc, replica, first, patch),
+        None => false,
+    }
 }
 
 fn late<N: Naming, R: Wait>(
@@ -159,21 +199,12 @@ fn late<N: Naming, R: Wait>(
     passes: &mut [Pass<N>],
     bundle: &Bundle,
 ) -> Result<bool, Fail> {
-    let [first, second] = passes else {
-        return Ok(false);
-    };
-    receive(rt, alloc, replica, first, bundle, 0)?;
-    receive(rt, alloc, replica, first, bundle, 1)?;
-    if commits_prepared(rt, alloc, replica, first)? || !takes(rt, alloc, replica, first, 0, 0) {
-        return Ok(false);
-    }
-    match prepared(rt, alloc, replica, first)? {
-        Some(patch) => {
-            let goes_on = second_commits(rt, alloc, replica, second)?;
-            Ok(goes_on && is_late(rt, alloc, replica, first, patch)?)
-        }
-        None => Ok(false),
-    }
+    let (first, rest) = passes.split_first_mut().ok_or("a first pass")?;
+    let second = rest.first_mut().ok_or("a second pass")?;
+    Ok(
+        begins_late(rt, alloc, replica, first, bundle)?
+            && ends_late(rt, alloc, replica, first, second),
+    )
 }
 
 /// A seat takes and commits a place; what the book shows later tells whether it did.
@@ -242,6 +273,7 @@ fn wanted(wish: Task) -> Ending {
                 "executed aaaaaaaa-aaaa-aaaa-aaaa-aaaaaaaaaaaa:2,bbbbbbbb-bbbb-bbbb-bbbb-bbbbbbbbbbbb:1\n",
                 "row t 1 x63 null\n",
                 "row t 2 x62 null\n",
+                "row t 9 x39 null\n",
             ),
         },
         Task::AtOnce => Ending {
@@ -254,6 +286,7 @@ fn wanted(wish: Task) -> Ending {
                 "executed aaaaaaaa-aaaa-aaaa-aaaa-aaaaaaaaaaaa:1-2\n",
                 "row t 1 x61 null\n",
                 "row t 2 x62 null\n",
+                "row t 9 x39 null\n",
             ),
         },
     }

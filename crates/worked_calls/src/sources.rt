@@ -1,4 +1,4 @@
-//! A bundle of two sources: A inserts two rows and updates the first, B inserts a row under the first one's key.
+//! A bundle of an opening row and two sources: A inserts two rows and updates the first, B inserts a row under the first one's key.
 
 use std::alloc::Global;
 use std::test::Fail;
@@ -12,6 +12,7 @@ const TEXT: &str = concat!(
     "bundle 1\n",
     "replica cccccccc-cccc-cccc-cccc-cccccccccccc\n",
     "table t 3 pk 0 uk 1\n",
+    "row t 9 x39 null\n",
     "channel x\n",
     "journal 1\n",
     "previous -\n",
