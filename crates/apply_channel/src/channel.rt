@@ -359,11 +359,12 @@ impl Channel {
     {
         let schema = self.schema.clone()?;
         let name = self.name.clone()?;
+        let asked = copy_asked(alloc, &self.asked)?;
         let mut copy = Channel::open(alloc, schema, name, self.preserve);
         for slot in &self.slots {
             copy.put_slot(alloc, slot)?;
         }
-        copy.asked = copy_asked(alloc, &self.asked)?;
+        copy.asked = asked;
         copy.stopped = self.stopped;
         Ok(copy)
     }

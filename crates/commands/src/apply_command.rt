@@ -25,9 +25,10 @@ use txn_journal::Bundle;
 fn state_answer(alloc: Global, core: &Core) -> Result<Answer, AllocError>
     ensures { IfOk result (λ answer. Holds answer (state_said core.now.state.executed core.now.state.rows)) }
 {
+    let text = render_state(alloc, core.executed(), core.rows())?;
     Ok(Answer {
         outcome: Outcome::Done,
-        text: render_state(alloc, core.executed(), core.rows())?,
+        text,
     })
 }
 

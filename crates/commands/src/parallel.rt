@@ -50,9 +50,17 @@ fn conclude_history(
     ensures applied { IfOk result (IsStateOrVerdict (HasMergedIn bundle.now) bundle.now) }
     ensures fault { IfErr result (λ f. IsFaultOf f (all_of bundle.now.opened bundle.now.journals)) }
 {
-    match drain_and_conclude(alloc, bundle, &mut book)? {
-        None => Ok(StateOrVerdict::State(book)),
-        Some(verdict) => Ok(StateOrVerdict::Verdict(verdict)),
+    let concluded = drain_and_conclude(alloc, bundle, &mut book);
+    match concluded {
+        Ok(None) => Ok(StateOrVerdict::State(book)),
+        Ok(Some(verdict)) => {
+            drop(book);
+            Ok(StateOrVerdict::Verdict(verdict))
+        }
+        Err(fault) => {
+            drop(book);
+            Err(fault)
+        }
     }
 }
 

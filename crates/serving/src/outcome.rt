@@ -213,8 +213,16 @@ pub fn serve(alloc: Global, bundle: &Bundle) -> Result<StateOrVerdict<Core>, Set
         StateOrVerdict::State(core) => core,
         StateOrVerdict::Verdict(verdict) => return Ok(StateOrVerdict::Verdict(verdict)),
     };
-    match finish_and_conclude(alloc, bundle, &mut core)? {
-        None => Ok(StateOrVerdict::State(core)),
-        Some(verdict) => Ok(StateOrVerdict::Verdict(verdict)),
+    let concluded = finish_and_conclude(alloc, bundle, &mut core);
+    match concluded {
+        Ok(None) => Ok(StateOrVerdict::State(core)),
+        Ok(Some(verdict)) => {
+            drop(core);
+            Ok(StateOrVerdict::Verdict(verdict))
+        }
+        Err(fault) => {
+            drop(core);
+            Err(fault)
+        }
     }
 }
