@@ -359,12 +359,11 @@ impl Channel {
     {
         let schema = self.schema.clone()?;
         let name = self.name.clone()?;
-        let asked = copy_asked(alloc, &self.asked)?;
         let mut copy = Channel::open(alloc, schema, name, self.preserve);
         for slot in &self.slots {
             copy.put_slot(alloc, slot)?;
         }
-        copy.asked = asked;
+        copy.asked = copy_asked(alloc, &self.asked)?;
         copy.stopped = self.stopped;
         Ok(copy)
     }
