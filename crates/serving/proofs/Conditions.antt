@@ -134,7 +134,7 @@ sent_few j asked es h =
 
 -- ---- a channel is opened and positioned
 
-asked_in : Reply → Gtids
+abbrev asked_in : Reply → Gtids
 asked_in (Ask s) = s
 asked_in reply = set.empty
 

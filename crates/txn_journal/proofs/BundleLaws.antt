@@ -33,6 +33,7 @@ use Rattle.txn_journal.proofs.ShapeLaws.{allowed, shape_fits, with_again}
 use Rattle.txn_journal.proofs.WordLaws.{judged_again}
 use Rattle.txn_journal.proofs.OwnReads.{own_body, own_put, own_reads, own_laws, own_one}
 use Rattle.std.proofs.lemmas.Result.{MatchResult-weaker}
+use Rattle.std.specs.FinSet as set
 use Rattle.txn_journal.specs.Heard.{said}
 use Rattle.txn_journal.specs.BundleHeard.{bundle_said_at, bundle_said}
 use Rattle.txn_journal.specs.declared.lines.Version.{Version}

@@ -2,6 +2,7 @@
 use Rattle.std.specs.Prelude.{◌≡◌, ℕ, ◌≤◌, ◌<◌, Bool, true, false, List, [], ◌∷◌, ◌++◌, length, map, Some, None, Result, Ok, codes}
 use Rattle.std.specs.List.{list_all, flat_map, AllByRecursion}
 use Rattle.std.specs.FinMap as map_of
+use Rattle.std.specs.FinSet as set
 use Rattle.gtid_text.specs.Canonical.{source_text}
 use Rattle.gtid_text.specs.Written.{IsSource}
 use Rattle.rows.specs.declared.change.TableRow.{TableRow}
