@@ -33,7 +33,7 @@ const BY_HAND: [Call; 6] = [
     Call::Take(0),
 ];
 
-/// The first seat makes its calls, each again where memory was refused, and has taken the first place.
+/// The second seat makes its calls, each again where memory was refused, and has taken the first place.
 fn take_by_hand<N: Naming, R: Abort + Wait>(
     rt: &R,
     alloc: Global,
@@ -41,8 +41,8 @@ fn take_by_hand<N: Naming, R: Abort + Wait>(
     passes: &mut [Pass<N>],
     entries: &[Entry],
 ) {
-    let Some(pass) = passes.first_mut() else {
-        panic!(rt; "no first pass");
+    let Some(pass) = passes.last_mut() else {
+        panic!(rt; "no second pass");
     };
     for call in BY_HAND {
         let _reply = insist(rt, alloc, replica, pass, entries, call);
@@ -58,7 +58,7 @@ fn take_by_hand<N: Naming, R: Abort + Wait>(
     }
 }
 
-/// The second seat's worker alone. All passes are there again, also where it was refused memory, which is
+/// The first seat's worker alone. All passes are there again, also where it was refused memory, which is
 /// returned.
 fn work_alone<N: Naming + Send + Sync, R: Threads + Wait + Abort + Sync>(
     rt: &R,
@@ -67,10 +67,9 @@ fn work_alone<N: Naming + Send + Sync, R: Threads + Wait + Abort + Sync>(
     passes: &mut Vec<Pass<N>>,
     mut alone: Vec<Pass<N>>,
 ) -> bool {
-    let Some(second) = passes.pop() else {
-        panic!(rt; "no second pass");
-    };
-    assert!(rt; alone.push(second).is_ok(), "there was room");
+    assert!(rt; passes.len() == 2, "two passes");
+    let first = passes.remove(0);
+    assert!(rt; alone.push(first).is_ok(), "there was room");
     assert!(rt; alone.len() == 1, "one worker");
     let WorkersEnd {
         passes: back,
@@ -81,7 +80,7 @@ fn work_alone<N: Naming + Send + Sync, R: Threads + Wait + Abort + Sync>(
         "memory was refused"
     );
     for pass in back {
-        assert!(rt; passes.push(pass).is_ok(), "there was room");
+        assert!(rt; passes.insert(0, pass).is_ok(), "there was room");
     }
     fault.is_some()
 }
