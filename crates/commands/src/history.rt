@@ -29,11 +29,14 @@ fn shared<N: Naming + Send + Sync, G: Gate + Sync, R: Threads + Wait + Sync>(
     ensures opening { IfSome result (λ b. b.opening ≡ core) }
     ensures work { IfSome result (λ b. AllApply b.steps) }
 {
-    let Some((replica, passes)) = SharedReplica::<N>::open(alloc, blanks, core, seats).ok() else {
+    let Ok((replica, passes)) = SharedReplica::<N>::open(alloc, blanks, core, seats) else {
         return None;
     };
     let WorkersEnd { passes, fault: _ } = run_workers(rt, alloc, &replica, passes, gate);
-    replica.close(passes).ok()
+    match replica.close(passes) {
+        Ok(book) => Some(book),
+        Err(_) => None,
+    }
 }
 
 /// What workers did over a replica: a history of takes, commits and rollbacks alone. None where it can't
