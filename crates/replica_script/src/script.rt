@@ -212,12 +212,7 @@ fn executed_word(alloc: Global, word: Option<&[u8]>) -> Result<GtidSet, Stop> {
 }
 
 /// A replica on the rows of a bundle.
-fn core_on(
-    alloc: Global,
-    bundle: &Bundle,
-    own: SourceId,
-    executed: GtidSet,
-) -> Result<Core, Stop> {
+fn core_on(alloc: Global, bundle: &Bundle, own: SourceId, executed: GtidSet) -> Result<Core, Stop> {
     match Core::open_snapshot(alloc, own, bundle.rows().copy()?, executed) {
         Ok(core) => Ok(core),
         Err(_) => Err(Stop::Memory),
@@ -269,12 +264,7 @@ impl Stage {
     }
 
     /// Opens the replica with the tables and rows that are declared.
-    fn open_core(
-        &mut self,
-        alloc: Global,
-        own: SourceId,
-        executed: GtidSet,
-    ) -> Result<(), Stop> {
+    fn open_core(&mut self, alloc: Global, own: SourceId, executed: GtidSet) -> Result<(), Stop> {
         self.declared.take_line(alloc, b"done")?;
         let declared = mem::replace(&mut self.declared, Declared::start(alloc));
         let core = core_with(alloc, declared, own, executed)?;

@@ -164,7 +164,7 @@ module _ (r : Replica) (c : ℕ) (channel : Channel) (j : JournalValue) (can : C
       let same : set.union r.state.executed (received_gtids []) ≡ asked = ap asked_in (sym (ap (λ (x : Step). x.0) (positions r.site opened c fresh at)) ∙ says) in
       subst (λ (x : Gtids). set.is_subset j.previous x ≡ true) same
       (subset_more j.previous r.state.executed (set.union r.state.executed (received_gtids [])) (λ q h.
-          set.contains-union gtid_total r.state.executed (received_gtids []) q ∙ or_left (set.contains r.state.executed q) (set.contains (received_gtids []) q) h) can.sends.unpurged)
+      set.contains-union gtid_total r.state.executed (received_gtids []) q ∙ or_left (set.contains r.state.executed q) (set.contains (received_gtids []) q) h) can.sends.unpurged)
 
   pub asks : (s t : Replica) (asked : Gtids) (es : List Entry) → s ≡ with_opened r channel → (step s.site s.state (Position c)).0 ≡ Ask asked → sent j asked None ≡ Ok es → t ≡ run s (Position c ∷ []) → Asks r c channel j es t
   asks s t asked es is asks_so sends now = record {
@@ -234,10 +234,10 @@ module _ (r : Replica) (c : ℕ) (channel : Channel) (chs rest : List Channel) (
         have = can.have.1;
         send = subst (λ (x : Replica). AllByRecursion (CanSend x.site.schema t.state.executed) js) (sym (one_run apply r c channel j t one))
             (all_by (CanSend r.site.schema r.state.executed) (CanSend r.site.schema t.state.executed) (λ x h. record {
-                unpurged = subset_more x.previous r.state.executed t.state.executed (one_keeps apply r c channel j t one) h.unpurged;
-                taken = h.taken;
-                room = h.room;
-              }) js can.send.1);
+              unpurged = subset_more x.previous r.state.executed t.state.executed (one_keeps apply r c channel j t one) h.unpurged;
+              taken = h.taken;
+              room = h.room;
+            }) js can.send.1);
       }
 
 -- ---- from the opening

@@ -52,15 +52,27 @@ fn what_was_purged_may_be_executed_from_the_start(rt: HostRuntime) -> Result<(),
     let alloc = rt.alloc();
     let text = text(alloc, "aaaaaaaa-aaaa-aaaa-aaaa-aaaaaaaaaaaa:1-2")?;
     let bundle = decode_bundle(alloc, text.as_bytes())?;
-    let said = says(alloc, &bundle, "", "purged 0 aaaaaaaa-aaaa-aaaa-aaaa-aaaaaaaaaaaa:1-2")
-        && says(
-            alloc,
-            &bundle,
-            "aaaaaaaa-aaaa-aaaa-aaaa-aaaaaaaaaaaa:2",
-            "purged 0 aaaaaaaa-aaaa-aaaa-aaaa-aaaaaaaaaaaa:1",
-        )
-        && says(alloc, &bundle, "aaaaaaaa-aaaa-aaaa-aaaa-aaaaaaaaaaaa:1-2", "sound")
-        && says(alloc, &bundle, "aaaaaaaa-aaaa-aaaa-aaaa-aaaaaaaaaaaa:1-3", "sound");
+    let said = says(
+        alloc,
+        &bundle,
+        "",
+        "purged 0 aaaaaaaa-aaaa-aaaa-aaaa-aaaaaaaaaaaa:1-2",
+    ) && says(
+        alloc,
+        &bundle,
+        "aaaaaaaa-aaaa-aaaa-aaaa-aaaaaaaaaaaa:2",
+        "purged 0 aaaaaaaa-aaaa-aaaa-aaaa-aaaaaaaaaaaa:1",
+    ) && says(
+        alloc,
+        &bundle,
+        "aaaaaaaa-aaaa-aaaa-aaaa-aaaaaaaaaaaa:1-2",
+        "sound",
+    ) && says(
+        alloc,
+        &bundle,
+        "aaaaaaaa-aaaa-aaaa-aaaa-aaaaaaaaaaaa:1-3",
+        "sound",
+    );
     assert!(rt; said);
     Ok(())
 }
@@ -71,14 +83,22 @@ fn what_is_executed_from_the_start_is_not_missing(rt: HostRuntime) -> Result<(),
     let alloc = rt.alloc();
     let text = text(alloc, "-")?;
     let bundle = decode_bundle(alloc, text.as_bytes())?;
-    let said = says(alloc, &bundle, "", "missing aaaaaaaa-aaaa-aaaa-aaaa-aaaaaaaaaaaa:1")
-        && says(
-            alloc,
-            &bundle,
-            "aaaaaaaa-aaaa-aaaa-aaaa-aaaaaaaaaaaa:1",
-            "missing aaaaaaaa-aaaa-aaaa-aaaa-aaaaaaaaaaaa:2",
-        )
-        && says(alloc, &bundle, "aaaaaaaa-aaaa-aaaa-aaaa-aaaaaaaaaaaa:1-2", "sound");
+    let said = says(
+        alloc,
+        &bundle,
+        "",
+        "missing aaaaaaaa-aaaa-aaaa-aaaa-aaaaaaaaaaaa:1",
+    ) && says(
+        alloc,
+        &bundle,
+        "aaaaaaaa-aaaa-aaaa-aaaa-aaaaaaaaaaaa:1",
+        "missing aaaaaaaa-aaaa-aaaa-aaaa-aaaaaaaaaaaa:2",
+    ) && says(
+        alloc,
+        &bundle,
+        "aaaaaaaa-aaaa-aaaa-aaaa-aaaaaaaaaaaa:1-2",
+        "sound",
+    );
     assert!(rt; said);
     Ok(())
 }
