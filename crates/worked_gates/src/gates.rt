@@ -2,6 +2,7 @@
 
 ghost use Rattle.std.specs.Prelude.{◌≡◌, true};
 ghost use Rattle.replica_core.specs.Machine.{is_numbered};
+ghost use Rattle.serving.specs.Servable.{IsServable};
 
 use applier::{Gate, Hand, Ticket, drain, hands, run_workers};
 use commands::apply_journals;
@@ -19,7 +20,7 @@ use std::sync::Wait;
 use std::sync::atomic::{AtomicU64, Ordering};
 use std::test::Fail;
 use std::thread::Threads;
-use txn_journal::decode_bundle;
+use txn_journal::{Bundle, decode_bundle};
 
 /// A worker that waits before it prepares doesn't keep the other from committing.
 #[test]
@@ -169,6 +170,29 @@ close
 done
 ";
 
+/// How many rows a book shows.
+fn count_rows(alloc: Global, book: &ClosedBook) -> Option<usize> {
+    match book.state().rows().list_sorted(alloc) {
+        Ok(rows) => Some(rows.len()),
+        Err(_) => None,
+    }
+}
+
+/// How many rows two workers with a gate leave of a bundle; None where they leave a verdict.
+fn rows_applied<R: Threads + Wait + Sync>(
+    rt: &R,
+    alloc: Global,
+    bundle: &Bundle,
+    gate: &Meeting,
+) -> Option<usize>
+    requires can { IsServable bundle.now }
+{
+    match apply_journals(rt, alloc, bundle, 2, gate) {
+        Ok(StateOrVerdict::State(book)) => count_rows(alloc, &book),
+        _ => None,
+    }
+}
+
 /// Of two workers one is held before it prepares until the other has committed: so both apply, and
 /// nothing is left for the drain.
 #[test]
@@ -183,12 +207,9 @@ fn two_workers_apply_at_once(rt: HostRuntime) -> Result<(), Fail> {
         met: AtomicU64::new(0),
     };
     written_is_servable();
-    match apply_journals(&rt, alloc, &bundle, 2, &gate)? {
-        StateOrVerdict::State(book) => {
-            assert_eq!(rt; book.state().rows().list_sorted(alloc)?.len(), 2)
-        }
-        StateOrVerdict::Verdict(_) => return Err(Fail::from("a verdict")),
-    }
+    let rows = rows_applied(&rt, alloc, &bundle, &gate);
+    drop(bundle);
+    assert_eq!(rt; rows, Some(2));
     assert_eq!(rt; gate.met.load(Ordering::SeqCst), 1);
     Ok(())
 }
