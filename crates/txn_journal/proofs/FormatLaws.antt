@@ -13,7 +13,7 @@ use Rattle.std.proofs.lemmas.List.Concat.{flat_map-append}
 use Rattle.std.proofs.lemmas.Bool.{eqb-true, and_parts}
 use Rattle.gtid_set.specs.declared.fault.SetFault.{SetFault}
 use Rattle.rows.proofs.Lists.{all_push, all_append}
-use Rattle.txn_journal.specs.Formats.{Format, ended_line_of, text_of, AreWhole, start_of, eats_by, IsFaultBy, closing_by, whole_by, BeginsBy, capped, RefusesBy, SpellsBy}
+use Rattle.txn_journal.specs.Formats.{Format, ended_line_of, text_of, AreWhole, start_of, eats_by, IsFaultBy, closing_by, whole_by, MayWrite, BeginsBy, capped, RefusesBy, SpellsBy}
 use Rattle.txn_journal.specs.declared.fault.JournalFault.{JournalFault}
 use Rattle.txn_journal.specs.declared.fault.JournalFault.TheVariants as faults
 
@@ -62,11 +62,11 @@ leads_both {judge} {text} {s} {t} {u} {ks} {ls} a b = record {
 -- ---- laws of single lines
 
 -- a text of the value is read to its end
-pub record Reads (f : Format) (bytes : List ℕ) (v : f.Value) : Type 0 where
+pub record Reads (f : Format) (judge : Judge f.State) (bytes : List ℕ) (v : f.Value) : Type 0 where
   pub lines : List f.Line
   pub last : f.State
   pub parts : bytes ≡ text_of f lines
-  pub leads : Leads f.judge f.line_text f.start lines last
+  pub leads : Leads judge f.line_text f.start lines last
   pub done : f.is_last last ≡ true
   pub value : f.value last ≡ v
 
@@ -77,19 +77,23 @@ pub record OneMore (f : Format) (Sound : f.State → List f.Line → Type 0) (ol
   pub sound : Sound t (old ++ l ∷ [])
 
 -- the lines can be gone on with
-pub record CanGoOn (f : Format) (ls : List f.Line) : Type 0 where
+pub record CanGoOn (f : Format) (inside : Bool) (ls : List f.Line) : Type 0 where
   pub value : f.Value
   pub more : List f.Line
-  pub writes : f.Writes (text_of f (ls ++ more)) value
+  pub writes : MayWrite f inside (text_of f (ls ++ more)) value
 
--- Sound is what is known of lines and of what they have made
+-- Sound is what is known of lines and of what they have made. Judging loosely takes more: it doesn't look at entries as a whole.
 pub record Laws (f : Format) (Sound : f.State → List f.Line → Type 0) : Type 0 where
   pub starts : Sound f.start []
   pub heard : (s : f.State) (ls : List f.Line) → Sound s ls → f.HasHeard s ls
-  pub begins : (s : f.State) (ls : List f.Line) → Sound s ls → CanGoOn f ls
+  pub begins : (s : f.State) (ls : List f.Line) → Sound s ls → CanGoOn f (f.is_open s) ls
   pub judges : (s : f.State) (ls : List f.Line) (line : List ℕ) → Sound s ls → MatchResult (f.judge s line) (OneMore f Sound ls line) (f.HasCause s line)
   pub ends : (s : f.State) (ls : List f.Line) → Sound s ls → f.is_last s ≡ true → f.Writes (text_of f ls) (f.value s)
-  pub reads : (bytes : List ℕ) (v : f.Value) → f.Writes bytes v → Reads f bytes v
+  pub reads : (bytes : List ℕ) (v : f.Value) → f.Writes bytes v → Reads f f.judge bytes v
+  pub loose : Judge f.State
+  pub follows : (s t : f.State) (line : List ℕ) → f.judge s line ≡ Ok t → loose s line ≡ Ok t
+  pub refuses : (s : f.State) (line : List ℕ) (c : Cause) → f.judge s line ≡ Err c → f.is_inside line ≡ true → loose s line ≡ Err c
+  pub reads_open : (bytes : List ℕ) (v : f.Value) → f.AlmostWrites bytes v → Reads f loose bytes v
 
 -- ---- lines
 
@@ -128,10 +132,17 @@ module _ (f : Format) (Sound : f.State → List f.Line → Type 0) (laws : Laws 
   pub one_value : (bytes : List ℕ) (v w : f.Value) → f.Writes bytes v → f.Writes bytes w → v ≡ w
   one_value bytes v w a b = let k = sym (reads_back bytes v a) ∙ reads_back bytes w b in cc
 
-  begins : (s : f.State) (ls : List f.Line) → Sound s ls → BeginsBy f (text_of f ls)
+  -- what is almost spelled is read loosely
+  reads_loosely : (bytes : List ℕ) (v : f.Value) → f.AlmostWrites bytes v → (t : f.State) × (n : ℕ) × (eats laws.loose (start_of f) bytes ≡ Reading t n [])
+  reads_loosely bytes v w =
+      let r = laws.reads_open bytes v w in
+      let eaten = eats_runs laws.loose f.line_text f.start r.last r.lines 0 r.leads.whole r.leads.run in
+      (r.last, eaten.0, ap (eats laws.loose (start_of f)) r.parts ∙ eaten.1)
+
+  begins : (s : f.State) (ls : List f.Line) → Sound s ls → BeginsBy f (f.is_open s) (text_of f ls)
   begins s ls h =
       let k = laws.begins s ls h in
-      (k.value, text_of f k.more, subst (λ (x : List ℕ). f.Writes x k.value) (flat_map-append (ended_line_of f) ls k.more) k.writes)
+      (k.value, text_of f k.more, subst (λ (x : List ℕ). MayWrite f (f.is_open s) x k.value) (flat_map-append (ended_line_of f) ls k.more) k.writes)
 
   -- ---- what is read is spelled
 
@@ -144,11 +155,12 @@ module _ (f : Format) (Sound : f.State → List f.Line → Type 0) (laws : Laws 
     number : n ≡ capped (length lines)
     sound : Sound s lines
     eaten : (more : List ℕ) → eats_by f (start_of f) (text_of f lines ++ (rest ++ more)) ≡ eats_by f (Reading s n rest) more
+    loosely : (more : List ℕ) → eats laws.loose (start_of f) (text_of f lines ++ (rest ++ more)) ≡ eats laws.loose (Reading s n rest) more
 
   -- the text ends here
   ends_here : (bytes : List ℕ) (s : f.State) (n : ℕ) (rest : List ℕ) (v : Bool) → f.is_last s ≡ v → Stands bytes s n rest [] → whole_by f bytes ≡ at_end (ended v rest n) (f.value s) → SpellsBy f bytes (at_end (ended v rest n) (f.value s))
   ends_here bytes s n rest false last h e = (
-    record { before = h.lines; rest = rest; parts = h.parts ∙ ap (λ (x : List ℕ). text_of f h.lines ++ x) (append-nil rest); lines = h.whole; part = h.part; number = omega (arith, h.number); begins = begins s h.lines h.sound },
+    record { before = h.lines; rest = rest; parts = h.parts ∙ ap (λ (x : List ℕ). text_of f h.lines ++ x) (append-nil rest); lines = h.whole; part = h.part; state = s; heard = laws.heard s h.lines h.sound; number = omega (arith, h.number); begins = begins s h.lines h.sound },
     λ v w. absurd (let k = sym e ∙ reads_back bytes v w in cc),
   )
   ends_here bytes s n [] true last h e = subst (λ (x : List ℕ). f.Writes x (f.value s)) (sym (h.parts ∙ append-nil (text_of f h.lines))) (laws.ends s h.lines h.sound last)
@@ -160,6 +172,24 @@ module _ (f : Format) (Sound : f.State → List f.Line → Type 0) (laws : Laws 
       ap (λ (x : List ℕ). text_of f ls ++ (x ++ 10 ∷ more)) e
       ∙ ap (λ (x : List ℕ). text_of f ls ++ x) (sym (append_assoc (f.line_text l) (10 ∷ []) more))
       ∙ texts_more f ls l more
+
+  -- no value's text begins with a line that is refused
+  no_value : (bytes bs : List ℕ) (s : f.State) (n : ℕ) (rest : List ℕ) (h : Stands bytes s n rest (10 ∷ bs)) (c : Cause) → f.judge s rest ≡ Err c → (inside : Bool) → f.is_inside rest ≡ inside → (v : f.Value) (more : List ℕ)
+      → MayWrite f inside ((text_of f h.lines ++ (rest ++ 10 ∷ [])) ++ more) v → ⊥
+  unfolding closing_by eat
+  no_value bytes bs s n rest h c j false e v more w =
+      let fault = faults.Line (next_number n) c in
+      let front = text_of f h.lines ++ (rest ++ 10 ∷ []) in
+      let stopped : eats_by f (Reading s n rest) (10 ∷ []) ≡ Stopped fault = ap (λ (x : Result f.State Cause). eats_by f (judged x (next_number n)) []) j in
+      let at : eats_by f (start_of f) (front ++ more) ≡ Stopped fault = eats_append f.judge (start_of f) front more ∙ ap (λ (p : Progress f.State). eats_by f p more) (h.eaten (10 ∷ []) ∙ stopped) ∙ stopped_stays f.judge fault more in
+      let k = sym (reads_back (front ++ more) v w) ∙ ap (closing_by f) at in cc
+  no_value bytes bs s n rest h c j true e v more w =
+      let fault = faults.Line (next_number n) c in
+      let front = text_of f h.lines ++ (rest ++ 10 ∷ []) in
+      let stopped : eats laws.loose (Reading s n rest) (10 ∷ []) ≡ Stopped fault = ap (λ (x : Result f.State Cause). eats laws.loose (judged x (next_number n)) []) (laws.refuses s rest c j e) in
+      let at : eats laws.loose (start_of f) (front ++ more) ≡ Stopped fault = eats_append laws.loose (start_of f) front more ∙ ap (λ (p : Progress f.State). eats laws.loose p more) (h.loosely (10 ∷ []) ∙ stopped) ∙ stopped_stays laws.loose fault more in
+      let read = reads_loosely (front ++ more) v w in
+      let k = sym read.2 ∙ at in cc
 
   -- a line that is taken, or the first that is not
   next_line : (bytes bs : List ℕ) (s : f.State) (n : ℕ) (rest : List ℕ) (h : Stands bytes s n rest (10 ∷ bs)) (r : Result f.State Cause) → f.judge s rest ≡ r → MatchResult r (OneMore f Sound h.lines rest) (f.HasCause s rest)
@@ -175,11 +205,10 @@ module _ (f : Format) (Sound : f.State → List f.Line → Type 0) (laws : Laws 
         number = omega (arith, h.number, length-append h.lines (k.l ∷ []));
         sound = k.sound;
         eaten = λ m. ap (eats_by f (start_of f)) (sym (line_more h.lines k.l rest m k.text)) ∙ h.eaten (10 ∷ m) ∙ ap (λ (x : Result f.State Cause). eats_by f (judged x (next_number n)) m) j;
+        loosely = λ m. ap (eats laws.loose (start_of f)) (sym (line_more h.lines k.l rest m k.text)) ∙ h.loosely (10 ∷ m) ∙ ap (λ (x : Result f.State Cause). eats laws.loose (judged x (next_number n)) m) (laws.follows s t rest j);
       })
   next_line bytes bs s n rest h (Err c) j cause more =
       let fault = faults.Line (next_number n) c in
-      let stopped : (m : List ℕ) → eats_by f (Reading s n rest) (10 ∷ m) ≡ Stopped fault = λ m. ap (λ (x : Result f.State Cause). eats_by f (judged x (next_number n)) m) j ∙ stopped_stays f.judge fault m in
-      let front = text_of f h.lines ++ (rest ++ 10 ∷ []) in
       subst (λ (p : Progress f.State). SpellsBy f bytes (closing_by f p)) (sym (stopped_stays f.judge fault bs)) (inl (record {
         before = h.lines;
         line = rest;
@@ -188,12 +217,10 @@ module _ (f : Format) (Sound : f.State → List f.Line → Type 0) (laws : Laws 
         lines = h.whole;
         whole = h.part;
         number = omega (arith, h.number);
-        begins = begins s h.lines h.sound;
-        faulty = λ b.
-            let at : eats_by f (start_of f) (front ++ b.1) ≡ Stopped fault = eats_append f.judge (start_of f) front b.1 ∙ ap (λ (p : Progress f.State). eats_by f p b.1) (h.eaten (10 ∷ []) ∙ stopped []) ∙ stopped_stays f.judge fault b.1 in
-            let k = sym (reads_back (front ++ b.1) b.0 b.2) ∙ ap (closing_by f) at in cc;
         state = s;
         heard = laws.heard s h.lines h.sound;
+        begins = begins s h.lines h.sound;
+        faulty = λ b. no_value bytes bs s n rest h c j (f.is_inside rest) refl b.0 b.1 b.2;
         has_cause = cause;
       }))
 
@@ -215,6 +242,10 @@ module _ (f : Format) (Sound : f.State → List f.Line → Type 0) (laws : Laws 
         ap (λ (x : List ℕ). eats_by f (start_of f) (text_of f h.lines ++ x)) (append_assoc rest (b ∷ []) m)
         ∙ h.eaten (b ∷ m)
         ∙ ap (λ (x : Bool). eats_by f (cond x (judged (f.judge s rest) (next_number n)) (Reading s n (rest ++ b ∷ []))) m) e;
+    loosely = λ m.
+        ap (λ (x : List ℕ). eats laws.loose (start_of f) (text_of f h.lines ++ x)) (append_assoc rest (b ∷ []) m)
+        ∙ h.loosely (b ∷ m)
+        ∙ ap (λ (x : Bool). eats laws.loose (cond x (judged (laws.loose s rest) (next_number n)) (Reading s n (rest ++ b ∷ []))) m) e;
   })
 
   goes_on : (bytes left : List ℕ) (s : f.State) (n : ℕ) (rest : List ℕ) → Stands bytes s n rest left → SpellsBy f bytes (closing_by f (eats_by f (Reading s n rest) left))
@@ -226,7 +257,7 @@ module _ (f : Format) (Sound : f.State → List f.Line → Type 0) (laws : Laws 
 
   spells : (r : Result f.Value JournalFault) (bytes : List ℕ) → IsWholeOr (IsFaultBy f (start_of f) bytes) r (whole_by f bytes) → SpellsBy f bytes r
   spells r bytes (inl e) = subst (SpellsBy f bytes) (sym e.1) e.2
-  spells r bytes (inr e) = subst (SpellsBy f bytes) (sym e) (goes_on bytes bytes f.start 0 [] (record { lines = []; parts = refl; whole = tt; part = refl; number = omega arith; sound = laws.starts; eaten = λ m. refl }))
+  spells r bytes (inr e) = subst (SpellsBy f bytes) (sym e) (goes_on bytes bytes f.start 0 [] (record { lines = []; parts = refl; whole = tt; part = refl; number = omega arith; sound = laws.starts; eaten = λ m. refl; loosely = λ m. refl }))
 
   pub is_found : (r : Result f.Value JournalFault) (bytes : List ℕ) → IsWholeOr (IsFaultBy f (start_of f) bytes) r (whole_by f bytes) → IfOk r (λ v. f.Writes bytes v)
   is_found (Ok v) bytes h = spells (Ok v) bytes h

@@ -1,30 +1,35 @@
 -- Lines: what is read is spelled so, and what is spelled so is read.
-use Rattle.std.proofs.Common.{◌≡◌, ℕ, inl, inr, true, List, [], ◌∷◌, ◌++◌, Option, Some, None, Result, Ok, refl, sym, ap, ◌∙◌}
-use Rattle.std.specs.Prelude.{codes, MatchResult}
+use Rattle.std.proofs.Common.{◌≡◌, ℕ, inl, inr, true, List, [], ◌∷◌, ◌++◌, Option, Some, None, Result, Ok, refl, sym, ap, ◌∙◌, not, eqb}
+use Rattle.std.specs.Prelude.{codes, MatchResult, ◌&&◌}
+use Rattle.std.proofs.lemmas.Bool.{and_parts}
+use Rattle.std.proofs.lemmas.List.{append-nil}
+use Rattle.gtid_set.proofs.SpanLemmas.{all_weaker}
 use Rattle.std.specs.Str.{bytes_eq}
 use Rattle.std.proofs.lemmas.Slice.Eq.{bytes_eq-Decides}
 use Rattle.gtid_text.specs.Written.{IsUsable}
 use Rattle.gtid_text.specs.Canonical.{gtid_text}
+use Rattle.gtid_text.specs.declared.Gtid.{Gtid}
 use Rattle.rows.specs.declared.change.Change.TheVariants.{Insert, Delete, Update}
 use Rattle.rows.specs.declared.schema.Table.{Table}
 use Rattle.rows.specs.Names.{is_name}
 use Rattle.journal_words.specs.Words.{is_count, first_word, others}
 use Rattle.journal_words.specs.Gtids.{gtid_of_word, set_of_word}
 use Rattle.txn_journal.specs.WrittenSets.{set_text, IsWrittenSet}
-use Rattle.journal_words.proofs.Counts.{word_alone, word_and_more, first_word-front, others-front}
-use Rattle.txn_journal.proofs.GtidLaws.{gtid_found, gtid_again, set_found, set_again}
+use Rattle.journal_words.proofs.Counts.{lacks, word_alone, word_and_more, first_word-front, others-front}
+use Rattle.txn_journal.proofs.GtidLaws.{is_set_byte, set_no_blank, gtid_set_bytes, gtid_found, gtid_again, set_found, set_again}
+use Rattle.txn_journal.proofs.SplitLaws.{count_no_blank}
 use Rattle.txn_journal.specs.Words.{name_of}
 use Rattle.txn_journal.specs.Due.{is_due}
-use Rattle.txn_journal.specs.Lines.{◌>>=◌, some_or_body, keyword_of, due, takes_one, version_in, gtid_in, set_in, nothing_in, image_in, images_in, table_in}
+use Rattle.txn_journal.specs.Lines.{◌>>=◌, Numbers, Beginning, some_or_body, keyword_of, due, takes, version_named, known, version_in, numbers_in, beginning_text, beginning_in, set_in, nothing_in, image_in, images_in, table_in}
 use Rattle.txn_journal.specs.Machine.{Standing, closed, add, begin, opened, followed, begun, ended, finished, step, judge}
-use Rattle.txn_journal.specs.Spelling.{Line, Header, Previous, Begin, Makes, End, Close, version_text, values_text, line_text}
-use Rattle.txn_journal.specs.Causes.{keyword_text, word_for, FitsAt, wording}
+use Rattle.txn_journal.specs.Spelling.{Line, Header, Previous, Begin, Makes, End, Close, version_text, numbers_text, values_text, line_text}
+use Rattle.txn_journal.specs.Causes.{keyword_text, word_for, AreCounts, HasNumbers, FitsAt, wording}
 use Rattle.txn_journal.specs.declared.fault.Cause.{Cause}
 use Rattle.txn_journal.specs.declared.lines.Place.TheVariants as places
 use Rattle.txn_journal.specs.declared.lines.Keyword.{Keyword}
 use Rattle.txn_journal.specs.declared.lines.Keyword.TheVariants as keywords
 use Rattle.txn_journal.specs.declared.lines.Version.{Version}
-use Rattle.txn_journal.specs.declared.lines.Version.TheVariants.{One}
+use Rattle.txn_journal.specs.declared.lines.Version.TheVariants.{One, Two}
 use Rattle.txn_journal.proofs.NameLemmas.{name_no_blank}
 use Rattle.txn_journal.proofs.ImageLaws.{image_both, images_both, image_again, images_again}
 use Rattle.txn_journal.proofs.Judged.{then_both, if_both, some_both, IsBody, one_step, two_steps, bind_assoc}
@@ -35,39 +40,39 @@ use Rattle.gtid_text.proofs.Turns.{chosen}
 -- ---- a line is read, and then it acts
 
 -- what the rest of a line says
-unfoldable pub body_of : Option Version → Keyword → Option (List ℕ) → Result Line Cause
-body_of due keywords.Journal rest = version_in due rest >>= λ version. Ok (Header version)
-body_of due keywords.Previous rest = set_in rest >>= λ s. Ok (Previous s)
-body_of due keywords.Txn rest = gtid_in rest >>= λ g. Ok (Begin g)
-body_of due keywords.Ins rest = table_in rest >>= λ table. image_in table.1 >>= λ after. Ok (Makes (Insert table.0 after))
-body_of due keywords.Del rest = table_in rest >>= λ table. image_in table.1 >>= λ before. Ok (Makes (Delete table.0 before))
-body_of due keywords.Upd rest = table_in rest >>= λ table. images_in table.1 >>= λ images. Ok (Makes (Update table.0 images.0 images.1))
-body_of due keywords.End rest = nothing_in rest >>= λ nothing. Ok End
-body_of due keywords.Close rest = nothing_in rest >>= λ nothing. Ok Close
+unfoldable pub body_of : Option Version → Version → Keyword → Option (List ℕ) → Result Line Cause
+body_of due version keywords.Journal rest = version_in due rest >>= λ v. Ok (Header v)
+body_of due version keywords.Previous rest = set_in rest >>= λ s. Ok (Previous s)
+body_of due version keywords.Txn rest = beginning_in version rest >>= λ b. Ok (Begin b.gtid b.numbers)
+body_of due version keywords.Ins rest = table_in rest >>= λ table. image_in table.1 >>= λ after. Ok (Makes (Insert table.0 after))
+body_of due version keywords.Del rest = table_in rest >>= λ table. image_in table.1 >>= λ before. Ok (Makes (Delete table.0 before))
+body_of due version keywords.Upd rest = table_in rest >>= λ table. images_in table.1 >>= λ images. Ok (Makes (Update table.0 images.0 images.1))
+body_of due version keywords.End rest = nothing_in rest >>= λ nothing. Ok End
+body_of due version keywords.Close rest = nothing_in rest >>= λ nothing. Ok Close
 
 -- what a line makes of what the lines before it have made
 unfoldable pub put : Option (List Table) → Standing → Line → Result Standing Cause
 put schema s (Header version) = Ok (record s { place = places.Previous; version = version })
 put schema s (Previous previous) = Ok (record s { place = places.Between; journal = record { previous = previous; entries = [] }; seen = previous })
-put schema s (Begin g) = begin s g
+put schema s (Begin g numbers) = begin s g numbers
 put schema s (Makes change) = add schema s change
 put schema s End = Ok (closed s)
 put schema s Close = Ok (record s { place = places.Ended })
 
-step_reads : (schema : Option (List Table)) (s : Standing) (k : Keyword) (rest : Option (List ℕ)) → step schema s k rest ≡ (body_of s.due k rest >>= put schema s)
+step_reads : (schema : Option (List Table)) (s : Standing) (k : Keyword) (rest : Option (List ℕ)) → step schema s k rest ≡ (body_of s.due s.version k rest >>= put schema s)
 unfolding step opened followed begun ended finished body_of put
 step_reads schema s keywords.Journal rest = one_step (version_in s.due rest) Header (put schema s)
 step_reads schema s keywords.Previous rest = one_step (set_in rest) Previous (put schema s)
-step_reads schema s keywords.Txn rest = one_step (gtid_in rest) Begin (put schema s)
+step_reads schema s keywords.Txn rest = one_step (beginning_in s.version rest) (λ b. Begin b.gtid b.numbers) (put schema s)
 step_reads schema s keywords.Ins rest = two_steps (table_in rest) (λ table. image_in table.1) (λ table after. Makes (Insert table.0 after)) (put schema s)
 step_reads schema s keywords.Del rest = two_steps (table_in rest) (λ table. image_in table.1) (λ table before. Makes (Delete table.0 before)) (put schema s)
 step_reads schema s keywords.Upd rest = two_steps (table_in rest) (λ table. images_in table.1) (λ table images. Makes (Update table.0 images.0 images.1)) (put schema s)
 step_reads schema s keywords.End rest = one_step (nothing_in rest) (λ nothing. End) (put schema s)
 step_reads schema s keywords.Close rest = one_step (nothing_in rest) (λ nothing. Close) (put schema s)
 
-pub judge_reads : (schema : Option (List Table)) (s : Standing) (line : List ℕ) → judge schema s line ≡ (read_by (wording schema s) (body_of s.due) line >>= put schema s)
+pub judge_reads : (schema : Option (List Table)) (s : Standing) (line : List ℕ) → judge schema s line ≡ (read_by (wording schema s) (body_of s.due s.version) line >>= put schema s)
 unfolding judge
-judge_reads schema s line = bind_assoc (due (is_due s.place) (keyword_of (first_word line))) (λ word. body_of s.due word (others line)) (λ word. step schema s word (others line)) (put schema s) (λ word. step_reads schema s word (others line))
+judge_reads schema s line = bind_assoc (due (is_due s.place) (keyword_of (first_word line))) (λ word. body_of s.due s.version word (others line)) (λ word. step schema s word (others line)) (put schema s) (λ word. step_reads schema s word (others line))
 
 -- ---- the first word
 
@@ -76,16 +81,44 @@ every_keyword = keywords.Journal ∷ keywords.Previous ∷ keywords.Txn ∷ keyw
 
 -- ---- what the words are
 
-pub version_both : (due : Option Version) (rest : Option (List ℕ)) → MatchResult (version_in due rest) (λ v. (rest ≡ Some (version_text v)) × (takes_one due ≡ true)) (IsVersionFault rest)
-version_both due None = tt
-version_both due (Some w) =
-    if_both _ _ (is_count w) _ _
-    (λ count. if_both _ _ (bytes_eq w (codes "1")) _ _ (λ one. if_both _ _ (takes_one due) _ _ (λ takes. (ap Some ((bytes_eq-Decides w (codes "1")).0 one), takes)) (λ no. (w, refl, count))) (λ no. (w, refl, count)))
-    (λ no. tt)
+version_known : (due : Option Version) (w : List ℕ) (o : Option Version) → is_count w ≡ true → version_named w ≡ o → MatchResult (known due o) (λ v. (Some w ≡ Some (version_text v)) × (takes due v ≡ true)) (IsVersionFault (Some w))
+version_known due w None count e = (w, refl, count)
+version_known due w (Some v) count e = if_both _ _ (takes due v) _ _ (λ taken. (ap Some (among_found version_text (One ∷ Two ∷ []) w v e), taken)) (λ no. (w, refl, count))
 
-gtid_both : (rest : Option (List ℕ)) → MatchResult (gtid_in rest) (λ g. (rest ≡ Some (gtid_text g)) × IsUsable g) IsBody
-gtid_both None = tt
-gtid_both (Some w) = some_both _ _ (gtid_of_word w) (λ g e. let f = gtid_found w g e in (ap Some f.0, f.1)) tt
+pub version_both : (due : Option Version) (rest : Option (List ℕ)) → MatchResult (version_in due rest) (λ v. (rest ≡ Some (version_text v)) × (takes due v ≡ true)) (IsVersionFault rest)
+version_both due None = tt
+version_both due (Some w) = if_both _ _ (is_count w) _ _ (λ count. version_known due w (version_named w) count refl) (λ no. tt)
+
+-- two numbers
+record AreNumbers (rest : Option (List ℕ)) (n : Numbers) : Type 0 where
+  text : rest ≡ Some (n.last_committed ++ 32 ∷ n.sequence_number)
+  counts : AreCounts (Some n)
+
+numbers_both : (rest : Option (List ℕ)) → MatchResult (numbers_in rest) (AreNumbers rest) IsBody
+numbers_both None = tt
+numbers_both (Some text) =
+    then_both _ _ (some_or_body (others text)) _ (some_both (λ r. others text ≡ Some r) _ (others text) (λ r e. e) tt)
+    (λ r rest. if_both _ _ (is_count (first_word text) && is_count r) _ _ (λ both. record { text = ap Some (word_and_more text r rest); counts = and_parts (is_count (first_word text)) (is_count r) both }) (λ no. tt))
+
+-- a GTID, and numbers where the version writes them
+record IsBeginning (version : Version) (rest : Option (List ℕ)) (b : Beginning) : Type 0 where
+  text : rest ≡ Some (gtid_text b.gtid ++ numbers_text b.numbers)
+  usable : IsUsable b.gtid
+  counts : AreCounts b.numbers
+  of_version : HasNumbers version b.numbers
+
+beginning_both_of : (version : Version) (text : List ℕ) → MatchResult (beginning_text version text) (IsBeginning version (Some text)) IsBody
+beginning_both_of One w =
+    then_both _ _ (some_or_body (gtid_of_word w)) _ (some_both _ _ (gtid_of_word w) (λ g e. gtid_found w g e) tt)
+    (λ g f. record { text = ap Some (f.0 ∙ sym (append-nil (gtid_text g))); usable = f.1; counts = tt; of_version = tt })
+beginning_both_of Two text =
+    then_both _ _ (some_or_body (gtid_of_word (first_word text))) _ (some_both _ _ (gtid_of_word (first_word text)) (λ g e. gtid_found (first_word text) g e) tt)
+    (λ g f. then_both _ _ (numbers_in (others text)) _ (numbers_both (others text))
+    (λ n h. record { text = ap Some (word_and_more text _ h.text ∙ ap (λ (w : List ℕ). w ++ 32 ∷ (n.last_committed ++ 32 ∷ n.sequence_number)) f.0); usable = f.1; counts = h.counts; of_version = tt }))
+
+beginning_both : (version : Version) (rest : Option (List ℕ)) → MatchResult (beginning_in version rest) (IsBeginning version rest) IsBody
+beginning_both version None = tt
+beginning_both version (Some text) = beginning_both_of version text
 
 set_both : (rest : Option (List ℕ)) → MatchResult (set_in rest) (λ s. (rest ≡ Some (set_text s)) × IsWrittenSet s) IsBody
 set_both None = tt
@@ -121,49 +154,74 @@ with_none line w first rest = word_alone line rest ∙ first
 pub with_table : (line w name text r : List ℕ) → first_word line ≡ w → others line ≡ Some (name ++ 32 ∷ text) → text ≡ r → line ≡ w ++ 32 ∷ (name ++ 32 ∷ r)
 with_table line w name text r first rest is = with_more line w (name ++ 32 ∷ text) first rest ∙ ap (λ (t : List ℕ). w ++ 32 ∷ (name ++ 32 ∷ t)) is
 
-rest_both : (schema : Option (List Table)) (s : Standing) (k : Keyword) (line : List ℕ) → first_word line ≡ keyword_text k → MatchResult (body_of s.due k (others line)) (Spells (wording schema s) k line) (IsRestFault (wording schema s) k (others line))
+rest_both : (schema : Option (List Table)) (s : Standing) (k : Keyword) (line : List ℕ) → first_word line ≡ keyword_text k → MatchResult (body_of s.due s.version k (others line)) (Spells (wording schema s) k line) (IsRestFault (wording schema s) k (others line))
 unfolding body_of
 rest_both schema s keywords.Journal line first =
     of_header (wording schema s) (others line) (Spells (wording schema s) keywords.Journal line) _
-    (then_both _ _ (version_in s.due (others line)) _ (version_both s.due (others line)) (λ v f. record { text = with_more line (codes "journal") (version_text v) first f.0; fits = record { words = tt; images = tt; version = f.1 }; word = refl }))
+    (then_both _ _ (version_in s.due (others line)) _ (version_both s.due (others line)) (λ v f. record { text = with_more line (codes "journal") (version_text v) first f.0; fits = record { words = tt; images = tt; of_version = f.1 }; word = refl }))
 rest_both schema s keywords.Previous line first =
     of_body (wording schema s) keywords.Previous (others line) (Spells (wording schema s) keywords.Previous line) _
-    (then_both _ _ (set_in (others line)) _ (set_both (others line)) (λ p f. record { text = with_more line (codes "previous") (set_text p) first f.0; fits = record { words = f.1; images = tt; version = tt }; word = refl }))
+    (then_both _ _ (set_in (others line)) _ (set_both (others line)) (λ p f. record { text = with_more line (codes "previous") (set_text p) first f.0; fits = record { words = f.1; images = tt; of_version = tt }; word = refl }))
 rest_both schema s keywords.Txn line first =
     of_body (wording schema s) keywords.Txn (others line) (Spells (wording schema s) keywords.Txn line) _
-    (then_both _ _ (gtid_in (others line)) _ (gtid_both (others line)) (λ g f. record { text = with_more line (codes "txn") (gtid_text g) first f.0; fits = record { words = f.1; images = tt; version = tt }; word = refl }))
+    (then_both _ _ (beginning_in s.version (others line)) _ (beginning_both s.version (others line))
+    (λ b f. record { text = with_more line (codes "txn") (gtid_text b.gtid ++ numbers_text b.numbers) first f.text; fits = record { words = (f.usable, f.counts); images = tt; of_version = f.of_version }; word = refl }))
 rest_both schema s keywords.Ins line first =
     of_body (wording schema s) keywords.Ins (others line) (Spells (wording schema s) keywords.Ins line) _
-    (then_both _ _ (table_in (others line)) _ (table_both (others line)) (λ t h. then_both _ _ (image_in t.1) _ (image_both t.1) (λ after f. record { text = with_table line (codes "ins") t.0 t.1 (values_text after) first h.0 f.0; fits = record { words = (h.1, f.1); images = f.2; version = tt }; word = refl })))
+    (then_both _ _ (table_in (others line)) _ (table_both (others line)) (λ t h. then_both _ _ (image_in t.1) _ (image_both t.1) (λ after f. record { text = with_table line (codes "ins") t.0 t.1 (values_text after) first h.0 f.0; fits = record { words = (h.1, f.1); images = f.2; of_version = tt }; word = refl })))
 rest_both schema s keywords.Del line first =
     of_body (wording schema s) keywords.Del (others line) (Spells (wording schema s) keywords.Del line) _
-    (then_both _ _ (table_in (others line)) _ (table_both (others line)) (λ t h. then_both _ _ (image_in t.1) _ (image_both t.1) (λ before f. record { text = with_table line (codes "del") t.0 t.1 (values_text before) first h.0 f.0; fits = record { words = (h.1, f.1); images = f.2; version = tt }; word = refl })))
+    (then_both _ _ (table_in (others line)) _ (table_both (others line)) (λ t h. then_both _ _ (image_in t.1) _ (image_both t.1) (λ before f. record { text = with_table line (codes "del") t.0 t.1 (values_text before) first h.0 f.0; fits = record { words = (h.1, f.1); images = f.2; of_version = tt }; word = refl })))
 rest_both schema s keywords.Upd line first =
     of_body (wording schema s) keywords.Upd (others line) (Spells (wording schema s) keywords.Upd line) _
     (then_both _ _ (table_in (others line)) _ (table_both (others line)) (λ t h. then_both _ _ (images_in t.1) _ (images_both t.1)
-    (λ p f. record { text = with_table line (codes "upd") t.0 t.1 (values_text p.0 ++ 32 ∷ (124 ∷ 32 ∷ values_text p.1)) first h.0 f.spelt; fits = record { words = (h.1, f.before_fits, f.after_fits); images = (f.before_some, f.after_some); version = tt }; word = refl })))
+    (λ p f. record { text = with_table line (codes "upd") t.0 t.1 (values_text p.0 ++ 32 ∷ (124 ∷ 32 ∷ values_text p.1)) first h.0 f.spelt; fits = record { words = (h.1, f.before_fits, f.after_fits); images = (f.before_some, f.after_some); of_version = tt }; word = refl })))
 rest_both schema s keywords.End line first =
-    of_body (wording schema s) keywords.End (others line) (Spells (wording schema s) keywords.End line) _ (then_both _ _ (nothing_in (others line)) _ (nothing_both (others line)) (λ u none. record { text = with_none line (codes "end") first none; fits = record { words = tt; images = tt; version = tt }; word = refl }))
+    of_body (wording schema s) keywords.End (others line) (Spells (wording schema s) keywords.End line) _ (then_both _ _ (nothing_in (others line)) _ (nothing_both (others line)) (λ u none. record { text = with_none line (codes "end") first none; fits = record { words = tt; images = tt; of_version = tt }; word = refl }))
 rest_both schema s keywords.Close line first =
-    of_body (wording schema s) keywords.Close (others line) (Spells (wording schema s) keywords.Close line) _ (then_both _ _ (nothing_in (others line)) _ (nothing_both (others line)) (λ u none. record { text = with_none line (codes "close") first none; fits = record { words = tt; images = tt; version = tt }; word = refl }))
+    of_body (wording schema s) keywords.Close (others line) (Spells (wording schema s) keywords.Close line) _ (then_both _ _ (nothing_in (others line)) _ (nothing_both (others line)) (λ u none. record { text = with_none line (codes "close") first none; fits = record { words = tt; images = tt; of_version = tt }; word = refl }))
 
 -- ---- what is spelled is read
 
 pub table_again : (name text : List ℕ) → is_name name ≡ true → table_in (Some (name ++ 32 ∷ text)) ≡ Ok (name, text)
 table_again name text e = rw (others-front name text (name_no_blank name e), first_word-front name text (name_no_blank name e), e) refl
 
-read_again : (schema : Option (List Table)) (st : Standing) (l : Line) → is_due st.place (word_for l) ≡ true → FitsAt st.due l → read_by (wording schema st) (body_of st.due) (line_text l) ≡ Ok l
-unfolding body_of
-read_again schema st (Header One) is fits = read_at (wording schema st) (body_of st.due) (line_text (Header One)) keywords.Journal (Some (codes "1")) refl refl refl is ∙ rw fits.version refl
-read_again schema st (Previous s) is fits = read_at (wording schema st) (body_of st.due) (line_text (Previous s)) keywords.Previous (Some (set_text s)) refl refl refl is ∙ rw (set_again s fits.words) refl
-read_again schema st (Begin g) is fits = read_at (wording schema st) (body_of st.due) (line_text (Begin g)) keywords.Txn (Some (gtid_text g)) refl refl refl is ∙ rw (gtid_again g fits.words) refl
-read_again schema st (Makes (Insert table after)) is fits = read_at (wording schema st) (body_of st.due) (line_text (Makes (Insert table after))) keywords.Ins (Some (table ++ 32 ∷ values_text after)) refl refl refl is ∙ rw (table_again table (values_text after) fits.words.0, image_again after fits.images fits.words.1) refl
-read_again schema st (Makes (Delete table before)) is fits = read_at (wording schema st) (body_of st.due) (line_text (Makes (Delete table before))) keywords.Del (Some (table ++ 32 ∷ values_text before)) refl refl refl is ∙ rw (table_again table (values_text before) fits.words.0, image_again before fits.images fits.words.1) refl
-read_again schema st (Makes (Update table before after)) is fits =
-    read_at (wording schema st) (body_of st.due) (line_text (Makes (Update table before after))) keywords.Upd (Some (table ++ 32 ∷ (values_text before ++ 32 ∷ (124 ∷ 32 ∷ values_text after)))) refl refl refl is
-    ∙ rw (table_again table (values_text before ++ 32 ∷ (124 ∷ 32 ∷ values_text after)) fits.words.0, images_again before after fits.images.0 fits.words.1 fits.images.1 fits.words.2) refl
-read_again schema st End is fits = read_at (wording schema st) (body_of st.due) (line_text End) keywords.End None refl refl refl is
-read_again schema st Close is fits = read_at (wording schema st) (body_of st.due) (line_text Close) keywords.Close None refl refl refl is
+beginning_again : (version : Version) (g : Gtid) (numbers : Option Numbers) → IsUsable g → AreCounts numbers → HasNumbers version numbers → beginning_in version (Some (gtid_text g ++ numbers_text numbers)) ≡ Ok (record { gtid = g; numbers = numbers })
+beginning_again One g None usable counts is = rw (append-nil (gtid_text g), gtid_again g usable) refl
+beginning_again Two g (Some n) usable counts is =
+    let no_blank : lacks 32 (gtid_text g) ≡ true = all_weaker is_set_byte (λ b. not (eqb b 32)) (gtid_text g) set_no_blank (gtid_set_bytes g usable) in
+    let lacks_blank = count_no_blank n.last_committed counts.0 in
+    rw (
+      first_word-front (gtid_text g) (n.last_committed ++ 32 ∷ n.sequence_number) no_blank,
+      others-front (gtid_text g) (n.last_committed ++ 32 ∷ n.sequence_number) no_blank,
+      gtid_again g usable,
+      others-front n.last_committed n.sequence_number lacks_blank,
+      first_word-front n.last_committed n.sequence_number lacks_blank,
+      counts.0,
+      counts.1,
+    ) refl
+beginning_again One g (Some n) usable counts is = absurd is
+beginning_again Two g None usable counts is = absurd is
 
-pub rest_laws : (schema : Option (List Table)) (s : Standing) → RestLaws (wording schema s) (body_of s.due)
+header_again : (schema : Option (List Table)) (st : Standing) (v : Version) → is_due st.place keywords.Journal ≡ true → takes st.due v ≡ true → read_by (wording schema st) (body_of st.due st.version) (line_text (Header v)) ≡ Ok (Header v)
+unfolding body_of
+header_again schema st One is taken = read_at (wording schema st) (body_of st.due st.version) (line_text (Header One)) keywords.Journal (Some (codes "1")) refl refl refl is ∙ rw taken refl
+header_again schema st Two is taken = read_at (wording schema st) (body_of st.due st.version) (line_text (Header Two)) keywords.Journal (Some (codes "2")) refl refl refl is ∙ rw taken refl
+
+read_again : (schema : Option (List Table)) (st : Standing) (l : Line) → is_due st.place (word_for l) ≡ true → FitsAt st.due st.version l → read_by (wording schema st) (body_of st.due st.version) (line_text l) ≡ Ok l
+unfolding body_of
+read_again schema st (Header v) is fits = header_again schema st v is fits.of_version
+read_again schema st (Previous s) is fits = read_at (wording schema st) (body_of st.due st.version) (line_text (Previous s)) keywords.Previous (Some (set_text s)) refl refl refl is ∙ rw (set_again s fits.words) refl
+read_again schema st (Begin g numbers) is fits =
+    read_at (wording schema st) (body_of st.due st.version) (line_text (Begin g numbers)) keywords.Txn (Some (gtid_text g ++ numbers_text numbers)) refl refl refl is
+    ∙ rw (beginning_again st.version g numbers fits.words.0 fits.words.1 fits.of_version) refl
+read_again schema st (Makes (Insert table after)) is fits = read_at (wording schema st) (body_of st.due st.version) (line_text (Makes (Insert table after))) keywords.Ins (Some (table ++ 32 ∷ values_text after)) refl refl refl is ∙ rw (table_again table (values_text after) fits.words.0, image_again after fits.images fits.words.1) refl
+read_again schema st (Makes (Delete table before)) is fits = read_at (wording schema st) (body_of st.due st.version) (line_text (Makes (Delete table before))) keywords.Del (Some (table ++ 32 ∷ values_text before)) refl refl refl is ∙ rw (table_again table (values_text before) fits.words.0, image_again before fits.images fits.words.1) refl
+read_again schema st (Makes (Update table before after)) is fits =
+    read_at (wording schema st) (body_of st.due st.version) (line_text (Makes (Update table before after))) keywords.Upd (Some (table ++ 32 ∷ (values_text before ++ 32 ∷ (124 ∷ 32 ∷ values_text after)))) refl refl refl is
+    ∙ rw (table_again table (values_text before ++ 32 ∷ (124 ∷ 32 ∷ values_text after)) fits.words.0, images_again before after fits.images.0 fits.words.1 fits.images.1 fits.words.2) refl
+read_again schema st End is fits = read_at (wording schema st) (body_of st.due st.version) (line_text End) keywords.End None refl refl refl is
+read_again schema st Close is fits = read_at (wording schema st) (body_of st.due st.version) (line_text Close) keywords.Close None refl refl refl is
+
+pub rest_laws : (schema : Option (List Table)) (s : Standing) → RestLaws (wording schema s) (body_of s.due s.version)
 rest_laws schema s = record { found = λ t k e. among_found keyword_text every_keyword t k e; reads = rest_both schema s; again = read_again schema s }

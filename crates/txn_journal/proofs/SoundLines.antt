@@ -1,11 +1,15 @@
 -- What the lines so far have said is kept by one line more.
-use Rattle.std.proofs.Common.{◌≡◌, ℕ, ◌+◌, ◌<◌, ◌≤◌, inl, inr, Bool, true, false, not, leb, List, [], ◌∷◌, ◌++◌, length, map, Option, refl, sym, ap, subst, ◌∙◌, append_assoc, arith}
-use Rattle.std.specs.Prelude.{◌||◌, MatchResult}
+use Rattle.std.proofs.Common.{◌≡◌, ℕ, ◌+◌, ◌<◌, ◌≤◌, inl, inr, Bool, true, false, not, eqb, leb, cond, List, [], ◌∷◌, ◌++◌, length, map, Option, Some, None, Result, Ok, refl, sym, ap, subst, ◌∙◌, append_assoc, arith}
+use Rattle.std.specs.Prelude.{◌||◌, MatchResult, nat_lt}
 use Rattle.std.specs.List.{list_all, AllByRecursion}
 use Rattle.std.specs.FinSet as set
-use Rattle.std.proofs.lemmas.Bool.{leb-true, leb-false, le-leb, or_parts, or_cases, not-false, not-true}
+use Rattle.std.proofs.lemmas.Bool.{eqb-true, ltb-true, leb-true, leb-false, le-leb, or_parts, or_cases, not-false, not-true}
 use Rattle.std.proofs.lemmas.Result.{MatchResult-weaker}
-use Rattle.std.proofs.lemmas.List.{length-append, map_push, flat_map_more}
+use Rattle.std.proofs.lemmas.List.{append-nil, length-append, map_push}
+use Rattle.std.proofs.lemmas.Option.{same_Some}
+use Rattle.gtid_text.proofs.Turns.{chosen}
+use Rattle.journal_words.specs.Words.{count_of}
+use Rattle.journal_words.proofs.Counts.{count_found}
 use Rattle.gtid_text.specs.declared.Gtid.{Gtid}
 use Rattle.gtid_text.specs.Written.{IsUsable}
 use Rattle.gtid_set.specs.Sets.{Gtids, greatest}
@@ -17,23 +21,25 @@ use Rattle.journal.specs.Journals.{JournalValue, AreNew}
 use Rattle.journal.specs.Writing.{is_number, is_change_writable, is_writable}
 use Rattle.txn_journal.specs.WrittenSets.{IsWrittenSet}
 use Rattle.txn_journal.specs.Due.{is_due}
-use Rattle.txn_journal.specs.Machine.{Standing, fits, add, begin, judge}
-use Rattle.txn_journal.specs.Spelling.{Line, Header, Previous, Begin, Makes, End, Close, line_text, entry_lines, opening_lines, front_lines, FitsChange, FitsEntry, IsWritten}
+use Rattle.txn_journal.specs.Lines.{Numbers, takes, is_place, below, stamp_in}
+use Rattle.txn_journal.specs.Machine.{Standing, fits, closed, add, begin_stamped, begin, judge}
+use Rattle.txn_journal.specs.Spelling.{Line, Header, Previous, Begin, Makes, End, Close, line_text, numbers_of, entry_lines, entries_lines, opening_lines, front_lines, FitsChange, FitsEntry, IsWritten, IsStamp, AreStamps}
 use Rattle.txn_journal.specs.Heard.{said}
 use Rattle.txn_journal.specs.declared.lines.Place.{Place}
 use Rattle.txn_journal.specs.declared.lines.Place.TheVariants as places
 use Rattle.txn_journal.specs.declared.lines.Version.{Version}
+use Rattle.txn_journal.specs.declared.lines.Version.TheVariants.{One, Two}
 use Rattle.txn_journal.specs.Wordings.{Says}
-use Rattle.txn_journal.specs.Causes.{word_for, PassesLimit, wording, HasCause}
-use Rattle.txn_journal.proofs.Judged.{if_both}
+use Rattle.txn_journal.specs.Causes.{word_for, HasNumbers, PassesLimit, wording, HasCause}
+use Rattle.txn_journal.proofs.Judged.{if_both, known_both}
 use Rattle.txn_journal.proofs.WordLaws.{judged_both}
 use Rattle.txn_journal.proofs.LineReads.{body_of, put, judge_reads, rest_laws}
 use Rattle.rows.proofs.Lists.{all_push as all_more}
 
 -- ---- the lines so far, and what is known of them
 
-abbrev pub at : Place → Option Version → Version → JournalValue → Gtids → ℕ → Gtid → List Change → Standing
-at place due version j seen count g cs = record { place = place; due = due; version = version; journal = j; seen = seen; count = count; gtid = g; changes = cs }
+abbrev pub placed : Place → Standing → Standing
+placed place s = record s { place = place }
 
 -- the previous set with the GTIDs of the entries
 abbrev pub seen_after : Gtids → List Entry → Gtids
@@ -44,40 +50,44 @@ seen_after seen (e ∷ es) = seen_after (set.insert seen e.gtid) es
 abbrev pub fits_in : Option (List Table) → Entry → Bool
 fits_in schema e = list_all (fits schema) e.txn.changes
 
-pub record Whole (schema : Option (List Table)) (j : JournalValue) (seen : Gtids) (count : ℕ) : Type 0 where
-  pub new : AreNew j.previous j.entries
-  pub writable : list_all is_writable j.entries ≡ true
-  pub previous : IsWrittenSet j.previous
-  pub fits : AllByRecursion FitsEntry j.entries
-  pub fitting : list_all (fits_in schema) j.entries ≡ true
-  pub all_seen : seen ≡ seen_after j.previous j.entries
-  pub counted : count ≡ length j.entries
-  pub few : count ≤ 4294967294
+pub record Whole (schema : Option (List Table)) (s : Standing) : Type 0 where
+  pub due : takes s.due s.version ≡ true
+  pub new : AreNew s.journal.previous s.journal.entries
+  pub writable : list_all is_writable s.journal.entries ≡ true
+  pub previous : IsWrittenSet s.journal.previous
+  pub fits : AllByRecursion FitsEntry s.journal.entries
+  pub fitting : list_all (fits_in schema) s.journal.entries ≡ true
+  pub stamped : AreStamps s.version 1 s.stamps s.journal.entries
+  pub all_seen : s.seen ≡ seen_after s.journal.previous s.journal.entries
+  pub counted : s.count ≡ length s.journal.entries
+  pub few : s.count ≤ 4294967294
 
-pub record Opened (schema : Option (List Table)) (j : JournalValue) (seen : Gtids) (count : ℕ) (g : Gtid) (cs : List Change) : Type 0 where
-  pub whole : Whole schema j seen count
-  pub unseen : set.contains seen g ≡ false
-  pub number : is_number g.number ≡ true
-  pub usable : IsUsable g
-  pub room : count < 4294967294
-  pub few : length cs ≤ 65536
-  pub writable : list_all is_change_writable cs ≡ true
-  pub taken : list_all (fits schema) cs ≡ true
-  pub fits : AllByRecursion FitsChange cs
+pub record Opened (schema : Option (List Table)) (s : Standing) : Type 0 where
+  pub whole : Whole schema s
+  pub unseen : set.contains s.seen s.gtid ≡ false
+  pub number : is_number s.gtid.number ≡ true
+  pub usable : IsUsable s.gtid
+  pub stamp : IsStamp s.version (s.count + 1) s.stamp
+  pub room : s.count < 4294967294
+  pub few : length s.changes ≤ 65536
+  pub writable : list_all is_change_writable s.changes ≡ true
+  pub taken : list_all (fits schema) s.changes ≡ true
+  pub fits : AllByRecursion FitsChange s.changes
 
-pub record FreshStart (count : ℕ) (cs : List Change) : Type 0 where
-  pub none_counted : count ≡ 0
-  pub none_open : cs ≡ []
+pub record FreshStart (s : Standing) : Type 0 where
+  pub none_stamped : s.stamps ≡ []
+  pub none_counted : s.count ≡ 0
+  pub none_open : s.changes ≡ []
 
-abbrev pub Sound_at : Option (List Table) → Place → JournalValue → Gtids → ℕ → Gtid → List Change → Type 0
-Sound_at schema places.Header j seen count g cs = FreshStart count cs
-Sound_at schema places.Previous j seen count g cs = FreshStart count cs
-Sound_at schema places.Between j seen count g cs = Whole schema j seen count × (cs ≡ [])
-Sound_at schema places.Within j seen count g cs = Opened schema j seen count g cs
-Sound_at schema places.Ended j seen count g cs = Whole schema j seen count × (cs ≡ [])
+abbrev pub Sound_at : Option (List Table) → Place → Standing → Type 0
+Sound_at schema places.Header s = FreshStart s
+Sound_at schema places.Previous s = FreshStart s × (takes s.due s.version ≡ true)
+Sound_at schema places.Between s = Whole schema s × (s.changes ≡ [])
+Sound_at schema places.Within s = Opened schema s
+Sound_at schema places.Ended s = Whole schema s × (s.changes ≡ [])
 
 abbrev pub IsSound : Option (List Table) → Standing → Type 0
-IsSound schema s = Sound_at schema s.place s.journal s.seen s.count s.gtid s.changes
+IsSound schema s = Sound_at schema s.place s
 
 -- ---- lists with one more
 
@@ -89,50 +99,115 @@ seen_more : (seen : Gtids) (es : List Entry) (e : Entry) → seen_after seen (es
 seen_more seen [] e = refl
 seen_more seen (f ∷ fs) e = seen_more (set.insert seen f.gtid) fs e
 
-abbrev pub entry_of : Gtid → List Change → Entry
-entry_of g cs = record { gtid = g; txn = record { changes = cs } }
+stamps_more : (version : Version) (place : ℕ) (stamps : List ℕ) (es : List Entry) (stamp : ℕ) (e : Entry) → AreStamps version place stamps es → IsStamp version (place + length es) stamp → AreStamps version place (stamps ++ stamp ∷ []) (es ++ e ∷ [])
+stamps_more version place [] [] stamp e h is = let at : place + 0 ≡ place = omega arith in (subst (λ (n : ℕ). IsStamp version n stamp) at is, tt)
+stamps_more version place (l ∷ ls) (f ∷ fs) stamp e h is =
+    let at : place + length (f ∷ fs) ≡ place + 1 + length fs = omega arith in
+    (h.0, stamps_more version (place + 1) ls fs stamp e h.1 (subst (λ (n : ℕ). IsStamp version n stamp) at is))
+stamps_more version place [] (f ∷ fs) stamp e h is = absurd h
+stamps_more version place (l ∷ ls) [] stamp e h is = absurd h
 
-abbrev pub with_entry : JournalValue → Entry → JournalValue
-with_entry j e = record j { entries = j.entries ++ e ∷ [] }
+lines_more : (version : Version) (place : ℕ) (stamps : List ℕ) (es : List Entry) (stamp : ℕ) (e : Entry) → AreStamps version place stamps es
+    → entries_lines version place (stamps ++ stamp ∷ []) (es ++ e ∷ []) ≡ entries_lines version place stamps es ++ entry_lines (numbers_of version (place + length es) stamp) e
+lines_more version place [] [] stamp e h =
+    let at : place ≡ place + 0 = omega arith in
+    append-nil (entry_lines (numbers_of version place stamp) e) ∙ ap (λ (n : ℕ). entry_lines (numbers_of version n stamp) e) at
+lines_more version place (l ∷ ls) (f ∷ fs) stamp e h =
+    let front = entry_lines (numbers_of version place l) f in
+    let at : place + 1 + length fs ≡ place + length (f ∷ fs) = omega arith in
+    ap (λ (x : List Line). front ++ x) (lines_more version (place + 1) ls fs stamp e h.1)
+    ∙ sym (append_assoc front (entries_lines version (place + 1) ls fs) (entry_lines (numbers_of version (place + 1 + length fs) stamp) e))
+    ∙ ap (λ (n : ℕ). entries_lines version place (l ∷ ls) (f ∷ fs) ++ entry_lines (numbers_of version n stamp) e) at
+lines_more version place [] (f ∷ fs) stamp e h = absurd h
+lines_more version place (l ∷ ls) [] stamp e h = absurd h
 
-entry_writable : (g : Gtid) (cs : List Change) → is_number g.number ≡ true → length cs ≤ 65536 → list_all is_change_writable cs ≡ true → is_writable (entry_of g cs) ≡ true
-entry_writable g cs number few all = rw (number, le-leb (length cs) 65536 few, all) refl
+-- the entry that is open
+abbrev pub open_entry : Standing → Entry
+open_entry s = record { gtid = s.gtid; txn = record { changes = s.changes } }
 
-pub whole_more : (schema : Option (List Table)) (j : JournalValue) (seen : Gtids) (count : ℕ) (g : Gtid) (cs : List Change) → Opened schema j seen count g cs → Whole schema (with_entry j (entry_of g cs)) (set.insert seen g) (count + 1)
-whole_more schema j seen count g cs o =
+entry_writable : (s : Standing) → is_number s.gtid.number ≡ true → length s.changes ≤ 65536 → list_all is_change_writable s.changes ≡ true → is_writable (open_entry s) ≡ true
+entry_writable s number few all = rw (number, le-leb (length s.changes) 65536 few, all) refl
+
+pub whole_more : (schema : Option (List Table)) (s : Standing) → Opened schema s → Whole schema (closed s)
+whole_more schema s o =
     let w = o.whole in
+    let j = s.journal in
+    let at : s.count + 1 ≡ 1 + length j.entries = omega (arith, w.counted) in
     record {
-      new = new_more j.previous j.entries (entry_of g cs) w.new (ap (λ (s : Gtids). set.contains s g) (sym w.all_seen) ∙ o.unseen);
-      writable = all_push is_writable j.entries (entry_of g cs) w.writable (entry_writable g cs o.number o.few o.writable);
+      due = w.due;
+      new = new_more j.previous j.entries (open_entry s) w.new (ap (λ (seen : Gtids). set.contains seen s.gtid) (sym w.all_seen) ∙ o.unseen);
+      writable = all_push is_writable j.entries (open_entry s) w.writable (entry_writable s o.number o.few o.writable);
       previous = w.previous;
-      fits = all_more FitsEntry j.entries (entry_of g cs) w.fits (record { source = o.usable.source; changes = o.fits });
-      fitting = all_push (fits_in schema) j.entries (entry_of g cs) w.fitting o.taken;
-      all_seen = ap (λ (s : Gtids). set.insert s g) w.all_seen ∙ sym (seen_more j.previous j.entries (entry_of g cs));
-      counted = omega (arith, w.counted, length-append j.entries (entry_of g cs ∷ []));
+      fits = all_more FitsEntry j.entries (open_entry s) w.fits (record { source = o.usable.source; changes = o.fits });
+      fitting = all_push (fits_in schema) j.entries (open_entry s) w.fitting o.taken;
+      stamped = stamps_more s.version 1 s.stamps j.entries s.stamp (open_entry s) w.stamped (subst (λ (n : ℕ). IsStamp s.version n s.stamp) at o.stamp);
+      all_seen = ap (λ (seen : Gtids). set.insert seen s.gtid) w.all_seen ∙ sym (seen_more j.previous j.entries (open_entry s));
+      counted = omega (arith, w.counted, length-append j.entries (open_entry s ∷ []));
       few = omega (arith, o.room);
     }
 
 -- the lines with a whole entry more
-pub ended_entry : (version : Version) (j : JournalValue) (g : Gtid) (cs : List Change) → front_lines version (with_entry j (entry_of g cs)) ≡ (front_lines version j ++ (Begin g ∷ map Makes cs)) ++ End ∷ []
-ended_entry version j g cs =
-    sym (flat_map_more entry_lines (opening_lines version j.previous) j.entries (entry_of g cs))
-    ∙ sym (append_assoc (front_lines version j) (Begin g ∷ map Makes cs) (End ∷ []))
+pub ended_entry : (schema : Option (List Table)) (s : Standing) → Whole schema s → said (closed s) ≡ said (placed places.Within s) ++ End ∷ []
+ended_entry schema s w =
+    let j = s.journal in
+    let at : 1 + length j.entries ≡ s.count + 1 = omega (arith, w.counted) in
+    let before = entries_lines s.version 1 s.stamps j.entries in
+    let opening = opening_lines s.version j.previous in
+    let entry = Begin s.gtid (numbers_of s.version (s.count + 1) s.stamp) ∷ map Makes s.changes in
+    ap (λ (ls : List Line). opening ++ ls) (lines_more s.version 1 s.stamps j.entries s.stamp (open_entry s) w.stamped ∙ ap (λ (n : ℕ). before ++ entry_lines (numbers_of s.version n s.stamp) (open_entry s)) at)
+    ∙ sym (append_assoc opening before (entry ++ End ∷ []))
+    ∙ sym (append_assoc (opening ++ before) entry (End ∷ []))
+
+-- ---- the numbers of an entry
+
+place_found : (place : ℕ) (o : Option ℕ) → is_place place o ≡ true → o ≡ Some place
+place_found place None e = absurd cc
+place_found place (Some n) e = ap Some (eqb-true n place e)
+
+below_found : (place stamp : ℕ) (o : Option ℕ) → below place o ≡ Some stamp → (o ≡ Some stamp) × (stamp < place)
+below_found place stamp None e = absurd cc
+below_found place stamp (Some n) e = elim (chosen (nat_lt n place) (Some n) None (Some stamp) e) [
+  | inl p ↦ let same = same_Some n stamp p.1 in (ap Some same, let lt = ltb-true n place p.0 in omega (arith, same, lt))
+  | inr p ↦ absurd cc
+]
+
+-- they are those of its place
+pub numbers_found : (version : Version) (place stamp : ℕ) (numbers : Option Numbers) → HasNumbers version numbers → stamp_in place numbers ≡ Some stamp → (numbers ≡ numbers_of version place stamp) × IsStamp version place stamp
+numbers_found One place stamp None has e = (refl, sym (same_Some 0 stamp e))
+numbers_found Two place stamp (Some n) has e = elim (chosen (is_place place (count_of n.sequence_number)) (below place (count_of n.last_committed)) None (Some stamp) e) [
+  | inl p ↦
+      let sequence_number = count_found n.sequence_number place (place_found place (count_of n.sequence_number) p.0) in
+      let b = below_found place stamp (count_of n.last_committed) p.1 in
+      let last_committed = count_found n.last_committed stamp b.0 in
+      (λ i. Some (record { last_committed = last_committed.0 i; sequence_number = sequence_number.0 i }), b.1)
+  | inr p ↦ absurd cc
+]
+numbers_found One place stamp (Some n) has e = absurd has
+numbers_found Two place stamp None has e = absurd has
 
 -- ---- one line more
 
 -- what a line leaves
-pub record Keeps (schema : Option (List Table)) (old : List Line) (l : Line) (t : Standing) : Type 0 where
+pub record Keeps (schema : Option (List Table)) (due : Option Version) (old : List Line) (l : Line) (t : Standing) : Type 0 where
+  pub same_due : t.due ≡ due
   pub says : said t ≡ old ++ l ∷ []
   pub sound : IsSound schema t
 
-pub begin_both : (schema : Option (List Table)) (s : Standing) (line : List ℕ) (g : Gtid) (P : Standing → Type 0) → Says (wording schema s) line (Begin g)
-    → (is_number g.number ≡ true → s.count < 4294967294 → set.contains s.seen g ≡ false → P (record s { place = places.Within; gtid = g })) → MatchResult (begin s g) P (HasCause schema s line)
+pub begin_both : (schema : Option (List Table)) (s : Standing) (line : List ℕ) (g : Gtid) (numbers : Option Numbers) (P : Standing → Type 0) → Says (wording schema s) line (Begin g numbers)
+    → (is_number g.number ≡ true → s.count < 4294967294 → (stamp : ℕ) → stamp_in (s.count + 1) numbers ≡ Some stamp → set.contains s.seen g ≡ false → P (record s { place = places.Within; gtid = g; stamp = stamp }))
+    → MatchResult (begin s g numbers) P (HasCause schema s line)
 unfolding begin greatest
-begin_both schema s line g P h more =
-    if_both P (HasCause schema s line) (not (is_number g.number)) _ _ (λ no. absurd (let n = h.fits.words.number in let k : is_number g.number ≡ true = rw (le-leb 1 g.number n.0, le-leb g.number 9223372036854775807 n.1) refl in cc))
-    (λ number. if_both P (HasCause schema s line) (leb 4294967294 s.count) _ _ (λ full. (Begin g, h, leb-true _ _ full))
-    (λ room. if_both P (HasCause schema s line) (set.contains s.seen g) _ _ (λ twice. (Begin g, h, λ full. (let k = le-leb 4294967294 s.count full in cc), (refl, twice)))
-    (λ unseen. more (not-false (is_number g.number) number) (leb-false _ _ room) unseen)))
+begin_both schema s line g numbers P h more =
+    if_both P (HasCause schema s line) (not (is_number g.number)) _ _ (λ no. absurd (let n = h.fits.words.0.number in let k : is_number g.number ≡ true = rw (le-leb 1 g.number n.0, le-leb g.number 9223372036854775807 n.1) refl in cc))
+    (λ number. if_both P (HasCause schema s line) (leb 4294967294 s.count) _ _ (λ full. (Begin g numbers, h, leb-true _ _ full))
+    (λ room. stamped room (stamp_in (s.count + 1) numbers) refl (more (not-false (is_number g.number) number) (leb-false _ _ room))))
+  where
+    stamped : leb 4294967294 s.count ≡ false → (o : Option ℕ) → stamp_in (s.count + 1) numbers ≡ o → ((stamp : ℕ) → stamp_in (s.count + 1) numbers ≡ Some stamp → set.contains s.seen g ≡ false → P (record s { place = places.Within; gtid = g; stamp = stamp }))
+        → MatchResult (begin_stamped s g o) P (HasCause schema s line)
+    stamped room None e found = (Begin g numbers, h, λ full. (let k = le-leb 4294967294 s.count full in cc), e)
+    stamped room (Some stamp) e found =
+        if_both P (HasCause schema s line) (set.contains s.seen g) _ _ (λ twice. (Begin g numbers, h, λ full. (let k = le-leb 4294967294 s.count full in cc), λ wrong. (let k = sym wrong ∙ e in cc), (refl, twice)))
+        (λ unseen. found stamp e unseen)
 
 pub add_both : (schema : Option (List Table)) (s : Standing) (line : List ℕ) (c : Change) (P : Standing → Type 0) → Says (wording schema s) line (Makes c)
     → (length s.changes < 65536 → is_change_writable c ≡ true → fits schema c ≡ true → P (record s { changes = s.changes ++ c ∷ [] })) → MatchResult (add schema s c) P (HasCause schema s line)
@@ -156,23 +231,42 @@ add_both schema s line c P h more =
 no_change : (place : Place) (c : Change) → is_due place (word_for (Makes c)) ≡ true → place ≡ places.Within
 no_change place c e = grind arith
 
-keeps_at : (schema : Option (List Table)) (place : Place) (due : Option Version) (version : Version) (j : JournalValue) (seen : Gtids) (count : ℕ) (g : Gtid) (cs : List Change) (line : List ℕ) (l : Line)
-    → Sound_at schema place j seen count g cs → is_due place (word_for l) ≡ true → Says (wording schema (at place due version j seen count g cs)) line l
-    → MatchResult (put schema (at place due version j seen count g cs) l) (Keeps schema (said (at place due version j seen count g cs)) l) (HasCause schema (at place due version j seen count g cs) line)
+-- what is open, and the place, make no difference
+again : (schema : Option (List Table)) (s : Standing) (place : Place) (g : Gtid) (stamp : ℕ) (cs : List Change) → Whole schema s → Whole schema (record s { place = place; gtid = g; stamp = stamp; changes = cs })
+again schema s place g stamp cs w = record { due = w.due; new = w.new; writable = w.writable; previous = w.previous; fits = w.fits; fitting = w.fitting; stamped = w.stamped; all_seen = w.all_seen; counted = w.counted; few = w.few }
+
+keeps_at : (schema : Option (List Table)) (place : Place) (s : Standing) (line : List ℕ) (l : Line) → Sound_at schema place s → is_due place (word_for l) ≡ true → Says (wording schema (placed place s)) line l
+    → MatchResult (put schema (placed place s) l) (Keeps schema s.due (said (placed place s)) l) (HasCause schema (placed place s) line)
 unfolding put
-keeps_at schema places.Header due version j seen count g cs line (Header v) h is k = record { says = refl; sound = h }
-keeps_at schema places.Previous due version j seen count g cs line (Previous p) h is k = record {
-  says = refl;
-  sound = (record { new = tt; writable = refl; previous = k.fits.words; fits = tt; fitting = refl; all_seen = refl; counted = h.none_counted; few = omega (arith, h.none_counted) }, h.none_open);
+keeps_at schema places.Header s line (Header v) h is k = record { same_due = refl; says = refl; sound = (record { none_stamped = h.none_stamped; none_counted = h.none_counted; none_open = h.none_open }, k.fits.of_version) }
+keeps_at schema places.Previous s line (Previous p) h is k = record {
+  same_due = refl;
+  says = ap (λ (ls : List ℕ). opening_lines s.version p ++ entries_lines s.version 1 ls []) h.0.none_stamped;
+  sound = (record {
+    due = h.1;
+    new = tt;
+    writable = refl;
+    previous = k.fits.words;
+    fits = tt;
+    fitting = refl;
+    stamped = subst (λ (ls : List ℕ). AreStamps s.version 1 ls []) (sym h.0.none_stamped) tt;
+    all_seen = refl;
+    counted = h.0.none_counted;
+    few = omega (arith, h.0.none_counted);
+  }, h.0.none_open);
 }
-keeps_at schema places.Between due version j seen count g cs line (Begin x) h is k =
-    begin_both schema (at places.Between due version j seen count g cs) line x _ k (λ number room unseen. record {
-      says = ap (λ (ds : List Change). front_lines version j ++ (Begin x ∷ map Makes ds)) h.1;
+keeps_at schema places.Between s line (Begin x numbers) h is k =
+    begin_both schema (placed places.Between s) line x numbers _ k (λ number room stamp e unseen.
+    let f = numbers_found s.version (s.count + 1) stamp numbers k.fits.of_version e in
+    record {
+      same_due = refl;
+      says = λ i. front_lines s.version s.stamps s.journal ++ (Begin x (sym f.0 i) ∷ map Makes (h.1 i));
       sound = record {
-        whole = h.0;
+        whole = again schema s places.Within x stamp s.changes h.0;
         unseen = unseen;
         number = number;
-        usable = k.fits.words;
+        usable = k.fits.words.0;
+        stamp = f.1;
         room = room;
         few = omega (arith, ap length h.1);
         writable = ap (list_all is_change_writable) h.1;
@@ -180,36 +274,42 @@ keeps_at schema places.Between due version j seen count g cs line (Begin x) h is
         taken = ap (list_all (fits schema)) h.1;
       };
     })
-keeps_at schema places.Between due version j seen count g cs line Close h is k = record { says = refl; sound = h }
-keeps_at schema places.Within due version j seen count g cs line (Makes c) h is k =
-    add_both schema (at places.Within due version j seen count g cs) line c _ k (λ room writable taken. record {
-      says = ap (λ (ls : List Line). front_lines version j ++ (Begin g ∷ ls)) (map_push Makes cs c) ∙ sym (append_assoc (front_lines version j) (Begin g ∷ map Makes cs) (Makes c ∷ []));
+keeps_at schema places.Between s line Close h is k = record { says = refl; same_due = refl; sound = (again schema s places.Ended s.gtid s.stamp s.changes h.0, h.1) }
+keeps_at schema places.Within s line (Makes c) h is k =
+    let front = front_lines s.version s.stamps s.journal in
+    let begin = Begin s.gtid (numbers_of s.version (s.count + 1) s.stamp) in
+    add_both schema (placed places.Within s) line c _ k (λ room writable taken. record {
+      same_due = refl;
+      says = ap (λ (ls : List Line). front ++ (begin ∷ ls)) (map_push Makes s.changes c) ∙ sym (append_assoc front (begin ∷ map Makes s.changes) (Makes c ∷ []));
       sound = record {
-        whole = h.whole;
+        whole = again schema s places.Within s.gtid s.stamp (s.changes ++ c ∷ []) h.whole;
         unseen = h.unseen;
         number = h.number;
         usable = h.usable;
+        stamp = h.stamp;
         room = h.room;
-        few = omega (arith, room, length-append cs (c ∷ []));
-        writable = all_push is_change_writable cs c h.writable writable;
-        fits = all_more FitsChange cs c h.fits k.fits.words;
-        taken = all_push (fits schema) cs c h.taken taken;
+        few = omega (arith, room, length-append s.changes (c ∷ []));
+        writable = all_push is_change_writable s.changes c h.writable writable;
+        fits = all_more FitsChange s.changes c h.fits k.fits.words;
+        taken = all_push (fits schema) s.changes c h.taken taken;
       };
     })
-keeps_at schema places.Within due version j seen count g cs line End h is k = record { says = ended_entry version j g cs; sound = (whole_more schema j seen count g cs h, refl) }
-keeps_at schema place due version j seen count g cs line (Makes c) h is k = absurd (let m = no_change place c is in cc)
-keeps_at schema place due version j seen count g cs line l h is k = absurd cc
+keeps_at schema places.Within s line End h is k = record { same_due = refl; says = ended_entry schema s h.whole; sound = (whole_more schema s h, refl) }
+keeps_at schema place s line (Makes c) h is k = absurd (let m = no_change place c is in cc)
+keeps_at schema place s line l h is k = absurd cc
 
 -- a line that is taken is the spelling of one more line
 pub record Taken (schema : Option (List Table)) (s : Standing) (line : List ℕ) (t : Standing) : Type 0 where
   pub l : Line
   pub text : line ≡ line_text l
-  pub keeps : Keeps schema (said s) l t
+  pub due : is_due s.place (word_for l) ≡ true
+  pub made : put schema s l ≡ Ok t
+  pub keeps : Keeps schema s.due (said s) l t
 
 pub judged_line : (schema : Option (List Table)) (s : Standing) (line : List ℕ) → IsSound schema s → MatchResult (judge schema s line) (Taken schema s line) (HasCause schema s line)
 judged_line schema s line h =
-    rw (judge_reads schema s line) (judged_both (wording schema s) (body_of s.due) (rest_laws schema s) (Taken schema s line) (put schema s) line
-    (λ l k. MatchResult-weaker (put schema s l) (keeps_at schema s.place s.due s.version s.journal s.seen s.count s.gtid s.changes line l h k.due k) (λ t m. record { l = l; text = k.text; keeps = m }) (λ c m. m)))
+    rw (judge_reads schema s line) (judged_both (wording schema s) (body_of s.due s.version) (rest_laws schema s) (Taken schema s line) (put schema s) line
+    (λ l k. MatchResult-weaker (put schema s l) (known_both (put schema s l) _ _ (keeps_at schema s.place s line l h k.due k)) (λ t m. record { l = l; text = k.text; due = k.due; made = m.0; keeps = m.1 }) (λ c m. m.1)))
 
-pub whole_written : (schema : Option (List Table)) (j : JournalValue) (seen : Gtids) (count : ℕ) → Whole schema j seen count → IsWritten j
-whole_written schema j seen count w = record { keeps = record { new = w.new; writable = w.writable }; few = omega (arith, w.few, w.counted); previous = w.previous; entries = w.fits }
+pub whole_written : (schema : Option (List Table)) (s : Standing) → Whole schema s → IsWritten s.journal
+whole_written schema s w = record { keeps = record { new = w.new; writable = w.writable }; few = omega (arith, w.few, w.counted); previous = w.previous; entries = w.fits }

@@ -1,5 +1,5 @@
 -- Entries that were taken are those that would have come in front.
-use Rattle.std.proofs.Common.{◌≡◌, ℕ, Bool, true, false, not, cond, eqb, leb, List, [], ◌∷◌, ◌++◌, length, None, Result, Ok, Err, refl, sym, ap, ◌∙◌, append_assoc, arith}
+use Rattle.std.proofs.Common.{◌≡◌, ℕ, Bool, true, false, not, cond, eqb, leb, List, [], ◌∷◌, ◌++◌, ◌+◌, length, Option, Some, None, Result, Ok, Err, refl, sym, ap, ◌∙◌, append_assoc, arith}
 use Rattle.std.specs.Prelude.{◌||◌, MatchResult}
 use Rattle.std.specs.FinSet as set
 use Rattle.std.proofs.lemmas.List.{append-nil}
@@ -7,11 +7,12 @@ use Rattle.journal.specs.declared.Entry.{Entry}
 use Rattle.journal.specs.Journals.{JournalValue}
 use Rattle.journal.specs.Writing.{is_number, is_change_writable}
 use Rattle.txn_journal.specs.Due.{is_due}
-use Rattle.txn_journal.specs.Lines.{◌>>=◌}
-use Rattle.txn_journal.specs.Machine.{Standing, is_last, closed, add, begin, judge}
+use Rattle.gtid_text.specs.declared.Gtid.{Gtid}
+use Rattle.txn_journal.specs.Lines.{◌>>=◌, stamp_in}
+use Rattle.txn_journal.specs.Machine.{Standing, is_last, closed, add, begin_stamped, begin, judge}
 use Rattle.txn_journal.specs.Stream.{Progress, Reading, Stopped, judged, next_number, eat, ended, at_end}
 use Rattle.txn_journal.specs.Formats.{closing_by}
-use Rattle.txn_journal.specs.Reading.{eats_alone, entries_of, without_entries, closing, in_front, behind_entries, with_front, has_begun, HasBegun}
+use Rattle.txn_journal.specs.Reading.{Stamped, eats_alone, stamped_of, without_entries, closing, in_front, behind_entries, with_front, has_begun, HasBegun}
 use Rattle.txn_journal.specs.Spelling.{Line, Header, Previous, Begin, Makes, End, Close}
 use Rattle.txn_journal.specs.Wordings.{Says}
 use Rattle.txn_journal.specs.Causes.{word_for, wording, HasCause}
@@ -25,17 +26,17 @@ use Rattle.txn_journal.proofs.WordLaws.{read_by, read_both, judged_both}
 use Rattle.txn_journal.proofs.LineReads.{body_of, put, judge_reads, rest_laws}
 use Rattle.txn_journal.proofs.SoundLines.{begin_both, add_both}
 
-abbrev with_taken : List Entry → Standing → Standing
-with_taken front s = record s { journal = in_front front s.journal }
+abbrev with_taken : Stamped → Standing → Standing
+with_taken front s = record s { journal = in_front front.entries s.journal; stamps = front.stamps ++ s.stamps }
 
 abbrev ok_standing : Standing → Result Standing Cause
 ok_standing s = Ok s
 
-abbrev behind_ok : List Entry → Result Standing Cause → Result Standing Cause
+abbrev behind_ok : Stamped → Result Standing Cause → Result Standing Cause
 behind_ok front (Ok s) = Ok (with_taken front s)
 behind_ok front (Err c) = Err c
 
-behind_cond : (front : List Entry) (b : Bool) (c : Cause) (x : Result Standing Cause) (y : Result Standing Cause) → y ≡ behind_ok front x → cond b (Err c) y ≡ behind_ok front (cond b (Err c) x)
+behind_cond : (front : Stamped) (b : Bool) (c : Cause) (x : Result Standing Cause) (y : Result Standing Cause) → y ≡ behind_ok front x → cond b (Err c) y ≡ behind_ok front (cond b (Err c) x)
 behind_cond front true c x y e = refl
 behind_cond front false c x y e = e
 
@@ -45,33 +46,35 @@ no_previous place b e = grind arith
 no_header : (place : Place) → has_begun place ≡ true → is_due place keywords.Journal ≡ true → ⊥
 no_header place b e = grind arith
 
-put_behind : (front : List Entry) (s : Standing) (l : Line) → has_begun s.place ≡ true → is_due s.place (word_for l) ≡ true → put None (with_taken front s) l ≡ behind_ok front (put None s l)
+stamped_behind : (front : Stamped) (s : Standing) (g : Gtid) (o : Option ℕ) → begin_stamped (with_taken front s) g o ≡ behind_ok front (begin_stamped s g o)
+stamped_behind front s g None = refl
+stamped_behind front s g (Some stamp) = behind_cond front (set.contains s.seen g) (causes.Twice g) (Ok (record s { place = places.Within; gtid = g; stamp = stamp })) _ refl
+
+put_behind : (front : Stamped) (s : Standing) (l : Line) → has_begun s.place ≡ true → is_due s.place (word_for l) ≡ true → put None (with_taken front s) l ≡ behind_ok front (put None s l)
 unfolding put begin add
 put_behind front s (Header v) b e = refl
 put_behind front s (Previous p) b e = absurd (no_previous s.place b e)
-put_behind front s (Begin g) b e =
-    let last : Result Standing Cause = Ok (record s { place = places.Within; gtid = g }) in
-    let third : Result Standing Cause = cond (set.contains s.seen g) (Err (causes.Twice g)) last in
+put_behind front s (Begin g numbers) b e =
+    let third : Result Standing Cause = begin_stamped s g (stamp_in (s.count + 1) numbers) in
     let second : Result Standing Cause = cond (leb 4294967294 s.count) (Err causes.Limit) third in
     behind_cond front (not (is_number g.number)) causes.Body second _
-    (behind_cond front (leb 4294967294 s.count) causes.Limit third _
-    (behind_cond front (set.contains s.seen g) (causes.Twice g) last _ refl))
+    (behind_cond front (leb 4294967294 s.count) causes.Limit third _ (stamped_behind front s g (stamp_in (s.count + 1) numbers)))
 put_behind front s (Makes c) b e =
     let last : Result Standing Cause = Ok (record s { changes = s.changes ++ c ∷ [] }) in
     behind_cond front (leb 65536 (length s.changes) || not (is_change_writable c)) causes.Limit last _ refl
 put_behind front s End b e =
     let one : Entry = record { gtid = s.gtid; txn = record { changes = s.changes } } in
-    ap (λ (es : List Entry). ok_standing (record (closed s) { journal = record s.journal { entries = es } })) (append_assoc front s.journal.entries (one ∷ []))
+    λ i. ok_standing (record (closed s) { journal = record s.journal { entries = append_assoc front.entries s.journal.entries (one ∷ []) i }; stamps = append_assoc front.stamps s.stamps (s.stamp ∷ []) i })
 put_behind front s Close b e = refl
 
-then_behind : (front : List Entry) (s : Standing) (line : List ℕ) (r : Result Line Cause) → has_begun s.place ≡ true → MatchResult r (Says (wording None s) line) (HasCause None s line) → (r >>= put None (with_taken front s)) ≡ behind_ok front (r >>= put None s)
+then_behind : (front : Stamped) (s : Standing) (line : List ℕ) (r : Result Line Cause) → has_begun s.place ≡ true → MatchResult r (Says (wording None s) line) (HasCause None s line) → (r >>= put None (with_taken front s)) ≡ behind_ok front (r >>= put None s)
 then_behind front s line (Ok l) b h = put_behind front s l b h.due
 then_behind front s line (Err c) b h = refl
 
-judge_behind : (front : List Entry) (s : Standing) (line : List ℕ) → has_begun s.place ≡ true → judge None (with_taken front s) line ≡ behind_ok front (judge None s line)
+judge_behind : (front : Stamped) (s : Standing) (line : List ℕ) → has_begun s.place ≡ true → judge None (with_taken front s) line ≡ behind_ok front (judge None s line)
 judge_behind front s line b =
     judge_reads None (with_taken front s) line
-    ∙ then_behind front s line (read_by (wording None s) (body_of s.due) line) b (read_both (wording None s) (body_of s.due) (rest_laws None s) line)
+    ∙ then_behind front s line (read_by (wording None s) (body_of s.due s.version) line) b (read_both (wording None s) (body_of s.due s.version) (rest_laws None s) line)
     ∙ ap (behind_ok front) (sym (judge_reads None s line))
 
 -- ---- a journal that has begun stays so
@@ -83,17 +86,17 @@ put_begun : (s : Standing) (line : List ℕ) (l : Line) → has_begun s.place �
 unfolding put
 put_begun s line (Header v) b due h = absurd (no_header s.place b due)
 put_begun s line (Previous p) b due h = absurd (no_previous s.place b due)
-put_begun s line (Begin g) b due h = begin_both None s line g StaysBegun h (λ number room unseen. refl)
+put_begun s line (Begin g numbers) b due h = begin_both None s line g numbers StaysBegun h (λ number room stamp e unseen. refl)
 put_begun s line (Makes c) b due h = add_both None s line c StaysBegun h (λ room writable taken. b)
 put_begun s line End b due h = refl
 put_begun s line Close b due h = refl
 
 judge_begun : (s : Standing) (line : List ℕ) → has_begun s.place ≡ true → MatchResult (judge None s line) StaysBegun (HasCause None s line)
-judge_begun s line b = rw (judge_reads None s line) (judged_both (wording None s) (body_of s.due) (rest_laws None s) StaysBegun (put None s) line (λ l h. put_begun s line l b h.due h))
+judge_begun s line b = rw (judge_reads None s line) (judged_both (wording None s) (body_of s.due s.version) (rest_laws None s) StaysBegun (put None s) line (λ l h. put_begun s line l b h.due h))
 
 -- ---- bytes
 
-judged_behind : (front : List Entry) (r : Result Standing Cause) (n : ℕ) → judged (behind_ok front r) n ≡ behind_entries front (judged r n)
+judged_behind : (front : Stamped) (r : Result Standing Cause) (n : ℕ) → judged (behind_ok front r) n ≡ behind_entries front (judged r n)
 judged_behind front (Ok s) n = refl
 judged_behind front (Err c) n = refl
 
@@ -101,7 +104,7 @@ judged_begun : (s : Standing) (line : List ℕ) (r : Result Standing Cause) (n :
 judged_begun s line (Ok t) n h = h
 judged_begun s line (Err c) n h = tt
 
-eat_behind : (front : List Entry) (p : Progress Standing) (b : ℕ) → HasBegun p → (eat (judge None) (behind_entries front p) b ≡ behind_entries front (eat (judge None) p b)) × HasBegun (eat (judge None) p b)
+eat_behind : (front : Stamped) (p : Progress Standing) (b : ℕ) → HasBegun p → (eat (judge None) (behind_entries front p) b ≡ behind_entries front (eat (judge None) p b)) × HasBegun (eat (judge None) p b)
 unfolding eat
 eat_behind front (Reading s n rest) b h =
     elim (eqb b 10) as (λ v. (cond v (judged (judge None (with_taken front s) rest) (next_number n)) (Reading (with_taken front s) n (rest ++ b ∷ [])) ≡ behind_entries front (cond v (judged (judge None s rest) (next_number n)) (Reading s n (rest ++ b ∷ [])))) × HasBegun (cond v (judged (judge None s rest) (next_number n)) (Reading s n (rest ++ b ∷ [])))) [
@@ -110,7 +113,7 @@ eat_behind front (Reading s n rest) b h =
     ]
 eat_behind front (Stopped f) b h = (refl, tt)
 
-pub eats_behind : (front : List Entry) (p : Progress Standing) (bytes : List ℕ) → HasBegun p → eats_alone (behind_entries front p) bytes ≡ behind_entries front (eats_alone p bytes)
+pub eats_behind : (front : Stamped) (p : Progress Standing) (bytes : List ℕ) → HasBegun p → eats_alone (behind_entries front p) bytes ≡ behind_entries front (eats_alone p bytes)
 eats_behind front p [] h = refl
 eats_behind front p (b ∷ bs) h =
     let one = eat_behind front p b h in
@@ -118,15 +121,15 @@ eats_behind front p (b ∷ bs) h =
 
 -- ---- the whole
 
-pub taken_behind : (p : Progress Standing) → behind_entries (entries_of p) (without_entries p) ≡ p
-taken_behind (Reading s n rest) = ap (λ (es : List Entry). Reading (record s { journal = record s.journal { entries = es } }) n rest) (append-nil s.journal.entries)
+pub taken_behind : (p : Progress Standing) → behind_entries (stamped_of p) (without_entries p) ≡ p
+taken_behind (Reading s n rest) = λ i. Reading (record s { journal = record s.journal { entries = append-nil s.journal.entries i }; stamps = append-nil s.stamps i }) n rest
 taken_behind (Stopped f) = refl
 
 whole_behind : (front : List Entry) (r : Result (Unit {0}) JournalFault) (j : JournalValue) → at_end r (in_front front j) ≡ with_front front (at_end r j)
 whole_behind front (Ok u) j = refl
 whole_behind front (Err f) j = refl
 
-pub closing_behind : (front : List Entry) (p : Progress Standing) → closing (behind_entries front p) ≡ with_front front (closing p)
+pub closing_behind : (front : Stamped) (p : Progress Standing) → closing (behind_entries front p) ≡ with_front front.entries (closing p)
 unfolding closing_by
-closing_behind front (Reading s n rest) = whole_behind front (ended (is_last s.place) rest n) s.journal
+closing_behind front (Reading s n rest) = whole_behind front.entries (ended (is_last s.place) rest n) s.journal
 closing_behind front (Stopped f) = refl

@@ -1,5 +1,5 @@
 -- What is wrong with a line, said of its words and not of the way in which it is read.
-use Rattle.std.specs.Prelude.{◌≡◌, ◌⊎◌, ℕ, ◌<◌, ◌≤◌, true, false, List, length, Option, codes}
+use Rattle.std.specs.Prelude.{◌≡◌, ◌⊎◌, ℕ, ◌+◌, ◌<◌, ◌≤◌, true, false, List, length, Option, Some, None, codes}
 use Rattle.std.specs.FinSet as set
 use Rattle.gtid_text.specs.Written.{IsUsable}
 use Rattle.rows.specs.declared.change.Change.TheVariants.{Insert, Delete, Update}
@@ -7,7 +7,8 @@ use Rattle.rows.specs.declared.schema.Table.{Table}
 use Rattle.journal.specs.Writing.{is_change_writable}
 use Rattle.gtid_text.specs.declared.Gtid.{Gtid}
 use Rattle.txn_journal.specs.Due.{is_due}
-use Rattle.txn_journal.specs.Lines.{keyword_of, takes_one}
+use Rattle.journal_words.specs.Words.{is_count}
+use Rattle.txn_journal.specs.Lines.{Numbers, keyword_of, takes, stamp_in}
 use Rattle.txn_journal.specs.Machine.{Standing, fits}
 use Rattle.txn_journal.specs.Wordings.{Wording, HasCauseBy}
 use Rattle.txn_journal.specs.WrittenSets.{IsWrittenSet}
@@ -16,6 +17,7 @@ use Rattle.txn_journal.specs.declared.fault.Cause.{Cause}
 use Rattle.txn_journal.specs.declared.lines.Keyword.{Keyword}
 use Rattle.txn_journal.specs.declared.lines.Keyword.TheVariants as keywords
 use Rattle.txn_journal.specs.declared.lines.Version.{Version}
+use Rattle.txn_journal.specs.declared.lines.Version.TheVariants.{One, Two}
 
 abbrev pub keyword_text : Keyword → List ℕ
 keyword_text keywords.Journal = codes "journal"
@@ -31,18 +33,23 @@ keyword_text keywords.Close = codes "close"
 abbrev pub word_for : Line → Keyword
 word_for (Header version) = keywords.Journal
 word_for (Previous s) = keywords.Previous
-word_for (Begin g) = keywords.Txn
+word_for (Begin g numbers) = keywords.Txn
 word_for (Makes (Insert table after)) = keywords.Ins
 word_for (Makes (Delete table before)) = keywords.Del
 word_for (Makes (Update table before after)) = keywords.Upd
 word_for End = keywords.End
 word_for Close = keywords.Close
 
--- its words have a set, a GTID, a name and values that can be spelled
+-- both are numbers, of any length
+abbrev pub AreCounts : Option Numbers → Type 0
+AreCounts None = Unit {0}
+AreCounts (Some numbers) = (is_count numbers.last_committed ≡ true) × (is_count numbers.sequence_number ≡ true)
+
+-- its words have a set, a GTID, numbers, a name and values that can be spelled
 abbrev pub FitsLine : Line → Type 0
 FitsLine (Header version) = Unit {0}
 FitsLine (Previous s) = IsWrittenSet s
-FitsLine (Begin g) = IsUsable g
+FitsLine (Begin g numbers) = IsUsable g × AreCounts numbers
 FitsLine (Makes change) = FitsChange change
 FitsLine End = Unit {0}
 FitsLine Close = Unit {0}
@@ -54,20 +61,27 @@ HasImages (Makes (Delete table before)) = 0 < length before
 HasImages (Makes (Update table before after)) = (0 < length before) × (0 < length after)
 HasImages _ = Unit {0}
 
--- the version is one that is due
-abbrev pub IsDueVersion : Option Version → Line → Type 0
-IsDueVersion due (Header version) = takes_one due ≡ true
-IsDueVersion due _ = Unit {0}
+-- version 2 writes an entry's numbers, and version 1 none
+abbrev pub HasNumbers : Version → Option Numbers → Type 0
+HasNumbers One None = Unit {0}
+HasNumbers Two (Some numbers) = Unit {0}
+HasNumbers _ _ = ⊥
+
+-- it is of a version that is due, or of the version of the lines before
+abbrev pub IsOfVersion : Option Version → Version → Line → Type 0
+IsOfVersion due version (Header v) = takes due v ≡ true
+IsOfVersion due version (Begin g numbers) = HasNumbers version numbers
+IsOfVersion due version _ = Unit {0}
 
 -- its words can be spelled, and may stand there
-pub record FitsAt (due : Option Version) (l : Line) : Type 0 where
+pub record FitsAt (due : Option Version) (version : Version) (l : Line) : Type 0 where
   pub words : FitsLine l
   pub images : HasImages l
-  pub version : IsDueVersion due l
+  pub of_version : IsOfVersion due version l
 
 -- a limit that the line passes: of entries, of changes, of values of an image and of bytes of a value
 abbrev pub PassesLimit : Standing → Line → Type 0
-PassesLimit s (Begin g) = 4294967294 ≤ s.count
+PassesLimit s (Begin g numbers) = 4294967294 ≤ s.count
 PassesLimit s (Makes change) = (65536 ≤ length s.changes) ⊎ (is_change_writable change ≡ false)
 PassesLimit s _ = ⊥
 
@@ -76,9 +90,14 @@ abbrev pub IsMisfit : Option (List Table) → Line → Type 0
 IsMisfit schema (Makes change) = fits schema change ≡ false
 IsMisfit schema _ = ⊥
 
+-- the sequence number is not the entry's place, or last_committed isn't below it
+abbrev pub IsMisnumbered : Standing → Line → Type 0
+IsMisnumbered s (Begin g numbers) = stamp_in (s.count + 1) numbers ≡ None
+IsMisnumbered s _ = ⊥
+
 -- the GTID is in the previous set, or stood before
 abbrev pub IsTwice : Standing → Line → Gtid → Type 0
-IsTwice s (Begin h) g = (h ≡ g) × (set.contains s.seen g ≡ true)
+IsTwice s (Begin h numbers) g = (h ≡ g) × (set.contains s.seen g ≡ true)
 IsTwice s _ g = ⊥
 
 -- the lines of a journal that may come next
@@ -92,9 +111,10 @@ wording schema s = record {
   word_text = keyword_text;
   line_text = line_text;
   word = word_for;
-  Fits = FitsAt s.due;
+  Fits = FitsAt s.due s.version;
   PassesLimit = PassesLimit s;
   Clashes = IsMisfit schema;
+  IsMisnumbered = IsMisnumbered s;
   IsTwice = IsTwice s;
 }
 

@@ -3,4 +3,4 @@ use Rattle.txn_journal.specs.Machine.{Standing}
 use Rattle.txn_journal.specs.declared.draft.Draft.{Draft}
 
 abbrev pub standing : Draft → Standing
-standing d = record { place = d.place; due = d.due; version = d.version; journal = d.journal; seen = d.seen; count = d.count; gtid = d.gtid; changes = d.changes.items }
+standing d = record { place = d.place; due = d.due; version = d.version; journal = d.journal; stamps = d.stamps.items; seen = d.seen; count = d.count; gtid = d.gtid; stamp = d.stamp; changes = d.changes.items }

@@ -1,5 +1,5 @@
 -- Formats of texts in lines, whatever the lines say.
-use Rattle.std.specs.Prelude.{◌≡◌, ◌⊎◌, ℕ, ◌+◌, ◌-◌, ◌^◌, ◌<◌, min, Bool, List, [], ◌∷◌, ◌++◌, length, Result, Ok, Err}
+use Rattle.std.specs.Prelude.{◌≡◌, ◌⊎◌, ℕ, ◌+◌, ◌-◌, ◌^◌, ◌<◌, min, Bool, true, false, List, [], ◌∷◌, ◌++◌, length, Result, Ok, Err}
 use Rattle.std.specs.List.{flat_map, AllByRecursion}
 use Rattle.gtid_set.specs.declared.fault.SetFault.{SetFault}
 use Rattle.txn_journal.specs.Words.{IsOneLine}
@@ -28,6 +28,12 @@ pub record Format : Type 1 where
   pub line_text : Line → List ℕ
   -- the bytes are a text of this value
   pub Writes : List ℕ → Value → Type 0
+  -- the same, but that its last entry has not been looked at as a whole
+  pub AlmostWrites : List ℕ → Value → Type 0
+  -- an entry is open
+  pub is_open : State → Bool
+  -- the line begins an entry, or stands within one
+  pub is_inside : List ℕ → Bool
   -- the lines that have made this, in order
   pub HasHeard : State → List Line → Type 0
   -- what is wrong with a line after those that have made this
@@ -75,15 +81,21 @@ whole_by f bytes = closing_by f (eats_by f (start_of f) bytes)
 
 -- ---- texts that are refused
 
+-- where an entry is open, it may still become what it has to be as a whole
+abbrev pub MayWrite : (f : Format) → Bool → List ℕ → f.Value → Type 0
+MayWrite f true bytes v = f.AlmostWrites bytes v
+MayWrite f false bytes v = f.Writes bytes v
+
 -- some value's text begins so
-abbrev pub BeginsBy : (f : Format) → List ℕ → Type 0
-BeginsBy f front = (v : f.Value) × (more : List ℕ) × f.Writes (front ++ more) v
+abbrev pub BeginsBy : (f : Format) → Bool → List ℕ → Type 0
+BeginsBy f inside front = (v : f.Value) × (more : List ℕ) × MayWrite f inside (front ++ more) v
 
 -- line numbers count up to the largest that is stored
 abbrev pub capped : ℕ → ℕ
 capped n = min n (2 ^ 64 - 1)
 
--- The text has whole lines with which a value's may begin, and then one more with which none does. Its number counts from 1.
+-- The text has whole lines with which a value's may begin, and then one more with which none does. Its number counts from 1. A line that begins an
+-- entry or stands within it is no such line because of what only its whole entry shows: that is the fault of the line which ends the entry.
 pub record IsFirstFaulty (f : Format) (bytes : List ℕ) (n : ℕ) (cause : Cause) : Type 0 where
   pub before : List f.Line
   pub line : List ℕ
@@ -91,11 +103,11 @@ pub record IsFirstFaulty (f : Format) (bytes : List ℕ) (n : ℕ) (cause : Caus
   pub parts : bytes ≡ text_of f before ++ (line ++ 10 ∷ rest)
   pub lines : AreWhole f before
   pub whole : IsOneLine line
-  pub number : n ≡ capped (length before + 1)
-  pub begins : BeginsBy f (text_of f before)
-  pub faulty : BeginsBy f (text_of f before ++ (line ++ 10 ∷ [])) → ⊥
   pub state : f.State
   pub heard : f.HasHeard state before
+  pub number : n ≡ capped (length before + 1)
+  pub begins : BeginsBy f (f.is_open state) (text_of f before)
+  pub faulty : BeginsBy f (f.is_inside line) (text_of f before ++ (line ++ 10 ∷ [])) → ⊥
   pub has_cause : f.HasCause state line cause
 
 -- The text has whole lines with which a value's may begin, and then less than a line.
@@ -105,8 +117,10 @@ pub record IsFront (f : Format) (bytes : List ℕ) (n : ℕ) : Type 0 where
   pub parts : bytes ≡ text_of f before ++ rest
   pub lines : AreWhole f before
   pub part : IsOneLine rest
+  pub state : f.State
+  pub heard : f.HasHeard state before
   pub number : n ≡ capped (length before + 1)
-  pub begins : BeginsBy f (text_of f before)
+  pub begins : BeginsBy f (f.is_open state) (text_of f before)
 
 -- The text is that of a value in whole lines, and then bytes that are no whole line.
 pub record IsTrailing (f : Format) (bytes : List ℕ) (n : ℕ) : Type 0 where

@@ -1,10 +1,10 @@
 -- What the words of a line say.
-use Rattle.std.specs.Prelude.{ℕ, Bool, true, List, [], ◌∷◌, ◌++◌, Option, Some, None, Result, Ok, Err, codes, if◌then◌else◌}
+use Rattle.std.specs.Prelude.{ℕ, ◌<◌, ◌==◌, Bool, true, false, ◌&&◌, nat_lt, List, [], ◌∷◌, ◌++◌, Option, Some, None, Result, Ok, Err, codes, if◌then◌else◌}
 use Rattle.std.specs.Str.{bytes_eq}
 use Rattle.gtid_text.specs.declared.Gtid.{Gtid}
 use Rattle.gtid_set.specs.Sets.{Gtids}
 use Rattle.rows.specs.declared.value.Value.{Value}
-use Rattle.journal_words.specs.Words.{is_count, first_word, others}
+use Rattle.journal_words.specs.Words.{is_count, count_of, first_word, others}
 use Rattle.journal_words.specs.Values.{value_of}
 use Rattle.journal_words.specs.Gtids.{gtid_of_word, set_of_word}
 use Rattle.txn_journal.specs.Words.{name_of}
@@ -14,7 +14,7 @@ use Rattle.txn_journal.specs.declared.fault.Cause.TheVariants as causes
 use Rattle.txn_journal.specs.declared.lines.Keyword.{Keyword}
 use Rattle.txn_journal.specs.declared.lines.Keyword.TheVariants as keywords
 use Rattle.txn_journal.specs.declared.lines.Version.{Version}
-use Rattle.txn_journal.specs.declared.lines.Version.TheVariants.{One}
+use Rattle.txn_journal.specs.declared.lines.Version.TheVariants.{One, Two}
 
 -- ---- steps that may fail
 
@@ -49,22 +49,27 @@ due is_due (Some word) = if is_due word then Ok word else Err causes.Keyword
 -- ---- versions
 
 -- a version may stand where it is due, or where any is
-abbrev pub takes_one : Option Version → Bool
-takes_one None = true
-takes_one (Some One) = true
+abbrev pub takes : Option Version → Version → Bool
+takes None version = true
+takes (Some One) One = true
+takes (Some Two) Two = true
+takes (Some _) _ = false
 
-abbrev pub known : Option Version → List ℕ → Result Version Cause
-known due word = if bytes_eq word (codes "1") then (if takes_one due then Ok One else Err causes.Version) else Err causes.Version
+abbrev pub version_named : List ℕ → Option Version
+version_named word =
+    if bytes_eq word (codes "1") then Some One
+    else if bytes_eq word (codes "2") then Some Two
+    else None
+
+abbrev pub known : Option Version → Option Version → Result Version Cause
+known due None = Err causes.Version
+known due (Some version) = if takes due version then Ok version else Err causes.Version
 
 abbrev pub version_in : Option Version → Option (List ℕ) → Result Version Cause
 version_in due None = Err causes.Body
-version_in due (Some word) = if is_count word then known due word else Err causes.Body
+version_in due (Some word) = if is_count word then known due (version_named word) else Err causes.Body
 
 -- ---- GTIDs and sets
-
-abbrev pub gtid_in : Option (List ℕ) → Result Gtid Cause
-gtid_in None = Err causes.Body
-gtid_in (Some word) = some_or_body (gtid_of_word word)
 
 abbrev pub set_in : Option (List ℕ) → Result Gtids Cause
 set_in None = Err causes.Body
@@ -73,6 +78,50 @@ set_in (Some word) = some_or_body (set_of_word word)
 abbrev pub nothing_in : Option (List ℕ) → Result (Unit {0}) Cause
 nothing_in None = Ok tt
 nothing_in (Some text) = Err causes.Body
+
+-- ---- the line that begins an entry
+
+-- the last_committed and the sequence number of an entry, as they are written
+pub record Numbers : Type 0 where
+  pub last_committed : List ℕ
+  pub sequence_number : List ℕ
+
+abbrev pub numbers_in : Option (List ℕ) → Result Numbers Cause
+numbers_in None = Err causes.Body
+numbers_in (Some text) = do
+  sequence_number ← some_or_body (others text)
+  if is_count (first_word text) && is_count sequence_number then Ok (record { last_committed = first_word text; sequence_number = sequence_number }) else Err causes.Body
+
+-- its GTID, and in version 2 its numbers
+pub record Beginning : Type 0 where
+  pub gtid : Gtid
+  pub numbers : Option Numbers
+
+abbrev pub beginning_text : Version → List ℕ → Result Beginning Cause
+beginning_text One word = do
+  gtid ← some_or_body (gtid_of_word word)
+  Ok (record { gtid = gtid; numbers = None })
+beginning_text Two text = do
+  gtid ← some_or_body (gtid_of_word (first_word text))
+  numbers ← numbers_in (others text)
+  Ok (record { gtid = gtid; numbers = Some numbers })
+
+abbrev pub beginning_in : Version → Option (List ℕ) → Result Beginning Cause
+beginning_in version None = Err causes.Body
+beginning_in version (Some text) = beginning_text version text
+
+abbrev pub is_place : ℕ → Option ℕ → Bool
+is_place place None = false
+is_place place (Some number) = number == place
+
+abbrev pub below : ℕ → Option ℕ → Option ℕ
+below place None = None
+below place (Some number) = if nat_lt number place then Some number else None
+
+-- the last_committed of the entry at a place, counted from 1: it is below the sequence number, which is the place. Version 1 writes no numbers: 0 stands for it there.
+abbrev pub stamp_in : ℕ → Option Numbers → Option ℕ
+stamp_in place None = Some 0
+stamp_in place (Some numbers) = if is_place place (count_of numbers.sequence_number) then below place (count_of numbers.last_committed) else None
 
 -- ---- images
 

@@ -13,7 +13,7 @@ use Rattle.journal.specs.Journals.{JournalValue}
 use Rattle.journal.specs.Writing.{is_number, is_change_writable}
 use Rattle.journal_words.specs.Words.{first_word, others}
 use Rattle.txn_journal.specs.Due.{is_due}
-use Rattle.txn_journal.specs.Lines.{◌>>=◌, keyword_of, due, version_in, gtid_in, set_in, nothing_in, table_in, image_in, images_in}
+use Rattle.txn_journal.specs.Lines.{◌>>=◌, Numbers, Beginning, keyword_of, due, version_in, beginning_in, stamp_in, set_in, nothing_in, table_in, image_in, images_in}
 use Rattle.txn_journal.specs.declared.fault.Cause.{Cause}
 use Rattle.txn_journal.specs.declared.fault.Cause.TheVariants as causes
 use Rattle.txn_journal.specs.Stream.{TakesLine}
@@ -26,15 +26,17 @@ use Rattle.txn_journal.specs.declared.lines.Version.{Version}
 use Rattle.txn_journal.specs.declared.lines.Version.TheVariants.{One}
 
 -- What the lines so far have said. `due` is the version that is due, if not each known one is; `seen` has the GTIDs of the previous set and of all
--- `count` entries, those that were taken too.
+-- `count` entries, those that were taken too. `stamps` has the last_committed of each entry of the journal, `stamp` that of the entry that is open.
 pub record Standing : Type 0 where
   pub place : Place
   pub due : Option Version
   pub version : Version
   pub journal : JournalValue
+  pub stamps : List ℕ
   pub seen : Gtids
   pub count : ℕ
   pub gtid : Gtid
+  pub stamp : ℕ
   pub changes : List Change
 
 -- before the first line
@@ -44,9 +46,11 @@ empty due = record {
   due = due;
   version = One;
   journal = record { previous = set.empty; entries = [] };
+  stamps = [];
   seen = set.empty;
   count = 0;
   gtid = record { source = 0; number = 0 };
+  stamp = 0;
   changes = [];
 }
 
@@ -61,7 +65,7 @@ IsFull s = (s.place ≡ places.Between) × (most_sources < source_count s.seen)
 
 -- its entries were taken
 abbrev pub emptied : Standing → Standing
-emptied s = record s { journal = record s.journal { entries = [] } }
+emptied s = record s { journal = record s.journal { entries = [] }; stamps = [] }
 
 -- ---- what a schema takes
 
@@ -91,18 +95,22 @@ add schema s change =
     else if not (fits schema change) then Err causes.Schema
     else Ok (record s { changes = s.changes ++ change ∷ [] })
 
-unfoldable pub begin : Standing → Gtid → Result Standing Cause
-begin s gtid =
+abbrev pub begin_stamped : Standing → Gtid → Option ℕ → Result Standing Cause
+begin_stamped s gtid None = Err causes.Stamp
+begin_stamped s gtid (Some stamp) = if set.contains s.seen gtid then Err (causes.Twice gtid) else Ok (record s { place = places.Within; gtid = gtid; stamp = stamp })
+
+unfoldable pub begin : Standing → Gtid → Option Numbers → Result Standing Cause
+begin s gtid numbers =
     if not (is_number gtid.number) then Err causes.Body
     else if nat_le 4294967294 s.count then Err causes.Limit
-    else if set.contains s.seen gtid then Err (causes.Twice gtid)
-    else Ok (record s { place = places.Within; gtid = gtid })
+    else begin_stamped s gtid (stamp_in (s.count + 1) numbers)
 
 -- the entry that is open joins the others
 abbrev pub closed : Standing → Standing
 closed s = record s {
   place = places.Between;
   journal = record s.journal { entries = s.journal.entries ++ (record { gtid = s.gtid; txn = record { changes = s.changes } }) ∷ [] };
+  stamps = s.stamps ++ s.stamp ∷ [];
   seen = set.insert s.seen s.gtid;
   count = s.count + 1;
   changes = [];
@@ -120,8 +128,8 @@ followed s rest = do
 
 unfoldable pub begun : Standing → Option (List ℕ) → Result Standing Cause
 begun s rest = do
-  gtid ← gtid_in rest
-  begin s gtid
+  beginning ← beginning_in s.version rest
+  begin s beginning.gtid beginning.numbers
 
 unfoldable pub ended : Standing → Option (List ℕ) → Result Standing Cause
 ended s rest = do

@@ -1,5 +1,5 @@
 -- Journals as a format, and a journal that comes in pieces.
-use Rattle.std.specs.Prelude.{◌≡◌, ℕ, Bool, true, false, List, [], ◌++◌, None, Result, Ok, Err}
+use Rattle.std.specs.Prelude.{◌≡◌, ℕ, Bool, true, false, List, [], ◌++◌, Option, None, Result, Ok, Err}
 use Rattle.gtid_set.specs.declared.fault.SetFault.{SetFault}
 use Rattle.journal.specs.declared.Entry.{Entry}
 use Rattle.journal.specs.Journals.{JournalValue}
@@ -7,28 +7,53 @@ use Rattle.txn_journal.specs.declared.fault.JournalFault.{JournalFault}
 use Rattle.txn_journal.specs.Stream.{Progress, Reading, Stopped}
 use Rattle.txn_journal.specs.Formats.{Format, start_of, eats_by, IsFaultBy, closing_by}
 use Rattle.txn_journal.specs.Machine.{Standing, empty, is_last, emptied, judge, IsFull}
-use Rattle.txn_journal.specs.Spelling.{Line, line_text, Writes}
+use Rattle.txn_journal.specs.Lines.{takes}
+use Rattle.txn_journal.specs.Spelling.{Line, line_text, WritesAs, Writes}
 use Rattle.txn_journal.specs.Heard.{said}
 use Rattle.txn_journal.specs.Causes.{HasCause}
+use Rattle.txn_journal.specs.declared.lines.Version.{Version}
 use Rattle.txn_journal.specs.declared.lines.Place.{Place}
 use Rattle.txn_journal.specs.declared.lines.Place.TheVariants as places
 
 -- journals that stand alone
-abbrev pub journals : Format
-journals = record {
+abbrev pub journals_as : {V : Type 0} → Option Version → (Standing → V) → (List ℕ → V → Type 0) → Format
+journals_as {V} due value Writes = record {
   Line = Line;
   State = Standing;
-  Value = JournalValue;
-  start = empty None;
+  Value = V;
+  start = empty due;
   judge = judge None;
   is_last = λ s. is_last s.place;
-  value = λ s. s.journal;
+  value = value;
   IsFull = IsFull;
   line_text = line_text;
   Writes = Writes;
+  AlmostWrites = Writes;
+  is_open = λ s. false;
+  is_inside = λ line. false;
   HasHeard = λ s ls. said s ≡ ls;
   HasCause = HasCause None;
 }
+
+-- whatever their version and numbers
+abbrev pub journals : Format
+journals = journals_as None (λ s. s.journal) Writes
+
+-- a journal as it is written
+pub record WrittenJournal : Type 0 where
+  pub version : Version
+  pub stamps : List ℕ
+  pub journal : JournalValue
+
+abbrev pub as_written : Standing → WrittenJournal
+as_written s = record { version = s.version; stamps = s.stamps; journal = s.journal }
+
+-- of a version that is due
+abbrev pub IsWrittenAs : Option Version → List ℕ → WrittenJournal → Type 0
+IsWrittenAs due bytes w = (takes due w.version ≡ true) × WritesAs w.version w.stamps bytes w.journal
+
+abbrev pub written_journals : Option Version → Format
+written_journals due = journals_as due as_written (IsWrittenAs due)
 
 -- before the first byte
 abbrev pub before_first : Progress Standing
@@ -47,6 +72,15 @@ abbrev pub entries_of : Progress Standing → List Entry
 entries_of (Reading s n rest) = s.journal.entries
 entries_of (Stopped fault) = []
 
+-- entries, and the last_committed of each
+pub record Stamped : Type 0 where
+  pub entries : List Entry
+  pub stamps : List ℕ
+
+abbrev pub stamped_of : Progress Standing → Stamped
+stamped_of (Reading s n rest) = record { entries = s.journal.entries; stamps = s.stamps }
+stamped_of (Stopped fault) = record { entries = []; stamps = [] }
+
 abbrev pub without_entries : Progress Standing → Progress Standing
 without_entries (Reading s n rest) = Reading (emptied s) n rest
 without_entries (Stopped fault) = Stopped fault
@@ -59,8 +93,8 @@ closing p = closing_by journals p
 abbrev pub in_front : List Entry → JournalValue → JournalValue
 in_front front journal = record journal { entries = front ++ journal.entries }
 
-abbrev pub behind_entries : List Entry → Progress Standing → Progress Standing
-behind_entries front (Reading s n rest) = Reading (record s { journal = in_front front s.journal }) n rest
+abbrev pub behind_entries : Stamped → Progress Standing → Progress Standing
+behind_entries front (Reading s n rest) = Reading (record s { journal = in_front front.entries s.journal; stamps = front.stamps ++ s.stamps }) n rest
 behind_entries front (Stopped fault) = Stopped fault
 
 abbrev pub with_front : List Entry → Result JournalValue JournalFault → Result JournalValue JournalFault
@@ -78,5 +112,5 @@ HasBegun (Reading s n rest) = has_begun s.place ≡ true
 HasBegun (Stopped fault) = Unit {0}
 
 -- entries in front make no difference to what bytes do
-abbrev pub EatsBehind : List Entry → Progress Standing → List ℕ → Type 0
+abbrev pub EatsBehind : Stamped → Progress Standing → List ℕ → Type 0
 EatsBehind front p bytes = eats_alone (behind_entries front p) bytes ≡ behind_entries front (eats_alone p bytes)

@@ -1,5 +1,5 @@
 -- The one text of a journal: its lines, each ended by a line feed.
-use Rattle.std.specs.Prelude.{◌≡◌, ℕ, ◌≤◌, true, List, [], ◌∷◌, ◌++◌, length, map, codes}
+use Rattle.std.specs.Prelude.{◌≡◌, ℕ, ◌+◌, ◌<◌, ◌≤◌, true, List, [], ◌∷◌, ◌++◌, length, map, Option, Some, None, codes, decimal}
 use Rattle.std.specs.List.{flat_map, AllByRecursion}
 use Rattle.gtid_text.specs.declared.Gtid.{Gtid}
 use Rattle.gtid_text.specs.Canonical.{gtid_text}
@@ -14,8 +14,9 @@ use Rattle.journal.specs.Journals.{JournalValue, IsJournal}
 use Rattle.journal_words.specs.Values.{value_text, FitsValue}
 use Rattle.txn_journal.specs.WrittenSets.{set_text, IsWrittenSet}
 use Rattle.txn_journal.specs.Splits.{joined_by}
+use Rattle.txn_journal.specs.Lines.{Numbers}
 use Rattle.txn_journal.specs.declared.lines.Version.{Version}
-use Rattle.txn_journal.specs.declared.lines.Version.TheVariants.{One}
+use Rattle.txn_journal.specs.declared.lines.Version.TheVariants.{One, Two}
 
 -- ---- lines
 
@@ -23,13 +24,14 @@ use Rattle.txn_journal.specs.declared.lines.Version.TheVariants.{One}
 pub data Line : Type 0 where
   Header : Version → Line
   Previous : Gtids → Line
-  Begin : Gtid → Line
+  Begin : Gtid → Option Numbers → Line
   Makes : Change → Line
   End : Line
   Close : Line
 
 abbrev pub version_text : Version → List ℕ
 version_text One = codes "1"
+version_text Two = codes "2"
 
 -- values with a blank between
 abbrev pub values_text : List Value → List ℕ
@@ -49,11 +51,16 @@ change_text (Insert table after) = image_text (codes "ins") table after
 change_text (Delete table before) = image_text (codes "del") table before
 change_text (Update table before after) = codes "upd" ++ 32 ∷ (table ++ 32 ∷ (values_text before ++ 32 ∷ (124 ∷ 32 ∷ values_text after)))
 
+-- numbers, each behind a blank
+abbrev pub numbers_text : Option Numbers → List ℕ
+numbers_text None = []
+numbers_text (Some numbers) = 32 ∷ (numbers.last_committed ++ 32 ∷ numbers.sequence_number)
+
 -- the text of a line, without its line feed
 abbrev pub line_text : Line → List ℕ
 line_text (Header version) = codes "journal" ++ 32 ∷ version_text version
 line_text (Previous s) = codes "previous" ++ 32 ∷ set_text s
-line_text (Begin g) = codes "txn" ++ 32 ∷ gtid_text g
+line_text (Begin g numbers) = codes "txn" ++ 32 ∷ (gtid_text g ++ numbers_text numbers)
 line_text (Makes change) = change_text change
 line_text End = codes "end"
 line_text Close = codes "close"
@@ -67,22 +74,39 @@ lines_text ls = flat_map ended_line ls
 
 -- ---- journals
 
-abbrev pub entry_lines : Entry → List Line
-entry_lines e = Begin e.gtid ∷ map Makes e.txn.changes ++ End ∷ []
+-- the numbers of the entry at a place with this last_committed
+abbrev pub numbers_of : Version → ℕ → ℕ → Option Numbers
+numbers_of One place stamp = None
+numbers_of Two place stamp = Some (record { last_committed = decimal stamp; sequence_number = decimal place })
+
+abbrev pub entry_lines : Option Numbers → Entry → List Line
+entry_lines numbers e = Begin e.gtid numbers ∷ map Makes e.txn.changes ++ End ∷ []
+
+-- the lines of entries from a place on, each with its last_committed
+abbrev pub entries_lines : Version → ℕ → List ℕ → List Entry → List Line
+entries_lines version place (stamp ∷ stamps) (e ∷ es) = entry_lines (numbers_of version place stamp) e ++ entries_lines version (place + 1) stamps es
+entries_lines version place _ _ = []
 
 abbrev pub opening_lines : Version → Gtids → List Line
 opening_lines version previous = Header version ∷ Previous previous ∷ []
 
 -- the lines of a journal but the last
-abbrev pub front_lines : Version → JournalValue → List Line
-front_lines version j = opening_lines version j.previous ++ flat_map entry_lines j.entries
+abbrev pub front_lines : Version → List ℕ → JournalValue → List Line
+front_lines version stamps j = opening_lines version j.previous ++ entries_lines version 1 stamps j.entries
 
-abbrev pub journal_lines : Version → JournalValue → List Line
-journal_lines version j = front_lines version j ++ Close ∷ []
+abbrev pub journal_lines : Version → List ℕ → JournalValue → List Line
+journal_lines version stamps j = front_lines version stamps j ++ Close ∷ []
 
--- the one text of a journal, by version 1 of the format
+-- the text of a journal with the last_committed of each entry
+abbrev pub spelling_as : Version → List ℕ → JournalValue → List ℕ
+spelling_as version stamps j = lines_text (journal_lines version stamps j)
+
+abbrev pub no_stamps : List Entry → List ℕ
+no_stamps es = map (λ e. 0) es
+
+-- the one text of a journal by version 1 of the format, which writes no numbers
 abbrev pub spelling : JournalValue → List ℕ
-spelling j = lines_text (journal_lines One j)
+spelling j = spelling_as One (no_stamps j.entries) j
 
 -- ---- what can be written
 
@@ -106,6 +130,23 @@ pub record IsWritten (j : JournalValue) : Type 0 where
   pub previous : IsWrittenSet j.previous
   pub entries : AllByRecursion FitsEntry j.entries
 
--- the bytes are the text of this journal
+-- what stands for the last_committed of the entry at a place, which in version 2 is below it
+abbrev pub IsStamp : Version → ℕ → ℕ → Type 0
+IsStamp One place stamp = stamp ≡ 0
+IsStamp Two place stamp = stamp < place
+
+-- one for each entry from a place on
+abbrev pub AreStamps : Version → ℕ → List ℕ → List Entry → Type 0
+AreStamps version place [] [] = Unit {0}
+AreStamps version place (stamp ∷ stamps) (e ∷ es) = IsStamp version place stamp × AreStamps version (place + 1) stamps es
+AreStamps version place _ _ = ⊥
+
+-- the bytes are the text of this journal, by this version and with these numbers
+pub record WritesAs (version : Version) (stamps : List ℕ) (bytes : List ℕ) (j : JournalValue) : Type 0 where
+  pub written : IsWritten j
+  pub stamps_fit : AreStamps version 1 stamps j.entries
+  pub text : bytes ≡ spelling_as version stamps j
+
+-- the bytes are a text of this journal, whatever its version and numbers
 abbrev pub Writes : List ℕ → JournalValue → Type 0
-Writes bytes j = IsWritten j × (bytes ≡ spelling j)
+Writes bytes j = (version : Version) × (stamps : List ℕ) × WritesAs version stamps bytes j

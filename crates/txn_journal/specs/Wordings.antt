@@ -23,6 +23,8 @@ pub record Wording : Type 1 where
   pub PassesLimit : Line → Type 0
   -- the lines before, or the schema, do not allow it
   pub Clashes : Line → Type 0
+  -- its numbers are not those of its place
+  pub IsMisnumbered : Line → Type 0
   -- it has this GTID, which came before
   pub IsTwice : Line → Gtid → Type 0
 
@@ -45,4 +47,5 @@ HasCauseBy w line causes.Version = (n : List ℕ) × (line ≡ w.word_text w.hea
 HasCauseBy w line causes.Body = (k : w.Word) × (w.word_of (first_word line) ≡ Some k) × (w.is_due k ≡ true) × SaysNothing w line
 HasCauseBy w line causes.Limit = (l : w.Line) × Says w line l × w.PassesLimit l
 HasCauseBy w line causes.Schema = (l : w.Line) × Says w line l × (w.PassesLimit l → ⊥) × w.Clashes l
-HasCauseBy w line (causes.Twice g) = (l : w.Line) × Says w line l × (w.PassesLimit l → ⊥) × w.IsTwice l g
+HasCauseBy w line causes.Stamp = (l : w.Line) × Says w line l × (w.PassesLimit l → ⊥) × w.IsMisnumbered l
+HasCauseBy w line (causes.Twice g) = (l : w.Line) × Says w line l × (w.PassesLimit l → ⊥) × (w.IsMisnumbered l → ⊥) × w.IsTwice l g

@@ -13,10 +13,11 @@ use crate::fault::{Cause, LineFault};
 use crate::images::{image, table_at, two_images};
 use crate::lines::{Keyword, Place, Version, keyword_at};
 use crate::names::Names;
+use crate::numbers::{beginning_in, stamp_in};
 use gtid_set::GtidSet;
 use gtid_text::{Gtid, SourceId};
 use journal::{Entry, Journal, is_change_writable, is_number};
-use journal_words::{cut, gtid_word, is_count, set_word};
+use journal_words::{cut, is_count, set_word};
 use rows::{Change, Changes, Name, Row, Schema, Table, Transaction, has_null_at};
 use std::alloc::{AllocError, Global};
 use std::mem;
@@ -35,12 +36,15 @@ pub struct Draft {
     due: Option<Version>,
     version: Version,
     journal: Journal,
+    /// The last_committed of each entry of the journal; 0 in version 1, which writes none.
+    stamps: Vec<u64>,
     /// The previous set with the GTIDs of all entries, those that were taken too.
     seen: GtidSet,
     /// How many entries have come, those that were taken too.
     count: u64,
     /// The entry that is open.
     gtid: Gtid,
+    stamp: u64,
     changes: Vec<Change>,
     ghost seen_all: { IsSeen journal seen },
     ghost open_new: { IsOpenNew place seen count gtid },
@@ -59,6 +63,7 @@ pub fn version_in(due: Option<Version>, rest: Option<&[u8]>) -> Result<Version, 
     }
     match (word, due) {
         (b"1", None | Some(Version::One)) => Ok(Version::One),
+        (b"2", None | Some(Version::Two)) => Ok(Version::Two),
         _ => Err(LineFault::Wrong(Cause::Version)),
     }
 }
@@ -113,12 +118,14 @@ impl Draft {
             due,
             version: Version::One,
             journal: Journal::start(alloc, GtidSet::empty(alloc)),
+            stamps: Vec::new(alloc),
             seen: GtidSet::empty(alloc),
             count: 0,
             gtid: Gtid {
                 source: SourceId::from_bits(0),
                 number: 0,
             },
+            stamp: 0,
             changes: Vec::new(alloc),
         }
     }
@@ -135,6 +142,7 @@ impl Draft {
         ensures taken { result.items ≡ (standing self.old).journal.entries }
         ensures left { standing self.new ≡ emptied (standing self.old) }
     {
+        self.stamps = Vec::new(alloc);
         self.journal.take_entries(alloc)
     }
 
@@ -243,22 +251,22 @@ impl Draft {
     fn begin(&mut self, alloc: Global, rest: Option<&[u8]>) -> Result<(), LineFault>
         ensures { TakesLine IsFull result (begun (standing self.old) (option_map (λ r. r.now) rest.entry)) (standing self.new) }
     {
-        let Some(word) = rest else {
-            return Err(LineFault::Wrong(Cause::Body));
-        };
-        let Some(gtid) = gtid_word(alloc, word)? else {
-            return Err(LineFault::Wrong(Cause::Body));
-        };
+        let beginning = beginning_in(alloc, self.version, rest)?;
+        let gtid = beginning.gtid;
         if !is_number(gtid.number) {
             return Err(LineFault::Wrong(Cause::Body));
         }
         if self.count >= MAX_ENTRIES {
             return Err(LineFault::Wrong(Cause::Limit));
         }
+        let Some(stamp) = stamp_in(self.count + 1, beginning.numbers) else {
+            return Err(LineFault::Wrong(Cause::Stamp));
+        };
         if self.seen.contains(&gtid) {
             return Err(LineFault::Wrong(Cause::Twice(gtid)));
         }
         self.gtid = gtid;
+        self.stamp = stamp;
         self.place = Place::Within;
         Ok(())
     }
@@ -286,6 +294,7 @@ impl Draft {
             return Err(LineFault::Wrong(Cause::Body));
         }
         self.place = Place::Between;
+        self.stamps.push(self.stamp)?;
         let changes = mem::replace(&mut self.changes, Vec::new(alloc));
         let entry = Entry {
             gtid: self.gtid,

@@ -22,6 +22,8 @@ pub enum Cause {
     Limit,
     /// The schema of the bundle does not allow the line.
     Schema,
+    /// The sequence number of an entry is not its place, or its last_committed is not that which it has to have.
+    Stamp,
     /// The GTID is in the previous set, or stood before in the same journal.
     Twice(Gtid),
 }

@@ -1,26 +1,28 @@
 //! Laws of journals' texts.
-ghost use Rattle.std.specs.Prelude.{◌≡◌, ◌++◌, ℕ, List};
-ghost use Rattle.journal.specs.declared.Entry.{Entry};
+ghost use Rattle.std.specs.Prelude.{◌≡◌, ◌++◌, ℕ, List, None};
 ghost use Rattle.journal.specs.Journals.{JournalValue};
 ghost use Rattle.txn_journal.specs.Machine.{Standing};
 ghost use Rattle.txn_journal.specs.Stream.{Progress};
-ghost use Rattle.txn_journal.specs.Reading.{entries_of, without_entries, behind_entries, closing, with_front, HasBegun, EatsBehind};
-ghost use Rattle.txn_journal.specs.Spelling.{Writes};
+ghost use Rattle.txn_journal.specs.Reading.{Stamped, stamped_of, without_entries, behind_entries, closing, WrittenJournal, IsWrittenAs, with_front, HasBegun, EatsBehind};
+ghost use Rattle.txn_journal.specs.Spelling.{WritesAs, Writes};
+ghost use Rattle.txn_journal.specs.declared.lines.Version.TheVariants.{One, Two};
 ghost use Rattle.txn_journal.specs.BundleStates.{BundleValue};
 ghost use Rattle.txn_journal.specs.BundleText.{WritesBundle};
 ghost use Rattle.txn_journal.specs.RowOrders.{DifferInOrder};
 
-/// A journal has one text, and a text is that of one journal at most.
+/// A journal has one text in version 1, and in version 2 one with its numbers; and a text is that of one journal at most, with its version and numbers.
 pub fn one_spelling()
-    ensures text { (j : JournalValue) (a b : List ℕ) → Writes a j → Writes b j → a ≡ b }
+    ensures one { (j : JournalValue) (ks ls a b : List ℕ) → WritesAs One ks a j → WritesAs One ls b j → a ≡ b }
+    ensures two { (j : JournalValue) (ls a b : List ℕ) → WritesAs Two ls a j → WritesAs Two ls b j → a ≡ b }
     ensures journal { (bytes : List ℕ) (i j : JournalValue) → Writes bytes i → Writes bytes j → i ≡ j }
+    ensures whole { (bytes : List ℕ) (v w : WrittenJournal) → IsWrittenAs None bytes v → IsWrittenAs None bytes w → v ≡ w }
 {}
 
 /// Entries that were taken are those that would have come in front.
 pub fn taken_in_front()
-    ensures taken { (p : Progress Standing) → behind_entries (entries_of p) (without_entries p) ≡ p }
-    ensures eats { (front : List Entry) (p : Progress Standing) (bytes : List ℕ) → HasBegun p → EatsBehind front p bytes }
-    ensures closing { (front : List Entry) (p : Progress Standing) → closing (behind_entries front p) ≡ with_front front (closing p) }
+    ensures taken { (p : Progress Standing) → behind_entries (stamped_of p) (without_entries p) ≡ p }
+    ensures eats { (front : Stamped) (p : Progress Standing) (bytes : List ℕ) → HasBegun p → EatsBehind front p bytes }
+    ensures closing { (front : Stamped) (p : Progress Standing) → closing (behind_entries front p) ≡ with_front front.entries (closing p) }
 {}
 
 /// A text is that of one bundle at most, and two texts of a bundle differ in the order of its `row` lines at most.

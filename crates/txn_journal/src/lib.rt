@@ -11,6 +11,7 @@ mod images;
 mod laws;
 mod lines;
 mod names;
+mod numbers;
 mod reader;
 mod tables;
 mod writer;

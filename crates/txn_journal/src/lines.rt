@@ -6,6 +6,7 @@ ghost use Rattle.txn_journal.specs.Lines.{keyword_of};
 #[derive(Clone, Copy, Debug, PartialEq, Eq)]
 pub enum Version {
     One,
+    Two,
 }
 
 /// Where in a journal the next line stands.

@@ -1,8 +1,16 @@
-use Rattle.std.proofs.Common.{sym, ◌∙◌}
+use Rattle.std.proofs.Common.{None, ap, sym, ◌∙◌}
+use Rattle.std.specs.Prelude.{ℕ, List}
 use Rattle.txn_journal.proofs.FormatLaws.{one_value}
-use Rattle.txn_journal.specs.Reading.{journals}
-use Rattle.txn_journal.proofs.JournalLaws.{IsSoundAlone, journal_laws}
+use Rattle.txn_journal.specs.Reading.{journals, written_journals}
+use Rattle.txn_journal.specs.Spelling.{spelling_as}
+use Rattle.txn_journal.specs.declared.lines.Version.TheVariants.{One}
+use Rattle.txn_journal.proofs.JournalLaws.{IsSoundAlone, journal_laws, written_laws, none_stamped}
 use Rattle.txn_journal.proofs.laws.one_spelling.Goals as goal
 
 pub returns : goal.returns
-returns c = record { text = λ j a b x y. x.1 ∙ sym y.1; journal = one_value journals IsSoundAlone journal_laws }
+returns c = record {
+  one = λ j ks ls a b x y. x.text ∙ ap (λ (stamps : List ℕ). spelling_as One stamps j) (none_stamped 1 ks j.entries x.stamps_fit ∙ sym (none_stamped 1 ls j.entries y.stamps_fit)) ∙ sym y.text;
+  two = λ j ls a b x y. x.text ∙ sym y.text;
+  journal = one_value journals (IsSoundAlone None) journal_laws;
+  whole = one_value (written_journals None) (IsSoundAlone None) (written_laws None);
+}
