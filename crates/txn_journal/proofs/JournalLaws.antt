@@ -94,7 +94,7 @@ unfolding add
 add_again schema s c lt e fit = rw (lt-leb 65536 (length s.changes) lt, e, fit) refl
 
 begin_again : (s : Standing) (g : Gtid) (numbers : Option Numbers) (stamp : ℕ) → is_number g.number ≡ true → s.count < 4294967294 → stamp_in (s.count + 1) numbers ≡ Some stamp → set.contains s.seen g ≡ false
-    → begin s g numbers ≡ Ok (record s { place = places.Within; gtid = g; stamp = stamp })
+    → begin s g (stamp_in (s.count + 1) numbers) ≡ Ok (record s { place = places.Within; gtid = g; stamp = stamp })
 unfolding begin
 begin_again s g numbers stamp number few e apart = rw (number, lt-leb 4294967294 s.count few, e, apart) refl
 

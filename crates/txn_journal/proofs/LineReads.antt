@@ -1,5 +1,5 @@
 -- Lines: what is read is spelled so, and what is spelled so is read.
-use Rattle.std.proofs.Common.{◌≡◌, ℕ, inl, inr, true, List, [], ◌∷◌, ◌++◌, Option, Some, None, Result, Ok, refl, sym, ap, ◌∙◌, not, eqb}
+use Rattle.std.proofs.Common.{◌≡◌, ℕ, inl, inr, true, List, [], ◌∷◌, ◌++◌, Option, Some, None, Result, Ok, Err, refl, sym, ap, ◌∙◌, ◌+◌, not, eqb}
 use Rattle.std.specs.Prelude.{codes, MatchResult, ◌&&◌}
 use Rattle.std.proofs.lemmas.Bool.{and_parts}
 use Rattle.std.proofs.lemmas.List.{append-nil}
@@ -20,7 +20,7 @@ use Rattle.txn_journal.proofs.GtidLaws.{is_set_byte, set_no_blank, gtid_set_byte
 use Rattle.txn_journal.proofs.SplitLaws.{count_no_blank}
 use Rattle.txn_journal.specs.Words.{name_of}
 use Rattle.txn_journal.specs.Due.{is_due}
-use Rattle.txn_journal.specs.Lines.{◌>>=◌, Numbers, Beginning, some_or_body, keyword_of, due, takes, version_named, known, version_in, numbers_in, beginning_text, beginning_in, set_in, nothing_in, image_in, images_in, table_in}
+use Rattle.txn_journal.specs.Lines.{◌>>=◌, Numbers, Beginning, stamp_in, at_place, some_or_body, keyword_of, due, takes, version_named, known, version_in, numbers_in, beginning_text, beginning_in, set_in, nothing_in, image_in, images_in, table_in}
 use Rattle.txn_journal.specs.Machine.{Standing, closed, add, begin, opened, followed, begun, ended, finished, step, judge}
 use Rattle.txn_journal.specs.Spelling.{Line, Header, Previous, Begin, Makes, End, Close, version_text, numbers_text, values_text, line_text}
 use Rattle.txn_journal.specs.Causes.{keyword_text, word_for, AreCounts, HasNumbers, FitsAt, wording}
@@ -54,16 +54,21 @@ body_of due version keywords.Close rest = nothing_in rest >>= λ nothing. Ok Clo
 unfoldable pub put : Option (List Table) → Standing → Line → Result Standing Cause
 put schema s (Header version) = Ok (record s { place = places.Previous; version = version })
 put schema s (Previous previous) = Ok (record s { place = places.Between; journal = record { previous = previous; entries = [] }; seen = previous })
-put schema s (Begin g numbers) = begin s g numbers
+put schema s (Begin g numbers) = begin s g (stamp_in (s.count + 1) numbers)
 put schema s (Makes change) = add schema s change
 put schema s End = Ok (closed s)
 put schema s Close = Ok (record s { place = places.Ended })
+
+txn_step : (schema : Option (List Table)) (s : Standing) (r : Result Beginning Cause) → ((r >>= λ b. Ok (at_place (s.count + 1) b)) >>= λ p. begin s p.0 p.1) ≡ ((r >>= λ b. Ok (Begin b.gtid b.numbers)) >>= put schema s)
+unfolding put
+txn_step schema s (Ok b) = refl
+txn_step schema s (Err c) = refl
 
 step_reads : (schema : Option (List Table)) (s : Standing) (k : Keyword) (rest : Option (List ℕ)) → step schema s k rest ≡ (body_of s.due s.version k rest >>= put schema s)
 unfolding step opened followed begun ended finished body_of put
 step_reads schema s keywords.Journal rest = one_step (version_in s.due rest) Header (put schema s)
 step_reads schema s keywords.Previous rest = one_step (set_in rest) Previous (put schema s)
-step_reads schema s keywords.Txn rest = one_step (beginning_in s.version rest) (λ b. Begin b.gtid b.numbers) (put schema s)
+step_reads schema s keywords.Txn rest = txn_step schema s (beginning_in s.version rest)
 step_reads schema s keywords.Ins rest = two_steps (table_in rest) (λ table. image_in table.1) (λ table after. Makes (Insert table.0 after)) (put schema s)
 step_reads schema s keywords.Del rest = two_steps (table_in rest) (λ table. image_in table.1) (λ table before. Makes (Delete table.0 before)) (put schema s)
 step_reads schema s keywords.Upd rest = two_steps (table_in rest) (λ table. images_in table.1) (λ table images. Makes (Update table.0 images.0 images.1)) (put schema s)

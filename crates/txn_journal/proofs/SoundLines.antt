@@ -195,7 +195,7 @@ pub record Keeps (schema : Option (List Table)) (due : Option Version) (old : Li
 
 pub begin_both : (schema : Option (List Table)) (s : Standing) (line : List ℕ) (g : Gtid) (numbers : Option Numbers) (P : Standing → Type 0) → Says (wording schema s) line (Begin g numbers)
     → (is_number g.number ≡ true → s.count < 4294967294 → (stamp : ℕ) → stamp_in (s.count + 1) numbers ≡ Some stamp → set.contains s.seen g ≡ false → P (record s { place = places.Within; gtid = g; stamp = stamp }))
-    → MatchResult (begin s g numbers) P (HasCause schema s line)
+    → MatchResult (begin s g (stamp_in (s.count + 1) numbers)) P (HasCause schema s line)
 unfolding begin greatest
 begin_both schema s line g numbers P h more =
     if_both P (HasCause schema s line) (not (is_number g.number)) _ _ (λ no. absurd (let n = h.fits.words.0.number in let k : is_number g.number ≡ true = rw (le-leb 1 g.number n.0, le-leb g.number 9223372036854775807 n.1) refl in cc))

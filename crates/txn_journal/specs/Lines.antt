@@ -123,6 +123,13 @@ abbrev pub stamp_in : ℕ → Option Numbers → Option ℕ
 stamp_in place None = Some 0
 stamp_in place (Some numbers) = if is_place place (count_of numbers.sequence_number) then below place (count_of numbers.last_committed) else None
 
+-- the GTID of the entry at a place, and its last_committed where its numbers may stand there
+abbrev pub at_place : ℕ → Beginning → Gtid × Option ℕ
+at_place place b = (b.gtid, stamp_in place b.numbers)
+
+abbrev pub beginning_at : Version → ℕ → Option (List ℕ) → Result (Gtid × Option ℕ) Cause
+beginning_at version place rest = beginning_in version rest >>= λ b. Ok (at_place place b)
+
 -- ---- images
 
 -- the words between blanks

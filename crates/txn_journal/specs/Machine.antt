@@ -13,7 +13,7 @@ use Rattle.journal.specs.Journals.{JournalValue}
 use Rattle.journal.specs.Writing.{is_number, is_change_writable}
 use Rattle.journal_words.specs.Words.{first_word, others}
 use Rattle.txn_journal.specs.Due.{is_due}
-use Rattle.txn_journal.specs.Lines.{◌>>=◌, Numbers, Beginning, keyword_of, due, version_in, beginning_in, stamp_in, set_in, nothing_in, table_in, image_in, images_in}
+use Rattle.txn_journal.specs.Lines.{◌>>=◌, keyword_of, due, version_in, beginning_at, set_in, nothing_in, table_in, image_in, images_in}
 use Rattle.txn_journal.specs.declared.fault.Cause.{Cause}
 use Rattle.txn_journal.specs.declared.fault.Cause.TheVariants as causes
 use Rattle.txn_journal.specs.Stream.{TakesLine}
@@ -99,11 +99,11 @@ abbrev pub begin_stamped : Standing → Gtid → Option ℕ → Result Standing 
 begin_stamped s gtid None = Err causes.Stamp
 begin_stamped s gtid (Some stamp) = if set.contains s.seen gtid then Err (causes.Twice gtid) else Ok (record s { place = places.Within; gtid = gtid; stamp = stamp })
 
-unfoldable pub begin : Standing → Gtid → Option Numbers → Result Standing Cause
-begin s gtid numbers =
+unfoldable pub begin : Standing → Gtid → Option ℕ → Result Standing Cause
+begin s gtid stamp =
     if not (is_number gtid.number) then Err causes.Body
     else if nat_le 4294967294 s.count then Err causes.Limit
-    else begin_stamped s gtid (stamp_in (s.count + 1) numbers)
+    else begin_stamped s gtid stamp
 
 -- the entry that is open joins the others
 abbrev pub closed : Standing → Standing
@@ -128,8 +128,8 @@ followed s rest = do
 
 unfoldable pub begun : Standing → Option (List ℕ) → Result Standing Cause
 begun s rest = do
-  beginning ← beginning_in s.version rest
-  begin s beginning.gtid beginning.numbers
+  beginning ← beginning_at s.version (s.count + 1) rest
+  begin s beginning.0 beginning.1
 
 unfoldable pub ended : Standing → Option (List ℕ) → Result Standing Cause
 ended s rest = do

@@ -1,5 +1,6 @@
 -- What the words of the line that begins an entry are.
-use Rattle.std.specs.Prelude.{option_map}
+use Rattle.std.specs.Prelude.{ℕ, Option}
+use Rattle.gtid_text.specs.declared.Gtid.{Gtid}
 use Rattle.txn_journal.specs.Lines as lines
 use Rattle.txn_journal.specs.declared.numbers.Numbers.{Numbers}
 use Rattle.txn_journal.specs.declared.numbers.Beginning.{Beginning}
@@ -7,5 +8,5 @@ use Rattle.txn_journal.specs.declared.numbers.Beginning.{Beginning}
 abbrev pub numbers_said : Numbers → lines.Numbers
 numbers_said n = record { last_committed = n.last_committed.now; sequence_number = n.sequence_number.now }
 
-abbrev pub beginning_said : Beginning → lines.Beginning
-beginning_said b = record { gtid = b.gtid; numbers = option_map numbers_said b.numbers }
+abbrev pub beginning_said : Beginning → Gtid × Option ℕ
+beginning_said b = (b.gtid, b.stamp)

@@ -1,5 +1,5 @@
 //! A journal as far as its lines have come.
-ghost use Rattle.std.specs.Prelude.{◌≡◌, true, option_map};
+ghost use Rattle.std.specs.Prelude.{◌≡◌, ◌≤◌, true, option_map};
 ghost use Rattle.txn_journal.specs.Stream.{Finds};
 ghost use Rattle.txn_journal.specs.Lines.{version_in};
 ghost use Rattle.txn_journal.specs.Machine.{is_row_of, are_rows_of, fits};
@@ -13,7 +13,7 @@ use crate::fault::{Cause, LineFault};
 use crate::images::{image, table_at, two_images};
 use crate::lines::{Keyword, Place, Version, keyword_at};
 use crate::names::Names;
-use crate::numbers::{beginning_in, stamp_in};
+use crate::numbers::beginning_at;
 use gtid_set::GtidSet;
 use gtid_text::{Gtid, SourceId};
 use journal::{Entry, Journal, is_change_writable, is_number};
@@ -49,6 +49,7 @@ pub struct Draft {
     ghost seen_all: { IsSeen journal seen },
     ghost open_new: { IsOpenNew place seen count gtid },
     ghost writable: { AreWritable changes.items },
+    ghost few: { count ≤ 4294967294 },
 }
 
 /// The version that a header names, where it is known.
@@ -251,7 +252,7 @@ impl Draft {
     fn begin(&mut self, alloc: Global, rest: Option<&[u8]>) -> Result<(), LineFault>
         ensures { TakesLine IsFull result (begun (standing self.old) (option_map (λ r. r.now) rest.entry)) (standing self.new) }
     {
-        let beginning = beginning_in(alloc, self.version, rest)?;
+        let beginning = beginning_at(alloc, self.version, self.count + 1, rest)?;
         let gtid = beginning.gtid;
         if !is_number(gtid.number) {
             return Err(LineFault::Wrong(Cause::Body));
@@ -259,7 +260,7 @@ impl Draft {
         if self.count >= MAX_ENTRIES {
             return Err(LineFault::Wrong(Cause::Limit));
         }
-        let Some(stamp) = stamp_in(self.count + 1, beginning.numbers) else {
+        let Some(stamp) = beginning.stamp else {
             return Err(LineFault::Wrong(Cause::Stamp));
         };
         if self.seen.contains(&gtid) {
@@ -294,7 +295,6 @@ impl Draft {
             return Err(LineFault::Wrong(Cause::Body));
         }
         self.place = Place::Between;
-        self.stamps.push(self.stamp)?;
         let changes = mem::replace(&mut self.changes, Vec::new(alloc));
         let entry = Entry {
             gtid: self.gtid,
@@ -304,6 +304,7 @@ impl Draft {
         };
         self.seen.add(self.gtid)?;
         self.journal.push(entry)?;
+        self.stamps.push(self.stamp)?;
         self.count += 1;
         Ok(())
     }

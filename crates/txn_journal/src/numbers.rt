@@ -1,8 +1,8 @@
 //! The line that begins an entry: its GTID, and in version 2 its numbers.
-ghost use Rattle.std.specs.Prelude.{◌≡◌, option_map};
-ghost use Rattle.txn_journal.specs.Stream.{Finds};
+ghost use Rattle.std.specs.Prelude.{◌≡◌, Some, option_map};
 ghost use Rattle.journal_words.specs.Gtids.{gtid_of_word};
-ghost use Rattle.txn_journal.specs.Lines.{some_or_body, numbers_in, beginning_text, beginning_in, stamp_in};
+ghost use Rattle.txn_journal.specs.Stream.{Finds};
+ghost use Rattle.txn_journal.specs.Lines.{some_or_body, numbers_in, stamp_in, beginning_at};
 ghost use Rattle.txn_journal.specs.Numbered.{numbers_said, beginning_said};
 
 use crate::fault::{Cause, LineFault};
@@ -13,17 +13,32 @@ use std::alloc::Global;
 
 /// The numbers of an entry as they are written.
 #[derive(Clone, Copy, Debug)]
-pub struct Numbers<'a> {
+struct Numbers<'a> {
     last_committed: &'a [u8],
     sequence_number: &'a [u8],
 }
 
 /// What the line that begins an entry says.
 #[derive(Clone, Copy, Debug)]
-pub struct Beginning<'a> {
+pub struct Beginning {
     pub gtid: Gtid,
-    /// None in version 1.
-    pub numbers: Option<Numbers<'a>>,
+    /// The last_committed, where its numbers may stand there; 0 in version 1, which writes none.
+    pub stamp: Option<u64>,
+}
+
+impl Numbers<'_> {
+    /// The last_committed, where these may stand at a place, counted from 1.
+    fn stamp(&self, place: u64) -> Option<u64>
+        ensures { result ≡ stamp_in place (Some (numbers_said self.now)) }
+    {
+        if count(self.sequence_number) != Some(place) {
+            return None;
+        }
+        match count(self.last_committed) {
+            Some(last_committed) if last_committed < place => Some(last_committed),
+            _ => None,
+        }
+    }
 }
 
 fn gtid_in(alloc: Global, word: &[u8]) -> Result<Gtid, LineFault>
@@ -57,56 +72,40 @@ fn numbers_in(rest: Option<&[u8]>) -> Result<Numbers<'_>, LineFault>
 fn beginning_text(
     alloc: Global,
     version: Version,
+    place: u64,
     text: &[u8],
-) -> Result<Beginning<'_>, LineFault>
-    ensures { Finds beginning_said result (beginning_text version text.now) }
+) -> Result<Beginning, LineFault>
+    ensures { Finds beginning_said result (beginning_at version place (Some text.now)) }
 {
     match version {
         Version::One => {
             let gtid = gtid_in(alloc, text)?;
             Ok(Beginning {
                 gtid,
-                numbers: None,
+                stamp: Some(0),
             })
         }
         Version::Two => {
             let (word, rest) = cut(text);
             let gtid = gtid_in(alloc, word)?;
             let numbers = numbers_in(rest)?;
-            Ok(Beginning {
-                gtid,
-                numbers: Some(numbers),
-            })
+            let stamp = numbers.stamp(place);
+            Ok(Beginning { gtid, stamp })
         }
     }
 }
 
-/// What the rest of the line that begins an entry says.
-pub fn beginning_in(
+/// What the rest of the line says that begins the entry at a place, counted from 1.
+pub fn beginning_at(
     alloc: Global,
     version: Version,
+    place: u64,
     rest: Option<&[u8]>,
-) -> Result<Beginning<'_>, LineFault>
-    ensures { Finds beginning_said result (beginning_in version (option_map (λ r. r.now) rest.entry)) }
+) -> Result<Beginning, LineFault>
+    ensures { Finds beginning_said result (beginning_at version place (option_map (λ r. r.now) rest.entry)) }
 {
     match rest {
-        Some(text) => beginning_text(alloc, version, text),
+        Some(text) => beginning_text(alloc, version, place, text),
         None => Err(LineFault::Wrong(Cause::Body)),
-    }
-}
-
-/// The last_committed of the entry at a place, counted from 1, where its numbers may stand there.
-pub fn stamp_in(place: u64, numbers: Option<Numbers<'_>>) -> Option<u64>
-    ensures { result ≡ stamp_in place (option_map numbers_said numbers) }
-{
-    let Some(numbers) = numbers else {
-        return Some(0);
-    };
-    if count(numbers.sequence_number) != Some(place) {
-        return None;
-    }
-    match count(numbers.last_committed) {
-        Some(last_committed) if last_committed < place => Some(last_committed),
-        _ => None,
     }
 }

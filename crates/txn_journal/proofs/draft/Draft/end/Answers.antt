@@ -1,4 +1,4 @@
-use Rattle.std.proofs.Common.{refl, sym, ◌∙◌}
+use Rattle.std.proofs.Common.{refl, sym, arith, ◌∙◌}
 use Rattle.std.proofs.lemmas.Result.{err_from_is_err_and}
 use Rattle.txn_journal.proofs.Seen.{seen_pushed, seen_more}
 use Rattle.txn_journal.proofs.FullSets.{seen_full, no_rest}
@@ -10,6 +10,15 @@ invariant_of-self-in-Break-branch-3 c = record {
   seen_all = seen_more c.args.self.now.journal c.push.new.self c.args.self.now.seen c.add.new.self c.args.self.now.gtid c.args.self.now.seen_all c.in_err-push.ensures.err c.in_ok-add.ensures.ok;
   open_new = λ e. absurd cc;
   writable = rw (c.replace-changes.ensures.after, c.new.ensures.items) refl;
+  few = c.args.self.now.few;
+}
+
+pub invariant_of-self-in-Break-branch-4 : goal.invariant_of-self-in-Break-branch-4
+invariant_of-self-in-Break-branch-4 c = record {
+  seen_all = seen_pushed c.args.self.now.journal c.push.new.self c.args.self.now.seen c.add.new.self _ c.args.self.now.seen_all c.in_ok-push.ensures.ok c.in_ok-add.ensures.ok;
+  open_new = λ e. absurd cc;
+  writable = rw (c.replace-changes.ensures.after, c.new.ensures.items) refl;
+  few = c.args.self.now.few;
 }
 
 pub invariant_of-self-2 : goal.invariant_of-self-2
@@ -17,6 +26,7 @@ invariant_of-self-2 c = record {
   seen_all = seen_pushed c.args.self.now.journal c.push.new.self c.args.self.now.seen c.add.new.self _ c.args.self.now.seen_all c.in_ok-push.ensures.ok c.in_ok-add.ensures.ok;
   open_new = λ e. absurd cc;
   writable = rw (c.replace-changes.ensures.after, c.new.ensures.items) refl;
+  few = omega (arith, (c.args.self.now.open_new c.requires).room);
 }
 
 pub returns-in_err-add : goal.returns-in_err-add

@@ -10,6 +10,7 @@ invariant_of-self c = record {
   seen_all = seen_start c.start.result c.in_ok-self.field-0 (c.start.ensures ∙ ap of_set (sym c.in_ok-self.ensures.ok));
   open_new = λ e. absurd cc;
   writable = c.args.self.now.writable;
+  few = c.args.self.now.few;
 }
 
 pub returns-in_err-previous : goal.returns-in_err-previous
