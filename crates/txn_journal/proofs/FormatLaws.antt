@@ -92,7 +92,7 @@ pub record Laws (f : Format) (Sound : f.State → List f.Line → Type 0) : Type
   pub reads : (bytes : List ℕ) (v : f.Value) → f.Writes bytes v → Reads f f.judge bytes v
   pub loose : Judge f.State
   pub follows : (s t : f.State) (line : List ℕ) → f.judge s line ≡ Ok t → loose s line ≡ Ok t
-  pub refuses : (s : f.State) (line : List ℕ) (c : Cause) → f.judge s line ≡ Err c → f.is_inside line ≡ true → loose s line ≡ Err c
+  pub refuses : (s : f.State) (ls : List f.Line) (line : List ℕ) (c : Cause) → Sound s ls → f.judge s line ≡ Err c → f.is_inside line ≡ true → loose s line ≡ Err c
   pub reads_open : (bytes : List ℕ) (v : f.Value) → f.AlmostWrites bytes v → Reads f loose bytes v
 
 -- ---- lines
@@ -186,7 +186,7 @@ module _ (f : Format) (Sound : f.State → List f.Line → Type 0) (laws : Laws 
   no_value bytes bs s n rest h c j true e v more w =
       let fault = faults.Line (next_number n) c in
       let front = text_of f h.lines ++ (rest ++ 10 ∷ []) in
-      let stopped : eats laws.loose (Reading s n rest) (10 ∷ []) ≡ Stopped fault = ap (λ (x : Result f.State Cause). eats laws.loose (judged x (next_number n)) []) (laws.refuses s rest c j e) in
+      let stopped : eats laws.loose (Reading s n rest) (10 ∷ []) ≡ Stopped fault = ap (λ (x : Result f.State Cause). eats laws.loose (judged x (next_number n)) []) (laws.refuses s h.lines rest c h.sound j e) in
       let at : eats laws.loose (start_of f) (front ++ more) ≡ Stopped fault = eats_append laws.loose (start_of f) front more ∙ ap (λ (p : Progress f.State). eats laws.loose p more) (h.loosely (10 ∷ []) ∙ stopped) ∙ stopped_stays laws.loose fault more in
       let read = reads_loosely (front ++ more) v w in
       let k = sym read.2 ∙ at in cc

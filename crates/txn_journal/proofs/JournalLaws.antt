@@ -23,7 +23,7 @@ use Rattle.journal_words.proofs.ValueLaws.{value_lacks, feed_is_none}
 use Rattle.txn_journal.specs.Due.{is_due}
 use Rattle.txn_journal.specs.Lines.{Numbers, takes, stamp_in}
 use Rattle.txn_journal.specs.Stream.{Judge}
-use Rattle.txn_journal.specs.Machine.{Standing, empty, is_last, fits, closed, add, begin_stamped, begin, judge}
+use Rattle.txn_journal.specs.Machine.{Standing, empty, is_last, fits, open_entry, closed, add, begin_stamped, begin, judge}
 use Rattle.txn_journal.specs.Spelling.{Line, Header, Previous, Begin, Makes, End, Close, numbers_text, values_text, change_text, line_text, lines_text, numbers_of, entry_lines, entries_lines, front_lines, journal_lines, spelling_as, no_stamps, AreValues, FitsChange, FitsEntry, IsWritten, IsStamp, AreStamps, WritesAs, Writes}
 use Rattle.txn_journal.specs.declared.lines.Place.TheVariants as places
 use Rattle.txn_journal.specs.declared.lines.Version.{Version}
@@ -38,7 +38,7 @@ use Rattle.txn_journal.specs.Formats.{Format}
 use Rattle.txn_journal.specs.Causes.{word_for, AreCounts, HasNumbers, FitsLine, HasImages, FitsAt, wording}
 use Rattle.txn_journal.proofs.LineReads.{body_of, put, judge_reads, rest_laws}
 use Rattle.txn_journal.proofs.WordLaws.{judged_again}
-use Rattle.txn_journal.proofs.SoundLines.{placed, fits_in, seen_after, Whole, Sound_at, IsSound, open_entry, whole_more, ended_entry, whole_written, judged_line}
+use Rattle.txn_journal.proofs.SoundLines.{placed, fits_in, seen_after, Whole, Sound_at, IsSound, whole_more, ended_entry, whole_written, judged_line}
 use Rattle.std.proofs.lemmas.Result.{MatchResult-weaker}
 use Rattle.txn_journal.specs.Heard.{said_at, said}
 use Rattle.txn_journal.specs.declared.lines.Place.{Place}
@@ -365,7 +365,7 @@ laws_as {V} due value Spelled seen =
           record { lines = journal_lines x.0.version x.0.stamps x.0.journal; last = r.last; parts = x.1.1.text; leads = r.leads; done = r.done; value = x.2 r.last r.written };
       loose = judge None;
       follows = λ s t line e. e;
-      refuses = λ s line c e inside. absurd cc;
+      refuses = λ s ls line c h e inside. absurd cc;
       reads_open = λ bytes v w.
           let x = seen.written bytes v w in
           let r = reads_to due x.0.version x.0.stamps bytes x.0.journal x.1.0 x.1.1 in

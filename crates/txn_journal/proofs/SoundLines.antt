@@ -1,5 +1,5 @@
 -- What the lines so far have said is kept by one line more.
-use Rattle.std.proofs.Common.{◌≡◌, ℕ, ◌+◌, ◌<◌, ◌≤◌, inl, inr, Bool, true, false, not, eqb, leb, cond, List, [], ◌∷◌, ◌++◌, length, map, Option, Some, None, Result, Ok, refl, sym, ap, subst, ◌∙◌, append_assoc, arith}
+use Rattle.std.proofs.Common.{◌≡◌, ℕ, ◌+◌, ◌<◌, ◌≤◌, inl, inr, Bool, true, false, not, eqb, leb, cond, List, [], ◌∷◌, ◌++◌, length, map, Option, Some, None, refl, sym, ap, subst, ◌∙◌, append_assoc, arith}
 use Rattle.std.specs.Prelude.{◌||◌, MatchResult, nat_lt}
 use Rattle.std.specs.List.{list_all, AllByRecursion}
 use Rattle.std.specs.FinSet as set
@@ -22,7 +22,7 @@ use Rattle.journal.specs.Writing.{is_number, is_change_writable, is_writable}
 use Rattle.txn_journal.specs.WrittenSets.{IsWrittenSet}
 use Rattle.txn_journal.specs.Due.{is_due}
 use Rattle.txn_journal.specs.Lines.{Numbers, takes, is_place, below, stamp_in}
-use Rattle.txn_journal.specs.Machine.{Standing, fits, closed, add, begin_stamped, begin, judge}
+use Rattle.txn_journal.specs.Machine.{Standing, fits, open_entry, closed, add, begin_stamped, begin, judge}
 use Rattle.txn_journal.specs.Spelling.{Line, Header, Previous, Begin, Makes, End, Close, line_text, numbers_of, entry_lines, entries_lines, opening_lines, front_lines, FitsChange, FitsEntry, IsWritten, IsStamp, AreStamps}
 use Rattle.txn_journal.specs.Heard.{said}
 use Rattle.txn_journal.specs.declared.lines.Place.{Place}
@@ -31,7 +31,7 @@ use Rattle.txn_journal.specs.declared.lines.Version.{Version}
 use Rattle.txn_journal.specs.declared.lines.Version.TheVariants.{One, Two}
 use Rattle.txn_journal.specs.Wordings.{Says}
 use Rattle.txn_journal.specs.Causes.{word_for, HasNumbers, PassesLimit, wording, HasCause}
-use Rattle.txn_journal.proofs.Judged.{if_both, known_both}
+use Rattle.txn_journal.proofs.Judged.{if_both}
 use Rattle.txn_journal.proofs.WordLaws.{judged_both}
 use Rattle.txn_journal.proofs.LineReads.{body_of, put, judge_reads, rest_laws}
 use Rattle.rows.proofs.Lists.{all_push as all_more}
@@ -121,10 +121,6 @@ lines_more version place (l ∷ ls) (f ∷ fs) stamp e h =
 lines_more version place [] (f ∷ fs) stamp e h = absurd h
 lines_more version place (l ∷ ls) [] stamp e h = absurd h
 
--- the entry that is open
-abbrev pub open_entry : Standing → Entry
-open_entry s = record { gtid = s.gtid; txn = record { changes = s.changes } }
-
 entry_writable : (s : Standing) → is_number s.gtid.number ≡ true → length s.changes ≤ 65536 → list_all is_change_writable s.changes ≡ true → is_writable (open_entry s) ≡ true
 entry_writable s number few all = rw (number, le-leb (length s.changes) 65536 few, all) refl
 
@@ -187,10 +183,30 @@ numbers_found Two place stamp None has e = absurd has
 
 -- ---- one line more
 
+pub record SameEntries (s t : Standing) : Type 0 where
+  pub stamps : t.stamps ≡ s.stamps
+  pub entries : t.journal.entries ≡ s.journal.entries
+
+pub record OneEntryMore (s t : Standing) : Type 0 where
+  pub stamps : t.stamps ≡ s.stamps ++ s.stamp ∷ []
+  pub entries : t.journal.entries ≡ s.journal.entries ++ open_entry s ∷ []
+
+pub record NoEntries (t : Standing) : Type 0 where
+  pub stamps : t.stamps ≡ []
+  pub entries : t.journal.entries ≡ []
+
+-- what a line makes of the entries
+abbrev pub EntriesGo : Line → Standing → Standing → Type 0
+EntriesGo (Previous p) s t = NoEntries t
+EntriesGo (Makes c) s t = SameEntries s t × (t.place ≡ s.place)
+EntriesGo End s t = OneEntryMore s t
+EntriesGo _ s t = SameEntries s t
+
 -- what a line leaves
-pub record Keeps (schema : Option (List Table)) (due : Option Version) (old : List Line) (l : Line) (t : Standing) : Type 0 where
-  pub same_due : t.due ≡ due
-  pub says : said t ≡ old ++ l ∷ []
+pub record Keeps (schema : Option (List Table)) (s : Standing) (l : Line) (t : Standing) : Type 0 where
+  pub same_due : t.due ≡ s.due
+  pub says : said t ≡ said s ++ l ∷ []
+  pub goes : EntriesGo l s t
   pub sound : IsSound schema t
 
 pub begin_both : (schema : Option (List Table)) (s : Standing) (line : List ℕ) (g : Gtid) (numbers : Option Numbers) (P : Standing → Type 0) → Says (wording schema s) line (Begin g numbers)
@@ -236,12 +252,13 @@ again : (schema : Option (List Table)) (s : Standing) (place : Place) (g : Gtid)
 again schema s place g stamp cs w = record { due = w.due; new = w.new; writable = w.writable; previous = w.previous; fits = w.fits; fitting = w.fitting; stamped = w.stamped; all_seen = w.all_seen; counted = w.counted; few = w.few }
 
 keeps_at : (schema : Option (List Table)) (place : Place) (s : Standing) (line : List ℕ) (l : Line) → Sound_at schema place s → is_due place (word_for l) ≡ true → Says (wording schema (placed place s)) line l
-    → MatchResult (put schema (placed place s) l) (Keeps schema s.due (said (placed place s)) l) (HasCause schema (placed place s) line)
+    → MatchResult (put schema (placed place s) l) (Keeps schema (placed place s) l) (HasCause schema (placed place s) line)
 unfolding put
-keeps_at schema places.Header s line (Header v) h is k = record { same_due = refl; says = refl; sound = (record { none_stamped = h.none_stamped; none_counted = h.none_counted; none_open = h.none_open }, k.fits.of_version) }
+keeps_at schema places.Header s line (Header v) h is k = record { same_due = refl; says = refl; goes = record { stamps = refl; entries = refl }; sound = (record { none_stamped = h.none_stamped; none_counted = h.none_counted; none_open = h.none_open }, k.fits.of_version) }
 keeps_at schema places.Previous s line (Previous p) h is k = record {
   same_due = refl;
   says = ap (λ (ls : List ℕ). opening_lines s.version p ++ entries_lines s.version 1 ls []) h.0.none_stamped;
+  goes = record { stamps = h.0.none_stamped; entries = refl };
   sound = (record {
     due = h.1;
     new = tt;
@@ -261,6 +278,7 @@ keeps_at schema places.Between s line (Begin x numbers) h is k =
     record {
       same_due = refl;
       says = λ i. front_lines s.version s.stamps s.journal ++ (Begin x (sym f.0 i) ∷ map Makes (h.1 i));
+      goes = record { stamps = refl; entries = refl };
       sound = record {
         whole = again schema s places.Within x stamp s.changes h.0;
         unseen = unseen;
@@ -274,13 +292,14 @@ keeps_at schema places.Between s line (Begin x numbers) h is k =
         taken = ap (list_all (fits schema)) h.1;
       };
     })
-keeps_at schema places.Between s line Close h is k = record { says = refl; same_due = refl; sound = (again schema s places.Ended s.gtid s.stamp s.changes h.0, h.1) }
+keeps_at schema places.Between s line Close h is k = record { says = refl; same_due = refl; goes = record { stamps = refl; entries = refl }; sound = (again schema s places.Ended s.gtid s.stamp s.changes h.0, h.1) }
 keeps_at schema places.Within s line (Makes c) h is k =
     let front = front_lines s.version s.stamps s.journal in
     let begin = Begin s.gtid (numbers_of s.version (s.count + 1) s.stamp) in
     add_both schema (placed places.Within s) line c _ k (λ room writable taken. record {
       same_due = refl;
       says = ap (λ (ls : List Line). front ++ (begin ∷ ls)) (map_push Makes s.changes c) ∙ sym (append_assoc front (begin ∷ map Makes s.changes) (Makes c ∷ []));
+      goes = (record { stamps = refl; entries = refl }, refl);
       sound = record {
         whole = again schema s places.Within s.gtid s.stamp (s.changes ++ c ∷ []) h.whole;
         unseen = h.unseen;
@@ -294,7 +313,7 @@ keeps_at schema places.Within s line (Makes c) h is k =
         taken = all_push (fits schema) s.changes c h.taken taken;
       };
     })
-keeps_at schema places.Within s line End h is k = record { same_due = refl; says = ended_entry schema s h.whole; sound = (whole_more schema s h, refl) }
+keeps_at schema places.Within s line End h is k = record { same_due = refl; says = ended_entry schema s h.whole; goes = record { stamps = refl; entries = refl }; sound = (whole_more schema s h, refl) }
 keeps_at schema place s line (Makes c) h is k = absurd (let m = no_change place c is in cc)
 keeps_at schema place s line l h is k = absurd cc
 
@@ -303,13 +322,12 @@ pub record Taken (schema : Option (List Table)) (s : Standing) (line : List ℕ)
   pub l : Line
   pub text : line ≡ line_text l
   pub due : is_due s.place (word_for l) ≡ true
-  pub made : put schema s l ≡ Ok t
-  pub keeps : Keeps schema s.due (said s) l t
+  pub keeps : Keeps schema s l t
 
 pub judged_line : (schema : Option (List Table)) (s : Standing) (line : List ℕ) → IsSound schema s → MatchResult (judge schema s line) (Taken schema s line) (HasCause schema s line)
 judged_line schema s line h =
     rw (judge_reads schema s line) (judged_both (wording schema s) (body_of s.due s.version) (rest_laws schema s) (Taken schema s line) (put schema s) line
-    (λ l k. MatchResult-weaker (put schema s l) (known_both (put schema s l) _ _ (keeps_at schema s.place s line l h k.due k)) (λ t m. record { l = l; text = k.text; due = k.due; made = m.0; keeps = m.1 }) (λ c m. m.1)))
+    (λ l k. MatchResult-weaker (put schema s l) (keeps_at schema s.place s line l h k.due k) (λ t m. record { l = l; text = k.text; due = k.due; keeps = m }) (λ c m. m)))
 
 pub whole_written : (schema : Option (List Table)) (s : Standing) → Whole schema s → IsWritten s.journal
 whole_written schema s w = record { keeps = record { new = w.new; writable = w.writable }; few = omega (arith, w.few, w.counted); previous = w.previous; entries = w.fits }

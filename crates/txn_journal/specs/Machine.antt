@@ -9,6 +9,7 @@ use Rattle.rows.specs.declared.change.Change.TheVariants.{Insert, Delete, Update
 use Rattle.rows.specs.declared.schema.Table.{Table}
 use Rattle.rows.specs.Keys.{table_named}
 use Rattle.rows.specs.Fits.{has_primary_null, table_of}
+use Rattle.journal.specs.declared.Entry.{Entry}
 use Rattle.journal.specs.Journals.{JournalValue}
 use Rattle.journal.specs.Writing.{is_number, is_change_writable}
 use Rattle.journal_words.specs.Words.{first_word, others}
@@ -105,11 +106,14 @@ begin s gtid stamp =
     else if nat_le 4294967294 s.count then Err causes.Limit
     else begin_stamped s gtid stamp
 
+abbrev pub open_entry : Standing → Entry
+open_entry s = record { gtid = s.gtid; txn = record { changes = s.changes } }
+
 -- the entry that is open joins the others
 abbrev pub closed : Standing → Standing
 closed s = record s {
   place = places.Between;
-  journal = record s.journal { entries = s.journal.entries ++ (record { gtid = s.gtid; txn = record { changes = s.changes } }) ∷ [] };
+  journal = record s.journal { entries = s.journal.entries ++ open_entry s ∷ [] };
   stamps = s.stamps ++ s.stamp ∷ [];
   seen = set.insert s.seen s.gtid;
   count = s.count + 1;
