@@ -1,5 +1,9 @@
 //! Laws of journals' texts.
 ghost use Rattle.std.specs.Prelude.{◌≡◌, ◌++◌, ℕ, List};
+ghost use Rattle.rows.specs.Apply.{Rows};
+ghost use Rattle.rows.specs.Listing.{rows_listed};
+ghost use Rattle.rows.specs.declared.change.TableRow.{TableRow};
+ghost use Rattle.rows.specs.declared.schema.Table.{Table};
 ghost use Rattle.journal.specs.declared.Entry.{Entry};
 ghost use Rattle.journal.specs.Journals.{JournalValue};
 ghost use Rattle.txn_journal.specs.Machine.{Standing};
@@ -7,7 +11,7 @@ ghost use Rattle.txn_journal.specs.Stream.{Progress};
 ghost use Rattle.txn_journal.specs.Reading.{entries_of, without_entries, behind_entries, closing, with_front, HasBegun, EatsBehind};
 ghost use Rattle.txn_journal.specs.Spelling.{Writes};
 ghost use Rattle.txn_journal.specs.BundleStates.{BundleValue};
-ghost use Rattle.txn_journal.specs.BundleText.{WritesBundle};
+ghost use Rattle.txn_journal.specs.BundleText.{AreOpening, WritesBundle};
 ghost use Rattle.txn_journal.specs.RowOrders.{DifferInOrder};
 
 /// A journal has one text, and a text is that of one journal at most.
@@ -27,4 +31,9 @@ pub fn taken_in_front()
 pub fn one_bundle()
     ensures bundle { (bytes : List ℕ) (a b : BundleValue) → WritesBundle bytes a → WritesBundle bytes b → a ≡ b }
     ensures text { (b : BundleValue) (x y : List ℕ) → WritesBundle x b → WritesBundle y b → DifferInOrder b x y }
+{}
+
+/// Rows put in listed order give the same rows.
+pub fn rows_in_listed_order()
+    ensures { (schema : List Table) (rs : List TableRow) (rows : Rows) → AreOpening schema rs rows → AreOpening schema (rows_listed rows) rows }
 {}
