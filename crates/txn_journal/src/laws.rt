@@ -35,5 +35,5 @@ pub fn one_bundle()
 
 /// Rows put in listed order give the same rows.
 pub fn rows_in_listed_order()
-    ensures { (schema : List Table) (rs : List TableRow) (rows : Rows) → AreOpening schema rs rows → AreOpening schema (rows_listed rows) rows }
+    ensures { (ts : List Table) (rs : List TableRow) (rows : Rows) → AreOpening ts rs rows → AreOpening ts (rows_listed rows) rows }
 {}
