@@ -21,10 +21,11 @@ use Rattle.journal_words.specs.Values.{value_text}
 use Rattle.journal_words.proofs.Counts.{lacks, is_count_decimal, count_again}
 use Rattle.journal_words.proofs.ValueLaws.{value_lacks, feed_is_none}
 use Rattle.txn_journal.specs.Due.{is_due}
+use Rattle.txn_journal.specs.Stamps.{no_stamps}
 use Rattle.txn_journal.specs.Lines.{Numbers, takes, stamp_in}
 use Rattle.txn_journal.specs.Stream.{Judge}
 use Rattle.txn_journal.specs.Machine.{Standing, empty, is_last, fits, open_entry, closed, add, begin_stamped, begin, judge}
-use Rattle.txn_journal.specs.Spelling.{Line, Header, Previous, Begin, Makes, End, Close, numbers_text, values_text, change_text, line_text, lines_text, numbers_of, entry_lines, entries_lines, front_lines, journal_lines, spelling_as, no_stamps, AreValues, FitsChange, FitsEntry, IsWritten, IsStamp, AreStamps, WritesAs, Writes}
+use Rattle.txn_journal.specs.Spelling.{Line, Header, Previous, Begin, Makes, End, Close, numbers_text, values_text, change_text, line_text, lines_text, numbers_of, entry_lines, entries_lines, front_lines, journal_lines, spelling_as, AreValues, FitsChange, FitsEntry, IsWritten, IsStamp, AreStamps, WritesAs, Writes}
 use Rattle.txn_journal.specs.declared.lines.Place.TheVariants as places
 use Rattle.txn_journal.specs.declared.lines.Version.{Version}
 use Rattle.txn_journal.specs.declared.lines.Version.TheVariants.{One, Two}

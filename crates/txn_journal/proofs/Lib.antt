@@ -21,4 +21,5 @@ pub mod BundleSound
 pub mod BundleLaws
 pub mod NewWords
 pub mod OneBundle
+pub mod ListedRows
 pub mod FullSets

@@ -125,7 +125,7 @@ beginning_both : (version : Version) (rest : Option (List ℕ)) → MatchResult 
 beginning_both version None = tt
 beginning_both version (Some text) = beginning_both_of version text
 
-set_both : (rest : Option (List ℕ)) → MatchResult (set_in rest) (λ s. (rest ≡ Some (set_text s)) × IsWrittenSet s) IsBody
+pub set_both : (rest : Option (List ℕ)) → MatchResult (set_in rest) (λ s. (rest ≡ Some (set_text s)) × IsWrittenSet s) IsBody
 set_both None = tt
 set_both (Some w) = some_both _ _ (set_of_word w) (λ s e. let f = set_found w s e in (ap Some f.0, f.1)) tt
 

@@ -20,7 +20,8 @@ use Rattle.rows.proofs.Carriers.{carried_table, all_free}
 use Rattle.rows.proofs.Local.{get-with_row}
 use Rattle.txn_journal.specs.Lines.{◌>>=◌}
 use Rattle.txn_journal.specs.BundleStates.{BundleValue, ok_rows, with_opening}
-use Rattle.txn_journal.specs.BundleText.{put_all, WritesBundle}
+use Rattle.txn_journal.specs.BundleText.{put_all, WritesBundleAs}
+use Rattle.txn_journal.specs.declared.lines.Version.{Version}
 use Rattle.txn_journal.specs.RowOrders.{IsOneOf, AreOnce, DifferInOrder}
 use Rattle.txn_journal.specs.declared.fault.Cause.{Cause}
 use Rattle.txn_journal.proofs.Judged.{if_both, found_weaker, IsSchema, bind_ok, ok_is}
@@ -30,16 +31,16 @@ use Rattle.gtid_text.proofs.Turns.{chosen}
 -- ---- one row that is put
 
 -- the keys of a row
-abbrev keys : Database → TableRow → List Key
+abbrev pub keys : Database → TableRow → List Key
 keys d r = keys_carried d.schema r.table r.row
 
-abbrev with_rows : Database → Rows → Database
+abbrev pub with_rows : Database → Rows → Database
 with_rows d rows = record d { rows = rows }
 
 pub record Put (d : Database) (r : TableRow) (new : Rows) : Type 0 where
-  fits : misfit d.schema (opening r.table r.row) ≡ None
-  free : taken (keys d r) d.rows ≡ None
-  after : with_row (keys d r) r.row d.rows ≡ new
+  pub fits : misfit d.schema (opening r.table r.row) ≡ None
+  pub free : taken (keys d r) d.rows ≡ None
+  pub after : with_row (keys d r) r.row d.rows ≡ new
 
 inserted_both : (o : Option ℕ) (ks : List Key) (row : List Value) (rows : Rows) (schema : List Table) → MatchResult (ok_rows (insert_if_free o 0 ks row rows andthen apply_from schema 1 [])) (λ new. (o ≡ None) × (with_row ks row rows ≡ new)) IsSchema
 inserted_both None ks row rows schema = (refl, refl)
@@ -54,7 +55,7 @@ unfolding with_opening
 put_both d r = if_both _ _ (is_some (misfit d.schema (opening r.table r.row))) _ _ (λ misfits. tt) (λ fits. found_weaker (ok_rows (apply d.schema (opening r.table r.row) d.rows)) _ _ _
     (λ new h. record { fits = none_is (misfit d.schema (opening r.table r.row)) fits; free = h.0; after = h.1 }) (inserted_both (taken (keys d r) d.rows) (keys d r) r.row d.rows d.schema))
 
-put_found : (d : Database) (r : TableRow) (new : Rows) → with_opening d r ≡ Ok new → Put d r new
+pub put_found : (d : Database) (r : TableRow) (new : Rows) → with_opening d r ≡ Ok new → Put d r new
 put_found d r new e = MatchResult-at_ok (Put d r) IsSchema new e (put_both d r)
 
 record HasKey (schema : List Table) (r : TableRow) : Type 0 where
@@ -73,14 +74,14 @@ has_key schema r e = let k = key_in (table_named r.table schema) r e in record {
 -- ---- rows that are put in turn
 
 -- the row that a key shows was put
-record IsPut (schema : List Table) (rs : List TableRow) (k : Key) (row : List Value) : Type 0 where
-  one : TableRow
-  among : IsOneOf rs one
-  row_is : one.row ≡ row
-  carries : is_among (keys_carried schema one.table one.row) k ≡ true
+pub record IsPut (schema : List Table) (rs : List TableRow) (k : Key) (row : List Value) : Type 0 where
+  pub one : TableRow
+  pub among : IsOneOf rs one
+  pub row_is : one.row ≡ row
+  pub carries : is_among (keys_carried schema one.table one.row) k ≡ true
 
 -- a row that stands stays
-stays : (d : Database) (rs : List TableRow) (new : Rows) (k : Key) (row : List Value) → put_all d rs ≡ Ok new → get d.rows k ≡ Some row → get new k ≡ Some row
+pub stays : (d : Database) (rs : List TableRow) (new : Rows) (k : Key) (row : List Value) → put_all d rs ≡ Ok new → get d.rows k ≡ Some row → get new k ≡ Some row
 stays d [] new k row e g = ap (λ (m : Rows). get m k) (sym (ok_is d.rows new e)) ∙ g
 stays d (r ∷ rs) new k row e g =
     let a = bind_ok (with_opening d r) (λ rows. put_all (with_rows d rows) rs) new e in
@@ -93,7 +94,7 @@ stays d (r ∷ rs) new k row e g =
     stays (with_rows d a.0) rs new k row a.2 there
 
 -- what stands in the end stood before, or was put
-came : (d : Database) (rs : List TableRow) (new : Rows) (k : Key) (row : List Value) → put_all d rs ≡ Ok new → get new k ≡ Some row → (get d.rows k ≡ Some row) ⊎ IsPut d.schema rs k row
+pub came : (d : Database) (rs : List TableRow) (new : Rows) (k : Key) (row : List Value) → put_all d rs ≡ Ok new → get new k ≡ Some row → (get d.rows k ≡ Some row) ⊎ IsPut d.schema rs k row
 came d [] new k row e g = inl (ap (λ (m : Rows). get m k) (ok_is d.rows new e) ∙ g)
 came d (r ∷ rs) new k row e g =
     let a = bind_ok (with_opening d r) (λ rows. put_all (with_rows d rows) rs) new e in
@@ -147,10 +148,10 @@ once d (x ∷ rs) new e =
     let there : get a.0 k.key ≡ Some x.row = ap (λ (m : Rows). get m k.key) (sym p.after) ∙ get-with_row (keys d x) x.row d.rows k.key ∙ ap (λ (v : Bool). cond v (Some x.row) (get d.rows k.key)) k.among in
     (λ i. not_again (with_rows d a.0) rs new x k.key x.row a.2 there k.among i, once (with_rows d a.0) rs new a.2)
 
-row_is : (a b : TableRow) → a.table ≡ b.table → a.row ≡ b.row → a ≡ b
+pub row_is : (a b : TableRow) → a.table ≡ b.table → a.row ≡ b.row → a ≡ b
 row_is a b t r = λ i. record { table = t i; row = r i }
 
-abbrev start : List Table → Database
+abbrev pub start : List Table → Database
 start schema = record { schema = schema; rows = empty }
 
 kept : (schema : List Table) (old new : List TableRow) (rows : Rows) → put_all (start schema) old ≡ Ok rows → put_all (start schema) new ≡ Ok rows → (r : TableRow) → IsOneOf old r → IsOneOf new r
@@ -163,19 +164,19 @@ kept schema old new rows e f r i =
           subst (IsOneOf new) (row_is p.one r table p.row_is) p.among
     ]
 
-pub differ_in_order : (b : BundleValue) (x y : List ℕ) → WritesBundle x b → WritesBundle y b → DifferInOrder b x y
-differ_in_order b x y v w =
-    let e = v.1.opening.put in
-    let f = w.1.opening.put in
+pub differ_in_order : (version : Version) (b : BundleValue) (x y : List ℕ) → WritesBundleAs version x b → WritesBundleAs version y b → DifferInOrder version b x y
+differ_in_order version b x y v w =
+    let e = v.written.opening.put in
+    let f = w.written.opening.put in
     record {
-      old = v.0;
-      new = w.0;
-      one = v.2;
-      other = w.2;
+      old = v.rows;
+      new = w.rows;
+      one = v.text;
+      other = w.text;
       reordered = record {
-        old_once = once (start b.start.schema) v.0 b.start.rows e;
-        new_once = once (start b.start.schema) w.0 b.start.rows f;
-        kept = kept b.start.schema v.0 w.0 b.start.rows e f;
-        no_others = kept b.start.schema w.0 v.0 b.start.rows f e;
+        old_once = once (start b.start.schema) v.rows b.start.rows e;
+        new_once = once (start b.start.schema) w.rows b.start.rows f;
+        kept = kept b.start.schema v.rows w.rows b.start.rows e f;
+        no_others = kept b.start.schema w.rows v.rows b.start.rows f e;
       };
     }

@@ -18,16 +18,19 @@ use Rattle.journal_words.specs.Gtids.{is_ascii_byte, same_or_none, source_of_wor
 use Rattle.journal_words.proofs.Counts.{lacks, word_alone, word_and_more, first_word-front, others-front, first_word-whole, others-whole}
 use Rattle.journal_words.proofs.ValueLaws.{where_same-again}
 use Rattle.txn_journal.specs.Words.{name_of}
-use Rattle.txn_journal.specs.Lines.{◌>>=◌, some_or_body, version_in, nothing_in, table_in, image_in, due}
+use Rattle.txn_journal.specs.Lines.{◌>>=◌, some_or_body, version_in, set_in, nothing_in, table_in, image_in, due}
 use Rattle.txn_journal.specs.Shapes.{Shape, shape_text, FitsShape, shape_in, with_table, added_table}
-use Rattle.txn_journal.specs.BundleStates.{word_of, is_due_in, replica_in, preserve_in, channel_in, BundleStanding, bare, behind_tables, put_row, joined_channel, headed, named, tabled, rowed, channelled, all_done, own_step, judge_own}
-use Rattle.txn_journal.specs.BundleText.{OwnLine, Heads, Names, Has, Puts, Opens, Done, preserve_text, own_text}
+use Rattle.txn_journal.specs.BundleStates.{word_of, is_due_in, replica_in, preserve_in, channel_in, BundleStanding, bare, behind_replica, behind_tables, put_row, joined_channel, headed, named, begun_with, tabled, rowed, channelled, all_done, own_step, judge_own}
+use Rattle.txn_journal.specs.BundleText.{OwnLine, Heads, Names, Starts, Has, Puts, Opens, Done, preserve_text, own_text}
 use Rattle.txn_journal.specs.BundleCauses.{own_word_text, own_word, FitsOwn, own_wording}
 use Rattle.txn_journal.specs.Spelling.{version_text, values_text}
 use Rattle.txn_journal.specs.declared.bundle_draft.Word.{Word}
-use Rattle.txn_journal.specs.declared.lines.Version.TheVariants.{One}
+use Rattle.txn_journal.specs.declared.lines.Version.{Version}
+use Rattle.txn_journal.specs.declared.lines.Version.TheVariants.{One, Two}
+use Rattle.std.specs.FinSet as set
+use Rattle.txn_journal.specs.WrittenSets.{set_text}
 use Rattle.txn_journal.proofs.NameLemmas.{name_no_blank, name_no_feed}
-use Rattle.txn_journal.proofs.GtidLaws.{is_set_byte, set_ascii, set_no_feed, source_set, source_small, same_found, ascii_found, joins}
+use Rattle.txn_journal.proofs.GtidLaws.{is_set_byte, set_ascii, set_no_feed, source_set, source_small, same_found, ascii_found, joins, set_again, set_no_feeds}
 use Rattle.txn_journal.proofs.JournalLaws.{values_one, table_one}
 use Rattle.journal.specs.Writing.{is_image_writable}
 use Rattle.txn_journal.specs.declared.fault.Cause.{Cause}
@@ -37,7 +40,7 @@ use Rattle.txn_journal.specs.declared.bundle_draft.Part.TheVariants as parts
 use Rattle.txn_journal.proofs.Judged.{then_both, if_both, some_both, found_weaker, IsBody, one_step, two_steps, bind_assoc}
 use Rattle.txn_journal.proofs.WordLaws.{among_found, IsRestFault, Spells, read_by, read_at, RestLaws, of_body, of_header}
 use Rattle.txn_journal.proofs.ImageLaws.{image_both, image_again}
-use Rattle.txn_journal.proofs.LineReads.{version_both, nothing_both, name_both, table_both, table_again, with_more, with_none, with_table as table_line}
+use Rattle.txn_journal.proofs.LineReads.{version_both, set_both, nothing_both, name_both, table_both, table_again, with_more, with_none, with_table as table_line}
 use Rattle.txn_journal.proofs.ShapeLaws.{shape_both, shape_again, shape_one}
 
 -- what the rest of a table's line says
@@ -46,18 +49,20 @@ shape_behind None = Err causes.Body
 shape_behind (Some text) = shape_in text
 
 -- what the rest of a line says
-unfoldable pub own_body : Word → Option (List ℕ) → Result OwnLine Cause
-own_body words.Bundle rest = version_in None rest >>= λ version. Ok (Heads version)
-own_body words.Replica rest = replica_in rest >>= λ replica. Ok (Names replica)
-own_body words.Table rest = shape_behind rest >>= λ shape. Ok (Has shape)
-own_body words.Row rest = table_in rest >>= λ table. image_in table.1 >>= λ row. Ok (Puts (record { table = table.0; row = row }))
-own_body words.Channel rest = channel_in rest >>= λ channel. Ok (Opens channel)
-own_body words.Done rest = nothing_in rest >>= λ nothing. Ok Done
+unfoldable pub own_body : Option Version → Word → Option (List ℕ) → Result OwnLine Cause
+own_body due words.Bundle rest = version_in due rest >>= λ version. Ok (Heads version)
+own_body due words.Replica rest = replica_in rest >>= λ replica. Ok (Names replica)
+own_body due words.Opening rest = set_in rest >>= λ opened. Ok (Starts opened)
+own_body due words.Table rest = shape_behind rest >>= λ shape. Ok (Has shape)
+own_body due words.Row rest = table_in rest >>= λ table. image_in table.1 >>= λ row. Ok (Puts (record { table = table.0; row = row }))
+own_body due words.Channel rest = channel_in rest >>= λ channel. Ok (Opens channel)
+own_body due words.Done rest = nothing_in rest >>= λ nothing. Ok Done
 
 -- what a line makes of what the lines before it have made
 unfoldable pub own_put : BundleStanding → OwnLine → Result BundleStanding Cause
 own_put s (Heads version) = Ok (record s { part = parts.Replica; version = version })
-own_put s (Names replica) = Ok (record s { part = parts.Tables; bundle = bare replica [] })
+own_put s (Names replica) = Ok (record s { part = behind_replica s.version; bundle = bare replica set.empty [] })
+own_put s (Starts opened) = Ok (record s { part = parts.Tables; bundle = bare s.bundle.replica opened [] })
 own_put s (Has shape) = with_table s.tables shape >>= λ tables. Ok (record s { tables = tables })
 own_put s (Puts r) = cond (is_image_writable r.row) (put_row (behind_tables s) r) (Err causes.Limit)
 own_put s (Opens c) = joined_channel s c
@@ -69,22 +74,23 @@ unfolding own_put
 table_step s (Ok shape) = refl
 table_step s (Err c) = refl
 
-step_reads : (s : BundleStanding) (w : Word) (rest : Option (List ℕ)) → own_step s w rest ≡ (own_body w rest >>= own_put s)
-unfolding own_step headed named tabled added_table rowed channelled all_done own_body own_put
-step_reads s words.Bundle rest = one_step (version_in None rest) Heads (own_put s)
+step_reads : (s : BundleStanding) (w : Word) (rest : Option (List ℕ)) → own_step s w rest ≡ (own_body s.due w rest >>= own_put s)
+unfolding own_step headed named begun_with tabled added_table rowed channelled all_done own_body own_put
+step_reads s words.Bundle rest = one_step (version_in s.due rest) Heads (own_put s)
 step_reads s words.Replica rest = one_step (replica_in rest) Names (own_put s)
+step_reads s words.Opening rest = one_step (set_in rest) Starts (own_put s)
 step_reads s words.Table None = refl
 step_reads s words.Table (Some text) = table_step s (shape_in text)
 step_reads s words.Row rest = two_steps (table_in rest) (λ table. image_in table.1) (λ table row. Puts (record { table = table.0; row = row })) (own_put s)
 step_reads s words.Channel rest = one_step (channel_in rest) Opens (own_put s)
 step_reads s words.Done rest = one_step (nothing_in rest) (λ nothing. Done) (own_put s)
 
-pub own_reads : (s : BundleStanding) (line : List ℕ) → judge_own s line ≡ (read_by (own_wording s) own_body line >>= own_put s)
+pub own_reads : (s : BundleStanding) (line : List ℕ) → judge_own s line ≡ (read_by (own_wording s) (own_body s.due) line >>= own_put s)
 unfolding judge_own
-own_reads s line = bind_assoc (due (is_due_in s.part) (word_of (first_word line))) (λ word. own_body word (others line)) (λ word. own_step s word (others line)) (own_put s) (λ word. step_reads s word (others line))
+own_reads s line = bind_assoc (due (is_due_in s.part) (word_of (first_word line))) (λ word. own_body s.due word (others line)) (λ word. own_step s word (others line)) (own_put s) (λ word. step_reads s word (others line))
 
 abbrev every_word : List Word
-every_word = words.Bundle ∷ words.Replica ∷ words.Table ∷ words.Row ∷ words.Channel ∷ words.Done ∷ []
+every_word = words.Bundle ∷ words.Replica ∷ words.Opening ∷ words.Table ∷ words.Row ∷ words.Channel ∷ words.Done ∷ []
 
 -- ---- sources
 
@@ -121,12 +127,14 @@ channel_both None = tt
 channel_both (Some text) = then_both _ _ (some_or_body (name_of (first_word text))) _ (name_both (first_word text)) (λ name n. then_both _ _ (preserve_in (others text)) _ (preserve_both text (others text) refl)
     (λ p f. (ap Some (f ∙ ap (λ (w : List ℕ). w ++ preserve_text p) n.0), n.1)))
 
-rest_both : (s : BundleStanding) (k : Word) (line : List ℕ) → first_word line ≡ own_word_text k → MatchResult (own_body k (others line)) (Spells (own_wording s) k line) (IsRestFault (own_wording s) k (others line))
+rest_both : (s : BundleStanding) (k : Word) (line : List ℕ) → first_word line ≡ own_word_text k → MatchResult (own_body s.due k (others line)) (Spells (own_wording s) k line) (IsRestFault (own_wording s) k (others line))
 unfolding own_body
 rest_both s words.Bundle line first =
-    of_header (own_wording s) (others line) (Spells (own_wording s) words.Bundle line) _ (then_both _ _ (version_in None (others line)) _ (version_both None (others line)) (λ v f. record { text = with_more line (codes "bundle") (version_text v) first f.0; fits = tt; word = refl }))
+    of_header (own_wording s) (others line) (Spells (own_wording s) words.Bundle line) _ (then_both _ _ (version_in s.due (others line)) _ (version_both s.due (others line)) (λ v f. record { text = with_more line (codes "bundle") (version_text v) first f.0; fits = f.1; word = refl }))
 rest_both s words.Replica line first =
     of_body (own_wording s) words.Replica (others line) (Spells (own_wording s) words.Replica line) _ (then_both _ _ (replica_in (others line)) _ (replica_both (others line)) (λ id f. record { text = with_more line (codes "replica") (source_text id) first f.0; fits = f.1; word = refl }))
+rest_both s words.Opening line first =
+    of_body (own_wording s) words.Opening (others line) (Spells (own_wording s) words.Opening line) _ (then_both _ _ (set_in (others line)) _ (set_both (others line)) (λ p f. record { text = with_more line (codes "opening") (set_text p) first f.0; fits = f.1; word = refl }))
 rest_both s words.Table line first =
     of_body (own_wording s) words.Table (others line) (Spells (own_wording s) words.Table line) _ (then_both _ _ (shape_behind (others line)) _ (shape_behind_both (others line)) (λ shape f. record { text = with_more line (codes "table") (shape_text shape) first f.0; fits = f.1; word = refl }))
 rest_both s words.Row line first =
@@ -144,16 +152,18 @@ unfolding channel_in
 channel_again name false e = rw (append-nil name, others-whole name (name_no_blank name e), first_word-whole name (name_no_blank name e), e) refl
 channel_again name true e = rw (others-front name (codes "preserve") (name_no_blank name e), first_word-front name (codes "preserve") (name_no_blank name e), e) refl
 
-own_again : (st : BundleStanding) (l : OwnLine) → is_due_in st.part (own_word l) ≡ true → FitsOwn l → read_by (own_wording st) own_body (own_text l) ≡ Ok l
+own_again : (st : BundleStanding) (l : OwnLine) → is_due_in st.part (own_word l) ≡ true → FitsOwn st.due l → read_by (own_wording st) (own_body st.due) (own_text l) ≡ Ok l
 unfolding own_body
-own_again st (Heads One) is fits = read_at (own_wording st) own_body (own_text (Heads One)) words.Bundle (Some (codes "1")) refl refl refl is
-own_again st (Names id) is fits = read_at (own_wording st) own_body (own_text (Names id)) words.Replica (Some (source_text id)) refl refl refl is ∙ rw (source_word_again id fits) refl
-own_again st (Has s) is fits = read_at (own_wording st) own_body (own_text (Has s)) words.Table (Some (shape_text s)) refl refl refl is ∙ rw (shape_again s fits) refl
-own_again st (Puts r) is fits = read_at (own_wording st) own_body (own_text (Puts r)) words.Row (Some (r.table ++ 32 ∷ values_text r.row)) refl refl refl is ∙ rw (table_again r.table (values_text r.row) fits.name, image_again r.row fits.some fits.values) refl
-own_again st (Opens c) is fits = read_at (own_wording st) own_body (own_text (Opens c)) words.Channel (Some (c.name ++ preserve_text c.preserve)) refl refl refl is ∙ rw (channel_again c.name c.preserve fits) refl
-own_again st Done is fits = read_at (own_wording st) own_body (own_text Done) words.Done None refl refl refl is
+own_again st (Heads One) is fits = read_at (own_wording st) (own_body st.due) (own_text (Heads One)) words.Bundle (Some (codes "1")) refl refl refl is ∙ rw fits refl
+own_again st (Heads Two) is fits = read_at (own_wording st) (own_body st.due) (own_text (Heads Two)) words.Bundle (Some (codes "2")) refl refl refl is ∙ rw fits refl
+own_again st (Starts p) is fits = read_at (own_wording st) (own_body st.due) (own_text (Starts p)) words.Opening (Some (set_text p)) refl refl refl is ∙ rw (set_again p fits) refl
+own_again st (Names id) is fits = read_at (own_wording st) (own_body st.due) (own_text (Names id)) words.Replica (Some (source_text id)) refl refl refl is ∙ rw (source_word_again id fits) refl
+own_again st (Has s) is fits = read_at (own_wording st) (own_body st.due) (own_text (Has s)) words.Table (Some (shape_text s)) refl refl refl is ∙ rw (shape_again s fits) refl
+own_again st (Puts r) is fits = read_at (own_wording st) (own_body st.due) (own_text (Puts r)) words.Row (Some (r.table ++ 32 ∷ values_text r.row)) refl refl refl is ∙ rw (table_again r.table (values_text r.row) fits.name, image_again r.row fits.some fits.values) refl
+own_again st (Opens c) is fits = read_at (own_wording st) (own_body st.due) (own_text (Opens c)) words.Channel (Some (c.name ++ preserve_text c.preserve)) refl refl refl is ∙ rw (channel_again c.name c.preserve fits) refl
+own_again st Done is fits = read_at (own_wording st) (own_body st.due) (own_text Done) words.Done None refl refl refl is
 
-pub own_laws : (s : BundleStanding) → RestLaws (own_wording s) own_body
+pub own_laws : (s : BundleStanding) → RestLaws (own_wording s) (own_body s.due)
 own_laws s = record { found = λ t k e. among_found own_word_text every_word t k e; reads = rest_both s; again = own_again s }
 
 -- no line feed stands in it
@@ -161,10 +171,12 @@ preserve_one : (p : Bool) → lacks 10 (preserve_text p) ≡ true
 preserve_one true = refl
 preserve_one false = refl
 
-pub own_one : (l : OwnLine) → FitsOwn l → lacks 10 (own_text l) ≡ true
-own_one (Heads One) fits = refl
-own_one (Names id) fits = all_weaker is_set_byte (λ b. not (eqb b 10)) (source_text id) set_no_feed (source_set id)
-own_one (Has s) fits = shape_one s fits
-own_one (Puts r) fits = table_one r.table (values_text r.row) (name_no_feed r.table fits.name) (values_one r.row fits.values)
-own_one (Opens c) fits = joins (λ b. not (eqb b 10)) c.name (preserve_text c.preserve) (name_no_feed c.name fits) (preserve_one c.preserve)
-own_one Done fits = refl
+pub own_one : (due : Option Version) (l : OwnLine) → FitsOwn due l → lacks 10 (own_text l) ≡ true
+own_one due (Heads One) fits = refl
+own_one due (Heads Two) fits = refl
+own_one due (Starts p) fits = set_no_feeds p fits
+own_one due (Names id) fits = all_weaker is_set_byte (λ b. not (eqb b 10)) (source_text id) set_no_feed (source_set id)
+own_one due (Has s) fits = shape_one s fits
+own_one due (Puts r) fits = table_one r.table (values_text r.row) (name_no_feed r.table fits.name) (values_one r.row fits.values)
+own_one due (Opens c) fits = joins (λ b. not (eqb b 10)) c.name (preserve_text c.preserve) (name_no_feed c.name fits) (preserve_one c.preserve)
+own_one due Done fits = refl

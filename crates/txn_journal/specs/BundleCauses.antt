@@ -1,5 +1,5 @@
 -- What is wrong with a line of a bundle, said of its words and not of the way in which it is read.
-use Rattle.std.specs.Prelude.{◌≡◌, ◌⊎◌, ℕ, ◌<◌, ◌≤◌, true, false, List, length, Some, None, Ok, codes}
+use Rattle.std.specs.Prelude.{◌≡◌, ◌⊎◌, ℕ, ◌<◌, ◌≤◌, true, false, List, length, Option, Some, None, Ok, codes}
 use Rattle.gtid_text.specs.Written.{IsSource}
 use Rattle.rows.specs.declared.schema.Table.{Table}
 use Rattle.rows.specs.Apply.{Rows}
@@ -11,16 +11,25 @@ use Rattle.txn_journal.specs.Wordings.{Wording, HasCauseBy}
 use Rattle.txn_journal.specs.Causes.{HasCause}
 use Rattle.txn_journal.specs.Shapes.{Shape, FitsShape, shape_for}
 use Rattle.txn_journal.specs.BundleStates.{BundleStanding, word_of, is_due_in, behind_tables, has_channel, with_opening}
-use Rattle.txn_journal.specs.BundleText.{OwnLine, Heads, Names, Has, Puts, Opens, Done, own_text, FitsRow}
+use Rattle.txn_journal.specs.BundleText.{OwnLine, Heads, Names, Starts, Has, Puts, Opens, Done, own_text, FitsRow}
 use Rattle.txn_journal.specs.declared.bundle_draft.Part.{Part}
 use Rattle.txn_journal.specs.declared.bundle_draft.Part.TheVariants as parts
 use Rattle.txn_journal.specs.declared.bundle_draft.Word.{Word}
 use Rattle.txn_journal.specs.declared.bundle_draft.Word.TheVariants as words
+use Rattle.txn_journal.specs.Lines.{takes}
+use Rattle.txn_journal.specs.Machine.{Standing, open_entry}
+use Rattle.txn_journal.specs.Spelling.{End, line_text}
+use Rattle.txn_journal.specs.Stamps.{right_stamp}
+use Rattle.txn_journal.specs.WrittenSets.{IsWrittenSet}
+use Rattle.txn_journal.specs.declared.lines.Place.TheVariants as places
+use Rattle.txn_journal.specs.declared.lines.Version.{Version}
 use Rattle.txn_journal.specs.declared.fault.Cause.{Cause}
+use Rattle.txn_journal.specs.declared.fault.Cause.TheVariants as causes
 
 abbrev pub own_word_text : Word → List ℕ
 own_word_text words.Bundle = codes "bundle"
 own_word_text words.Replica = codes "replica"
+own_word_text words.Opening = codes "opening"
 own_word_text words.Table = codes "table"
 own_word_text words.Row = codes "row"
 own_word_text words.Channel = codes "channel"
@@ -30,19 +39,21 @@ own_word_text words.Done = codes "done"
 abbrev pub own_word : OwnLine → Word
 own_word (Heads version) = words.Bundle
 own_word (Names replica) = words.Replica
+own_word (Starts opened) = words.Opening
 own_word (Has shape) = words.Table
 own_word (Puts r) = words.Row
 own_word (Opens c) = words.Channel
 own_word Done = words.Done
 
--- its words have a source, a name, numbers and values that can be spelled
-abbrev pub FitsOwn : OwnLine → Type 0
-FitsOwn (Heads version) = Unit {0}
-FitsOwn (Names replica) = IsSource replica
-FitsOwn (Has shape) = FitsShape shape
-FitsOwn (Puts r) = FitsRow r
-FitsOwn (Opens c) = is_name c.name ≡ true
-FitsOwn Done = Unit {0}
+-- its version is due, and its words have a source, a set, a name, numbers and values that can be spelled
+abbrev pub FitsOwn : Option Version → OwnLine → Type 0
+FitsOwn due (Heads version) = takes due version ≡ true
+FitsOwn due (Names replica) = IsSource replica
+FitsOwn due (Starts opened) = IsWrittenSet opened
+FitsOwn due (Has shape) = FitsShape shape
+FitsOwn due (Puts r) = FitsRow r
+FitsOwn due (Opens c) = is_name c.name ≡ true
+FitsOwn due Done = Unit {0}
 
 -- a table has 1 to 64 columns
 pub record HasWidth (s : Shape) : Type 0 where
@@ -84,14 +95,20 @@ own_wording s = record {
   word_text = own_word_text;
   line_text = own_text;
   word = own_word;
-  Fits = FitsOwn;
+  Fits = FitsOwn s.due;
   PassesLimit = PassesOwnLimit s;
   Clashes = Clashes s;
+  IsMisnumbered = λ l. ⊥;
   IsTwice = λ l g. ⊥;
 }
 
+-- an entry ends there, whose last_committed is another than it has to be
+abbrev pub EndsMisstamped : List Table → Standing → List ℕ → Cause → Type 0
+EndsMisstamped tables s line causes.Stamp = (line ≡ line_text End) × (s.place ≡ places.Within) × (s.stamp ≡ right_stamp s.version tables s.journal.entries (open_entry s) → ⊥)
+EndsMisstamped tables s line _ = ⊥
+
 abbrev pub bundle_cause_at : Part → BundleStanding → List ℕ → Cause → Type 0
-bundle_cause_at parts.Journal s line cause = HasCause (Some s.bundle.start.schema) s.draft line cause
+bundle_cause_at parts.Journal s line cause = HasCause (Some s.bundle.start.schema) s.draft line cause ⊎ EndsMisstamped s.bundle.start.schema s.draft line cause
 bundle_cause_at _ s line cause = HasCauseBy (own_wording s) line cause
 
 abbrev pub HasBundleCause : BundleStanding → List ℕ → Cause → Type 0

@@ -1,9 +1,13 @@
 -- What is no bundle.
-use Rattle.std.specs.Prelude.{ℕ, List}
+use Rattle.std.specs.Prelude.{ℕ, List, Option, None}
+use Rattle.txn_journal.specs.declared.lines.Version.{Version}
 use Rattle.txn_journal.specs.Formats.{RefusesBy}
 use Rattle.txn_journal.specs.BundleReading.{bundles}
 use Rattle.txn_journal.specs.declared.fault.JournalFault.{JournalFault}
 
--- what each fault says of the text
+-- what each fault says of the text, where a bundle of this version is due, or of any
+abbrev pub RefusesBundleBy : Option Version → JournalFault → List ℕ → Type 0
+RefusesBundleBy due fault bytes = RefusesBy (bundles due) fault bytes
+
 abbrev pub RefusesBundle : JournalFault → List ℕ → Type 0
-RefusesBundle fault bytes = RefusesBy bundles fault bytes
+RefusesBundle fault bytes = RefusesBundleBy None fault bytes

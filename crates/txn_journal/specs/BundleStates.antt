@@ -1,12 +1,12 @@
 -- A bundle as far as its lines have come.
-use Rattle.std.specs.Prelude.{ℕ, Bool, true, false, nat_le, List, [], ◌∷◌, ◌++◌, length, Option, Some, None, is_some, Result, Ok, Err, codes, if◌then◌else◌}
+use Rattle.std.specs.Prelude.{◌⊎◌, ℕ, ◌<◌, Bool, true, false, not, ◌&&◌, ◌==◌, nat_le, List, [], ◌∷◌, ◌++◌, length, Option, Some, None, is_some, Result, Ok, Err, codes, if◌then◌else◌}
 use Rattle.std.specs.List.{list_any}
 use Rattle.std.specs.FinMap as map
 use Rattle.std.specs.Str.{bytes_eq}
 use Rattle.std.specs.Ordering.{nat_cmp, eq_by_cmp}
 use Rattle.std.specs.Cmp.Lexicographic.{slice_cmp}
 use Rattle.std.specs.FinSet as set
-use Rattle.gtid_set.specs.Sets.{Gtids}
+use Rattle.gtid_set.specs.Sets.{Gtids, source_count, most_sources}
 use Rattle.rows.specs.declared.schema.Table.{Table}
 use Rattle.rows.specs.declared.change.TableRow.{TableRow}
 use Rattle.rows.specs.declared.change.RowFault.{RowFault}
@@ -18,8 +18,9 @@ use Rattle.journal.specs.Writing.{is_image_writable}
 use Rattle.journal_words.specs.Words.{first_word, others}
 use Rattle.journal_words.specs.Gtids.{source_of_word}
 use Rattle.txn_journal.specs.Words.{name_of}
-use Rattle.txn_journal.specs.Lines.{◌>>=◌, some_or_body, due, version_in, nothing_in, table_in, image_in}
-use Rattle.txn_journal.specs.Machine.{Standing, empty, is_last, IsFull, judge}
+use Rattle.txn_journal.specs.Lines.{◌>>=◌, some_or_body, due, version_in, set_in, nothing_in, table_in, image_in}
+use Rattle.txn_journal.specs.Machine.{Standing, empty, is_last, open_entry, IsFull, judge}
+use Rattle.txn_journal.specs.Stamps.{right_stamp}
 use Rattle.txn_journal.specs.Shapes.{added_table}
 use Rattle.txn_journal.specs.declared.bundle.Channel.{Channel}
 use Rattle.txn_journal.specs.declared.bundle_draft.Part.{Part}
@@ -29,7 +30,9 @@ use Rattle.txn_journal.specs.declared.bundle_draft.Word.TheVariants as words
 use Rattle.txn_journal.specs.declared.fault.Cause.{Cause}
 use Rattle.txn_journal.specs.declared.fault.Cause.TheVariants as causes
 use Rattle.txn_journal.specs.declared.lines.Version.{Version}
-use Rattle.txn_journal.specs.declared.lines.Version.TheVariants.{One}
+use Rattle.txn_journal.specs.declared.lines.Version.TheVariants.{One, Two}
+use Rattle.txn_journal.specs.declared.lines.Place.{Place}
+use Rattle.txn_journal.specs.declared.lines.Place.TheVariants as places
 
 -- a replica, the set of GTIDs with which it begins, its tables and opening rows, and its channels, each with the journal that it brings
 pub record BundleValue : Type 0 where
@@ -40,12 +43,14 @@ pub record BundleValue : Type 0 where
   pub journals : List JournalValue
 
 -- a bundle without rows and channels
-abbrev pub bare : ℕ → List Table → BundleValue
-bare replica tables = record { replica = replica; opened = set.empty; start = record { schema = tables; rows = map.empty }; channels = []; journals = [] }
+abbrev pub bare : ℕ → Gtids → List Table → BundleValue
+bare replica opened tables = record { replica = replica; opened = opened; start = record { schema = tables; rows = map.empty }; channels = []; journals = [] }
 
--- What the lines so far have said. The tables stand in `tables` until the first line behind them.
+-- What the lines so far have said. `due` is the version that is due, if not each known one is; the tables stand in `tables` until the first line
+-- behind them.
 pub record BundleStanding : Type 0 where
   pub part : Part
+  pub due : Option Version
   pub version : Version
   pub tables : List Table
   pub bundle : BundleValue
@@ -53,12 +58,12 @@ pub record BundleStanding : Type 0 where
   pub draft : Standing
 
 -- before the first line
-abbrev pub no_bundle : BundleStanding
-no_bundle = record { part = parts.Header; version = One; tables = []; bundle = bare 0 []; channel = None; draft = empty None }
+abbrev pub no_bundle : Option Version → BundleStanding
+no_bundle due = record { part = parts.Header; due = due; version = One; tables = []; bundle = bare 0 set.empty []; channel = None; draft = empty None }
 
--- the journal of the channel that is open has seen too many sources
+-- the opening set has too many sources, or the journal of the channel that is open has seen too many
 abbrev pub IsFullBundle : BundleStanding → Type 0
-IsFullBundle s = IsFull s.draft
+IsFullBundle s = IsFull s.draft ⊎ (most_sources < source_count s.bundle.opened)
 
 abbrev pub is_done : Part → Bool
 is_done parts.Ended = true
@@ -70,6 +75,7 @@ abbrev pub word_of : List ℕ → Option Word
 word_of word =
     if bytes_eq word (codes "bundle") then Some words.Bundle
     else if bytes_eq word (codes "replica") then Some words.Replica
+    else if bytes_eq word (codes "opening") then Some words.Opening
     else if bytes_eq word (codes "table") then Some words.Table
     else if bytes_eq word (codes "row") then Some words.Row
     else if bytes_eq word (codes "channel") then Some words.Channel
@@ -80,6 +86,7 @@ word_of word =
 abbrev pub is_due_in : Part → Word → Bool
 is_due_in parts.Header words.Bundle = true
 is_due_in parts.Replica words.Replica = true
+is_due_in parts.Opening words.Opening = true
 is_due_in parts.Tables words.Table = true
 is_due_in parts.Tables words.Row = true
 is_due_in parts.Tables words.Channel = true
@@ -112,7 +119,7 @@ channel_in (Some text) = do
 
 -- the tables end here, where they have not
 abbrev pub opened_rows : Part → BundleStanding → BundleStanding
-opened_rows parts.Tables s = record s { part = parts.Rows; tables = []; bundle = bare s.bundle.replica s.tables }
+opened_rows parts.Tables s = record s { part = parts.Rows; tables = []; bundle = bare s.bundle.replica s.bundle.opened s.tables }
 opened_rows _ s = s
 
 abbrev pub behind_tables : BundleStanding → BundleStanding
@@ -136,13 +143,23 @@ has_channel channels name = list_any (λ c. eq_by_cmp (slice_cmp nat_cmp) c.name
 
 unfoldable pub headed : BundleStanding → Option (List ℕ) → Result BundleStanding Cause
 headed s rest = do
-  version ← version_in None rest
+  version ← version_in s.due rest
   Ok (record s { part = parts.Replica; version = version })
+
+-- version 2 has a line of the opening set
+abbrev pub behind_replica : Version → Part
+behind_replica One = parts.Tables
+behind_replica Two = parts.Opening
 
 unfoldable pub named : BundleStanding → Option (List ℕ) → Result BundleStanding Cause
 named s rest = do
   replica ← replica_in rest
-  Ok (record s { part = parts.Tables; bundle = bare replica [] })
+  Ok (record s { part = behind_replica s.version; bundle = bare replica set.empty [] })
+
+unfoldable pub begun_with : BundleStanding → Option (List ℕ) → Result BundleStanding Cause
+begun_with s rest = do
+  opened ← set_in rest
+  Ok (record s { part = parts.Tables; bundle = bare s.bundle.replica opened [] })
 
 unfoldable pub tabled : BundleStanding → Option (List ℕ) → Result BundleStanding Cause
 tabled s None = Err causes.Body
@@ -175,6 +192,7 @@ all_done s rest = do
 unfoldable pub own_step : BundleStanding → Word → Option (List ℕ) → Result BundleStanding Cause
 own_step s words.Bundle rest = headed s rest
 own_step s words.Replica rest = named s rest
+own_step s words.Opening rest = begun_with s rest
 own_step s words.Table rest = tabled s rest
 own_step s words.Row rest = rowed s rest
 own_step s words.Channel rest = channelled s rest
@@ -197,16 +215,31 @@ closed_channel s draft = record s { part = parts.Channels; bundle = with_journal
 unfoldable pub after_inner : BundleStanding → Standing → BundleStanding
 after_inner s draft = if is_last draft.place then closed_channel s draft else record s { draft = draft }
 
--- a line of the open channel's journal
-unfoldable pub judge_inner : BundleStanding → List ℕ → Result BundleStanding Cause
-judge_inner s line = do
-  draft ← judge (Some s.bundle.start.schema) s.draft line
-  Ok (after_inner s draft)
+abbrev pub is_within : Place → Bool
+is_within places.Within = true
+is_within _ = false
 
-abbrev pub judge_part : Part → BundleStanding → List ℕ → Result BundleStanding Cause
-judge_part parts.Journal s line = judge_inner s line
-judge_part _ s line = judge_own s line
+-- the entry that was open has ended, with another last_committed than it has to have
+abbrev pub is_misstamped : List Table → Standing → Standing → Bool
+is_misstamped tables s draft = is_within s.place && (not (is_within draft.place) && not (s.stamp == right_stamp s.version tables s.journal.entries (open_entry s)))
+
+-- what is taken, where entries are looked at as a whole or are not
+abbrev pub unless_misstamped : Bool → BundleStanding → Standing → Result BundleStanding Cause
+unless_misstamped whole s draft = if whole && is_misstamped s.bundle.start.schema s.draft draft then Err causes.Stamp else Ok (after_inner s draft)
+
+-- a line of the open channel's journal
+unfoldable pub judge_inner : Bool → BundleStanding → List ℕ → Result BundleStanding Cause
+judge_inner whole s line = do
+  draft ← judge (Some s.bundle.start.schema) s.draft line
+  unless_misstamped whole s draft
+
+abbrev pub judge_part : Part → Bool → BundleStanding → List ℕ → Result BundleStanding Cause
+judge_part parts.Journal whole s line = judge_inner whole s line
+judge_part _ whole s line = judge_own s line
+
+abbrev pub judge_by : Bool → BundleStanding → List ℕ → Result BundleStanding Cause
+judge_by whole s line = judge_part s.part whole s line
 
 -- a line at the place where it stands
 unfoldable pub judge_bundle : BundleStanding → List ℕ → Result BundleStanding Cause
-judge_bundle s line = judge_part s.part s line
+judge_bundle s line = judge_by true s line

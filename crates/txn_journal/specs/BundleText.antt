@@ -1,5 +1,5 @@
--- The text of a bundle: its lines, each ended by a line feed. Only the order of its `row` lines is free.
-use Rattle.std.specs.Prelude.{◌≡◌, ℕ, ◌≤◌, ◌<◌, Bool, true, false, List, [], ◌∷◌, ◌++◌, length, map, Some, None, Result, Ok, codes}
+-- The text of a bundle: its lines, each ended by a line feed. Only its version and the order of its `row` lines are free.
+use Rattle.std.specs.Prelude.{◌≡◌, ℕ, ◌+◌, ◌≤◌, ◌<◌, Bool, true, false, List, [], ◌∷◌, ◌++◌, length, map, Option, Some, None, Result, Ok, codes}
 use Rattle.std.specs.List.{list_all, flat_map, AllByRecursion}
 use Rattle.std.specs.FinMap as map_of
 use Rattle.std.specs.FinSet as set
@@ -14,15 +14,18 @@ use Rattle.rows.specs.Tables.{table_fault}
 use Rattle.journal.specs.declared.Entry.{Entry}
 use Rattle.journal.specs.Journals.{JournalValue}
 use Rattle.journal.specs.Writing.{is_image_writable}
-use Rattle.txn_journal.specs.Lines.{◌>>=◌}
+use Rattle.gtid_set.specs.Sets.{Gtids}
+use Rattle.txn_journal.specs.Lines.{◌>>=◌, takes}
 use Rattle.txn_journal.specs.Machine.{fits}
 use Rattle.txn_journal.specs.Shapes.{Shape, shape_text, shape_for}
 use Rattle.txn_journal.specs.BundleStates.{BundleValue, has_channel, with_opening}
-use Rattle.txn_journal.specs.Spelling.{Line, version_text, image_text, line_text, journal_lines, AreValues, IsWritten}
+use Rattle.txn_journal.specs.Spelling.{Line, version_text, image_text, line_text, journal_lines, AreValues, IsWritten, IsStamp}
+use Rattle.txn_journal.specs.Stamps.{right_stamps, all_stamps}
+use Rattle.txn_journal.specs.WrittenSets.{set_text, IsWrittenSet}
 use Rattle.txn_journal.specs.declared.bundle.Channel.{Channel}
 use Rattle.txn_journal.specs.declared.fault.Cause.{Cause}
 use Rattle.txn_journal.specs.declared.lines.Version.{Version}
-use Rattle.txn_journal.specs.declared.lines.Version.TheVariants.{One}
+use Rattle.txn_journal.specs.declared.lines.Version.TheVariants.{One, Two}
 
 -- ---- lines
 
@@ -30,6 +33,7 @@ use Rattle.txn_journal.specs.declared.lines.Version.TheVariants.{One}
 pub data OwnLine : Type 0 where
   Heads : Version → OwnLine
   Names : ℕ → OwnLine
+  Starts : Gtids → OwnLine
   Has : Shape → OwnLine
   Puts : TableRow → OwnLine
   Opens : Channel → OwnLine
@@ -47,6 +51,7 @@ preserve_text false = []
 abbrev pub own_text : OwnLine → List ℕ
 own_text (Heads version) = codes "bundle" ++ 32 ∷ version_text version
 own_text (Names replica) = codes "replica" ++ 32 ∷ source_text replica
+own_text (Starts opened) = codes "opening" ++ 32 ∷ set_text opened
 own_text (Has shape) = codes "table" ++ 32 ∷ shape_text shape
 own_text (Puts r) = image_text (codes "row") r.table r.row
 own_text (Opens c) = codes "channel" ++ 32 ∷ (c.name ++ preserve_text c.preserve)
@@ -72,31 +77,37 @@ abbrev pub row_lines : List TableRow → List BundleLine
 row_lines rows = map (λ r. Own (Puts r)) rows
 
 -- a channel, and the journal that it brings
-abbrev pub channel_lines : Version → Channel → JournalValue → List BundleLine
-channel_lines version c j = Own (Opens c) ∷ map Inner (journal_lines version j)
+abbrev pub channel_lines : Version → Channel → List ℕ → JournalValue → List BundleLine
+channel_lines version c stamps j = Own (Opens c) ∷ map Inner (journal_lines version stamps j)
 
-abbrev pub channels_lines : Version → List Channel → List JournalValue → List BundleLine
-channels_lines version (c ∷ cs) (j ∷ js) = channel_lines version c j ++ channels_lines version cs js
-channels_lines version _ _ = []
+-- with the last_committed of each entry of each journal
+abbrev pub channels_lines : Version → List Channel → List (List ℕ) → List JournalValue → List BundleLine
+channels_lines version (c ∷ cs) (stamps ∷ all) (j ∷ js) = channel_lines version c stamps j ++ channels_lines version cs all js
+channels_lines version _ _ _ = []
 
--- the replica and its tables
-abbrev pub tables_lines : Version → ℕ → List Table → List BundleLine
-tables_lines version replica tables = Own (Heads version) ∷ Own (Names replica) ∷ table_lines tables
+-- version 2 has a line of the opening set
+abbrev pub opening_set_lines : Version → Gtids → List BundleLine
+opening_set_lines One opened = []
+opening_set_lines Two opened = Own (Starts opened) ∷ []
+
+-- the replica, the set with which it begins, and its tables
+abbrev pub tables_lines : Version → ℕ → Gtids → List Table → List BundleLine
+tables_lines version replica opened tables = (Own (Heads version) ∷ Own (Names replica) ∷ opening_set_lines version opened) ++ table_lines tables
 
 -- the lines before the first channel, with the rows in this order
-abbrev pub start_lines : Version → ℕ → List Table → List TableRow → List BundleLine
-start_lines version replica tables rows = tables_lines version replica tables ++ row_lines rows
+abbrev pub start_lines : Version → List TableRow → BundleValue → List BundleLine
+start_lines version rows b = tables_lines version b.replica b.opened b.start.schema ++ row_lines rows
 
 -- the lines of a bundle but the last
-abbrev pub bundle_front : Version → List TableRow → BundleValue → List BundleLine
-bundle_front version rows b = start_lines version b.replica b.start.schema rows ++ channels_lines version b.channels b.journals
+abbrev pub bundle_front : Version → List TableRow → List (List ℕ) → BundleValue → List BundleLine
+bundle_front version rows stamps b = start_lines version rows b ++ channels_lines version b.channels stamps b.journals
 
-abbrev pub bundle_lines : Version → List TableRow → BundleValue → List BundleLine
-bundle_lines version rows b = bundle_front version rows b ++ Own Done ∷ []
+abbrev pub bundle_lines : Version → List TableRow → List (List ℕ) → BundleValue → List BundleLine
+bundle_lines version rows stamps b = bundle_front version rows stamps b ++ Own Done ∷ []
 
--- the text of a bundle whose rows come in this order, by version 1 of the format
-abbrev pub bundle_spelling : List TableRow → BundleValue → List ℕ
-bundle_spelling rows b = bundle_text (bundle_lines One rows b)
+-- the text of a bundle whose rows come in this order
+abbrev pub bundle_spelling : Version → List TableRow → BundleValue → List ℕ
+bundle_spelling version rows b = bundle_text (bundle_lines version rows (all_stamps version b.start.schema b.journals) b)
 
 -- ---- what can be written
 
@@ -141,16 +152,61 @@ AreBrought tables [] [] = Unit {0}
 AreBrought tables (c ∷ cs) (j ∷ js) = IsWrittenIn tables j × AreBrought tables cs js
 AreBrought tables _ _ = ⊥
 
--- what a bundle keeps, where its rows come in this order; by version 1 of the format nothing is executed from the start
-pub record IsWrittenBundle (rows : List TableRow) (b : BundleValue) : Type 0 where
+-- version 1 has the empty opening set
+abbrev pub IsOpeningSet : Version → Gtids → Type 0
+IsOpeningSet One opened = opened ≡ set.empty
+IsOpeningSet Two opened = IsWrittenSet opened
+
+-- what a bundle keeps, where its rows come in this order
+pub record IsWrittenBundle (version : Version) (rows : List TableRow) (b : BundleValue) : Type 0 where
   pub replica : IsSource b.replica
-  pub unopened : b.opened ≡ set.empty
+  pub opened : IsOpeningSet version b.opened
   pub tables : AreAdded [] b.start.schema
   pub opening : AreOpening b.start.schema rows b.start.rows
   pub named : AreNamed [] b.channels
   pub few : length b.channels ≤ 256
   pub brought : AreBrought b.start.schema b.channels b.journals
 
--- the bytes are a text of this bundle
+-- the bytes are a text of this bundle, by this version
+pub record WritesBundleAs (version : Version) (bytes : List ℕ) (b : BundleValue) : Type 0 where
+  pub rows : List TableRow
+  pub written : IsWrittenBundle version rows b
+  pub text : bytes ≡ bundle_spelling version rows b
+
+-- by a version that is due
+abbrev pub WritesBundleBy : Option Version → List ℕ → BundleValue → Type 0
+WritesBundleBy due bytes b = (version : Version) × (takes due version ≡ true) × WritesBundleAs version bytes b
+
+-- by any version
 abbrev pub WritesBundle : List ℕ → BundleValue → Type 0
-WritesBundle bytes b = (rows : List TableRow) × IsWrittenBundle rows b × (bytes ≡ bundle_spelling rows b)
+WritesBundle bytes b = WritesBundleBy None bytes b
+
+-- ---- bundles whose last entry has not been looked at as a whole
+
+-- the last entry has some last_committed below its place, and each before it has its own
+pub record IsLastStamped (version : Version) (tables : List Table) (stamps : List ℕ) (es : List Entry) : Type 0 where
+  pub earlier : List Entry
+  pub last : Entry
+  pub stamp : ℕ
+  pub entries : es ≡ earlier ++ last ∷ []
+  pub all : stamps ≡ right_stamps version tables earlier ++ stamp ∷ []
+  pub is_stamp : IsStamp version (length earlier + 1) stamp
+
+-- so has the last journal, and each before it has its own
+pub record AreAlmostStamped (version : Version) (tables : List Table) (stamps : List (List ℕ)) (js : List JournalValue) : Type 0 where
+  pub earlier : List JournalValue
+  pub last : JournalValue
+  pub last_stamps : List ℕ
+  pub journals : js ≡ earlier ++ last ∷ []
+  pub all : stamps ≡ all_stamps version tables earlier ++ last_stamps ∷ []
+  pub almost : IsLastStamped version tables last_stamps last.entries
+
+pub record AlmostWritesAs (version : Version) (bytes : List ℕ) (b : BundleValue) : Type 0 where
+  pub rows : List TableRow
+  pub stamps : List (List ℕ)
+  pub written : IsWrittenBundle version rows b
+  pub stamped : AreAlmostStamped version b.start.schema stamps b.journals
+  pub text : bytes ≡ bundle_text (bundle_lines version rows stamps b)
+
+abbrev pub AlmostWritesBundle : Option Version → List ℕ → BundleValue → Type 0
+AlmostWritesBundle due bytes b = (version : Version) × (takes due version ≡ true) × AlmostWritesAs version bytes b

@@ -3,6 +3,7 @@ use Rattle.std.specs.Prelude.{◌≡◌, ◌⊎◌, ℕ, List, [], ◌∷◌}
 use Rattle.rows.specs.declared.change.TableRow.{TableRow}
 use Rattle.txn_journal.specs.BundleStates.{BundleValue}
 use Rattle.txn_journal.specs.BundleText.{bundle_spelling}
+use Rattle.txn_journal.specs.declared.lines.Version.{Version}
 
 -- the row is one of these
 abbrev pub IsOneOf : List TableRow → TableRow → Type 0
@@ -21,10 +22,10 @@ pub record AreReordered (old new : List TableRow) : Type 0 where
   pub kept : (r : TableRow) → IsOneOf old r → IsOneOf new r
   pub no_others : (r : TableRow) → IsOneOf new r → IsOneOf old r
 
--- both are texts of the bundle, which differ in the order of their `row` lines at most
-pub record DifferInOrder (b : BundleValue) (x y : List ℕ) : Type 0 where
+-- both are texts of the bundle by one version, which differ in the order of their `row` lines at most
+pub record DifferInOrder (version : Version) (b : BundleValue) (x y : List ℕ) : Type 0 where
   pub old : List TableRow
   pub new : List TableRow
-  pub one : x ≡ bundle_spelling old b
-  pub other : y ≡ bundle_spelling new b
+  pub one : x ≡ bundle_spelling version old b
+  pub other : y ≡ bundle_spelling version new b
   pub reordered : AreReordered old new

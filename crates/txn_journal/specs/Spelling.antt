@@ -15,6 +15,7 @@ use Rattle.journal_words.specs.Values.{value_text, FitsValue}
 use Rattle.txn_journal.specs.WrittenSets.{set_text, IsWrittenSet}
 use Rattle.txn_journal.specs.Splits.{joined_by}
 use Rattle.txn_journal.specs.Lines.{Numbers}
+use Rattle.txn_journal.specs.Stamps.{no_stamps}
 use Rattle.txn_journal.specs.declared.lines.Version.{Version}
 use Rattle.txn_journal.specs.declared.lines.Version.TheVariants.{One, Two}
 
@@ -100,9 +101,6 @@ journal_lines version stamps j = front_lines version stamps j ++ Close ∷ []
 -- the text of a journal with the last_committed of each entry
 abbrev pub spelling_as : Version → List ℕ → JournalValue → List ℕ
 spelling_as version stamps j = lines_text (journal_lines version stamps j)
-
-abbrev pub no_stamps : List Entry → List ℕ
-no_stamps es = map (λ e. 0) es
 
 -- the one text of a journal by version 1 of the format, which writes no numbers
 abbrev pub spelling : JournalValue → List ℕ

@@ -1,13 +1,18 @@
 //! Laws of journals' texts.
 ghost use Rattle.std.specs.Prelude.{◌≡◌, ◌++◌, ℕ, List, None};
+ghost use Rattle.rows.specs.Apply.{Rows};
+ghost use Rattle.rows.specs.Listing.{rows_listed};
+ghost use Rattle.rows.specs.declared.change.TableRow.{TableRow};
+ghost use Rattle.rows.specs.declared.schema.Table.{Table};
 ghost use Rattle.journal.specs.Journals.{JournalValue};
 ghost use Rattle.txn_journal.specs.Machine.{Standing};
 ghost use Rattle.txn_journal.specs.Stream.{Progress};
 ghost use Rattle.txn_journal.specs.Reading.{Stamped, stamped_of, without_entries, behind_entries, closing, WrittenJournal, IsWrittenAs, with_front, HasBegun, EatsBehind};
 ghost use Rattle.txn_journal.specs.Spelling.{WritesAs, Writes};
+ghost use Rattle.txn_journal.specs.declared.lines.Version.{Version};
 ghost use Rattle.txn_journal.specs.declared.lines.Version.TheVariants.{One, Two};
 ghost use Rattle.txn_journal.specs.BundleStates.{BundleValue};
-ghost use Rattle.txn_journal.specs.BundleText.{WritesBundle};
+ghost use Rattle.txn_journal.specs.BundleText.{AreOpening, WritesBundleAs, WritesBundle};
 ghost use Rattle.txn_journal.specs.RowOrders.{DifferInOrder};
 
 /// A journal has one text in version 1, and in version 2 one with its numbers; and a text is that of one journal at most, with its version and numbers.
@@ -25,8 +30,13 @@ pub fn taken_in_front()
     ensures closing { (front : Stamped) (p : Progress Standing) → closing (behind_entries front p) ≡ with_front front.entries (closing p) }
 {}
 
-/// A text is that of one bundle at most, and two texts of a bundle differ in the order of its `row` lines at most.
+/// A text is that of one bundle at most, and two texts of a bundle by one version differ in the order of its `row` lines at most.
 pub fn one_bundle()
     ensures bundle { (bytes : List ℕ) (a b : BundleValue) → WritesBundle bytes a → WritesBundle bytes b → a ≡ b }
-    ensures text { (b : BundleValue) (x y : List ℕ) → WritesBundle x b → WritesBundle y b → DifferInOrder b x y }
+    ensures text { (v : Version) (b : BundleValue) (x y : List ℕ) → WritesBundleAs v x b → WritesBundleAs v y b → DifferInOrder v b x y }
+{}
+
+/// Rows put in listed order give the same rows.
+pub fn rows_in_listed_order()
+    ensures { (ts : List Table) (rs : List TableRow) (rows : Rows) → AreOpening ts rs rows → AreOpening ts (rows_listed rows) rows }
 {}
