@@ -51,28 +51,46 @@ pub record NoChannel (b : BundleValue) : Type 0 where
   pub journals : b.journals ≡ []
 
 -- a channel is open
-pub record IsOpen (b : BundleValue) (c : Channel) (draft : Standing) : Type 0 where
+pub record IsOpen (version : Version) (b : BundleValue) (c : Channel) (draft : Standing) : Type 0 where
   pub name : is_name c.name ≡ true
   pub new : has_channel b.channels c.name ≡ false
   pub room : length b.channels < 256
+  pub same_version : draft.due ≡ Some version
   pub sound : IsSound (Some b.start.schema) draft
+  pub stamped : draft.stamps ≡ right_stamps version b.start.schema draft.journal.entries
   pub goes_on : is_last draft.place ≡ false
 
-abbrev pub OpenChannel : BundleValue → Option Channel → Standing → Type 0
-OpenChannel b None draft = ⊥
-OpenChannel b (Some c) draft = IsOpen b c draft
+abbrev pub OpenChannel : Version → BundleValue → Option Channel → Standing → Type 0
+OpenChannel version b None draft = ⊥
+OpenChannel version b (Some c) draft = IsOpen version b c draft
 
-abbrev pub SoundAt : Part → List Table → List TableRow → BundleValue → Option Channel → Standing → Type 0
-SoundAt parts.Header tables rows b channel draft = tables ≡ []
-SoundAt parts.Replica tables rows b channel draft = tables ≡ []
-SoundAt parts.Tables tables rows b channel draft = IsSource b.replica × AreAdded [] tables × (b ≡ bare b.replica [])
-SoundAt parts.Rows tables rows b channel draft = IsWrittenBundle rows b × NoChannel b
-SoundAt parts.Channels tables rows b channel draft = IsWrittenBundle rows b
-SoundAt parts.Journal tables rows b channel draft = IsWrittenBundle rows b × OpenChannel b channel draft
-SoundAt parts.Ended tables rows b channel draft = IsWrittenBundle rows b
+-- a bundle of a version that is due
+pub record IsDueBundle (due : Option Version) (version : Version) (rows : List TableRow) (b : BundleValue) : Type 0 where
+  pub due_version : takes due version ≡ true
+  pub written : IsWrittenBundle version rows b
+
+pub record IsBegun (due : Option Version) (version : Version) (tables : List Table) : Type 0 where
+  pub due_version : takes due version ≡ true
+  pub none : tables ≡ []
+
+pub record HasTables (due : Option Version) (version : Version) (tables : List Table) (b : BundleValue) : Type 0 where
+  pub due_version : takes due version ≡ true
+  pub replica : IsSource b.replica
+  pub opened : IsOpeningSet version b.opened
+  pub added : AreAdded [] tables
+
+abbrev pub SoundAt : Part → Option Version → Version → List Table → List TableRow → BundleValue → Option Channel → Standing → Type 0
+SoundAt parts.Header due version tables rows b channel draft = tables ≡ []
+SoundAt parts.Replica due version tables rows b channel draft = IsBegun due version tables
+SoundAt parts.Opening due version tables rows b channel draft = IsBegun due version tables × (version ≡ Two) × IsSource b.replica
+SoundAt parts.Tables due version tables rows b channel draft = HasTables due version tables b
+SoundAt parts.Rows due version tables rows b channel draft = IsDueBundle due version rows b × NoChannel b
+SoundAt parts.Channels due version tables rows b channel draft = IsDueBundle due version rows b
+SoundAt parts.Journal due version tables rows b channel draft = IsDueBundle due version rows b × OpenChannel version b channel draft
+SoundAt parts.Ended due version tables rows b channel draft = IsDueBundle due version rows b
 
 abbrev pub IsBundleSound : List TableRow → BundleStanding → Type 0
-IsBundleSound rows s = SoundAt s.part s.tables rows s.bundle s.channel s.draft
+IsBundleSound rows s = SoundAt s.part s.due s.version s.tables rows s.bundle s.channel s.draft
 
 -- ---- lists with one more
 
@@ -89,11 +107,14 @@ brought_more tables [] [] c j h w = (w, tt)
 brought_more tables (d ∷ cs) (k ∷ js) c j h w = (h.0, brought_more tables cs js c j h.1 w)
 brought_more tables cs js c j h w = absurd h
 
-channels_more : (version : Version) (tables : List Table) (cs : List Channel) (js : List JournalValue) (c : Channel) (j : JournalValue) → AreBrought tables cs js → channels_lines version (cs ++ c ∷ []) (js ++ j ∷ []) ≡ channels_lines version cs js ++ channel_lines version c j
-channels_more version tables [] [] c j h = append-nil (channel_lines version c j)
-channels_more version tables (d ∷ cs) (k ∷ js) c j h =
-    ap (λ (ls : List BundleLine). channel_lines version d k ++ ls) (channels_more version tables cs js c j h.1) ∙ sym (append_assoc (channel_lines version d k) (channels_lines version cs js) (channel_lines version c j))
-channels_more version tables cs js c j h = absurd h
+channels_more : (version : Version) (tables : List Table) (cs : List Channel) (all : List (List ℕ)) (js : List JournalValue) (c : Channel) (stamps : List ℕ) (j : JournalValue) → AreBrought tables cs js → length all ≡ length js
+    → channels_lines version (cs ++ c ∷ []) (all ++ stamps ∷ []) (js ++ j ∷ []) ≡ channels_lines version cs all js ++ channel_lines version c stamps j
+channels_more version tables [] [] [] c stamps j h e = append-nil (channel_lines version c stamps j)
+channels_more version tables (d ∷ cs) (ks ∷ all) (k ∷ js) c stamps j h e =
+    ap (λ (ls : List BundleLine). channel_lines version d ks k ++ ls) (channels_more version tables cs all js c stamps j h.1 (omega (arith, e))) ∙ sym (append_assoc (channel_lines version d ks k) (channels_lines version cs all js) (channel_lines version c stamps j))
+channels_more version tables (d ∷ cs) [] (k ∷ js) c stamps j h e = absurd (omega (arith, e))
+channels_more version tables [] (ks ∷ all) [] c stamps j h e = absurd (omega (arith, e))
+channels_more version tables cs all js c stamps j h e = absurd h
 
 abbrev with_rows : Database → Rows → Database
 with_rows d rows = record d { rows = rows }
@@ -108,75 +129,90 @@ put_more d (x ∷ rs) r rows new e f =
 
 -- ---- what a line leaves
 
-pub record KeepsBundle (old : List BundleLine) (l : BundleLine) (t : BundleStanding) : Type 0 where
+pub record KeepsBundle (due : Option Version) (old : List BundleLine) (l : BundleLine) (t : BundleStanding) : Type 0 where
   pub rows : List TableRow
+  pub same_due : t.due ≡ due
   pub says : bundle_said rows t ≡ old ++ l ∷ []
   pub sound : IsBundleSound rows t
 
-abbrev state : Part → Version → List Table → BundleValue → Option Channel → Standing → BundleStanding
-state part version tables b channel draft = record { part = part; version = version; tables = tables; bundle = b; channel = channel; draft = draft }
+abbrev state : Part → Option Version → Version → List Table → BundleValue → Option Channel → Standing → BundleStanding
+state part due version tables b channel draft = record { part = part; due = due; version = version; tables = tables; bundle = b; channel = channel; draft = draft }
+
+-- the lines of the bundle's whole channels and of what stands before them
+abbrev pub front : Version → List TableRow → BundleValue → List BundleLine
+front version rows b = bundle_front version rows (all_stamps version b.start.schema b.journals) b
 
 -- the lines before the channels end here
-record Front (version : Version) (rows : List TableRow) (b : BundleValue) (old : List BundleLine) : Type 0 where
-  written : IsWrittenBundle rows b
-  lines : old ≡ bundle_front version rows b
+record Front (due : Option Version) (version : Version) (rows : List TableRow) (b : BundleValue) (old : List BundleLine) : Type 0 where
+  whole : IsDueBundle due version rows b
+  lines : old ≡ front version rows b
 
 -- the tables as a bundle without rows and channels
-pub tables_written : (replica : ℕ) (tables : List Table) → IsSource replica → AreAdded [] tables → IsWrittenBundle [] (bare replica tables)
-tables_written replica tables small added = record { replica = small; unopened = refl; tables = added; opening = record { fit = tt; writable = refl; put = refl }; named = tt; few = omega arith; brought = tt }
+pub tables_written : (version : Version) (replica : ℕ) (opened : Gtids) (tables : List Table) → IsSource replica → IsOpeningSet version opened → AreAdded [] tables → IsWrittenBundle version [] (bare replica opened tables)
+tables_written version replica opened tables small is added = record { replica = small; opened = is; tables = added; opening = record { fit = tt; writable = refl; put = refl }; named = tt; few = omega arith; brought = tt }
 
-pub tables_front : (version : Version) (replica : ℕ) (tables : List Table) → tables_lines version replica tables ≡ bundle_front version [] (bare replica tables)
-tables_front version replica tables = sym (append-nil (start_lines version replica tables []) ∙ append-nil (tables_lines version replica tables))
+pub tables_front : (version : Version) (replica : ℕ) (opened : Gtids) (tables : List Table) → tables_lines version replica opened tables ≡ front version [] (bare replica opened tables)
+tables_front version replica opened tables =
+    let lines = tables_lines version replica opened tables in
+    sym (append-nil (lines ++ []) ∙ append-nil lines)
 
-front_of : (version : Version) (replica : ℕ) (tables : List Table) → IsSource replica → AreAdded [] tables → Front version [] (bare replica tables) (tables_lines version replica tables)
-front_of version replica tables small added = record { written = tables_written replica tables small added; lines = tables_front version replica tables }
+front_of : (due : Option Version) (version : Version) (tables : List Table) (b : BundleValue) → HasTables due version tables b → Front due version [] (bare b.replica b.opened tables) (tables_lines version b.replica b.opened tables)
+front_of due version tables b h = record { whole = record { due_version = h.due_version; written = tables_written version b.replica b.opened tables h.replica h.opened h.added }; lines = tables_front version b.replica b.opened tables }
 
 abbrev with_put : BundleStanding → Rows → BundleStanding
 with_put s rows = record s { bundle = record s.bundle { start = with_rows s.bundle.start rows } }
 
 -- one row more
-row_keeps_in : (version : Version) (tables : List Table) (rows : List TableRow) (b : BundleValue) (r : TableRow) (channel : Option Channel) (draft : Standing) (old : List BundleLine) (new : Rows) → Front version rows b old → NoChannel b → FitsRow r → is_image_writable r.row ≡ true → with_opening b.start r ≡ Ok new → KeepsBundle old (Own (Puts r)) (with_put (state parts.Rows version tables b channel draft) new)
-row_keeps_in version tables rows b r channel draft old new f none fit writable put =
+row_keeps_in : (due : Option Version) (version : Version) (tables : List Table) (rows : List TableRow) (b : BundleValue) (r : TableRow) (channel : Option Channel) (draft : Standing) (old : List BundleLine) (new : Rows) → Front due version rows b old → NoChannel b → FitsRow r → is_image_writable r.row ≡ true → with_opening b.start r ≡ Ok new
+    → KeepsBundle due old (Own (Puts r)) (with_put (state parts.Rows due version tables b channel draft) new)
+row_keeps_in due version tables rows b r channel draft old new f none fit writable put =
     let c : BundleValue = record b { start = with_rows b.start new } in
-    let w = f.written in
+    let w = f.whole.written in
     let o = w.opening in
-    let lines : bundle_front version (rows ++ r ∷ []) c ≡ old ++ Own (Puts r) ∷ [] =
-    (λ i. (tables_lines version b.replica b.start.schema ++ map_push (λ x. Own (Puts x)) rows r i) ++ channels_lines version (none.channels i) b.journals)
-    ∙ append-nil (tables_lines version b.replica b.start.schema ++ (row_lines rows ++ Own (Puts r) ∷ []))
-    ∙ sym (append_assoc (tables_lines version b.replica b.start.schema) (row_lines rows) (Own (Puts r) ∷ []))
-    ∙ ap (λ (ls : List BundleLine). ls ++ Own (Puts r) ∷ []) (sym (append-nil (start_lines version b.replica b.start.schema rows)) ∙ (λ i. start_lines version b.replica b.start.schema rows ++ channels_lines version (sym none.channels i) b.journals) ∙ sym f.lines) in
+    let all = all_stamps version b.start.schema b.journals in
+    let ts = tables_lines version b.replica b.opened b.start.schema in
+    let lines : front version (rows ++ r ∷ []) c ≡ old ++ Own (Puts r) ∷ [] =
+    (λ i. (ts ++ map_push (λ x. Own (Puts x)) rows r i) ++ channels_lines version (none.channels i) all b.journals)
+    ∙ append-nil (ts ++ (row_lines rows ++ Own (Puts r) ∷ []))
+    ∙ sym (append_assoc ts (row_lines rows) (Own (Puts r) ∷ []))
+    ∙ ap (λ (ls : List BundleLine). ls ++ Own (Puts r) ∷ []) (sym (append-nil (start_lines version rows b)) ∙ (λ i. start_lines version rows b ++ channels_lines version (sym none.channels i) all b.journals) ∙ sym f.lines) in
     record {
       rows = rows ++ r ∷ [];
+      same_due = refl;
       says = lines;
       sound = (
         record {
-          replica = w.replica;
-          unopened = w.unopened;
-          tables = w.tables;
-          opening = record {
-            fit = all_append FitsRow rows (r ∷ []) o.fit (fit, tt);
-            writable = all_push (λ x. is_image_writable x.row) rows r o.writable writable;
-            put = put_more (record { schema = b.start.schema; rows = map_of.empty }) rows r b.start.rows new o.put put;
+          due_version = f.whole.due_version;
+          written = record {
+            replica = w.replica;
+            opened = w.opened;
+            tables = w.tables;
+            opening = record { fit = all_append FitsRow rows (r ∷ []) o.fit (fit, tt); writable = all_push (λ x. is_image_writable x.row) rows r o.writable writable; put = put_more (record { schema = b.start.schema; rows = map_of.empty }) rows r b.start.rows new o.put put };
+            named = w.named;
+            few = w.few;
+            brought = w.brought;
           };
-          named = w.named;
-          few = w.few;
-          brought = w.brought;
         },
-        record { channels = none.channels; journals = none.journals },
+        none,
       );
     }
 
--- a channel is opened
-open_keeps_in : (version : Version) (tables : List Table) (rows : List TableRow) (b : BundleValue) (c : Channel) (old : List BundleLine) → Front version rows b old → is_name c.name ≡ true → length b.channels < 256 → has_channel b.channels c.name ≡ false
-    → KeepsBundle old (Own (Opens c)) (state parts.Journal version tables b (Some c) (empty (Some version)))
-open_keeps_in version tables rows b c old f name room new = record {
+-- the entries of a journal that has none
+pub none_right : (version : Version) (tables : List Table) → right_stamps version tables [] ≡ []
+none_right One tables = refl
+none_right Two tables = refl
+
+open_keeps_in : (due : Option Version) (version : Version) (tables : List Table) (rows : List TableRow) (b : BundleValue) (c : Channel) (old : List BundleLine) → Front due version rows b old → is_name c.name ≡ true → length b.channels < 256 → has_channel b.channels c.name ≡ false
+    → KeepsBundle due old (Own (Opens c)) (state parts.Journal due version tables b (Some c) (empty (Some version)))
+open_keeps_in due version tables rows b c old f name room new = record {
   rows = rows;
+  same_due = refl;
   says = ap (λ (ls : List BundleLine). ls ++ Own (Opens c) ∷ []) (sym f.lines);
-  sound = (f.written, record { name = name; new = new; room = room; sound = record { none_counted = refl; none_open = refl }; goes_on = refl });
+  sound = (f.whole, record { name = name; new = new; room = room; same_version = refl; sound = record { none_stamped = refl; none_counted = refl; none_open = refl }; stamped = sym (none_right version b.start.schema); goes_on = refl });
 }
 
-done_keeps_in : (version : Version) (tables : List Table) (rows : List TableRow) (b : BundleValue) (old : List BundleLine) (channel : Option Channel) (draft : Standing) → Front version rows b old → KeepsBundle old (Own Done) (state parts.Ended version tables b channel draft)
-done_keeps_in version tables rows b old channel draft f = record { rows = rows; says = ap (λ (ls : List BundleLine). ls ++ Own Done ∷ []) (sym f.lines); sound = f.written }
+done_keeps_in : (due : Option Version) (version : Version) (tables : List Table) (rows : List TableRow) (b : BundleValue) (old : List BundleLine) (channel : Option Channel) (draft : Standing) → Front due version rows b old → KeepsBundle due old (Own Done) (state parts.Ended due version tables b channel draft)
+done_keeps_in due version tables rows b old channel draft f = record { rows = rows; same_due = refl; says = ap (λ (ls : List BundleLine). ls ++ Own Done ∷ []) (sym f.lines); sound = f.whole }
 
 -- ---- what a line of its own makes, or why it is not taken
 
@@ -209,57 +245,68 @@ table_cause s line shape k causes.Schema h = (Has shape, k, h.0, h.1)
 table_cause s line shape k c h = absurd h
 
 -- a line of its own, at the place where it stands
-keeps_own : (part : Part) (version : Version) (tables : List Table) (rows : List TableRow) (b : BundleValue) (channel : Option Channel) (draft : Standing) (line : List ℕ) (l : OwnLine)
-    → SoundAt part tables rows b channel draft → is_due_in part (own_word l) ≡ true → Says (own_wording (state part version tables b channel draft)) line l
-    → MatchResult (own_put (state part version tables b channel draft) l) (KeepsBundle (bundle_said_at part version tables rows b channel draft) (Own l)) (HasCauseBy (own_wording (state part version tables b channel draft)) line)
+keeps_own : (part : Part) (due : Option Version) (version : Version) (tables : List Table) (rows : List TableRow) (b : BundleValue) (channel : Option Channel) (draft : Standing) (line : List ℕ) (l : OwnLine)
+    → SoundAt part due version tables rows b channel draft → is_due_in part (own_word l) ≡ true → Says (own_wording (state part due version tables b channel draft)) line l
+    → MatchResult (own_put (state part due version tables b channel draft) l) (KeepsBundle due (bundle_said rows (state part due version tables b channel draft)) (Own l)) (HasCauseBy (own_wording (state part due version tables b channel draft)) line)
 unfolding own_put
-keeps_own parts.Header version tables rows b channel draft line (Heads v) h is k = record { rows = []; says = refl; sound = h }
-keeps_own parts.Replica version tables rows b channel draft line (Names id) h is k = record {
+keeps_own parts.Header due version tables rows b channel draft line (Heads v) h is k = record { rows = []; same_due = refl; says = refl; sound = record { due_version = k.fits; none = h } }
+keeps_own parts.Replica due One tables rows b channel draft line (Names id) h is k = record {
   rows = [];
-  says = ap (λ (ts : List Table). tables_lines version id ts) h;
-  sound = (k.fits, subst (AreAdded []) (sym h) tt, refl);
+  same_due = refl;
+  says = ap (λ (ts : List Table). tables_lines One id set.empty ts) h.none;
+  sound = record { due_version = h.due_version; replica = k.fits; opened = refl; added = subst (AreAdded []) (sym h.none) tt };
 }
-keeps_own parts.Tables version tables rows b channel draft line (Has shape) h is k =
-    let s = state parts.Tables version tables b channel draft in
+keeps_own parts.Replica due Two tables rows b channel draft line (Names id) h is k = record { rows = []; same_due = refl; says = refl; sound = (h, refl, k.fits) }
+keeps_own parts.Opening due One tables rows b channel draft line (Starts p) h is k = absurd (let n = h.1 in cc)
+keeps_own parts.Opening due Two tables rows b channel draft line (Starts p) h is k = record {
+  rows = [];
+  same_due = refl;
+  says = ap (λ (ts : List Table). tables_lines Two b.replica p ts) h.0.none;
+  sound = record { due_version = h.0.due_version; replica = h.2; opened = k.fits; added = subst (AreAdded []) (sym h.0.none) tt };
+}
+keeps_own parts.Tables due version tables rows b channel draft line (Has shape) h is k =
+    let s = state parts.Tables due version tables b channel draft in
+    let before = Own (Heads version) ∷ Own (Names b.replica) ∷ opening_set_lines version b.opened in
     then_both _ _ (with_table tables shape) _ (MatchResult-weaker (with_table tables shape) (with_both tables shape k.fits) (λ ts f. f) (table_cause s line shape k))
-    (λ ts f. subst (λ (x : List Table). KeepsBundle (tables_lines version b.replica tables) (Own (Has shape)) (state parts.Tables version x b channel draft)) f.after (record {
+    (λ ts f. subst (λ (x : List Table). KeepsBundle due (tables_lines version b.replica b.opened tables) (Own (Has shape)) (state parts.Tables due version x b channel draft)) f.after (record {
       rows = [];
-      says = ap (λ (ls : List BundleLine). Own (Heads version) ∷ Own (Names b.replica) ∷ ls) (map_push (λ x. Own (Has (shape_for x))) tables f.table ∙ ap (λ (x : Shape). table_lines tables ++ Own (Has x) ∷ []) (sym f.shape));
-      sound = (h.0, added_more [] tables f.table h.1 f.name f.free, h.2);
+      same_due = refl;
+      says = ap (λ (ls : List BundleLine). before ++ ls) (map_push (λ x. Own (Has (shape_for x))) tables f.table ∙ ap (λ (x : Shape). table_lines tables ++ Own (Has x) ∷ []) (sym f.shape)) ∙ sym (append_assoc before (table_lines tables) (Own (Has shape) ∷ []));
+      sound = record { due_version = h.due_version; replica = h.replica; opened = h.opened; added = added_more [] tables f.table h.added f.name f.free };
     }))
-keeps_own parts.Tables version tables rows b channel draft line (Puts r) h is k =
-    puts_both (state parts.Tables version tables b channel draft) line r _ k (λ writable new put. row_keeps_in version [] [] (bare b.replica tables) r channel draft (tables_lines version b.replica tables) new (front_of version b.replica tables h.0 h.1) (record { channels = refl; journals = refl }) k.fits writable put)
-keeps_own parts.Tables version tables rows b channel draft line (Opens c) h is k =
-    opens_both (state parts.Tables version tables b channel draft) line c _ k (λ room new. open_keeps_in version [] [] (bare b.replica tables) c (tables_lines version b.replica tables) (front_of version b.replica tables h.0 h.1) k.fits (omega arith) refl)
-keeps_own parts.Tables version tables rows b channel draft line Done h is k = done_keeps_in version [] [] (bare b.replica tables) (tables_lines version b.replica tables) channel draft (front_of version b.replica tables h.0 h.1)
-keeps_own parts.Rows version tables rows b channel draft line (Puts r) h is k =
-    puts_both (state parts.Rows version tables b channel draft) line r _ k (λ writable new put. row_keeps_in version tables rows b r channel draft (bundle_front version rows b) new (record { written = h.0; lines = refl }) h.1 k.fits writable put)
-keeps_own parts.Rows version tables rows b channel draft line (Opens c) h is k =
-    opens_both (state parts.Rows version tables b channel draft) line c _ k (λ room new. open_keeps_in version tables rows b c (bundle_front version rows b) (record { written = h.0; lines = refl }) k.fits room new)
-keeps_own parts.Rows version tables rows b channel draft line Done h is k = done_keeps_in version tables rows b (bundle_front version rows b) channel draft (record { written = h.0; lines = refl })
-keeps_own parts.Channels version tables rows b channel draft line (Opens c) h is k =
-    opens_both (state parts.Channels version tables b channel draft) line c _ k (λ room new. open_keeps_in version tables rows b c (bundle_front version rows b) (record { written = h; lines = refl }) k.fits room new)
-keeps_own parts.Channels version tables rows b channel draft line Done h is k = done_keeps_in version tables rows b (bundle_front version rows b) channel draft (record { written = h; lines = refl })
-keeps_own part version tables rows b channel draft line l h is k = absurd cc
+keeps_own parts.Tables due version tables rows b channel draft line (Puts r) h is k =
+    puts_both (state parts.Tables due version tables b channel draft) line r _ k (λ writable new put. row_keeps_in due version [] [] (bare b.replica b.opened tables) r channel draft (tables_lines version b.replica b.opened tables) new (front_of due version tables b h) (record { channels = refl; journals = refl }) k.fits writable put)
+keeps_own parts.Tables due version tables rows b channel draft line (Opens c) h is k =
+    opens_both (state parts.Tables due version tables b channel draft) line c _ k (λ room new. open_keeps_in due version [] [] (bare b.replica b.opened tables) c (tables_lines version b.replica b.opened tables) (front_of due version tables b h) k.fits (omega arith) refl)
+keeps_own parts.Tables due version tables rows b channel draft line Done h is k = done_keeps_in due version [] [] (bare b.replica b.opened tables) (tables_lines version b.replica b.opened tables) channel draft (front_of due version tables b h)
+keeps_own parts.Rows due version tables rows b channel draft line (Puts r) h is k =
+    puts_both (state parts.Rows due version tables b channel draft) line r _ k (λ writable new put. row_keeps_in due version tables rows b r channel draft (front version rows b) new (record { whole = h.0; lines = refl }) h.1 k.fits writable put)
+keeps_own parts.Rows due version tables rows b channel draft line (Opens c) h is k =
+    opens_both (state parts.Rows due version tables b channel draft) line c _ k (λ room new. open_keeps_in due version tables rows b c (front version rows b) (record { whole = h.0; lines = refl }) k.fits room new)
+keeps_own parts.Rows due version tables rows b channel draft line Done h is k = done_keeps_in due version tables rows b (front version rows b) channel draft (record { whole = h.0; lines = refl })
+keeps_own parts.Channels due version tables rows b channel draft line (Opens c) h is k =
+    opens_both (state parts.Channels due version tables b channel draft) line c _ k (λ room new. open_keeps_in due version tables rows b c (front version rows b) (record { whole = h; lines = refl }) k.fits room new)
+keeps_own parts.Channels due version tables rows b channel draft line Done h is k = done_keeps_in due version tables rows b (front version rows b) channel draft (record { whole = h; lines = refl })
+keeps_own part due version tables rows b channel draft line l h is k = absurd cc
 
 -- ---- a line of the open journal
 
-inner_more : (c : Channel) (front : List BundleLine) (old new : List Line) (l : Line) → new ≡ old ++ l ∷ [] → front ++ (Own (Opens c) ∷ map Inner new) ≡ (front ++ (Own (Opens c) ∷ map Inner old)) ++ Inner l ∷ []
-inner_more c front old new l e =
-    ap (λ (ls : List Line). front ++ (Own (Opens c) ∷ map Inner ls)) e
-    ∙ ap (λ (ls : List BundleLine). front ++ (Own (Opens c) ∷ ls)) (map_push Inner old l)
-    ∙ sym (append_assoc front (Own (Opens c) ∷ map Inner old) (Inner l ∷ []))
+inner_more : (c : Channel) (before : List BundleLine) (old new : List Line) (l : Line) → new ≡ old ++ l ∷ [] → before ++ (Own (Opens c) ∷ map Inner new) ≡ (before ++ (Own (Opens c) ∷ map Inner old)) ++ Inner l ∷ []
+inner_more c before old new l e =
+    ap (λ (ls : List Line). before ++ (Own (Opens c) ∷ map Inner ls)) e
+    ∙ ap (λ (ls : List BundleLine). before ++ (Own (Opens c) ∷ ls)) (map_push Inner old l)
+    ∙ sym (append_assoc before (Own (Opens c) ∷ map Inner old) (Inner l ∷ []))
 
-pub record InnerTaken (old : List BundleLine) (line : List ℕ) (t : BundleStanding) : Type 0 where
+pub record InnerTaken (due : Option Version) (old : List BundleLine) (line : List ℕ) (t : BundleStanding) : Type 0 where
   pub l : BundleLine
   pub text : line ≡ bundle_line_text l
-  pub keeps : KeepsBundle old l t
+  pub keeps : KeepsBundle due old l t
 
 -- a bundle with one channel more
-pub channel_written : (rows : List TableRow) (b : BundleValue) (c : Channel) (draft : Standing) (j : JournalValue) → IsWrittenBundle rows b → IsOpen b c draft → IsWritten j → list_all (entry_fits b.start.schema) j.entries ≡ true → IsWrittenBundle rows (with_journal (Some c) b j)
-channel_written rows b c draft j w o written fitting = record {
+pub channel_written : (version : Version) (rows : List TableRow) (b : BundleValue) (c : Channel) (draft : Standing) (j : JournalValue) → IsWrittenBundle version rows b → IsOpen version b c draft → IsWritten j → list_all (entry_fits b.start.schema) j.entries ≡ true → IsWrittenBundle version rows (with_journal (Some c) b j)
+channel_written version rows b c draft j w o written fitting = record {
   replica = w.replica;
-  unopened = w.unopened;
+  opened = w.opened;
   tables = w.tables;
   opening = w.opening;
   named = named_more [] b.channels c w.named o.name o.new;
@@ -267,60 +314,89 @@ channel_written rows b c draft j w o written fitting = record {
   brought = brought_more b.start.schema b.channels b.journals c j w.brought (record { written = written; fitting = fitting });
 }
 
-pub channel_front : (version : Version) (rows : List TableRow) (b : BundleValue) (c : Channel) (j : JournalValue) → AreBrought b.start.schema b.channels b.journals → bundle_front version rows (with_journal (Some c) b j) ≡ bundle_front version rows b ++ channel_lines version c j
-channel_front version rows b c j h =
-    let start = start_lines version b.replica b.start.schema rows in
-    ap (λ (ls : List BundleLine). start ++ ls) (channels_more version b.start.schema b.channels b.journals c j h) ∙ sym (append_assoc start (channels_lines version b.channels b.journals) (channel_lines version c j))
+-- its lines, with any numbers of the last journal
+pub channel_front : (version : Version) (rows : List TableRow) (b : BundleValue) (c : Channel) (stamps : List ℕ) (j : JournalValue) → AreBrought b.start.schema b.channels b.journals
+    → bundle_front version rows (all_stamps version b.start.schema b.journals ++ stamps ∷ []) (with_journal (Some c) b j) ≡ front version rows b ++ channel_lines version c stamps j
+channel_front version rows b c stamps j h =
+    let start = start_lines version rows b in
+    let all = all_stamps version b.start.schema b.journals in
+    ap (λ (ls : List BundleLine). start ++ ls) (channels_more version b.start.schema b.channels all b.journals c stamps j h (length-map b.journals (λ k. right_stamps version b.start.schema k.entries)))
+    ∙ sym (append_assoc start (channels_lines version b.channels all b.journals) (channel_lines version c stamps j))
 
-closed_keeps : (version : Version) (tables : List Table) (rows : List TableRow) (b : BundleValue) (c : Channel) (old d : Standing) (l : Line) → IsWrittenBundle rows b → IsOpen b c old → said d ≡ said old ++ l ∷ [] → IsSound (Some b.start.schema) d → is_last d.place ≡ true
-    → KeepsBundle (bundle_front version rows b ++ (Own (Opens c) ∷ map Inner (said old))) (Inner l) (state parts.Channels version tables (with_journal (Some c) b d.journal) None (empty (Some version)))
-closed_keeps One tables rows b c old d l w o says sound last =
+-- with the numbers that it has to have
+pub right_front : (version : Version) (rows : List TableRow) (b : BundleValue) (c : Channel) (stamps : List ℕ) (j : JournalValue) → AreBrought b.start.schema b.channels b.journals → stamps ≡ right_stamps version b.start.schema j.entries
+    → front version rows (with_journal (Some c) b j) ≡ front version rows b ++ channel_lines version c stamps j
+right_front version rows b c stamps j h e =
+    (λ i. bundle_front version rows (map_push (λ k. right_stamps version b.start.schema k.entries) b.journals j i) (with_journal (Some c) b j))
+    ∙ ap (λ (x : List ℕ). bundle_front version rows (all_stamps version b.start.schema b.journals ++ x ∷ []) (with_journal (Some c) b j)) (sym e)
+    ∙ channel_front version rows b c stamps j h
+
+-- the version that is due
+pub version_is : (v w : Version) → takes (Some v) w ≡ true → w ≡ v
+version_is One One e = refl
+version_is Two Two e = refl
+version_is One Two e = absurd cc
+version_is Two One e = absurd cc
+
+closed_keeps : (due : Option Version) (version : Version) (tables : List Table) (rows : List TableRow) (b : BundleValue) (c : Channel) (old d : Standing) (l : Line) → IsDueBundle due version rows b → IsOpen version b c old → said d ≡ said old ++ l ∷ [] → IsSound (Some b.start.schema) d → d.due ≡ Some version
+    → d.stamps ≡ right_stamps version b.start.schema d.journal.entries → is_last d.place ≡ true
+    → KeepsBundle due (front version rows b ++ (Own (Opens c) ∷ map Inner (said old))) (Inner l) (state parts.Channels due version tables (with_journal (Some c) b d.journal) None (empty (Some version)))
+closed_keeps due version tables rows b c old d l w o says sound same stamped last =
     let e = ended (Some b.start.schema) d sound last in
+    let is : d.version ≡ version = version_is version d.version (subst (λ (x : Option Version). takes x d.version ≡ true) same e.whole.due) in
+    let lines : said d ≡ journal_lines version d.stamps d.journal = e.lines ∙ ap (λ (v : Version). journal_lines v d.stamps d.journal) is in
     record {
       rows = rows;
-      says = channel_front One rows b c d.journal w.brought
-          ∙ ap (λ (ls : List Line). bundle_front One rows b ++ (Own (Opens c) ∷ map Inner ls)) (sym e.lines)
-          ∙ inner_more c (bundle_front One rows b) (said old) (said d) l says;
-      sound = channel_written rows b c old d.journal w o e.written e.fitting;
+      same_due = refl;
+      says = right_front version rows b c d.stamps d.journal w.written.brought stamped
+          ∙ ap (λ (ls : List Line). front version rows b ++ (Own (Opens c) ∷ map Inner ls)) (sym lines)
+          ∙ inner_more c (front version rows b) (said old) (said d) l says;
+      sound = record { due_version = w.due_version; written = channel_written version rows b c old d.journal w.written o e.written e.whole.fitting };
     }
 
-open_still : (version : Version) (tables : List Table) (rows : List TableRow) (b : BundleValue) (c : Channel) (old d : Standing) (l : Line) → IsWrittenBundle rows b → IsOpen b c old → said d ≡ said old ++ l ∷ [] → IsSound (Some b.start.schema) d → is_last d.place ≡ false
-    → KeepsBundle (bundle_front version rows b ++ (Own (Opens c) ∷ map Inner (said old))) (Inner l) (state parts.Journal version tables b (Some c) d)
-open_still version tables rows b c old d l w o says sound more = record {
+open_still : (due : Option Version) (version : Version) (tables : List Table) (rows : List TableRow) (b : BundleValue) (c : Channel) (old d : Standing) (l : Line) → IsDueBundle due version rows b → IsOpen version b c old → said d ≡ said old ++ l ∷ [] → IsSound (Some b.start.schema) d → d.due ≡ Some version
+    → d.stamps ≡ right_stamps version b.start.schema d.journal.entries → is_last d.place ≡ false
+    → KeepsBundle due (front version rows b ++ (Own (Opens c) ∷ map Inner (said old))) (Inner l) (state parts.Journal due version tables b (Some c) d)
+open_still due version tables rows b c old d l w o says sound same stamped more = record {
   rows = rows;
-  says = inner_more c (bundle_front version rows b) (said old) (said d) l says;
-  sound = (w, record { name = o.name; new = o.new; room = o.room; sound = sound; goes_on = more });
+  same_due = refl;
+  says = inner_more c (front version rows b) (said old) (said d) l says;
+  sound = (w, record { name = o.name; new = o.new; room = o.room; same_version = same; sound = sound; stamped = stamped; goes_on = more });
 }
 
-keeps_inner : (version : Version) (tables : List Table) (rows : List TableRow) (b : BundleValue) (channel : Option Channel) (draft : Standing) (line : List ℕ) → IsWrittenBundle rows b → OpenChannel b channel draft
-    → MatchResult (judge_inner (state parts.Journal version tables b channel draft) line) (InnerTaken (bundle_front version rows b ++ inner_said channel draft) line) (HasCause (Some b.start.schema) draft line)
-unfolding judge_inner after_inner
-keeps_inner version tables rows b None draft line w o = absurd o
-keeps_inner version tables rows b (Some c) draft line w o =
-    let s = state parts.Journal version tables b (Some c) draft in
-    let old = bundle_front version rows b ++ (Own (Opens c) ∷ map Inner (said draft)) in
-    then_both (InnerTaken old line) (HasCause (Some b.start.schema) draft line) (judge (Some b.start.schema) draft line) _ (judged_line (Some b.start.schema) draft line o.sound) (λ d k. record {
-      l = Inner k.l;
-      text = k.text;
-      keeps = elim (is_last d.place) as (λ v. is_last d.place ≡ v → KeepsBundle old (Inner k.l) (cond v (closed_channel s d) (record s { draft = d }))) [
-        | true ↦ λ last. closed_keeps version tables rows b c draft d k.l w o k.keeps.says k.keeps.sound last
-        | false ↦ λ more. open_still version tables rows b c draft d k.l w o k.keeps.says k.keeps.sound more
-      ] refl;
-    })
+-- ---- the last_committed of an entry that ends
 
-own_taken : (part : Part) (version : Version) (tables : List Table) (rows : List TableRow) (b : BundleValue) (channel : Option Channel) (draft : Standing) (line : List ℕ) → SoundAt part tables rows b channel draft
-    → MatchResult (judge_own (state part version tables b channel draft) line) (InnerTaken (bundle_said_at part version tables rows b channel draft) line) (HasCauseBy (own_wording (state part version tables b channel draft)) line)
-own_taken part version tables rows b channel draft line h =
-    let s = state part version tables b channel draft in
-    rw (own_reads s line) (judged_both (own_wording s) own_body (own_laws s) (InnerTaken (bundle_said_at part version tables rows b channel draft) line) (own_put s) line
-    (λ l k. MatchResult-weaker (own_put s l) (keeps_own part version tables rows b channel draft line l h k.due k) (λ t m. record { l = Own l; text = k.text; keeps = m }) (λ c m. m)))
+-- the entry that ends has the number that it has to have, or the line is the one that ends it
+within_is : (place : Place) → is_within place ≡ true → place ≡ places.Within
+within_is places.Within e = refl
+within_is place e = absurd cc
 
-taken_at : (part : Part) (version : Version) (tables : List Table) (rows : List TableRow) (b : BundleValue) (channel : Option Channel) (draft : Standing) (line : List ℕ) → SoundAt part tables rows b channel draft
-    → MatchResult (judge_part part (state part version tables b channel draft) line) (InnerTaken (bundle_said_at part version tables rows b channel draft) line) (bundle_cause_at part (state part version tables b channel draft) line)
-taken_at parts.Journal version tables rows b channel draft line h = keeps_inner version tables rows b channel draft line h.0 h.1
-taken_at part version tables rows b channel draft line h = own_taken part version tables rows b channel draft line h
+-- the line that ends an entry
+pub ends_entry : (s d : Standing) (l : Line) → is_due s.place (word_for l) ≡ true → EntriesGo l s d → is_within s.place ≡ true → is_within d.place ≡ false → l ≡ End
+ends_entry s d End due goes within out = refl
+ends_entry s d (Makes c) due goes within out = absurd (let k = sym (ap is_within goes.1 ∙ within) ∙ out in cc)
+ends_entry s d (Header v) due goes within out = absurd (let p = within_is s.place within in let k = ap (λ (x : Place). is_due x (word_for (Header v))) (sym p) ∙ due in cc)
+ends_entry s d (Previous g) due goes within out = absurd (let p = within_is s.place within in let k = ap (λ (x : Place). is_due x (word_for (Previous g))) (sym p) ∙ due in cc)
+ends_entry s d (Begin g n) due goes within out = absurd (let p = within_is s.place within in let k = ap (λ (x : Place). is_due x (word_for (Begin g n))) (sym p) ∙ due in cc)
+ends_entry s d Close due goes within out = absurd (let p = within_is s.place within in let k = ap (λ (x : Place). is_due x (word_for Close)) (sym p) ∙ due in cc)
 
--- a line that is taken is the spelling of one more line
-pub bundle_taken : (rows : List TableRow) (s : BundleStanding) (line : List ℕ) → IsBundleSound rows s → MatchResult (judge_bundle s line) (InnerTaken (bundle_said rows s) line) (HasBundleCause s line)
-unfolding judge_bundle
-bundle_taken rows s line h = taken_at s.part s.version s.tables rows s.bundle s.channel s.draft line h
+right_more : (version : Version) (tables : List Table) (es : List Entry) (e : Entry) → right_stamps version tables (es ++ e ∷ []) ≡ right_stamps version tables es ++ right_stamp version tables es e ∷ []
+right_more One tables es e = map_push (λ x. 0) es e
+right_more Two tables es e = each_more tables [] es e
+
+same_stamps : (version : Version) (tables : List Table) (s d : Standing) → SameEntries s d → s.stamps ≡ right_stamps version tables s.journal.entries → d.stamps ≡ right_stamps version tables d.journal.entries
+same_stamps version tables s d same e = same.stamps ∙ e ∙ ap (right_stamps version tables) (sym same.entries)
+
+-- the numbers behind a line that is taken
+pub stamped_still : (version : Version) (tables : List Table) (s d : Standing) (l : Line) → EntriesGo l s d → s.stamps ≡ right_stamps version tables s.journal.entries
+    → (l ≡ End → s.stamp ≡ right_stamp version tables s.journal.entries (open_entry s)) → d.stamps ≡ right_stamps version tables d.journal.entries
+stamped_still version tables s d End goes e right =
+    goes.stamps
+    ∙ (λ i. e i ++ right refl i ∷ [])
+    ∙ sym (right_more version tables s.journal.entries (open_entry s))
+    ∙ ap (right_stamps version tables) (sym goes.entries)
+stamped_still version tables s d (Previous p) goes e right = goes.stamps ∙ sym (none_right version tables) ∙ ap (right_stamps version tables) (sym goes.entries)
+stamped_still version tables s d (Makes c) goes e right = same_stamps version tables s d goes.0 e
+stamped_still version tables s d (Header v) goes e right = same_stamps version tables s d goes e
+stamped_still version tables s d (Begin g n) goes e right = same_stamps version tables s d goes e
+stamped_still version tables s d Close goes e right = same_stamps version tables s d goes e

@@ -11,6 +11,9 @@ use Rattle.txn_journal.specs.Lines.{keyword_of}
 use Rattle.txn_journal.specs.declared.lines.Keyword.{Keyword}
 use Rattle.txn_journal.specs.declared.lines.Keyword.TheVariants as keywords
 use Rattle.txn_journal.specs.declared.lines.Version.{Version}
+use Rattle.txn_journal.specs.declared.lines.Place.{Place}
+use Rattle.txn_journal.specs.declared.bundle_draft.Part.{Part}
+use Rattle.txn_journal.specs.declared.bundle_draft.Part.TheVariants as parts
 use Rattle.txn_journal.specs.BundleText.{BundleLine, bundle_line_text, WritesBundleBy, AlmostWritesBundle}
 use Rattle.txn_journal.specs.BundleHeard.{bundle_said}
 use Rattle.txn_journal.specs.BundleCauses.{HasBundleCause}
@@ -21,6 +24,11 @@ is_inside (Some keywords.Ins) = true
 is_inside (Some keywords.Upd) = true
 is_inside (Some keywords.Del) = true
 is_inside _ = false
+
+-- an entry of the journal that is open
+abbrev pub is_entry_open : Part → Place → Bool
+is_entry_open parts.Journal place = is_within place
+is_entry_open _ place = false
 
 -- bundles of a version that is due, or of any
 abbrev pub bundles : Option Version → Format
@@ -36,7 +44,7 @@ bundles due = record {
   line_text = bundle_line_text;
   Writes = WritesBundleBy due;
   AlmostWrites = AlmostWritesBundle due;
-  is_open = λ s. is_within s.draft.place;
+  is_open = λ s. is_entry_open s.part s.draft.place;
   is_inside = λ line. is_inside (keyword_of (first_word line));
   HasHeard = λ s ls. (rows : List TableRow) × (bundle_said rows s ≡ ls);
   HasCause = HasBundleCause;

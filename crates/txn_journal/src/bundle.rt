@@ -1,8 +1,7 @@
 //! Bundles: a replica's tables and opening rows, and the journals that its channels bring.
 ghost use Rattle.std.specs.Prelude.{◌≡◌, ◌∷◌, ◌++◌, [], OnOk, OnErr};
-ghost use Rattle.std.specs.FinSet as set;
 ghost use Rattle.txn_journal.specs.Stream.{TakesPart};
-ghost use Rattle.txn_journal.specs.BundleStates.{with_opening};
+ghost use Rattle.txn_journal.specs.BundleStates.{bare, with_opening};
 
 use crate::fault::{Cause, LineFault};
 use gtid_set::{GtidSet, SetFault};
@@ -45,17 +44,26 @@ impl Model for Bundle {
 }
 
 impl Bundle {
-    /// A bundle without channels, in which nothing is executed from the start.
-    pub(crate) fn open(alloc: Global, replica: SourceId, rows: Rows) -> Bundle
-        ensures { result ≡ record { replica = replica; opened = set.empty; start = rows; channels = []; journals = [] } }
+    /// A bundle without channels.
+    pub(crate) fn open(alloc: Global, replica: SourceId, opened: GtidSet, rows: Rows) -> Bundle
+        ensures { result ≡ record { replica = replica; opened = opened; start = rows; channels = []; journals = [] } }
     {
         Bundle {
             replica,
-            opened: GtidSet::empty(alloc),
+            opened,
             rows,
             channels: Vec::new(alloc),
             journals: Vec::new(alloc),
         }
+    }
+
+    /// Empties the bundle, and gives it these tables.
+    pub(crate) fn open_rows(&mut self, alloc: Global, schema: Schema)
+        ensures { self.new ≡ bare self.old.replica self.old.opened schema }
+    {
+        self.rows = Rows::open(alloc, schema);
+        self.channels = Vec::new(alloc);
+        self.journals = Vec::new(alloc);
     }
 
     /// Adds a channel behind the others.
@@ -75,7 +83,7 @@ impl Bundle {
         self.replica
     }
 
-    /// The opening set: the GTIDs that are executed from the start, and purged. It is empty in version 1 of the format.
+    /// The opening set: the GTIDs that are executed from the start, and purged. Version 1 of the format has no other than the empty one.
     pub fn opened(&self) -> &GtidSet
         ensures { result.now ≡ self.now.opened }
     {

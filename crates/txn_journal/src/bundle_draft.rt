@@ -10,8 +10,9 @@ use crate::images::{image, table_at};
 use crate::lines::Version;
 use crate::names::Names;
 use crate::tables::add_table;
+use gtid_set::GtidSet;
 use gtid_text::SourceId;
-use journal_words::{cut, source_word};
+use journal_words::{cut, set_word, source_word};
 use rows::{Name, Row, Rows, Schema};
 use std::alloc::Global;
 use std::mem;
@@ -24,6 +25,7 @@ const MAX_CHANNELS: usize = 256;
 pub enum Part {
     Header,
     Replica,
+    Opening,
     Tables,
     Rows,
     Channels,
@@ -36,6 +38,7 @@ pub enum Part {
 pub enum Word {
     Bundle,
     Replica,
+    Opening,
     Table,
     Row,
     Channel,
@@ -49,6 +52,8 @@ fn word_at(word: &[u8]) -> Option<Word>
         Some(Word::Bundle)
     } else if word == b"replica".as_slice() {
         Some(Word::Replica)
+    } else if word == b"opening".as_slice() {
+        Some(Word::Opening)
     } else if word == b"table".as_slice() {
         Some(Word::Table)
     } else if word == b"row".as_slice() {
@@ -72,6 +77,7 @@ impl Part {
         match self {
             Part::Header => matches!(word, Word::Bundle),
             Part::Replica => matches!(word, Word::Replica),
+            Part::Opening => matches!(word, Word::Opening),
             Part::Tables => matches!(word, Word::Table | Word::Row | Word::Channel | Word::Done),
             Part::Rows => matches!(word, Word::Row | Word::Channel | Word::Done),
             Part::Channels => matches!(word, Word::Channel | Word::Done),
@@ -85,6 +91,8 @@ impl Part {
 #[derive(Drop)]
 pub struct BundleDraft {
     part: Part,
+    /// The version that is due, or none where each known one is.
+    due: Option<Version>,
     version: Version,
     names: Names,
     /// The tables, until the first line behind them.
@@ -147,21 +155,23 @@ fn has_channel(channels: &[Channel], name: &Name) -> bool
 impl BundleDraft {
     ghost use Rattle.std.specs.Prelude.{option_map, Ok};
     ghost use Rattle.txn_journal.specs.Stream.{TakesLine};
-    ghost use Rattle.txn_journal.specs.BundleStates.{IsFullBundle, no_bundle, is_done, headed, named, tabled, rowed, put_row, behind_tables, channelled, joined_channel, all_done, own_step, judge_own, after_inner, judge_inner, judge_bundle};
+    ghost use Rattle.txn_journal.specs.BundleStates.{IsFullBundle, no_bundle, is_done, headed, named, begun_with, tabled, rowed, put_row, behind_tables, channelled, joined_channel, all_done, own_step, judge_own, after_inner, judge_inner, judge_bundle};
     ghost use Rattle.txn_journal.specs.BundleDrafts.{bundle_standing};
 
     /// Before the first line.
-    pub fn start(alloc: Global) -> BundleDraft
-        ensures { bundle_standing result ≡ no_bundle }
+    pub fn start(alloc: Global, due: Option<Version>) -> BundleDraft
+        ensures { bundle_standing result ≡ no_bundle due }
     {
         BundleDraft {
             part: Part::Header,
+            due,
             version: Version::One,
             names: Names::start(alloc),
             schema: Schema::empty(alloc),
             bundle: Bundle::open(
                 alloc,
                 SourceId::from_bits(0),
+                GtidSet::empty(alloc),
                 Rows::open(alloc, Schema::empty(alloc)),
             ),
             channel: None,
@@ -191,6 +201,7 @@ impl BundleDraft {
         match word {
             Word::Bundle => self.read_header(rest),
             Word::Replica => self.name_replica(alloc, rest),
+            Word::Opening => self.begin_with(alloc, rest),
             Word::Table => self.add_table(alloc, rest),
             Word::Row => self.add_row(alloc, rest),
             Word::Channel => self.open_channel(alloc, rest),
@@ -202,7 +213,7 @@ impl BundleDraft {
     fn read_header(&mut self, rest: Option<&[u8]>) -> Result<(), LineFault>
         ensures { TakesLine IsFullBundle result (headed (bundle_standing self.old) (option_map (λ r. r.now) rest.entry)) (bundle_standing self.new) }
     {
-        match version_in(None, rest) {
+        match version_in(self.due, rest) {
             Ok(version) => {
                 self.version = version;
                 self.part = Part::Replica;
@@ -219,12 +230,32 @@ impl BundleDraft {
         match replica_in(alloc, rest) {
             Ok(replica) => {
                 let rows = Rows::open(alloc, Schema::empty(alloc));
-                self.bundle = Bundle::open(alloc, replica, rows);
-                self.part = Part::Tables;
+                self.bundle = Bundle::open(alloc, replica, GtidSet::empty(alloc), rows);
+                self.part = match self.version {
+                    Version::One => Part::Tables,
+                    Version::Two => Part::Opening,
+                };
                 Ok(())
             }
             Err(fault) => Err(fault),
         }
+    }
+
+    #[tactic(auto, unfolding(crate::specs::BundleStates::begun_with))]
+    fn begin_with(&mut self, alloc: Global, rest: Option<&[u8]>) -> Result<(), LineFault>
+        ensures { TakesLine IsFullBundle result (begun_with (bundle_standing self.old) (option_map (λ r. r.now) rest.entry)) (bundle_standing self.new) }
+    {
+        let Some(word) = rest else {
+            return Err(LineFault::Wrong(Cause::Body));
+        };
+        let Some(opened) = set_word(alloc, word)? else {
+            return Err(LineFault::Wrong(Cause::Body));
+        };
+        let replica = self.bundle.replica();
+        let rows = Rows::open(alloc, Schema::empty(alloc));
+        self.bundle = Bundle::open(alloc, replica, opened, rows);
+        self.part = Part::Tables;
+        Ok(())
     }
 
     #[tactic(auto, unfolding(crate::specs::BundleStates::tabled))]
@@ -243,8 +274,7 @@ impl BundleDraft {
     {
         if self.part == Part::Tables {
             let schema = mem::replace(&mut self.schema, Schema::empty(alloc));
-            let replica = self.bundle.replica();
-            self.bundle = Bundle::open(alloc, replica, Rows::open(alloc, schema));
+            self.bundle.open_rows(alloc, schema);
             self.part = Part::Rows;
         }
     }

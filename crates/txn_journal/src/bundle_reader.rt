@@ -1,5 +1,5 @@
 //! The reader of bundles.
-ghost use Rattle.std.specs.Prelude.{◌≡◌, IfOk, IfErr};
+ghost use Rattle.std.specs.Prelude.{◌≡◌, None, IfOk, IfErr};
 ghost use Rattle.txn_journal.specs.BundleStates.{BundleValue};
 ghost use Rattle.txn_journal.specs.BundleText.{WritesBundle};
 ghost use Rattle.txn_journal.specs.Stream.{IsWhole, IsWholeOr, IsRead};
@@ -75,10 +75,10 @@ impl BundleReader {
 
     /// Before the first byte.
     pub fn start(alloc: Global) -> BundleReader
-        ensures { bundle_reading result ≡ bundle_start }
+        ensures { bundle_reading result ≡ bundle_start None }
     {
         let made = Lines {
-            draft: BundleDraft::start(alloc),
+            draft: BundleDraft::start(alloc, None),
         };
         BundleReader {
             feed: Feed::start(alloc, made),
@@ -87,7 +87,7 @@ impl BundleReader {
 
     /// Takes the next piece. After an error every later call answers that error.
     pub fn feed(&mut self, alloc: Global, piece: &[u8]) -> Result<(), JournalFault>
-        ensures next { FeedsBy bundles (bundle_reading self.old) piece.now (bundle_reading self.new) }
+        ensures next { FeedsBy (bundles None) (bundle_reading self.old) piece.now (bundle_reading self.new) }
         ensures answer { result ≡ answer (bundle_reading self.new) }
     {
         self.feed.feed(alloc, piece)
@@ -106,7 +106,7 @@ impl BundleReader {
 }
 
 fn read_bundle(alloc: Global, bytes: &[u8]) -> Result<Bundle, JournalFault>
-    ensures { IsWholeOr (IsFaultOfBundle bundle_start bytes.now) result (closing_bundle (eats_bundle bundle_start bytes.now)) }
+    ensures { IsWholeOr (IsFaultOfBundle (bundle_start None) bytes.now) result (closing_bundle (eats_bundle (bundle_start None) bytes.now)) }
 {
     let mut reader = BundleReader::start(alloc);
     match reader.feed(alloc, bytes) {
@@ -124,7 +124,7 @@ pub fn decode_bundle(alloc: Global, bytes: &[u8]) -> Result<Bundle, JournalFault
     // Which line is the first that is faulty, and what is wrong with it.
     ensures refused { IfErr result (λ fault. RefusesBundle fault bytes.now) }
     // The same, by the fold over the bytes.
-    ensures exact { IsWhole result (closing_bundle (eats_bundle bundle_start bytes.now)) }
+    ensures exact { IsWhole result (closing_bundle (eats_bundle (bundle_start None) bytes.now)) }
 {
     read_bundle(alloc, bytes)
 }

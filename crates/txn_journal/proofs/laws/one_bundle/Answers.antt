@@ -1,3 +1,4 @@
+use Rattle.std.specs.Prelude.{None}
 use Rattle.txn_journal.specs.BundleReading.{bundles}
 use Rattle.txn_journal.proofs.FormatLaws.{one_value}
 use Rattle.txn_journal.proofs.BundleLaws.{IsSoundBundle, bundle_laws}
@@ -5,4 +6,4 @@ use Rattle.txn_journal.proofs.OneBundle.{differ_in_order}
 use Rattle.txn_journal.proofs.laws.one_bundle.Goals as goal
 
 pub returns : goal.returns
-returns c = record { bundle = one_value bundles IsSoundBundle bundle_laws; text = differ_in_order }
+returns c = record { bundle = one_value (bundles None) (IsSoundBundle None) (bundle_laws None); text = differ_in_order }
