@@ -39,17 +39,26 @@ impl LastWriters {
         }
     }
 
-    /// An entry touches a key. The number of what touched it last before that entry comes back, or 0.
-    fn write(&mut self, key: Key, number: u64) -> Result<u64, AllocError>
+    /// An entry touches a key. What touched it last before comes back.
+    fn replace(&mut self, key: Key, number: u64) -> Result<Option<u64>, AllocError>
         ensures written { OnOk result (self.new ≡ finmap.insert self.old key number) }
-        ensures earlier { IfOk result (λ n. n ≡ earlier_place number (finmap.get self.old key)) }
+        ensures before { IfOk result (λ before. before ≡ finmap.get self.old key) }
     {
         let Ok(before) = self.last.insert(key, number) else {
             return Err(AllocError);
         };
-        match before {
-            Some(before) if before != number => Ok(before),
-            _ => Ok(0),
+        Ok(before)
+    }
+
+    /// An entry touches a key. The number of the earlier entry that touched it last comes back, or 0.
+    fn write(&mut self, key: Key, number: u64) -> Result<u64, AllocError>
+        ensures written { OnOk result (self.new ≡ finmap.insert self.old key number) }
+        ensures earlier { IfOk result (λ n. n ≡ earlier_place number (finmap.get self.old key)) }
+    {
+        match self.replace(key, number)? {
+            None => Ok(0),
+            Some(before) if before == number => Ok(0),
+            Some(before) => Ok(before),
         }
     }
 
