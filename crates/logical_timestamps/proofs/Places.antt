@@ -9,7 +9,7 @@ below false place found h = omega arith
 
 -- it is one of these places, where what was found before is below them
 pub last_place_below : {A : Type 0} (p : A → Bool) (place found : ℕ) (xs : List A) → found < place → last_place p place found xs < place + length xs
-last_place_below p place found [] h = h
+last_place_below p place found [] h = omega (arith, h)
 last_place_below p place found (x ∷ xs) h =
     let rest = last_place_below p (place + 1) (cond (p x) place found) xs (below (p x) place found h) in
     omega (arith, rest)

@@ -1,5 +1,6 @@
 -- What entries write into the table of last writers.
 use Rattle.std.proofs.Common.{◌≡◌, ◌<◌, ◌+◌, ◌==◌, ◌||◌, ℕ, Bool, true, false, cond, List, [], ◌∷◌, ◌++◌, Option, Some, None, length, max, refl, sym, ap, ◌∙◌, arith}
+use Rattle.std.proofs.lemmas.Bool.Decides.{nat_tests}
 use Rattle.std.specs.FinMap.{get, insert, get-insert}
 use Rattle.std.specs.Option.{option_map_or}
 use Rattle.rows.specs.declared.change.Key.{Key}
@@ -46,7 +47,9 @@ writers_at schema place writers (e ∷ es) k =
 -- one more entry
 pub writers_more : (schema : List Table) (place : ℕ) (writers : Writers) (es : List Entry) (e : Entry)
     → writers_from schema place writers (es ++ e ∷ []) ≡ written (place + length es) (write_set schema e.txn) (writers_from schema place writers es)
-writers_more schema place writers [] e = refl
+writers_more schema place writers [] e =
+    let at : place ≡ place + 0 = omega arith in
+    ap (λ n. written n (write_set schema e.txn) writers) at
 writers_more schema place writers (x ∷ es) e =
     let at : (place + 1) + length es ≡ place + length (x ∷ es) = omega arith in
     writers_more schema (place + 1) (written place (write_set schema x.txn) writers) es e
@@ -55,14 +58,14 @@ writers_more schema place writers (x ∷ es) e =
 -- ---- in turn
 
 own_place : (b : Bool) (place : ℕ) (o : Option ℕ) → earlier_place place (cond b (Some place) o) ≡ cond b 0 (earlier_place place o)
-own_place true place o = itself (place == place) (omega arith)
+own_place true place o = itself (place == place) (grind (arith, nat_tests))
   where
     itself : (b : Bool) → b ≡ true → cond b 0 place ≡ 0
     itself true e = refl
     itself false e = cc
 own_place false place o = refl
 
-agree : {K : Type 0} (f g : K → ℕ) → ((k : K) → f k ≡ g k) → (keys : List K) → latest f keys ≡ latest g keys
+pub agree : {K : Type 0} (f g : K → ℕ) → ((k : K) → f k ≡ g k) → (keys : List K) → latest f keys ≡ latest g keys
 agree f g h [] = refl
 agree f g h (k ∷ keys) = λ i. max (h k i) (agree f g h keys i)
 
