@@ -1,7 +1,6 @@
 -- The greatest place among the last writers of an entry's keys is its last_committed.
-use Rattle.std.proofs.Common.{◌≡◌, ◌<◌, ◌+◌, ◌==◌, ◌||◌, ℕ, Bool, true, false, cond, List, [], ◌∷◌, ◌++◌, Option, Some, None, length, take, drop, suc, max, refl, sym, ap, subst, ◌∙◌, arith, append_assoc}
+use Rattle.std.proofs.Common.{◌≡◌, ◌<◌, ◌+◌, ◌==◌, ◌||◌, ℕ, Bool, true, false, cond, List, [], ◌∷◌, ◌++◌, Option, Some, None, length, max, refl, sym, ap, ◌∙◌, arith}
 use Rattle.std.proofs.lemmas.Bool.Decides.{nat_tests}
-use Rattle.std.proofs.lemmas.List.{length-take-le}
 use Rattle.std.specs.FinMap.{get, empty, get-empty}
 use Rattle.std.specs.List.{list_any}
 use Rattle.rows.specs.declared.change.Key.{Key}
@@ -9,10 +8,10 @@ use Rattle.rows.specs.declared.schema.Table.{Table}
 use Rattle.rows.specs.declared.change.Transaction.{Transaction}
 use Rattle.rows.specs.Order.{key_cmp, key_eq}
 use Rattle.rows.specs.Total.{key_total}
-use Rattle.rows.specs.WriteSet.{write_set, touches, is_among, shares_key}
+use Rattle.rows.specs.WriteSet.{write_set, touches, shares_key}
 use Rattle.journal.specs.declared.Entry.{Entry}
 use Rattle.std.proofs.lemmas.Cmp.{eq_by_cmp_equiv}
-use Rattle.logical_timestamps.specs.Timestamps.{last_place, last_committed, each_last_committed, last_committed_of}
+use Rattle.logical_timestamps.specs.Timestamps.{last_place, last_committed}
 use Rattle.logical_timestamps.specs.Writers.{Writers, IsNext, written, writers_after, earlier_place, latest_in_turn}
 use Rattle.logical_timestamps.proofs.Places.{last_place_below, latest, any_place}
 use Rattle.logical_timestamps.proofs.Writing.{place_or_0, writers_at, writers_more, in_turn, agree}
@@ -84,30 +83,3 @@ pub next_writers : (schema : List Table) (writers : Writers) (place : ℕ) (earl
 next_writers schema writers place earlier e h =
     let at : length earlier + 1 ≡ 1 + length earlier = omega arith in
     (λ i. written ((h.1 ∙ at) i) (write_set schema e.txn) (h.0 i)) ∙ sym (writers_more schema 1 empty earlier e)
-
--- ---- a whole journal
-
--- the table and the numbers after the entries before this place
-pub record IsSoFar (schema : List Table) (entries : List Entry) (place : ℕ) (writers : Writers) (numbers : List ℕ) : Type 0 where
-  pub written : writers ≡ writers_after schema (take place entries)
-  pub counted : numbers ++ each_last_committed schema (take place entries) (drop place entries) ≡ last_committed_of schema entries
-
-pub so_far_first : (schema : List Table) (entries : List Entry) → IsSoFar schema entries 0 empty []
-so_far_first schema entries = record { written = refl; counted = refl }
-
-pub so_far_next : (schema : List Table) (entries : List Entry) (place : ℕ) → place < length entries → IsNext (writers_after schema (take place entries)) schema (place + 1) (take place entries)
-so_far_next schema entries place h = (refl, ap (λ n. n + 1) (sym (length-take-le place entries (omega (arith, h)))))
-
-pub so_far_more : (schema : List Table) (entries : List Entry) (place : ℕ) (e : Entry) (writers after : Writers) (numbers : List ℕ) (n : ℕ)
-    → place < length entries → drop place entries ≡ e ∷ drop (place + 1) entries → take (place + 1) entries ≡ take place entries ++ e ∷ []
-    → IsSoFar schema entries place writers numbers
-    → after ≡ writers_after schema (take place entries ++ e ∷ []) → n ≡ last_committed schema (take place entries) e
-    → IsSoFar schema entries (place + 1) after (numbers ++ n ∷ [])
-so_far_more schema entries place e writers after numbers n h left gone so a m = record {
-  written = a ∙ ap (writers_after schema) (sym gone);
-  counted =
-      append_assoc numbers (n ∷ []) (each_last_committed schema (take (place + 1) entries) (drop (place + 1) entries))
-      ∙ (λ i. numbers ++ m i ∷ each_last_committed schema (gone i) (drop (place + 1) entries))
-      ∙ ap (λ es. numbers ++ each_last_committed schema (take place entries) es) (sym left)
-      ∙ so.counted;
-}

@@ -1,14 +1,13 @@
 -- The entries of a hashed table as a finite map from keys to places.
-use Rattle.std.proofs.Common.{◌≡◌, ℕ, cond, List, [], ◌∷◌, Option, Some, refl, sym, ap, ◌∙◌}
+use Rattle.std.proofs.Common.{◌≡◌, ℕ, cond, List, [], ◌∷◌, Some, refl, sym, ◌∙◌}
 use Rattle.std.specs.FinMap.{same_map, find, get, insert, from_entries, get-from_entries, get-insert}
 use Rattle.std.specs.Map.{lookup}
 use Rattle.std.proofs.lemmas.Cmp.{eq_by_cmp_equiv}
 use Rattle.rows.specs.declared.change.Key.{Key}
-use Rattle.rows.specs.Order.{key_cmp, key_eq}
+use Rattle.rows.specs.Order.{key_cmp}
 use Rattle.rows.specs.Total.{key_total, key_exact}
 use Rattle.rows.proofs.Equal.{key_test}
 use Rattle.rows.proofs.Hashed.{same_tests}
-use Rattle.logical_timestamps.specs.Writers.{Writers}
 
 found_at : (es : List (Key × ℕ)) (q : Key) → find key_cmp q es ≡ lookup (key_test q) es
 found_at [] q = refl

@@ -1,5 +1,5 @@
 -- Laws of last_committed.
-use Rattle.std.proofs.Common.{◌≡◌, ◌<◌, ◌≤◌, ◌+◌, ℕ, List, [], ◌∷◌, ◌++◌, length, suc, refl, sym, ap, ◌∙◌, arith, append_assoc, append-nil}
+use Rattle.std.proofs.Common.{◌≡◌, ◌≤◌, List, [], ◌∷◌, ◌++◌, length, suc, refl, sym, ap, ◌∙◌, arith, append_assoc, append-nil}
 use Rattle.rows.specs.declared.schema.Table.{Table}
 use Rattle.rows.specs.WriteSet.{shares_key}
 use Rattle.journal.specs.declared.Entry.{Entry}
