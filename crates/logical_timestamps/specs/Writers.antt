@@ -1,5 +1,5 @@
 -- Which entry touched each key last.
-use Rattle.std.specs.Prelude.{◌≡◌, ℕ, length, ◌+◌, ◌==◌, max, if◌then◌else◌, List, [], ◌∷◌, Option, Some, None}
+use Rattle.std.specs.Prelude.{◌≡◌, ℕ, length, ◌+◌, ◌==◌, max, if◌then◌else◌, List, [], ◌∷◌, ◌++◌, Option, Some, None}
 use Rattle.std.specs.Coded.{Coded, coded_ℕ}
 use Rattle.std.specs.FinMap as finmap
 use Rattle.rows.specs.declared.change.Key.{Key}
@@ -8,6 +8,7 @@ use Rattle.rows.specs.Coding.{key_code}
 use Rattle.rows.specs.Order.{key_cmp}
 use Rattle.rows.specs.WriteSet.{write_set}
 use Rattle.journal.specs.declared.Entry.{Entry}
+use Rattle.logical_timestamps.specs.Timestamps.{last_committed}
 
 -- from each key to the place, from 1, of the entry that touched it last
 abbrev pub Writers : Type 0
@@ -30,9 +31,17 @@ writers_from schema place writers (e ∷ es) = writers_from schema (place + 1) (
 abbrev pub writers_after : List Table → List Entry → Writers
 writers_after schema es = writers_from schema 1 finmap.empty es
 
--- the next entry is at this place, after these
+-- the table stands for these entries, and the next one is at this place
 abbrev pub IsNext : Writers → List Table → ℕ → List Entry → Type 0
 IsNext writers schema place es = (writers ≡ writers_after schema es) × (place ≡ length es + 1)
+
+-- the last_committed of the next entry, whichever entries the table stands for
+abbrev pub IsNextLastCommitted : Writers → List Table → ℕ → Entry → ℕ → Type 0
+IsNextLastCommitted writers schema place e n = (earlier : List Entry) → IsNext writers schema place earlier → n ≡ last_committed schema earlier e
+
+-- the table after these entries and the next one
+abbrev pub AreNextWriters : Writers → List Table → ℕ → Entry → Writers → Type 0
+AreNextWriters writers schema place e after = (earlier : List Entry) → IsNext writers schema place earlier → after ≡ writers_after schema (earlier ++ e ∷ [])
 
 -- ---- by one look-up a key
 

@@ -1,5 +1,5 @@
 //! Laws of logical timestamps.
-ghost use Rattle.std.specs.Prelude.{◌≡◌, ◌≤◌, ◌++◌, ◌∷◌, [], List, length};
+ghost use Rattle.std.specs.Prelude.{◌≡◌, ◌≤◌, List, length};
 ghost use Rattle.rows.specs.declared.schema.Table.{Table};
 ghost use Rattle.journal.specs.declared.Entry.{Entry};
 ghost use Rattle.logical_timestamps.specs.Timestamps.{last_committed, each_last_committed, IsOneMore};

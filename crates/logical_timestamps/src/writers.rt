@@ -1,10 +1,8 @@
 //! Which entry touched each key last.
-ghost use Rattle.std.specs.Prelude.{◌≡◌, ◌+◌, ◌++◌, ◌∷◌, [], List, length, IfOk, OnOk};
+ghost use Rattle.std.specs.Prelude.{◌≡◌, IfOk, OnOk};
 ghost use Rattle.std.specs.FinMap as finmap;
-ghost use Rattle.rows.specs.WriteSet.{write_set};
-ghost use Rattle.journal.specs.declared.Entry.{Entry as EntryValue};
-ghost use Rattle.logical_timestamps.specs.Timestamps.{last_committed, last_committed_of};
-ghost use Rattle.logical_timestamps.specs.Writers.{IsNext, written, writers_after, earlier_place, latest_in_turn};
+ghost use Rattle.logical_timestamps.specs.Timestamps.{last_committed_of};
+ghost use Rattle.logical_timestamps.specs.Writers.{IsNextLastCommitted, AreNextWriters, written, earlier_place, latest_in_turn};
 
 use indexmap::IndexMap;
 use journal::{Entry, Journal};
@@ -30,7 +28,7 @@ impl Model for LastWriters {
 }
 
 impl LastWriters {
-    /// No entry has touched a key.
+    /// Before the first entry: nothing has touched a key.
     pub fn new(alloc: Global) -> Self
         ensures { result ≡ finmap.empty }
     {
@@ -75,8 +73,10 @@ impl LastWriters {
         Ok(latest)
     }
 
-    /// The last_committed of the next entry, which now is the last writer of its keys. `number` is its
-    /// sequence number.
+    /// The last_committed of the next entry, which now is the last writer of its keys. Its sequence
+    /// number is one more than the count of the entries before it. (MySQL 8.0 Reference Manual,
+    /// binlog_transaction_dependency_tracking, WRITESET; keys themselves, not hashes, are our own
+    /// rule.) After an error some of its keys may be written.
     pub fn next(
         &mut self,
         alloc: Global,
@@ -84,15 +84,15 @@ impl LastWriters {
         number: u64,
         entry: &Entry,
     ) -> Result<u64, AllocError>
-        ensures last_committed { (earlier : List EntryValue) → IsNext self.old schema.now number earlier → IfOk result (λ n. n ≡ last_committed schema.now earlier entry.now) }
-        ensures writers { (earlier : List EntryValue) → IsNext self.old schema.now number earlier → OnOk result (self.new ≡ writers_after schema.now (earlier ++ entry.now ∷ [])) }
+        ensures last_committed { IfOk result (IsNextLastCommitted self.old schema.now number entry.now) }
+        ensures writers { OnOk result (AreNextWriters self.old schema.now number entry.now self.new) }
     {
         let keys = keys_touched(alloc, schema, &entry.txn)?;
         self.write_all(keys, number)
     }
 }
 
-/// The last_committed of each entry of a journal.
+/// The last_committed of each entry of a journal, in order.
 pub fn last_committed_of(
     alloc: Global,
     schema: &Schema,
