@@ -4,6 +4,8 @@
 #![tactic(auto)]
 
 mod laws;
+#[cfg(test)]
+mod tests;
 mod writers;
 
 pub use laws::last_committed_laws;
