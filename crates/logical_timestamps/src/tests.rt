@@ -13,14 +13,14 @@ use std::test::Fail;
 /// A row: its primary key and its unique key.
 type Keys = (i64, u8);
 
-/// The images of the one change of each transaction; the fourth has none.
-const CHANGES: [(Option<Keys>, Option<Keys>); 6] = [
-    (None, Some((1, b'a'))),
-    (Some((1, b'a')), Some((1, b'b'))),
-    (None, Some((2, b'c'))),
-    (None, None),
-    (Some((2, b'c')), Some((2, b'a'))),
-    (Some((1, b'b')), None),
+/// The number of each transaction and the images of its one change; the fourth has none.
+const CHANGES: [(u64, Option<Keys>, Option<Keys>); 6] = [
+    (1, None, Some((1, b'a'))),
+    (2, Some((1, b'a')), Some((1, b'b'))),
+    (3, None, Some((2, b'c'))),
+    (4, None, None),
+    (5, Some((2, b'c')), Some((2, b'a'))),
+    (6, Some((1, b'b')), None),
 ];
 
 /// The second shares the key 1 with the first. The fifth shares the key 2 with the third, and `a` with the second
@@ -104,9 +104,7 @@ fn push(journal: &mut Journal, entry: Entry) -> Option<()> {
 
 fn push_all(alloc: Global, journal: &mut Journal) -> Option<()> {
     let source = SourceId::from_bits(1);
-    let mut number = 0;
-    for (before, after) in CHANGES {
-        number += 1;
+    for (number, before, after) in CHANGES {
         let txn = transaction(alloc, before, after)?;
         let gtid = Gtid { source, number };
         push(journal, Entry { gtid, txn })?;
