@@ -1,0 +1,12 @@
+//! The logical timestamps of a journal's entries. The sequence number of an entry is its place,
+//! from 1. Its last_committed is the place of the last entry before it that shares a key with it,
+//! or 0. An entry may be applied beside all those behind its last_committed.
+#![tactic(auto)]
+
+mod laws;
+#[cfg(test)]
+mod tests;
+mod writers;
+
+pub use laws::last_committed_laws;
+pub use writers::{LastWriters, last_committed_of};
