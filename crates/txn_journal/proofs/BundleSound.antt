@@ -1,9 +1,11 @@
 -- What the lines of a bundle have said is kept by one line more.
-use Rattle.std.proofs.Common.{◌≡◌, ℕ, ◌<◌, true, false, cond, leb, List, [], ◌∷◌, ◌++◌, length, map, Option, Some, None, Result, Ok, Err, refl, sym, ap, subst, ◌∙◌, append_assoc, arith}
+use Rattle.std.proofs.Common.{◌≡◌, ℕ, ◌<◌, inl, inr, true, false, not, cond, eqb, leb, List, [], ◌∷◌, ◌++◌, length, map, Option, Some, None, Result, Ok, Err, refl, sym, ap, subst, ◌∙◌, append_assoc, arith}
 use Rattle.std.specs.List.{list_all}
 use Rattle.std.specs.FinMap as map_of
-use Rattle.std.proofs.lemmas.Bool.{leb-true, leb-false, le-leb}
-use Rattle.std.proofs.lemmas.List.{append-nil, length-append, map_push}
+use Rattle.std.specs.FinSet as set
+use Rattle.std.specs.Prelude.{◌&&◌}
+use Rattle.std.proofs.lemmas.Bool.{leb-true, leb-false, le-leb, eqb-true, eq-eqb, and_parts, not-true, not-false}
+use Rattle.std.proofs.lemmas.List.{append-nil, length-append, length-map, map_push}
 use Rattle.gtid_text.specs.Written.{IsSource}
 use Rattle.gtid_set.proofs.SpanLemmas.{all_push}
 use Rattle.rows.specs.Names.{is_name}
@@ -14,23 +16,30 @@ use Rattle.rows.specs.declared.schema.Table.{Table}
 use Rattle.rows.specs.declared.change.TableRow.{TableRow}
 use Rattle.journal.specs.Journals.{JournalValue}
 use Rattle.journal.specs.Writing.{is_image_writable}
-use Rattle.txn_journal.specs.Lines.{◌>>=◌}
-use Rattle.txn_journal.specs.Machine.{Standing, empty, is_last, judge}
+use Rattle.gtid_set.specs.Sets.{Gtids}
+use Rattle.journal.specs.declared.Entry.{Entry}
+use Rattle.logical_timestamps.proofs.Timestamps.{each_last_committed_more}
+use Rattle.txn_journal.specs.Due.{is_due}
+use Rattle.txn_journal.specs.Lines.{◌>>=◌, takes}
+use Rattle.txn_journal.specs.Stamps.{right_stamp, right_stamps, all_stamps}
+use Rattle.txn_journal.specs.Machine.{Standing, empty, is_last, open_entry, judge}
 use Rattle.txn_journal.specs.Heard.{said}
-use Rattle.txn_journal.specs.Spelling.{Line, IsWritten}
+use Rattle.txn_journal.specs.Spelling.{Line, Header, Previous, Begin, Makes, End, Close, line_text, journal_lines, IsWritten}
 use Rattle.txn_journal.specs.Shapes.{Shape, with_table, shape_for}
-use Rattle.txn_journal.specs.BundleStates.{BundleValue, BundleStanding, bare, is_due_in, behind_tables, with_opening, put_row, has_channel, joined_channel, with_journal, closed_channel, after_inner, judge_own, judge_inner, judge_part, judge_bundle}
-use Rattle.txn_journal.specs.BundleText.{entry_fits, OwnLine, BundleLine, Own, Inner, Heads, Names, Has, Puts, Opens, Done, bundle_line_text, table_lines, row_lines, channel_lines, channels_lines, tables_lines, start_lines, bundle_front, FitsRow, AreAdded, put_all, AreNamed, IsWrittenIn, AreBrought, IsWrittenBundle}
-use Rattle.txn_journal.specs.BundleHeard.{inner_said, bundle_said_at, bundle_said}
-use Rattle.txn_journal.specs.BundleCauses.{own_word, own_wording, bundle_cause_at, HasBundleCause}
+use Rattle.txn_journal.specs.BundleStates.{BundleValue, BundleStanding, bare, is_due_in, behind_tables, with_opening, put_row, has_channel, joined_channel, with_journal, closed_channel, after_inner, is_within, is_misstamped, judge_own, judge_inner, judge_part, judge_bundle}
+use Rattle.txn_journal.specs.BundleText.{entry_fits, OwnLine, BundleLine, Own, Inner, Heads, Names, Starts, Has, Puts, Opens, Done, bundle_line_text, table_lines, row_lines, channel_lines, channels_lines, opening_set_lines, tables_lines, start_lines, bundle_front, IsOpeningSet, FitsRow, AreAdded, put_all, AreNamed, IsWrittenIn, AreBrought, IsWrittenBundle}
+use Rattle.txn_journal.specs.BundleHeard.{inner_said, bundle_said}
+use Rattle.txn_journal.specs.BundleCauses.{own_word, own_wording, EndsMisstamped, bundle_cause_at, HasBundleCause}
 use Rattle.txn_journal.specs.declared.bundle.Channel.{Channel}
 use Rattle.txn_journal.specs.declared.bundle_draft.Part.{Part}
 use Rattle.txn_journal.specs.declared.bundle_draft.Part.TheVariants as parts
 use Rattle.txn_journal.specs.declared.fault.Cause.{Cause}
 use Rattle.txn_journal.specs.declared.fault.Cause.TheVariants as causes
 use Rattle.txn_journal.specs.declared.lines.Version.{Version}
-use Rattle.txn_journal.specs.declared.lines.Version.TheVariants.{One}
-use Rattle.txn_journal.proofs.SoundLines.{IsSound, judged_line}
+use Rattle.txn_journal.specs.declared.lines.Version.TheVariants.{One, Two}
+use Rattle.txn_journal.specs.declared.lines.Place.{Place}
+use Rattle.txn_journal.specs.declared.lines.Place.TheVariants as places
+use Rattle.txn_journal.proofs.SoundLines.{Sound_at, IsSound, EntriesGo, SameEntries, judged_line}
 use Rattle.txn_journal.proofs.ShapeLaws.{TableErr, with_both}
 use Rattle.txn_journal.proofs.OneBundle.{put_both}
 use Rattle.txn_journal.proofs.OwnReads.{own_body, own_put, own_reads, own_laws}
@@ -38,7 +47,7 @@ use Rattle.rows.proofs.Lists.{all_append}
 use Rattle.std.specs.Prelude.{MatchResult}
 use Rattle.std.proofs.lemmas.Result.{MatchResult-weaker}
 use Rattle.txn_journal.specs.Wordings.{Says, HasCauseBy}
-use Rattle.txn_journal.specs.Causes.{HasCause}
+use Rattle.txn_journal.specs.Causes.{word_for, HasCause}
 use Rattle.txn_journal.proofs.Judged.{then_both, if_both, known_both, IsSchema, bind_ok, ok_is}
 use Rattle.txn_journal.proofs.WordLaws.{judged_both}
 use Rattle.txn_journal.proofs.JournalLaws.{ended}
@@ -382,7 +391,7 @@ ends_entry s d Close due goes within out = absurd (let p = within_is s.place wit
 
 right_more : (version : Version) (tables : List Table) (es : List Entry) (e : Entry) → right_stamps version tables (es ++ e ∷ []) ≡ right_stamps version tables es ++ right_stamp version tables es e ∷ []
 right_more One tables es e = map_push (λ x. 0) es e
-right_more Two tables es e = each_more tables [] es e
+right_more Two tables es e = each_last_committed_more tables [] es e
 
 same_stamps : (version : Version) (tables : List Table) (s d : Standing) → SameEntries s d → s.stamps ≡ right_stamps version tables s.journal.entries → d.stamps ≡ right_stamps version tables d.journal.entries
 same_stamps version tables s d same e = same.stamps ∙ e ∙ ap (right_stamps version tables) (sym same.entries)
@@ -400,3 +409,71 @@ stamped_still version tables s d (Makes c) goes e right = same_stamps version ta
 stamped_still version tables s d (Header v) goes e right = same_stamps version tables s d goes e
 stamped_still version tables s d (Begin g n) goes e right = same_stamps version tables s d goes e
 stamped_still version tables s d Close goes e right = same_stamps version tables s d goes e
+
+ends_within : (place : Place) → is_due place (word_for End) ≡ true → place ≡ places.Within
+ends_within place e = grind arith
+
+-- an entry that ends and is not misstamped has the number that it has to have
+right_at_end : (tables : List Table) (s d : Standing) (l : Line) → is_due s.place (word_for l) ≡ true → EntriesGo l s d → is_misstamped tables s d ≡ false → l ≡ End → s.stamp ≡ right_stamp s.version tables s.journal.entries (open_entry s)
+right_at_end tables s d l due goes e end =
+    let within = ap is_within (ends_within s.place (ap (λ (x : Line). is_due s.place (word_for x)) (sym end) ∙ due)) in
+    let out : is_within d.place ≡ false = ap is_within (subst (λ (x : Line). EntriesGo x s d) end goes).place in
+    let right = right_stamp s.version tables s.journal.entries (open_entry s) in
+    let k : not (eqb s.stamp right) ≡ false = (λ i. sym within i && (not (sym out i) && not (eqb s.stamp right))) ∙ e in
+    eqb-true s.stamp right (not-false (eqb s.stamp right) k)
+
+misstamped_cause : (tables : List Table) (s d : Standing) (line : List ℕ) (l : Line) → line ≡ line_text l → is_due s.place (word_for l) ≡ true → EntriesGo l s d → is_misstamped tables s d ≡ true → EndsMisstamped tables s line causes.Stamp
+misstamped_cause tables s d line l text due goes e =
+    let right = right_stamp s.version tables s.journal.entries (open_entry s) in
+    let p = and_parts (is_within s.place) (not (is_within d.place) && not (eqb s.stamp right)) e in
+    let q = and_parts (not (is_within d.place)) (not (eqb s.stamp right)) p.1 in
+    let end = ends_entry s d l due goes p.0 (not-true (is_within d.place) q.0) in
+    (text ∙ ap line_text end, within_is s.place p.0, λ same. (let k = sym (eq-eqb s.stamp right same) ∙ not-true (eqb s.stamp right) q.1 in cc))
+
+keeps_inner : (due : Option Version) (version : Version) (tables : List Table) (rows : List TableRow) (b : BundleValue) (channel : Option Channel) (draft : Standing) (line : List ℕ) → IsDueBundle due version rows b → OpenChannel version b channel draft
+    → MatchResult (judge_inner true (state parts.Journal due version tables b channel draft) line) (InnerTaken due (front version rows b ++ inner_said channel draft) line) (bundle_cause_at parts.Journal (state parts.Journal due version tables b channel draft) line)
+unfolding judge_inner after_inner
+keeps_inner due version tables rows b None draft line w o = absurd o
+keeps_inner due version tables rows b (Some c) draft line w o =
+    let s = state parts.Journal due version tables b (Some c) draft in
+    let schema = b.start.schema in
+    let old = front version rows b ++ (Own (Opens c) ∷ map Inner (said draft)) in
+    let Taken = InnerTaken due old line in
+    let Caused = bundle_cause_at parts.Journal s line in
+    then_both Taken Caused (judge (Some schema) draft line) _ (MatchResult-weaker (judge (Some schema) draft line) (judged_line (Some schema) draft line o.sound) (λ d k. k) (λ x k. inl k)) (λ d k.
+    if_both Taken Caused (is_misstamped schema draft d) _ _ (λ wrong. inr (misstamped_cause schema draft d line k.l k.text k.due k.keeps.goes wrong)) (λ fits.
+    let same : d.due ≡ Some version = k.keeps.same_due ∙ o.same_version in
+    let right = right_at_end schema draft d k.l k.due k.keeps.goes fits in
+    let stamped = stamped_still version schema draft d k.l k.keeps.goes o.stamped (λ end. right end ∙ ap (λ (v : Version). right_stamp v schema draft.journal.entries (open_entry draft)) (version_of version (Some schema) draft k.l o.sound o.same_version k.due end)) in
+    record {
+      l = Inner k.l;
+      text = k.text;
+      keeps = elim (is_last d.place) as (λ v. is_last d.place ≡ v → KeepsBundle due old (Inner k.l) (cond v (closed_channel s d) (record s { draft = d }))) [
+        | true ↦ λ last. closed_keeps due version tables rows b c draft d k.l w o k.keeps.says k.keeps.sound same stamped last
+        | false ↦ λ more. open_still due version tables rows b c draft d k.l w o k.keeps.says k.keeps.sound same stamped more
+      ] refl;
+    }))
+  where
+    version_at : (v : Version) (schema : Option (List Table)) (place : Place) (x : Standing) → Sound_at schema place x → x.due ≡ Some v → place ≡ places.Within → x.version ≡ v
+    version_at v schema places.Within x h e is = version_is v x.version (subst (λ (y : Option Version). takes y x.version ≡ true) e h.whole.due)
+    version_at v schema place x h e is = absurd cc
+
+    version_of : (v : Version) (schema : Option (List Table)) (x : Standing) (l : Line) → IsSound schema x → x.due ≡ Some v → is_due x.place (word_for l) ≡ true → l ≡ End → x.version ≡ v
+    version_of v schema x l h e due end = version_at v schema x.place x h e (ends_within x.place (ap (λ (y : Line). is_due x.place (word_for y)) (sym end) ∙ due))
+
+own_taken : (part : Part) (due : Option Version) (version : Version) (tables : List Table) (rows : List TableRow) (b : BundleValue) (channel : Option Channel) (draft : Standing) (line : List ℕ) → SoundAt part due version tables rows b channel draft
+    → MatchResult (judge_own (state part due version tables b channel draft) line) (InnerTaken due (bundle_said rows (state part due version tables b channel draft)) line) (HasCauseBy (own_wording (state part due version tables b channel draft)) line)
+own_taken part due version tables rows b channel draft line h =
+    let s = state part due version tables b channel draft in
+    rw (own_reads s line) (judged_both (own_wording s) (own_body s.due) (own_laws s) (InnerTaken due (bundle_said rows s) line) (own_put s) line
+    (λ l k. MatchResult-weaker (own_put s l) (keeps_own part due version tables rows b channel draft line l h k.due k) (λ t m. record { l = Own l; text = k.text; keeps = m }) (λ c m. m)))
+
+taken_at : (part : Part) (due : Option Version) (version : Version) (tables : List Table) (rows : List TableRow) (b : BundleValue) (channel : Option Channel) (draft : Standing) (line : List ℕ) → SoundAt part due version tables rows b channel draft
+    → MatchResult (judge_part part true (state part due version tables b channel draft) line) (InnerTaken due (bundle_said rows (state part due version tables b channel draft)) line) (bundle_cause_at part (state part due version tables b channel draft) line)
+taken_at parts.Journal due version tables rows b channel draft line h = keeps_inner due version tables rows b channel draft line h.0 h.1
+taken_at part due version tables rows b channel draft line h = own_taken part due version tables rows b channel draft line h
+
+-- a line that is taken is the spelling of one more line
+pub bundle_taken : (rows : List TableRow) (s : BundleStanding) (line : List ℕ) → IsBundleSound rows s → MatchResult (judge_bundle s line) (InnerTaken s.due (bundle_said rows s) line) (HasBundleCause s line)
+unfolding judge_bundle
+bundle_taken rows s line h = taken_at s.part s.due s.version s.tables rows s.bundle s.channel s.draft line h

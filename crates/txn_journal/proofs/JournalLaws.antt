@@ -145,13 +145,20 @@ pub closes_journal : (schema : Option (List Table)) (s : Standing) → judge sch
 unfolding put
 closes_journal schema s = spelled_judged schema (placed places.Between s) (placed places.Ended s) Close refl (record { words = tt; images = tt; of_version = tt }) refl
 
--- K does with the states of a journal what judging does, as long as its last line has not come
-module _ (schema : Option (List Table)) (due : Option Version) (version : Version) {T : Type 0} (K : Judge T) (into : Standing → T) (carries : (s t : Standing) (line : List ℕ) → judge schema s line ≡ Ok t → is_last t.place ≡ false → K (into s) line ≡ Ok (into t)) where
+-- each entry has a number that is right, behind the earlier ones
+abbrev pub AreRight : (List Entry → ℕ → Entry → Type 0) → List Entry → List ℕ → List Entry → Type 0
+AreRight Right earlier [] [] = Unit {0}
+AreRight Right earlier (l ∷ ls) (e ∷ es) = Right earlier l e × AreRight Right (earlier ++ e ∷ []) ls es
+AreRight Right earlier _ _ = ⊥
+
+-- K does with the states of a journal what judging does, as long as its last line has not come, and where each entry that ends has a number that is right
+module _ (schema : Option (List Table)) (due : Option Version) (version : Version) {T : Type 0} (K : Judge T) (into : Standing → T) (Right : List Entry → ℕ → Entry → Type 0)
+    (carries : (s t : Standing) (line : List ℕ) → judge schema s line ≡ Ok t → is_last t.place ≡ false → (s.place ≡ places.Within → t.place ≡ places.Between → Right s.journal.entries s.stamp (open_entry s)) → K (into s) line ≡ Ok (into t)) where
   abbrev Goes : Standing → List Line → Standing → Type 0
   Goes s ls t = Leads K line_text (into s) ls (into t)
 
-  goes_line : (s t : Standing) (l : Line) → is_due s.place (word_for l) ≡ true → FitsAt s.due s.version l → put schema s l ≡ Ok t → is_last t.place ≡ false → Goes s (l ∷ []) t
-  goes_line s t l is fit step more = leads_one K line_text (into s) (into t) l (line_one l fit.words) (carries s t (line_text l) (spelled_judged schema s t l is fit step) more)
+  goes_line : (s t : Standing) (l : Line) → is_due s.place (word_for l) ≡ true → FitsAt s.due s.version l → put schema s l ≡ Ok t → is_last t.place ≡ false → (s.place ≡ places.Within → t.place ≡ places.Between → Right s.journal.entries s.stamp (open_entry s)) → Goes s (l ∷ []) t
+  goes_line s t l is fit step more right = leads_one K line_text (into s) (into t) l (line_one l fit.words) (carries s t (line_text l) (spelled_judged schema s t l is fit step) more right)
 
   goes_changes : (j : JournalValue) (stamps : List ℕ) (seen : Gtids) (count : ℕ) (g : Gtid) (stamp : ℕ) (cs ds : List Change) → AllByRecursion FitsChange ds → list_all is_change_writable ds ≡ true → list_all (fits schema) ds ≡ true → length cs + length ds ≤ 65536
       → Goes (at places.Within due version j stamps seen count g stamp cs) (map Makes ds) (at places.Within due version j stamps seen count g stamp (cs ++ ds))
@@ -164,13 +171,13 @@ module _ (schema : Option (List Table)) (due : Option Version) (version : Versio
       let q = and_parts (fits schema d) (list_all (fits schema) ds) taken in
       let s = at places.Within due version j stamps seen count g stamp cs in
       let t = at places.Within due version j stamps seen count g stamp (cs ++ d ∷ []) in
-      let one : Goes s (Makes d ∷ []) t = goes_line s t (Makes d) (due_change d) (record { words = fit.0; images = change_images d p.0; of_version = tt }) (add_again schema s d (omega arith) p.0 q.0) refl in
+      let one : Goes s (Makes d ∷ []) t = goes_line s t (Makes d) (due_change d) (record { words = fit.0; images = change_images d p.0; of_version = tt }) (add_again schema s d (omega arith) p.0 q.0) refl (λ within between. absurd cc) in
       leads_both one (subst (λ (x : List Change). Goes t (map Makes ds) (at places.Within due version j stamps seen count g stamp x)) (append_assoc cs (d ∷ []) ds) (goes_changes j stamps seen count g stamp (cs ++ d ∷ []) ds fit.1 p.1 q.1 (omega (arith, length-append cs (d ∷ [])))))
 
-  goes_entry : (j : JournalValue) (stamps : List ℕ) (seen : Gtids) (count : ℕ) (g : Gtid) (old stamp : ℕ) (e : Entry) → FitsEntry e → is_writable e ≡ true → fits_in schema e ≡ true → count < 4294967294 → set.contains seen e.gtid ≡ false → IsStamp version (count + 1) stamp
+  goes_entry : (j : JournalValue) (stamps : List ℕ) (seen : Gtids) (count : ℕ) (g : Gtid) (old stamp : ℕ) (e : Entry) → FitsEntry e → is_writable e ≡ true → fits_in schema e ≡ true → count < 4294967294 → set.contains seen e.gtid ≡ false → IsStamp version (count + 1) stamp → Right j.entries stamp e
       → Goes (at places.Between due version j stamps seen count g old []) (entry_lines (numbers_of version (count + 1) stamp) e) (at places.Between due version (with_entry j e) (stamps ++ stamp ∷ []) (set.insert seen e.gtid) (count + 1) e.gtid stamp [])
   unfolding put
-  goes_entry j stamps seen count g old stamp e fit w taken few apart is =
+  goes_entry j stamps seen count g old stamp e fit w taken few apart is right =
       let p = parts_of e w in
       let s = at places.Between due version j stamps seen count g old [] in
       let t = at places.Within due version j stamps seen count e.gtid stamp [] in
@@ -180,25 +187,25 @@ module _ (schema : Option (List Table)) (due : Option Version) (version : Versio
       let numbers = numbers_of version (count + 1) stamp in
       let small : count + 1 < 2 ^ 64 = omega (arith, few) in
       let f = numbers_fit version (count + 1) stamp small is in
-      leads_both (goes_line s t (Begin e.gtid numbers) refl (record { words = (usable, f.counts); images = tt; of_version = f.of_version }) (begin_again s e.gtid numbers stamp p.number few (numbers_again version (count + 1) stamp small is) apart) refl)
-      (leads_both (goes_changes j stamps seen count e.gtid stamp [] e.txn.changes fit.changes p.all taken (omega (arith, p.few))) (goes_line u v End refl (record { words = tt; images = tt; of_version = tt }) refl refl))
+      leads_both (goes_line s t (Begin e.gtid numbers) refl (record { words = (usable, f.counts); images = tt; of_version = f.of_version }) (begin_again s e.gtid numbers stamp p.number few (numbers_again version (count + 1) stamp small is) apart) refl (λ within between. absurd cc))
+      (leads_both (goes_changes j stamps seen count e.gtid stamp [] e.txn.changes fit.changes p.all taken (omega (arith, p.few))) (goes_line u v End refl (record { words = tt; images = tt; of_version = tt }) refl refl (λ within between. right)))
 
   record GoesEntries (j : JournalValue) (stamps : List ℕ) (seen : Gtids) (count : ℕ) (g : Gtid) (old : ℕ) (ls : List ℕ) (es : List Entry) : Type 0 where
     last : Gtid
     stamp : ℕ
     goes : Goes (at places.Between due version j stamps seen count g old []) (entries_lines version (count + 1) ls es) (at places.Between due version (with_entries j es) (stamps ++ ls) (seen_after seen es) (count + length es) last stamp [])
 
-  goes_entries : (j : JournalValue) (stamps : List ℕ) (seen : Gtids) (count : ℕ) (g : Gtid) (old : ℕ) (ls : List ℕ) (es : List Entry) → AllByRecursion FitsEntry es → list_all is_writable es ≡ true → list_all (fits_in schema) es ≡ true → AreNew seen es → count + length es ≤ 4294967294 → AreStamps version (count + 1) ls es
+  goes_entries : (j : JournalValue) (stamps : List ℕ) (seen : Gtids) (count : ℕ) (g : Gtid) (old : ℕ) (ls : List ℕ) (es : List Entry) → AllByRecursion FitsEntry es → list_all is_writable es ≡ true → list_all (fits_in schema) es ≡ true → AreNew seen es → count + length es ≤ 4294967294 → AreStamps version (count + 1) ls es → AreRight Right j.entries ls es
       → GoesEntries j stamps seen count g old ls es
-  goes_entries j stamps seen count g old [] [] fit all taken new few stamped =
+  goes_entries j stamps seen count g old [] [] fit all taken new few stamped right =
       let s = at places.Between due version j stamps seen count g old [] in
       let none_more : count ≡ count + 0 = omega arith in
       record { last = g; stamp = old; goes = subst (λ (t : Standing). Goes s [] t) (λ i. at places.Between due version (record j { entries = sym (append-nil j.entries) i }) (sym (append-nil stamps) i) seen (none_more i) g old []) (leads_none K line_text (into s)) }
-  goes_entries j stamps seen count g old (l ∷ ls) (e ∷ es) fit all taken new few stamped =
+  goes_entries j stamps seen count g old (l ∷ ls) (e ∷ es) fit all taken new few stamped right =
       let p = and_parts (is_writable e) (list_all is_writable es) all in
       let q = and_parts (fits_in schema e) (list_all (fits_in schema) es) taken in
-      let one = goes_entry j stamps seen count g old l e fit.0 p.0 q.0 (omega arith) new.0 stamped.0 in
-      let more = goes_entries (with_entry j e) (stamps ++ l ∷ []) (set.insert seen e.gtid) (count + 1) e.gtid l ls es fit.1 p.1 q.1 new.1 (omega arith) stamped.1 in
+      let one = goes_entry j stamps seen count g old l e fit.0 p.0 q.0 (omega arith) new.0 stamped.0 right.0 in
+      let more = goes_entries (with_entry j e) (stamps ++ l ∷ []) (set.insert seen e.gtid) (count + 1) e.gtid l ls es fit.1 p.1 q.1 new.1 (omega arith) stamped.1 right.1 in
       let s = at places.Between due version j stamps seen count g old [] in
       let counted : count + 1 + length es ≡ count + length (e ∷ es) = omega arith in
       record {
@@ -208,8 +215,8 @@ module _ (schema : Option (List Table)) (due : Option Version) (version : Versio
             (λ i. at places.Between due version (record j { entries = append_assoc j.entries (e ∷ []) es i }) (append_assoc stamps (l ∷ []) ls i) (seen_after (set.insert seen e.gtid) es) (counted i) more.last more.stamp [])
             (leads_both one more.goes);
       }
-  goes_entries j stamps seen count g old [] (e ∷ es) fit all taken new few stamped = absurd stamped
-  goes_entries j stamps seen count g old (l ∷ ls) [] fit all taken new few stamped = absurd stamped
+  goes_entries j stamps seen count g old [] (e ∷ es) fit all taken new few stamped right = absurd stamped
+  goes_entries j stamps seen count g old (l ∷ ls) [] fit all taken new few stamped right = absurd stamped
 
   -- the lines of a journal but the last are read
   pub record GoesFront (stamps : List ℕ) (j : JournalValue) : Type 0 where
@@ -218,21 +225,21 @@ module _ (schema : Option (List Table)) (due : Option Version) (version : Versio
     pub stamp : ℕ
     pub goes : Leads K line_text (into (empty due)) (front_lines version stamps j) (into (at places.Between due version j stamps seen (length j.entries) last stamp []))
 
-  pub goes_front : (stamps : List ℕ) (j : JournalValue) → takes due version ≡ true → IsWritten j → AreStamps version 1 stamps j.entries → list_all (fits_in schema) j.entries ≡ true → GoesFront stamps j
+  pub goes_front : (stamps : List ℕ) (j : JournalValue) → takes due version ≡ true → IsWritten j → AreStamps version 1 stamps j.entries → list_all (fits_in schema) j.entries ≡ true → AreRight Right [] stamps j.entries → GoesFront stamps j
   unfolding put
-  goes_front stamps j is w stamped taken =
+  goes_front stamps j is w stamped taken right =
       let k : JournalValue = record { previous = j.previous; entries = [] } in
       let none : Gtid = record { source = 0; number = 0 } in
       let b = at places.Previous due version (record { previous = set.empty; entries = [] }) [] set.empty 0 none 0 [] in
       let c = at places.Between due version k [] j.previous 0 none 0 [] in
-      let entries = goes_entries k [] j.previous 0 none 0 stamps j.entries w.entries w.keeps.writable taken w.keeps.new (omega (arith, w.few)) stamped in
+      let entries = goes_entries k [] j.previous 0 none 0 stamps j.entries w.entries w.keeps.writable taken w.keeps.new (omega (arith, w.few)) stamped right in
       let counted : 0 + length j.entries ≡ length j.entries = omega arith in
       let read = subst (λ (n : ℕ). Goes c (entries_lines version 1 stamps j.entries) (at places.Between due version j stamps (seen_after j.previous j.entries) n entries.last entries.stamp [])) counted entries.goes in
       record {
         seen = seen_after j.previous j.entries;
         last = entries.last;
         stamp = entries.stamp;
-        goes = leads_both (goes_line (empty due) b (Header version) refl (record { words = tt; images = tt; of_version = is }) refl refl) (leads_both (goes_line b c (Previous j.previous) refl (record { words = w.previous; images = tt; of_version = tt }) refl refl) read);
+        goes = leads_both (goes_line (empty due) b (Header version) refl (record { words = tt; images = tt; of_version = is }) refl refl (λ within between. absurd cc)) (leads_both (goes_line b c (Previous j.previous) refl (record { words = w.previous; images = tt; of_version = tt }) refl refl (λ within between. absurd cc)) read);
       }
 
 -- ---- a journal that stands alone
@@ -245,6 +252,13 @@ alone_takes_all : (es : List Entry) → list_all (fits_in None) es ≡ true
 alone_takes_all [] = refl
 alone_takes_all (e ∷ es) = rw (alone_takes e.txn.changes) (alone_takes_all es)
 
+-- nothing is asked of the numbers
+any_right : (version : Version) (place : ℕ) (earlier : List Entry) (ls : List ℕ) (es : List Entry) → AreStamps version place ls es → AreRight (λ before l e. Unit {0}) earlier ls es
+any_right version place earlier [] [] h = tt
+any_right version place earlier (l ∷ ls) (e ∷ es) h = (tt, any_right version (place + 1) (earlier ++ e ∷ []) ls es h.1)
+any_right version place earlier [] (e ∷ es) h = absurd h
+any_right version place earlier (l ∷ ls) [] h = absurd h
+
 -- its lines are read to their end
 record ReadsTo (due : Option Version) (version : Version) (stamps : List ℕ) (bytes : List ℕ) (j : JournalValue) : Type 0 where
   last : Standing
@@ -254,7 +268,7 @@ record ReadsTo (due : Option Version) (version : Version) (stamps : List ℕ) (b
 
 reads_to : (due : Option Version) (version : Version) (stamps : List ℕ) (bytes : List ℕ) (j : JournalValue) → takes due version ≡ true → WritesAs version stamps bytes j → ReadsTo due version stamps bytes j
 reads_to due version stamps bytes j is w =
-    let r = goes_front None due version (judge None) (λ s. s) (λ s t line e more. e) stamps j is w.written w.stamps_fit (alone_takes_all j.entries) in
+    let r = goes_front None due version (judge None) (λ s. s) (λ before l e. Unit {0}) (λ s t line e more right. e) stamps j is w.written w.stamps_fit (alone_takes_all j.entries) (any_right version 1 [] stamps j.entries w.stamps_fit) in
     let s = at places.Between due version j stamps r.seen (length j.entries) r.last r.stamp [] in
     record { last = placed places.Ended s; leads = leads_both r.goes (leads_one (judge None) line_text s (placed places.Ended s) Close refl (closes_journal None s)); done = refl; written = refl }
 

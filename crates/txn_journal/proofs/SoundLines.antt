@@ -190,6 +190,7 @@ pub record SameEntries (s t : Standing) : Type 0 where
 pub record OneEntryMore (s t : Standing) : Type 0 where
   pub stamps : t.stamps ≡ s.stamps ++ s.stamp ∷ []
   pub entries : t.journal.entries ≡ s.journal.entries ++ open_entry s ∷ []
+  pub place : t.place ≡ places.Between
 
 pub record NoEntries (t : Standing) : Type 0 where
   pub stamps : t.stamps ≡ []
@@ -313,7 +314,7 @@ keeps_at schema places.Within s line (Makes c) h is k =
         taken = all_push (fits schema) s.changes c h.taken taken;
       };
     })
-keeps_at schema places.Within s line End h is k = record { same_due = refl; says = ended_entry schema s h.whole; goes = record { stamps = refl; entries = refl }; sound = (whole_more schema s h, refl) }
+keeps_at schema places.Within s line End h is k = record { same_due = refl; says = ended_entry schema s h.whole; goes = record { stamps = refl; entries = refl; place = refl }; sound = (whole_more schema s h, refl) }
 keeps_at schema place s line (Makes c) h is k = absurd (let m = no_change place c is in cc)
 keeps_at schema place s line l h is k = absurd cc
 
