@@ -22,11 +22,11 @@ use Rattle.logical_timestamps.proofs.Timestamps.{each_last_committed_more}
 use Rattle.txn_journal.specs.Due.{is_due}
 use Rattle.txn_journal.specs.Lines.{◌>>=◌, takes}
 use Rattle.txn_journal.specs.Stamps.{right_stamp, right_stamps, all_stamps}
-use Rattle.txn_journal.specs.Machine.{Standing, empty, is_last, open_entry, judge}
+use Rattle.txn_journal.specs.Machine.{Standing, empty, is_last, is_within, open_entry, judge}
 use Rattle.txn_journal.specs.Heard.{said}
 use Rattle.txn_journal.specs.Spelling.{Line, Header, Previous, Begin, Makes, End, Close, line_text, journal_lines, IsWritten}
 use Rattle.txn_journal.specs.Shapes.{Shape, with_table, shape_for}
-use Rattle.txn_journal.specs.BundleStates.{BundleValue, BundleStanding, bare, is_due_in, behind_tables, with_opening, put_row, has_channel, joined_channel, with_journal, closed_channel, after_inner, is_within, is_misstamped, judge_own, judge_inner, judge_part, judge_bundle}
+use Rattle.txn_journal.specs.BundleStates.{BundleValue, BundleStanding, bare, is_due_in, behind_tables, with_opening, put_row, has_channel, joined_channel, with_journal, closed_channel, after_inner, is_misstamped, judge_own, judge_inner, judge_part, judge_bundle}
 use Rattle.txn_journal.specs.BundleText.{entry_fits, OwnLine, BundleLine, Own, Inner, Heads, Names, Starts, Has, Puts, Opens, Done, bundle_line_text, table_lines, row_lines, channel_lines, channels_lines, opening_set_lines, tables_lines, start_lines, bundle_front, IsOpeningSet, FitsRow, AreAdded, put_all, AreNamed, IsWrittenIn, AreBrought, IsWrittenBundle}
 use Rattle.txn_journal.specs.BundleHeard.{inner_said, bundle_said}
 use Rattle.txn_journal.specs.BundleCauses.{own_word, own_wording, EndsMisstamped, bundle_cause_at, HasBundleCause}
@@ -202,7 +202,7 @@ row_keeps_in due version tables rows b r channel draft old new f none fit writab
             brought = w.brought;
           };
         },
-        none,
+        record { channels = none.channels; journals = none.journals },
       );
     }
 
@@ -414,17 +414,17 @@ ends_within : (place : Place) → is_due place (word_for End) ≡ true → place
 ends_within place e = grind arith
 
 -- an entry that ends and is not misstamped has the number that it has to have
-right_at_end : (tables : List Table) (s d : Standing) (l : Line) → is_due s.place (word_for l) ≡ true → EntriesGo l s d → is_misstamped tables s d ≡ false → l ≡ End → s.stamp ≡ right_stamp s.version tables s.journal.entries (open_entry s)
-right_at_end tables s d l due goes e end =
+right_at_end : (version : Version) (tables : List Table) (s d : Standing) (l : Line) → is_due s.place (word_for l) ≡ true → EntriesGo l s d → is_misstamped version tables s d ≡ false → l ≡ End → s.stamp ≡ right_stamp version tables s.journal.entries (open_entry s)
+right_at_end version tables s d l due goes e end =
     let within = ap is_within (ends_within s.place (ap (λ (x : Line). is_due s.place (word_for x)) (sym end) ∙ due)) in
     let out : is_within d.place ≡ false = ap is_within (subst (λ (x : Line). EntriesGo x s d) end goes).place in
-    let right = right_stamp s.version tables s.journal.entries (open_entry s) in
+    let right = right_stamp version tables s.journal.entries (open_entry s) in
     let k : not (eqb s.stamp right) ≡ false = (λ i. sym within i && (not (sym out i) && not (eqb s.stamp right))) ∙ e in
     eqb-true s.stamp right (not-false (eqb s.stamp right) k)
 
-misstamped_cause : (tables : List Table) (s d : Standing) (line : List ℕ) (l : Line) → line ≡ line_text l → is_due s.place (word_for l) ≡ true → EntriesGo l s d → is_misstamped tables s d ≡ true → EndsMisstamped tables s line causes.Stamp
-misstamped_cause tables s d line l text due goes e =
-    let right = right_stamp s.version tables s.journal.entries (open_entry s) in
+misstamped_cause : (version : Version) (tables : List Table) (s d : Standing) (line : List ℕ) (l : Line) → line ≡ line_text l → is_due s.place (word_for l) ≡ true → EntriesGo l s d → is_misstamped version tables s d ≡ true → EndsMisstamped version tables s line causes.Stamp
+misstamped_cause version tables s d line l text due goes e =
+    let right = right_stamp version tables s.journal.entries (open_entry s) in
     let p = and_parts (is_within s.place) (not (is_within d.place) && not (eqb s.stamp right)) e in
     let q = and_parts (not (is_within d.place)) (not (eqb s.stamp right)) p.1 in
     let end = ends_entry s d l due goes p.0 (not-true (is_within d.place) q.0) in
@@ -441,10 +441,10 @@ keeps_inner due version tables rows b (Some c) draft line w o =
     let Taken = InnerTaken due old line in
     let Caused = bundle_cause_at parts.Journal s line in
     then_both Taken Caused (judge (Some schema) draft line) _ (MatchResult-weaker (judge (Some schema) draft line) (judged_line (Some schema) draft line o.sound) (λ d k. k) (λ x k. inl k)) (λ d k.
-    if_both Taken Caused (is_misstamped schema draft d) _ _ (λ wrong. inr (misstamped_cause schema draft d line k.l k.text k.due k.keeps.goes wrong)) (λ fits.
+    if_both Taken Caused (is_misstamped version schema draft d) _ _ (λ wrong. inr (misstamped_cause version schema draft d line k.l k.text k.due k.keeps.goes wrong)) (λ fits.
     let same : d.due ≡ Some version = k.keeps.same_due ∙ o.same_version in
-    let right = right_at_end schema draft d k.l k.due k.keeps.goes fits in
-    let stamped = stamped_still version schema draft d k.l k.keeps.goes o.stamped (λ end. right end ∙ ap (λ (v : Version). right_stamp v schema draft.journal.entries (open_entry draft)) (version_of version (Some schema) draft k.l o.sound o.same_version k.due end)) in
+    let right = right_at_end version schema draft d k.l k.due k.keeps.goes fits in
+    let stamped = stamped_still version schema draft d k.l k.keeps.goes o.stamped right in
     record {
       l = Inner k.l;
       text = k.text;
@@ -453,13 +453,6 @@ keeps_inner due version tables rows b (Some c) draft line w o =
         | false ↦ λ more. open_still due version tables rows b c draft d k.l w o k.keeps.says k.keeps.sound same stamped more
       ] refl;
     }))
-  where
-    version_at : (v : Version) (schema : Option (List Table)) (place : Place) (x : Standing) → Sound_at schema place x → x.due ≡ Some v → place ≡ places.Within → x.version ≡ v
-    version_at v schema places.Within x h e is = version_is v x.version (subst (λ (y : Option Version). takes y x.version ≡ true) e h.whole.due)
-    version_at v schema place x h e is = absurd cc
-
-    version_of : (v : Version) (schema : Option (List Table)) (x : Standing) (l : Line) → IsSound schema x → x.due ≡ Some v → is_due x.place (word_for l) ≡ true → l ≡ End → x.version ≡ v
-    version_of v schema x l h e due end = version_at v schema x.place x h e (ends_within x.place (ap (λ (y : Line). is_due x.place (word_for y)) (sym end) ∙ due))
 
 own_taken : (part : Part) (due : Option Version) (version : Version) (tables : List Table) (rows : List TableRow) (b : BundleValue) (channel : Option Channel) (draft : Standing) (line : List ℕ) → SoundAt part due version tables rows b channel draft
     → MatchResult (judge_own (state part due version tables b channel draft) line) (InnerTaken due (bundle_said rows (state part due version tables b channel draft)) line) (HasCauseBy (own_wording (state part due version tables b channel draft)) line)

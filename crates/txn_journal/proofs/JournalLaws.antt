@@ -24,7 +24,7 @@ use Rattle.txn_journal.specs.Due.{is_due}
 use Rattle.txn_journal.specs.Stamps.{no_stamps}
 use Rattle.txn_journal.specs.Lines.{Numbers, takes, stamp_in}
 use Rattle.txn_journal.specs.Stream.{Judge}
-use Rattle.txn_journal.specs.Machine.{Standing, empty, is_last, fits, open_entry, closed, add, begin_stamped, begin, judge}
+use Rattle.txn_journal.specs.Machine.{Standing, empty, is_last, is_within, fits, open_entry, closed, add, begin_stamped, begin, judge}
 use Rattle.txn_journal.specs.Spelling.{Line, Header, Previous, Begin, Makes, End, Close, numbers_text, values_text, change_text, line_text, lines_text, numbers_of, entry_lines, entries_lines, front_lines, journal_lines, spelling_as, AreValues, FitsChange, FitsEntry, IsWritten, IsStamp, AreStamps, WritesAs, Writes}
 use Rattle.txn_journal.specs.declared.lines.Place.TheVariants as places
 use Rattle.txn_journal.specs.declared.lines.Version.{Version}
@@ -153,11 +153,11 @@ AreRight Right earlier _ _ = ⊥
 
 -- K does with the states of a journal what judging does, as long as its last line has not come, and where each entry that ends has a number that is right
 module _ (schema : Option (List Table)) (due : Option Version) (version : Version) {T : Type 0} (K : Judge T) (into : Standing → T) (Right : List Entry → ℕ → Entry → Type 0)
-    (carries : (s t : Standing) (line : List ℕ) → judge schema s line ≡ Ok t → is_last t.place ≡ false → (s.place ≡ places.Within → t.place ≡ places.Between → Right s.journal.entries s.stamp (open_entry s)) → K (into s) line ≡ Ok (into t)) where
+    (carries : (s t : Standing) (line : List ℕ) → judge schema s line ≡ Ok t → is_last t.place ≡ false → (s.place ≡ places.Within → is_within t.place ≡ false → Right s.journal.entries s.stamp (open_entry s)) → K (into s) line ≡ Ok (into t)) where
   abbrev Goes : Standing → List Line → Standing → Type 0
   Goes s ls t = Leads K line_text (into s) ls (into t)
 
-  goes_line : (s t : Standing) (l : Line) → is_due s.place (word_for l) ≡ true → FitsAt s.due s.version l → put schema s l ≡ Ok t → is_last t.place ≡ false → (s.place ≡ places.Within → t.place ≡ places.Between → Right s.journal.entries s.stamp (open_entry s)) → Goes s (l ∷ []) t
+  goes_line : (s t : Standing) (l : Line) → is_due s.place (word_for l) ≡ true → FitsAt s.due s.version l → put schema s l ≡ Ok t → is_last t.place ≡ false → (s.place ≡ places.Within → is_within t.place ≡ false → Right s.journal.entries s.stamp (open_entry s)) → Goes s (l ∷ []) t
   goes_line s t l is fit step more right = leads_one K line_text (into s) (into t) l (line_one l fit.words) (carries s t (line_text l) (spelled_judged schema s t l is fit step) more right)
 
   goes_changes : (j : JournalValue) (stamps : List ℕ) (seen : Gtids) (count : ℕ) (g : Gtid) (stamp : ℕ) (cs ds : List Change) → AllByRecursion FitsChange ds → list_all is_change_writable ds ≡ true → list_all (fits schema) ds ≡ true → length cs + length ds ≤ 65536
@@ -171,7 +171,7 @@ module _ (schema : Option (List Table)) (due : Option Version) (version : Versio
       let q = and_parts (fits schema d) (list_all (fits schema) ds) taken in
       let s = at places.Within due version j stamps seen count g stamp cs in
       let t = at places.Within due version j stamps seen count g stamp (cs ++ d ∷ []) in
-      let one : Goes s (Makes d ∷ []) t = goes_line s t (Makes d) (due_change d) (record { words = fit.0; images = change_images d p.0; of_version = tt }) (add_again schema s d (omega arith) p.0 q.0) refl (λ within between. absurd cc) in
+      let one : Goes s (Makes d ∷ []) t = goes_line s t (Makes d) (due_change d) (record { words = fit.0; images = change_images d p.0; of_version = tt }) (add_again schema s d (omega arith) p.0 q.0) refl (λ within out. absurd cc) in
       leads_both one (subst (λ (x : List Change). Goes t (map Makes ds) (at places.Within due version j stamps seen count g stamp x)) (append_assoc cs (d ∷ []) ds) (goes_changes j stamps seen count g stamp (cs ++ d ∷ []) ds fit.1 p.1 q.1 (omega (arith, length-append cs (d ∷ [])))))
 
   goes_entry : (j : JournalValue) (stamps : List ℕ) (seen : Gtids) (count : ℕ) (g : Gtid) (old stamp : ℕ) (e : Entry) → FitsEntry e → is_writable e ≡ true → fits_in schema e ≡ true → count < 4294967294 → set.contains seen e.gtid ≡ false → IsStamp version (count + 1) stamp → Right j.entries stamp e
@@ -187,8 +187,8 @@ module _ (schema : Option (List Table)) (due : Option Version) (version : Versio
       let numbers = numbers_of version (count + 1) stamp in
       let small : count + 1 < 2 ^ 64 = omega (arith, few) in
       let f = numbers_fit version (count + 1) stamp small is in
-      leads_both (goes_line s t (Begin e.gtid numbers) refl (record { words = (usable, f.counts); images = tt; of_version = f.of_version }) (begin_again s e.gtid numbers stamp p.number few (numbers_again version (count + 1) stamp small is) apart) refl (λ within between. absurd cc))
-      (leads_both (goes_changes j stamps seen count e.gtid stamp [] e.txn.changes fit.changes p.all taken (omega (arith, p.few))) (goes_line u v End refl (record { words = tt; images = tt; of_version = tt }) refl refl (λ within between. right)))
+      leads_both (goes_line s t (Begin e.gtid numbers) refl (record { words = (usable, f.counts); images = tt; of_version = f.of_version }) (begin_again s e.gtid numbers stamp p.number few (numbers_again version (count + 1) stamp small is) apart) refl (λ within out. absurd cc))
+      (leads_both (goes_changes j stamps seen count e.gtid stamp [] e.txn.changes fit.changes p.all taken (omega (arith, p.few))) (goes_line u v End refl (record { words = tt; images = tt; of_version = tt }) refl refl (λ within out. right)))
 
   record GoesEntries (j : JournalValue) (stamps : List ℕ) (seen : Gtids) (count : ℕ) (g : Gtid) (old : ℕ) (ls : List ℕ) (es : List Entry) : Type 0 where
     last : Gtid
@@ -239,7 +239,7 @@ module _ (schema : Option (List Table)) (due : Option Version) (version : Versio
         seen = seen_after j.previous j.entries;
         last = entries.last;
         stamp = entries.stamp;
-        goes = leads_both (goes_line (empty due) b (Header version) refl (record { words = tt; images = tt; of_version = is }) refl refl (λ within between. absurd cc)) (leads_both (goes_line b c (Previous j.previous) refl (record { words = w.previous; images = tt; of_version = tt }) refl refl (λ within between. absurd cc)) read);
+        goes = leads_both (goes_line (empty due) b (Header version) refl (record { words = tt; images = tt; of_version = is }) refl refl (λ within out. absurd cc)) (leads_both (goes_line b c (Previous j.previous) refl (record { words = w.previous; images = tt; of_version = tt }) refl refl (λ within out. absurd cc)) read);
       }
 
 -- ---- a journal that stands alone
@@ -305,7 +305,7 @@ pub record Completes (schema : Option (List Table)) (due : Option Version) (plac
   pub fitting : list_all (fits_in schema) journal.entries ≡ true
   pub whole : journal_lines version (last_stamps place s) journal ≡ said (placed place s) ++ more
 
-some_version : (due : Option Version) → (version : Version) × (takes due version ≡ true)
+pub some_version : (due : Option Version) → (version : Version) × (takes due version ≡ true)
 some_version None = (One, refl)
 some_version (Some One) = (One, refl)
 some_version (Some Two) = (Two, refl)

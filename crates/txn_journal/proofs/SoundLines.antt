@@ -99,7 +99,7 @@ seen_more : (seen : Gtids) (es : List Entry) (e : Entry) → seen_after seen (es
 seen_more seen [] e = refl
 seen_more seen (f ∷ fs) e = seen_more (set.insert seen f.gtid) fs e
 
-stamps_more : (version : Version) (place : ℕ) (stamps : List ℕ) (es : List Entry) (stamp : ℕ) (e : Entry) → AreStamps version place stamps es → IsStamp version (place + length es) stamp → AreStamps version place (stamps ++ stamp ∷ []) (es ++ e ∷ [])
+pub stamps_more : (version : Version) (place : ℕ) (stamps : List ℕ) (es : List Entry) (stamp : ℕ) (e : Entry) → AreStamps version place stamps es → IsStamp version (place + length es) stamp → AreStamps version place (stamps ++ stamp ∷ []) (es ++ e ∷ [])
 stamps_more version place [] [] stamp e h is = let at : place + 0 ≡ place = omega arith in (subst (λ (n : ℕ). IsStamp version n stamp) at is, tt)
 stamps_more version place (l ∷ ls) (f ∷ fs) stamp e h is =
     let at : place + length (f ∷ fs) ≡ place + 1 + length fs = omega arith in

@@ -103,12 +103,12 @@ own_wording s = record {
 }
 
 -- an entry ends there, whose last_committed is another than it has to be
-abbrev pub EndsMisstamped : List Table → Standing → List ℕ → Cause → Type 0
-EndsMisstamped tables s line causes.Stamp = (line ≡ line_text End) × (s.place ≡ places.Within) × (s.stamp ≡ right_stamp s.version tables s.journal.entries (open_entry s) → ⊥)
-EndsMisstamped tables s line _ = ⊥
+abbrev pub EndsMisstamped : Version → List Table → Standing → List ℕ → Cause → Type 0
+EndsMisstamped version tables s line causes.Stamp = (line ≡ line_text End) × (s.place ≡ places.Within) × (s.stamp ≡ right_stamp version tables s.journal.entries (open_entry s) → ⊥)
+EndsMisstamped version tables s line _ = ⊥
 
 abbrev pub bundle_cause_at : Part → BundleStanding → List ℕ → Cause → Type 0
-bundle_cause_at parts.Journal s line cause = HasCause (Some s.bundle.start.schema) s.draft line cause ⊎ EndsMisstamped s.bundle.start.schema s.draft line cause
+bundle_cause_at parts.Journal s line cause = HasCause (Some s.bundle.start.schema) s.draft line cause ⊎ EndsMisstamped s.version s.bundle.start.schema s.draft line cause
 bundle_cause_at _ s line cause = HasCauseBy (own_wording s) line cause
 
 abbrev pub HasBundleCause : BundleStanding → List ℕ → Cause → Type 0

@@ -5,9 +5,10 @@ use Rattle.rows.specs.declared.change.TableRow.{TableRow}
 use Rattle.txn_journal.specs.declared.fault.JournalFault.{JournalFault}
 use Rattle.txn_journal.specs.Stream.{Progress}
 use Rattle.txn_journal.specs.Formats.{Format, start_of, eats_by, IsFaultBy, closing_by}
-use Rattle.txn_journal.specs.BundleStates.{BundleValue, BundleStanding, no_bundle, is_done, is_within, judge_bundle, IsFullBundle}
+use Rattle.txn_journal.specs.BundleStates.{BundleValue, BundleStanding, no_bundle, is_done, judge_bundle, IsFullBundle}
 use Rattle.journal_words.specs.Words.{first_word}
 use Rattle.txn_journal.specs.Lines.{keyword_of}
+use Rattle.txn_journal.specs.Machine.{is_within}
 use Rattle.txn_journal.specs.declared.lines.Keyword.{Keyword}
 use Rattle.txn_journal.specs.declared.lines.Keyword.TheVariants as keywords
 use Rattle.txn_journal.specs.declared.lines.Version.{Version}

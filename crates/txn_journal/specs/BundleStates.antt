@@ -19,7 +19,7 @@ use Rattle.journal_words.specs.Words.{first_word, others}
 use Rattle.journal_words.specs.Gtids.{source_of_word}
 use Rattle.txn_journal.specs.Words.{name_of}
 use Rattle.txn_journal.specs.Lines.{◌>>=◌, some_or_body, due, version_in, set_in, nothing_in, table_in, image_in}
-use Rattle.txn_journal.specs.Machine.{Standing, empty, is_last, open_entry, IsFull, judge}
+use Rattle.txn_journal.specs.Machine.{Standing, empty, is_last, is_within, open_entry, IsFull, judge}
 use Rattle.txn_journal.specs.Stamps.{right_stamp}
 use Rattle.txn_journal.specs.Shapes.{added_table}
 use Rattle.txn_journal.specs.declared.bundle.Channel.{Channel}
@@ -31,8 +31,6 @@ use Rattle.txn_journal.specs.declared.fault.Cause.{Cause}
 use Rattle.txn_journal.specs.declared.fault.Cause.TheVariants as causes
 use Rattle.txn_journal.specs.declared.lines.Version.{Version}
 use Rattle.txn_journal.specs.declared.lines.Version.TheVariants.{One, Two}
-use Rattle.txn_journal.specs.declared.lines.Place.{Place}
-use Rattle.txn_journal.specs.declared.lines.Place.TheVariants as places
 
 -- a replica, the set of GTIDs with which it begins, its tables and opening rows, and its channels, each with the journal that it brings
 pub record BundleValue : Type 0 where
@@ -215,17 +213,13 @@ closed_channel s draft = record s { part = parts.Channels; bundle = with_journal
 unfoldable pub after_inner : BundleStanding → Standing → BundleStanding
 after_inner s draft = if is_last draft.place then closed_channel s draft else record s { draft = draft }
 
-abbrev pub is_within : Place → Bool
-is_within places.Within = true
-is_within _ = false
-
 -- the entry that was open has ended, with another last_committed than it has to have
-abbrev pub is_misstamped : List Table → Standing → Standing → Bool
-is_misstamped tables s draft = is_within s.place && (not (is_within draft.place) && not (s.stamp == right_stamp s.version tables s.journal.entries (open_entry s)))
+abbrev pub is_misstamped : Version → List Table → Standing → Standing → Bool
+is_misstamped version tables s draft = is_within s.place && (not (is_within draft.place) && not (s.stamp == right_stamp version tables s.journal.entries (open_entry s)))
 
 -- what is taken, where entries are looked at as a whole or are not
 abbrev pub unless_misstamped : Bool → BundleStanding → Standing → Result BundleStanding Cause
-unless_misstamped whole s draft = if whole && is_misstamped s.bundle.start.schema s.draft draft then Err causes.Stamp else Ok (after_inner s draft)
+unless_misstamped whole s draft = if whole && is_misstamped s.version s.bundle.start.schema s.draft draft then Err causes.Stamp else Ok (after_inner s draft)
 
 -- a line of the open channel's journal
 unfoldable pub judge_inner : Bool → BundleStanding → List ℕ → Result BundleStanding Cause

@@ -60,6 +60,11 @@ abbrev pub is_last : Place → Bool
 is_last places.Ended = true
 is_last _ = false
 
+-- an entry is open
+abbrev pub is_within : Place → Bool
+is_within places.Within = true
+is_within _ = false
+
 -- between two entries, what was seen has more sources than a set may have
 abbrev pub IsFull : Standing → Type 0
 IsFull s = (s.place ≡ places.Between) × (most_sources < source_count s.seen)
