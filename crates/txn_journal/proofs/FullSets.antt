@@ -1,5 +1,4 @@
 -- Lines whose set has too many sources.
-use Rattle.std.specs.Prelude.{is_some, option_map}
 use Rattle.std.proofs.Common.{◌≡◌, ℕ, false, List, [], Option, Some, None, Result, Ok, Err, refl}
 use Rattle.std.specs.FinSet as set
 use Rattle.gtid_set.specs.declared.fault.SetFault.{SetFault}
@@ -9,7 +8,8 @@ use Rattle.gtid_set.proofs.FaultLemmas.{fault_map, full_fault}
 use Rattle.journal_words.specs.Gtids.{set_of_word, IsWordFault}
 use Rattle.txn_journal.specs.Lines.{◌>>=◌, some_or_body}
 use Rattle.txn_journal.specs.Stream.{GivesFull}
-use Rattle.txn_journal.specs.Machine.{Standing, IsFull, followed, ended}
+use Rattle.txn_journal.specs.Machine.{Standing, IsFull, followed, joined}
+use Rattle.journal.specs.declared.Entry.{Entry}
 use Rattle.txn_journal.specs.declared.fault.Cause.{Cause}
 use Rattle.txn_journal.specs.declared.lines.Place.TheVariants as places
 
@@ -20,17 +20,14 @@ found_full : (s : Standing) (f : SetFault) (found : Option Gtids) → IsWordFaul
 found_full s f None h = fault_map f (λ full. absurd full) h
 found_full s f (Some previous) h = fault_map f (λ full. (refl, full)) h
 
+abbrev after_entry : Standing → Entry → Result Standing Cause
+after_entry s e = Ok (joined s e)
+
 -- the previous set
 pub previous_full : (s : Standing) (word : List ℕ) (f : SetFault) → IsWordFault f (set_of_word word) → IsMemoryOr (GivesFull IsFull (followed s (Some word))) f
 unfolding followed
 previous_full s word f h = found_full s f (set_of_word word) h
 
-pub no_rest : {X Y : Type 0} (f : X → Y) (o : Option X) → is_some o ≡ false → is_some (option_map f o) ≡ false
-no_rest f None e = refl
-no_rest f (Some x) e = absurd cc
-
 -- what was seen with one GTID more
-pub seen_full : (s : Standing) (f : SetFault) (rest : Option (List ℕ)) → is_some rest ≡ false → IsFullExactly {T = Unit {0}} (Err f) (set.insert s.seen s.gtid) → IsMemoryOr (GivesFull IsFull (ended s rest)) f
-unfolding ended
-seen_full s f None none h = fault_map f (λ full. (refl, full)) (full_fault f (set.insert s.seen s.gtid) h)
-seen_full s f (Some text) none h = absurd cc
+pub seen_full : (s : Standing) (f : SetFault) (e : Entry) → IsFullExactly {T = Unit {0}} (Err f) (set.insert s.seen e.gtid) → IsMemoryOr (GivesFull IsFull (after_entry s e)) f
+seen_full s f e h = fault_map f (λ full. (refl, full)) (full_fault f (set.insert s.seen e.gtid) h)

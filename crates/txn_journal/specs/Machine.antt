@@ -114,16 +114,20 @@ begin s gtid stamp =
 abbrev pub open_entry : Standing → Entry
 open_entry s = record { gtid = s.gtid; txn = record { changes = s.changes } }
 
--- the entry that is open joins the others
-abbrev pub closed : Standing → Standing
-closed s = record s {
+-- an entry joins the others
+abbrev pub joined : Standing → Entry → Standing
+joined s e = record s {
   place = places.Between;
-  journal = record s.journal { entries = s.journal.entries ++ open_entry s ∷ [] };
+  journal = record s.journal { entries = s.journal.entries ++ e ∷ [] };
   stamps = s.stamps ++ s.stamp ∷ [];
-  seen = set.insert s.seen s.gtid;
+  seen = set.insert s.seen e.gtid;
   count = s.count + 1;
   changes = [];
 }
+
+-- so does the one that is open
+abbrev pub closed : Standing → Standing
+closed s = joined s (open_entry s)
 
 unfoldable pub opened : Standing → Option (List ℕ) → Result Standing Cause
 opened s rest = do

@@ -105,9 +105,12 @@ fn fits(schema: Option<&Schema>, change: &Change) -> bool
 }
 
 impl Draft {
-    ghost use Rattle.std.specs.Prelude.{option_map, [], Ok};
+    ghost use Rattle.std.specs.Prelude.{option_map, [], Ok, IfOk, ◌&&◌, codes};
+    ghost use Rattle.std.specs.Str.{bytes_eq};
+    ghost use Rattle.journal.specs.Writing.{is_writable};
+    ghost use Rattle.txn_journal.specs.Reading.{has_begun};
     ghost use Rattle.txn_journal.specs.Stream.{TakesLine};
-    ghost use Rattle.txn_journal.specs.Machine.{Standing, IsFull, TakesIn, empty, is_last, emptied, add, opened, followed, begun, ended, finished, step};
+    ghost use Rattle.txn_journal.specs.Machine.{Standing, IsFull, TakesIn, empty, is_last, is_within, open_entry, joined, emptied, add, opened, followed, begun, ended, finished, step};
     ghost use Rattle.txn_journal.specs.Drafts.{standing};
 
     /// Before the first line.
@@ -294,15 +297,67 @@ impl Draft {
         if rest.is_some() {
             return Err(LineFault::Wrong(Cause::Body));
         }
-        self.place = Place::Between;
+        let entry = self.take_entry(alloc)?;
+        self.join(entry)
+    }
+
+    /// Whether the line ends the entry that is open.
+    pub fn ends_entry(&self, line: &[u8]) -> bool
+        ensures { result ≡ (is_within (standing self.now).place && bytes_eq line.now (codes "end")) }
+    {
+        self.place == Place::Within && line == b"end".as_slice()
+    }
+
+    /// Whether the lines before the first entry have come.
+    pub fn has_begun(&self) -> bool
+        ensures { result ≡ has_begun (standing self.now).place }
+    {
+        match self.place {
+            Place::Header | Place::Previous => false,
+            Place::Between | Place::Within | Place::Ended => true,
+        }
+    }
+
+    /// The whole entries that were not taken.
+    pub fn entries(&self) -> &[Entry]
+        ensures { result.now ≡ (standing self.now).journal.entries }
+    {
+        self.journal.entries()
+    }
+
+    /// The last_committed of the entry that is open.
+    pub fn stamp(&self) -> u64
+        ensures { result ≡ (standing self.now).stamp }
+    {
+        self.stamp
+    }
+
+    /// The entry that is open. Its changes are no longer in the draft.
+    pub fn take_entry(&mut self, alloc: Global) -> Result<Entry, AllocError>
+        requires { (standing self.old).place ≡ Within }
+        ensures entry { IfOk result (λ entry. entry ≡ open_entry (standing self.old)) }
+        ensures writable { IfOk result (λ entry. is_writable entry ≡ true) }
+        ensures left { standing self.new ≡ record (standing self.old) { changes = [] } }
+    {
         let changes = mem::replace(&mut self.changes, Vec::new(alloc));
-        let entry = Entry {
+        Ok(Entry {
             gtid: self.gtid,
             txn: Transaction {
                 changes: Changes::new(changes)?,
             },
-        };
-        self.seen.add(self.gtid)?;
+        })
+    }
+
+    /// An entry with the GTID of the one that is open joins the others.
+    pub fn join(&mut self, entry: Entry) -> Result<(), LineFault>
+        requires place { (standing self.old).place ≡ Within }
+        requires gtid { entry.gtid ≡ (standing self.old).gtid }
+        requires writable { is_writable entry ≡ true }
+        requires taken { (standing self.old).changes ≡ [] }
+        ensures { TakesLine IsFull result (Ok (joined (standing self.old) entry)) (standing self.new) }
+    {
+        self.place = Place::Between;
+        self.seen.add(entry.gtid)?;
         self.journal.push(entry)?;
         self.stamps.push(self.stamp)?;
         self.count += 1;
