@@ -2,7 +2,7 @@
 ghost use Rattle.std.specs.Prelude.{◌≡◌, IfOk, OnOk};
 ghost use Rattle.std.specs.FinMap as finmap;
 ghost use Rattle.logical_timestamps.specs.Timestamps.{last_committed_of};
-ghost use Rattle.logical_timestamps.specs.Writers.{IsNextLastCommitted, AreNextWriters, written, earlier_place, latest_in_turn};
+ghost use Rattle.logical_timestamps.specs.Writers.{IsNextLastCommitted, AreNextWriters, writers_after, written, earlier_place, latest_in_turn};
 
 use indexmap::IndexMap;
 use journal::{Entry, Journal};
@@ -35,6 +35,22 @@ impl LastWriters {
         LastWriters {
             last: IndexMap::new(alloc),
         }
+    }
+
+    /// After these entries of a journal, from the first.
+    pub fn after(
+        alloc: Global,
+        schema: &Schema,
+        entries: &[Entry],
+    ) -> Result<LastWriters, AllocError>
+        ensures { IfOk result (λ writers. writers ≡ writers_after schema.now entries.now) }
+    {
+        let mut writers = LastWriters::new(alloc);
+        for (place, entry) in entries.iter().enumerate() {
+            let number = place as u64 + 1;
+            writers.next(alloc, schema, number, entry)?;
+        }
+        Ok(writers)
     }
 
     /// An entry touches a key. What touched it last before comes back.

@@ -137,7 +137,7 @@ abbrev pub at : Place → Option Version → Version → JournalValue → List �
 at place due version j stamps seen count g stamp cs = record { place = place; due = due; version = version; journal = j; stamps = stamps; seen = seen; count = count; gtid = g; stamp = stamp; changes = cs }
 
 -- a line that is spelled is read, and then it acts
-spelled_judged : (schema : Option (List Table)) (s t : Standing) (l : Line) → is_due s.place (word_for l) ≡ true → FitsAt s.due s.version l → put schema s l ≡ Ok t → judge schema s (line_text l) ≡ Ok t
+pub spelled_judged : (schema : Option (List Table)) (s t : Standing) (l : Line) → is_due s.place (word_for l) ≡ true → FitsAt s.due s.version l → put schema s l ≡ Ok t → judge schema s (line_text l) ≡ Ok t
 spelled_judged schema s t l is fit step = judge_reads schema s (line_text l) ∙ judged_again (wording schema s) (body_of s.due s.version) (rest_laws schema s) (put schema s) l is fit ∙ step
 
 -- the last line of a journal

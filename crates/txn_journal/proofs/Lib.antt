@@ -17,6 +17,7 @@ pub mod SplitLaws
 pub mod ShapeLaws
 pub mod OwnReads
 pub mod TableSteps
+pub mod InnerSteps
 pub mod BundleSound
 pub mod BundleLaws
 pub mod NewWords

@@ -12,18 +12,9 @@ use Rattle.rows.specs.declared.change.ApplyFault.{ApplyFault}
 use Rattle.rows.specs.declared.change.RowFault.{RowFault}
 use Rattle.txn_journal.specs.Words.{before, behind}
 use Rattle.txn_journal.specs.Splits.{parts_of}
-use Rattle.rows.specs.declared.schema.Table.{Table}
-use Rattle.txn_journal.specs.Lines.{◌>>=◌}
-use Rattle.gtid_set.specs.Full.{IsMemoryOr}
-use Rattle.txn_journal.specs.Stream.{GivesFull, TakesLine}
-use Rattle.txn_journal.specs.BundleStates.{BundleStanding, IsFullBundle, with_opening, closed_channel, after_inner, judge_inner, ok_rows}
-use Rattle.txn_journal.specs.declared.fault.LineFault.{LineFault}
-use Rattle.txn_journal.specs.declared.fault.LineFault.TheVariants as wrong
-use Rattle.txn_journal.specs.Machine.{Standing, IsFull, is_last, judge}
+use Rattle.txn_journal.specs.BundleStates.{with_opening, ok_rows}
 use Rattle.txn_journal.specs.declared.fault.Cause.{Cause}
 use Rattle.txn_journal.specs.declared.fault.Cause.TheVariants as causes
-use Rattle.txn_journal.proofs.Judged.{done}
-use Rattle.gtid_set.proofs.FaultLemmas.{fault_map}
 use Rattle.txn_journal.proofs.SplitLaws.{parts_cut, more_parts}
 
 -- ---- parts
@@ -61,35 +52,3 @@ row_refused d r fault e = rw e (elim (is_some (misfit d.schema (opening r.table 
 -- what a row that is not put answers
 abbrev pub put_fails : ApplyFault → Result (Unit {0}) ApplyFault
 put_fails fault = Err fault
-
--- ---- a line of the open journal
-
-abbrev ended_or_not : BundleStanding → Standing → Bool → BundleStanding
-ended_or_not s d v = cond v (closed_channel s d) (record s { draft = d })
-
-inner_again : (s : BundleStanding) (d : Standing) (v : Bool) → ended_or_not (record s { draft = d }) d v ≡ ended_or_not s d v
-inner_again s d true = refl
-inner_again s d false = refl
-
-pub inner_taken : (s : BundleStanding) (tables : List Table) (d : Standing) (line : List ℕ) (r : Result (Unit {0}) LineFault) (new : BundleStanding) → tables ≡ s.bundle.start.schema → judge (Some tables) s.draft line ≡ Ok d → TakesLine IsFullBundle r (Ok (after_inner (record s { draft = d }) d)) new → TakesLine IsFullBundle r (judge_inner s line) new
-unfolding judge_inner after_inner
-inner_taken s tables d line r new same judged h =
-    let taken : judge (Some s.bundle.start.schema) s.draft line ≡ Ok d = ap (λ (t : List Table). judge (Some t) s.draft line) (sym same) ∙ judged in
-    subst (λ (x : Result BundleStanding Cause). TakesLine IsFullBundle r x new) (sym (ap (λ (x : Result Standing Cause). x >>= λ e. done (after_inner s e)) taken ∙ ap done (sym (inner_again s d (is_last d.place))))) h
-
-abbrev go_on : BundleStanding → Standing → Result BundleStanding Cause
-go_on s d = done (after_inner s d)
-
-inner_full : (s : BundleStanding) (r : Result Standing Cause) → GivesFull IsFull r → GivesFull IsFullBundle (r >>= go_on s)
-unfolding after_inner
-inner_full s (Ok d) h = subst (λ v. IsFull (ended_or_not s d v).draft) (sym (ap is_last h.0)) h
-inner_full s (Err cause) h = h
-
--- a line of the open journal that is not taken is none of the bundle's
-pub inner_failed : (s : BundleStanding) (tables : List Table) (d : Standing) (line : List ℕ) (fault : LineFault) (new : BundleStanding) → tables ≡ s.bundle.start.schema
-    → TakesLine IsFull (Err fault) (judge (Some tables) s.draft line) d → TakesLine IsFullBundle (Err fault) (judge_inner s line) new
-unfolding judge_inner
-inner_failed s tables d line (wrong.Wrong cause) new same h =
-    ap (λ (r : Result Standing Cause). r >>= go_on s) (ap (λ (t : List Table). judge (Some t) s.draft line) (sym same) ∙ h)
-inner_failed s tables d line (wrong.Set f) new same h =
-    fault_map f (inner_full s (judge (Some s.bundle.start.schema) s.draft line)) (subst (λ (t : List Table). IsMemoryOr (GivesFull IsFull (judge (Some t) s.draft line)) f) same h)

@@ -19,7 +19,7 @@ use Rattle.journal_words.specs.Words.{first_word, others}
 use Rattle.journal_words.specs.Gtids.{source_of_word}
 use Rattle.txn_journal.specs.Words.{name_of}
 use Rattle.txn_journal.specs.Lines.{◌>>=◌, some_or_body, due, version_in, set_in, nothing_in, table_in, image_in}
-use Rattle.txn_journal.specs.Machine.{Standing, empty, is_last, is_within, open_entry, IsFull, judge}
+use Rattle.txn_journal.specs.Machine.{Standing, empty, is_last, is_within, open_entry, closed, IsFull, judge}
 use Rattle.txn_journal.specs.Stamps.{right_stamp}
 use Rattle.txn_journal.specs.Shapes.{added_table}
 use Rattle.txn_journal.specs.declared.bundle.Channel.{Channel}
@@ -220,6 +220,13 @@ is_misstamped version tables s draft = is_within s.place && (not (is_within draf
 -- what is taken, where entries are looked at as a whole or are not
 abbrev pub unless_misstamped : Bool → BundleStanding → Standing → Result BundleStanding Cause
 unless_misstamped whole s draft = if whole && is_misstamped s.version s.bundle.start.schema s.draft draft then Err causes.Stamp else Ok (after_inner s draft)
+
+-- the entry that is open ends
+unfoldable pub ended_inside : BundleStanding → Result BundleStanding Cause
+ended_inside s =
+    if s.draft.stamp == right_stamp s.version s.bundle.start.schema s.draft.journal.entries (open_entry s.draft)
+    then Ok (record s { draft = closed s.draft })
+    else Err causes.Stamp
 
 -- a line of the open channel's journal
 unfoldable pub judge_inner : Bool → BundleStanding → List ℕ → Result BundleStanding Cause

@@ -1,6 +1,7 @@
 //! A bundle as far as its lines have come.
 ghost use Rattle.std.specs.Prelude.{◌≡◌, option_map};
 ghost use Rattle.txn_journal.specs.Stream.{Finds};
+ghost use Rattle.txn_journal.specs.Writers.{AreWriters};
 ghost use Rattle.txn_journal.specs.BundleStates.{word_of, replica_in, preserve_in, channel_in, has_channel};
 
 use crate::bundle::{Bundle, Channel};
@@ -12,9 +13,11 @@ use crate::names::Names;
 use crate::tables::add_table;
 use gtid_set::GtidSet;
 use gtid_text::SourceId;
+use journal::Entry;
 use journal_words::{cut, set_word, source_word};
+use logical_timestamps::LastWriters;
 use rows::{Name, Row, Rows, Schema};
-use std::alloc::Global;
+use std::alloc::{AllocError, Global};
 use std::mem;
 
 /// The greatest number of channels.
@@ -101,6 +104,9 @@ pub struct BundleDraft {
     /// The channel that is open, and its journal.
     channel: Option<Channel>,
     draft: Draft,
+    /// The last writers of the keys of that journal, or none: then they are made anew.
+    writers: Option<LastWriters>,
+    ghost written: { AreWriters bundle.start.schema draft.journal.entries writers },
 }
 
 /// The replica that a line names.
@@ -153,9 +159,15 @@ fn has_channel(channels: &[Channel], name: &Name) -> bool
 }
 
 impl BundleDraft {
-    ghost use Rattle.std.specs.Prelude.{option_map, Ok};
+    ghost use Rattle.std.specs.Prelude.{option_map, Ok, IfOk, true, false, [], ◌∷◌, ◌++◌, ◌&&◌, codes};
+    ghost use Rattle.std.specs.Str.{bytes_eq};
+    ghost use Rattle.logical_timestamps.specs.Writers.{writers_after};
+    ghost use Rattle.txn_journal.specs.Machine.{is_within};
+    ghost use Rattle.txn_journal.specs.Drafts.{standing};
+    ghost use Rattle.txn_journal.specs.Stamps.{right_stamp};
+    ghost use Rattle.txn_journal.specs.declared.lines.Place.TheVariants.{Within};
     ghost use Rattle.txn_journal.specs.Stream.{TakesLine};
-    ghost use Rattle.txn_journal.specs.BundleStates.{IsFullBundle, no_bundle, is_done, headed, named, begun_with, tabled, rowed, put_row, behind_tables, channelled, joined_channel, all_done, own_step, judge_own, after_inner, judge_inner, judge_bundle};
+    ghost use Rattle.txn_journal.specs.BundleStates.{IsFullBundle, no_bundle, is_done, headed, named, begun_with, tabled, rowed, put_row, behind_tables, channelled, joined_channel, all_done, own_step, judge_own, after_inner, ended_inside, judge_inner, judge_bundle};
     ghost use Rattle.txn_journal.specs.BundleDrafts.{bundle_standing};
 
     /// Before the first line.
@@ -176,6 +188,7 @@ impl BundleDraft {
             ),
             channel: None,
             draft: Draft::start(alloc, None),
+            writers: None,
         }
     }
 
@@ -229,6 +242,7 @@ impl BundleDraft {
     {
         match replica_in(alloc, rest) {
             Ok(replica) => {
+                self.writers = None;
                 let rows = Rows::open(alloc, Schema::empty(alloc));
                 self.bundle = Bundle::open(alloc, replica, GtidSet::empty(alloc), rows);
                 self.part = match self.version {
@@ -251,6 +265,7 @@ impl BundleDraft {
         let Some(opened) = set_word(alloc, word)? else {
             return Err(LineFault::Wrong(Cause::Body));
         };
+        self.writers = None;
         let replica = self.bundle.replica();
         let rows = Rows::open(alloc, Schema::empty(alloc));
         self.bundle = Bundle::open(alloc, replica, opened, rows);
@@ -274,6 +289,7 @@ impl BundleDraft {
     {
         if self.part == Part::Tables {
             let schema = mem::replace(&mut self.schema, Schema::empty(alloc));
+            self.writers = None;
             self.bundle.open_rows(alloc, schema);
             self.part = Part::Rows;
         }
@@ -296,6 +312,7 @@ impl BundleDraft {
     fn put(&mut self, alloc: Global, table: &Name, row: &Row) -> Result<(), LineFault>
         ensures { TakesLine IsFullBundle result (put_row (bundle_standing self.old) (record { table = table.now; row = row.now })) (bundle_standing self.new) }
     {
+        self.writers = None;
         self.bundle.put(alloc, table, row)
     }
 
@@ -319,6 +336,7 @@ impl BundleDraft {
         }
         self.leave_tables(alloc);
         self.channel = Some(channel);
+        self.writers = None;
         self.draft = Draft::start(alloc, Some(self.version));
         self.part = Part::Journal;
         Ok(())
@@ -336,14 +354,86 @@ impl BundleDraft {
         Ok(())
     }
 
+    /// The last writers of the keys of the open journal. They are no longer in the draft.
+    fn take_writers(&mut self, alloc: Global) -> Result<LastWriters, AllocError>
+        ensures writers { IfOk result (λ w. w ≡ writers_after self.old.bundle.start.schema self.old.draft.journal.entries) }
+        ensures left { bundle_standing self.new ≡ bundle_standing self.old }
+    {
+        match self.writers.take() {
+            Some(writers) => Ok(writers),
+            None => LastWriters::after(alloc, self.bundle.schema(), self.draft.entries()),
+        }
+    }
+
+    /// The last_committed that an entry behind the others has to have, and the last writers with it.
+    fn next_stamp(
+        &mut self,
+        alloc: Global,
+        entry: &Entry,
+    ) -> Result<(u64, Option<LastWriters>), AllocError>
+        ensures stamp { IfOk result (λ r. r.0 ≡ right_stamp self.old.version self.old.bundle.start.schema self.old.draft.journal.entries entry.now) }
+        ensures writers { IfOk result (λ r. AreWriters self.old.bundle.start.schema (self.old.draft.journal.entries ++ entry.now ∷ []) r.1) }
+        ensures left { bundle_standing self.new ≡ bundle_standing self.old }
+    {
+        match self.version {
+            Version::One => {
+                self.writers = None;
+                Ok((0, None))
+            }
+            Version::Two => {
+                let mut writers = self.take_writers(alloc)?;
+                let number = self.draft.entries().len() as u64 + 1;
+                let stamp = writers.next(alloc, self.bundle.schema(), number, entry)?;
+                Ok((stamp, Some(writers)))
+            }
+        }
+    }
+
+    /// Ends the entry that is open, where it has the last_committed that it has to have.
+    fn end_entry(&mut self, alloc: Global) -> Result<(), LineFault>
+        requires { (standing self.old.draft).place ≡ Within }
+        ensures { TakesLine IsFullBundle result (ended_inside (bundle_standing self.old)) (bundle_standing self.new) }
+    {
+        let entry = self.draft.take_entry(alloc)?;
+        let (stamp, writers) = self.next_stamp(alloc, &entry)?;
+        self.writers = None;
+        if self.draft.stamp() != stamp {
+            return Err(LineFault::Wrong(Cause::Stamp));
+        }
+        self.draft.join(entry)?;
+        self.writers = writers;
+        Ok(())
+    }
+
     #[tactic(auto, unfolding(crate::specs::BundleStates::judge_inner))]
     /// Takes a line of the open channel's journal.
     fn take_inside(&mut self, alloc: Global, line: &[u8]) -> Result<(), LineFault>
-        ensures { TakesLine IsFullBundle result (judge_inner (bundle_standing self.old) line.now) (bundle_standing self.new) }
+        ensures { TakesLine IsFullBundle result (judge_inner true (bundle_standing self.old) line.now) (bundle_standing self.new) }
     {
+        if self.draft.ends_entry(line) {
+            return self.end_entry(alloc);
+        }
+        self.take_within(alloc, line)
+    }
+
+    #[tactic(auto, unfolding(crate::specs::BundleStates::judge_inner))]
+    /// Takes a line of the open channel's journal that ends no entry.
+    fn take_within(&mut self, alloc: Global, line: &[u8]) -> Result<(), LineFault>
+        requires { (is_within (standing self.old.draft).place && bytes_eq line.now (codes "end")) ≡ false }
+        ensures { TakesLine IsFullBundle result (judge_inner true (bundle_standing self.old) line.now) (bundle_standing self.new) }
+    {
+        let writers = if self.draft.has_begun() {
+            self.writers.take()
+        } else {
+            None
+        };
+        self.writers = None;
         let schema = Some(self.bundle.schema());
         match self.draft.take_line(alloc, schema, &mut self.names, line) {
-            Ok(()) => self.go_on(alloc),
+            Ok(()) => {
+                self.writers = writers;
+                self.go_on(alloc)
+            }
             Err(fault) => Err(fault),
         }
     }
@@ -356,6 +446,7 @@ impl BundleDraft {
         if !self.draft.is_ended() {
             return Ok(());
         }
+        self.writers = None;
         let draft = mem::replace(&mut self.draft, Draft::start(alloc, Some(self.version)));
         let channel = self.channel.take();
         self.part = Part::Channels;

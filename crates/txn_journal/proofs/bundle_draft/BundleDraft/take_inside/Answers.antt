@@ -1,9 +1,13 @@
+use Rattle.std.proofs.Common.{sym, subst, ◌∙◌}
+use Rattle.std.specs.Prelude.{Result}
+use Rattle.txn_journal.specs.declared.fault.Cause.{Cause}
+use Rattle.txn_journal.specs.Stream.{TakesLine}
+use Rattle.txn_journal.specs.BundleStates.{BundleStanding, IsFullBundle}
 use Rattle.txn_journal.specs.BundleDrafts.{bundle_standing}
-use Rattle.txn_journal.proofs.TableSteps.{inner_taken, inner_failed}
+use Rattle.txn_journal.proofs.InnerSteps.{ends_is}
 use Rattle.txn_journal.proofs.bundle_draft.BundleDraft.take_inside.Goals as goal
 
-pub returns-in-Ok : goal.returns-in-Ok
-returns-in-Ok c = inner_taken (bundle_standing c.args.self.now) c.schema.result.now _ c.args.line.now c.go_on.result (bundle_standing c.go_on.new.self) c.schema.ensures c.in-Ok.ensures c.go_on.ensures
-
-pub returns-in-Err : goal.returns-in-Err
-returns-in-Err c = inner_failed (bundle_standing c.args.self.now) c.schema.result.now _ c.args.line.now c.in-Err.fault _ c.schema.ensures c.in-Err.ensures
+pub returns-then-ends_entry : goal.returns-then-ends_entry
+returns-then-ends_entry c =
+    let is = ends_is (bundle_standing c.args.self.now) c.args.line.now (sym c.ends_entry.ensures ∙ c.if-ends_entry.true) in
+    subst (λ (x : Result BundleStanding Cause). TakesLine IsFullBundle c.end_entry.result x (bundle_standing c.end_entry.new.self)) (sym is) c.end_entry.ensures
