@@ -1,0 +1,2 @@
+pub mod Timestamps
+pub mod Writers
