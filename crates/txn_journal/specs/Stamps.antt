@@ -3,7 +3,7 @@ use Rattle.std.specs.Prelude.{ℕ, List, map}
 use Rattle.rows.specs.declared.schema.Table.{Table}
 use Rattle.journal.specs.declared.Entry.{Entry}
 use Rattle.journal.specs.Journals.{JournalValue}
-use Rattle.txn_journal.specs.Timestamps.{last_committed, last_committed_of}
+use Rattle.logical_timestamps.specs.Timestamps.{last_committed, last_committed_of}
 use Rattle.txn_journal.specs.declared.lines.Version.{Version}
 use Rattle.txn_journal.specs.declared.lines.Version.TheVariants.{One, Two}
 

@@ -21,4 +21,4 @@ pub use bundle_reader::{BundleReader, decode_bundle};
 pub use fault::{Cause, JournalFault};
 pub use laws::{one_bundle, one_spelling, rows_in_listed_order, taken_in_front};
 pub use reader::{Reader, any_cut, decode};
-pub use writer::encode;
+pub use writer::{encode, encode_v2};

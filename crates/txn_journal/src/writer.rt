@@ -4,6 +4,7 @@ ghost use Rattle.std.specs.String.{string_bytes};
 ghost use Rattle.journal_words.specs.Values.{value_text};
 ghost use Rattle.txn_journal.specs.WrittenSets.{set_text};
 ghost use Rattle.txn_journal.specs.Spelling.{Header, Previous, Begin, Makes, values_behind, values_text, image_text, change_text, numbers_text, line_text, ended_line, lines_text, numbers_of, entry_lines, spelling, spelling_as};
+ghost use Rattle.txn_journal.specs.Stamps.{right_stamps};
 ghost use Rattle.txn_journal.specs.Texts.{changes_text, body_text, entries_text, stamped_text, opening_text, text_around};
 ghost use Rattle.txn_journal.specs.declared.lines.Version.TheVariants.{One, Two};
 
@@ -13,7 +14,8 @@ use gtid_text::{Gtid, write_gtid};
 use itoa::Buffer;
 use journal::{Entry, Journal};
 use journal_words::write_value;
-use rows::{Change, Name, Row, Transaction, Value};
+use logical_timestamps::last_committed_of;
+use rows::{Change, Name, Row, Schema, Transaction, Value};
 use std::alloc::{AllocError, Global};
 
 /// Appends a value behind a blank.
@@ -47,7 +49,7 @@ fn write_values(alloc: Global, out: &mut String, values: &[Value]) -> Result<(),
 
 /// Appends a word, a table and an image.
 #[tactic(auto, using(crate::proofs::WriteLemmas::image_appended))]
-fn write_image(
+pub(crate) fn write_image(
     alloc: Global,
     out: &mut String,
     word: &str,
@@ -110,21 +112,28 @@ fn write_begin(out: &mut String, gtid: Gtid) -> Result<(), AllocError>
     write_gtid(out, gtid)
 }
 
-/// Appends a number behind a blank.
-fn write_number(out: &mut String, number: u64) -> Result<(), AllocError>
-    ensures { OnOk result (string_bytes out.new ≡ string_bytes out.old ++ 32 ∷ decimal number) }
+/// Appends a number.
+pub(crate) fn write_number(out: &mut String, number: u64) -> Result<(), AllocError>
+    ensures { OnOk result (string_bytes out.new ≡ string_bytes out.old ++ decimal number) }
 {
     let mut buffer = Buffer::new();
-    out.push_str(" ")?;
     out.push_str(buffer.format(number))
+}
+
+/// Appends a number behind a blank.
+pub(crate) fn write_next_number(out: &mut String, number: u64) -> Result<(), AllocError>
+    ensures { OnOk result (string_bytes out.new ≡ string_bytes out.old ++ 32 ∷ decimal number) }
+{
+    out.push_str(" ")?;
+    write_number(out, number)
 }
 
 /// Appends the last_committed of the entry at a place, and the place, which is its sequence number.
 fn write_numbers(out: &mut String, stamp: u64, place: u64) -> Result<(), AllocError>
     ensures { OnOk result (string_bytes out.new ≡ string_bytes out.old ++ numbers_text (numbers_of Two place stamp)) }
 {
-    write_number(out, stamp)?;
-    write_number(out, place)
+    write_next_number(out, stamp)?;
+    write_next_number(out, place)
 }
 
 /// Appends the text of an entry from the line feed of its first line on.
@@ -188,7 +197,7 @@ fn write_stamped_entries(
 }
 
 /// Appends the word of a set.
-fn write_set(alloc: Global, out: &mut String, set: &GtidSet) -> Result<(), AllocError>
+pub(crate) fn write_set(alloc: Global, out: &mut String, set: &GtidSet) -> Result<(), AllocError>
     ensures { OnOk result (string_bytes out.new ≡ string_bytes out.old ++ set_text set.now) }
 {
     let text = set.to_text(alloc)?;
@@ -283,7 +292,7 @@ pub fn encode(alloc: Global, journal: &Journal) -> Result<Vec<u8>, AllocError>
 
 /// Appends the text of a journal by version 2 of the format, where these are the last_committed of its entries.
 #[tactic(auto, using(crate::proofs::WriteLemmas::stamped_journal_text))]
-pub(crate) fn write_stamped(
+fn write_stamped(
     alloc: Global,
     out: &mut String,
     stamps: &[u64],
@@ -293,4 +302,28 @@ pub(crate) fn write_stamped(
     ensures { OnOk result (string_bytes out.new ≡ string_bytes out.old ++ spelling_as Two stamps.now journal.now) }
 {
     write_stamped_parts(alloc, out, journal.previous(), stamps, journal.entries())
+}
+
+/// Appends the text of a journal by version 2 of the format, whose entries change tables of this schema.
+#[tactic(auto, using(logical_timestamps::proofs::Timestamps::each_last_committed_length))]
+pub(crate) fn write_journal_v2(
+    alloc: Global,
+    out: &mut String,
+    schema: &Schema,
+    journal: &Journal,
+) -> Result<(), AllocError>
+    ensures { OnOk result (string_bytes out.new ≡ string_bytes out.old ++ spelling_as Two (right_stamps Two schema.now journal.now.entries) journal.now) }
+{
+    let stamps = last_committed_of(alloc, schema, journal)?;
+    write_stamped(alloc, out, stamps.as_slice(), journal)
+}
+
+/// The one text of a journal by version 2 of the format, whose entries change tables of this schema. Each entry has
+/// its last_committed and its sequence number.
+pub fn encode_v2(alloc: Global, schema: &Schema, journal: &Journal) -> Result<Vec<u8>, AllocError>
+    ensures { IfOk result (λ bytes. bytes.items ≡ spelling_as Two (right_stamps Two schema.now journal.now.entries) journal.now) }
+{
+    let mut out = String::new(alloc);
+    write_journal_v2(alloc, &mut out, schema, journal)?;
+    Ok(out.into_bytes())
 }
