@@ -4,6 +4,7 @@
 mod bundle;
 mod bundle_draft;
 mod bundle_reader;
+mod bundle_writer;
 mod draft;
 mod fault;
 mod feed;
