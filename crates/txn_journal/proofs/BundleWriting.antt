@@ -1,7 +1,7 @@
 -- Lines of bundles that are written one after another.
-use Rattle.std.proofs.Common.{◌≡◌, ℕ, ◌≤◌, ◌-◌, Bool, true, false, List, [], ◌∷◌, ◌++◌, length, map, take, drop, get_or, refl, sym, ap, ◌∙◌, append_assoc, arith}
+use Rattle.std.proofs.Common.{◌≡◌, ℕ, min, ◌≤◌, ◌-◌, Bool, true, false, List, [], ◌∷◌, ◌++◌, length, map, take, drop, get_or, refl, sym, ap, ◌∙◌, append_assoc, arith}
 use Rattle.std.specs.Prelude.{codes, decimal}
-use Rattle.std.proofs.lemmas.List.{append-nil, take_rest}
+use Rattle.std.proofs.lemmas.List.{append-nil, take_rest, length-drop}
 use Rattle.std.proofs.lemmas.List.Concat.{flat_map-append}
 use Rattle.gtid_text.specs.Canonical.{source_text}
 use Rattle.gtid_set.specs.Sets.{Gtids}
@@ -98,3 +98,14 @@ unfolding brought_text
 brought_appended out tables c j =
     append_assoc out (ended_bundle_line (Own (Opens c))) (spelling_as Two (right_stamps Two tables j.entries) j)
     ∙ ap (λ (t : List ℕ). out ++ (ended_bundle_line (Own (Opens c)) ++ t)) (sym (inner_text (journal_lines Two (right_stamps Two tables j.entries) j)))
+
+none_brought : (tables : List Table) (cs : List Channel) (js : List JournalValue) → min (length cs) (length js) ≡ 0 → all_brought_text tables cs js ≡ []
+none_brought tables [] js none = refl
+none_brought tables (c ∷ cs) [] none = refl
+none_brought tables (c ∷ cs) (j ∷ js) none = absurd (omega arith)
+
+-- no channel or no journal is left
+pub all_brought : (out whole : List ℕ) (tables : List Table) (cs : List Channel) (js : List JournalValue) (n : ℕ) → n ≡ min (length cs) (length js) → out ++ all_brought_text tables (drop n cs) (drop n js) ≡ whole → out ≡ whole
+all_brought out whole tables cs js n is so_far =
+    let none : min (length (drop n cs)) (length (drop n js)) ≡ 0 = rw (length-drop n cs, length-drop n js) omega (arith, is) in
+    sym (ap (λ (t : List ℕ). out ++ t) (none_brought tables (drop n cs) (drop n js) none) ∙ append-nil out) ∙ so_far
