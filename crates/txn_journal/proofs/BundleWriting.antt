@@ -10,11 +10,12 @@ use Rattle.rows.specs.declared.schema.Table.{Table}
 use Rattle.journal.specs.Journals.{JournalValue}
 use Rattle.txn_journal.specs.Splits.{joined_by, columns_text, column_words}
 use Rattle.txn_journal.specs.Shapes.{unique_words, shape_for}
-use Rattle.txn_journal.specs.Stamps.{right_stamps}
+use Rattle.txn_journal.specs.Stamps.{right_stamps, all_stamps}
 use Rattle.txn_journal.specs.Spelling.{Line, line_text, ended_line, lines_text, journal_lines, spelling_as}
+use Rattle.txn_journal.specs.BundleStates.{BundleValue}
 use Rattle.txn_journal.specs.WrittenSets.{set_text}
-use Rattle.txn_journal.specs.BundleText.{OwnLine, Heads, Names, Starts, Has, Puts, Opens, Done, BundleLine, Own, Inner, preserve_text, ended_bundle_line, bundle_text, channel_lines}
-use Rattle.txn_journal.specs.Texts.{columns_behind, uniques_text, tables_text, rows_text, brought_text, all_brought_text, head_text, bundle_around}
+use Rattle.txn_journal.specs.BundleText.{Heads, Names, Starts, Has, Puts, Opens, Done, BundleLine, Own, Inner, preserve_text, ended_bundle_line, bundle_text, table_lines, row_lines, channel_lines, channels_lines, tables_lines, start_lines, bundle_front, bundle_spelling}
+use Rattle.txn_journal.specs.Texts.{columns_behind, uniques_text, tables_text, rows_text, brought_text, all_brought_text, head_text, start_text}
 use Rattle.txn_journal.specs.declared.bundle.Channel.{Channel}
 use Rattle.txn_journal.specs.declared.lines.Version.TheVariants.{Two}
 
@@ -109,3 +110,52 @@ pub all_brought : (out whole : List ℕ) (tables : List Table) (cs : List Channe
 all_brought out whole tables cs js n is so_far =
     let none : min (length (drop n cs)) (length (drop n js)) ≡ 0 = rw (length-drop n cs, length-drop n js) omega (arith, is) in
     sym (ap (λ (t : List ℕ). out ++ t) (none_brought tables (drop n cs) (drop n js) none) ∙ append-nil out) ∙ so_far
+
+-- ---- the whole
+
+pub start_appended : (out : List ℕ) (replica : ℕ) (opened : Gtids) (tables : List Table) (rows : List TableRow) → ((out ++ head_text replica opened) ++ tables_text tables) ++ rows_text rows ≡ out ++ start_text replica opened tables rows
+unfolding start_text
+start_appended out replica opened tables rows = both_behind out (head_text replica opened) (tables_text tables) (rows_text rows)
+
+both_lines : (a b : List BundleLine) → bundle_text (a ++ b) ≡ bundle_text a ++ bundle_text b
+both_lines a b = flat_map-append ended_bundle_line a b
+
+lines_of_tables : (tables : List Table) → tables_text tables ≡ bundle_text (table_lines tables)
+lines_of_tables [] = refl
+lines_of_tables (t ∷ ts) = ap (λ (u : List ℕ). ended_bundle_line (Own (Has (shape_for t))) ++ u) (lines_of_tables ts)
+
+lines_of_rows : (rows : List TableRow) → rows_text rows ≡ bundle_text (row_lines rows)
+lines_of_rows [] = refl
+lines_of_rows (r ∷ rs) = ap (λ (u : List ℕ). ended_bundle_line (Own (Puts r)) ++ u) (lines_of_rows rs)
+
+lines_of_channels : (tables : List Table) (cs : List Channel) (js : List JournalValue) → all_brought_text tables cs js ≡ bundle_text (channels_lines Two cs (all_stamps Two tables js) js)
+unfolding brought_text
+lines_of_channels tables [] js = refl
+lines_of_channels tables (c ∷ cs) [] = refl
+lines_of_channels tables (c ∷ cs) (j ∷ js) =
+    ap (λ (u : List ℕ). bundle_text (channel_lines Two c (right_stamps Two tables j.entries) j) ++ u) (lines_of_channels tables cs js)
+    ∙ sym (both_lines (channel_lines Two c (right_stamps Two tables j.entries) j) (channels_lines Two cs (all_stamps Two tables js) js))
+
+lines_of_start : (rows : List TableRow) (b : BundleValue) → start_text b.replica b.opened b.start.schema rows ≡ bundle_text (start_lines Two rows b)
+unfolding start_text head_text
+lines_of_start rows b =
+    let head : List BundleLine = Own (Heads Two) ∷ Own (Names b.replica) ∷ Own (Starts b.opened) ∷ [] in
+    sym (append_assoc (bundle_text head) (tables_text b.start.schema) (rows_text rows))
+    ∙ ap (λ (u : List ℕ). (bundle_text head ++ u) ++ rows_text rows) (lines_of_tables b.start.schema)
+    ∙ ap (λ (u : List ℕ). (bundle_text head ++ bundle_text (table_lines b.start.schema)) ++ u) (lines_of_rows rows)
+    ∙ ap (λ (u : List ℕ). u ++ bundle_text (row_lines rows)) (sym (both_lines head (table_lines b.start.schema)))
+    ∙ sym (both_lines (head ++ table_lines b.start.schema) (row_lines rows))
+
+lines_of_bundle : (rows : List TableRow) (b : BundleValue) → (start_text b.replica b.opened b.start.schema rows ++ all_brought_text b.start.schema b.channels b.journals) ++ codes "done\n" ≡ bundle_spelling Two rows b
+lines_of_bundle rows b =
+    let brought : List BundleLine = channels_lines Two b.channels (all_stamps Two b.start.schema b.journals) b.journals in
+    ap (λ (u : List ℕ). (u ++ all_brought_text b.start.schema b.channels b.journals) ++ codes "done\n") (lines_of_start rows b)
+    ∙ ap (λ (u : List ℕ). (bundle_text (start_lines Two rows b) ++ u) ++ codes "done\n") (lines_of_channels b.start.schema b.channels b.journals)
+    ∙ ap (λ (u : List ℕ). u ++ codes "done\n") (sym (both_lines (start_lines Two rows b) brought))
+    ∙ sym (both_lines (start_lines Two rows b ++ brought) (Own Done ∷ []))
+
+pub bundle_appended : (out : List ℕ) (rows : List TableRow) (b : BundleValue) → ((out ++ start_text b.replica b.opened b.start.schema rows) ++ all_brought_text b.start.schema b.channels b.journals) ++ codes "done\n" ≡ out ++ bundle_spelling Two rows b
+bundle_appended out rows b =
+    ap (λ (u : List ℕ). u ++ codes "done\n") (append_assoc out (start_text b.replica b.opened b.start.schema rows) (all_brought_text b.start.schema b.channels b.journals))
+    ∙ append_assoc out (start_text b.replica b.opened b.start.schema rows ++ all_brought_text b.start.schema b.channels b.journals) (codes "done\n")
+    ∙ ap (λ (u : List ℕ). out ++ u) (lines_of_bundle rows b)

@@ -75,6 +75,6 @@ all_brought_text tables _ _ = []
 unfoldable pub head_text : ℕ → Gtids → List ℕ
 head_text replica opened = bundle_text (Own (Heads Two) ∷ Own (Names replica) ∷ Own (Starts opened) ∷ [])
 
--- the text of a bundle around that of its channels
-unfoldable pub bundle_around : ℕ → Gtids → List Table → List TableRow → List ℕ → List ℕ
-bundle_around replica opened tables rows brought = head_text replica opened ++ (tables_text tables ++ (rows_text rows ++ (brought ++ codes "done\n")))
+-- the lines before the first channel
+unfoldable pub start_text : ℕ → Gtids → List Table → List TableRow → List ℕ
+start_text replica opened tables rows = head_text replica opened ++ (tables_text tables ++ rows_text rows)

@@ -5,7 +5,7 @@ ghost use Rattle.rows.specs.Listing.{rows_listed};
 ghost use Rattle.txn_journal.specs.Splits.{columns_text};
 ghost use Rattle.txn_journal.specs.Shapes.{shape_for};
 ghost use Rattle.txn_journal.specs.BundleText.{Heads, Names, Starts, Has, Puts, Opens, Own, ended_bundle_line, bundle_spelling};
-ghost use Rattle.txn_journal.specs.Texts.{columns_behind, uniques_text, tables_text, rows_text, brought_text, all_brought_text, head_text, bundle_around};
+ghost use Rattle.txn_journal.specs.Texts.{columns_behind, uniques_text, tables_text, rows_text, brought_text, all_brought_text, head_text, start_text};
 ghost use Rattle.txn_journal.specs.declared.lines.Version.TheVariants.{Two};
 
 use crate::bundle::{Bundle, Channel};
@@ -183,4 +183,55 @@ fn write_channels(
         write_brought(alloc, out, schema, channel, journal)?;
     }
     Ok(())
+}
+
+/// Appends the lines before the first channel.
+#[tactic(auto, using(crate::proofs::BundleWriting::start_appended))]
+fn write_start(
+    alloc: Global,
+    out: &mut String,
+    replica: SourceId,
+    opened: &GtidSet,
+    tables: &[Table],
+    rows: &[TableRow],
+) -> Result<(), AllocError>
+    ensures { OnOk result (string_bytes out.new ≡ string_bytes out.old ++ start_text replica opened.now tables.now rows.now) }
+{
+    write_head(alloc, out, replica, opened)?;
+    write_tables(out, tables)?;
+    write_rows(alloc, out, rows)
+}
+
+/// Appends the text of a bundle, whose rows come in this order.
+#[tactic(auto, using(crate::proofs::BundleWriting::bundle_appended))]
+fn write_bundle(
+    alloc: Global,
+    out: &mut String,
+    rows: &[TableRow],
+    bundle: &Bundle,
+) -> Result<(), AllocError>
+    ensures { OnOk result (string_bytes out.new ≡ string_bytes out.old ++ bundle_spelling Two rows.now bundle.now) }
+{
+    let schema = bundle.schema();
+    write_start(
+        alloc,
+        out,
+        bundle.replica(),
+        bundle.opened(),
+        schema.tables(),
+        rows,
+    )?;
+    write_channels(alloc, out, schema, bundle.channels(), bundle.journals())?;
+    out.push_str("done\n")
+}
+
+/// The text of a bundle by version 2 of the format: its lines, each ended by one line feed. Rows come by table name, and
+/// then by the values of their primary key; each entry has its last_committed and its sequence number.
+pub fn encode_bundle_v2(alloc: Global, bundle: &Bundle) -> Result<Vec<u8>, AllocError>
+    ensures { IfOk result (λ bytes. bytes.items ≡ bundle_spelling Two (rows_listed bundle.now.start.rows) bundle.now) }
+{
+    let rows = bundle.rows().list_sorted(alloc)?;
+    let mut out = String::new(alloc);
+    write_bundle(alloc, &mut out, rows.as_slice(), bundle)?;
+    Ok(out.into_bytes())
 }

@@ -19,6 +19,7 @@ mod writer;
 
 pub use bundle::{Bundle, Channel};
 pub use bundle_reader::{BundleReader, decode_bundle};
+pub use bundle_writer::encode_bundle_v2;
 pub use fault::{Cause, JournalFault};
 pub use laws::{one_bundle, one_spelling, rows_in_listed_order, taken_in_front};
 pub use reader::{Reader, any_cut, decode};
