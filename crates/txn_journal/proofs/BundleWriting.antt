@@ -8,13 +8,13 @@ use Rattle.gtid_set.specs.Sets.{Gtids}
 use Rattle.rows.specs.declared.change.TableRow.{TableRow}
 use Rattle.rows.specs.declared.schema.Table.{Table}
 use Rattle.journal.specs.Journals.{JournalValue}
-use Rattle.txn_journal.specs.Splits.{joined_by, columns_text, column_words}
+use Rattle.txn_journal.specs.Splits.{joined_by, columns_text}
 use Rattle.txn_journal.specs.Shapes.{unique_words, shape_for}
 use Rattle.txn_journal.specs.Stamps.{right_stamps, all_stamps}
-use Rattle.txn_journal.specs.Spelling.{Line, line_text, ended_line, lines_text, journal_lines, spelling_as}
+use Rattle.txn_journal.specs.Spelling.{Line, ended_line, lines_text, journal_lines, spelling_as}
 use Rattle.txn_journal.specs.BundleStates.{BundleValue}
 use Rattle.txn_journal.specs.WrittenSets.{set_text}
-use Rattle.txn_journal.specs.BundleText.{Heads, Names, Starts, Has, Puts, Opens, Done, BundleLine, Own, Inner, preserve_text, ended_bundle_line, bundle_text, table_lines, row_lines, channel_lines, channels_lines, tables_lines, start_lines, bundle_front, bundle_spelling}
+use Rattle.txn_journal.specs.BundleText.{Heads, Names, Starts, Has, Puts, Opens, Done, BundleLine, Own, Inner, preserve_text, ended_bundle_line, bundle_text, table_lines, row_lines, channel_lines, channels_lines, start_lines, bundle_spelling}
 use Rattle.txn_journal.specs.Texts.{columns_behind, uniques_text, tables_text, rows_text, brought_text, all_brought_text, head_text, start_text}
 use Rattle.txn_journal.specs.declared.bundle.Channel.{Channel}
 use Rattle.txn_journal.specs.declared.lines.Version.TheVariants.{Two}

@@ -4,7 +4,7 @@ ghost use Rattle.std.specs.String.{string_bytes};
 ghost use Rattle.rows.specs.Listing.{rows_listed};
 ghost use Rattle.txn_journal.specs.Splits.{columns_text};
 ghost use Rattle.txn_journal.specs.Shapes.{shape_for};
-ghost use Rattle.txn_journal.specs.BundleText.{Heads, Names, Starts, Has, Puts, Opens, Own, ended_bundle_line, bundle_spelling};
+ghost use Rattle.txn_journal.specs.BundleText.{Names, Starts, Has, Puts, Opens, Own, ended_bundle_line, bundle_spelling};
 ghost use Rattle.txn_journal.specs.Texts.{columns_behind, uniques_text, tables_text, rows_text, brought_text, all_brought_text, head_text, start_text};
 ghost use Rattle.txn_journal.specs.declared.lines.Version.TheVariants.{Two};
 
