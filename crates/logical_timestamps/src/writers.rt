@@ -47,8 +47,7 @@ impl LastWriters {
     {
         let mut writers = LastWriters::new(alloc);
         for (place, entry) in entries.iter().enumerate() {
-            let number = place as u64 + 1;
-            writers.next(alloc, schema, number, entry)?;
+            writers.next(alloc, schema, place as u64 + 1, entry)?;
         }
         Ok(writers)
     }

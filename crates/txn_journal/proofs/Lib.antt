@@ -10,6 +10,7 @@ pub mod GtidLaws
 pub mod JournalLaws
 pub mod TakenLines
 pub mod WriteLemmas
+pub mod BundleWriting
 pub mod Judged
 pub mod WordLaws
 pub mod FormatLaws

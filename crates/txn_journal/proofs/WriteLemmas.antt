@@ -1,7 +1,6 @@
 -- Lines that are written one after another.
-use Rattle.std.proofs.Common.{◌≡◌, ℕ, ◌≤◌, ◌-◌, List, [], ◌∷◌, ◌++◌, length, map, take, drop, get_or, refl, sym, ap, ◌∙◌, append_assoc, arith}
+use Rattle.std.proofs.Common.{◌≡◌, ℕ, ◌+◌, ◌≤◌, ◌-◌, List, [], ◌∷◌, ◌++◌, Option, None, length, map, take, drop, get_or, refl, sym, ap, ◌∙◌, append_assoc, arith}
 use Rattle.std.specs.Prelude.{codes}
-use Rattle.std.specs.List.{flat_map}
 use Rattle.std.proofs.lemmas.List.{append-nil, take_rest}
 use Rattle.std.proofs.lemmas.List.Concat.{flat_map-append}
 use Rattle.gtid_text.specs.declared.Gtid.{Gtid}
@@ -11,10 +10,15 @@ use Rattle.rows.specs.declared.value.Value.{Value}
 use Rattle.rows.specs.declared.change.Change.{Change}
 use Rattle.rows.specs.declared.change.Change.TheVariants.{Update}
 use Rattle.journal.specs.declared.Entry.{Entry}
+use Rattle.journal.specs.Journals.{JournalValue}
 use Rattle.journal_words.specs.Values.{value_text}
 use Rattle.txn_journal.specs.WrittenSets.{set_text}
-use Rattle.txn_journal.specs.Spelling.{Previous, Makes, Begin, End, Close, values_behind, values_text, image_text, change_text, ended_line, lines_text, entry_lines, spelling}
-use Rattle.txn_journal.specs.Texts.{changes_text, entries_text, parts_text}
+use Rattle.txn_journal.specs.Lines.{Numbers}
+use Rattle.txn_journal.specs.Stamps.{no_stamps}
+use Rattle.txn_journal.specs.Spelling.{Line, Header, Previous, Makes, Begin, End, Close, values_behind, values_text, image_text, change_text, numbers_text, line_text, ended_line, lines_text, numbers_of, entry_lines, entries_lines, opening_lines, spelling, spelling_as}
+use Rattle.txn_journal.specs.Texts.{changes_text, body_text, entries_text, stamped_text, opening_text, text_around}
+use Rattle.txn_journal.specs.declared.lines.Version.{Version}
+use Rattle.txn_journal.specs.declared.lines.Version.TheVariants.{One, Two}
 
 -- the first of some values, and the others behind it
 first_value : (v : Value) (vs : List Value) → values_text (v ∷ vs) ≡ value_text v ++ values_behind vs
@@ -30,37 +34,76 @@ image_appended out word table image = simp append_assoc
 pub two_images_text : (out table : List ℕ) (before after : List Value) → ((out ++ image_text (codes "upd") table before) ++ codes " | ") ++ values_text after ≡ out ++ change_text (Update table before after)
 two_images_text out table before after = simp append_assoc
 
-pub begin_appended : (out : List ℕ) (g : Gtid) → ((out ++ codes "txn ") ++ gtid_text g) ++ codes "\n" ≡ out ++ ended_line (Begin g)
-begin_appended out g = simp append_assoc
+pub begin_appended : (out : List ℕ) (g : Gtid) → (out ++ codes "txn ") ++ gtid_text g ≡ out ++ line_text (Begin g None)
+begin_appended out g = append_assoc out (codes "txn ") (gtid_text g) ∙ ap (λ (t : List ℕ). out ++ (codes "txn " ++ t)) (sym (append-nil (gtid_text g)))
 
--- the lines of changes, and of entries
+-- the lines of changes
 changes_lines : (cs : List Change) → changes_text cs ≡ lines_text (map Makes cs)
 changes_lines [] = refl
 changes_lines (c ∷ cs) = ap (λ (t : List ℕ). ended_line (Makes c) ++ t) (changes_lines cs)
 
-entries_lines : (es : List Entry) → entries_text es ≡ lines_text (flat_map entry_lines es)
-entries_lines [] = refl
-entries_lines (e ∷ es) = ap (λ (t : List ℕ). lines_text (entry_lines e) ++ t) (entries_lines es) ∙ sym (flat_map-append ended_line (entry_lines e) (flat_map entry_lines es))
+-- the body of an entry, behind its first line
+body_lines : (cs : List Change) → body_text cs ≡ codes "\n" ++ lines_text (map Makes cs ++ End ∷ [])
+body_lines cs = ap (λ (t : List ℕ). codes "\n" ++ t) (ap (λ (t : List ℕ). t ++ codes "end\n") (changes_lines cs) ∙ sym (flat_map-append ended_line (map Makes cs) (End ∷ [])))
 
-pub entry_appended : (out : List ℕ) (e : Entry) → ((out ++ ended_line (Begin e.gtid)) ++ changes_text e.txn.changes) ++ codes "end\n" ≡ out ++ lines_text (entry_lines e)
-entry_appended out e =
-    append_assoc (out ++ ended_line (Begin e.gtid)) (changes_text e.txn.changes) (codes "end\n")
-    ∙ append_assoc out (ended_line (Begin e.gtid)) (changes_text e.txn.changes ++ codes "end\n")
-    ∙ ap (λ (t : List ℕ). out ++ (ended_line (Begin e.gtid) ++ t)) (ap (λ (t : List ℕ). t ++ codes "end\n") (changes_lines e.txn.changes) ∙ sym (flat_map-append ended_line (map Makes e.txn.changes) (End ∷ [])))
+first_ended : (out line rest : List ℕ) → (out ++ line) ++ (codes "\n" ++ rest) ≡ out ++ ((line ++ codes "\n") ++ rest)
+first_ended out line rest = simp append_assoc
+
+body_behind : (out : List ℕ) (numbers : Option Numbers) (e : Entry) → (out ++ line_text (Begin e.gtid numbers)) ++ body_text e.txn.changes ≡ out ++ lines_text (entry_lines numbers e)
+body_behind out numbers e =
+    ap (λ (t : List ℕ). (out ++ line_text (Begin e.gtid numbers)) ++ t) (body_lines e.txn.changes)
+    ∙ first_ended out (line_text (Begin e.gtid numbers)) (lines_text (map Makes e.txn.changes ++ End ∷ []))
+
+pub entry_appended : (out : List ℕ) (e : Entry) → (out ++ line_text (Begin e.gtid None)) ++ body_text e.txn.changes ≡ out ++ lines_text (entry_lines None e)
+entry_appended out e = body_behind out None e
+
+numbers_behind : (out : List ℕ) (g : Gtid) (numbers : Option Numbers) → (out ++ line_text (Begin g None)) ++ numbers_text numbers ≡ out ++ line_text (Begin g numbers)
+numbers_behind out g numbers = simp (append_assoc, append-nil)
+
+pub stamped_entry_appended : (out : List ℕ) (stamp place : ℕ) (e : Entry) → ((out ++ line_text (Begin e.gtid None)) ++ numbers_text (numbers_of Two place stamp)) ++ body_text e.txn.changes ≡ out ++ lines_text (entry_lines (numbers_of Two place stamp) e)
+stamped_entry_appended out stamp place e =
+    ap (λ (t : List ℕ). t ++ body_text e.txn.changes) (numbers_behind out e.gtid (numbers_of Two place stamp))
+    ∙ body_behind out (numbers_of Two place stamp) e
+
+-- the lines of entries
+entries_unstamped : (place : ℕ) (es : List Entry) → entries_text es ≡ lines_text (entries_lines One place (no_stamps es) es)
+entries_unstamped place [] = refl
+entries_unstamped place (e ∷ es) =
+    ap (λ (t : List ℕ). lines_text (entry_lines None e) ++ t) (entries_unstamped (place + 1) es)
+    ∙ sym (flat_map-append ended_line (entry_lines None e) (entries_lines One (place + 1) (no_stamps es) es))
+
+entries_stamped : (place : ℕ) (stamps : List ℕ) (es : List Entry) → stamped_text place stamps es ≡ lines_text (entries_lines Two place stamps es)
+entries_stamped place [] es = refl
+entries_stamped place (s ∷ stamps) [] = refl
+entries_stamped place (s ∷ stamps) (e ∷ es) =
+    ap (λ (t : List ℕ). lines_text (entry_lines (numbers_of Two place s) e) ++ t) (entries_stamped (place + 1) stamps es)
+    ∙ sym (flat_map-append ended_line (entry_lines (numbers_of Two place s) e) (entries_lines Two (place + 1) stamps es))
 
 pub previous_appended : (out : List ℕ) (s : Gtids) → ((out ++ codes "previous ") ++ set_text s) ++ codes "\n" ≡ out ++ ended_line (Previous s)
 previous_appended out s = simp append_assoc
 
-pub journal_appended : (out : List ℕ) (s : Gtids) (es : List Entry) → (((out ++ codes "journal 1\n") ++ ended_line (Previous s)) ++ entries_text es) ++ codes "close\n" ≡ out ++ parts_text s es
-unfolding parts_text
-journal_appended out s es = simp append_assoc
+pub opening_appended : (out : List ℕ) (version : Version) (s : Gtids) → (out ++ ended_line (Header version)) ++ ended_line (Previous s) ≡ out ++ opening_text version s
+unfolding opening_text
+opening_appended out version s = append_assoc out (ended_line (Header version)) (ended_line (Previous s)) ∙ ap (λ (t : List ℕ). out ++ (ended_line (Header version) ++ t)) (sym (append-nil (ended_line (Previous s))))
 
--- the parts of a journal's text are the text of its lines
-pub journal_parts : (s : Gtids) (es : List Entry) → parts_text s es ≡ spelling (record { previous = s; entries = es })
-unfolding parts_text
-journal_parts s es =
-    ap (λ (t : List ℕ). codes "journal 1\n" ++ (ended_line (Previous s) ++ (t ++ codes "close\n"))) (entries_lines es)
-    ∙ ap (λ (t : List ℕ). codes "journal 1\n" ++ (ended_line (Previous s) ++ t)) (sym (flat_map-append ended_line (flat_map entry_lines es) (Close ∷ [])))
+pub around_appended : (out : List ℕ) (version : Version) (s : Gtids) (entries : List ℕ) → ((out ++ opening_text version s) ++ entries) ++ codes "close\n" ≡ out ++ text_around version s entries
+unfolding text_around
+around_appended out version s entries =
+    append_assoc (out ++ opening_text version s) entries (codes "close\n")
+    ∙ append_assoc out (opening_text version s) (entries ++ codes "close\n")
+
+-- the lines of a journal around those of its entries
+around_lines : (version : Version) (s : Gtids) (entries : List Line) → text_around version s (lines_text entries) ≡ lines_text ((opening_lines version s ++ entries) ++ Close ∷ [])
+unfolding text_around opening_text
+around_lines version s entries =
+    sym (append_assoc (lines_text (opening_lines version s)) (lines_text entries) (codes "close\n"))
+    ∙ sym (flat_map-append ended_line (opening_lines version s ++ entries) (Close ∷ []) ∙ ap (λ (t : List ℕ). t ++ codes "close\n") (flat_map-append ended_line (opening_lines version s) entries))
+
+pub journal_text : (j : JournalValue) → text_around One j.previous (entries_text j.entries) ≡ spelling j
+journal_text j = ap (text_around One j.previous) (entries_unstamped 1 j.entries) ∙ around_lines One j.previous (entries_lines One 1 (no_stamps j.entries) j.entries)
+
+pub stamped_journal_text : (out stamps : List ℕ) (j : JournalValue) → out ++ text_around Two j.previous (stamped_text 1 stamps j.entries) ≡ out ++ spelling_as Two stamps j
+stamped_journal_text out stamps j = ap (λ (t : List ℕ). out ++ t) (ap (text_around Two j.previous) (entries_stamped 1 stamps j.entries) ∙ around_lines Two j.previous (entries_lines Two 1 stamps j.entries))
 
 -- values that a slice has, by its first and the others
 pub values_cut : (out : List ℕ) (v : Value) (vs : List Value) → 1 ≤ length vs → v ≡ get_or vs 0 v → (out ++ value_text v) ++ values_behind (take (length vs - 1) (drop 1 vs)) ≡ out ++ values_text vs

@@ -1,18 +1,80 @@
--- The text of changes and of entries, one after another.
-use Rattle.std.specs.Prelude.{ℕ, List, [], ◌∷◌, ◌++◌, codes}
-use Rattle.rows.specs.declared.change.Change.{Change}
-use Rattle.journal.specs.declared.Entry.{Entry}
+-- The text of journals and bundles, one part after another.
+use Rattle.std.specs.Prelude.{ℕ, ◌+◌, List, [], ◌∷◌, ◌++◌, None, codes, decimal}
 use Rattle.gtid_set.specs.Sets.{Gtids}
-use Rattle.txn_journal.specs.Spelling.{Previous, Makes, ended_line, lines_text, entry_lines}
+use Rattle.rows.specs.declared.change.Change.{Change}
+use Rattle.rows.specs.declared.change.TableRow.{TableRow}
+use Rattle.rows.specs.declared.schema.Table.{Table}
+use Rattle.journal.specs.declared.Entry.{Entry}
+use Rattle.journal.specs.Journals.{JournalValue}
+use Rattle.txn_journal.specs.Splits.{columns_text}
+use Rattle.txn_journal.specs.Shapes.{shape_for}
+use Rattle.txn_journal.specs.Stamps.{right_stamps}
+use Rattle.txn_journal.specs.Spelling.{Makes, ended_line, lines_text, entry_lines, numbers_of, opening_lines}
+use Rattle.txn_journal.specs.BundleText.{Heads, Names, Starts, Has, Puts, Own, ended_bundle_line, bundle_text, channel_lines}
+use Rattle.txn_journal.specs.declared.bundle.Channel.{Channel}
+use Rattle.txn_journal.specs.declared.lines.Version.{Version}
+use Rattle.txn_journal.specs.declared.lines.Version.TheVariants.{Two}
+
+-- ---- journals
 
 abbrev pub changes_text : List Change → List ℕ
 changes_text [] = []
 changes_text (c ∷ cs) = ended_line (Makes c) ++ changes_text cs
 
+-- the text of an entry from the line feed of its first line on
+abbrev pub body_text : List Change → List ℕ
+body_text cs = codes "\n" ++ (changes_text cs ++ codes "end\n")
+
+-- entries without numbers
 abbrev pub entries_text : List Entry → List ℕ
 entries_text [] = []
-entries_text (e ∷ es) = lines_text (entry_lines e) ++ entries_text es
+entries_text (e ∷ es) = lines_text (entry_lines None e) ++ entries_text es
 
--- the text of a journal, part by part
-unfoldable pub parts_text : Gtids → List Entry → List ℕ
-parts_text previous entries = codes "journal 1\n" ++ (ended_line (Previous previous) ++ (entries_text entries ++ codes "close\n"))
+-- entries from a place on, each with its last_committed
+abbrev pub stamped_text : ℕ → List ℕ → List Entry → List ℕ
+stamped_text place (stamp ∷ stamps) (e ∷ es) = lines_text (entry_lines (numbers_of Two place stamp) e) ++ stamped_text (place + 1) stamps es
+stamped_text place _ _ = []
+
+-- the first two lines of a journal
+unfoldable pub opening_text : Version → Gtids → List ℕ
+opening_text version previous = lines_text (opening_lines version previous)
+
+-- the text of a journal around that of its entries
+unfoldable pub text_around : Version → Gtids → List ℕ → List ℕ
+text_around version previous entries = opening_text version previous ++ (entries ++ codes "close\n")
+
+-- ---- bundles
+
+-- columns, each behind a comma
+abbrev pub columns_behind : List ℕ → List ℕ
+columns_behind [] = []
+columns_behind (c ∷ cs) = 44 ∷ (decimal c ++ columns_behind cs)
+
+-- the columns of unique keys
+abbrev pub uniques_text : List (List ℕ) → List ℕ
+uniques_text [] = []
+uniques_text (u ∷ us) = codes " uk " ++ (columns_text u ++ uniques_text us)
+
+abbrev pub tables_text : List Table → List ℕ
+tables_text [] = []
+tables_text (t ∷ ts) = ended_bundle_line (Own (Has (shape_for t))) ++ tables_text ts
+
+abbrev pub rows_text : List TableRow → List ℕ
+rows_text [] = []
+rows_text (r ∷ rs) = ended_bundle_line (Own (Puts r)) ++ rows_text rs
+
+-- a channel, and its journal by version 2 of the format
+unfoldable pub brought_text : List Table → Channel → JournalValue → List ℕ
+brought_text tables c j = bundle_text (channel_lines Two c (right_stamps Two tables j.entries) j)
+
+abbrev pub all_brought_text : List Table → List Channel → List JournalValue → List ℕ
+all_brought_text tables (c ∷ cs) (j ∷ js) = brought_text tables c j ++ all_brought_text tables cs js
+all_brought_text tables _ _ = []
+
+-- the first three lines of a bundle
+unfoldable pub head_text : ℕ → Gtids → List ℕ
+head_text replica opened = bundle_text (Own (Heads Two) ∷ Own (Names replica) ∷ Own (Starts opened) ∷ [])
+
+-- the lines before the first channel
+unfoldable pub start_text : ℕ → Gtids → List Table → List TableRow → List ℕ
+start_text replica opened tables rows = head_text replica opened ++ (tables_text tables ++ rows_text rows)

@@ -4,6 +4,7 @@
 mod bundle;
 mod bundle_draft;
 mod bundle_reader;
+mod bundle_writer;
 mod draft;
 mod fault;
 mod feed;
@@ -18,7 +19,8 @@ mod writer;
 
 pub use bundle::{Bundle, Channel};
 pub use bundle_reader::{BundleReader, decode_bundle};
+pub use bundle_writer::encode_bundle_v2;
 pub use fault::{Cause, JournalFault};
 pub use laws::{one_bundle, one_spelling, rows_in_listed_order, taken_in_front};
 pub use reader::{Reader, any_cut, decode};
-pub use writer::encode;
+pub use writer::{encode, encode_v2};

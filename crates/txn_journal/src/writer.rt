@@ -1,16 +1,21 @@
 //! Journals written as text.
-ghost use Rattle.std.specs.Prelude.{◌≡◌, ◌∷◌, ◌++◌, IfOk, OnOk};
+ghost use Rattle.std.specs.Prelude.{◌≡◌, ◌∷◌, ◌++◌, None, IfOk, OnOk, length, decimal};
 ghost use Rattle.std.specs.String.{string_bytes};
 ghost use Rattle.journal_words.specs.Values.{value_text};
 ghost use Rattle.txn_journal.specs.WrittenSets.{set_text};
-ghost use Rattle.txn_journal.specs.Spelling.{Previous, Begin, Makes, values_behind, values_text, image_text, change_text, ended_line, lines_text, entry_lines, spelling};
-ghost use Rattle.txn_journal.specs.Texts.{changes_text, entries_text, parts_text};
+ghost use Rattle.txn_journal.specs.Spelling.{Header, Previous, Begin, Makes, values_behind, values_text, image_text, change_text, numbers_text, line_text, ended_line, lines_text, numbers_of, entry_lines, spelling, spelling_as};
+ghost use Rattle.txn_journal.specs.Stamps.{right_stamps};
+ghost use Rattle.txn_journal.specs.Texts.{changes_text, body_text, entries_text, stamped_text, opening_text, text_around};
+ghost use Rattle.txn_journal.specs.declared.lines.Version.TheVariants.{One, Two};
 
+use crate::lines::Version;
 use gtid_set::GtidSet;
 use gtid_text::{Gtid, write_gtid};
+use itoa::Buffer;
 use journal::{Entry, Journal};
 use journal_words::write_value;
-use rows::{Change, Name, Row, Value};
+use logical_timestamps::last_committed_of;
+use rows::{Change, Name, Row, Schema, Transaction, Value};
 use std::alloc::{AllocError, Global};
 
 /// Appends a value behind a blank.
@@ -44,7 +49,7 @@ fn write_values(alloc: Global, out: &mut String, values: &[Value]) -> Result<(),
 
 /// Appends a word, a table and an image.
 #[tactic(auto, using(crate::proofs::WriteLemmas::image_appended))]
-fn write_image(
+pub(crate) fn write_image(
     alloc: Global,
     out: &mut String,
     word: &str,
@@ -98,27 +103,74 @@ fn write_changes(alloc: Global, out: &mut String, changes: &[Change]) -> Result<
     Ok(())
 }
 
-/// Appends the line that begins an entry.
+/// Appends what the line that begins an entry says first.
 #[tactic(auto, using(crate::proofs::WriteLemmas::begin_appended))]
 fn write_begin(out: &mut String, gtid: Gtid) -> Result<(), AllocError>
-    ensures { OnOk result (string_bytes out.new ≡ string_bytes out.old ++ ended_line (Begin gtid)) }
+    ensures { OnOk result (string_bytes out.new ≡ string_bytes out.old ++ line_text (Begin gtid None)) }
 {
     out.push_str("txn ")?;
-    write_gtid(out, gtid)?;
-    out.push_str("\n")
+    write_gtid(out, gtid)
 }
 
-/// Appends the lines of an entry.
-#[tactic(auto, using(crate::proofs::WriteLemmas::entry_appended))]
-fn write_entry(alloc: Global, out: &mut String, entry: &Entry) -> Result<(), AllocError>
-    ensures { OnOk result (string_bytes out.new ≡ string_bytes out.old ++ lines_text (entry_lines entry.now)) }
+/// Appends a number.
+pub(crate) fn write_number(out: &mut String, number: u64) -> Result<(), AllocError>
+    ensures { OnOk result (string_bytes out.new ≡ string_bytes out.old ++ decimal number) }
 {
-    write_begin(out, entry.gtid)?;
-    write_changes(alloc, out, entry.txn.changes.as_slice())?;
+    let mut buffer = Buffer::new();
+    out.push_str(buffer.format(number))
+}
+
+/// Appends a number behind a blank.
+pub(crate) fn write_next_number(out: &mut String, number: u64) -> Result<(), AllocError>
+    ensures { OnOk result (string_bytes out.new ≡ string_bytes out.old ++ 32 ∷ decimal number) }
+{
+    out.push_str(" ")?;
+    write_number(out, number)
+}
+
+/// Appends the last_committed of the entry at a place, and the place, which is its sequence number.
+fn write_numbers(out: &mut String, stamp: u64, place: u64) -> Result<(), AllocError>
+    ensures { OnOk result (string_bytes out.new ≡ string_bytes out.old ++ numbers_text (numbers_of Two place stamp)) }
+{
+    write_next_number(out, stamp)?;
+    write_next_number(out, place)
+}
+
+/// Appends the text of an entry from the line feed of its first line on.
+fn write_body(alloc: Global, out: &mut String, txn: &Transaction) -> Result<(), AllocError>
+    ensures { OnOk result (string_bytes out.new ≡ string_bytes out.old ++ body_text txn.now.changes) }
+{
+    out.push_str("\n")?;
+    write_changes(alloc, out, txn.changes.as_slice())?;
     out.push_str("end\n")
 }
 
-/// Appends the lines of entries.
+/// Appends the lines of an entry without numbers.
+#[tactic(auto, using(crate::proofs::WriteLemmas::entry_appended))]
+fn write_entry(alloc: Global, out: &mut String, entry: &Entry) -> Result<(), AllocError>
+    ensures { OnOk result (string_bytes out.new ≡ string_bytes out.old ++ lines_text (entry_lines None entry.now)) }
+{
+    write_begin(out, entry.gtid)?;
+    write_body(alloc, out, &entry.txn)
+}
+
+/// Appends the lines of the entry at a place, with this last_committed.
+#[tactic(auto, using(crate::proofs::WriteLemmas::stamped_entry_appended))]
+fn write_stamped_entry(
+    alloc: Global,
+    out: &mut String,
+    stamp: u64,
+    place: u64,
+    entry: &Entry,
+) -> Result<(), AllocError>
+    ensures { OnOk result (string_bytes out.new ≡ string_bytes out.old ++ lines_text (entry_lines (numbers_of Two place stamp) entry.now)) }
+{
+    write_begin(out, entry.gtid)?;
+    write_numbers(out, stamp, place)?;
+    write_body(alloc, out, &entry.txn)
+}
+
+/// Appends the lines of entries without numbers.
 fn write_entries(alloc: Global, out: &mut String, entries: &[Entry]) -> Result<(), AllocError>
     ensures { OnOk result (string_bytes out.new ≡ string_bytes out.old ++ entries_text entries.now) }
 {
@@ -128,8 +180,24 @@ fn write_entries(alloc: Global, out: &mut String, entries: &[Entry]) -> Result<(
     Ok(())
 }
 
+/// Appends the lines of entries, each with its last_committed.
+fn write_stamped_entries(
+    alloc: Global,
+    out: &mut String,
+    stamps: &[u64],
+    entries: &[Entry],
+) -> Result<(), AllocError>
+    requires { length stamps.now ≡ length entries.now }
+    ensures { OnOk result (string_bytes out.new ≡ string_bytes out.old ++ stamped_text 1 stamps.now entries.now) }
+{
+    for (i, entry) in entries.iter().enumerate() {
+        write_stamped_entry(alloc, out, stamps[i], i as u64 + 1, entry)?;
+    }
+    Ok(())
+}
+
 /// Appends the word of a set.
-fn write_set(alloc: Global, out: &mut String, set: &GtidSet) -> Result<(), AllocError>
+pub(crate) fn write_set(alloc: Global, out: &mut String, set: &GtidSet) -> Result<(), AllocError>
     ensures { OnOk result (string_bytes out.new ≡ string_bytes out.old ++ set_text set.now) }
 {
     let text = set.to_text(alloc)?;
@@ -149,23 +217,63 @@ fn write_previous(alloc: Global, out: &mut String, previous: &GtidSet) -> Result
     out.push_str("\n")
 }
 
-/// Appends the lines of a journal.
-#[tactic(auto, using(crate::proofs::WriteLemmas::journal_appended))]
+/// Appends the first line of a journal.
+fn write_header(out: &mut String, version: Version) -> Result<(), AllocError>
+    ensures { OnOk result (string_bytes out.new ≡ string_bytes out.old ++ ended_line (Header version)) }
+{
+    match version {
+        Version::One => out.push_str("journal 1\n"),
+        Version::Two => out.push_str("journal 2\n"),
+    }
+}
+
+/// Appends the first two lines of a journal.
+#[tactic(auto, using(crate::proofs::WriteLemmas::opening_appended))]
+fn write_opening(
+    alloc: Global,
+    out: &mut String,
+    version: Version,
+    previous: &GtidSet,
+) -> Result<(), AllocError>
+    ensures { OnOk result (string_bytes out.new ≡ string_bytes out.old ++ opening_text version previous.now) }
+{
+    write_header(out, version)?;
+    write_previous(alloc, out, previous)
+}
+
+/// Appends the text of a journal without numbers.
+#[tactic(auto, using(crate::proofs::WriteLemmas::around_appended))]
 fn write_parts(
     alloc: Global,
     out: &mut String,
     previous: &GtidSet,
     entries: &[Entry],
 ) -> Result<(), AllocError>
-    ensures { OnOk result (string_bytes out.new ≡ string_bytes out.old ++ parts_text previous.now entries.now) }
+    ensures { OnOk result (string_bytes out.new ≡ string_bytes out.old ++ text_around One previous.now (entries_text entries.now)) }
 {
-    out.push_str("journal 1\n")?;
-    write_previous(alloc, out, previous)?;
+    write_opening(alloc, out, Version::One, previous)?;
     write_entries(alloc, out, entries)?;
     out.push_str("close\n")
 }
 
-#[tactic(auto, using(crate::proofs::WriteLemmas::journal_parts))]
+/// Appends the text of a journal, each entry with its last_committed.
+#[tactic(auto, using(crate::proofs::WriteLemmas::around_appended))]
+fn write_stamped_parts(
+    alloc: Global,
+    out: &mut String,
+    previous: &GtidSet,
+    stamps: &[u64],
+    entries: &[Entry],
+) -> Result<(), AllocError>
+    requires { length stamps.now ≡ length entries.now }
+    ensures { OnOk result (string_bytes out.new ≡ string_bytes out.old ++ text_around Two previous.now (stamped_text 1 stamps.now entries.now)) }
+{
+    write_opening(alloc, out, Version::Two, previous)?;
+    write_stamped_entries(alloc, out, stamps, entries)?;
+    out.push_str("close\n")
+}
+
+#[tactic(auto, using(crate::proofs::WriteLemmas::journal_text))]
 fn write_journal(alloc: Global, journal: &Journal) -> Result<String, AllocError>
     ensures { IfOk result (λ text. string_bytes text ≡ spelling journal.now) }
 {
@@ -174,10 +282,48 @@ fn write_journal(alloc: Global, journal: &Journal) -> Result<String, AllocError>
     Ok(out)
 }
 
-/// The one text of a journal: its lines, each ended by one line feed (version 1 of the format).
+/// The one text of a journal by version 1 of the format: its lines, each ended by one line feed.
 pub fn encode(alloc: Global, journal: &Journal) -> Result<Vec<u8>, AllocError>
     ensures { IfOk result (λ bytes. bytes.items ≡ spelling journal.now) }
 {
     let text = write_journal(alloc, journal)?;
     Ok(text.into_bytes())
+}
+
+/// Appends the text of a journal by version 2 of the format, where these are the last_committed of its entries.
+#[tactic(auto, using(crate::proofs::WriteLemmas::stamped_journal_text))]
+fn write_stamped(
+    alloc: Global,
+    out: &mut String,
+    stamps: &[u64],
+    journal: &Journal,
+) -> Result<(), AllocError>
+    requires { length stamps.now ≡ length journal.now.entries }
+    ensures { OnOk result (string_bytes out.new ≡ string_bytes out.old ++ spelling_as Two stamps.now journal.now) }
+{
+    write_stamped_parts(alloc, out, journal.previous(), stamps, journal.entries())
+}
+
+/// Appends the text of a journal by version 2 of the format, whose entries change tables of this schema.
+#[tactic(auto, using(logical_timestamps::proofs::Timestamps::each_last_committed_length))]
+pub(crate) fn write_journal_v2(
+    alloc: Global,
+    out: &mut String,
+    schema: &Schema,
+    journal: &Journal,
+) -> Result<(), AllocError>
+    ensures { OnOk result (string_bytes out.new ≡ string_bytes out.old ++ spelling_as Two (right_stamps Two schema.now journal.now.entries) journal.now) }
+{
+    let stamps = last_committed_of(alloc, schema, journal)?;
+    write_stamped(alloc, out, stamps.as_slice(), journal)
+}
+
+/// The one text of a journal by version 2 of the format, whose entries change tables of this schema. Each entry has
+/// its last_committed and its sequence number.
+pub fn encode_v2(alloc: Global, schema: &Schema, journal: &Journal) -> Result<Vec<u8>, AllocError>
+    ensures { IfOk result (λ bytes. bytes.items ≡ spelling_as Two (right_stamps Two schema.now journal.now.entries) journal.now) }
+{
+    let mut out = String::new(alloc);
+    write_journal_v2(alloc, &mut out, schema, journal)?;
+    Ok(out.into_bytes())
 }

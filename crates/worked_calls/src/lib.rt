@@ -16,3 +16,5 @@ mod seats;
 mod sets;
 #[cfg(test)]
 mod sources;
+#[cfg(test)]
+mod written;

@@ -1,0 +1,161 @@
+-- Lines of bundles that are written one after another.
+use Rattle.std.proofs.Common.{◌≡◌, ℕ, min, ◌≤◌, ◌-◌, Bool, true, false, List, [], ◌∷◌, ◌++◌, length, map, take, drop, get_or, refl, sym, ap, ◌∙◌, append_assoc, arith}
+use Rattle.std.specs.Prelude.{codes, decimal}
+use Rattle.std.proofs.lemmas.List.{append-nil, take_rest, length-drop}
+use Rattle.std.proofs.lemmas.List.Concat.{flat_map-append}
+use Rattle.gtid_text.specs.Canonical.{source_text}
+use Rattle.gtid_set.specs.Sets.{Gtids}
+use Rattle.rows.specs.declared.change.TableRow.{TableRow}
+use Rattle.rows.specs.declared.schema.Table.{Table}
+use Rattle.journal.specs.Journals.{JournalValue}
+use Rattle.txn_journal.specs.Splits.{joined_by, columns_text}
+use Rattle.txn_journal.specs.Shapes.{unique_words, shape_for}
+use Rattle.txn_journal.specs.Stamps.{right_stamps, all_stamps}
+use Rattle.txn_journal.specs.Spelling.{Line, ended_line, lines_text, journal_lines, spelling_as}
+use Rattle.txn_journal.specs.BundleStates.{BundleValue}
+use Rattle.txn_journal.specs.WrittenSets.{set_text}
+use Rattle.txn_journal.specs.BundleText.{Heads, Names, Starts, Has, Puts, Opens, Done, BundleLine, Own, Inner, preserve_text, ended_bundle_line, bundle_text, table_lines, row_lines, channel_lines, channels_lines, start_lines, bundle_spelling}
+use Rattle.txn_journal.specs.Texts.{columns_behind, uniques_text, tables_text, rows_text, brought_text, all_brought_text, head_text, start_text}
+use Rattle.txn_journal.specs.declared.bundle.Channel.{Channel}
+use Rattle.txn_journal.specs.declared.lines.Version.TheVariants.{Two}
+
+-- ---- the first lines
+
+pub replica_appended : (out : List ℕ) (replica : ℕ) → ((out ++ codes "replica ") ++ source_text replica) ++ codes "\n" ≡ out ++ ended_bundle_line (Own (Names replica))
+replica_appended out replica = simp append_assoc
+
+pub opened_appended : (out : List ℕ) (s : Gtids) → ((out ++ codes "opening ") ++ set_text s) ++ codes "\n" ≡ out ++ ended_bundle_line (Own (Starts s))
+opened_appended out s = simp append_assoc
+
+-- two texts behind one another, and a text behind both
+both_behind : (out a b c : List ℕ) → ((out ++ a) ++ b) ++ c ≡ out ++ (a ++ (b ++ c))
+both_behind out a b c = simp append_assoc
+
+pub head_appended : (out : List ℕ) (replica : ℕ) (s : Gtids) → ((out ++ codes "bundle 2\n") ++ ended_bundle_line (Own (Names replica))) ++ ended_bundle_line (Own (Starts s)) ≡ out ++ head_text replica s
+unfolding head_text
+head_appended out replica s =
+    both_behind out (codes "bundle 2\n") (ended_bundle_line (Own (Names replica))) (ended_bundle_line (Own (Starts s)))
+    ∙ ap (λ (t : List ℕ). out ++ (codes "bundle 2\n" ++ (ended_bundle_line (Own (Names replica)) ++ t))) (sym (append-nil (ended_bundle_line (Own (Starts s)))))
+
+-- ---- tables
+
+-- the first of some columns, and the others behind it
+first_column : (c : ℕ) (cs : List ℕ) → columns_text (c ∷ cs) ≡ decimal c ++ columns_behind cs
+first_column c [] = sym (append-nil (decimal c))
+first_column c (d ∷ cs) = ap (λ (t : List ℕ). decimal c ++ 44 ∷ t) (first_column d cs)
+
+-- columns that a slice has, by its first and the others
+pub columns_cut : (out : List ℕ) (c : ℕ) (cs : List ℕ) → 1 ≤ length cs → c ≡ get_or cs 0 0 → (out ++ decimal c) ++ columns_behind (take (length cs - 1) (drop 1 cs)) ≡ out ++ columns_text cs
+columns_cut out c [] some is = absurd (omega arith)
+columns_cut out c (d ∷ ds) some is =
+    ap (λ (t : List ℕ). (out ++ decimal c) ++ columns_behind t) (take_rest (d ∷ ds) 1)
+    ∙ ap (λ (x : ℕ). (out ++ decimal x) ++ columns_behind ds) is
+    ∙ append_assoc out (decimal d) (columns_behind ds)
+    ∙ ap (λ (t : List ℕ). out ++ t) (sym (first_column d ds))
+
+-- a word, and unique keys behind it
+uniques_behind : (word : List ℕ) (us : List (List ℕ)) → joined_by 32 (word ∷ unique_words (map columns_text us)) ≡ word ++ uniques_text us
+uniques_behind word [] = sym (append-nil word)
+uniques_behind word (u ∷ us) = ap (λ (t : List ℕ). word ++ (codes " uk " ++ t)) (uniques_behind (columns_text u) us)
+
+all_behind : (out a b c d e f end : List ℕ) → ((((((out ++ a) ++ b) ++ c) ++ d) ++ e) ++ f) ++ end ≡ out ++ (a ++ (b ++ (c ++ (d ++ (e ++ (f ++ end))))))
+all_behind out a b c d e f end = simp append_assoc
+
+end_behind : (b c d e f end : List ℕ) → (b ++ (c ++ (d ++ (e ++ f)))) ++ end ≡ b ++ (c ++ (d ++ (e ++ (f ++ end))))
+end_behind b c d e f end = simp append_assoc
+
+table_parts : (out name columns primary uniques : List ℕ) → ((((((out ++ codes "table ") ++ name) ++ 32 ∷ columns) ++ codes " pk ") ++ primary) ++ uniques) ++ codes "\n" ≡ out ++ ((codes "table" ++ 32 ∷ (name ++ 32 ∷ (columns ++ 32 ∷ (codes "pk" ++ 32 ∷ (primary ++ uniques))))) ++ 10 ∷ [])
+table_parts out name columns primary uniques =
+    all_behind out (codes "table ") name (32 ∷ columns) (codes " pk ") primary uniques (codes "\n")
+    ∙ ap (λ (t : List ℕ). out ++ (codes "table " ++ t)) (sym (end_behind name (32 ∷ columns) (codes " pk ") primary uniques (codes "\n")))
+
+pub table_appended : (out : List ℕ) (t : Table) → ((((((out ++ codes "table ") ++ t.name) ++ 32 ∷ decimal t.columns) ++ codes " pk ") ++ columns_text t.primary) ++ uniques_text t.uniques) ++ codes "\n" ≡ out ++ ended_bundle_line (Own (Has (shape_for t)))
+table_appended out t =
+    table_parts out t.name (decimal t.columns) (columns_text t.primary) (uniques_text t.uniques)
+    ∙ ap (λ (u : List ℕ). out ++ ((codes "table" ++ 32 ∷ (t.name ++ 32 ∷ (decimal t.columns ++ 32 ∷ (codes "pk" ++ 32 ∷ u)))) ++ 10 ∷ [])) (sym (uniques_behind (columns_text t.primary) t.uniques))
+
+-- ---- channels
+
+channel_parts : (out name word : List ℕ) → ((out ++ codes "channel ") ++ name) ++ (word ++ 10 ∷ []) ≡ out ++ ((codes "channel" ++ 32 ∷ (name ++ word)) ++ 10 ∷ [])
+channel_parts out name word = simp append_assoc
+
+pub preserving_appended : (out : List ℕ) (c : Channel) → c.preserve ≡ true → ((out ++ codes "channel ") ++ c.name) ++ codes " preserve\n" ≡ out ++ ended_bundle_line (Own (Opens c))
+preserving_appended out c preserves =
+    channel_parts out c.name (codes " preserve")
+    ∙ ap (λ (b : Bool). out ++ ((codes "channel" ++ 32 ∷ (c.name ++ preserve_text b)) ++ 10 ∷ [])) (sym preserves)
+
+pub channel_appended : (out : List ℕ) (c : Channel) → c.preserve ≡ false → ((out ++ codes "channel ") ++ c.name) ++ codes "\n" ≡ out ++ ended_bundle_line (Own (Opens c))
+channel_appended out c preserves_not =
+    channel_parts out c.name []
+    ∙ ap (λ (b : Bool). out ++ ((codes "channel" ++ 32 ∷ (c.name ++ preserve_text b)) ++ 10 ∷ [])) (sym preserves_not)
+
+-- the lines of a journal within a bundle
+inner_text : (ls : List Line) → bundle_text (map Inner ls) ≡ lines_text ls
+inner_text [] = refl
+inner_text (l ∷ ls) = ap (λ (t : List ℕ). ended_line l ++ t) (inner_text ls)
+
+pub brought_appended : (out : List ℕ) (tables : List Table) (c : Channel) (j : JournalValue) → (out ++ ended_bundle_line (Own (Opens c))) ++ spelling_as Two (right_stamps Two tables j.entries) j ≡ out ++ brought_text tables c j
+unfolding brought_text
+brought_appended out tables c j =
+    append_assoc out (ended_bundle_line (Own (Opens c))) (spelling_as Two (right_stamps Two tables j.entries) j)
+    ∙ ap (λ (t : List ℕ). out ++ (ended_bundle_line (Own (Opens c)) ++ t)) (sym (inner_text (journal_lines Two (right_stamps Two tables j.entries) j)))
+
+none_brought : (tables : List Table) (cs : List Channel) (js : List JournalValue) → min (length cs) (length js) ≡ 0 → all_brought_text tables cs js ≡ []
+none_brought tables [] js none = refl
+none_brought tables (c ∷ cs) [] none = refl
+none_brought tables (c ∷ cs) (j ∷ js) none = absurd (omega arith)
+
+-- no channel or no journal is left
+pub all_brought : (out whole : List ℕ) (tables : List Table) (cs : List Channel) (js : List JournalValue) (n : ℕ) → n ≡ min (length cs) (length js) → out ++ all_brought_text tables (drop n cs) (drop n js) ≡ whole → out ≡ whole
+all_brought out whole tables cs js n is so_far =
+    let none : min (length (drop n cs)) (length (drop n js)) ≡ 0 = rw (length-drop n cs, length-drop n js) omega (arith, is) in
+    sym (ap (λ (t : List ℕ). out ++ t) (none_brought tables (drop n cs) (drop n js) none) ∙ append-nil out) ∙ so_far
+
+-- ---- the whole
+
+pub start_appended : (out : List ℕ) (replica : ℕ) (opened : Gtids) (tables : List Table) (rows : List TableRow) → ((out ++ head_text replica opened) ++ tables_text tables) ++ rows_text rows ≡ out ++ start_text replica opened tables rows
+unfolding start_text
+start_appended out replica opened tables rows = both_behind out (head_text replica opened) (tables_text tables) (rows_text rows)
+
+both_lines : (a b : List BundleLine) → bundle_text (a ++ b) ≡ bundle_text a ++ bundle_text b
+both_lines a b = flat_map-append ended_bundle_line a b
+
+lines_of_tables : (tables : List Table) → tables_text tables ≡ bundle_text (table_lines tables)
+lines_of_tables [] = refl
+lines_of_tables (t ∷ ts) = ap (λ (u : List ℕ). ended_bundle_line (Own (Has (shape_for t))) ++ u) (lines_of_tables ts)
+
+lines_of_rows : (rows : List TableRow) → rows_text rows ≡ bundle_text (row_lines rows)
+lines_of_rows [] = refl
+lines_of_rows (r ∷ rs) = ap (λ (u : List ℕ). ended_bundle_line (Own (Puts r)) ++ u) (lines_of_rows rs)
+
+lines_of_channels : (tables : List Table) (cs : List Channel) (js : List JournalValue) → all_brought_text tables cs js ≡ bundle_text (channels_lines Two cs (all_stamps Two tables js) js)
+unfolding brought_text
+lines_of_channels tables [] js = refl
+lines_of_channels tables (c ∷ cs) [] = refl
+lines_of_channels tables (c ∷ cs) (j ∷ js) =
+    ap (λ (u : List ℕ). bundle_text (channel_lines Two c (right_stamps Two tables j.entries) j) ++ u) (lines_of_channels tables cs js)
+    ∙ sym (both_lines (channel_lines Two c (right_stamps Two tables j.entries) j) (channels_lines Two cs (all_stamps Two tables js) js))
+
+lines_of_start : (rows : List TableRow) (b : BundleValue) → start_text b.replica b.opened b.start.schema rows ≡ bundle_text (start_lines Two rows b)
+unfolding start_text head_text
+lines_of_start rows b =
+    let head : List BundleLine = Own (Heads Two) ∷ Own (Names b.replica) ∷ Own (Starts b.opened) ∷ [] in
+    sym (append_assoc (bundle_text head) (tables_text b.start.schema) (rows_text rows))
+    ∙ ap (λ (u : List ℕ). (bundle_text head ++ u) ++ rows_text rows) (lines_of_tables b.start.schema)
+    ∙ ap (λ (u : List ℕ). (bundle_text head ++ bundle_text (table_lines b.start.schema)) ++ u) (lines_of_rows rows)
+    ∙ ap (λ (u : List ℕ). u ++ bundle_text (row_lines rows)) (sym (both_lines head (table_lines b.start.schema)))
+    ∙ sym (both_lines (head ++ table_lines b.start.schema) (row_lines rows))
+
+lines_of_bundle : (rows : List TableRow) (b : BundleValue) → (start_text b.replica b.opened b.start.schema rows ++ all_brought_text b.start.schema b.channels b.journals) ++ codes "done\n" ≡ bundle_spelling Two rows b
+lines_of_bundle rows b =
+    let brought : List BundleLine = channels_lines Two b.channels (all_stamps Two b.start.schema b.journals) b.journals in
+    ap (λ (u : List ℕ). (u ++ all_brought_text b.start.schema b.channels b.journals) ++ codes "done\n") (lines_of_start rows b)
+    ∙ ap (λ (u : List ℕ). (bundle_text (start_lines Two rows b) ++ u) ++ codes "done\n") (lines_of_channels b.start.schema b.channels b.journals)
+    ∙ ap (λ (u : List ℕ). u ++ codes "done\n") (sym (both_lines (start_lines Two rows b) brought))
+    ∙ sym (both_lines (start_lines Two rows b ++ brought) (Own Done ∷ []))
+
+pub bundle_appended : (out : List ℕ) (rows : List TableRow) (b : BundleValue) → ((out ++ start_text b.replica b.opened b.start.schema rows) ++ all_brought_text b.start.schema b.channels b.journals) ++ codes "done\n" ≡ out ++ bundle_spelling Two rows b
+bundle_appended out rows b =
+    ap (λ (u : List ℕ). u ++ codes "done\n") (append_assoc out (start_text b.replica b.opened b.start.schema rows) (all_brought_text b.start.schema b.channels b.journals))
+    ∙ append_assoc out (start_text b.replica b.opened b.start.schema rows ++ all_brought_text b.start.schema b.channels b.journals) (codes "done\n")
+    ∙ ap (λ (u : List ℕ). out ++ u) (lines_of_bundle rows b)

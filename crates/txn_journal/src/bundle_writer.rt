@@ -1,0 +1,237 @@
+//! Bundles written as text.
+ghost use Rattle.std.specs.Prelude.{◌≡◌, ◌∷◌, ◌++◌, IfOk, OnOk, codes, decimal};
+ghost use Rattle.std.specs.String.{string_bytes};
+ghost use Rattle.rows.specs.Listing.{rows_listed};
+ghost use Rattle.txn_journal.specs.Splits.{columns_text};
+ghost use Rattle.txn_journal.specs.Shapes.{shape_for};
+ghost use Rattle.txn_journal.specs.BundleText.{Names, Starts, Has, Puts, Opens, Own, ended_bundle_line, bundle_spelling};
+ghost use Rattle.txn_journal.specs.Texts.{columns_behind, uniques_text, tables_text, rows_text, brought_text, all_brought_text, head_text, start_text};
+ghost use Rattle.txn_journal.specs.declared.lines.Version.TheVariants.{Two};
+
+use crate::bundle::{Bundle, Channel};
+use crate::writer::{write_image, write_journal_v2, write_next_number, write_number, write_set};
+use gtid_set::GtidSet;
+use gtid_text::{SourceId, write_source};
+use journal::Journal;
+use rows::{Columns, Schema, Table, TableRow};
+use std::alloc::{AllocError, Global};
+
+/// Appends the line of a replica.
+#[tactic(auto, using(crate::proofs::BundleWriting::replica_appended))]
+fn write_replica(out: &mut String, replica: SourceId) -> Result<(), AllocError>
+    ensures { OnOk result (string_bytes out.new ≡ string_bytes out.old ++ ended_bundle_line (Own (Names replica))) }
+{
+    out.push_str("replica ")?;
+    write_source(out, replica)?;
+    out.push_str("\n")
+}
+
+/// Appends the line of an opening set.
+#[tactic(auto, using(crate::proofs::BundleWriting::opened_appended))]
+fn write_opened(alloc: Global, out: &mut String, opened: &GtidSet) -> Result<(), AllocError>
+    ensures { OnOk result (string_bytes out.new ≡ string_bytes out.old ++ ended_bundle_line (Own (Starts opened.now))) }
+{
+    out.push_str("opening ")?;
+    write_set(alloc, out, opened)?;
+    out.push_str("\n")
+}
+
+/// Appends the first three lines of a bundle.
+#[tactic(auto, using(crate::proofs::BundleWriting::head_appended))]
+fn write_head(
+    alloc: Global,
+    out: &mut String,
+    replica: SourceId,
+    opened: &GtidSet,
+) -> Result<(), AllocError>
+    ensures { OnOk result (string_bytes out.new ≡ string_bytes out.old ++ head_text replica opened.now) }
+{
+    out.push_str("bundle 2\n")?;
+    write_replica(out, replica)?;
+    write_opened(alloc, out, opened)
+}
+
+/// Appends a column behind a comma.
+fn write_next_column(out: &mut String, column: u32) -> Result<(), AllocError>
+    ensures { OnOk result (string_bytes out.new ≡ string_bytes out.old ++ 44 ∷ decimal column) }
+{
+    out.push_str(",")?;
+    write_number(out, u64::from(column))
+}
+
+/// Appends columns, each behind a comma.
+fn write_next_columns(out: &mut String, columns: &[u32]) -> Result<(), AllocError>
+    ensures { OnOk result (string_bytes out.new ≡ string_bytes out.old ++ columns_behind columns.now) }
+{
+    for column in columns {
+        write_next_column(out, *column)?;
+    }
+    Ok(())
+}
+
+/// Appends columns with a comma between.
+fn write_columns(out: &mut String, columns: &[u32]) -> Result<(), AllocError>
+    ensures { OnOk result (string_bytes out.new ≡ string_bytes out.old ++ columns_text columns.now) }
+{
+    let [first, others @ ..] = columns else {
+        return Ok(());
+    };
+    write_number(out, u64::from(*first))?;
+    write_next_columns(out, others)
+}
+
+/// Appends the columns of a unique key.
+fn write_unique(out: &mut String, columns: &Columns) -> Result<(), AllocError>
+    ensures { OnOk result (string_bytes out.new ≡ string_bytes out.old ++ (codes " uk " ++ columns_text columns.now)) }
+{
+    out.push_str(" uk ")?;
+    write_columns(out, columns.as_slice())
+}
+
+/// Appends the columns of unique keys.
+fn write_uniques(out: &mut String, uniques: &[Columns]) -> Result<(), AllocError>
+    ensures { OnOk result (string_bytes out.new ≡ string_bytes out.old ++ uniques_text uniques.now) }
+{
+    for columns in uniques {
+        write_unique(out, columns)?;
+    }
+    Ok(())
+}
+
+/// Appends the line of a table.
+#[tactic(auto, using(crate::proofs::BundleWriting::table_appended))]
+fn write_table(out: &mut String, table: &Table) -> Result<(), AllocError>
+    ensures { OnOk result (string_bytes out.new ≡ string_bytes out.old ++ ended_bundle_line (Own (Has (shape_for table.now)))) }
+{
+    out.push_str("table ")?;
+    out.push_str(table.name.as_str())?;
+    write_next_number(out, u64::from(table.columns))?;
+    out.push_str(" pk ")?;
+    write_columns(out, table.primary.as_slice())?;
+    write_uniques(out, table.uniques.as_slice())?;
+    out.push_str("\n")
+}
+
+/// Appends the lines of tables.
+fn write_tables(out: &mut String, tables: &[Table]) -> Result<(), AllocError>
+    ensures { OnOk result (string_bytes out.new ≡ string_bytes out.old ++ tables_text tables.now) }
+{
+    for table in tables {
+        write_table(out, table)?;
+    }
+    Ok(())
+}
+
+/// Appends the line of a row.
+fn write_row(alloc: Global, out: &mut String, row: &TableRow) -> Result<(), AllocError>
+    ensures { OnOk result (string_bytes out.new ≡ string_bytes out.old ++ ended_bundle_line (Own (Puts row.now))) }
+{
+    write_image(alloc, out, "row", &row.table, &row.row)?;
+    out.push_str("\n")
+}
+
+/// Appends the lines of rows.
+fn write_rows(alloc: Global, out: &mut String, rows: &[TableRow]) -> Result<(), AllocError>
+    ensures { OnOk result (string_bytes out.new ≡ string_bytes out.old ++ rows_text rows.now) }
+{
+    for row in rows {
+        write_row(alloc, out, row)?;
+    }
+    Ok(())
+}
+
+/// Appends the line of a channel.
+#[tactic(auto, using(crate::proofs::BundleWriting::preserving_appended, crate::proofs::BundleWriting::channel_appended))]
+fn write_channel(out: &mut String, channel: &Channel) -> Result<(), AllocError>
+    ensures { OnOk result (string_bytes out.new ≡ string_bytes out.old ++ ended_bundle_line (Own (Opens channel.now))) }
+{
+    out.push_str("channel ")?;
+    out.push_str(channel.name.as_str())?;
+    if channel.preserve {
+        out.push_str(" preserve\n")
+    } else {
+        out.push_str("\n")
+    }
+}
+
+/// Appends the lines of a channel and its journal.
+#[tactic(auto, using(crate::proofs::BundleWriting::brought_appended))]
+fn write_brought(
+    alloc: Global,
+    out: &mut String,
+    schema: &Schema,
+    channel: &Channel,
+    journal: &Journal,
+) -> Result<(), AllocError>
+    ensures { OnOk result (string_bytes out.new ≡ string_bytes out.old ++ brought_text schema.now channel.now journal.now) }
+{
+    write_channel(out, channel)?;
+    write_journal_v2(alloc, out, schema, journal)
+}
+
+/// Appends the lines of channels and their journals.
+fn write_channels(
+    alloc: Global,
+    out: &mut String,
+    schema: &Schema,
+    channels: &[Channel],
+    journals: &[Journal],
+) -> Result<(), AllocError>
+    ensures { OnOk result (string_bytes out.new ≡ string_bytes out.old ++ all_brought_text schema.now channels.now journals.now) }
+{
+    for (channel, journal) in channels.iter().zip(journals) {
+        write_brought(alloc, out, schema, channel, journal)?;
+    }
+    Ok(())
+}
+
+/// Appends the lines before the first channel.
+#[tactic(auto, using(crate::proofs::BundleWriting::start_appended))]
+fn write_start(
+    alloc: Global,
+    out: &mut String,
+    replica: SourceId,
+    opened: &GtidSet,
+    tables: &[Table],
+    rows: &[TableRow],
+) -> Result<(), AllocError>
+    ensures { OnOk result (string_bytes out.new ≡ string_bytes out.old ++ start_text replica opened.now tables.now rows.now) }
+{
+    write_head(alloc, out, replica, opened)?;
+    write_tables(out, tables)?;
+    write_rows(alloc, out, rows)
+}
+
+/// Appends the text of a bundle, whose rows come in this order.
+#[tactic(auto, using(crate::proofs::BundleWriting::bundle_appended))]
+fn write_bundle(
+    alloc: Global,
+    out: &mut String,
+    rows: &[TableRow],
+    bundle: &Bundle,
+) -> Result<(), AllocError>
+    ensures { OnOk result (string_bytes out.new ≡ string_bytes out.old ++ bundle_spelling Two rows.now bundle.now) }
+{
+    let schema = bundle.schema();
+    write_start(
+        alloc,
+        out,
+        bundle.replica(),
+        bundle.opened(),
+        schema.tables(),
+        rows,
+    )?;
+    write_channels(alloc, out, schema, bundle.channels(), bundle.journals())?;
+    out.push_str("done\n")
+}
+
+/// The text of a bundle by version 2 of the format: its lines, each ended by one line feed. Rows come by table name, and
+/// then by the values of their primary key; each entry has its last_committed and its sequence number.
+pub fn encode_bundle_v2(alloc: Global, bundle: &Bundle) -> Result<Vec<u8>, AllocError>
+    ensures { IfOk result (λ bytes. bytes.items ≡ bundle_spelling Two (rows_listed bundle.now.start.rows) bundle.now) }
+{
+    let rows = bundle.rows().list_sorted(alloc)?;
+    let mut out = String::new(alloc);
+    write_bundle(alloc, &mut out, rows.as_slice(), bundle)?;
+    Ok(out.into_bytes())
+}
