@@ -1,9 +1,9 @@
 -- Bundles obey the laws of formats: what is spelled is read to its end, and what has been read can be gone on with.
-use Rattle.std.proofs.Common.{◌≡◌, ℕ, ◌+◌, ◌<◌, ◌≤◌, ◌⊎◌, inl, inr, Bool, true, false, cond, not, eqb, List, [], ◌∷◌, ◌++◌, length, map, Option, Some, None, Result, Ok, Err, refl, sym, ap, subst, ◌∙◌, append_assoc, arith}
+use Rattle.std.proofs.Common.{◌≡◌, ℕ, ◌+◌, ◌<◌, ◌≤◌, Bool, true, false, cond, not, eqb, List, [], ◌∷◌, ◌++◌, length, map, Option, Some, None, Result, Ok, Err, refl, sym, ap, subst, ◌∙◌, append_assoc, arith}
 use Rattle.std.specs.List.{list_all, AllByRecursion}
 use Rattle.std.specs.Prelude.{◌&&◌, MatchResult}
 use Rattle.std.proofs.lemmas.Bool.{lt-leb, and_parts, eq-eqb, not-true}
-use Rattle.std.proofs.lemmas.List.{append-nil, length-append, length-map, map-append, map_push}
+use Rattle.std.proofs.lemmas.List.{append-nil, length-append, map-append}
 use Rattle.rows.specs.Apply.{Rows}
 use Rattle.rows.specs.declared.schema.Table.{Table}
 use Rattle.rows.specs.declared.change.TableRow.{TableRow}
@@ -11,7 +11,7 @@ use Rattle.journal.specs.Journals.{JournalValue}
 use Rattle.journal.specs.Writing.{is_image_writable}
 use Rattle.gtid_set.specs.Sets.{Gtids}
 use Rattle.journal.specs.declared.Entry.{Entry}
-use Rattle.logical_timestamps.proofs.Timestamps.{last_committed_earlier, each_last_committed_more}
+use Rattle.logical_timestamps.proofs.Timestamps.{last_committed_earlier}
 use Rattle.logical_timestamps.specs.Timestamps.{each_last_committed}
 use Rattle.txn_journal.specs.Stamps.{no_stamps, right_stamp, right_stamps, all_stamps}
 use Rattle.txn_journal.specs.Words.{IsOneLine}
@@ -22,7 +22,7 @@ use Rattle.txn_journal.specs.Spelling.{Line, End, Close, line_text, journal_line
 use Rattle.txn_journal.specs.Shapes.{shape_for}
 use Rattle.txn_journal.specs.BundleStates.{BundleValue, BundleStanding, bare, no_bundle, behind_replica, is_due_in, with_opening, put_row, has_channel, joined_channel, closed_channel, after_inner, is_misstamped, unless_misstamped, judge_own, judge_inner, judge_part, judge_by, judge_bundle, is_done}
 use Rattle.txn_journal.specs.BundleReading.{is_inside, is_entry_open, bundles}
-use Rattle.txn_journal.specs.BundleText.{OwnLine, BundleLine, Own, Inner, Heads, Names, Starts, Has, Puts, Opens, Done, own_text, bundle_line_text, table_lines, row_lines, channel_lines, channels_lines, opening_set_lines, tables_lines, start_lines, bundle_lines, FitsRow, AreAdded, put_all, AreNamed, IsWrittenIn, AreBrought, IsOpeningSet, bundle_text, bundle_front, IsWrittenBundle, WritesBundleAs, WritesBundleBy, IsLastStamped, AreAlmostStamped, AlmostWritesAs, AlmostWritesBundle}
+use Rattle.txn_journal.specs.BundleText.{OwnLine, BundleLine, Own, Inner, Heads, Names, Starts, Has, Puts, Opens, Done, own_text, bundle_line_text, table_lines, row_lines, channel_lines, channels_lines, opening_set_lines, tables_lines, start_lines, bundle_lines, FitsRow, AreAdded, put_all, AreNamed, IsWrittenIn, AreBrought, IsOpeningSet, bundle_text, IsWrittenBundle, WritesBundleBy, IsLastStamped, AreAlmostStamped, AlmostWritesBundle}
 use Rattle.txn_journal.specs.BundleCauses.{own_word, FitsOwn, own_wording}
 use Rattle.txn_journal.specs.declared.bundle.Channel.{Channel}
 use Rattle.txn_journal.specs.declared.bundle_draft.Part.{Part}
@@ -469,7 +469,7 @@ begins_inside due version rows b c draft w o =
     let channel : channel_lines version c stamps k.journal ≡ inside ++ map Inner k.more = ap (λ (ls : List Line). Own (Opens c) ∷ map Inner ls) whole ∙ ap (λ (ls : List BundleLine). Own (Opens c) ∷ ls) (map-append Inner (said draft) k.more) in
     let written = channel_written version rows b c draft k.journal w.written o k.fits k.fitting in
     let lines : (fs : List BundleLine) → fs ≡ before ++ channel_lines version c stamps k.journal → fs ++ Own Done ∷ [] ≡ (before ++ inside) ++ more = λ fs e.
-        ap (λ (ls : List BundleLine). ls ++ Own Done ∷ []) (e ∙ ap (λ (ls : List BundleLine). before ++ ls) channel ∙ sym (append_assoc before inside (map Inner k.more))) ∙ append_assoc (before ++ inside) (map Inner k.more) (Own Done ∷ []) in
+    ap (λ (ls : List BundleLine). ls ++ Own Done ∷ []) (e ∙ ap (λ (ls : List BundleLine). before ++ ls) channel ∙ sym (append_assoc before inside (map Inner k.more))) ∙ append_assoc (before ++ inside) (map Inner k.more) (Own Done ∷ []) in
     elim (is_within draft.place) as (λ v. is_within draft.place ≡ v → CanGoOn (bundles due) v (before ++ inside)) [
       | true ↦ λ within.
           let all = all_stamps version tables b.journals ++ stamps ∷ [] in

@@ -39,7 +39,7 @@ use Rattle.txn_journal.specs.declared.lines.Version.{Version}
 use Rattle.txn_journal.specs.declared.lines.Version.TheVariants.{One, Two}
 use Rattle.txn_journal.specs.declared.lines.Place.{Place}
 use Rattle.txn_journal.specs.declared.lines.Place.TheVariants as places
-use Rattle.txn_journal.proofs.SoundLines.{Sound_at, IsSound, EntriesGo, SameEntries, judged_line}
+use Rattle.txn_journal.proofs.SoundLines.{IsSound, EntriesGo, SameEntries, judged_line}
 use Rattle.txn_journal.proofs.ShapeLaws.{TableErr, with_both}
 use Rattle.txn_journal.proofs.OneBundle.{put_both}
 use Rattle.txn_journal.proofs.OwnReads.{own_body, own_put, own_reads, own_laws}
@@ -47,7 +47,7 @@ use Rattle.rows.proofs.Lists.{all_append}
 use Rattle.std.specs.Prelude.{MatchResult}
 use Rattle.std.proofs.lemmas.Result.{MatchResult-weaker}
 use Rattle.txn_journal.specs.Wordings.{Says, HasCauseBy}
-use Rattle.txn_journal.specs.Causes.{word_for, HasCause}
+use Rattle.txn_journal.specs.Causes.{word_for}
 use Rattle.txn_journal.proofs.Judged.{then_both, if_both, known_both, IsSchema, bind_ok, ok_is}
 use Rattle.txn_journal.proofs.WordLaws.{judged_both}
 use Rattle.txn_journal.proofs.JournalLaws.{ended}

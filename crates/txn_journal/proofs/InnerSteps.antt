@@ -1,5 +1,5 @@
 -- Lines of the journal that is open in a bundle, step by step.
-use Rattle.std.proofs.Common.{◌≡◌, ℕ, ◌<◌, ◌+◌, inl, inr, Bool, true, false, not, cond, eqb, List, [], ◌∷◌, ◌++◌, length, Option, Some, None, Result, Ok, Err, refl, sym, ap, subst, ◌∙◌, arith}
+use Rattle.std.proofs.Common.{◌≡◌, ℕ, inl, Bool, true, false, not, cond, eqb, List, [], Option, Some, Result, Ok, Err, refl, sym, ap, subst, ◌∙◌, arith}
 use Rattle.std.specs.Prelude.{MatchResult, ◌&&◌, codes}
 use Rattle.std.specs.Str.{bytes_eq}
 use Rattle.std.proofs.lemmas.Bool.{and_parts, eqb-true, eq-eqb}
@@ -12,7 +12,7 @@ use Rattle.journal.specs.declared.Entry.{Entry}
 use Rattle.logical_timestamps.specs.Writers.{Writers, writers_after}
 use Rattle.txn_journal.specs.Writers.{AreWriters}
 use Rattle.txn_journal.specs.Due.{is_due}
-use Rattle.txn_journal.specs.Lines.{◌>>=◌, stamp_in}
+use Rattle.txn_journal.specs.Lines.{◌>>=◌}
 use Rattle.txn_journal.specs.Machine.{Standing, is_last, is_within, IsFull, open_entry, joined, closed, judge}
 use Rattle.txn_journal.specs.Reading.{has_begun}
 use Rattle.txn_journal.specs.Spelling.{Line, Header, Previous, Begin, Makes, End, Close, line_text}

@@ -1,6 +1,5 @@
 -- Journals obey the laws of formats: what is spelled is read to its end, and what has been read can be gone on with.
 use Rattle.std.proofs.Common.{◌≡◌, ℕ, ◌+◌, ◌^◌, ◌<◌, ◌≤◌, Bool, true, false, not, eqb, leb, List, [], ◌∷◌, ◌++◌, length, map, Option, Some, None, Ok, refl, sym, ap, subst, ◌∙◌, append_assoc, arith}
-use Rattle.std.specs.Prelude.{decimal}
 use Rattle.std.specs.List.{list_all, AllByRecursion}
 use Rattle.std.specs.FinSet as set
 use Rattle.std.proofs.lemmas.Bool.{eq-eqb, lt-ltb, lt-leb, and_parts, leb-true}
@@ -24,7 +23,7 @@ use Rattle.txn_journal.specs.Due.{is_due}
 use Rattle.txn_journal.specs.Stamps.{no_stamps}
 use Rattle.txn_journal.specs.Lines.{Numbers, takes, stamp_in}
 use Rattle.txn_journal.specs.Stream.{Judge}
-use Rattle.txn_journal.specs.Machine.{Standing, empty, is_last, is_within, fits, open_entry, closed, add, begin_stamped, begin, judge}
+use Rattle.txn_journal.specs.Machine.{Standing, empty, is_last, is_within, fits, open_entry, closed, add, begin, judge}
 use Rattle.txn_journal.specs.Spelling.{Line, Header, Previous, Begin, Makes, End, Close, numbers_text, values_text, change_text, line_text, lines_text, numbers_of, entry_lines, entries_lines, front_lines, journal_lines, spelling_as, AreValues, FitsChange, FitsEntry, IsWritten, IsStamp, AreStamps, WritesAs, Writes}
 use Rattle.txn_journal.specs.declared.lines.Place.TheVariants as places
 use Rattle.txn_journal.specs.declared.lines.Version.{Version}
@@ -34,14 +33,13 @@ use Rattle.txn_journal.proofs.SplitLaws.{joined_lacks, count_no_feed}
 use Rattle.txn_journal.proofs.ImageLaws.{texts_lack}
 use Rattle.txn_journal.proofs.GtidLaws.{gtid_set_bytes, is_set_byte, set_no_feed, joins, set_no_feeds, none_written}
 use Rattle.txn_journal.specs.Reading.{journals_as, journals, WrittenJournal, as_written, IsWrittenAs, written_journals}
-use Rattle.txn_journal.proofs.FormatLaws.{Leads, leads_none, leads_one, leads_both, Reads, Laws}
-use Rattle.txn_journal.specs.Formats.{Format}
+use Rattle.txn_journal.proofs.FormatLaws.{Leads, leads_none, leads_one, leads_both, Laws}
 use Rattle.txn_journal.specs.Causes.{word_for, AreCounts, HasNumbers, FitsLine, HasImages, FitsAt, wording}
 use Rattle.txn_journal.proofs.LineReads.{body_of, put, judge_reads, rest_laws}
 use Rattle.txn_journal.proofs.WordLaws.{judged_again}
 use Rattle.txn_journal.proofs.SoundLines.{placed, fits_in, seen_after, Whole, Sound_at, IsSound, whole_more, ended_entry, whole_written, judged_line}
 use Rattle.std.proofs.lemmas.Result.{MatchResult-weaker}
-use Rattle.txn_journal.specs.Heard.{said_at, said}
+use Rattle.txn_journal.specs.Heard.{said}
 use Rattle.txn_journal.specs.declared.lines.Place.{Place}
 
 -- ---- no line feed stands in a line

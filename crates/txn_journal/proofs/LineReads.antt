@@ -4,8 +4,6 @@ use Rattle.std.specs.Prelude.{codes, MatchResult, ◌&&◌}
 use Rattle.std.proofs.lemmas.Bool.{and_parts}
 use Rattle.std.proofs.lemmas.List.{append-nil}
 use Rattle.gtid_set.proofs.SpanLemmas.{all_weaker}
-use Rattle.std.specs.Str.{bytes_eq}
-use Rattle.std.proofs.lemmas.Slice.Eq.{bytes_eq-Decides}
 use Rattle.gtid_text.specs.Written.{IsUsable}
 use Rattle.gtid_text.specs.Canonical.{gtid_text}
 use Rattle.gtid_text.specs.declared.Gtid.{Gtid}

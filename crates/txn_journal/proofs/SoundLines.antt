@@ -1,5 +1,5 @@
 -- What the lines so far have said is kept by one line more.
-use Rattle.std.proofs.Common.{◌≡◌, ℕ, ◌+◌, ◌<◌, ◌≤◌, inl, inr, Bool, true, false, not, eqb, leb, cond, List, [], ◌∷◌, ◌++◌, length, map, Option, Some, None, refl, sym, ap, subst, ◌∙◌, append_assoc, arith}
+use Rattle.std.proofs.Common.{◌≡◌, ℕ, ◌+◌, ◌<◌, ◌≤◌, inl, inr, Bool, true, false, not, leb, List, [], ◌∷◌, ◌++◌, length, map, Option, Some, None, refl, sym, ap, subst, ◌∙◌, append_assoc, arith}
 use Rattle.std.specs.Prelude.{◌||◌, MatchResult, nat_lt}
 use Rattle.std.specs.List.{list_all, AllByRecursion}
 use Rattle.std.specs.FinSet as set
@@ -17,7 +17,7 @@ use Rattle.gtid_set.proofs.SpanLemmas.{all_push}
 use Rattle.rows.specs.declared.change.Change.{Change}
 use Rattle.rows.specs.declared.schema.Table.{Table}
 use Rattle.journal.specs.declared.Entry.{Entry}
-use Rattle.journal.specs.Journals.{JournalValue, AreNew}
+use Rattle.journal.specs.Journals.{AreNew}
 use Rattle.journal.specs.Writing.{is_number, is_change_writable, is_writable}
 use Rattle.txn_journal.specs.WrittenSets.{IsWrittenSet}
 use Rattle.txn_journal.specs.Due.{is_due}
@@ -260,18 +260,21 @@ keeps_at schema places.Previous s line (Previous p) h is k = record {
   same_due = refl;
   says = ap (λ (ls : List ℕ). opening_lines s.version p ++ entries_lines s.version 1 ls []) h.0.none_stamped;
   goes = record { stamps = h.0.none_stamped; entries = refl };
-  sound = (record {
-    due = h.1;
-    new = tt;
-    writable = refl;
-    previous = k.fits.words;
-    fits = tt;
-    fitting = refl;
-    stamped = subst (λ (ls : List ℕ). AreStamps s.version 1 ls []) (sym h.0.none_stamped) tt;
-    all_seen = refl;
-    counted = h.0.none_counted;
-    few = omega (arith, h.0.none_counted);
-  }, h.0.none_open);
+  sound = (
+    record {
+      due = h.1;
+      new = tt;
+      writable = refl;
+      previous = k.fits.words;
+      fits = tt;
+      fitting = refl;
+      stamped = subst (λ (ls : List ℕ). AreStamps s.version 1 ls []) (sym h.0.none_stamped) tt;
+      all_seen = refl;
+      counted = h.0.none_counted;
+      few = omega (arith, h.0.none_counted);
+    },
+    h.0.none_open,
+  );
 }
 keeps_at schema places.Between s line (Begin x numbers) h is k =
     begin_both schema (placed places.Between s) line x numbers _ k (λ number room stamp e unseen.

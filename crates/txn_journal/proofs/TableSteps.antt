@@ -1,5 +1,5 @@
 -- The words of a table's line, step by step.
-use Rattle.std.proofs.Common.{◌≡◌, ℕ, ◌<◌, inl, inr, Bool, true, false, cond, eqb, List, [], ◌∷◌, ◌++◌, length, arith, Option, Some, None, Result, Ok, Err, refl, sym, ap, subst, ◌∙◌, append_assoc}
+use Rattle.std.proofs.Common.{◌≡◌, ℕ, ◌<◌, inl, inr, true, false, cond, eqb, List, [], ◌∷◌, ◌++◌, length, arith, Option, Some, None, Result, Ok, Err, refl, sym, ap, ◌∙◌, append_assoc}
 use Rattle.std.specs.Prelude.{is_some}
 use Rattle.std.proofs.lemmas.Option.{same_Some}
 use Rattle.gtid_text.proofs.Turns.{chosen}
@@ -13,7 +13,6 @@ use Rattle.rows.specs.declared.change.RowFault.{RowFault}
 use Rattle.txn_journal.specs.Words.{before, behind}
 use Rattle.txn_journal.specs.Splits.{parts_of}
 use Rattle.txn_journal.specs.BundleStates.{with_opening, ok_rows}
-use Rattle.txn_journal.specs.declared.fault.Cause.{Cause}
 use Rattle.txn_journal.specs.declared.fault.Cause.TheVariants as causes
 use Rattle.txn_journal.proofs.SplitLaws.{parts_cut, more_parts}
 

@@ -2,7 +2,6 @@ use Rattle.std.proofs.Common.{ap}
 use Rattle.std.proofs.lemmas.Result.{err_from_is_err_and}
 use Rattle.txn_journal.specs.Machine.{Standing}
 use Rattle.txn_journal.specs.Drafts.{standing}
-use Rattle.txn_journal.specs.BundleStates.{BundleStanding}
 use Rattle.txn_journal.specs.BundleDrafts.{bundle_standing}
 use Rattle.txn_journal.proofs.InnerSteps.{AtEnd, ends_wrong, ends_well, ends_failed}
 use Rattle.txn_journal.proofs.bundle_draft.BundleDraft.end_entry.Goals as goal

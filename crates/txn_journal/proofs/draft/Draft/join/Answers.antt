@@ -1,4 +1,4 @@
-use Rattle.std.proofs.Common.{refl, sym, arith, ◌∙◌}
+use Rattle.std.proofs.Common.{arith}
 use Rattle.std.proofs.lemmas.Result.{err_from_is_err_and}
 use Rattle.txn_journal.proofs.Seen.{seen_pushed, seen_more}
 use Rattle.txn_journal.proofs.FullSets.{seen_full}
