@@ -1,5 +1,5 @@
 -- What a bundle is asked for, and what is answered.
-use Rattle.std.specs.Prelude.{ℕ, ◌<◌, List, Result, Ok, Err}
+use Rattle.std.specs.Prelude.{ℕ, ◌<◌, List, None, Result, Ok, Err}
 use Rattle.std.specs.FinSet as set
 use Rattle.rows.specs.declared.change.RowFault.{RowFault}
 use Rattle.rows.specs.Apply.{Rows}
@@ -24,7 +24,7 @@ use Rattle.commands.specs.declared.edge.Outcome.TheVariants.{Done, Refused}
 
 -- the bundle that the bytes spell, or the first fault
 abbrev pub bundle_in : List ℕ → Result BundleValue JournalFault
-bundle_in bytes = closing_bundle (eats_bundle bundle_start bytes)
+bundle_in bytes = closing_bundle (eats_bundle (bundle_start None) bytes)
 
 -- the grammar of bundles says so
 abbrev pub SpellsBundle : List ℕ → Result BundleValue JournalFault → Type 0

@@ -4,7 +4,7 @@ use Rattle.txn_journal.specs.declared.fault.Cause.{Cause}
 use Rattle.txn_journal.specs.declared.fault.Cause.TheVariants as causes
 use Rattle.txn_journal.specs.declared.fault.JournalFault.{JournalFault}
 use Rattle.txn_journal.specs.declared.fault.JournalFault.TheVariants as journals
-use Rattle.gtid_report.specs.declared.refusal.LineCause.TheVariants.{Keyword, Body, Limit, Schema}
+use Rattle.gtid_report.specs.declared.refusal.LineCause.TheVariants.{Keyword, Body, Limit, Schema, Stamp}
 use Rattle.gtid_report.specs.declared.refusal.Refusal.{Refusal}
 use Rattle.gtid_text.specs.declared.fault.TextFault.{TextFault}
 use Rattle.gtid_text.specs.declared.fault.TextFault.TheVariants as texts
@@ -35,6 +35,7 @@ line_refusal line causes.Keyword = Line line Keyword
 line_refusal line causes.Body = Line line Body
 line_refusal line causes.Limit = Line line Limit
 line_refusal line causes.Schema = Line line Schema
+line_refusal line causes.Stamp = Line line Stamp
 line_refusal line (causes.Twice gtid) = Twice gtid
 
 abbrev pub journal_fault : JournalFault → Fault

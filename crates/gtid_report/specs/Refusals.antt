@@ -4,7 +4,7 @@ use Rattle.gtid_text.specs.Canonical.{gtid_text}
 use Rattle.gtid_report.specs.declared.refusal.Refusal.{Refusal}
 use Rattle.gtid_report.specs.declared.refusal.Refusal.TheVariants.{BadUuid, NoInterval, BadNumber, NumberRange, Reversed, Stray, PoolFull, SourcesFull, Line, Truncated, Twice, Version, Usage}
 use Rattle.gtid_report.specs.declared.refusal.LineCause.{LineCause}
-use Rattle.gtid_report.specs.declared.refusal.LineCause.TheVariants.{Keyword, Body, Limit, Schema}
+use Rattle.gtid_report.specs.declared.refusal.LineCause.TheVariants.{Keyword, Body, Limit, Schema, Stamp}
 
 -- what is wrong with a line
 abbrev pub cause_word : LineCause → List ℕ
@@ -12,6 +12,7 @@ cause_word Keyword = codes "keyword"
 cause_word Body = codes "body"
 cause_word Limit = codes "limit"
 cause_word Schema = codes "schema"
+cause_word Stamp = codes "stamp"
 
 -- its number and its name
 abbrev pub refusal_name : Refusal → List ℕ

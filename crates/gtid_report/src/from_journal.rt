@@ -16,6 +16,7 @@ fn line_refusal(line: u64, cause: Cause) -> Refusal
         Cause::Body => Refusal::Line(line, LineCause::Body),
         Cause::Limit => Refusal::Line(line, LineCause::Limit),
         Cause::Schema => Refusal::Line(line, LineCause::Schema),
+        Cause::Stamp => Refusal::Line(line, LineCause::Stamp),
         Cause::Twice(gtid) => Refusal::Twice(gtid),
     }
 }

@@ -12,6 +12,7 @@ pub enum LineCause {
     Body,
     Limit,
     Schema,
+    Stamp,
 }
 
 /// Why content is refused. Offsets are in bytes from 0, and lines count from 1.
@@ -40,6 +41,7 @@ fn cause_word(cause: LineCause) -> &'static str
         LineCause::Body => "body",
         LineCause::Limit => "limit",
         LineCause::Schema => "schema",
+        LineCause::Stamp => "stamp",
     }
 }
 

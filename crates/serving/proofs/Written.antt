@@ -123,7 +123,8 @@ as_many tables (c ∷ cs) (j ∷ js) h = let rest = as_many tables cs js h.1 in 
 -- ---- a bundle
 
 pub written_servable : WrittenIsServable
-written_servable bytes b (rows, written, text) =
+written_servable bytes b (version, due, w) =
+    let written = w.written in
     let all = all_fit b.start.schema b.channels b.journals written.brought in
     record {
       few = let many = as_many b.start.schema b.channels b.journals written.brought in let most = written.few in omega (arith, many, most);
