@@ -15,14 +15,18 @@ use Rattle.logical_timestamps.proofs.Timestamps.{last_committed_earlier}
 use Rattle.logical_timestamps.specs.Timestamps.{each_last_committed}
 use Rattle.txn_journal.specs.Stamps.{no_stamps, right_stamp, right_stamps, all_stamps}
 use Rattle.txn_journal.specs.Words.{IsOneLine}
-use Rattle.txn_journal.specs.Stream.{Judge}
+use Rattle.txn_journal.specs.Formats.{closing_by}
+use Rattle.rows.specs.Listing.{rows_listed}
+use Rattle.txn_journal.specs.WrittenSets.{IsWrittenSet}
+use Rattle.txn_journal.proofs.ListedRows.{listed_opening}
+use Rattle.txn_journal.specs.Stream.{Progress, Reading, Stopped, Judge}
 use Rattle.txn_journal.specs.Lines.{◌>>=◌, takes}
 use Rattle.txn_journal.specs.Machine.{Standing, empty, is_last, is_within, open_entry, judge}
 use Rattle.txn_journal.specs.Spelling.{Line, End, Close, line_text, journal_lines, IsStamp, AreStamps}
 use Rattle.txn_journal.specs.Shapes.{shape_for}
 use Rattle.txn_journal.specs.BundleStates.{BundleValue, BundleStanding, bare, no_bundle, behind_replica, is_due_in, with_opening, put_row, has_channel, joined_channel, closed_channel, after_inner, is_misstamped, unless_misstamped, judge_own, judge_inner, judge_part, judge_by, judge_bundle, is_done}
-use Rattle.txn_journal.specs.BundleReading.{is_inside, is_entry_open, bundles}
-use Rattle.txn_journal.specs.BundleText.{OwnLine, BundleLine, Own, Inner, Heads, Names, Starts, Has, Puts, Opens, Done, own_text, bundle_line_text, table_lines, row_lines, channel_lines, channels_lines, opening_set_lines, tables_lines, start_lines, bundle_lines, FitsRow, AreAdded, put_all, AreNamed, IsWrittenIn, AreBrought, IsOpeningSet, bundle_text, IsWrittenBundle, WritesBundleBy, IsLastStamped, AreAlmostStamped, AlmostWritesBundle}
+use Rattle.txn_journal.specs.BundleReading.{is_inside, is_entry_open, bundles, closing_bundle, IsReadAs}
+use Rattle.txn_journal.specs.BundleText.{OwnLine, BundleLine, Own, Inner, Heads, Names, Starts, Has, Puts, Opens, Done, own_text, bundle_line_text, table_lines, row_lines, channel_lines, channels_lines, opening_set_lines, tables_lines, start_lines, bundle_lines, FitsRow, AreAdded, put_all, AreNamed, IsWrittenIn, AreBrought, IsOpeningSet, bundle_text, upgrade_of, IsWrittenBundle, WritesBundleBy, IsLastStamped, AreAlmostStamped, AlmostWritesBundle}
 use Rattle.txn_journal.specs.BundleCauses.{own_word, FitsOwn, own_wording}
 use Rattle.txn_journal.specs.declared.bundle.Channel.{Channel}
 use Rattle.txn_journal.specs.declared.bundle_draft.Part.{Part}
@@ -34,7 +38,7 @@ use Rattle.txn_journal.specs.declared.lines.Place.TheVariants as places
 use Rattle.txn_journal.specs.declared.lines.Version.TheVariants.{One, Two}
 use Rattle.std.proofs.lemmas.Simd.{map-map}
 use Rattle.txn_journal.proofs.Judged.{bind_ok, done, ok_is}
-use Rattle.txn_journal.proofs.FormatLaws.{runs, Leads, leads_none, leads_one, leads_both, Reads, CanGoOn, Laws}
+use Rattle.txn_journal.proofs.FormatLaws.{reads_back, runs, Leads, leads_none, leads_one, leads_both, Reads, CanGoOn, Laws}
 use Rattle.txn_journal.proofs.SoundLines.{placed, Sound_at, IsSound, Taken, judged_line, stamps_more}
 use Rattle.txn_journal.proofs.GtidLaws.{none_written}
 use Rattle.gtid_text.specs.Written.{IsSource}
@@ -532,3 +536,38 @@ bundle_laws due = record {
   refuses = λ s ls line c h e inside. refuses h.1.0 s line c h.1.2 e inside;
   reads_open = reads_almost due;
 }
+
+-- ---- whichever version is due, the end is the same
+
+pub closing_same : (due : Option Version) (p : Progress BundleStanding) → closing_bundle p ≡ closing_by (bundles due) p
+unfolding closing_by
+closing_same due (Reading s n rest) = refl
+closing_same due (Stopped f) = refl
+
+-- ---- a bundle of version 1 as one of version 2
+
+pub upgraded : (bytes : List ℕ) (b : BundleValue) → WritesBundleBy (Some One) bytes b → WritesBundleBy (Some Two) (upgrade_of b) b
+upgraded bytes b (One, is, w) =
+    let k = w.written in
+    (Two, refl, record {
+      rows = rows_listed b.start.rows;
+      written = record {
+        replica = k.replica;
+        opened = subst IsWrittenSet (sym k.opened) none_written;
+        tables = k.tables;
+        opening = listed_opening b.start.schema w.rows b.start.rows k.opening;
+        named = k.named;
+        few = k.few;
+        brought = k.brought;
+      };
+      text = refl;
+    })
+upgraded bytes b (Two, is, w) = absurd (let k = is in cc)
+
+pub upgraded_read : (bytes : List ℕ) (b : BundleValue) → WritesBundleBy (Some One) bytes b → IsReadAs (upgrade_of b) b
+upgraded_read bytes b w =
+    let u = upgraded bytes b w in
+    reads_back (bundles None) (IsSoundBundle None) (bundle_laws None) (upgrade_of b) b (u.0, any_version u.0, u.2)
+  where
+    any_version : (v : Version) → takes None v ≡ true
+    any_version v = refl

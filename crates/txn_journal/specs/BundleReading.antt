@@ -1,5 +1,5 @@
 -- Bundles as a format, and a bundle that comes in pieces.
-use Rattle.std.specs.Prelude.{◌≡◌, ℕ, Bool, true, false, List, Option, Some, None, Result}
+use Rattle.std.specs.Prelude.{◌≡◌, ℕ, Bool, true, false, List, Option, Some, None, Result, Ok}
 use Rattle.gtid_set.specs.declared.fault.SetFault.{SetFault}
 use Rattle.rows.specs.declared.change.TableRow.{TableRow}
 use Rattle.txn_journal.specs.declared.fault.JournalFault.{JournalFault}
@@ -66,3 +66,7 @@ IsFaultOfBundle p bytes fault = IsFaultBy (bundles None) p bytes fault
 -- the end of the text
 abbrev pub closing_bundle : Progress BundleStanding → Result BundleValue JournalFault
 closing_bundle p = closing_by (bundles None) p
+
+-- the bytes are read as this bundle, by the fold over them
+abbrev pub IsReadAs : List ℕ → BundleValue → Type 0
+IsReadAs bytes b = closing_bundle (eats_bundle (bundle_start None) bytes) ≡ Ok b

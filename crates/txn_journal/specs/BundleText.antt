@@ -9,6 +9,7 @@ use Rattle.rows.specs.declared.change.TableRow.{TableRow}
 use Rattle.rows.specs.declared.schema.Table.{Table}
 use Rattle.rows.specs.Apply.{Rows}
 use Rattle.rows.specs.Database.{Database}
+use Rattle.rows.specs.Listing.{rows_listed}
 use Rattle.rows.specs.Names.{is_name}
 use Rattle.rows.specs.Tables.{table_fault}
 use Rattle.journal.specs.declared.Entry.{Entry}
@@ -180,6 +181,10 @@ WritesBundleBy due bytes b = (version : Version) × (takes due version ≡ true)
 -- by any version
 abbrev pub WritesBundle : List ℕ → BundleValue → Type 0
 WritesBundle bytes b = WritesBundleBy None bytes b
+
+-- its text by version 2, with its rows in listed order
+abbrev pub upgrade_of : BundleValue → List ℕ
+upgrade_of b = bundle_spelling Two (rows_listed b.start.rows) b
 
 -- ---- bundles whose last entry has not been looked at as a whole
 

@@ -1,15 +1,17 @@
 //! The reader of bundles.
-ghost use Rattle.std.specs.Prelude.{◌≡◌, None, IfOk, IfErr};
+ghost use Rattle.std.specs.Prelude.{◌≡◌, None, Some, IfOk, IfErr};
 ghost use Rattle.txn_journal.specs.BundleStates.{BundleValue};
-ghost use Rattle.txn_journal.specs.BundleText.{WritesBundle};
+ghost use Rattle.txn_journal.specs.BundleText.{WritesBundleBy, WritesBundle};
 ghost use Rattle.txn_journal.specs.Stream.{IsWhole, IsWholeOr, IsRead};
-ghost use Rattle.txn_journal.specs.BundleRefused.{RefusesBundle};
+ghost use Rattle.txn_journal.specs.BundleRefused.{RefusesBundleBy, RefusesBundle};
+ghost use Rattle.txn_journal.specs.declared.lines.Version.TheVariants.{One};
 ghost use Rattle.txn_journal.specs.BundleReading.{bundle_start, IsFaultOfBundle, eats_bundle, closing_bundle};
 
 use crate::bundle::Bundle;
 use crate::bundle_draft::BundleDraft;
 use crate::fault::{JournalFault, LineFault};
 use crate::feed::{Feed, TakeLine};
+use crate::lines::Version;
 use std::alloc::Global;
 use std::marker::Model;
 
@@ -73,12 +75,19 @@ impl BundleReader {
     ghost use Rattle.txn_journal.specs.BundleReading.{bundles, bundle_start, closing_bundle};
     ghost use Rattle.txn_journal.specs.BundleReaders.{bundle_reading};
 
-    /// Before the first byte.
+    /// Before the first byte of a bundle of either version.
     pub fn start(alloc: Global) -> BundleReader
         ensures { bundle_reading result ≡ bundle_start None }
     {
+        BundleReader::start_as(alloc, None)
+    }
+
+    /// Before the first byte of a bundle of the version that is due.
+    fn start_as(alloc: Global, due: Option<Version>) -> BundleReader
+        ensures { bundle_reading result ≡ bundle_start due }
+    {
         let made = Lines {
-            draft: BundleDraft::start(alloc, None),
+            draft: BundleDraft::start(alloc, due),
         };
         BundleReader {
             feed: Feed::start(alloc, made),
@@ -105,17 +114,21 @@ impl BundleReader {
     }
 }
 
-fn read_bundle(alloc: Global, bytes: &[u8]) -> Result<Bundle, JournalFault>
-    ensures { IsWholeOr (IsFaultOfBundle (bundle_start None) bytes.now) result (closing_bundle (eats_bundle (bundle_start None) bytes.now)) }
+fn read_bundle(
+    alloc: Global,
+    due: Option<Version>,
+    bytes: &[u8],
+) -> Result<Bundle, JournalFault>
+    ensures { IsWholeOr (IsFaultOfBundle (bundle_start due) bytes.now) result (closing_bundle (eats_bundle (bundle_start due) bytes.now)) }
 {
-    let mut reader = BundleReader::start(alloc);
+    let mut reader = BundleReader::start_as(alloc, due);
     match reader.feed(alloc, bytes) {
         Ok(()) => reader.finish(),
         Err(fault) => Err(fault),
     }
 }
 
-/// The bundle that the bytes spell, all of the bytes.
+/// The bundle that the bytes spell, all of the bytes, by either version of the format.
 pub fn decode_bundle(alloc: Global, bytes: &[u8]) -> Result<Bundle, JournalFault>
     // What is read is spelled so.
     ensures found { IfOk result (λ b. WritesBundle bytes.now b) }
@@ -126,5 +139,19 @@ pub fn decode_bundle(alloc: Global, bytes: &[u8]) -> Result<Bundle, JournalFault
     // The same, by the fold over the bytes.
     ensures exact { IsWhole result (closing_bundle (eats_bundle (bundle_start None) bytes.now)) }
 {
-    read_bundle(alloc, bytes)
+    read_bundle(alloc, None, bytes)
+}
+
+/// The bundle that the bytes spell, all of the bytes, by version 1 of the format. What begins as a bundle of another version is refused for it.
+pub fn decode_bundle_v1(alloc: Global, bytes: &[u8]) -> Result<Bundle, JournalFault>
+    // What is read is spelled so.
+    ensures found { IfOk result (λ b. WritesBundleBy (Some One) bytes.now b) }
+    // What is spelled so is read, if memory and the sources of a set allow.
+    ensures only { (b : BundleValue) → WritesBundleBy (Some One) bytes.now b → IsRead result b }
+    // Which line is the first that is faulty, and what is wrong with it.
+    ensures refused { IfErr result (λ fault. RefusesBundleBy (Some One) fault bytes.now) }
+    // The same, by the fold over the bytes.
+    ensures exact { IsWhole result (closing_bundle (eats_bundle (bundle_start (Some One)) bytes.now)) }
+{
+    read_bundle(alloc, Some(Version::One), bytes)
 }

@@ -4,7 +4,7 @@ ghost use Rattle.std.specs.String.{string_bytes};
 ghost use Rattle.rows.specs.Listing.{rows_listed};
 ghost use Rattle.txn_journal.specs.Splits.{columns_text};
 ghost use Rattle.txn_journal.specs.Shapes.{shape_for};
-ghost use Rattle.txn_journal.specs.BundleText.{Names, Starts, Has, Puts, Opens, Own, ended_bundle_line, bundle_spelling};
+ghost use Rattle.txn_journal.specs.BundleText.{upgrade_of, Names, Starts, Has, Puts, Opens, Own, ended_bundle_line, bundle_spelling};
 ghost use Rattle.txn_journal.specs.Texts.{columns_behind, uniques_text, tables_text, rows_text, brought_text, all_brought_text, head_text, start_text};
 ghost use Rattle.txn_journal.specs.declared.lines.Version.TheVariants.{Two};
 
@@ -227,11 +227,19 @@ fn write_bundle(
 
 /// The text of a bundle by version 2 of the format: its lines, each ended by one line feed. Rows come by table name, and
 /// then by the values of their primary key; each entry has its last_committed and its sequence number.
-pub fn encode_bundle_v2(alloc: Global, bundle: &Bundle) -> Result<Vec<u8>, AllocError>
-    ensures { IfOk result (λ bytes. bytes.items ≡ bundle_spelling Two (rows_listed bundle.now.start.rows) bundle.now) }
+pub fn bundle_text_v2(alloc: Global, bundle: &Bundle) -> Result<String, AllocError>
+    ensures { IfOk result (λ text. string_bytes text ≡ upgrade_of bundle.now) }
 {
     let rows = bundle.rows().list_sorted(alloc)?;
     let mut out = String::new(alloc);
     write_bundle(alloc, &mut out, rows.as_slice(), bundle)?;
-    Ok(out.into_bytes())
+    Ok(out)
+}
+
+/// The same as bytes.
+pub fn encode_bundle_v2(alloc: Global, bundle: &Bundle) -> Result<Vec<u8>, AllocError>
+    ensures { IfOk result (λ bytes. bytes.items ≡ bundle_spelling Two (rows_listed bundle.now.start.rows) bundle.now) }
+{
+    let text = bundle_text_v2(alloc, bundle)?;
+    Ok(text.into_bytes())
 }

@@ -1,5 +1,5 @@
 //! Laws of journals' texts.
-ghost use Rattle.std.specs.Prelude.{◌≡◌, ◌++◌, ℕ, List, None};
+ghost use Rattle.std.specs.Prelude.{◌≡◌, ◌++◌, ℕ, List, None, Some};
 ghost use Rattle.rows.specs.Apply.{Rows};
 ghost use Rattle.rows.specs.Listing.{rows_listed};
 ghost use Rattle.rows.specs.declared.change.TableRow.{TableRow};
@@ -12,7 +12,8 @@ ghost use Rattle.txn_journal.specs.Spelling.{WritesAs, Writes};
 ghost use Rattle.txn_journal.specs.declared.lines.Version.{Version};
 ghost use Rattle.txn_journal.specs.declared.lines.Version.TheVariants.{One, Two};
 ghost use Rattle.txn_journal.specs.BundleStates.{BundleValue};
-ghost use Rattle.txn_journal.specs.BundleText.{AreOpening, WritesBundleAs, WritesBundle};
+ghost use Rattle.txn_journal.specs.BundleReading.{IsReadAs};
+ghost use Rattle.txn_journal.specs.BundleText.{AreOpening, WritesBundleAs, WritesBundleBy, WritesBundle, upgrade_of};
 ghost use Rattle.txn_journal.specs.RowOrders.{DifferInOrder};
 
 /// A journal has one text in version 1, and in version 2 one with its numbers; and a text is that of one journal at most, with its version and numbers.
@@ -39,4 +40,10 @@ pub fn one_bundle()
 /// Rows put in listed order give the same rows.
 pub fn rows_in_listed_order()
     ensures { (ts : List Table) (rs : List TableRow) (rows : Rows) → AreOpening ts rs rows → AreOpening ts (rows_listed rows) rows }
+{}
+
+/// A bundle of version 1 has a text by version 2, which is read as the same bundle.
+pub fn upgraded()
+    ensures text { (bytes : List ℕ) (b : BundleValue) → WritesBundleBy (Some One) bytes b → WritesBundleBy (Some Two) (upgrade_of b) b }
+    ensures read { (bytes : List ℕ) (b : BundleValue) → WritesBundleBy (Some One) bytes b → IsReadAs (upgrade_of b) b }
 {}
