@@ -1,5 +1,5 @@
 -- What a bundle is asked for, and what is answered.
-use Rattle.std.specs.Prelude.{ℕ, ◌<◌, List, None, Result, Ok, Err}
+use Rattle.std.specs.Prelude.{ℕ, ◌<◌, List, Some, None, Result, Ok, Err}
 use Rattle.std.specs.FinSet as set
 use Rattle.rows.specs.declared.change.RowFault.{RowFault}
 use Rattle.rows.specs.Apply.{Rows}
@@ -10,8 +10,9 @@ use Rattle.gtid_set.specs.Sets.{Gtids, source_count, most_sources}
 use Rattle.faithful_runs.specs.Deciding.{all_of}
 use Rattle.txn_journal.specs.BundleStates.{BundleValue}
 use Rattle.txn_journal.specs.BundleReading.{bundle_start, eats_bundle, closing_bundle}
-use Rattle.txn_journal.specs.BundleText.{WritesBundle}
-use Rattle.txn_journal.specs.BundleRefused.{RefusesBundle}
+use Rattle.txn_journal.specs.BundleText.{WritesBundleBy, WritesBundle, upgrade_of}
+use Rattle.txn_journal.specs.BundleRefused.{RefusesBundleBy, RefusesBundle}
+use Rattle.txn_journal.specs.declared.lines.Version.TheVariants.{One}
 use Rattle.txn_journal.specs.declared.fault.JournalFault.{JournalFault}
 use Rattle.gtid_report.specs.State.{state_text}
 use Rattle.gtid_report.specs.VerdictLines.{verdict_line}
@@ -31,6 +32,15 @@ abbrev pub SpellsBundle : List ℕ → Result BundleValue JournalFault → Type 
 SpellsBundle bytes (Ok b) = WritesBundle bytes b
 SpellsBundle bytes (Err fault) = RefusesBundle fault bytes
 
+-- the bundle that the bytes spell by version 1, or the first fault
+abbrev pub old_bundle_in : List ℕ → Result BundleValue JournalFault
+old_bundle_in bytes = closing_bundle (eats_bundle (bundle_start (Some One)) bytes)
+
+-- the grammar of bundles of version 1 says so
+abbrev pub SpellsOldBundle : List ℕ → Result BundleValue JournalFault → Type 0
+SpellsOldBundle bytes (Ok b) = WritesBundleBy (Some One) bytes b
+SpellsOldBundle bytes (Err fault) = RefusesBundleBy (Some One) fault bytes
+
 -- ---- the audit
 
 abbrev pub verdict_ending : Verdict → Outcome
@@ -47,6 +57,16 @@ audited b = verdict_said (verdict_over b)
 -- it is the answer of an audit to these bytes
 abbrev pub Audits : List ℕ → Said → Type 0
 Audits bytes said = Tells SpellsBundle bundle_in audited (λ b. ⊥) bytes said
+
+-- ---- the bundle by version 2
+
+-- its text, with its rows in listed order
+abbrev pub upgraded : BundleValue → Said
+upgraded b = record { text = upgrade_of b; outcome = Done }
+
+-- it is what upgrading answers to these bytes
+abbrev pub Upgrades : List ℕ → Said → Type 0
+Upgrades bytes said = Tells SpellsOldBundle old_bundle_in upgraded (λ b. ⊥) bytes said
 
 -- ---- the state
 

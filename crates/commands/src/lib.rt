@@ -13,6 +13,7 @@ mod request;
 mod set_command;
 mod streams;
 mod text;
+mod upgrade_command;
 mod wrap;
 
 pub use answer::Answer;
@@ -23,4 +24,5 @@ pub use parallel::apply_journals;
 pub use position_command::run_position;
 pub use set_command::run_set;
 pub use streams::Streams;
+pub use upgrade_command::run_upgrade;
 pub use wrap::{StdSink, StdSource};

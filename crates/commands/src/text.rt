@@ -7,13 +7,14 @@ ghost use Rattle.txn_journal.specs.Stream.{IsWhole};
 ghost use Rattle.txn_journal.specs.declared.fault.JournalFault.{JournalFault};
 ghost use Rattle.txn_journal.specs.declared.fault.JournalFault.TheVariants as journals;
 ghost use Rattle.serving.specs.Servable.{IsServable};
-ghost use Rattle.commands.specs.Bundles.{SpellsBundle, bundle_in};
+ghost use Rattle.commands.specs.Bundles.{SpellsBundle, SpellsOldBundle, bundle_in, old_bundle_in};
 ghost use Rattle.commands.specs.Positions.{SpellsJournal, journal_in};
 
 use journal::Journal;
 use serving::written_is_servable;
 use std::alloc::Global;
-use txn_journal::{Bundle, JournalFault, decode, decode_bundle};
+use std::marker::Model;
+use txn_journal::{Bundle, JournalFault, decode, decode_bundle, decode_bundle_v1};
 
 /// What bytes are read as: a bundle or a journal.
 pub(crate) trait Text: Drop {
@@ -48,6 +49,40 @@ impl Text for Bundle {
     fn decode(alloc: Global, bytes: &[u8]) -> Result<Bundle, JournalFault> {
         written_is_servable();
         decode_bundle(alloc, bytes)
+    }
+}
+
+/// A bundle that was read by version 1 of the format alone.
+#[derive(Drop)]
+pub(crate) struct OldBundle {
+    pub(crate) bundle: Bundle,
+}
+
+impl Model for OldBundle {
+    ghost use Rattle.std.specs.Coded.{codes};
+    ghost use Rattle.gtid_set.specs.Sets.{gtids_code};
+    ghost use Rattle.rows.specs.Coding.{rows_code};
+    ghost use Rattle.txn_journal.specs.BundleStates.{BundleValue};
+
+    ghost Value = { BundleValue };
+
+    ghost coded = { Prim.hlevel (codes, gtids_code, rows_code) };
+
+    ghost view = { λ old. old.bundle };
+}
+
+impl Text for OldBundle {
+    ghost spells = { SpellsOldBundle };
+
+    ghost decoded = { old_bundle_in };
+
+    ghost full = { λ bytes f h. h };
+
+    fn decode(alloc: Global, bytes: &[u8]) -> Result<OldBundle, JournalFault> {
+        match decode_bundle_v1(alloc, bytes) {
+            Ok(bundle) => Ok(OldBundle { bundle }),
+            Err(fault) => Err(fault),
+        }
     }
 }
 

@@ -22,6 +22,8 @@ pub enum Command<'a> {
     },
     /// A bundle from standard input is audited.
     Audit,
+    /// A bundle of version 1 from standard input is written by version 2.
+    Upgrade,
     /// A bundle from standard input is applied by 1 to 64 workers.
     Apply {
         workers: u8,
@@ -79,6 +81,15 @@ Example:
 
 Status: 0 sound, 1 refused, 2 the command line, 3 memory, 4 reading or writing failed.";
 
+const UPGRADE_EXAMPLE: &str =
+    "Prints the bundle by version 2 of the format: with an empty opening set, its rows in the order in which `apply` prints
+them, and the last_committed and sequence number of each entry.
+
+Example:
+  gtidrep upgrade < examples/first.bundle
+
+Status: 0 printed, 1 refused, 2 the command line, 3 memory, 4 reading or writing failed.";
+
 const APPLY_EXAMPLE: &str =
     "Prints the executed set and the rows, or the line that says why the bundle does not apply.
 
@@ -131,6 +142,12 @@ fn audit_command<'a>(alloc: Global) -> clap::Command<'a> {
         .after_help(AUDIT_EXAMPLE)
 }
 
+fn upgrade_command<'a>(alloc: Global) -> clap::Command<'a> {
+    clap::Command::new(alloc, "upgrade")
+        .about("Writes a bundle of version 1 by version 2: upgrade < examples/first.bundle")
+        .after_help(UPGRADE_EXAMPLE)
+}
+
 fn apply_command<'a>(alloc: Global) -> Result<clap::Command<'a>, AllocError> {
     let workers = Arg::new(alloc, "workers")
         .long("workers")
@@ -159,6 +176,7 @@ fn all_commands<'a>(alloc: Global) -> Result<clap::Command<'a>, AllocError> {
     let program = with_command(program, set_command(alloc))?;
     let program = with_command(program, position_command(alloc))?;
     let program = program.subcommand(audit_command(alloc))?;
+    let program = program.subcommand(upgrade_command(alloc))?;
     with_command(program, apply_command(alloc))
 }
 
@@ -191,6 +209,9 @@ fn command_of<'a>(name: &str, matches: &ArgMatches<'a>) -> Option<Command<'a>>
     }
     if name == "audit" {
         return Some(Command::Audit);
+    }
+    if name == "upgrade" {
+        return Some(Command::Upgrade);
     }
     Some(Command::Apply {
         workers: workers_of(matches)?,
