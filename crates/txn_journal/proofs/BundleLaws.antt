@@ -548,20 +548,23 @@ closing_same due (Stopped f) = refl
 
 pub upgraded : (bytes : List ℕ) (b : BundleValue) → WritesBundleBy (Some One) bytes b → WritesBundleBy (Some Two) (upgrade_of b) b
 upgraded bytes b (One, is, w) =
-    let k = w.written in
-    (Two, refl, record {
-      rows = rows_listed b.start.rows;
-      written = record {
-        replica = k.replica;
-        opened = subst IsWrittenSet (sym k.opened) none_written;
-        tables = k.tables;
-        opening = listed_opening b.start.schema w.rows b.start.rows k.opening;
-        named = k.named;
-        few = k.few;
-        brought = k.brought;
-      };
-      text = refl;
-    })
+    let k = w.written in (
+      Two,
+      refl,
+      record {
+        rows = rows_listed b.start.rows;
+        written = record {
+          replica = k.replica;
+          opened = subst IsWrittenSet (sym k.opened) none_written;
+          tables = k.tables;
+          opening = listed_opening b.start.schema w.rows b.start.rows k.opening;
+          named = k.named;
+          few = k.few;
+          brought = k.brought;
+        };
+        text = refl;
+      },
+    )
 upgraded bytes b (Two, is, w) = absurd (let k = is in cc)
 
 pub upgraded_read : (bytes : List ℕ) (b : BundleValue) → WritesBundleBy (Some One) bytes b → IsReadAs (upgrade_of b) b

@@ -114,11 +114,7 @@ impl BundleReader {
     }
 }
 
-fn read_bundle(
-    alloc: Global,
-    due: Option<Version>,
-    bytes: &[u8],
-) -> Result<Bundle, JournalFault>
+fn read_bundle(alloc: Global, due: Option<Version>, bytes: &[u8]) -> Result<Bundle, JournalFault>
     ensures { IsWholeOr (IsFaultOfBundle (bundle_start due) bytes.now) result (closing_bundle (eats_bundle (bundle_start due) bytes.now)) }
 {
     let mut reader = BundleReader::start_as(alloc, due);
