@@ -111,6 +111,13 @@ impl Core {
         })
     }
 
+    /// The UUID of the server. (`server_uuid`, MySQL 8.0 Reference Manual, "Replication and Binary Logging Options and Variables".)
+    pub fn own(&self) -> SourceId
+        ensures { result ≡ self.now.site.own }
+    {
+        self.own
+    }
+
     /// The executed set. (MySQL 8.0 Reference Manual, "GTID Life Cycle".)
     pub fn executed(&self) -> &GtidSet
         ensures { result.now ≡ self.now.state.executed }
