@@ -1,0 +1,78 @@
+-- A chain is what a walk along its links finds.
+use Rattle.std.proofs.Common.{◌≡◌, ◌≢◌, ℕ, zero, suc, ◌+◌, ◌-◌, ◌<◌, ◌≤◌, ◌⊎◌, Bool, true, false, cond, List, [], ◌∷◌, ◌++◌, length, Option, Some, None, refl, sym, ap, subst, ◌∙◌, ⊎_elim, inl, inr, arith, get_or, length-append}
+use Rattle.std.specs.Prelude.{⊤, ◌==◌}
+use Rattle.std.specs.List.{AllByRecursion, filter}
+use Rattle.std.proofs.lemmas.Bool.Decides.{eqb_tells}
+use Rattle.interval_pool.specs.declared.cells.Cell.{Cell}
+use Rattle.interval_pool.specs.declared.cells.Head.{Head}
+use Rattle.interval_pool.specs.Cells.{cell_at, head_at, no_cell, no_head, after}
+use Rattle.interval_pool.specs.Chains.{first_or, last_or, IsCell, AreLinked, AreOnce, IsAmong, AreChains, with_chain}
+use Rattle.interval_pool.specs.Pools.{walk, chain_of}
+use Rattle.interval_pool.proofs.Linking.{is_among_all, linked_below, in_parts, at_chain}
+
+pub walk_is : (cells : List Cell) (k : ℕ) (is : List ℕ) → AreLinked cells k is None → walk cells (length is) (first_or None is) ≡ is
+walk_is cells k [] linked = refl
+walk_is cells k (i ∷ is) linked = ap (λ at. i ∷ walk cells (length is) at) linked.0.next_is ∙ ap (λ js. i ∷ js) (walk_is cells k is linked.1)
+
+pub chain_is : (cells : List Cell) (heads : List Head) (out : Option ℕ) (chain : ℕ → List ℕ) → AreChains cells heads out chain → (k : ℕ) → chain_of cells heads k ≡ chain k
+chain_is cells heads out chain h k =
+    ap (λ n. walk cells n (head_at heads k).first) (h.count k) ∙ (ap (λ at. walk cells (length (chain k)) at) (h.first k) ∙ walk_is cells k (chain k) (h.linked k))
+
+-- so the chains are those that a walk finds
+pub rewalked : (cells : List Cell) (heads : List Head) (out : Option ℕ) (chain : ℕ → List ℕ) → AreChains cells heads out chain → AreChains cells heads out (chain_of cells heads)
+rewalked cells heads out chain h =
+    let same : chain ≡ chain_of cells heads = λ i k. sym (chain_is cells heads out chain h k) i in
+    subst (AreChains cells heads out) same h
+
+-- what comes after some cells of a chain
+pub after_is : (cells : List Cell) (heads : List Head) (out : Option ℕ) (chain : ℕ → List ℕ) (k : ℕ) (xs ys : List ℕ) → AreChains cells heads out chain → chain k ≡ xs ++ ys → after cells heads k (last_or None xs) ≡ first_or None ys
+after_is cells heads out chain k xs ys h at = along xs (h.first k ∙ ap (first_or None) at) (subst (λ is. AreLinked cells k is None) at (h.linked k))
+  where
+    later : (x : ℕ) (xs ys : List ℕ) → AreLinked cells k (x ∷ xs ++ ys) None → after cells heads k (last_or (Some x) xs) ≡ first_or None ys
+    later x [] ys linked = linked.0.next_is
+    later x (w ∷ xs) ys linked = later w xs ys linked.1
+    along : (xs : List ℕ) → (head_at heads k).first ≡ first_or None (xs ++ ys) → AreLinked cells k (xs ++ ys) None → after cells heads k (last_or None xs) ≡ first_or None ys
+    along [] first linked = first
+    along (x ∷ xs) first linked = later x xs ys linked
+
+-- ---- a new cell
+
+new_cell : (cells : List Cell) (c : Cell) (j : ℕ) → j < length cells → cell_at (cells ++ c ∷ []) j ≡ cell_at cells j
+new_cell [] c j lt = absurd (omega (lt, arith))
+new_cell (d ∷ cells) c zero lt = refl
+new_cell (d ∷ cells) c (suc j) lt = new_cell cells c j (omega (lt, arith))
+
+still_linked : (cells : List Cell) (c : Cell) (k : ℕ) (is : List ℕ) (e : Option ℕ) → AreLinked cells k is e → AreLinked (cells ++ c ∷ []) k is e
+still_linked cells c k [] e linked = tt
+still_linked cells c k (i ∷ is) e linked =
+    let same = new_cell cells c i linked.0.below in
+    let lt : i < length cells = linked.0.below in
+    (record { below = omega (lt, arith, length-append cells (c ∷ [])); owner = ap (λ (d : Cell). d.owner) same ∙ linked.0.owner; next_is = ap (λ (d : Cell). d.next) same ∙ linked.0.next_is },
+    still_linked cells c k is e linked.1)
+
+below_apart : (cells : List Cell) (k n : ℕ) (is : List ℕ) (e : Option ℕ) → length cells ≤ n → AreLinked cells k is e → AllByRecursion (λ j. j ≢ n) is
+below_apart cells k n [] e le linked = tt
+below_apart cells k n (i ∷ is) e le linked = let lt : i < length cells = linked.0.below in ((λ same. omega (lt, le, same, arith)), below_apart cells k n is e le linked.1)
+
+pub grows : (cells : List Cell) (heads : List Head) (chain : ℕ → List ℕ) (c : Cell) → AreChains cells heads None chain → AreChains (cells ++ c ∷ []) heads (Some (length cells)) chain
+grows cells heads chain c h = record {
+  first = h.first;
+  count = h.count;
+  linked = λ k. still_linked cells c k (chain k) None (h.linked k);
+  once = h.once;
+  whole = λ i lt. ⊎_elim
+      (λ (e : ((i == length cells) ≡ true) × (i ≡ length cells)). inl (ap Some (sym e.1)))
+      (λ (e : ((i == length cells) ≡ false) × (i ≢ length cells)).
+        let ne = e.1 in
+        let below : i < length cells = omega (lt, ne, arith, length-append cells (c ∷ [])) in
+        let a : IsAmong i (chain (cell_at cells i).owner) = ⊎_elim (λ s. absurd (cc)) (λ a. a) (h.whole i below) in
+        inr (subst (λ o. IsAmong i (chain o)) (sym (ap (λ (d : Cell). d.owner) (new_cell cells c i below))) a))
+      (eqb_tells i (length cells));
+  apart = λ i k e. below_apart cells k i (chain k) None (let same : length cells ≡ i = cc in omega (same, arith)) (h.linked k);
+}
+
+-- ---- how many cells a chain has
+
+without : ℕ → List ℕ → List ℕ
+without n [] = []
+without n (i ∷ is) = cond (i == n) (without n is) (i ∷ without n is)

@@ -1,0 +1,7 @@
+//! Lists of intervals of numbers in one pool of cells.
+#![tactic(auto)]
+
+mod cells;
+mod laws;
+mod link;
+pub use laws::law;

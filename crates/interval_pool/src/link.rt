@@ -1,0 +1,57 @@
+//! A place among cells, or none, in 32 bits.
+ghost use Rattle.std.specs.Prelude.{◌≡◌, ◌+◌, ◌<◌, ◌^◌, Some, None};
+
+use std::marker::Model;
+
+/// A place among cells, or none.
+#[derive(Clone, Copy, Drop)]
+pub struct Link {
+    // one more than the place, or 0
+    code: u32,
+}
+
+impl Model for Link {
+    ghost use Rattle.std.specs.Prelude.{ℕ, Option};
+
+    ghost Value = { Option ℕ };
+
+    ghost use Rattle.interval_pool.specs.Links.{place_of, code_of, code_of_place};
+
+    ghost view = { λ l. place_of l.code };
+
+    ghost inverse = { λ p. record { code = code_of p } };
+
+    ghost use Rattle.std.proofs.Common.{ap};
+
+    ghost inverse_ok = { λ l h. ap (λ n. record { code = n }) (code_of_place l.code) };
+}
+
+impl Link {
+    /// No place.
+    pub fn none() -> Link
+        ensures { result ≡ None }
+    {
+        Link { code: 0 }
+    }
+
+    /// A place.
+    pub fn to(place: usize) -> Link
+        requires { place + 1 < 2 ^ 32 }
+        ensures { result ≡ Some place }
+    {
+        Link {
+            code: place as u32 + 1,
+        }
+    }
+
+    /// The place, if there is one.
+    pub fn place(self) -> Option<usize>
+        ensures { result ≡ self }
+    {
+        if self.code == 0 {
+            None
+        } else {
+            Some(self.code as usize - 1)
+        }
+    }
+}
