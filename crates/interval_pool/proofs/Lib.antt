@@ -1,3 +1,4 @@
 pub mod Linking
 pub mod Walking
 pub mod Changing
+pub mod Seeking

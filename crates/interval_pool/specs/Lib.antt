@@ -1,4 +1,6 @@
 pub mod Links
+pub mod Intervals
 pub mod Cells
 pub mod Chains
 pub mod Pools
+pub mod Places

@@ -5,6 +5,7 @@ use Rattle.interval_pool.specs.declared.cells.Cell.{Cell}
 use Rattle.interval_pool.specs.declared.cells.Head.{Head}
 use Rattle.interval_pool.specs.Cells.{cell_at, head_at}
 use Rattle.interval_pool.specs.Chains.{last_or, AreChains, with_chain}
+use Rattle.interval_pool.specs.Intervals.{Interval}
 
 -- the cells from one on, at most so many
 abbrev pub walk : List Cell → ℕ → Option ℕ → List ℕ
@@ -24,11 +25,8 @@ AreWhole cells heads = AreChains cells heads None (chain_of cells heads)
 abbrev pub AreWholeBut : List Cell → List Head → ℕ → Type 0
 AreWholeBut cells heads i = AreChains cells heads (Some i) (chain_of cells heads)
 
--- the numbers of a cell
-pub record Interval : Type 0 where
-  pub lo : ℕ
-  pub hi : ℕ
 
+-- the numbers of a cell
 abbrev pub interval_at : List Cell → ℕ → Interval
 interval_at cells i = record { lo = (cell_at cells i).lo; hi = (cell_at cells i).hi }
 

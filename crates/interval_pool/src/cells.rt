@@ -23,7 +23,7 @@ pub struct Head {
 }
 
 /// The cell after one of a chain, or the chain's first.
-fn after(cells: &[Cell], heads: &[Head], chain: usize, before: Link) -> Link
+pub fn after(cells: &[Cell], heads: &[Head], chain: usize, before: Link) -> Link
     ensures { result ≡ after cells.now heads.now chain before }
 {
     match before.place() {
@@ -81,7 +81,7 @@ fn put_owner(cells: &mut [Cell], at: usize, owner: u32, next: Link)
 }
 
 /// How many cells a chain has.
-fn count(heads: &[Head], chain: usize) -> u32
+pub fn count(heads: &[Head], chain: usize) -> u32
     ensures { result ≡ (head_at heads.now chain).len }
 {
     if chain < heads.len() {

@@ -4,4 +4,5 @@
 mod cells;
 mod laws;
 mod link;
+mod seek;
 pub use laws::law;
