@@ -2,3 +2,4 @@ pub mod Linking
 pub mod Walking
 pub mod Changing
 pub mod Seeking
+pub mod Lists

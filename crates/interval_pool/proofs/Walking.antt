@@ -73,6 +73,71 @@ grows cells heads chain c h = record {
 
 -- ---- how many cells a chain has
 
-without : ℕ → List ℕ → List ℕ
+abbrev without : ℕ → List ℕ → List ℕ
 without n [] = []
 without n (i ∷ is) = cond (i == n) (without n is) (i ∷ without n is)
+
+without_none : (n : ℕ) (is : List ℕ) → AllByRecursion (λ j. j ≢ n) is → without n is ≡ is
+without_none n [] ne = refl
+without_none n (i ∷ is) ne = ⊎_elim
+    (λ (e : ((i == n) ≡ true) × (i ≡ n)). absurd (ne.0 e.1))
+    (λ (e : ((i == n) ≡ false) × (i ≢ n)). ap (λ b. cond b (without n is) (i ∷ without n is)) e.0 ∙ ap (λ js. i ∷ js) (without_none n is ne.1))
+    (eqb_tells i n)
+
+without_length : (n : ℕ) (is : List ℕ) → AreOnce is → length is ≤ length (without n is) + 1
+without_length n [] once = omega arith
+without_length n (i ∷ is) once = ⊎_elim
+    (λ (e : ((i == n) ≡ true) × (i ≡ n)).
+      let same : without n (i ∷ is) ≡ is = ap (λ b. cond b (without n is) (i ∷ without n is)) e.0
+          ∙ without_none n is (let P : ℕ → Type 0 = λ m. AllByRecursion (λ j. j ≢ m) is in subst P e.1 once.0) in
+      let f = ap length same in omega (f, arith))
+    (λ (e : ((i == n) ≡ false) × (i ≢ n)).
+      let same : without n (i ∷ is) ≡ i ∷ without n is = ap (λ b. cond b (without n is) (i ∷ without n is)) e.0 in
+      let f = ap length same in let more = without_length n is once.1 in omega (f, more, arith))
+    (eqb_tells i n)
+
+without_all : (P : ℕ → Type 0) (n : ℕ) (is : List ℕ) → AllByRecursion P is → AllByRecursion P (without n is)
+without_all P n [] all = tt
+without_all P n (i ∷ is) all = picked (i == n) (without_all P n is all.1)
+  where
+    picked : (b : Bool) → AllByRecursion P (without n is) → AllByRecursion P (cond b (without n is) (i ∷ without n is))
+    picked true more = more
+    picked false more = (all.0, more)
+
+without_once : (n : ℕ) (is : List ℕ) → AreOnce is → AreOnce (without n is)
+without_once n [] once = tt
+without_once n (i ∷ is) once = picked (i == n) (without_once n is once.1)
+  where
+    picked : (b : Bool) → AreOnce (without n is) → AreOnce (cond b (without n is) (i ∷ without n is))
+    picked true more = more
+    picked false more = (without_all (λ j. j ≢ i) n is once.0, more)
+
+without_below : (n : ℕ) (is : List ℕ) → AllByRecursion (λ j. j < suc n) is → AllByRecursion (λ j. j < n) (without n is)
+without_below n [] all = tt
+without_below n (i ∷ is) all = ⊎_elim
+    (λ (e : ((i == n) ≡ true) × (i ≡ n)). subst (λ b. AllByRecursion (λ j. j < n) (cond b (without n is) (i ∷ without n is))) (sym e.0) (without_below n is all.1))
+    (λ (e : ((i == n) ≡ false) × (i ≢ n)). subst (λ b. AllByRecursion (λ j. j < n) (cond b (without n is) (i ∷ without n is))) (sym e.0)
+      (let lt = all.0 in let ne = e.1 in (omega (lt, ne, arith), without_below n is all.1)))
+    (eqb_tells i n)
+
+once_few : (n : ℕ) (is : List ℕ) → AreOnce is → AllByRecursion (λ j. j < n) is → length is ≤ n
+once_few zero [] once all = omega arith
+once_few zero (i ∷ is) once all = absurd (let lt : i < 0 = all.0 in omega (lt, arith))
+once_few (suc n) is once all =
+    let more = once_few n (without n is) (without_once n is once) (without_below n is all) in
+    let le = without_length n is once in
+    omega (more, le, arith)
+
+all_below : (cells : List Cell) (k : ℕ) (is : List ℕ) (e : Option ℕ) → AreLinked cells k is e → AllByRecursion (λ j. j < length cells) is
+all_below cells k [] e linked = tt
+all_below cells k (i ∷ is) e linked = (linked.0.below, all_below cells k is e linked.1)
+
+-- no more than there are
+pub chain_few : (cells : List Cell) (heads : List Head) (out : Option ℕ) (chain : ℕ → List ℕ) (k : ℕ) → AreChains cells heads out chain → length (chain k) ≤ length cells
+chain_few cells heads out chain k h = once_few (length cells) (chain k) (h.once k) (all_below cells k (chain k) None (h.linked k))
+
+-- and fewer while one stands in none
+pub chain_fewer : (cells : List Cell) (heads : List Head) (i : ℕ) (chain : ℕ → List ℕ) (k : ℕ) → AreChains cells heads (Some i) chain → i < length cells → length (chain k) < length cells
+chain_fewer cells heads i chain k h lt =
+    let more = once_few (length cells) (i ∷ chain k) (h.apart i k refl, h.once k) (lt, all_below cells k (chain k) None (h.linked k)) in
+    omega (more, arith)

@@ -12,3 +12,7 @@ code_of (Some n) = suc n
 pub code_of_place : (n : ℕ) → code_of (place_of n) ≡ n
 code_of_place zero = refl
 code_of_place (suc n) = refl
+
+-- the most cells that a pool may have
+abbrev pub most_cells : ℕ
+most_cells = 4294967294

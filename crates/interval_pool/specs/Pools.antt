@@ -4,6 +4,7 @@ use Rattle.std.specs.List.{list_all, list_any, AllByRecursion}
 use Rattle.interval_pool.specs.declared.cells.Cell.{Cell}
 use Rattle.interval_pool.specs.declared.cells.Head.{Head}
 use Rattle.interval_pool.specs.Cells.{cell_at, head_at}
+use Rattle.interval_pool.specs.Links.{most_cells}
 use Rattle.interval_pool.specs.Chains.{last_or, AreChains, with_chain}
 use Rattle.interval_pool.specs.Intervals.{Interval}
 
@@ -58,5 +59,52 @@ pub record Linked (cells : List Cell) (heads : List Head) (k : ℕ) (xs : List �
 
 abbrev pub Links : List Cell → List Head → ℕ → Option ℕ → ℕ → List Cell → List Head → Type 0
 Links cells heads k before i cells' heads' =
-    (xs ys : List ℕ) → AreWholeBut cells heads i → k < length heads → i < length cells → chain_of cells heads k ≡ xs ++ ys → before ≡ last_or None xs
+    (xs ys : List ℕ) → AreWholeBut cells heads i → length cells ≤ most_cells → k < length heads → i < length cells → chain_of cells heads k ≡ xs ++ ys → before ≡ last_or None xs
     → Linked cells heads k xs i ys cells' heads'
+
+-- ---- the cells of a list
+
+-- all chains but a list's and that of the free cells are as they were
+pub record KeepsOthers (cells : List Cell) (heads : List Head) (k : ℕ) (cells' : List Cell) (heads' : List Head) : Type 0 where
+  pub whole : AreWhole cells' heads'
+  pub as_many_chains : length heads' ≡ length heads
+  pub lists : (m : ℕ) → (head_at heads' m).is_list ≡ (head_at heads m).is_list
+  pub chains : (m : ℕ) → m ≢ 0 → m ≢ k → chain_of cells' heads' m ≡ chain_of cells heads m
+  pub intervals : (m : ℕ) → m ≢ 0 → m ≢ k → map (interval_at cells') (chain_of cells heads m) ≡ map (interval_at cells) (chain_of cells heads m)
+
+-- the cell after some of a list is free
+pub record Freed (cells : List Cell) (heads : List Head) (k : ℕ) (xs : List ℕ) (i : ℕ) (ys : List ℕ) (cells' : List Cell) (heads' : List Head) : Type 0 where
+  pub keeps : KeepsOthers cells heads k cells' heads'
+  pub as_many : length cells' ≡ length cells
+  pub all_intervals : (j : ℕ) → interval_at cells' j ≡ interval_at cells j
+  pub list : chain_of cells' heads' k ≡ xs ++ ys
+  pub free : chain_of cells' heads' 0 ≡ i ∷ chain_of cells heads 0
+
+abbrev pub Frees : List Cell → List Head → ℕ → Option ℕ → List Cell → List Head → Type 0
+Frees cells heads k before cells' heads' =
+    (xs : List ℕ) (i : ℕ) (ys : List ℕ) → AreWhole cells heads → length cells ≤ most_cells → k ≢ 0 → k < length heads
+    → chain_of cells heads k ≡ xs ++ i ∷ ys → before ≡ last_or None xs → Freed cells heads k xs i ys cells' heads'
+
+-- a cell more is free
+pub record Grown (cells : List Cell) (heads : List Head) (cells' : List Cell) (heads' : List Head) : Type 0 where
+  pub keeps : KeepsOthers cells heads 0 cells' heads'
+  pub as_many : length cells' ≡ length cells + 1
+  pub free : chain_of cells' heads' 0 ≡ length cells ∷ chain_of cells heads 0
+
+abbrev pub Grows : List Cell → List Head → List Cell → List Head → Type 0
+Grows cells heads cells' heads' = AreWhole cells heads → length cells < most_cells → 0 < length heads → Grown cells heads cells' heads'
+
+-- the first free cell has these numbers, and stands in a list after some of its cells
+pub record Placed (cells : List Cell) (heads : List Head) (k : ℕ) (xs ys : List ℕ) (i : ℕ) (rest : List ℕ) (numbers : Interval) (cells' : List Cell) (heads' : List Head) : Type 0 where
+  pub keeps : KeepsOthers cells heads k cells' heads'
+  pub as_many : length cells' ≡ length cells
+  pub here : interval_at cells' i ≡ numbers
+  pub others : (j : ℕ) → j ≢ i → interval_at cells' j ≡ interval_at cells j
+  pub apart : AllByRecursion (λ j. j ≢ i) (xs ++ ys)
+  pub list : chain_of cells' heads' k ≡ xs ++ i ∷ ys
+  pub free : chain_of cells' heads' 0 ≡ rest
+
+abbrev pub Places : List Cell → List Head → ℕ → Option ℕ → Interval → List Cell → List Head → Type 0
+Places cells heads k before numbers cells' heads' =
+    (xs ys : List ℕ) (i : ℕ) (rest : List ℕ) → AreWhole cells heads → length cells ≤ most_cells → k ≢ 0 → k < length heads
+    → chain_of cells heads 0 ≡ i ∷ rest → chain_of cells heads k ≡ xs ++ ys → before ≡ last_or None xs → Placed cells heads k xs ys i rest numbers cells' heads'

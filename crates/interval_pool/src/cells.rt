@@ -1,5 +1,5 @@
 //! Cells linked by index into chains.
-ghost use Rattle.std.specs.Prelude.{◌≡◌, ℕ, ◌+◌, ◌<◌, ◌^◌};
+ghost use Rattle.std.specs.Prelude.{◌≡◌, ℕ};
 ghost use Rattle.interval_pool.specs.Cells.{after, head_at, with_next, first_with, with_head, with_owner};
 ghost use Rattle.interval_pool.specs.Pools.{Unlinks, Links};
 
@@ -105,12 +105,10 @@ pub fn unlink(cells: &mut [Cell], heads: &mut [Head], chain: usize, before: Link
 
 /// Puts a cell into a chain after one of its cells, or at its start.
 pub fn link(cells: &mut [Cell], heads: &mut [Head], chain: u32, before: Link, at: usize)
-    requires few { (head_at heads.old chain).len + 1 < 2 ^ 32 }
-    requires place { at + 1 < 2 ^ 32 }
     ensures { Links cells.old heads.old chain before at cells.new heads.new }
 {
     let next = after(cells, heads, chain as usize, before);
-    let len = count(heads, chain as usize) + 1;
+    let len = count(heads, chain as usize).saturating_add(1);
     put_owner(cells, at, chain, next);
     put_next(cells, before, Link::to(at));
     put_head(heads, chain as usize, before, Link::to(at), len);

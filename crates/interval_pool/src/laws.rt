@@ -6,5 +6,6 @@ ghost use Rattle.interval_pool.specs.Chains.{AreChains, first_or, last_or, with_
 ghost use Rattle.interval_pool.specs.Cells.{with_next, with_head, with_owner};
 
 pub fn law()
-    ensures { (cells : List Cell) (heads : List Head) (chain : ℕ → List ℕ) (c : Cell) → AreChains cells heads None chain → AreChains (cells ++ c ∷ []) heads (Some (length cells)) chain }
+    ensures few { (cells : List Cell) (heads : List Head) (i : ℕ) (chain : ℕ → List ℕ) (k : ℕ) → AreChains cells heads (Some i) chain → i < length cells → length (chain k) < length cells }
+    ensures grows { (cells : List Cell) (heads : List Head) (chain : ℕ → List ℕ) (c : Cell) → AreChains cells heads None chain → AreChains (cells ++ c ∷ []) heads (Some (length cells)) chain }
 {}

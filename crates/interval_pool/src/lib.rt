@@ -5,4 +5,5 @@ mod cells;
 mod laws;
 mod link;
 mod seek;
+mod store;
 pub use laws::law;

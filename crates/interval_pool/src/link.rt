@@ -1,7 +1,11 @@
 //! A place among cells, or none, in 32 bits.
-ghost use Rattle.std.specs.Prelude.{◌≡◌, ◌+◌, ◌<◌, ◌^◌, Some, None};
+ghost use Rattle.std.specs.Prelude.{◌≡◌, ◌≤◌, Some, None};
+ghost use Rattle.interval_pool.specs.Links.{most_cells};
 
 use std::marker::Model;
+
+/// The most cells that a pool may have. Our own rule.
+pub const MOST_CELLS: u32 = 4_294_967_294;
 
 /// A place among cells, or none.
 #[derive(Clone, Copy, Drop)]
@@ -34,11 +38,13 @@ impl Link {
         Link { code: 0 }
     }
 
-    /// A place.
+    /// A place, if it is none of the last.
     pub fn to(place: usize) -> Link
-        requires { place + 1 < 2 ^ 32 }
-        ensures { result ≡ Some place }
+        ensures { place ≤ most_cells → result ≡ Some place }
     {
+        if place > MOST_CELLS as usize {
+            return Link { code: 0 };
+        }
         Link {
             code: place as u32 + 1,
         }
