@@ -37,7 +37,7 @@ after_is cells heads out chain k xs ys h at = along xs (h.first k ∙ ap (first_
 
 -- ---- a new cell
 
-new_cell : (cells : List Cell) (c : Cell) (j : ℕ) → j < length cells → cell_at (cells ++ c ∷ []) j ≡ cell_at cells j
+pub new_cell : (cells : List Cell) (c : Cell) (j : ℕ) → j < length cells → cell_at (cells ++ c ∷ []) j ≡ cell_at cells j
 new_cell [] c j lt = absurd (omega (lt, arith))
 new_cell (d ∷ cells) c zero lt = refl
 new_cell (d ∷ cells) c (suc j) lt = new_cell cells c j (omega (lt, arith))
@@ -128,7 +128,7 @@ once_few (suc n) is once all =
     let le = without_length n is once in
     omega (more, le, arith)
 
-all_below : (cells : List Cell) (k : ℕ) (is : List ℕ) (e : Option ℕ) → AreLinked cells k is e → AllByRecursion (λ j. j < length cells) is
+pub all_below : (cells : List Cell) (k : ℕ) (is : List ℕ) (e : Option ℕ) → AreLinked cells k is e → AllByRecursion (λ j. j < length cells) is
 all_below cells k [] e linked = tt
 all_below cells k (i ∷ is) e linked = (linked.0.below, all_below cells k is e linked.1)
 

@@ -39,3 +39,7 @@ with_head heads k before next n =
 -- the cell has this owner, and goes on with this one
 abbrev pub with_owner : List Cell → ℕ → ℕ → Option ℕ → List Cell
 with_owner cells i k next = slice_set cells i (record (cell_at cells i) { next = next; owner = k })
+
+-- the cell has these numbers
+abbrev pub with_numbers : List Cell → ℕ → ℕ → ℕ → List Cell
+with_numbers cells i lo hi = slice_set cells i (record (cell_at cells i) { lo = lo; hi = hi })

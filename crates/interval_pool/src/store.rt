@@ -1,8 +1,11 @@
 //! Cells of lists, and free cells.
-ghost use Rattle.interval_pool.specs.Pools.{Frees};
+ghost use Rattle.std.specs.Prelude.{◌≡◌, OnOk, OnErr, slice_set};
+ghost use Rattle.interval_pool.specs.Cells.{cell_at, with_numbers};
+ghost use Rattle.interval_pool.specs.Pools.{Frees, Grows, Places};
 
 use crate::cells::{Cell, Head, link, unlink};
 use crate::link::Link;
+use std::alloc::AllocError;
 
 /// The chain of the free cells.
 const FREE: u32 = 0;
@@ -14,5 +17,43 @@ pub fn free(cells: &mut [Cell], heads: &mut [Head], list: u32, before: Link)
     let at = unlink(cells, heads, list as usize, before);
     if let Some(i) = at.place() {
         link(cells, heads, FREE, Link::none(), i);
+    }
+}
+
+/// Makes a free cell more.
+pub fn grow(cells: &mut Vec<Cell>, heads: &mut [Head]) -> Result<(), AllocError>
+    ensures ok { OnOk result (Grows cells.old.items heads.old cells.new.items heads.new) }
+    ensures cells { OnErr result (cells.new.items ≡ cells.old.items) }
+    ensures heads { OnErr result (heads.new ≡ heads.old) }
+{
+    let at = cells.as_slice().len();
+    cells.push(Cell {
+        lo: 0,
+        hi: 0,
+        next: Link::none(),
+        owner: FREE,
+    })?;
+    link(cells, heads, FREE, Link::none(), at);
+    Ok(())
+}
+
+/// Gives a cell other numbers.
+fn put_numbers(cells: &mut [Cell], at: usize, lo: u64, hi: u64)
+    ensures { cells.new ≡ with_numbers cells.old at lo hi }
+{
+    if at < cells.len() {
+        let cell = cells[at];
+        cells[at] = Cell { lo, hi, ..cell };
+    }
+}
+
+/// Puts the first free cell into a list after one of its cells, or at its start, with these numbers.
+pub fn place(cells: &mut [Cell], heads: &mut [Head], list: u32, before: Link, lo: u64, hi: u64)
+    ensures { Places cells.old heads.old list before (record { lo = lo; hi = hi }) cells.new heads.new }
+{
+    let at = unlink(cells, heads, FREE as usize, Link::none());
+    if let Some(i) = at.place() {
+        put_numbers(cells, i, lo, hi);
+        link(cells, heads, list, before, i);
     }
 }
