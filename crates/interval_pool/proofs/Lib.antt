@@ -3,3 +3,4 @@ pub mod Walking
 pub mod Changing
 pub mod Seeking
 pub mod Lists
+pub mod Joining

@@ -1,11 +1,8 @@
 //! Laws.
-ghost use Rattle.std.specs.Prelude.{◌≡◌, ℕ, List, Option, ◌++◌, None, Some, ◌<◌, length, ◌∷◌, []};
-ghost use Rattle.interval_pool.specs.declared.cells.Cell.{Cell};
-ghost use Rattle.interval_pool.specs.declared.cells.Head.{Head};
-ghost use Rattle.interval_pool.specs.Chains.{AreChains, first_or, last_or, with_chain};
-ghost use Rattle.interval_pool.specs.Cells.{with_next, with_head, with_owner};
+ghost use Rattle.std.specs.Prelude.{ℕ, ◌≤◌, ◌+◌, List};
+ghost use Rattle.std.specs.List.{AllByRecursion};
+ghost use Rattle.interval_pool.specs.Intervals.{Interval, AreMerged, JoinsFront, joined};
 
 pub fn law()
-    ensures few { (cells : List Cell) (heads : List Head) (i : ℕ) (chain : ℕ → List ℕ) (k : ℕ) → AreChains cells heads (Some i) chain → i < length cells → length (chain k) < length cells }
-    ensures grows { (cells : List Cell) (heads : List Head) (chain : ℕ → List ℕ) (c : Cell) → AreChains cells heads None chain → AreChains (cells ++ c ∷ []) heads (Some (length cells)) chain }
+    ensures { (s : Interval) (k : ℕ) (spans : List Interval) → s.lo ≤ s.hi → AreMerged spans → AllByRecursion (λ t. s.lo ≤ t.hi + 1) spans → JoinsFront s k spans (joined s k spans) }
 {}

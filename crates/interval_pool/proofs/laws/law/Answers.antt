@@ -1,5 +1,5 @@
 use Rattle.interval_pool.proofs.laws.law.Goals as goal
-use Rattle.interval_pool.proofs.Walking.{grows, chain_fewer}
+use Rattle.interval_pool.proofs.Joining.{joins}
 
 pub returns : goal.returns
-returns c = record { few = λ cells heads i chain k h lt. chain_fewer cells heads i chain k h lt; grows = λ cells heads chain c h. grows cells heads chain c h }
+returns c = λ s k spans filled merged touch. joins s k spans filled merged touch
