@@ -6,7 +6,7 @@ use Rattle.interval_pool.specs.declared.cells.Cell.{Cell}
 use Rattle.interval_pool.specs.declared.cells.Head.{Head}
 use Rattle.interval_pool.specs.Cells.{cell_at, head_at, after, first_with, with_next, with_head, with_owner}
 use Rattle.interval_pool.specs.Chains.{first_or, last_or, AreLinked, AreChains, with_chain}
-use Rattle.interval_pool.specs.Intervals.{Interval}
+use Rattle.interval_pool.specs.declared.interval.Interval.{Interval}
 use Rattle.interval_pool.specs.Pools.{chain_of, AreWhole, AreWholeBut, interval_at, KeepsIntervals, Unlinked, Linked}
 use Rattle.interval_pool.proofs.Linking.{cell_other, cell_same, head_other, head_same, in_parts, length_next, linked_below, unlinks, links}
 use Rattle.interval_pool.proofs.Walking.{chain_is, rewalked, after_is}

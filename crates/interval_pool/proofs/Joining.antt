@@ -3,7 +3,9 @@ use Rattle.std.proofs.Common.{◌≡◌, ℕ, zero, suc, ◌+◌, ◌<◌, ◌�
 use Rattle.std.specs.Prelude.{min, max, if◌then◌else◌}
 use Rattle.std.specs.List.{AllByRecursion, list_any}
 use Rattle.std.proofs.lemmas.Bool.Decides.{nat_tests}
-use Rattle.interval_pool.specs.Intervals.{Interval, IsBefore, AreMerged, covers, has, Joined, hull, joined, Joins, JoinsFront}
+use Rattle.interval_pool.specs.declared.interval.Interval.{Interval}
+use Rattle.interval_pool.specs.declared.interval.Joined.{Joined}
+use Rattle.interval_pool.specs.Intervals.{IsBefore, AreMerged, covers, has, hull, joined, Joins, JoinsFront}
 
 -- two intervals that touch
 pub hull_covers : (a b c d n : ℕ) → a ≤ b → c ≤ d → a ≤ d + 1 → c ≤ b + 1 → (nat_le (min a c) n && nat_le n (max b d)) ≡ ((nat_le a n && nat_le n b) || (nat_le c n && nat_le n d))

@@ -8,7 +8,7 @@ use Rattle.interval_pool.specs.declared.cells.Head.{Head}
 use Rattle.interval_pool.specs.Links.{most_cells}
 use Rattle.interval_pool.specs.Cells.{cell_at, head_at, no_cell}
 use Rattle.interval_pool.specs.Chains.{first_or, last_or, AreLinked, AreChains, IsAmong, with_chain}
-use Rattle.interval_pool.specs.Intervals.{Interval}
+use Rattle.interval_pool.specs.declared.interval.Interval.{Interval}
 use Rattle.interval_pool.specs.Pools.{chain_of, AreWhole, AreWholeBut, interval_at, KeepsIntervals, Unlinks, Unlinked, Links, Linked, KeepsOthers, Freed, Frees, Grown, Placed}
 use Rattle.interval_pool.proofs.Linking.{chain_here, kept_cells, cell_other, cell_same}
 use Rattle.interval_pool.proofs.Walking.{chain_is, rewalked, grows, new_cell, all_below}

@@ -5,7 +5,8 @@ use Rattle.interval_pool.specs.declared.cells.Cell.{Cell}
 use Rattle.interval_pool.specs.declared.cells.Head.{Head}
 use Rattle.interval_pool.specs.Cells.{cell_at, head_at, after}
 use Rattle.interval_pool.specs.Chains.{first_or, last_or, IsAmong, AreLinked}
-use Rattle.interval_pool.specs.Intervals.{Interval, IsBefore, AreMerged}
+use Rattle.interval_pool.specs.declared.interval.Interval.{Interval}
+use Rattle.interval_pool.specs.Intervals.{IsBefore, AreMerged}
 use Rattle.interval_pool.specs.Pools.{interval_at, chain_of, AreWhole}
 use Rattle.interval_pool.specs.Places.{IsAscending, AreBelow, Reaches, IsStart, IsPassed, IsPlace}
 use Rattle.interval_pool.proofs.Linking.{all_joined, in_parts}

@@ -1,11 +1,8 @@
 -- Ascending intervals of numbers.
 use Rattle.std.specs.Prelude.{◌≡◌, ℕ, ◌+◌, ◌<◌, ◌≤◌, min, max, nat_le, Bool, ◌&&◌, ◌||◌, if◌then◌else◌, ⊤, List, [], ◌∷◌, ◌++◌, length}
 use Rattle.std.specs.List.{AllByRecursion, list_any}
-
--- the numbers from one to another, both among them
-pub record Interval : Type 0 where
-  pub lo : ℕ
-  pub hi : ℕ
+use Rattle.interval_pool.specs.declared.interval.Interval.{Interval}
+use Rattle.interval_pool.specs.declared.interval.Joined.{Joined}
 
 -- it ends with a number missing before the other
 abbrev pub IsBefore : Interval → Interval → Type 0
@@ -23,11 +20,6 @@ covers s n = nat_le s.lo n && nat_le n s.hi
 -- whether it is one of some interval's
 abbrev pub has : List Interval → ℕ → Bool
 has ss n = list_any (λ s. covers s n) ss
-
--- an interval, and how many others are in it
-pub record Joined : Type 0 where
-  pub numbers : Interval
-  pub count : ℕ
 
 -- the least interval with all numbers of two
 abbrev pub hull : Interval → Interval → Interval

@@ -3,10 +3,10 @@ use Rattle.std.specs.Prelude.{◌≡◌, ◌≢◌, ℕ, zero, suc, ◌+◌, ◌
 use Rattle.std.specs.List.{list_all, list_any, AllByRecursion}
 use Rattle.interval_pool.specs.declared.cells.Cell.{Cell}
 use Rattle.interval_pool.specs.declared.cells.Head.{Head}
-use Rattle.interval_pool.specs.Cells.{cell_at, head_at}
+use Rattle.interval_pool.specs.Cells.{cell_at, head_at, after}
 use Rattle.interval_pool.specs.Links.{most_cells}
 use Rattle.interval_pool.specs.Chains.{last_or, AreChains, with_chain}
-use Rattle.interval_pool.specs.Intervals.{Interval}
+use Rattle.interval_pool.specs.declared.interval.Interval.{Interval}
 
 -- the cells from one on, at most so many
 abbrev pub walk : List Cell → ℕ → Option ℕ → List ℕ
@@ -17,6 +17,10 @@ walk cells (suc n) (Some i) = i ∷ walk cells n (cell_at cells i).next
 -- the cells of a chain
 abbrev pub chain_of : List Cell → List Head → ℕ → List ℕ
 chain_of cells heads k = walk cells (head_at heads k).len (head_at heads k).first
+
+-- the cells of a chain after one of them, or all
+abbrev pub rest_of : List Cell → List Head → ℕ → Option ℕ → List ℕ
+rest_of cells heads k before = walk cells (head_at heads k).len (after cells heads k before)
 
 -- each cell stands in the chain of its owner
 abbrev pub AreWhole : List Cell → List Head → Type 0

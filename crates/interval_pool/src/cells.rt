@@ -1,6 +1,6 @@
 //! Cells linked by index into chains.
 ghost use Rattle.std.specs.Prelude.{◌≡◌, ℕ};
-ghost use Rattle.interval_pool.specs.Cells.{after, head_at, with_next, first_with, with_head, with_owner};
+ghost use Rattle.interval_pool.specs.Cells.{after, cell_at, head_at, with_next, first_with, with_head, with_owner};
 ghost use Rattle.interval_pool.specs.Pools.{Unlinks, Links};
 
 use crate::link::Link;
@@ -20,6 +20,22 @@ pub struct Head {
     pub first: Link,
     pub len: u32,
     pub is_list: bool,
+}
+
+/// The cell at a place; beyond the last an empty one.
+pub fn cell_at(cells: &[Cell], at: usize) -> Cell
+    ensures { result ≡ cell_at cells.now at }
+{
+    if at < cells.len() {
+        cells[at]
+    } else {
+        Cell {
+            lo: 0,
+            hi: 0,
+            next: Link::none(),
+            owner: 0,
+        }
+    }
 }
 
 /// The cell after one of a chain, or the chain's first.

@@ -2,6 +2,8 @@
 #![tactic(auto)]
 
 mod cells;
+mod interval;
+mod join;
 mod laws;
 mod link;
 mod seek;
