@@ -1,6 +1,10 @@
 -- What is left where a cell leaves a list for the free ones, or the other way.
 use Rattle.std.proofs.Common.{◌≡◌, ◌≢◌, ℕ, zero, suc, ◌+◌, ◌-◌, ◌<◌, ◌≤◌, ◌⊎◌, Bool, true, false, cond, List, [], ◌∷◌, ◌++◌, length, map, Option, Some, None, refl, sym, ap, subst, ◌∙◌, ⊎_elim, inl, inr, arith, get_or, length-append, length-set}
 use Rattle.std.specs.Prelude.{slice_set, ◌==◌}
+use Rattle.std.proofs.Common.{take, drop}
+use Rattle.std.proofs.Math.Seq.{drop-cons}
+use Rattle.std.proofs.Math.ListN.{drop_of_length-le}
+use Rattle.std.proofs.lemmas.List.{take_more, take_all}
 use Rattle.std.specs.List.{AllByRecursion}
 use Rattle.std.proofs.lemmas.Bool.Decides.{eqb_tells}
 use Rattle.interval_pool.specs.declared.cells.Cell.{Cell}
@@ -9,7 +13,7 @@ use Rattle.interval_pool.specs.Links.{most_cells}
 use Rattle.interval_pool.specs.Cells.{cell_at, head_at, no_cell}
 use Rattle.interval_pool.specs.Chains.{first_or, last_or, AreLinked, AreChains, IsAmong, with_chain}
 use Rattle.interval_pool.specs.declared.interval.Interval.{Interval}
-use Rattle.interval_pool.specs.Pools.{chain_of, AreWhole, AreWholeBut, interval_at, KeepsIntervals, Unlinks, Unlinked, Links, Linked, KeepsOthers, Freed, Frees, Grown, Placed}
+use Rattle.interval_pool.specs.Pools.{chain_of, AreWhole, AreWholeBut, interval_at, KeepsIntervals, Unlinks, Unlinked, Links, Linked, KeepsOthers, Freed, Frees, FreedSome, FreesSome, Grown, Placed}
 use Rattle.interval_pool.proofs.Linking.{chain_here, kept_cells, cell_other, cell_same}
 use Rattle.interval_pool.proofs.Walking.{chain_is, rewalked, grows, new_cell, all_below}
 
@@ -141,3 +145,54 @@ placed cells cells1 cells3 heads heads1 heads3 k i xs ys rest before at numbers 
       list = joined.chains k ∙ chain_here (chain_of cells2 heads1) k (xs ++ i ∷ ys);
       free = joined.chains 0 ∙ (chain_other (chain_of cells2 heads1) k 0 (xs ++ i ∷ ys) (λ e. not_free (sym e)) ∙ (same 0 ∙ (left.chains 0 ∙ chain_here (chain_of cells heads) 0 rest)));
     }
+
+-- ---- some cells are freed
+
+pub none_freed : (cells : List Cell) (heads : List Head) (k : ℕ) (xs ys : List ℕ) → AreWhole cells heads → chain_of cells heads k ≡ xs ++ ys → FreedSome cells heads k xs [] ys cells heads
+none_freed cells heads k xs ys h parts = record {
+  keeps = record { whole = h; as_many_chains = refl; lists = λ m. refl; chains = λ m free other. refl; intervals = λ m free other. refl };
+  as_many = refl;
+  all_intervals = λ j. refl;
+  list = parts;
+  more = [];
+  as_many_free = refl;
+  free = refl;
+}
+
+pub one_more_freed : (cells cells1 cells2 : List Cell) (heads heads1 heads2 : List Head) (k i : ℕ) (xs zs ys : List ℕ) (before : Option ℕ) → length cells ≤ most_cells → k ≢ 0 → k < length heads → before ≡ last_or None xs
+    → FreedSome cells heads k xs zs (i ∷ ys) cells1 heads1 → Frees cells1 heads1 k before cells2 heads2 → FreedSome cells heads k xs (zs ++ i ∷ []) ys cells2 heads2
+one_more_freed cells cells1 cells2 heads heads1 heads2 k i xs zs ys before small not_free lt is_before some one =
+    let n = some.as_many in
+    let m = some.keeps.as_many_chains in
+    let f : Freed cells1 heads1 k xs i ys cells2 heads2 = one xs i ys some.keeps.whole (omega (n, small, arith)) not_free (omega (m, lt, arith)) some.list is_before in
+    record {
+      keeps = record {
+        whole = f.keeps.whole;
+        as_many_chains = f.keeps.as_many_chains ∙ m;
+        lists = λ m. f.keeps.lists m ∙ some.keeps.lists m;
+        chains = λ m free other. f.keeps.chains m free other ∙ some.keeps.chains m free other;
+        intervals = λ m free other. same_intervals cells cells2 (λ j. f.all_intervals j ∙ some.all_intervals j) (chain_of cells heads m);
+      };
+      as_many = f.as_many ∙ n;
+      all_intervals = λ j. f.all_intervals j ∙ some.all_intervals j;
+      list = f.list;
+      more = i ∷ some.more;
+      as_many_free = let e = some.as_many_free in omega (e, arith, length-append zs (i ∷ []));
+      free = f.free ∙ ap (λ is. i ∷ is) some.free;
+    }
+
+pub next_freed : (cells cells1 cells2 : List Cell) (heads heads1 heads2 : List Head) (k n : ℕ) (xs zs ys : List ℕ) (before : Option ℕ) → length cells ≤ most_cells → k ≢ 0 → k < length heads → before ≡ last_or None xs → n < length zs
+    → FreedSome cells heads k xs (take n zs) (drop n zs ++ ys) cells1 heads1 → Frees cells1 heads1 k before cells2 heads2 → FreedSome cells heads k xs (take (n + 1) zs) (drop (n + 1) zs ++ ys) cells2 heads2
+next_freed cells cells1 cells2 heads heads1 heads2 k n xs zs ys before small not_free lt is_before below some one =
+    let i = get_or zs n 0 in
+    let left : drop n zs ≡ i ∷ drop (n + 1) zs = (let more : suc n ≡ n + 1 = omega arith in drop-cons zs n 0 below ∙ ap (λ m. i ∷ drop m zs) more) in
+    let P : List ℕ → Type 0 = λ is. FreedSome cells heads k xs (take n zs) (is ++ ys) cells1 heads1 in
+    let Q : List ℕ → Type 0 = λ is. FreedSome cells heads k xs is (drop (n + 1) zs ++ ys) cells2 heads2 in
+    subst Q (sym (take_more zs n 0 below))
+    (one_more_freed cells cells1 cells2 heads heads1 heads2 k i xs (take n zs) (drop (n + 1) zs ++ ys) before small not_free lt is_before (subst P left some) one)
+
+pub all_freed : (cells cells1 : List Cell) (heads heads1 : List Head) (k n : ℕ) (xs zs ys : List ℕ) → length zs ≤ n → FreedSome cells heads k xs (take n zs) (drop n zs ++ ys) cells1 heads1 → FreedSome cells heads k xs zs ys cells1 heads1
+all_freed cells cells1 heads heads1 k n xs zs ys le some =
+    let P : List ℕ → Type 0 = λ is. FreedSome cells heads k xs is ys cells1 heads1 in
+    let Q : List ℕ → Type 0 = λ is. FreedSome cells heads k xs (take n zs) (is ++ ys) cells1 heads1 in
+    subst P (take_all n zs le) (subst Q (drop_of_length-le zs le) some)

@@ -112,3 +112,18 @@ abbrev pub Places : List Cell → List Head → ℕ → Option ℕ → Interval 
 Places cells heads k before numbers cells' heads' =
     (xs ys : List ℕ) (i : ℕ) (rest : List ℕ) → AreWhole cells heads → length cells ≤ most_cells → k ≢ 0 → k < length heads
     → chain_of cells heads 0 ≡ i ∷ rest → chain_of cells heads k ≡ xs ++ ys → before ≡ last_or None xs → Placed cells heads k xs ys i rest numbers cells' heads'
+
+-- some cells after others of a list are free
+pub record FreedSome (cells : List Cell) (heads : List Head) (k : ℕ) (xs zs ys : List ℕ) (cells' : List Cell) (heads' : List Head) : Type 0 where
+  pub keeps : KeepsOthers cells heads k cells' heads'
+  pub as_many : length cells' ≡ length cells
+  pub all_intervals : (j : ℕ) → interval_at cells' j ≡ interval_at cells j
+  pub list : chain_of cells' heads' k ≡ xs ++ ys
+  pub more : List ℕ
+  pub as_many_free : length more ≡ length zs
+  pub free : chain_of cells' heads' 0 ≡ more ++ chain_of cells heads 0
+
+abbrev pub FreesSome : List Cell → List Head → ℕ → Option ℕ → ℕ → List Cell → List Head → Type 0
+FreesSome cells heads k before n cells' heads' =
+    (xs zs ys : List ℕ) → AreWhole cells heads → length cells ≤ most_cells → k ≢ 0 → k < length heads
+    → chain_of cells heads k ≡ xs ++ (zs ++ ys) → before ≡ last_or None xs → length zs ≡ n → FreedSome cells heads k xs zs ys cells' heads'

@@ -1,7 +1,7 @@
 //! Cells of lists, and free cells.
 ghost use Rattle.std.specs.Prelude.{◌≡◌, OnOk, OnErr, slice_set};
 ghost use Rattle.interval_pool.specs.Cells.{cell_at, with_numbers};
-ghost use Rattle.interval_pool.specs.Pools.{Frees, Grows, Places};
+ghost use Rattle.interval_pool.specs.Pools.{Frees, FreesSome, Grows, Places};
 
 use crate::cells::{Cell, Head, link, unlink};
 use crate::link::Link;
@@ -17,6 +17,15 @@ pub fn free(cells: &mut [Cell], heads: &mut [Head], list: u32, before: Link)
     let at = unlink(cells, heads, list as usize, before);
     if let Some(i) = at.place() {
         link(cells, heads, FREE, Link::none(), i);
+    }
+}
+
+/// Frees so many cells after one of a list, or the list's first.
+pub fn free_some(cells: &mut [Cell], heads: &mut [Head], list: u32, before: Link, count: u32)
+    ensures { FreesSome cells.old heads.old list before count cells.new heads.new }
+{
+    for _done in 0..count {
+        free(cells, heads, list, before);
     }
 }
 
