@@ -4,3 +4,4 @@ pub mod Changing
 pub mod Seeking
 pub mod Lists
 pub mod Joining
+pub mod Putting

@@ -4,3 +4,4 @@ pub mod Cells
 pub mod Chains
 pub mod Pools
 pub mod Places
+pub mod Changes

@@ -2,10 +2,13 @@
 #![tactic(auto)]
 
 mod cells;
+mod fault;
 mod interval;
 mod join;
 mod laws;
 mod link;
 mod seek;
 mod store;
+pub use fault::PoolFault;
+pub use interval::Interval;
 pub use laws::law;

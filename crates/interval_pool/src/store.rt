@@ -1,10 +1,15 @@
 //! Cells of lists, and free cells.
-ghost use Rattle.std.specs.Prelude.{◌≡◌, OnOk, OnErr, slice_set};
-ghost use Rattle.interval_pool.specs.Cells.{cell_at, with_numbers};
+ghost use Rattle.std.specs.Prelude.{◌≡◌, ◌≤◌, OnOk, OnErr, IfErr, length};
+ghost use Rattle.interval_pool.specs.Cells.{with_numbers};
+ghost use Rattle.interval_pool.specs.Links.{most_cells};
+ghost use Rattle.interval_pool.specs.Changes.{MakesRoom, Puts};
+ghost use Rattle.interval_pool.specs.declared.fault.PoolFault.TheVariants.{Full};
 ghost use Rattle.interval_pool.specs.Pools.{Frees, FreesSome, Grows, Places};
 
-use crate::cells::{Cell, Head, link, unlink};
-use crate::link::Link;
+use crate::cells::{Cell, Head, count, link, unlink};
+use crate::fault::PoolFault;
+use crate::interval::Joined;
+use crate::link::{Link, MOST_CELLS};
 use std::alloc::AllocError;
 
 /// The chain of the free cells.
@@ -65,4 +70,30 @@ pub fn place(cells: &mut [Cell], heads: &mut [Head], list: u32, before: Link, lo
         put_numbers(cells, i, lo, hi);
         link(cells, heads, list, before, i);
     }
+}
+
+/// Makes a free cell, where there is none.
+pub fn make_room(cells: &mut Vec<Cell>, heads: &mut [Head]) -> Result<(), PoolFault>
+    ensures ok { OnOk result (MakesRoom cells.old.items heads.old cells.new.items heads.new) }
+    ensures cells { OnErr result (cells.new.items ≡ cells.old.items) }
+    ensures heads { OnErr result (heads.new ≡ heads.old) }
+    ensures full { IfErr result (λ fault. fault ≡ Full → most_cells ≤ length cells.old.items) }
+{
+    if count(heads, FREE as usize) > 0 {
+        return Ok(());
+    }
+    if cells.as_slice().len() >= MOST_CELLS as usize {
+        return Err(PoolFault::Full);
+    }
+    grow(cells, heads)?;
+    Ok(())
+}
+
+/// Puts an interval into a list in place of so many cells after one of its cells, or at its start.
+pub fn put(cells: &mut [Cell], heads: &mut [Head], list: u32, before: Link, joined: Joined)
+    ensures { Puts cells.old heads.old list before joined cells.new heads.new }
+{
+    free_some(cells, heads, list, before, joined.count);
+    let numbers = joined.numbers;
+    place(cells, heads, list, before, numbers.lo, numbers.hi);
 }
