@@ -5,3 +5,4 @@ pub mod Seeking
 pub mod Lists
 pub mod Joining
 pub mod Putting
+pub mod Adding

@@ -51,7 +51,7 @@ room_grown cells cells1 heads heads1 none less grows h small has_heads =
       needed = inr (omega (n, none, arith));
     }
 
-map_append : (f : ℕ → Interval) (xs ys : List ℕ) → map f (xs ++ ys) ≡ map f xs ++ map f ys
+pub map_append : (f : ℕ → Interval) (xs ys : List ℕ) → map f (xs ++ ys) ≡ map f xs ++ map f ys
 map_append f [] ys = refl
 map_append f (x ∷ xs) ys = ap (λ ss. f x ∷ ss) (map_append f xs ys)
 

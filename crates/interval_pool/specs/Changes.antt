@@ -6,9 +6,8 @@ use Rattle.interval_pool.specs.declared.interval.Interval.{Interval}
 use Rattle.interval_pool.specs.declared.interval.Joined.{Joined}
 use Rattle.interval_pool.specs.Links.{most_cells}
 use Rattle.interval_pool.specs.Chains.{last_or}
-use Rattle.interval_pool.specs.Intervals.{has, covers}
+use Rattle.interval_pool.specs.Intervals.{has, covers, AreMerged}
 use Rattle.interval_pool.specs.Pools.{chain_of, interval_at, AreWhole, KeepsOthers}
-use Rattle.interval_pool.specs.Places.{IsAscending}
 
 -- the intervals of a chain
 abbrev pub spans_of : List Cell → List Head → ℕ → List Interval
@@ -40,3 +39,12 @@ abbrev pub Puts : List Cell → List Head → ℕ → Option ℕ → Joined → 
 Puts cells heads k before j cells' heads' =
     (xs ys : List ℕ) → AreWhole cells heads → length cells ≤ most_cells → k ≢ 0 → k < length heads → chain_of cells heads k ≡ xs ++ ys → before ≡ last_or None xs
     → j.count ≤ length ys → 0 < free_count cells heads + j.count → Put cells heads k xs ys j cells' heads'
+
+-- a list has the numbers of an interval too, and a cell more only where that needs one and none was free
+pub record Added (cells : List Cell) (heads : List Head) (k : ℕ) (s : Interval) (cells' : List Cell) (heads' : List Head) : Type 0 where
+  pub keeps : KeepsOthers cells heads k cells' heads'
+  pub small : length cells' ≤ most_cells
+  pub merged : AreMerged (spans_of cells' heads' k)
+  pub numbers : (n : ℕ) → has (spans_of cells' heads' k) n ≡ (has (spans_of cells heads k) n || covers s n)
+  pub total : free_count cells' heads' + length (spans_of cells' heads' k) + length cells ≡ free_count cells heads + length (spans_of cells heads k) + length cells'
+  pub needed : (length cells' ≡ length cells) ⊎ (free_count cells heads ≡ 0)

@@ -1,6 +1,7 @@
 //! Lists of intervals of numbers in one pool of cells.
 #![tactic(auto)]
 
+mod add;
 mod cells;
 mod fault;
 mod interval;

@@ -1,5 +1,5 @@
 use Rattle.interval_pool.proofs.laws.law.Goals as goal
-use Rattle.interval_pool.proofs.Joining.{joins}
+use Rattle.interval_pool.proofs.Adding.{put_added, merged_back}
 
 pub returns : goal.returns
-returns c = λ s k spans filled merged touch. joins s k spans filled merged touch
+returns c = λ ss h. h
