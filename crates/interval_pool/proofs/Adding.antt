@@ -13,7 +13,7 @@ use Rattle.interval_pool.specs.Intervals.{IsBefore, AreMerged, covers, has, join
 use Rattle.interval_pool.specs.Pools.{walk, chain_of, rest_of, interval_at, AreWhole, KeepsOthers}
 use Rattle.interval_pool.specs.Places.{AreBelow, Reaches, IsPlace}
 use Rattle.interval_pool.specs.Changes.{spans_of, free_count, HasRoom, MakesRoom, Put, Puts, Added}
-use Rattle.interval_pool.proofs.Linking.{in_parts}
+use Rattle.interval_pool.proofs.Linking.{in_parts, all_parts}
 use Rattle.interval_pool.proofs.Walking.{after_is, chain_few}
 use Rattle.interval_pool.proofs.Joining.{joins, all_weaker}
 use Rattle.interval_pool.proofs.Putting.{map_append, keeps_both}
@@ -99,7 +99,7 @@ drop_front (f ∷ fs) rest = drop_front fs rest
 
 pub put_added : (cells cells1 : List Cell) (heads heads1 : List Head) (k n : ℕ) (before : Option ℕ) (s : Interval) (j : Joined) → AreWhole cells heads → length cells ≤ most_cells → k ≢ 0 → k < length heads → AreMerged (spans_of cells heads k)
     → s.lo ≤ s.hi → s.lo ≡ n + 1 → IsPlace cells heads k n before → j ≡ joined s 0 (map (interval_at cells) (rest_of cells heads k before)) → 0 < free_count cells heads + j.count → Puts cells heads k before j cells1 heads1
-    → Added cells heads k s cells1 heads1
+    → Added cells heads k s cells1 heads1 × (length cells1 ≡ length cells)
 put_added cells cells1 heads heads1 k n before s j h small not_free lt merged filled from place is_joined some puts =
     let f : ℕ → Interval = interval_at cells in
     let xs = place.xs in
@@ -118,7 +118,7 @@ put_added cells cells1 heads heads1 k n before s j h small not_free lt merged fi
     let after : spans_of cells1 heads1 k ≡ map f xs ++ j.numbers ∷ jf.rest = p.spans ∙ ap (λ ts. map f xs ++ j.numbers ∷ ts) rest in
     let js : Joins s (jf.front ++ jf.rest) j.numbers jf.rest = subst (λ ts. Joins s ts j.numbers jf.rest) jf.parts jf.joins in
     let good : AreMerged (map f xs ++ j.numbers ∷ jf.rest) = merged_with (map f xs) jf.front jf.rest s j.numbers (subst (λ ts. AreMerged (map f xs ++ ts)) jf.parts merged') (below_before cells n s xs (omega (from, arith)) place.below) js in
-    record {
+    (record {
       keeps = p.keeps;
       small = let a = p.as_many in omega (a, small, arith);
       merged = subst AreMerged (sym after) good;
@@ -138,15 +138,16 @@ put_added cells cells1 heads heads1 k n before s j h small not_free lt merged fi
           let l3 = length-append jf.front jf.rest in
           omega (a, t, e, g, l1, l2, l3, size, count, arith);
       needed = inl p.as_many;
-    }
+    }, p.as_many)
 
 -- what keeps all lists keeps their intervals
 pub same_spans : (cells cells1 : List Cell) (heads heads1 : List Head) (k m : ℕ) → KeepsOthers cells heads k cells1 heads1 → m ≢ 0 → m ≢ k → spans_of cells1 heads1 m ≡ spans_of cells heads m
 same_spans cells cells1 heads heads1 k m keeps free other = ap (map (interval_at cells1)) (keeps.chains m free other) ∙ keeps.intervals m free other
 
 -- the same after room was made
-pub room_added : (cells cells1 cells2 : List Cell) (heads heads1 heads2 : List Head) (k : ℕ) (s : Interval) → k ≢ 0 → AreWhole cells heads → HasRoom cells heads cells1 heads1 → Added cells1 heads1 k s cells2 heads2 → Added cells heads k s cells2 heads2
-room_added cells cells1 cells2 heads heads1 heads2 k s not_free h room a =
+room_added : (cells cells1 cells2 : List Cell) (heads heads1 heads2 : List Head) (k freed : ℕ) (s : Interval) → k ≢ 0 → HasRoom cells heads freed cells1 heads1
+    → free_count cells1 heads1 + length (spans_of cells1 heads1 k) ≡ free_count cells1 heads1 + length (spans_of cells heads k) → Added cells1 heads1 k s cells2 heads2 → length cells2 ≡ length cells1 → Added cells heads k s cells2 heads2
+room_added cells cells1 cells2 heads heads1 heads2 k freed s not_free room size a as_many =
     let same = same_spans cells cells1 heads heads1 0 k room.keeps not_free not_free in
     record {
       keeps = record {
@@ -160,5 +161,58 @@ room_added cells cells1 cells2 heads heads1 heads2 k s not_free h room a =
       merged = a.merged;
       numbers = λ n. a.numbers n ∙ ap (λ ts. has ts n || covers s n) same;
       total = let t = a.total in let r = room.total in let e = ap length same in omega (t, r, e, arith);
-      needed = ⊎_elim (λ e. ⊎_elim (λ e'. inl (e ∙ e')) inr room.needed) (λ none. let some = room.some in absurd (omega (none, some, arith))) a.needed;
+      needed = ⊎_elim (λ e. inl (as_many ∙ e)) inr room.needed;
     }
+
+-- where the intervals are the same, so is each
+each_same : (f g : ℕ → Interval) (is : List ℕ) → map f is ≡ map g is → AllByRecursion (λ i. f i ≡ g i) is
+each_same f g [] e = tt
+each_same f g (i ∷ is) e = (cc, each_same f g is (cc))
+
+below_same : (cells cells1 : List Cell) (n : ℕ) (is : List ℕ) → AllByRecursion (λ i. interval_at cells1 i ≡ interval_at cells i) is → AreBelow cells n is → AreBelow cells1 n is
+below_same cells cells1 n [] same below = tt
+below_same cells cells1 n (i ∷ is) same below = let e = ap (λ (s : Interval). s.hi) same.0 in let b = below.0 in (omega (e, b, arith), below_same cells cells1 n is same.1 below.1)
+
+reaches_same : (cells cells1 : List Cell) (n : ℕ) (is : List ℕ) → AllByRecursion (λ i. interval_at cells1 i ≡ interval_at cells i) is → Reaches cells n is → Reaches cells1 n is
+reaches_same cells cells1 n [] same reaches = tt
+reaches_same cells cells1 n (i ∷ is) same reaches = let e = ap (λ (s : Interval). s.hi) same.0 in omega (e, reaches, arith)
+
+map_same : (f g : ℕ → Interval) (is : List ℕ) → AllByRecursion (λ i. f i ≡ g i) is → map f is ≡ map g is
+map_same f g [] same = refl
+map_same f g (i ∷ is) same = (λ p. same.0 p ∷ map_same f g is same.1 p)
+
+-- a place is the same one where the lists are
+pub place_kept : (cells cells1 : List Cell) (heads heads1 : List Head) (k n : ℕ) (before : Option ℕ) → KeepsOthers cells heads 0 cells1 heads1 → k ≢ 0 → IsPlace cells heads k n before → IsPlace cells1 heads1 k n before
+place_kept cells cells1 heads heads1 k n before keeps not_free place =
+    let same = each_same (interval_at cells1) (interval_at cells) (place.xs ++ place.ys) (subst (λ is. map (interval_at cells1) is ≡ map (interval_at cells) is) place.parts (keeps.intervals k not_free not_free)) in
+    let parts = all_parts (λ i. interval_at cells1 i ≡ interval_at cells i) place.xs place.ys same in
+    record {
+      xs = place.xs;
+      ys = place.ys;
+      parts = keeps.chains k not_free not_free ∙ place.parts;
+      before_is = place.before_is;
+      below = below_same cells cells1 n place.xs parts.0 place.below;
+      reaches = reaches_same cells cells1 n place.ys parts.1 place.reaches;
+    }
+
+rest_kept : (cells cells1 : List Cell) (heads heads1 : List Head) (k n : ℕ) (before : Option ℕ) → AreWhole cells heads → KeepsOthers cells heads 0 cells1 heads1 → k ≢ 0 → IsPlace cells heads k n before
+    → map (interval_at cells) (rest_of cells heads k before) ≡ map (interval_at cells1) (rest_of cells1 heads1 k before)
+rest_kept cells cells1 heads heads1 k n before h keeps not_free place =
+    let same = each_same (interval_at cells1) (interval_at cells) (place.xs ++ place.ys) (subst (λ is. map (interval_at cells1) is ≡ map (interval_at cells) is) place.parts (keeps.intervals k not_free not_free)) in
+    let parts = all_parts (λ i. interval_at cells1 i ≡ interval_at cells i) place.xs place.ys same in
+    ap (map (interval_at cells)) (rest_is cells heads k before place.xs place.ys h place.parts place.before_is)
+    ∙ (sym (map_same (interval_at cells1) (interval_at cells) place.ys parts.1)
+    ∙ ap (map (interval_at cells1)) (sym (rest_is cells1 heads1 k before place.xs place.ys keeps.whole (keeps.chains k not_free not_free ∙ place.parts) place.before_is)))
+
+-- an interval is added: its place is sought, it is joined, room is made, and it is put
+pub added : (cells cells1 cells2 : List Cell) (heads heads1 heads2 : List Head) (k n : ℕ) (before : Option ℕ) (s : Interval) (j : Joined) → AreWhole cells heads → length cells ≤ most_cells → k ≢ 0 → k < length heads → AreMerged (spans_of cells heads k)
+    → s.lo ≤ s.hi → s.lo ≡ n + 1 → IsPlace cells heads k n before → j ≡ joined s 0 (map (interval_at cells) (rest_of cells heads k before)) → MakesRoom cells heads j.count cells1 heads1 → Puts cells1 heads1 k before j cells2 heads2
+    → Added cells heads k s cells2 heads2 × (length cells2 ≡ length cells1)
+added cells cells1 cells2 heads heads1 heads2 k n before s j h small not_free lt merged filled from place is_joined makes puts =
+    let room : HasRoom cells heads j.count cells1 heads1 = makes h small (omega (lt, arith)) in
+    let same = same_spans cells cells1 heads heads1 0 k room.keeps not_free not_free in
+    let lt1 : k < length heads1 = (let m = room.keeps.as_many_chains in omega (m, lt, arith)) in
+    let place1 = place_kept cells cells1 heads heads1 k n before room.keeps not_free place in
+    let is1 : j ≡ joined s 0 (map (interval_at cells1) (rest_of cells1 heads1 k before)) = is_joined ∙ ap (joined s 0) (rest_kept cells cells1 heads heads1 k n before h room.keeps not_free place) in
+    let a = put_added cells1 cells2 heads1 heads2 k n before s j room.keeps.whole room.small not_free lt1 (subst AreMerged (sym same) merged) filled from place1 is1 room.some puts in
+    (room_added cells cells1 cells2 heads heads1 heads2 k j.count s not_free room (ap (λ m. free_count cells1 heads1 + m) (ap length same)) a.0 a.1, a.1)

@@ -28,8 +28,8 @@ keeps_both cells cells1 cells2 heads heads1 heads2 k one two = record {
   intervals = λ m free other. subst (λ is. map (interval_at cells2) is ≡ map (interval_at cells1) is) (one.chains m free other) (two.intervals m free other) ∙ one.intervals m free other;
 }
 
-pub room_there : (cells : List Cell) (heads : List Head) → 0 < (head_at heads 0).len → MakesRoom cells heads cells heads
-room_there cells heads some h small has_heads = record {
+pub room_there : (cells : List Cell) (heads : List Head) (freed : ℕ) → 0 < (head_at heads 0).len + freed → MakesRoom cells heads freed cells heads
+room_there cells heads freed some h small has_heads = record {
   keeps = keeps_all cells heads 0 h;
   some = let n = h.count 0 in omega (n, some, arith);
   small = small;
@@ -37,8 +37,8 @@ room_there cells heads some h small has_heads = record {
   needed = inl refl;
 }
 
-pub room_grown : (cells cells1 : List Cell) (heads heads1 : List Head) → (head_at heads 0).len ≤ 0 → length cells < most_cells → Grows cells heads cells1 heads1 → MakesRoom cells heads cells1 heads1
-room_grown cells cells1 heads heads1 none less grows h small has_heads =
+pub room_grown : (cells cells1 : List Cell) (heads heads1 : List Head) (freed : ℕ) → (head_at heads 0).len ≤ 0 → length cells < most_cells → Grows cells heads cells1 heads1 → MakesRoom cells heads freed cells1 heads1
+room_grown cells cells1 heads heads1 freed none less grows h small has_heads =
     let g : Grown cells heads cells1 heads1 = grows h less has_heads in
     let n = h.count 0 in
     let more = g.as_many in

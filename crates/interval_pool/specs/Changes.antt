@@ -17,16 +17,16 @@ spans_of cells heads k = map (interval_at cells) (chain_of cells heads k)
 abbrev pub free_count : List Cell → List Head → ℕ
 free_count cells heads = length (chain_of cells heads 0)
 
--- there is a free cell, and all lists are as they were
-pub record HasRoom (cells : List Cell) (heads : List Head) (cells' : List Cell) (heads' : List Head) : Type 0 where
+-- there is a free cell, or so many will be, and all lists are as they were
+pub record HasRoom (cells : List Cell) (heads : List Head) (freed : ℕ) (cells' : List Cell) (heads' : List Head) : Type 0 where
   pub keeps : KeepsOthers cells heads 0 cells' heads'
-  pub some : 0 < free_count cells' heads'
+  pub some : 0 < free_count cells' heads' + freed
   pub small : length cells' ≤ most_cells
   pub total : free_count cells' heads' + length cells ≡ free_count cells heads + length cells'
   pub needed : (length cells' ≡ length cells) ⊎ (free_count cells heads ≡ 0)
 
-abbrev pub MakesRoom : List Cell → List Head → List Cell → List Head → Type 0
-MakesRoom cells heads cells' heads' = AreWhole cells heads → length cells ≤ most_cells → 0 < length heads → HasRoom cells heads cells' heads'
+abbrev pub MakesRoom : List Cell → List Head → ℕ → List Cell → List Head → Type 0
+MakesRoom cells heads freed cells' heads' = AreWhole cells heads → length cells ≤ most_cells → 0 < length heads → HasRoom cells heads freed cells' heads'
 
 -- an interval stands in a list in place of so many after some
 pub record Put (cells : List Cell) (heads : List Head) (k : ℕ) (xs ys : List ℕ) (j : Joined) (cells' : List Cell) (heads' : List Head) : Type 0 where

@@ -36,9 +36,7 @@ pub fn add(
 {
     let before = seek(cells, heads, list, numbers.lo - 1, guess);
     let joined = join(cells, heads, list, before, numbers);
-    if joined.count == 0 {
-        make_room(cells, heads)?;
-    }
+    make_room(cells, heads, joined.count)?;
     put(cells, heads, list, before, joined);
     Ok(())
 }

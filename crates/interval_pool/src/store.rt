@@ -72,14 +72,18 @@ pub fn place(cells: &mut [Cell], heads: &mut [Head], list: u32, before: Link, lo
     }
 }
 
-/// Makes a free cell, where there is none.
-pub fn make_room(cells: &mut Vec<Cell>, heads: &mut [Head]) -> Result<(), PoolFault>
-    ensures ok { OnOk result (MakesRoom cells.old.items heads.old cells.new.items heads.new) }
+/// Makes a free cell, where there is none and none will be freed.
+pub fn make_room(
+    cells: &mut Vec<Cell>,
+    heads: &mut [Head],
+    freed: u32,
+) -> Result<(), PoolFault>
+    ensures ok { OnOk result (MakesRoom cells.old.items heads.old freed cells.new.items heads.new) }
     ensures cells { OnErr result (cells.new.items ≡ cells.old.items) }
     ensures heads { OnErr result (heads.new ≡ heads.old) }
     ensures full { IfErr result (λ fault. fault ≡ Full → most_cells ≤ length cells.old.items) }
 {
-    if count(heads, FREE as usize) > 0 {
+    if freed > 0 || count(heads, FREE as usize) > 0 {
         return Ok(());
     }
     if cells.as_slice().len() >= MOST_CELLS as usize {
