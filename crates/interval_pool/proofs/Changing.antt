@@ -21,9 +21,11 @@ same_interval cells i c j lo hi = ⊎_elim here (λ (h : ((j == i) ≡ false) ×
     beyond [] i le = refl
     beyond (d ∷ cells) zero le = absurd (omega (le, arith))
     beyond (d ∷ cells) (suc i) le = ap (λ ds. d ∷ ds) (beyond cells i (omega (le, arith)))
+
     at_i : (i < length cells) ⊎ (length cells ≤ i) → interval_at (slice_set cells i c) i ≡ interval_at cells i
     at_i (inl lt) = let same = cell_same cells i c lt in (λ p. record { lo = (ap (λ (d : Cell). d.lo) same ∙ lo) p; hi = (ap (λ (d : Cell). d.hi) same ∙ hi) p })
     at_i (inr le) = ap (λ ds. interval_at ds i) (beyond cells i le)
+
     here : ((j == i) ≡ true) × (j ≡ i) → interval_at (slice_set cells i c) j ≡ interval_at cells j
     here h = let P : ℕ → Type 0 = λ n. interval_at (slice_set cells i c) n ≡ interval_at cells n in subst P (sym h.1) (at_i (grind arith))
 
@@ -38,9 +40,11 @@ same_list heads k h j e = ⊎_elim here (λ (ne : ((j == k) ≡ false) × (j ≢
     beyond [] k le = refl
     beyond (d ∷ heads) zero le = absurd (omega (le, arith))
     beyond (d ∷ heads) (suc k) le = ap (λ ds. d ∷ ds) (beyond heads k (omega (le, arith)))
+
     at_k : (k < length heads) ⊎ (length heads ≤ k) → (head_at (slice_set heads k h) k).is_list ≡ (head_at heads k).is_list
     at_k (inl lt) = ap (λ (d : Head). d.is_list) (head_same heads k h lt) ∙ e
     at_k (inr le) = ap (λ ds. (head_at ds k).is_list) (beyond heads k le)
+
     here : ((j == k) ≡ true) × (j ≡ k) → (head_at (slice_set heads k h) j).is_list ≡ (head_at heads j).is_list
     here same = let P : ℕ → Type 0 = λ n. (head_at (slice_set heads k h) n).is_list ≡ (head_at heads n).is_list in subst P (sym same.1) (at_k (grind arith))
 
@@ -58,8 +62,8 @@ unlinked cells heads k i xs ys before at next n h lt parts is_before is_at is_ne
     let cells_are : with_next cells before next ≡ with_next cells (last_or None xs) (first_or None ys) = (λ p. with_next cells (is_before p) (goes p)) in
     let heads_are : with_head heads k before next n ≡ with_head heads k (last_or None xs) (first_or None ys) (length (xs ++ ys)) = (λ p. with_head heads k (is_before p) (goes p) (size p)) in
     let result : AreChains (with_next cells before next) (with_head heads k before next n) (Some i) (with_chain (chain_of cells heads) k (xs ++ ys)) =
-        subst (λ cs. AreChains cs (with_head heads k before next n) (Some i) (with_chain (chain_of cells heads) k (xs ++ ys))) (sym cells_are)
-        (subst (λ hs. AreChains (with_next cells (last_or None xs) (first_or None ys)) hs (Some i) (with_chain (chain_of cells heads) k (xs ++ ys))) (sym heads_are) moved) in
+    subst (λ cs. AreChains cs (with_head heads k before next n) (Some i) (with_chain (chain_of cells heads) k (xs ++ ys))) (sym cells_are)
+    (subst (λ hs. AreChains (with_next cells (last_or None xs) (first_or None ys)) hs (Some i) (with_chain (chain_of cells heads) k (xs ++ ys))) (sym heads_are) moved) in
     record {
       found = found;
       below = linked.1.0.below;
@@ -86,8 +90,8 @@ linked cells heads k i xs ys before next n h lt below parts is_before is_next is
     let cells_are : cells' ≡ with_next (with_owner cells i k (first_or None ys)) (last_or None xs) (Some i) = (λ p. with_next (with_owner cells i k (goes p)) (is_before p) (Some i)) in
     let heads_are : heads' ≡ with_head heads k (last_or None xs) (Some i) (length (xs ++ i ∷ ys)) = (λ p. with_head heads k (is_before p) (Some i) (size p)) in
     let result : AreChains cells' heads' None chain' =
-        subst (λ cs. AreChains cs heads' None chain') (sym cells_are)
-        (subst (λ hs. AreChains (with_next (with_owner cells i k (first_or None ys)) (last_or None xs) (Some i)) hs None chain') (sym heads_are) moved) in
+    subst (λ cs. AreChains cs heads' None chain') (sym cells_are)
+    (subst (λ hs. AreChains (with_next (with_owner cells i k (first_or None ys)) (last_or None xs) (Some i)) hs None chain') (sym heads_are) moved) in
     record {
       whole = rewalked cells' heads' None chain' result;
       chains = chain_is cells' heads' None chain' result;

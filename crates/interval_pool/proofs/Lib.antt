@@ -3,6 +3,6 @@ pub mod Walking
 pub mod Changing
 pub mod Seeking
 pub mod Lists
-pub mod Joining
 pub mod Putting
-pub mod Adding
+pub mod Meeting
+pub mod Altering

@@ -73,9 +73,10 @@ relast cells k (i ∷ []) e end once linked =
     let lt : i < length cells = linked.0.below in
     let same = cell_same cells i (record (cell_at cells i) { next = end }) lt in
     (record { below = simp length-set lt; owner = ap (λ (c : Cell). c.owner) same ∙ linked.0.owner; next_is = ap (λ (c : Cell). c.next) same }, tt)
-relast cells k (i ∷ j ∷ js) e end once linked =
-    (kept_next cells k i (Some j) (last_or (Some j) js) end (λ at. is_among_all (λ n. n ≢ i) i (j ∷ js) once.0 (last_among j i js at) refl) linked.0,
-    relast cells k (j ∷ js) e end once.1 linked.1)
+relast cells k (i ∷ j ∷ js) e end once linked = (
+  kept_next cells k i (Some j) (last_or (Some j) js) end (λ at. is_among_all (λ n. n ≢ i) i (j ∷ js) once.0 (last_among j i js at) refl) linked.0,
+  relast cells k (j ∷ js) e end once.1 linked.1,
+)
 
 pub linked_owner : (cells : List Cell) (k i : ℕ) (is : List ℕ) (e : Option ℕ) → AreLinked cells k is e → IsAmong i is → (cell_at cells i).owner ≡ k
 linked_owner cells k i [] e linked among = absurd among
@@ -95,9 +96,10 @@ other_owner cells k m p (j ∷ js) e owner ne linked =
 other_last : (cells : List Cell) (k m : ℕ) (xs is : List ℕ) (d e : Option ℕ) → m ≢ k → AreLinked cells k xs d → AreLinked cells m is e → AllByRecursion (λ j. last_or None xs ≡ Some j → ⊥) is
 other_last cells k m xs [] d e ne xs_linked linked = tt
 other_last cells k m [] (j ∷ js) d e ne xs_linked linked = ((λ at. cc), other_last cells k m [] js d e ne xs_linked linked.1)
-other_last cells k m (x ∷ xs) (j ∷ js) d e ne xs_linked linked =
-    ((λ at. ne (sym linked.0.owner ∙ linked_owner cells k j (x ∷ xs) d xs_linked (last_among x j xs at))),
-    other_last cells k m (x ∷ xs) js d e ne xs_linked linked.1)
+other_last cells k m (x ∷ xs) (j ∷ js) d e ne xs_linked linked = (
+  (λ at. ne (sym linked.0.owner ∙ linked_owner cells k j (x ∷ xs) d xs_linked (last_among x j xs at))),
+  other_last cells k m (x ∷ xs) js d e ne xs_linked linked.1,
+)
 
 -- ---- a chain at a place
 
@@ -186,9 +188,9 @@ pub owner_next : (cells : List Cell) (before e : Option ℕ) (j : ℕ) → j < l
 owner_next cells None e j lt = refl
 owner_next cells (Some p) e j lt = ⊎_elim
     (λ (h : ((j == p) ≡ true) × (j ≡ p)).
-      let P : ℕ → Type 0 = λ n. (cell_at (with_next cells (Some p) e) n).owner ≡ (cell_at cells n).owner in
-      let Q : ℕ → Type 0 = λ n. n < length cells in
-      subst P (sym h.1) (ap (λ (c : Cell). c.owner) (cell_same cells p (record (cell_at cells p) { next = e }) (subst Q h.1 lt))))
+    let P : ℕ → Type 0 = λ n. (cell_at (with_next cells (Some p) e) n).owner ≡ (cell_at cells n).owner in
+    let Q : ℕ → Type 0 = λ n. n < length cells in
+    subst P (sym h.1) (ap (λ (c : Cell). c.owner) (cell_same cells p (record (cell_at cells p) { next = e }) (subst Q h.1 lt))))
     (λ (h : ((j == p) ≡ false) × (j ≢ p)). ap (λ (c : Cell). c.owner) (cell_other cells p j (record (cell_at cells p) { next = e }) h.1))
     (eqb_tells j p)
 
@@ -219,8 +221,8 @@ unlinks cells heads chain k i xs ys h lt at =
           (λ m ne. ap (λ (d : Head). d.len) (head_other heads k m new ne) ∙ h.count m);
       linked = at_chain (λ m is. AreLinked cells' m is None) chain k (xs ++ ys)
           (joined cells' k xs ys None
-            (relast cells k xs (Some i) next (once_parts xs (i ∷ ys) once).0 parts.0)
-            (kept_nexts cells k ys before next None (last_apart xs ys both.0) parts.1.1))
+          (relast cells k xs (Some i) next (once_parts xs (i ∷ ys) once).0 parts.0)
+          (kept_nexts cells k ys before next None (last_apart xs ys both.0) parts.1.1))
           (λ m ne. kept_nexts cells m (chain m) before next None (other_last cells k m xs (chain m) (Some i) None ne parts.0 (h.linked m)) (h.linked m));
       once = at_chain (λ m is. AreOnce is) chain k (xs ++ ys) both.0 (λ m ne. h.once m);
       whole = λ j below.
@@ -228,15 +230,15 @@ unlinks cells heads chain k i xs ys h lt at =
           let P : ℕ → List ℕ → Type 0 = λ m is. IsAmong j (chain m) → (Some i ≡ Some j) ⊎ IsAmong j is in
           let there : IsAmong j (chain (cell_at cells j).owner) = ⊎_elim (λ e. absurd (cc)) (λ a. a) (h.whole j lt') in
           let moved = at_chain P chain k (xs ++ ys)
-              (λ a. ⊎_elim (λ e. inl (ap Some e)) inr (among_parts j i xs ys (subst (IsAmong j) at a)))
-              (λ m ne a. inr a) (cell_at cells j).owner there in
+          (λ a. ⊎_elim (λ e. inl (ap Some e)) inr (among_parts j i xs ys (subst (IsAmong j) at a)))
+          (λ m ne a. inr a) (cell_at cells j).owner there in
           let Q : ℕ → Type 0 = λ o. (Some i ≡ Some j) ⊎ IsAmong j (with_chain chain k (xs ++ ys) o) in
           subst Q (sym (owner_next cells before next j lt')) moved;
       apart = λ j m e.
           let P : ℕ → Type 0 = λ n. AllByRecursion (λ l. l ≢ n) (with_chain chain k (xs ++ ys) m) in
           let same : i ≡ j = cc in
           subst P same (at_chain (λ o is. AllByRecursion (λ l. l ≢ i) is) chain k (xs ++ ys) both.1
-            (λ o ne. other_owner cells k o i (chain o) None parts.1.0.owner ne (h.linked o)) m);
+          (λ o ne. other_owner cells k o i (chain o) None parts.1.0.owner ne (h.linked o)) m);
     }
 
 -- ---- a cell joins a chain
@@ -274,8 +276,8 @@ links cells heads chain k i xs ys h lt below at =
           (λ m ne. ap (λ (d : Head). d.len) (head_other heads k m new ne) ∙ h.count m);
       linked = at_chain (λ m is. AreLinked cells' m is None) chain k (xs ++ i ∷ ys)
           (joined cells' k xs (i ∷ ys) None
-            (relast cells1 k xs (first_or None ys) (Some i) (once_parts xs ys once).0 parts.0)
-            (kept_next cells1 k i (first_or None ys) before (Some i) not_last.0 here, kept_nexts cells1 k ys before (Some i) None not_last.1 parts.1))
+          (relast cells1 k xs (first_or None ys) (Some i) (once_parts xs ys once).0 parts.0)
+          (kept_next cells1 k i (first_or None ys) before (Some i) not_last.0 here, kept_nexts cells1 k ys before (Some i) None not_last.1 parts.1))
           (λ m ne. kept_nexts cells1 m (chain m) before (Some i) None (other_last cells1 k m xs (chain m) (first_or None ys) None ne parts.0 (linked1 m)) (linked1 m));
       once = at_chain (λ m is. AreOnce is) chain k (xs ++ i ∷ ys) once' (λ m ne. h.once m);
       whole = λ j within.
@@ -284,15 +286,15 @@ links cells heads chain k i xs ys h lt below at =
           let Q : ℕ → Type 0 = λ o. (None ≡ Some j) ⊎ IsAmong j (with_chain chain k (xs ++ i ∷ ys) o) in
           let R : ℕ → Type 0 = λ n. IsAmong n (with_chain chain k (xs ++ i ∷ ys) (cell_at cells1 n).owner) in
           let is_here : IsAmong i (with_chain chain k (xs ++ i ∷ ys) (cell_at cells1 i).owner) =
-              subst (λ o. IsAmong i (with_chain chain k (xs ++ i ∷ ys) o)) (sym here.owner)
-              (subst (IsAmong i) (sym (chain_here chain k (xs ++ i ∷ ys))) (among_at i xs ys)) in
+          subst (λ o. IsAmong i (with_chain chain k (xs ++ i ∷ ys) o)) (sym here.owner)
+          (subst (IsAmong i) (sym (chain_here chain k (xs ++ i ∷ ys))) (among_at i xs ys)) in
           let moved : IsAmong j (with_chain chain k (xs ++ i ∷ ys) (cell_at cells1 j).owner) = ⊎_elim
-              (λ (e : ((j == i) ≡ true) × (j ≡ i)). subst R (sym e.1) is_here)
-              (λ (e : ((j == i) ≡ false) × (j ≢ i)).
-                let a : IsAmong j (chain (cell_at cells j).owner) = ⊎_elim (λ (s : Some i ≡ Some j). absurd (e.1 (cc))) (λ a. a) (h.whole j lt0) in
-                subst (λ o. IsAmong j (with_chain chain k (xs ++ i ∷ ys) o)) (sym (ap (λ (c : Cell). c.owner) (cell_other cells i j owned e.1)))
-                (at_chain (λ m is. IsAmong j (chain m) → IsAmong j is) chain k (xs ++ i ∷ ys) (λ b. among_with j i xs ys (subst (IsAmong j) at b)) (λ m ne b. b) (cell_at cells j).owner a))
-              (eqb_tells j i) in
+          (λ (e : ((j == i) ≡ true) × (j ≡ i)). subst R (sym e.1) is_here)
+          (λ (e : ((j == i) ≡ false) × (j ≢ i)).
+          let a : IsAmong j (chain (cell_at cells j).owner) = ⊎_elim (λ (s : Some i ≡ Some j). absurd (e.1 (cc))) (λ a. a) (h.whole j lt0) in
+          subst (λ o. IsAmong j (with_chain chain k (xs ++ i ∷ ys) o)) (sym (ap (λ (c : Cell). c.owner) (cell_other cells i j owned e.1)))
+          (at_chain (λ m is. IsAmong j (chain m) → IsAmong j is) chain k (xs ++ i ∷ ys) (λ b. among_with j i xs ys (subst (IsAmong j) at b)) (λ m ne b. b) (cell_at cells j).owner a))
+          (eqb_tells j i) in
           subst Q (sym (owner_next cells1 before (Some i) j lt1)) (inr moved);
       apart = λ j m e. absurd (cc);
     }

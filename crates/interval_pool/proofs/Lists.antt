@@ -45,7 +45,7 @@ freed cells cells1 cells2 heads heads1 heads2 k i xs ys before at h small not_fr
     let m1 = left.keeps.as_many_chains in
     let below : i < length cells = left.below in
     let joined : Linked cells1 heads1 0 [] i (chain_of cells1 heads1 0) cells2 heads2 =
-        into [] (chain_of cells1 heads1 0) left.whole (omega (n1, small, arith)) (omega (m1, lt, arith)) (omega (n1, below, arith)) refl refl in
+    into [] (chain_of cells1 heads1 0) left.whole (omega (n1, small, arith)) (omega (m1, lt, arith)) (omega (n1, below, arith)) refl refl in
     let all : (j : ℕ) → interval_at cells2 j ≡ interval_at cells j = λ j. joined.keeps.intervals j ∙ left.keeps.intervals j in
     record {
       keeps = record {
@@ -72,7 +72,7 @@ grown cells cells2 heads heads2 c h small some into =
     let same : (m : ℕ) → chain_of cells1 heads m ≡ chain_of cells heads m = chain_is cells1 heads (Some n) (chain_of cells heads) one in
     let size = length-append cells (c ∷ []) in
     let joined : Linked cells1 heads 0 [] n (chain_of cells1 heads 0) cells2 heads2 =
-        into [] (chain_of cells1 heads 0) (rewalked cells1 heads (Some n) (chain_of cells heads) one) (omega (size, small, arith)) some (omega (size, arith)) refl refl in
+    into [] (chain_of cells1 heads 0) (rewalked cells1 heads (Some n) (chain_of cells heads) one) (omega (size, small, arith)) some (omega (size, arith)) refl refl in
     record {
       keeps = record {
         whole = joined.whole;
@@ -102,8 +102,8 @@ renumbered cells heads chain i c owner h = record {
   whole = λ j lt. ⊎_elim
       (λ (e : ((j == i) ≡ true) × (j ≡ i)). inl (ap Some (sym e.1)))
       (λ (e : ((j == i) ≡ false) × (j ≢ i)).
-        let lt0 : j < length cells = simp length-set at lt in
-        subst (λ o. (Some i ≡ Some j) ⊎ IsAmong j (chain o)) (sym (ap (λ (d : Cell). d.owner) (cell_other cells i j c e.1))) (h.whole j lt0))
+      let lt0 : j < length cells = simp length-set at lt in
+      subst (λ o. (Some i ≡ Some j) ⊎ IsAmong j (chain o)) (sym (ap (λ (d : Cell). d.owner) (cell_other cells i j c e.1))) (h.whole j lt0))
       (eqb_tells j i);
   apart = h.apart;
 }
@@ -123,13 +123,13 @@ placed cells cells1 cells3 heads heads1 heads3 k i xs ys rest before at numbers 
     let n2 : length cells2 ≡ length cells1 = simp length-set in
     let below : i < length cells = left.below in
     let joined : Linked cells2 heads1 k xs i ys cells3 heads3 =
-        into xs ys (rewalked cells2 heads1 (Some i) (chain_of cells1 heads1) whole2) (omega (n1, n2, small, arith)) (omega (m1, lt, arith)) (omega (n1, n2, below, arith))
-        (same k ∙ (stays k not_free ∙ parts)) is_before in
+    into xs ys (rewalked cells2 heads1 (Some i) (chain_of cells1 heads1) whole2) (omega (n1, n2, small, arith)) (omega (m1, lt, arith)) (omega (n1, n2, below, arith))
+    (same k ∙ (stays k not_free ∙ parts)) is_before in
     let apart : (m : ℕ) → m ≢ 0 → AllByRecursion (λ j. j ≢ i) (chain_of cells heads m) = λ m ne. subst (AllByRecursion (λ j. j ≢ i)) (stays m ne) (left.whole.apart i m refl) in
     let lt1 : i < length cells1 = omega (n1, below, arith) in
     let written : cell_at cells2 i ≡ c = cell_same cells1 i c lt1 in
     let other : (j : ℕ) → j ≢ i → interval_at cells3 j ≡ interval_at cells j = λ j ne.
-        joined.keeps.intervals j ∙ (ap (λ (d : Cell). let r : Interval = record { lo = d.lo; hi = d.hi } in r) (cell_other cells1 i j c ne) ∙ left.keeps.intervals j) in
+    joined.keeps.intervals j ∙ (ap (λ (d : Cell). let r : Interval = record { lo = d.lo; hi = d.hi } in r) (cell_other cells1 i j c ne) ∙ left.keeps.intervals j) in
     record {
       keeps = record {
         whole = joined.whole;

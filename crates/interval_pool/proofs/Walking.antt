@@ -31,6 +31,7 @@ after_is cells heads out chain k xs ys h at = along xs (h.first k ∙ ap (first_
     later : (x : ℕ) (xs ys : List ℕ) → AreLinked cells k (x ∷ xs ++ ys) None → after cells heads k (last_or (Some x) xs) ≡ first_or None ys
     later x [] ys linked = linked.0.next_is
     later x (w ∷ xs) ys linked = later w xs ys linked.1
+
     along : (xs : List ℕ) → (head_at heads k).first ≡ first_or None (xs ++ ys) → AreLinked cells k (xs ++ ys) None → after cells heads k (last_or None xs) ≡ first_or None ys
     along [] first linked = first
     along (x ∷ xs) first linked = later x xs ys linked
@@ -46,9 +47,10 @@ still_linked : (cells : List Cell) (c : Cell) (k : ℕ) (is : List ℕ) (e : Opt
 still_linked cells c k [] e linked = tt
 still_linked cells c k (i ∷ is) e linked =
     let same = new_cell cells c i linked.0.below in
-    let lt : i < length cells = linked.0.below in
-    (record { below = omega (lt, arith, length-append cells (c ∷ [])); owner = ap (λ (d : Cell). d.owner) same ∙ linked.0.owner; next_is = ap (λ (d : Cell). d.next) same ∙ linked.0.next_is },
-    still_linked cells c k is e linked.1)
+    let lt : i < length cells = linked.0.below in (
+      record { below = omega (lt, arith, length-append cells (c ∷ [])); owner = ap (λ (d : Cell). d.owner) same ∙ linked.0.owner; next_is = ap (λ (d : Cell). d.next) same ∙ linked.0.next_is },
+      still_linked cells c k is e linked.1,
+    )
 
 below_apart : (cells : List Cell) (k n : ℕ) (is : List ℕ) (e : Option ℕ) → length cells ≤ n → AreLinked cells k is e → AllByRecursion (λ j. j ≢ n) is
 below_apart cells k n [] e le linked = tt
@@ -63,10 +65,10 @@ grows cells heads chain c h = record {
   whole = λ i lt. ⊎_elim
       (λ (e : ((i == length cells) ≡ true) × (i ≡ length cells)). inl (ap Some (sym e.1)))
       (λ (e : ((i == length cells) ≡ false) × (i ≢ length cells)).
-        let ne = e.1 in
-        let below : i < length cells = omega (lt, ne, arith, length-append cells (c ∷ [])) in
-        let a : IsAmong i (chain (cell_at cells i).owner) = ⊎_elim (λ s. absurd (cc)) (λ a. a) (h.whole i below) in
-        inr (subst (λ o. IsAmong i (chain o)) (sym (ap (λ (d : Cell). d.owner) (new_cell cells c i below))) a))
+      let ne = e.1 in
+      let below : i < length cells = omega (lt, ne, arith, length-append cells (c ∷ [])) in
+      let a : IsAmong i (chain (cell_at cells i).owner) = ⊎_elim (λ s. absurd (cc)) (λ a. a) (h.whole i below) in
+      inr (subst (λ o. IsAmong i (chain o)) (sym (ap (λ (d : Cell). d.owner) (new_cell cells c i below))) a))
       (eqb_tells i (length cells));
   apart = λ i k e. below_apart cells k i (chain k) None (let same : length cells ≡ i = cc in omega (same, arith)) (h.linked k);
 }
@@ -88,12 +90,12 @@ without_length : (n : ℕ) (is : List ℕ) → AreOnce is → length is ≤ leng
 without_length n [] once = omega arith
 without_length n (i ∷ is) once = ⊎_elim
     (λ (e : ((i == n) ≡ true) × (i ≡ n)).
-      let same : without n (i ∷ is) ≡ is = ap (λ b. cond b (without n is) (i ∷ without n is)) e.0
-          ∙ without_none n is (let P : ℕ → Type 0 = λ m. AllByRecursion (λ j. j ≢ m) is in subst P e.1 once.0) in
-      let f = ap length same in omega (f, arith))
+    let same : without n (i ∷ is) ≡ is = ap (λ b. cond b (without n is) (i ∷ without n is)) e.0
+    ∙ without_none n is (let P : ℕ → Type 0 = λ m. AllByRecursion (λ j. j ≢ m) is in subst P e.1 once.0) in
+    let f = ap length same in omega (f, arith))
     (λ (e : ((i == n) ≡ false) × (i ≢ n)).
-      let same : without n (i ∷ is) ≡ i ∷ without n is = ap (λ b. cond b (without n is) (i ∷ without n is)) e.0 in
-      let f = ap length same in let more = without_length n is once.1 in omega (f, more, arith))
+    let same : without n (i ∷ is) ≡ i ∷ without n is = ap (λ b. cond b (without n is) (i ∷ without n is)) e.0 in
+    let f = ap length same in let more = without_length n is once.1 in omega (f, more, arith))
     (eqb_tells i n)
 
 without_all : (P : ℕ → Type 0) (n : ℕ) (is : List ℕ) → AllByRecursion P is → AllByRecursion P (without n is)
@@ -117,7 +119,7 @@ without_below n [] all = tt
 without_below n (i ∷ is) all = ⊎_elim
     (λ (e : ((i == n) ≡ true) × (i ≡ n)). subst (λ b. AllByRecursion (λ j. j < n) (cond b (without n is) (i ∷ without n is))) (sym e.0) (without_below n is all.1))
     (λ (e : ((i == n) ≡ false) × (i ≢ n)). subst (λ b. AllByRecursion (λ j. j < n) (cond b (without n is) (i ∷ without n is))) (sym e.0)
-      (let lt = all.0 in let ne = e.1 in (omega (lt, ne, arith), without_below n is all.1)))
+    (let lt = all.0 in let ne = e.1 in (omega (lt, ne, arith), without_below n is all.1)))
     (eqb_tells i n)
 
 once_few : (n : ℕ) (is : List ℕ) → AreOnce is → AllByRecursion (λ j. j < n) is → length is ≤ n

@@ -1,12 +1,12 @@
 -- What changes of a list leave.
-use Rattle.std.specs.Prelude.{◌≡◌, ◌≢◌, ℕ, ◌+◌, ◌<◌, ◌≤◌, ◌⊎◌, ⊤, Bool, ◌||◌, List, [], ◌∷◌, ◌++◌, length, map, drop, Option, Some, None}
+use Rattle.std.specs.Prelude.{◌≡◌, ◌≢◌, ℕ, ◌+◌, ◌-◌, ◌<◌, ◌≤◌, ◌⊎◌, ⊤, Bool, not, ◌&&◌, ◌||◌, List, [], ◌∷◌, ◌++◌, length, map, drop, min, Option, Some, None, option_to_list}
 use Rattle.interval_pool.specs.declared.cells.Cell.{Cell}
 use Rattle.interval_pool.specs.declared.cells.Head.{Head}
 use Rattle.interval_pool.specs.declared.interval.Interval.{Interval}
-use Rattle.interval_pool.specs.declared.interval.Joined.{Joined}
+use Rattle.interval_pool.specs.declared.interval.Pieces.{Pieces}
 use Rattle.interval_pool.specs.Links.{most_cells}
 use Rattle.interval_pool.specs.Chains.{last_or}
-use Rattle.interval_pool.specs.Intervals.{has, covers, AreMerged}
+use Rattle.interval_pool.specs.Intervals.{has, covers, listed, AreMerged}
 use Rattle.interval_pool.specs.Pools.{chain_of, interval_at, AreWhole, KeepsOthers}
 
 -- the intervals of a chain
@@ -17,34 +17,86 @@ spans_of cells heads k = map (interval_at cells) (chain_of cells heads k)
 abbrev pub free_count : List Cell → List Head → ℕ
 free_count cells heads = length (chain_of cells heads 0)
 
--- there is a free cell, or so many will be, and all lists are as they were
-pub record HasRoom (cells : List Cell) (heads : List Head) (freed : ℕ) (cells' : List Cell) (heads' : List Head) : Type 0 where
+-- there are as many free cells as needed, with those that will be freed, and all lists are as they were
+pub record HasRoom (cells : List Cell) (heads : List Head) (freed needed : ℕ) (cells' : List Cell) (heads' : List Head) : Type 0 where
   pub keeps : KeepsOthers cells heads 0 cells' heads'
-  pub some : 0 < free_count cells' heads' + freed
+  pub enough : needed ≤ free_count cells' heads' + freed
   pub small : length cells' ≤ most_cells
   pub total : free_count cells' heads' + length cells ≡ free_count cells heads + length cells'
-  pub needed : (length cells' ≡ length cells) ⊎ (free_count cells heads ≡ 0)
+  pub more : (length cells' ≡ length cells) ⊎ ((free_count cells heads ≡ 0) × (free_count cells' heads' + freed ≡ needed))
 
-abbrev pub MakesRoom : List Cell → List Head → ℕ → List Cell → List Head → Type 0
-MakesRoom cells heads freed cells' heads' = AreWhole cells heads → length cells ≤ most_cells → 0 < length heads → HasRoom cells heads freed cells' heads'
+abbrev pub MakesRoom : List Cell → List Head → ℕ → ℕ → List Cell → List Head → Type 0
+MakesRoom cells heads freed needed cells' heads' =
+    AreWhole cells heads → length cells ≤ most_cells → 0 < length heads → needed ≤ freed + 1 → HasRoom cells heads freed needed cells' heads'
 
--- an interval stands in a list in place of so many after some
-pub record Put (cells : List Cell) (heads : List Head) (k : ℕ) (xs ys : List ℕ) (j : Joined) (cells' : List Cell) (heads' : List Head) : Type 0 where
+-- none or one interval stands in a list after some of its cells
+pub record Set (cells : List Cell) (heads : List Head) (k : ℕ) (xs ys : List ℕ) (some : Option Interval) (cells' : List Cell) (heads' : List Head) : Type 0 where
   pub keeps : KeepsOthers cells heads k cells' heads'
   pub as_many : length cells' ≡ length cells
-  pub spans : spans_of cells' heads' k ≡ map (interval_at cells) xs ++ j.numbers ∷ drop j.count (map (interval_at cells) ys)
-  pub total : free_count cells' heads' + 1 ≡ free_count cells heads + j.count
+  pub zs : List ℕ
+  pub list : chain_of cells' heads' k ≡ xs ++ (zs ++ ys)
+  pub here : map (interval_at cells') zs ≡ option_to_list some
+  pub before : map (interval_at cells') xs ≡ map (interval_at cells) xs
+  pub behind : map (interval_at cells') ys ≡ map (interval_at cells) ys
+  pub total : free_count cells' heads' + length (option_to_list some) ≡ free_count cells heads
 
-abbrev pub Puts : List Cell → List Head → ℕ → Option ℕ → Joined → List Cell → List Head → Type 0
-Puts cells heads k before j cells' heads' =
+abbrev pub Sets : List Cell → List Head → ℕ → Option ℕ → Option Interval → List Cell → List Head → Type 0
+Sets cells heads k before some cells' heads' =
     (xs ys : List ℕ) → AreWhole cells heads → length cells ≤ most_cells → k ≢ 0 → k < length heads → chain_of cells heads k ≡ xs ++ ys → before ≡ last_or None xs
-    → j.count ≤ length ys → 0 < free_count cells heads + j.count → Put cells heads k xs ys j cells' heads'
+    → length (option_to_list some) ≤ free_count cells heads → Set cells heads k xs ys some cells' heads'
 
--- a list has the numbers of an interval too, and a cell more only where that needs one and none was free
-pub record Added (cells : List Cell) (heads : List Head) (k : ℕ) (s : Interval) (cells' : List Cell) (heads' : List Head) : Type 0 where
+-- intervals stand in a list in place of so many after some
+pub record Put (cells : List Cell) (heads : List Head) (k : ℕ) (xs ys : List ℕ) (n : ℕ) (pieces : List Interval) (cells' : List Cell) (heads' : List Head) : Type 0 where
+  pub keeps : KeepsOthers cells heads k cells' heads'
+  pub as_many : length cells' ≡ length cells
+  pub spans : spans_of cells' heads' k ≡ map (interval_at cells) xs ++ (pieces ++ drop n (map (interval_at cells) ys))
+  pub total : free_count cells' heads' + length pieces ≡ free_count cells heads + n
+
+abbrev pub Puts : List Cell → List Head → ℕ → Option ℕ → ℕ → Pieces → List Cell → List Head → Type 0
+Puts cells heads k before n pieces cells' heads' =
+    (xs ys : List ℕ) → AreWhole cells heads → length cells ≤ most_cells → k ≢ 0 → k < length heads → chain_of cells heads k ≡ xs ++ ys → before ≡ last_or None xs
+    → n ≤ length ys → length (listed pieces) ≤ free_count cells heads + n → Put cells heads k xs ys n (listed pieces) cells' heads'
+
+-- the same where a cell more is made, if it is needed and none is free
+pub record Replaced (cells : List Cell) (heads : List Head) (k : ℕ) (xs ys : List ℕ) (n : ℕ) (pieces : List Interval) (cells' : List Cell) (heads' : List Head) : Type 0 where
+  pub keeps : KeepsOthers cells heads k cells' heads'
+  pub small : length cells' ≤ most_cells
+  pub spans : spans_of cells' heads' k ≡ map (interval_at cells) xs ++ (pieces ++ drop n (map (interval_at cells) ys))
+  pub total : free_count cells' heads' + length pieces + length cells ≡ free_count cells heads + n + length cells'
+  pub more : (length cells' ≡ length cells) ⊎ ((free_count cells heads ≡ 0) × (free_count cells' heads' ≡ 0))
+
+abbrev pub Replaces : List Cell → List Head → ℕ → Option ℕ → ℕ → Pieces → List Cell → List Head → Type 0
+Replaces cells heads k before n pieces cells' heads' =
+    (xs ys : List ℕ) → AreWhole cells heads → length cells ≤ most_cells → k ≢ 0 → k < length heads → chain_of cells heads k ≡ xs ++ ys → before ≡ last_or None xs
+    → n ≤ length ys → length (listed pieces) ≤ n + 1 → Replaced cells heads k xs ys n (listed pieces) cells' heads'
+
+-- a list has the numbers that pass a test, and a cell more only where it needs one and none was free
+pub record Changed (cells : List Cell) (heads : List Head) (k : ℕ) (among : ℕ → Bool) (cells' : List Cell) (heads' : List Head) : Type 0 where
   pub keeps : KeepsOthers cells heads k cells' heads'
   pub small : length cells' ≤ most_cells
   pub merged : AreMerged (spans_of cells' heads' k)
-  pub numbers : (n : ℕ) → has (spans_of cells' heads' k) n ≡ (has (spans_of cells heads k) n || covers s n)
+  pub numbers : (n : ℕ) → has (spans_of cells' heads' k) n ≡ among n
+  pub few : length (spans_of cells' heads' k) ≤ length (spans_of cells heads k) + 1
   pub total : free_count cells' heads' + length (spans_of cells' heads' k) + length cells ≡ free_count cells heads + length (spans_of cells heads k) + length cells'
-  pub needed : (length cells' ≡ length cells) ⊎ (free_count cells heads ≡ 0)
+  pub more : (length cells' ≡ length cells) ⊎ ((free_count cells heads ≡ 0) × (free_count cells' heads' ≡ 0))
+
+-- the numbers of a list and of an interval, and those of a list without an interval
+abbrev pub with_more : List Interval → Interval → ℕ → Bool
+with_more ss s n = has ss n || covers s n
+
+abbrev pub without : List Interval → Interval → ℕ → Bool
+without ss s n = has ss n && not (covers s n)
+
+abbrev pub Added : List Cell → List Head → ℕ → Interval → List Cell → List Head → Type 0
+Added cells heads k s cells' heads' = Changed cells heads k (with_more (spans_of cells heads k) s) cells' heads'
+
+abbrev pub Cut : List Cell → List Head → ℕ → Interval → List Cell → List Head → Type 0
+Cut cells heads k s cells' heads' = Changed cells heads k (without (spans_of cells heads k) s) cells' heads'
+
+-- no cell is free, and the vector has no room for one more, or may have none
+pub record IsSpent (cells : List Cell) (heads : List Head) (capacity : ℕ) : Type 0 where
+  pub free : free_count cells heads ≡ 0
+  pub room : min capacity most_cells ≤ length cells
+
+abbrev pub Spends : List Cell → List Head → ℕ → Type 0
+Spends cells heads capacity = AreWhole cells heads → IsSpent cells heads capacity

@@ -1,8 +1,9 @@
 -- Ascending intervals of numbers.
-use Rattle.std.specs.Prelude.{◌≡◌, ℕ, ◌+◌, ◌<◌, ◌≤◌, min, max, nat_le, Bool, ◌&&◌, ◌||◌, if◌then◌else◌, ⊤, List, [], ◌∷◌, ◌++◌, length}
+use Rattle.std.specs.Prelude.{◌≡◌, ℕ, ◌+◌, ◌-◌, ◌<◌, ◌≤◌, ◌⊎◌, min, max, nat_le, nat_lt, Bool, ◌&&◌, ◌||◌, if◌then◌else◌, ⊤, List, [], ◌∷◌, ◌++◌, Option, Some, None, option_to_list}
 use Rattle.std.specs.List.{AllByRecursion, list_any}
 use Rattle.interval_pool.specs.declared.interval.Interval.{Interval}
 use Rattle.interval_pool.specs.declared.interval.Joined.{Joined}
+use Rattle.interval_pool.specs.declared.interval.Pieces.{Pieces}
 
 -- it ends with a number missing before the other
 abbrev pub IsBefore : Interval → Interval → Type 0
@@ -25,23 +26,26 @@ has ss n = list_any (λ s. covers s n) ss
 abbrev pub hull : Interval → Interval → Interval
 hull s t = record { lo = min s.lo t.lo; hi = max s.hi t.hi }
 
--- an interval joined with those at the start of some that it touches, beside so many others
-abbrev pub joined : Interval → ℕ → List Interval → Joined
-joined s k [] = record { numbers = s; count = k }
-joined s k (t ∷ ts) = if nat_le t.lo (s.hi + 1) then joined (hull s t) (k + 1) ts else record { numbers = s; count = k }
+-- an interval joined with the first of some, those that begin up to a number, beside so many others
+abbrev pub met : ℕ → Interval → ℕ → List Interval → Joined
+met limit s k [] = record { numbers = s; count = k }
+met limit s k (t ∷ ts) = if nat_le t.lo limit then met limit (hull s t) (k + 1) ts else record { numbers = s; count = k }
 
--- What a joined interval, and the intervals after those in it, have of an interval and all of these.
-pub record Joins (s : Interval) (spans : List Interval) (numbers : Interval) (rest : List Interval) : Type 0 where
-  pub filled : numbers.lo ≤ numbers.hi
-  pub lower : (u : Interval) → IsBefore u s → AllByRecursion (IsBefore u) spans → IsBefore u numbers
-  pub later : AllByRecursion (IsBefore numbers) rest
-  pub merged : AreMerged rest
-  pub has : (n : ℕ) → (covers numbers n || has rest n) ≡ (covers s n || has spans n)
+-- what an interval has below the numbers of another, and above
+abbrev pub part_below : Interval → Interval → Option Interval
+part_below whole s = if nat_lt whole.lo s.lo then Some (record { lo = whole.lo; hi = s.lo - 1 }) else None
 
--- the same where the first of these intervals are in the joined one
-pub record JoinsFront (s : Interval) (k : ℕ) (spans : List Interval) (j : Joined) : Type 0 where
-  pub front : List Interval
-  pub rest : List Interval
-  pub parts : spans ≡ front ++ rest
-  pub count : j.count ≡ k + length front
-  pub joins : Joins s spans j.numbers rest
+abbrev pub part_above : Interval → Interval → Option Interval
+part_above whole s = if nat_lt s.hi whole.hi then Some (record { lo = s.hi + 1; hi = whole.hi }) else None
+
+abbrev pub listed : Pieces → List Interval
+listed pieces = option_to_list pieces.first ++ option_to_list pieces.second
+
+-- no interval of these has a number of another, or one beside it
+abbrev pub IsApart : List Interval → Interval → Type 0
+IsApart ss s = AllByRecursion (λ t. IsBefore t s ⊎ IsBefore s t) ss
+
+-- an interval of these goes on below and above all numbers of another
+abbrev pub IsSplit : List Interval → Interval → Type 0
+IsSplit [] s = ⊥
+IsSplit (t ∷ ts) s = ((t.lo < s.lo) × (s.hi < t.hi)) ⊎ IsSplit ts s

@@ -30,7 +30,6 @@ AreWhole cells heads = AreChains cells heads None (chain_of cells heads)
 abbrev pub AreWholeBut : List Cell → List Head → ℕ → Type 0
 AreWholeBut cells heads i = AreChains cells heads (Some i) (chain_of cells heads)
 
-
 -- the numbers of a cell
 abbrev pub interval_at : List Cell → ℕ → Interval
 interval_at cells i = record { lo = (cell_at cells i).lo; hi = (cell_at cells i).hi }

@@ -3,13 +3,13 @@
 
 mod add;
 mod cells;
+mod cut;
 mod fault;
 mod interval;
-mod join;
-mod laws;
 mod link;
+mod meet;
 mod seek;
 mod store;
+
 pub use fault::PoolFault;
 pub use interval::Interval;
-pub use laws::law;

@@ -10,4 +10,4 @@ returns c = λ xs ys h small lt below parts is_before.
     let count = h.count c.args.chain in
     rw (c.put_next.ensures, c.put_head.ensures, c.put_owner.ensures, c.to.ensures (omega (small, below, arith)), c.to-2.ensures (omega (small, below, arith)))
     (linked c.args.cells.now c.args.heads.now c.args.chain c.args.at xs ys c.args.before c.after-next.result c.saturating_add-len.result h lt below parts is_before
-      c.after-next.ensures (let sum = c.saturating_add-len.ensures in let n = c.count.ensures in omega (sum, n, count, fewer, small, arith)))
+    c.after-next.ensures (let sum = c.saturating_add-len.ensures in let n = c.count.ensures in omega (sum, n, count, fewer, small, arith)))

@@ -16,10 +16,10 @@ pub returns-then-i-cells : goal.returns-then-i-cells
 returns-then-i-cells c =
     stops c.args.cells.now c.args.heads.now c.args.list c.args.number c.in-Some.i c.walk.before c.walk.at c.walk.left c.requires.whole c.walk.invariant (cc)
     (λ lt. elim c.then-i-cells.branch [
-      then-i-cells-via-then-i-cells w ↦ let le = w.if-i-cells.true in absurd (omega (lt, le, arith))
+      | then-i-cells-via-then-i-cells w ↦ let le = w.if-i-cells.true in absurd (omega (lt, le, arith))
       | then-i-cells-via-else-i-cells+then-cells-i w ↦
-        let P : Cell → Type 0 = λ d. c.args.number ≤ d.hi in
-        subst P (get_or_default c.args.cells.now c.in-Some.i w.index-cells-i.result no_cell lt) w.if-cells-i.true
+          let P : Cell → Type 0 = λ d. c.args.number ≤ d.hi in
+          subst P (get_or_default c.args.cells.now c.in-Some.i w.index-cells-i.result no_cell lt) w.if-cells-i.true
     ])
 
 pub walk-preserved : goal.walk-preserved

@@ -1,31 +1,32 @@
-//! An interval joined with those of a list that it touches.
+//! An interval joined with those of a list that it meets.
 ghost use Rattle.std.specs.Prelude.{◌≡◌, map};
-ghost use Rattle.interval_pool.specs.Intervals.{joined};
+ghost use Rattle.interval_pool.specs.Intervals.{met};
 ghost use Rattle.interval_pool.specs.Pools.{interval_at, rest_of};
 
 use crate::cells::{Cell, Head, after, cell_at, count};
-use crate::interval::{Interval, Joined, begins_by_end, hull};
+use crate::interval::{Interval, Joined, hull};
 use crate::link::Link;
 
-/// An interval joined with the cells of a list after one of them, as long as it touches the next.
-pub fn join(
+/// An interval joined with the cells of a list after one of them, as long as the next begins up to this number.
+pub fn meet(
     cells: &[Cell],
     heads: &[Head],
     list: u32,
     before: Link,
     numbers: Interval,
+    limit: u64,
 ) -> Joined
-    ensures { result ≡ joined numbers 0 (map (interval_at cells.now) (rest_of cells.now heads.now list before)) }
+    ensures { result ≡ met limit numbers 0 (map (interval_at cells.now) (rest_of cells.now heads.now list before)) }
 {
     let mut joined = Joined { numbers, count: 0 };
     let mut at = after(cells, heads, list as usize, before);
     let mut left = count(heads, list as usize);
-    'join: while left > 0 {
+    'meet: while left > 0 {
         let Some(i) = at.place() else {
             return joined;
         };
         let cell = cell_at(cells, i);
-        if !begins_by_end(cell.lo, joined.numbers) {
+        if cell.lo > limit {
             return joined;
         }
         let other = Interval {
