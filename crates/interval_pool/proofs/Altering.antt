@@ -72,7 +72,7 @@ touches cells n lo (y ∷ ys) le merged reaches =
     later [] before more = tt
     later (z ∷ zs) before more = let b = before.0 in let f = more.0 in (omega (le, reaches, b, f, arith), later zs before.1 more.2)
 
-length_map : (f : ℕ → Interval) (is : List ℕ) → length (map f is) ≡ length is
+pub length_map : (f : ℕ → Interval) (is : List ℕ) → length (map f is) ≡ length is
 length_map f [] = refl
 length_map f (i ∷ is) = let e = length_map f is in omega (e, arith)
 

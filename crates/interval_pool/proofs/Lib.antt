@@ -6,3 +6,6 @@ pub mod Lists
 pub mod Putting
 pub mod Meeting
 pub mod Altering
+pub mod Valued
+pub mod Parting
+pub mod Listing

@@ -75,7 +75,7 @@ grows cells heads chain c h = record {
 
 -- ---- how many cells a chain has
 
-abbrev without : ℕ → List ℕ → List ℕ
+abbrev pub without : ℕ → List ℕ → List ℕ
 without n [] = []
 without n (i ∷ is) = cond (i == n) (without n is) (i ∷ without n is)
 
@@ -106,7 +106,7 @@ without_all P n (i ∷ is) all = picked (i == n) (without_all P n is all.1)
     picked true more = more
     picked false more = (all.0, more)
 
-without_once : (n : ℕ) (is : List ℕ) → AreOnce is → AreOnce (without n is)
+pub without_once : (n : ℕ) (is : List ℕ) → AreOnce is → AreOnce (without n is)
 without_once n [] once = tt
 without_once n (i ∷ is) once = picked (i == n) (without_once n is once.1)
   where
@@ -114,7 +114,7 @@ without_once n (i ∷ is) once = picked (i == n) (without_once n is once.1)
     picked true more = more
     picked false more = (without_all (λ j. j ≢ i) n is once.0, more)
 
-without_below : (n : ℕ) (is : List ℕ) → AllByRecursion (λ j. j < suc n) is → AllByRecursion (λ j. j < n) (without n is)
+pub without_below : (n : ℕ) (is : List ℕ) → AllByRecursion (λ j. j < suc n) is → AllByRecursion (λ j. j < n) (without n is)
 without_below n [] all = tt
 without_below n (i ∷ is) all = ⊎_elim
     (λ (e : ((i == n) ≡ true) × (i ≡ n)). subst (λ b. AllByRecursion (λ j. j < n) (cond b (without n is) (i ∷ without n is))) (sym e.0) (without_below n is all.1))
@@ -122,7 +122,7 @@ without_below n (i ∷ is) all = ⊎_elim
     (let lt = all.0 in let ne = e.1 in (omega (lt, ne, arith), without_below n is all.1)))
     (eqb_tells i n)
 
-once_few : (n : ℕ) (is : List ℕ) → AreOnce is → AllByRecursion (λ j. j < n) is → length is ≤ n
+pub once_few : (n : ℕ) (is : List ℕ) → AreOnce is → AllByRecursion (λ j. j < n) is → length is ≤ n
 once_few zero [] once all = omega arith
 once_few zero (i ∷ is) once all = absurd (let lt : i < 0 = all.0 in omega (lt, arith))
 once_few (suc n) is once all =

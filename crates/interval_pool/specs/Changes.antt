@@ -1,10 +1,11 @@
 -- What changes of a list leave.
-use Rattle.std.specs.Prelude.{◌≡◌, ◌≢◌, ℕ, ◌+◌, ◌-◌, ◌<◌, ◌≤◌, ◌⊎◌, ⊤, Bool, not, ◌&&◌, ◌||◌, List, [], ◌∷◌, ◌++◌, length, map, drop, min, Option, Some, None, option_to_list}
+use Rattle.std.specs.Prelude.{◌≡◌, ◌≢◌, ℕ, ◌+◌, ◌-◌, ◌<◌, ◌≤◌, ◌⊎◌, ⊤, Bool, true, false, not, ◌&&◌, ◌||◌, List, [], ◌∷◌, ◌++◌, length, map, drop, min, Option, Some, None, option_to_list}
 use Rattle.interval_pool.specs.declared.cells.Cell.{Cell}
 use Rattle.interval_pool.specs.declared.cells.Head.{Head}
 use Rattle.interval_pool.specs.declared.interval.Interval.{Interval}
 use Rattle.interval_pool.specs.declared.interval.Pieces.{Pieces}
 use Rattle.interval_pool.specs.Links.{most_cells}
+use Rattle.interval_pool.specs.Cells.{head_at}
 use Rattle.interval_pool.specs.Chains.{last_or}
 use Rattle.interval_pool.specs.Intervals.{has, covers, listed, AreMerged}
 use Rattle.interval_pool.specs.Pools.{chain_of, interval_at, AreWhole, KeepsOthers}
@@ -100,3 +101,39 @@ pub record IsSpent (cells : List Cell) (heads : List Head) (capacity : ℕ) : Ty
 
 abbrev pub Spends : List Cell → List Head → ℕ → Type 0
 Spends cells heads capacity = AreWhole cells heads → IsSpent cells heads capacity
+
+-- ---- lists begin and end
+
+-- a chain is a list, or is none
+pub record Relisted (heads : List Head) (k : ℕ) (b : Bool) (heads' : List Head) : Type 0 where
+  pub now : head_at heads' k ≡ record (head_at heads k) { is_list = b }
+  pub others : (m : ℕ) → m ≢ k → head_at heads' m ≡ head_at heads m
+
+-- a chain that was no list is one
+pub record Claimed (heads : List Head) (k : ℕ) (heads' : List Head) : Type 0 where
+  pub not_free : k ≢ 0
+  pub was : (head_at heads k).is_list ≡ false
+  pub list : Relisted heads k true heads'
+
+-- all chains that there may be are lists
+abbrev pub AreAllClaimed : List Head → Type 0
+AreAllClaimed heads = (k : ℕ) → 1 ≤ k → k ≤ most_cells → (head_at heads k).is_list ≡ true
+
+-- this chain is no list
+abbrev pub IsUnused : List Head → ℕ → Type 0
+IsUnused heads k = (1 ≤ k) × (k < length heads) × ((head_at heads k).is_list ≡ false)
+
+-- the cells of a list are free, and it is none
+pub record Dropped (cells : List Cell) (heads : List Head) (k : ℕ) (cells' : List Cell) (heads' : List Head) : Type 0 where
+  pub whole : AreWhole cells' heads'
+  pub as_many : length cells' ≡ length cells
+  pub as_many_chains : length heads' ≡ length heads
+  pub none : (head_at heads' k).is_list ≡ false
+  pub empty : chain_of cells' heads' k ≡ []
+  pub lists : (m : ℕ) → m ≢ k → (head_at heads' m).is_list ≡ (head_at heads m).is_list
+  pub chains : (m : ℕ) → m ≢ 0 → m ≢ k → chain_of cells' heads' m ≡ chain_of cells heads m
+  pub intervals : (i : ℕ) → interval_at cells' i ≡ interval_at cells i
+  pub free : free_count cells' heads' ≡ free_count cells heads + length (spans_of cells heads k)
+
+abbrev pub Drops : List Cell → List Head → ℕ → List Cell → List Head → Type 0
+Drops cells heads k cells' heads' = AreWhole cells heads → length cells ≤ most_cells → k ≢ 0 → k < length heads → Dropped cells heads k cells' heads'

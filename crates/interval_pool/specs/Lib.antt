@@ -5,3 +5,4 @@ pub mod Chains
 pub mod Pools
 pub mod Places
 pub mod Changes
+pub mod Values

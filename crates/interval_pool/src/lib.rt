@@ -3,13 +3,18 @@
 
 mod add;
 mod cells;
+mod claim;
 mod cut;
 mod fault;
 mod interval;
 mod link;
 mod meet;
+mod pool;
 mod seek;
 mod store;
 
 pub use fault::PoolFault;
 pub use interval::Interval;
+pub use pool::{ListId, Pool};
+mod laws;
+pub use laws::law;
