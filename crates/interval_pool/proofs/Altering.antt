@@ -51,7 +51,7 @@ pub merged_back : (ss ts : List Interval) → AreMerged (ss ++ ts) → AreMerged
 merged_back [] ts merged = merged
 merged_back (s ∷ ss) ts merged = merged_back ss ts merged.2
 
-has_append : (ss ts : List Interval) (n : ℕ) → has (ss ++ ts) n ≡ (has ss n || has ts n)
+pub has_append : (ss ts : List Interval) (n : ℕ) → has (ss ++ ts) n ≡ (has ss n || has ts n)
 has_append [] ts n = refl
 has_append (s ∷ ss) ts n = ap (λ b. covers s n || b) (has_append ss ts n) ∙ sym (or_three (covers s n) (has ss n) (has ts n))
   where

@@ -9,3 +9,5 @@ pub mod Altering
 pub mod Valued
 pub mod Parting
 pub mod Listing
+pub mod Standing
+pub mod Stepping

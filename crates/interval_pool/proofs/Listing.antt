@@ -33,8 +33,8 @@ claimed heads k unused = record {
 pub firsts : (heads heads' : List Head) (k : ℕ) (b : Bool) → Relisted heads k b heads' → (m : ℕ) → ((head_at heads' m).first ≡ (head_at heads m).first) × ((head_at heads' m).len ≡ (head_at heads m).len)
 firsts heads heads' k b r m = ⊎_elim
     (λ (e : ((m == k) ≡ true) × (m ≡ k)).
-      let P : ℕ → Type 0 = λ n. ((head_at heads' n).first ≡ (head_at heads n).first) × ((head_at heads' n).len ≡ (head_at heads n).len) in
-      subst P (sym e.1) (ap (λ (h : Head). h.first) r.now, ap (λ (h : Head). h.len) r.now))
+    let P : ℕ → Type 0 = λ n. ((head_at heads' n).first ≡ (head_at heads n).first) × ((head_at heads' n).len ≡ (head_at heads n).len) in
+    subst P (sym e.1) (ap (λ (h : Head). h.first) r.now, ap (λ (h : Head). h.len) r.now))
     (λ (e : ((m == k) ≡ false) × (m ≢ k)). (ap (λ (h : Head). h.first) (r.others m e.1), ap (λ (h : Head). h.len) (r.others m e.1)))
     (eqb_tells m k)
 

@@ -37,9 +37,9 @@ without_shorter : (n : ℕ) (is : List ℕ) → IsAmong n is → length (without
 without_shorter n [] among = absurd among
 without_shorter n (i ∷ is) among = ⊎_elim
     (λ (e : ((i == n) ≡ true) × (i ≡ n)). let P : Bool → Type 0 = λ b. length (cond b (without n is) (i ∷ without n is)) + 1 ≤ length (i ∷ is) in
-      subst P (sym e.0) (let le = without_short n is in omega (le, arith)))
+    subst P (sym e.0) (let le = without_short n is in omega (le, arith)))
     (λ (e : ((i == n) ≡ false) × (i ≢ n)). let P : Bool → Type 0 = λ b. length (cond b (without n is) (i ∷ without n is)) + 1 ≤ length (i ∷ is) in
-      subst P (sym e.0) (⊎_elim (λ same. absurd (e.1 (sym same))) (λ more. let le = without_shorter n is more in omega (le, arith)) among))
+    subst P (sym e.0) (⊎_elim (λ same. absurd (e.1 (sym same))) (λ more. let le = without_shorter n is more in omega (le, arith)) among))
     (eqb_tells i n)
 
 all_many : (n : ℕ) (is : List ℕ) → ((i : ℕ) → i < n → IsAmong i is) → n ≤ length is
@@ -70,9 +70,10 @@ all_weaker P Q (i ∷ is) h all = (h i all.0, all_weaker P Q is h all.1)
 once_both : (cells : List Cell) (k : ℕ) (is js : List ℕ) → AllByRecursion (λ i. (cell_at cells i).owner ≡ k) is → AllByRecursion (λ j. k < (cell_at cells j).owner) js → AreOnce is → AreOnce js → AreOnce (is ++ js)
 once_both cells k [] js here there one two = two
 once_both cells k (i ∷ is) js here there one two =
-    let own = here.0 in
-    (all_joined (λ j. j ≢ i) is js one.0 (all_weaker (λ j. k < (cell_at cells j).owner) (λ j. j ≢ i) js (λ j lt (e : j ≡ i). let same = ap (λ n. (cell_at cells n).owner) e in omega (own, lt, same, arith)) there),
-    once_both cells k is js here.1 there one.1 two)
+    let own = here.0 in (
+      all_joined (λ j. j ≢ i) is js one.0 (all_weaker (λ j. k < (cell_at cells j).owner) (λ j. j ≢ i) js (λ j lt (e : j ≡ i). let same = ap (λ n. (cell_at cells n).owner) e in omega (own, lt, same, arith)) there),
+      once_both cells k is js here.1 there one.1 two,
+    )
 
 -- ---- the cells that stand in lists
 
@@ -104,9 +105,9 @@ stand_owned cells heads k (h ∷ hs) p from =
     let more = all_weaker (λ i. (suc k ≤ (cell_at cells i).owner) × (i < length cells)) P (standing (map (slot cells) hs)) (λ i both. let le = both.0 in (omega (le, arith), both.1)) (stand_owned cells heads (suc k) hs p (from_next heads k h hs from)) in
     ⊎_elim
     (λ is.
-      let chain : walk cells h.len h.first ≡ chain_of cells heads k = ap (λ (g : Head). walk cells g.len g.first) (from_here heads k h hs from) in
-      let here : AllByRecursion P (chain_of cells heads k) = both k (chain_of cells heads k) (owned cells k (chain_of cells heads k) None (p.whole.linked k)) (all_below cells k (chain_of cells heads k) None (p.whole.linked k)) in
-      subst (AllByRecursion P) (sym (stands_more cells h (map (slot cells) hs) is)) (all_joined P (walk cells h.len h.first) (standing (map (slot cells) hs)) (subst (AllByRecursion P) (sym chain) here) more))
+    let chain : walk cells h.len h.first ≡ chain_of cells heads k = ap (λ (g : Head). walk cells g.len g.first) (from_here heads k h hs from) in
+    let here : AllByRecursion P (chain_of cells heads k) = both k (chain_of cells heads k) (owned cells k (chain_of cells heads k) None (p.whole.linked k)) (all_below cells k (chain_of cells heads k) None (p.whole.linked k)) in
+    subst (AllByRecursion P) (sym (stands_more cells h (map (slot cells) hs) is)) (all_joined P (walk cells h.len h.first) (standing (map (slot cells) hs)) (subst (AllByRecursion P) (sym chain) here) more))
     (λ none. subst (AllByRecursion P) (sym (stands_none cells h (map (slot cells) hs) none)) more)
     (bool_cases h.is_list)
   where
@@ -121,10 +122,10 @@ stand_once cells heads k (h ∷ hs) p from =
     let more = stand_once cells heads (suc k) hs p later in
     ⊎_elim
     (λ is.
-      let chain : walk cells h.len h.first ≡ chain_of cells heads k = ap (λ (g : Head). walk cells g.len g.first) (from_here heads k h hs from) in
-      let there = all_weaker (λ i. (suc k ≤ (cell_at cells i).owner) × (i < length cells)) (λ i. k < (cell_at cells i).owner) (standing (map (slot cells) hs)) (λ i both. let le = both.0 in omega (le, arith)) (stand_owned cells heads (suc k) hs p later) in
-      subst AreOnce (sym (stands_more cells h (map (slot cells) hs) is ∙ ap (λ is. is ++ standing (map (slot cells) hs)) chain))
-      (once_both cells k (chain_of cells heads k) (standing (map (slot cells) hs)) (owned cells k (chain_of cells heads k) None (p.whole.linked k)) there (p.whole.once k) more))
+    let chain : walk cells h.len h.first ≡ chain_of cells heads k = ap (λ (g : Head). walk cells g.len g.first) (from_here heads k h hs from) in
+    let there = all_weaker (λ i. (suc k ≤ (cell_at cells i).owner) × (i < length cells)) (λ i. k < (cell_at cells i).owner) (standing (map (slot cells) hs)) (λ i both. let le = both.0 in omega (le, arith)) (stand_owned cells heads (suc k) hs p later) in
+    subst AreOnce (sym (stands_more cells h (map (slot cells) hs) is ∙ ap (λ is. is ++ standing (map (slot cells) hs)) chain))
+    (once_both cells k (chain_of cells heads k) (standing (map (slot cells) hs)) (owned cells k (chain_of cells heads k) None (p.whole.linked k)) there (p.whole.once k) more))
     (λ none. subst AreOnce (sym (stands_none cells h (map (slot cells) hs) none)) more)
     (bool_cases h.is_list)
 
@@ -145,8 +146,8 @@ stand_whole cells heads k (h ∷ hs) i zero p some from lt own =
     let here = from_here heads k h hs from in
     ⊎_elim
     (λ is.
-      let chain : walk cells h.len h.first ≡ chain_of cells heads k = ap (λ (g : Head). walk cells g.len g.first) here in
-      subst (IsAmong i) (sym (stands_more cells h (map (slot cells) hs) is)) (among_front i (walk cells h.len h.first) (standing (map (slot cells) hs)) (subst (IsAmong i) (sym chain) there)))
+    let chain : walk cells h.len h.first ≡ chain_of cells heads k = ap (λ (g : Head). walk cells g.len g.first) here in
+    subst (IsAmong i) (sym (stands_more cells h (map (slot cells) hs) is)) (among_front i (walk cells h.len h.first) (standing (map (slot cells) hs)) (subst (IsAmong i) (sym chain) there)))
     (λ none. absurd (none_among cells heads i k p some (ap (λ (g : Head). g.is_list) (sym here) ∙ none) there))
     (bool_cases h.is_list)
 stand_whole cells heads k (h ∷ hs) i (suc j) p some from lt own =
@@ -172,12 +173,12 @@ partition cells heads capacity p =
     let free = chain_of cells heads 0 in
     let there = stand_owned cells heads 1 hs p from in
     let once : AreOnce (free ++ standing (map (slot cells) heads)) = subst (λ is. AreOnce (free ++ is)) (sym same)
-        (once_both cells 0 free (standing (map (slot cells) hs)) (owned cells 0 free None (p.whole.linked 0))
-          (all_weaker (λ i. (1 ≤ (cell_at cells i).owner) × (i < length cells)) (λ i. 0 < (cell_at cells i).owner) (standing (map (slot cells) hs)) (λ i both. let le = both.0 in omega (le, arith)) there)
-          (p.whole.once 0) (stand_once cells heads 1 hs p from)) in
+    (once_both cells 0 free (standing (map (slot cells) hs)) (owned cells 0 free None (p.whole.linked 0))
+    (all_weaker (λ i. (1 ≤ (cell_at cells i).owner) × (i < length cells)) (λ i. 0 < (cell_at cells i).owner) (standing (map (slot cells) hs)) (λ i both. let le = both.0 in omega (le, arith)) there)
+    (p.whole.once 0) (stand_once cells heads 1 hs p from)) in
     let below : AllByRecursion (λ i. i < length cells) (free ++ standing (map (slot cells) heads)) = subst (λ is. AllByRecursion (λ i. i < length cells) (free ++ is)) (sym same)
-        (all_joined (λ i. i < length cells) free (standing (map (slot cells) hs)) (all_below cells 0 free None (p.whole.linked 0))
-          (all_weaker (λ i. (1 ≤ (cell_at cells i).owner) × (i < length cells)) (λ i. i < length cells) (standing (map (slot cells) hs)) (λ i both. both.1) there)) in
+    (all_joined (λ i. i < length cells) free (standing (map (slot cells) hs)) (all_below cells 0 free None (p.whole.linked 0))
+    (all_weaker (λ i. (1 ≤ (cell_at cells i).owner) × (i < length cells)) (λ i. i < length cells) (standing (map (slot cells) hs)) (λ i both. both.1) there)) in
     let whole : (i : ℕ) → i < length cells → IsAmong i (free ++ standing (map (slot cells) heads)) = λ i lt. subst (λ is. IsAmong i (free ++ is)) (sym same) (placed i lt hs from (cell_at cells i).owner refl) in
     record {
       once = once;

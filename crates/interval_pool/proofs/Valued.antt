@@ -67,6 +67,7 @@ is_head heads k is = bounded (either k (length heads))
   where
     either : (a b : ℕ) → (a < b) ⊎ (b ≤ a)
     either a b = grind arith
+
     bounded : (k < length heads) ⊎ (length heads ≤ k) → k < length heads
     bounded (inl lt) = lt
     bounded (inr le) = absurd (let e : head_at heads k ≡ no_head = get_or_past heads k no_head le in cc)
@@ -74,7 +75,7 @@ is_head heads k is = bounded (either k (length heads))
 pub slot_list : (cells : List Cell) (heads : List Head) (k : ℕ) → (head_at heads k).is_list ≡ true → slice_index_or (map (slot cells) heads) k None ≡ Some (map (held cells) (chain_of cells heads k))
 slot_list cells heads k is = slot_is cells heads k ∙ ap (λ b. if b then Some (map (held cells) (chain_of cells heads k)) else None) is
 
-bool_cases : (b : Bool) → (b ≡ true) ⊎ ((b ≡ false) × (b ≢ true))
+pub bool_cases : (b : Bool) → (b ≡ true) ⊎ ((b ≡ false) × (b ≢ true))
 bool_cases true = inl refl
 bool_cases false = inr (refl, λ e. cc)
 
@@ -101,12 +102,12 @@ pub slots_kept : (cells cells' : List Cell) (heads heads' : List Head) (k m : �
     → slice_index_or (map (slot cells') heads') m None ≡ slice_index_or (map (slot cells) heads) m None
 slots_kept cells cells' heads heads' k m h keeps other = ⊎_elim
     (λ is.
-      let free = is_not_free cells heads m h is in
-      slot_list cells' heads' m (keeps.lists m ∙ is)
-      ∙ (ap Some (ap (map (held cells')) (keeps.chains m free other) ∙ held_same cells cells' (chain_of cells heads m) (keeps.intervals m free other))
-      ∙ sym (slot_list cells heads m is)))
+    let free = is_not_free cells heads m h is in
+    slot_list cells' heads' m (keeps.lists m ∙ is)
+    ∙ (ap Some (ap (map (held cells')) (keeps.chains m free other) ∙ held_same cells cells' (chain_of cells heads m) (keeps.intervals m free other))
+    ∙ sym (slot_list cells heads m is)))
     (λ (e : ((head_at heads m).is_list ≡ false) × ((head_at heads m).is_list ≢ true)).
-      slot_none cells' heads' m (λ is. e.1 (sym (keeps.lists m) ∙ is)) ∙ sym (slot_none cells heads m e.1))
+    slot_none cells' heads' m (λ is. e.1 (sym (keeps.lists m) ∙ is)) ∙ sym (slot_none cells heads m e.1))
     (bool_cases (head_at heads m).is_list)
 
 -- ---- a list is altered

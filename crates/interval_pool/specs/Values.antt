@@ -1,5 +1,5 @@
 -- A pool as its callers see it.
-use Rattle.std.specs.Prelude.{◌≡◌, ◌≢◌, ℕ, ◌+◌, ◌-◌, ◌<◌, ◌≤◌, ◌⊎◌, min, Bool, true, not, ◌&&◌, ◌||◌, if◌then◌else◌, List, [], ◌∷◌, ◌++◌, length, map, Option, Some, None, is_some, unwrap_or, slice_index_or, refl}
+use Rattle.std.specs.Prelude.{◌≡◌, ◌≢◌, ℕ, ◌+◌, ◌-◌, ◌<◌, ◌≤◌, ◌⊎◌, min, ⊤, Bool, true, not, ◌&&◌, ◌||◌, if◌then◌else◌, List, [], ◌∷◌, ◌++◌, length, map, Option, Some, None, is_some, unwrap_or, slice_index_or, refl}
 use Rattle.std.specs.List.{AllByRecursion}
 use Rattle.std.specs.Coded.{Coded, code_by, coded×, coded_ℕ, coded_list, coded_option}
 use Rattle.interval_pool.specs.declared.cells.Cell.{Cell}
@@ -122,6 +122,10 @@ pub record NeedsMemory (p : PoolValue) : Type 0 where
 abbrev pub IsFull : PoolValue → Type 0
 IsFull p = most_cells ≤ length (standing p.lists)
 
+-- so many more cells would be more than there may be
+abbrev pub IsFullWith : PoolValue → ℕ → Type 0
+IsFullWith p n = most_cells < length (standing p.lists) + n
+
 -- there are as many lists as there may be
 abbrev pub AreAllLists : PoolValue → Type 0
 AreAllLists p = (l : ℕ) → 1 ≤ l → l ≤ most_cells → IsList p l
@@ -151,3 +155,27 @@ pub record IsPool (cells : List Cell) (heads : List Head) : Type 0 where
   pub merged : (k : ℕ) → k ≢ 0 → AreMerged (spans_of cells heads k)
   pub gone : (k : ℕ) → (head_at heads k).is_list ≢ true → k ≢ 0 → chain_of cells heads k ≡ []
   pub free_is_none : (head_at heads 0).is_list ≢ true
+
+-- ---- cells in their lists
+
+-- what comes after a cell in its list
+abbrev pub Follows : PoolValue → ℕ → Option ℕ → Type 0
+Follows p i next = (l : ℕ) (before : List Held) (h : Held) (behind : List Held) → cells_of p l ≡ before ++ h ∷ behind → h.cell ≡ i → next ≡ first_cell behind
+
+-- the interval of a cell
+abbrev pub Covers : PoolValue → ℕ → Interval → Type 0
+Covers p i s = (l : ℕ) (before : List Held) (h : Held) (behind : List Held) → cells_of p l ≡ before ++ h ∷ behind → h.cell ≡ i → s ≡ h.numbers
+
+-- ---- one call after another
+
+-- a call of add or cut has been answered
+abbrev pub IsStep : PoolValue → PoolValue → Type 0
+IsStep p q = (l : ℕ) × ((s : Interval) × (AddedTo p l s q ⊎ CutFrom p l s q))
+
+abbrev pub AreSteps : PoolValue → List PoolValue → Type 0
+AreSteps p [] = ⊤
+AreSteps p (q ∷ qs) = IsStep p q × AreSteps q qs
+
+abbrev pub last_of : PoolValue → List PoolValue → PoolValue
+last_of p [] = p
+last_of p (q ∷ qs) = last_of q qs

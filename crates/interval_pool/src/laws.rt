@@ -1,8 +1,8 @@
-//! Laws.
-ghost use Rattle.std.specs.Prelude.{◌≡◌, ℕ, List};
-ghost use Rattle.interval_pool.specs.declared.interval.Interval.{Interval};
-ghost use Rattle.interval_pool.specs.Intervals.{AreMerged};
+//! What a reservation promises.
+ghost use Rattle.std.specs.Prelude.{◌+◌, ◌<◌, ◌≤◌, ℕ, List, length};
+ghost use Rattle.interval_pool.specs.Values.{PoolValue, NeedsMemory, AreSteps, last_of};
 
-pub fn law()
-    ensures { (ss : List Interval) → AreMerged ss → AreMerged ss }
+/// Where room for so many cells was reserved, none of as many calls of `add` and `cut` after it wants memory or is full.
+pub fn reserved_lasts()
+    ensures { (p : PoolValue) (n : ℕ) (steps : List PoolValue) → n ≤ length p.free + p.room → AreSteps p steps → length steps < n → NeedsMemory (last_of p steps) → ⊥ }
 {}

@@ -7,6 +7,7 @@ mod claim;
 mod cut;
 mod fault;
 mod interval;
+mod laws;
 mod link;
 mod meet;
 mod pool;
@@ -15,6 +16,5 @@ mod store;
 
 pub use fault::PoolFault;
 pub use interval::Interval;
+pub use laws::reserved_lasts;
 pub use pool::{ListId, Pool};
-mod laws;
-pub use laws::law;

@@ -60,4 +60,15 @@ impl Link {
             Some(self.code as usize - 1)
         }
     }
+
+    /// The place as a number of 32 bits, if there is one.
+    pub fn number(self) -> Option<u32>
+        ensures { result ≡ self }
+    {
+        if self.code == 0 {
+            None
+        } else {
+            Some(self.code - 1)
+        }
+    }
 }

@@ -1,15 +1,17 @@
 //! The pool as its callers see it.
-ghost use Rattle.std.specs.Prelude.{◌≡◌, ◌≢◌, ◌<◌, ◌≤◌, OnOk, OnErr, IfOk, IfErr, length, vec_capacity};
-ghost use Rattle.interval_pool.specs.Intervals.{AreMerged, IsApart, IsSplit};
-ghost use Rattle.interval_pool.specs.Values.{empty, is_list, IsList, IsRange, spans, IsPartition, Opened, AddedTo, CutFrom, Released, Reserved, NeedsMemory, IsFull, AreAllLists};
+ghost use Rattle.std.specs.Prelude.{◌≡◌, ◌≢◌, ℕ, ◌<◌, ◌≤◌, OnOk, OnErr, IfOk, IfErr, length, vec_capacity};
+ghost use Rattle.interval_pool.specs.Intervals.{AreMerged, IsApart, IsSplit, has};
+ghost use Rattle.interval_pool.specs.Values.{empty, is_list, IsList, IsRange, cells_of, spans, first_cell, Follows, Covers, IsPartition, Opened, AddedTo, CutFrom, Released, Reserved, NeedsMemory, IsFull, IsFullWith, AreAllLists};
 ghost use Rattle.interval_pool.specs.declared.fault.PoolFault.TheVariants.{Full};
 
 use crate::add::add;
-use crate::cells::{Cell, Head};
+use crate::cells::{Cell, Head, after, cell_at, count};
+use crate::claim::{claim, drop_list};
 use crate::cut::cut;
 use crate::fault::PoolFault;
 use crate::interval::Interval;
-use crate::link::Link;
+use crate::link::{Link, MOST_CELLS};
+use crate::seek::contains;
 use std::alloc::Global;
 use std::marker::Model;
 
@@ -90,5 +92,122 @@ impl Pool {
             numbers,
             guess,
         )
+    }
+
+    /// Cuts numbers out of a list. An error leaves all as it was.
+    pub fn cut(&mut self, list: ListId, numbers: Interval) -> Result<(), PoolFault>
+        requires list { IsList self.old list }
+        requires range { IsRange numbers }
+        ensures ok { OnOk result (CutFrom self.old list numbers self.new) }
+        ensures err { OnErr result (self.new ≡ self.old) }
+        ensures memory { OnErr result (NeedsMemory self.old) }
+        ensures split { OnErr result (IsSplit (spans self.old list) numbers) }
+        ensures full { IfErr result (λ fault. fault ≡ Full → IsFull self.old) }
+    {
+        let guess = Link::none();
+        cut(
+            &mut self.cells,
+            &mut self.heads,
+            list.number(),
+            numbers,
+            guess,
+        )
+    }
+
+    /// Makes an empty list. An error leaves all as it was; it is `Full` only where 4,294,967,294 lists are there.
+    pub fn new_list(&mut self) -> Result<ListId, PoolFault>
+        ensures ok { IfOk result (λ list. Opened self.old list self.new) }
+        ensures err { OnErr result (self.new ≡ self.old) }
+        ensures full { IfErr result (λ fault. fault ≡ Full → AreAllLists self.old) }
+    {
+        let number = claim(&mut self.heads, 0)?;
+        Ok(ListId { number })
+    }
+
+    /// Frees the cells of a list, which is one no more.
+    pub fn release(&mut self, list: ListId)
+        requires list { IsList self.old list }
+        ensures { Released self.old list self.new }
+    {
+        drop_list(&mut self.cells, &mut self.heads, list.number());
+    }
+
+    /// Whether this is a list.
+    pub fn is_list(&self, list: ListId) -> bool
+        ensures { result ≡ is_list self.now list }
+    {
+        let at = list.number() as usize;
+        at < self.heads.as_slice().len() && self.heads[at].is_list
+    }
+
+    /// Whether a list has a number.
+    pub fn contains(&self, list: ListId, number: u64) -> bool
+        requires list { IsList self.now list }
+        ensures { result ≡ has (spans self.now list) number }
+    {
+        let guess = Link::none();
+        contains(&self.cells, &self.heads, list.number(), number, guess)
+    }
+
+    /// The first cell of a list.
+    pub fn first(&self, list: ListId) -> Option<u32>
+        requires list { IsList self.now list }
+        ensures { result ≡ first_cell (cells_of self.now list) }
+    {
+        after(
+            &self.cells,
+            &self.heads,
+            list.number() as usize,
+            Link::none(),
+        )
+        .number()
+    }
+
+    /// The cell that comes after this one in its list.
+    pub fn next(&self, cell: u32) -> Option<u32>
+        ensures { Follows self.now cell result }
+    {
+        cell_at(&self.cells, cell as usize).next.number()
+    }
+
+    /// The interval of a cell.
+    pub fn span(&self, cell: u32) -> Interval
+        ensures { Covers self.now cell result }
+    {
+        let found = cell_at(&self.cells, cell as usize);
+        Interval {
+            lo: found.lo,
+            hi: found.hi,
+        }
+    }
+
+    /// How many cells are free.
+    pub fn free_cells(&self) -> u32
+        ensures { result ≡ length (self.now).free }
+    {
+        count(&self.heads, 0)
+    }
+
+    /// Makes room for so many cells, so that as many calls of `add` and `cut` succeed after it.
+    pub fn reserve(&mut self, more: usize) -> Result<(), PoolFault>
+        ensures ok { OnOk result (Reserved self.old more self.new) }
+        ensures err { OnErr result (self.new ≡ self.old) }
+        ensures full { IfErr result (λ fault. fault ≡ Full → IsFullWith self.old more) }
+    {
+        let left = MOST_CELLS as usize - self.cells.as_slice().len();
+        let free = count(&self.heads, 0) as usize;
+        if more > left + free {
+            return Err(PoolFault::Full);
+        }
+        self.cells.reserve(more.min(left))?;
+        Ok(())
+    }
+
+    /// Lists are merged. Lists and the free cells share no cell, and are together all cells.
+    pub fn partition(&self)
+        ensures merged { (l : ℕ) → AreMerged (spans self.now l) }
+        ensures parted { IsPartition self.now }
+    {
+        let _ = &self.cells;
     }
 }

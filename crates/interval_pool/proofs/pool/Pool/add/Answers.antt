@@ -63,7 +63,7 @@ returns-clause-apart c =
     let R : List Interval → Type 0 = λ ss. OnErr c.add.result (IsApart ss c.args.numbers) in
     let S : PoolValue → Type 0 = λ p. OnErr c.add.result (IsApart (spans p l) c.args.numbers) in
     subst S c.self.view_is (subst R (sym (spans_are cells heads capacity l c.self.invariant (is_not_free cells heads l c.self.invariant is)))
-      (subst Q c.number.ensures (subst P c.deref_mut.ensures.value c.add.ensures.needed)))
+    (subst Q c.number.ensures (subst P c.deref_mut.ensures.value c.add.ensures.needed)))
 
 pub returns-clause-full : goal.returns-clause-full
 returns-clause-full c =
