@@ -200,9 +200,3 @@ all_stand cells heads capacity p spent full =
     let count = (partition cells heads capacity p).count in
     let none = (spent p.whole).free in
     omega (count, none, full, arith)
-
-module _ {T : Type 0} where
-  pub full_after : (cells : List Cell) (heads : List Head) (capacity : ℕ) (kind : PoolFault) (r : Result T PoolFault) → IsPool cells heads → OnErr r (Spends cells heads capacity) → IfErr r (λ fault. fault ≡ kind → most_cells ≤ length cells)
-      → IfErr r (λ fault. fault ≡ kind → IsFull (value_of cells heads capacity))
-  full_after cells heads capacity kind (Ok x) p spent more = tt
-  full_after cells heads capacity kind (Err y) p spent more = λ e. all_stand cells heads capacity p spent (more e)

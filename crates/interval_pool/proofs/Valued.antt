@@ -155,21 +155,8 @@ altered cells cells' heads heads' capacity capacity' k among h is c le =
       room = room_left (free_count cells heads) (free_count cells' heads') (length (spans_of cells heads k)) (length (spans_of cells' heads' k)) (length cells) (length cells') capacity capacity' total few c.more le;
     }
 
--- ---- after a call that may fail
-
-module _ {T : Type 0} where
-  pub pool_after : (cells cells' : List Cell) (heads heads' : List Head) (k : ℕ) (among : ℕ → Bool) (r : Result T PoolFault) → IsPool cells heads → (head_at heads k).is_list ≡ true
-      → OnOk r (Changed cells heads k among cells' heads') → OnErr r (cells' ≡ cells) → OnErr r (heads' ≡ heads) → IsPool cells' heads'
-  pool_after cells cells' heads heads' k among (Ok x) h is changed same same' = pool_kept cells cells' heads heads' k among h is changed
-  pool_after cells cells' heads heads' k among (Err y) h is changed same same' = subst (λ cs. IsPool cs heads') (sym same) (subst (λ hs. IsPool cells hs) (sym same') h)
-
-  pub heads_after : (cells cells' : List Cell) (heads heads' : List Head) (k : ℕ) (among : ℕ → Bool) (r : Result T PoolFault) → OnOk r (Changed cells heads k among cells' heads') → OnErr r (heads' ≡ heads) → length heads' ≡ length heads
-  heads_after cells cells' heads heads' k among (Ok x) changed same = changed.keeps.as_many_chains
-  heads_after cells cells' heads heads' k among (Err y) changed same = ap length same
-
-  pub altered_after : (change : List Interval → Interval → ℕ → Bool) (cells cells' : List Cell) (heads heads' : List Head) (capacity capacity' l : ℕ) (s : Interval) (r : Result T PoolFault) → IsPool cells heads → (head_at heads l).is_list ≡ true
-      → OnOk r (Changed cells heads l (change (spans_of cells heads l) s) cells' heads') → capacity ≤ capacity' → OnOk r (Altered (value_of cells heads capacity) l (change (spans (value_of cells heads capacity) l) s) (value_of cells' heads' capacity'))
-  altered_after change cells cells' heads heads' capacity capacity' l s (Ok x) h is changed le =
-      let same = spans_are cells heads capacity l h (is_not_free cells heads l h is) in
-      subst (λ ss. Altered (value_of cells heads capacity) l (change ss s) (value_of cells' heads' capacity')) (sym same) (altered cells cells' heads heads' capacity capacity' l (change (spans_of cells heads l) s) h is changed le)
-  altered_after change cells cells' heads heads' capacity capacity' l s (Err y) h is changed le = tt
+pub altered_list : (change : List Interval → Interval → ℕ → Bool) (cells cells' : List Cell) (heads heads' : List Head) (capacity capacity' l : ℕ) (s : Interval) → IsPool cells heads → (head_at heads l).is_list ≡ true
+    → Changed cells heads l (change (spans_of cells heads l) s) cells' heads' → capacity ≤ capacity' → Altered (value_of cells heads capacity) l (change (spans (value_of cells heads capacity) l) s) (value_of cells' heads' capacity')
+altered_list change cells cells' heads heads' capacity capacity' l s h is changed le =
+    let same = spans_are cells heads capacity l h (is_not_free cells heads l h is) in
+    subst (λ ss. Altered (value_of cells heads capacity) l (change ss s) (value_of cells' heads' capacity')) (sym same) (altered cells cells' heads heads' capacity capacity' l (change (spans_of cells heads l) s) h is changed le)

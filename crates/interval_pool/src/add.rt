@@ -14,14 +14,14 @@ use crate::meet::meet;
 use crate::seek::seek;
 use crate::store::replace;
 
-/// Adds the numbers of an interval to a list. Any guess of the last cell that ends before them serves.
+/// Adds the numbers of an interval to a list. Any guess of the last cell that ends before them serves. Gives back that cell.
 pub fn add(
     cells: &mut Vec<Cell>,
     heads: &mut [Head],
     list: u32,
     numbers: Interval,
     guess: Link,
-) -> Result<(), PoolFault>
+) -> Result<Link, PoolFault>
     requires whole { AreWhole cells.old.items heads.old }
     requires small { length cells.old.items ≤ most_cells }
     requires is_list { list ≢ 0 }
@@ -46,5 +46,5 @@ pub fn add(
         second: None,
     };
     replace(cells, heads, list, before, joined.count, pieces)?;
-    Ok(())
+    Ok(before)
 }

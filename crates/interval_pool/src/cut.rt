@@ -14,14 +14,14 @@ use crate::meet::meet;
 use crate::seek::seek;
 use crate::store::replace;
 
-/// Cuts the numbers of an interval out of a list. Any guess of the last cell that ends before them serves.
+/// Cuts the numbers of an interval out of a list. Any guess of the last cell that ends before them serves. Gives back that cell.
 pub fn cut(
     cells: &mut Vec<Cell>,
     heads: &mut [Head],
     list: u32,
     numbers: Interval,
     guess: Link,
-) -> Result<(), PoolFault>
+) -> Result<Link, PoolFault>
     requires whole { AreWhole cells.old.items heads.old }
     requires small { length cells.old.items ≤ most_cells }
     requires is_list { list ≢ 0 }
@@ -42,5 +42,5 @@ pub fn cut(
     let joined = meet(cells, heads, list, before, numbers, numbers.hi);
     let pieces = parts_outside(joined.numbers, numbers);
     replace(cells, heads, list, before, joined.count, pieces)?;
-    Ok(())
+    Ok(before)
 }

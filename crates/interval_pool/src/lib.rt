@@ -6,6 +6,7 @@ mod cells;
 mod claim;
 mod cut;
 mod fault;
+mod hints;
 mod interval;
 mod laws;
 mod link;

@@ -9,6 +9,7 @@ use crate::cells::{Cell, Head, after, cell_at, count};
 use crate::claim::{claim, drop_list};
 use crate::cut::cut;
 use crate::fault::PoolFault;
+use crate::hints::Hints;
 use crate::interval::Interval;
 use crate::link::{Link, MOST_CELLS};
 use crate::seek::contains;
@@ -48,6 +49,7 @@ impl ListId {
 pub struct Pool {
     cells: Vec<Cell>,
     heads: Vec<Head>,
+    hints: Hints,
 }
 
 impl Model for Pool {
@@ -71,6 +73,7 @@ impl Pool {
         Pool {
             cells: Vec::new(alloc),
             heads: Vec::new(alloc),
+            hints: Hints::open(alloc),
         }
     }
 
@@ -84,14 +87,13 @@ impl Pool {
         ensures apart { OnErr result (IsApart (spans self.old list) numbers) }
         ensures full { IfErr result (λ fault. fault ≡ Full → IsFull self.old) }
     {
-        let guess = Link::none();
-        add(
-            &mut self.cells,
-            &mut self.heads,
-            list.number(),
-            numbers,
-            guess,
-        )
+        let list = list.number();
+        let guess = self
+            .hints
+            .near_place(&self.cells, &self.heads, list, numbers.lo - 1);
+        let place = add(&mut self.cells, &mut self.heads, list, numbers, guess)?;
+        self.hints.note_added(&self.cells, &self.heads, list, place);
+        Ok(())
     }
 
     /// Cuts numbers out of a list. An error leaves all as it was.
@@ -104,14 +106,14 @@ impl Pool {
         ensures split { OnErr result (IsSplit (spans self.old list) numbers) }
         ensures full { IfErr result (λ fault. fault ≡ Full → IsFull self.old) }
     {
-        let guess = Link::none();
-        cut(
-            &mut self.cells,
-            &mut self.heads,
-            list.number(),
-            numbers,
-            guess,
-        )
+        let list = list.number();
+        let guess = self
+            .hints
+            .near_place(&self.cells, &self.heads, list, numbers.lo);
+        let place = cut(&mut self.cells, &mut self.heads, list, numbers, guess)?;
+        self.hints
+            .note_cut(&self.cells, &self.heads, list, place, numbers);
+        Ok(())
     }
 
     /// Makes an empty list. An error leaves all as it was; it is `Full` only where 4,294,967,294 lists are there.
@@ -120,7 +122,8 @@ impl Pool {
         ensures err { OnErr result (self.new ≡ self.old) }
         ensures full { IfErr result (λ fault. fault ≡ Full → AreAllLists self.old) }
     {
-        let number = claim(&mut self.heads, 0)?;
+        let number = claim(&mut self.heads, self.hints.released())?;
+        self.hints.begin(number);
         Ok(ListId { number })
     }
 
@@ -130,6 +133,7 @@ impl Pool {
         ensures { Released self.old list self.new }
     {
         drop_list(&mut self.cells, &mut self.heads, list.number());
+        self.hints.end(list.number());
     }
 
     /// Whether this is a list.
@@ -145,8 +149,9 @@ impl Pool {
         requires list { IsList self.now list }
         ensures { result ≡ has (spans self.now list) number }
     {
-        let guess = Link::none();
-        contains(&self.cells, &self.heads, list.number(), number, guess)
+        let list = list.number();
+        let guess = self.hints.place(&self.cells, &self.heads, list, number);
+        contains(&self.cells, &self.heads, list, number, guess)
     }
 
     /// The first cell of a list.

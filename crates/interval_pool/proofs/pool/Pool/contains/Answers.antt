@@ -19,8 +19,8 @@ returns c =
     let n : ℕ = c.args.number in
     let is : (head_at heads l).is_list ≡ true = head_is cells heads capacity l (subst (λ p. IsList p l) (sym c.self.view_is) c.requires.list) in
     c.contains.ensures
-    ∙ (ap (λ cs. has (spans_of cs c.deref-2.result.now c.number.result) n) c.deref.ensures.value
-    ∙ (ap (λ hs. has (spans_of cells hs c.number.result) n) c.deref-2.ensures.value
-    ∙ (ap (λ k. has (spans_of cells heads k) n) c.number.ensures
+    ∙ (ap (λ cs. has (spans_of cs c.deref-4.result.now c.number-list.result) n) c.deref-3.ensures.value
+    ∙ (ap (λ hs. has (spans_of cells hs c.number-list.result) n) c.deref-4.ensures.value
+    ∙ (ap (λ k. has (spans_of cells heads k) n) c.number-list.ensures
     ∙ (ap (λ ss. has ss n) (sym (spans_are cells heads capacity l c.self.invariant (is_not_free cells heads l c.self.invariant is)))
     ∙ ap (λ (p : PoolValue). has (spans p l) n) c.self.view_is))))
