@@ -19,3 +19,6 @@ pub use fault::PoolFault;
 pub use interval::Interval;
 pub use laws::reserved_lasts;
 pub use pool::{ListId, Pool};
+
+#[cfg(test)]
+mod tests;

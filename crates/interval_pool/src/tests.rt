@@ -1,0 +1,92 @@
+//! The intervals of lists and the number of free cells after each of some calls, worked out by hand.
+ghost use Rattle.std.specs.Prelude.{◌≤◌};
+ghost use Rattle.interval_pool.specs.Values.{IsRange};
+
+use crate::{Interval, ListId, Pool};
+
+fn add(pool: &mut Pool, list: ListId, numbers: Interval) -> bool
+    requires { IsRange numbers }
+{
+    pool.is_list(list) && pool.add(list, numbers).is_ok()
+}
+
+fn cut(pool: &mut Pool, list: ListId, numbers: Interval) -> bool
+    requires { IsRange numbers }
+{
+    pool.is_list(list) && pool.cut(list, numbers).is_ok()
+}
+
+/// Whether a list has these intervals, and so many cells are free.
+fn shows(pool: &Pool, list: ListId, spans: &[(u64, u64)], free: u32) -> bool {
+    if !pool.is_list(list) || pool.free_cells() != free {
+        return false;
+    }
+    let mut next = pool.first(list);
+    for (lo, hi) in spans {
+        let Some(cell) = next else {
+            return false;
+        };
+        let found = pool.span(cell);
+        if found.lo != *lo || found.hi != *hi {
+            return false;
+        }
+        next = pool.next(cell);
+    }
+    next.is_none()
+}
+
+/// The first list after each call on it.
+fn shows_first(pool: &mut Pool, list: ListId) -> bool {
+    add(pool, list, Interval { lo: 1, hi: 10 })
+        && shows(pool, list, &[(1, 10)], 0)
+        && cut(pool, list, Interval { lo: 3, hi: 4 })
+        && shows(pool, list, &[(1, 2), (5, 10)], 0)
+        && cut(pool, list, Interval { lo: 7, hi: 7 })
+        && shows(pool, list, &[(1, 2), (5, 6), (8, 10)], 0)
+        && cut(pool, list, Interval { lo: 5, hi: 6 })
+        && shows(pool, list, &[(1, 2), (8, 10)], 1)
+}
+
+/// Both lists after each call on one of them.
+fn shows_both(pool: &mut Pool, first: ListId, second: ListId) -> bool {
+    add(pool, second, Interval { lo: 5, hi: 6 })
+        && shows(pool, first, &[(1, 2), (8, 10)], 0)
+        && shows(pool, second, &[(5, 6)], 0)
+        && add(pool, first, Interval { lo: 3, hi: 7 })
+        && shows(pool, first, &[(1, 10)], 1)
+        && shows(pool, second, &[(5, 6)], 1)
+}
+
+/// One list once the other was released.
+fn shows_second(pool: &mut Pool, first: ListId, second: ListId) -> bool {
+    if !pool.is_list(first) {
+        return false;
+    }
+    pool.release(first);
+    !pool.is_list(first)
+        && shows(pool, second, &[(5, 6)], 2)
+        && pool.reserve(3).is_ok()
+        && shows(pool, second, &[(5, 6)], 2)
+        && pool.is_list(second)
+        && pool.contains(second, 6)
+}
+
+fn shows_all(pool: &mut Pool) -> bool {
+    let Ok(first) = pool.new_list() else {
+        return false;
+    };
+    if !shows_first(pool, first) {
+        return false;
+    }
+    let Ok(second) = pool.new_list() else {
+        return false;
+    };
+    shows_both(pool, first, second) && shows_second(pool, first, second)
+}
+
+#[test]
+fn free_cells_after_each_call(rt: HostRuntime) {
+    let mut pool = Pool::open(rt.alloc());
+    let shown = shows_all(&mut pool);
+    assert!(rt; shown);
+}
