@@ -1,23 +1,22 @@
 -- What adding and cutting an interval leaves.
-use Rattle.std.proofs.Common.{◌≡◌, ◌≢◌, ℕ, zero, suc, ◌+◌, ◌-◌, ◌<◌, ◌≤◌, ◌⊎◌, Bool, true, false, not, ◌&&◌, ◌||◌, nat_le, nat_lt, List, [], ◌∷◌, ◌++◌, length, map, take, drop, Option, Some, None, refl, sym, ap, subst, ◌∙◌, ⊎_elim, inl, inr, arith, length-append, append_assoc}
+use Rattle.std.proofs.Common.{◌≡◌, ◌≢◌, ℕ, zero, suc, ◌+◌, ◌-◌, ◌<◌, ◌≤◌, ◌⊎◌, Bool, true, false, not, ◌&&◌, ◌||◌, nat_le, nat_lt, List, [], ◌∷◌, ◌++◌, length, map, drop, Option, Some, None, refl, sym, ap, subst, ◌∙◌, ⊎_elim, inl, inr, arith, length-append, append_assoc}
 use Rattle.std.specs.Prelude.{option_to_list, if◌then◌else◌}
-use Rattle.std.specs.List.{AllByRecursion, list_any}
+use Rattle.std.specs.List.{AllByRecursion}
 use Rattle.std.proofs.lemmas.Bool.Decides.{nat_tests}
-use Rattle.std.proofs.lemmas.List.{length-drop}
 use Rattle.interval_pool.specs.declared.cells.Cell.{Cell}
 use Rattle.interval_pool.specs.declared.cells.Head.{Head}
 use Rattle.interval_pool.specs.declared.interval.Interval.{Interval}
 use Rattle.interval_pool.specs.declared.interval.Joined.{Joined}
 use Rattle.interval_pool.specs.declared.interval.Pieces.{Pieces}
 use Rattle.interval_pool.specs.Links.{most_cells}
-use Rattle.interval_pool.specs.Cells.{cell_at, head_at, after}
+use Rattle.interval_pool.specs.Cells.{head_at, after}
 use Rattle.interval_pool.specs.Chains.{first_or, last_or, AreLinked}
 use Rattle.interval_pool.specs.Intervals.{IsBefore, IsApart, IsSplit, AreMerged, covers, has, met, listed, part_below, part_above}
-use Rattle.interval_pool.specs.Pools.{walk, chain_of, rest_of, interval_at, AreWhole, KeepsOthers}
+use Rattle.interval_pool.specs.Pools.{walk, chain_of, rest_of, interval_at, AreWhole}
 use Rattle.interval_pool.specs.Places.{AreBelow, Reaches, IsPlace}
-use Rattle.interval_pool.specs.Changes.{spans_of, free_count, Replaced, Replaces, Changed, Added, Cut, with_more, without}
-use Rattle.interval_pool.proofs.Linking.{in_parts, all_parts}
-use Rattle.interval_pool.proofs.Walking.{after_is, chain_few}
+use Rattle.interval_pool.specs.Changes.{spans_of, Replaced, Replaces, Changed, Added, Cut, with_more, without}
+use Rattle.interval_pool.proofs.Linking.{in_parts}
+use Rattle.interval_pool.proofs.Walking.{after_is}
 use Rattle.interval_pool.proofs.Meeting.{Meets, meets, all_weaker}
 use Rattle.interval_pool.proofs.Putting.{map_append}
 

@@ -1,5 +1,5 @@
 -- What taking a cell out of a chain, and putting it in, leaves.
-use Rattle.std.proofs.Common.{◌≡◌, ◌≢◌, ℕ, zero, suc, ◌+◌, ◌-◌, ◌<◌, ◌≤◌, ◌⊎◌, Bool, true, false, List, [], ◌∷◌, ◌++◌, length, Option, Some, None, refl, sym, ap, subst, ◌∙◌, ⊎_elim, inl, inr, arith, get_or, length-append, length-set}
+use Rattle.std.proofs.Common.{◌≡◌, ◌≢◌, ℕ, zero, suc, ◌+◌, ◌-◌, ◌<◌, ◌≤◌, ◌⊎◌, true, false, List, [], ◌∷◌, ◌++◌, length, Option, Some, None, refl, sym, ap, subst, ◌∙◌, ⊎_elim, inl, inr, arith, length-append, length-set}
 use Rattle.std.specs.Prelude.{slice_set, ◌==◌}
 use Rattle.std.proofs.lemmas.Bool.Decides.{eqb_tells}
 use Rattle.interval_pool.specs.declared.cells.Cell.{Cell}
@@ -7,8 +7,8 @@ use Rattle.interval_pool.specs.declared.cells.Head.{Head}
 use Rattle.interval_pool.specs.Cells.{cell_at, head_at, after, first_with, with_next, with_head, with_owner}
 use Rattle.interval_pool.specs.Chains.{first_or, last_or, AreLinked, AreChains, with_chain}
 use Rattle.interval_pool.specs.declared.interval.Interval.{Interval}
-use Rattle.interval_pool.specs.Pools.{chain_of, AreWhole, AreWholeBut, interval_at, KeepsIntervals, Unlinked, Linked}
-use Rattle.interval_pool.proofs.Linking.{cell_other, cell_same, head_other, head_same, in_parts, length_next, linked_below, unlinks, links}
+use Rattle.interval_pool.specs.Pools.{chain_of, AreWhole, AreWholeBut, interval_at, Unlinked, Linked}
+use Rattle.interval_pool.proofs.Linking.{cell_other, cell_same, head_other, head_same, in_parts, length_next, unlinks, links}
 use Rattle.interval_pool.proofs.Walking.{chain_is, rewalked, after_is}
 
 -- ---- what stays

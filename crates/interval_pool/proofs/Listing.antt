@@ -1,16 +1,14 @@
 -- What the beginning and the end of a list leave.
-use Rattle.std.proofs.Common.{◌≡◌, ◌≢◌, ℕ, zero, suc, ◌+◌, ◌-◌, ◌<◌, ◌≤◌, ◌⊎◌, Bool, true, false, List, [], ◌∷◌, ◌++◌, length, map, Option, Some, None, refl, sym, ap, subst, ◌∙◌, ⊎_elim, inl, inr, arith, get_or, length-append, length-set}
+use Rattle.std.proofs.Common.{◌≡◌, ◌≢◌, ℕ, ◌<◌, Bool, true, false, List, [], length, Option, None, sym, ap, subst, ◌∙◌, ⊎_elim, arith, length-append, length-set}
 use Rattle.std.specs.Prelude.{◌==◌}
 use Rattle.std.proofs.lemmas.Bool.Decides.{eqb_tells}
 use Rattle.std.proofs.lemmas.List.{append-nil}
 use Rattle.interval_pool.specs.declared.cells.Cell.{Cell}
 use Rattle.interval_pool.specs.declared.cells.Head.{Head}
-use Rattle.interval_pool.specs.declared.interval.Interval.{Interval}
-use Rattle.interval_pool.specs.Links.{most_cells}
-use Rattle.interval_pool.specs.Cells.{cell_at, head_at, no_head, with_list}
-use Rattle.interval_pool.specs.Chains.{first_or, last_or, AreChains}
+use Rattle.interval_pool.specs.Cells.{head_at, with_list}
+use Rattle.interval_pool.specs.Chains.{AreChains}
 use Rattle.interval_pool.specs.Pools.{walk, chain_of, interval_at, AreWhole, FreedSome, FreesSome}
-use Rattle.interval_pool.specs.Changes.{spans_of, free_count, Relisted, Claimed, IsUnused, Dropped, Drops}
+use Rattle.interval_pool.specs.Changes.{Relisted, Claimed, IsUnused, Drops}
 use Rattle.interval_pool.proofs.Linking.{head_other, head_same}
 use Rattle.interval_pool.proofs.Walking.{rewalked}
 use Rattle.interval_pool.proofs.Altering.{length_map}

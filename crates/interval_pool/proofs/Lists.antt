@@ -1,5 +1,5 @@
 -- What is left where a cell leaves a list for the free ones, or the other way.
-use Rattle.std.proofs.Common.{◌≡◌, ◌≢◌, ℕ, zero, suc, ◌+◌, ◌-◌, ◌<◌, ◌≤◌, ◌⊎◌, Bool, true, false, cond, List, [], ◌∷◌, ◌++◌, length, map, Option, Some, None, refl, sym, ap, subst, ◌∙◌, ⊎_elim, inl, inr, arith, get_or, length-append, length-set}
+use Rattle.std.proofs.Common.{◌≡◌, ◌≢◌, ℕ, suc, ◌+◌, ◌<◌, ◌≤◌, ◌⊎◌, true, false, cond, List, [], ◌∷◌, ◌++◌, length, map, Option, Some, None, refl, sym, ap, subst, ◌∙◌, ⊎_elim, inl, arith, get_or, length-append, length-set}
 use Rattle.std.specs.Prelude.{slice_set, ◌==◌}
 use Rattle.std.proofs.Common.{take, drop}
 use Rattle.std.proofs.Math.Seq.{drop-cons}
@@ -10,10 +10,10 @@ use Rattle.std.proofs.lemmas.Bool.Decides.{eqb_tells}
 use Rattle.interval_pool.specs.declared.cells.Cell.{Cell}
 use Rattle.interval_pool.specs.declared.cells.Head.{Head}
 use Rattle.interval_pool.specs.Links.{most_cells}
-use Rattle.interval_pool.specs.Cells.{cell_at, head_at, no_cell}
-use Rattle.interval_pool.specs.Chains.{first_or, last_or, AreLinked, AreChains, IsAmong, with_chain}
+use Rattle.interval_pool.specs.Cells.{cell_at}
+use Rattle.interval_pool.specs.Chains.{last_or, AreChains, IsAmong, with_chain}
 use Rattle.interval_pool.specs.declared.interval.Interval.{Interval}
-use Rattle.interval_pool.specs.Pools.{chain_of, AreWhole, AreWholeBut, interval_at, KeepsIntervals, Unlinks, Unlinked, Links, Linked, KeepsOthers, Freed, Frees, FreedSome, FreesSome, Grown, Placed}
+use Rattle.interval_pool.specs.Pools.{chain_of, AreWhole, interval_at, Unlinks, Unlinked, Links, Linked, Freed, Frees, FreedSome, Grown, Placed}
 use Rattle.interval_pool.proofs.Linking.{chain_here, kept_cells, cell_other, cell_same}
 use Rattle.interval_pool.proofs.Walking.{chain_is, rewalked, grows, new_cell, all_below}
 

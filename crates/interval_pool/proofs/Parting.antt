@@ -1,19 +1,18 @@
 -- Lists and the free cells share no cell, and are together all cells.
-use Rattle.std.proofs.Common.{◌≡◌, ◌≢◌, ℕ, zero, suc, ◌+◌, ◌-◌, ◌<◌, ◌≤◌, ◌⊎◌, Bool, true, false, cond, List, [], ◌∷◌, ◌++◌, length, map, Option, Some, None, refl, sym, ap, subst, ◌∙◌, ⊎_elim, inl, inr, arith, get_or, length-append}
-use Rattle.std.specs.Prelude.{Ok, Err, Result, OnErr, IfErr, if◌then◌else◌, ◌==◌}
+use Rattle.std.proofs.Common.{◌≡◌, ◌≢◌, ℕ, zero, suc, ◌+◌, ◌<◌, ◌≤◌, ◌⊎◌, Bool, true, false, cond, List, [], ◌∷◌, ◌++◌, length, map, Option, Some, None, refl, sym, ap, subst, ◌∙◌, ⊎_elim, inl, inr, arith, length-append}
+use Rattle.std.specs.Prelude.{if◌then◌else◌, ◌==◌}
 use Rattle.std.specs.List.{AllByRecursion}
 use Rattle.std.proofs.lemmas.Bool.Decides.{eqb_tells}
 use Rattle.interval_pool.specs.declared.cells.Cell.{Cell}
 use Rattle.interval_pool.specs.declared.cells.Head.{Head}
-use Rattle.interval_pool.specs.declared.fault.PoolFault.{PoolFault}
 use Rattle.interval_pool.specs.Links.{most_cells}
-use Rattle.interval_pool.specs.Cells.{cell_at, head_at, no_head}
+use Rattle.interval_pool.specs.Cells.{cell_at, head_at}
 use Rattle.interval_pool.specs.Chains.{AreLinked, AreOnce, IsAmong}
 use Rattle.interval_pool.specs.Pools.{walk, chain_of}
-use Rattle.interval_pool.specs.Changes.{free_count, IsSpent, Spends}
-use Rattle.interval_pool.specs.Values.{Held, PoolValue, standing, all_cells, IsPartition, NeedsMemory, IsFull, held, slot, value_of, IsPool}
+use Rattle.interval_pool.specs.Changes.{Spends}
+use Rattle.interval_pool.specs.Values.{Held, standing, IsPartition, IsFull, held, slot, value_of, IsPool}
 use Rattle.interval_pool.proofs.Linking.{all_joined}
-use Rattle.interval_pool.proofs.Walking.{all_below, once_few, without, without_once, without_below}
+use Rattle.interval_pool.proofs.Walking.{all_below, once_few, without}
 use Rattle.interval_pool.proofs.Valued.{held_cells}
 
 -- ---- counting

@@ -1,7 +1,6 @@
 -- What making room, and putting an interval into a list, leaves.
-use Rattle.std.proofs.Common.{◌≡◌, ◌≢◌, ℕ, zero, suc, ◌+◌, ◌-◌, ◌<◌, ◌≤◌, ◌⊎◌, Bool, true, false, cond, List, [], ◌∷◌, ◌++◌, length, map, take, drop, Option, Some, None, refl, sym, ap, subst, ◌∙◌, ⊎_elim, inl, inr, arith, get_or, length-append, append_assoc}
+use Rattle.std.proofs.Common.{◌≡◌, ◌≢◌, ℕ, zero, suc, ◌+◌, ◌<◌, ◌≤◌, ◌⊎◌, List, [], ◌∷◌, ◌++◌, length, map, take, drop, Option, Some, None, refl, sym, ap, subst, ◌∙◌, ⊎_elim, inl, inr, arith, length-append, append_assoc}
 use Rattle.std.specs.Prelude.{option_to_list}
-use Rattle.std.specs.List.{AllByRecursion}
 use Rattle.std.proofs.lemmas.List.{length-take-le, take-append-drop}
 use Rattle.interval_pool.specs.declared.cells.Cell.{Cell}
 use Rattle.interval_pool.specs.declared.cells.Head.{Head}
@@ -12,7 +11,7 @@ use Rattle.interval_pool.specs.Chains.{last_or}
 use Rattle.interval_pool.specs.Pools.{chain_of, interval_at, AreWhole, KeepsOthers, FreedSome, FreesSome, Grown, Grows, Placed, Places}
 use Rattle.interval_pool.specs.declared.interval.Pieces.{Pieces}
 use Rattle.interval_pool.specs.Intervals.{listed}
-use Rattle.interval_pool.specs.Changes.{spans_of, free_count, HasRoom, MakesRoom, Set, Sets, Put, Puts, Replaced, Replaces}
+use Rattle.interval_pool.specs.Changes.{free_count, HasRoom, MakesRoom, Set, Sets, Put, Puts, Replaces}
 use Rattle.interval_pool.proofs.Linking.{all_parts}
 use Rattle.interval_pool.proofs.Lists.{same_but, same_intervals}
 

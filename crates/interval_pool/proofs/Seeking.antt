@@ -1,14 +1,14 @@
 -- What a walk along a list has passed.
-use Rattle.std.proofs.Common.{◌≡◌, ◌≢◌, ℕ, zero, suc, ◌+◌, ◌-◌, ◌<◌, ◌≤◌, ◌⊎◌, Bool, true, false, List, [], ◌∷◌, ◌++◌, length, map, Option, Some, None, refl, sym, ap, subst, ◌∙◌, ⊎_elim, inl, inr, arith, length-append, append_assoc}
+use Rattle.std.proofs.Common.{◌≡◌, ℕ, ◌-◌, ◌<◌, ◌≤◌, List, [], ◌∷◌, ◌++◌, length, map, Option, Some, None, refl, sym, ap, subst, ◌∙◌, ⊎_elim, arith, length-append}
 use Rattle.std.specs.List.{AllByRecursion}
 use Rattle.interval_pool.specs.declared.cells.Cell.{Cell}
 use Rattle.interval_pool.specs.declared.cells.Head.{Head}
 use Rattle.interval_pool.specs.Cells.{cell_at, head_at, after}
 use Rattle.interval_pool.specs.Chains.{first_or, last_or, IsAmong, AreLinked}
 use Rattle.interval_pool.specs.declared.interval.Interval.{Interval}
-use Rattle.interval_pool.specs.Intervals.{IsBefore, AreMerged}
+use Rattle.interval_pool.specs.Intervals.{IsBefore}
 use Rattle.interval_pool.specs.Pools.{interval_at, chain_of, AreWhole}
-use Rattle.interval_pool.specs.Places.{IsAscending, AreBelow, Reaches, IsStart, IsPassed, IsPlace}
+use Rattle.interval_pool.specs.Places.{IsAscending, AreBelow, IsStart, IsPassed, IsPlace}
 use Rattle.interval_pool.proofs.Linking.{all_joined, in_parts}
 use Rattle.interval_pool.proofs.Walking.{after_is}
 

@@ -1,26 +1,26 @@
 -- What callers see of lists that begin or end, and of the cells in lists.
-use Rattle.std.proofs.Common.{◌≡◌, ◌≢◌, ℕ, zero, suc, ◌+◌, ◌-◌, ◌<◌, ◌≤◌, ◌⊎◌, Bool, true, false, nat_le, ◌&&◌, ◌||◌, List, [], ◌∷◌, ◌++◌, length, map, Option, Some, None, refl, sym, ap, subst, ◌∙◌, ⊎_elim, inl, inr, arith, length-append}
+use Rattle.std.proofs.Common.{◌≡◌, ◌≢◌, ℕ, ◌-◌, ◌<◌, Bool, true, false, nat_le, ◌&&◌, ◌||◌, List, [], ◌∷◌, ◌++◌, length, map, Option, Some, None, refl, sym, ap, subst, ◌∙◌, ⊎_elim, arith}
 use Rattle.std.specs.Prelude.{min, unwrap_or, ◌==◌}
-use Rattle.std.specs.List.{AllByRecursion, list_any}
+use Rattle.std.specs.List.{AllByRecursion}
 use Rattle.std.proofs.lemmas.Bool.Decides.{eqb_tells, nat_tests}
 use Rattle.interval_pool.specs.declared.cells.Cell.{Cell}
 use Rattle.interval_pool.specs.declared.cells.Head.{Head}
 use Rattle.interval_pool.specs.declared.interval.Interval.{Interval}
 use Rattle.interval_pool.specs.Links.{most_cells}
 use Rattle.interval_pool.specs.Cells.{cell_at, head_at, after}
-use Rattle.interval_pool.specs.Chains.{first_or, last_or, AreLinked}
+use Rattle.interval_pool.specs.Chains.{first_or, AreLinked}
 use Rattle.interval_pool.specs.Intervals.{IsBefore, AreMerged, covers, has}
-use Rattle.interval_pool.specs.Pools.{walk, chain_of, interval_at, AreWhole}
+use Rattle.interval_pool.specs.Pools.{chain_of, interval_at, AreWhole}
 use Rattle.interval_pool.specs.Places.{AreBelow, Reaches, IsPlace}
-use Rattle.interval_pool.specs.Changes.{spans_of, free_count, Relisted, Claimed, AreAllClaimed, Dropped}
-use Rattle.interval_pool.specs.Values.{Held, PoolValue, slot_at, is_list, IsList, cells_of, spans, first_cell, Opened, Released, AreAllLists, Follows, Covers, held, slot, value_of, IsPool}
+use Rattle.interval_pool.specs.Changes.{spans_of, Claimed, AreAllClaimed, Dropped}
+use Rattle.interval_pool.specs.Values.{Held, cells_of, spans, first_cell, Opened, Released, AreAllLists, Follows, Covers, held, slot, value_of, IsPool}
 use Rattle.interval_pool.proofs.Linking.{in_parts}
 use Rattle.interval_pool.proofs.Lists.{same_intervals}
 use Rattle.interval_pool.proofs.Walking.{after_is}
 use Rattle.interval_pool.proofs.Altering.{has_append, merged_back}
 use Rattle.interval_pool.proofs.Putting.{map_append}
 use Rattle.interval_pool.proofs.Listing.{chains_stay, whole_stays}
-use Rattle.interval_pool.proofs.Valued.{slot_is, slot_list, slot_none, list_is, is_head, is_not_free, cells_are, spans_are, held_same, bool_cases}
+use Rattle.interval_pool.proofs.Valued.{slot_is, slot_list, slot_none, list_is, is_not_free, cells_are, spans_are, held_same, bool_cases}
 
 -- ---- a list begins
 

@@ -1,20 +1,19 @@
 -- A pool's cells, and what callers see of them.
-use Rattle.std.proofs.Common.{◌≡◌, ◌≢◌, ℕ, zero, suc, ◌+◌, ◌-◌, ◌<◌, ◌≤◌, ◌⊎◌, Bool, true, false, List, [], ◌∷◌, ◌++◌, length, map, take, drop, Option, Some, None, refl, sym, ap, subst, ◌∙◌, ⊎_elim, inl, inr, arith, get_or, length-append}
-use Rattle.std.specs.Prelude.{Ok, Err, Result, OnOk, OnErr, IfErr, min, is_some, unwrap_or, if◌then◌else◌, slice_index_or, ◌==◌}
+use Rattle.std.proofs.Common.{◌≡◌, ◌≢◌, ℕ, zero, suc, ◌+◌, ◌-◌, ◌<◌, ◌≤◌, ◌⊎◌, Bool, true, false, List, [], ◌∷◌, ◌++◌, length, map, take, drop, Some, None, refl, sym, ap, subst, ◌∙◌, ⊎_elim, inl, inr, arith}
+use Rattle.std.specs.Prelude.{min, is_some, unwrap_or, if◌then◌else◌, slice_index_or, ◌==◌}
 use Rattle.std.specs.List.{AllByRecursion}
 use Rattle.std.proofs.Math.Seq.{take-append_seam}
 use Rattle.std.proofs.lemmas.List.{get_or_past, nil_from_length}
 use Rattle.std.proofs.lemmas.Bool.Decides.{eqb_tells}
 use Rattle.interval_pool.specs.declared.cells.Cell.{Cell}
 use Rattle.interval_pool.specs.declared.cells.Head.{Head}
-use Rattle.interval_pool.specs.declared.fault.PoolFault.{PoolFault}
 use Rattle.interval_pool.specs.declared.interval.Interval.{Interval}
 use Rattle.interval_pool.specs.Links.{most_cells}
-use Rattle.interval_pool.specs.Cells.{cell_at, head_at, no_head}
+use Rattle.interval_pool.specs.Cells.{head_at, no_head}
 use Rattle.interval_pool.specs.Intervals.{AreMerged, has}
-use Rattle.interval_pool.specs.Pools.{walk, chain_of, interval_at, AreWhole, KeepsOthers}
-use Rattle.interval_pool.specs.Changes.{spans_of, free_count, Changed, IsSpent, Spends}
-use Rattle.interval_pool.specs.Values.{Held, PoolValue, slot_at, is_list, IsList, cells_of, spans, Altered, NeedsMemory, held, slot, value_of, IsPool}
+use Rattle.interval_pool.specs.Pools.{chain_of, interval_at, KeepsOthers}
+use Rattle.interval_pool.specs.Changes.{spans_of, free_count, Changed}
+use Rattle.interval_pool.specs.Values.{Held, is_list, IsList, cells_of, spans, Altered, held, slot, value_of, IsPool}
 
 -- ---- lists of cells
 

@@ -1,14 +1,13 @@
 -- A chain is what a walk along its links finds.
-use Rattle.std.proofs.Common.{◌≡◌, ◌≢◌, ℕ, zero, suc, ◌+◌, ◌-◌, ◌<◌, ◌≤◌, ◌⊎◌, Bool, true, false, cond, List, [], ◌∷◌, ◌++◌, length, Option, Some, None, refl, sym, ap, subst, ◌∙◌, ⊎_elim, inl, inr, arith, get_or, length-append}
-use Rattle.std.specs.Prelude.{⊤, ◌==◌}
-use Rattle.std.specs.List.{AllByRecursion, filter}
+use Rattle.std.proofs.Common.{◌≡◌, ◌≢◌, ℕ, zero, suc, ◌+◌, ◌<◌, ◌≤◌, Bool, true, false, cond, List, [], ◌∷◌, ◌++◌, length, Option, Some, None, refl, sym, ap, subst, ◌∙◌, ⊎_elim, inl, inr, arith, length-append}
+use Rattle.std.specs.Prelude.{◌==◌}
+use Rattle.std.specs.List.{AllByRecursion}
 use Rattle.std.proofs.lemmas.Bool.Decides.{eqb_tells}
 use Rattle.interval_pool.specs.declared.cells.Cell.{Cell}
 use Rattle.interval_pool.specs.declared.cells.Head.{Head}
-use Rattle.interval_pool.specs.Cells.{cell_at, head_at, no_cell, no_head, after}
-use Rattle.interval_pool.specs.Chains.{first_or, last_or, IsCell, AreLinked, AreOnce, IsAmong, AreChains, with_chain}
+use Rattle.interval_pool.specs.Cells.{cell_at, head_at, after}
+use Rattle.interval_pool.specs.Chains.{first_or, last_or, AreLinked, AreOnce, IsAmong, AreChains}
 use Rattle.interval_pool.specs.Pools.{walk, chain_of}
-use Rattle.interval_pool.proofs.Linking.{is_among_all, linked_below, in_parts, at_chain}
 
 pub walk_is : (cells : List Cell) (k : ℕ) (is : List ℕ) → AreLinked cells k is None → walk cells (length is) (first_or None is) ≡ is
 walk_is cells k [] linked = refl

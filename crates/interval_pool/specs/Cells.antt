@@ -1,5 +1,5 @@
 -- Cells linked by index into chains.
-use Rattle.std.specs.Prelude.{◌≡◌, ℕ, ◌+◌, ◌-◌, Bool, List, Option, Some, None, slice_get, slice_set, slice_index_or, false}
+use Rattle.std.specs.Prelude.{ℕ, Bool, List, Option, Some, None, slice_set, slice_index_or, false}
 use Rattle.interval_pool.specs.declared.cells.Cell.{Cell}
 use Rattle.interval_pool.specs.declared.cells.Head.{Head}
 

@@ -1,5 +1,5 @@
 -- How a place among cells, or none, is kept in one number.
-use Rattle.std.specs.Prelude.{◌≡◌, ℕ, zero, suc, ◌+◌, ◌-◌, Option, Some, None, refl}
+use Rattle.std.specs.Prelude.{◌≡◌, ℕ, zero, suc, Option, Some, None, refl}
 
 abbrev pub place_of : ℕ → Option ℕ
 place_of zero = None

@@ -1,9 +1,9 @@
 -- Where a number stands among the cells of a list.
-use Rattle.std.specs.Prelude.{◌≡◌, ℕ, ◌<◌, ◌≤◌, ◌⊎◌, ⊤, List, [], ◌∷◌, ◌++◌, length, map, Option, Some, None}
+use Rattle.std.specs.Prelude.{◌≡◌, ℕ, ◌<◌, ◌≤◌, ⊤, List, [], ◌∷◌, ◌++◌, length, map, Option, Some, None}
 use Rattle.std.specs.List.{AllByRecursion}
 use Rattle.interval_pool.specs.declared.cells.Cell.{Cell}
 use Rattle.interval_pool.specs.declared.cells.Head.{Head}
-use Rattle.interval_pool.specs.Cells.{cell_at, head_at}
+use Rattle.interval_pool.specs.Cells.{cell_at}
 use Rattle.interval_pool.specs.Chains.{first_or, last_or}
 use Rattle.interval_pool.specs.Intervals.{AreMerged}
 use Rattle.interval_pool.specs.Pools.{interval_at, chain_of}

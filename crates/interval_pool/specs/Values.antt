@@ -1,14 +1,14 @@
 -- A pool as its callers see it.
-use Rattle.std.specs.Prelude.{◌≡◌, ◌≢◌, ℕ, ◌+◌, ◌-◌, ◌<◌, ◌≤◌, ◌⊎◌, min, ⊤, Bool, true, not, ◌&&◌, ◌||◌, if◌then◌else◌, List, [], ◌∷◌, ◌++◌, length, map, Option, Some, None, is_some, unwrap_or, slice_index_or, refl}
+use Rattle.std.specs.Prelude.{◌≡◌, ◌≢◌, ℕ, ◌+◌, ◌-◌, ◌<◌, ◌≤◌, ◌⊎◌, min, ⊤, Bool, true, if◌then◌else◌, List, [], ◌∷◌, ◌++◌, length, map, Option, Some, None, is_some, unwrap_or, slice_index_or, refl}
 use Rattle.std.specs.List.{AllByRecursion}
 use Rattle.std.specs.Coded.{Coded, code_by, coded×, coded_ℕ, coded_list, coded_option}
 use Rattle.interval_pool.specs.declared.cells.Cell.{Cell}
 use Rattle.interval_pool.specs.declared.cells.Head.{Head}
 use Rattle.interval_pool.specs.declared.interval.Interval.{Interval}
 use Rattle.interval_pool.specs.Links.{most_cells, most_number}
-use Rattle.interval_pool.specs.Cells.{cell_at, head_at}
+use Rattle.interval_pool.specs.Cells.{head_at}
 use Rattle.interval_pool.specs.Chains.{AreOnce, IsAmong}
-use Rattle.interval_pool.specs.Intervals.{covers, has, AreMerged, IsApart, IsSplit}
+use Rattle.interval_pool.specs.Intervals.{has, AreMerged}
 use Rattle.interval_pool.specs.Pools.{walk, chain_of, interval_at, AreWhole}
 use Rattle.interval_pool.specs.Changes.{spans_of, with_more, without}
 
@@ -113,8 +113,8 @@ AddedTo p l s q = Altered p l (with_more (spans p l) s) q
 abbrev pub CutFrom : PoolValue → ℕ → Interval → PoolValue → Type 0
 CutFrom p l s q = Altered p l (without (spans p l) s) q
 
--- no cell is free, and memory for one more is wanted
-pub record NeedsMemory (p : PoolValue) : Type 0 where
+-- no cell is free, and there is room for none more
+pub record HasNoRoom (p : PoolValue) : Type 0 where
   pub free : p.free ≡ []
   pub room : p.room ≡ 0
 

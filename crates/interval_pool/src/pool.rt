@@ -1,7 +1,7 @@
 //! The pool as its callers see it.
 ghost use Rattle.std.specs.Prelude.{◌≡◌, ◌≢◌, ℕ, ◌<◌, ◌≤◌, OnOk, OnErr, IfOk, IfErr, length, vec_capacity};
 ghost use Rattle.interval_pool.specs.Intervals.{AreMerged, IsApart, IsSplit, has};
-ghost use Rattle.interval_pool.specs.Values.{empty, is_list, IsList, IsRange, cells_of, spans, first_cell, Follows, Covers, IsPartition, Opened, AddedTo, CutFrom, Released, Reserved, NeedsMemory, IsFull, IsFullWith, AreAllLists};
+ghost use Rattle.interval_pool.specs.Values.{empty, is_list, IsList, IsRange, cells_of, spans, first_cell, Follows, Covers, IsPartition, Opened, AddedTo, CutFrom, Released, Reserved, HasNoRoom, IsFull, IsFullWith, AreAllLists};
 ghost use Rattle.interval_pool.specs.declared.fault.PoolFault.TheVariants.{Full};
 
 use crate::add::add;
@@ -83,7 +83,7 @@ impl Pool {
         requires range { IsRange numbers }
         ensures ok { OnOk result (AddedTo self.old list numbers self.new) }
         ensures err { OnErr result (self.new ≡ self.old) }
-        ensures memory { OnErr result (NeedsMemory self.old) }
+        ensures room { OnErr result (HasNoRoom self.old) }
         ensures apart { OnErr result (IsApart (spans self.old list) numbers) }
         ensures full { IfErr result (λ fault. fault ≡ Full → IsFull self.old) }
     {
@@ -102,7 +102,7 @@ impl Pool {
         requires range { IsRange numbers }
         ensures ok { OnOk result (CutFrom self.old list numbers self.new) }
         ensures err { OnErr result (self.new ≡ self.old) }
-        ensures memory { OnErr result (NeedsMemory self.old) }
+        ensures room { OnErr result (HasNoRoom self.old) }
         ensures split { OnErr result (IsSplit (spans self.old list) numbers) }
         ensures full { IfErr result (λ fault. fault ≡ Full → IsFull self.old) }
     {

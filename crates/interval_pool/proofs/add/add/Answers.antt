@@ -3,7 +3,6 @@ use Rattle.interval_pool.specs.declared.cells.Cell.{Cell}
 use Rattle.interval_pool.specs.Intervals.{met}
 use Rattle.interval_pool.specs.Pools.{interval_at, rest_of}
 use Rattle.interval_pool.specs.Places.{IsPlace}
-use Rattle.interval_pool.specs.Changes.{Replaces}
 use Rattle.interval_pool.proofs.add.add.Goals as goal
 use Rattle.interval_pool.proofs.Altering.{stands, added, kept_apart}
 

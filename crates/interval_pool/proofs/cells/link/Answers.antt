@@ -1,4 +1,4 @@
-use Rattle.std.proofs.Common.{ap, ◌∙◌, ◌+◌, ◌≡◌, ◌<◌, arith, length}
+use Rattle.std.proofs.Common.{arith}
 use Rattle.interval_pool.specs.Pools.{chain_of}
 use Rattle.interval_pool.proofs.cells.link.Goals as goal
 use Rattle.interval_pool.proofs.Walking.{chain_fewer}

@@ -1,4 +1,3 @@
-use Rattle.std.proofs.Common.{ap, ◌∙◌, ◌-◌}
 use Rattle.interval_pool.proofs.cells.unlink.Goals as goal
 use Rattle.interval_pool.proofs.Changing.{unlinked}
 

@@ -1,4 +1,4 @@
-use Rattle.std.proofs.Common.{◌≡◌, subst, sym, List}
+use Rattle.std.proofs.Common.{subst, sym, List}
 use Rattle.interval_pool.specs.declared.cells.Head.{Head}
 use Rattle.interval_pool.specs.Changes.{Drops}
 use Rattle.interval_pool.proofs.claim.drop_list.Goals as goal

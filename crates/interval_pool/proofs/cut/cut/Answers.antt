@@ -1,9 +1,8 @@
-use Rattle.std.proofs.Common.{rules, ◌≡◌, ℕ, ◌+◌, ◌-◌, ◌≤◌, List, subst, map, arith}
+use Rattle.std.proofs.Common.{rules, ◌≡◌, ℕ, ◌+◌, ◌≤◌, List, subst, map, arith}
 use Rattle.interval_pool.specs.declared.cells.Cell.{Cell}
 use Rattle.interval_pool.specs.Intervals.{met}
 use Rattle.interval_pool.specs.Pools.{interval_at, rest_of}
 use Rattle.interval_pool.specs.Places.{IsPlace}
-use Rattle.interval_pool.specs.Changes.{Replaces}
 use Rattle.interval_pool.proofs.cut.cut.Goals as goal
 use Rattle.interval_pool.proofs.Altering.{stands, cut_out, is_split}
 

@@ -1,4 +1,4 @@
-use Rattle.std.proofs.Common.{◌≡◌, ◌+◌, ◌-◌, ◌≤◌, map, arith, ap, ◌∙◌, sym}
+use Rattle.std.proofs.Common.{arith, ◌∙◌}
 use Rattle.interval_pool.proofs.meet.meet.Goals as goal
 use Rattle.interval_pool.proofs.Meeting.{meets_next}
 

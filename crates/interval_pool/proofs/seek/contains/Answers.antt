@@ -1,4 +1,4 @@
-use Rattle.std.proofs.Common.{◌≡◌, ◌∙◌, Bool, false, nat_le, Option, None, Some, ap, sym}
+use Rattle.std.proofs.Common.{◌≡◌, ◌∙◌, nat_le, None, Some, ap, sym}
 use Rattle.interval_pool.specs.declared.cells.Cell.{Cell}
 use Rattle.interval_pool.proofs.seek.contains.Goals as goal
 use Rattle.interval_pool.proofs.Standing.{begins_at, found}

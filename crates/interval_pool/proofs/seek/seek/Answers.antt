@@ -1,7 +1,7 @@
-use Rattle.std.proofs.Common.{◌≡◌, ℕ, ◌<◌, ◌≤◌, refl, sym, ap, subst, ◌∙◌, arith, ◌-◌}
+use Rattle.std.proofs.Common.{◌<◌, ◌≤◌, subst, arith, ◌-◌}
 use Rattle.std.proofs.lemmas.List.{get_or_default}
 use Rattle.interval_pool.specs.declared.cells.Cell.{Cell}
-use Rattle.interval_pool.specs.Cells.{no_cell, cell_at}
+use Rattle.interval_pool.specs.Cells.{no_cell}
 use Rattle.interval_pool.specs.Places.{IsPassed}
 use Rattle.interval_pool.proofs.seek.seek.Goals as goal
 use Rattle.interval_pool.proofs.seek.seek.Goals.{then-i-cells-via-then-i-cells, then-i-cells-via-else-i-cells+then-cells-i}

@@ -1,4 +1,4 @@
-use Rattle.std.proofs.Common.{◌≡◌, ℕ, ap, ◌∙◌, refl, sym, subst, Option, None, List}
+use Rattle.std.proofs.Common.{◌≡◌, ℕ, subst, Option}
 use Rattle.interval_pool.specs.Pools.{Links}
 use Rattle.interval_pool.proofs.store.free.Goals as goal
 use Rattle.interval_pool.proofs.Lists.{freed}

@@ -1,4 +1,4 @@
-use Rattle.std.proofs.Common.{refl, arith, ◌≡◌, ◌<◌, ◌≤◌, length}
+use Rattle.std.proofs.Common.{arith, ◌<◌, ◌≤◌, length}
 use Rattle.interval_pool.proofs.store.free_some.Goals as goal
 use Rattle.interval_pool.proofs.Lists.{none_freed, next_freed, all_freed}
 

@@ -1,4 +1,4 @@
-use Rattle.std.proofs.Common.{◌≡◌, ℕ, ap, ◌∙◌, refl, sym, subst, Option, Some, None, List, [], ◌∷◌, ◌++◌, length, take, drop, arith, length-append, ◌<◌, vec_len, vec_capacity}
+use Rattle.std.proofs.Common.{◌≡◌, ℕ, ap, ◌∙◌, sym, subst, Option, None, List, [], ◌∷◌, ◌++◌, length, take, drop, arith, length-append}
 use Rattle.std.proofs.Math.Seq.{take-append_seam}
 use Rattle.std.specs.Prelude.{if◌then◌else◌, IsOk}
 use Rattle.interval_pool.specs.declared.cells.Cell.{Cell}

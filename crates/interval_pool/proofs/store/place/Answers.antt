@@ -1,4 +1,4 @@
-use Rattle.std.proofs.Common.{◌≡◌, ℕ, ap, ◌∙◌, refl, sym, subst, Option, None, List, [], arith, ◌<◌}
+use Rattle.std.proofs.Common.{◌≡◌, ℕ, refl, subst, Option, List, [], arith}
 use Rattle.interval_pool.specs.declared.cells.Cell.{Cell}
 use Rattle.interval_pool.specs.Cells.{with_numbers}
 use Rattle.interval_pool.specs.Pools.{Links, Unlinks}

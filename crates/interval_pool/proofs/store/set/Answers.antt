@@ -1,4 +1,4 @@
-use Rattle.std.proofs.Common.{◌≡◌, subst, sym, Option, Some}
+use Rattle.std.proofs.Common.{subst, sym, Option}
 use Rattle.interval_pool.specs.Changes.{Sets}
 use Rattle.interval_pool.specs.declared.interval.Interval.{Interval}
 use Rattle.interval_pool.proofs.store.set.Goals as goal

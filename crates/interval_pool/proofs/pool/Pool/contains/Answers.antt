@@ -1,12 +1,11 @@
-use Rattle.std.proofs.Common.{◌≡◌, ◌∙◌, ℕ, Bool, true, List, ap, sym, subst}
+use Rattle.std.proofs.Common.{◌≡◌, ◌∙◌, ℕ, true, List, ap, sym, subst}
 use Rattle.std.specs.Prelude.{vec_capacity}
 use Rattle.interval_pool.specs.declared.cells.Cell.{Cell}
 use Rattle.interval_pool.specs.declared.cells.Head.{Head}
-use Rattle.interval_pool.specs.declared.interval.Interval.{Interval}
 use Rattle.interval_pool.specs.Cells.{head_at}
 use Rattle.interval_pool.specs.Intervals.{has}
 use Rattle.interval_pool.specs.Changes.{spans_of}
-use Rattle.interval_pool.specs.Values.{PoolValue, IsList, spans, value_of}
+use Rattle.interval_pool.specs.Values.{PoolValue, IsList, spans}
 use Rattle.interval_pool.proofs.pool.Pool.contains.Goals as goal
 use Rattle.interval_pool.proofs.Valued.{head_is, spans_are, is_not_free}
 

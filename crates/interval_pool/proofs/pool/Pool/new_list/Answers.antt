@@ -1,5 +1,5 @@
-use Rattle.std.proofs.Common.{rules, ◌≡◌, ℕ, List, subst}
-use Rattle.std.specs.Prelude.{vec_capacity, IfErr}
+use Rattle.std.proofs.Common.{rules, ◌≡◌, ℕ, subst}
+use Rattle.std.specs.Prelude.{vec_capacity}
 use Rattle.interval_pool.specs.declared.fault.PoolFault.{PoolFault}
 use Rattle.interval_pool.specs.declared.fault.PoolFault.TheVariants.{Full}
 use Rattle.interval_pool.specs.Values.{PoolValue, Opened, AreAllLists, value_of}

@@ -1,4 +1,4 @@
-use Rattle.std.proofs.Common.{◌≡◌, ℕ, List, subst}
+use Rattle.std.proofs.Common.{subst}
 use Rattle.std.specs.Prelude.{vec_capacity}
 use Rattle.interval_pool.specs.Intervals.{AreMerged}
 use Rattle.interval_pool.specs.Values.{PoolValue, IsPartition, spans}

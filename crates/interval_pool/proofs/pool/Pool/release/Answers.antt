@@ -1,9 +1,9 @@
-use Rattle.std.proofs.Common.{◌≡◌, ◌∙◌, ℕ, Bool, true, List, ◌++◌, length, take, drop, ap, sym, subst, arith}
+use Rattle.std.proofs.Common.{◌≡◌, ℕ, true, List, ◌++◌, length, take, drop, ap, sym, subst, arith}
 use Rattle.std.specs.Prelude.{vec_capacity}
 use Rattle.interval_pool.specs.declared.cells.Cell.{Cell}
 use Rattle.interval_pool.specs.declared.cells.Head.{Head}
 use Rattle.interval_pool.specs.Cells.{head_at}
-use Rattle.interval_pool.specs.Changes.{Drops, Dropped}
+use Rattle.interval_pool.specs.Changes.{Drops}
 use Rattle.interval_pool.specs.Values.{PoolValue, IsList, IsPool, Released, value_of}
 use Rattle.interval_pool.proofs.pool.Pool.release.Goals as goal
 use Rattle.interval_pool.proofs.Valued.{seamed, head_is, is_head, is_not_free}

@@ -1,7 +1,6 @@
-use Rattle.std.proofs.Common.{◌≡◌, ◌∙◌, ℕ, List, ap, sym, subst}
+use Rattle.std.proofs.Common.{◌≡◌, ◌∙◌, List, ap, sym, subst}
 use Rattle.std.specs.Prelude.{vec_capacity}
 use Rattle.interval_pool.specs.declared.cells.Cell.{Cell}
-use Rattle.interval_pool.specs.declared.interval.Interval.{Interval}
 use Rattle.interval_pool.specs.Cells.{cell_at}
 use Rattle.interval_pool.specs.Values.{PoolValue, Covers}
 use Rattle.interval_pool.proofs.pool.Pool.span.Goals as goal
