@@ -16,7 +16,7 @@ use crate::seek::contains;
 use std::alloc::Global;
 use std::marker::Model;
 
-/// The name of a list.
+/// The name of a list, of 32 bits. The name of a list that was released may be that of a later one.
 #[derive(Clone, Copy, Debug, PartialEq, Eq, Drop)]
 pub struct ListId {
     number: u32,
@@ -44,7 +44,8 @@ impl ListId {
     }
 }
 
-/// Lists of numbers, each kept as merged intervals in cells of one vector.
+/// Lists of numbers from 1 to 9,223,372,036,854,775,807, each kept as merged intervals in cells of one vector. A cell
+/// is named by a number of 32 bits, which holds until the next change of its list.
 #[derive(Drop)]
 pub struct Pool {
     cells: Vec<Cell>,
@@ -77,7 +78,9 @@ impl Pool {
         }
     }
 
-    /// Adds numbers to a list. An error leaves all as it was.
+    /// Adds numbers to a list. It fails only where they touch no interval of the list, no cell is free and memory
+    /// for one more is refused (`Memory`), or 4,294,967,294 intervals stand in the pool (`Full`). An error leaves all
+    /// as it was.
     pub fn add(&mut self, list: ListId, numbers: Interval) -> Result<(), PoolFault>
         requires list { IsList self.old list }
         requires range { IsRange numbers }
@@ -96,7 +99,9 @@ impl Pool {
         Ok(())
     }
 
-    /// Cuts numbers out of a list. An error leaves all as it was.
+    /// Cuts numbers out of a list. It fails only where they lie within an interval that goes on at both ends, no cell
+    /// is free and memory for one more is refused (`Memory`), or 4,294,967,294 intervals stand in the pool (`Full`).
+    /// An error leaves all as it was.
     pub fn cut(&mut self, list: ListId, numbers: Interval) -> Result<(), PoolFault>
         requires list { IsList self.old list }
         requires range { IsRange numbers }
@@ -116,7 +121,8 @@ impl Pool {
         Ok(())
     }
 
-    /// Makes an empty list. An error leaves all as it was; it is `Full` only where 4,294,967,294 lists are there.
+    /// Makes an empty list. It fails where memory is refused (`Memory`), or 4,294,967,294 lists are there (`Full`). An
+    /// error leaves all as it was.
     pub fn new_list(&mut self) -> Result<ListId, PoolFault>
         ensures ok { IfOk result (λ list. Opened self.old list self.new) }
         ensures err { OnErr result (self.new ≡ self.old) }
@@ -127,7 +133,7 @@ impl Pool {
         Ok(ListId { number })
     }
 
-    /// Frees the cells of a list, which is one no more.
+    /// Frees the cells of a list, which is one no more. Takes no memory.
     pub fn release(&mut self, list: ListId)
         requires list { IsList self.old list }
         ensures { Released self.old list self.new }
@@ -154,7 +160,7 @@ impl Pool {
         contains(&self.cells, &self.heads, list, number, guess)
     }
 
-    /// The first cell of a list.
+    /// The first cell of a list, none where it is empty.
     pub fn first(&self, list: ListId) -> Option<u32>
         requires list { IsList self.now list }
         ensures { result ≡ first_cell (cells_of self.now list) }
@@ -168,14 +174,14 @@ impl Pool {
         .number()
     }
 
-    /// The cell that comes after this one in its list.
+    /// The cell that comes after this one in its list, none after the last. Of what is no cell of a list nothing is said.
     pub fn next(&self, cell: u32) -> Option<u32>
         ensures { Follows self.now cell result }
     {
         cell_at(&self.cells, cell as usize).next.number()
     }
 
-    /// The interval of a cell.
+    /// The interval of a cell. Of what is no cell of a list nothing is said.
     pub fn span(&self, cell: u32) -> Interval
         ensures { Covers self.now cell result }
     {
@@ -193,7 +199,9 @@ impl Pool {
         count(&self.heads, 0)
     }
 
-    /// Makes room for so many cells, so that as many calls of `add` and `cut` succeed after it.
+    /// Makes room for so many cells, so that as many calls of `add` and `cut` succeed after it (`reserved_lasts`). The
+    /// free cells stay as they are. It fails where memory is refused (`Memory`), or so many cells with those that
+    /// stand in lists are more than 4,294,967,294 (`Full`). An error leaves all as it was.
     pub fn reserve(&mut self, more: usize) -> Result<(), PoolFault>
         ensures ok { OnOk result (Reserved self.old more self.new) }
         ensures err { OnErr result (self.new ≡ self.old) }
@@ -208,7 +216,7 @@ impl Pool {
         Ok(())
     }
 
-    /// Lists are merged. Lists and the free cells share no cell, and are together all cells.
+    /// A law, which does nothing: lists are merged; lists and the free cells share no cell, and are together all cells.
     pub fn partition(&self)
         ensures merged { (l : ℕ) → AreMerged (spans self.now l) }
         ensures parted { IsPartition self.now }

@@ -84,9 +84,13 @@ fn shows_all(pool: &mut Pool) -> bool {
     shows_both(pool, first, second) && shows_second(pool, first, second)
 }
 
+/// Pools may be lent to threads and handed to them.
+fn crosses<T: Send + Sync>(_value: &T) {}
+
 #[test]
 fn free_cells_after_each_call(rt: HostRuntime) {
     let mut pool = Pool::open(rt.alloc());
+    crosses(&pool);
     let shown = shows_all(&mut pool);
     assert!(rt; shown);
 }
