@@ -3,6 +3,7 @@ use Rattle.std.proofs.Common.{◌≡◌, ◌≢◌, ℕ, zero, suc, ◌+◌, ◌
 use Rattle.std.specs.Prelude.{option_to_list, if◌then◌else◌}
 use Rattle.std.specs.List.{AllByRecursion}
 use Rattle.std.proofs.lemmas.Bool.Decides.{nat_tests}
+use Rattle.std.proofs.lemmas.List.{map-append, length-map}
 use Rattle.interval_pool.specs.declared.cells.Cell.{Cell}
 use Rattle.interval_pool.specs.declared.cells.Head.{Head}
 use Rattle.interval_pool.specs.declared.interval.Interval.{Interval}
@@ -15,10 +16,10 @@ use Rattle.interval_pool.specs.Intervals.{IsBefore, IsApart, IsSplit, AreMerged,
 use Rattle.interval_pool.specs.Pools.{walk, chain_of, rest_of, interval_at, AreWhole}
 use Rattle.interval_pool.specs.Places.{AreBelow, Reaches, IsPlace}
 use Rattle.interval_pool.specs.Changes.{spans_of, Replaced, Replaces, Changed, Added, Cut, with_more, without}
+use Rattle.interval_pool.proofs.Facts.{or_false, or_three, all_weaker, all_parts, all_joined}
 use Rattle.interval_pool.proofs.Linking.{in_parts}
 use Rattle.interval_pool.proofs.Walking.{after_is}
-use Rattle.interval_pool.proofs.Meeting.{Meets, meets, all_weaker}
-use Rattle.interval_pool.proofs.Putting.{map_append}
+use Rattle.interval_pool.proofs.Meeting.{Meets, meets}
 
 -- ---- what stands after a cell
 
@@ -38,14 +39,6 @@ rest_is cells heads k before xs ys h parts is_before =
 
 -- ---- merged lists
 
-all_split : (P : Interval → Type 0) (ss ts : List Interval) → AllByRecursion P (ss ++ ts) → AllByRecursion P ss × AllByRecursion P ts
-all_split P [] ts all = (tt, all)
-all_split P (s ∷ ss) ts all = let more = all_split P ss ts all.1 in ((all.0, more.0), more.1)
-
-all_both : (P : Interval → Type 0) (ss ts : List Interval) → AllByRecursion P ss → AllByRecursion P ts → AllByRecursion P (ss ++ ts)
-all_both P [] ts front back = back
-all_both P (s ∷ ss) ts front back = (front.0, all_both P ss ts front.1 back)
-
 pub merged_back : (ss ts : List Interval) → AreMerged (ss ++ ts) → AreMerged ts
 merged_back [] ts merged = merged
 merged_back (s ∷ ss) ts merged = merged_back ss ts merged.2
@@ -53,10 +46,6 @@ merged_back (s ∷ ss) ts merged = merged_back ss ts merged.2
 pub has_append : (ss ts : List Interval) (n : ℕ) → has (ss ++ ts) n ≡ (has ss n || has ts n)
 has_append [] ts n = refl
 has_append (s ∷ ss) ts n = ap (λ b. covers s n || b) (has_append ss ts n) ∙ sym (or_three (covers s n) (has ss n) (has ts n))
-  where
-    or_three : (a b c : Bool) → ((a || b) || c) ≡ (a || (b || c))
-    or_three true b c = refl
-    or_three false b c = refl
 
 -- what reaches a number is touched by what begins after it
 touches : (cells : List Cell) (n lo : ℕ) (ys : List ℕ) → lo ≤ n + 1 → AreMerged (map (interval_at cells) ys) → Reaches cells n ys → AllByRecursion (λ (t : Interval). lo ≤ t.hi + 1) (map (interval_at cells) ys)
@@ -71,15 +60,11 @@ touches cells n lo (y ∷ ys) le merged reaches =
     later [] before more = tt
     later (z ∷ zs) before more = let b = before.0 in let f = more.0 in (omega (le, reaches, b, f, arith), later zs before.1 more.2)
 
-pub length_map : (f : ℕ → Interval) (is : List ℕ) → length (map f is) ≡ length is
-length_map f [] = refl
-length_map f (i ∷ is) = let e = length_map f is in omega (e, arith)
-
 drop_front : (fs rest : List Interval) → drop (length fs) (fs ++ rest) ≡ rest
 drop_front [] rest = refl
 drop_front (f ∷ fs) rest = drop_front fs rest
 
-below_spans : (cells : List Cell) (n : ℕ) (xs : List ℕ) → AreBelow cells n xs → AllByRecursion (λ u. u.hi < n) (map (interval_at cells) xs)
+pub below_spans : (cells : List Cell) (n : ℕ) (xs : List ℕ) → AreBelow cells n xs → AllByRecursion (λ u. u.hi < n) (map (interval_at cells) xs)
 below_spans cells n [] below = tt
 below_spans cells n (x ∷ xs) below = (below.0, below_spans cells n xs below.1)
 
@@ -87,8 +72,8 @@ below_spans cells n (x ∷ xs) below = (below.0, below_spans cells n xs below.1)
 merged_with : (P : Interval → Type 0) (us ss ts : List Interval) → AreMerged (us ++ ss) → AllByRecursion P us → AreMerged ts → ((u : Interval) → P u → AllByRecursion (IsBefore u) ss → AllByRecursion (IsBefore u) ts) → AreMerged (us ++ ts)
 merged_with P [] ss ts merged all good step = good
 merged_with P (u ∷ us) ss ts merged all good step =
-    let parts = all_split (IsBefore u) us ss merged.1 in
-    (merged.0, all_both (IsBefore u) us ts parts.0 (step u all.0 parts.1), merged_with P us ss ts merged.2 all.1 good step)
+    let parts = all_parts (IsBefore u) us ss merged.1 in
+    (merged.0, all_joined (IsBefore u) us ts parts.0 (step u all.0 parts.1), merged_with P us ss ts merged.2 all.1 good step)
 
 -- ---- what a joined interval stands for in a list
 
@@ -110,14 +95,14 @@ stands cells heads k n limit before s j h merged filled from near place is_joine
     let f : ℕ → Interval = interval_at cells in
     let xs = place.xs in
     let ys = place.ys in
-    let spans : spans_of cells heads k ≡ map f xs ++ map f ys = ap (map f) place.parts ∙ map_append f xs ys in
+    let spans : spans_of cells heads k ≡ map f xs ++ map f ys = ap (map f) place.parts ∙ map-append f xs ys in
     let both : AreMerged (map f xs ++ map f ys) = subst AreMerged spans merged in
     let back : AreMerged (map f ys) = merged_back (map f xs) (map f ys) both in
     let is : j ≡ met limit s 0 (map f ys) = is_joined ∙ ap (λ js. met limit s 0 (map f js)) (rest_is cells heads k before xs ys h place.parts place.before_is) in
     let m : Meets limit s 0 (map f ys) j = subst (Meets limit s 0 (map f ys)) (sym is) (meets limit s 0 (map f ys) filled near back (touches cells n s.lo ys from back place.reaches)) in
     let count = m.count in
     let size = ap length m.parts in
-    let sizes = length_map f ys in
+    let sizes = length-map ys f in
     let many = length-append m.front m.rest in
     record {
       xs = xs;
@@ -180,7 +165,7 @@ added cells cells1 heads heads1 k n before s j t h small not_free lt filled from
     let hi = m.hi in
     let later : AllByRecursion (IsBefore j.numbers) m.rest = ⊎_elim (λ (e : j.numbers.hi ≡ s.hi). all_weaker (λ u. s.hi + 1 < u.lo) (IsBefore j.numbers) m.rest (λ u b. omega (e, b, arith)) m.beyond) (λ a. a) m.later in
     let front : (u : Interval) → u.hi < n → AllByRecursion (IsBefore u) ss → AllByRecursion (IsBefore u) (j.numbers ∷ m.rest) = λ u less all.
-    let parts = all_split (IsBefore u) m.front m.rest (subst (AllByRecursion (IsBefore u)) m.parts all) in
+    let parts = all_parts (IsBefore u) m.front m.rest (subst (AllByRecursion (IsBefore u)) m.parts all) in
     (⊎_elim (λ (e : j.numbers.lo ≡ s.lo). omega (e, less, from, arith)) (λ b. b) (m.lower u parts.0), parts.1) in
     let good = merged_with (λ u. u.hi < n) us ss (j.numbers ∷ m.rest) t.merged t.below (omega (lo, hi, filled, arith), later, m.merged) front in
     changed cells cells1 heads heads1 k n (s.hi + 1) before s j (record { first = Some j.numbers; second = None }) (with_more (spans_of cells heads k) s) t h small not_free lt (omega arith) replaces good
@@ -189,12 +174,8 @@ added cells cells1 heads heads1 k n before s j t h small not_free lt filled from
     ∙ (or_turn (has us i) (covers s i) (has m.front i) (has m.rest i)
     ∙ ap (λ b. b || covers s i) (ap (λ b. has us i || b) (sym (ap (λ ts. has ts i) m.parts ∙ has_append m.front m.rest i)) ∙ (sym (has_append us ss i) ∙ ap (λ ts. has ts i) (sym t.spans)))))
   where
-    or_false : (a : Bool) → (a || false) ≡ a
-    or_false true = refl
-    or_false false = refl
-
     one_more : (i : ℕ) → has (j.numbers ∷ []) i ≡ (covers s i || has t.met.front i)
-    one_more i = or_false (covers j.numbers i) ∙ t.met.has i
+    one_more i = sym (or_false (covers j.numbers i)) ∙ t.met.has i
 
 -- ---- an interval is cut out
 
@@ -359,12 +340,8 @@ part_met limit s spans j m filled none =
           (λ (e : (j.numbers.hi ≤ s.hi) × (part_above j.numbers s ≡ None)). e.1) (above_part j.numbers s),
     )
   where
-    or_false : (a : Bool) → (a || false) ≡ a
-    or_false true = refl
-    or_false false = refl
-
     nothing : (front : List Interval) → length front ≡ 0 → (n : ℕ) → (covers s n || has front n) ≡ covers s n
-    nothing [] e n = or_false (covers s n)
+    nothing [] e n = sym (or_false (covers s n))
     nothing (t ∷ ts) e n = absurd (omega (e, arith))
 
     low : (a b c d : ℕ) → a < c → a ≤ b → (nat_le a a && nat_le a b) ≡ (nat_le c a && nat_le a d) → ⊥
@@ -400,7 +377,7 @@ cut_out cells cells1 heads heads1 k before s j p t h small not_free lt filled fr
     let shape : listed p ++ m.rest ≡ option_to_list (part_below j.numbers s) ++ (option_to_list (part_above j.numbers s) ++ m.rest) =
     (λ i. (option_to_list (first i) ++ option_to_list (second i)) ++ m.rest) ∙ append_assoc (option_to_list (part_below j.numbers s)) (option_to_list (part_above j.numbers s)) m.rest in
     let front : (u : Interval) → u.hi < s.lo → AllByRecursion (IsBefore u) ss → AllByRecursion (IsBefore u) (listed p ++ m.rest) = λ u less all.
-    let parts = all_split (IsBefore u) m.front m.rest (subst (AllByRecursion (IsBefore u)) m.parts all) in
+    let parts = all_parts (IsBefore u) m.front m.rest (subst (AllByRecursion (IsBefore u)) m.parts all) in
     subst (AllByRecursion (IsBefore u)) (sym shape) (parts_before u j.numbers s m.rest less filled (m.lower u parts.0) parts.1) in
     let back : AreMerged (listed p ++ m.rest) = subst AreMerged (sym shape) (parts_merged j.numbers s m.rest filled m.beyond m.merged m.later) in
     let good = merged_with (λ u. u.hi < s.lo) us ss (listed p ++ m.rest) t.merged t.below back front in
@@ -419,7 +396,7 @@ kept_apart cells heads k n before s j t from none =
     let rest : map (interval_at cells) t.ys ≡ m.rest = m.parts ∙ nothing m.front (omega (count, none, arith)) in
     let Apart : Interval → Type 0 = λ u. IsBefore u s ⊎ IsBefore s u in
     subst (λ ss. IsApart ss s) (sym t.spans)
-    (all_both Apart (map (interval_at cells) t.xs) (map (interval_at cells) t.ys)
+    (all_joined Apart (map (interval_at cells) t.xs) (map (interval_at cells) t.ys)
     (all_weaker (λ u. u.hi < n) Apart (map (interval_at cells) t.xs) (λ u lt. inl (omega (lt, from, arith))) t.below)
     (subst (AllByRecursion Apart) (sym rest) (all_weaker (λ u. s.hi + 1 < u.lo) Apart m.rest (λ u lt. inr lt) m.beyond)))
   where

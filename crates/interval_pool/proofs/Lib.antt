@@ -1,3 +1,4 @@
+pub mod Facts
 pub mod Linking
 pub mod Walking
 pub mod Changing

@@ -7,6 +7,7 @@ use Rattle.interval_pool.specs.declared.cells.Cell.{Cell}
 use Rattle.interval_pool.specs.declared.cells.Head.{Head}
 use Rattle.interval_pool.specs.Cells.{cell_at, head_at, with_next, first_with, with_head, with_owner}
 use Rattle.interval_pool.specs.Chains.{first_or, last_or, IsCell, AreLinked, AreOnce, IsAmong, AreChains, with_chain}
+use Rattle.interval_pool.proofs.Facts.{all_parts, all_joined}
 
 -- ---- a cell is written
 
@@ -116,14 +117,6 @@ pub chain_here : (chain : ℕ → List ℕ) (k : ℕ) (is : List ℕ) → with_c
 chain_here chain k is = at_chain (λ m js. m ≡ k → js ≡ is) chain k is (λ e. refl) (λ m ne e. absurd (ne e)) k refl
 
 -- ---- each cell once
-
-pub all_parts : (P : ℕ → Type 0) (is js : List ℕ) → AllByRecursion P (is ++ js) → AllByRecursion P is × AllByRecursion P js
-all_parts P [] js all = (tt, all)
-all_parts P (i ∷ is) js all = let more = all_parts P is js all.1 in ((all.0, more.0), more.1)
-
-pub all_joined : (P : ℕ → Type 0) (is js : List ℕ) → AllByRecursion P is → AllByRecursion P js → AllByRecursion P (is ++ js)
-all_joined P [] js front back = back
-all_joined P (i ∷ is) js front back = (front.0, all_joined P is js front.1 back)
 
 pub once_parts : (is js : List ℕ) → AreOnce (is ++ js) → AreOnce is × AreOnce js
 once_parts [] js once = (tt, once)

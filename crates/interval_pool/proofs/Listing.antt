@@ -2,7 +2,7 @@
 use Rattle.std.proofs.Common.{◌≡◌, ◌≢◌, ℕ, ◌<◌, Bool, true, false, List, [], length, Option, None, sym, ap, subst, ◌∙◌, ⊎_elim, arith, length-append, length-set}
 use Rattle.std.specs.Prelude.{◌==◌}
 use Rattle.std.proofs.lemmas.Bool.Decides.{eqb_tells}
-use Rattle.std.proofs.lemmas.List.{append-nil}
+use Rattle.std.proofs.lemmas.List.{append-nil, length-map}
 use Rattle.interval_pool.specs.declared.cells.Cell.{Cell}
 use Rattle.interval_pool.specs.declared.cells.Head.{Head}
 use Rattle.interval_pool.specs.Cells.{head_at, with_list}
@@ -11,7 +11,6 @@ use Rattle.interval_pool.specs.Pools.{walk, chain_of, interval_at, AreWhole, Fre
 use Rattle.interval_pool.specs.Changes.{Relisted, Claimed, IsUnused, Drops}
 use Rattle.interval_pool.proofs.Linking.{head_other, head_same}
 use Rattle.interval_pool.proofs.Walking.{rewalked}
-use Rattle.interval_pool.proofs.Altering.{length_map}
 
 pub relisted : (heads : List Head) (k : ℕ) (b : Bool) → k < length heads → Relisted heads k b (with_list heads k b)
 relisted heads k b lt = record {
@@ -73,6 +72,6 @@ dropped cells cells1 heads heads1 k n before none is frees h small not_free lt =
           let a = ap length (chains_stay cells1 heads1 (with_list heads1 k false) k false r 0 ∙ f.free) in
           let b = length-append f.more (chain_of cells heads 0) in
           let c = f.as_many_free in
-          let d = length_map (interval_at cells) chain in
+          let d = length-map chain (interval_at cells) in
           omega (a, b, c, d, arith);
     }

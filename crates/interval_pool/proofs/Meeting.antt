@@ -9,6 +9,7 @@ use Rattle.interval_pool.specs.declared.interval.Joined.{Joined}
 use Rattle.interval_pool.specs.Cells.{cell_at}
 use Rattle.interval_pool.specs.Intervals.{IsBefore, AreMerged, covers, has, hull, met}
 use Rattle.interval_pool.specs.Pools.{walk, interval_at}
+use Rattle.interval_pool.proofs.Facts.{or_false, or_three, all_weaker, all_parts}
 
 -- the next cell of a walk is met too
 pub meets_next : (cells : List Cell) (limit : ℕ) (s h : Interval) (k left i : ℕ) (at : Option ℕ) (c : Cell) → at ≡ Some i → 0 < left → c ≡ cell_at cells i → c.lo ≤ limit → h ≡ hull s (record { lo = c.lo; hi = c.hi })
@@ -45,22 +46,6 @@ pub record Meets (limit : ℕ) (s : Interval) (k : ℕ) (spans : List Interval) 
 pub hull_covers : (a b c d n : ℕ) → a ≤ b → c ≤ d → a ≤ d + 1 → c ≤ b + 1 → (nat_le (min a c) n && nat_le n (max b d)) ≡ ((nat_le a n && nat_le n b) || (nat_le c n && nat_le n d))
 hull_covers a b c d n le le' touch touch' = grind (arith, nat_tests)
 
-pub all_weaker : (P Q : Interval → Type 0) (ss : List Interval) → ((s : Interval) → P s → Q s) → AllByRecursion P ss → AllByRecursion Q ss
-all_weaker P Q [] h all = tt
-all_weaker P Q (s ∷ ss) h all = (h s all.0, all_weaker P Q ss h all.1)
-
-or_three : (a b c : Bool) → ((a || b) || c) ≡ (a || (b || c))
-or_three true b c = refl
-or_three false b c = refl
-
-or_false : (a : Bool) → a ≡ (a || false)
-or_false true = refl
-or_false false = refl
-
-all_back : (P : Interval → Type 0) (ss ts : List Interval) → AllByRecursion P (ss ++ ts) → AllByRecursion P ts
-all_back P [] ts all = all
-all_back P (s ∷ ss) ts all = all_back P ss ts all.1
-
 least : (a b : ℕ) → (min a b ≡ a) ⊎ ((min a b ≡ b) × (b < a))
 least a b = grind arith
 
@@ -92,7 +77,7 @@ meets limit s k (t ∷ ts) filled near merged touch = chosen (nat_le t.lo limit)
         let first = touch.0 in
         let le = merged.0 in
         let j : Joined = met limit (hull s t) (k + 1) ts in
-        let before : AllByRecursion (IsBefore t) m.rest = all_back (IsBefore t) m.front m.rest (subst (AllByRecursion (IsBefore t)) m.parts merged.1) in
+        let before : AllByRecursion (IsBefore t) m.rest = (all_parts (IsBefore t) m.front m.rest (subst (AllByRecursion (IsBefore t)) m.parts merged.1)).1 in
         let small = m.lo in
         let great = m.hi in
         record {

@@ -1,5 +1,5 @@
 -- Lists and the free cells share no cell, and are together all cells.
-use Rattle.std.proofs.Common.{◌≡◌, ◌≢◌, ℕ, zero, suc, ◌+◌, ◌<◌, ◌≤◌, ◌⊎◌, Bool, true, false, cond, List, [], ◌∷◌, ◌++◌, length, map, Option, Some, None, refl, sym, ap, subst, ◌∙◌, ⊎_elim, inl, inr, arith, length-append}
+use Rattle.std.proofs.Common.{◌≡◌, ◌≢◌, ℕ, zero, suc, ◌+◌, ◌<◌, ◌≤◌, Bool, true, false, cond, List, [], ◌∷◌, ◌++◌, length, map, Option, Some, None, refl, sym, ap, subst, ◌∙◌, ⊎_elim, inl, inr, arith, length-append}
 use Rattle.std.specs.Prelude.{if◌then◌else◌, ◌==◌}
 use Rattle.std.specs.List.{AllByRecursion}
 use Rattle.std.proofs.lemmas.Bool.Decides.{eqb_tells}
@@ -11,7 +11,7 @@ use Rattle.interval_pool.specs.Chains.{AreLinked, AreOnce, IsAmong}
 use Rattle.interval_pool.specs.Pools.{walk, chain_of}
 use Rattle.interval_pool.specs.Changes.{Spends}
 use Rattle.interval_pool.specs.Values.{Held, standing, IsPartition, IsFull, held, slot, value_of, IsPool}
-use Rattle.interval_pool.proofs.Linking.{all_joined}
+use Rattle.interval_pool.proofs.Facts.{told, all_weaker, all_joined}
 use Rattle.interval_pool.proofs.Walking.{all_below, once_few, without}
 use Rattle.interval_pool.proofs.Valued.{held_cells}
 
@@ -62,10 +62,6 @@ owned : (cells : List Cell) (k : ℕ) (is : List ℕ) (e : Option ℕ) → AreLi
 owned cells k [] e linked = tt
 owned cells k (i ∷ is) e linked = (linked.0.owner, owned cells k is e linked.1)
 
-all_weaker : (P Q : ℕ → Type 0) (is : List ℕ) → ((i : ℕ) → P i → Q i) → AllByRecursion P is → AllByRecursion Q is
-all_weaker P Q [] h all = tt
-all_weaker P Q (i ∷ is) h all = (h i all.0, all_weaker P Q is h all.1)
-
 once_both : (cells : List Cell) (k : ℕ) (is js : List ℕ) → AllByRecursion (λ i. (cell_at cells i).owner ≡ k) is → AllByRecursion (λ j. k < (cell_at cells j).owner) js → AreOnce is → AreOnce js → AreOnce (is ++ js)
 once_both cells k [] js here there one two = two
 once_both cells k (i ∷ is) js here there one two =
@@ -82,10 +78,6 @@ stands_more cells h slots is =
 
 stands_none : (cells : List Cell) (h : Head) (slots : List (Option (List Held))) → h.is_list ≡ false → standing (slot cells h ∷ slots) ≡ standing slots
 stands_none cells h slots none = ap (λ b. standing ((if b then Some (map (held cells) (walk cells h.len h.first)) else None) ∷ slots)) none
-
-bool_cases : (b : Bool) → (b ≡ true) ⊎ (b ≡ false)
-bool_cases true = inl refl
-bool_cases false = inr refl
 
 -- these heads are those from a place on
 abbrev AreFrom : List Head → ℕ → List Head → Type 0
@@ -108,7 +100,7 @@ stand_owned cells heads k (h ∷ hs) p from =
     let here : AllByRecursion P (chain_of cells heads k) = both k (chain_of cells heads k) (owned cells k (chain_of cells heads k) None (p.whole.linked k)) (all_below cells k (chain_of cells heads k) None (p.whole.linked k)) in
     subst (AllByRecursion P) (sym (stands_more cells h (map (slot cells) hs) is)) (all_joined P (walk cells h.len h.first) (standing (map (slot cells) hs)) (subst (AllByRecursion P) (sym chain) here) more))
     (λ none. subst (AllByRecursion P) (sym (stands_none cells h (map (slot cells) hs) none)) more)
-    (bool_cases h.is_list)
+    (told h.is_list)
   where
     both : (k : ℕ) (is : List ℕ) → AllByRecursion (λ i. (cell_at cells i).owner ≡ k) is → AllByRecursion (λ i. i < length cells) is → AllByRecursion (λ i. (k ≤ (cell_at cells i).owner) × (i < length cells)) is
     both k [] own below = tt
@@ -126,7 +118,7 @@ stand_once cells heads k (h ∷ hs) p from =
     subst AreOnce (sym (stands_more cells h (map (slot cells) hs) is ∙ ap (λ is. is ++ standing (map (slot cells) hs)) chain))
     (once_both cells k (chain_of cells heads k) (standing (map (slot cells) hs)) (owned cells k (chain_of cells heads k) None (p.whole.linked k)) there (p.whole.once k) more))
     (λ none. subst AreOnce (sym (stands_none cells h (map (slot cells) hs) none)) more)
-    (bool_cases h.is_list)
+    (told h.is_list)
 
 among_own : (cells : List Cell) (heads : List Head) (i : ℕ) → IsPool cells heads → i < length cells → IsAmong i (chain_of cells heads (cell_at cells i).owner)
 among_own cells heads i p lt = ⊎_elim (λ (e : None ≡ Some i). absurd (cc)) (λ a. a) (p.whole.whole i lt)
@@ -148,20 +140,20 @@ stand_whole cells heads k (h ∷ hs) i zero p some from lt own =
     let chain : walk cells h.len h.first ≡ chain_of cells heads k = ap (λ (g : Head). walk cells g.len g.first) here in
     subst (IsAmong i) (sym (stands_more cells h (map (slot cells) hs) is)) (among_front i (walk cells h.len h.first) (standing (map (slot cells) hs)) (subst (IsAmong i) (sym chain) there)))
     (λ none. absurd (none_among cells heads i k p some (ap (λ (g : Head). g.is_list) (sym here) ∙ none) there))
-    (bool_cases h.is_list)
+    (told h.is_list)
 stand_whole cells heads k (h ∷ hs) i (suc j) p some from lt own =
     let more = stand_whole cells heads (suc k) hs i j p (omega arith) (from_next heads k h hs from) lt (own ∙ (let e : k + suc j ≡ suc k + j = omega arith in e)) in
     ⊎_elim
     (λ is. subst (IsAmong i) (sym (stands_more cells h (map (slot cells) hs) is)) (among_back i (walk cells h.len h.first) (standing (map (slot cells) hs)) more))
     (λ none. subst (IsAmong i) (sym (stands_none cells h (map (slot cells) hs) none)) more)
-    (bool_cases h.is_list)
+    (told h.is_list)
 
 -- ---- all cells
 
 -- the chain of the free cells is no list
 lists_from : (cells : List Cell) (heads : List Head) → IsPool cells heads → (hs : List Head) × (AreFrom heads 1 hs × (standing (map (slot cells) heads) ≡ standing (map (slot cells) hs)))
 lists_from cells [] p = ([], ((λ j. refl), refl))
-lists_from cells (h ∷ hs) p = (hs, ((λ j. ap (head_at (h ∷ hs)) (let e : suc j ≡ 1 + j = omega arith in e)), stands_none cells h (map (slot cells) hs) (⊎_elim (λ is. absurd (p.free_is_none is)) (λ e. e) (bool_cases h.is_list))))
+lists_from cells (h ∷ hs) p = (hs, ((λ j. ap (head_at (h ∷ hs)) (let e : suc j ≡ 1 + j = omega arith in e)), stands_none cells h (map (slot cells) hs) (⊎_elim (λ is. absurd (p.free_is_none is)) (λ e. e) (told h.is_list))))
 
 pub partition : (cells : List Cell) (heads : List Head) (capacity : ℕ) → IsPool cells heads → IsPartition (value_of cells heads capacity)
 partition cells heads capacity p =

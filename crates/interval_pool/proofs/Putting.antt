@@ -1,7 +1,7 @@
 -- What making room, and putting an interval into a list, leaves.
 use Rattle.std.proofs.Common.{◌≡◌, ◌≢◌, ℕ, zero, suc, ◌+◌, ◌<◌, ◌≤◌, ◌⊎◌, List, [], ◌∷◌, ◌++◌, length, map, take, drop, Option, Some, None, refl, sym, ap, subst, ◌∙◌, ⊎_elim, inl, inr, arith, length-append, append_assoc}
 use Rattle.std.specs.Prelude.{option_to_list}
-use Rattle.std.proofs.lemmas.List.{length-take-le, take-append-drop}
+use Rattle.std.proofs.lemmas.List.{length-take-le, take-append-drop, map-append}
 use Rattle.interval_pool.specs.declared.cells.Cell.{Cell}
 use Rattle.interval_pool.specs.declared.cells.Head.{Head}
 use Rattle.interval_pool.specs.declared.interval.Interval.{Interval}
@@ -12,7 +12,7 @@ use Rattle.interval_pool.specs.Pools.{chain_of, interval_at, AreWhole, KeepsOthe
 use Rattle.interval_pool.specs.declared.interval.Pieces.{Pieces}
 use Rattle.interval_pool.specs.Intervals.{listed}
 use Rattle.interval_pool.specs.Changes.{free_count, HasRoom, MakesRoom, Set, Sets, Put, Puts, Replaces}
-use Rattle.interval_pool.proofs.Linking.{all_parts}
+use Rattle.interval_pool.proofs.Facts.{all_parts}
 use Rattle.interval_pool.proofs.Lists.{same_but, same_intervals}
 
 -- nothing has changed
@@ -51,10 +51,6 @@ room_grown cells cells1 heads heads1 freed needed short none less grows h small 
       total = omega (free, more, arith);
       more = inr (omega (n, none, arith), omega (free, n, none, short, few, arith));
     }
-
-pub map_append : (f : ℕ → Interval) (xs ys : List ℕ) → map f (xs ++ ys) ≡ map f xs ++ map f ys
-map_append f [] ys = refl
-map_append f (x ∷ xs) ys = ap (λ ss. f x ∷ ss) (map_append f xs ys)
 
 drop_map : (f : ℕ → Interval) (n : ℕ) (ys : List ℕ) → map f (drop n ys) ≡ drop n (map f ys)
 drop_map f zero ys = refl
@@ -100,12 +96,12 @@ set_one cells cells1 heads heads1 k before s places xs ys h small not_free lt pa
 -- ---- intervals in place of others
 
 spans_behind : (f2 f3 : ℕ → Interval) (zs ws : List ℕ) (second rest : List Interval) → map f3 (zs ++ ws) ≡ map f2 (zs ++ ws) → map f2 zs ≡ second → map f2 ws ≡ rest → map f3 (zs ++ ws) ≡ second ++ rest
-spans_behind f2 f3 zs ws second rest same here behind = same ∙ (map_append f2 zs ws ∙ (λ q. here q ++ behind q))
+spans_behind f2 f3 zs ws second rest same here behind = same ∙ (map-append f2 zs ws ∙ (λ q. here q ++ behind q))
 
 spans_whole : (f : ℕ → Interval) (xs zs ws : List ℕ) (front first second rest : List Interval) → map f xs ≡ front → map f zs ≡ first → map f ws ≡ second ++ rest → map f (xs ++ (zs ++ ws)) ≡ front ++ ((first ++ second) ++ rest)
 spans_whole f xs zs ws front first second rest before here behind =
-    map_append f xs (zs ++ ws)
-    ∙ ((λ q. before q ++ map_append f zs ws q)
+    map-append f xs (zs ++ ws)
+    ∙ ((λ q. before q ++ map-append f zs ws q)
     ∙ ap (λ ss. front ++ ss) ((λ q. here q ++ behind q) ∙ sym (append_assoc first second rest)))
 
 pub put_done : (cells cells1 cells2 cells3 : List Cell) (heads heads1 heads2 heads3 : List Head) (k n : ℕ) (before : Option ℕ) (p : Pieces) → FreesSome cells heads k before n cells1 heads1

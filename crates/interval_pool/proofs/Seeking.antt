@@ -9,7 +9,8 @@ use Rattle.interval_pool.specs.declared.interval.Interval.{Interval}
 use Rattle.interval_pool.specs.Intervals.{IsBefore}
 use Rattle.interval_pool.specs.Pools.{interval_at, chain_of, AreWhole}
 use Rattle.interval_pool.specs.Places.{IsAscending, AreBelow, IsStart, IsPassed, IsPlace}
-use Rattle.interval_pool.proofs.Linking.{all_joined, in_parts}
+use Rattle.interval_pool.proofs.Facts.{all_joined}
+use Rattle.interval_pool.proofs.Linking.{in_parts}
 use Rattle.interval_pool.proofs.Walking.{after_is}
 
 -- ---- lists

@@ -3,6 +3,7 @@ use Rattle.std.proofs.Common.{◌≡◌, ◌≢◌, ℕ, ◌-◌, ◌<◌, Bool,
 use Rattle.std.specs.Prelude.{min, unwrap_or, ◌==◌}
 use Rattle.std.specs.List.{AllByRecursion}
 use Rattle.std.proofs.lemmas.Bool.Decides.{eqb_tells, nat_tests}
+use Rattle.std.proofs.lemmas.List.{map-append}
 use Rattle.interval_pool.specs.declared.cells.Cell.{Cell}
 use Rattle.interval_pool.specs.declared.cells.Head.{Head}
 use Rattle.interval_pool.specs.declared.interval.Interval.{Interval}
@@ -11,16 +12,16 @@ use Rattle.interval_pool.specs.Cells.{cell_at, head_at, after}
 use Rattle.interval_pool.specs.Chains.{first_or, AreLinked}
 use Rattle.interval_pool.specs.Intervals.{IsBefore, AreMerged, covers, has}
 use Rattle.interval_pool.specs.Pools.{chain_of, interval_at, AreWhole}
-use Rattle.interval_pool.specs.Places.{AreBelow, Reaches, IsPlace}
+use Rattle.interval_pool.specs.Places.{Reaches, IsPlace}
 use Rattle.interval_pool.specs.Changes.{spans_of, Claimed, AreAllClaimed, Dropped}
 use Rattle.interval_pool.specs.Values.{Held, cells_of, spans, first_cell, Opened, Released, AreAllLists, Follows, Covers, held, slot, value_of, IsPool}
+use Rattle.interval_pool.proofs.Facts.{bool_cases, or_false, all_weaker}
 use Rattle.interval_pool.proofs.Linking.{in_parts}
 use Rattle.interval_pool.proofs.Lists.{same_intervals}
 use Rattle.interval_pool.proofs.Walking.{after_is}
-use Rattle.interval_pool.proofs.Altering.{has_append, merged_back}
-use Rattle.interval_pool.proofs.Putting.{map_append}
+use Rattle.interval_pool.proofs.Altering.{has_append, merged_back, below_spans}
 use Rattle.interval_pool.proofs.Listing.{chains_stay, whole_stays}
-use Rattle.interval_pool.proofs.Valued.{slot_is, slot_list, slot_none, list_is, is_not_free, cells_are, spans_are, held_same, bool_cases}
+use Rattle.interval_pool.proofs.Valued.{slot_is, slot_list, slot_none, list_is, is_not_free, cells_are, spans_are, held_same}
 
 -- ---- a list begins
 
@@ -147,14 +148,6 @@ has_after (s ∷ ss) n all = let lt = all.0 in (λ i. past s.lo s.hi lt i || has
     past : (a b : ℕ) → n < a → (nat_le a n && nat_le n b) ≡ false
     past a b lt = grind (arith, nat_tests)
 
-below_spans : (cells : List Cell) (n : ℕ) (xs : List ℕ) → AreBelow cells n xs → AllByRecursion (λ u. u.hi < n) (map (interval_at cells) xs)
-below_spans cells n [] below = tt
-below_spans cells n (x ∷ xs) below = (below.0, below_spans cells n xs below.1)
-
-all_weaker : (P Q : Interval → Type 0) (ss : List Interval) → ((s : Interval) → P s → Q s) → AllByRecursion P ss → AllByRecursion Q ss
-all_weaker P Q [] h all = tt
-all_weaker P Q (s ∷ ss) h all = (h s all.0, all_weaker P Q ss h all.1)
-
 -- what is found at the place of a number: whether the cell there begins up to it
 abbrev pub begins_at : List Cell → ℕ → Option ℕ → Bool
 begins_at cells n None = false
@@ -163,7 +156,7 @@ begins_at cells n (Some i) = nat_le (cell_at cells i).lo n
 pub found : (cells : List Cell) (heads : List Head) (k n : ℕ) (before : Option ℕ) → AreWhole cells heads → AreMerged (spans_of cells heads k) → IsPlace cells heads k n before → begins_at cells n (after cells heads k before) ≡ has (spans_of cells heads k) n
 found cells heads k n before h merged place =
     let f : ℕ → Interval = interval_at cells in
-    let spans : spans_of cells heads k ≡ map f place.xs ++ map f place.ys = ap (map f) place.parts ∙ map_append f place.xs place.ys in
+    let spans : spans_of cells heads k ≡ map f place.xs ++ map f place.ys = ap (map f) place.parts ∙ map-append f place.xs place.ys in
     let back : AreMerged (map f place.ys) = merged_back (map f place.xs) (map f place.ys) (subst AreMerged spans merged) in
     let at : after cells heads k before ≡ first_or None place.ys = ap (after cells heads k) place.before_is ∙ after_is cells heads None (chain_of cells heads) k place.xs place.ys h place.parts in
     ap (begins_at cells n) at ∙ (first_has place.ys back place.reaches
@@ -180,10 +173,6 @@ found cells heads k n before h merged place =
         and_true : (a : Bool) → a ≡ (a && true)
         and_true true = refl
         and_true false = refl
-
-        or_false : (a : Bool) → a ≡ (a || false)
-        or_false true = refl
-        or_false false = refl
 
         begun : (b : Bool) → nat_le (cell_at cells y).lo n ≡ b → nat_le (cell_at cells y).lo n ≡ (covers (interval_at cells y) n || has (map (interval_at cells) ys) n)
         begun true e = e ∙ sym (λ i. ((e i) && (upto i)) || has (map (interval_at cells) ys) n)

@@ -14,6 +14,7 @@ use Rattle.interval_pool.specs.Intervals.{AreMerged, has}
 use Rattle.interval_pool.specs.Pools.{chain_of, interval_at, KeepsOthers}
 use Rattle.interval_pool.specs.Changes.{spans_of, free_count, Changed}
 use Rattle.interval_pool.specs.Values.{Held, is_list, IsList, cells_of, spans, Altered, held, slot, value_of, IsPool}
+use Rattle.interval_pool.proofs.Facts.{bool_cases}
 
 -- ---- lists of cells
 
@@ -73,10 +74,6 @@ is_head heads k is = bounded (either k (length heads))
 
 pub slot_list : (cells : List Cell) (heads : List Head) (k : ℕ) → (head_at heads k).is_list ≡ true → slice_index_or (map (slot cells) heads) k None ≡ Some (map (held cells) (chain_of cells heads k))
 slot_list cells heads k is = slot_is cells heads k ∙ ap (λ b. if b then Some (map (held cells) (chain_of cells heads k)) else None) is
-
-pub bool_cases : (b : Bool) → (b ≡ true) ⊎ ((b ≡ false) × (b ≢ true))
-bool_cases true = inl refl
-bool_cases false = inr (refl, λ e. cc)
 
 pub slot_none : (cells : List Cell) (heads : List Head) (k : ℕ) → (head_at heads k).is_list ≢ true → slice_index_or (map (slot cells) heads) k None ≡ None
 slot_none cells heads k none = ⊎_elim (λ is. absurd (none is))
