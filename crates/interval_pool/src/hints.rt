@@ -88,20 +88,15 @@ fn search_run(cells: &[Cell], heads: &[Head], list: u32, number: u64) -> Link {
     let Some(first) = after(cells, heads, list as usize, Link::none()).place() else {
         return Link::none();
     };
-    let mut from = 0;
-    let mut upto = count(heads, list as usize) as usize;
-    'halves: while from < upto {
-        let middle = from + (upto - from) / 2;
-        if is_below(cells, list, number, Link::to(first.saturating_add(middle))) {
-            from = middle + 1;
-        } else {
-            upto = middle;
-        }
-    }
-    if from == 0 {
+    let behind = first.saturating_add(count(heads, list as usize) as usize);
+    if behind > cells.len() {
         return Link::none();
     }
-    Link::to(first.saturating_add(from - 1))
+    let below = cells[first..behind].partition_point(|cell| cell.hi < number);
+    if below == 0 {
+        return Link::none();
+    }
+    Link::to(first.saturating_add(below - 1))
 }
 
 /// Whether cells behind a place still lie one behind another, where few have changed.
