@@ -49,7 +49,7 @@ room_grown cells cells1 heads heads1 freed needed short none less grows h small 
       enough = omega (free, few, arith);
       small = omega (more, less, arith);
       total = omega (free, more, arith);
-      more = inr (omega (n, none, arith), omega (free, n, none, short, few, arith));
+      more = inr (omega (n, none, arith), omega (free, n, none, short, few, arith), more);
     }
 
 drop_map : (f : ℕ → Interval) (n : ℕ) (ys : List ℕ) → map f (drop n ys) ≡ drop n (map f ys)
@@ -172,7 +172,7 @@ replaced cells cells1 cells2 heads heads1 heads2 k n before p makes puts xs ys h
       small = let s = room.small in omega (a, s, arith);
       spans = q.spans ∙ (λ i. split.0 i ++ (listed p ++ drop n (split.1 i)));
       total = omega (a, t, r, arith);
-      more = ⊎_elim (λ e. inl (a ∙ e)) (λ (e : (free_count cells heads ≡ 0) × (free_count cells1 heads1 + n ≡ length (listed p))). let f = e.1 in inr (e.0, omega (t, f, arith))) room.more;
+      more = ⊎_elim (λ e. inl (a ∙ e)) (λ (e : (free_count cells heads ≡ 0) × (free_count cells1 heads1 + n ≡ length (listed p)) × (length cells1 ≡ length cells + 1)). let f = e.1 in inr (e.0, omega (t, f, arith), a ∙ e.2)) room.more;
     }
   where
     map_both : (f g : ℕ → Interval) (xs ys : List ℕ) → map f (xs ++ ys) ≡ map g (xs ++ ys) → (map f xs ≡ map g xs) × (map f ys ≡ map g ys)

@@ -123,11 +123,11 @@ pool_kept cells cells' heads heads' k among h is c = record {
   free_is_none = λ e. h.free_is_none (sym (c.keeps.lists 0) ∙ e);
 }
 
-room_left : (free free' len len' cells cells' cap cap' : ℕ) → free' + len' + cells ≡ free + len + cells' → len' ≤ len + 1 → (cells' ≡ cells) ⊎ ((free ≡ 0) × (free' ≡ 0)) → cap ≤ cap'
-    → free + (min cap most_cells - cells) ≤ free' + (min cap' most_cells - cells') + 1
-room_left free free' len len' cells cells' cap cap' total few more le = ⊎_elim
-    (λ e. omega (total, few, e, le, arith))
-    (λ (e : (free ≡ 0) × (free' ≡ 0)). let a = e.0 in let b = e.1 in omega (total, few, a, b, le, arith))
+room_left : (free free' len len' cells cells' cap cap' : ℕ) → free' + len' + cells ≡ free + len + cells' → (cells' ≡ cells) ⊎ ((free ≡ 0) × (free' ≡ 0) × (cells' ≡ cells + 1)) → cap ≤ cap'
+    → free + len + (min cap most_cells - cells) ≤ free' + len' + (min cap' most_cells - cells')
+room_left free free' len len' cells cells' cap cap' total more le = ⊎_elim
+    (λ e. omega (total, e, le, arith))
+    (λ (e : (free ≡ 0) × (free' ≡ 0) × (cells' ≡ cells + 1)). let a = e.2 in omega (total, a, le, arith))
     more
 
 pub altered : (cells cells' : List Cell) (heads heads' : List Head) (capacity capacity' k : ℕ) (among : ℕ → Bool) → IsPool cells heads → (head_at heads k).is_list ≡ true → Changed cells heads k among cells' heads' → capacity ≤ capacity'
@@ -146,9 +146,9 @@ altered cells cells' heads heads' capacity capacity' k among h is c le =
       others = λ m other. slots_kept cells cells' heads heads' k m h c.keeps other;
       numbers = λ n. ap (λ ss. has ss n) after ∙ c.numbers n;
       total = omega (a, b, total, arith);
-      more = ⊎_elim (λ e. inl e) (λ (e : (free_count cells heads ≡ 0) × (free_count cells' heads' ≡ 0)). inr (nil_from_length (chain_of cells heads 0) e.0, nil_from_length (chain_of cells' heads' 0) e.1)) c.more;
+      more = ⊎_elim (λ e. inl e) (λ (e : (free_count cells heads ≡ 0) × (free_count cells' heads' ≡ 0) × (length cells' ≡ length cells + 1)). inr (nil_from_length (chain_of cells heads 0) e.0, nil_from_length (chain_of cells' heads' 0) e.1, e.2)) c.more;
       few = omega (a, b, few, arith);
-      room = room_left (free_count cells heads) (free_count cells' heads') (length (spans_of cells heads k)) (length (spans_of cells' heads' k)) (length cells) (length cells') capacity capacity' total few c.more le;
+      room = let left = room_left (free_count cells heads) (free_count cells' heads') (length (spans_of cells heads k)) (length (spans_of cells' heads' k)) (length cells) (length cells') capacity capacity' total c.more le in omega (a, b, left, arith);
     }
 
 pub altered_list : (change : List Interval → Interval → ℕ → Bool) (cells cells' : List Cell) (heads heads' : List Head) (capacity capacity' l : ℕ) (s : Interval) → IsPool cells heads → (head_at heads l).is_list ≡ true

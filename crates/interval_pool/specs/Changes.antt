@@ -24,7 +24,7 @@ pub record HasRoom (cells : List Cell) (heads : List Head) (freed needed : ℕ) 
   pub enough : needed ≤ free_count cells' heads' + freed
   pub small : length cells' ≤ most_cells
   pub total : free_count cells' heads' + length cells ≡ free_count cells heads + length cells'
-  pub more : (length cells' ≡ length cells) ⊎ ((free_count cells heads ≡ 0) × (free_count cells' heads' + freed ≡ needed))
+  pub more : (length cells' ≡ length cells) ⊎ ((free_count cells heads ≡ 0) × (free_count cells' heads' + freed ≡ needed) × (length cells' ≡ length cells + 1))
 
 abbrev pub MakesRoom : List Cell → List Head → ℕ → ℕ → List Cell → List Head → Type 0
 MakesRoom cells heads freed needed cells' heads' =
@@ -64,7 +64,7 @@ pub record Replaced (cells : List Cell) (heads : List Head) (k : ℕ) (xs ys : L
   pub small : length cells' ≤ most_cells
   pub spans : spans_of cells' heads' k ≡ map (interval_at cells) xs ++ (pieces ++ drop n (map (interval_at cells) ys))
   pub total : free_count cells' heads' + length pieces + length cells ≡ free_count cells heads + n + length cells'
-  pub more : (length cells' ≡ length cells) ⊎ ((free_count cells heads ≡ 0) × (free_count cells' heads' ≡ 0))
+  pub more : (length cells' ≡ length cells) ⊎ ((free_count cells heads ≡ 0) × (free_count cells' heads' ≡ 0) × (length cells' ≡ length cells + 1))
 
 abbrev pub Replaces : List Cell → List Head → ℕ → Option ℕ → ℕ → Pieces → List Cell → List Head → Type 0
 Replaces cells heads k before n pieces cells' heads' =
@@ -79,7 +79,7 @@ pub record Changed (cells : List Cell) (heads : List Head) (k : ℕ) (among : �
   pub numbers : (n : ℕ) → has (spans_of cells' heads' k) n ≡ among n
   pub few : length (spans_of cells' heads' k) ≤ length (spans_of cells heads k) + 1
   pub total : free_count cells' heads' + length (spans_of cells' heads' k) + length cells ≡ free_count cells heads + length (spans_of cells heads k) + length cells'
-  pub more : (length cells' ≡ length cells) ⊎ ((free_count cells heads ≡ 0) × (free_count cells' heads' ≡ 0))
+  pub more : (length cells' ≡ length cells) ⊎ ((free_count cells heads ≡ 0) × (free_count cells' heads' ≡ 0) × (length cells' ≡ length cells + 1))
 
 -- the numbers of a list and of an interval, and those of a list without an interval
 abbrev pub with_more : List Interval → Interval → ℕ → Bool

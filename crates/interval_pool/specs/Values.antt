@@ -103,9 +103,9 @@ pub record Altered (p : PoolValue) (l : ℕ) (among : ℕ → Bool) (q : PoolVal
   pub others : (m : ℕ) → m ≢ l → slot_at q m ≡ slot_at p m
   pub numbers : (n : ℕ) → has (spans q l) n ≡ among n
   pub total : length q.free + length (spans q l) + p.cells ≡ length p.free + length (spans p l) + q.cells
-  pub more : (q.cells ≡ p.cells) ⊎ ((p.free ≡ []) × (q.free ≡ []))
+  pub more : (q.cells ≡ p.cells) ⊎ ((p.free ≡ []) × (q.free ≡ []) × (q.cells ≡ p.cells + 1))
   pub few : length (spans q l) ≤ length (spans p l) + 1
-  pub room : length p.free + p.room ≤ length q.free + q.room + 1
+  pub room : length p.free + length (spans p l) + p.room ≤ length q.free + length (spans q l) + q.room
 
 abbrev pub AddedTo : PoolValue → ℕ → Interval → PoolValue → Type 0
 AddedTo p l s q = Altered p l (with_more (spans p l) s) q

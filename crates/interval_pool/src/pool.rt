@@ -1,5 +1,5 @@
 //! The pool as its callers see it.
-ghost use Rattle.std.specs.Prelude.{◌≡◌, ◌≢◌, ℕ, ◌<◌, ◌≤◌, OnOk, OnErr, IfOk, IfErr, length, vec_capacity};
+ghost use Rattle.std.specs.Prelude.{◌≡◌, ◌≢◌, ℕ, ◌<◌, ◌≤◌, IsOk, OnOk, OnErr, IfOk, IfErr, length, vec_capacity};
 ghost use Rattle.interval_pool.specs.Intervals.{AreMerged, IsApart, IsSplit, has};
 ghost use Rattle.interval_pool.specs.Values.{empty, is_list, IsList, IsRange, cells_of, spans, first_cell, Follows, Covers, IsPartition, Opened, AddedTo, CutFrom, Released, Reserved, HasNoRoom, IsFull, IsFullWith, AreAllLists};
 ghost use Rattle.interval_pool.specs.declared.fault.PoolFault.TheVariants.{Full};
@@ -205,6 +205,7 @@ impl Pool {
     pub fn reserve(&mut self, more: usize) -> Result<(), PoolFault>
         ensures ok { OnOk result (Reserved self.old more self.new) }
         ensures err { OnErr result (self.new ≡ self.old) }
+        ensures there { more ≤ (self.old).room → IsOk result }
         ensures full { IfErr result (λ fault. fault ≡ Full → IsFullWith self.old more) }
     {
         let left = MOST_CELLS as usize - self.cells.as_slice().len();
