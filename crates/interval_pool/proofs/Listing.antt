@@ -1,11 +1,14 @@
 -- What the beginning and the end of a list leave.
-use Rattle.std.proofs.Common.{◌≡◌, ◌≢◌, ℕ, ◌<◌, Bool, true, false, List, [], length, Option, None, sym, ap, subst, ◌∙◌, ⊎_elim, arith, length-append, length-set}
+use Rattle.std.proofs.Common.{◌≡◌, ◌≢◌, ◌↔◌, ℕ, ◌<◌, ◌≤◌, Bool, true, false, List, [], length, Option, None, sym, ap, subst, ◌∙◌, ⊎_elim, arith, length-append, length-set}
 use Rattle.std.specs.Prelude.{◌==◌}
 use Rattle.std.proofs.lemmas.Bool.Decides.{eqb_tells}
-use Rattle.std.proofs.lemmas.List.{append-nil, length-map}
+use Rattle.std.proofs.lemmas.List.{append-nil, length-map, get_or_past}
 use Rattle.interval_pool.specs.declared.cells.Cell.{Cell}
 use Rattle.interval_pool.specs.declared.cells.Head.{Head}
-use Rattle.interval_pool.specs.Cells.{head_at, with_list}
+use Rattle.interval_pool.specs.declared.fault.PoolFault.{PoolFault}
+use Rattle.interval_pool.specs.declared.fault.PoolFault.TheVariants.{Full, Memory}
+use Rattle.interval_pool.specs.Links.{most_cells}
+use Rattle.interval_pool.specs.Cells.{no_head, head_at, with_list}
 use Rattle.interval_pool.specs.Chains.{AreChains}
 use Rattle.interval_pool.specs.Pools.{walk, chain_of, interval_at, AreWhole, FreedSome, FreesSome}
 use Rattle.interval_pool.specs.Changes.{Relisted, Claimed, IsUnused, Drops}
@@ -24,6 +27,13 @@ claimed heads k unused = record {
   was = unused.2;
   list = relisted heads k true unused.1;
 }
+
+-- the number of a chain beyond the last is free to be a list's
+pub not_all : (heads : List Head) → length heads ≤ most_cells → ((k : ℕ) → 1 ≤ k → k ≤ most_cells → (head_at heads k).is_list ≡ true) → ⊥
+not_all heads few all = let past : head_at heads most_cells ≡ no_head = get_or_past heads most_cells no_head few in let is = all most_cells (omega arith) (omega arith) in cc
+
+pub never_full : {P : Type 0} → (fault : PoolFault) → fault ≡ Memory → (P → ⊥) → fault ≡ Full ↔ P
+never_full fault is never = (λ e. absurd (cc), λ p. absurd (never p))
 
 -- ---- chains stay
 

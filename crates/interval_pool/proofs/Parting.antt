@@ -186,6 +186,9 @@ partition cells heads capacity p =
     placed i lt hs from zero own = among_front i (chain_of cells heads 0) (standing (map (slot cells) hs)) (subst (λ o. IsAmong i (chain_of cells heads o)) own (among_own cells heads i p lt))
     placed i lt hs from (suc o) own = among_back i (chain_of cells heads 0) (standing (map (slot cells) hs)) (stand_whole cells heads 1 hs i o p (omega arith) from lt (own ∙ (let e : suc o ≡ 1 + o = omega arith in e)))
 
+pub all_made : (cells : List Cell) (heads : List Head) (capacity : ℕ) → IsPool cells heads → IsFull (value_of cells heads capacity) → most_cells ≤ length cells
+all_made cells heads capacity p full = let count = (partition cells heads capacity p).count in omega (count, full, arith)
+
 pub all_stand : (cells : List Cell) (heads : List Head) (capacity : ℕ) → IsPool cells heads → Spends cells heads capacity → most_cells ≤ length cells → IsFull (value_of cells heads capacity)
 all_stand cells heads capacity p spent full =
     let count = (partition cells heads capacity p).count in

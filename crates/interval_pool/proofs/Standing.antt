@@ -21,7 +21,7 @@ use Rattle.interval_pool.proofs.Lists.{same_intervals}
 use Rattle.interval_pool.proofs.Walking.{after_is}
 use Rattle.interval_pool.proofs.Altering.{has_append, merged_back, below_spans}
 use Rattle.interval_pool.proofs.Listing.{chains_stay, whole_stays}
-use Rattle.interval_pool.proofs.Valued.{slot_is, slot_list, slot_none, list_is, is_not_free, cells_are, spans_are, held_same}
+use Rattle.interval_pool.proofs.Valued.{slot_is, slot_list, slot_none, list_is, head_is, is_not_free, cells_are, spans_are, held_same}
 
 -- ---- a list begins
 
@@ -51,6 +51,9 @@ opened cells heads heads' capacity k h c =
 
 pub all_lists : (cells : List Cell) (heads : List Head) (capacity : ℕ) → AreAllClaimed heads → AreAllLists (value_of cells heads capacity)
 all_lists cells heads capacity all = λ l from upto. list_is cells heads capacity l ∙ all l from upto
+
+pub all_claimed : (cells : List Cell) (heads : List Head) (capacity : ℕ) → AreAllLists (value_of cells heads capacity) → AreAllClaimed heads
+all_claimed cells heads capacity all = λ k from upto. head_is cells heads capacity k (all k from upto)
 
 -- ---- a list ends
 

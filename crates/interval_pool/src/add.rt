@@ -1,5 +1,5 @@
 //! Numbers are added to a list.
-ghost use Rattle.std.specs.Prelude.{◌≡◌, ◌≢◌, ◌<◌, ◌≤◌, OnOk, OnErr, IfErr, length, vec_capacity};
+ghost use Rattle.std.specs.Prelude.{◌≡◌, ◌↔◌, ◌≢◌, ◌<◌, ◌≤◌, OnOk, OnErr, IfErr, length, vec_capacity};
 ghost use Rattle.interval_pool.specs.Links.{most_cells, most_number};
 ghost use Rattle.interval_pool.specs.Intervals.{AreMerged, IsApart};
 ghost use Rattle.interval_pool.specs.Pools.{AreWhole};
@@ -37,7 +37,7 @@ pub fn add(
     ensures kept { OnErr result (vec_capacity cells.new ≡ vec_capacity cells.old) }
     ensures spent { OnErr result (Spends cells.old.items heads.old (vec_capacity cells.old)) }
     ensures needed { OnErr result (IsApart (spans_of cells.old.items heads.old list) numbers) }
-    ensures full { IfErr result (λ fault. fault ≡ Full → most_cells ≤ length cells.old.items) }
+    ensures full { IfErr result (λ fault. fault ≡ Full ↔ (most_cells ≤ length cells.old.items)) }
 {
     let before = seek(cells, heads, list, numbers.lo - 1, guess);
     let joined = meet(cells, heads, list, before, numbers, numbers.hi + 1);

@@ -1,5 +1,5 @@
 //! Lists begin and end.
-ghost use Rattle.std.specs.Prelude.{◌≡◌, ℕ, true, ◌<◌, ◌≤◌, IsTrue, IsFalse, IfOk, IfErr, IfSome, IfNone, OnErr, length};
+ghost use Rattle.std.specs.Prelude.{◌≡◌, ◌↔◌, ℕ, true, ◌<◌, ◌≤◌, IsTrue, IsFalse, IfOk, IfErr, IfSome, IfNone, OnErr, length};
 ghost use Rattle.interval_pool.specs.Cells.{head_at, with_list};
 ghost use Rattle.interval_pool.specs.Links.{most_cells};
 ghost use Rattle.interval_pool.specs.Changes.{Claimed, AreAllClaimed, IsUnused, Drops};
@@ -70,7 +70,7 @@ fn push_list(heads: &mut Vec<Head>) -> Result<u32, PoolFault>
 pub fn claim(heads: &mut Vec<Head>, guess: u32) -> Result<u32, PoolFault>
     ensures ok { IfOk result (λ k. Claimed heads.old.items k heads.new.items) }
     ensures err { OnErr result (heads.new.items ≡ heads.old.items) }
-    ensures full { IfErr result (λ fault. fault ≡ Full → AreAllClaimed heads.old.items) }
+    ensures full { IfErr result (λ fault. fault ≡ Full ↔ AreAllClaimed heads.old.items) }
 {
     if is_unused(heads, guess) {
         put_list(heads, guess, true);

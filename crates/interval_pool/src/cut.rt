@@ -1,5 +1,5 @@
 //! Numbers are cut out of a list.
-ghost use Rattle.std.specs.Prelude.{◌≡◌, ◌≢◌, ◌<◌, ◌≤◌, OnOk, OnErr, IfErr, length, vec_capacity};
+ghost use Rattle.std.specs.Prelude.{◌≡◌, ◌↔◌, ◌≢◌, ◌<◌, ◌≤◌, OnOk, OnErr, IfErr, length, vec_capacity};
 ghost use Rattle.interval_pool.specs.Links.{most_cells};
 ghost use Rattle.interval_pool.specs.Intervals.{AreMerged, IsSplit};
 ghost use Rattle.interval_pool.specs.Pools.{AreWhole};
@@ -36,7 +36,7 @@ pub fn cut(
     ensures kept { OnErr result (vec_capacity cells.new ≡ vec_capacity cells.old) }
     ensures spent { OnErr result (Spends cells.old.items heads.old (vec_capacity cells.old)) }
     ensures needed { OnErr result (IsSplit (spans_of cells.old.items heads.old list) numbers) }
-    ensures full { IfErr result (λ fault. fault ≡ Full → most_cells ≤ length cells.old.items) }
+    ensures full { IfErr result (λ fault. fault ≡ Full ↔ (most_cells ≤ length cells.old.items)) }
 {
     let before = seek(cells, heads, list, numbers.lo, guess);
     let joined = meet(cells, heads, list, before, numbers, numbers.hi);

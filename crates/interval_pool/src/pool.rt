@@ -1,5 +1,5 @@
 //! The pool as its callers see it.
-ghost use Rattle.std.specs.Prelude.{◌≡◌, ◌≢◌, ℕ, ◌<◌, ◌≤◌, IsOk, OnOk, OnErr, IfOk, IfErr, length, vec_capacity};
+ghost use Rattle.std.specs.Prelude.{◌≡◌, ◌↔◌, ◌≢◌, ℕ, ◌<◌, ◌≤◌, IsOk, OnOk, OnErr, IfOk, IfErr, length, vec_capacity};
 ghost use Rattle.interval_pool.specs.Intervals.{AreMerged, IsApart, IsSplit, has};
 ghost use Rattle.interval_pool.specs.Values.{empty, is_list, IsList, IsRange, cells_of, spans, first_cell, Follows, Covers, IsPartition, Opened, AddedTo, CutFrom, Released, Reserved, HasNoRoom, IsFull, IsFullWith, AreAllLists};
 ghost use Rattle.interval_pool.specs.declared.fault.PoolFault.TheVariants.{Full};
@@ -88,7 +88,7 @@ impl Pool {
         ensures err { OnErr result (self.new ≡ self.old) }
         ensures room { OnErr result (HasNoRoom self.old) }
         ensures apart { OnErr result (IsApart (spans self.old list) numbers) }
-        ensures full { IfErr result (λ fault. fault ≡ Full → IsFull self.old) }
+        ensures full { IfErr result (λ fault. fault ≡ Full ↔ IsFull self.old) }
     {
         let list = list.number();
         let guess = self
@@ -109,7 +109,7 @@ impl Pool {
         ensures err { OnErr result (self.new ≡ self.old) }
         ensures room { OnErr result (HasNoRoom self.old) }
         ensures split { OnErr result (IsSplit (spans self.old list) numbers) }
-        ensures full { IfErr result (λ fault. fault ≡ Full → IsFull self.old) }
+        ensures full { IfErr result (λ fault. fault ≡ Full ↔ IsFull self.old) }
     {
         let list = list.number();
         let guess = self
@@ -126,7 +126,7 @@ impl Pool {
     pub fn new_list(&mut self) -> Result<ListId, PoolFault>
         ensures ok { IfOk result (λ list. Opened self.old list self.new) }
         ensures err { OnErr result (self.new ≡ self.old) }
-        ensures full { IfErr result (λ fault. fault ≡ Full → AreAllLists self.old) }
+        ensures full { IfErr result (λ fault. fault ≡ Full ↔ AreAllLists self.old) }
     {
         let number = claim(&mut self.heads, self.hints.released())?;
         self.hints.begin(number);
@@ -206,7 +206,7 @@ impl Pool {
         ensures ok { OnOk result (Reserved self.old more self.new) }
         ensures err { OnErr result (self.new ≡ self.old) }
         ensures there { more ≤ (self.old).room → IsOk result }
-        ensures full { IfErr result (λ fault. fault ≡ Full → IsFullWith self.old more) }
+        ensures full { IfErr result (λ fault. fault ≡ Full ↔ IsFullWith self.old more) }
     {
         let left = MOST_CELLS as usize - self.cells.as_slice().len();
         let free = count(&self.heads, 0) as usize;

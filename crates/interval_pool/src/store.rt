@@ -1,5 +1,5 @@
 //! Cells of lists, and free cells.
-ghost use Rattle.std.specs.Prelude.{◌≡◌, ◌<◌, ◌≤◌, OnOk, OnErr, IfErr, length, vec_capacity};
+ghost use Rattle.std.specs.Prelude.{◌≡◌, ◌↔◌, ◌<◌, ◌≤◌, OnOk, OnErr, IfErr, length, vec_capacity};
 ghost use Rattle.interval_pool.specs.Cells.{with_numbers};
 ghost use Rattle.interval_pool.specs.Intervals.{listed};
 ghost use Rattle.interval_pool.specs.Links.{most_cells};
@@ -100,7 +100,7 @@ fn make_room(
     ensures kept { OnErr result (vec_capacity cells.new ≡ vec_capacity cells.old) }
     ensures spent { OnErr result (Spends cells.old.items heads.old (vec_capacity cells.old)) }
     ensures needed { OnErr result (freed < needed) }
-    ensures full { IfErr result (λ fault. fault ≡ Full → most_cells ≤ length cells.old.items) }
+    ensures full { IfErr result (λ fault. fault ≡ Full ↔ (most_cells ≤ length cells.old.items)) }
 {
     if needed <= freed || count(heads, FREE as usize) > 0 {
         return Ok(());
@@ -137,7 +137,7 @@ pub fn replace(
     ensures kept { OnErr result (vec_capacity cells.new ≡ vec_capacity cells.old) }
     ensures spent { OnErr result (Spends cells.old.items heads.old (vec_capacity cells.old)) }
     ensures needed { OnErr result (count < length (listed pieces)) }
-    ensures full { IfErr result (λ fault. fault ≡ Full → most_cells ≤ length cells.old.items) }
+    ensures full { IfErr result (λ fault. fault ≡ Full ↔ (most_cells ≤ length cells.old.items)) }
 {
     make_room(cells, heads, count, count_pieces(pieces))?;
     put(cells, heads, list, before, count, pieces);

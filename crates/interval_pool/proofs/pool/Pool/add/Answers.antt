@@ -1,4 +1,4 @@
-use Rattle.std.proofs.Common.{rules, ◌≡◌, ℕ, true, List, ◌++◌, length, take, drop, ap, sym, subst, arith}
+use Rattle.std.proofs.Common.{rules, ◌≡◌, ◌↔◌, ℕ, true, List, ◌++◌, length, take, drop, ap, sym, subst, arith}
 use Rattle.std.specs.Prelude.{vec_capacity}
 use Rattle.interval_pool.specs.declared.cells.Cell.{Cell}
 use Rattle.interval_pool.specs.declared.cells.Head.{Head}
@@ -11,7 +11,7 @@ use Rattle.interval_pool.specs.Changes.{spans_of, with_more, Added, Spends}
 use Rattle.interval_pool.specs.Values.{PoolValue, IsList, IsFull, IsPool, value_of, spans, AddedTo}
 use Rattle.interval_pool.proofs.pool.Pool.add.Goals as goal
 use Rattle.interval_pool.proofs.Valued.{seamed, pool_kept, head_is, spans_are, is_not_free, altered_list}
-use Rattle.interval_pool.proofs.Parting.{all_stand}
+use Rattle.interval_pool.proofs.Parting.{all_stand, all_made}
 
 pub invariant_of-self-2 : goal.invariant_of-self-2
 invariant_of-self-2 c =
@@ -68,6 +68,8 @@ returns-in_err-place-clause-full c =
     let capacity : ℕ = vec_capacity c.self.inside.cells in
     let P : List Head → Type 0 = λ hs. Spends cells hs capacity in
     let fault : PoolFault = c.in_err-place.field-0.0 in
-    let full : fault ≡ Full → IsFull c.args.self.now = λ e. subst IsFull c.self.view_is
-    (all_stand cells heads capacity c.self.invariant (subst P c.deref_mut.ensures.value c.in_err-place.ensures.spent) (c.in_err-place.ensures.full e)) in
+    let full : fault ≡ Full ↔ IsFull c.args.self.now = (
+      λ e. subst IsFull c.self.view_is (all_stand cells heads capacity c.self.invariant (subst P c.deref_mut.ensures.value c.in_err-place.ensures.spent) (c.in_err-place.ensures.full.0 e)),
+      λ all. c.in_err-place.ensures.full.1 (all_made cells heads capacity c.self.invariant (subst IsFull (sym c.self.view_is) all)),
+    ) in
     search rules
