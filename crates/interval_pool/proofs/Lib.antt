@@ -12,3 +12,4 @@ pub mod Parting
 pub mod Listing
 pub mod Standing
 pub mod Stepping
+pub mod Along

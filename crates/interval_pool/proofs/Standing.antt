@@ -3,7 +3,7 @@ use Rattle.std.proofs.Common.{◌≡◌, ◌≢◌, ℕ, ◌-◌, ◌<◌, Bool,
 use Rattle.std.specs.Prelude.{min, unwrap_or, ◌==◌}
 use Rattle.std.specs.List.{AllByRecursion}
 use Rattle.std.proofs.lemmas.Bool.Decides.{eqb_tells, nat_tests}
-use Rattle.std.proofs.lemmas.List.{map-append}
+use Rattle.std.proofs.lemmas.List.{map-append, length-map}
 use Rattle.interval_pool.specs.declared.cells.Cell.{Cell}
 use Rattle.interval_pool.specs.declared.cells.Head.{Head}
 use Rattle.interval_pool.specs.declared.interval.Interval.{Interval}
@@ -97,6 +97,10 @@ first_held cells (i ∷ is) = refl
 pub first_is : (cells : List Cell) (heads : List Head) (capacity k : ℕ) → IsPool cells heads → (head_at heads k).is_list ≡ true → (head_at heads k).first ≡ first_cell (cells_of (value_of cells heads capacity) k)
 first_is cells heads capacity k h is =
     h.whole.first k ∙ (sym (first_held cells (chain_of cells heads k)) ∙ ap first_cell (sym (cells_are cells heads capacity k h (is_not_free cells heads k h is))))
+
+pub many_are : (cells : List Cell) (heads : List Head) (capacity k : ℕ) → IsPool cells heads → (head_at heads k).is_list ≡ true → (head_at heads k).len ≡ length (cells_of (value_of cells heads capacity) k)
+many_are cells heads capacity k h is =
+    h.whole.count k ∙ (sym (length-map (chain_of cells heads k) (held cells)) ∙ ap length (sym (cells_are cells heads capacity k h (is_not_free cells heads k h is))))
 
 held_parts : (cells : List Cell) (is : List ℕ) (before : List Held) (h : Held) (behind : List Held) → map (held cells) is ≡ before ++ h ∷ behind
     → (xs : List ℕ) × ((ys : List ℕ) × ((is ≡ xs ++ h.cell ∷ ys) × ((interval_at cells h.cell ≡ h.numbers) × (map (held cells) ys ≡ behind))))

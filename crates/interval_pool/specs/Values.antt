@@ -179,3 +179,11 @@ AreSteps p (q ∷ qs) = IsStep p q × AreSteps q qs
 abbrev pub last_of : PoolValue → List PoolValue → PoolValue
 last_of p [] = p
 last_of p (q ∷ qs) = last_of q qs
+
+-- a walk along a list has seen these intervals, and comes to this cell
+pub record IsAlong (p : PoolValue) (l : ℕ) (seen : List Interval) (next : Option ℕ) : Type 0 where
+  pub before : List Held
+  pub behind : List Held
+  pub parts : cells_of p l ≡ before ++ behind
+  pub seen_is : seen ≡ map (λ h. h.numbers) before
+  pub next_is : next ≡ first_cell behind

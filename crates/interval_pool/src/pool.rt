@@ -160,6 +160,14 @@ impl Pool {
         contains(&self.cells, &self.heads, list, number, guess)
     }
 
+    /// How many intervals a list has.
+    pub fn len(&self, list: ListId) -> u32
+        requires list { IsList self.now list }
+        ensures { result ≡ length (cells_of self.now list) }
+    {
+        count(&self.heads, list.number() as usize)
+    }
+
     /// The first cell of a list, none where it is empty.
     pub fn first(&self, list: ListId) -> Option<u32>
         requires list { IsList self.now list }

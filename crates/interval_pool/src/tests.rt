@@ -1,8 +1,9 @@
 //! The intervals of lists and the number of free cells after each of some calls, worked out by hand.
-ghost use Rattle.std.specs.Prelude.{◌≤◌};
-ghost use Rattle.interval_pool.specs.Values.{IsRange};
+ghost use Rattle.std.specs.Prelude.{◌≡◌, ◌≤◌, IfOk};
+ghost use Rattle.interval_pool.specs.Values.{IsRange, IsList, spans};
 
 use crate::{Interval, ListId, Pool};
+use std::alloc::{AllocError, Global};
 
 fn add(pool: &mut Pool, list: ListId, numbers: Interval) -> bool
     requires { IsRange numbers }
@@ -14,6 +15,23 @@ fn cut(pool: &mut Pool, list: ListId, numbers: Interval) -> bool
     requires { IsRange numbers }
 {
     pool.is_list(list) && pool.cut(list, numbers).is_ok()
+}
+
+/// The intervals of a list, from cell to cell.
+fn spans(alloc: Global, pool: &Pool, list: ListId) -> Result<Vec<Interval>, AllocError>
+    requires { IsList pool.now list }
+    ensures { IfOk result (λ found. found.items ≡ spans pool.now list) }
+{
+    let mut found = Vec::new(alloc);
+    let mut next = pool.first(list);
+    'cells: for _cell in 0..pool.len(list) {
+        let Some(cell) = next else {
+            return Ok(found);
+        };
+        found.push(pool.span(cell))?;
+        next = pool.next(cell);
+    }
+    Ok(found)
 }
 
 /// Whether a list has these intervals, and so many cells are free.
@@ -93,4 +111,31 @@ fn free_cells_after_each_call(rt: HostRuntime) {
     crosses(&pool);
     let shown = shows_all(&mut pool);
     assert!(rt; shown);
+}
+
+/// Whether a walk along a list sees so many intervals.
+fn sees(alloc: Global, pool: &Pool, list: ListId, count: usize) -> bool {
+    if !pool.is_list(list) {
+        return false;
+    }
+    match spans(alloc, pool, list) {
+        Ok(found) => found.as_slice().len() == count,
+        Err(_) => false,
+    }
+}
+
+fn sees_two(alloc: Global, pool: &mut Pool) -> bool {
+    let Ok(list) = pool.new_list() else {
+        return false;
+    };
+    add(pool, list, Interval { lo: 1, hi: 10 })
+        && cut(pool, list, Interval { lo: 4, hi: 5 })
+        && sees(alloc, pool, list, 2)
+}
+
+#[test]
+fn walk_along_a_list(rt: HostRuntime) {
+    let mut pool = Pool::open(rt.alloc());
+    let seen = sees_two(rt.alloc(), &mut pool);
+    assert!(rt; seen);
 }
