@@ -13,3 +13,4 @@ pub mod Listing
 pub mod Standing
 pub mod Stepping
 pub mod Along
+pub mod Within

@@ -17,7 +17,7 @@ use Rattle.interval_pool.proofs.Valued.{held_cells}
 
 -- ---- counting
 
-among_without : (n i : ℕ) (is : List ℕ) → i ≢ n → IsAmong i is → IsAmong i (without n is)
+pub among_without : (n i : ℕ) (is : List ℕ) → i ≢ n → IsAmong i is → IsAmong i (without n is)
 among_without n i [] ne among = among
 among_without n i (j ∷ js) ne among = ⊎_elim
     (λ (e : ((j == n) ≡ true) × (j ≡ n)). subst (λ b. IsAmong i (cond b (without n js) (j ∷ without n js))) (sym e.0) (⊎_elim (λ same. absurd (ne (same ∙ e.1))) (λ more. among_without n i js ne more) among))

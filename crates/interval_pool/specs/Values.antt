@@ -187,3 +187,13 @@ pub record IsAlong (p : PoolValue) (l : ℕ) (seen : List Interval) (next : Opti
   pub parts : cells_of p l ≡ before ++ behind
   pub seen_is : seen ≡ map (λ h. h.numbers) before
   pub next_is : next ≡ first_cell behind
+
+-- ---- what a caller knows of all lists
+
+abbrev pub AreAmong : PoolValue → List ℕ → Type 0
+AreAmong p ls = (l : ℕ) → IsList p l → IsAmong l ls
+
+-- how many intervals these lists have together
+abbrev pub intervals_of : PoolValue → List ℕ → ℕ
+intervals_of p [] = 0
+intervals_of p (l ∷ ls) = length (spans p l) + intervals_of p ls

@@ -36,7 +36,7 @@ mod store;
 
 pub use fault::PoolFault;
 pub use interval::Interval;
-pub use laws::reserved_lasts;
+pub use laws::{reserved_lasts, standing_within};
 pub use pool::{ListId, Pool};
 
 #[cfg(test)]
