@@ -14,7 +14,7 @@ const NEAR: u32 = 2;
 /// What is remembered of a list.
 #[derive(Clone, Copy, Drop)]
 struct ListHints {
-    // where a number more begins at the cell of the last change
+    // the least number of the cell of the last change
     lo: u64,
     // the place of the last change, and the cell behind it
     place: Link,
