@@ -1,10 +1,9 @@
 -- How one event of a replica changes its own journal, and what its channels have asked with and received.
-use Rattle.std.proofs.Common.{◌≡◌, ℕ, Bool, true, false, cond, not, ◌⊎◌, inl, inr, List, [], ◌∷◌, ◌++◌, map, length, Some, None, Result, Ok, Err, refl, sym, ap, ◌∙◌, subst, eqb}
+use Rattle.std.proofs.Common.{◌≡◌, ℕ, Bool, true, false, cond, not, ◌⊎◌, inl, inr, List, [], ◌∷◌, ◌++◌, map, length, Some, None, Result, Ok, Err, refl, sym, ap, ◌∙◌, subst}
 use Rattle.std.specs.Prelude.{slice_get, slice_set, nat_le, nat_lt}
 use Rattle.std.specs.Option.{option_map_or}
 use Rattle.std.specs.List.{list_any}
 use Rattle.std.specs.FinSet as set
-use Rattle.std.proofs.lemmas.Bool.{cases_Bool, eqb-true}
 use Rattle.gtid_text.specs.declared.Gtid.{Gtid}
 use Rattle.gtid_set.specs.Sets.{Gtids, gtid}
 use Rattle.rows.specs.declared.change.Transaction.{Transaction}
@@ -19,7 +18,7 @@ use Rattle.replica_core.specs.declared.event.Event.TheVariants.{OpenChannel, Pos
 use Rattle.replica_core.specs.declared.event.Reply.TheVariants.{NotInSchema, Ask, SeatBusy, OwnedBy, Blocked, Early, RolledBack, Restarted}
 use Rattle.replica_core.specs.State.{State, Site, owned_by, owner}
 use Rattle.replica_core.specs.Machine.{Step, is_seat, ask, blocking, open_before, with_channel, without_seat, stopped_at, open_channel, position_on, receive, take_entry, take_place, held, commit_answer, commit_held, commit, rollback, restart, next_number, local_answer, local, purge, step}
-use Rattle.source_history.proofs.Lists.{on_test, get_push_cases, get_set_cases}
+use Rattle.source_history.proofs.Lists.{on_test, get_push_cases, get_set_cases, get_map}
 use Rattle.faithful_runs.proofs.Invariant.{Stands}
 use Rattle.faithful_runs.proofs.Receiving.{settle_gtid}
 use Rattle.rows.proofs.Lists.{none_some, on_option, get_map_cases}
@@ -46,23 +45,24 @@ Journals old new = Stays old new ⊎ Appends old new ⊎ Purges old new
 
 -- ---- the channels
 
--- a channel that has asked, was there before, had asked so, and received nothing since
+-- a channel that has asked, was there before, had asked so, and has received what it had
 pub record Was (old : List ChannelValue) (c : ℕ) (ch : ChannelValue) (A : Gtids) : Type 0 where
   pub channel : ChannelValue
   pub there : slice_get old c ≡ Some channel
   pub asked : channel.asked ≡ Some A
   pub received : (g : Gtid) → Stands g ch.received → Stands g channel.received
+  pub kept : (g : Gtid) → Stands g channel.received → Stands g ch.received
 
 abbrev pub AreAsBefore : List ChannelValue → List ChannelValue → Type 0
 AreAsBefore old new = (c : ℕ) (ch : ChannelValue) (A : Gtids) → slice_get new c ≡ Some ch → ch.asked ≡ Some A → Was old c ch A
 
 pub same_channels : (channels : List ChannelValue) → AreAsBefore channels channels
-same_channels channels c ch A e a = record { channel = ch; there = e; asked = a; received = λ g w. w }
+same_channels channels c ch A e a = record { channel = ch; there = e; asked = a; received = λ g w. w; kept = λ g w. w }
 
 pub before_push : (channels : List ChannelValue) (new : ChannelValue) → new.asked ≡ None → AreAsBefore channels (channels ++ new ∷ [])
 before_push channels new none c ch A e a =
     elim (get_push_cases channels new c ch e) [
-      | inl old ↦ record { channel = ch; there = old; asked = a; received = λ g w. w }
+      | inl old ↦ record { channel = ch; there = old; asked = a; received = λ g w. w; kept = λ g w. w }
       | inr last ↦ none_some A (sym none ∙ (ap (λ (x : ChannelValue). x.asked) last.1 ∙ a))
     ]
 
@@ -74,14 +74,18 @@ before_set channels c old new here asked received d ch A e a =
         there = ap (slice_get channels) at.0 ∙ here;
         asked = sym asked ∙ (ap (λ (x : ChannelValue). x.asked) at.1 ∙ a);
         received = λ g w. subst (Stands g) received (subst (λ (x : ChannelValue). Stands g x.received) (sym at.1) w);
+        kept = λ g w. subst (λ (x : ChannelValue). Stands g x.received) at.1 (subst (Stands g) (sym received) w);
       }
-      | inr other ↦ record { channel = ch; there = other.1; asked = a; received = λ g w. w }
+      | inr other ↦ record { channel = ch; there = other.1; asked = a; received = λ g w. w; kept = λ g w. w }
     ]
 
 stood : (h : Gtid) (rs : List Received) (g : Gtid) → Stands g (map (settle h) rs) → Stands g rs
 stood h rs g w =
     let q = get_map_cases (settle h) rs w.0 w.1 w.2 in
     (w.0, q.0, q.1, sym (settle_gtid h q.0) ∙ (ap (λ (x : Received). x.gtid) q.2 ∙ w.3))
+
+stays : (h : Gtid) (rs : List Received) (g : Gtid) → Stands g rs → Stands g (map (settle h) rs)
+stays h rs g w = (w.0, settle h w.1, get_map (settle h) rs w.0 w.1 w.2, settle_gtid h w.1 ∙ w.3)
 
 pub before_settled : (channels : List ChannelValue) (h : Gtid) → AreAsBefore channels (map (settled h) channels)
 before_settled channels h c ch A e a =
@@ -91,6 +95,7 @@ before_settled channels h c ch A e a =
       there = r.1;
       asked = ap (λ (x : ChannelValue). x.asked) r.2 ∙ a;
       received = λ g w. stood h r.0.received g (subst (λ (x : ChannelValue). Stands g x.received) (sym r.2) w);
+      kept = λ g w. subst (λ (x : ChannelValue). Stands g x.received) r.2 (stays h r.0.received g w);
     }
 
 -- ---- one event
@@ -215,8 +220,3 @@ module _ (site : Site) (s : State) where
   step_moves (Local t) = local_moves t
   step_moves (Purge k) = purge_moves k
   step_moves Look = record { journals = still s; channels = λ f. same_channels s.channels }
-
--- ---- what was received since, and the new channel
-
-eqb_other : (d c : ℕ) → (d ≡ c → ⊥) → eqb d c ≡ false
-eqb_other d c n = elim (cases_Bool (eqb d c)) [ inl same ↦ absurd (n (eqb-true d c same)) | inr other ↦ other ]
