@@ -50,7 +50,7 @@ pub record Grew (old : List ChannelValue) (c : ℕ) (ch : ChannelValue) (A : Gti
 pub grew_as_before : (old : List ChannelValue) (c : ℕ) (ch : ChannelValue) (A : Gtids) → Was old c ch A → Grew old c ch A
 grew_as_before old c ch A w = record { channel = w.channel; there = w.there; asked = w.asked; kept = w.kept }
 
-grew_same : (old : List ChannelValue) (c : ℕ) (ch : ChannelValue) (A : Gtids) → slice_get old c ≡ Some ch → ch.asked ≡ Some A → Grew old c ch A
+pub grew_same : (old : List ChannelValue) (c : ℕ) (ch : ChannelValue) (A : Gtids) → slice_get old c ≡ Some ch → ch.asked ≡ Some A → Grew old c ch A
 grew_same old c ch A e a = record { channel = ch; there = e; asked = a; kept = λ g w. w }
 
 -- what has come has still come

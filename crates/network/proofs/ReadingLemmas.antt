@@ -1,12 +1,13 @@
 -- How far a channel has read its source's binary log stays true, whatever the nodes make.
-use Rattle.std.proofs.Common.{◌≡◌, ◌≢◌, ℕ, zero, suc, ◌+◌, ◌-◌, ◌<◌, ◌≤◌, Bool, true, false, cond, ◌&&◌, not, ◌⊎◌, inl, inr, List, [], ◌∷◌, ◌++◌, map, length, take, drop, Option, Some, None, refl, sym, ap, ◌∙◌, subst, arith, eqb, true≢false, length-append}
-use Rattle.std.specs.Prelude.{slice_get, slice_set, nat_le, ◌==◌}
+use Rattle.std.proofs.Common.{◌≡◌, ◌≢◌, ℕ, zero, suc, ◌+◌, ◌-◌, ◌<◌, ◌≤◌, Bool, true, false, cond, ◌&&◌, not, ◌⊎◌, inl, inr, List, [], ◌∷◌, ◌++◌, map, length, take, drop, Option, Some, None, Result, Ok, Err, IfOk, OnErr, refl, sym, ap, ◌∙◌, subst, arith, eqb, true≢false, length-append, length-set}
+use Rattle.std.specs.Prelude.{slice_get, slice_set, nat_le, ◌==◌, find}
 use Rattle.std.specs.Option.{option_map_or}
 use Rattle.std.specs.List.{list_all, list_any}
 use Rattle.std.specs.FinMap as finmap
 use Rattle.std.specs.FinSet as set
 use Rattle.std.specs.FinSet.{contains-union, is_subset-contains, contains-is_subset}
 use Rattle.std.proofs.lemmas.Bool.{or_cases, and_parts, cases_Bool, eqb-true, eq-eqb, leb-true}
+use Rattle.std.proofs.lemmas.Bool.Decides.{nat_tests}
 use Rattle.std.proofs.lemmas.List.{take-append-le, length-drop}
 use Rattle.std.proofs.lemmas.Option.{same_Some, slice_get_within}
 use Rattle.std.specs.Ordering.{nat_cmp}
@@ -15,19 +16,28 @@ use Rattle.gtid_text.specs.declared.Gtid.{Gtid}
 use Rattle.gtid_text.specs.Gtids.{same_gtid}
 use Rattle.gtid_text.proofs.SameGtid.{gtid_total, same_is_equal}
 use Rattle.gtid_set.specs.Sets.{Gtids}
-use Rattle.rows.proofs.Lists.{none_some}
+use Rattle.rows.proofs.Lists.{none_some, on_option, lt_cases}
 use Rattle.journal.specs.declared.Entry.{Entry}
 use Rattle.journal.specs.Journals.{JournalValue, gtids_of, purged}
 use Rattle.relay.specs.Own.{with_last, purged_to}
 use Rattle.apply_channel.specs.Channels.{ChannelValue}
-use Rattle.replica_core.specs.State.{State}
+use Rattle.apply_channel.specs.Channels.{is_full}
+use Rattle.gtid_set.specs.declared.fault.SetFault.{SetFault}
+use Rattle.rows.specs.Fits.{misfit}
+use Rattle.replica_core.specs.declared.event.Event.{Event}
+use Rattle.replica_core.specs.declared.event.Event.TheVariants.{Position, Receive}
+use Rattle.replica_core.specs.declared.event.Reply.{Reply}
+use Rattle.replica_core.specs.declared.event.Reply.TheVariants.{NotInSchema, Ask}
+use Rattle.replica_core.specs.State.{State, Site, Replica}
+use Rattle.replica_core.specs.Machine as core
 use Rattle.source_history.proofs.Lists.{on_test, get_set_cases}
 use Rattle.source_history.proofs.Covering.{is_entry, in_entries}
 use Rattle.network.specs.Nodes.{Node, Sources}
-use Rattle.network.specs.Machine.{come}
-use Rattle.network.specs.Reading.{Places, has_come, HasRead, IsRead, IsReadFrom, AreRead, moved, reads, place_after, AreMoved, AreAllMoved}
-use Rattle.network.proofs.Moving.{Journals, Stays, Appends, Purges}
-use Rattle.network.proofs.Coming.{Grew, still_come}
+use Rattle.network.specs.Machine.{come, is_for_network}
+use Rattle.network.specs.Made.{Makes, MakesAt}
+use Rattle.network.specs.Reading.{Places, has_come, HasRead, IsRead, IsReadFrom, AreRead, moved, reads, place_after, AreMoved, AreAllMoved, entries_at}
+use Rattle.network.proofs.Moving.{Journals, Stays, Appends, Purges, Moves, step_moves}
+use Rattle.network.proofs.Coming.{Grew, still_come, grew_as_before, grew_same, position_grew, receive_grew}
 
 both_true : (x y : Bool) → x ≡ true → y ≡ true → (x && y) ≡ true
 both_true x y p q = λ i. p i && q i
@@ -65,10 +75,23 @@ all_front f (suc count) (suc p) (e ∷ es) h all =
 
 -- entries of a front, without the first ones
 all_behind : (f : Entry → Bool) (count p : ℕ) (es : List Entry) → list_all f (take p es) ≡ true → list_all f (take (p - count) (drop count es)) ≡ true
-all_behind f zero p es all = all
-all_behind f (suc count) zero es all = refl
-all_behind f (suc count) (suc p) [] all = refl
-all_behind f (suc count) (suc p) (e ∷ es) all = all_behind f count p es (and_parts (f e) (list_all f (take p es)) all).1
+all_behind f zero p es all = ap (λ n. list_all f (take n es)) less_none ∙ all
+  where
+    less_none : (p - 0) ≡ p
+    less_none = omega arith
+all_behind f (suc count) zero es all = ap (λ n. list_all f (take n (drop (suc count) es))) none_left
+  where
+    none_left : (zero - suc count) ≡ 0
+    none_left = omega arith
+all_behind f (suc count) (suc p) [] all = ap (list_all f) (take_none (suc p - suc count))
+  where
+    take_none : (n : ℕ) → take {A = Entry} n [] ≡ []
+    take_none zero = refl
+    take_none (suc n) = refl
+all_behind f (suc count) (suc p) (e ∷ es) all = ap (λ n. list_all f (take n (drop count es))) one_less ∙ all_behind f count p es (and_parts (f e) (list_all f (take p es)) all).1
+  where
+    one_less : (suc p - suc count) ≡ p - count
+    one_less = omega arith
 
 -- a GTID of entries that have come has come
 all_come : (came : Gtids) (es : List Entry) (g : Gtid) → list_all (has_come came) es ≡ true → is_entry es g ≡ true → set.contains came g ≡ true
@@ -224,7 +247,13 @@ new_read N R same new = record {
 
 unmoved : (count : ℕ) (place : Option ℕ) → count ≡ 0 → moved count place ≡ place
 unmoved count None e = refl
-unmoved count (Some p) e = ap (λ n. moved n (Some p)) e
+unmoved count (Some p) e = ap (λ n. moved n (Some p)) e ∙ (λ j. cond (near j) (Some (same j)) None)
+  where
+    near : nat_le 0 p ≡ true
+    near = grind (arith, nat_tests)
+
+    same : (p - 0) ≡ p
+    same = omega arith
 
 both_ways : {A : Type 0} (b : Bool) (x y : A) → x ≡ y → cond b x y ≡ y
 both_ways true x y e = e
@@ -274,3 +303,162 @@ none_moved N R i count none = record {
   each = λ j node before after n b a d.
       ap (λ (m : Places). finmap.get m d) (same_Some after before (sym a ∙ b)) ∙ sym (both_ways (reads node.sources d i) _ _ (unmoved count (finmap.get before d) none));
 }
+
+-- ---- what the calls leave
+
+set_there : {A : Type 0} (xs : List A) (i : ℕ) (x v : A) → slice_get xs i ≡ Some x → slice_get (slice_set xs i v) i ≡ Some v
+set_there [] i x v e = none_some x e
+set_there (y ∷ xs) zero x v e = refl
+set_there (y ∷ xs) (suc i) x v e = set_there xs i x v e
+
+-- a Position leaves the binary log as it was
+record KeepsLog (s : State) (after : core.Step) : Type 0 where
+  journal : after.1.journal ≡ s.journal
+  executed : after.1.executed ≡ s.executed
+
+position_log : (s : State) (c : ℕ) → KeepsLog s (core.position_on c s)
+position_log s c =
+    on_option (KeepsLog s) (λ channel. (Ask (core.ask s channel), core.with_channel s c (record channel { asked = Some (core.ask s channel) }))) (slice_get s.channels c) _
+    (λ none. record { journal = refl; executed = refl })
+    (λ x there. record { journal = refl; executed = refl })
+
+-- ... and so does a Receive
+receive_log : (site : Site) (s : State) (c : ℕ) (entry : Entry) → KeepsLog s (core.receive site c entry s)
+receive_log site s c entry =
+    on_option (KeepsLog s) _ (slice_get s.channels c) _
+    (λ none. record { journal = refl; executed = refl })
+    (λ x there. on_option (KeepsLog s) _ x.asked _
+    (λ none. record { journal = refl; executed = refl })
+    (λ B b. on_option (KeepsLog s) (λ fault. (NotInSchema fault, s)) (misfit site.schema entry.txn) _
+    (λ n. on_test (KeepsLog s) (is_full x) _ _
+    (λ m. record { journal = refl; executed = refl })
+    (λ m. record { journal = refl; executed = refl }))
+    (λ fault n. record { journal = refl; executed = refl })))
+
+-- a node that is as it was
+keeps_all : (x : Node) (d : ℕ) → Keeps x x d
+keeps_all x d = record { source = λ k e. e; grew = λ ch A e a. grew_same x.replica.state.channels d ch A e a }
+
+position_made : (N : List Node) (R : List Places) (i c k : ℕ) (x y : Node) (p : Places) (q : Reply) → slice_get N i ≡ Some x → slice_get R i ≡ Some p → Makes x (Position c) (finmap.insert x.sources c k) q y
+    → AreRead N R → AreRead (slice_set N i y) (slice_set R i (finmap.remove p c))
+position_made N R i c k x y p q at there m read =
+    let log = position_log x.replica.state c in
+    made_read N (slice_set R i (finmap.remove p c)) i x y at (ap (λ (r : Replica). r.state.journal) m.replica ∙ log.journal) (ap (λ (r : Replica). r.state.executed) m.replica ∙ log.executed)
+    (λ d. elim (cases_Bool (d == c)) [
+      | inl same ↦ inr (λ z e.
+          ap (λ (o : Places). finmap.get o d) (same_Some z (finmap.remove p c) (sym e ∙ set_there R i p (finmap.remove p c) there))
+          ∙ (finmap.get-remove nat_cmp_total p c d ∙ ap (λ b. cond b None (finmap.get p d)) (unsigned_tied d c ∙ same)))
+      | inr other ↦ inl (record {
+        source = λ n e. sym (ap (λ (o : Sources). finmap.get o d) m.sources_are ∙ (finmap.get-insert nat_cmp_total x.sources c k d ∙ ap (λ b. cond b (Some k) (finmap.get x.sources d)) (unsigned_tied d c ∙ other))) ∙ e;
+        grew = λ ch A e a. (position_grew x.replica.state c).grew d ch A (λ same. true≢false (sym (eq-eqb d c same) ∙ other)) (ap (λ (r : Replica). slice_get r.state.channels d) (sym m.replica) ∙ e) a;
+      })
+    ])
+    (forget_read N R i c p there read)
+
+-- what a Position leaves, and what it leaves where it was not made
+pub position_keeps : (N : List Node) (R : List Places) (i c k : ℕ) (x y : Node) (p : Places) (r : Result Reply SetFault) → slice_get N i ≡ Some x → slice_get R i ≡ Some p
+    → IfOk r (λ q. Makes x (Position c) (finmap.insert x.sources c k) q y) → OnErr r (y ≡ x) → AreRead N R → AreRead (slice_set N i y) (slice_set R i (finmap.remove p c))
+position_keeps N R i c k x y p (Ok q) at there made same read = position_made N R i c k x y p q at there made read
+position_keeps N R i c k x y p (Err f) at there made same read =
+    subst (λ (z : Node). AreRead (slice_set N i z) (slice_set R i (finmap.remove p c))) (sym same)
+    (made_read N (slice_set R i (finmap.remove p c)) i x x at refl refl (λ d. inl (keeps_all x d)) (forget_read N R i c p there read))
+
+-- the same of a Receive
+pub receive_keeps : (N : List Node) (R : List Places) (i c : ℕ) (e : Entry) (r : Result Reply SetFault) (new : List Node) → IfOk r (λ q. MakesAt N i (Receive c e) (λ n. n.sources) q new) → OnErr r (new ≡ N) → AreRead N R → AreRead new R
+receive_keeps N R i c e (Err f) new made same read = subst (λ (M : List Node). AreRead M R) (sym same) read
+receive_keeps N R i c e (Ok q) new made same read =
+    let s = made.node.replica.state in
+    let log = receive_log made.node.replica.site s c e in
+    subst (λ (M : List Node). AreRead M R) (sym made.others)
+    (made_read N R i made.node made.after made.at (ap (λ (r : Replica). r.state.journal) made.makes.replica ∙ log.journal) (ap (λ (r : Replica). r.state.executed) made.makes.replica ∙ log.executed)
+    (λ d. inl (record {
+      source = λ k h. ap (λ (o : Sources). finmap.get o d) (sym made.makes.sources_are) ∙ h;
+      grew = λ ch A h a. (receive_grew made.node.replica.site s c e).grew d ch A (ap (λ (r : Replica). slice_get r.state.channels d) (sym made.makes.replica) ∙ h) a;
+    }))
+    read)
+
+-- the same of an event of a node's own
+pub act_keeps : (N : List Node) (R R' : List Places) (i : ℕ) (e : Event) (q : Reply) (new : List Node) → is_for_network e ≡ false → MakesAt N i e (λ n. n.sources) q new → AreRead N R
+    → AreAllMoved new i (entries_at N i - entries_at new i) R R' → AreRead new R'
+act_keeps N R R' i e q new own made read moves =
+    subst (λ (M : List Node). AreRead M R') (sym made.others)
+    (acted_read N R R' i made.node made.after made.at
+    (subst (λ (r : Replica). Journals made.node.replica.state r.state) (sym made.makes.replica) m.journals)
+    (λ d. record {
+      source = λ k h. ap (λ (o : Sources). finmap.get o d) (sym made.makes.sources_are) ∙ h;
+      grew = λ ch A h a. grew_as_before made.node.replica.state.channels d ch A (m.channels own d ch A (ap (λ (r : Replica). slice_get r.state.channels d) (sym made.makes.replica) ∙ h) a);
+    })
+    read
+    (subst (λ (n : ℕ). AreAllMoved (slice_set N i made.after) i n R R') count (subst (λ (M : List Node). AreAllMoved M i (entries_at N i - entries_at M i) R R') made.others moves)))
+  where
+    m : Moves made.node.replica.state e (core.step made.node.replica.site made.node.replica.state e)
+    m = step_moves made.node.replica.site made.node.replica.state e
+
+    entries : Option Node → ℕ
+    entries o = option_map_or (λ (n : Node). length n.replica.state.journal.entries) o 0
+
+    count : (entries_at N i - entries_at (slice_set N i made.after) i) ≡ (length made.node.replica.state.journal.entries - length made.after.replica.state.journal.entries)
+    count = λ j. entries (made.at j) - entries (set_there N i made.node made.after made.at j)
+
+-- ---- one node's places after another
+
+-- the nodes below a number have moved theirs, and the others have not
+pub record AreAllMovedTo (n : ℕ) (nodes : List Node) (k count : ℕ) (old new : List Places) : Type 0 where
+  pub length_is : length new ≡ length old
+  pub done : (i : ℕ) (node : Node) (before after : Places) → i < n → slice_get nodes i ≡ Some node → slice_get old i ≡ Some before → slice_get new i ≡ Some after → AreMoved node.sources k count before after
+  pub rest : (i : ℕ) → n ≤ i → slice_get new i ≡ slice_get old i
+
+pub none_yet : (nodes : List Node) (k count : ℕ) (old : List Places) → AreAllMovedTo 0 nodes k count old old
+none_yet nodes k count old = record { length_is = refl; done = λ i node before after h. absurd (omega (h, arith)); rest = λ i h. refl }
+
+set_elsewhere : {A : Type 0} (xs : List A) (c : ℕ) (v : A) (i : ℕ) → i ≢ c → slice_get (slice_set xs c v) i ≡ slice_get xs i
+set_elsewhere [] c v i n = refl
+set_elsewhere (x ∷ xs) zero v zero n = absurd (n refl)
+set_elsewhere (x ∷ xs) zero v (suc i) n = refl
+set_elsewhere (x ∷ xs) (suc c) v zero n = refl
+set_elsewhere (x ∷ xs) (suc c) v (suc i) n = set_elsewhere xs c v i (λ e. n (ap suc e))
+
+pub one_node_more : (n : ℕ) (nodes : List Node) (k count : ℕ) (old new : List Places) (node : Node) (p q : Places) → AreAllMovedTo n nodes k count old new → slice_get nodes n ≡ Some node → slice_get new n ≡ Some p → AreMoved node.sources k count p q
+    → AreAllMovedTo (n + 1) nodes k count old (slice_set new n q)
+one_node_more n nodes k count old new node p q m at there moves = record {
+  length_is = length-set new n q ∙ m.length_is;
+  done = λ i x before after h here was is. elim (get_set_cases new n q i after is) [
+    | inl me ↦
+        let is_p : p ≡ before = same_Some p before (sym there ∙ (m.rest n (omega arith) ∙ (ap (slice_get old) (sym me.0) ∙ was))) in
+        let is_node : node ≡ x = same_Some node x (sym at ∙ (ap (slice_get nodes) (sym me.0) ∙ here)) in
+        subst (λ (z : Node). AreMoved z.sources k count before after) is_node (subst (λ (z : Places). AreMoved node.sources k count z after) is_p (subst (AreMoved node.sources k count p) me.1 moves))
+    | inr other ↦ m.done i x before after (let apart = other.0 in less i h apart) here was other.1
+  ];
+  rest = λ i h. set_elsewhere new n q i (λ e. above i h e) ∙ m.rest i (omega (h, arith));
+}
+  where
+    less : (i : ℕ) → i < n + 1 → (i ≢ n) → i < n
+    less i h apart = elim (lt_cases i n h) [ inl below ↦ below | inr same ↦ absurd (apart same) ]
+
+    above : (i : ℕ) → n + 1 ≤ i → i ≡ n → ⊥
+    above i h e = omega (h, e, arith)
+
+pub all_nodes_moved : (n : ℕ) (nodes : List Node) (k count : ℕ) (old new : List Places) → length nodes ≤ n → AreAllMovedTo n nodes k count old new → AreAllMoved nodes k count old new
+all_nodes_moved n nodes k count old new far m = record {
+  length_is = m.length_is;
+  each = λ i node before after at was is. m.done i node before after (let below = slice_get_within nodes i node at in omega (below, far, arith)) at was is;
+}
+
+-- ---- the first entry that has not come
+
+find_by : (f : Entry → Bool) (e : Entry) (rest : Option Entry) → f e ≡ true → cond (not (f e)) (Some e) rest ≡ rest
+find_by f e rest h = ap (λ b. cond (not b) (Some e) rest) h
+
+pub next_is : (f : Entry → Bool) (es : List Entry) (n : ℕ) (x : Entry) → list_all f (take n es) ≡ true → slice_get es n ≡ Some x → f x ≡ false → find (λ e. not (f e)) es ≡ slice_get es n
+next_is f [] n x all at out = none_some x at
+next_is f (e ∷ es) zero x all at out = ap (λ b. cond (not b) (Some e) (find (λ y. not (f y)) es)) (ap f (same_Some e x at) ∙ out)
+next_is f (e ∷ es) (suc n) x all at out =
+    let two = and_parts (f e) (list_all f (take n es)) all in
+    find_by f e (find (λ y. not (f y)) es) two.0 ∙ next_is f es n x two.1 at out
+
+pub next_none : (f : Entry → Bool) (es : List Entry) (n : ℕ) → list_all f (take n es) ≡ true → length es ≤ n → find (λ e. not (f e)) es ≡ slice_get es n
+next_none f [] n all far = refl
+next_none f (e ∷ es) zero all far = absurd (omega (far, arith))
+next_none f (e ∷ es) (suc n) all far =
+    let two = and_parts (f e) (list_all f (take n es)) all in
+    find_by f e (find (λ y. not (f y)) es) two.0 ∙ next_none f es n two.1 (omega (far, arith))
