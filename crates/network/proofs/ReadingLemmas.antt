@@ -155,7 +155,6 @@ pub record Keeps (node after : Node) (d : ℕ) : Type 0 where
   pub source : (k : ℕ) → finmap.get after.sources d ≡ Some k → finmap.get node.sources d ≡ Some k
   pub grew : (ch : ChannelValue) (A : Gtids) → slice_get after.replica.state.channels d ≡ Some ch → ch.asked ≡ Some A → Grew node.replica.state.channels d ch A
 
-
 -- what was, before the event, of a channel that now has asked and reads a node
 record WasReading (N : List Node) (j d k : ℕ) (ch : ChannelValue) (A : Gtids) : Type 0 where
   node : Node

@@ -13,6 +13,8 @@ use Rattle.network.specs.Reading.{IsReadFrom}
 
 -- all entries have come
 pub record IsAtEnd (nodes : List Node) (i c place : ℕ) : Type 0 where
+  pub node : Node
+  pub at : slice_get nodes i ≡ Some node
   pub nothing : decide nodes (Receive i c) ≡ Err Nothing
   pub read : (k : ℕ) → IsReadFrom nodes i c k (Some place)
 

@@ -119,4 +119,4 @@ returns-in-None-clause-ok c =
     let next = next_read (set.union asked received) (set.union asked c.received-2.result.now) j c.entries.result.now c.in-Some-2.place c.next_place-next.result start (ap (set.union asked) (c.received-2.ensures ∙ sym c.received.ensures)) c.entries.ensures c.next_place-next.ensures in
     subst (λ ns. IsAtEnd ns i d c.next_place-next.result) c.self.view_is
     (at_end N i d k one from channel asked received j a c.next_place-next.result next.read
-    (next.next ∙ (ap (λ xs. slice_get xs c.next_place-next.result) (sym c.entries-2.ensures) ∙ slice_get_past c.entries-2.result.now c.next_place-next.result c.in-None.ensures.lookup)))
+    (next.next ∙ (ap (λ xs. slice_get xs c.next_place-next.result) (sym c.entries-2.ensures) ∙ slice_get_past c.entries-2.result.now c.next_place-next.result c.in-None.ensures.lookup.3)))
