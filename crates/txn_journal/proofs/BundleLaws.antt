@@ -306,7 +306,7 @@ each_are_stamps : (tables : List Table) (earlier es : List Entry) (place : ℕ) 
 each_are_stamps tables earlier [] place at = tt
 each_are_stamps tables earlier (e ∷ es) place at = (right_is_stamp Two tables earlier e place at, each_are_stamps tables (earlier ++ e ∷ []) es (place + 1) (omega (arith, at, length-append earlier (e ∷ []))))
 
-right_are_stamps : (version : Version) (tables : List Table) (es : List Entry) → AreStamps version 1 (right_stamps version tables es) es
+pub right_are_stamps : (version : Version) (tables : List Table) (es : List Entry) → AreStamps version 1 (right_stamps version tables es) es
 right_are_stamps One tables es = none_are_stamps 1 es
 right_are_stamps Two tables es = each_are_stamps tables [] es 1 (omega arith)
 

@@ -114,6 +114,12 @@ stopped_with f bytes e (Reading s n rest) a h = absurd cc
 stopped_with f bytes e (Stopped g) a (inl x) = inl (x.0, let k = x.1 in cc, x.2)
 stopped_with f bytes e (Stopped g) a (inr x) = inr (let k : Err g ≡ whole_by f bytes = ap (closing_by f) x in cc)
 
+-- so is the end of what a feed has left
+pub closed_after : (f : Format) (bytes : List ℕ) (p : Progress f.State) → IsAfter (IsFaultBy f (start_of f) bytes) p (eats_by f (start_of f) bytes) → IsWholeOr (IsFaultBy f (start_of f) bytes) (closing_by f p) (whole_by f bytes)
+unfolding closing_by
+closed_after f bytes p (inl x) = inl (x.0, ap (closing_by f) x.1, x.2)
+closed_after f bytes p (inr x) = inr (ap (closing_by f) x)
+
 -- which fault it was may be left out
 pub whole_of : {V : Type 0} (may : SetFault → Type 0) (r w : Result V JournalFault) → IsWholeOr may r w → IsWhole r w
 whole_of may r w (inl x) = inl (x.0, x.1)

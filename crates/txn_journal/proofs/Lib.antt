@@ -25,3 +25,4 @@ pub mod NewWords
 pub mod OneBundle
 pub mod ListedRows
 pub mod FullSets
+pub mod TimestampedLaws

@@ -5,7 +5,7 @@ use Rattle.journal.specs.declared.Entry.{Entry}
 use Rattle.journal.specs.Journals.{JournalValue}
 use Rattle.txn_journal.specs.declared.fault.JournalFault.{JournalFault}
 use Rattle.txn_journal.specs.Stream.{Progress, Reading, Stopped}
-use Rattle.txn_journal.specs.Formats.{Format, start_of, eats_by, IsFaultBy, closing_by}
+use Rattle.txn_journal.specs.Formats.{Format, eats_by, IsFaultBy, closing_by}
 use Rattle.txn_journal.specs.Machine.{Standing, empty, is_last, emptied, judge, IsFull}
 use Rattle.txn_journal.specs.Lines.{takes}
 use Rattle.txn_journal.specs.Spelling.{Line, line_text, WritesAs, Writes}
@@ -55,9 +55,12 @@ IsWrittenAs due bytes w = (takes due w.version ≡ true) × WritesAs w.version w
 abbrev pub written_journals : Option Version → Format
 written_journals due = journals_as due as_written (IsWrittenAs due)
 
--- before the first byte
+-- before the first byte, where this version is due, or each
+abbrev pub alone_start : Option Version → Progress Standing
+alone_start due = Reading (empty due) 0 []
+
 abbrev pub before_first : Progress Standing
-before_first = start_of journals
+before_first = alone_start None
 
 -- a journal that stands alone, byte by byte
 abbrev pub eats_alone : Progress Standing → List ℕ → Progress Standing

@@ -14,6 +14,7 @@ use crate::images::{image, table_at, two_images};
 use crate::lines::{Keyword, Place, Version, keyword_at};
 use crate::names::Names;
 use crate::numbers::beginning_at;
+use crate::timestamped_journal::TimestampedJournal;
 use gtid_set::GtidSet;
 use gtid_text::{Gtid, SourceId};
 use journal::{Entry, Journal, is_change_writable, is_number};
@@ -112,6 +113,7 @@ impl Draft {
     ghost use Rattle.txn_journal.specs.Stream.{TakesLine};
     ghost use Rattle.txn_journal.specs.Machine.{Standing, IsFull, TakesIn, empty, is_last, is_within, open_entry, joined, emptied, add, opened, followed, begun, ended, finished, step};
     ghost use Rattle.txn_journal.specs.Drafts.{standing};
+    ghost use Rattle.txn_journal.specs.Timestamped.{timestamped_of};
 
     /// Before the first line.
     pub fn start(alloc: Global, due: Option<Version>) -> Draft
@@ -155,6 +157,13 @@ impl Draft {
         ensures { result ≡ (standing self).journal }
     {
         self.journal
+    }
+
+    /// The journal, with the last_committed of each of the entries that were not taken.
+    pub fn into_timestamped(self) -> TimestampedJournal
+        ensures { result ≡ timestamped_of (standing self) }
+    {
+        TimestampedJournal::new(self.journal, self.stamps)
     }
 
     #[tactic(auto, unfolding(crate::specs::Machine::judge))]

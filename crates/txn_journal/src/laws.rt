@@ -8,7 +8,8 @@ ghost use Rattle.journal.specs.Journals.{JournalValue};
 ghost use Rattle.txn_journal.specs.Machine.{Standing};
 ghost use Rattle.txn_journal.specs.Stream.{Progress};
 ghost use Rattle.txn_journal.specs.Reading.{Stamped, stamped_of, without_entries, behind_entries, closing, WrittenJournal, IsWrittenAs, with_front, HasBegun, EatsBehind};
-ghost use Rattle.txn_journal.specs.Spelling.{WritesAs, Writes};
+ghost use Rattle.txn_journal.specs.Spelling.{IsWritten, WritesAs, Writes};
+ghost use Rattle.txn_journal.specs.Timestamped.{with_timestamps, HasText, IsReadBack};
 ghost use Rattle.txn_journal.specs.declared.lines.Version.{Version};
 ghost use Rattle.txn_journal.specs.declared.lines.Version.TheVariants.{One, Two};
 ghost use Rattle.txn_journal.specs.BundleStates.{BundleValue};
@@ -46,4 +47,11 @@ pub fn rows_in_listed_order()
 pub fn upgraded()
     ensures text { (bytes : List ℕ) (b : BundleValue) → WritesBundleBy (Some One) bytes b → WritesBundleBy (Some Two) (upgrade_of b) b }
     ensures read { (bytes : List ℕ) (b : BundleValue) → WritesBundleBy (Some One) bytes b → IsReadAs (upgrade_of b) b }
+{}
+
+/// What `encode_v2` writes of a journal, where these are its tables, `decode_v2` reads as that journal with the last_committed that
+/// its keys give.
+pub fn timestamped_read_back()
+    ensures text { (tables : List Table) (j : JournalValue) → IsWritten j → HasText (with_timestamps tables j) }
+    ensures read { (tables : List Table) (j : JournalValue) → IsWritten j → IsReadBack (with_timestamps tables j) }
 {}

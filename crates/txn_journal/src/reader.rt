@@ -1,16 +1,19 @@
 //! The reader of journals.
-ghost use Rattle.std.specs.Prelude.{◌≡◌, ◌++◌, ℕ, List, IfOk, IfErr};
+ghost use Rattle.std.specs.Prelude.{◌≡◌, ◌++◌, ℕ, List, None, Some, Err, IfOk, IfErr};
 ghost use Rattle.journal.specs.Journals.{JournalValue};
 ghost use Rattle.txn_journal.specs.Spelling.{Writes};
 ghost use Rattle.txn_journal.specs.Refused.{Refuses};
-ghost use Rattle.txn_journal.specs.Stream.{Progress, IsWhole, IsWholeOr, IsRead};
+ghost use Rattle.txn_journal.specs.Stream.{Progress, IsWhole, IsRead};
 ghost use Rattle.txn_journal.specs.Machine.{Standing};
-ghost use Rattle.txn_journal.specs.Reading.{before_first, IsFaultAlone, eats_alone, closing};
+ghost use Rattle.txn_journal.specs.Reading.{before_first, eats_alone, closing};
+ghost use Rattle.txn_journal.specs.Timestamped.{TimestampedValue, WritesTimestamped, RefusesTimestamped, BeginsAsVersionOne, first_line_version, timestamped_start, closing_timestamped};
 
 use crate::draft::Draft;
 use crate::fault::{JournalFault, LineFault};
 use crate::feed::{Feed, TakeLine};
+use crate::lines::Version;
 use crate::names::Names;
+use crate::timestamped_journal::TimestampedJournal;
 use journal::{Entry, Journal};
 use std::alloc::Global;
 use std::marker::Model;
@@ -38,6 +41,7 @@ impl Model for Alone {
 
 impl Alone {
     ghost use Rattle.txn_journal.specs.Machine.{is_last, emptied};
+    ghost use Rattle.txn_journal.specs.Timestamped.{timestamped_of};
 
     fn is_ended(&self) -> bool
         ensures { result ≡ is_last self.now.place }
@@ -56,6 +60,12 @@ impl Alone {
         ensures { result ≡ self.journal }
     {
         self.draft.into_journal()
+    }
+
+    fn into_timestamped(self) -> TimestampedJournal
+        ensures { result ≡ timestamped_of self }
+    {
+        self.draft.into_timestamped()
     }
 }
 
@@ -80,17 +90,25 @@ pub struct Reader {
 
 impl Reader {
     ghost use Rattle.std.specs.Prelude.{Ok, Err, IfOk, IfErr, OnOk};
-    ghost use Rattle.txn_journal.specs.Stream.{answer};
+    ghost use Rattle.txn_journal.specs.Stream.{answer, IsAfter};
     ghost use Rattle.txn_journal.specs.Formats.{FeedsBy};
-    ghost use Rattle.txn_journal.specs.Reading.{journals, before_first, entries_of, without_entries, closing};
+    ghost use Rattle.txn_journal.specs.Reading.{journals, alone_start, before_first, entries_of, without_entries, eats_alone, IsFaultAlone, closing};
+    ghost use Rattle.txn_journal.specs.Timestamped.{closing_timestamped};
     ghost use Rattle.txn_journal.specs.Readers.{reading};
 
-    /// Before the first byte.
+    /// Before the first byte of a journal of either version.
     pub fn start(alloc: Global) -> Reader
         ensures { reading result ≡ before_first }
     {
+        Reader::start_as(alloc, None)
+    }
+
+    /// Before the first byte of a journal of the version that is due.
+    fn start_as(alloc: Global, due: Option<Version>) -> Reader
+        ensures { reading result ≡ alone_start due }
+    {
         let made = Alone {
-            draft: Draft::start(alloc, None),
+            draft: Draft::start(alloc, due),
             names: Names::start(alloc),
         };
         Reader {
@@ -128,15 +146,25 @@ impl Reader {
             Err(fault) => Err(fault),
         }
     }
-}
 
-fn read_whole(alloc: Global, bytes: &[u8]) -> Result<Journal, JournalFault>
-    ensures { IsWholeOr (IsFaultAlone before_first bytes.now) result (closing (eats_alone before_first bytes.now)) }
-{
-    let mut reader = Reader::start(alloc);
-    match reader.feed(alloc, bytes) {
-        Ok(()) => reader.finish(),
-        Err(fault) => Err(fault),
+    /// The journal, where its last line has come, and the last_committed of each entry.
+    #[tactic(auto, unfolding(crate::specs::Formats::closing_by))]
+    fn finish_timestamped(self) -> Result<TimestampedJournal, JournalFault>
+        ensures { result ≡ closing_timestamped (reading self) }
+    {
+        match self.feed.end(self.feed.made.is_ended()) {
+            Ok(()) => Ok(self.feed.made.into_timestamped()),
+            Err(fault) => Err(fault),
+        }
+    }
+
+    /// The reader of all of these bytes. It keeps a fault, and its end answers it.
+    fn over(alloc: Global, due: Option<Version>, bytes: &[u8]) -> Reader
+        ensures { IsAfter (IsFaultAlone (alone_start due) bytes.now) (reading result) (eats_alone (alone_start due) bytes.now) }
+    {
+        let mut reader = Reader::start_as(alloc, due);
+        let _ = reader.feed(alloc, bytes);
+        reader
     }
 }
 
@@ -151,7 +179,25 @@ pub fn decode(alloc: Global, bytes: &[u8]) -> Result<Journal, JournalFault>
     // The same, by the fold over the bytes.
     ensures exact { IsWhole result (closing (eats_alone before_first bytes.now)) }
 {
-    read_whole(alloc, bytes)
+    Reader::over(alloc, None, bytes).finish()
+}
+
+/// The journal that the bytes spell by version 2 of the format, all of the bytes, with the last_committed of each entry as it
+/// is written. What begins as a journal of another version is refused for it. A journal that stands alone has no tables, so
+/// its numbers are held against its entries' places and not against their keys.
+pub fn decode_v2(alloc: Global, bytes: &[u8]) -> Result<TimestampedJournal, JournalFault>
+    // What is read is spelled so, with these numbers.
+    ensures found { IfOk result (λ j. WritesTimestamped bytes.now j) }
+    // What is spelled so is read, if memory and the sources of a set allow.
+    ensures only { (j : TimestampedValue) → WritesTimestamped bytes.now j → IsRead result j }
+    // Which line is the first that is faulty, and what is wrong with it.
+    ensures refused { IfErr result (λ fault. RefusesTimestamped fault bytes.now) }
+    // The same, by the fold over the bytes.
+    ensures exact { IsWhole result (closing_timestamped (eats_alone timestamped_start bytes.now)) }
+    // A text of version 1 is refused at its first line.
+    ensures version { BeginsAsVersionOne bytes.now → IsWhole result (Err first_line_version) }
+{
+    Reader::over(alloc, Some(Version::Two), bytes).finish_timestamped()
 }
 
 /// A text is read alike however it is cut.

@@ -1,8 +1,9 @@
-//! A bundle and a journal of version 1, written by version 2: each entry gets its last_committed and its sequence number.
+//! A bundle and a journal of version 1, written by version 2: each entry gets its last_committed and its sequence number. The numbers of
+//! a journal are read as they are written.
 
 use crate::sources::bundle;
 use std::test::Fail;
-use txn_journal::{encode_bundle_v2, encode_v2};
+use txn_journal::{decode_v2, encode_bundle_v2, encode_v2};
 
 const BUNDLE: &str = concat!(
     "bundle 2\n",
@@ -42,6 +43,18 @@ const JOURNAL: &str = concat!(
     "close\n",
 );
 
+const NUMBERED: &str = concat!(
+    "journal 2\n",
+    "previous -\n",
+    "txn aaaaaaaa-aaaa-aaaa-aaaa-aaaaaaaaaaaa:1 0 1\n",
+    "end\n",
+    "txn aaaaaaaa-aaaa-aaaa-aaaa-aaaaaaaaaaaa:2 0 2\n",
+    "end\n",
+    "txn aaaaaaaa-aaaa-aaaa-aaaa-aaaaaaaaaaaa:3 1 3\n",
+    "end\n",
+    "close\n",
+);
+
 #[test]
 fn a_bundle_is_written(rt: HostRuntime) -> Result<(), Fail> {
     let alloc = rt.alloc();
@@ -59,5 +72,12 @@ fn a_journal_is_written(rt: HostRuntime) -> Result<(), Fail> {
         let bytes = encode_v2(alloc, bundle.schema(), journal)?;
         assert!(rt; bytes.as_slice() == JOURNAL.as_bytes());
     }
+    Ok(())
+}
+
+#[test]
+fn numbers_are_read(rt: HostRuntime) -> Result<(), Fail> {
+    let read = decode_v2(rt.alloc(), NUMBERED.as_bytes())?;
+    assert!(rt; read.last_committed() == [0, 0, 1].as_slice());
     Ok(())
 }

@@ -1,0 +1,13 @@
+pub mod Prefixes
+pub mod Sources
+pub mod Contents
+pub mod Numbering
+pub mod Deciding
+pub mod Nodes
+pub mod Numbers
+pub mod Logs
+pub mod Links
+pub mod Holding
+pub mod Reaching
+pub mod Merging
+pub mod Small

@@ -1,0 +1,5 @@
+pub mod Sending
+pub mod Sources
+pub mod Runs
+pub mod Rings
+pub mod SmallRun

@@ -1,0 +1,46 @@
+//! Runs of a network, with what they leave.
+ghost use Rattle.std.specs.Prelude.{◌≡◌, ◌<◌, [], ◌∷◌, true, length, slice_get, None, IfOk, IfErr, IfSome, OnErr};
+ghost use Rattle.replica_core.specs.Faults.{IsFaultIn};
+ghost use Rattle.network.specs.Machine as machine;
+ghost use Rattle.network.specs.Machine.{is_numbered, AreNumbered, replies, after, answered};
+ghost use Rattle.network.specs.Faults.{set_made, IsFaultAt};
+ghost use Rattle.rings.specs.Rings.{LeavesMerged};
+
+use gtid_set::SetFault;
+use network::{Network, NetworkEvent, NetworkReply};
+use std::alloc::Global;
+
+/// One event, as `Network::step` makes it. Where the network was opened and has run, and what is committed by Local
+/// at different nodes shares no key, what the nodes then hold is merged. After an error nothing has changed.
+pub fn step(
+    network: &mut Network,
+    alloc: Global,
+    event: &NetworkEvent,
+) -> Result<NetworkReply, SetFault>
+    requires { is_numbered event.now ≡ true }
+    ensures ok { IfOk result (λ r. (r, network.new) ≡ machine.step network.old event.now) }
+    ensures merged { IfOk result (λ r. LeavesMerged network.old (event.now ∷ []) (r ∷ []) network.new) }
+    ensures err { OnErr result (network.new ≡ network.old) }
+    ensures fault { IfErr result (λ f. IsFaultIn f (set_made network.old event.now)) }
+{
+    network.step(alloc, event)
+}
+
+/// Events in turn, as `Network::run` makes them: the replies up to the first error, and that error. Where the network
+/// was opened and has run, and what is committed by Local at different nodes shares no key, what the nodes then hold
+/// is merged: nodes with equal executed sets hold equal rows.
+pub fn run(
+    network: &mut Network,
+    alloc: Global,
+    events: &[NetworkEvent],
+) -> (Vec<NetworkReply>, Option<SetFault>)
+    requires { AreNumbered events.now }
+    ensures told { result.0.items ≡ replies network.old (answered result.0.items events.now) }
+    ensures nodes { network.new ≡ after network.old (answered result.0.items events.now) }
+    ensures merged { LeavesMerged network.old (answered result.0.items events.now) result.0.items network.new }
+    ensures whole { result.1 ≡ None → length result.0.items ≡ length events.now }
+    ensures cut { IfSome result.1 (λ fault. length result.0.items < length events.now) }
+    ensures fault { IfSome result.1 (λ f. IsFaultAt f network.new (slice_get events.now (length result.0.items))) }
+{
+    network.run(alloc, events)
+}

@@ -1,0 +1,24 @@
+use Rattle.std.proofs.Common.{Some, Result, subst, sym}
+use Rattle.txn_journal.specs.Stream.{IsWholeOr}
+use Rattle.txn_journal.specs.Reading.{eats_alone, IsFaultAlone}
+use Rattle.txn_journal.specs.Readers.{reading}
+use Rattle.txn_journal.specs.Timestamped.{TimestampedValue, timestamped_journals, timestamped_start, closing_timestamped}
+use Rattle.txn_journal.specs.declared.fault.JournalFault.{JournalFault}
+use Rattle.txn_journal.specs.declared.lines.Version.TheVariants.{Two}
+use Rattle.txn_journal.proofs.FormatLaws.{closed_after, is_found, is_only, is_refused, whole_of}
+use Rattle.txn_journal.proofs.JournalLaws.{IsSoundAlone}
+use Rattle.txn_journal.proofs.TimestampedLaws.{timestamped_laws, older_whole}
+use Rattle.txn_journal.proofs.reader.decode_v2.Goals as goal
+
+pub returns : goal.returns
+returns c =
+    let bytes = c.args.bytes.now in
+    let closed = closed_after timestamped_journals bytes (reading c.over.result) c.over.ensures in
+    let read = subst (λ (r : Result TimestampedValue JournalFault). IsWholeOr (IsFaultAlone timestamped_start bytes) r (closing_timestamped (eats_alone timestamped_start bytes))) (sym c.finish_timestamped.ensures) closed in
+    record {
+      found = is_found timestamped_journals (IsSoundAlone (Some Two)) timestamped_laws c.finish_timestamped.result bytes read;
+      only = is_only timestamped_journals (IsSoundAlone (Some Two)) timestamped_laws c.finish_timestamped.result bytes read;
+      refused = is_refused timestamped_journals (IsSoundAlone (Some Two)) timestamped_laws c.finish_timestamped.result bytes read;
+      exact = whole_of _ _ _ read;
+      version = older_whole c.finish_timestamped.result bytes (whole_of _ _ _ read);
+    }

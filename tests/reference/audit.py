@@ -1,0 +1,192 @@
+"""What `audit`, `apply`, `position` and `upgrade` answer. Written by another hand from docs/FORMATS.md and compared with
+the proved programs."""
+from __future__ import annotations
+
+from bisect import bisect_left
+from collections.abc import Callable, Iterator
+from functools import wraps
+
+from .formats import Bundle, Entry, Refused, bundle_lines, read_bundle, read_journal
+from .gtids import Gtid, GtidSet
+from .rows import Key, RowFault, Rows, Transaction, keys_of
+from .set_text import TextFault, read_set, read_source
+
+VERSIONS = {"1", "2"}
+Answer = tuple[str, int]
+
+
+class Seen:
+    """What stands in a journal so far, and up to which GTID all of a source does."""
+
+    def __init__(self, gtids: list[Gtid]) -> None:
+        self.gtids, self.seen = gtids, set[Gtid]()
+        self.places: dict[str, int] = {}
+
+    def add(self, gtid: Gtid) -> None:
+        """One more stands there."""
+        self.seen.add(gtid)
+        place = self.first_lacking(gtid.source)
+        while place < len(self.gtids) and self.gtids[place] in self.seen:
+            place += 1
+        self.places[gtid.source] = place
+
+    def first_lacking(self, source: str) -> int:
+        """The place, among all GTIDs, up to which all of this source stand there."""
+        return self.places.get(source, bisect_left(self.gtids, (source, 0)))
+
+    def lacking(self, touchers: list[Gtid], gtid: Gtid) -> list[Gtid]:
+        """Which of these, ascending and all of one source, are smaller and don't stand there."""
+        begin = self.first_lacking(gtid.source)
+        first = bisect_left(touchers, self.gtids[begin]) if begin < len(self.gtids) else len(touchers)
+        return [it for it in touchers[first : bisect_left(touchers, gtid)] if it not in self.seen]
+
+
+class Audit:
+    """The journals of a bundle as one world: of each GTID outside the opening set the first content that is found."""
+
+    def __init__(self, bundle: Bundle) -> None:
+        self.bundle = bundle
+        self.contents: dict[Gtid, Transaction] = {}
+        for _, entry in self.entries():
+            self.contents.setdefault(entry.gtid, entry.changes)
+        self.gtids = sorted(self.contents)
+        self.keys = {gtid: keys_of(bundle.schema, changes) for gtid, changes in self.contents.items()}
+
+    def entries(self) -> Iterator[tuple[int, Entry]]:
+        """The entries outside the opening set with the number of their journal, in order of journals and entries."""
+        for number, channel in enumerate(self.bundle.channels):
+            for entry in channel.journal.entries:
+                if entry.gtid not in self.bundle.opening:
+                    yield number, entry
+
+    def unequal(self) -> str | None:
+        """The first entry whose content is not the world's."""
+        for _, entry in self.entries():
+            if entry.changes != self.contents[entry.gtid]:
+                return f"unequal {entry.gtid}"
+        return None
+
+    def purged(self) -> str | None:
+        """The first journal that has purged what was not executed from the start."""
+        for number, channel in enumerate(self.bundle.channels):
+            lacking = channel.journal.previous - self.bundle.opening
+            if lacking:
+                return f"purged {number} {lacking}"
+        return None
+
+    def missing(self) -> str | None:
+        """The least GTID that is in no journal though a greater number of its source is."""
+        known = GtidSet.of(self.gtids) | self.bundle.opening
+        greatest = {gtid.source: gtid.number for gtid in self.gtids}
+        for source, number in sorted(greatest.items()):
+            least = known.least_number_outside(source, ())
+            if least is not None and least < number:
+                return f"missing {Gtid(source, least)}"
+        return None
+
+    def shared(self) -> str | None:
+        """The least GTID that shares a key with a smaller source, the least such of those sources, and the first key."""
+        touchers: dict[Key, Gtid] = {}
+        for gtid in self.gtids:
+            for key in self.keys[gtid]:
+                first = touchers.setdefault(key, gtid)
+                if first.source < gtid.source:
+                    return f"shared {first} {gtid} {key.text()}"
+        return None
+
+    def not_closed(self) -> str | None:
+        """The first entry that stands in a journal without a smaller number of its source with a common key, and the least of those."""
+        touchers: dict[tuple[str, Key], list[Gtid]] = {}
+        for gtid in self.gtids:
+            for key in self.keys[gtid]:
+                touchers.setdefault((gtid.source, key), []).append(gtid)
+        journal, seen = -1, Seen(self.gtids)
+        for number, entry in self.entries():
+            if number != journal:
+                journal, seen = number, Seen(self.gtids)
+            gtid = entry.gtid
+            lacking = [it for key in self.keys[gtid] for it in seen.lacking(touchers[gtid.source, key], gtid)]
+            if lacking:
+                return f"not-closed {gtid} {min(lacking)}"
+            seen.add(gtid)
+        return None
+
+    def does_not_apply(self) -> str | None:
+        """The first transaction that fails in its source's list, taken alone from the opening rows."""
+        source, rows = "", self.bundle.rows
+        for gtid in self.gtids:
+            if gtid.source != source:
+                source, rows = gtid.source, self.bundle.rows.copy()
+            try:
+                rows.apply(self.contents[gtid])
+            except RowFault as fault:
+                return f"does-not-apply {gtid} {fault.text()}"
+        return None
+
+    def verdict(self) -> str:
+        """The first verdict that holds."""
+        tests = (self.unequal, self.purged, self.missing, self.shared, self.not_closed, self.does_not_apply)
+        return next((found for found in (test() for test in tests) if found), "sound")
+
+    def state(self) -> str:
+        """The executed set and the rows, where the verdict is `sound`."""
+        rows: Rows = self.bundle.rows.copy()
+        for gtid in self.gtids:
+            rows.apply(self.contents[gtid])
+        executed = self.bundle.opening
+        for channel in self.bundle.channels:
+            executed = executed | channel.journal.whole()
+        if executed.is_full():
+            raise Refused("refused E9 sources-full")
+        return "\n".join([f"executed {executed.word()}", *rows.lines()])
+
+
+def refusals_told(call: Callable[..., Answer]) -> Callable[..., Answer]:
+    """Makes a refusal an answer."""
+
+    @wraps(call)
+    def told(*words: str) -> Answer:
+        try:
+            return call(*words)
+        except Refused as refused:
+            return refused.line, 1
+        except TextFault as fault:
+            return fault.line(), 1
+
+    return told
+
+
+@refusals_told
+def audit(text: str) -> Answer:
+    """What `audit` prints for an input, and its exit status."""
+    verdict = Audit(read_bundle(text, VERSIONS)).verdict()
+    return verdict, int(verdict != "sound")
+
+
+@refusals_told
+def apply(text: str) -> Answer:
+    """What `apply` prints for an input, and its exit status."""
+    world = Audit(read_bundle(text, VERSIONS))
+    verdict = world.verdict()
+    return (world.state(), 0) if verdict == "sound" else (verdict, 1)
+
+
+@refusals_told
+def upgrade(text: str) -> Answer:
+    """What `upgrade` prints for an input, and its exit status."""
+    return "\n".join(bundle_lines(read_bundle(text, {"1"}), 2)), 0
+
+
+@refusals_told
+def position(text: str, own: str, ask: str) -> Answer:
+    """What `position` prints for an input, and its exit status."""
+    source, asked = read_source(own), read_set(ask)
+    journal = read_journal(text)
+    purged = journal.previous - asked
+    if purged:
+        return f"refused E19 purged {purged}", 1
+    more = asked.only(source) - journal.whole()
+    if more:
+        return f"refused E20 has-more {more}", 1
+    sent = [str(entry.gtid) for entry in journal.entries if entry.gtid not in asked]
+    return "\n".join([f"send {len(sent)}", *sent]), 0
