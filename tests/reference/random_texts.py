@@ -1,0 +1,126 @@
+"""Random texts: sets as people write them, and texts with a fault. Written by another hand from docs/FORMATS.md: the texts that the
+programs are compared on.
+
+A broken text is a good one in which a byte, a word or a line is changed, dropped, doubled or moved. Its characters are bytes.
+"""
+from __future__ import annotations
+
+from random import Random
+
+from .gtids import GREATEST
+from .random_bundles import SOURCES
+
+ODD_WORDS = [
+    *("", "-", "null", "0", "00", "01", "1", "-0", "+1", "-1", "9223372036854775807", "9223372036854775808", "-9223372036854775809"),
+    *("x", "x6", "x6A", "x61", "xx", "|", "pk", "uk", "0,0", "0,1", "1,0", "64", "65", "99999999999999999999999", "preserve", "1x", "A"),
+    *("t", "u", "_", "9t", "T", "a" * 64, "a" * 65, "x" + "61" * 23, "journal", "bundle", "txn", "end", "close", "done", "previous"),
+    *(SOURCES[0], SOURCES[1].upper(), f"{SOURCES[0]}:1", f"{SOURCES[0]}:0", f"{SOURCES[0]}:01", f"{SOURCES[0]}:1-3:5", f"{SOURCES[0]}:3-1"),
+    *(f"{SOURCES[1]}:1,{SOURCES[0]}:1", f"{SOURCES[0]}:1-2:3", f"{SOURCES[2]}:{GREATEST + 1}", f"{SOURCES[0]}:1,", "1 ", " 1", "\t", "1\r"),
+]
+ODD_BYTES = "-:, |0129abgxAZ_\t\r\x00\x7f\x80\xff\xc3\xa9"
+BLANKS = ["", "", "", "", " ", " ", "\t", "\n", "\r\n", "  "]
+SET_BYTES = "-:, 0129afgAF\t\nx|_"
+
+
+class TextBreaker:
+    """Makes faults of one source of chance."""
+
+    def __init__(self, chance: Random) -> None:
+        self.chance = chance
+
+    def parts(self, items: list[str], others: list[str]) -> list[str]:
+        """These items with one changed, dropped, doubled or put before another one, or with one of the others beside it."""
+        made, at = list(items), self.chance.randrange(len(items))
+        match self.chance.randrange(5):
+            case 0:
+                made[at] = self.chance.choice(others)
+            case 1:
+                del made[at]
+            case 2:
+                made.insert(at, made[at])
+            case 3:
+                moved = made.pop(at)
+                made.insert(self.chance.randint(0, len(made)), moved)
+            case 4:
+                made.insert(at, self.chance.choice(others))
+        return made
+
+    def line(self, line: str, odd_bytes: str = ODD_BYTES) -> str:
+        """A line with another word or another byte."""
+        if line and self.chance.randrange(2):
+            return "".join(self.parts(list(line), list(odd_bytes)))
+        return " ".join(self.parts(line.split(" "), ODD_WORDS))
+
+    def text(self, text: str) -> str:
+        """A text with another byte, another word or another line."""
+        lines = text.split("\n")
+        at = self.chance.randrange(len(lines))
+        match self.chance.randrange(8):
+            case 0:
+                return text[: self.chance.randint(0, len(text))]
+            case 1 | 2:
+                return "\n".join(self.parts(lines, lines))
+            case 3 if text:
+                return "".join(self.parts(list(text), [*ODD_BYTES, "\n"]))
+            case _:
+                lines[at] = self.line(lines[at])
+                return "\n".join(lines)
+
+    def texts(self, text: str) -> str:
+        """A text with a few such faults, most often one."""
+        for _ in range(self.chance.choice([1, 1, 1, 2, 3])):
+            text = self.text(text)
+        return text
+
+
+class SetWriter:
+    """Writes sets of one source of chance as people write them."""
+
+    def __init__(self, chance: Random) -> None:
+        self.chance = chance
+
+    def blank(self) -> str:
+        """Blanks, or none."""
+        return self.chance.choice(BLANKS)
+
+    def number(self) -> int:
+        """A number of a transaction."""
+        return GREATEST - self.chance.randrange(4) if self.chance.randrange(15) == 0 else self.chance.randint(1, 12)
+
+    def digits(self, number: int) -> str:
+        """A number, which may have leading zeros."""
+        return "0" * self.chance.choice([0, 0, 0, 0, 0, 1, 2]) + str(number)
+
+    def source(self) -> str:
+        """A UUID in either case."""
+        found = self.chance.choice(SOURCES)
+        return found if self.chance.randrange(4) else self.chance.choice([found.upper(), found.title()])
+
+    def interval(self) -> str:
+        """An interval with the colon before it."""
+        low = self.number()
+        begin = f":{self.blank()}{self.digits(low)}{self.blank()}"
+        if self.chance.randrange(2):
+            return begin
+        high = min(low + self.chance.choice([0, 1, 1, 2, 5]), GREATEST)
+        return f"{begin}-{self.blank()}{self.digits(high)}{self.blank()}"
+
+    def element(self) -> str:
+        """An element, which may be empty."""
+        if self.chance.randrange(12) == 0:
+            return self.blank()
+        intervals = (self.interval() for _ in range(self.chance.choice([1, 1, 2, 3, 4])))
+        return self.blank() + self.source() + self.blank() + "".join(intervals)
+
+    def set_text(self) -> str:
+        """The text of a set."""
+        return ",".join(self.element() for _ in range(self.chance.choice([0, 1, 1, 2, 2, 3, 5])))
+
+    def source_text(self) -> str:
+        """The text of a source."""
+        return self.blank() + self.source() + self.blank()
+
+    def broken(self, text: str) -> str:
+        """A text of a set or a source with another byte."""
+        letters = list(text) or [""]
+        return "".join(TextBreaker(self.chance).parts(letters, list(SET_BYTES)))
