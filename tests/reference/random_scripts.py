@@ -342,8 +342,10 @@ class ScriptMaker:
 
     def one_replica(self) -> Made:
         """A script of one replica."""
-        if self.is_one_in(500):
+        if self.is_one_in(1000):
             return self.finished(self.make_full)
+        if self.is_one_in(10_000):
+            return self.finished(self.make_received_full)
         return self.finished(self.make_replica)
 
     def opening(self, own: str) -> GtidSet:
@@ -385,14 +387,24 @@ class ScriptMaker:
         assert replica
         maker = EventMaker(self.bundles, [*SOURCES[1:4], others[0]], [SHARED_TAG])
         kinds = [maker.receive, maker.receive, maker.take, maker.take, maker.commit, maker.commit, maker.local, maker.rollback]
-        for _ in range(40):
+        for _ in range(30):
             self.say_more(self.chance.choice(kinds)(replica))
-            if self.is_one_in(10):
+            if self.is_one_in(8):
                 self.say(self.chance.choice(["position 0", "ask 0", "purge 0", "purge 1"]))
 
+    def make_received_full(self) -> None:
+        """Says a script of a channel that has received of all the sources that a set may have, but for one or two, and then of more."""
+        self.teller.say_all([f"core {SOURCES[0]}", "channel x", "channel y", "position 0", "position 1"])
+        first = MOST_SOURCES - self.bundles.few(2)
+        for number in range(1, first + 4):
+            self.teller.say_all(lines_of(f"receive 0 00000000-0000-0000-0000-{number:012x}:1", ()))
+        last = f"00000000-0000-0000-0000-{first + 3:012x}"
+        self.teller.say_all([*lines_of(f"receive 1 {last}:1", ()), f"receive 0 {last}:2", "end", "take 1 1 0", "commit 1", "position 0"])
+        self.teller.say_all(["ask 0", "executed", "take 1 0 0", "commit 1", "entry 0 0", "ask 0"])
+
     def network(self) -> Made:
-        """A script of a network."""
-        return self.finished(NetworkMaker(self).make)
+        """A script of a network, or of one replica beside those."""
+        return self.finished(self.make_replica if self.is_one_in(12) else NetworkMaker(self).make)
 
 
 class NetworkMaker:
@@ -513,10 +525,12 @@ class NetworkMaker:
         node, gone, replica = self.node(network), self.odd_node(network), network.nodes[0]
         maker = self.makers[0]
         at = self.chance.choice([node, gone])
-        match self.chance.randrange(5):
+        match self.chance.randrange(6):
             case 0:
                 first, *more = maker.event(replica)
                 self.maker.say_more([f"at {at} {first}", *more])
+            case 5:
+                self.say(f"at {gone} {maker.query(replica)[0]}")
             case 1:
                 first, *more = self.chance.choice([maker.position, maker.receive])(replica)
                 self.maker.say_more([f"at {at} {first}", *more])

@@ -7,7 +7,7 @@ from __future__ import annotations
 
 from random import Random
 
-from .gtids import GREATEST
+from .gtids import GREATEST, MOST_SOURCES
 from .random_bundles import SOURCES
 
 ODD_WORDS = [
@@ -55,16 +55,94 @@ class TextBreaker:
         """A text with another byte, another word or another line."""
         lines = text.split("\n")
         at = self.chance.randrange(len(lines))
-        match self.chance.randrange(8):
+        match self.chance.randrange(16):
             case 0:
                 return text[: self.chance.randint(0, len(text))]
             case 1 | 2:
                 return "\n".join(self.parts(lines, lines))
             case 3 if text:
                 return "".join(self.parts(list(text), [*ODD_BYTES, "\n"]))
-            case _:
+            case 4:
+                return "\n".join(self.entry_again(lines))
+            case 5 | 6 | 7:
                 lines[at] = self.line(lines[at])
-                return "\n".join(lines)
+            case _:
+                lines[at] = self.wrong_line(lines[at], lines)
+        return "\n".join(lines)
+
+    def entry_again(self, lines: list[str]) -> list[str]:
+        """The lines with those of an entry once more, before another entry or an end."""
+        begins = [at for at, line in enumerate(lines) if line.startswith("txn ")]
+        places = [at for at, line in enumerate(lines) if line.startswith(("txn ", "close"))]
+        if not begins:
+            return lines
+        begin, place = self.chance.choice(begins), self.chance.choice(places)
+        entry = lines[begin : lines.index("end", begin) + 1] if "end" in lines[begin:] else lines[begin:]
+        return [*lines[:place], *entry, *lines[place:]]
+
+    def wrong_line(self, line: str, lines: list[str]) -> str:
+        """A line of the same first word that most likely can't stand there."""
+        word, *words = line.split(" ")
+        others = [it.split(" ")[1:] for it in lines if it.startswith(f"{word} ")]
+        other = self.chance.choice(others) if others else []
+        match word:
+            case "journal" | "bundle":
+                words = [self.chance.choice(["1", "2", "3", "0", "7", "9" * 25, "-1", "1 ", "01"])]
+            case "table":
+                words = self.wrong_table(words, other)
+            case "row" | "ins" | "upd" | "del":
+                words = self.wrong_image(words, other)
+            case "txn":
+                words = [other[0], *words[1:]] if self.chance.randrange(2) else self.parts(words, ODD_WORDS)
+            case "previous" | "opening":
+                words = [self.wrong_set(lines)]
+            case "channel" | "replica":
+                words = self.chance.choice([other, [*words, "preserve"], self.parts(words, ODD_WORDS)])
+            case _:
+                return self.line(line)
+        return " ".join([word, *words])
+
+    def wrong_table(self, words: list[str], other: list[str]) -> list[str]:
+        """The words of a table that most likely can't be declared."""
+        match self.chance.randrange(6):
+            case 0:
+                return [*words[:1], self.chance.choice(["0", "1", "2", "64", "65", "9" * 25]), *words[2:]]
+            case 1:
+                return words + ["uk", "0"] * self.chance.choice([1, 7, 8, 9])
+            case 2:
+                return [*words[:3], self.chance.choice(["63", "64", "65", "9" * 25, "0,0", "1,0", f"{'9' * 25},{'9' * 25}"]), *words[4:]]
+            case 3:
+                return [*other[:1], *words[1:]]
+            case 4:
+                return [*words, "pk", "0"]
+        return self.parts(words, ODD_WORDS)
+
+    def wrong_image(self, words: list[str], other: list[str]) -> list[str]:
+        """The words of a row or a change that most likely doesn't fit."""
+        match self.chance.randrange(8):
+            case 0:
+                return words[:-1]
+            case 1:
+                return [*words, self.chance.choice(["1", "null", "x"])]
+            case 2:
+                return words + ["0"] * self.chance.choice([60, 61, 62, 63, 64, 65])
+            case 3:
+                return [*words[:-1], "x" + "61" * self.chance.choice([22, 23, 65_535, 65_536])]
+            case 4:
+                return [*words[:1], "null", *words[2:]]
+            case 5:
+                return [*other[:1], *words[1:]]
+            case 6:
+                return [*words, "|", *words[1:]]
+        return self.parts(words, ODD_WORDS)
+
+    def wrong_set(self, lines: list[str]) -> str:
+        """The text of a set that has a GTID of the journal, or too many sources."""
+        gtids = sorted(line.split(" ")[1] for line in lines if line.startswith("txn ") and len(line.split(" ")) > 1)
+        if self.chance.randrange(15) == 0:
+            count = MOST_SOURCES + self.chance.randint(-1, 1)
+            return ",".join(f"00000000-0000-0000-0000-{number:012x}:1" for number in range(count))
+        return self.chance.choice([*gtids, ",".join(gtids[:2]), self.chance.choice(ODD_WORDS)])
 
     def texts(self, text: str) -> str:
         """A text with a few such faults, most often one."""
