@@ -1,4 +1,5 @@
-"""Random runs of both programs, by kind, with what the references answer. Written by another hand from docs/: what `tools/compare` compares.
+"""Random runs of both programs, by kind, with what the references answer. Written by another hand from docs/: what `tools/compare`
+compares.
 
 A case is what one turn of chance gives: a script, or an input with a few runs of it. Scripts are run together, each begun afresh by a line
 `---`, up to one that isn't whole.

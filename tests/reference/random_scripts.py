@@ -27,10 +27,11 @@ SEATS = [1, 2, 3, 64]
 SHARED_TAG = 0
 QUERIES = ["rows", "executed", "purged", "journal", "drained", "status", "ask", "next", "entry"]
 STRAY_LINES = [
-    *("at 0 look", "position 0 0 1", "receive 0 0", f"network {SOURCES[0]}", f"network {SOURCES[0]} {SOURCES[0]}", "network", "network "),
-    *("look", "looks", "local", "position 0", "position 00", f"position {2**64}", f"receive 0 {SOURCES[0]}:1", "receive 0", "end", "close"),
-    *("table t 1 pk 0", "row t 1", f"core {SOURCES[0]}", f"core {SOURCES[0]} -", "at", "at 0", "at 0 at 0 look", "at 0 end", "at 0 ---"),
-    *(" look", "look ", "--- ", "----", "channel X", "channel x preserved", f"at {2**64} look", "at 0 looks", "at 9 looks", "at 0 local x"),
+    *("at 0 look", "position 0 0 1", "receive 0 0", "network", "network ", f"network {SOURCES[0]}", f"network {SOURCES[0]} {SOURCES[0]}"),
+    *("look", "looks", "local", "position 0", "position 00", f"position {2**64}", "receive 0", f"receive 0 {SOURCES[0]}:1", "end"),
+    *("close", "table t 1 pk 0", "row t 1", f"core {SOURCES[0]}", f"core {SOURCES[0]} -", "at", "at 0", "at 0 at 0 look", "at 0 end"),
+    *("at 0 ---", " look", "look ", "--- ", "----", "channel X", "channel x preserved", f"at {2**64} look", "at 0 looks", "at 9 looks"),
+    *("at 0 local x", "at 9 local x", "at 00 look", "position 0 0", "position 0 0 00", "receive 0 0 0", "position 0 0 0 0"),
 ]
 
 
@@ -529,16 +530,16 @@ class NetworkMaker:
             case 0:
                 first, *more = maker.event(replica)
                 self.maker.say_more([f"at {at} {first}", *more])
-            case 5:
-                self.say(f"at {gone} {maker.query(replica)[0]}")
             case 1:
                 first, *more = self.chance.choice([maker.position, maker.receive])(replica)
                 self.maker.say_more([f"at {at} {first}", *more])
             case 2:
-                self.say(f"position {gone} {maker.channel_number(replica)} {self.chance.choice([node, gone])}")
+                self.say(f"at {gone} {maker.query(replica)[0]}")
             case 3:
-                self.say(f"position {node} {maker.channel_number(network.nodes[node])} {gone}")
+                self.say(f"position {gone} {maker.channel_number(replica)} {self.chance.choice([node, gone])}")
             case 4:
+                self.say(f"position {node} {maker.channel_number(network.nodes[node])} {gone}")
+            case 5:
                 self.say(f"receive {gone} {maker.channel_number(replica)}")
 
     def settle(self, network: Network) -> None:

@@ -10,12 +10,13 @@ from random import Random
 from .gtids import GREATEST, MOST_SOURCES
 from .random_bundles import SOURCES
 
+A, B, C = SOURCES[:3]
 ODD_WORDS = [
     *("", "-", "null", "0", "00", "01", "1", "-0", "+1", "-1", "9223372036854775807", "9223372036854775808", "-9223372036854775809"),
-    *("x", "x6", "x6A", "x61", "xx", "|", "pk", "uk", "0,0", "0,1", "1,0", "64", "65", "99999999999999999999999", "preserve", "1x", "A"),
+    *("x", "x6", "x6A", "x61", "xx", "|", "pk", "uk", "0,0", "0,1", "1,0", "64", "65", "9" * 23, "preserve", "1x", "A", "1 ", " 1"),
     *("t", "u", "_", "9t", "T", "a" * 64, "a" * 65, "x" + "61" * 23, "journal", "bundle", "txn", "end", "close", "done", "previous"),
-    *(SOURCES[0], SOURCES[1].upper(), f"{SOURCES[0]}:1", f"{SOURCES[0]}:0", f"{SOURCES[0]}:01", f"{SOURCES[0]}:1-3:5", f"{SOURCES[0]}:3-1"),
-    *(f"{SOURCES[1]}:1,{SOURCES[0]}:1", f"{SOURCES[0]}:1-2:3", f"{SOURCES[2]}:{GREATEST + 1}", f"{SOURCES[0]}:1,", "1 ", " 1", "\t", "1\r"),
+    *(A, B.upper(), f"{A}:1", f"{A}:0", f"{A}:01", f"{A}:1-3:5", f"{A}:3-1", f"{B}:1,{A}:1", f"{A}:1-2:3", f"{C}:{GREATEST + 1}", f"{A}:1,"),
+    *("\t", "1\r", f"{A}:1-", f"{A}:1:1", f"{A}:1-1", f"{A}:1,{B}:1", f"{A}:1, {B}:1"),
 ]
 ODD_BYTES = "-:, |0129abgxAZ_\t\r\x00\x7f\x80\xff\xc3\xa9"
 BLANKS = ["", "", "", "", " ", " ", "\t", "\n", "\r\n", "  "]

@@ -167,7 +167,7 @@ class Replica:
         return reply
 
     def committed(self, entry: Entry) -> Reply:
-        """The changes of an entry are made; it is executed, and stands at the end of the own journal. A refusal by the rows comes first."""
+        """The changes of an entry are made; it is executed, and stands at the end of the own journal. The rows' refusal comes first."""
         if not self.executed.has_room(entry.gtid.source):
             self.rows.copy().apply(entry.changes)
             raise SourcesFull
