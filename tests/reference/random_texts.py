@@ -31,6 +31,8 @@ class TextBreaker:
 
     def parts(self, items: list[str], others: list[str]) -> list[str]:
         """These items with one changed, dropped, doubled or put before another one, or with one of the others beside it."""
+        if not items:
+            return [self.chance.choice(others)]
         made, at = list(items), self.chance.randrange(len(items))
         match self.chance.randrange(5):
             case 0:
@@ -48,7 +50,7 @@ class TextBreaker:
 
     def line(self, line: str, odd_bytes: str = ODD_BYTES) -> str:
         """A line with another word or another byte."""
-        if line and self.chance.randrange(2):
+        if self.chance.randrange(2):
             return "".join(self.parts(list(line), list(odd_bytes)))
         return " ".join(self.parts(line.split(" "), ODD_WORDS))
 
@@ -61,7 +63,7 @@ class TextBreaker:
                 return text[: self.chance.randint(0, len(text))]
             case 1 | 2:
                 return "\n".join(self.parts(lines, lines))
-            case 3 if text:
+            case 3:
                 return "".join(self.parts(list(text), [*ODD_BYTES, "\n"]))
             case 4:
                 return "\n".join(self.entry_again(lines))
@@ -94,7 +96,7 @@ class TextBreaker:
             case "row" | "ins" | "upd" | "del":
                 words = self.wrong_image(words, other)
             case "txn":
-                words = [other[0], *words[1:]] if self.chance.randrange(2) else self.parts(words, ODD_WORDS)
+                words = [*other[:1], *words[1:]] if self.chance.randrange(2) else self.parts(words, ODD_WORDS)
             case "previous" | "opening":
                 words = [self.wrong_set(lines)]
             case "channel" | "replica":
@@ -201,5 +203,4 @@ class SetWriter:
 
     def broken(self, text: str) -> str:
         """A text of a set or a source with another byte."""
-        letters = list(text) or [""]
-        return "".join(TextBreaker(self.chance).parts(letters, list(SET_BYTES)))
+        return "".join(TextBreaker(self.chance).parts(list(text), list(SET_BYTES)))
