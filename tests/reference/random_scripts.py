@@ -301,7 +301,7 @@ class ScriptMaker:
     """Makes one script."""
 
     def __init__(self, chance: Random) -> None:
-        self.chance, self.bundles, self.teller = chance, BundleMaker(chance), Teller()
+        self.chance, self.bundles, self.teller, self.breaker = chance, BundleMaker(chance), Teller(), TextBreaker(chance)
         self.is_one_in, self.say = self.bundles.is_one_in, self.teller.say
 
     def finished(self, make: Callable[[], None]) -> Made:
@@ -313,33 +313,36 @@ class ScriptMaker:
             made.is_whole = False
         return made
 
-    def say_more(self, lines: list[str]) -> None:
-        """Says these lines, with a remark or an empty line now and then."""
+    def say_more(self, lines: list[str], between_faults: int = 1500) -> None:
+        """Says these lines, with a remark or an empty line now and then, and one with a fault in so many."""
         for line in lines:
             if self.is_one_in(60):
                 self.say(self.chance.choice(["", "# a remark", "#", "#---", "# end"]))
+            if self.is_one_in(between_faults):
+                line = self.breaker.wrong_line(line, self.teller.made.lines)
             self.say(line)
 
-    def declare(self) -> None:
-        """Says tables and opening rows."""
+    def declare(self, last: str) -> None:
+        """Says tables and opening rows, and the last declaration."""
         schema: Schema = {"t": Table("t", 2, ((0,), (1,)))} if self.is_one_in(2) else self.bundles.tables()
         rows = Rows(schema)
         for table in schema.values():
             for _ in range(self.bundles.few(4)):
                 self.bundles.try_put(rows, table, self.bundles.few(3))
-        self.teller.say_all(table.line() for table in schema.values())
-        self.teller.say_all(rows.lines())
+        self.say_more([*(table.line() for table in schema.values()), *rows.lines(), last], between_faults=100)
+        if not self.teller.script.replica and not self.teller.script.network:
+            raise EndOfScript
 
     def say_badly(self) -> None:
-        """Says a line that is most likely not in the language, or leaves a transaction open."""
-        match self.chance.randrange(5):
+        """Says a line that is not in the language there, or one of before with a fault, or leaves a transaction open."""
+        match self.chance.randrange(4):
             case 0:
-                self.say(self.chance.choice(STRAY_LINES))
-            case 1:
                 self.say("local" if self.teller.script.replica else "at 0 local")
                 raise EndOfScript
+            case 1:
+                self.say(self.breaker.line(self.chance.choice(self.teller.made.lines)))
             case _:
-                self.say(TextBreaker(self.chance).line(self.chance.choice(self.teller.made.lines)))
+                self.say(self.chance.choice(STRAY_LINES))
 
     def one_replica(self) -> Made:
         """A script of one replica."""
@@ -364,9 +367,8 @@ class ScriptMaker:
     def make_replica(self) -> None:
         """Says a script of one replica."""
         sources = self.chance.sample(SOURCES, 3)
-        self.declare()
         opening = self.opening(sources[0])
-        self.say(f"core {sources[0]}" + (f" {opening.word()}" if opening or self.is_one_in(4) else ""))
+        self.declare(f"core {sources[0]}" + (f" {opening.word()}" if opening or self.is_one_in(4) else ""))
         replica = self.teller.script.replica
         assert replica
         if self.is_one_in(60):
@@ -375,7 +377,7 @@ class ScriptMaker:
         maker = EventMaker(self.bundles, sources[1:], [SHARED_TAG, SHARED_TAG, 1, 2])
         for _ in range(self.chance.randint(20, 90)):
             self.say_more(maker.event(replica))
-            if self.is_one_in(700):
+            if self.is_one_in(1500):
                 self.say_badly()
         self.teller.say_all(last_queries(replica))
 
@@ -418,16 +420,16 @@ class NetworkMaker:
     def make(self) -> None:
         """Says the script."""
         sources = self.chance.sample(SOURCES, self.chance.choice([1, 2, 2, 3, 3, 4]))
-        self.maker.declare()
-        self.say(" ".join(["network", *sources]))
+        self.maker.declare(" ".join(["network", *sources]))
         network = self.maker.teller.script.network
         assert network
         is_apart = self.is_one_in(2)
-        self.makers = [EventMaker(self.bundles, sources, [node + 1 if is_apart else SHARED_TAG]) for node in range(len(sources))]
+        tags = [node + 1 if is_apart else SHARED_TAG for node in range(len(network.nodes))]
+        self.makers = [EventMaker(self.bundles, sources, [tag]) for tag in tags]
         self.join(network)
         for _ in range(self.chance.randint(20, 70)):
             self.say_some(network)
-            if self.is_one_in(700):
+            if self.is_one_in(1500):
                 self.maker.say_badly()
         if self.is_one_in(2):
             self.settle(network)
