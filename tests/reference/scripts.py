@@ -224,7 +224,7 @@ def one_answer(replica: Replica, words: list[str]) -> object:
             return "true" if replica.is_drained() else "false"
         case ["ask", c]:
             asked = replica.ask(number_in(c))
-            return none_or(asked and asked.word())
+            return none_or(None if asked is None else asked.word())
         case ["next", c, start]:
             return none_or(replica.next_ready(number_in(c), number_in(start)))
         case ["entry", c, place]:
