@@ -167,9 +167,11 @@ class Replica:
         return reply
 
     def committed(self, entry: Entry) -> Reply:
-        """The changes of an entry are made; it is executed, and stands at the end of the own journal. The rows' refusal comes first."""
+        """The changes of an entry are made; it is executed, and stands at the end of the own journal.
+
+        Which comes first, a full set or the rows' refusal, docs/SCRIPTS.md leaves open: here it is the set.
+        """
         if not self.executed.has_room(entry.gtid.source):
-            self.rows.copy().apply(entry.changes)
             raise SourcesFull
         self.rows.apply(entry.changes)
         self.executed.add(entry.gtid)
