@@ -238,7 +238,7 @@ class EventMaker:
         if not entries or self.is_one_in(8):
             return self.odd_number(len(entries))
         waiting = [place for place, entry in enumerate(entries) if entry.gtid not in replica.executed]
-        return self.chance.choice(waiting if waiting and self.is_one_in(2) else range(len(entries)))
+        return self.chance.choice(range(len(entries)) if not waiting or self.is_one_in(4) else waiting)
 
     def commit(self, replica: Replica) -> list[str]:
         """Commit."""
@@ -483,7 +483,7 @@ class NetworkMaker:
         """Receives on a channel once or a few times."""
         node, c = self.reader(network)
         self.say(f"receive {node} {c}")
-        for _ in range(self.bundles.few(3) if self.has_received() else 0):
+        for _ in range(self.bundles.few(6) if self.has_received() else 0):
             self.say(f"receive {node} {c}")
 
     def position(self, network: Network) -> None:
