@@ -1,5 +1,5 @@
 -- What a line declares. The words are our own.
-use Rattle.std.specs.Prelude.{◌≡◌, ℕ, false, List, [], ◌∷◌, Option, Some, None, option_map, option_and_then}
+use Rattle.std.specs.Prelude.{◌≡◌, ℕ, false, List, [], ◌∷◌, Option, Some, option_map, option_and_then}
 use Rattle.journal_words.specs.Gtids.{source_of_word}
 use Rattle.network.specs.Nodes.{ids_distinct}
 use Rattle.replica_script.specs.declared.answer.Stop.{Stop}

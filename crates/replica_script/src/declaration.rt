@@ -1,7 +1,7 @@
 //! Declarations: tables, rows, and the replica or the network that has them.
 ghost use Rattle.std.specs.Prelude.{◌≡◌, IfOk, IfErr, option_map};
 ghost use Rattle.txn_journal.specs.Lines.{words_of};
-ghost use Rattle.network.specs.Nodes.{opened};
+ghost use Rattle.network.specs.Nodes.{ids_distinct, opened};
 ghost use Rattle.replica_script.specs.Declarations.{sources_of, IsStopOfIds};
 ghost use Rattle.replica_script.specs.declared.answer.Stop.{Stop};
 ghost use Rattle.replica_script.specs.declared.answer.Stop.TheVariants.{Memory};
@@ -11,9 +11,10 @@ use crate::transaction::stop_of;
 use gtid_set::{GtidSet, SetFault};
 use gtid_text::SourceId;
 use journal_words::{cut, set_word, source_word};
-use network::{Network, ids_distinct};
+use network::Network;
 use replica_core::Core;
 use std::alloc::{AllocError, Global};
+use std::collections::BTreeSet;
 use txn_journal::{Bundle, BundleReader};
 
 fn feed_bundle(alloc: Global, bundle: &mut BundleReader, line: &[u8]) -> Result<(), Stop> {
@@ -119,12 +120,27 @@ pub fn core_on(
     }
 }
 
+/// Whether no UUID stands twice: each is new, and not one that came earlier.
+fn are_distinct(alloc: Global, ids: &[SourceId]) -> Result<bool, AllocError>
+    ensures { IfOk result (λ are. are ≡ ids_distinct ids.now) }
+{
+    let mut seen = BTreeSet::new(alloc);
+    let mut left = ids;
+    while let Some((own, more)) = left.split_first() {
+        if !seen.insert(*own)? {
+            return Ok(false);
+        }
+        left = more;
+    }
+    Ok(true)
+}
+
 /// A network on the rows of a bundle. Where a UUID stands twice it is a bad line.
 pub fn network_on(alloc: Global, bundle: &Bundle, ids: &[SourceId]) -> Result<Network, Stop>
     ensures opened { IfOk result (λ n. n ≡ opened ids.now bundle.now.start.schema bundle.now.start.rows) }
     ensures stop { IfErr result (IsStopOfIds ids.now) }
 {
-    if !ids_distinct(ids) {
+    if !are_distinct(alloc, ids)? {
         return Err(Stop::BadLine);
     }
     match Network::open(alloc, ids, bundle.rows()) {

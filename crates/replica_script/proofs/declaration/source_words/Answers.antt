@@ -1,4 +1,4 @@
-use Rattle.std.proofs.Common.{◌≡◌, ℕ, Some, None, List, [], ◌∷◌, ◌++◌, Option, option_map, sym, ap, ◌∙◌}
+use Rattle.std.proofs.Common.{◌≡◌, ℕ, Some, None, List, option_map, sym, ap, ◌∙◌}
 use Rattle.journal_words.specs.Words.{others}
 use Rattle.journal_words.specs.Gtids.{source_of_word}
 use Rattle.journal_words.proofs.Cuts.{others-shorter}
