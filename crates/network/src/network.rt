@@ -1,31 +1,35 @@
-//! Several replicas that read one another's own journals.
-ghost use Rattle.std.specs.Prelude.{◌≡◌, ◌<◌, ◌∷◌, [], ◌++◌, length, true, not, find, slice_get, IfOk, IfSome, OnErr, IsOkUnless, None, vec_len, vec_capacity};
+//! Several replicas that read one another's binary logs.
+ghost use Rattle.std.specs.Prelude.{◌≡◌, ◌<◌, ◌∷◌, [], ◌++◌, length, true, slice_get, IfOk, IfErr, IfSome, OnErr, IsOkUnless, None, vec_len, vec_capacity};
 ghost use Rattle.std.specs.Option.{option_copied, option_map};
-ghost use Rattle.std.specs.FinMap as finmap;
-ghost use Rattle.std.specs.FinSet as set;
 ghost use Rattle.gtid_set.specs.declared.fault.SetFault.TheVariants.{Memory};
 ghost use Rattle.replica_core.specs.Machine as machine;
-ghost use Rattle.replica_core.specs.declared.event.Event.TheVariants as event;
+ghost use Rattle.replica_core.specs.Faults.{IsFaultIn};
 ghost use Rattle.network.specs.Nodes.{opened, ids_distinct};
 ghost use Rattle.network.specs.Machine.{step, is_numbered, AreNumbered, replies, after, answered};
-ghost use Rattle.network.specs.Made.{MakesAt};
+ghost use Rattle.network.specs.Faults.{set_made, IsFaultAt};
+ghost use Rattle.network.specs.Next.{IsNext};
 ghost use Rattle.network.specs.declared.event.NetworkEvent.TheVariants.{Act, Position, Receive};
 
 use crate::event::{NetworkEvent, NetworkReply, is_for_network};
+use crate::making::{act_at, position_at, receive_at};
 use crate::node::Node;
+use crate::reader::Reader;
+use crate::reading::{next_place, start};
 use auto_position::{PositionFault, plan};
-use gtid_set::{GtidSet, SetFault};
-use gtid_text::{Gtid, SourceId};
+use gtid_set::SetFault;
+use gtid_text::SourceId;
 use journal::Entry;
 use replica_core::{Core, Event, Reply};
 use rows::Rows;
 use std::alloc::{AllocError, Global};
 use std::marker::Model;
 
-/// Several replicas. A channel of one reads the own journal of another, or of its own.
+/// Several replicas. A channel of one reads the binary log of another, or its own.
 #[derive(Drop)]
 pub struct Network {
     nodes: Vec<Node>,
+    // How far the channels of each node are known to have read.
+    readers: Vec<Reader>,
 }
 
 impl Model for Network {
@@ -36,12 +40,26 @@ impl Model for Network {
     ghost use Rattle.replica_core.specs.Slots.{seats_code};
     ghost use Rattle.network.specs.Slots.{sources_code};
     ghost use Rattle.network.specs.Nodes.{Node};
+    ghost use Rattle.network.specs.Reading.{AreRead};
 
     ghost Value = { List Node };
 
     ghost coded = { Prim.hlevel (codes, gtids_code, rows_code, seats_code, sources_code) };
 
     ghost view = { λ n. n.nodes.items };
+
+    ghost invariant = { λ n. AreRead n.nodes.items n.readers.items };
+}
+
+/// What a channel has to receive.
+#[derive(Drop)]
+enum Next {
+    /// No entry, and this is the reply.
+    Reply(NetworkReply),
+    /// No entry, since all have come: how many there are.
+    End(usize),
+    /// The first entry that has not come, and its place.
+    Entry(usize, Entry),
 }
 
 /// Whether no UUID stands twice.
@@ -54,71 +72,6 @@ pub fn ids_distinct(ids: &[SourceId]) -> bool
         }
     }
     true
-}
-
-/// The node at a place makes an event.
-fn make_at(
-    nodes: &mut Vec<Node>,
-    alloc: Global,
-    node: usize,
-    event: &Event,
-) -> Result<Reply, SetFault>
-    requires there { node < length nodes.old.items }
-    requires numbered { machine.is_numbered event.now ≡ true }
-    ensures ok { IfOk result (λ r. MakesAt nodes.old.items node event.now (λ n. n.sources) r nodes.new.items) }
-    ensures err { OnErr result (nodes.new.items ≡ nodes.old.items) }
-{
-    let one = &mut nodes[node];
-    one.make(alloc, event)
-}
-
-/// The node at a place positions a channel at a source.
-fn position_at(
-    nodes: &mut Vec<Node>,
-    alloc: Global,
-    node: usize,
-    channel: usize,
-    source: usize,
-) -> Result<Reply, SetFault>
-    requires { node < length nodes.old.items }
-    ensures ok { IfOk result (λ r. MakesAt nodes.old.items node (event.Position channel) (λ n. finmap.insert n.sources channel source) r nodes.new.items) }
-    ensures err { OnErr result (nodes.new.items ≡ nodes.old.items) }
-{
-    let one = &mut nodes[node];
-    one.position(alloc, channel, source)
-}
-
-/// Whether a GTID has come to a channel: by the set that it asked with, or by what it has received.
-fn has_come(asked: &GtidSet, received: &GtidSet, gtid: &Gtid) -> bool
-    ensures { result ≡ set.contains (set.union asked.now received.now) gtid.now }
-{
-    asked.contains(gtid) || received.contains(gtid)
-}
-
-/// Whether all of a set has come to a channel.
-fn have_come(
-    alloc: Global,
-    asked: &GtidSet,
-    received: &GtidSet,
-    gtids: &GtidSet,
-) -> Result<bool, SetFault>
-    ensures ok { IfOk result (λ b. b ≡ set.is_subset gtids.now (set.union asked.now received.now)) }
-    ensures fault { IsOkUnless result Memory }
-{
-    if gtids.is_subset(asked) {
-        return Ok(true);
-    }
-    let others = gtids.subtract(alloc, asked)?;
-    Ok(others.is_subset(received))
-}
-
-/// The first entry that has not come to a channel.
-fn next_entry<'a>(entries: &'a [Entry], asked: &GtidSet, received: &GtidSet) -> Option<&'a Entry>
-    ensures { option_copied result ≡ find (λ e. not (set.contains (set.union asked.now received.now) e.gtid)) entries.now }
-{
-    entries
-        .iter()
-        .find(|entry| !has_come(asked, received, &entry.gtid))
 }
 
 impl Network {
@@ -146,12 +99,14 @@ impl Network {
         ensures fault { IsOkUnless result Memory }
     {
         let mut nodes = Vec::new(alloc);
+        let mut readers = Vec::new(alloc);
         for own in ids {
             let copy = rows.copy()?;
             let node = Node::open(alloc, *own, copy)?;
             nodes.push(node)?;
+            readers.push(Reader::new(alloc))?;
         }
-        Ok(Network { nodes })
+        Ok(Network { nodes, readers })
     }
 
     /// A node's replica makes an event of its own.
@@ -159,6 +114,7 @@ impl Network {
         requires { machine.is_numbered event.now ≡ true }
         ensures ok { IfOk result (λ r. (r, self.new) ≡ step self.old (Act node event.now)) }
         ensures err { OnErr result (self.new ≡ self.old) }
+        ensures fault { IfErr result (λ f. IsFaultIn f (set_made self.old (Act node event.now))) }
     {
         if node >= self.nodes.len() {
             return Ok(NetworkReply::NoNode);
@@ -166,7 +122,7 @@ impl Network {
         if is_for_network(event) {
             return Ok(NetworkReply::NotHere);
         }
-        let reply = make_at(&mut self.nodes, alloc, node, event)?;
+        let reply = act_at(&mut self.nodes, &mut self.readers, alloc, node, event)?;
         Ok(NetworkReply::Replied(reply))
     }
 
@@ -180,6 +136,7 @@ impl Network {
     ) -> Result<NetworkReply, SetFault>
         ensures ok { IfOk result (λ r. (r, self.new) ≡ step self.old (Position node channel source)) }
         ensures err { OnErr result (self.new ≡ self.old) }
+        ensures fault { IfErr result (λ f. IsFaultIn f (set_made self.old (Position node channel source))) }
     {
         let Some(one) = self.nodes.get(node) else {
             return Ok(NetworkReply::NoNode);
@@ -206,8 +163,48 @@ impl Network {
                 return Ok(NetworkReply::Refused(PositionFault::ReplicaHasMore(gtids)));
             }
         }
-        let reply = position_at(&mut self.nodes, alloc, node, channel, source)?;
+        let reply = position_at(
+            &mut self.nodes,
+            &mut self.readers,
+            alloc,
+            node,
+            channel,
+            source,
+        )?;
         Ok(NetworkReply::Replied(reply))
+    }
+
+    /// What a channel of a node has to receive.
+    fn next(&self, alloc: Global, node: usize, channel: usize) -> Result<Next, SetFault>
+        ensures ok { IfOk result (IsNext self.now node channel) }
+        ensures fault { IsOkUnless result Memory }
+    {
+        let Some(one) = self.nodes.get(node) else {
+            return Ok(Next::Reply(NetworkReply::NoNode));
+        };
+        let Some(into) = one.replica().channel(channel) else {
+            return Ok(Next::Reply(NetworkReply::Replied(Reply::NoChannel)));
+        };
+        let Some(asked) = into.last_ask() else {
+            return Ok(Next::Reply(NetworkReply::Replied(Reply::NotPositioned)));
+        };
+        let Some(source) = one.source(channel) else {
+            return Ok(Next::Reply(NetworkReply::Replied(Reply::NotPositioned)));
+        };
+        let Some(from) = self.nodes.get(source) else {
+            return Ok(Next::Reply(NetworkReply::NoNode));
+        };
+        let journal = from.replica().journal().as_journal();
+        let known = self.readers[node].place(channel);
+        let Some(place) = start(alloc, known, journal, asked, into.received())? else {
+            return Ok(Next::Reply(NetworkReply::Replied(Reply::NotPositioned)));
+        };
+        journal.keeps_rules();
+        let next = next_place(journal.entries(), place, asked, into.received());
+        match journal.entries().get(next) {
+            Some(entry) => Ok(Next::Entry(next, entry.clone()?)),
+            None => Ok(Next::End(next)),
+        }
     }
 
     /// A channel of a node receives its source's first entry that has not come to it.
@@ -219,34 +216,27 @@ impl Network {
     ) -> Result<NetworkReply, SetFault>
         ensures ok { IfOk result (λ r. (r, self.new) ≡ step self.old (Receive node channel)) }
         ensures err { OnErr result (self.new ≡ self.old) }
+        ensures fault { IfErr result (λ f. IsFaultIn f (set_made self.old (Receive node channel))) }
     {
-        let Some(one) = self.nodes.get(node) else {
-            return Ok(NetworkReply::NoNode);
-        };
-        let Some(into) = one.replica().channel(channel) else {
-            return Ok(NetworkReply::Replied(Reply::NoChannel));
-        };
-        let Some(asked) = into.last_ask() else {
-            return Ok(NetworkReply::Replied(Reply::NotPositioned));
-        };
-        let Some(source) = one.source(channel) else {
-            return Ok(NetworkReply::Replied(Reply::NotPositioned));
-        };
-        let Some(from) = self.nodes.get(source) else {
-            return Ok(NetworkReply::NoNode);
-        };
-        let journal = from.replica().journal().as_journal();
-        if !have_come(alloc, asked, into.received(), journal.previous())? {
-            return Ok(NetworkReply::Replied(Reply::NotPositioned));
+        match self.next(alloc, node, channel)? {
+            Next::Reply(reply) => Ok(reply),
+            Next::End(place) => {
+                self.readers[node].put(channel, place)?;
+                Ok(NetworkReply::Nothing)
+            }
+            Next::Entry(place, entry) => {
+                let reply = receive_at(
+                    &mut self.nodes,
+                    &mut self.readers,
+                    alloc,
+                    node,
+                    channel,
+                    place,
+                    entry,
+                )?;
+                Ok(NetworkReply::Replied(reply))
+            }
         }
-        journal.keeps_rules();
-        let Some(next) = next_entry(journal.entries(), asked, into.received()) else {
-            return Ok(NetworkReply::Nothing);
-        };
-        let entry = next.clone()?;
-        let event = Event::Receive(channel, entry);
-        let reply = make_at(&mut self.nodes, alloc, node, &event)?;
-        Ok(NetworkReply::Replied(reply))
     }
 
     /// One event: its reply, and the nodes that it leaves. After an error nothing has changed.
@@ -254,6 +244,7 @@ impl Network {
         requires { is_numbered event.now ≡ true }
         ensures ok { IfOk result (λ r. (r, self.new) ≡ step self.old event.now) }
         ensures err { OnErr result (self.new ≡ self.old) }
+        ensures fault { IfErr result (λ f. IsFaultIn f (set_made self.old event.now)) }
     {
         match event {
             NetworkEvent::Act { node, event } => self.act(alloc, *node, event),
@@ -290,6 +281,7 @@ impl Network {
         ensures nodes { self.new ≡ after self.old (answered result.0.items events.now) }
         ensures whole { result.1 ≡ None → length result.0.items ≡ length events.now }
         ensures cut { IfSome result.1 (λ fault. length result.0.items < length events.now) }
+        ensures fault { IfSome result.1 (λ f. IsFaultAt f self.new (slice_get events.now (length result.0.items))) }
     {
         let mut told = Vec::new(alloc);
         for event in events {

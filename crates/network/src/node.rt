@@ -1,18 +1,20 @@
 //! One replica of a network, and the node that each of its channels reads.
-ghost use Rattle.std.specs.Prelude.{◌≡◌, ◌<◌, length, true, IfOk, OnOk, OnErr, IsOkUnless};
+ghost use Rattle.std.specs.Prelude.{◌≡◌, true, IfOk, IfErr, OnErr, IsOkUnless};
 ghost use Rattle.std.specs.FinMap as finmap;
 ghost use Rattle.gtid_set.specs.declared.fault.SetFault.TheVariants.{Memory};
 ghost use Rattle.replica_core.specs.Machine.{is_numbered};
 ghost use Rattle.replica_core.specs.declared.event.Event.TheVariants as event;
-ghost use Rattle.network.specs.Slots.{sources_of};
+ghost use Rattle.replica_core.specs.Faults.{IsFaultIn, made_by};
 ghost use Rattle.network.specs.Nodes.{opened_node};
 ghost use Rattle.network.specs.Made.{Makes};
+ghost use Rattle.network.specs.Reading.{reads};
 
+use crate::slots::{fill, make_slots, slot_at};
 use gtid_set::SetFault;
 use gtid_text::SourceId;
 use replica_core::{Core, Event, Reply};
 use rows::Rows;
-use std::alloc::{AllocError, Global};
+use std::alloc::Global;
 use std::marker::Model;
 
 /// A replica, and the node that each of its channels reads.
@@ -36,36 +38,6 @@ impl Model for Node {
     ghost coded = { Prim.hlevel (codes, gtids_code, rows_code, seats_code, sources_code) };
 
     ghost view = { λ n. record { replica = n.core; sources = sources_of n.sources.items } };
-}
-
-/// What a slot holds, where there is the slot.
-fn slot_at(slots: &[Option<usize>], channel: usize) -> Option<usize>
-    ensures { result ≡ finmap.get (sources_of slots.now) channel }
-{
-    if channel < slots.len() {
-        slots[channel]
-    } else {
-        None
-    }
-}
-
-/// Makes free slots up to a channel's, and so no difference.
-fn make_slots(slots: &mut Vec<Option<usize>>, channel: usize) -> Result<(), AllocError>
-    ensures there { OnOk result (channel < length slots.new.items) }
-    ensures same { sources_of slots.new.items ≡ sources_of slots.old.items }
-{
-    'slots: while slots.len() <= channel {
-        slots.push(None)?;
-    }
-    Ok(())
-}
-
-/// Fills a slot.
-fn fill(slots: &mut [Option<usize>], channel: usize, source: usize)
-    requires { channel < length slots.old }
-    ensures { sources_of slots.new ≡ finmap.insert (sources_of slots.old) channel source }
-{
-    slots[channel] = Some(source);
 }
 
 impl Node {
@@ -95,11 +67,22 @@ impl Node {
         slot_at(&self.sources, channel)
     }
 
+    /// Whether a channel was last positioned at this node.
+    pub(crate) fn reads(&self, channel: usize, source: usize) -> bool
+        ensures { result ≡ reads self.now.sources channel source }
+    {
+        match self.source(channel) {
+            Some(read) => read == source,
+            None => false,
+        }
+    }
+
     /// The replica makes an event, and its channels read what they read.
     pub(crate) fn make(&mut self, alloc: Global, event: &Event) -> Result<Reply, SetFault>
         requires { is_numbered event.now ≡ true }
         ensures ok { IfOk result (λ r. Makes self.old event.now self.old.sources r self.new) }
         ensures err { OnErr result (self.new ≡ self.old) }
+        ensures fault { IfErr result (λ f. IsFaultIn f (made_by self.old.replica.site self.old.replica.state event.now)) }
     {
         self.core.step(alloc, event)
     }
@@ -113,6 +96,7 @@ impl Node {
     ) -> Result<Reply, SetFault>
         ensures ok { IfOk result (λ r. Makes self.old (event.Position channel) (finmap.insert self.old.sources channel source) r self.new) }
         ensures err { OnErr result (self.new ≡ self.old) }
+        ensures fault { IfErr result (λ f. IsFaultIn f (made_by self.old.replica.site self.old.replica.state (event.Position channel))) }
     {
         make_slots(&mut self.sources, channel)?;
         let reply = self.core.step(alloc, &Event::Position(channel))?;

@@ -25,7 +25,7 @@ use Rattle.network.specs.declared.event.NetworkReply.TheVariants.{NoNode}
 use Rattle.network.specs.Nodes.{Node, Sources}
 use Rattle.network.specs.Machine.{Making, Decision, decide, make_at, make, after}
 use Rattle.rings.specs.Runs.{made_at, events_at, local_at, local_of, locals}
-use Rattle.rings.proofs.Moving.{step_moves}
+use Rattle.network.proofs.Moving.{step_moves}
 use Rattle.rings.proofs.Contents.{in_left, in_right}
 use Rattle.rings.proofs.Numbering.{step_learns, own_is_faithful}
 use Rattle.rings.proofs.Nodes.{changed, changed_here, changed_other, set_there, set_other, all_after}

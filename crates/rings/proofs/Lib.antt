@@ -1,6 +1,5 @@
 pub mod Prefixes
 pub mod Sources
-pub mod Moving
 pub mod Contents
 pub mod Numbering
 pub mod Deciding

@@ -39,7 +39,8 @@ use Rattle.network.specs.Machine.{come, next_of, is_for_network}
 use Rattle.network.specs.Nodes.{Sources}
 use Rattle.rings.specs.Sending.{is_entry}
 use Rattle.rings.proofs.Prefixes.{next_is_sent}
-use Rattle.rings.proofs.Moving.{step_moves}
+use Rattle.network.proofs.Moving.{step_moves}
+use Rattle.network.proofs.Coming.{stands_received, received_stands}
 use Rattle.rings.proofs.Contents.{entry_is_in}
 use Rattle.rings.proofs.Logs.{IsLog, unpurged}
 use Rattle.rings.proofs.Nodes.{eqb_other}
@@ -111,17 +112,6 @@ own_links site s since sources history e n linked = record {
 }
 
 -- ---- a Position
-
-stands_among : (rs : List Received) (q : ℕ) (f : Received) (g : Gtid) → slice_get rs q ≡ Some f → f.gtid ≡ g → list_any (λ x. same_gtid g x) (map (λ (e : Received). e.gtid) rs) ≡ true
-stands_among [] q f g e same = none_some f e
-stands_among (r ∷ rs) zero f g e same = or_left (same_gtid g r.gtid) (list_any (λ x. same_gtid g x) (map (λ (e : Received). e.gtid) rs)) (ap (same_gtid g) (ap (λ (x : Received). x.gtid) (same_Some r f e) ∙ same) ∙ same_itself g)
-stands_among (r ∷ rs) (suc q) f g e same = or_right (same_gtid g r.gtid) (list_any (λ x. same_gtid g x) (map (λ (e : Received). e.gtid) rs)) (stands_among rs q f g e same)
-
-pub stands_received : (rs : List Received) (g : Gtid) → Stands g rs → set.contains (received_gtids rs) g ≡ true
-stands_received rs g w = in_gtids (map (λ (e : Received). e.gtid) rs) g ∙ stands_among rs w.0 w.1 g w.2 w.3
-
-pub received_stands : (rs : List Received) (g : Gtid) → set.contains (received_gtids rs) g ≡ true → Stands g rs
-received_stands rs g h = among_received rs g (sym (in_gtids (map (λ (e : Received). e.gtid) rs) g) ∙ h)
 
 get_inserted : (sources : Sources) (c k d : ℕ) → finmap.get (finmap.insert sources c k) d ≡ cond (eq_by_cmp nat_cmp d c) (Some k) (finmap.get sources d)
 get_inserted sources c k d = get-insert nat_cmp_total sources c k d

@@ -19,7 +19,7 @@ use Rattle.source_history.proofs.Keeping.{journal_push}
 use Rattle.faithful_runs.specs.Faithful.{Since}
 use Rattle.faithful_runs.proofs.Invariant.{Invariant}
 use Rattle.rings.specs.Sending.{is_entry}
-use Rattle.rings.proofs.Moving.{Journals, Stays, Appends, Purges}
+use Rattle.network.proofs.Moving.{Journals, Stays, Appends, Purges}
 
 -- a journal from which nothing was purged
 abbrev pub unpurged : List Entry → JournalValue

@@ -32,7 +32,7 @@ use Rattle.network.specs.Machine.{Making, Decision, is_for_network, come, decide
 use Rattle.rings.specs.Sending.{is_entry}
 use Rattle.rings.specs.Runs.{local_at, local_of}
 use Rattle.rings.proofs.Prefixes.{IsOnce, found_parts, Parts}
-use Rattle.rings.proofs.Moving.{Journals, step_moves}
+use Rattle.network.proofs.Moving.{Journals, step_moves}
 use Rattle.rings.proofs.Contents.{entry_is_in, once_push}
 use Rattle.rings.proofs.Numbering.{step_learns}
 use Rattle.rings.proofs.Nodes.{set_there, set_other}

@@ -31,7 +31,7 @@ use Rattle.rings.specs.Sending.{is_entry}
 use Rattle.rings.specs.Runs.{made_at, events_at, local_of, locals}
 use Rattle.rings.specs.Rings.{IsNotMore, HasNoMore}
 use Rattle.rings.proofs.Deciding.{IsMade, IsRefused, decides}
-use Rattle.rings.proofs.Links.{received_stands}
+use Rattle.network.proofs.Coming.{received_stands}
 use Rattle.rings.proofs.Numbers.{Numbers, own_done, numbers_step}
 
 -- ---- numbers

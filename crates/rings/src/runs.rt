@@ -1,7 +1,9 @@
 //! Runs of a network, with what they leave.
-ghost use Rattle.std.specs.Prelude.{◌≡◌, ◌<◌, [], ◌∷◌, true, length, None, IfOk, IfSome, OnErr};
+ghost use Rattle.std.specs.Prelude.{◌≡◌, ◌<◌, [], ◌∷◌, true, length, slice_get, None, IfOk, IfErr, IfSome, OnErr};
+ghost use Rattle.replica_core.specs.Faults.{IsFaultIn};
 ghost use Rattle.network.specs.Machine as machine;
 ghost use Rattle.network.specs.Machine.{is_numbered, AreNumbered, replies, after, answered};
+ghost use Rattle.network.specs.Faults.{set_made, IsFaultAt};
 ghost use Rattle.rings.specs.Rings.{LeavesMerged};
 
 use gtid_set::SetFault;
@@ -19,6 +21,7 @@ pub fn step(
     ensures ok { IfOk result (λ r. (r, network.new) ≡ machine.step network.old event.now) }
     ensures merged { IfOk result (λ r. LeavesMerged network.old (event.now ∷ []) (r ∷ []) network.new) }
     ensures err { OnErr result (network.new ≡ network.old) }
+    ensures fault { IfErr result (λ f. IsFaultIn f (set_made network.old event.now)) }
 {
     network.step(alloc, event)
 }
@@ -37,6 +40,7 @@ pub fn run(
     ensures merged { LeavesMerged network.old (answered result.0.items events.now) result.0.items network.new }
     ensures whole { result.1 ≡ None → length result.0.items ≡ length events.now }
     ensures cut { IfSome result.1 (λ fault. length result.0.items < length events.now) }
+    ensures fault { IfSome result.1 (λ f. IsFaultAt f network.new (slice_get events.now (length result.0.items))) }
 {
     network.run(alloc, events)
 }

@@ -11,6 +11,8 @@ mod pieces;
 #[cfg(test)]
 mod positions;
 #[cfg(test)]
+mod rings;
+#[cfg(test)]
 mod seats;
 #[cfg(test)]
 mod sets;

@@ -1,0 +1,11 @@
+use Rattle.rows.proofs.Lists.{if_ok}
+use Rattle.network.proofs.NetworkLemmas.{makes_at, faults_at}
+use Rattle.network.proofs.making.make_at.Goals as goal
+
+pub returns-clause-ok : goal.returns-clause-ok
+returns-clause-ok c =
+    let x = c.index_mut-one.result.now in
+    if_ok c.make.result (λ r m. makes_at c.args.nodes.now.items c.args.node x c.args.event.now (λ n. n.sources) r c.make.new.self c.requires.there c.index_mut-one.ensures.value m) c.make.ensures.ok
+
+pub returns-clause-fault : goal.returns-clause-fault
+returns-clause-fault c = faults_at c.args.nodes.now.items c.args.node c.index_mut-one.result.now c.args.event.now c.make.result c.requires.there c.index_mut-one.ensures.value c.make.ensures.fault

@@ -1,0 +1,76 @@
+//! What has come to a channel of its source's binary log, and what comes next.
+ghost use Rattle.std.specs.Prelude.{◌≡◌, ◌≤◌, false, true, length, take, IfOk, IsOkUnless, MatchOption};
+ghost use Rattle.std.specs.List.{list_all};
+ghost use Rattle.std.specs.FinSet as set;
+ghost use Rattle.gtid_set.specs.declared.fault.SetFault.TheVariants.{Memory};
+ghost use Rattle.network.specs.Reading.{HasRead, IsNextPlace, IsRead, has_come};
+
+use gtid_set::{GtidSet, SetFault};
+use gtid_text::Gtid;
+use journal::{Entry, Journal};
+use std::alloc::Global;
+
+/// Whether a GTID has come to a channel: by the set that it asked with, or by what it has received.
+fn has_come(asked: &GtidSet, received: &GtidSet, gtid: &Gtid) -> bool
+    ensures { result ≡ set.contains (set.union asked.now received.now) gtid.now }
+{
+    asked.contains(gtid) || received.contains(gtid)
+}
+
+/// Whether all of a set has come to a channel.
+fn have_come(
+    alloc: Global,
+    asked: &GtidSet,
+    received: &GtidSet,
+    gtids: &GtidSet,
+) -> Result<bool, SetFault>
+    ensures ok { IfOk result (λ b. b ≡ set.is_subset gtids.now (set.union asked.now received.now)) }
+    ensures fault { IsOkUnless result Memory }
+{
+    if gtids.is_subset(asked) {
+        return Ok(true);
+    }
+    let others = gtids.subtract(alloc, asked)?;
+    Ok(others.is_subset(received))
+}
+
+/// The place of the first entry that has not come to a channel, or the number of entries. Those before a place have come.
+pub(crate) fn next_place(
+    entries: &[Entry],
+    place: usize,
+    asked: &GtidSet,
+    received: &GtidSet,
+) -> usize
+    requires short { place ≤ length entries.now }
+    requires come { list_all (has_come (set.union asked.now received.now)) (take place entries.now) ≡ true }
+    ensures { IsNextPlace (set.union asked.now received.now) entries.now result }
+{
+    let mut next = place;
+    'next: while next < entries.len() && has_come(asked, received, &entries[next].gtid) {
+        next += 1;
+    }
+    next
+}
+
+/// A place of a journal before which all entries have come to a channel, purged ones too: the one that is known, or else the first, if
+/// all that was purged has come.
+pub(crate) fn start(
+    alloc: Global,
+    known: Option<usize>,
+    journal: &Journal,
+    asked: &GtidSet,
+    received: &GtidSet,
+) -> Result<Option<usize>, SetFault>
+    requires { IsRead (set.union asked.now received.now) journal.now known }
+    ensures ok { IfOk result (λ start. MatchOption start (set.is_subset journal.now.previous (set.union asked.now received.now) ≡ false) (HasRead (set.union asked.now received.now) journal.now)) }
+    ensures fault { IsOkUnless result Memory }
+{
+    if known.is_some() {
+        return Ok(known);
+    }
+    if have_come(alloc, asked, received, journal.previous())? {
+        Ok(Some(0))
+    } else {
+        Ok(None)
+    }
+}
