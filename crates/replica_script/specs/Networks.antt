@@ -1,7 +1,8 @@
 -- What a network answers to the lines of a script, and what a script answers that asks one replica or a network.
-use Rattle.std.specs.Prelude.{◌≡◌, ℕ, false, List, Option, Some, None, option_map, slice_get, ◌⊎◌, codes}
+use Rattle.std.specs.Prelude.{◌≡◌, ℕ, false, List, Option, Some, None, option_map, slice_get, ◌⊎◌}
 use Rattle.network.specs.Nodes.{Node}
 use Rattle.network.specs.Machine.{step, is_numbered}
+use Rattle.network.specs.Faults.{set_made}
 use Rattle.network.specs.declared.event.NetworkEvent.{NetworkEvent}
 use Rattle.network.specs.declared.event.NetworkReply.TheVariants.{NoNode}
 use Rattle.replica_core.specs.State.{Replica}
@@ -15,7 +16,7 @@ use Rattle.replica_script.specs.declared.answer.Stop.TheVariants as stop
 use Rattle.replica_script.specs.declared.replicas.Replicas.{Replicas}
 use Rattle.replica_script.specs.declared.replicas.Replicas.TheVariants.{One, Network}
 use Rattle.replica_script.specs.Replies.{ended, network_reply_line}
-use Rattle.replica_script.specs.Scripts.{Answers, IsLeftBy, IsShown, IsStopAt}
+use Rattle.replica_script.specs.Scripts.{Answers, IsFullLine, IsLeftBy, IsShown, IsStopAt}
 
 -- ---- a network
 
@@ -26,7 +27,7 @@ pub record IsMadeIn (old : List Node) (event : NetworkEvent) (new : List Node) (
 
 -- an event was made; or the set that it makes would have too many sources, and nothing has changed
 abbrev pub IsNetworkAnswer : List Node → NetworkEvent → List Node → List ℕ → Type 0
-IsNetworkAnswer old event new text = IsMadeIn old event new text ⊎ ((text ≡ codes "SourcesFull\n") × (new ≡ old))
+IsNetworkAnswer old event new text = IsMadeIn old event new text ⊎ (IsFullLine (set_made old event) text × (new ≡ old))
 
 -- a query of a replica was answered, or there is no such node
 abbrev pub IsShownBy : Option Replica → Query → List ℕ → Type 0
