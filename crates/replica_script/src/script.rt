@@ -1,6 +1,7 @@
 //! A script, line by line.
-ghost use Rattle.std.specs.Prelude.{◌≡◌, None, Some, Err, IfErr, OnOk, is_some};
+ghost use Rattle.std.specs.Prelude.{◌≡◌, None, Some, Err, IfOk, IfErr, OnOk, is_some};
 ghost use Rattle.replica_script.specs.declared.answer.Stop.{Stop};
+ghost use Rattle.replica_script.specs.Declarations.{IsOpenedAs};
 ghost use Rattle.replica_script.specs.Scripts.{ending};
 
 use crate::answer::{Asking, Stop};
@@ -9,6 +10,8 @@ use crate::question::{Asked, NetworkQuestion, asked_of, network_event_in, number
 use crate::replicas::{Replicas, answer_asked};
 use crate::transaction::{Pending, heading_in};
 use journal_words::{cut, source_word};
+use network::Network;
+use replica_core::Core;
 use std::alloc::Global;
 use std::mem;
 use txn_journal::Bundle;
@@ -22,25 +25,40 @@ fn is_passed_over(line: &[u8]) -> bool {
 }
 
 /// The replica that a line declares behind its first word, with the tables and rows of a bundle.
-fn core_in(alloc: Global, rest: &[u8], bundle: &Bundle) -> Result<Replicas, Stop> {
+fn core_in(alloc: Global, rest: &[u8], bundle: &Bundle) -> Result<Core, Stop> {
     let (source, set) = cut(rest);
     let Some(own) = source_word(alloc, source)? else {
         return Err(Stop::BadLine);
     };
     let executed = executed_word(alloc, set)?;
-    match core_on(alloc, bundle, own, executed) {
-        Ok(core) => Ok(Replicas::One(core)),
-        Err(stop) => Err(stop),
-    }
+    core_on(alloc, bundle, own, executed)
 }
 
 /// The network that a line declares behind its first word, with the tables and rows of a bundle.
-fn network_in(alloc: Global, rest: &[u8], bundle: &Bundle) -> Result<Replicas, Stop> {
-    let Some(ids) = source_words(alloc, rest)? else {
-        return Err(Stop::BadLine);
-    };
-    match network_on(alloc, bundle, &ids) {
-        Ok(network) => Ok(Replicas::Network(network)),
+fn network_in(alloc: Global, rest: &[u8], bundle: &Bundle) -> Result<Network, Stop>
+    ensures { IfOk result (IsOpenedAs rest.now bundle.now.start) }
+{
+    match source_words(alloc, rest)? {
+        Some(ids) => network_on(alloc, bundle, &ids),
+        None => Err(Stop::BadLine),
+    }
+}
+
+/// What a line declares behind its first word, with the tables and rows of a bundle.
+fn replicas_in(
+    alloc: Global,
+    is_network: bool,
+    rest: &[u8],
+    bundle: &Bundle,
+) -> Result<Replicas, Stop> {
+    if is_network {
+        return match network_in(alloc, rest, bundle) {
+            Ok(network) => Ok(Replicas::Network(network)),
+            Err(stop) => Err(stop),
+        };
+    }
+    match core_in(alloc, rest, bundle) {
+        Ok(core) => Ok(Replicas::One(core)),
         Err(stop) => Err(stop),
     }
 }
@@ -90,8 +108,7 @@ impl Stage {
             return Err(Stop::BadLine);
         }
         match self.end_declared(alloc) {
-            Ok(bundle) if is_network => network_in(alloc, rest, &bundle),
-            Ok(bundle) => core_in(alloc, rest, &bundle),
+            Ok(bundle) => replicas_in(alloc, is_network, rest, &bundle),
             Err(stop) => Err(stop),
         }
     }
