@@ -3,7 +3,7 @@ use Rattle.std.proofs.lemmas.List.{take_more, take_all}
 use Rattle.std.proofs.lemmas.List.Elements.{All-append}
 use Rattle.network.specs.declared.event.NetworkEvent.{NetworkEvent}
 use Rattle.network.specs.Machine.{AreNumbered, is_numbered}
-use Rattle.worked_calls.proofs.rings.are_numbered.Goals as goal
+use Rattle.worked_calls.proofs.ring.are_numbered.Goals as goal
 
 one_numbered : (e : NetworkEvent) → is_numbered e ≡ true → AreNumbered (e ∷ [])
 one_numbered e p zero d h = p
