@@ -18,6 +18,7 @@ PURGED = "sweep/purged.journal"
 A = "aaaaaaaa-aaaa-aaaa-aaaa-aaaaaaaaaaaa"
 REPLICAS = "sweep/three.script"
 ANSWERS = "sweep/three.answers"
+NETWORK = "examples/ring.script"
 
 
 def library(folder, name):

@@ -69,6 +69,10 @@ class GtidSet:
         """Whether it has more sources than a set may have."""
         return len(self._runs) > MOST_SOURCES
 
+    def has_room(self, source: str) -> bool:
+        """Whether a member of this source may be put in."""
+        return source in self._runs or len(self._runs) < MOST_SOURCES
+
     def add(self, gtid: Gtid) -> None:
         """Puts one more member in."""
         runs = self._runs.setdefault(gtid.source, [])

@@ -252,25 +252,34 @@ class BundleMaker:
         journal = self.chance.choice(journals)
         at = self.chance.randrange(len(journal.entries))
         entry, tables = journal.entries[at], list(bundle.schema.values())
-        match self.chance.randrange(6):
-            case 0:
+        match self.chance.randrange(10):
+            case 0 | 1:
                 del journal.entries[at]
-            case 1:
-                self.put_in_place(journal, at, replace(entry, changes=self.wild_transaction(tables)))
             case 2:
-                self.put_in_place(journal, at, replace(entry, gtid=Gtid(entry.gtid.source, self.wild_number())))
+                self.put_in_place(journal, at, replace(entry, changes=self.wild_transaction(tables)))
             case 3:
-                self.put_in_place(journal, at, replace(entry, gtid=Gtid(self.chance.choice(SOURCES), entry.gtid.number)))
+                self.put_in_place(journal, at, replace(entry, gtid=Gtid(entry.gtid.source, self.wild_number())))
             case 4:
+                self.put_in_place(journal, at, replace(entry, gtid=Gtid(self.chance.choice(SOURCES), entry.gtid.number)))
+            case 5 | 6:
                 journal.entries.insert(self.chance.randrange(len(journal.entries)), journal.entries.pop(at))
-            case 5:
+            case 7:
                 journal.previous = journal.previous | (self.wild_set() - journal.whole())
+            case _:
+                changes = self.chance.choice(self.chance.choice(journals).entries).changes or self.wild_transaction(tables)
+                put_everywhere(journals, Entry(entry.gtid, changes))
 
     def put_in_place(self, journal: Journal, at: int, entry: Entry) -> None:
         """Puts an entry in the place of another one, where its GTID stands nowhere else."""
         others = Journal(journal.previous, [*journal.entries[:at], *journal.entries[at + 1 :]])
         if entry.gtid not in others.whole():
             journal.entries[at] = entry
+
+
+def put_everywhere(journals: list[Journal], entry: Entry) -> None:
+    """Puts an entry in the place of each one of its GTID."""
+    for journal in journals:
+        journal.entries = [entry if it.gtid == entry.gtid else it for it in journal.entries]
 
 
 def needed(bundle: Bundle, contents: dict[Gtid, Transaction]) -> dict[Gtid, set[Gtid]]:

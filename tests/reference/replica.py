@@ -1,4 +1,7 @@
-"""A replica: one event, one reply, one new state. Written by another hand from docs/SCRIPTS.md and compared with the proved programs."""
+"""A replica: one event, one reply, one new state. Written by another hand from docs/SCRIPTS.md and compared with the proved programs.
+
+An event that would make a set of too many sources raises SourcesFull, and has changed nothing then.
+"""
 from __future__ import annotations
 
 from collections import deque
@@ -6,7 +9,7 @@ from collections.abc import Iterator
 from dataclasses import dataclass, field
 
 from .formats import MOST_CHANNELS, Entry, Journal, journal_lines
-from .gtids import Gtid, GtidSet
+from .gtids import Gtid, GtidSet, SourcesFull
 from .rows import Key, RowFault, Rows, Schema, Transaction, keys_of, misfit
 
 MOST_SEATS = 64
@@ -113,7 +116,12 @@ class Replica:
         channel = self.channels[c]
         if channel.last_ask is None:
             return NOT_POSITIONED
-        return self.refused_by_schema(changes) or Reply("Received", channel.receive(self.rows.schema, Entry(gtid, changes)))
+        refused = self.refused_by_schema(changes)
+        if refused:
+            return refused
+        if not channel.received.has_room(gtid.source):
+            raise SourcesFull
+        return Reply("Received", channel.receive(self.rows.schema, Entry(gtid, changes)))
 
     def take(self, seat: int, c: int, place: int) -> Reply:
         """A seat takes a place."""
@@ -150,16 +158,22 @@ class Replica:
         if channel.preserve and channel.first_not_executed(self.executed) < place:
             return Reply("Early", channel.first_not_executed(self.executed))
         entry = channel.entries[place]
-        del self.seats[seat]
         try:
-            self.rows.apply(entry.changes)
+            reply = self.committed(entry)
         except RowFault as fault:
             channel.is_stopped = True
-            return Reply("RowRefused", f"{entry.gtid} {fault.text()}")
-        return self.committed(entry)
+            reply = Reply("RowRefused", f"{entry.gtid} {fault.text()}")
+        del self.seats[seat]
+        return reply
 
     def committed(self, entry: Entry) -> Reply:
-        """An entry whose changes are made is executed, and stands at the end of the own journal."""
+        """The changes of an entry are made; it is executed, and stands at the end of the own journal.
+
+        Which comes first, a full set or the rows' refusal, docs/SCRIPTS.md leaves open: here it is the set.
+        """
+        if not self.executed.has_room(entry.gtid.source):
+            raise SourcesFull
+        self.rows.apply(entry.changes)
         self.executed.add(entry.gtid)
         self.journal.entries.append(entry)
         return Reply("Committed", entry.gtid)
@@ -191,10 +205,9 @@ class Replica:
         if number is None:
             return Reply("NumbersUsedUp")
         try:
-            self.rows.apply(changes)
+            return self.committed(Entry(Gtid(self.own, number), changes))
         except RowFault as fault:
             return Reply("Refused", fault.text())
-        return self.committed(Entry(Gtid(self.own, number), changes))
 
     def purge(self, k: int) -> Reply:
         """The first k entries of the own journal go into its previous set."""
@@ -229,7 +242,12 @@ class Replica:
 
     def ask(self, c: int) -> GtidSet | None:
         """The set that Position would answer now."""
-        return self.executed | self.channels[c].received if self.has_channel(c) else None
+        if not self.has_channel(c):
+            return None
+        asked = self.executed | self.channels[c].received
+        if asked.is_full():
+            raise SourcesFull
+        return asked
 
     def next_ready(self, c: int, start: int) -> int | None:
         """The least place from there that a seat may take."""

@@ -4,14 +4,13 @@ from __future__ import annotations
 from collections.abc import Callable
 from dataclasses import dataclass, field
 
-from .formats import COUNT_FORM, NAME_FORM, JournalDraft, LineFault, ask, put_row, table_in, take_line
-from .gtids import UUID_FORM, Gtid, SourcesFull, gtid_in, set_in
+from .formats import COUNT_FORM, NAME_FORM, JournalDraft, LineFault, put_row, table_in, take_line
+from .gtids import UUID_FORM, Gtid, GtidSet, SourcesFull, gtid_in, set_in
 from .network import NO_NODE, Network
 from .replica import Replica, Reply
 from .rows import Rows, Transaction
 
 NOBODY = Gtid("00000000-0000-0000-0000-000000000000", 1)
-FULL = "SourcesFull"
 
 Events = Callable[[Transaction], Reply]
 
@@ -40,6 +39,17 @@ def uuid_in(word: str) -> str:
     if not UUID_FORM.fullmatch(word):
         raise BadLine
     return word
+
+
+def opening_in(words: list[str]) -> GtidSet:
+    """The executed set that a replica is opened with: that of the word, if any."""
+    try:
+        found = set_in(words[0]) if words else GtidSet()
+    except SourcesFull:
+        raise BadLine from None
+    if found is None:
+        raise BadLine
+    return found
 
 
 def none_or(value: object) -> str:
@@ -72,6 +82,8 @@ class Script:
             self.take_word(line)
         except LineFault:
             raise BadLine from None
+        except SourcesFull:
+            self.answers.append("SourcesFull")
 
     def take_word(self, line: str) -> None:
         """Takes a line by what is due."""
@@ -102,10 +114,7 @@ class Script:
             put_row(body, rows)
             self.declared.has_rows = True
         elif word == "core" and len(words) <= 2:
-            opening = set_in(words[1] if len(words) == 2 else "-")
-            ask(opening is not None)
-            assert opening is not None
-            self.replica = Replica(uuid_in(words[0]), rows, opening)
+            self.replica = Replica(uuid_in(words[0]), rows, opening_in(words[1:]))
         elif word == "network" and len(set(words)) == len(words):
             self.network = Network([uuid_in(it) for it in words], rows)
         else:
@@ -166,7 +175,7 @@ class Script:
             return self.not_here(node, words)
         if node is not None:
             return self.answered(node, words)
-        answers = self.answered(Replica(NOBODY.source, Rows({}), set_in("-")), words)
+        answers = self.answered(Replica(NOBODY.source, Rows({}), GtidSet()), words)
         if self.is_open():
             self.event = lambda changes: NO_NODE
             return answers
@@ -215,7 +224,7 @@ def one_answer(replica: Replica, words: list[str]) -> object:
             return "true" if replica.is_drained() else "false"
         case ["ask", c]:
             asked = replica.ask(number_in(c))
-            return none_or(asked and asked.word())
+            return none_or(None if asked is None else asked.word())
         case ["next", c, start]:
             return none_or(replica.next_ready(number_in(c), number_in(start)))
         case ["entry", c, place]:

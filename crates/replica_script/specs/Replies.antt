@@ -1,6 +1,10 @@
--- The printed line of each reply. The words and their order are our own; the numbers E10 to E12 are those of the printed refusals.
-use Rattle.std.specs.Prelude.{ℕ, List, ◌++◌, codes, decimal}
+-- The printed line of each reply. The words and their order are our own; the numbers E10 to E12, E19 and E20 are those of the printed refusals.
+use Rattle.std.specs.Prelude.{ℕ, List, [], ◌++◌, codes, decimal}
 use Rattle.gtid_text.specs.declared.Gtid.{Gtid}
+use Rattle.auto_position.specs.declared.PositionFault.{PositionFault}
+use Rattle.auto_position.specs.declared.PositionFault.TheVariants.{PurgedRequired, ReplicaHasMore, Set}
+use Rattle.network.specs.declared.event.NetworkReply.{NetworkReply}
+use Rattle.network.specs.declared.event.NetworkReply.TheVariants.{NoNode, NotHere, Refused, Nothing, Replied}
 use Rattle.gtid_text.specs.Canonical.{gtid_text}
 use Rattle.rows.specs.declared.change.Misfit.{Misfit}
 use Rattle.rows.specs.declared.change.Misfit.TheVariants.{NoTable, Columns, NullInPrimary, TooLong, TooMany}
@@ -67,3 +71,19 @@ reply_line (reply.LocalRefused fault) = refused_text fault
 reply_line (reply.TooMany len) = within (codes "TooMany") (decimal len)
 reply_line (reply.Purged set) = within (codes "Purged") (set_text set)
 reply_line (reply.Shown set) = within (codes "Shown") (set_text set)
+
+-- ---- a network
+
+-- what a source does not send for: GTIDs that it has purged, or those of its own that it has no record of; a want of memory is no reply, and has no text
+abbrev pub withheld_text : PositionFault → List ℕ
+withheld_text (PurgedRequired gtids) = codes "E19 purged " ++ set_text gtids
+withheld_text (ReplicaHasMore gtids) = codes "E20 has-more " ++ set_text gtids
+withheld_text (Set fault) = []
+
+-- the line of a network's reply, without its line feed
+abbrev pub network_reply_line : NetworkReply → List ℕ
+network_reply_line NoNode = codes "NoNode"
+network_reply_line NotHere = codes "NotHere"
+network_reply_line (Refused fault) = within (codes "Refused") (withheld_text fault)
+network_reply_line Nothing = codes "Nothing"
+network_reply_line (Replied told) = reply_line told

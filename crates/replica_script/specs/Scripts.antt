@@ -12,7 +12,6 @@ use Rattle.replica_script.specs.declared.question.Query.{Query}
 use Rattle.replica_script.specs.declared.question.Query.TheVariants as query
 use Rattle.replica_script.specs.declared.question.Question.{Question}
 use Rattle.replica_script.specs.declared.question.Question.TheVariants as question
-use Rattle.replica_script.specs.declared.answer.Asking.{Asking}
 use Rattle.replica_script.specs.declared.answer.Asking.TheVariants as asking
 use Rattle.replica_script.specs.declared.answer.Unanswered.{Unanswered}
 use Rattle.replica_script.specs.declared.answer.Unanswered.TheVariants as unasked

@@ -175,7 +175,7 @@ fn show(alloc: Global, core: &Core, query: Query, asking: Asking) -> Result<Vec<
 }
 
 /// The line of a set that would have too many sources.
-fn full_line(alloc: Global) -> Result<Vec<u8>, AllocError>
+pub fn full_line(alloc: Global) -> Result<Vec<u8>, AllocError>
     ensures { IfOk result (λ text. text.items ≡ codes "SourcesFull\n") }
 {
     Vec::from_slice(alloc, b"SourcesFull\n")
@@ -207,7 +207,12 @@ pub fn answer_event(
 }
 
 /// Shows what a query asks for.
-fn answer_query(alloc: Global, core: &Core, query: Query, asking: Asking) -> Result<Vec<u8>, Stop>
+pub fn answer_query(
+    alloc: Global,
+    core: &Core,
+    query: Query,
+    asking: Asking,
+) -> Result<Vec<u8>, Stop>
     ensures shown { IfOk result (λ text. IsShown core.now query text.items) }
     ensures stop { IfErr result (IsStopAt (asked.Query query)) }
 {

@@ -1,16 +1,20 @@
-//! The program `replica_script`: a replica is asked what a script says, and its answers are printed.
+//! The program `replica_script`: a replica, or a network of replicas, is asked what a script says, and the answers are printed.
 #![tactic(auto)]
 
 ghost use Rattle.std.specs.Prelude.{◌≡◌};
 ghost use Rattle.replica_script.specs.Scripts.{command_named, command_of, status_of};
 
 mod answer;
+mod declaration;
 mod edge;
 mod message;
+mod network_answer;
 mod query;
 mod question;
+mod replicas;
 mod reply;
 mod script;
+mod transaction;
 
 use crate::answer::Asking;
 use crate::edge::{Fault, run_script};
@@ -34,8 +38,8 @@ const HELP: &str = "\
 usage: replica_script [--again] < script
        replica_script --help
 
-Reads a script of events and queries, asks a replica line by line, and prints its answers.
-With --again each event and query that is refused memory is asked once more.
+Reads a script of events and queries, asks a replica, or a network of replicas, line by line, and prints the answers.
+With --again each event and query that is refused memory is asked once more; of a network, each query.
 The language of scripts stands in docs/SCRIPTS.md.
 ";
 

@@ -1,9 +1,11 @@
-//! What a line asks of a replica.
+//! What a line asks of a replica, or of a network.
 ghost use Rattle.std.specs.Prelude.{◌≡◌};
 ghost use Rattle.journal_words.specs.Words.{count_of};
 ghost use Rattle.replica_script.specs.Questions.{alone, seat, with_one, with_two, with_three, with_numbers};
+ghost use Rattle.replica_script.specs.NetworkQuestions.{asked_of, at_node, network_event_of, network_with_two, network_with_three};
 
 use journal_words::{count, cut};
+use network::NetworkEvent;
 use replica_core::Event;
 use rows::{Name, NameFault};
 use std::alloc::{AllocError, Global};
@@ -31,11 +33,29 @@ pub enum Query {
     Entry(usize, usize),
 }
 
-/// A question of one line.
+/// What a replica is asked.
 #[derive(Drop)]
 pub enum Question {
     Event(Event),
     Query(Query),
+}
+
+/// What a network is asked.
+#[derive(Drop)]
+pub enum NetworkQuestion {
+    /// An event, of a node's replica or of the network itself.
+    Event(NetworkEvent),
+    /// A query of a node's replica: node, query.
+    Query(usize, Query),
+}
+
+/// What is asked, and of which of the two.
+#[derive(Drop)]
+pub enum Asked {
+    /// Of the one replica.
+    Replica(Question),
+    /// Of the network.
+    Network(NetworkQuestion),
 }
 
 /// The question that is one word.
@@ -183,4 +203,73 @@ pub fn question_in(alloc: Global, line: &[u8]) -> Result<Option<Question>, Alloc
         return channel(alloc, rest);
     }
     Ok(with_numbers(word, rest))
+}
+
+/// The question of a node's replica.
+fn at_node(node: usize, question: Question) -> NetworkQuestion
+    ensures { result ≡ at_node node question }
+{
+    match question {
+        Question::Event(event) => NetworkQuestion::Event(NetworkEvent::Act { node, event }),
+        Question::Query(query) => NetworkQuestion::Query(node, query),
+    }
+}
+
+/// A question of the replica of this node, or of the one replica where there is no network.
+pub fn asked_of(node: Option<usize>, question: Question) -> Asked
+    ensures { result ≡ asked_of node question }
+{
+    match node {
+        Some(node) => Asked::Network(at_node(node, question)),
+        None => Asked::Replica(question),
+    }
+}
+
+/// The event of a network that is a word and two numbers.
+fn network_with_two(word: &[u8], node: usize, channel: usize) -> Option<NetworkEvent>
+    ensures { result ≡ network_with_two word.now node channel }
+{
+    if word == b"receive".as_slice() {
+        Some(NetworkEvent::Receive { node, channel })
+    } else {
+        None
+    }
+}
+
+/// The event of a network that is a word and three numbers.
+fn network_with_three(
+    word: &[u8],
+    node: usize,
+    channel: usize,
+    source: usize,
+) -> Option<NetworkEvent>
+    ensures { result ≡ network_with_three word.now node channel source }
+{
+    if word == b"position".as_slice() {
+        Some(NetworkEvent::Position {
+            node,
+            channel,
+            source,
+        })
+    } else {
+        None
+    }
+}
+
+/// The event of a network that is a word and numbers.
+pub fn network_event_in(word: &[u8], rest: &[u8]) -> Option<NetworkEvent>
+    ensures { result ≡ network_event_of word.now rest.now }
+{
+    let (first, more) = cut(rest);
+    let node = number(first)?;
+    let Some(rest) = more else {
+        return None;
+    };
+    let (second, more) = cut(rest);
+    let channel = number(second)?;
+    let Some(rest) = more else {
+        return network_with_two(word, node, channel);
+    };
+    let source = number(rest)?;
+    network_with_three(word, node, channel, source)
 }

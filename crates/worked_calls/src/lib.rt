@@ -11,7 +11,7 @@ mod pieces;
 #[cfg(test)]
 mod positions;
 #[cfg(test)]
-mod rings;
+mod ring;
 #[cfg(test)]
 mod seats;
 #[cfg(test)]

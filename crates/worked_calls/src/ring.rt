@@ -4,7 +4,7 @@ ghost use Rattle.network.specs.Machine.{AreNumbered};
 
 use crate::sources::bundle;
 use gtid_text::SourceId;
-use network::{Network, NetworkEvent, NetworkReply};
+use network::{Network, NetworkEvent, NetworkReply, ids_distinct};
 use replica_core::{Event, Reply};
 use rows::{Name, Rows, Transaction};
 use std::alloc::Global;
@@ -18,8 +18,20 @@ const IDS: [u128; 3] = [
 
 /// Each node opens a channel; the first commits; each in turn reads the one before it.
 const ANSWERS: [&str; 14] = [
-    "opened", "opened", "opened", "committed", "ask", "received", "taken", "committed", "ask",
-    "received", "taken", "committed", "ask", "nothing",
+    "opened",
+    "opened",
+    "opened",
+    "committed",
+    "ask",
+    "received",
+    "taken",
+    "committed",
+    "ask",
+    "received",
+    "taken",
+    "committed",
+    "ask",
+    "nothing",
 ];
 
 fn network(alloc: Global) -> Result<Network, Fail> {
@@ -28,6 +40,9 @@ fn network(alloc: Global) -> Result<Network, Fail> {
         ids.push(SourceId::from_bits(id))?;
     }
     let rows = Rows::open(alloc, bundle(alloc)?.schema().clone()?);
+    if !ids_distinct(&ids) {
+        return Err("UUIDs that differ".into());
+    }
     Ok(Network::open(alloc, &ids, &rows)?)
 }
 
@@ -46,7 +61,11 @@ fn act(node: usize, event: Event) -> NetworkEvent {
 /// A node is positioned at a source, receives one entry, and commits it.
 fn read(events: &mut Vec<NetworkEvent>, node: usize, source: usize) -> Result<(), Fail> {
     let channel = 0;
-    events.push(NetworkEvent::Position { node, channel, source })?;
+    events.push(NetworkEvent::Position {
+        node,
+        channel,
+        source,
+    })?;
     events.push(NetworkEvent::Receive { node, channel })?;
     events.push(act(node, Event::Take(1, 0, 0)))?;
     events.push(act(node, Event::Commit(1)))?;
@@ -62,8 +81,15 @@ fn ring(alloc: Global) -> Result<Vec<NetworkEvent>, Fail> {
     events.push(act(0, Event::Local(transaction(alloc)?)))?;
     read(&mut events, 1, 0)?;
     read(&mut events, 2, 1)?;
-    events.push(NetworkEvent::Position { node: 0, channel: 0, source: 2 })?;
-    events.push(NetworkEvent::Receive { node: 0, channel: 0 })?;
+    events.push(NetworkEvent::Position {
+        node: 0,
+        channel: 0,
+        source: 2,
+    })?;
+    events.push(NetworkEvent::Receive {
+        node: 0,
+        channel: 0,
+    })?;
     Ok(events)
 }
 
@@ -109,8 +135,10 @@ fn has_it(alloc: Global, network: &Network, node: usize) -> Result<bool, Fail> {
     let first = network.replica(0).ok_or("a node")?;
     let one = network.replica(node).ok_or("a node")?;
     let executed = one.executed().to_text(alloc)?;
-    Ok(executed.as_str() == "aaaaaaaa-aaaa-aaaa-aaaa-aaaaaaaaaaaa:1"
-        && one.rows().is_equal(first.rows()))
+    Ok(
+        executed.as_str() == "aaaaaaaa-aaaa-aaaa-aaaa-aaaaaaaaaaaa:1"
+            && one.rows().is_equal(first.rows()),
+    )
 }
 
 #[test]

@@ -1,0 +1,25 @@
+-- What a line declares. The words are our own.
+use Rattle.std.specs.Prelude.{◌≡◌, ℕ, false, List, [], ◌∷◌, Option, Some, option_map, option_and_then}
+use Rattle.journal_words.specs.Gtids.{source_of_word}
+use Rattle.txn_journal.specs.Lines.{words_of}
+use Rattle.rows.specs.Database.{Database}
+use Rattle.network.specs.Nodes.{Node, opened, ids_distinct}
+use Rattle.replica_script.specs.declared.answer.Stop.{Stop}
+use Rattle.replica_script.specs.declared.answer.Stop.TheVariants as stop
+
+-- the UUIDs that words are, if each word is one
+abbrev pub sources_of : List (List ℕ) → Option (List ℕ)
+sources_of [] = Some []
+sources_of (word ∷ words) = option_and_then (λ own. option_map (λ ids. own ∷ ids) (sources_of words)) (source_of_word word)
+
+-- why no network is opened: memory was refused, or a UUID stands twice
+abbrev pub IsStopOfIds : List ℕ → Stop → Type 0
+IsStopOfIds ids stop.Memory = Unit {0}
+IsStopOfIds ids stop.Changed = ⊥
+IsStopOfIds ids stop.BadLine = ids_distinct ids ≡ false
+
+-- a network is opened: a node for each UUID of the line, all on these rows
+pub record IsOpenedAs (text : List ℕ) (start : Database) (nodes : List Node) : Type 0 where
+  pub ids : List ℕ
+  pub words : sources_of (words_of text) ≡ Some ids
+  pub nodes_are : nodes ≡ opened ids start.schema start.rows

@@ -1,0 +1,150 @@
+//! Declarations: tables, rows, and the replica or the network that has them.
+ghost use Rattle.std.specs.Prelude.{◌≡◌, IfOk, IfErr, option_map};
+ghost use Rattle.txn_journal.specs.Lines.{words_of};
+ghost use Rattle.network.specs.Nodes.{ids_distinct, opened};
+ghost use Rattle.replica_script.specs.Declarations.{sources_of, IsStopOfIds};
+ghost use Rattle.replica_script.specs.declared.answer.Stop.{Stop};
+ghost use Rattle.replica_script.specs.declared.answer.Stop.TheVariants.{Memory};
+
+use crate::answer::Stop;
+use crate::transaction::stop_of;
+use gtid_set::{GtidSet, SetFault};
+use gtid_text::SourceId;
+use journal_words::{cut, set_word, source_word};
+use network::Network;
+use replica_core::Core;
+use std::alloc::{AllocError, Global};
+use std::collections::BTreeSet;
+use txn_journal::{Bundle, BundleReader};
+
+fn feed_bundle(alloc: Global, bundle: &mut BundleReader, line: &[u8]) -> Result<(), Stop> {
+    if let Err(fault) = bundle.feed(alloc, line) {
+        return Err(stop_of(fault));
+    }
+    match bundle.feed(alloc, b"\n") {
+        Ok(()) => Ok(()),
+        Err(fault) => Err(stop_of(fault)),
+    }
+}
+
+/// The tables and rows that are declared.
+#[derive(Drop)]
+pub struct Declared {
+    /// A bundle, as far as its lines have come.
+    bundle: BundleReader,
+    /// Whether the lines before its first table have come.
+    is_begun: bool,
+}
+
+impl Declared {
+    /// Before the first line.
+    pub fn start(alloc: Global) -> Declared {
+        Declared {
+            bundle: BundleReader::start(alloc),
+            is_begun: false,
+        }
+    }
+
+    /// Takes the lines before the first table. They are of the language, so that memory alone can be wanting.
+    fn begin(&mut self, alloc: Global) -> Result<(), Stop>
+        ensures { IfErr result (λ stop. stop ≡ Memory) }
+    {
+        let head = b"bundle 1\nreplica 00000000-0000-0000-0000-000000000000";
+        match feed_bundle(alloc, &mut self.bundle, head) {
+            Ok(()) => {
+                self.is_begun = true;
+                Ok(())
+            }
+            Err(_) => Err(Stop::Memory),
+        }
+    }
+
+    /// Takes the next line.
+    pub fn take_line(&mut self, alloc: Global, line: &[u8]) -> Result<(), Stop> {
+        if !self.is_begun {
+            self.begin(alloc)?;
+        }
+        feed_bundle(alloc, &mut self.bundle, line)
+    }
+
+    /// The bundle, whose last line has come.
+    pub fn finish(self) -> Result<Bundle, Stop> {
+        match self.bundle.finish() {
+            Ok(bundle) => Ok(bundle),
+            Err(fault) => Err(stop_of(fault)),
+        }
+    }
+}
+
+/// The executed set of a replica that is declared: empty where no word stands for it.
+pub fn executed_word(alloc: Global, word: Option<&[u8]>) -> Result<GtidSet, Stop> {
+    let Some(word) = word else {
+        return Ok(GtidSet::empty(alloc));
+    };
+    match set_word(alloc, word) {
+        Ok(Some(executed)) => Ok(executed),
+        Err(SetFault::Memory) => Err(Stop::Memory),
+        Ok(None) | Err(_) => Err(Stop::BadLine),
+    }
+}
+
+/// The UUIDs that the words of a text are, if each word is one.
+pub fn source_words(alloc: Global, text: &[u8]) -> Result<Option<Vec<SourceId>>, AllocError>
+    ensures { IfOk result (λ found. option_map (λ v. v.items) found ≡ sources_of (words_of text.now)) }
+{
+    let mut ids = Vec::new(alloc);
+    let mut left = text;
+    'words: loop {
+        let (word, more) = cut(left);
+        match source_word(alloc, word)? {
+            Some(own) => ids.push(own)?,
+            None => return Ok(None),
+        }
+        match more {
+            Some(after) => left = after,
+            None => return Ok(Some(ids)),
+        }
+    }
+}
+
+/// A replica on the rows of a bundle.
+pub fn core_on(
+    alloc: Global,
+    bundle: &Bundle,
+    own: SourceId,
+    executed: GtidSet,
+) -> Result<Core, Stop> {
+    match Core::open_snapshot(alloc, own, bundle.rows().copy()?, executed) {
+        Ok(core) => Ok(core),
+        Err(_) => Err(Stop::Memory),
+    }
+}
+
+/// Whether no UUID stands twice: each is new, and not one that came earlier.
+fn are_distinct(alloc: Global, ids: &[SourceId]) -> Result<bool, AllocError>
+    ensures { IfOk result (λ are. are ≡ ids_distinct ids.now) }
+{
+    let mut seen = BTreeSet::new(alloc);
+    let mut left = ids;
+    while let Some((own, more)) = left.split_first() {
+        if !seen.insert(*own)? {
+            return Ok(false);
+        }
+        left = more;
+    }
+    Ok(true)
+}
+
+/// A network on the rows of a bundle. Where a UUID stands twice it is a bad line.
+pub fn network_on(alloc: Global, bundle: &Bundle, ids: &[SourceId]) -> Result<Network, Stop>
+    ensures opened { IfOk result (λ n. n ≡ opened ids.now bundle.now.start.schema bundle.now.start.rows) }
+    ensures stop { IfErr result (IsStopOfIds ids.now) }
+{
+    if !are_distinct(alloc, ids)? {
+        return Err(Stop::BadLine);
+    }
+    match Network::open(alloc, ids, bundle.rows()) {
+        Ok(network) => Ok(network),
+        Err(_) => Err(Stop::Memory),
+    }
+}

@@ -1,0 +1,135 @@
+//! Transactions, whose change lines follow their first line.
+
+use crate::answer::Stop;
+use crate::question::{Asked, Question, asked_of, number};
+use gtid_set::SetFault;
+use journal::Entry;
+use journal_words::cut;
+use replica_core::Event;
+use std::alloc::Global;
+use txn_journal::{JournalFault, Reader};
+
+/// What a fault of a reader means: its text is made of the script's lines.
+pub fn stop_of(fault: JournalFault) -> Stop {
+    match fault {
+        JournalFault::Set(SetFault::Memory) => Stop::Memory,
+        _ => Stop::BadLine,
+    }
+}
+
+fn feed_reader(alloc: Global, reader: &mut Reader, line: &[u8]) -> Result<(), Stop> {
+    if let Err(fault) = reader.feed(alloc, line) {
+        return Err(stop_of(fault));
+    }
+    match reader.feed(alloc, b"\n") {
+        Ok(()) => Ok(()),
+        Err(fault) => Err(stop_of(fault)),
+    }
+}
+
+/// Takes the lines of a journal before the change lines of its one entry.
+fn begin_entry(alloc: Global, reader: &mut Reader, gtid: &[u8]) -> Result<(), Stop> {
+    feed_reader(alloc, reader, b"journal 1\nprevious -")?;
+    let mut line = Vec::from_slice(alloc, b"txn ")?;
+    line.extend_from_slice(gtid)?;
+    feed_reader(alloc, reader, &line)
+}
+
+/// A line that begins a transaction.
+#[derive(Drop)]
+pub struct Heading<'a> {
+    /// The channel that receives it; none for one of the replica's own.
+    channel: Option<usize>,
+    /// Its GTID, as it is spelled.
+    gtid: &'a [u8],
+}
+
+/// The receiving of a transaction, from what stands behind its first word.
+fn receiving(rest: &[u8]) -> Option<Heading<'_>> {
+    let (word, gtid) = cut(rest);
+    Some(Heading {
+        channel: Some(number(word)?),
+        gtid: gtid?,
+    })
+}
+
+/// A line as the beginning of a transaction, if it is one. The GTID of one of the replica's own is not read by anyone: the replica gives it one.
+pub fn heading_in(line: &[u8]) -> Result<Option<Heading<'_>>, Stop> {
+    if line == b"local".as_slice() {
+        return Ok(Some(Heading {
+            channel: None,
+            gtid: b"00000000-0000-0000-0000-000000000000:1",
+        }));
+    }
+    let (word, rest) = cut(line);
+    if word != b"receive".as_slice() {
+        return Ok(None);
+    }
+    let Some(rest) = rest else {
+        return Err(Stop::BadLine);
+    };
+    match receiving(rest) {
+        Some(heading) => Ok(Some(heading)),
+        None => Err(Stop::BadLine),
+    }
+}
+
+/// The entry whose last line has come.
+fn last_entry(alloc: Global, reader: &mut Reader) -> Result<Entry, Stop> {
+    match reader.take_entries(alloc) {
+        Ok(mut entries) => match entries.pop() {
+            Some(entry) => Ok(entry),
+            None => Err(Stop::BadLine),
+        },
+        Err(fault) => Err(stop_of(fault)),
+    }
+}
+
+/// The event that receives an entry on a channel, or makes its transaction the replica's own.
+fn event_with(channel: Option<usize>, entry: Entry) -> Event {
+    match channel {
+        Some(channel) => Event::Receive(channel, entry),
+        None => Event::Local(entry.txn),
+    }
+}
+
+/// A transaction whose change lines are due.
+#[derive(Drop)]
+pub struct Pending {
+    /// The node whose replica is asked; none where the script has one replica.
+    node: Option<usize>,
+    /// The channel that receives it; none for one of the replica's own.
+    channel: Option<usize>,
+    /// A journal of this one entry, as far as its lines have come.
+    reader: Reader,
+}
+
+impl Pending {
+    /// Before the first change line.
+    pub fn start(
+        alloc: Global,
+        node: Option<usize>,
+        heading: Heading<'_>,
+    ) -> Result<Pending, Stop> {
+        let mut reader = Reader::start(alloc);
+        match begin_entry(alloc, &mut reader, heading.gtid) {
+            Ok(()) => Ok(Pending {
+                node,
+                channel: heading.channel,
+                reader,
+            }),
+            Err(stop) => Err(stop),
+        }
+    }
+
+    /// Takes a line: what is asked, where that was the last line.
+    pub fn take_line(&mut self, alloc: Global, line: &[u8]) -> Result<Option<Asked>, Stop> {
+        feed_reader(alloc, &mut self.reader, line)?;
+        if line != b"end".as_slice() {
+            return Ok(None);
+        }
+        let entry = last_entry(alloc, &mut self.reader)?;
+        let event = event_with(self.channel, entry);
+        Ok(Some(asked_of(self.node, Question::Event(event))))
+    }
+}

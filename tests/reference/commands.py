@@ -1,0 +1,28 @@
+"""What the program gtidrep prints for its words and its input, but for what clap says of a bad command line. Written by another hand from
+docs/ and compared with the proved program."""
+from __future__ import annotations
+
+from collections.abc import Callable, Sequence
+
+from .audit import apply, audit, position, upgrade
+from .set_text import set_function
+
+BAD_COMMAND_LINE = "", 2
+
+
+def answer(words: Sequence[str], text: Callable[[], str]) -> tuple[str, int]:
+    """What is printed for these words, whose characters are bytes, and the exit status; `text` reads the input."""
+    match words:
+        case ["set", name, *sets] if 1 <= len(sets) <= 2:
+            line, status = set_function(name, sets)
+        case ["position", "--own", own, "--ask", asked]:
+            line, status = position(text(), own, asked)
+        case ["audit"]:
+            line, status = audit(text())
+        case ["apply"] | ["apply", "--workers", _]:
+            line, status = apply(text())
+        case ["upgrade"]:
+            line, status = upgrade(text())
+        case _:
+            return BAD_COMMAND_LINE
+    return f"{line}\n", status

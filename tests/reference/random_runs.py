@@ -1,0 +1,264 @@
+"""Random runs of both programs, by kind, with what the references answer. Written by another hand from docs/: what `tools/compare`
+compares.
+
+A case is what one turn of chance gives: a script, or an input with a few runs of it. Scripts are run together, each begun afresh by a line
+`---`, up to one that isn't whole.
+"""
+from __future__ import annotations
+
+from collections import Counter
+from collections.abc import Callable, Iterable, Iterator
+from dataclasses import dataclass
+from random import Random
+
+from . import commands, random_scripts, scripts
+from .formats import Journal, bundle_lines, journal_lines
+from .gtids import GtidSet
+from .random_bundles import SOURCES, BundleMaker
+from .random_scripts import Made
+from .random_texts import SetWriter, TextBreaker
+
+MOST_TOGETHER = 50
+MOST_LINES_AGAIN = 20_000
+SET_FUNCTIONS = ["union", "intersect", "subtract", "symmetric", "subset", "equal", "disjoint", "only", "without", "normalize", "count"]
+
+
+@dataclass(frozen=True)
+class Ended:
+    """What a run printed, its exit status, and what it said on standard error (None where that isn't fixed)."""
+
+    output: str
+    status: int
+    said: str | None
+
+
+@dataclass(frozen=True)
+class Run:
+    """A program's name, the words behind it, and its input. Characters are bytes."""
+
+    program: str
+    words: tuple[str, ...]
+    given: str
+
+    def wanted(self) -> Ended:
+        """What the reference does."""
+        if self.program == "replica_script":
+            return Ended(*scripts.run(self.given))
+        output, status = commands.answer(self.words, lambda: self.given)
+        return Ended(output, status, "" if status < 2 else None)
+
+
+@dataclass
+class Case:
+    """The number of a case, its runs, and its script if it is one."""
+
+    number: int
+    runs: list[Run]
+    script: Made | None = None
+
+    def replies(self) -> Counter[str]:
+        """How often the reference gives each answer."""
+        return self.script.replies if self.script else Counter(map(reply_of, self.runs))
+
+
+@dataclass
+class Batch:
+    """Cases, and the runs by which all of them are run together."""
+
+    cases: list[Case]
+    runs: list[Run]
+
+
+def text_of(lines: Iterable[str]) -> str:
+    """The text of some lines."""
+    return "".join(f"{line}\n" for line in lines)
+
+
+def gtidrep(given: str, *commands_of: str) -> list[Run]:
+    """Runs of gtidrep with one input, for each of these command lines."""
+    return [Run("gtidrep", tuple(line.split(" ")), given) for line in commands_of]
+
+
+def apply_words(chance: Random) -> str:
+    """The command `apply` with some number of workers."""
+    return f"apply --workers {chance.choice([1, 2, 2, 3, 64])}"
+
+
+def version2(chance: Random) -> list[Run]:
+    """A bundle of version 2, audited and applied."""
+    text = text_of(bundle_lines(BundleMaker(chance).bundle(True), 2))
+    return gtidrep(text, "audit", "apply", apply_words(chance))
+
+
+def upgrade(chance: Random) -> list[Run]:
+    """A bundle of version 1, audited, applied and upgraded, and the upgraded one applied."""
+    bundle = BundleMaker(chance).bundle(False)
+    text, upgraded = (text_of(bundle_lines(bundle, version)) for version in (1, 2))
+    return gtidrep(text, "audit", apply_words(chance), "upgrade") + gtidrep(upgraded, "apply", "upgrade")
+
+
+def restamped(chance: Random, text: str) -> str:
+    """The text with other numbers in an entry's line, where there is one."""
+    lines = text.split("\n")
+    places = [at for at, line in enumerate(lines) if line.startswith("txn ")]
+    if places:
+        at = chance.choice(places)
+        words = lines[at].split(" ")
+        number = int(words[-1])
+        which = chance.choice([2, 2, 2, 3])
+        near = [0, 1, 2, number - 1, number, number + 1, chance.randint(0, number), chance.randint(0, number)]
+        words[which] = str(chance.choice([*near, chance.choice([2**64, 2**64 + number, 10**30])]))
+        lines[at] = " ".join(words)
+    return "\n".join(lines)
+
+
+def stamps(chance: Random) -> list[Run]:
+    """A bundle or a journal of version 2 with other numbers in one or two lines of entries."""
+    maker = BundleMaker(chance)
+    bundle = maker.bundle(True)
+    is_journal = bool(bundle.channels) and maker.is_one_in(4)
+    text = text_of(journal_lines(bundle.channels[0].journal, bundle.schema) if is_journal else bundle_lines(bundle, 2))
+    for _ in range(chance.choice([1, 1, 2])):
+        text = restamped(chance, text)
+    if maker.is_one_in(5):
+        text = TextBreaker(chance).texts(text)
+    return [position_run(text, SOURCES[0], "")] if is_journal else gtidrep(text, "audit", apply_words(chance))
+
+
+def position_run(text: str, own: str, ask: str) -> Run:
+    """A run of `position`."""
+    return Run("gtidrep", ("position", "--own", as_word(own), "--ask", as_word(ask)), text)
+
+
+def as_word(text: str) -> str:
+    """The text as a word of a command line that is no option: a blank stands before a hyphen, but for a hyphen alone."""
+    return f" {text}" if text.startswith("-") and text != "-" else text
+
+
+def random_journal(maker: BundleMaker) -> str:
+    """The text of a journal of either version."""
+    if maker.is_one_in(2):
+        schema = maker.tables()
+        journal = maker.wild_journal(list(schema.values()))
+    else:
+        bundle = maker.tidy_bundle(maker.is_one_in(2))
+        schema, journal = bundle.schema, maker.chance.choice(bundle.channels).journal
+    return text_of(journal_lines(journal, maker.chance.choice([None, schema])))
+
+
+def ask_near(maker: BundleMaker, journal: Journal) -> GtidSet:
+    """A set with which a replica may ask the source of this journal."""
+    had = journal.previous if not maker.is_one_in(4) else GtidSet()
+    had = had | GtidSet.of(entry.gtid for entry in journal.entries[: maker.few(len(journal.entries))])
+    had = had | GtidSet.of(maker.subset((entry.gtid for entry in journal.entries), 30))
+    return had | maker.wild_set() if maker.is_one_in(3) else had
+
+
+def positions(chance: Random) -> list[Run]:
+    """A journal, and replicas that ask its source."""
+    maker, writer = BundleMaker(chance), SetWriter(chance)
+    schema = maker.tables()
+    journal = maker.wild_journal(list(schema.values()))
+    text = text_of(journal_lines(journal, chance.choice([None, schema])))
+    if maker.is_one_in(15):
+        text = TextBreaker(chance).texts(text)
+    sources = sorted({entry.gtid.source for entry in journal.entries}) or SOURCES
+    runs = []
+    for _ in range(3):
+        own, ask = chance.choice([*sources, chance.choice(SOURCES)]), str(ask_near(maker, journal))
+        if maker.is_one_in(6):
+            ask = writer.set_text()
+        if maker.is_one_in(10):
+            own, ask = chance.choice([(writer.broken(own), ask), (own, writer.broken(ask)), (writer.source_text(), ask)])
+        runs.append(position_run(text, own, ask))
+    return runs
+
+
+def texts(chance: Random) -> list[Run]:
+    """A bundle or a journal with a fault or a few."""
+    maker, breaker = BundleMaker(chance), TextBreaker(chance)
+    if maker.is_one_in(3):
+        return [position_run(breaker.texts(random_journal(maker)), chance.choice(SOURCES), "")]
+    version = chance.choice([1, 2])
+    text = breaker.texts(text_of(bundle_lines(maker.bundle(version == 2), version)))
+    return gtidrep(text, "audit", apply_words(chance), "upgrade")
+
+
+def sets(chance: Random) -> list[Run]:
+    """A set function of two texts, which may be broken, of too few words or of an unknown name."""
+    writer = SetWriter(chance)
+    name = chance.choice(SET_FUNCTIONS)
+    count = 1 if name in ("normalize", "count") else 2
+    words = [writer.set_text() for _ in range(count)]
+    if name in ("only", "without"):
+        words[1] = writer.source_text()
+    if chance.randrange(4) == 0:
+        at = chance.randrange(count)
+        words[at] = writer.broken(words[at])
+    if chance.randrange(20) == 0:
+        words = [writer.set_text() for _ in range(chance.randrange(4))]
+    if chance.randrange(30) == 0:
+        name = chance.choice(["", "Union", "unions", "minus", "sets", " count"])
+    return [Run("gtidrep", ("set", name, *map(as_word, words)), "")]
+
+
+COMMAND_KINDS: dict[str, Callable[[Random], list[Run]]] = {
+    "version2": version2,
+    "stamps": stamps,
+    "positions": positions,
+    "texts": texts,
+    "upgrade": upgrade,
+    "sets": sets,
+}
+SCRIPT_KINDS: dict[str, Callable[[Random], Made]] = {"scripts": random_scripts.one_replica, "networks": random_scripts.network}
+KINDS = [*SCRIPT_KINDS, *COMMAND_KINDS]
+
+
+def reply_of(run: Run) -> str:
+    """The kind of the reference's answer to a run of gtidrep."""
+    line = run.wanted().output.split("\n")[0]
+    first, *more = line.split(" ")
+    if first == "refused":
+        first = " ".join([first, more[0], *more[-1:]]) if more[0] == "E14" else f"{first} {more[0]}"
+    elif run.words[0] == "set":
+        first = "a line" if line else "the empty line"
+    return f"{run.words[0]}: {first}"
+
+
+def script_batch(made: list[tuple[int, Made]]) -> Batch:
+    """Scripts that are run together, as they are and with `--again`."""
+    cases = [Case(number, script_runs(script.lines), script) for number, script in made]
+    lines = made[0][1].lines[:]
+    for _, script in made[1:]:
+        lines += ["---", *script.lines]
+    return Batch(cases, script_runs(lines))
+
+
+def script_runs(lines: list[str]) -> list[Run]:
+    """The runs of a script."""
+    ways: list[tuple[str, ...]] = [(), ("--again",)] if len(lines) < MOST_LINES_AGAIN else [()]
+    return [Run("replica_script", words, text_of(lines)) for words in ways]
+
+
+def script_batches(make: Callable[[Random], Made], chances: Iterable[tuple[int, Random]]) -> Iterator[Batch]:
+    """The scripts of these turns of chance, in batches."""
+    waiting: list[tuple[int, Made]] = []
+    for number, chance in chances:
+        made = make(chance)
+        waiting.append((number, made))
+        if not made.is_whole or len(waiting) == MOST_TOGETHER:
+            yield script_batch(waiting)
+            waiting = []
+    if waiting:
+        yield script_batch(waiting)
+
+
+def batches(kind: str, seed: int, numbers: Iterable[int]) -> Iterator[Batch]:
+    """The cases of these numbers, in batches."""
+    chances = ((number, Random(f"{kind} {seed} {number}")) for number in numbers)
+    if kind in SCRIPT_KINDS:
+        yield from script_batches(SCRIPT_KINDS[kind], chances)
+        return
+    for number, chance in chances:
+        runs = COMMAND_KINDS[kind](chance)
+        yield Batch([Case(number, runs)], runs)
