@@ -1,0 +1,16 @@
+pub mod Facts
+pub mod Linking
+pub mod Walking
+pub mod Changing
+pub mod Seeking
+pub mod Lists
+pub mod Putting
+pub mod Meeting
+pub mod Altering
+pub mod Valued
+pub mod Parting
+pub mod Listing
+pub mod Standing
+pub mod Stepping
+pub mod Along
+pub mod Within

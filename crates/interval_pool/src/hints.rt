@@ -1,0 +1,318 @@
+//! Guesses of the place of a number in a list. Each is tested where it is used, so a wrong one costs time alone.
+use crate::cells::{Cell, Head, after, cell_at, count};
+use crate::interval::Interval;
+use crate::link::Link;
+use std::alloc::Global;
+use std::collections::BTreeMap;
+
+/// A list of no more cells is walked from its first.
+const SHORT: u32 = 32;
+
+/// How many cells a place may lie behind one that is guessed.
+const NEAR: u32 = 2;
+
+/// What is remembered of a list.
+#[derive(Clone, Copy, Drop)]
+struct ListHints {
+    // the least number of the cell of the last change
+    lo: u64,
+    // the place of the last change, and the cell behind it
+    place: Link,
+    cell: Link,
+    // the list that was released before it
+    released: u32,
+    // whether its cells lie one behind another
+    is_run: bool,
+    // whether its cells are in the index
+    is_indexed: bool,
+}
+
+/// What is remembered of all lists, and an index of the cells of some by list and least number.
+#[derive(Drop)]
+pub struct Hints {
+    lists: Vec<ListHints>,
+    released: u32,
+    index: BTreeMap<(u32, u64), Link>,
+}
+
+/// What is remembered of an empty list.
+fn empty_list() -> ListHints {
+    ListHints {
+        lo: 0,
+        place: Link::none(),
+        cell: Link::none(),
+        released: 0,
+        is_run: true,
+        is_indexed: false,
+    }
+}
+
+/// Whether a cell is one of a list that ends below a number.
+fn is_below(cells: &[Cell], list: u32, number: u64, place: Link) -> bool {
+    let Some(at) = place.place() else {
+        return false;
+    };
+    let cell = cell_at(cells, at);
+    cell.owner == list && cell.hi < number
+}
+
+/// Whether a place is that of this cell.
+fn is_at(place: Link, at: usize) -> bool {
+    match place.place() {
+        Some(other) => other == at,
+        None => false,
+    }
+}
+
+/// Whether a number's place is this one, or near behind it.
+fn is_near(cells: &[Cell], heads: &[Head], list: u32, number: u64, place: Link) -> bool {
+    if place.place().is_some() && !is_below(cells, list, number, place) {
+        return false;
+    }
+    let mut next = after(cells, heads, list as usize, place);
+    for _step in 0..NEAR {
+        let Some(at) = next.place() else {
+            return true;
+        };
+        let cell = cell_at(cells, at);
+        if cell.hi >= number {
+            return true;
+        }
+        next = cell.next;
+    }
+    false
+}
+
+/// The last cell that ends below a number, of a list whose cells lie one behind another.
+fn search_run(cells: &[Cell], heads: &[Head], list: u32, number: u64) -> Link {
+    let Some(first) = after(cells, heads, list as usize, Link::none()).place() else {
+        return Link::none();
+    };
+    let behind = first.saturating_add(count(heads, list as usize) as usize);
+    if behind > cells.len() {
+        return Link::none();
+    }
+    let below = cells[first..behind].partition_point(|cell| cell.hi < number);
+    if below == 0 {
+        return Link::none();
+    }
+    Link::to(first.saturating_add(below - 1))
+}
+
+/// Whether cells behind a place still lie one behind another, where few have changed.
+fn is_still_run(cells: &[Cell], heads: &[Head], list: u32, place: Link) -> bool {
+    let mut last = place;
+    for _step in 0..NEAR + 1 {
+        let Some(at) = after(cells, heads, list as usize, last).place() else {
+            return true;
+        };
+        if let Some(before) = last.place() {
+            if at != before.saturating_add(1) {
+                return false;
+            }
+        }
+        last = Link::to(at);
+    }
+    true
+}
+
+impl Hints {
+    /// No lists.
+    pub fn open(alloc: Global) -> Hints {
+        Hints {
+            lists: Vec::new(alloc),
+            released: 0,
+            index: BTreeMap::new(alloc),
+        }
+    }
+
+    fn of(&self, list: u32) -> ListHints {
+        match self.lists.get(list as usize) {
+            Some(hints) => *hints,
+            None => empty_list(),
+        }
+    }
+
+    fn put(&mut self, list: u32, hints: ListHints) {
+        let at = list as usize;
+        if at < self.lists.as_slice().len() {
+            self.lists[at] = hints;
+        }
+    }
+
+    /// A list that may have been released.
+    pub fn released(&self) -> u32 {
+        self.released
+    }
+
+    /// A list begins.
+    pub fn begin(&mut self, list: u32) {
+        if self.released == list {
+            self.released = self.of(list).released;
+        }
+        let missing = (list as usize + 1).saturating_sub(self.lists.as_slice().len());
+        for _list in 0..missing {
+            let _ = self.lists.push(empty_list());
+        }
+        self.put(list, empty_list());
+    }
+
+    /// A list ends.
+    pub fn end(&mut self, list: u32) {
+        if self.of(list).is_indexed {
+            self.forget(list, 0, u64::MAX);
+        }
+        let released = self.released;
+        self.put(
+            list,
+            ListHints {
+                released,
+                ..empty_list()
+            },
+        );
+        self.released = list;
+    }
+
+    /// The place of a number, as far as it is known.
+    pub fn place(&self, cells: &[Cell], heads: &[Head], list: u32, number: u64) -> Link {
+        if count(heads, list as usize) <= SHORT {
+            return Link::none();
+        }
+        if self.of(list).is_run {
+            return search_run(cells, heads, list, number);
+        }
+        self.search_index(cells, list, number)
+    }
+
+    /// The same, tried first where the last change was.
+    pub fn near_place(&self, cells: &[Cell], heads: &[Head], list: u32, number: u64) -> Link {
+        let last = self.of(list).place;
+        if is_near(cells, heads, list, number, last) {
+            return last;
+        }
+        self.place(cells, heads, list, number)
+    }
+
+    /// The last cell of the index that ends below a number.
+    fn search_index(&self, cells: &[Cell], list: u32, number: u64) -> Link {
+        let mut found = self.index.range(..=(list, number));
+        for _step in 0..NEAR {
+            let Some((_, cell)) = found.next_back() else {
+                return Link::none();
+            };
+            if is_below(cells, list, number, *cell) {
+                return *cell;
+            }
+        }
+        Link::none()
+    }
+
+    /// Puts a cell into the index, if there is memory.
+    fn remember(&mut self, cells: &[Cell], list: u32, at: usize) {
+        let _ = self
+            .index
+            .insert((list, cell_at(cells, at).lo), Link::to(at));
+    }
+
+    /// Takes the cells of a list that begin in this interval out of the index.
+    fn forget(&mut self, list: u32, from: u64, upto: u64) {
+        for _cell in 0..self.index.len() {
+            let Some(key) = self.last_key(list, upto) else {
+                return;
+            };
+            if key.0 != list || key.1 < from {
+                return;
+            }
+            let _ = self.index.remove(&key);
+        }
+    }
+
+    /// The last key of the index up to this one.
+    fn last_key(&self, list: u32, upto: u64) -> Option<(u32, u64)> {
+        match self.index.range(..=(list, upto)).next_back() {
+            Some((key, _)) => Some(*key),
+            None => None,
+        }
+    }
+
+    /// Puts all cells of a list into the index.
+    fn remember_all(&mut self, cells: &[Cell], heads: &[Head], list: u32) {
+        let mut next = after(cells, heads, list as usize, Link::none());
+        for _cell in 0..count(heads, list as usize) {
+            let Some(at) = next.place() else {
+                return;
+            };
+            self.remember(cells, list, at);
+            next = cell_at(cells, at).next;
+        }
+    }
+
+    /// Whether the index is to be told of a change behind a place: not where the cells lie one behind another, and not where it is made anew.
+    fn keeps_index(&mut self, cells: &[Cell], heads: &[Head], list: u32, place: Link) -> bool {
+        let hints = self.of(list);
+        let is_run = hints.is_run && is_still_run(cells, heads, list, place);
+        let is_long = count(heads, list as usize) > SHORT;
+        let begins = !is_run && !hints.is_indexed && is_long;
+        if begins {
+            self.remember_all(cells, heads, list);
+        }
+        let is_indexed = hints.is_indexed || begins;
+        self.put(
+            list,
+            ListHints {
+                place,
+                is_run,
+                is_indexed,
+                ..hints
+            },
+        );
+        hints.is_indexed
+    }
+
+    /// An interval was added behind a place.
+    pub fn note_added(&mut self, cells: &[Cell], heads: &[Head], list: u32, place: Link) {
+        let cell = after(cells, heads, list as usize, place);
+        let Some(at) = cell.place() else {
+            return;
+        };
+        let is_told = self.keeps_index(cells, heads, list, place);
+        let hints = self.of(list);
+        let Cell { lo, hi, .. } = cell_at(cells, at);
+        let is_same = hints.lo == lo && is_at(hints.cell, at);
+        self.put(list, ListHints { lo, cell, ..hints });
+        if is_told && !is_same {
+            self.forget(list, lo.saturating_add(1), hi);
+            self.remember(cells, list, at);
+        }
+    }
+
+    /// An interval was cut out behind a place.
+    pub fn note_cut(
+        &mut self,
+        cells: &[Cell],
+        heads: &[Head],
+        list: u32,
+        place: Link,
+        numbers: Interval,
+    ) {
+        if self.keeps_index(cells, heads, list, place) {
+            self.forget(list, numbers.lo, numbers.hi);
+            let mut next = after(cells, heads, list as usize, place);
+            for _piece in 0..NEAR {
+                let Some(at) = next.place() else {
+                    break;
+                };
+                self.remember(cells, list, at);
+                next = cell_at(cells, at).next;
+            }
+        }
+        let hints = self.of(list);
+        self.put(
+            list,
+            ListHints {
+                cell: Link::none(),
+                ..hints
+            },
+        );
+    }
+}

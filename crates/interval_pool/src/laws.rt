@@ -1,0 +1,14 @@
+//! What follows of pools, whatever made them.
+ghost use Rattle.std.specs.Prelude.{◌+◌, ◌<◌, ◌≤◌, ℕ, List, length};
+ghost use Rattle.interval_pool.specs.Values.{PoolValue, HasNoRoom, AreSteps, last_of, AreAmong, standing, intervals_of};
+
+/// Where room for so many cells was reserved, none of as many calls of `add` and `cut` after it fails.
+pub fn reserved_lasts()
+    ensures { (p : PoolValue) (n : ℕ) (steps : List PoolValue) → n ≤ length p.free + p.room → AreSteps p steps → length steps < n → HasNoRoom (last_of p steps) → ⊥ }
+{}
+
+/// The cells that stand in lists are no more than the intervals of lists among which all are. So a pool that is full
+/// has that many intervals in the lists that its caller knows.
+pub fn standing_within()
+    ensures { (p : PoolValue) (lists : List ℕ) → AreAmong p lists → length (standing p.lists) ≤ intervals_of p lists }
+{}

@@ -1,0 +1,74 @@
+//! A place among cells, or none, in 32 bits.
+ghost use Rattle.std.specs.Prelude.{◌≡◌, ◌≤◌, Some, None};
+ghost use Rattle.interval_pool.specs.Links.{most_cells};
+
+use std::marker::Model;
+
+/// The most cells that a pool may have. Our own rule.
+pub const MOST_CELLS: u32 = 4_294_967_294;
+
+/// A place among cells, or none.
+#[derive(Clone, Copy, Drop)]
+pub struct Link {
+    // one more than the place, or 0
+    code: u32,
+}
+
+impl Model for Link {
+    ghost use Rattle.std.specs.Prelude.{ℕ, Option};
+
+    ghost Value = { Option ℕ };
+
+    ghost use Rattle.interval_pool.specs.Links.{place_of, code_of, code_of_place};
+
+    ghost view = { λ l. place_of l.code };
+
+    ghost inverse = { λ p. record { code = code_of p } };
+
+    ghost use Rattle.std.proofs.Common.{ap};
+
+    ghost inverse_ok = { λ l h. ap (λ n. record { code = n }) (code_of_place l.code) };
+}
+
+impl Link {
+    /// No place.
+    pub fn none() -> Link
+        ensures { result ≡ None }
+    {
+        Link { code: 0 }
+    }
+
+    /// A place, if it is none of the last.
+    pub fn to(place: usize) -> Link
+        ensures { place ≤ most_cells → result ≡ Some place }
+    {
+        if place > MOST_CELLS as usize {
+            return Link { code: 0 };
+        }
+        Link {
+            code: place as u32 + 1,
+        }
+    }
+
+    /// The place, if there is one.
+    pub fn place(self) -> Option<usize>
+        ensures { result ≡ self }
+    {
+        if self.code == 0 {
+            None
+        } else {
+            Some(self.code as usize - 1)
+        }
+    }
+
+    /// The place as a number of 32 bits, if there is one.
+    pub fn number(self) -> Option<u32>
+        ensures { result ≡ self }
+    {
+        if self.code == 0 {
+            None
+        } else {
+            Some(self.code - 1)
+        }
+    }
+}

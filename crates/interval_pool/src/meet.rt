@@ -1,0 +1,44 @@
+//! An interval joined with those of a list that it meets.
+ghost use Rattle.std.specs.Prelude.{◌≡◌, map};
+ghost use Rattle.interval_pool.specs.Intervals.{met};
+ghost use Rattle.interval_pool.specs.Pools.{interval_at, rest_of};
+
+use crate::cells::{Cell, Head, after, cell_at, count};
+use crate::interval::{Interval, Joined, hull};
+use crate::link::Link;
+
+/// An interval joined with the cells of a list after one of them, as long as the next begins up to this number.
+pub fn meet(
+    cells: &[Cell],
+    heads: &[Head],
+    list: u32,
+    before: Link,
+    numbers: Interval,
+    limit: u64,
+) -> Joined
+    ensures { result ≡ met limit numbers 0 (map (interval_at cells.now) (rest_of cells.now heads.now list before)) }
+{
+    let mut joined = Joined { numbers, count: 0 };
+    let mut at = after(cells, heads, list as usize, before);
+    let mut left = count(heads, list as usize);
+    'meet: while left > 0 {
+        let Some(i) = at.place() else {
+            return joined;
+        };
+        let cell = cell_at(cells, i);
+        if cell.lo > limit {
+            return joined;
+        }
+        let other = Interval {
+            lo: cell.lo,
+            hi: cell.hi,
+        };
+        joined = Joined {
+            numbers: hull(joined.numbers, other),
+            count: joined.count + 1,
+        };
+        at = cell.next;
+        left -= 1;
+    }
+    joined
+}

@@ -1,0 +1,235 @@
+//! The pool as its callers see it.
+ghost use Rattle.std.specs.Prelude.{◌≡◌, ◌↔◌, ◌≢◌, ℕ, ◌<◌, ◌≤◌, IsOk, OnOk, OnErr, IfOk, IfErr, length, vec_capacity};
+ghost use Rattle.interval_pool.specs.Intervals.{AreMerged, IsApart, IsSplit, has};
+ghost use Rattle.interval_pool.specs.Values.{empty, is_list, IsList, IsRange, cells_of, spans, first_cell, Follows, Covers, IsPartition, Opened, AddedTo, CutFrom, Released, Reserved, HasNoRoom, IsFull, IsFullWith, AreAllLists};
+ghost use Rattle.interval_pool.specs.declared.fault.PoolFault.TheVariants.{Full};
+
+use crate::add::add;
+use crate::cells::{Cell, Head, after, cell_at, count};
+use crate::claim::{claim, drop_list};
+use crate::cut::cut;
+use crate::fault::PoolFault;
+use crate::hints::Hints;
+use crate::interval::Interval;
+use crate::link::{Link, MOST_CELLS};
+use crate::seek::contains;
+use std::alloc::Global;
+use std::marker::Model;
+
+/// The name of a list, of 32 bits. The name of a list that was released may be that of a later one.
+#[derive(Clone, Copy, Debug, PartialEq, Eq, Drop)]
+pub struct ListId {
+    number: u32,
+}
+
+impl Model for ListId {
+    ghost use Rattle.std.specs.Prelude.{ℕ};
+
+    ghost Value = { ℕ };
+
+    ghost view = { λ l. l.number };
+
+    ghost inverse = { λ n. record { number = n } };
+
+    ghost use Rattle.std.proofs.Common.{refl};
+
+    ghost inverse_ok = { λ l h. refl };
+}
+
+impl ListId {
+    fn number(self) -> u32
+        ensures { result ≡ self }
+    {
+        self.number
+    }
+}
+
+/// Lists of numbers from 1 to 9,223,372,036,854,775,807, each kept as merged intervals in cells of one vector. A cell
+/// is named by a number of 32 bits, which holds until the next change of its list.
+#[derive(Drop)]
+pub struct Pool {
+    cells: Vec<Cell>,
+    heads: Vec<Head>,
+    hints: Hints,
+}
+
+impl Model for Pool {
+    ghost use Rattle.std.specs.Prelude.{vec_capacity};
+    ghost use Rattle.interval_pool.specs.Values.{PoolValue, pool_code, value_of, IsPool};
+
+    ghost Value = { PoolValue };
+
+    ghost coded = { pool_code };
+
+    ghost view = { λ p. value_of p.cells.items p.heads.items (vec_capacity p.cells) };
+
+    ghost invariant = { λ p. IsPool p.cells.items p.heads.items };
+}
+
+impl Pool {
+    /// No lists and no cells. Takes no memory.
+    pub fn open(alloc: Global) -> Pool
+        ensures { result ≡ empty }
+    {
+        Pool {
+            cells: Vec::new(alloc),
+            heads: Vec::new(alloc),
+            hints: Hints::open(alloc),
+        }
+    }
+
+    /// Adds numbers to a list. It fails only where they touch no interval of the list, no cell is free and memory
+    /// for one more is refused (`Memory`), or 4,294,967,294 intervals stand in the pool (`Full`). An error leaves all
+    /// as it was.
+    pub fn add(&mut self, list: ListId, numbers: Interval) -> Result<(), PoolFault>
+        requires list { IsList self.old list }
+        requires range { IsRange numbers }
+        ensures ok { OnOk result (AddedTo self.old list numbers self.new) }
+        ensures err { OnErr result (self.new ≡ self.old) }
+        ensures room { OnErr result (HasNoRoom self.old) }
+        ensures apart { OnErr result (IsApart (spans self.old list) numbers) }
+        ensures full { IfErr result (λ fault. fault ≡ Full ↔ IsFull self.old) }
+    {
+        let list = list.number();
+        let guess = self
+            .hints
+            .near_place(&self.cells, &self.heads, list, numbers.lo - 1);
+        let place = add(&mut self.cells, &mut self.heads, list, numbers, guess)?;
+        self.hints.note_added(&self.cells, &self.heads, list, place);
+        Ok(())
+    }
+
+    /// Cuts numbers out of a list. It fails only where they lie within an interval that goes on at both ends, no cell
+    /// is free and memory for one more is refused (`Memory`), or 4,294,967,294 intervals stand in the pool (`Full`).
+    /// An error leaves all as it was.
+    pub fn cut(&mut self, list: ListId, numbers: Interval) -> Result<(), PoolFault>
+        requires list { IsList self.old list }
+        requires range { IsRange numbers }
+        ensures ok { OnOk result (CutFrom self.old list numbers self.new) }
+        ensures err { OnErr result (self.new ≡ self.old) }
+        ensures room { OnErr result (HasNoRoom self.old) }
+        ensures split { OnErr result (IsSplit (spans self.old list) numbers) }
+        ensures full { IfErr result (λ fault. fault ≡ Full ↔ IsFull self.old) }
+    {
+        let list = list.number();
+        let guess = self
+            .hints
+            .near_place(&self.cells, &self.heads, list, numbers.lo);
+        let place = cut(&mut self.cells, &mut self.heads, list, numbers, guess)?;
+        self.hints
+            .note_cut(&self.cells, &self.heads, list, place, numbers);
+        Ok(())
+    }
+
+    /// Makes an empty list. It fails where memory is refused (`Memory`), or 4,294,967,294 lists are there (`Full`). An
+    /// error leaves all as it was.
+    pub fn new_list(&mut self) -> Result<ListId, PoolFault>
+        ensures ok { IfOk result (λ list. Opened self.old list self.new) }
+        ensures err { OnErr result (self.new ≡ self.old) }
+        ensures full { IfErr result (λ fault. fault ≡ Full ↔ AreAllLists self.old) }
+    {
+        let number = claim(&mut self.heads, self.hints.released())?;
+        self.hints.begin(number);
+        Ok(ListId { number })
+    }
+
+    /// Frees the cells of a list, which is one no more. Takes no memory.
+    pub fn release(&mut self, list: ListId)
+        requires list { IsList self.old list }
+        ensures { Released self.old list self.new }
+    {
+        drop_list(&mut self.cells, &mut self.heads, list.number());
+        self.hints.end(list.number());
+    }
+
+    /// Whether this is a list.
+    pub fn is_list(&self, list: ListId) -> bool
+        ensures { result ≡ is_list self.now list }
+    {
+        let at = list.number() as usize;
+        at < self.heads.as_slice().len() && self.heads[at].is_list
+    }
+
+    /// Whether a list has a number.
+    pub fn contains(&self, list: ListId, number: u64) -> bool
+        requires list { IsList self.now list }
+        ensures { result ≡ has (spans self.now list) number }
+    {
+        let list = list.number();
+        let guess = self.hints.place(&self.cells, &self.heads, list, number);
+        contains(&self.cells, &self.heads, list, number, guess)
+    }
+
+    /// How many intervals a list has.
+    pub fn len(&self, list: ListId) -> u32
+        requires list { IsList self.now list }
+        ensures { result ≡ length (cells_of self.now list) }
+    {
+        count(&self.heads, list.number() as usize)
+    }
+
+    /// The first cell of a list, none where it is empty.
+    pub fn first(&self, list: ListId) -> Option<u32>
+        requires list { IsList self.now list }
+        ensures { result ≡ first_cell (cells_of self.now list) }
+    {
+        after(
+            &self.cells,
+            &self.heads,
+            list.number() as usize,
+            Link::none(),
+        )
+        .number()
+    }
+
+    /// The cell that comes after this one in its list, none after the last. Of what is no cell of a list nothing is said.
+    pub fn next(&self, cell: u32) -> Option<u32>
+        ensures { Follows self.now cell result }
+    {
+        cell_at(&self.cells, cell as usize).next.number()
+    }
+
+    /// The interval of a cell. Of what is no cell of a list nothing is said.
+    pub fn span(&self, cell: u32) -> Interval
+        ensures { Covers self.now cell result }
+    {
+        let found = cell_at(&self.cells, cell as usize);
+        Interval {
+            lo: found.lo,
+            hi: found.hi,
+        }
+    }
+
+    /// How many cells are free.
+    pub fn free_cells(&self) -> u32
+        ensures { result ≡ length (self.now).free }
+    {
+        count(&self.heads, 0)
+    }
+
+    /// Makes room for so many cells, so that as many calls of `add` and `cut` succeed after it (`reserved_lasts`). The
+    /// free cells stay as they are. It fails where memory is refused (`Memory`), or so many cells with those that
+    /// stand in lists are more than 4,294,967,294 (`Full`). An error leaves all as it was.
+    pub fn reserve(&mut self, more: usize) -> Result<(), PoolFault>
+        ensures ok { OnOk result (Reserved self.old more self.new) }
+        ensures err { OnErr result (self.new ≡ self.old) }
+        ensures there { more ≤ (self.old).room → IsOk result }
+        ensures full { IfErr result (λ fault. fault ≡ Full ↔ IsFullWith self.old more) }
+    {
+        let left = MOST_CELLS as usize - self.cells.as_slice().len();
+        let free = count(&self.heads, 0) as usize;
+        if more > left + free {
+            return Err(PoolFault::Full);
+        }
+        self.cells.reserve(more.min(left))?;
+        Ok(())
+    }
+
+    /// A law, which does nothing: lists are merged; lists and the free cells share no cell, and are together all cells.
+    pub fn partition(&self)
+        ensures merged { (l : ℕ) → AreMerged (spans self.now l) }
+        ensures parted { IsPartition self.now }
+    {
+        let _ = &self.cells;
+    }
+}

@@ -1,0 +1,55 @@
+//! Where a number stands among the cells of a list.
+ghost use Rattle.std.specs.Prelude.{◌≡◌, ℕ};
+ghost use Rattle.interval_pool.specs.Pools.{AreWhole, chain_of};
+ghost use Rattle.interval_pool.specs.Changes.{spans_of};
+ghost use Rattle.interval_pool.specs.Intervals.{has};
+ghost use Rattle.interval_pool.specs.Places.{IsAscending, IsStart, IsPlace};
+
+use crate::cells::{Cell, Head, after, cell_at, count};
+use crate::link::Link;
+
+/// A guess, where it is a cell of a list that ends below a number.
+fn start(cells: &[Cell], list: u32, number: u64, guess: Link) -> Link
+    ensures { IsStart cells.now list number result }
+{
+    match guess.place() {
+        Some(at) if at < cells.len() && cells[at].owner == list && cells[at].hi < number => guess,
+        _ => Link::none(),
+    }
+}
+
+/// The last cell of a list that ends below a number, or none. Any guess of it serves; a good one saves the walk.
+pub fn seek(cells: &[Cell], heads: &[Head], list: u32, number: u64, guess: Link) -> Link
+    requires whole { AreWhole cells.now heads.now }
+    requires ascending { IsAscending cells.now (chain_of cells.now heads.now list) }
+    ensures { IsPlace cells.now heads.now list number result }
+{
+    let mut before = start(cells, list, number, guess);
+    let mut at = after(cells, heads, list as usize, before);
+    let mut left = count(heads, list as usize);
+    'walk: while left > 0 {
+        let Some(i) = at.place() else {
+            return before;
+        };
+        if i >= cells.len() || cells[i].hi >= number {
+            return before;
+        }
+        before = at;
+        at = cells[i].next;
+        left -= 1;
+    }
+    before
+}
+
+/// Whether a list has a number. Any guess of the last cell that ends below it serves.
+pub fn contains(cells: &[Cell], heads: &[Head], list: u32, number: u64, guess: Link) -> bool
+    requires whole { AreWhole cells.now heads.now }
+    requires ascending { IsAscending cells.now (chain_of cells.now heads.now list) }
+    ensures { result ≡ has (spans_of cells.now heads.now list) number }
+{
+    let before = seek(cells, heads, list, number, guess);
+    let Some(at) = after(cells, heads, list as usize, before).place() else {
+        return false;
+    };
+    cell_at(cells, at).lo <= number
+}

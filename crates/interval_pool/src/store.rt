@@ -1,0 +1,145 @@
+//! Cells of lists, and free cells.
+ghost use Rattle.std.specs.Prelude.{◌≡◌, ◌↔◌, ◌<◌, ◌≤◌, OnOk, OnErr, IfErr, length, vec_capacity};
+ghost use Rattle.interval_pool.specs.Cells.{with_numbers};
+ghost use Rattle.interval_pool.specs.Intervals.{listed};
+ghost use Rattle.interval_pool.specs.Links.{most_cells};
+ghost use Rattle.interval_pool.specs.Changes.{MakesRoom, Sets, Puts, Replaces, Spends};
+ghost use Rattle.interval_pool.specs.declared.fault.PoolFault.TheVariants.{Full};
+ghost use Rattle.interval_pool.specs.Pools.{Frees, FreesSome, Grows, Places};
+
+use crate::cells::{Cell, Head, count, link, unlink};
+use crate::fault::PoolFault;
+use crate::interval::{Interval, Pieces, count_pieces};
+use crate::link::{Link, MOST_CELLS};
+use std::alloc::AllocError;
+
+/// The chain of the free cells.
+const FREE: u32 = 0;
+
+/// Frees the cell after one of a list, or the list's first.
+pub fn free(cells: &mut [Cell], heads: &mut [Head], list: u32, before: Link)
+    ensures { Frees cells.old heads.old list before cells.new heads.new }
+{
+    let at = unlink(cells, heads, list as usize, before);
+    if let Some(i) = at.place() {
+        link(cells, heads, FREE, Link::none(), i);
+    }
+}
+
+/// Frees so many cells after one of a list, or the list's first.
+pub fn free_some(cells: &mut [Cell], heads: &mut [Head], list: u32, before: Link, count: u32)
+    ensures { FreesSome cells.old heads.old list before count cells.new heads.new }
+{
+    for _done in 0..count {
+        free(cells, heads, list, before);
+    }
+}
+
+/// Makes a free cell more.
+pub fn grow(cells: &mut Vec<Cell>, heads: &mut [Head]) -> Result<(), AllocError>
+    ensures ok { OnOk result (Grows cells.old.items heads.old cells.new.items heads.new) }
+    ensures cells { OnErr result (cells.new.items ≡ cells.old.items) }
+    ensures heads { OnErr result (heads.new ≡ heads.old) }
+    ensures capacity { vec_capacity cells.old ≤ vec_capacity cells.new }
+    ensures kept { OnErr result (vec_capacity cells.new ≡ vec_capacity cells.old) }
+    ensures none { OnErr result (vec_capacity cells.old ≤ length cells.old.items) }
+{
+    let at = cells.as_slice().len();
+    cells.reserve(1)?;
+    let _ = cells.push(Cell {
+        lo: 0,
+        hi: 0,
+        next: Link::none(),
+        owner: FREE,
+    });
+    link(cells, heads, FREE, Link::none(), at);
+    Ok(())
+}
+
+/// Gives a cell other numbers.
+fn put_numbers(cells: &mut [Cell], at: usize, lo: u64, hi: u64)
+    ensures { cells.new ≡ with_numbers cells.old at lo hi }
+{
+    if at < cells.len() {
+        let cell = cells[at];
+        cells[at] = Cell { lo, hi, ..cell };
+    }
+}
+
+/// Puts the first free cell into a list after one of its cells, or at its start, with these numbers.
+pub fn place(cells: &mut [Cell], heads: &mut [Head], list: u32, before: Link, lo: u64, hi: u64)
+    ensures { Places cells.old heads.old list before (record { lo = lo; hi = hi }) cells.new heads.new }
+{
+    let at = unlink(cells, heads, FREE as usize, Link::none());
+    if let Some(i) = at.place() {
+        put_numbers(cells, i, lo, hi);
+        link(cells, heads, list, before, i);
+    }
+}
+
+/// Puts an interval into a list after one of its cells, or at its start, if there is one to be put.
+fn set(cells: &mut [Cell], heads: &mut [Head], list: u32, before: Link, numbers: Option<Interval>)
+    ensures { Sets cells.old heads.old list before numbers cells.new heads.new }
+{
+    if let Some(numbers) = numbers {
+        place(cells, heads, list, before, numbers.lo, numbers.hi);
+    }
+}
+
+/// Makes a free cell, where the free ones and those that will be freed are fewer than needed.
+fn make_room(
+    cells: &mut Vec<Cell>,
+    heads: &mut [Head],
+    freed: u32,
+    needed: u32,
+) -> Result<(), PoolFault>
+    ensures ok { OnOk result (MakesRoom cells.old.items heads.old freed needed cells.new.items heads.new) }
+    ensures capacity { vec_capacity cells.old ≤ vec_capacity cells.new }
+    ensures cells { OnErr result (cells.new.items ≡ cells.old.items) }
+    ensures heads { OnErr result (heads.new ≡ heads.old) }
+    ensures kept { OnErr result (vec_capacity cells.new ≡ vec_capacity cells.old) }
+    ensures spent { OnErr result (Spends cells.old.items heads.old (vec_capacity cells.old)) }
+    ensures needed { OnErr result (freed < needed) }
+    ensures full { IfErr result (λ fault. fault ≡ Full ↔ (most_cells ≤ length cells.old.items)) }
+{
+    if needed <= freed || count(heads, FREE as usize) > 0 {
+        return Ok(());
+    }
+    if cells.as_slice().len() >= MOST_CELLS as usize {
+        return Err(PoolFault::Full);
+    }
+    grow(cells, heads)?;
+    Ok(())
+}
+
+/// Puts intervals into a list in place of so many cells after one of its cells, or at its start.
+fn put(cells: &mut [Cell], heads: &mut [Head], list: u32, before: Link, count: u32, pieces: Pieces)
+    ensures { Puts cells.old heads.old list before count pieces cells.new heads.new }
+{
+    free_some(cells, heads, list, before, count);
+    set(cells, heads, list, before, pieces.second);
+    set(cells, heads, list, before, pieces.first);
+}
+
+/// Puts intervals, one more at most, into a list in place of so many cells after one of its cells, or at its start.
+pub fn replace(
+    cells: &mut Vec<Cell>,
+    heads: &mut [Head],
+    list: u32,
+    before: Link,
+    count: u32,
+    pieces: Pieces,
+) -> Result<(), PoolFault>
+    ensures ok { OnOk result (Replaces cells.old.items heads.old list before count pieces cells.new.items heads.new) }
+    ensures capacity { vec_capacity cells.old ≤ vec_capacity cells.new }
+    ensures cells { OnErr result (cells.new.items ≡ cells.old.items) }
+    ensures heads { OnErr result (heads.new ≡ heads.old) }
+    ensures kept { OnErr result (vec_capacity cells.new ≡ vec_capacity cells.old) }
+    ensures spent { OnErr result (Spends cells.old.items heads.old (vec_capacity cells.old)) }
+    ensures needed { OnErr result (count < length (listed pieces)) }
+    ensures full { IfErr result (λ fault. fault ≡ Full ↔ (most_cells ≤ length cells.old.items)) }
+{
+    make_room(cells, heads, count, count_pieces(pieces))?;
+    put(cells, heads, list, before, count, pieces);
+    Ok(())
+}

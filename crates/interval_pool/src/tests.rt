@@ -1,0 +1,141 @@
+//! The intervals of lists and the number of free cells after each of some calls, worked out by hand.
+ghost use Rattle.std.specs.Prelude.{◌≡◌, ◌≤◌, IfOk};
+ghost use Rattle.interval_pool.specs.Values.{IsRange, IsList, spans};
+
+use crate::{Interval, ListId, Pool};
+use std::alloc::{AllocError, Global};
+
+fn add(pool: &mut Pool, list: ListId, numbers: Interval) -> bool
+    requires { IsRange numbers }
+{
+    pool.is_list(list) && pool.add(list, numbers).is_ok()
+}
+
+fn cut(pool: &mut Pool, list: ListId, numbers: Interval) -> bool
+    requires { IsRange numbers }
+{
+    pool.is_list(list) && pool.cut(list, numbers).is_ok()
+}
+
+/// The intervals of a list, from cell to cell.
+fn spans(alloc: Global, pool: &Pool, list: ListId) -> Result<Vec<Interval>, AllocError>
+    requires { IsList pool.now list }
+    ensures { IfOk result (λ found. found.items ≡ spans pool.now list) }
+{
+    let mut found = Vec::new(alloc);
+    let mut next = pool.first(list);
+    'cells: for _cell in 0..pool.len(list) {
+        let Some(cell) = next else {
+            return Ok(found);
+        };
+        found.push(pool.span(cell))?;
+        next = pool.next(cell);
+    }
+    Ok(found)
+}
+
+/// Whether a list has these intervals, and so many cells are free.
+fn shows(pool: &Pool, list: ListId, spans: &[(u64, u64)], free: u32) -> bool {
+    if !pool.is_list(list) || pool.free_cells() != free {
+        return false;
+    }
+    let mut next = pool.first(list);
+    for (lo, hi) in spans {
+        let Some(cell) = next else {
+            return false;
+        };
+        let found = pool.span(cell);
+        if found.lo != *lo || found.hi != *hi {
+            return false;
+        }
+        next = pool.next(cell);
+    }
+    next.is_none()
+}
+
+/// The first list after each call on it.
+fn shows_first(pool: &mut Pool, list: ListId) -> bool {
+    add(pool, list, Interval { lo: 1, hi: 10 })
+        && shows(pool, list, &[(1, 10)], 0)
+        && cut(pool, list, Interval { lo: 3, hi: 4 })
+        && shows(pool, list, &[(1, 2), (5, 10)], 0)
+        && cut(pool, list, Interval { lo: 7, hi: 7 })
+        && shows(pool, list, &[(1, 2), (5, 6), (8, 10)], 0)
+        && cut(pool, list, Interval { lo: 5, hi: 6 })
+        && shows(pool, list, &[(1, 2), (8, 10)], 1)
+}
+
+/// Both lists after each call on one of them.
+fn shows_both(pool: &mut Pool, first: ListId, second: ListId) -> bool {
+    add(pool, second, Interval { lo: 5, hi: 6 })
+        && shows(pool, first, &[(1, 2), (8, 10)], 0)
+        && shows(pool, second, &[(5, 6)], 0)
+        && add(pool, first, Interval { lo: 3, hi: 7 })
+        && shows(pool, first, &[(1, 10)], 1)
+        && shows(pool, second, &[(5, 6)], 1)
+}
+
+/// One list once the other was released.
+fn shows_second(pool: &mut Pool, first: ListId, second: ListId) -> bool {
+    if !pool.is_list(first) {
+        return false;
+    }
+    pool.release(first);
+    !pool.is_list(first)
+        && shows(pool, second, &[(5, 6)], 2)
+        && pool.reserve(3).is_ok()
+        && shows(pool, second, &[(5, 6)], 2)
+        && pool.is_list(second)
+        && pool.contains(second, 6)
+}
+
+fn shows_all(pool: &mut Pool) -> bool {
+    let Ok(first) = pool.new_list() else {
+        return false;
+    };
+    if !shows_first(pool, first) {
+        return false;
+    }
+    let Ok(second) = pool.new_list() else {
+        return false;
+    };
+    shows_both(pool, first, second) && shows_second(pool, first, second)
+}
+
+/// Pools may be lent to threads and handed to them.
+fn crosses<T: Send + Sync>(_value: &T) {}
+
+#[test]
+fn free_cells_after_each_call(rt: HostRuntime) {
+    let mut pool = Pool::open(rt.alloc());
+    crosses(&pool);
+    let shown = shows_all(&mut pool);
+    assert!(rt; shown);
+}
+
+/// Whether a walk along a list sees so many intervals.
+fn sees(alloc: Global, pool: &Pool, list: ListId, count: usize) -> bool {
+    if !pool.is_list(list) {
+        return false;
+    }
+    match spans(alloc, pool, list) {
+        Ok(found) => found.as_slice().len() == count,
+        Err(_) => false,
+    }
+}
+
+fn sees_two(alloc: Global, pool: &mut Pool) -> bool {
+    let Ok(list) = pool.new_list() else {
+        return false;
+    };
+    add(pool, list, Interval { lo: 1, hi: 10 })
+        && cut(pool, list, Interval { lo: 4, hi: 5 })
+        && sees(alloc, pool, list, 2)
+}
+
+#[test]
+fn walk_along_a_list(rt: HostRuntime) {
+    let mut pool = Pool::open(rt.alloc());
+    let seen = sees_two(rt.alloc(), &mut pool);
+    assert!(rt; seen);
+}
