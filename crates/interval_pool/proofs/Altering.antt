@@ -156,7 +156,7 @@ or_turn false false false true = refl
 or_turn false false false false = refl
 
 pub added : (cells cells1 : List Cell) (heads heads1 : List Head) (k n : ℕ) (before : Option ℕ) (s : Interval) (j : Joined) → Stands cells heads k n (s.hi + 1) before s j → AreWhole cells heads → length cells ≤ most_cells → k ≢ 0 → k < length heads
-    → s.lo ≤ s.hi → s.lo ≡ n + 1 → Replaces cells heads k before j.count (record { first = Some j.numbers; second = None }) cells1 heads1 → Added cells heads k s cells1 heads1
+    → s.lo ≤ s.hi → n ≡ s.lo - 1 → Replaces cells heads k before j.count (record { first = Some j.numbers; second = None }) cells1 heads1 → Added cells heads k s cells1 heads1
 added cells cells1 heads heads1 k n before s j t h small not_free lt filled from replaces =
     let us = map (interval_at cells) t.xs in
     let ss = map (interval_at cells) t.ys in
@@ -200,8 +200,8 @@ above_part w s = chosen (nat_lt s.hi w.hi) refl
     chosen true e = inl (grind (arith, nat_tests), refl)
     chosen false e = inr (grind (arith, nat_tests), refl)
 
-has_below : (w s : Interval) (n : ℕ) → 1 ≤ s.lo → has (option_to_list (part_below w s)) n ≡ (nat_le w.lo n && nat_lt n s.lo)
-has_below w s n from = ⊎_elim
+has_below : (w s : Interval) (n : ℕ) → has (option_to_list (part_below w s)) n ≡ (nat_le w.lo n && nat_lt n s.lo)
+has_below w s n = ⊎_elim
     (λ (e : (w.lo < s.lo) × (part_below w s ≡ Some (low_part w s))). let lt = e.0 in ap (λ o. has (option_to_list o) n) e.1 ∙ inside w.lo s.lo lt)
     (λ (e : (s.lo ≤ w.lo) × (part_below w s ≡ None)). let le = e.0 in ap (λ o. has (option_to_list o) n) e.1 ∙ outside w.lo s.lo le)
     (below_part w s)
@@ -228,11 +228,11 @@ has_above w s n = ⊎_elim
 has_parts : (a b c d n : ℕ) → a ≤ c → c ≤ d → d ≤ b → ((nat_le a n && nat_lt n c) || (nat_lt d n && nat_le n b)) ≡ ((nat_le a n && nat_le n b) && not (nat_le c n && nat_le n d))
 has_parts a b c d n le le' le'' = grind (arith, nat_tests)
 
-pub has_outside : (w s : Interval) (p : Pieces) (n : ℕ) → p.first ≡ part_below w s → p.second ≡ part_above w s → w.lo ≤ s.lo → s.lo ≤ s.hi → s.hi ≤ w.hi → 1 ≤ s.lo → has (listed p) n ≡ (covers w n && not (covers s n))
-has_outside w s p n first second lo filled hi from =
+pub has_outside : (w s : Interval) (p : Pieces) (n : ℕ) → p.first ≡ part_below w s → p.second ≡ part_above w s → w.lo ≤ s.lo → s.lo ≤ s.hi → s.hi ≤ w.hi → has (listed p) n ≡ (covers w n && not (covers s n))
+has_outside w s p n first second lo filled hi =
     has_append (option_to_list p.first) (option_to_list p.second) n
     ∙ ((λ i. has (option_to_list (first i)) n || has (option_to_list (second i)) n)
-    ∙ ((λ i. has_below w s n from i || has_above w s n i) ∙ has_parts w.lo w.hi s.lo s.hi n lo filled hi))
+    ∙ ((λ i. has_below w s n i || has_above w s n i) ∙ has_parts w.lo w.hi s.lo s.hi n lo filled hi))
 
 -- what lies wholly before or after an interval has none of its numbers
 none_before : (s : Interval) (n : ℕ) (us : List Interval) → AllByRecursion (λ u. u.hi < s.lo) us → (has us n && covers s n) ≡ false
@@ -369,8 +369,8 @@ parts_few limit s spans j p m filled first second =
     counted (suc n) e none two = omega (e, two, arith)
 
 pub cut_out : (cells cells1 : List Cell) (heads heads1 : List Head) (k : ℕ) (before : Option ℕ) (s : Interval) (j : Joined) (p : Pieces) → Stands cells heads k s.lo s.hi before s j → AreWhole cells heads → length cells ≤ most_cells → k ≢ 0 → k < length heads
-    → s.lo ≤ s.hi → 1 ≤ s.lo → p.first ≡ part_below j.numbers s → p.second ≡ part_above j.numbers s → Replaces cells heads k before j.count p cells1 heads1 → Cut cells heads k s cells1 heads1
-cut_out cells cells1 heads heads1 k before s j p t h small not_free lt filled from first second replaces =
+    → s.lo ≤ s.hi → p.first ≡ part_below j.numbers s → p.second ≡ part_above j.numbers s → Replaces cells heads k before j.count p cells1 heads1 → Cut cells heads k s cells1 heads1
+cut_out cells cells1 heads heads1 k before s j p t h small not_free lt filled first second replaces =
     let us = map (interval_at cells) t.xs in
     let ss = map (interval_at cells) t.ys in
     let m = t.met in
@@ -383,13 +383,13 @@ cut_out cells cells1 heads heads1 k before s j p t h small not_free lt filled fr
     let good = merged_with (λ u. u.hi < s.lo) us ss (listed p ++ m.rest) t.merged t.below back front in
     changed cells cells1 heads heads1 k s.lo s.hi before s j p (without (spans_of cells heads k) s) t h small not_free lt (parts_few s.hi s ss j p m filled first second) replaces good
     (λ i.
-    ap (λ b. has us i || (b || has m.rest i)) (has_outside j.numbers s p i first second m.lo filled m.hi from ∙ ap (λ b. b && not (covers s i)) (m.has i))
+    ap (λ b. has us i || (b || has m.rest i)) (has_outside j.numbers s p i first second m.lo filled m.hi ∙ ap (λ b. b && not (covers s i)) (m.has i))
     ∙ (cut_has (has us i) (has m.front i) (has m.rest i) (covers s i) (none_before s i us t.below) (none_after s i m.rest m.beyond)
     ∙ ap (λ b. b && not (covers s i)) (ap (λ b. has us i || b) (sym (ap (λ ts. has ts i) m.parts ∙ has_append m.front m.rest i)) ∙ (sym (has_append us ss i) ∙ ap (λ ts. has ts i) (sym t.spans)))))
 
 -- ---- where a cell more is needed
 
-pub kept_apart : (cells : List Cell) (heads : List Head) (k n : ℕ) (before : Option ℕ) (s : Interval) (j : Joined) → Stands cells heads k n (s.hi + 1) before s j → s.lo ≡ n + 1 → j.count < 1 → IsApart (spans_of cells heads k) s
+pub kept_apart : (cells : List Cell) (heads : List Head) (k n : ℕ) (before : Option ℕ) (s : Interval) (j : Joined) → Stands cells heads k n (s.hi + 1) before s j → n ≡ s.lo - 1 → j.count < 1 → IsApart (spans_of cells heads k) s
 kept_apart cells heads k n before s j t from none =
     let m = t.met in
     let count = m.count in

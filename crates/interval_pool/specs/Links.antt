@@ -16,7 +16,3 @@ code_of_place (suc n) = refl
 -- the most cells that a pool may have
 abbrev pub most_cells : ℕ
 most_cells = 4294967294
-
--- the greatest number of an interval
-abbrev pub most_number : ℕ
-most_number = 9223372036854775807

@@ -5,7 +5,7 @@ use Rattle.std.specs.Coded.{Coded, code_by, coded×, coded_ℕ, coded_list, code
 use Rattle.interval_pool.specs.declared.cells.Cell.{Cell}
 use Rattle.interval_pool.specs.declared.cells.Head.{Head}
 use Rattle.interval_pool.specs.declared.interval.Interval.{Interval}
-use Rattle.interval_pool.specs.Links.{most_cells, most_number}
+use Rattle.interval_pool.specs.Links.{most_cells}
 use Rattle.interval_pool.specs.Cells.{head_at}
 use Rattle.interval_pool.specs.Chains.{AreOnce, IsAmong}
 use Rattle.interval_pool.specs.Intervals.{has, AreMerged}
@@ -60,7 +60,7 @@ first_cell (h ∷ hs) = Some h.cell
 
 -- what an interval of numbers may be
 abbrev pub IsRange : Interval → Type 0
-IsRange s = (1 ≤ s.lo) × (s.lo ≤ s.hi) × (s.hi ≤ most_number)
+IsRange s = s.lo ≤ s.hi
 
 -- the cells that stand in lists
 abbrev pub standing : List (Option (List Held)) → List ℕ

@@ -1,6 +1,6 @@
 //! Numbers are added to a list.
 ghost use Rattle.std.specs.Prelude.{◌≡◌, ◌↔◌, ◌≢◌, ◌<◌, ◌≤◌, OnOk, OnErr, IfErr, length, vec_capacity};
-ghost use Rattle.interval_pool.specs.Links.{most_cells, most_number};
+ghost use Rattle.interval_pool.specs.Links.{most_cells};
 ghost use Rattle.interval_pool.specs.Intervals.{AreMerged, IsApart};
 ghost use Rattle.interval_pool.specs.Pools.{AreWhole};
 ghost use Rattle.interval_pool.specs.Changes.{Added, Spends, spans_of};
@@ -28,8 +28,6 @@ pub fn add(
     requires there { list < length heads.old }
     requires merged { AreMerged (spans_of cells.old.items heads.old list) }
     requires filled { numbers.lo ≤ numbers.hi }
-    requires from { 1 ≤ numbers.lo }
-    requires upto { numbers.hi ≤ most_number }
     ensures ok { OnOk result (Added cells.old.items heads.old list numbers cells.new.items heads.new) }
     ensures capacity { vec_capacity cells.old ≤ vec_capacity cells.new }
     ensures cells { OnErr result (cells.new.items ≡ cells.old.items) }
@@ -39,8 +37,8 @@ pub fn add(
     ensures needed { OnErr result (IsApart (spans_of cells.old.items heads.old list) numbers) }
     ensures full { IfErr result (λ fault. fault ≡ Full ↔ (most_cells ≤ length cells.old.items)) }
 {
-    let before = seek(cells, heads, list, numbers.lo - 1, guess);
-    let joined = meet(cells, heads, list, before, numbers, numbers.hi + 1);
+    let before = seek(cells, heads, list, numbers.lo.saturating_sub(1), guess);
+    let joined = meet(cells, heads, list, before, numbers, 1);
     let pieces = Pieces {
         first: Some(joined.numbers),
         second: None,

@@ -28,7 +28,6 @@ pub fn cut(
     requires there { list < length heads.old }
     requires merged { AreMerged (spans_of cells.old.items heads.old list) }
     requires filled { numbers.lo ≤ numbers.hi }
-    requires from { 1 ≤ numbers.lo }
     ensures ok { OnOk result (Cut cells.old.items heads.old list numbers cells.new.items heads.new) }
     ensures capacity { vec_capacity cells.old ≤ vec_capacity cells.new }
     ensures cells { OnErr result (cells.new.items ≡ cells.old.items) }
@@ -39,7 +38,7 @@ pub fn cut(
     ensures full { IfErr result (λ fault. fault ≡ Full ↔ (most_cells ≤ length cells.old.items)) }
 {
     let before = seek(cells, heads, list, numbers.lo, guess);
-    let joined = meet(cells, heads, list, before, numbers, numbers.hi);
+    let joined = meet(cells, heads, list, before, numbers, 0);
     let pieces = parts_outside(joined.numbers, numbers);
     replace(cells, heads, list, before, joined.count, pieces)?;
     Ok(before)

@@ -1,5 +1,5 @@
 //! An interval joined with those of a list that it meets.
-ghost use Rattle.std.specs.Prelude.{◌≡◌, map};
+ghost use Rattle.std.specs.Prelude.{◌≡◌, ◌+◌, map, nat_lt};
 ghost use Rattle.interval_pool.specs.Intervals.{met};
 ghost use Rattle.interval_pool.specs.Pools.{interval_at, rest_of};
 
@@ -7,16 +7,23 @@ use crate::cells::{Cell, Head, after, cell_at, count};
 use crate::interval::{Interval, Joined, hull};
 use crate::link::Link;
 
-/// An interval joined with the cells of a list after one of them, as long as the next begins up to this number.
+/// Whether a number stands further behind another than so many numbers.
+fn is_beyond(number: u64, hi: u64, reach: u64) -> bool
+    ensures { result ≡ nat_lt (hi + reach) number }
+{
+    number > hi && number - hi > reach
+}
+
+/// An interval joined with the cells of a list after one of them, as long as the next begins within so many numbers behind it.
 pub fn meet(
     cells: &[Cell],
     heads: &[Head],
     list: u32,
     before: Link,
     numbers: Interval,
-    limit: u64,
+    reach: u64,
 ) -> Joined
-    ensures { result ≡ met limit numbers 0 (map (interval_at cells.now) (rest_of cells.now heads.now list before)) }
+    ensures { result ≡ met (numbers.hi + reach) numbers 0 (map (interval_at cells.now) (rest_of cells.now heads.now list before)) }
 {
     let mut joined = Joined { numbers, count: 0 };
     let mut at = after(cells, heads, list as usize, before);
@@ -26,7 +33,7 @@ pub fn meet(
             return joined;
         };
         let cell = cell_at(cells, i);
-        if cell.lo > limit {
+        if is_beyond(cell.lo, numbers.hi, reach) {
             return joined;
         }
         let other = Interval {

@@ -44,7 +44,7 @@ impl ListId {
     }
 }
 
-/// Lists of numbers from 1 to 9,223,372,036,854,775,807, each kept as merged intervals in cells of one vector. A cell
+/// Lists of numbers of 64 bits, each kept as merged intervals in cells of one vector. A cell
 /// is named by a number of 32 bits, which holds until the next change of its list.
 #[derive(Drop)]
 pub struct Pool {
@@ -91,9 +91,12 @@ impl Pool {
         ensures full { IfErr result (λ fault. fault ≡ Full ↔ IsFull self.old) }
     {
         let list = list.number();
-        let guess = self
-            .hints
-            .near_place(&self.cells, &self.heads, list, numbers.lo - 1);
+        let guess = self.hints.near_place(
+            &self.cells,
+            &self.heads,
+            list,
+            numbers.lo.saturating_sub(1),
+        );
         let place = add(&mut self.cells, &mut self.heads, list, numbers, guess)?;
         self.hints.note_added(&self.cells, &self.heads, list, place);
         Ok(())

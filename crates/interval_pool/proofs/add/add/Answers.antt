@@ -10,13 +10,13 @@ pub returns-in_err-replace-clause-needed : goal.returns-in_err-replace-clause-ne
 returns-in_err-replace-clause-needed c =
     let cells : List Cell = c.args.cells.now.items in
     let heads = c.args.heads.now in
-    let n : ℕ = c.args.numbers.lo - 1 in
+    let n : ℕ = c.saturating_sub.result in
+    let is : n ≡ c.args.numbers.lo - 1 = c.saturating_sub.ensures in
     let P : List Cell → Type 0 = λ cs. IsPlace cs heads c.args.list n c.seek-before.result in
     let Q : List Cell → Type 0 = λ cs. c.meet-joined.result ≡ met (c.args.numbers.hi + 1) c.args.numbers 0 (map (interval_at cs) (rest_of cs heads c.args.list c.seek-before.result)) in
-    let from : c.args.numbers.lo ≤ n + 1 = (let lo = c.requires.from in omega (lo, arith)) in
+    let from : c.args.numbers.lo ≤ n + 1 = omega (is, arith) in
     let t = stands cells heads c.args.list n (c.args.numbers.hi + 1) c.seek-before.result c.args.numbers c.meet-joined.result c.requires.whole c.requires.merged c.requires.filled from (omega arith)
     (subst P c.deref.ensures.value c.seek-before.ensures) (subst Q c.deref-2.ensures.value c.meet-joined.ensures) in
-    let is : c.args.numbers.lo ≡ n + 1 = (let lo = c.requires.from in omega (lo, arith)) in
     let apart = kept_apart cells heads c.args.list n c.seek-before.result c.args.numbers c.meet-joined.result t is c.in_err-replace.ensures.needed in
     search rules
 
@@ -24,12 +24,12 @@ pub returns-clause-ok : goal.returns-clause-ok
 returns-clause-ok c =
     let cells : List Cell = c.args.cells.now.items in
     let heads = c.args.heads.now in
-    let n : ℕ = c.args.numbers.lo - 1 in
+    let n : ℕ = c.saturating_sub.result in
+    let is : n ≡ c.args.numbers.lo - 1 = c.saturating_sub.ensures in
     let P : List Cell → Type 0 = λ cs. IsPlace cs heads c.args.list n c.seek-before.result in
     let Q : List Cell → Type 0 = λ cs. c.meet-joined.result ≡ met (c.args.numbers.hi + 1) c.args.numbers 0 (map (interval_at cs) (rest_of cs heads c.args.list c.seek-before.result)) in
-    let from : c.args.numbers.lo ≤ n + 1 = (let lo = c.requires.from in omega (lo, arith)) in
+    let from : c.args.numbers.lo ≤ n + 1 = omega (is, arith) in
     let t = stands cells heads c.args.list n (c.args.numbers.hi + 1) c.seek-before.result c.args.numbers c.meet-joined.result c.requires.whole c.requires.merged c.requires.filled from (omega arith)
     (subst P c.deref.ensures.value c.seek-before.ensures) (subst Q c.deref-2.ensures.value c.meet-joined.ensures) in
-    let is : c.args.numbers.lo ≡ n + 1 = (let lo = c.requires.from in omega (lo, arith)) in
     added cells c.replace.new.cells.items heads c.replace.new.heads c.args.list n c.seek-before.result c.args.numbers c.meet-joined.result t c.requires.whole c.requires.small c.requires.is_list c.requires.there c.requires.filled is
     c.in_ok-replace.ensures.ok
