@@ -1,9 +1,7 @@
 -- What has come to a channel, and that it stays come.
-use Rattle.std.proofs.Common.{◌≡◌, ◌≢◌, ℕ, zero, suc, Bool, true, false, ◌⊎◌, inl, inr, List, [], ◌∷◌, ◌++◌, map, length, Option, Some, None, refl, sym, ap, ◌∙◌, subst}
+use Rattle.std.proofs.Common.{◌≡◌, ◌≢◌, ℕ, zero, suc, true, inl, inr, List, [], ◌∷◌, ◌++◌, map, Some, sym, ap, ◌∙◌, subst}
 use Rattle.std.specs.Prelude.{slice_get}
-use Rattle.std.specs.Option.{option_map_or}
 use Rattle.std.specs.List.{list_any}
-use Rattle.std.specs.FinMap as finmap
 use Rattle.std.specs.FinSet as set
 use Rattle.std.specs.FinSet.{contains-union}
 use Rattle.std.proofs.lemmas.Bool.{or_cases, or_left, or_right}
@@ -16,7 +14,6 @@ use Rattle.rows.specs.Fits.{misfit}
 use Rattle.rows.proofs.Lists.{none_some, on_option, get_append_left}
 use Rattle.journal.specs.declared.Entry.{Entry}
 use Rattle.apply_channel.specs.Channels.{ChannelValue, Received, received_gtids, is_full}
-use Rattle.replica_core.specs.declared.event.Event.TheVariants.{Position, Receive}
 use Rattle.replica_core.specs.declared.event.Reply.TheVariants.{NotInSchema, Ask}
 use Rattle.replica_core.specs.State.{State, Site}
 use Rattle.replica_core.specs.Machine.{Step, ask, with_channel, position_on, receive}

@@ -1,7 +1,6 @@
 -- The places of a node's channels, once entries are purged: one slot after another.
-use Rattle.std.proofs.Common.{◌≡◌, ℕ, ◌+◌, ◌<◌, ◌≤◌, Bool, true, false, cond, inl, inr, List, length, Option, Some, None, refl, sym, ap, ◌∙◌, subst, arith, get_or, set, eqb, length-set}
-use Rattle.std.specs.Prelude.{◌==◌, nat_lt, slice_get, slice_set}
-use Rattle.std.specs.FinMap as finmap
+use Rattle.std.proofs.Common.{◌≡◌, ℕ, ◌+◌, ◌<◌, ◌≤◌, Bool, true, false, cond, inl, inr, List, length, Option, None, refl, sym, ap, ◌∙◌, subst, arith, get_or, set, length-set}
+use Rattle.std.specs.Prelude.{◌==◌, nat_lt}
 use Rattle.std.proofs.lemmas.Bool.{cases_Bool, eqb-true}
 use Rattle.std.proofs.lemmas.Bool.Decides.{nat_tests}
 use Rattle.network.specs.Nodes.{Sources}

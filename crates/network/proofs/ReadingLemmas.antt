@@ -1,8 +1,8 @@
 -- How far a channel has read its source's binary log stays true, whatever the nodes make.
-use Rattle.std.proofs.Common.{◌≡◌, ◌≢◌, ℕ, zero, suc, ◌+◌, ◌-◌, ◌<◌, ◌≤◌, Bool, true, false, cond, ◌&&◌, not, ◌⊎◌, inl, inr, List, [], ◌∷◌, ◌++◌, map, length, take, drop, Option, Some, None, Result, Ok, Err, IfOk, OnErr, refl, sym, ap, ◌∙◌, subst, arith, eqb, true≢false, length-append, length-set}
+use Rattle.std.proofs.Common.{◌≡◌, ◌≢◌, ℕ, zero, suc, ◌+◌, ◌-◌, ◌<◌, ◌≤◌, Bool, true, false, cond, ◌&&◌, not, ◌⊎◌, inl, inr, List, [], ◌∷◌, ◌++◌, length, take, drop, Option, Some, None, Result, Ok, Err, IfOk, OnErr, refl, sym, ap, ◌∙◌, subst, arith, eqb, true≢false, length-append, length-set}
 use Rattle.std.specs.Prelude.{slice_get, slice_set, nat_le, ◌==◌, find}
 use Rattle.std.specs.Option.{option_map_or}
-use Rattle.std.specs.List.{list_all, list_any}
+use Rattle.std.specs.List.{list_all}
 use Rattle.std.specs.FinMap as finmap
 use Rattle.std.specs.FinSet as set
 use Rattle.std.specs.FinSet.{contains-union, is_subset-contains, contains-is_subset}
@@ -36,7 +36,7 @@ use Rattle.network.specs.Nodes.{Node, Sources}
 use Rattle.network.specs.Machine.{come, is_for_network}
 use Rattle.network.specs.Made.{Makes, MakesAt}
 use Rattle.network.specs.Reading.{Places, has_come, HasRead, IsRead, IsReadFrom, AreRead, moved, reads, place_after, AreMoved, AreAllMoved, entries_at}
-use Rattle.network.proofs.Moving.{Journals, Stays, Appends, Purges, Moves, step_moves}
+use Rattle.network.proofs.Moving.{Journals, Moves, step_moves}
 use Rattle.network.proofs.Coming.{Grew, still_come, grew_as_before, grew_same, position_grew, receive_grew}
 
 both_true : (x y : Bool) → x ≡ true → y ≡ true → (x && y) ≡ true

@@ -1,6 +1,6 @@
 -- How far the channels of a network are known to have read the binary logs of their sources. A network keeps it, so that a Receive
 -- does not look at the same entry again and again; no answer depends on it.
-use Rattle.std.specs.Prelude.{◌≡◌, ℕ, ◌-◌, ◌≤◌, ◌<◌, ◌==◌, Bool, true, false, not, if◌then◌else◌, find, List, length, take, Option, Some, None, slice_get, nat_le}
+use Rattle.std.specs.Prelude.{◌≡◌, ℕ, ◌-◌, ◌≤◌, ◌==◌, Bool, true, false, not, if◌then◌else◌, find, List, length, take, Option, Some, None, slice_get, nat_le}
 use Rattle.std.specs.Option.{option_map_or}
 use Rattle.std.specs.List.{list_all}
 use Rattle.std.specs.Ordering.{nat_cmp}
@@ -11,7 +11,7 @@ use Rattle.journal.specs.declared.Entry.{Entry}
 use Rattle.journal.specs.Journals.{JournalValue}
 use Rattle.apply_channel.specs.Channels.{ChannelValue}
 use Rattle.network.specs.Nodes.{Node, Sources}
-use Rattle.network.specs.Machine.{come, next_of}
+use Rattle.network.specs.Machine.{come}
 
 -- the place that each channel has read to, where it is known
 abbrev pub Places : Type 0

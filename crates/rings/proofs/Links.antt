@@ -1,5 +1,5 @@
 -- What a channel has received of its source's history, and how one event of its replica changes that.
-use Rattle.std.proofs.Common.{◌≡◌, ◌≢◌, ℕ, zero, suc, Bool, true, false, cond, not, ◌||◌, ◌⊎◌, inl, inr, List, [], ◌∷◌, ◌++◌, map, length, Some, None, Ok, Err, refl, sym, ap, ◌∙◌, subst, append_assoc, eqb}
+use Rattle.std.proofs.Common.{◌≡◌, ◌≢◌, ℕ, Bool, true, false, cond, not, ◌||◌, ◌⊎◌, inl, inr, List, [], ◌∷◌, ◌++◌, length, Some, None, Ok, Err, refl, sym, ap, ◌∙◌, subst, append_assoc, eqb}
 use Rattle.std.specs.Prelude.{slice_get, nat_le}
 use Rattle.std.specs.Option.{option_and_then}
 use Rattle.std.specs.List.{filter, list_any}
@@ -29,10 +29,10 @@ use Rattle.replica_core.specs.State.{State, Site}
 use Rattle.replica_core.specs.Machine.{Step, ask, with_channel, open_channel, position_on, receive, step}
 use Rattle.source_history.specs.World.{World}
 use Rattle.source_history.proofs.Lists.{on_test, get_push_cases, get_set_cases}
-use Rattle.source_history.proofs.Covering.{in_gtids, entries_append}
+use Rattle.source_history.proofs.Covering.{entries_append}
 use Rattle.faithful_runs.specs.Faithful.{Since, since_after, WasSent, IsFaithfulStep}
 use Rattle.faithful_runs.proofs.Invariant.{Stands, Invariant}
-use Rattle.faithful_runs.proofs.Receiving.{received_entry, among_received}
+use Rattle.faithful_runs.proofs.Receiving.{received_entry}
 use Rattle.rows.proofs.Lists.{none_some, on_option}
 use Rattle.rows.proofs.Patching.{not_both}
 use Rattle.network.specs.Machine.{come, next_of, is_for_network}

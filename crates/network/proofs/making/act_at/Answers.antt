@@ -1,6 +1,6 @@
-use Rattle.std.proofs.Common.{◌≡◌, ◌-◌, ◌≤◌, ℕ, List, refl, sym, ap, ◌∙◌, subst, arith}
+use Rattle.std.proofs.Common.{◌≡◌, ◌-◌, ℕ, List, sym, ap, ◌∙◌, subst, arith}
 use Rattle.network.specs.Nodes.{Node}
-use Rattle.network.specs.Reading.{AreRead, AreAllMoved, entries_at}
+use Rattle.network.specs.Reading.{AreAllMoved, entries_at}
 use Rattle.network.proofs.ReadingLemmas.{act_keeps, none_moved}
 use Rattle.network.proofs.making.act_at.Goals.{then-purged-gt0, else-purged-gt0}
 use Rattle.network.proofs.making.act_at.Goals as goal

@@ -1,7 +1,7 @@
 use Rattle.std.proofs.Common.{◌≡◌, ◌<◌, ◌∙◌, length, Some, get_or, refl, sym, ap, subst, arith}
 use Rattle.std.specs.Prelude.{slice_get, slice_set}
 use Rattle.std.proofs.lemmas.Option.{slice_get_read}
-use Rattle.network.specs.Reading.{AreRead, Places}
+use Rattle.network.specs.Reading.{AreRead}
 use Rattle.std.specs.FinMap as finmap
 use Rattle.replica_core.specs.declared.event.Event.TheVariants as event
 use Rattle.rows.proofs.Lists.{if_ok}

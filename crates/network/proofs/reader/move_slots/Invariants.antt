@@ -1,4 +1,3 @@
-use Rattle.std.proofs.Common.{◌≡◌, ℕ, length}
 use Rattle.network.proofs.ReaderLemmas.{AreMovedTo}
 use Rattle.network.proofs.reader.move_slots.Given as goal
 

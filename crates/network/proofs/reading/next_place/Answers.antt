@@ -1,5 +1,4 @@
-use Rattle.std.proofs.Common.{◌≡◌, ◌≤◌, ◌<◌, ◌∙◌, length, Some, refl, sym, ap, arith}
-use Rattle.std.specs.Prelude.{slice_get}
+use Rattle.std.proofs.Common.{◌∙◌, length, refl, sym, ap}
 use Rattle.std.specs.FinSet as set
 use Rattle.journal.specs.declared.Entry.{Entry}
 use Rattle.std.proofs.lemmas.Option.{slice_get_read}

@@ -1,6 +1,5 @@
-use Rattle.std.proofs.Common.{◌≡◌, ◌+◌, ◌++◌, List, [], ◌∷◌, ℕ, inl, inr, Some, map, take, length, length-append, ap, sym, ◌∙◌, arith}
+use Rattle.std.proofs.Common.{◌≡◌, ◌+◌, ◌++◌, List, [], ◌∷◌, ℕ, inl, inr, map, take, length, length-append, ap, sym, ◌∙◌, arith}
 use Rattle.std.specs.Prelude.{slice_get}
-use Rattle.std.specs.FinMap as finmap
 use Rattle.std.proofs.lemmas.List.{take_more, map_push}
 use Rattle.network.specs.Nodes.{Node, opened_node}
 use Rattle.network.specs.Reading.{Places}
