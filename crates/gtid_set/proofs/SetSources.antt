@@ -413,3 +413,7 @@ set_of_gathered xs new l = set_of_list (λ q. has xs q || has [] q) new (set_of 
     or-false : (a : Bool) → a ≡ (a || false)
     or-false true = refl
     or-false false = refl
+
+-- the set of one span, added to another
+pub with_one : (s : Gtids) (t : Span) → set.union s (set_of (t ∷ [])) ≡ set.union s (interval t.source t.lo t.hi)
+with_one s t = ap (set.union s) (same_members (set.union set.empty (interval t.source t.lo t.hi)) (interval t.source t.lo t.hi) (λ q. set.contains-union gtid_total set.empty (interval t.source t.lo t.hi) q ∙ ap (λ b. b || set.contains (interval t.source t.lo t.hi) q) (set.contains-empty gtid_cmp q)))

@@ -10,7 +10,7 @@ ghost use Rattle.gtid_set.specs.Spans.{set_of, is_merged, has};
 ghost use Rattle.gtid_set.specs.Runs.{runs, canonical};
 ghost use Rattle.gtid_set.specs.Texts.{SpellsSet, RefusesSet, IsReadAs, GivesSet, set_in};
 ghost use Rattle.gtid_set.specs.Sweep.{IsListOf, rises, within};
-ghost use Rattle.gtid_set.specs.Full.{IsFullExactly, IsKept};
+ghost use Rattle.gtid_set.specs.Full.{IsFullExactly, IsCrowdedExactly, IsKept};
 
 mod fault;
 pub mod laws;
@@ -29,6 +29,9 @@ const MOST_SOURCES: u32 = 65_536;
 
 /// The greatest number that a transaction may have. Our own rule.
 const GREATEST: u64 = 9_223_372_036_854_775_807;
+
+/// The most intervals that a set may have. Our own rule.
+const MOST_INTERVALS: usize = 4_294_967_294;
 
 /// The most spans that are always searched by halves. Our own rule.
 const MOST_SEARCHED: usize = 32;
@@ -108,18 +111,22 @@ fn sources_with(spans: &[Span], sources: u32, source: SourceId, guess: usize) ->
 }
 
 /// The set of a merged list of spans, which has not too many sources.
-fn made(alloc: Global, spans: Vec<Span>) -> GtidSet
+fn made(alloc: Global, spans: Vec<Span>) -> Result<GtidSet, SetFault>
     requires merged { is_merged spans.items ≡ true }
     requires fits { source_count (set_of spans.items) ≤ most_sources }
-    ensures { result ≡ set_of spans.items }
+    ensures ok { IfOk result (λ s. s ≡ set_of spans.items) }
+    ensures full { IsFullExactly result (set_of spans.items) }
 {
+    if spans.as_slice().len() > MOST_INTERVALS {
+        return Err(SetFault::PoolFull);
+    }
     let sources = sweep::count_sources(&spans, &[]) as u32;
     let tails = BTreeMap::new(alloc);
-    GtidSet {
+    Ok(GtidSet {
         spans,
         sources,
         tails,
-    }
+    })
 }
 
 /// The set of all that two merged lists of spans have.
@@ -135,7 +142,7 @@ fn united(alloc: Global, left: &[Span], right: &[Span]) -> Result<GtidSet, SetFa
     let Ok(spans) = sweep::union_of(alloc, left, right) else {
         return Err(SetFault::Memory);
     };
-    Ok(made(alloc, spans))
+    made(alloc, spans)
 }
 
 /// The set of what the first of two merged lists of spans has and the second has not.
@@ -144,12 +151,12 @@ fn reduced(alloc: Global, left: &[Span], right: &[Span]) -> Result<GtidSet, SetF
     requires right { is_merged right.now ≡ true }
     requires fits { source_count (set_of left.now) ≤ most_sources }
     ensures ok { IfOk result (λ s. s ≡ set.difference (set_of left.now) (set_of right.now)) }
-    ensures fault { IsOkUnless result Memory }
+    ensures full { IsCrowdedExactly result (set.difference (set_of left.now) (set_of right.now)) }
 {
     let Ok(spans) = sweep::difference_of(alloc, left, right) else {
         return Err(SetFault::Memory);
     };
-    Ok(made(alloc, spans))
+    made(alloc, spans)
 }
 
 /// The set of what both of two merged lists of spans have.
@@ -158,12 +165,12 @@ fn common(alloc: Global, left: &[Span], right: &[Span]) -> Result<GtidSet, SetFa
     requires right { is_merged right.now ≡ true }
     requires fits { source_count (set_of left.now) ≤ most_sources }
     ensures ok { IfOk result (λ s. s ≡ set.intersection (set_of left.now) (set_of right.now)) }
-    ensures fault { IsOkUnless result Memory }
+    ensures full { IsCrowdedExactly result (set.intersection (set_of left.now) (set_of right.now)) }
 {
     let Ok(spans) = sweep::intersection_of(alloc, left, right) else {
         return Err(SetFault::Memory);
     };
-    Ok(made(alloc, spans))
+    made(alloc, spans)
 }
 
 /// The set of spans that are sorted by where they start, none of them reversed.
@@ -179,7 +186,7 @@ fn gathered(alloc: Global, spans: &[Span]) -> Result<GtidSet, SetFault>
     let Ok(merged) = sweep::union_of(alloc, spans, &[]) else {
         return Err(SetFault::Memory);
     };
-    Ok(made(alloc, merged))
+    made(alloc, merged)
 }
 
 /// Whether two merged lists of spans are of one set.
@@ -209,7 +216,10 @@ fn of_source(
     let Ok(spans) = single::of_source(alloc, spans, source, wanted) else {
         return Err(SetFault::Memory);
     };
-    Ok(made(alloc, spans))
+    let Ok(set) = made(alloc, spans) else {
+        return Err(SetFault::Memory);
+    };
+    Ok(set)
 }
 
 impl GtidSet {
@@ -257,15 +267,21 @@ impl GtidSet {
         if span.hi < span.lo {
             return Ok(());
         }
-        let guess = tail_of(&self.tails, span.source);
-        let Some(sources) = sources_with(&self.spans, known, span.source, guess) else {
+        let Some(_) = sources_with(&self.spans, known, span.source, 0) else {
             return Err(SetFault::SourcesFull);
         };
-        let Ok(()) = add_at_tail(&mut self.spans, &mut self.tails, span, guess) else {
+        let alloc = *self.spans.allocator();
+        let mut one = Vec::new(alloc);
+        let Ok(()) = one.push(span) else {
             return Err(SetFault::Memory);
         };
-        self.sources = sources;
-        Ok(())
+        match united(alloc, &self.spans, &one) {
+            Ok(set) => {
+                *self = set;
+                Ok(())
+            }
+            Err(fault) => Err(fault),
+        }
     }
 
     /// The same set.
@@ -295,7 +311,7 @@ impl GtidSet {
     /// The GTIDs of this set that the other has not.
     pub fn subtract(&self, alloc: Global, other: &GtidSet) -> Result<GtidSet, SetFault>
         ensures ok { IfOk result (λ s. s ≡ set.difference self.now other.now) }
-        ensures fault { IsOkUnless result Memory }
+        ensures full { IsCrowdedExactly result (set.difference self.now other.now) }
     {
         reduced(alloc, &self.spans, &other.spans)
     }
@@ -303,7 +319,7 @@ impl GtidSet {
     /// The GTIDs that both sets have.
     pub fn intersect(&self, alloc: Global, other: &GtidSet) -> Result<GtidSet, SetFault>
         ensures ok { IfOk result (λ s. s ≡ set.intersection self.now other.now) }
-        ensures fault { IsOkUnless result Memory }
+        ensures full { IsCrowdedExactly result (set.intersection self.now other.now) }
     {
         common(alloc, &self.spans, &other.spans)
     }

@@ -1,5 +1,7 @@
-use Rattle.std.proofs.Common.{ap, ◌∙◌, arith}
-use Rattle.gtid_set.specs.Sets.{source_count}
+use Rattle.std.proofs.Common.{subst, ap, ◌∙◌, arith}
+use Rattle.std.proofs.lemmas.Result.{IfOk-weaker}
+use Rattle.gtid_set.specs.Sets.{Gtids, source_count}
+use Rattle.gtid_set.specs.Full.{IsFullExactly}
 use Rattle.gtid_set.proofs.SetSources.{counted_filled, set_of_gathered}
 use Rattle.gtid_set.proofs.gathered.Goals as goal
 
@@ -20,9 +22,9 @@ made-requires-clause-fits c =
     omega (arith, count, same)
 
 pub returns-clause-ok : goal.returns-clause-ok
-returns-clause-ok c = c.made.ensures ∙ set_of_gathered c.args.spans.now c.in-Ok.merged.items c.in-Ok.ensures
+returns-clause-ok c = IfOk-weaker c.made.result _ _ (λ s e. e ∙ set_of_gathered c.args.spans.now c.in-Ok.merged.items c.in-Ok.ensures) c.made.ensures.ok
 
 pub returns-clause-full : goal.returns-clause-full
 returns-clause-full c =
-    let count = c.count_sources.ensures ∙ counted_filled c.args.spans.now c.requires.filled in
-    omega (arith, count)
+    let P : Gtids → Type 0 = λ s. IsFullExactly c.made.result s in
+    subst P (set_of_gathered c.args.spans.now c.in-Ok.merged.items c.in-Ok.ensures) c.made.ensures.full

@@ -1,5 +1,7 @@
-use Rattle.std.proofs.Common.{ap, ◌∙◌, arith}
-use Rattle.gtid_set.specs.Sets.{source_count}
+use Rattle.std.proofs.Common.{subst, ap, ◌∙◌, arith}
+use Rattle.std.proofs.lemmas.Result.{IfOk-weaker}
+use Rattle.gtid_set.specs.Sets.{Gtids, source_count}
+use Rattle.gtid_set.specs.Full.{IsFullExactly}
 use Rattle.gtid_set.proofs.SpanLemmas.{merged_rises}
 use Rattle.gtid_set.proofs.SetSources.{counted_both, set_of_union}
 use Rattle.gtid_set.proofs.united.Goals as goal
@@ -33,9 +35,9 @@ made-requires-clause-fits c =
     omega (arith, count, same)
 
 pub returns-clause-ok : goal.returns-clause-ok
-returns-clause-ok c = c.made.ensures ∙ set_of_union c.args.left.now c.args.right.now c.in-Ok.spans.items c.in-Ok.ensures
+returns-clause-ok c = IfOk-weaker c.made.result _ _ (λ s e. e ∙ set_of_union c.args.left.now c.args.right.now c.in-Ok.spans.items c.in-Ok.ensures) c.made.ensures.ok
 
 pub returns-clause-full : goal.returns-clause-full
 returns-clause-full c =
-    let count = c.count_sources.ensures ∙ counted_both c.args.left.now c.args.right.now c.requires.left c.requires.right in
-    omega (arith, count)
+    let P : Gtids → Type 0 = λ s. IsFullExactly c.made.result s in
+    subst P (set_of_union c.args.left.now c.args.right.now c.in-Ok.spans.items c.in-Ok.ensures) c.made.ensures.full

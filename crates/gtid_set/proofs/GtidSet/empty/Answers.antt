@@ -1,4 +1,4 @@
-use Rattle.std.proofs.Common.{ap, sym, ◌∙◌, arith}
+use Rattle.std.proofs.Common.{length, ap, sym, ◌∙◌, arith}
 use Rattle.gtid_set.specs.Sets.{source_count}
 use Rattle.gtid_set.specs.Spans.{set_of, is_merged}
 use Rattle.gtid_set.proofs.SetSources.{no_sources}
@@ -11,4 +11,5 @@ invariant_of-result c =
       merged = ap is_merged none;
       counted = sym (ap (λ ss. source_count (set_of ss)) none ∙ no_sources);
       fits = omega arith;
+      small = (let l = ap length none in omega (arith, l));
     }
