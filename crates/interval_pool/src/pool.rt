@@ -1,6 +1,7 @@
 //! The pool as its callers see it.
-ghost use Rattle.std.specs.Prelude.{◌≡◌, ◌↔◌, ◌≢◌, ℕ, ◌<◌, ◌≤◌, IsOk, OnOk, OnErr, IfOk, IfErr, length, vec_capacity};
-ghost use Rattle.interval_pool.specs.Intervals.{AreMerged, IsApart, IsSplit, has};
+ghost use Rattle.std.specs.Prelude.{◌≡◌, ◌↔◌, ◌≢◌, ℕ, ◌<◌, ◌≤◌, IsOk, OnOk, OnErr, IfOk, IfErr, IfSome, IfNone, true, false, length, vec_capacity};
+ghost use Rattle.interval_pool.specs.Intervals.{AreMerged, IsApart, IsSplit, covers, has};
+ghost use Rattle.std.specs.List.{Contains};
 ghost use Rattle.interval_pool.specs.Values.{empty, is_list, IsList, IsRange, cells_of, spans, first_cell, Follows, Covers, IsPartition, Opened, AddedTo, CutFrom, Released, Reserved, HasNoRoom, IsFull, IsFullWith, AreAllLists};
 ghost use Rattle.interval_pool.specs.declared.fault.PoolFault.TheVariants.{Full};
 
@@ -12,7 +13,7 @@ use crate::fault::PoolFault;
 use crate::hints::Hints;
 use crate::interval::Interval;
 use crate::link::{Link, MOST_CELLS};
-use crate::seek::contains;
+use crate::seek::interval_with;
 use std::alloc::Global;
 use std::marker::Model;
 
@@ -158,9 +159,19 @@ impl Pool {
         requires list { IsList self.now list }
         ensures { result ≡ has (spans self.now list) number }
     {
+        self.interval_with(list, number).is_some()
+    }
+
+    /// The interval of a list that has a number, if there is one.
+    pub fn interval_with(&self, list: ListId, number: u64) -> Option<Interval>
+        requires list { IsList self.now list }
+        ensures one { IfSome result (λ s. Contains (spans self.now list) s) }
+        ensures covers { IfSome result (λ s. covers s number ≡ true) }
+        ensures none { IfNone result (has (spans self.now list) number ≡ false) }
+    {
         let list = list.number();
         let guess = self.hints.place(&self.cells, &self.heads, list, number);
-        contains(&self.cells, &self.heads, list, number, guess)
+        interval_with(&self.cells, &self.heads, list, number, guess)
     }
 
     /// How many intervals a list has.
