@@ -1,11 +1,18 @@
 -- When a set is too large, and what a set is kept as.
 use Rattle.std.specs.Prelude.{◌≡◌, ℕ, ◌<◌, ◌≤◌, true, Result, Ok, Err, List, length}
 use Rattle.gtid_text.specs.declared.Span.{Span}
+use Rattle.interval_pool.specs.declared.fault.PoolFault.{PoolFault}
+use Rattle.interval_pool.specs.declared.fault.PoolFault.TheVariants as pools
 use Rattle.gtid_set.specs.declared.fault.SetFault.{SetFault}
 use Rattle.gtid_set.specs.declared.fault.SetFault.TheVariants.{Memory, PoolFull, SourcesFull}
 use Rattle.gtid_set.specs.Sets.{Gtids, source_count, most_sources}
 use Rattle.gtid_set.specs.Runs.{runs}
 use Rattle.gtid_set.specs.Spans.{set_of, is_merged}
+
+-- the fault of a pool as one of a set
+abbrev pub fault_of : PoolFault → SetFault
+fault_of pools.Memory = Memory
+fault_of pools.Full = PoolFull
 
 -- the most intervals that a set may have
 abbrev pub most_intervals : ℕ
@@ -45,9 +52,8 @@ IsCrowdedExactly (Err Memory) s = Unit {0}
 IsCrowdedExactly (Err PoolFull) s = HasManyIntervals s
 IsCrowdedExactly (Err SourcesFull) s = ⊥
 
--- a set is kept as a merged list with the number of its sources
-pub record IsKept (spans : List Span) (sources : ℕ) : Type 0 where
+-- a set is kept as merged spans, not too many, of not too many sources
+pub record IsKept (spans : List Span) : Type 0 where
   pub merged : is_merged spans ≡ true
-  pub counted : sources ≡ source_count (set_of spans)
-  pub fits : sources ≤ most_sources
+  pub fits : source_count (set_of spans) ≤ most_sources
   pub small : length spans ≤ most_intervals

@@ -1,0 +1,122 @@
+-- Spans kept in a pool, in one list for each source.
+use Rattle.std.specs.Prelude.{◌≡◌, ℕ, ◌+◌, ◌≤◌, ◌<◌, Bool, true, false, not, ◌&&◌, ◌==◌, nat_le, nat_lt, List, [], ◌∷◌, ◌++◌, length, map, take, drop, Option, Some, None, slice_index_or}
+use Rattle.std.specs.List.{list_all, list_any}
+use Rattle.gtid_text.specs.declared.Gtid.{Gtid}
+use Rattle.gtid_text.specs.declared.Span.{Span}
+use Rattle.interval_pool.specs.declared.interval.Interval.{Interval}
+use Rattle.interval_pool.specs.Intervals.{has as has_number}
+use Rattle.interval_pool.specs.Values.{PoolValue, is_list, AreAmong, spans, cells_of, first_cell}
+use Rattle.gtid_set.specs.declared.sources.Source.{Source}
+use Rattle.gtid_set.specs.declared.cursor.Place.{Place}
+use Rattle.gtid_set.specs.Sets.{most_sources, source_count}
+use Rattle.gtid_set.specs.Full.{most_intervals}
+use Rattle.gtid_set.specs.Spans.{set_of, is_merged}
+
+-- an interval as a span of a source
+abbrev pub span_of : ℕ → Interval → Span
+span_of source s = record { source = source; lo = s.lo; hi = s.hi }
+
+abbrev pub interval_of : Span → Interval
+interval_of s = record { lo = s.lo; hi = s.hi }
+
+-- the spans of one source, and of sources one after another
+abbrev pub spans_in : PoolValue → Source → List Span
+spans_in p s = map (span_of s.id) (spans p s.list)
+
+abbrev pub spans_of : PoolValue → List Source → List Span
+spans_of p [] = []
+spans_of p (s ∷ ss) = spans_in p s ++ spans_of p ss
+
+-- the source at a place; beyond the last none that has intervals
+abbrev pub source_at : List Source → ℕ → Source
+source_at sources i = slice_index_or sources i (record { id = 0; list = 0 })
+
+-- the sources at places
+abbrev pub listed : List Source → List ℕ → List Source
+listed sources order = map (source_at sources) order
+
+abbrev pub are_places : List Source → List ℕ → Bool
+are_places sources order = list_all (λ i. nat_lt i (length sources)) order
+
+abbrev pub flat : PoolValue → List Source → List ℕ → List Span
+flat p sources order = spans_of p (listed sources order)
+
+-- each source is less than the later ones
+abbrev pub are_rising : List Source → Bool
+are_rising [] = true
+are_rising (s ∷ ss) = list_all (λ t. nat_lt s.id t.id) ss && are_rising ss
+
+-- a source has a list with intervals
+abbrev pub is_filled : PoolValue → Source → Bool
+is_filled p s = is_list p s.list && nat_lt 0 (length (spans p s.list))
+
+-- no two have one list
+abbrev pub have_own : List Source → Bool
+have_own [] = true
+have_own (s ∷ ss) = list_all (λ t. not (t.list == s.list)) ss && have_own ss
+
+abbrev pub lists_of : List Source → List ℕ
+lists_of ss = map (λ s. s.list) ss
+
+-- Sources rise, and each has a list of its own, with intervals; the pool has no other lists.
+pub record IsKeptIn (p : PoolValue) (sources : List Source) (order : List ℕ) : Type 0 where
+  pub places : are_places sources order ≡ true
+  pub as_many : length order ≡ length sources
+  pub few : length order ≤ most_sources
+  pub rising : are_rising (listed sources order) ≡ true
+  pub filled : list_all (is_filled p) (listed sources order) ≡ true
+  pub own : have_own (listed sources order) ≡ true
+  pub known : AreAmong p (lists_of (listed sources order))
+  pub merged : is_merged (flat p sources order) ≡ true
+  pub counted : length order ≡ source_count (set_of (flat p sources order))
+  pub small : length (flat p sources order) ≤ most_intervals
+
+-- whether the source at a place is less than another
+abbrev pub comes_before : List Source → ℕ → ℕ → Bool
+comes_before sources id i = nat_lt i (length sources) && nat_lt (source_at sources i).id id
+
+-- the place of a source among others: those before it are less, and those from there on are not
+pub record IsSourcePlace (ss : List Source) (id at : ℕ) : Type 0 where
+  pub bound : at ≤ length ss
+  pub before : list_all (λ s. nat_lt s.id id) (take at ss) ≡ true
+  pub behind : list_all (λ s. not (nat_lt s.id id)) (drop at ss) ≡ true
+
+-- one of the sources has the number
+abbrev pub knows : PoolValue → List Source → Gtid → Bool
+knows p ss q = list_any (λ s. (s.id == q.source) && has_number (spans p s.list) q.number) ss
+
+-- ---- a place among the spans
+
+-- the spans of a source from a place on
+abbrev pub spans_from : PoolValue → Place → List Span
+spans_from p at = map (span_of at.source.id) (drop at.passed (spans p at.source.list))
+
+abbrev pub cursor_view : PoolValue → List Source → List ℕ → Option Place → List Span
+cursor_view p sources behind None = []
+cursor_view p sources behind (Some at) = spans_from p at ++ spans_of p (listed sources behind)
+
+-- the first place in the list of a source
+pub record Begins (p : PoolValue) (s : Source) (at : Place) : Type 0 where
+  pub source : at.source ≡ s
+  pub passed : at.passed ≡ 0
+  pub cell : first_cell (cells_of p s.list) ≡ Some at.cell
+  pub len : at.len ≡ length (cells_of p s.list)
+
+-- so many intervals of the list lie before its cell, and there are sources behind it
+pub record IsAt (p : PoolValue) (sources : List Source) (behind : List ℕ) (at : Place) : Type 0 where
+  pub cell : first_cell (drop at.passed (cells_of p at.source.list)) ≡ Some at.cell
+  pub passed : at.passed < at.len
+  pub len : at.len ≡ length (cells_of p at.source.list)
+  pub places : are_places sources behind ≡ true
+  pub filled : list_all (is_filled p) (listed sources behind) ≡ true
+
+-- the next place of the list, and the spans from there on
+abbrev pub moved : Place → ℕ → Place
+moved at cell = record { source = at.source; cell = cell; passed = at.passed + 1; len = at.len }
+
+abbrev pub spans_behind : PoolValue → List Source → List ℕ → Place → List Span
+spans_behind p sources behind at = spans_from p (moved at 0) ++ spans_of p (listed sources behind)
+
+abbrev pub IsCursor : PoolValue → List Source → List ℕ → Option Place → Type 0
+IsCursor p sources behind None = Unit {0}
+IsCursor p sources behind (Some at) = IsAt p sources behind at
