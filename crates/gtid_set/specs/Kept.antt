@@ -83,7 +83,7 @@ pub record IsSourcePlace (ss : List Source) (id at : ℕ) : Type 0 where
 
 -- one of the sources has the number
 abbrev pub knows : PoolValue → List Source → Gtid → Bool
-knows p ss q = list_any (λ s. (s.id == q.source) && has_number (spans p s.list) q.number) ss
+knows p ss q = list_any (λ s. (q.source == s.id) && has_number (spans p s.list) q.number) ss
 
 -- ---- a place among the spans
 

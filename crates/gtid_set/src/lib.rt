@@ -10,7 +10,7 @@ ghost use Rattle.gtid_set.specs.Spans.{set_of, is_merged, has};
 ghost use Rattle.gtid_set.specs.Runs.{runs, canonical};
 ghost use Rattle.gtid_set.specs.Texts.{SpellsSet, RefusesSet, IsReadAs, GivesSet, set_in};
 ghost use Rattle.gtid_set.specs.Sweep.{IsListOf, rises, within};
-ghost use Rattle.gtid_set.specs.Full.{IsFullExactly, IsCrowdedExactly, IsKept};
+ghost use Rattle.gtid_set.specs.Full.{IsFullExactly, IsCrowdedExactly, IsKept, most_intervals};
 
 mod cursor;
 mod fault;
