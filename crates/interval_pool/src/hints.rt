@@ -99,6 +99,32 @@ fn search_run(cells: &[Cell], heads: &[Head], list: u32, number: u64) -> Link {
     Link::to(first.saturating_add(below - 1))
 }
 
+/// The last cell of a list whose cells lie one behind another.
+fn end_of_run(cells: &[Cell], heads: &[Head], list: u32) -> Link {
+    let len = count(heads, list as usize) as usize;
+    match after(cells, heads, list as usize, Link::none()).place() {
+        Some(first) => Link::to(first.saturating_add(len).saturating_sub(1)),
+        None => Link::none(),
+    }
+}
+
+/// Whether a cell is the last of a list.
+fn is_end(cells: &[Cell], list: u32, place: Link) -> bool {
+    let Some(at) = place.place() else {
+        return false;
+    };
+    let cell = cell_at(cells, at);
+    cell.owner == list && cell.next.is_none()
+}
+
+/// Whether the cell behind one of a list lies behind it, or there is none before it.
+fn goes_on(cells: &[Cell], place: Link) -> bool {
+    let Some(at) = place.place() else {
+        return true;
+    };
+    is_at(cell_at(cells, at).next, at.saturating_add(1))
+}
+
 /// Whether cells behind a place still lie one behind another, where few have changed.
 fn is_still_run(cells: &[Cell], heads: &[Head], list: u32, place: Link) -> bool {
     let mut last = place;
@@ -193,6 +219,18 @@ impl Hints {
         self.place(cells, heads, list, number)
     }
 
+    /// The last cell of a list, as far as it is known.
+    pub fn last(&self, cells: &[Cell], heads: &[Head], list: u32) -> Link {
+        let hints = self.of(list);
+        if hints.is_run {
+            return end_of_run(cells, heads, list);
+        }
+        if is_end(cells, list, hints.cell) {
+            return hints.cell;
+        }
+        self.search_index(cells, list, u64::MAX)
+    }
+
     /// The last cell of the index that ends below a number.
     fn search_index(&self, cells: &[Cell], list: u32, number: u64) -> Link {
         let mut found = self.index.range(..=(list, number));
@@ -284,6 +322,14 @@ impl Hints {
             self.forget(list, lo.saturating_add(1), hi);
             self.remember(cells, list, at);
         }
+    }
+
+    /// An interval was put behind the last cell of a list.
+    pub fn note_appended(&mut self, cells: &[Cell], heads: &[Head], list: u32, place: Link) {
+        if self.of(list).is_run && goes_on(cells, place) {
+            return;
+        }
+        self.note_added(cells, heads, list, place);
     }
 
     /// An interval was cut out behind a place.

@@ -1,5 +1,5 @@
 //! A place among cells, or none, in 32 bits.
-ghost use Rattle.std.specs.Prelude.{◌≡◌, ◌≤◌, Some, None};
+ghost use Rattle.std.specs.Prelude.{◌≡◌, ◌≤◌, Some, None, IsTrue};
 ghost use Rattle.interval_pool.specs.Links.{most_cells};
 
 use std::marker::Model;
@@ -59,6 +59,13 @@ impl Link {
         } else {
             Some(self.code as usize - 1)
         }
+    }
+
+    /// Whether there is no place.
+    pub fn is_none(self) -> bool
+        ensures { IsTrue result → self ≡ None }
+    {
+        self.code == 0
     }
 
     /// The place as a number of 32 bits, if there is one.

@@ -3,7 +3,7 @@ ghost use Rattle.std.specs.Prelude.{◌≡◌, ◌↔◌, ◌<◌, ◌≤◌, On
 ghost use Rattle.interval_pool.specs.Cells.{with_numbers};
 ghost use Rattle.interval_pool.specs.Intervals.{listed};
 ghost use Rattle.interval_pool.specs.Links.{most_cells};
-ghost use Rattle.interval_pool.specs.Changes.{MakesRoom, Sets, Puts, Replaces, Spends};
+ghost use Rattle.interval_pool.specs.Changes.{MakesRoom, Sets, Puts, Replaces, Spends, Pushes, Inserts};
 ghost use Rattle.interval_pool.specs.declared.fault.PoolFault.TheVariants.{Full};
 ghost use Rattle.interval_pool.specs.Pools.{Frees, FreesSome, Grows, Places};
 
@@ -75,6 +75,60 @@ pub fn place(cells: &mut [Cell], heads: &mut [Head], list: u32, before: Link, lo
         put_numbers(cells, i, lo, hi);
         link(cells, heads, list, before, i);
     }
+}
+
+/// Puts a cell more into a list after one of its cells, or at its start, with these numbers.
+fn push(
+    cells: &mut Vec<Cell>,
+    heads: &mut [Head],
+    list: u32,
+    before: Link,
+    numbers: Interval,
+) -> Result<(), AllocError>
+    ensures ok { OnOk result (Pushes cells.old.items heads.old list before numbers cells.new.items heads.new) }
+    ensures cells { OnErr result (cells.new.items ≡ cells.old.items) }
+    ensures heads { OnErr result (heads.new ≡ heads.old) }
+    ensures capacity { vec_capacity cells.old ≤ vec_capacity cells.new }
+    ensures kept { OnErr result (vec_capacity cells.new ≡ vec_capacity cells.old) }
+    ensures none { OnErr result (vec_capacity cells.old ≤ length cells.old.items) }
+{
+    let at = cells.as_slice().len();
+    cells.reserve(1)?;
+    let _ = cells.push(Cell {
+        lo: numbers.lo,
+        hi: numbers.hi,
+        next: Link::none(),
+        owner: list,
+    });
+    link(cells, heads, list, before, at);
+    Ok(())
+}
+
+/// Puts an interval into a list after one of its cells, or at its start. A free cell is taken before one is made.
+pub fn insert(
+    cells: &mut Vec<Cell>,
+    heads: &mut [Head],
+    list: u32,
+    before: Link,
+    numbers: Interval,
+) -> Result<(), PoolFault>
+    ensures ok { OnOk result (Inserts cells.old.items heads.old list before numbers cells.new.items heads.new) }
+    ensures capacity { vec_capacity cells.old ≤ vec_capacity cells.new }
+    ensures cells { OnErr result (cells.new.items ≡ cells.old.items) }
+    ensures heads { OnErr result (heads.new ≡ heads.old) }
+    ensures kept { OnErr result (vec_capacity cells.new ≡ vec_capacity cells.old) }
+    ensures spent { OnErr result (Spends cells.old.items heads.old (vec_capacity cells.old)) }
+    ensures full { IfErr result (λ fault. fault ≡ Full ↔ (most_cells ≤ length cells.old.items)) }
+{
+    if count(heads, FREE as usize) > 0 {
+        place(cells, heads, list, before, numbers.lo, numbers.hi);
+        return Ok(());
+    }
+    if cells.as_slice().len() >= MOST_CELLS as usize {
+        return Err(PoolFault::Full);
+    }
+    push(cells, heads, list, before, numbers)?;
+    Ok(())
 }
 
 /// Puts an interval into a list after one of its cells, or at its start, if there is one to be put.
