@@ -12,7 +12,7 @@ use crate::fault::PoolFault;
 use crate::interval::Interval;
 use crate::link::Link;
 use crate::seek::last;
-use crate::store::insert;
+use crate::store::put_last;
 
 /// Puts an interval behind all others of a list. Any guess of its last cell serves. Gives back that cell.
 pub fn append(
@@ -39,6 +39,6 @@ pub fn append(
     ensures full { IfErr result (λ fault. fault ≡ Full ↔ (most_cells ≤ length cells.old.items)) }
 {
     let before = last(cells, heads, list, numbers.lo, guess);
-    insert(cells, heads, list, before, numbers)?;
+    put_last(cells, heads, list, before, numbers)?;
     Ok(before)
 }

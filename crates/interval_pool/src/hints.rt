@@ -101,11 +101,8 @@ fn search_run(cells: &[Cell], heads: &[Head], list: u32, number: u64) -> Link {
 
 /// The last cell of a list whose cells lie one behind another.
 fn end_of_run(cells: &[Cell], heads: &[Head], list: u32) -> Link {
-    let len = count(heads, list as usize) as usize;
-    match after(cells, heads, list as usize, Link::none()).place() {
-        Some(first) => Link::to(first.saturating_add(len).saturating_sub(1)),
-        None => Link::none(),
-    }
+    let first = after(cells, heads, list as usize, Link::none());
+    first.last_of(count(heads, list as usize))
 }
 
 /// Whether a cell is the last of a list.
@@ -115,14 +112,6 @@ fn is_end(cells: &[Cell], list: u32, place: Link) -> bool {
     };
     let cell = cell_at(cells, at);
     cell.owner == list && cell.next.is_none()
-}
-
-/// Whether the cell behind one of a list lies behind it, or there is none before it.
-fn goes_on(cells: &[Cell], place: Link) -> bool {
-    let Some(at) = place.place() else {
-        return true;
-    };
-    is_at(cell_at(cells, at).next, at.saturating_add(1))
 }
 
 /// Whether cells behind a place still lie one behind another, where few have changed.
@@ -219,14 +208,20 @@ impl Hints {
         self.place(cells, heads, list, number)
     }
 
+    /// Whether the cells of a list lie one behind another.
+    pub fn is_run(&self, list: u32) -> bool {
+        let at = list as usize;
+        at < self.lists.as_slice().len() && self.lists[at].is_run
+    }
+
     /// The last cell of a list, as far as it is known.
-    pub fn last(&self, cells: &[Cell], heads: &[Head], list: u32) -> Link {
-        let hints = self.of(list);
-        if hints.is_run {
+    pub fn last(&self, cells: &[Cell], heads: &[Head], list: u32, is_run: bool) -> Link {
+        if is_run {
             return end_of_run(cells, heads, list);
         }
-        if is_end(cells, list, hints.cell) {
-            return hints.cell;
+        let cell = self.of(list).cell;
+        if is_end(cells, list, cell) {
+            return cell;
         }
         self.search_index(cells, list, u64::MAX)
     }
@@ -324,12 +319,18 @@ impl Hints {
         }
     }
 
-    /// An interval was put behind the last cell of a list.
-    pub fn note_appended(&mut self, cells: &[Cell], heads: &[Head], list: u32, place: Link) {
-        if self.of(list).is_run && goes_on(cells, place) {
-            return;
+    /// An interval was put behind the last cell of a list. A run whose last cells are the last of all goes on.
+    pub fn note_appended(
+        &mut self,
+        cells: &[Cell],
+        heads: &[Head],
+        list: u32,
+        place: Link,
+        is_run: bool,
+    ) {
+        if !is_run || !place.is_before(cells.len().saturating_sub(1)) {
+            self.note_added(cells, heads, list, place);
         }
-        self.note_added(cells, heads, list, place);
     }
 
     /// An interval was cut out behind a place.

@@ -68,6 +68,18 @@ impl Link {
         self.code == 0
     }
 
+    /// Whether a place comes right behind this one.
+    pub fn is_before(self, at: usize) -> bool {
+        self.code as usize == at
+    }
+
+    /// The last of so many places that begin with this one.
+    pub fn last_of(self, count: u32) -> Link {
+        Link {
+            code: self.code.wrapping_add(count).saturating_sub(1),
+        }
+    }
+
     /// The place as a number of 32 bits, if there is one.
     pub fn number(self) -> Option<u32>
         ensures { result ≡ self }

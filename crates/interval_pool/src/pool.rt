@@ -118,10 +118,11 @@ impl Pool {
         ensures full { IfErr result (λ fault. fault ≡ Full ↔ IsFull self.old) }
     {
         let list = list.number();
-        let guess = self.hints.last(&self.cells, &self.heads, list);
+        let is_run = self.hints.is_run(list);
+        let guess = self.hints.last(&self.cells, &self.heads, list, is_run);
         let place = append(&mut self.cells, &mut self.heads, list, numbers, guess)?;
         self.hints
-            .note_appended(&self.cells, &self.heads, list, place);
+            .note_appended(&self.cells, &self.heads, list, place, is_run);
         Ok(())
     }
 
