@@ -135,6 +135,12 @@ IsFullWith p n = most_cells < length (standing p.lists) + n
 abbrev pub AreAllLists : PoolValue → Type 0
 AreAllLists p = (l : ℕ) → 1 ≤ l → l ≤ most_cells → IsList p l
 
+-- the same lists and free cells
+pub record Copied (p : PoolValue) (q : PoolValue) : Type 0 where
+  pub lists : q.lists ≡ p.lists
+  pub free : q.free ≡ p.free
+  pub cells : q.cells ≡ p.cells
+
 -- there is room for so many cells
 pub record Reserved (p : PoolValue) (n : ℕ) (q : PoolValue) : Type 0 where
   pub lists : q.lists ≡ p.lists

@@ -2,7 +2,7 @@
 use crate::cells::{Cell, Head, after, cell_at, count};
 use crate::interval::Interval;
 use crate::link::Link;
-use std::alloc::Global;
+use std::alloc::{AllocError, Global};
 use std::collections::BTreeMap;
 
 /// A list of no more cells is walked from its first.
@@ -141,6 +141,17 @@ impl Hints {
         }
     }
 
+    /// The same of a copy of the pool.
+    pub fn copy(&self, alloc: Global) -> Result<Hints, AllocError> {
+        let lists = Vec::from_slice(alloc, &self.lists)?;
+        let index = self.index.clone()?;
+        Ok(Hints {
+            lists,
+            released: self.released,
+            index,
+        })
+    }
+
     fn of(&self, list: u32) -> ListHints {
         match self.lists.get(list as usize) {
             Some(hints) => *hints,
@@ -210,8 +221,7 @@ impl Hints {
 
     /// Whether the cells of a list lie one behind another.
     pub fn is_run(&self, list: u32) -> bool {
-        let at = list as usize;
-        at < self.lists.as_slice().len() && self.lists[at].is_run
+        self.of(list).is_run
     }
 
     /// The last cell of a list, as far as it is known.

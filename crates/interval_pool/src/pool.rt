@@ -2,8 +2,8 @@
 ghost use Rattle.std.specs.Prelude.{◌≡◌, ◌↔◌, ◌≢◌, ℕ, ◌<◌, ◌≤◌, IsOk, OnOk, OnErr, IfOk, IfErr, IfSome, IfNone, true, false, length, vec_capacity};
 ghost use Rattle.interval_pool.specs.Intervals.{AreMerged, IsBefore, IsApart, IsSplit, covers, has};
 ghost use Rattle.std.specs.List.{AllByRecursion, Contains};
-ghost use Rattle.interval_pool.specs.Values.{empty, is_list, IsList, IsRange, cells_of, spans, first_cell, Follows, Covers, IsPartition, Opened, AddedTo, Appended, CutFrom, Released, Reserved, HasNoRoom, IsFull, IsFullWith, AreAllLists};
-ghost use Rattle.interval_pool.specs.declared.fault.PoolFault.TheVariants.{Full};
+ghost use Rattle.interval_pool.specs.Values.{empty, is_list, IsList, IsRange, cells_of, spans, first_cell, Follows, Covers, IsPartition, Opened, AddedTo, Appended, Copied, CutFrom, Released, Reserved, HasNoRoom, IsFull, IsFullWith, AreAllLists};
+ghost use Rattle.interval_pool.specs.declared.fault.PoolFault.TheVariants.{Full, Memory};
 
 use crate::add::add;
 use crate::append::append;
@@ -146,6 +146,22 @@ impl Pool {
         self.hints
             .note_cut(&self.cells, &self.heads, list, place, numbers);
         Ok(())
+    }
+
+    /// The same pool again: the same lists, with the same cells, and the same free cells. It fails where memory is
+    /// refused (`Memory`).
+    pub fn copy(&self, alloc: Global) -> Result<Pool, PoolFault>
+        ensures ok { IfOk result (λ pool. Copied self.now pool) }
+        ensures memory { IfErr result (λ fault. fault ≡ Memory) }
+    {
+        let hints = self.hints.copy(alloc)?;
+        let heads = Vec::from_slice(alloc, &self.heads)?;
+        let cells = Vec::from_slice(alloc, &self.cells)?;
+        Ok(Pool {
+            cells,
+            heads,
+            hints,
+        })
     }
 
     /// Makes an empty list. It fails where memory is refused (`Memory`), or 4,294,967,294 lists are there (`Full`). An
