@@ -7,6 +7,7 @@ pub mod Lists
 pub mod Putting
 pub mod Meeting
 pub mod Altering
+pub mod Appending
 pub mod Valued
 pub mod Parting
 pub mod Listing

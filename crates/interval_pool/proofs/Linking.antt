@@ -59,7 +59,7 @@ pub is_among_all : (P : ℕ → Type 0) (i : ℕ) (is : List ℕ) → AllByRecur
 is_among_all P i [] all among = absurd among
 is_among_all P i (j ∷ js) all among = ⊎_elim (λ e. subst P (sym e) all.0) (is_among_all P i js all.1) among
 
-last_among : (i p : ℕ) (is : List ℕ) → last_or (Some i) is ≡ Some p → IsAmong p (i ∷ is)
+pub last_among : (i p : ℕ) (is : List ℕ) → last_or (Some i) is ≡ Some p → IsAmong p (i ∷ is)
 last_among i p [] e = inl (cc)
 last_among i p (j ∷ js) e = inr (last_among j p js e)
 

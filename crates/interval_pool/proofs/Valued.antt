@@ -12,8 +12,8 @@ use Rattle.interval_pool.specs.Links.{most_cells}
 use Rattle.interval_pool.specs.Cells.{head_at, no_head}
 use Rattle.interval_pool.specs.Intervals.{AreMerged, has}
 use Rattle.interval_pool.specs.Pools.{chain_of, interval_at, KeepsOthers}
-use Rattle.interval_pool.specs.Changes.{spans_of, free_count, Changed}
-use Rattle.interval_pool.specs.Values.{Held, is_list, IsList, cells_of, spans, Altered, held, slot, value_of, IsPool}
+use Rattle.interval_pool.specs.Changes.{spans_of, free_count, Changed, Added, with_more}
+use Rattle.interval_pool.specs.Values.{Held, is_list, IsList, cells_of, spans, Altered, Appended, held, slot, value_of, IsPool}
 use Rattle.interval_pool.proofs.Facts.{bool_cases}
 
 -- ---- lists of cells
@@ -156,3 +156,14 @@ pub altered_list : (change : List Interval → Interval → ℕ → Bool) (cells
 altered_list change cells cells' heads heads' capacity capacity' l s h is changed le =
     let same = spans_are cells heads capacity l h (is_not_free cells heads l h is) in
     subst (λ ss. Altered (value_of cells heads capacity) l (change ss s) (value_of cells' heads' capacity')) (sym same) (altered cells cells' heads heads' capacity capacity' l (change (spans_of cells heads l) s) h is changed le)
+
+-- an interval was put behind all others
+pub appended_list : (cells cells' : List Cell) (heads heads' : List Head) (capacity capacity' l : ℕ) (s : Interval) → IsPool cells heads → (head_at heads l).is_list ≡ true → Added cells heads l s cells' heads'
+    → spans_of cells' heads' l ≡ spans_of cells heads l ++ s ∷ [] → capacity ≤ capacity' → Appended (value_of cells heads capacity) l s (value_of cells' heads' capacity')
+appended_list cells cells' heads heads' capacity capacity' l s h is added more le =
+    let free = is_not_free cells heads l h is in
+    let h' = pool_kept cells cells' heads heads' l (with_more (spans_of cells heads l) s) h is added in
+    record {
+      added = altered_list with_more cells cells' heads heads' capacity capacity' l s h is added le;
+      spans = spans_are cells' heads' capacity' l h' free ∙ (more ∙ ap (λ ss. ss ++ s ∷ []) (sym (spans_are cells heads capacity l h free)));
+    }

@@ -1,5 +1,5 @@
 -- What changes of a list leave.
-use Rattle.std.specs.Prelude.{◌≡◌, ◌≢◌, ℕ, ◌+◌, ◌<◌, ◌≤◌, ◌⊎◌, Bool, true, false, not, ◌&&◌, ◌||◌, List, [], ◌++◌, length, map, drop, min, Option, None, option_to_list}
+use Rattle.std.specs.Prelude.{◌≡◌, ◌≢◌, ℕ, ◌+◌, ◌<◌, ◌≤◌, ◌⊎◌, Bool, true, false, not, ◌&&◌, ◌||◌, List, [], ◌∷◌, ◌++◌, length, map, drop, min, Option, None, option_to_list}
 use Rattle.interval_pool.specs.declared.cells.Cell.{Cell}
 use Rattle.interval_pool.specs.declared.cells.Head.{Head}
 use Rattle.interval_pool.specs.declared.interval.Interval.{Interval}
@@ -70,6 +70,22 @@ abbrev pub Replaces : List Cell → List Head → ℕ → Option ℕ → ℕ →
 Replaces cells heads k before n pieces cells' heads' =
     (xs ys : List ℕ) → AreWhole cells heads → length cells ≤ most_cells → k ≢ 0 → k < length heads → chain_of cells heads k ≡ xs ++ ys → before ≡ last_or None xs
     → n ≤ length ys → length (listed pieces) ≤ n + 1 → Replaced cells heads k xs ys n (listed pieces) cells' heads'
+
+-- a cell more stands behind the last of a list, with these numbers
+pub record Pushed (cells : List Cell) (heads : List Head) (k : ℕ) (s : Interval) (cells' : List Cell) (heads' : List Head) : Type 0 where
+  pub keeps : KeepsOthers cells heads k cells' heads'
+  pub as_many : length cells' ≡ length cells + 1
+  pub spans : spans_of cells' heads' k ≡ spans_of cells heads k ++ s ∷ []
+  pub free : chain_of cells' heads' 0 ≡ chain_of cells heads 0
+
+abbrev pub Pushes : List Cell → List Head → ℕ → Option ℕ → Interval → List Cell → List Head → Type 0
+Pushes cells heads k last s cells' heads' =
+    AreWhole cells heads → length cells < most_cells → k ≢ 0 → k < length heads → last ≡ last_or None (chain_of cells heads k) → Pushed cells heads k s cells' heads'
+
+-- an interval stands behind the last of a list, in a free cell where there is one
+abbrev pub PutsLast : List Cell → List Head → ℕ → Option ℕ → Interval → List Cell → List Head → Type 0
+PutsLast cells heads k last s cells' heads' =
+    AreWhole cells heads → length cells ≤ most_cells → k ≢ 0 → k < length heads → last ≡ last_or None (chain_of cells heads k) → Replaced cells heads k (chain_of cells heads k) [] 0 (s ∷ []) cells' heads'
 
 -- a list has the numbers that pass a test, and a cell more only where it needs one and none was free
 pub record Changed (cells : List Cell) (heads : List Head) (k : ℕ) (among : ℕ → Bool) (cells' : List Cell) (heads' : List Head) : Type 0 where

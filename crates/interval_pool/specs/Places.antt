@@ -3,7 +3,7 @@ use Rattle.std.specs.Prelude.{◌≡◌, ℕ, ◌<◌, ◌≤◌, ⊤, List, [],
 use Rattle.std.specs.List.{AllByRecursion}
 use Rattle.interval_pool.specs.declared.cells.Cell.{Cell}
 use Rattle.interval_pool.specs.declared.cells.Head.{Head}
-use Rattle.interval_pool.specs.Cells.{cell_at}
+use Rattle.interval_pool.specs.Cells.{cell_at, head_at}
 use Rattle.interval_pool.specs.Chains.{first_or, last_or}
 use Rattle.interval_pool.specs.Intervals.{AreMerged}
 use Rattle.interval_pool.specs.Pools.{interval_at, chain_of}
@@ -44,3 +44,8 @@ pub record IsPlace (cells : List Cell) (heads : List Head) (k n : ℕ) (before :
   pub before_is : before ≡ last_or None xs
   pub below : AreBelow cells n xs
   pub reaches : Reaches cells n ys
+
+-- none, where a list has no cells, or a cell of it with none behind it
+abbrev pub IsEnd : List Cell → List Head → ℕ → Option ℕ → Type 0
+IsEnd cells heads k None = (head_at heads k).len ≡ 0
+IsEnd cells heads k (Some i) = (i < length cells) × ((cell_at cells i).owner ≡ k) × ((cell_at cells i).next ≡ None)

@@ -2,7 +2,7 @@
 use crate::cells::{Cell, Head, after, cell_at, count};
 use crate::interval::Interval;
 use crate::link::Link;
-use std::alloc::Global;
+use std::alloc::{AllocError, Global};
 use std::collections::BTreeMap;
 
 /// A list of no more cells is walked from its first.
@@ -99,6 +99,21 @@ fn search_run(cells: &[Cell], heads: &[Head], list: u32, number: u64) -> Link {
     Link::to(first.saturating_add(below - 1))
 }
 
+/// The last cell of a list whose cells lie one behind another.
+fn end_of_run(cells: &[Cell], heads: &[Head], list: u32) -> Link {
+    let first = after(cells, heads, list as usize, Link::none());
+    first.last_of(count(heads, list as usize))
+}
+
+/// Whether a cell is the last of a list.
+fn is_end(cells: &[Cell], list: u32, place: Link) -> bool {
+    let Some(at) = place.place() else {
+        return false;
+    };
+    let cell = cell_at(cells, at);
+    cell.owner == list && cell.next.is_none()
+}
+
 /// Whether cells behind a place still lie one behind another, where few have changed.
 fn is_still_run(cells: &[Cell], heads: &[Head], list: u32, place: Link) -> bool {
     let mut last = place;
@@ -124,6 +139,17 @@ impl Hints {
             released: 0,
             index: BTreeMap::new(alloc),
         }
+    }
+
+    /// The same of a copy of the pool.
+    pub fn copy(&self, alloc: Global) -> Result<Hints, AllocError> {
+        let lists = Vec::from_slice(alloc, &self.lists)?;
+        let index = self.index.clone()?;
+        Ok(Hints {
+            lists,
+            released: self.released,
+            index,
+        })
     }
 
     fn of(&self, list: u32) -> ListHints {
@@ -191,6 +217,23 @@ impl Hints {
             return last;
         }
         self.place(cells, heads, list, number)
+    }
+
+    /// Whether the cells of a list lie one behind another.
+    pub fn is_run(&self, list: u32) -> bool {
+        self.of(list).is_run
+    }
+
+    /// The last cell of a list, as far as it is known.
+    pub fn last(&self, cells: &[Cell], heads: &[Head], list: u32, is_run: bool) -> Link {
+        if is_run {
+            return end_of_run(cells, heads, list);
+        }
+        let cell = self.of(list).cell;
+        if is_end(cells, list, cell) {
+            return cell;
+        }
+        self.search_index(cells, list, u64::MAX)
     }
 
     /// The last cell of the index that ends below a number.
@@ -283,6 +326,20 @@ impl Hints {
         if is_told && !is_same {
             self.forget(list, lo.saturating_add(1), hi);
             self.remember(cells, list, at);
+        }
+    }
+
+    /// An interval was put behind the last cell of a list. A run whose last cells are the last of all goes on.
+    pub fn note_appended(
+        &mut self,
+        cells: &[Cell],
+        heads: &[Head],
+        list: u32,
+        place: Link,
+        is_run: bool,
+    ) {
+        if !is_run || !place.is_before(cells.len().saturating_sub(1)) {
+            self.note_added(cells, heads, list, place);
         }
     }
 

@@ -21,6 +21,7 @@
 #![tactic(auto)]
 
 mod add;
+mod append;
 mod cells;
 mod claim;
 mod cut;

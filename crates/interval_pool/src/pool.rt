@@ -1,11 +1,12 @@
 //! The pool as its callers see it.
 ghost use Rattle.std.specs.Prelude.{◌≡◌, ◌↔◌, ◌≢◌, ℕ, ◌<◌, ◌≤◌, IsOk, OnOk, OnErr, IfOk, IfErr, IfSome, IfNone, true, false, length, vec_capacity};
-ghost use Rattle.interval_pool.specs.Intervals.{AreMerged, IsApart, IsSplit, covers, has};
-ghost use Rattle.std.specs.List.{Contains};
-ghost use Rattle.interval_pool.specs.Values.{empty, is_list, IsList, IsRange, cells_of, spans, first_cell, Follows, Covers, IsPartition, Opened, AddedTo, CutFrom, Released, Reserved, HasNoRoom, IsFull, IsFullWith, AreAllLists};
-ghost use Rattle.interval_pool.specs.declared.fault.PoolFault.TheVariants.{Full};
+ghost use Rattle.interval_pool.specs.Intervals.{AreMerged, IsBefore, IsApart, IsSplit, covers, has};
+ghost use Rattle.std.specs.List.{AllByRecursion, Contains};
+ghost use Rattle.interval_pool.specs.Values.{empty, is_list, IsList, IsRange, cells_of, spans, first_cell, Follows, Covers, IsPartition, Opened, AddedTo, Appended, Copied, CutFrom, Released, Reserved, HasNoRoom, IsFull, IsFullWith, AreAllLists};
+ghost use Rattle.interval_pool.specs.declared.fault.PoolFault.TheVariants.{Full, Memory};
 
 use crate::add::add;
+use crate::append::append;
 use crate::cells::{Cell, Head, after, cell_at, count};
 use crate::claim::{claim, drop_list};
 use crate::cut::cut;
@@ -103,6 +104,28 @@ impl Pool {
         Ok(())
     }
 
+    /// Puts an interval behind all others of a list. It costs a few steps, however many there are, and is for lists that
+    /// are written in order; after `reserve` their cells come to lie one behind another. It fails only where no cell is
+    /// free and memory for one more is refused (`Memory`), or 4,294,967,294 intervals stand in the pool (`Full`). An
+    /// error leaves all as it was.
+    pub fn append(&mut self, list: ListId, numbers: Interval) -> Result<(), PoolFault>
+        requires list { IsList self.old list }
+        requires range { IsRange numbers }
+        requires behind { AllByRecursion (λ t. IsBefore t numbers) (spans self.old list) }
+        ensures ok { OnOk result (Appended self.old list numbers self.new) }
+        ensures err { OnErr result (self.new ≡ self.old) }
+        ensures room { OnErr result (HasNoRoom self.old) }
+        ensures full { IfErr result (λ fault. fault ≡ Full ↔ IsFull self.old) }
+    {
+        let list = list.number();
+        let is_run = self.hints.is_run(list);
+        let guess = self.hints.last(&self.cells, &self.heads, list, is_run);
+        let place = append(&mut self.cells, &mut self.heads, list, numbers, guess)?;
+        self.hints
+            .note_appended(&self.cells, &self.heads, list, place, is_run);
+        Ok(())
+    }
+
     /// Cuts numbers out of a list. It fails only where they lie within an interval that goes on at both ends, no cell
     /// is free and memory for one more is refused (`Memory`), or 4,294,967,294 intervals stand in the pool (`Full`).
     /// An error leaves all as it was.
@@ -123,6 +146,22 @@ impl Pool {
         self.hints
             .note_cut(&self.cells, &self.heads, list, place, numbers);
         Ok(())
+    }
+
+    /// The same pool again: the same lists, with the same cells, and the same free cells. It fails where memory is
+    /// refused (`Memory`).
+    pub fn copy(&self, alloc: Global) -> Result<Pool, PoolFault>
+        ensures ok { IfOk result (λ pool. Copied self.now pool) }
+        ensures memory { IfErr result (λ fault. fault ≡ Memory) }
+    {
+        let hints = self.hints.copy(alloc)?;
+        let heads = Vec::from_slice(alloc, &self.heads)?;
+        let cells = Vec::from_slice(alloc, &self.cells)?;
+        Ok(Pool {
+            cells,
+            heads,
+            hints,
+        })
     }
 
     /// Makes an empty list. It fails where memory is refused (`Memory`), or 4,294,967,294 lists are there (`Full`). An

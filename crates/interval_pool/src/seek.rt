@@ -1,10 +1,11 @@
 //! Where a number stands among the cells of a list.
-ghost use Rattle.std.specs.Prelude.{◌≡◌, ℕ, true, false, IfSome, IfNone};
+ghost use Rattle.std.specs.Prelude.{◌≡◌, ℕ, true, false, IfSome, IfNone, IsTrue, None};
 ghost use Rattle.std.specs.List.{Contains};
 ghost use Rattle.interval_pool.specs.Pools.{AreWhole, chain_of};
+ghost use Rattle.interval_pool.specs.Chains.{last_or};
 ghost use Rattle.interval_pool.specs.Changes.{spans_of};
 ghost use Rattle.interval_pool.specs.Intervals.{covers, has};
-ghost use Rattle.interval_pool.specs.Places.{IsAscending, IsStart, IsPlace};
+ghost use Rattle.interval_pool.specs.Places.{AreBelow, IsAscending, IsEnd, IsStart, IsPlace};
 
 use crate::cells::{Cell, Head, after, cell_at, count};
 use crate::interval::Interval;
@@ -66,4 +67,27 @@ pub fn interval_with(
         return None;
     }
     Some(Interval { lo, hi })
+}
+
+/// Whether a place is that of a list's last cell, or none of an empty list.
+fn is_last(cells: &[Cell], heads: &[Head], list: u32, place: Link) -> bool
+    ensures { IsTrue result → IsEnd cells.now heads.now list place }
+{
+    match place.place() {
+        Some(at) => at < cells.len() && cells[at].owner == list && cells[at].next.is_none(),
+        None => count(heads, list as usize) == 0,
+    }
+}
+
+/// The last cell of a list whose cells end below a number, or none. Any guess of it serves.
+pub fn last(cells: &[Cell], heads: &[Head], list: u32, number: u64, guess: Link) -> Link
+    requires whole { AreWhole cells.now heads.now }
+    requires ascending { IsAscending cells.now (chain_of cells.now heads.now list) }
+    requires below { AreBelow cells.now number (chain_of cells.now heads.now list) }
+    ensures { result ≡ last_or None (chain_of cells.now heads.now list) }
+{
+    if is_last(cells, heads, list, guess) {
+        return guess;
+    }
+    seek(cells, heads, list, number, guess)
 }

@@ -1,9 +1,9 @@
 //! Cells of lists, and free cells.
-ghost use Rattle.std.specs.Prelude.{◌≡◌, ◌↔◌, ◌<◌, ◌≤◌, OnOk, OnErr, IfErr, length, vec_capacity};
-ghost use Rattle.interval_pool.specs.Cells.{with_numbers};
+ghost use Rattle.std.specs.Prelude.{◌≡◌, ◌↔◌, ◌<◌, ◌≤◌, ◌+◌, IfSome, OnOk, OnErr, IfErr, length, vec_capacity};
+ghost use Rattle.interval_pool.specs.Cells.{head_at, with_head, with_next, with_numbers};
 ghost use Rattle.interval_pool.specs.Intervals.{listed};
 ghost use Rattle.interval_pool.specs.Links.{most_cells};
-ghost use Rattle.interval_pool.specs.Changes.{MakesRoom, Sets, Puts, Replaces, Spends};
+ghost use Rattle.interval_pool.specs.Changes.{MakesRoom, Sets, Puts, Replaces, Spends, Pushes, PutsLast};
 ghost use Rattle.interval_pool.specs.declared.fault.PoolFault.TheVariants.{Full};
 ghost use Rattle.interval_pool.specs.Pools.{Frees, FreesSome, Grows, Places};
 
@@ -75,6 +75,85 @@ pub fn place(cells: &mut [Cell], heads: &mut [Head], list: u32, before: Link, lo
         put_numbers(cells, i, lo, hi);
         link(cells, heads, list, before, i);
     }
+}
+
+/// Lets the last cell of a list go on with another, or the list begin with it.
+fn lead_on(cells: &mut [Cell], heads: &mut [Head], list: u32, last: Link, next: Link)
+    requires there { list < length heads.old }
+    requires below { IfSome last (λ i. i < length cells.old) }
+    ensures cells { cells.new ≡ with_next cells.old last next }
+    ensures heads { (head_at heads.old list).len < most_cells → heads.new ≡ with_head heads.old list last next ((head_at heads.old list).len + 1) }
+{
+    let head = heads[list as usize];
+    let len = head.len.saturating_add(1);
+    if let Some(before) = last.place() {
+        heads[list as usize].len = len;
+        cells[before].next = next;
+    } else {
+        heads[list as usize] = Head {
+            first: next,
+            len,
+            ..head
+        };
+    }
+}
+
+/// Puts a cell more behind the last of a list, with these numbers.
+fn push(
+    cells: &mut Vec<Cell>,
+    heads: &mut [Head],
+    list: u32,
+    last: Link,
+    numbers: Interval,
+) -> Result<(), AllocError>
+    requires there { list < length heads.old }
+    requires below { IfSome last (λ i. i < length cells.old.items) }
+    ensures ok { OnOk result (Pushes cells.old.items heads.old list last numbers cells.new.items heads.new) }
+    ensures cells { OnErr result (cells.new.items ≡ cells.old.items) }
+    ensures heads { OnErr result (heads.new ≡ heads.old) }
+    ensures capacity { vec_capacity cells.old ≤ vec_capacity cells.new }
+    ensures kept { OnErr result (vec_capacity cells.new ≡ vec_capacity cells.old) }
+    ensures none { OnErr result (vec_capacity cells.old ≤ length cells.old.items) }
+{
+    let at = cells.as_slice().len();
+    cells.reserve(1)?;
+    lead_on(cells, heads, list, last, Link::to(at));
+    let _ = cells.push(Cell {
+        lo: numbers.lo,
+        hi: numbers.hi,
+        next: Link::none(),
+        owner: list,
+    });
+    Ok(())
+}
+
+/// Puts an interval behind the last cell of a list. A free cell is taken before one is made.
+pub fn put_last(
+    cells: &mut Vec<Cell>,
+    heads: &mut [Head],
+    list: u32,
+    last: Link,
+    numbers: Interval,
+) -> Result<(), PoolFault>
+    requires there { list < length heads.old }
+    requires below { IfSome last (λ i. i < length cells.old.items) }
+    ensures ok { OnOk result (PutsLast cells.old.items heads.old list last numbers cells.new.items heads.new) }
+    ensures capacity { vec_capacity cells.old ≤ vec_capacity cells.new }
+    ensures cells { OnErr result (cells.new.items ≡ cells.old.items) }
+    ensures heads { OnErr result (heads.new ≡ heads.old) }
+    ensures kept { OnErr result (vec_capacity cells.new ≡ vec_capacity cells.old) }
+    ensures spent { OnErr result (Spends cells.old.items heads.old (vec_capacity cells.old)) }
+    ensures full { IfErr result (λ fault. fault ≡ Full ↔ (most_cells ≤ length cells.old.items)) }
+{
+    if count(heads, FREE as usize) > 0 {
+        place(cells, heads, list, last, numbers.lo, numbers.hi);
+        return Ok(());
+    }
+    if cells.as_slice().len() >= MOST_CELLS as usize {
+        return Err(PoolFault::Full);
+    }
+    push(cells, heads, list, last, numbers)?;
+    Ok(())
 }
 
 /// Puts an interval into a list after one of its cells, or at its start, if there is one to be put.
