@@ -6,6 +6,7 @@ use Rattle.std.specs.Prelude.{unwrap_or, Err}
 use Rattle.std.proofs.lemmas.Bool.{and_parts, and_from}
 use Rattle.std.proofs.lemmas.Bool.Decides.{nat_tests}
 use Rattle.std.proofs.lemmas.List.{length-append, take-append-drop, get_or_append_left}
+use Rattle.std.proofs.Math.Seq.{get_or-append_seam}
 use Rattle.std.proofs.lemmas.List.Folds.{list_any-append, list_all-append}
 use Rattle.interval_pool.specs.declared.interval.Interval.{Interval}
 use Rattle.interval_pool.specs.Chains.{IsAmong}
@@ -124,7 +125,7 @@ is_put t [] m le apart = record {
   has = λ q. refl;
   later = λ u b all. and_from (is_before u t) true b refl;
 }
-is_put t (s ∷ ss) m le apart = split (is_before t s) refl
+is_put t (s ∷ ss) m le apart = split (is_before t s) refl (is_put t ss (merged_head s ss m).tail le (and_parts (is_apart t s) (list_all (is_apart t) ss) apart).1)
   where
     head : (s.lo ≤ s.hi) × ((list_all (is_before s) ss ≡ true) × (is_merged ss ≡ true))
     head = let h = merged_head s ss m in (h.filled, (h.after, h.tail))
@@ -140,8 +141,8 @@ is_put t (s ∷ ss) m le apart = split (is_before t s) refl
     left false true e f = absurd cc
     left false false e f = absurd cc
 
-    split : (b : Bool) → is_before t s ≡ b → IsPut t (s ∷ ss) (cond b (t ∷ s ∷ ss) (s ∷ put t ss))
-    split true b =
+    split : (b : Bool) → is_before t s ≡ b → IsPut t ss (put t ss) → IsPut t (s ∷ ss) (cond b (t ∷ s ∷ ss) (s ∷ put t ss))
+    split true b rest =
         let behind = and_from (is_before t s) (list_all (is_before t) ss) b (all_weaker (is_before s) (is_before t) ss (λ u c. beyond u b c) head.1.0) in
         record {
           merged = merged_cons t (s ∷ ss) (record { filled = le; after = behind; tail = m });
@@ -149,9 +150,8 @@ is_put t (s ∷ ss) m le apart = split (is_before t s) refl
           has = λ q. refl;
           later = λ u c all. and_from (is_before u t) (list_all (is_before u) (s ∷ ss)) c all;
         }
-    split false b =
+    split false b rest =
         let before = left (is_before s t) (is_before t s) here b in
-        let rest = is_put t ss head.1.1 le (and_parts (is_apart t s) (list_all (is_apart t) ss) apart).1 in
         let long = rest.longer in
         record {
           merged = merged_cons s (put t ss) (record { filled = head.0; after = rest.later s before head.1.0; tail = rest.merged });
@@ -207,3 +207,124 @@ apart_at p (u ∷ us) (suc n) s t r e same a =
   where
     apart_others_in : not (t.source == u.id) ≡ true → list_all (is_apart t) (spans_in p u) ≡ true
     apart_others_in ne = (all_parts (is_apart t) (spans_in p u) (spans_of p []) (apart_others p (u ∷ []) t (and_from (not (t.source == u.id)) true ne refl))).0
+
+-- ---- a source more
+
+-- sources with one at a place
+abbrev pub with_source : List Source → ℕ → Source → List Source
+with_source ss at s = take at ss ++ s ∷ drop at ss
+
+all_with : (test : Source → Bool) (ss : List Source) (at : ℕ) (s : Source) → list_all test ss ≡ true → test s ≡ true → list_all test (with_source ss at s) ≡ true
+all_with test ss zero s all h = and_from (test s) (list_all test ss) h all
+all_with test [] (suc n) s all h = and_from (test s) true h refl
+all_with test (t ∷ ts) (suc n) s all h = let w = and_parts (test t) (list_all test ts) all in and_from (test t) (list_all test (with_source ts n s)) w.0 (all_with test ts n s w.1 h)
+
+rising_with : (ss : List Source) (at : ℕ) (s : Source) → are_rising ss ≡ true → IsSourcePlace ss s.id at → are_others s.id ss ≡ true → are_rising (with_source ss at s) ≡ true
+rising_with ss zero s r place others = and_from (list_all (λ u. nat_lt s.id u.id) ss) (are_rising ss) (all_weaker2 (λ u. not (s.id == u.id)) (λ u. not (nat_lt u.id s.id)) (λ u. nat_lt s.id u.id) ss (λ u ne ge. more u ne ge) others place.behind) r
+  where
+    more : (u : Source) → not (s.id == u.id) ≡ true → not (nat_lt u.id s.id) ≡ true → nat_lt s.id u.id ≡ true
+    more u ne ge = grind (arith, nat_tests)
+rising_with [] (suc n) s r place others = refl
+rising_with (t ∷ ts) (suc n) s r place others =
+    let w = and_parts (list_all (λ u. nat_lt t.id u.id) ts) (are_rising ts) r in
+    let b = and_parts (nat_lt t.id s.id) (list_all (λ u. nat_lt u.id s.id) (take n ts)) place.before in
+    let bound = place.bound in
+    and_from (list_all (λ u. nat_lt t.id u.id) (with_source ts n s)) (are_rising (with_source ts n s)) (all_with (λ u. nat_lt t.id u.id) ts n s w.0 b.0)
+    (rising_with ts n s w.1 (record { bound = omega (arith, bound); before = b.1; behind = place.behind }) (and_parts (not (s.id == t.id)) (are_others s.id ts) others).1)
+
+own_with : (ss : List Source) (at : ℕ) (s : Source) → have_own ss ≡ true → list_all (λ t. not (t.list == s.list)) ss ≡ true → have_own (with_source ss at s) ≡ true
+own_with ss zero s own apart = and_from (list_all (λ t. not (t.list == s.list)) ss) (have_own ss) apart own
+own_with [] (suc n) s own apart = refl
+own_with (t ∷ ts) (suc n) s own apart =
+    let w = and_parts (list_all (λ u. not (u.list == t.list)) ts) (have_own ts) own in
+    let a = and_parts (not (t.list == s.list)) (list_all (λ t. not (t.list == s.list)) ts) apart in
+    and_from (list_all (λ u. not (u.list == t.list)) (with_source ts n s)) (have_own (with_source ts n s)) (all_with (λ u. not (u.list == t.list)) ts n s w.0 (turn t a.0)) (own_with ts n s w.1 a.1)
+  where
+    turn : (t : Source) → not (t.list == s.list) ≡ true → not (s.list == t.list) ≡ true
+    turn t h = grind (arith, nat_tests)
+
+among_with : (ss : List Source) (at : ℕ) (s : Source) (l : ℕ) → (l ≡ s.list) ⊎ IsAmong l (lists_of ss) → IsAmong l (lists_of (with_source ss at s))
+among_with ss zero s l h = h
+among_with [] (suc n) s l h = h
+among_with (t ∷ ts) (suc n) s l (inl e) = inr (among_with ts n s l (inl e))
+among_with (t ∷ ts) (suc n) s l (inr (inl e)) = inl e
+among_with (t ∷ ts) (suc n) s l (inr (inr a)) = inr (among_with ts n s l (inr a))
+
+pub knows_with : (p : PoolValue) (ss : List Source) (at : ℕ) (s : Source) (g : Gtid) → knows p (with_source ss at s) g ≡ (((g.source == s.id) && has_number (spans p s.list) g.number) || knows p ss g)
+knows_with p ss zero s g = refl
+knows_with p [] (suc n) s g = refl
+knows_with p (t ∷ ts) (suc n) s g =
+    ap (λ b. ((g.source == t.id) && has_number (spans p t.list) g.number) || b) (knows_with p ts n s g)
+    ∙ or_swap ((g.source == t.id) && has_number (spans p t.list) g.number) ((g.source == s.id) && has_number (spans p s.list) g.number) (knows p ts g)
+
+-- the sources at places, with one more behind them
+map_places : (sources : List Source) (s : Source) (is : List ℕ) → are_places sources is ≡ true → listed (sources ++ s ∷ []) is ≡ listed sources is
+map_places sources s [] all = refl
+map_places sources s (i ∷ is) all =
+    let w = and_parts (nat_lt i (length sources)) (are_places sources is) all in
+    (λ j. get_or_append_left sources (s ∷ []) (record { id = 0; list = 0 }) i (less w.0) j ∷ map_places sources s is w.1 j)
+  where
+    less : nat_lt i (length sources) ≡ true → i < length sources
+    less lt = grind (arith, nat_tests)
+
+pub listed_with : (sources : List Source) (order : List ℕ) (s : Source) (at : ℕ) → are_places sources order ≡ true → listed (sources ++ s ∷ []) (take at order ++ length sources ∷ drop at order) ≡ with_source (listed sources order) at s
+listed_with sources order s zero all = (λ i. last_is i ∷ map_places sources s order all i)
+  where
+    last_is : source_at (sources ++ s ∷ []) (length sources) ≡ s
+    last_is = get_or-append_seam sources s [] (record { id = 0; list = 0 })
+listed_with sources [] s (suc n) all = ap (λ t. t ∷ []) (get_or-append_seam sources s [] (record { id = 0; list = 0 }))
+listed_with sources (i ∷ is) s (suc n) all =
+    let w = and_parts (nat_lt i (length sources)) (are_places sources is) all in
+    (λ j. get_or_append_left sources (s ∷ []) (record { id = 0; list = 0 }) i (less w.0) j ∷ listed_with sources is s n w.1 j)
+  where
+    less : nat_lt i (length sources) ≡ true → i < length sources
+    less lt = grind (arith, nat_tests)
+
+places_with : (sources : List Source) (order : List ℕ) (s : Source) (at : ℕ) → are_places sources order ≡ true → are_places (sources ++ s ∷ []) (take at order ++ length sources ∷ drop at order) ≡ true
+places_with sources order s at all =
+    let long : length (sources ++ s ∷ []) ≡ length sources + 1 = length-append sources (s ∷ []) in
+    let w = all_parts (λ i. nat_lt i (length sources)) (take at order) (drop at order) (ap (are_places sources) (take-append-drop at order) ∙ all) in
+    all_joined (λ i. nat_lt i (length (sources ++ s ∷ []))) (take at order) (length sources ∷ drop at order) (further (take at order) long w.0)
+    (and_from (nat_lt (length sources) (length (sources ++ s ∷ []))) (list_all (λ i. nat_lt i (length (sources ++ s ∷ []))) (drop at order)) (last long) (further (drop at order) long w.1))
+  where
+    last : length (sources ++ s ∷ []) ≡ length sources + 1 → nat_lt (length sources) (length (sources ++ s ∷ [])) ≡ true
+    last long = grind (arith, nat_tests)
+
+    far : (i : ℕ) → length (sources ++ s ∷ []) ≡ length sources + 1 → nat_lt i (length sources) ≡ true → nat_lt i (length (sources ++ s ∷ [])) ≡ true
+    far i long lt = grind (arith, nat_tests)
+
+    further : (is : List ℕ) → length (sources ++ s ∷ []) ≡ length sources + 1 → list_all (λ i. nat_lt i (length sources)) is ≡ true → list_all (λ i. nat_lt i (length (sources ++ s ∷ []))) is ≡ true
+    further is long h = all_weaker (λ i. nat_lt i (length sources)) (λ i. nat_lt i (length (sources ++ s ∷ []))) is (λ i lt. far i long lt) h
+
+-- ---- too many lists
+
+deleted : ℕ → List ℕ → List ℕ
+deleted n [] = []
+deleted n (m ∷ ms) = cond (m == n) ms (m ∷ deleted n ms)
+
+fewer_deleted : (n : ℕ) (ms : List ℕ) → IsAmong n ms → length (deleted n ms) + 1 ≡ length ms
+fewer_deleted n [] among = absurd among
+fewer_deleted n (m ∷ ms) among = split (m == n) refl (λ a. fewer_deleted n ms a) among
+  where
+    split : (b : Bool) → (m == n) ≡ b → (IsAmong n ms → length (deleted n ms) + 1 ≡ length ms) → (n ≡ m) ⊎ IsAmong n ms → length (cond b ms (m ∷ deleted n ms)) + 1 ≡ length (m ∷ ms)
+    split true b more h = omega arith
+    split false b more (inl e) = absurd (let k = b in grind (arith, nat_tests))
+    split false b more (inr a) = let r = more a in omega (arith, r)
+
+still_among : (n l : ℕ) (ms : List ℕ) → l ≢ n → IsAmong l ms → IsAmong l (deleted n ms)
+still_among n l [] ne among = among
+still_among n l (m ∷ ms) ne among = split (m == n) refl (λ a. still_among n l ms ne a) among
+  where
+    split : (b : Bool) → (m == n) ≡ b → (IsAmong l ms → IsAmong l (deleted n ms)) → (l ≡ m) ⊎ IsAmong l ms → IsAmong l (cond b ms (m ∷ deleted n ms))
+    split true b more (inl e) = absurd (ne (let k = b in grind (arith, nat_tests)))
+    split true b more (inr a) = a
+    split false b more (inl e) = inl e
+    split false b more (inr a) = inr (more a)
+
+pub all_among : (n : ℕ) (ms : List ℕ) → ((l : ℕ) → 1 ≤ l → l ≤ n → IsAmong l ms) → n ≤ length ms
+all_among zero ms h = omega arith
+all_among (suc n) ms h =
+    let there = h (suc n) (omega arith) (omega arith) in
+    let rest = all_among n (deleted (suc n) ms) (λ l a b. still_among (suc n) l ms (λ e. absurd (omega (arith, e, b))) (h l a (omega (arith, b)))) in
+    let fewer = fewer_deleted (suc n) ms there in
+    omega (arith, rest, fewer)
