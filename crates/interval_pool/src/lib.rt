@@ -37,7 +37,7 @@ mod store;
 
 pub use fault::PoolFault;
 pub use interval::Interval;
-pub use laws::{reserved_lasts, standing_within};
+pub use laws::{distinct_stand, reserved_lasts, standing_within};
 pub use pool::{ListId, Pool};
 
 #[cfg(test)]

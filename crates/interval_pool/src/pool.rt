@@ -1,5 +1,6 @@
 //! The pool as its callers see it.
 ghost use Rattle.std.specs.Prelude.{◌≡◌, ◌↔◌, ◌≢◌, ℕ, ◌<◌, ◌≤◌, IsOk, OnOk, OnErr, IfOk, IfErr, IfSome, IfNone, true, false, length, vec_capacity};
+ghost use Rattle.interval_pool.specs.Links.{most_cells};
 ghost use Rattle.interval_pool.specs.Intervals.{AreMerged, IsBefore, IsApart, IsSplit, covers, has};
 ghost use Rattle.std.specs.List.{AllByRecursion, Contains};
 ghost use Rattle.interval_pool.specs.Values.{empty, is_list, IsList, IsRange, cells_of, spans, first_cell, Follows, Covers, IsPartition, Opened, AddedTo, Appended, Copied, CutFrom, Released, Reserved, HasNoRoom, IsFull, IsFullWith, AreAllLists};
@@ -278,8 +279,10 @@ impl Pool {
         Ok(())
     }
 
-    /// A law, which does nothing: lists are merged; lists and the free cells share no cell, and are together all cells.
+    /// A law, which does nothing: lists are merged; lists and the free cells share no cell, and are together all cells,
+    /// which are no more than 4,294,967,294.
     pub fn partition(&self)
+        ensures small { (self.now).cells ≤ most_cells }
         ensures merged { (l : ℕ) → AreMerged (spans self.now l) }
         ensures parted { IsPartition self.now }
     {
