@@ -22,11 +22,11 @@ use Rattle.gtid_set.specs.Spans.{set_of, is_before, is_merged, has}
 use Rattle.gtid_set.specs.Sweep.{within, IsListOf, KnowsSource}
 use Rattle.gtid_set.specs.Runs.{runs}
 use Rattle.gtid_set.specs.Full.{interval_count, most_intervals}
-use Rattle.gtid_set.specs.Kept.{span_of, interval_of, spans_in, spans_of, are_rising, have_own, lists_of, listed, source_at, are_places, is_filled, knows, flat, IsKeptIn, IsSourcePlace}
+use Rattle.gtid_set.specs.Kept.{span_of, interval_of, spans_in, spans_of, are_rising, have_own, lists_of, listed, source_at, are_places, is_filled, knows, flat, are_others, KeepsBut, IsKeptIn, IsSourcePlace}
 use Rattle.gtid_set.proofs.SpanLemmas.{all_weaker, all_weaker2, merged_head, merged_cons, all_joined, all_parts}
 use Rattle.gtid_set.proofs.SetSources.{added_set, count_with, len_known, len_unknown}
 use Rattle.gtid_set.proofs.RunLemmas.{runs_merged}
-use Rattle.gtid_set.proofs.KeptLemmas.{has_spans_of, got_all, are_others, knows_none, knows_at, merged_flat, flat_length, KeepsBut, same_at, same_flat, knows_same, knows_other}
+use Rattle.gtid_set.proofs.KeptLemmas.{has_spans_of, got_all, knows_none, knows_at, merged_flat, flat_length, same_at, same_flat, knows_same, knows_other}
 
 -- ---- numbers are added to the list of a source
 
@@ -103,7 +103,7 @@ abbrev pub is_apart : Span → Span → Bool
 is_apart t s = is_before s t || is_before t s
 
 -- a span at its place
-pub put : Span → List Span → List Span
+abbrev pub put : Span → List Span → List Span
 put t [] = t ∷ []
 put t (s ∷ ss) = cond (is_before t s) (t ∷ s ∷ ss) (s ∷ put t ss)
 
@@ -298,7 +298,7 @@ places_with sources order s at all =
 
 -- ---- too many lists
 
-deleted : ℕ → List ℕ → List ℕ
+abbrev pub deleted : ℕ → List ℕ → List ℕ
 deleted n [] = []
 deleted n (m ∷ ms) = cond (m == n) ms (m ∷ deleted n ms)
 

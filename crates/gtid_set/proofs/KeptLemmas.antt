@@ -17,7 +17,7 @@ use Rattle.gtid_text.specs.declared.Span.{Span}
 use Rattle.gtid_set.specs.declared.sources.Source.{Source}
 use Rattle.gtid_set.specs.Spans.{is_before, is_merged, has}
 use Rattle.gtid_set.specs.Sweep.{within}
-use Rattle.gtid_set.specs.Kept.{span_of, spans_in, spans_of, are_rising, have_own, lists_of, knows, IsSourcePlace}
+use Rattle.gtid_set.specs.Kept.{span_of, spans_in, spans_of, are_rising, have_own, lists_of, knows, are_others, KeepsBut, IsSourcePlace}
 use Rattle.gtid_set.proofs.SpanLemmas.{all_weaker, any_none, merged_head, merged_cons, all_joined}
 
 -- ---- what the spans have
@@ -46,10 +46,6 @@ got_all test (t ∷ ts) zero s all e = ap test (same_one t s e) ∙ (and_parts (
     same_one : (t s : Source) → Some t ≡ Some s → s ≡ t
     same_one t s e = cc
 got_all test (t ∷ ts) (suc n) s all e = got_all test ts n s (and_parts (test t) (list_all test ts) all).1 e
-
--- none of the sources is the one of a GTID
-abbrev pub are_others : ℕ → List Source → Bool
-are_others id ss = list_all (λ s. not (id == s.id)) ss
 
 pub knows_none : (p : PoolValue) (ss : List Source) (q : Gtid) → are_others q.source ss ≡ true → knows p ss q ≡ false
 knows_none p ss q others = any_none (λ s. (q.source == s.id) && has_number (spans p s.list) q.number) (λ s. not (q.source == s.id)) ss (λ s o. fails (q.source == s.id) (has_number (spans p s.list) q.number) o) others
@@ -168,9 +164,6 @@ flat_length p (s ∷ ss) = length-append (spans_in p s) (spans_of p ss) ∙ (λ 
 
 pub same_at : (p q : PoolValue) (l : ℕ) → slot_at q l ≡ slot_at p l → spans q l ≡ spans p l
 same_at p q l e = ap (λ slot. map (λ (h : Held). h.numbers) (unwrap_or slot [])) e
-
-abbrev pub KeepsBut : PoolValue → PoolValue → ℕ → Type 0
-KeepsBut p q l = (m : ℕ) → m ≢ l → slot_at q m ≡ slot_at p m
 
 pub same_flat : (p q : PoolValue) (l : ℕ) (ss : List Source) → KeepsBut p q l → list_all (λ t. not (t.list == l)) ss ≡ true → spans_of q ss ≡ spans_of p ss
 same_flat p q l [] keeps all = refl

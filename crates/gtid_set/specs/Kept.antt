@@ -1,16 +1,20 @@
 -- Spans kept in a pool, in one list for each source.
-use Rattle.std.specs.Prelude.{◌≡◌, ℕ, ◌+◌, ◌≤◌, ◌<◌, Bool, true, false, not, ◌&&◌, ◌==◌, nat_le, nat_lt, List, [], ◌∷◌, ◌++◌, length, map, take, drop, Option, Some, None, slice_index_or}
-use Rattle.std.specs.List.{list_all, list_any}
+use Rattle.std.specs.Prelude.{◌≡◌, ℕ, ◌+◌, ◌≤◌, ◌<◌, Bool, true, false, not, ◌&&◌, ◌||◌, ◌==◌, ◌≢◌, ◌⊎◌, nat_le, nat_lt, List, [], ◌∷◌, ◌++◌, length, map, take, drop, Option, Some, None, slice_index_or}
+use Rattle.std.specs.List.{list_all, list_any, slice_get}
 use Rattle.gtid_text.specs.declared.Gtid.{Gtid}
 use Rattle.gtid_text.specs.declared.Span.{Span}
 use Rattle.interval_pool.specs.declared.interval.Interval.{Interval}
+use Rattle.interval_pool.specs.Intervals.{covers}
 use Rattle.interval_pool.specs.Intervals.{has as has_number}
-use Rattle.interval_pool.specs.Values.{PoolValue, is_list, AreAmong, spans, cells_of, first_cell}
+use Rattle.interval_pool.specs.Values.{PoolValue, slot_at, is_list, AreAmong, intervals_of, spans, cells_of, first_cell}
 use Rattle.gtid_set.specs.declared.sources.Source.{Source}
 use Rattle.gtid_set.specs.declared.cursor.Place.{Place}
 use Rattle.gtid_set.specs.Sets.{most_sources, source_count}
 use Rattle.gtid_set.specs.Full.{most_intervals}
-use Rattle.gtid_set.specs.Spans.{set_of, is_merged}
+use Rattle.gtid_set.specs.Spans.{set_of, is_merged, has}
+use Rattle.gtid_set.specs.Sweep.{IsListOf, within}
+use Rattle.gtid_set.specs.declared.fault.SetFault.{SetFault}
+use Rattle.gtid_set.specs.declared.fault.SetFault.TheVariants as faults
 
 -- an interval as a span of a source
 abbrev pub span_of : ℕ → Interval → Span
@@ -84,6 +88,47 @@ pub record IsSourcePlace (ss : List Source) (id at : ℕ) : Type 0 where
 -- one of the sources has the number
 abbrev pub knows : PoolValue → List Source → Gtid → Bool
 knows p ss q = list_any (λ s. (q.source == s.id) && has_number (spans p s.list) q.number) ss
+
+-- one of the sources, with this identifier
+pub record IsSourceOf (ss : List Source) (s : Source) (id : ℕ) : Type 0 where
+  pub at : ℕ
+  pub got : slice_get ss at ≡ Some s
+  pub same : s.id ≡ id
+
+abbrev pub are_others : ℕ → List Source → Bool
+are_others id ss = list_all (λ s. not (id == s.id)) ss
+
+-- ---- changes
+
+-- all lists but one are as they were
+abbrev pub KeepsBut : PoolValue → PoolValue → ℕ → Type 0
+KeepsBut p q l = (m : ℕ) → m ≢ l → slot_at q m ≡ slot_at p m
+
+abbrev pub HasSameLists : PoolValue → PoolValue → Type 0
+HasSameLists p q = (m : ℕ) → slot_at q m ≡ slot_at p m
+
+-- a list more, with these numbers
+pub record Lists (p : PoolValue) (l : ℕ) (s : Interval) (q : PoolValue) : Type 0 where
+  pub new : slot_at p l ≡ None
+  pub now : is_list q l ≡ true
+  pub others : KeepsBut p q l
+  pub numbers : (n : ℕ) → has_number (spans q l) n ≡ covers s n
+
+-- Why there is no list more: memory was refused, or the lists that a caller knows are all that there may be, or their intervals.
+abbrev pub IsListFault : SetFault → PoolValue → Type 0
+IsListFault faults.Memory p = Unit {0}
+IsListFault faults.PoolFull p = (lists : List ℕ) → AreAmong p lists → (most_intervals ≤ intervals_of p lists) ⊎ (most_intervals ≤ length lists)
+IsListFault faults.SourcesFull p = ⊥
+
+-- the spans are joined with one more
+pub record Grown (p : PoolValue) (sources : List Source) (order : List ℕ) (t : Span) (q : PoolValue) (sources' : List Source) (order' : List ℕ) : Type 0 where
+  pub kept : IsKeptIn q sources' order'
+  pub list : IsListOf (λ g. within t g || has (flat p sources order) g) (flat q sources' order')
+
+-- they are as they were
+pub record Stays (p : PoolValue) (sources : List Source) (order : List ℕ) (q : PoolValue) (sources' : List Source) (order' : List ℕ) : Type 0 where
+  pub kept : IsKeptIn q sources' order'
+  pub same : flat q sources' order' ≡ flat p sources order
 
 -- ---- a place among the spans
 

@@ -1,17 +1,18 @@
 //! Merged spans in a pool, by source and number.
-ghost use Rattle.std.specs.Prelude.{◌≡◌, ◌≤◌, ◌<◌, ◌||◌, ◌∷◌, ◌++◌, [], true, false, length, IfOk, OnOk, OnErr, IfSome, IfNone, IsOkUnless};
+ghost use Rattle.std.specs.Prelude.{◌≡◌, ◌≤◌, ◌||◌, [], true, false, length, IfOk, IfErr, OnOk, OnErr, IfSome, IfNone, IsOkUnless};
 ghost use Rattle.std.specs.FinSet as set;
 ghost use Rattle.gtid_set.specs.declared.fault.SetFault.TheVariants.{Memory};
 ghost use Rattle.gtid_set.specs.Sets.{interval, most_sources, source_count};
 ghost use Rattle.gtid_set.specs.Spans.{set_of, is_merged, has};
 ghost use Rattle.gtid_set.specs.Sweep.{IsListOf, HasSpan, all_before, within};
 ghost use Rattle.gtid_set.specs.Full.{IsFullExactly, IsKept, most_intervals};
+ghost use Rattle.gtid_set.specs.Kept.{IsKeptIn, IsSourceOf, IsSourcePlace, IsListFault, Lists, HasSameLists, Grown, Stays, are_others, listed, flat, interval_of};
 
 use crate::cursor::Cursor;
 use crate::fault::SetFault;
 use crate::sources::{Source, place_of, source_at};
-use gtid_text::{Gtid, SourceId, Span};
-use interval_pool::{Interval, Pool};
+use gtid_text::{Gtid, Span};
+use interval_pool::{Interval, ListId, Pool};
 use std::alloc::Global;
 use std::marker::Model;
 
@@ -49,6 +50,113 @@ fn numbers(span: &Span) -> Interval
     Interval {
         lo: span.lo,
         hi: span.hi,
+    }
+}
+
+/// Adds the numbers of a span to the list of its source.
+fn add_to(
+    pool: &mut Pool,
+    sources: &[Source],
+    order: &[u16],
+    source: Source,
+    span: &Span,
+) -> Result<(), SetFault>
+    requires kept { IsKeptIn pool.old sources.now order.now }
+    requires source { IsSourceOf (listed sources.now order.now) source span.now.source }
+    requires filled { span.now.lo ≤ span.now.hi }
+    ensures ok { OnOk result (Grown pool.old sources.now order.now span.now pool.new sources.now order.now) }
+    ensures err { OnErr result (pool.new ≡ pool.old) }
+    ensures full { IsFullExactly result (set.union (set_of (flat pool.old sources.now order.now)) (interval span.now.source span.now.lo span.now.hi)) }
+{
+    pool.add(source.list, numbers(span))?;
+    pool.partition();
+    Ok(())
+}
+
+/// Puts the numbers of a span behind those of its source.
+fn append_to(
+    pool: &mut Pool,
+    sources: &[Source],
+    order: &[u16],
+    source: Source,
+    span: &Span,
+) -> Result<(), SetFault>
+    requires kept { IsKeptIn pool.old sources.now order.now }
+    requires source { IsSourceOf (listed sources.now order.now) source span.now.source }
+    requires filled { span.now.lo ≤ span.now.hi }
+    requires before { all_before (flat pool.old sources.now order.now) span.now ≡ true }
+    ensures ok { OnOk result (Grown pool.old sources.now order.now span.now pool.new sources.now order.now) }
+    ensures full { IsFullExactly result (set.union (set_of (flat pool.old sources.now order.now)) (interval span.now.source span.now.lo span.now.hi)) }
+{
+    pool.append(source.list, numbers(span))?;
+    pool.partition();
+    Ok(())
+}
+
+/// A list of these numbers. An error leaves the others as they were.
+fn open_list(pool: &mut Pool, numbers: Interval) -> Result<ListId, SetFault>
+    requires { numbers.lo ≤ numbers.hi }
+    ensures ok { IfOk result (λ l. Lists pool.old l numbers pool.new) }
+    ensures err { OnErr result (HasSameLists pool.old pool.new) }
+    ensures full { IfErr result (λ f. IsListFault f pool.old) }
+{
+    let list = pool.new_list()?;
+    match pool.add(list, numbers) {
+        Ok(()) => Ok(list),
+        Err(fault) => {
+            pool.release(list);
+            Err(SetFault::from(fault))
+        }
+    }
+}
+
+/// Adds a span of a source that has none, whose place this is. An error leaves the others as they were.
+fn insert(
+    pool: &mut Pool,
+    sources: &mut Vec<Source>,
+    order: &mut Vec<u16>,
+    at: usize,
+    span: &Span,
+) -> Result<(), SetFault>
+    requires kept { IsKeptIn pool.old sources.old.items order.old.items }
+    requires place { IsSourcePlace (listed sources.old.items order.old.items) span.now.source at }
+    requires new { are_others span.now.source (listed sources.old.items order.old.items) ≡ true }
+    requires filled { span.now.lo ≤ span.now.hi }
+    ensures ok { OnOk result (Grown pool.old sources.old.items order.old.items span.now pool.new sources.new.items order.new.items) }
+    ensures err { OnErr result (Stays pool.old sources.old.items order.old.items pool.new sources.new.items order.new.items) }
+    ensures full { IsFullExactly result (set.union (set_of (flat pool.old sources.old.items order.old.items)) (interval span.now.source span.now.lo span.now.hi)) }
+{
+    let count = sources.as_slice().len();
+    if count == MOST_SOURCES {
+        return Err(SetFault::SourcesFull);
+    }
+    sources.reserve(1)?;
+    order.reserve(1)?;
+    let list = open_list(pool, numbers(span))?;
+    let id = span.source;
+    let _ = sources.push(Source { id, list });
+    let _ = order.insert(at, count as u16);
+    pool.partition();
+    Ok(())
+}
+
+/// Puts a span behind the others.
+fn push(
+    pool: &mut Pool,
+    sources: &mut Vec<Source>,
+    order: &mut Vec<u16>,
+    span: &Span,
+) -> Result<(), SetFault>
+    requires kept { IsKeptIn pool.old sources.old.items order.old.items }
+    requires filled { span.now.lo ≤ span.now.hi }
+    requires before { all_before (flat pool.old sources.old.items order.old.items) span.now ≡ true }
+    ensures ok { OnOk result (Grown pool.old sources.old.items order.old.items span.now pool.new sources.new.items order.new.items) }
+    ensures full { IsFullExactly result (set.union (set_of (flat pool.old sources.old.items order.old.items)) (interval span.now.source span.now.lo span.now.hi)) }
+{
+    let end = order.as_slice().len();
+    match source_at(sources, order, end.saturating_sub(1)) {
+        Some(source) if source.id == span.source => append_to(pool, sources, order, source, span),
+        _ => insert(pool, sources, order, end, span),
     }
 }
 
@@ -115,22 +223,20 @@ impl Kept {
         ensures full { IsFullExactly result (set.union (set_of self.old) (interval span.source span.lo span.hi)) }
     {
         let at = place_of(&self.sources, &self.order, span.source, self.near);
-        match source_at(&self.sources, &self.order, at) {
+        let found = source_at(&self.sources, &self.order, at);
+        match found {
             Some(source) if source.id == span.source => {
-                self.pool.add(source.list, numbers(&span))?;
-                self.pool.partition();
+                add_to(&mut self.pool, &self.sources, &self.order, source, &span)?;
             }
-            _ => self.insert(at, span)?,
+            _ => insert(
+                &mut self.pool,
+                &mut self.sources,
+                &mut self.order,
+                at,
+                &span,
+            )?,
         }
         self.near = at;
-        Ok(())
-    }
-
-    /// The spans with one of a source that has none, at its place. An error leaves them as they were.
-    fn insert(&mut self, at: usize, span: Span) -> Result<(), SetFault>
-        requires filled { span.lo ≤ span.hi }
-        ensures err { OnErr result (self.new ≡ self.old) }
-    {
         Ok(())
     }
 
@@ -142,19 +248,21 @@ impl Kept {
         ensures ok { IfOk result (λ k. k ≡ spans.now) }
         ensures fault { IsOkUnless result Memory }
     {
-        let mut kept = Kept::open(alloc);
-        kept.pool.reserve(spans.len())?;
+        let mut pool = Pool::open(alloc);
+        let mut sources = Vec::new(alloc);
+        let mut order = Vec::new(alloc);
         let mut rest = spans;
+        pool.reserve(spans.len())?;
         while let Some((span, more)) = rest.split_first() {
-            kept.push(*span)?;
+            push(&mut pool, &mut sources, &mut order, span)?;
             rest = more;
         }
-        Ok(kept)
-    }
-
-    /// Puts a span behind the others.
-    fn push(&mut self, span: Span) -> Result<(), SetFault> {
-        Ok(())
+        Ok(Kept {
+            pool,
+            sources,
+            order,
+            near: 0,
+        })
     }
 
     /// The same spans.
@@ -162,6 +270,15 @@ impl Kept {
         ensures ok { IfOk result (λ k. k ≡ self.now) }
         ensures fault { IsOkUnless result Memory }
     {
-        Ok(Kept::open(alloc))
+        let pool = self.pool.copy(alloc)?;
+        let sources = Vec::from_slice(alloc, &self.sources)?;
+        let order = Vec::from_slice(alloc, &self.order)?;
+        let near = self.near;
+        Ok(Kept {
+            pool,
+            sources,
+            order,
+            near,
+        })
     }
 }
