@@ -52,14 +52,14 @@ knows_added p q ss at s t g r own e same added = split (g.source == s.id) refl
         knows_other p q ss at s g own e (λ m ne. added.others m ne) there ∙ sym (ap (λ b. (b && covers_number (interval_of t) g.number) || knows p ss g) miss)
 
 -- a list that has a number has intervals
-has_some : (is : List Interval) (n : ℕ) → has_number is n ≡ true → nat_lt 0 (length is) ≡ true
+pub has_some : (is : List Interval) (n : ℕ) → has_number is n ≡ true → nat_lt 0 (length is) ≡ true
 has_some [] n e = absurd cc
 has_some (i ∷ is) n e = positive (length is)
   where
     positive : (n : ℕ) → nat_lt 0 (suc n) ≡ true
     positive n = grind (arith, nat_tests)
 
-filled_added : (p q : PoolValue) (l : ℕ) (t : Span) → t.lo ≤ t.hi → AddedTo p l (interval_of t) q → (s : Source) → is_filled p s ≡ true → is_filled q s ≡ true
+pub filled_added : (p q : PoolValue) (l : ℕ) (t : Span) → t.lo ≤ t.hi → AddedTo p l (interval_of t) q → (s : Source) → is_filled p s ≡ true → is_filled q s ≡ true
 filled_added p q l t le added s filled = split (s.list == l) refl
   where
     w : (is_list p s.list ≡ true) × (nat_lt 0 (length (spans p s.list)) ≡ true)
@@ -82,7 +82,7 @@ filled_added p q l t le added s filled = split (s.list == l) refl
         and_from (is_list q s.list) (nat_lt 0 (length (spans q s.list))) (added.lists s.list ∙ w.0) (ap (λ is. nat_lt 0 (length is)) (same_at p q s.list (added.others s.list other)) ∙ w.1)
 
 -- the first number of a source that has intervals
-first_number : (p : PoolValue) (ss : List Source) (at : ℕ) (s : Source) → are_rising ss ≡ true → slice_get ss at ≡ Some s → list_all (is_filled p) ss ≡ true → ((l : ℕ) → AreMerged (spans p l)) → KnowsSource true (spans_of p ss) s.id
+pub first_number : (p : PoolValue) (ss : List Source) (at : ℕ) (s : Source) → are_rising ss ≡ true → slice_get ss at ≡ Some s → list_all (is_filled p) ss ≡ true → ((l : ℕ) → AreMerged (spans p l)) → KnowsSource true (spans_of p ss) s.id
 first_number p ss at s r e filled merged = given (spans p s.list) refl
   where
     some : nat_lt 0 (length (spans p s.list)) ≡ true
@@ -214,12 +214,12 @@ apart_at p (u ∷ us) (suc n) s t r e same a =
 abbrev pub with_source : List Source → ℕ → Source → List Source
 with_source ss at s = take at ss ++ s ∷ drop at ss
 
-all_with : (test : Source → Bool) (ss : List Source) (at : ℕ) (s : Source) → list_all test ss ≡ true → test s ≡ true → list_all test (with_source ss at s) ≡ true
+pub all_with : (test : Source → Bool) (ss : List Source) (at : ℕ) (s : Source) → list_all test ss ≡ true → test s ≡ true → list_all test (with_source ss at s) ≡ true
 all_with test ss zero s all h = and_from (test s) (list_all test ss) h all
 all_with test [] (suc n) s all h = and_from (test s) true h refl
 all_with test (t ∷ ts) (suc n) s all h = let w = and_parts (test t) (list_all test ts) all in and_from (test t) (list_all test (with_source ts n s)) w.0 (all_with test ts n s w.1 h)
 
-rising_with : (ss : List Source) (at : ℕ) (s : Source) → are_rising ss ≡ true → IsSourcePlace ss s.id at → are_others s.id ss ≡ true → are_rising (with_source ss at s) ≡ true
+pub rising_with : (ss : List Source) (at : ℕ) (s : Source) → are_rising ss ≡ true → IsSourcePlace ss s.id at → are_others s.id ss ≡ true → are_rising (with_source ss at s) ≡ true
 rising_with ss zero s r place others = and_from (list_all (λ u. nat_lt s.id u.id) ss) (are_rising ss) (all_weaker2 (λ u. not (s.id == u.id)) (λ u. not (nat_lt u.id s.id)) (λ u. nat_lt s.id u.id) ss (λ u ne ge. more u ne ge) others place.behind) r
   where
     more : (u : Source) → not (s.id == u.id) ≡ true → not (nat_lt u.id s.id) ≡ true → nat_lt s.id u.id ≡ true
@@ -232,7 +232,7 @@ rising_with (t ∷ ts) (suc n) s r place others =
     and_from (list_all (λ u. nat_lt t.id u.id) (with_source ts n s)) (are_rising (with_source ts n s)) (all_with (λ u. nat_lt t.id u.id) ts n s w.0 b.0)
     (rising_with ts n s w.1 (record { bound = omega (arith, bound); before = b.1; behind = place.behind }) (and_parts (not (s.id == t.id)) (are_others s.id ts) others).1)
 
-own_with : (ss : List Source) (at : ℕ) (s : Source) → have_own ss ≡ true → list_all (λ t. not (t.list == s.list)) ss ≡ true → have_own (with_source ss at s) ≡ true
+pub own_with : (ss : List Source) (at : ℕ) (s : Source) → have_own ss ≡ true → list_all (λ t. not (t.list == s.list)) ss ≡ true → have_own (with_source ss at s) ≡ true
 own_with ss zero s own apart = and_from (list_all (λ t. not (t.list == s.list)) ss) (have_own ss) apart own
 own_with [] (suc n) s own apart = refl
 own_with (t ∷ ts) (suc n) s own apart =
@@ -243,7 +243,7 @@ own_with (t ∷ ts) (suc n) s own apart =
     turn : (t : Source) → not (t.list == s.list) ≡ true → not (s.list == t.list) ≡ true
     turn t h = grind (arith, nat_tests)
 
-among_with : (ss : List Source) (at : ℕ) (s : Source) (l : ℕ) → (l ≡ s.list) ⊎ IsAmong l (lists_of ss) → IsAmong l (lists_of (with_source ss at s))
+pub among_with : (ss : List Source) (at : ℕ) (s : Source) (l : ℕ) → (l ≡ s.list) ⊎ IsAmong l (lists_of ss) → IsAmong l (lists_of (with_source ss at s))
 among_with ss zero s l h = h
 among_with [] (suc n) s l h = h
 among_with (t ∷ ts) (suc n) s l (inl e) = inr (among_with ts n s l (inl e))
@@ -280,7 +280,7 @@ listed_with sources (i ∷ is) s (suc n) all =
     less : nat_lt i (length sources) ≡ true → i < length sources
     less lt = grind (arith, nat_tests)
 
-places_with : (sources : List Source) (order : List ℕ) (s : Source) (at : ℕ) → are_places sources order ≡ true → are_places (sources ++ s ∷ []) (take at order ++ length sources ∷ drop at order) ≡ true
+pub places_with : (sources : List Source) (order : List ℕ) (s : Source) (at : ℕ) → are_places sources order ≡ true → are_places (sources ++ s ∷ []) (take at order ++ length sources ∷ drop at order) ≡ true
 places_with sources order s at all =
     let long : length (sources ++ s ∷ []) ≡ length sources + 1 = length-append sources (s ∷ []) in
     let w = all_parts (λ i. nat_lt i (length sources)) (take at order) (drop at order) (ap (are_places sources) (take-append-drop at order) ∙ all) in

@@ -68,9 +68,13 @@ fn add_to(
     ensures err { OnErr result (pool.new ≡ pool.old) }
     ensures full { IsFullExactly result (set.union (set_of (flat pool.old sources.now order.now)) (interval span.now.source span.now.lo span.now.hi)) }
 {
-    pool.add(source.list, numbers(span))?;
-    pool.partition();
-    Ok(())
+    match pool.add(source.list, numbers(span)) {
+        Ok(()) => {
+            pool.partition();
+            Ok(())
+        }
+        Err(fault) => Err(SetFault::from(fault)),
+    }
 }
 
 /// Puts the numbers of a span behind those of its source.
@@ -88,9 +92,13 @@ fn append_to(
     ensures ok { OnOk result (Grown pool.old sources.now order.now span.now pool.new sources.now order.now) }
     ensures full { IsFullExactly result (set.union (set_of (flat pool.old sources.now order.now)) (interval span.now.source span.now.lo span.now.hi)) }
 {
-    pool.append(source.list, numbers(span))?;
-    pool.partition();
-    Ok(())
+    match pool.append(source.list, numbers(span)) {
+        Ok(()) => {
+            pool.partition();
+            Ok(())
+        }
+        Err(fault) => Err(SetFault::from(fault)),
+    }
 }
 
 /// A list of these numbers. An error leaves the others as they were.
@@ -100,7 +108,10 @@ fn open_list(pool: &mut Pool, numbers: Interval) -> Result<ListId, SetFault>
     ensures err { OnErr result (HasSameLists pool.old pool.new) }
     ensures full { IfErr result (λ f. IsListFault f pool.old) }
 {
-    let list = pool.new_list()?;
+    let list = match pool.new_list() {
+        Ok(list) => list,
+        Err(fault) => return Err(SetFault::from(fault)),
+    };
     match pool.add(list, numbers) {
         Ok(()) => Ok(list),
         Err(fault) => {
@@ -130,14 +141,22 @@ fn insert(
     if count == MOST_SOURCES {
         return Err(SetFault::SourcesFull);
     }
-    sources.reserve(1)?;
-    order.reserve(1)?;
-    let list = open_list(pool, numbers(span))?;
-    let id = span.source;
-    let _ = sources.push(Source { id, list });
-    let _ = order.insert(at, count as u16);
-    pool.partition();
-    Ok(())
+    let Ok(()) = sources.reserve(1) else {
+        return Err(SetFault::Memory);
+    };
+    let Ok(()) = order.reserve(1) else {
+        return Err(SetFault::Memory);
+    };
+    match open_list(pool, numbers(span)) {
+        Ok(list) => {
+            let id = span.source;
+            let _ = sources.push(Source { id, list });
+            let _ = order.insert(at, count as u16);
+            pool.partition();
+            Ok(())
+        }
+        Err(fault) => Err(fault),
+    }
 }
 
 /// Puts a span behind the others.
