@@ -1,10 +1,10 @@
 -- Why a call that makes a set fails.
 use Rattle.std.proofs.Common.{◌≡◌, refl, sym, subst, arith}
-use Rattle.std.specs.Prelude.{◌≤◌, Result, Ok, Err}
+use Rattle.std.specs.Prelude.{IsOkUnless, ◌≤◌, Result, Ok, Err}
 use Rattle.gtid_set.specs.declared.fault.SetFault.{SetFault}
 use Rattle.gtid_set.specs.declared.fault.SetFault.TheVariants.{Memory, PoolFull, SourcesFull}
 use Rattle.gtid_set.specs.Sets.{Gtids, source_count, most_sources}
-use Rattle.gtid_set.specs.Full.{IsFullExactly, IsCrowdedExactly, IsMemoryOr, IsFaultOf}
+use Rattle.gtid_set.specs.Full.{interval_count, most_intervals, IsFullExactly, IsCrowdedExactly, IsMemoryOr, IsFaultOf}
 
 -- a call that was refused exactly was refused for a cause
 pub full_fault : (f : SetFault) (s : Gtids) → IsFullExactly {T = Unit {0}} (Err f) s → IsFaultOf f s
@@ -39,3 +39,10 @@ pub memory_only : {A B : Type 0} (f : SetFault) → (A → ⊥) → (B → ⊥) 
 memory_only Memory no_sources no_intervals h = refl
 memory_only PoolFull no_sources no_intervals h = absurd (no_intervals h)
 memory_only SourcesFull no_sources no_intervals h = absurd (no_sources h)
+
+-- a call that wants memory alone, for a set that is not too large
+pub full_small : {T : Type 0} (r : Result T SetFault) (s : Gtids) → source_count s ≤ most_sources → interval_count s ≤ most_intervals → IsOkUnless r Memory → IsFullExactly r s
+full_small (Ok _) s few small h = (few, small)
+full_small (Err Memory) s few small h = few
+full_small (Err PoolFull) s few small h = absurd cc
+full_small (Err SourcesFull) s few small h = absurd cc

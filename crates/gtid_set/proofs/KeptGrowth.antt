@@ -1,11 +1,13 @@
 -- Spans kept in a pool stay so, and why there is no room for one more.
-use Rattle.std.proofs.Common.{◌≡◌, ◌≢◌, ◌≤◌, ◌<◌, ◌+◌, ◌⊎◌, ℕ, zero, suc, Bool, true, false, cond, not, ◌&&◌, ◌||◌, ◌==◌, nat_le, nat_lt, List, [], ◌∷◌, ◌++◌, length, map, take, drop, Option, Some, None, get_or, refl, sym, ap, subst, ◌∙◌, arith, inl, inr}
+use Rattle.std.proofs.Common.{◌≡◌, ◌≢◌, ◌≤◌, ◌<◌, ◌+◌, ◌-◌, ◌⊎◌, ℕ, zero, suc, Bool, true, false, cond, not, ◌&&◌, ◌||◌, ◌==◌, nat_le, nat_lt, List, [], ◌∷◌, ◌++◌, length, map, take, drop, Option, Some, None, get_or, refl, sym, ap, subst, ◌∙◌, arith, inl, inr}
 use Rattle.std.specs.FinSet as set
 use Rattle.std.specs.List.{list_all, list_any, slice_get, AllByRecursion}
-use Rattle.std.specs.Prelude.{unwrap_or, Ok, Err, is_some}
+use Rattle.std.specs.Prelude.{unwrap_or, Ok, Err, is_some, slice_index_or}
 use Rattle.std.proofs.lemmas.Bool.{and_parts, and_from}
 use Rattle.std.proofs.lemmas.Bool.Decides.{nat_tests}
-use Rattle.std.proofs.lemmas.List.{length-append, take-append-drop}
+use Rattle.std.proofs.lemmas.List.{length-append, append_assoc}
+use Rattle.std.proofs.Math.Seq.{take-length, drop-length}
+use Rattle.std.proofs.lemmas.List.Folds.{list_any-append}
 use Rattle.interval_pool.specs.declared.interval.Interval.{Interval}
 use Rattle.interval_pool.specs.declared.fault.PoolFault.{PoolFault}
 use Rattle.interval_pool.specs.declared.fault.PoolFault.TheVariants as pools
@@ -23,13 +25,14 @@ use Rattle.gtid_set.specs.declared.fault.SetFault.TheVariants.{Memory, PoolFull,
 use Rattle.gtid_set.specs.declared.sources.Source.{Source}
 use Rattle.gtid_set.specs.Sets.{Gtids, gtid, interval, source_count, sources_of, most_sources}
 use Rattle.gtid_set.specs.Spans.{set_of, is_before, is_merged, has}
-use Rattle.gtid_set.specs.Sweep.{within, IsListOf, KnowsSource}
+use Rattle.gtid_set.specs.Sweep.{within, all_before, IsListOf, KnowsSource}
 use Rattle.gtid_set.specs.Runs.{runs}
 use Rattle.gtid_set.specs.Full.{fault_of, interval_count, most_intervals, IsFullExactly, HasManyIntervals}
-use Rattle.gtid_set.specs.Kept.{span_of, interval_of, spans_of, are_rising, have_own, lists_of, listed, are_places, is_filled, knows, flat, are_others, KeepsBut, HasSameLists, Lists, IsListFault, IsKeptIn, IsSourceOf, IsSourcePlace, Grown, Stays}
-use Rattle.gtid_set.proofs.SpanLemmas.{all_weaker}
-use Rattle.gtid_set.proofs.SetSources.{added_set, count_with, len_known, len_unknown}
-use Rattle.gtid_set.proofs.RunLemmas.{runs_merged}
+use Rattle.gtid_set.specs.Kept.{span_of, interval_of, spans_in, spans_of, are_rising, have_own, lists_of, listed, are_places, is_filled, knows, flat, are_others, KeepsBut, HasSameLists, Lists, IsListFault, IsKeptIn, IsSourceOf, IsNoSourceAt, IsSourcePlace, Grown, Stays}
+use Rattle.gtid_set.proofs.SpanLemmas.{all_weaker, all_parts, merged_front, merged_pushed}
+use Rattle.gtid_set.proofs.SetSources.{added_set, count_with, len_known, len_unknown, no_sources, with_one, fewer_sources}
+use Rattle.gtid_set.proofs.SetLemmas.{set_of-append, contains-set_of}
+use Rattle.gtid_set.proofs.RunLemmas.{runs_merged, equal_lists}
 use Rattle.gtid_set.proofs.KeptLemmas.{has_spans_of, got_all, knows_none, knows_at, merged_flat, flat_length, same_at, same_flat, knows_same}
 use Rattle.gtid_set.proofs.KeptChanges.{knows_added, filled_added, first_number, one_more, apart_at, apart_others, with_source, all_with, rising_with, own_with, among_with, knows_with, listed_with, places_with, all_among, has_some}
 
@@ -325,3 +328,149 @@ list_made p q r l s opened added = record {
   others = λ m ne. added.others m ne ∙ opened.others m ne;
   numbers = λ n. added.numbers n ∙ ap (λ slot. has_number (map (λ (h : Held). h.numbers) (unwrap_or slot [])) n || covers_number s n) opened.now;
 }
+
+-- ---- a span behind the others
+
+pub behind_flat : (p : PoolValue) (ss : List Source) (at : ℕ) (s : Source) (t : Span) → slice_get ss at ≡ Some s → s.id ≡ t.source → all_before (spans_of p ss) t ≡ true → AllByRecursion (λ i. IsBefore i (interval_of t)) (spans p s.list)
+behind_flat p [] zero s t e same before = absurd cc
+behind_flat p [] (suc n) s t e same before = absurd cc
+behind_flat p (u ∷ us) zero s t e same before =
+    let is : u ≡ s = cc in
+    subst (λ (v : Source). AllByRecursion (λ i. IsBefore i (interval_of t)) (spans p v.list)) is
+    (each (spans p u.list) (ap (λ (v : Source). v.id) is ∙ same) (all_parts (λ x. is_before x t) (spans_in p u) (spans_of p us) before).0)
+  where
+    one : (i : Interval) → u.id ≡ t.source → is_before (span_of u.id i) t ≡ true → i.hi + 1 < t.lo
+    one i k b = grind (arith, nat_tests)
+
+    each : (is : List Interval) → u.id ≡ t.source → list_all (λ x. is_before x t) (map (span_of u.id) is) ≡ true → AllByRecursion (λ i. IsBefore i (interval_of t)) is
+    each [] k all = tt
+    each (i ∷ is) k all = let w = and_parts (is_before (span_of u.id i) t) (list_all (λ x. is_before x t) (map (span_of u.id) is)) all in (one i k w.0, each is k w.1)
+behind_flat p (u ∷ us) (suc n) s t e same before = behind_flat p us n s t e same (all_parts (λ x. is_before x t) (spans_in p u) (spans_of p us) before).1
+
+pub apart_behind : (is : List Interval) (t : Span) → AllByRecursion (λ i. IsBefore i (interval_of t)) is → IsApart is (interval_of t)
+apart_behind [] t all = tt
+apart_behind (i ∷ is) t all = (inl all.0, apart_behind is t all.1)
+
+-- no source is greater than that of the span
+ids_behind : (p : PoolValue) (ss : List Source) (t : Span) → list_all (is_filled p) ss ≡ true → all_before (spans_of p ss) t ≡ true → list_all (λ s. nat_le s.id t.source) ss ≡ true
+ids_behind p [] t filled before = refl
+ids_behind p (s ∷ ss) t filled before =
+    let f = and_parts (is_filled p s) (list_all (is_filled p) ss) filled in
+    let b = all_parts (λ x. is_before x t) (spans_in p s) (spans_of p ss) before in
+    and_from (nat_le s.id t.source) (list_all (λ s. nat_le s.id t.source) ss) (here (spans p s.list) (and_parts (is_list p s.list) (nat_lt 0 (length (spans p s.list))) f.0).1 b.0) (ids_behind p ss t f.1 b.1)
+  where
+    one : (i : Interval) → is_before (span_of s.id i) t ≡ true → nat_le s.id t.source ≡ true
+    one i b = grind (arith, nat_tests)
+
+    here : (is : List Interval) → nat_lt 0 (length is) ≡ true → list_all (λ x. is_before x t) (map (span_of s.id) is) ≡ true → nat_le s.id t.source ≡ true
+    here [] some all = absurd cc
+    here (i ∷ is) some all = one i (and_parts (is_before (span_of s.id i) t) (list_all (λ x. is_before x t) (map (span_of s.id) is)) all).0
+
+-- where the last is another, all are less
+all_less : (ss : List Source) (id : ℕ) → are_rising ss ≡ true → list_all (λ s. nat_le s.id id) ss ≡ true → IsNoSourceAt ss (length ss - 1) id → list_all (λ s. nat_lt s.id id) ss ≡ true
+all_less [] id r le none = refl
+all_less (s ∷ []) id r le none = and_from (nat_lt s.id id) true (less (none s refl) (and_parts (nat_le s.id id) true le).0) refl
+  where
+    less : s.id ≢ id → nat_le s.id id ≡ true → nat_lt s.id id ≡ true
+    less ne le = grind (arith, nat_tests)
+all_less (s ∷ u ∷ us) id r le none =
+    let w = and_parts (list_all (λ t. nat_lt s.id t.id) (u ∷ us)) (are_rising (u ∷ us)) r in
+    let l = and_parts (nat_le s.id id) (list_all (λ s. nat_le s.id id) (u ∷ us)) le in
+    let rest = all_less (u ∷ us) id w.1 l.1 (λ t e. none t (last_of t e)) in
+    and_from (nat_lt s.id id) (list_all (λ s. nat_lt s.id id) (u ∷ us)) (less (and_parts (nat_lt s.id u.id) (list_all (λ t. nat_lt s.id t.id) us) w.0).0 (and_parts (nat_lt u.id id) (list_all (λ s. nat_lt s.id id) us) rest).0) rest
+  where
+    less : nat_lt s.id u.id ≡ true → nat_lt u.id id ≡ true → nat_lt s.id id ≡ true
+    less a b = grind (arith, nat_tests)
+
+    last_of : (t : Source) → slice_get (u ∷ us) (length (u ∷ us) - 1) ≡ Some t → slice_get (s ∷ u ∷ us) (length (s ∷ u ∷ us) - 1) ≡ Some t
+    last_of t e = ap (slice_get (s ∷ u ∷ us)) (let k : length (s ∷ u ∷ us) - 1 ≡ suc (length (u ∷ us) - 1) = omega arith in k) ∙ e
+
+pub ends_at : (p : PoolValue) (sources : List Source) (order : List ℕ) (t : Span) → IsKeptIn p sources order → all_before (flat p sources order) t ≡ true → IsNoSourceAt (listed sources order) (length order - 1) t.source
+    → IsSourcePlace (listed sources order) t.source (length order) × (are_others t.source (listed sources order) ≡ true)
+ends_at p sources order t kept before none =
+    let ss = listed sources order in
+    let long : length order ≡ length ss = as_ordered order in
+    let less = all_less ss t.source kept.rising (ids_behind p ss t kept.filled before) (subst (λ n. IsNoSourceAt ss (n - 1) t.source) long none) in
+    let place : IsSourcePlace ss t.source (length order) = record {
+      bound = omega (arith, long);
+      before = ap (λ n. list_all (λ s. nat_lt s.id t.source) (take n ss)) long ∙ ap (list_all (λ s. nat_lt s.id t.source)) (take-length ss) ∙ less;
+      behind = ap (λ n. list_all (λ s. not (nat_lt s.id t.source)) (drop n ss)) long ∙ ap (list_all (λ s. not (nat_lt s.id t.source))) (drop-length ss);
+    } in
+    (place, all_weaker (λ s. nat_lt s.id t.source) (λ s. not (t.source == s.id)) ss (λ s lt. other s lt) less)
+  where
+    other : (s : Source) → nat_lt s.id t.source ≡ true → not (t.source == s.id) ≡ true
+    other s lt = grind (arith, nat_tests)
+
+    as_ordered : (is : List ℕ) → length is ≡ length (listed sources is)
+    as_ordered [] = refl
+    as_ordered (i ∷ is) = ap suc (as_ordered is)
+
+-- ---- spans from the first on
+
+none_listed : (p : PoolValue) (l : ℕ) → p.lists ≡ [] → IsList p l → ⊥
+none_listed p l none is = nothing l (sym (ap (λ slots. is_some (slice_index_or slots l None)) none) ∙ is)
+  where
+    no_slots : List (Option (List Held))
+    no_slots = []
+
+    nothing : (l : ℕ) → is_some (slice_index_or no_slots l None) ≡ true → ⊥
+    nothing zero h = absurd cc
+    nothing (suc l) h = absurd cc
+
+-- no source, where there is no list
+pub kept_none : (p : PoolValue) → p.lists ≡ [] → IsKeptIn p [] []
+kept_none p none = record {
+  places = refl;
+  as_many = refl;
+  few = omega arith;
+  rising = refl;
+  filled = refl;
+  own = refl;
+  known = λ l is. absurd (none_listed p l none is);
+  merged = refl;
+  counted = sym no_sources;
+  small = omega arith;
+}
+
+-- the next of merged spans
+pub record IsNext (xs : List Span) (t : Span) (more all : List Span) : Type 0 where
+  pub filled : t.lo ≤ t.hi
+  pub before : all_before xs t ≡ true
+  pub merged : is_merged (xs ++ t ∷ []) ≡ true
+  pub set : set_of (xs ++ t ∷ []) ≡ with_span (set_of xs) t
+  pub longer : length (xs ++ t ∷ []) ≤ length all
+  pub parts : (xs ++ t ∷ []) ++ more ≡ all
+
+pub next_of : (xs : List Span) (t : Span) (more all : List Span) → xs ++ t ∷ more ≡ all → is_merged all ≡ true → IsNext xs t more all
+next_of xs t more all parts merged =
+    let split : (xs ++ t ∷ []) ++ more ≡ all = append_assoc xs (t ∷ []) more ∙ parts in
+    let front = merged_front (xs ++ t ∷ []) more (ap is_merged split ∙ merged) in
+    let pushed = merged_pushed xs t front in
+    let long = sym (length-append (xs ++ t ∷ []) more) ∙ ap length split in
+    record {
+      filled = pushed.filled;
+      before = pushed.before;
+      merged = front;
+      set = set_of-append xs (t ∷ []) ∙ with_one (set_of xs) t;
+      longer = omega (arith, long);
+      parts = split;
+    }
+
+-- nothing but memory is wanting for it
+pub memory_next : (xs : List Span) (t : Span) (more all : List Span) (f : SetFault) → IsNext xs t more all → source_count (set_of all) ≤ most_sources → length all ≤ most_intervals → IsFullExactly {T = Unit {0}} (Err f) (with_span (set_of xs) t) → f ≡ Memory
+memory_next xs t more all Memory next few small full = refl
+memory_next xs t more all SourcesFull next few small full =
+    let less = fewer_sources (set_of (xs ++ t ∷ [])) (set_of all) (λ q h.
+        contains-set_of all q ∙ ap (λ ss. has ss q) (sym next.parts) ∙ list_any-append (λ s. within s q) (xs ++ t ∷ []) more ∙ ap (λ b. b || has more q) (sym (contains-set_of (xs ++ t ∷ []) q) ∙ h)) in
+    absurd (let s = ap source_count next.set in omega (arith, full, less, few, s))
+memory_next xs t more all PoolFull next few small full =
+    let i = ap length (sym (runs_merged (xs ++ t ∷ []) next.merged) ∙ ap runs next.set) in
+    let long = next.longer in
+    absurd (let m = full.1 in omega (arith, m, i, long, small))
+
+-- spans that have grown by the next
+pub grown_next : (p q : PoolValue) (sources sources' : List Source) (order order' : List ℕ) (t : Span) (more all : List Span) → IsNext (flat p sources order) t more all → Grown p sources order t q sources' order' → flat q sources' order' ++ more ≡ all
+grown_next p q sources sources' order order' t more all next grown =
+    let same = equal_lists (flat q sources' order') (flat p sources order ++ t ∷ []) grown.kept.merged next.merged
+        (added_set (flat p sources order) (flat q sources' order') (set_of (flat p sources order)) t refl grown.list ∙ sym next.set) in
+    ap (λ xs. xs ++ more) same ∙ next.parts

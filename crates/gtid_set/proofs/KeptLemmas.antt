@@ -1,5 +1,5 @@
 -- Spans kept in a pool: what they have, and that they are merged.
-use Rattle.std.proofs.Common.{◌≡◌, ◌≢◌, ◌≤◌, ◌<◌, ◌+◌, ◌⊎◌, ℕ, zero, suc, Bool, true, false, cond, not, ◌&&◌, ◌||◌, ◌==◌, nat_le, nat_lt, List, [], ◌∷◌, ◌++◌, length, map, take, drop, Option, Some, None, refl, sym, ap, subst, ◌∙◌, arith, inl, inr}
+use Rattle.std.proofs.Common.{◌≡◌, ◌≢◌, ◌≤◌, ◌<◌, ◌+◌, ◌⊎◌, ℕ, zero, suc, Bool, true, false, cond, not, ◌&&◌, ◌||◌, ◌==◌, nat_le, nat_lt, List, [], ◌∷◌, ◌++◌, length, map, take, drop, Option, Some, None, get_or, refl, sym, ap, subst, ◌∙◌, arith, inl, inr}
 use Rattle.std.specs.List.{list_all, list_any, slice_get, AllByRecursion}
 use Rattle.std.specs.Prelude.{unwrap_or}
 use Rattle.std.proofs.Math.Bool.{and-or_distrib_left}
@@ -17,7 +17,7 @@ use Rattle.gtid_text.specs.declared.Span.{Span}
 use Rattle.gtid_set.specs.declared.sources.Source.{Source}
 use Rattle.gtid_set.specs.Spans.{is_before, is_merged, has}
 use Rattle.gtid_set.specs.Sweep.{within}
-use Rattle.gtid_set.specs.Kept.{span_of, spans_in, spans_of, are_rising, have_own, lists_of, knows, are_others, KeepsBut, IsSourcePlace}
+use Rattle.gtid_set.specs.Kept.{span_of, spans_in, spans_of, are_rising, have_own, listed, source_at, are_places, lists_of, knows, are_others, KeepsBut, IsSourcePlace}
 use Rattle.gtid_set.proofs.SpanLemmas.{all_weaker, any_none, merged_head, merged_cons, all_joined}
 
 -- ---- what the spans have
@@ -194,3 +194,23 @@ knows_other p q (t ∷ ts) (suc n) s g own e keeps ne =
   where
     differs : (t : Source) → not (s.list == t.list) ≡ true → t.list ≢ s.list
     differs t o k = absurd (grind (arith, nat_tests))
+
+-- the source at a place in the order
+pub listed_get : (sources : List Source) (is : List ℕ) (n d : ℕ) → n < length is → slice_get (listed sources is) n ≡ Some (source_at sources (get_or is n d))
+listed_get sources [] n d lt = absurd (omega (arith, lt))
+listed_get sources (i ∷ is) zero d lt = refl
+listed_get sources (i ∷ is) (suc n) d lt = listed_get sources is n d (omega (arith, lt))
+
+pub listed_past : (sources : List Source) (is : List ℕ) (n : ℕ) → length is ≤ n → slice_get (listed sources is) n ≡ None
+listed_past sources [] zero le = refl
+listed_past sources [] (suc n) le = refl
+listed_past sources (i ∷ is) zero le = absurd (omega (arith, le))
+listed_past sources (i ∷ is) (suc n) le = listed_past sources is n (omega (arith, le))
+
+pub place_within : (sources : List Source) (is : List ℕ) (n d : ℕ) → are_places sources is ≡ true → n < length is → get_or is n d < length sources
+place_within sources [] n d all lt = absurd (omega (arith, lt))
+place_within sources (i ∷ is) zero d all lt = within_one (and_parts (nat_lt i (length sources)) (are_places sources is) all).0
+  where
+    within_one : nat_lt i (length sources) ≡ true → i < length sources
+    within_one e = grind (arith, nat_tests)
+place_within sources (i ∷ is) (suc n) d all lt = place_within sources is n d (and_parts (nat_lt i (length sources)) (are_places sources is) all).1 (omega (arith, lt))

@@ -89,6 +89,14 @@ pub record IsSourcePlace (ss : List Source) (id at : ℕ) : Type 0 where
 abbrev pub knows : PoolValue → List Source → Gtid → Bool
 knows p ss q = list_any (λ s. (q.source == s.id) && has_number (spans p s.list) q.number) ss
 
+-- the source at a place has this identifier, or none is there that has
+pub record IsSourceAt (ss : List Source) (at id : ℕ) (s : Source) : Type 0 where
+  pub got : slice_get ss at ≡ Some s
+  pub same : s.id ≡ id
+
+abbrev pub IsNoSourceAt : List Source → ℕ → ℕ → Type 0
+IsNoSourceAt ss at id = (s : Source) → slice_get ss at ≡ Some s → s.id ≢ id
+
 -- one of the sources, with this identifier
 pub record IsSourceOf (ss : List Source) (s : Source) (id : ℕ) : Type 0 where
   pub at : ℕ

@@ -10,7 +10,7 @@ ghost use Rattle.gtid_set.specs.Kept.{IsKeptIn, IsSourceOf, IsSourcePlace, IsLis
 
 use crate::cursor::Cursor;
 use crate::fault::SetFault;
-use crate::sources::{Source, place_of, source_at};
+use crate::sources::{Source, find, place_of};
 use gtid_text::{Gtid, Span};
 use interval_pool::{Interval, ListId, Pool};
 use std::alloc::Global;
@@ -68,6 +68,7 @@ fn add_to(
     ensures err { OnErr result (pool.new ≡ pool.old) }
     ensures full { IsFullExactly result (set.union (set_of (flat pool.old sources.now order.now)) (interval span.now.source span.now.lo span.now.hi)) }
 {
+    pool.partition();
     match pool.add(source.list, numbers(span)) {
         Ok(()) => {
             pool.partition();
@@ -92,6 +93,7 @@ fn append_to(
     ensures ok { OnOk result (Grown pool.old sources.now order.now span.now pool.new sources.now order.now) }
     ensures full { IsFullExactly result (set.union (set_of (flat pool.old sources.now order.now)) (interval span.now.source span.now.lo span.now.hi)) }
 {
+    pool.partition();
     match pool.append(source.list, numbers(span)) {
         Ok(()) => {
             pool.partition();
@@ -150,7 +152,7 @@ fn insert(
     match open_list(pool, numbers(span)) {
         Ok(list) => {
             let id = span.source;
-            let _ = sources.push(Source { id, list });
+            sources.push_reserved(Source { id, list });
             let _ = order.insert(at, count as u16);
             pool.partition();
             Ok(())
@@ -173,9 +175,9 @@ fn push(
     ensures full { IsFullExactly result (set.union (set_of (flat pool.old sources.old.items order.old.items)) (interval span.now.source span.now.lo span.now.hi)) }
 {
     let end = order.as_slice().len();
-    match source_at(sources, order, end.saturating_sub(1)) {
-        Some(source) if source.id == span.source => append_to(pool, sources, order, source, span),
-        _ => insert(pool, sources, order, end, span),
+    match find(sources, order, end.saturating_sub(1), span.source) {
+        Some(source) => append_to(pool, sources, order, source, span),
+        None => insert(pool, sources, order, end, span),
     }
 }
 
@@ -219,19 +221,18 @@ impl Kept {
         ensures some { IfSome result (HasSpan self.now gtid.now) }
     {
         let at = place_of(&self.sources, &self.order, gtid.source, self.near);
-        match source_at(&self.sources, &self.order, at) {
-            Some(source) if source.id == gtid.source => {
-                match self.pool.interval_with(source.list, gtid.number) {
-                    Some(Interval { lo, hi }) => Some(Span {
-                        source: gtid.source,
-                        lo,
-                        hi,
-                    }),
-                    None => None,
-                }
-            }
-            _ => None,
-        }
+        let Some(source) = find(&self.sources, &self.order, at, gtid.source) else {
+            return None;
+        };
+        self.pool.partition();
+        let Some(Interval { lo, hi }) = self.pool.interval_with(source.list, gtid.number) else {
+            return None;
+        };
+        Some(Span {
+            source: gtid.source,
+            lo,
+            hi,
+        })
     }
 
     /// Joins a span to the others. An error leaves them as they were.
@@ -242,12 +243,9 @@ impl Kept {
         ensures full { IsFullExactly result (set.union (set_of self.old) (interval span.source span.lo span.hi)) }
     {
         let at = place_of(&self.sources, &self.order, span.source, self.near);
-        let found = source_at(&self.sources, &self.order, at);
-        match found {
-            Some(source) if source.id == span.source => {
-                add_to(&mut self.pool, &self.sources, &self.order, source, &span)?;
-            }
-            _ => insert(
+        match find(&self.sources, &self.order, at, span.source) {
+            Some(source) => add_to(&mut self.pool, &self.sources, &self.order, source, &span)?,
+            None => insert(
                 &mut self.pool,
                 &mut self.sources,
                 &mut self.order,
@@ -273,8 +271,10 @@ impl Kept {
         let mut rest = spans;
         pool.reserve(spans.len())?;
         while let Some((span, more)) = rest.split_first() {
-            push(&mut pool, &mut sources, &mut order, span)?;
-            rest = more;
+            match push(&mut pool, &mut sources, &mut order, span) {
+                Ok(()) => rest = more,
+                Err(fault) => return Err(fault),
+            }
         }
         Ok(Kept {
             pool,

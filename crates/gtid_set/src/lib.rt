@@ -215,6 +215,7 @@ impl GtidSet {
         ensures err { OnErr result (self.new ≡ self.old) }
         ensures full { IsFullExactly result (set.union self.old (interval span.source span.lo span.hi)) }
     {
+        self.spans.is_kept();
         if span.hi < span.lo {
             return Ok(());
         }

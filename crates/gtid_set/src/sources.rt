@@ -1,7 +1,7 @@
 //! The sources of a set, and their order.
-ghost use Rattle.std.specs.Prelude.{◌≡◌, true, IfSome, IfNone, not, ◌==◌};
-ghost use Rattle.std.specs.List.{slice_get, list_all};
-ghost use Rattle.gtid_set.specs.Kept.{comes_before, are_places, are_rising, listed, IsSourcePlace};
+ghost use Rattle.std.specs.Prelude.{◌≡◌, true, IfSome, IfNone};
+ghost use Rattle.std.specs.List.{slice_get};
+ghost use Rattle.gtid_set.specs.Kept.{comes_before, are_places, are_rising, listed, IsSourceAt, IsNoSourceAt, IsSourcePlace};
 
 use gtid_text::SourceId;
 use interval_pool::ListId;
@@ -22,13 +22,30 @@ fn comes_before(sources: &[Source], at: u16, id: SourceId) -> bool
 }
 
 /// The source at a place in the order, if there is one.
-pub fn source_at(sources: &[Source], order: &[u16], at: usize) -> Option<Source>
+fn source_at(sources: &[Source], order: &[u16], at: usize) -> Option<Source>
     requires { are_places sources.now order.now ≡ true }
     ensures { result ≡ slice_get (listed sources.now order.now) at }
 {
-    match order.get(at) {
-        Some(place) => Some(sources[*place as usize]),
+    if at >= order.len() {
+        return None;
+    }
+    Some(sources[order[at] as usize])
+}
+
+/// The source at a place in the order, if it has this identifier.
+pub fn find(sources: &[Source], order: &[u16], at: usize, id: SourceId) -> Option<Source>
+    requires { are_places sources.now order.now ≡ true }
+    ensures some { IfSome result (IsSourceAt (listed sources.now order.now) at id) }
+    ensures none { IfNone result (IsNoSourceAt (listed sources.now order.now) at id) }
+{
+    match source_at(sources, order, at) {
         None => None,
+        Some(source) => {
+            if source.id != id {
+                return None;
+            }
+            Some(source)
+        }
     }
 }
 
@@ -38,8 +55,8 @@ pub fn place_of(sources: &[Source], order: &[u16], id: SourceId, guess: usize) -
     requires rising { are_rising (listed sources.now order.now) ≡ true }
     ensures { IsSourcePlace (listed sources.now order.now) id result }
 {
-    match source_at(sources, order, guess) {
-        Some(source) if source.id == id => guess,
-        _ => order.partition_point(|at| comes_before(sources, *at, id)),
+    if let Some(_source) = find(sources, order, guess, id) {
+        return guess;
     }
+    order.partition_point(|at| comes_before(sources, *at, id))
 }
