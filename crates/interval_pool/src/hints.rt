@@ -224,14 +224,20 @@ impl Hints {
         self.of(list).is_run
     }
 
+    /// The last cell of a list, where it is known at once.
+    pub fn last_known(&self, cells: &[Cell], heads: &[Head], list: u32, is_run: bool) -> Link {
+        if is_run {
+            end_of_run(cells, heads, list)
+        } else {
+            self.of(list).cell
+        }
+    }
+
     /// The last cell of a list, as far as it is known.
     pub fn last(&self, cells: &[Cell], heads: &[Head], list: u32, is_run: bool) -> Link {
-        if is_run {
-            return end_of_run(cells, heads, list);
-        }
-        let cell = self.of(list).cell;
-        if is_end(cells, list, cell) {
-            return cell;
+        let end = self.last_known(cells, heads, list, is_run);
+        if is_run || is_end(cells, list, end) {
+            return end;
         }
         self.search_index(cells, list, u64::MAX)
     }
@@ -312,8 +318,15 @@ impl Hints {
         hints.is_indexed
     }
 
-    /// An interval was added behind a place.
-    pub fn note_added(&mut self, cells: &[Cell], heads: &[Head], list: u32, place: Link) {
+    /// An interval was added behind a place, and may have been joined with others there.
+    pub fn note_added(
+        &mut self,
+        cells: &[Cell],
+        heads: &[Head],
+        list: u32,
+        place: Link,
+        has_joined: bool,
+    ) {
         let cell = after(cells, heads, list as usize, place);
         let Some(at) = cell.place() else {
             return;
@@ -323,7 +336,7 @@ impl Hints {
         let Cell { lo, hi, .. } = cell_at(cells, at);
         let is_same = hints.lo == lo && is_at(hints.cell, at);
         self.put(list, ListHints { lo, cell, ..hints });
-        if is_told && !is_same {
+        if is_told && (has_joined || !is_same) {
             self.forget(list, lo.saturating_add(1), hi);
             self.remember(cells, list, at);
         }
@@ -339,7 +352,7 @@ impl Hints {
         is_run: bool,
     ) {
         if !is_run || !place.is_before(cells.len().saturating_sub(1)) {
-            self.note_added(cells, heads, list, place);
+            self.note_added(cells, heads, list, place, false);
         }
     }
 

@@ -99,6 +99,7 @@ fn lead_on(cells: &mut [Cell], heads: &mut [Head], list: u32, last: Link, next: 
 }
 
 /// Puts a cell more behind the last of a list, with these numbers.
+#[inline(always)]
 fn push(
     cells: &mut Vec<Cell>,
     heads: &mut [Head],
@@ -128,6 +129,7 @@ fn push(
 }
 
 /// Puts an interval behind the last cell of a list. A free cell is taken before one is made.
+#[inline(always)]
 pub fn put_last(
     cells: &mut Vec<Cell>,
     heads: &mut [Head],
