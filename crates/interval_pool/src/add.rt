@@ -78,8 +78,7 @@ fn add_between(
     let guess = hints.near_place(cells, heads, list, numbers.lo.saturating_sub(1));
     let many = count(heads, list as usize);
     let place = add_at(cells, heads, list, numbers, guess)?;
-    let has_joined = count(heads, list as usize) < many;
-    hints.note_added(cells, heads, list, place, has_joined);
+    hints.note_added(cells, heads, list, place, numbers, many);
     Ok(())
 }
 
@@ -154,7 +153,7 @@ pub fn add(
     }
     if is_behind(cells, heads, list, numbers, end) {
         let place = append(cells, heads, list, numbers, end)?;
-        hints.note_appended(cells, heads, list, place, is_run);
+        hints.note_appended(cells, heads, list, place, numbers, is_run);
         return Ok(());
     }
     add_between(cells, heads, hints, list, numbers)

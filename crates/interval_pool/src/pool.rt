@@ -121,7 +121,7 @@ impl Pool {
         let guess = self.hints.last(&self.cells, &self.heads, list, is_run);
         let place = append(&mut self.cells, &mut self.heads, list, numbers, guess)?;
         self.hints
-            .note_appended(&self.cells, &self.heads, list, place, is_run);
+            .note_appended(&self.cells, &self.heads, list, place, numbers, is_run);
         Ok(())
     }
 
