@@ -8,15 +8,15 @@ use Rattle.interval_pool.specs.declared.cells.Cell.{Cell}
 use Rattle.interval_pool.specs.declared.cells.Head.{Head}
 use Rattle.interval_pool.specs.declared.interval.Interval.{Interval}
 use Rattle.interval_pool.specs.Links.{most_cells}
-use Rattle.interval_pool.specs.Cells.{cell_at, with_end}
-use Rattle.interval_pool.specs.Chains.{first_or, IsCell, AreLinked, AreOnce, AreChains, IsAmong}
+use Rattle.interval_pool.specs.Cells.{after, cell_at, with_end, with_numbers}
+use Rattle.interval_pool.specs.Chains.{first_or, last_or, IsCell, AreLinked, AreOnce, AreChains, IsAmong}
 use Rattle.interval_pool.specs.Intervals.{IsBefore, IsApart, AreMerged, covers, has}
 use Rattle.interval_pool.specs.Pools.{chain_of, interval_at, AreWhole, KeepsOthers}
 use Rattle.interval_pool.specs.Places.{IsBehind, TouchesEnd}
-use Rattle.interval_pool.specs.Changes.{spans_of, Added}
+use Rattle.interval_pool.specs.Changes.{spans_of, free_count, Added, Replaced}
 use Rattle.interval_pool.proofs.Facts.{or_false, or_three, all_parts, all_joined, all_weaker}
-use Rattle.interval_pool.proofs.Linking.{cell_other, cell_same, kept_cell, once_without}
-use Rattle.interval_pool.proofs.Walking.{chain_is, rewalked}
+use Rattle.interval_pool.proofs.Linking.{cell_other, cell_same, in_parts, kept_cell, once_without}
+use Rattle.interval_pool.proofs.Walking.{after_is, chain_is, rewalked}
 use Rattle.interval_pool.proofs.Lists.{same_but}
 use Rattle.interval_pool.proofs.Appending.{end_parts}
 use Rattle.interval_pool.proofs.Altering.{has_append}
@@ -91,6 +91,34 @@ module _ (cells : List Cell) (i : ℕ) (c : Cell) (lt : i < length cells) (owner
       let here : interval_at rewritten i ≡ record { lo = c.lo; hi = c.hi } = ap (λ (d : Cell). let r : Interval = record { lo = d.lo; hi = d.hi } in r) (cell_same cells i c lt) in
       ap (map (interval_at rewritten)) (chains_stay heads h k ∙ parts)
       ∙ (map-append (interval_at rewritten) xs (i ∷ ys) ∙ (λ p. same_but cells rewritten i others_stay xs apart.0 p ++ here p ∷ same_but cells rewritten i others_stay ys apart.1 p))
+
+-- ---- other numbers in a cell
+
+-- the walk comes to the cell
+pub renewed_at : (cells : List Cell) (heads : List Head) (k i : ℕ) (before : Option ℕ) (xs ys : List ℕ) → AreWhole cells heads → chain_of cells heads k ≡ xs ++ i ∷ ys → before ≡ last_or None xs → after cells heads k before ≡ Some i
+renewed_at cells heads k i before xs ys h parts is_before = ap (after cells heads k) is_before ∙ after_is cells heads None (chain_of cells heads) k xs (i ∷ ys) h parts
+
+pub renewed : (cells : List Cell) (heads : List Head) (k i : ℕ) (s : Interval) (xs ys : List ℕ) → AreWhole cells heads → length cells ≤ most_cells → chain_of cells heads k ≡ xs ++ i ∷ ys → Replaced cells heads k xs (i ∷ ys) 1 (s ∷ []) (with_numbers cells i s.lo s.hi) heads
+renewed cells heads k i s xs ys h small parts =
+    let c : Cell = record (cell_at cells i) { lo = s.lo; hi = s.hi } in
+    let cells' : List Cell = with_numbers cells i s.lo s.hi in
+    let linked = in_parts cells k xs (i ∷ ys) None (subst (λ is. AreLinked cells k is None) parts (h.linked k)) in
+    let lt = linked.1.0.below in
+    let many : length cells' ≡ length cells = simp length-set in
+    let free = ap length (chains_stay cells i c lt refl refl heads h 0) in
+    record {
+      keeps = keeps_others cells i c lt refl refl heads k h linked.1.0.owner;
+      small = omega (many, small, arith);
+      spans = spans_with cells i c lt refl refl heads k xs ys h parts;
+      total = omega (many, free, arith);
+      more = inl many;
+    }
+
+pub renewed_length : (cells cells' : List Cell) (heads : List Head) (k : ℕ) (s : Interval) (xs ys : List ℕ) (i : ℕ) → Replaced cells heads k xs (i ∷ ys) 1 (s ∷ []) cells' heads → length cells' ≡ length cells
+renewed_length cells cells' heads k s xs ys i r = ⊎_elim
+    (λ e. e)
+    (λ (e : (free_count cells heads ≡ 0) × (free_count cells' heads ≡ 0) × (length cells' ≡ length cells + 1)). let total = r.total in let a = e.0 in let b = e.1 in let n = e.2 in omega (total, a, b, n, arith))
+    r.more
 
 -- ---- numbers behind the last cell
 
