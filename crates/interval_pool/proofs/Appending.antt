@@ -29,14 +29,17 @@ no_first : (is : List ℕ) → None ≡ first_or None is → is ≡ []
 no_first [] e = refl
 no_first (i ∷ is) e = absurd (cc)
 
-pub end_is : (cells : List Cell) (heads : List Head) (k : ℕ) (place : Option ℕ) → AreWhole cells heads → IsEnd cells heads k place → place ≡ last_or None (chain_of cells heads k)
-end_is cells heads k None h end = sym (ap (last_or None) (nil_from_length (chain_of cells heads k) (sym (h.count k) ∙ end)))
-end_is cells heads k (Some i) h end =
+pub end_parts : (cells : List Cell) (heads : List Head) (k i : ℕ) → AreWhole cells heads → IsEnd cells heads k (Some i) → (xs : List ℕ) × (chain_of cells heads k ≡ xs ++ i ∷ [])
+end_parts cells heads k i h end =
     let among : IsAmong i (chain_of cells heads k) = subst (λ o. IsAmong i (chain_of cells heads o)) end.1 (⊎_elim (λ e. absurd (cc)) (λ a. a) (h.whole i end.0)) in
     let split = split_at i (chain_of cells heads k) among in
     let linked = in_parts cells k split.0 (i ∷ split.1.0) None (subst (λ is. AreLinked cells k is None) split.1.1 (h.linked k)) in
     let none = no_first split.1.0 (sym end.2 ∙ linked.1.0.next_is) in
-    sym (ap (last_or None) (split.1.1 ∙ ap (λ ys. split.0 ++ i ∷ ys) none) ∙ last_append None split.0 i)
+    (split.0, split.1.1 ∙ ap (λ ys. split.0 ++ i ∷ ys) none)
+
+pub end_is : (cells : List Cell) (heads : List Head) (k : ℕ) (place : Option ℕ) → AreWhole cells heads → IsEnd cells heads k place → place ≡ last_or None (chain_of cells heads k)
+end_is cells heads k None h end = sym (ap (last_or None) (nil_from_length (chain_of cells heads k) (sym (h.count k) ∙ end)))
+end_is cells heads k (Some i) h end = let parts = end_parts cells heads k i h end in sym (ap (last_or None) parts.1 ∙ last_append None parts.0 i)
 
 none_reaches : (cells : List Cell) (n : ℕ) (ys : List ℕ) → AreBelow cells n ys → Reaches cells n ys → ys ≡ []
 none_reaches cells n [] below reaches = refl

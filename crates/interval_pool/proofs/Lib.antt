@@ -8,6 +8,7 @@ pub mod Putting
 pub mod Meeting
 pub mod Altering
 pub mod Appending
+pub mod Growing
 pub mod Valued
 pub mod Parting
 pub mod Listing

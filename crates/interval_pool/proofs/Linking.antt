@@ -122,7 +122,7 @@ pub once_parts : (is js : List ℕ) → AreOnce (is ++ js) → AreOnce is × Are
 once_parts [] js once = (tt, once)
 once_parts (i ∷ is) js once = let more = once_parts is js once.1 in (((all_parts (λ j. j ≢ i) is js once.0).0, more.0), more.1)
 
-once_without : (xs ys : List ℕ) (i : ℕ) → AreOnce (xs ++ i ∷ ys) → AreOnce (xs ++ ys) × AllByRecursion (λ j. j ≢ i) (xs ++ ys)
+pub once_without : (xs ys : List ℕ) (i : ℕ) → AreOnce (xs ++ i ∷ ys) → AreOnce (xs ++ ys) × AllByRecursion (λ j. j ≢ i) (xs ++ ys)
 once_without [] ys i once = (once.1, once.0)
 once_without (x ∷ xs) ys i once =
     let more = once_without xs ys i once.1 in

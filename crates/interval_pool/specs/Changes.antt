@@ -87,6 +87,11 @@ abbrev pub PutsLast : List Cell → List Head → ℕ → Option ℕ → Interva
 PutsLast cells heads k last s cells' heads' =
     AreWhole cells heads → length cells ≤ most_cells → k ≢ 0 → k < length heads → last ≡ last_or None (chain_of cells heads k) → Replaced cells heads k (chain_of cells heads k) [] 0 (s ∷ []) cells' heads'
 
+-- the cell after some of a list has other numbers
+abbrev pub Renews : List Cell → List Head → ℕ → Option ℕ → Interval → List Cell → Type 0
+Renews cells heads k before s cells' =
+    (xs : List ℕ) (i : ℕ) (ys : List ℕ) → AreWhole cells heads → length cells ≤ most_cells → chain_of cells heads k ≡ xs ++ i ∷ ys → before ≡ last_or None xs → Replaced cells heads k xs (i ∷ ys) 1 (s ∷ []) cells' heads
+
 -- a list has the numbers that pass a test, and a cell more only where it needs one and none was free
 pub record Changed (cells : List Cell) (heads : List Head) (k : ℕ) (among : ℕ → Bool) (cells' : List Cell) (heads' : List Head) : Type 0 where
   pub keeps : KeepsOthers cells heads k cells' heads'

@@ -15,6 +15,7 @@ use crate::seek::last;
 use crate::store::put_last;
 
 /// Puts an interval behind all others of a list. Any guess of its last cell serves. Gives back that cell.
+#[inline(always)]
 pub fn append(
     cells: &mut Vec<Cell>,
     heads: &mut [Head],

@@ -186,7 +186,7 @@ impl Hints {
     /// A list ends.
     pub fn end(&mut self, list: u32) {
         if self.of(list).is_indexed {
-            self.forget(list, 0, u64::MAX);
+            self.forget(list, 0, u64::MAX, u32::MAX);
         }
         let released = self.released;
         self.put(
@@ -224,14 +224,20 @@ impl Hints {
         self.of(list).is_run
     }
 
+    /// The last cell of a list, where it is known at once.
+    pub fn last_known(&self, cells: &[Cell], heads: &[Head], list: u32, is_run: bool) -> Link {
+        if is_run {
+            end_of_run(cells, heads, list)
+        } else {
+            self.of(list).cell
+        }
+    }
+
     /// The last cell of a list, as far as it is known.
     pub fn last(&self, cells: &[Cell], heads: &[Head], list: u32, is_run: bool) -> Link {
-        if is_run {
-            return end_of_run(cells, heads, list);
-        }
-        let cell = self.of(list).cell;
-        if is_end(cells, list, cell) {
-            return cell;
+        let end = self.last_known(cells, heads, list, is_run);
+        if is_run || is_end(cells, list, end) {
+            return end;
         }
         self.search_index(cells, list, u64::MAX)
     }
@@ -257,9 +263,9 @@ impl Hints {
             .insert((list, cell_at(cells, at).lo), Link::to(at));
     }
 
-    /// Takes the cells of a list that begin in this interval out of the index.
-    fn forget(&mut self, list: u32, from: u64, upto: u64) {
-        for _cell in 0..self.index.len() {
+    /// Takes the cells of a list that begin in this interval, at most so many, out of the index.
+    fn forget(&mut self, list: u32, from: u64, upto: u64, most: u32) {
+        for _cell in 0..most {
             let Some(key) = self.last_key(list, upto) else {
                 return;
             };
@@ -312,8 +318,16 @@ impl Hints {
         hints.is_indexed
     }
 
-    /// An interval was added behind a place.
-    pub fn note_added(&mut self, cells: &[Cell], heads: &[Head], list: u32, place: Link) {
+    /// Numbers were added behind a place, where the list had so many cells before.
+    pub fn note_added(
+        &mut self,
+        cells: &[Cell],
+        heads: &[Head],
+        list: u32,
+        place: Link,
+        numbers: Interval,
+        many: u32,
+    ) {
         let cell = after(cells, heads, list as usize, place);
         let Some(at) = cell.place() else {
             return;
@@ -323,9 +337,15 @@ impl Hints {
         let Cell { lo, hi, .. } = cell_at(cells, at);
         let is_same = hints.lo == lo && is_at(hints.cell, at);
         self.put(list, ListHints { lo, cell, ..hints });
-        if is_told && !is_same {
-            self.forget(list, lo.saturating_add(1), hi);
-            self.remember(cells, list, at);
+        if is_told {
+            let joined = many
+                .saturating_add(1)
+                .saturating_sub(count(heads, list as usize));
+            let kept = if lo < numbers.lo { 1 } else { 0 };
+            self.forget(list, lo.saturating_add(1), hi, joined.saturating_sub(kept));
+            if !is_same {
+                self.remember(cells, list, at);
+            }
         }
     }
 
@@ -336,10 +356,12 @@ impl Hints {
         heads: &[Head],
         list: u32,
         place: Link,
+        numbers: Interval,
         is_run: bool,
     ) {
         if !is_run || !place.is_before(cells.len().saturating_sub(1)) {
-            self.note_added(cells, heads, list, place);
+            let many = count(heads, list as usize).saturating_sub(1);
+            self.note_added(cells, heads, list, place, numbers, many);
         }
     }
 
@@ -353,7 +375,7 @@ impl Hints {
         numbers: Interval,
     ) {
         if self.keeps_index(cells, heads, list, place) {
-            self.forget(list, numbers.lo, numbers.hi);
+            self.forget(list, numbers.lo, numbers.hi, u32::MAX);
             let mut next = after(cells, heads, list as usize, place);
             for _piece in 0..NEAR {
                 let Some(at) = next.place() else {

@@ -11,8 +11,8 @@
 //!
 //! From below: `link` is a place among cells, or none. `cells` takes a cell out of a chain and puts it into one.
 //! `store` frees cells, makes room for one more, and puts intervals in the place of others. `seek` finds the place
-//! of a number, `meet` what an interval meets behind it, and `add` and `cut` are these one after another. `claim`
-//! begins and ends lists, and `pool` has the calls.
+//! of a number, `meet` what an interval meets behind it, and `add` and `cut` are these one after another; `append` puts
+//! an interval behind all others of its list. `claim` begins and ends lists, and `pool` has the calls.
 //!
 //! What a call costs is the way from a guessed place to the right one. `hints` guesses: the place of the last change;
 //! by halves, where the cells of a list lie one behind another; or by an index of cells, kept for lists that are long

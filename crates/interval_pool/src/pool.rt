@@ -93,15 +93,13 @@ impl Pool {
         ensures apart { OnErr result (IsApart (spans self.old list) numbers) }
         ensures full { IfErr result (λ fault. fault ≡ Full ↔ IsFull self.old) }
     {
-        let list = list.number();
-        let guess = self.hints.near_place(
-            &self.cells,
-            &self.heads,
-            list,
-            numbers.lo.saturating_sub(1),
-        );
-        let place = add(&mut self.cells, &mut self.heads, list, numbers, guess)?;
-        self.hints.note_added(&self.cells, &self.heads, list, place);
+        add(
+            &mut self.cells,
+            &mut self.heads,
+            &mut self.hints,
+            list.number(),
+            numbers,
+        )?;
         Ok(())
     }
 
@@ -123,7 +121,7 @@ impl Pool {
         let guess = self.hints.last(&self.cells, &self.heads, list, is_run);
         let place = append(&mut self.cells, &mut self.heads, list, numbers, guess)?;
         self.hints
-            .note_appended(&self.cells, &self.heads, list, place, is_run);
+            .note_appended(&self.cells, &self.heads, list, place, numbers, is_run);
         Ok(())
     }
 

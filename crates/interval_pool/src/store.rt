@@ -3,13 +3,13 @@ ghost use Rattle.std.specs.Prelude.{◌≡◌, ◌↔◌, ◌<◌, ◌≤◌, �
 ghost use Rattle.interval_pool.specs.Cells.{head_at, with_head, with_next, with_numbers};
 ghost use Rattle.interval_pool.specs.Intervals.{listed};
 ghost use Rattle.interval_pool.specs.Links.{most_cells};
-ghost use Rattle.interval_pool.specs.Changes.{MakesRoom, Sets, Puts, Replaces, Spends, Pushes, PutsLast};
+ghost use Rattle.interval_pool.specs.Changes.{MakesRoom, Sets, Puts, Replaces, Spends, Pushes, PutsLast, Renews};
 ghost use Rattle.interval_pool.specs.declared.fault.PoolFault.TheVariants.{Full};
 ghost use Rattle.interval_pool.specs.Pools.{Frees, FreesSome, Grows, Places};
 
-use crate::cells::{Cell, Head, count, link, unlink};
+use crate::cells::{Cell, Head, after, count, link, unlink};
 use crate::fault::PoolFault;
-use crate::interval::{Interval, Pieces, count_pieces};
+use crate::interval::{Interval, Pieces, count_pieces, only_piece};
 use crate::link::{Link, MOST_CELLS};
 use std::alloc::AllocError;
 
@@ -99,6 +99,7 @@ fn lead_on(cells: &mut [Cell], heads: &mut [Head], list: u32, last: Link, next: 
 }
 
 /// Puts a cell more behind the last of a list, with these numbers.
+#[inline(always)]
 fn push(
     cells: &mut Vec<Cell>,
     heads: &mut [Head],
@@ -128,6 +129,7 @@ fn push(
 }
 
 /// Puts an interval behind the last cell of a list. A free cell is taken before one is made.
+#[inline(always)]
 pub fn put_last(
     cells: &mut Vec<Cell>,
     heads: &mut [Head],
@@ -200,6 +202,15 @@ fn put(cells: &mut [Cell], heads: &mut [Head], list: u32, before: Link, count: u
     set(cells, heads, list, before, pieces.first);
 }
 
+/// Gives the cell after one of a list, or the list's first, other numbers.
+fn renew(cells: &mut [Cell], heads: &[Head], list: u32, before: Link, numbers: Interval)
+    ensures { Renews cells.old heads.now list before numbers cells.new }
+{
+    if let Some(at) = after(cells, heads, list as usize, before).place() {
+        put_numbers(cells, at, numbers.lo, numbers.hi);
+    }
+}
+
 /// Puts intervals, one more at most, into a list in place of so many cells after one of its cells, or at its start.
 pub fn replace(
     cells: &mut Vec<Cell>,
@@ -218,6 +229,12 @@ pub fn replace(
     ensures needed { OnErr result (count < length (listed pieces)) }
     ensures full { IfErr result (λ fault. fault ≡ Full ↔ (most_cells ≤ length cells.old.items)) }
 {
+    if count == 1 {
+        if let Some(numbers) = only_piece(pieces) {
+            renew(cells, heads, list, before, numbers);
+            return Ok(());
+        }
+    }
     make_room(cells, heads, count, count_pieces(pieces))?;
     put(cells, heads, list, before, count, pieces);
     Ok(())
