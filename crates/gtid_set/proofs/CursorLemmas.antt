@@ -1,7 +1,7 @@
 -- A place in a list of a pool.
 use Rattle.std.proofs.Common.{◌≡◌, ◌+◌, ◌<◌, ℕ, zero, suc, List, [], ◌∷◌, ◌++◌, length, map, drop, take, Option, Some, None, refl, sym, ap, subst, ◌∙◌, arith}
 use Rattle.interval_pool.specs.declared.interval.Interval.{Interval}
-use Rattle.interval_pool.specs.Values.{Held, PoolValue, cells_of, spans, first_cell, Follows, Covers}
+use Rattle.interval_pool.specs.Values.{Held, PoolValue, cells_of, first_cell, Follows, Covers}
 use Rattle.std.proofs.lemmas.List.{drop-map}
 use Rattle.gtid_text.specs.declared.Span.{Span}
 use Rattle.gtid_set.specs.declared.sources.Source.{Source}

@@ -1,32 +1,29 @@
 -- Changes of spans that are kept in a pool.
-use Rattle.std.proofs.Common.{◌≡◌, ◌≢◌, ◌≤◌, ◌<◌, ◌+◌, ◌⊎◌, ℕ, zero, suc, Bool, true, false, cond, not, ◌&&◌, ◌||◌, ◌==◌, nat_le, nat_lt, List, [], ◌∷◌, ◌++◌, length, map, take, drop, Option, Some, None, get_or, refl, sym, ap, subst, ◌∙◌, arith, inl, inr}
+use Rattle.std.proofs.Common.{◌≡◌, ◌≢◌, ◌≤◌, ◌<◌, ◌+◌, ◌⊎◌, ℕ, zero, suc, Bool, true, false, cond, not, ◌&&◌, ◌||◌, ◌==◌, nat_lt, List, [], ◌∷◌, ◌++◌, length, map, take, drop, Some, refl, sym, ap, subst, ◌∙◌, arith, inl, inr}
 use Rattle.std.specs.FinSet as set
-use Rattle.std.specs.List.{list_all, list_any, slice_get, AllByRecursion}
-use Rattle.std.specs.Prelude.{unwrap_or, Err}
+use Rattle.std.specs.List.{list_all, slice_get}
 use Rattle.std.proofs.lemmas.Bool.{and_parts, and_from}
 use Rattle.std.proofs.lemmas.Bool.Decides.{nat_tests}
 use Rattle.std.proofs.lemmas.List.{length-append, take-append-drop, get_or_append_left}
 use Rattle.std.proofs.Math.Seq.{get_or-append_seam}
-use Rattle.std.proofs.lemmas.List.Folds.{list_any-append, list_all-append}
 use Rattle.interval_pool.specs.declared.interval.Interval.{Interval}
 use Rattle.interval_pool.specs.Chains.{IsAmong}
 use Rattle.interval_pool.specs.Intervals.{IsBefore, AreMerged, IsApart}
 use Rattle.interval_pool.specs.Intervals.{has as has_number}
 use Rattle.interval_pool.specs.Intervals.{covers as covers_number}
-use Rattle.interval_pool.specs.Values.{PoolValue, slot_at, spans, cells_of, is_list, IsList, intervals_of, Held, AreAmong, AreAllLists, Altered, AddedTo}
+use Rattle.interval_pool.specs.Values.{PoolValue, spans, is_list, AddedTo}
 use Rattle.gtid_text.specs.declared.Gtid.{Gtid}
 use Rattle.gtid_text.specs.declared.Span.{Span}
 use Rattle.gtid_set.specs.declared.sources.Source.{Source}
-use Rattle.gtid_set.specs.Sets.{Gtids, gtid, interval, source_count, most_sources}
+use Rattle.gtid_set.specs.Sets.{gtid, interval}
 use Rattle.gtid_set.specs.Spans.{set_of, is_before, is_merged, has}
-use Rattle.gtid_set.specs.Sweep.{within, IsListOf, KnowsSource}
-use Rattle.gtid_set.specs.Runs.{runs}
-use Rattle.gtid_set.specs.Full.{interval_count, most_intervals}
-use Rattle.gtid_set.specs.Kept.{span_of, interval_of, spans_in, spans_of, are_rising, have_own, lists_of, listed, source_at, are_places, is_filled, knows, flat, are_others, KeepsBut, IsKeptIn, IsSourcePlace}
+use Rattle.gtid_set.specs.Sweep.{within, KnowsSource}
+use Rattle.gtid_set.specs.Full.{interval_count}
+use Rattle.gtid_set.specs.Kept.{span_of, interval_of, spans_in, spans_of, are_rising, have_own, lists_of, listed, source_at, are_places, is_filled, knows, are_others, IsSourcePlace}
 use Rattle.gtid_set.proofs.SpanLemmas.{all_weaker, all_weaker2, merged_head, merged_cons, all_joined, all_parts}
-use Rattle.gtid_set.proofs.SetSources.{added_set, count_with, len_known, len_unknown}
+use Rattle.gtid_set.proofs.SetSources.{added_set}
 use Rattle.gtid_set.proofs.RunLemmas.{runs_merged}
-use Rattle.gtid_set.proofs.KeptLemmas.{has_spans_of, got_all, knows_none, knows_at, merged_flat, flat_length, same_at, same_flat, knows_same, knows_other}
+use Rattle.gtid_set.proofs.KeptLemmas.{has_spans_of, got_all, knows_at, same_at, knows_other}
 
 -- ---- numbers are added to the list of a source
 

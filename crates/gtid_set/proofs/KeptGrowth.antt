@@ -1,7 +1,7 @@
 -- Spans kept in a pool stay so, and why there is no room for one more.
-use Rattle.std.proofs.Common.{◌≡◌, ◌≢◌, ◌≤◌, ◌<◌, ◌+◌, ◌-◌, ◌⊎◌, ℕ, zero, suc, Bool, true, false, cond, not, ◌&&◌, ◌||◌, ◌==◌, nat_le, nat_lt, List, [], ◌∷◌, ◌++◌, length, map, take, drop, Option, Some, None, get_or, refl, sym, ap, subst, ◌∙◌, arith, inl, inr}
+use Rattle.std.proofs.Common.{◌≡◌, ◌≢◌, ◌≤◌, ◌<◌, ◌+◌, ◌-◌, ◌⊎◌, ℕ, zero, suc, Bool, true, false, not, ◌&&◌, ◌||◌, ◌==◌, nat_le, nat_lt, List, [], ◌∷◌, ◌++◌, length, map, take, drop, Option, Some, None, refl, sym, ap, subst, ◌∙◌, arith, inl, inr}
 use Rattle.std.specs.FinSet as set
-use Rattle.std.specs.List.{list_all, list_any, slice_get, AllByRecursion}
+use Rattle.std.specs.List.{list_all, slice_get, AllByRecursion}
 use Rattle.std.specs.Prelude.{unwrap_or, Ok, Err, is_some, slice_index_or}
 use Rattle.std.proofs.lemmas.Bool.{and_parts, and_from}
 use Rattle.std.proofs.lemmas.Bool.Decides.{nat_tests}
@@ -16,24 +16,24 @@ use Rattle.interval_pool.specs.Links.{most_cells}
 use Rattle.interval_pool.specs.Intervals.{IsBefore, AreMerged, IsApart}
 use Rattle.interval_pool.specs.Intervals.{has as has_number}
 use Rattle.interval_pool.specs.Intervals.{covers as covers_number}
-use Rattle.interval_pool.specs.Values.{Held, PoolValue, slot_at, spans, is_list, IsList, intervals_of, standing, AreAmong, AreAllLists, AddedTo, Opened, Released, IsPartition, IsFull}
+use Rattle.interval_pool.specs.Values.{Held, PoolValue, slot_at, spans, is_list, IsList, intervals_of, AreAmong, AreAllLists, AddedTo, Opened, Released, IsPartition, IsFull}
 use Rattle.interval_pool.proofs.Within.{stand_within, distinct_stand}
 use Rattle.gtid_text.specs.declared.Gtid.{Gtid}
 use Rattle.gtid_text.specs.declared.Span.{Span}
 use Rattle.gtid_set.specs.declared.fault.SetFault.{SetFault}
 use Rattle.gtid_set.specs.declared.fault.SetFault.TheVariants.{Memory, PoolFull, SourcesFull}
 use Rattle.gtid_set.specs.declared.sources.Source.{Source}
-use Rattle.gtid_set.specs.Sets.{Gtids, gtid, interval, source_count, sources_of, most_sources}
+use Rattle.gtid_set.specs.Sets.{Gtids, gtid, interval, source_count, most_sources}
 use Rattle.gtid_set.specs.Spans.{set_of, is_before, is_merged, has}
 use Rattle.gtid_set.specs.Sweep.{within, all_before, IsListOf, KnowsSource}
 use Rattle.gtid_set.specs.Runs.{runs}
 use Rattle.gtid_set.specs.Full.{fault_of, interval_count, most_intervals, IsFullExactly, HasManyIntervals}
-use Rattle.gtid_set.specs.Kept.{span_of, interval_of, spans_in, spans_of, are_rising, have_own, lists_of, listed, are_places, is_filled, knows, flat, are_others, KeepsBut, HasSameLists, Lists, IsListFault, IsKeptIn, IsSourceOf, IsNoSourceAt, IsSourcePlace, Grown, Stays}
+use Rattle.gtid_set.specs.Kept.{span_of, interval_of, spans_in, spans_of, are_rising, have_own, lists_of, listed, is_filled, knows, flat, are_others, HasSameLists, Lists, IsListFault, IsKeptIn, IsSourceOf, IsNoSourceAt, IsSourcePlace, Grown, Stays}
 use Rattle.gtid_set.proofs.SpanLemmas.{all_weaker, all_parts, merged_front, merged_pushed}
 use Rattle.gtid_set.proofs.SetSources.{added_set, count_with, len_known, len_unknown, no_sources, with_one, fewer_sources}
 use Rattle.gtid_set.proofs.SetLemmas.{set_of-append, contains-set_of}
 use Rattle.gtid_set.proofs.RunLemmas.{runs_merged, equal_lists}
-use Rattle.gtid_set.proofs.KeptLemmas.{has_spans_of, got_all, knows_none, knows_at, merged_flat, flat_length, same_at, same_flat, knows_same}
+use Rattle.gtid_set.proofs.KeptLemmas.{has_spans_of, knows_none, merged_flat, flat_length, same_at, knows_same}
 use Rattle.gtid_set.proofs.KeptChanges.{knows_added, filled_added, first_number, one_more, apart_at, apart_others, with_source, all_with, rising_with, own_with, among_with, knows_with, listed_with, places_with, all_among, has_some}
 
 -- what is known of a pool by its law

@@ -1,5 +1,5 @@
 -- What is read of spans that are kept in a pool.
-use Rattle.std.proofs.Common.{◌≡◌, ◌≢◌, ◌≤◌, ◌<◌, ◌+◌, ℕ, zero, suc, Bool, true, false, not, ◌&&◌, ◌||◌, nat_le, nat_lt, List, [], ◌∷◌, length, map, take, drop, Option, Some, None, get_or, refl, sym, ap, subst, ◌∙◌, arith}
+use Rattle.std.proofs.Common.{◌≡◌, ◌≤◌, ◌<◌, ◌+◌, ℕ, zero, suc, Bool, true, false, not, ◌&&◌, ◌||◌, nat_lt, List, [], ◌∷◌, length, take, drop, Some, get_or, refl, sym, ap, subst, ◌∙◌, arith}
 use Rattle.std.specs.List.{list_all, slice_get, AllByRecursion, Contains}
 use Rattle.std.proofs.lemmas.Bool.{and_parts, and_from}
 use Rattle.std.proofs.lemmas.Bool.Decides.{nat_tests}
@@ -7,15 +7,14 @@ use Rattle.std.specs.List.Sorted.{IsPartitionedBy, IsPartitionPoint}
 use Rattle.interval_pool.specs.declared.interval.Interval.{Interval}
 use Rattle.interval_pool.specs.Intervals.{IsBefore, AreMerged, covers}
 use Rattle.interval_pool.specs.Intervals.{has as has_number}
-use Rattle.interval_pool.specs.Values.{PoolValue, spans, is_list, IsList}
+use Rattle.interval_pool.specs.Values.{PoolValue, spans}
 use Rattle.interval_pool.proofs.Standing.{has_one}
 use Rattle.gtid_text.specs.declared.Gtid.{Gtid}
-use Rattle.gtid_text.specs.declared.Span.{Span}
 use Rattle.gtid_set.specs.declared.sources.Source.{Source}
 use Rattle.gtid_set.specs.Sets.{gtid}
 use Rattle.gtid_set.specs.Spans.{has}
 use Rattle.gtid_set.specs.Sweep.{HasSpan}
-use Rattle.gtid_set.specs.Kept.{span_of, spans_of, source_at, listed, are_places, are_rising, is_filled, are_others, comes_before, IsSourcePlace, IsSourceAt, IsNoSourceAt}
+use Rattle.gtid_set.specs.Kept.{span_of, spans_of, source_at, listed, are_places, are_rising, comes_before, IsSourcePlace, IsSourceAt, IsNoSourceAt}
 use Rattle.gtid_set.proofs.PlaceLemmas.{all_take, all_drop}
 use Rattle.gtid_set.proofs.SpanLemmas.{all_weaker}
 use Rattle.gtid_set.proofs.KeptLemmas.{has_spans_of, got_all, knows_none, knows_at, others_at}

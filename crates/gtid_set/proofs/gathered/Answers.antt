@@ -1,7 +1,7 @@
-use Rattle.std.proofs.Common.{◌≡◌, ◌≤◌, ap, sym, subst, ◌∙◌, arith}
+use Rattle.std.proofs.Common.{ap, sym, subst, ◌∙◌, arith}
 use Rattle.std.specs.FinSet as set
 use Rattle.std.proofs.lemmas.Result.{IfOk-weaker}
-use Rattle.gtid_set.specs.Sets.{Gtids, source_count, most_sources}
+use Rattle.gtid_set.specs.Sets.{Gtids, source_count}
 use Rattle.gtid_set.specs.Full.{IsFullExactly}
 use Rattle.gtid_set.specs.Spans.{is_merged, set_of}
 use Rattle.gtid_set.proofs.SetLemmas.{contains-set_of}

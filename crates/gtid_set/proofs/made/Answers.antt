@@ -1,4 +1,4 @@
-use Rattle.std.proofs.Common.{length, ap, sym, subst, ◌∙◌, arith}
+use Rattle.std.proofs.Common.{length, ap, arith}
 use Rattle.gtid_set.proofs.RunLemmas.{runs_merged}
 use Rattle.gtid_set.proofs.FaultLemmas.{full_small}
 use Rattle.gtid_set.proofs.made.Goals as goal

@@ -1,6 +1,5 @@
-use Rattle.std.proofs.Common.{◌≡◌, ◌≤◌, ◌&&◌, List, ap, sym, subst, length, ◌∙◌, arith}
+use Rattle.std.proofs.Common.{◌≤◌, ◌&&◌, ap, sym, subst, length, ◌∙◌, arith}
 use Rattle.std.proofs.lemmas.Result.{IfOk-weaker}
-use Rattle.gtid_text.specs.declared.Span.{Span}
 use Rattle.gtid_set.specs.Sets.{source_count, most_sources}
 use Rattle.gtid_set.specs.Spans.{has, is_merged, set_of}
 use Rattle.gtid_set.specs.Sweep.{IsListOf, is_kept}

@@ -1,4 +1,4 @@
-use Rattle.std.proofs.Common.{ap, sym, length, refl, ◌∙◌, arith}
+use Rattle.std.proofs.Common.{ap, sym, length, ◌∙◌, arith}
 use Rattle.gtid_set.specs.Sets.{source_count}
 use Rattle.gtid_set.specs.Runs.{runs}
 use Rattle.gtid_set.proofs.SetSources.{union_none, added_set}

@@ -1,4 +1,4 @@
-use Rattle.std.proofs.Common.{◌≤◌, sym, subst, Ok, Err}
+use Rattle.std.proofs.Common.{sym, subst, Err}
 use Rattle.std.proofs.lemmas.Bool.{and_parts}
 use Rattle.std.specs.Prelude.{nat_lt, length}
 use Rattle.interval_pool.specs.declared.interval.Interval.{Interval}
@@ -9,7 +9,7 @@ use Rattle.gtid_set.specs.Spans.{set_of}
 use Rattle.gtid_set.specs.Full.{IsFullExactly}
 use Rattle.gtid_set.specs.Kept.{listed, is_filled, flat, Grown}
 use Rattle.gtid_set.proofs.KeptLemmas.{got_all}
-use Rattle.gtid_set.proofs.KeptGrowth.{IsLawful, grown_at, fault_at, fits_grown, with_span}
+use Rattle.gtid_set.proofs.KeptGrowth.{grown_at, fault_at, fits_grown, with_span}
 use Rattle.gtid_set.proofs.kept.add_to.Goals as goal
 
 pub add-requires-clause-list : goal.add-requires-clause-list

@@ -1,4 +1,4 @@
-use Rattle.std.proofs.Common.{◌≤◌, sym, subst, Ok, Err}
+use Rattle.std.proofs.Common.{sym, subst, Err}
 use Rattle.std.proofs.lemmas.Bool.{and_parts}
 use Rattle.std.specs.Prelude.{nat_lt, length}
 use Rattle.std.specs.List.{AllByRecursion}
@@ -10,7 +10,7 @@ use Rattle.gtid_set.specs.Spans.{set_of}
 use Rattle.gtid_set.specs.Full.{IsFullExactly}
 use Rattle.gtid_set.specs.Kept.{listed, is_filled, flat, Grown}
 use Rattle.gtid_set.proofs.KeptLemmas.{got_all}
-use Rattle.gtid_set.proofs.KeptGrowth.{behind_flat, apart_behind, IsLawful, grown_at, fault_at, fits_grown, with_span}
+use Rattle.gtid_set.proofs.KeptGrowth.{behind_flat, apart_behind, grown_at, fault_at, fits_grown, with_span}
 use Rattle.gtid_set.proofs.kept.append_to.Goals as goal
 
 pub append-requires-clause-list : goal.append-requires-clause-list

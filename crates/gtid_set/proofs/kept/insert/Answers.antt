@@ -1,10 +1,9 @@
-use Rattle.std.proofs.Common.{◌≡◌, ◌≤◌, ◌<◌, ◌++◌, ◌∷◌, [], ℕ, List, length, take, drop, ap, sym, subst, ◌∙◌, arith}
+use Rattle.std.proofs.Common.{◌≡◌, ◌++◌, ◌∷◌, [], ℕ, List, length, take, drop, ap, sym, subst, ◌∙◌, arith}
 use Rattle.std.specs.Prelude.{IsOk, if◌then◌else◌, insert}
 use Rattle.interval_pool.specs.declared.interval.Interval.{Interval}
 use Rattle.gtid_set.specs.declared.sources.Source.{Source}
-use Rattle.gtid_set.specs.Sets.{most_sources}
-use Rattle.gtid_set.specs.Kept.{Lists, Grown, interval_of}
-use Rattle.gtid_set.proofs.KeptGrowth.{grown_with, fits_grown, unknown_fits, unknown_full, fault_with, stay_same}
+use Rattle.gtid_set.specs.Kept.{Lists, Grown}
+use Rattle.gtid_set.proofs.KeptGrowth.{grown_with, fits_grown, unknown_fits, unknown_full, fault_with}
 use Rattle.gtid_set.proofs.kept.insert.Goals as goal
 
 pub returns-then-count-eq-MOST_SOURCES-clause-full : goal.returns-then-count-eq-MOST_SOURCES-clause-full

@@ -1,7 +1,7 @@
 use Rattle.std.proofs.Common.{sym, subst}
 use Rattle.gtid_set.specs.declared.fault.SetFault.{SetFault}
 use Rattle.gtid_set.specs.Kept.{IsListFault}
-use Rattle.gtid_set.proofs.KeptGrowth.{list_fault, cell_fault, given_up, list_made}
+use Rattle.gtid_set.proofs.KeptGrowth.{list_fault, cell_fault}
 use Rattle.gtid_set.proofs.kept.open_list.Goals as goal
 
 pub returns-in-Err-clause-full : goal.returns-in-Err-clause-full

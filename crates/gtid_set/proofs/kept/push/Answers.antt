@@ -1,6 +1,6 @@
-use Rattle.std.proofs.Common.{◌≡◌, ◌-◌, length, true, ap, sym, subst, ◌∙◌, List, ℕ, arith}
+use Rattle.std.proofs.Common.{◌≡◌, ◌-◌, length, ap, sym, subst, ◌∙◌, List, ℕ}
 use Rattle.gtid_set.specs.declared.sources.Source.{Source}
-use Rattle.gtid_set.specs.Kept.{listed, are_others, IsSourcePlace, IsNoSourceAt}
+use Rattle.gtid_set.specs.Kept.{listed, IsSourcePlace, IsNoSourceAt}
 use Rattle.gtid_set.proofs.KeptGrowth.{ends_at}
 use Rattle.gtid_set.proofs.kept.push.Goals as goal
 

@@ -1,4 +1,4 @@
-use Rattle.std.proofs.Common.{length, ◌≡◌, ◌≤◌, ◌<◌, ◌+◌, ◌*◌, true}
+use Rattle.std.proofs.Common.{length, ◌≡◌, ◌≤◌, ◌+◌, ◌*◌, true}
 use Rattle.std.specs.Prelude.{sum_by}
 use Rattle.gtid_set.specs.Spans.{is_merged}
 use Rattle.gtid_set.specs.Sweep.{size_of}

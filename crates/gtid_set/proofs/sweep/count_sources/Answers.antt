@@ -1,4 +1,4 @@
-use Rattle.std.proofs.Common.{◌+◌, ◌<◌, length, arith, refl}
+use Rattle.std.proofs.Common.{◌+◌, length, arith, refl}
 use Rattle.gtid_set.proofs.SourceLemmas.{count_end, count_step, bound_step, all_from_first, first_from}
 use Rattle.gtid_set.proofs.sweep.count_sources.Goals as goal
 

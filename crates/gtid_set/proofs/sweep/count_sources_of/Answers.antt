@@ -1,7 +1,7 @@
-use Rattle.std.proofs.Common.{◌+◌, ◌<◌, length, arith, refl, ap, sym, ◌∙◌, []}
+use Rattle.std.proofs.Common.{length, arith, refl, ap, ◌∙◌, []}
 use Rattle.std.specs.FinSet as set
 use Rattle.std.proofs.lemmas.List.{append-nil, nil_from_length}
-use Rattle.gtid_set.specs.Sweep.{sources_in, TakesFirst}
+use Rattle.gtid_set.specs.Sweep.{sources_in}
 use Rattle.gtid_set.proofs.SpanLemmas.{takes_left}
 use Rattle.gtid_set.proofs.SourceLemmas.{count_end, count_step, bound_step, all_from_first, first_from, nothing_from}
 use Rattle.gtid_set.proofs.sweep.count_sources_of.Goals as goal

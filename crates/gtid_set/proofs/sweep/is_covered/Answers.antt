@@ -1,5 +1,4 @@
 use Rattle.std.proofs.Common.{ap, sym, ◌∙◌}
-use Rattle.std.proofs.lemmas.List.{nil_from_length}
 use Rattle.gtid_set.specs.Spans.{has}
 use Rattle.gtid_set.specs.Sweep.{start_of}
 use Rattle.gtid_set.proofs.CutLemmas.{covered, uncovered, start_within}

@@ -1,5 +1,4 @@
 use Rattle.std.proofs.Common.{ap, sym, refl, ◌∙◌, ◌||◌, []}
-use Rattle.std.specs.List.{list_all}
 use Rattle.gtid_set.specs.Spans.{has}
 use Rattle.gtid_set.specs.Sweep.{all_start_by, within}
 use Rattle.gtid_set.proofs.SpanLemmas.{nothing, takes_left, takes_all, starts_later, or_assoc}

@@ -1,4 +1,4 @@
-use Rattle.std.proofs.Common.{subst, sym, ◌&&◌, ◌||◌, drop, ◌≡◌, ap, ◌∙◌, refl, ◌++◌, ◌∷◌, []}
+use Rattle.std.proofs.Common.{subst, sym, ◌&&◌, ◌||◌, ◌≡◌, ap, ◌∙◌, refl, ◌++◌, ◌∷◌, []}
 use Rattle.gtid_set.specs.Spans.{has, is_merged, is_before}
 use Rattle.gtid_set.specs.Sweep.{Meets, all_reach, all_before_common, all_before, within, common_of}
 use Rattle.gtid_set.proofs.CutLemmas.{hole_of, common_start, overlap_step, common_filled, common_next, common_first, common_before, overlap_end}

@@ -1,6 +1,6 @@
 use Rattle.std.proofs.Common.{◌∷◌, ap, sym, ◌∙◌, ◌++◌, Some}
 use Rattle.std.specs.Prelude.{string_bytes, None}
-use Rattle.std.proofs.lemmas.List.{append_assoc, append-nil, nil_from_length}
+use Rattle.std.proofs.lemmas.List.{append_assoc, append-nil}
 use Rattle.gtid_text.specs.Canonical.{text_behind, next_text}
 use Rattle.gtid_set.proofs.text.written.Goals as goal
 

@@ -1,4 +1,4 @@
-use Rattle.std.proofs.Common.{sym, ◌∙◌}
+use Rattle.std.proofs.Common.{◌∙◌}
 use Rattle.gtid_set.proofs.CursorLemmas.{behind_seen}
 use Rattle.gtid_set.proofs.cursor.Cursor.advance.Goals as goal
 

@@ -1,4 +1,4 @@
-use Rattle.std.proofs.Common.{◌≡◌, false, sym, subst, ap, ◌∙◌, refl, List, ℕ, length}
+use Rattle.std.proofs.Common.{sym, subst, ap, ◌∙◌, List, ℕ, length}
 use Rattle.std.specs.Prelude.{nat_lt}
 use Rattle.std.proofs.lemmas.Bool.{and_parts}
 use Rattle.interval_pool.specs.Values.{is_list, spans}
@@ -6,7 +6,7 @@ use Rattle.gtid_text.specs.declared.Span.{Span}
 use Rattle.gtid_set.specs.declared.sources.Source.{Source}
 use Rattle.gtid_set.specs.Spans.{has}
 use Rattle.gtid_set.specs.Sweep.{HasSpan}
-use Rattle.gtid_set.specs.Kept.{listed, is_filled, spans_of, IsSourcePlace, IsSourceAt, IsNoSourceAt}
+use Rattle.gtid_set.specs.Kept.{listed, is_filled, IsSourcePlace, IsSourceAt, IsNoSourceAt}
 use Rattle.gtid_set.proofs.KeptLemmas.{got_all}
 use Rattle.gtid_set.proofs.KeptReads.{span_here, missing_here, missing_source}
 use Rattle.gtid_set.proofs.kept.Kept.span_with.Goals as goal
