@@ -104,22 +104,6 @@ fn over<'a>(pool: &'a Pool, sources: &'a [Source], order: &'a [u16]) -> Cursor<'
     }
 }
 
-/// The spans behind a place.
-fn behind<'a>(pool: &'a Pool, sources: &'a [Source], behind: &'a [u16], at: Place) -> Cursor<'a>
-    requires { IsAt pool.now sources.now behind.now at }
-    ensures { result ≡ spans_behind pool.now sources.now behind.now at }
-{
-    match pool.next(at.cell) {
-        None => over(pool, sources, behind),
-        Some(cell) => Cursor {
-            pool,
-            sources,
-            behind,
-            at: Some(moved(at, cell)),
-        },
-    }
-}
-
 impl<'a> Cursor<'a> {
     /// The spans of sources.
     pub fn over(pool: &'a Pool, sources: &'a [Source], order: &'a [u16]) -> Cursor<'a>
@@ -156,8 +140,12 @@ impl<'a> Cursor<'a> {
     pub fn advance(&mut self)
         ensures { self.new ≡ drop 1 self.old }
     {
-        if let Some(at) = self.at {
-            *self = behind(self.pool, self.sources, self.behind, at);
+        let Some(at) = self.at else {
+            return;
+        };
+        match self.pool.next(at.cell) {
+            Some(cell) => self.at = Some(moved(at, cell)),
+            None => *self = over(self.pool, self.sources, self.behind),
         }
     }
 }
