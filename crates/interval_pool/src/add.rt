@@ -52,36 +52,6 @@ fn add_at(
     Ok(before)
 }
 
-/// The same at a place that is looked for.
-fn add_between(
-    cells: &mut Vec<Cell>,
-    heads: &mut [Head],
-    hints: &mut Hints,
-    list: u32,
-    numbers: Interval,
-) -> Result<(), PoolFault>
-    requires whole { AreWhole cells.old.items heads.old }
-    requires small { length cells.old.items ≤ most_cells }
-    requires is_list { list ≢ 0 }
-    requires there { list < length heads.old }
-    requires merged { AreMerged (spans_of cells.old.items heads.old list) }
-    requires filled { numbers.lo ≤ numbers.hi }
-    ensures ok { OnOk result (Added cells.old.items heads.old list numbers cells.new.items heads.new) }
-    ensures capacity { vec_capacity cells.old ≤ vec_capacity cells.new }
-    ensures cells { OnErr result (cells.new.items ≡ cells.old.items) }
-    ensures heads { OnErr result (heads.new ≡ heads.old) }
-    ensures kept { OnErr result (vec_capacity cells.new ≡ vec_capacity cells.old) }
-    ensures spent { OnErr result (Spends cells.old.items heads.old (vec_capacity cells.old)) }
-    ensures needed { OnErr result (IsApart (spans_of cells.old.items heads.old list) numbers) }
-    ensures full { IfErr result (λ fault. fault ≡ Full ↔ (most_cells ≤ length cells.old.items)) }
-{
-    let guess = hints.near_place(cells, heads, list, numbers.lo.saturating_sub(1));
-    let many = count(heads, list as usize);
-    let place = add_at(cells, heads, list, numbers, guess)?;
-    hints.note_added(cells, heads, list, place, numbers, many);
-    Ok(())
-}
-
 /// Whether numbers begin in the last cell of a list, or right behind it.
 fn touches_end(cells: &[Cell], list: u32, numbers: Interval, end: Link) -> bool
     ensures { IsTrue result → (heads : List Head) → TouchesEnd cells.now heads list numbers end }
@@ -156,5 +126,9 @@ pub fn add(
         hints.note_appended(cells, heads, list, place, numbers, is_run);
         return Ok(());
     }
-    add_between(cells, heads, hints, list, numbers)
+    let guess = hints.near_place(cells, heads, list, numbers.lo.saturating_sub(1));
+    let many = count(heads, list as usize);
+    let between = add_at(cells, heads, list, numbers, guess)?;
+    hints.note_added(cells, heads, list, between, numbers, many);
+    Ok(())
 }

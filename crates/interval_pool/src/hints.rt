@@ -99,6 +99,11 @@ fn search_run(cells: &[Cell], heads: &[Head], list: u32, number: u64) -> Link {
     Link::to(first.saturating_add(below - 1))
 }
 
+/// Whether a cell is what was left beside numbers that were cut out.
+fn is_beside(cell: Cell, numbers: Interval) -> bool {
+    cell.hi.saturating_add(1) == numbers.lo || numbers.hi.saturating_add(1) == cell.lo
+}
+
 /// The last cell of a list whose cells lie one behind another.
 fn end_of_run(cells: &[Cell], heads: &[Head], list: u32) -> Link {
     let first = after(cells, heads, list as usize, Link::none());
@@ -265,7 +270,8 @@ impl Hints {
 
     /// Takes the cells of a list that begin in this interval, at most so many, out of the index.
     fn forget(&mut self, list: u32, from: u64, upto: u64, most: u32) {
-        for _cell in 0..most {
+        let numbers = upto.saturating_add(1).saturating_sub(from);
+        for _cell in 0..numbers.min(most as u64) {
             let Some(key) = self.last_key(list, upto) else {
                 return;
             };
@@ -381,8 +387,11 @@ impl Hints {
                 let Some(at) = next.place() else {
                     break;
                 };
-                self.remember(cells, list, at);
-                next = cell_at(cells, at).next;
+                let cell = cell_at(cells, at);
+                next = cell.next;
+                if is_beside(cell, numbers) {
+                    self.remember(cells, list, at);
+                }
             }
         }
         let hints = self.of(list);

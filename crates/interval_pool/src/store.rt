@@ -1,5 +1,5 @@
 //! Cells of lists, and free cells.
-ghost use Rattle.std.specs.Prelude.{◌≡◌, ◌↔◌, ◌<◌, ◌≤◌, ◌+◌, IfSome, OnOk, OnErr, IfErr, length, vec_capacity};
+ghost use Rattle.std.specs.Prelude.{◌≡◌, ◌↔◌, ◌<◌, ◌≤◌, ◌+◌, IfSome, IsFalse, IsTrue, OnOk, OnErr, IfErr, length, vec_capacity};
 ghost use Rattle.interval_pool.specs.Cells.{head_at, with_head, with_next, with_numbers};
 ghost use Rattle.interval_pool.specs.Intervals.{listed};
 ghost use Rattle.interval_pool.specs.Links.{most_cells};
@@ -15,6 +15,14 @@ use std::alloc::AllocError;
 
 /// The chain of the free cells.
 const FREE: u32 = 0;
+
+/// Whether there are as many cells as there may be.
+fn is_full(cells: &[Cell]) -> bool
+    ensures full { IsTrue result → most_cells ≤ length cells.now }
+    ensures room { IsFalse result → length cells.now < most_cells }
+{
+    cells.len() >= MOST_CELLS as usize
+}
 
 /// Frees the cell after one of a list, or the list's first.
 pub fn free(cells: &mut [Cell], heads: &mut [Head], list: u32, before: Link)
@@ -151,7 +159,7 @@ pub fn put_last(
         place(cells, heads, list, last, numbers.lo, numbers.hi);
         return Ok(());
     }
-    if cells.as_slice().len() >= MOST_CELLS as usize {
+    if is_full(cells) {
         return Err(PoolFault::Full);
     }
     push(cells, heads, list, last, numbers)?;
@@ -186,7 +194,7 @@ fn make_room(
     if needed <= freed || count(heads, FREE as usize) > 0 {
         return Ok(());
     }
-    if cells.as_slice().len() >= MOST_CELLS as usize {
+    if is_full(cells) {
         return Err(PoolFault::Full);
     }
     grow(cells, heads)?;
