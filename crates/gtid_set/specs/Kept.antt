@@ -148,27 +148,24 @@ abbrev pub cursor_view : PoolValue → List Source → List ℕ → Option Place
 cursor_view p sources behind None = []
 cursor_view p sources behind (Some at) = spans_from p at ++ spans_of p (listed sources behind)
 
--- the first place in the list of a source
-pub record Begins (p : PoolValue) (s : Source) (at : Place) : Type 0 where
+-- an interval of a source's list, so many behind the first, and the cell behind it
+pub record IsPlaceIn (p : PoolValue) (s : Source) (n : ℕ) (at : Place) : Type 0 where
   pub source : at.source ≡ s
-  pub passed : at.passed ≡ 0
-  pub cell : first_cell (cells_of p s.list) ≡ Some at.cell
+  pub passed : at.passed ≡ n
+  pub numbers : drop n (spans p s.list) ≡ at.numbers ∷ drop (n + 1) (spans p s.list)
+  pub next : at.next ≡ first_cell (drop (n + 1) (cells_of p s.list))
   pub len : at.len ≡ length (cells_of p s.list)
 
--- so many intervals of the list lie before its cell, and there are sources behind it
+-- the spans behind a place
+abbrev pub spans_behind : PoolValue → List Source → List ℕ → Place → List Span
+spans_behind p sources behind at = map (span_of at.source.id) (drop (at.passed + 1) (spans p at.source.list)) ++ spans_of p (listed sources behind)
+
+-- a place of a list, and sources behind it
 pub record IsAt (p : PoolValue) (sources : List Source) (behind : List ℕ) (at : Place) : Type 0 where
-  pub cell : first_cell (drop at.passed (cells_of p at.source.list)) ≡ Some at.cell
+  pub place : IsPlaceIn p at.source at.passed at
   pub passed : at.passed < at.len
-  pub len : at.len ≡ length (cells_of p at.source.list)
   pub places : are_places sources behind ≡ true
   pub filled : list_all (is_filled p) (listed sources behind) ≡ true
-
--- the next place of the list, and the spans from there on
-abbrev pub moved : Place → ℕ → Place
-moved at cell = record { source = at.source; cell = cell; passed = at.passed + 1; len = at.len }
-
-abbrev pub spans_behind : PoolValue → List Source → List ℕ → Place → List Span
-spans_behind p sources behind at = spans_from p (moved at 0) ++ spans_of p (listed sources behind)
 
 abbrev pub IsCursor : PoolValue → List Source → List ℕ → Option Place → Type 0
 IsCursor p sources behind None = Unit {0}

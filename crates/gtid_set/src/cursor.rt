@@ -1,19 +1,20 @@
 //! A place among the spans of a set.
-ghost use Rattle.std.specs.Prelude.{◌≡◌, ◌<◌, ◌∷◌, [], drop, true, IfSome, IsSome, MatchOption};
+ghost use Rattle.std.specs.Prelude.{◌≡◌, ◌∷◌, [], drop, length, true, Some, IfSome, IsSome, MatchOption};
 ghost use Rattle.std.specs.List.{list_all};
-ghost use Rattle.interval_pool.specs.Values.{Covers};
-ghost use Rattle.gtid_set.specs.Kept.{are_places, is_filled, listed, spans_of, Begins, IsAt, moved, interval_of, spans_behind};
+ghost use Rattle.interval_pool.specs.Values.{cells_of, first_cell};
+ghost use Rattle.gtid_set.specs.Kept.{are_places, is_filled, listed, spans_of, IsPlaceIn};
 
 use crate::sources::Source;
 use gtid_text::Span;
 use interval_pool::{Interval, Pool};
 use std::marker::Model;
 
-/// A cell of a source's list, with how many cells of the list lie before, and how many it has.
+/// An interval of a source's list, the cell behind it, how many intervals of the list lie before, and how many it has.
 #[derive(Clone, Copy, Drop)]
 struct Place {
     source: Source,
-    cell: u32,
+    numbers: Interval,
+    next: Option<u32>,
     passed: u32,
     len: u32,
 }
@@ -40,45 +41,31 @@ impl<'a> Model for Cursor<'a> {
     ghost invariant = { λ c. IsCursor c.pool.now c.sources.now c.behind.now c.at };
 }
 
+/// The place of a cell, so many behind the first of its list.
+#[inline(always)]
+fn place_of_cell(pool: &Pool, source: Source, cell: u32, passed: u32, len: u32) -> Place
+    requires cell { first_cell (drop passed (cells_of pool.now source.list)) ≡ Some cell }
+    requires len { len ≡ length (cells_of pool.now source.list) }
+    ensures { IsPlaceIn pool.now source passed result }
+{
+    Place {
+        source,
+        numbers: pool.span(cell),
+        next: pool.next(cell),
+        passed,
+        len,
+    }
+}
+
 /// The first place in the list of a source.
 fn begin(pool: &Pool, source: Source) -> Option<Place>
     requires { is_filled pool.now source ≡ true }
-    ensures begins { IfSome result (Begins pool.now source) }
+    ensures begins { IfSome result (IsPlaceIn pool.now source 0) }
     ensures there { IsSome result }
 {
     match pool.first(source.list) {
         None => None,
-        Some(cell) => Some(Place {
-            source,
-            cell,
-            passed: 0,
-            len: pool.len(source.list),
-        }),
-    }
-}
-
-/// The place behind one in its list.
-fn moved(at: Place, cell: u32) -> Place
-    requires { at.passed < at.len }
-    ensures { result ≡ moved at cell }
-{
-    Place {
-        cell,
-        passed: at.passed + 1,
-        ..at
-    }
-}
-
-/// The span at a place.
-fn span_at(pool: &Pool, at: Place) -> Span
-    ensures covers { Covers pool.now at.cell (interval_of result) }
-    ensures source { result.source ≡ at.source.id }
-{
-    let Interval { lo, hi } = pool.span(at.cell);
-    Span {
-        source: at.source.id,
-        lo,
-        hi,
+        Some(cell) => Some(place_of_cell(pool, source, cell, 0, pool.len(source.list))),
     }
 }
 
@@ -127,24 +114,32 @@ impl<'a> Cursor<'a> {
     }
 
     /// The first span.
+    #[inline(always)]
     pub fn peek(&self) -> Option<Span>
         ensures cases { MatchOption result (self.now ≡ []) (λ s. self.now ≡ s ∷ drop 1 self.now) }
     {
         match self.at {
             None => None,
-            Some(at) => Some(span_at(self.pool, at)),
+            Some(at) => Some(Span {
+                source: at.source.id,
+                lo: at.numbers.lo,
+                hi: at.numbers.hi,
+            }),
         }
     }
 
     /// Goes behind the first span, if there is one.
+    #[inline(always)]
     pub fn advance(&mut self)
         ensures { self.new ≡ drop 1 self.old }
     {
         let Some(at) = self.at else {
             return;
         };
-        match self.pool.next(at.cell) {
-            Some(cell) => self.at = Some(moved(at, cell)),
+        match at.next {
+            Some(cell) => {
+                self.at = Some(place_of_cell(self.pool, at.source, cell, at.passed + 1, at.len));
+            }
             None => *self = over(self.pool, self.sources, self.behind),
         }
     }

@@ -10,6 +10,7 @@ use gtid_text::{SourceId, Span};
 use std::alloc::{AllocError, Global};
 
 /// Whether a span ends before another starts.
+#[inline(always)]
 pub fn ends_before(span: &Span, next: &Span) -> bool
     ensures { result ≡ ends_before (start_of next.now) span.now }
 {
@@ -17,6 +18,7 @@ pub fn ends_before(span: &Span, next: &Span) -> bool
 }
 
 /// Whether a span ends before another with a number missing between them.
+#[inline(always)]
 pub fn is_before(span: &Span, next: &Span) -> bool
     ensures { result ≡ is_before span.now next.now }
 {
@@ -25,6 +27,7 @@ pub fn is_before(span: &Span, next: &Span) -> bool
 }
 
 /// Whether a span starts by the start of another.
+#[inline(always)]
 pub fn starts_by(span: &Span, next: &Span) -> bool
     ensures { result ≡ is_from (start_of span.now) (start_of next.now) }
 {
@@ -32,6 +35,7 @@ pub fn starts_by(span: &Span, next: &Span) -> bool
 }
 
 /// Goes to the first span that doesn't end before another starts.
+#[inline(always)]
 pub fn skip(spans: &mut Cursor<'_>, span: &Span)
     requires { is_merged spans.old ≡ true }
     ensures { IsRest span.now spans.old spans.new }
@@ -45,6 +49,7 @@ pub fn skip(spans: &mut Cursor<'_>, span: &Span)
 }
 
 /// Adds a span at the end, joined to the last where no number is missing between them. A reversed span has no GTID.
+#[inline(always)]
 pub fn join(out: &mut Vec<Span>, span: &Span) -> Result<(), AllocError>
     requires merged { is_merged out.old.items ≡ true }
     requires order { all_start_by out.old.items span.now ≡ true }
@@ -72,6 +77,7 @@ pub fn join(out: &mut Vec<Span>, span: &Span) -> Result<(), AllocError>
 }
 
 /// Whether a span that doesn't end before another has a number of it.
+#[inline(always)]
 fn is_met(first: &Span, span: &Span) -> bool
     ensures { result ≡ is_met first.now span.now }
 {
@@ -79,6 +85,7 @@ fn is_met(first: &Span, span: &Span) -> bool
 }
 
 /// The first of the spans, where it has a number of a span that it reaches.
+#[inline(always)]
 pub fn meeting(spans: &Cursor<'_>, span: &Span) -> Option<Span>
     requires merged { is_merged spans.now ≡ true }
     requires reach { all_reach span.now spans.now ≡ true }
@@ -93,6 +100,7 @@ pub fn meeting(spans: &Cursor<'_>, span: &Span) -> Option<Span>
 }
 
 /// Takes the span that starts first from two lists.
+#[inline(always)]
 pub fn take_first(left: &mut Cursor<'_>, right: &mut Cursor<'_>) -> Option<Span>
     requires left { rises left.old ≡ true }
     requires right { rises right.old ≡ true }
@@ -150,6 +158,7 @@ pub fn joined(alloc: Global, spans: &[Span]) -> Result<Vec<Span>, AllocError>
 }
 
 /// Whether a source is not the one before.
+#[inline(always)]
 fn is_new(last: Option<SourceId>, source: SourceId) -> bool
     ensures { result ≡ is_new last source }
 {
@@ -160,6 +169,7 @@ fn is_new(last: Option<SourceId>, source: SourceId) -> bool
 }
 
 /// A count of sources with one that is not the one before.
+#[inline(always)]
 fn with_new(count: u64, last: Option<SourceId>, source: SourceId) -> u64
     requires { count < 18446744073709551615 }
     ensures { result ≡ (if is_new last source then count + 1 else count) }
@@ -206,6 +216,7 @@ pub fn count_sources_of(spans: &[Span]) -> u64
 }
 
 /// Adds the part of a span that stands before a hole.
+#[inline(always)]
 fn push_front(out: &mut Vec<Span>, span: &Span, hole: &Span) -> Result<(), AllocError>
     requires merged { is_merged out.old.items ≡ true }
     requires before { all_before out.old.items span.now ≡ true }
@@ -310,6 +321,7 @@ pub fn intersection_of(
 }
 
 /// Whether a span has all of another.
+#[inline(always)]
 fn is_inside(span: &Span, other: &Span) -> bool
     ensures { result ≡ is_inside span.now other.now }
 {
