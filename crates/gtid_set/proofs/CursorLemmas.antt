@@ -6,7 +6,7 @@ use Rattle.std.proofs.lemmas.List.{drop-map}
 use Rattle.gtid_text.specs.declared.Span.{Span}
 use Rattle.gtid_set.specs.declared.sources.Source.{Source}
 use Rattle.gtid_set.specs.declared.cursor.Place.{Place}
-use Rattle.gtid_set.specs.Kept.{span_of, spans_of, spans_from, spans_behind, listed, IsPlaceIn, IsAt, IsCursor, cursor_view}
+use Rattle.gtid_set.specs.Kept.{span_of, spans_of, spans_behind, listed, IsPlaceIn, IsAt, IsCursor, cursor_view}
 
 -- the cell at a place of a list, and what lies before and behind
 pub record IsHeldAt (hs : List Held) (n i : ℕ) : Type 0 where

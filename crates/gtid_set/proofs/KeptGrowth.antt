@@ -14,9 +14,8 @@ use Rattle.interval_pool.specs.declared.fault.PoolFault.TheVariants as pools
 use Rattle.interval_pool.specs.Chains.{IsAmong, AreOnce}
 use Rattle.interval_pool.specs.Links.{most_cells}
 use Rattle.interval_pool.specs.Intervals.{IsBefore, AreMerged, IsApart}
-use Rattle.interval_pool.specs.Intervals.{has as has_number}
 use Rattle.interval_pool.specs.Intervals.{covers as covers_number}
-use Rattle.interval_pool.specs.Values.{Held, PoolValue, slot_at, spans, is_list, IsList, intervals_of, AreAmong, AreAllLists, AddedTo, Opened, Released, IsPartition, IsFull}
+use Rattle.interval_pool.specs.Values.{Held, PoolValue, slot_at, spans, is_list, IsList, intervals_of, AreAmong, AreAllLists, AddedTo, Opened, IsPartition, IsFull}
 use Rattle.interval_pool.proofs.Within.{stand_within, distinct_stand}
 use Rattle.gtid_text.specs.declared.Gtid.{Gtid}
 use Rattle.gtid_text.specs.declared.Span.{Span}
@@ -28,7 +27,7 @@ use Rattle.gtid_set.specs.Spans.{set_of, is_before, is_merged, has}
 use Rattle.gtid_set.specs.Sweep.{within, all_before, IsListOf, KnowsSource}
 use Rattle.gtid_set.specs.Runs.{runs}
 use Rattle.gtid_set.specs.Full.{fault_of, interval_count, most_intervals, IsFullExactly, HasManyIntervals}
-use Rattle.gtid_set.specs.Kept.{span_of, interval_of, spans_in, spans_of, are_rising, have_own, lists_of, listed, is_filled, knows, flat, are_others, HasSameLists, Lists, IsListFault, IsKeptIn, IsSourceOf, IsNoSourceAt, IsSourcePlace, Grown, Stays}
+use Rattle.gtid_set.specs.Kept.{span_of, interval_of, spans_in, spans_of, are_rising, have_own, lists_of, listed, is_filled, knows, flat, are_others, HasSameLists, Lists, IsListFault, IsKeptIn, IsSourceOf, IsNoSourceAt, IsSourcePlace, Grown}
 use Rattle.gtid_set.proofs.SpanLemmas.{all_weaker, all_parts, merged_front, merged_pushed}
 use Rattle.gtid_set.proofs.SetSources.{added_set, count_with, len_known, len_unknown, no_sources, with_one, fewer_sources}
 use Rattle.gtid_set.proofs.SetLemmas.{set_of-append, contains-set_of}
@@ -168,8 +167,8 @@ grown_with p q sources order at l t kept place others le few lists law =
     let rising : are_rising (listed sources' order') ≡ true = ap are_rising same ∙ rising_with ss at s kept.rising place others in
     let own : have_own (listed sources' order') ≡ true = ap have_own same ∙ own_with ss at s kept.own apart in
     let here : (g : Gtid) → knows q (listed sources' order') g ≡ (within t g || knows p ss g) = λ g.
-        ap (λ xs. knows q xs g) same ∙ knows_with q ss at s g
-        ∙ (λ i. ((g.source == t.source) && lists.numbers g.number i) || knows_same p q l ss g lists.others apart i) in
+    ap (λ xs. knows q xs g) same ∙ knows_with q ss at s g
+    ∙ (λ i. ((g.source == t.source) && lists.numbers g.number i) || knows_same p q l ss g lists.others apart i) in
     let list : IsListOf (λ g. within t g || has (flat p sources order) g) (flat q sources' order') = record {
       merged = merged_flat q (listed sources' order') rising law.merged;
       has = λ g. has_spans_of q (listed sources' order') g ∙ here g ∙ ap (λ b. within t g || b) (sym (has_spans_of p ss g));
@@ -225,25 +224,6 @@ grown_with p q sources order at l t kept place others le few lists law =
 same_all : (p q : PoolValue) (ss : List Source) → HasSameLists p q → spans_of q ss ≡ spans_of p ss
 same_all p q [] same = refl
 same_all p q (s ∷ ss) same = (λ i. map (span_of s.id) (same_at p q s.list (same s.list) i) ++ same_all p q ss same i)
-
-pub stay_same : (p q : PoolValue) (sources : List Source) (order : List ℕ) → IsKeptIn p sources order → HasSameLists p q → Stays p sources order q sources order
-stay_same p q sources order kept same =
-    let flats = same_all p q (listed sources order) same in
-    record {
-      kept = record {
-        places = kept.places;
-        as_many = kept.as_many;
-        few = kept.few;
-        rising = kept.rising;
-        filled = all_weaker (is_filled p) (is_filled q) (listed sources order) (λ u f. ap (λ slot. is_some slot && nat_lt 0 (length (map (λ (h : Held). h.numbers) (unwrap_or slot [])))) (same u.list) ∙ f) kept.filled;
-        own = kept.own;
-        known = λ l is. kept.known l (sym (ap is_some (same l)) ∙ is);
-        merged = ap is_merged flats ∙ kept.merged;
-        counted = kept.counted ∙ sym (ap (λ ss. source_count (set_of ss)) flats);
-        small = (let k = kept.small in let l = ap length flats in omega (arith, k, l));
-      };
-      same = flats;
-    }
 
 -- ---- why there is no list more
 
@@ -312,22 +292,6 @@ cell_fault p q l pools.Full opened full = λ lists known. inl (bound lists known
         split : (m : ℕ) (b : Bool) → (m == l) ≡ b → IsList q m → IsAmong m (l ∷ lists)
         split m true e is = inl (grind (arith, nat_tests))
         split m false e is = inr (known m (sym (ap is_some (opened.others m (λ k. absurd (let n = k in grind (arith, nat_tests))))) ∙ is))
-
--- a list that was given up leaves the others
-pub given_up : (p q r : PoolValue) (l : ℕ) → Opened p l q → Released q l r → HasSameLists p r
-given_up p q r l opened released m = split (m == l) refl
-  where
-    split : (b : Bool) → (m == l) ≡ b → slot_at r m ≡ slot_at p m
-    split true e = let is : m ≡ l = grind (arith, nat_tests) in ap (slot_at r) is ∙ released.now ∙ sym opened.new ∙ sym (ap (slot_at p) is)
-    split false e = let other : m ≢ l = (λ k. absurd (let n = k in grind (arith, nat_tests))) in released.others m other ∙ opened.others m other
-
-pub list_made : (p q r : PoolValue) (l : ℕ) (s : Interval) → Opened p l q → AddedTo q l s r → Lists p l s r
-list_made p q r l s opened added = record {
-  new = opened.new;
-  now = added.lists l ∙ ap is_some opened.now;
-  others = λ m ne. added.others m ne ∙ opened.others m ne;
-  numbers = λ n. added.numbers n ∙ ap (λ slot. has_number (map (λ (h : Held). h.numbers) (unwrap_or slot [])) n || covers_number s n) opened.now;
-}
 
 -- ---- a span behind the others
 
@@ -461,7 +425,7 @@ pub memory_next : (xs : List Span) (t : Span) (more all : List Span) (f : SetFau
 memory_next xs t more all Memory next few small full = refl
 memory_next xs t more all SourcesFull next few small full =
     let less = fewer_sources (set_of (xs ++ t ∷ [])) (set_of all) (λ q h.
-        contains-set_of all q ∙ ap (λ ss. has ss q) (sym next.parts) ∙ list_any-append (λ s. within s q) (xs ++ t ∷ []) more ∙ ap (λ b. b || has more q) (sym (contains-set_of (xs ++ t ∷ []) q) ∙ h)) in
+    contains-set_of all q ∙ ap (λ ss. has ss q) (sym next.parts) ∙ list_any-append (λ s. within s q) (xs ++ t ∷ []) more ∙ ap (λ b. b || has more q) (sym (contains-set_of (xs ++ t ∷ []) q) ∙ h)) in
     absurd (let s = ap source_count next.set in omega (arith, full, less, few, s))
 memory_next xs t more all PoolFull next few small full =
     let i = ap length (sym (runs_merged (xs ++ t ∷ []) next.merged) ∙ ap runs next.set) in
@@ -472,5 +436,5 @@ memory_next xs t more all PoolFull next few small full =
 pub grown_next : (p q : PoolValue) (sources sources' : List Source) (order order' : List ℕ) (t : Span) (more all : List Span) → IsNext (flat p sources order) t more all → Grown p sources order t q sources' order' → flat q sources' order' ++ more ≡ all
 grown_next p q sources sources' order order' t more all next grown =
     let same = equal_lists (flat q sources' order') (flat p sources order ++ t ∷ []) grown.kept.merged next.merged
-        (added_set (flat p sources order) (flat q sources' order') (set_of (flat p sources order)) t refl grown.list ∙ sym next.set) in
+    (added_set (flat p sources order) (flat q sources' order') (set_of (flat p sources order)) t refl grown.list ∙ sym next.set) in
     ap (λ xs. xs ++ more) same ∙ next.parts

@@ -7,7 +7,6 @@ use Rattle.std.specs.Ordering.{nat_cmp, eq_by_cmp}
 use Rattle.std.specs.declared.cmp.Ordering.TheVariants.{Equal}
 use Rattle.std.specs.Cmp.{nat_cmp_total, unsigned_tied}
 use Rattle.std.proofs.lemmas.Bool.Decides.{nat_tests}
-use Rattle.std.proofs.lemmas.List.{append-nil}
 use Rattle.std.proofs.lemmas.List.Folds.{list_any-append}
 use Rattle.gtid_text.specs.declared.Gtid.{Gtid}
 use Rattle.gtid_text.specs.declared.Span.{Span}
@@ -339,9 +338,6 @@ fewer_both xs ys m n =
     let le = fewer_in xs ys in
     omega (arith, both, left, right, le)
 
-pub counted_one : (xs : List Span) → is_merged xs ≡ true → set.len (sources_in (xs ++ [])) ≡ source_count (set_of xs)
-counted_one xs m = ap (λ ss. set.len (sources_in ss)) (append-nil xs) ∙ sym (ap set.len (sources_of-set_of xs (merged_filled xs m)))
-
 -- the sets of the lists that a pass makes
 pub set_of_union : (xs ys new : List Span) → IsListOf (λ q. has xs q || has ys q) new → set_of new ≡ set.union (set_of xs) (set_of ys)
 set_of_union xs ys new l = set_of_list (λ q. has xs q || has ys q) new (set.union (set_of xs) (set_of ys)) l
@@ -436,16 +432,6 @@ apart_merged (s ∷ ss) m =
   where
     from : (n : ℕ) → n ≤ s.hi → is_from (gtid s.source n) (gtid s.source (s.hi + 1)) ≡ true
     from n hi = grind (arith, nat_tests)
-
-pub counted_filled : (xs : List Span) → list_all (λ s. nat_le s.lo s.hi) xs ≡ true → set.len (sources_in (xs ++ [])) ≡ source_count (set_of xs)
-counted_filled xs f = ap (λ ss. set.len (sources_in ss)) (append-nil xs) ∙ sym (ap set.len (sources_of-set_of xs f))
-
-pub set_of_gathered : (xs new : List Span) → IsListOf (λ q. has xs q || has [] q) new → set_of new ≡ set_of xs
-set_of_gathered xs new l = set_of_list (λ q. has xs q || has [] q) new (set_of xs) l (λ q. contains-set_of xs q ∙ or-false (has xs q))
-  where
-    or-false : (a : Bool) → a ≡ (a || false)
-    or-false true = refl
-    or-false false = refl
 
 -- the set of one span, added to another
 pub with_one : (s : Gtids) (t : Span) → set.union s (set_of (t ∷ [])) ≡ set.union s (interval t.source t.lo t.hi)

@@ -125,11 +125,7 @@ pub fn take_first(left: &mut Cursor<'_>, right: &mut Cursor<'_>) -> Option<Span>
 }
 
 /// The merged list of all that two lists have.
-pub fn union_of(
-    alloc: Global,
-    left: Cursor<'_>,
-    right: Cursor<'_>,
-) -> Result<Vec<Span>, AllocError>
+pub fn union_of(alloc: Global, left: Cursor<'_>, right: Cursor<'_>) -> Result<Vec<Span>, AllocError>
     requires left { rises left ≡ true }
     requires right { rises right ≡ true }
     ensures { IfOk result (λ v. IsListOf (λ q. has left.entry q || has right.entry q) v.items) }

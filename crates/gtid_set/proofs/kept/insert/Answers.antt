@@ -40,8 +40,8 @@ grown c =
     let lists = subst (λ (i : Interval). Lists p c.in-Ok-open_list.list i c.open_list.new.pool) c.numbers.ensures c.in-Ok-open_list.ensures.ok in
     let pushed : c.push_reserved.new.self.items ≡ sources ++ s ∷ [] = c.push_reserved.ensures.items ∙ ap (λ xs. xs ++ s ∷ []) c.reserve.ensures.items in
     let placed : c.insert.new.self.items ≡ take c.args.at order ++ length sources ∷ drop c.args.at order =
-        c.insert.ensures.items ∙ ap (λ b. if b then insert c.reserve-2.new.self.items c.args.at (length c.as_slice-count.result.now) else c.reserve-2.new.self.items) ok
-        ∙ (λ i. insert (c.reserve-2.ensures.items i) c.args.at (long i)) in
+    c.insert.ensures.items ∙ ap (λ b. if b then insert c.reserve-2.new.self.items c.args.at (length c.as_slice-count.result.now) else c.reserve-2.new.self.items) ok
+    ∙ (λ i. insert (c.reserve-2.ensures.items i) c.args.at (long i)) in
     let law = c.partition.ensures in
     let P : List Source → List ℕ → Type 0 = λ ss is. Grown p sources order c.args.span.now c.open_list.new.pool ss is in
     subst (λ is. P c.push_reserved.new.self.items is) (sym placed) (subst (λ ss. P ss (take c.args.at order ++ length sources ∷ drop c.args.at order)) (sym pushed)
