@@ -164,6 +164,7 @@ impl Hints {
         }
     }
 
+    /// Puts what is to be remembered of a list, if there is a place for it.
     fn put(&mut self, list: u32, hints: ListHints) {
         let at = list as usize;
         if at < self.lists.as_slice().len() {
@@ -171,21 +172,30 @@ impl Hints {
         }
     }
 
+    /// The same, and makes a place, if there is memory.
+    fn keep(&mut self, list: u32, hints: ListHints) {
+        let missing = (list as usize + 1).saturating_sub(self.lists.as_slice().len());
+        for _list in 0..missing {
+            let _ = self.lists.push(empty_list());
+        }
+        self.put(list, hints);
+    }
+
     /// A list that may have been released.
     pub fn released(&self) -> u32 {
         self.released
     }
 
-    /// A list begins.
+    /// A list begins. A pool with one list takes no memory for it here.
     pub fn begin(&mut self, list: u32) {
         if self.released == list {
             self.released = self.of(list).released;
         }
-        let missing = (list as usize + 1).saturating_sub(self.lists.as_slice().len());
-        for _list in 0..missing {
-            let _ = self.lists.push(empty_list());
+        if list > 1 {
+            self.keep(list, empty_list());
+        } else {
+            self.put(list, empty_list());
         }
-        self.put(list, empty_list());
     }
 
     /// A list ends.
@@ -312,15 +322,17 @@ impl Hints {
             self.remember_all(cells, heads, list);
         }
         let is_indexed = hints.is_indexed || begins;
-        self.put(
-            list,
-            ListHints {
-                place,
-                is_run,
-                is_indexed,
-                ..hints
-            },
-        );
+        let known = ListHints {
+            place,
+            is_run,
+            is_indexed,
+            ..hints
+        };
+        if is_long || !is_run {
+            self.keep(list, known);
+        } else {
+            self.put(list, known);
+        }
         hints.is_indexed
     }
 
