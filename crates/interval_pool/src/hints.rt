@@ -315,13 +315,18 @@ impl Hints {
     /// Whether the index is to be told of a change behind a place: not where the cells lie one behind another, and not where it is made anew.
     fn keeps_index(&mut self, cells: &[Cell], heads: &[Head], list: u32, place: Link) -> bool {
         let hints = self.of(list);
-        let is_run = hints.is_run && is_still_run(cells, heads, list, place);
+        let is_one = count(heads, list as usize) <= 1;
+        if is_one && hints.is_indexed {
+            self.forget(list, 0, u64::MAX, u32::MAX);
+        }
+        let was_indexed = hints.is_indexed && !is_one;
+        let is_run = is_one || hints.is_run && is_still_run(cells, heads, list, place);
         let is_long = count(heads, list as usize) > SHORT;
-        let begins = !is_run && !hints.is_indexed && is_long;
+        let begins = !is_run && !was_indexed && is_long;
         if begins {
             self.remember_all(cells, heads, list);
         }
-        let is_indexed = hints.is_indexed || begins;
+        let is_indexed = was_indexed || begins;
         let known = ListHints {
             place,
             is_run,
@@ -333,7 +338,7 @@ impl Hints {
         } else {
             self.put(list, known);
         }
-        hints.is_indexed
+        was_indexed
     }
 
     /// Numbers were added behind a place, where the list had so many cells before.
