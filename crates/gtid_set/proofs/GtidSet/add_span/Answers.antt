@@ -28,7 +28,6 @@ returns-in_default-clause-full c =
     let over = c.in_default.ensures.full in
     omega (arith, same, over)
 
-
 pub returns-in_default-push-clause-full : goal.returns-in_default-push-clause-full
 returns-in_default-push-clause-full c =
     let le : c.args.span.lo ≤ c.args.span.hi = omega arith in
