@@ -5,7 +5,7 @@ use Rattle.std.specs.FinSet as set
 use Rattle.gtid_set.specs.declared.fault.SetFault.{SetFault}
 use Rattle.gtid_set.specs.declared.fault.SetFault.TheVariants.{Memory, SourcesFull}
 use Rattle.journal.specs.Journals.{JournalValue}
-use Rattle.journal.specs.Faults.{IsFaultOf}
+use Rattle.gtid_set.specs.Full.{IsFaultOf}
 use Rattle.faithful_runs.specs.Deciding.{all_of}
 use Rattle.txn_journal.specs.BundleStates.{BundleValue}
 use Rattle.txn_journal.specs.BundleText.{WritesBundle}

@@ -1,6 +1,6 @@
 //! What the journals of a bundle come to where workers apply them.
 ghost use Rattle.std.specs.Prelude.{◌≤◌, IfOk, IfErr};
-ghost use Rattle.journal.specs.Faults.{IsFaultOf};
+ghost use Rattle.gtid_set.specs.Full.{IsFaultOf};
 ghost use Rattle.faithful_runs.specs.Deciding.{all_of};
 ghost use Rattle.applier.specs.Draining.{AllApply};
 ghost use Rattle.serving.specs.Servable.{IsFitting, IsServable};

@@ -3,7 +3,7 @@ use Rattle.std.specs.Prelude.{◌≡◌, ℕ, ◌-◌, Bool, length, take, drop,
 use Rattle.gtid_set.specs.Sets.{Gtids}
 use Rattle.journal.specs.declared.Entry.{Entry}
 use Rattle.journal.specs.Journals.{JournalValue, purged, whole}
-use Rattle.journal.specs.Faults.{IsFaultOf}
+use Rattle.gtid_set.specs.Full.{IsFaultOf}
 use Rattle.relay.specs.declared.Known.{Known}
 use Rattle.relay.specs.Known.{IsNear}
 use Rattle.relay.specs.declared.PurgeFault.{PurgeFault}

@@ -6,7 +6,7 @@ ghost use Rattle.std.specs.Bool.{Decides};
 ghost use Rattle.std.specs.Option.{option_copied};
 ghost use Rattle.std.specs.FinSet as set;
 ghost use Rattle.journal.specs.Journals.{purged, whole};
-ghost use Rattle.journal.specs.Faults.{IsFaultOf};
+ghost use Rattle.gtid_set.specs.Full.{IsFaultOf};
 ghost use Rattle.gtid_set.specs.declared.fault.SetFault.TheVariants.{Memory};
 ghost use Rattle.gtid_set.specs.Full.{IsFullExactly};
 ghost use Rattle.journal.specs.Writing.{is_writable};

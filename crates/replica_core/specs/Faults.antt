@@ -7,7 +7,7 @@ use Rattle.gtid_text.specs.declared.Gtid.{Gtid}
 use Rattle.gtid_set.specs.Sets.{Gtids, gtid}
 use Rattle.journal.specs.declared.Entry.{Entry}
 use Rattle.journal.specs.Journals.{purged}
-use Rattle.journal.specs.Faults.{IsFaultOf}
+use Rattle.gtid_set.specs.Full.{IsFaultOf}
 use Rattle.apply_channel.specs.Full.{gtids_with}
 use Rattle.replica_core.specs.declared.event.Event.{Event}
 use Rattle.replica_core.specs.declared.event.Event.TheVariants as event

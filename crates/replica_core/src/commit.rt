@@ -4,7 +4,7 @@ ghost use Rattle.replica_core.specs.Machine.{commit, rollback, open_before, held
 ghost use Rattle.replica_core.specs.Kept.{IsKept};
 ghost use Rattle.replica_core.specs.Core.{Refuses};
 ghost use Rattle.replica_core.specs.Committing.{IsCommittable, Executes, RefusedBy};
-ghost use Rattle.journal.specs.Faults.{IsFaultOf};
+ghost use Rattle.gtid_set.specs.Full.{IsFaultOf};
 ghost use Rattle.replica_core.specs.Faults.{IsFault, committing, executing_too, takes_memory};
 ghost use Rattle.replica_core.specs.Ready.{IsReady};
 

@@ -19,7 +19,7 @@ use Rattle.rows.specs.declared.change.Transaction.{Transaction}
 use Rattle.rows.proofs.Lists.{none_some, map_some, and_then_some}
 use Rattle.journal.specs.declared.Entry.{Entry}
 use Rattle.journal.specs.Journals.{JournalValue, whole}
-use Rattle.journal.specs.Faults.{IsFaultOf}
+use Rattle.gtid_set.specs.Full.{IsFaultOf}
 use Rattle.apply_channel.specs.Channels.{ChannelValue, Received, received_gtids}
 use Rattle.apply_channel.specs.Full.{gtids_with}
 use Rattle.replica_core.specs.declared.event.Event.{Event}

@@ -1,7 +1,7 @@
 //! What journals come to.
 ghost use Rattle.std.specs.Prelude.{◌≡◌, IfOk, IfErr, IsOkUnless};
 ghost use Rattle.gtid_set.specs.declared.fault.SetFault.TheVariants.{Memory};
-ghost use Rattle.journal.specs.Faults.{IsFaultOf};
+ghost use Rattle.gtid_set.specs.Full.{IsFaultOf};
 ghost use Rattle.world.specs.Meaning.{AreJournals};
 ghost use Rattle.replica_core.specs.Draining.{AreStoppedOrDone};
 ghost use Rattle.faithful_runs.specs.Deciding.{all_of};

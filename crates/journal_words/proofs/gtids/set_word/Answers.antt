@@ -1,4 +1,4 @@
-use Rattle.std.proofs.Common.{◌≡◌, ap, sym, ◌∙◌, option_map}
+use Rattle.std.proofs.Common.{ap, sym, ◌∙◌, option_map}
 use Rattle.gtid_set.specs.Spans.{is_merged}
 use Rattle.journal_words.proofs.SpanLaws.{word_merged}
 use Rattle.journal_words.proofs.gtids.set_word.Goals as goal
