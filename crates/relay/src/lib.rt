@@ -227,7 +227,7 @@ impl OwnJournal {
         ensures len { (n : ℕ) → result ≡ Err (TooMany n) → n ≡ length self.old.journal.entries }
         ensures executed { whole self.new.journal ≡ whole self.old.journal }
         ensures err { OnErr result (self.new.journal ≡ self.old.journal) }
-        ensures fault { IfErr result (λ f. IsPurgeFault f (purged count self.old.journal)) }
+        ensures fault { IfErr result (λ f. IsPurgeFault f count self.old.journal) }
     {
         let there = self.journal.len();
         if there < count {
