@@ -1,6 +1,6 @@
 -- The edges of sets.
 use Rattle.std.proofs.Common.{◌≡◌, ◌≤◌, ◌+◌, ◌-◌, ◌*◌, ℕ, suc, Bool, true, false, cond, not, ◌&&◌, ◌||◌, nat_le, List, [], ◌∷◌, ◌++◌, length, inl, inr, refl, sym, ap, subst, ◌∙◌, arith}
-use Rattle.std.specs.Prelude.{◌==◌, ◌⊎◌}
+use Rattle.std.specs.Prelude.{◌==◌, ◌⊎◌, Err}
 use Rattle.std.specs.List.{list_all, list_any}
 use Rattle.std.specs.FinSet as set
 use Rattle.std.specs.Ordering.{eq_by_cmp}
@@ -16,8 +16,11 @@ use Rattle.gtid_set.specs.Sets.{Gtids, gtid, only}
 use Rattle.gtid_set.specs.Spans.{has, is_merged, is_before}
 use Rattle.gtid_set.specs.Sweep.{within}
 use Rattle.gtid_set.specs.Runs.{runs}
-use Rattle.gtid_set.specs.Full.{interval_count, HasManyIntervals}
-use Rattle.gtid_set.specs.Edges.{next_to, ends_of, edges, has_before, changes_at, HasEdges, HasEnds, AreManyEdges}
+use Rattle.gtid_set.specs.declared.fault.SetFault.{SetFault}
+use Rattle.gtid_set.specs.declared.fault.SetFault.TheVariants.{Memory, PoolFull, SourcesFull}
+use Rattle.gtid_set.specs.Full.{interval_count, HasManyIntervals, IsCrowdedExactly, IsMemoryOr}
+use Rattle.gtid_set.proofs.FaultLemmas.{fault_map}
+use Rattle.gtid_set.specs.Edges.{next_to, ends_of, edges, has_before, changes_at, HasEdges, HasEnds, AreManyEdges, IsCrowd}
 use Rattle.gtid_set.proofs.SetLemmas.{same_members, gtid_tied, contains-set_of}
 use Rattle.gtid_set.proofs.SpanLemmas.{merged_head, IsHead, any_none}
 use Rattle.gtid_set.proofs.RunLemmas.{runs_are_merged, set_of_runs, among}
@@ -111,7 +114,7 @@ any_same : (q : Gtid) (gs : List Gtid) → list_any (eq_by_cmp gtid_cmp q) gs �
 any_same q [] = refl
 any_same q (g ∷ gs) = λ i. gtid_tied q g i || any_same q gs i
 
-contains-listed : (gs : List Gtid) (q : Gtid) → set.contains (set.from_list {R = gtid_cmp} gs) q ≡ among q gs
+pub contains-listed : (gs : List Gtid) (q : Gtid) → set.contains (set.from_list {R = gtid_cmp} gs) q ≡ among q gs
 contains-listed gs q = set.contains-from_list gtid_total gs q ∙ any_same q gs
 
 has_runs : (s : Gtids) (q : Gtid) → has (runs s) q ≡ set.contains s q
@@ -326,6 +329,29 @@ empty_edges places = has_edges places set.empty (λ g e. absurd (none g (g.numbe
 pub wider_edges : (places more s : Gtids) → ((q : Gtid) → set.contains places q ≡ true → set.contains more q ≡ true) → HasEdges places s → HasEdges more s
 wider_edges places more s wider h = has_edges more s (λ g e. wider g (edge_at places s h g e))
 
+-- a set of GTIDs whose ends are all among the places
+pub members_edges : (places t : Gtids) → ((q : Gtid) → set.contains t q ≡ true → HasEnds places q) → HasEdges places t
+members_edges places t ends = moved_edges places set.empty t (empty_edges places) (λ q. at q (set.contains t q) refl)
+  where
+    at : (q : Gtid) (b : Bool) → set.contains t q ≡ b → (set.contains t q ≡ set.contains {R = gtid_cmp} set.empty q) ⊎ HasEnds places q
+    at q true e = inr (ends q e)
+    at q false e = inl (e ∙ sym (set.contains-empty gtid_cmp q))
+
+-- places that are listed
+pub listed_edges : (gs : List Gtid) (s : Gtids) → ((q : Gtid) → among q (ends_of (runs s)) ≡ true → among q gs ≡ true) → HasEdges (set.from_list gs) s
+unfolding edges
+listed_edges gs s h = has_edges (set.from_list gs) s (λ g e. contains-listed gs g ∙ h g (sym (contains-listed (ends_of (runs s)) g) ∙ (contains-edges s g ∙ e)))
+
+-- a call is refused for the intervals of a set whose edges are among some places: then these are many
+pub crowd_fault : (A : Type 0) (f : SetFault) (s : Gtids) (Has : Gtids → Type 0) → ((places : Gtids) → Has places → HasEdges places s) → IsMemoryOr A (HasManyIntervals s) f → IsMemoryOr A (IsCrowd Has) f
+crowd_fault A f s Has within h = fault_map f (λ x. x) (λ many places has. many_edges places s (within places has) many) h
+
+-- where a call is refused for the intervals alone
+pub crowded_only : (A : Type 0) (f : SetFault) (s : Gtids) → IsCrowdedExactly {T = Unit {0}} (Err f) s → IsMemoryOr A (HasManyIntervals s) f
+crowded_only A Memory s h = tt
+crowded_only A PoolFull s h = h
+crowded_only A SourcesFull s h = absurd h
+
 -- a set has its own edges
 pub own_edges : (s : Gtids) → HasEdges (edges s) s
 own_edges s = has_edges (edges s) s (λ g e. contains-edges s g ∙ e)
@@ -365,7 +391,7 @@ only_edges places s source in_s = has_edges places (set.retain s (λ g. g.source
 abbrev both_edges : Gtids → Gtids → Gtids
 both_edges a b = set.from_list (ends_of (runs a) ++ ends_of (runs b))
 
-length-ends : (ss : List Span) → length (ends_of ss) ≡ 2 * length ss
+pub length-ends : (ss : List Span) → length (ends_of ss) ≡ 2 * length ss
 length-ends [] = refl
 length-ends (s ∷ ss) = let rest = length-ends ss in omega (arith, rest)
 
