@@ -173,7 +173,7 @@ fn less(alloc: Global, left: &GtidSet, right: &GtidSet) -> Result<GtidSet, Fault
     ensures { Answers (λ s. s) result (small (set.difference left.now right.now)) }
 {
     match left.subtract(alloc, right) {
-        Ok(set) => Ok(set),
+        Ok(rest) => Ok(rest),
         Err(fault) => Err(Fault::from(fault)),
     }
 }
