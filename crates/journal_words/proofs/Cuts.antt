@@ -1,5 +1,5 @@
 -- What follows a word is shorter than the line.
-use Rattle.std.proofs.Common.{◌≡◌, ℕ, ◌+◌, ◌<◌, eqb, cond, List, [], ◌∷◌, length, Option, Some, None, ap, arith, inl, inr}
+use Rattle.std.proofs.Common.{◌≡◌, ℕ, ◌<◌, eqb, List, [], ◌∷◌, length, Some, ap, arith, inl, inr}
 use Rattle.journal_words.specs.Words.{others}
 use Rattle.std.proofs.lemmas.Option.{same_Some}
 use Rattle.gtid_text.proofs.Turns.{chosen}

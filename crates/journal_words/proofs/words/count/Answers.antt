@@ -1,4 +1,4 @@
-use Rattle.std.proofs.Common.{◌≡◌, true, sym, ◌∙◌}
+use Rattle.std.proofs.Common.{◌≡◌, true, ◌∙◌}
 use Rattle.journal_words.specs.Words.{is_count}
 use Rattle.journal_words.proofs.Numerals.{parsed_count, utf8_in}
 use Rattle.journal_words.proofs.words.count.Goals as goal
