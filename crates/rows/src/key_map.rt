@@ -2,17 +2,16 @@
 ghost use Rattle.std.specs.Prelude.{◌≡◌, ◌≤◌, ◌<◌, ◌+◌, ◌^◌, ℕ, drop, OnOk, OnErr, IfOk, IfErr, Ok, Err, None, length};
 ghost use Rattle.std.specs.Bool.{Decides};
 ghost use Rattle.std.specs.Option.{option_copied};
-ghost use Rattle.std.specs.BTreeMap.{IsOrdered};
 ghost use Rattle.std.specs.FinMap as map;
 ghost use Rattle.rows.specs.Apply.{taken, stored, with_row, without_keys, inserted, deleted, apply_change, apply_from};
 ghost use Rattle.rows.specs.Keys.{keys_carried};
-ghost use Rattle.rows.specs.Listing.{is_primary, rows_of, rows_listed};
-ghost use Rattle.rows.specs.Order.{key_cmp};
+ghost use Rattle.rows.specs.Listing.{rows_listed};
 ghost use Rattle.rows.specs.Patch.{put_over};
 ghost use Rattle.rows.specs.Refusal.{Refuses};
 
 use crate::change::{Change, Key, PrepareFault, RowFault, TableRow};
 use crate::keys::carried;
+use crate::listing::list_primary;
 use crate::making::Making;
 use crate::name::Name;
 use crate::schema::Schema;
@@ -20,7 +19,6 @@ use crate::standing::{carrier, holds, taken};
 use crate::value::Row;
 use indexmap::IndexMap;
 use std::alloc::{AllocError, Global};
-use std::collections::BTreeMap;
 use std::marker::Model;
 use std::mem;
 
@@ -70,8 +68,7 @@ impl KeyMap {
     pub(crate) fn list_primary(&self, alloc: Global) -> Result<Vec<TableRow>, AllocError>
         ensures { IfOk result (λ list. list.items ≡ rows_listed self.now) }
     {
-        let sorted = sorted(alloc, &self.carriers)?;
-        listed(alloc, &sorted)
+        list_primary(alloc, &self.carriers)
     }
 
     /// The row that carries a key.
@@ -241,43 +238,4 @@ impl KeyMap {
             }
         }
     }
-}
-
-/// Puts a copy of a row under a copy of a key.
-fn put_sorted(sorted: &mut BTreeMap<Key, Row>, key: &Key, row: &Row) -> Result<(), AllocError>
-    ensures { OnOk result (map.from_entries {R = key_cmp} sorted.new.entries ≡ map.insert (map.from_entries sorted.old.entries) key.now row.now) }
-{
-    let key = key.copied()?;
-    let row = row.copied()?;
-    match sorted.insert(key, row) {
-        Ok(_) => Ok(()),
-        Err(_) => Err(AllocError),
-    }
-}
-
-/// What stands under primary keys, in order.
-fn sorted(alloc: Global, carriers: &IndexMap<Key, Row>) -> Result<BTreeMap<Key, Row>, AllocError>
-    ensures { IfOk result (λ sorted. map.from_entries {R = key_cmp} sorted.entries ≡ map.retain_keys (map.from_entries carriers.now.entries) is_primary) }
-{
-    let mut sorted = BTreeMap::new(alloc);
-    for (key, row) in carriers.iter() {
-        if key.index == 0 {
-            put_sorted(&mut sorted, key, row)?;
-        }
-    }
-    Ok(sorted)
-}
-
-/// These rows with their tables.
-fn listed(alloc: Global, sorted: &BTreeMap<Key, Row>) -> Result<Vec<TableRow>, AllocError>
-    ensures rows { IfOk result (λ list. list.items ≡ rows_of sorted.now.entries) }
-    ensures ordered { IsOrdered key_cmp sorted.now }
-{
-    let mut list = Vec::with_capacity(alloc, sorted.len())?;
-    for (key, row) in sorted.iter() {
-        let table = key.table.clone()?;
-        let row = row.clone()?;
-        list.push(TableRow { table, row })?;
-    }
-    Ok(list)
 }
