@@ -4,6 +4,8 @@ ghost use Rattle.std.specs.List.{list_all};
 ghost use Rattle.std.specs.Char.{is_ascii_digit};
 ghost use Rattle.journal_words.specs.Words.{is_count, count_of, first_word, others};
 
+use memchr::memchr;
+
 fn all_digits(word: &[u8]) -> bool
     ensures { result ≡ list_all is_ascii_digit word.now }
 {
@@ -39,10 +41,8 @@ pub fn cut(line: &[u8]) -> (&[u8], Option<&[u8]>)
     ensures word { result.0.now ≡ first_word line.now }
     ensures rest { option_map (λ r. r.now) result.1 ≡ others line.now }
 {
-    for (i, b) in line.iter().enumerate() {
-        if *b == b' ' {
-            return (&line[..i], Some(&line[i + 1..]));
-        }
+    match memchr(b' ', line) {
+        Some(at) => (&line[..at], Some(&line[at + 1..])),
+        None => (line, None),
     }
-    (line, None)
 }
