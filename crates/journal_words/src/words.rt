@@ -1,8 +1,8 @@
 //! Words and counts.
-ghost use Rattle.std.specs.Prelude.{◌≡◌, option_map};
+ghost use Rattle.std.specs.Prelude.{◌≡◌, true, option_map};
 ghost use Rattle.std.specs.List.{list_all};
 ghost use Rattle.std.specs.Char.{is_ascii_digit};
-ghost use Rattle.journal_words.specs.Words.{is_count, count_of, first_word, others};
+ghost use Rattle.journal_words.specs.Words.{is_count, begins_well, count_of, first_word, others};
 
 use memchr::memchr;
 
@@ -23,8 +23,8 @@ pub fn is_count(word: &[u8]) -> bool
     }
 }
 
-/// The number below 2^64 that the word is the one decimal spelling of.
-pub fn count(word: &[u8]) -> Option<u64>
+/// The number below 2^64 that a long word is the one decimal spelling of.
+fn long_count(word: &[u8]) -> Option<u64>
     ensures { result ≡ count_of word.now }
 {
     if !is_count(word) {
@@ -33,6 +33,38 @@ pub fn count(word: &[u8]) -> Option<u64>
     match std::str::from_utf8(word) {
         Ok(text) => text.parse().ok(),
         Err(_) => None,
+    }
+}
+
+/// So great a number takes one digit more for certain.
+const GREATEST_FRONT: u64 = 1_844_674_407_370_955_160;
+
+/// The number that the word spells in digits, however it begins.
+fn digits_count(word: &[u8]) -> Option<u64>
+    requires { begins_well word.now ≡ true }
+    ensures { result ≡ count_of word.now }
+{
+    let mut value: u64 = 0;
+    for digit in word {
+        if !digit.is_ascii_digit() {
+            return None;
+        }
+        if value > GREATEST_FRONT {
+            return long_count(word);
+        }
+        value = 10 * value + (*digit - b'0') as u64;
+    }
+    Some(value)
+}
+
+/// The number below 2^64 that the word is the one decimal spelling of.
+pub fn count(word: &[u8]) -> Option<u64>
+    ensures { result ≡ count_of word.now }
+{
+    if word.is_empty() || (word.len() > 1 && word[0] == b'0') {
+        None
+    } else {
+        digits_count(word)
     }
 }
 

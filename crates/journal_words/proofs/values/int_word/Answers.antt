@@ -1,4 +1,4 @@
-use Rattle.std.proofs.Common.{◌≡◌, Ok, sym, ap, ◌∙◌}
+use Rattle.std.proofs.Common.{sym, ◌∙◌}
 use Rattle.journal_words.proofs.ValueLemmas.{utf8, parses, written, differs}
 use Rattle.journal_words.proofs.values.int_word.Goals as goal
 

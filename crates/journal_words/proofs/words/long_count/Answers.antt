@@ -1,7 +1,7 @@
-use Rattle.std.proofs.Common.{◌≡◌, true, sym, ◌∙◌}
+use Rattle.std.proofs.Common.{◌≡◌, true, ◌∙◌}
 use Rattle.journal_words.specs.Words.{is_count}
 use Rattle.journal_words.proofs.Numerals.{parsed_count, utf8_in}
-use Rattle.journal_words.proofs.words.count.Goals as goal
+use Rattle.journal_words.proofs.words.long_count.Goals as goal
 
 pub returns-in-Ok : goal.returns-in-Ok
 returns-in-Ok c =
