@@ -6,7 +6,7 @@ use Rattle.std.specs.List.{list_all}
 use Rattle.std.proofs.lemmas.Bool.{eqb-true, ltb-true, cases_lt, cases_eq, and_parts}
 use Rattle.std.proofs.lemmas.Bool.Decides.{nat_tests}
 use Rattle.hex.specs.Hex.{IsBytes, hex_digit_value, pair_value, decode_pairs, decode_of, encode_lower, encode_with, lower_digits}
-use Rattle.hex.proofs.HexLemmas.{decode_of-even, decode_of-odd}
+use Rattle.hex.proofs.HexLemmas.{decode_of-even}
 use Rattle.journal_words.specs.Values.{is_lower_digit, digit_of, pairs_of, bytes_found, bytes_of, where_same}
 use Rattle.journal_words.proofs.ValueLaws.{where_same-again, bytes_found-same, none_is}
 
@@ -158,9 +158,6 @@ other_spells_none : (ds : List ℕ) → list_all is_lower_digit ds ≡ false →
 other_spells_none ds other = sym (none_is (bytes_of ds) (λ bs e. let f = bytes_found-same ds bs e in let all = ap (list_all is_lower_digit) f.0 ∙ written_lower bs f.1 in cc))
 
 -- ---- what digits spell
-
-pub odd_spells_none : (ds : List ℕ) → length ds % 2 ≡ 1 → bytes_of ds ≡ None
-odd_spells_none ds odd = ap (bytes_found ds) (decode_of-odd ds odd)
 
 not_odd : (n : ℕ) → (n % 2 ≡ 1 → ⊥) → n % 2 ≡ 0
 not_odd n h = elim (cases_eq (n % 2) 1) [ inl odd ↦ absurd (h odd) | inr other ↦ omega (arith, other) ]
