@@ -12,15 +12,18 @@ fn all_digits(word: &[u8]) -> bool
     word.iter().all(|b| b.is_ascii_digit())
 }
 
+/// Whether the word is not empty, and has no zero before other bytes.
+fn begins_well(word: &[u8]) -> bool
+    ensures { result ≡ begins_well word.now }
+{
+    !(word.is_empty() || (word.len() > 1 && word[0] == b'0'))
+}
+
 /// Whether the word is a number in its one decimal spelling, however large.
 pub fn is_count(word: &[u8]) -> bool
     ensures { result ≡ is_count word.now }
 {
-    if word.is_empty() || (word.len() > 1 && word[0] == b'0') {
-        false
-    } else {
-        all_digits(word)
-    }
+    begins_well(word) && all_digits(word)
 }
 
 /// The number below 2^64 that a long word is the one decimal spelling of.
@@ -36,7 +39,7 @@ fn long_count(word: &[u8]) -> Option<u64>
     }
 }
 
-/// So great a number takes one digit more for certain.
+/// A number up to this one takes any digit behind it, and stays below 2^64.
 const GREATEST_FRONT: u64 = 1_844_674_407_370_955_160;
 
 /// The number that the word spells in digits, however it begins.
@@ -61,10 +64,10 @@ fn digits_count(word: &[u8]) -> Option<u64>
 pub fn count(word: &[u8]) -> Option<u64>
     ensures { result ≡ count_of word.now }
 {
-    if word.is_empty() || (word.len() > 1 && word[0] == b'0') {
-        None
-    } else {
+    if begins_well(word) {
         digits_count(word)
+    } else {
+        None
     }
 }
 
