@@ -1,5 +1,5 @@
 -- Membership decides a set, and what is a member after each operation.
-use Rattle.std.proofs.Common.{add_comm, cond, not, ◌≤◌, ◌<◌, ◌≡◌, ℕ, ◌+◌, ◌-◌, zero, suc, Bool, true, false, ◌&&◌, ◌||◌, List, [], ◌∷◌, ◌++◌, map, refl, sym, ap, ◌∙◌, arith, nat_eq, nat_le, nat_lt}
+use Rattle.std.proofs.Common.{eq-eqb, add_comm, cond, not, ◌≤◌, ◌<◌, ◌≡◌, ℕ, ◌+◌, ◌-◌, zero, suc, Bool, true, false, ◌&&◌, ◌||◌, List, [], ◌∷◌, ◌++◌, map, refl, sym, ap, ◌∙◌, arith, nat_eq, nat_le, nat_lt}
 use Rattle.std.specs.Prelude.{◌==◌}
 use Rattle.std.proofs.lemmas.Bool.Decides.{nat_tests}
 use Rattle.std.specs.List.{range_with_len, list_any}
@@ -167,3 +167,13 @@ len-set_of (s ∷ ss) apart =
     ∙ ap (λ k. k + (s.hi + 1 - s.lo)) (len-set_of ss apart.1)
     ∙ add_comm (sum_by size_of ss) (size_of s)
     ∙ sym (sum_by-cons size_of s ss)
+
+-- a set has what was put into it
+pub has_itself : (s : Gtids) (g : Gtid) → set.contains (set.insert s g) g ≡ true
+has_itself s g =
+    set.contains-insert gtid_total s g g
+    ∙ ap (λ b. b || set.contains s g) (gtid_tied g g ∙ (λ i. eq-eqb g.source g.source refl i && eq-eqb g.number g.number refl i))
+
+-- one GTID more in a list
+pub set_push : (gs : List Gtid) (g : Gtid) → set.from_list {R = gtid_cmp} (gs ++ g ∷ []) ≡ set.insert (set.from_list gs) g
+set_push gs g = set.from_list_push gtid_total gtid_exact gs g
