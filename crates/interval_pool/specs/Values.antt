@@ -135,13 +135,6 @@ IsFullWith p n = most_cells < length (standing p.lists) + n
 abbrev pub AreAllLists : PoolValue → Type 0
 AreAllLists p = (l : ℕ) → 1 ≤ l → l ≤ most_cells → IsList p l
 
--- intervals more, behind those of a list
-pub record Extended (p : PoolValue) (l : ℕ) (ss : List Interval) (q : PoolValue) : Type 0 where
-  pub lists : (m : ℕ) → is_list q m ≡ is_list p m
-  pub others : (m : ℕ) → m ≢ l → slot_at q m ≡ slot_at p m
-  pub total : length q.free + length (spans q l) + p.cells ≡ length p.free + length (spans p l) + q.cells
-  pub spans : spans q l ≡ spans p l ++ ss
-
 -- the same lists and free cells
 pub record Copied (p : PoolValue) (q : PoolValue) : Type 0 where
   pub lists : q.lists ≡ p.lists
