@@ -190,7 +190,8 @@ fn run_of<'a>(
     id: SourceId,
     spans: &'a [Span],
 ) -> Result<&'a [Span], AllocError>
-    ensures { IfOk result (λ rest. spans_as id run.new.items ++ rest.now ≡ spans.now) }
+    ensures parts { IfOk result (λ rest. spans_as id run.new.items ++ rest.now ≡ spans.now) }
+    ensures shorter { IfOk result (λ rest. length rest.now ≤ length spans.now) }
 {
     run.clear();
     let mut rest = spans;
@@ -244,6 +245,7 @@ fn write_run<'a>(
     requires small { length (flat pool.old sources.now order.now) + length spans.now ≤ most_intervals }
     ensures kept { OnOk result (IsKeptIn pool.new sources.now order.now) }
     ensures parts { IfOk result (λ rest. flat pool.new sources.now order.now ++ rest.now ≡ flat pool.old sources.now order.now ++ spans.now) }
+    ensures shorter { IfOk result (λ rest. length rest.now ≤ length spans.now) }
     ensures fault { IsOkUnless result Memory }
 {
     let Ok(rest) = run_of(run, source.id, spans) else {

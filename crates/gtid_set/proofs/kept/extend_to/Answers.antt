@@ -1,4 +1,4 @@
-use Rattle.std.proofs.Common.{◌≡◌, sym, refl, ◌∙◌, ⊥}
+use Rattle.std.proofs.Common.{◌≡◌, sym, refl, ◌∙◌}
 use Rattle.std.proofs.lemmas.Bool.{and_parts}
 use Rattle.std.specs.Prelude.{nat_lt, length}
 use Rattle.interval_pool.specs.declared.fault.PoolFault.{PoolFault}
