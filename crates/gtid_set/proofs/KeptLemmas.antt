@@ -26,7 +26,7 @@ none_and : (b : Bool) → false ≡ (b && false)
 none_and true = refl
 none_and false = refl
 
-has_span_of : (id : ℕ) (is : List Interval) (q : Gtid) → has (map (span_of id) is) q ≡ ((q.source == id) && has_number is q.number)
+pub has_span_of : (id : ℕ) (is : List Interval) (q : Gtid) → has (map (span_of id) is) q ≡ ((q.source == id) && has_number is q.number)
 has_span_of id [] q = none_and (q.source == id)
 has_span_of id (i ∷ is) q =
     ap (λ b. ((q.source == id) && covers_number i q.number) || b) (has_span_of id is q)

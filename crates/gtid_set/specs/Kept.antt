@@ -133,6 +133,15 @@ pub record Grown (p : PoolValue) (sources : List Source) (order : List ℕ) (t :
   pub kept : IsKeptIn q sources' order'
   pub list : IsListOf (λ g. within t g || has (flat p sources order) g) (flat q sources' order')
 
+-- the intervals of a source as its spans
+abbrev pub spans_as : ℕ → List Interval → List Span
+spans_as id is = map (span_of id) is
+
+-- spans of a source that is there stand behind all others
+pub record IsRun (p : PoolValue) (sources : List Source) (order : List ℕ) (id : ℕ) (is : List Interval) (q : PoolValue) : Type 0 where
+  pub kept : IsKeptIn q sources order
+  pub parts : flat q sources order ≡ flat p sources order ++ spans_as id is
+
 -- they are as they were
 pub record Stays (p : PoolValue) (sources : List Source) (order : List ℕ) (q : PoolValue) (sources' : List Source) (order' : List ℕ) : Type 0 where
   pub kept : IsKeptIn q sources' order'

@@ -1,23 +1,26 @@
 //! Merged spans in a pool, by source and number.
-ghost use Rattle.std.specs.Prelude.{◌≡◌, ◌≤◌, ◌||◌, [], true, false, length, IfOk, IfErr, OnOk, OnErr, IfSome, IfNone, IsOkUnless};
+ghost use Rattle.std.specs.Prelude.{◌≡◌, ◌≤◌, ◌+◌, ◌++◌, ◌||◌, [], true, false, length, IfOk, IfErr, OnOk, OnErr, IfSome, IfNone, IsOkUnless};
 ghost use Rattle.std.specs.FinSet as set;
 ghost use Rattle.gtid_set.specs.declared.fault.SetFault.TheVariants.{Memory};
 ghost use Rattle.gtid_set.specs.Sets.{interval, most_sources, source_count};
 ghost use Rattle.gtid_set.specs.Spans.{set_of, is_merged, has};
 ghost use Rattle.gtid_set.specs.Sweep.{IsListOf, HasSpan, all_before, within};
 ghost use Rattle.gtid_set.specs.Full.{IsFullExactly, IsKept, most_intervals};
-ghost use Rattle.gtid_set.specs.Kept.{IsKeptIn, IsSourceOf, IsSourcePlace, IsListFault, Lists, HasSameLists, Grown, Stays, are_others, listed, flat, interval_of};
+ghost use Rattle.gtid_set.specs.Kept.{IsKeptIn, IsSourceOf, IsSourcePlace, IsListFault, Lists, HasSameLists, Grown, IsRun, Stays, spans_as, are_others, listed, flat, interval_of};
 
 use crate::cursor::Cursor;
 use crate::fault::SetFault;
 use crate::sources::{Source, find, place_of};
-use gtid_text::{Gtid, Span};
+use gtid_text::{Gtid, SourceId, Span};
 use interval_pool::{Interval, ListId, Pool};
-use std::alloc::Global;
+use std::alloc::{AllocError, Global};
 use std::marker::Model;
 
 /// The most sources that a set may have. Our own rule.
 pub const MOST_SOURCES: usize = 65_536;
+
+/// How many intervals are written at once. Our own rule.
+const MOST_AT_ONCE: usize = 256;
 
 /// Merged spans in a pool, in one list for each source.
 #[derive(Drop)]
@@ -181,6 +184,79 @@ fn push(
     }
 }
 
+/// The intervals of the first spans, as far as they are of a source and not too many, and the spans behind them.
+fn run_of<'a>(
+    run: &mut Vec<Interval>,
+    id: SourceId,
+    spans: &'a [Span],
+) -> Result<&'a [Span], AllocError>
+    ensures parts { IfOk result (λ rest. spans_as id run.new.items ++ rest.now ≡ spans.now) }
+    ensures shorter { IfOk result (λ rest. length rest.now ≤ length spans.now) }
+{
+    run.clear();
+    let mut rest = spans;
+    while let Some((span, more)) = rest.split_first() {
+        if span.source != id || run.as_slice().len() == MOST_AT_ONCE {
+            return Ok(rest);
+        }
+        run.push(numbers(span))?;
+        rest = more;
+    }
+    Ok(rest)
+}
+
+/// Puts a source's intervals behind all spans.
+fn extend_to(
+    pool: &mut Pool,
+    sources: &[Source],
+    order: &[u16],
+    source: Source,
+    run: &[Interval],
+) -> Result<(), SetFault>
+    requires kept { IsKeptIn pool.old sources.now order.now }
+    requires source { IsSourceOf (listed sources.now order.now) source source.id }
+    requires merged { is_merged (flat pool.old sources.now order.now ++ spans_as source.id run.now) ≡ true }
+    requires small { length (flat pool.old sources.now order.now) + length run.now ≤ most_intervals }
+    ensures ok { OnOk result (IsRun pool.old sources.now order.now source.id run.now pool.new) }
+    ensures fault { IsOkUnless result Memory }
+{
+    pool.partition();
+    match pool.extend(source.list, run) {
+        Ok(()) => {
+            pool.partition();
+            Ok(())
+        }
+        Err(fault) => Err(SetFault::from(fault)),
+    }
+}
+
+/// Puts the first spans behind all others, as far as they are of a source that is there and not too many at once, and answers those behind them.
+fn write_run<'a>(
+    pool: &mut Pool,
+    sources: &[Source],
+    order: &[u16],
+    source: Source,
+    run: &mut Vec<Interval>,
+    spans: &'a [Span],
+) -> Result<&'a [Span], SetFault>
+    requires kept { IsKeptIn pool.old sources.now order.now }
+    requires source { IsSourceOf (listed sources.now order.now) source source.id }
+    requires merged { is_merged (flat pool.old sources.now order.now ++ spans.now) ≡ true }
+    requires small { length (flat pool.old sources.now order.now) + length spans.now ≤ most_intervals }
+    ensures kept { OnOk result (IsKeptIn pool.new sources.now order.now) }
+    ensures parts { IfOk result (λ rest. flat pool.new sources.now order.now ++ rest.now ≡ flat pool.old sources.now order.now ++ spans.now) }
+    ensures shorter { IfOk result (λ rest. length rest.now ≤ length spans.now) }
+    ensures fault { IsOkUnless result Memory }
+{
+    let Ok(rest) = run_of(run, source.id, spans) else {
+        return Err(SetFault::Memory);
+    };
+    match extend_to(pool, sources, order, source, run) {
+        Ok(()) => Ok(rest),
+        Err(fault) => Err(fault),
+    }
+}
+
 impl Kept {
     /// No spans. Takes no memory.
     pub fn open(alloc: Global) -> Kept
@@ -268,11 +344,20 @@ impl Kept {
         let mut pool = Pool::open(alloc);
         let mut sources = Vec::new(alloc);
         let mut order = Vec::new(alloc);
+        let mut run = Vec::new(alloc);
         let mut rest = spans;
         pool.reserve(spans.len())?;
         while let Some((span, more)) = rest.split_first() {
             match push(&mut pool, &mut sources, &mut order, span) {
                 Ok(()) => rest = more,
+                Err(fault) => return Err(fault),
+            }
+            let last = order.as_slice().len().saturating_sub(1);
+            let Some(source) = find(&sources, &order, last, span.source) else {
+                continue;
+            };
+            match write_run(&mut pool, &sources, &order, source, &mut run, rest) {
+                Ok(behind) => rest = behind,
                 Err(fault) => return Err(fault),
             }
         }

@@ -110,6 +110,7 @@ pushed_last cells heads k last c owner next h small not_free lt is_last =
         intervals = λ m free other. stay (chain_of cells heads m) (all_below cells m (chain_of cells heads m) None (h.linked m));
       };
       as_many = joined.keeps.as_many ∙ size;
+      list = joined.chains k ∙ chain_here (chain_of cells1 heads) k (xs ++ n ∷ []);
       spans =
           ap (map (interval_at cells2)) (joined.chains k ∙ chain_here (chain_of cells1 heads) k (xs ++ n ∷ []))
           ∙ (map-append (interval_at cells2) xs (n ∷ []) ∙ (λ p. stay xs (all_below cells k xs None (h.linked k)) p ++ here p ∷ []));
@@ -133,7 +134,7 @@ put_new cells cells1 heads heads1 k last s none less pushes h small not_free lt 
     }
 
 -- the first free cell stands behind the last of a list
-free_placed : (cells cells1 : List Cell) (heads heads1 : List Head) (k : ℕ) (last : Option ℕ) (s : Interval) → 0 < (head_at heads 0).len → Places cells heads k last s cells1 heads1 → AreWhole cells heads → length cells ≤ most_cells → k ≢ 0
+pub free_placed : (cells cells1 : List Cell) (heads heads1 : List Head) (k : ℕ) (last : Option ℕ) (s : Interval) → 0 < (head_at heads 0).len → Places cells heads k last s cells1 heads1 → AreWhole cells heads → length cells ≤ most_cells → k ≢ 0
     → k < length heads → last ≡ last_or None (chain_of cells heads k) → (i : ℕ) × ((rest : List ℕ) × ((chain_of cells heads 0 ≡ i ∷ rest) × Placed cells heads k (chain_of cells heads k) [] i rest s cells1 heads1))
 free_placed cells cells1 heads heads1 k last s some places h small not_free lt is_last =
     let n = h.count 0 in

@@ -10,6 +10,7 @@ pub mod Altering
 pub mod Appending
 pub mod Growing
 pub mod Valued
+pub mod Extending
 pub mod Parting
 pub mod Listing
 pub mod Standing

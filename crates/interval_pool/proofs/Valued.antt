@@ -108,20 +108,23 @@ slots_kept cells cells' heads heads' k m h keeps other = ⊎_elim
 
 -- ---- a list is altered
 
-pub pool_kept : (cells cells' : List Cell) (heads heads' : List Head) (k : ℕ) (among : ℕ → Bool) → IsPool cells heads → (head_at heads k).is_list ≡ true → Changed cells heads k among cells' heads' → IsPool cells' heads'
-pool_kept cells cells' heads heads' k among h is c = record {
-  whole = c.keeps.whole;
-  small = c.small;
+pub pool_with : (cells cells' : List Cell) (heads heads' : List Head) (k : ℕ) → IsPool cells heads → (head_at heads k).is_list ≡ true → KeepsOthers cells heads k cells' heads' → length cells' ≤ most_cells → AreMerged (spans_of cells' heads' k) → IsPool cells' heads'
+pool_with cells cells' heads heads' k h is keeps small merged = record {
+  whole = keeps.whole;
+  small = small;
   merged = λ m free. ⊎_elim
-      (λ (e : ((m == k) ≡ true) × (m ≡ k)). subst (λ n. AreMerged (spans_of cells' heads' n)) (sym e.1) c.merged)
-      (λ (e : ((m == k) ≡ false) × (m ≢ k)). subst AreMerged (sym (same_spans cells cells' heads heads' k m c.keeps free e.1)) (h.merged m free))
+      (λ (e : ((m == k) ≡ true) × (m ≡ k)). subst (λ n. AreMerged (spans_of cells' heads' n)) (sym e.1) merged)
+      (λ (e : ((m == k) ≡ false) × (m ≢ k)). subst AreMerged (sym (same_spans cells cells' heads heads' k m keeps free e.1)) (h.merged m free))
       (eqb_tells m k);
   gone = λ m none free.
-      let was : (head_at heads m).is_list ≢ true = λ e. none (c.keeps.lists m ∙ e) in
+      let was : (head_at heads m).is_list ≢ true = λ e. none (keeps.lists m ∙ e) in
       let other : m ≢ k = λ e. was (subst (λ n. (head_at heads n).is_list ≡ true) (sym e) is) in
-      c.keeps.chains m free other ∙ h.gone m was free;
-  free_is_none = λ e. h.free_is_none (sym (c.keeps.lists 0) ∙ e);
+      keeps.chains m free other ∙ h.gone m was free;
+  free_is_none = λ e. h.free_is_none (sym (keeps.lists 0) ∙ e);
 }
+
+pub pool_kept : (cells cells' : List Cell) (heads heads' : List Head) (k : ℕ) (among : ℕ → Bool) → IsPool cells heads → (head_at heads k).is_list ≡ true → Changed cells heads k among cells' heads' → IsPool cells' heads'
+pool_kept cells cells' heads heads' k among h is c = pool_with cells cells' heads heads' k h is c.keeps c.small c.merged
 
 room_left : (free free' len len' cells cells' cap cap' : ℕ) → free' + len' + cells ≡ free + len + cells' → (cells' ≡ cells) ⊎ ((free ≡ 0) × (free' ≡ 0) × (cells' ≡ cells + 1)) → cap ≤ cap'
     → free + len + (min cap most_cells - cells) ≤ free' + len' + (min cap' most_cells - cells')

@@ -118,6 +118,13 @@ pub record Appended (p : PoolValue) (l : ℕ) (s : Interval) (q : PoolValue) : T
   pub added : AddedTo p l s q
   pub spans : spans q l ≡ spans p l ++ s ∷ []
 
+-- intervals stand behind all others of a list
+pub record Extended (p : PoolValue) (l : ℕ) (ss : List Interval) (q : PoolValue) : Type 0 where
+  pub lists : (m : ℕ) → is_list q m ≡ is_list p m
+  pub others : (m : ℕ) → m ≢ l → slot_at q m ≡ slot_at p m
+  pub total : length q.free + length (spans q l) + p.cells ≡ length p.free + length (spans p l) + q.cells
+  pub spans : spans q l ≡ spans p l ++ ss
+
 -- no cell is free, and there is room for none more
 pub record HasNoRoom (p : PoolValue) : Type 0 where
   pub free : p.free ≡ []

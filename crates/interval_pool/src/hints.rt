@@ -300,9 +300,9 @@ impl Hints {
         }
     }
 
-    /// Puts all cells of a list into the index.
-    fn remember_all(&mut self, cells: &[Cell], heads: &[Head], list: u32) {
-        let mut next = after(cells, heads, list as usize, Link::none());
+    /// Puts all cells of a list behind a place into the index.
+    fn remember_behind(&mut self, cells: &[Cell], heads: &[Head], list: u32, place: Link) {
+        let mut next = after(cells, heads, list as usize, place);
         for _cell in 0..count(heads, list as usize) {
             let Some(at) = next.place() else {
                 return;
@@ -324,7 +324,7 @@ impl Hints {
         let is_long = count(heads, list as usize) > SHORT;
         let begins = !is_run && !was_indexed && is_long;
         if begins {
-            self.remember_all(cells, heads, list);
+            self.remember_behind(cells, heads, list, Link::none());
         }
         let is_indexed = was_indexed || begins;
         let known = ListHints {
@@ -386,6 +386,61 @@ impl Hints {
             let many = count(heads, list as usize).saturating_sub(1);
             self.note_added(cells, heads, list, place, numbers, many);
         }
+    }
+
+    /// So many intervals were put behind the last cell of a list. A run to which new cells alone came goes on, where its
+    /// last cells are the last of all.
+    #[inline(always)]
+    pub fn note_extended(
+        &mut self,
+        cells: &[Cell],
+        heads: &[Head],
+        list: u32,
+        place: Link,
+        many: usize,
+        is_run: bool,
+    ) {
+        let goes_on = place.is_none() || place.is_before(cells.len().saturating_sub(many));
+        if !is_run || !goes_on {
+            self.note_scattered(cells, heads, list, place, many);
+        }
+    }
+
+    /// So many intervals were put behind a place, and the cells of the list lie no more one behind another.
+    fn note_scattered(
+        &mut self,
+        cells: &[Cell],
+        heads: &[Head],
+        list: u32,
+        place: Link,
+        many: usize,
+    ) {
+        let all = count(heads, list as usize);
+        if many == 0 || all <= 1 {
+            return;
+        }
+        let hints = self.of(list);
+        let is_indexed = hints.is_indexed || all > SHORT;
+        if is_indexed {
+            let known = if hints.is_indexed {
+                place
+            } else {
+                Link::none()
+            };
+            self.remember_behind(cells, heads, list, known);
+        }
+        let end = cells.len().saturating_sub(1);
+        self.keep(
+            list,
+            ListHints {
+                lo: cell_at(cells, end).lo,
+                place,
+                cell: Link::to(end),
+                is_run: false,
+                is_indexed,
+                ..hints
+            },
+        );
     }
 
     /// An interval was cut out behind a place.

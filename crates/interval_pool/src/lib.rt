@@ -12,7 +12,7 @@
 //! From below: `link` is a place among cells, or none. `cells` takes a cell out of a chain and puts it into one.
 //! `store` frees cells, makes room for one more, and puts intervals in the place of others. `seek` finds the place
 //! of a number, `meet` what an interval meets behind it, and `add` and `cut` are these one after another; `append` puts
-//! an interval behind all others of its list. `claim` begins and ends lists, and `pool` has the calls.
+//! an interval behind all others of its list, and `extend` several. `claim` begins and ends lists, and `pool` has the calls.
 //!
 //! What a call costs is the way from a guessed place to the right one. `hints` guesses: the last cell of a list, where
 //! its cells lie one behind another; the place of the last change; by halves, where they lie so; or by an index of
@@ -25,6 +25,7 @@ mod append;
 mod cells;
 mod claim;
 mod cut;
+mod extend;
 mod fault;
 mod hints;
 mod interval;

@@ -1,9 +1,9 @@
 //! The pool as its callers see it.
-ghost use Rattle.std.specs.Prelude.{◌≡◌, ◌↔◌, ◌≢◌, ℕ, ◌<◌, ◌≤◌, IsOk, OnOk, OnErr, IfOk, IfErr, IfSome, IfNone, true, false, length, vec_capacity};
+ghost use Rattle.std.specs.Prelude.{◌≡◌, ◌↔◌, ◌≢◌, ℕ, ◌<◌, ◌≤◌, IsOk, OnOk, OnErr, IfOk, IfErr, IfSome, IfNone, true, false, length, vec_capacity, ◌++◌};
 ghost use Rattle.interval_pool.specs.Links.{most_cells};
 ghost use Rattle.interval_pool.specs.Intervals.{AreMerged, IsBefore, IsApart, IsSplit, covers, has};
 ghost use Rattle.std.specs.List.{AllByRecursion, Contains};
-ghost use Rattle.interval_pool.specs.Values.{empty, is_list, IsList, IsRange, cells_of, spans, first_cell, Follows, Covers, IsPartition, Opened, AddedTo, Appended, Copied, CutFrom, Released, Reserved, HasNoRoom, IsFull, IsFullWith, AreAllLists};
+ghost use Rattle.interval_pool.specs.Values.{empty, is_list, IsList, IsRange, cells_of, spans, first_cell, Follows, Covers, IsPartition, Opened, AddedTo, Appended, Extended, Copied, CutFrom, Released, Reserved, HasNoRoom, IsFull, IsFullWith, AreAllLists};
 ghost use Rattle.interval_pool.specs.declared.fault.PoolFault.TheVariants.{Full, Memory};
 
 use crate::add::add;
@@ -11,6 +11,7 @@ use crate::append::append;
 use crate::cells::{Cell, Head, after, cell_at, count};
 use crate::claim::{claim, drop_list};
 use crate::cut::cut;
+use crate::extend::extend;
 use crate::fault::PoolFault;
 use crate::hints::Hints;
 use crate::interval::Interval;
@@ -122,6 +123,33 @@ impl Pool {
         let place = append(&mut self.cells, &mut self.heads, list, numbers, guess)?;
         self.hints
             .note_appended(&self.cells, &self.heads, list, place, numbers, is_run);
+        Ok(())
+    }
+
+    /// Puts intervals behind all others of a list, which costs a few steps for each, fewest where no cell is free. It
+    /// fails only where memory for more cells is refused (`Memory`), or so many intervals with those that stand in the
+    /// pool are more than 4,294,967,294 (`Full`). An error leaves all as it was.
+    pub fn extend(&mut self, list: ListId, intervals: &[Interval]) -> Result<(), PoolFault>
+        requires list { IsList self.old list }
+        requires merged { AreMerged (spans self.old list ++ intervals.now) }
+        ensures ok { OnOk result (Extended self.old list intervals.now self.new) }
+        ensures err { OnErr result (self.new ≡ self.old) }
+        ensures full { IfErr result (λ fault. fault ≡ Full ↔ IsFullWith self.old (length intervals.now)) }
+    {
+        let list = list.number();
+        let is_run = self.hints.is_run(list);
+        let guess = self.hints.last(&self.cells, &self.heads, list, is_run);
+        let is_new = count(&self.heads, 0) == 0;
+        let place = extend(&mut self.cells, &mut self.heads, list, intervals, guess)?;
+        let many = intervals.len();
+        self.hints.note_extended(
+            &self.cells,
+            &self.heads,
+            list,
+            place,
+            many,
+            is_run && is_new,
+        );
         Ok(())
     }
 

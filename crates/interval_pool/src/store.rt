@@ -1,13 +1,13 @@
 //! Cells of lists, and free cells.
-ghost use Rattle.std.specs.Prelude.{◌≡◌, ◌↔◌, ◌<◌, ◌≤◌, ◌+◌, IfSome, IsFalse, IsTrue, OnOk, OnErr, IfErr, length, vec_capacity};
+ghost use Rattle.std.specs.Prelude.{◌≡◌, ◌↔◌, ◌<◌, ◌≤◌, ◌+◌, IfSome, IsFalse, IsTrue, OnOk, OnErr, IfErr, length, vec_len, vec_capacity, ◌++◌};
 ghost use Rattle.interval_pool.specs.Cells.{head_at, with_head, with_next, with_numbers};
 ghost use Rattle.interval_pool.specs.Intervals.{listed};
 ghost use Rattle.interval_pool.specs.Links.{most_cells};
-ghost use Rattle.interval_pool.specs.Changes.{MakesRoom, Sets, Puts, Replaces, Spends, Pushes, PutsLast, Renews};
+ghost use Rattle.interval_pool.specs.Changes.{MakesRoom, Sets, Puts, Replaces, Spends, Pushes, PutsLast, Renews, PlacesRun, PushesRun, next_of, run};
 ghost use Rattle.interval_pool.specs.declared.fault.PoolFault.TheVariants.{Full};
 ghost use Rattle.interval_pool.specs.Pools.{Frees, FreesSome, Grows, Places};
 
-use crate::cells::{Cell, Head, after, count, link, unlink};
+use crate::cells::{Cell, Head, after, count, link, put_head, put_next, unlink};
 use crate::fault::PoolFault;
 use crate::interval::{Interval, Pieces, count_pieces, only_piece};
 use crate::link::{Link, MOST_CELLS};
@@ -164,6 +164,84 @@ pub fn put_last(
     }
     push(cells, heads, list, last, numbers)?;
     Ok(())
+}
+
+/// Puts intervals behind the last cell of a list, in free cells. Gives back the last cell of then.
+pub fn place_run(
+    cells: &mut [Cell],
+    heads: &mut [Head],
+    list: u32,
+    last: Link,
+    intervals: &[Interval],
+) -> Link
+    ensures { PlacesRun cells.old heads.old list last intervals.now result cells.new heads.new }
+{
+    let mut end = last;
+    let mut rest = intervals;
+    'place: while let Some((numbers, more)) = rest.split_first() {
+        let at = after(cells, heads, FREE as usize, Link::none());
+        place(cells, heads, list, end, numbers.lo, numbers.hi);
+        end = at;
+        rest = more;
+    }
+    end
+}
+
+/// The cell of the first of these intervals, if there is one: this place.
+#[inline(always)]
+fn next_of(intervals: &[Interval], at: usize) -> Link
+    ensures { at ≤ most_cells → result ≡ next_of intervals.now at }
+{
+    if intervals.is_empty() {
+        Link::none()
+    } else {
+        Link::to(at)
+    }
+}
+
+/// Makes cells of a list, one leading to another, with these numbers.
+#[inline(always)]
+fn push_cells(cells: &mut Vec<Cell>, list: u32, intervals: &[Interval])
+    requires small { length cells.old.items + length intervals.now ≤ most_cells }
+    requires room { vec_len cells.old + length intervals.now ≤ vec_capacity cells.old }
+    ensures items { cells.new.items ≡ cells.old.items ++ run list (length cells.old.items) intervals.now }
+    ensures capacity { vec_capacity cells.new ≡ vec_capacity cells.old }
+{
+    let mut rest = intervals;
+    'push: while let Some((numbers, more)) = rest.split_first() {
+        let next = next_of(more, cells.as_slice().len() + 1);
+        cells.push_reserved(Cell {
+            lo: numbers.lo,
+            hi: numbers.hi,
+            next,
+            owner: list,
+        });
+        rest = more;
+    }
+}
+
+/// Puts intervals behind the last cell of a list, in new cells, for which there is room.
+pub fn push_run(
+    cells: &mut Vec<Cell>,
+    heads: &mut [Head],
+    list: u32,
+    last: Link,
+    intervals: &[Interval],
+)
+    requires there { list < length heads.old }
+    requires small { length cells.old.items + length intervals.now ≤ most_cells }
+    requires room { vec_len cells.old + length intervals.now ≤ vec_capacity cells.old }
+    ensures run { PushesRun cells.old.items heads.old list last intervals.now cells.new.items heads.new }
+    ensures capacity { vec_capacity cells.new ≡ vec_capacity cells.old }
+{
+    if intervals.is_empty() {
+        return;
+    }
+    let at = Link::to(cells.as_slice().len());
+    let len = count(heads, list as usize).saturating_add(intervals.len() as u32);
+    put_next(cells, last, at);
+    put_head(heads, list as usize, last, at, len);
+    push_cells(cells, list, intervals);
 }
 
 /// Puts an interval into a list after one of its cells, or at its start, if there is one to be put.

@@ -253,3 +253,71 @@ fn a_copy_changes_alone(rt: HostRuntime) {
     let shown = shows_copy_of_pairs(rt.alloc(), &mut pool);
     assert!(rt; shown);
 }
+
+/// Intervals behind those of a list with none, and behind these.
+fn shows_extended(pool: &mut Pool, list: ListId) -> bool
+    requires list { IsList pool.old list }
+    requires none { spans pool.old list ≡ [] }
+{
+    let first = [Interval { lo: 1, hi: 2 }, Interval { lo: 4, hi: 4 }];
+    let Ok(()) = pool.extend(list, &first) else {
+        return false;
+    };
+    let second = [
+        Interval { lo: 6, hi: 9 },
+        Interval { lo: 11, hi: 11 },
+        Interval { lo: 20, hi: 25 },
+    ];
+    let Ok(()) = pool.extend(list, &second) else {
+        return false;
+    };
+    let Ok(()) = pool.extend(list, &[]) else {
+        return false;
+    };
+    shows(pool, list, &[(1, 2), (4, 4), (6, 9), (11, 11), (20, 25)], 0)
+        && finds(pool, list, 4, 4, 4)
+        && misses(pool, list, 10)
+        && finds(pool, list, 22, 20, 25)
+        && add(pool, list, Interval { lo: 5, hi: 10 })
+        && shows(pool, list, &[(1, 2), (4, 11), (20, 25)], 2)
+}
+
+/// A list whose first intervals are put into free cells, and the others into new ones.
+fn shows_taken(pool: &mut Pool, list: ListId) -> bool
+    requires list { IsList pool.old list }
+    requires none { spans pool.old list ≡ [] }
+{
+    let numbers = [
+        Interval { lo: 1, hi: 1 },
+        Interval { lo: 3, hi: 3 },
+        Interval { lo: 5, hi: 6 },
+        Interval { lo: 8, hi: 8 },
+    ];
+    let Ok(()) = pool.extend(list, &numbers) else {
+        return false;
+    };
+    shows(pool, list, &[(1, 1), (3, 3), (5, 6), (8, 8)], 0)
+        && finds(pool, list, 6, 5, 6)
+        && misses(pool, list, 7)
+}
+
+fn shows_first_extended(pool: &mut Pool) -> bool {
+    match pool.new_list() {
+        Ok(list) => shows_extended(pool, list),
+        Err(_) => false,
+    }
+}
+
+fn shows_second_extended(pool: &mut Pool) -> bool {
+    match pool.new_list() {
+        Ok(list) => shows_taken(pool, list),
+        Err(_) => false,
+    }
+}
+
+#[test]
+fn many_intervals_at_once(rt: HostRuntime) {
+    let mut pool = Pool::open(rt.alloc());
+    let shown = shows_first_extended(&mut pool) && shows_second_extended(&mut pool);
+    assert!(rt; shown);
+}
