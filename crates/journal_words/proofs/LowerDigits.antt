@@ -1,7 +1,8 @@
 -- Lower-case digits: an even number of them is the text of the bytes that it decodes to, and no bytes are spelled with another byte.
-use Rattle.std.proofs.Common.{◌≡◌, ℕ, zero, suc, ◌+◌, ◌*◌, ◌/◌, ◌%◌, ◌<◌, Bool, true, false, eqb, ltb, not, cond, ◌&&◌, List, [], ◌∷◌, length, get_or, drop, Option, Some, None, Ok, refl, sym, ap, ◌∙◌, arith, inl, inr}
+use Rattle.std.proofs.Common.{◌≡◌, ℕ, zero, suc, ◌+◌, ◌*◌, ◌/◌, ◌%◌, ◌<◌, Bool, true, false, eqb, ltb, not, cond, ◌&&◌, List, [], ◌∷◌, length, get_or, take, drop, set, ◌++◌, Option, Some, None, Ok, refl, sym, ap, ◌∙◌, arith, inl, inr}
 use Rattle.std.specs.Prelude.{◌||◌}
-use Rattle.std.proofs.Math.Seq.{drop-cons}
+use Rattle.std.proofs.Math.Seq.{drop-cons, take-length, drop-length}
+use Rattle.std.proofs.lemmas.List.{append_assoc, append-nil, length-set, take_more_set}
 use Rattle.std.specs.List.{list_all}
 use Rattle.std.proofs.lemmas.Bool.{eqb-true, ltb-true, cases_lt, cases_eq, and_parts}
 use Rattle.std.proofs.lemmas.Bool.Decides.{nat_tests}
@@ -167,3 +168,29 @@ pairs_told ds new true odd lower is =
     let even = not_odd (length ds) odd in
     lower_even ds (spelled 0 ds (sym lower) even) (decode_of-even ds even) ∙ ap Some (sym is)
 pairs_told ds new false odd lower is = other_spells_none ds (sym lower)
+
+-- ---- bytes as digits
+
+pub encoded_next : (bs : List ℕ) (i : ℕ) → i < length bs → get_or lower_digits (get_or bs i 0 / 16) 0 ∷ get_or lower_digits (get_or bs i 0 % 16) 0 ∷ encode_lower (drop (i + 1) bs) ≡ encode_lower (drop i bs)
+unfolding encode_with
+encoded_next bs i lt =
+    let one : i + 1 ≡ suc i = omega arith in
+    ap (λ k. get_or lower_digits (get_or bs i 0 / 16) 0 ∷ get_or lower_digits (get_or bs i 0 % 16) 0 ∷ encode_with lower_digits (drop k bs)) one ∙ sym (ap (encode_with lower_digits) (drop-cons bs i 0 lt))
+
+pub two_set : (room : List ℕ) (i h l : ℕ) → 2 * i + 1 < length room → take (2 * (i + 1)) (set (set room (2 * i) h) (2 * i + 1) l) ≡ take (2 * i) room ++ h ∷ l ∷ []
+two_set room i h l lt =
+    let two : 2 * (i + 1) ≡ 2 * i + 1 + 1 = omega arith in
+    let long : 2 * i + 1 < length (set room (2 * i) h) = omega (arith, lt, length-set room (2 * i) h) in
+    let some : 2 * i < length room = omega (arith, lt) in
+    ap (λ k. take k (set (set room (2 * i) h) (2 * i + 1) l)) two
+    ∙ take_more_set (set room (2 * i) h) (2 * i + 1) l long
+    ∙ ap (λ t. t ++ l ∷ []) (take_more_set room (2 * i) h some)
+    ∙ append_assoc (take (2 * i) room) (h ∷ []) (l ∷ [])
+
+pub all_encoded : (bs room : List ℕ) (i : ℕ) → i ≡ length bs → length room ≡ 2 * length bs → take (2 * i) room ++ encode_lower (drop i bs) ≡ encode_lower bs → room ≡ encode_lower bs
+unfolding encode_with
+all_encoded bs room i e len told =
+    let size : 2 * i ≡ length room = omega (arith, e, len) in
+    let full : take (2 * i) room ≡ room = ap (λ k. take k room) size ∙ take-length room in
+    let none : drop i bs ≡ [] = ap (λ k. drop k bs) e ∙ drop-length bs in
+    sym (append-nil room) ∙ (λ k. sym full k ++ encode_with lower_digits (sym none k)) ∙ told

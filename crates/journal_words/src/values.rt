@@ -1,8 +1,8 @@
 //! Values as words.
-ghost use Rattle.std.specs.Prelude.{◌≡◌, ◌≤◌, ◌^◌, ◌*◌, ◌/◌, ◌++◌, ◌∷◌, false, length, Some, None, IfOk, OnOk, IsAscii, option_map, if◌then◌else◌};
+ghost use Rattle.std.specs.Prelude.{◌≡◌, ◌≤◌, ◌^◌, ◌*◌, ◌/◌, ◌++◌, ◌∷◌, ◌<◌, get_or, false, length, Some, None, IfOk, OnOk, IsAscii, option_map, if◌then◌else◌};
 ghost use Rattle.std.specs.List.{list_all};
 ghost use Rattle.std.specs.Str.Parse.{starts_with_minus};
-ghost use Rattle.hex.specs.Hex.{encode_lower};
+ghost use Rattle.hex.specs.Hex.{encode_lower, lower_digits};
 ghost use Rattle.std.specs.String.{string_bytes};
 ghost use Rattle.journal_words.specs.Values.{value_text, below_zero, int_of, is_lower_digit, digit_of, pairs_of, bytes_of, value_of};
 
@@ -189,6 +189,30 @@ fn text_of(digits: &[u8]) -> &str
     }
 }
 
+/// The digits of the numbers below 16, in lower case.
+static LOWER_DIGITS: [u8; 16] = *b"0123456789abcdef";
+
+/// The digit of a number below 16.
+fn lower_digit(value: u8) -> u8
+    requires { value < 16 }
+    ensures { result ≡ get_or lower_digits value 0 }
+{
+    LOWER_DIGITS[value as usize]
+}
+
+/// Writes two lower-case digits for each byte into the room.
+fn encode_into(bytes: &[u8], room: &mut [u8])
+    requires { length room.old ≡ 2 * length bytes.now }
+    ensures { room.new ≡ encode_lower bytes.now }
+{
+    for i in 0..bytes.len() {
+        let high = lower_digit(bytes[i] / 16);
+        let low = lower_digit(bytes[i] % 16);
+        room[2 * i] = high;
+        room[2 * i + 1] = low;
+    }
+}
+
 /// Appends two lower-case digits for each byte. Those of few bytes are written on the stack.
 fn write_digits(alloc: Global, out: &mut String, bytes: &[u8]) -> Result<(), AllocError>
     ensures { OnOk result (string_bytes out.new ≡ string_bytes out.old ++ encode_lower bytes.now) }
@@ -199,10 +223,8 @@ fn write_digits(alloc: Global, out: &mut String, bytes: &[u8]) -> Result<(), All
     }
     let mut room = [0; FEW_DIGITS];
     let digits = &mut room[..2 * bytes.len()];
-    match hex::encode_to_slice(bytes, digits) {
-        Ok(()) => out.push_str(text_of(digits)),
-        Err(_) => unreachable!(),
-    }
+    encode_into(bytes, digits);
+    out.push_str(text_of(digits))
 }
 
 /// Appends the word of a value.
