@@ -1,5 +1,5 @@
 //! A place among cells, or none, in 32 bits.
-ghost use Rattle.std.specs.Prelude.{◌≡◌, ◌≤◌, Some, None, IsTrue};
+ghost use Rattle.std.specs.Prelude.{◌≡◌, ◌≤◌, ◌<◌, ◌+◌, ℕ, Some, None, IsTrue};
 ghost use Rattle.interval_pool.specs.Links.{most_cells};
 
 use std::marker::Model;
@@ -66,6 +66,15 @@ impl Link {
         ensures { IsTrue result → self ≡ None }
     {
         self.code == 0
+    }
+
+    /// The place right behind.
+    pub fn behind(self) -> Link
+        ensures { (place : ℕ) → self ≡ Some place → place < most_cells → result ≡ Some (place + 1) }
+    {
+        Link {
+            code: self.code.wrapping_add(1),
+        }
     }
 
     /// Whether a place comes right behind this one.

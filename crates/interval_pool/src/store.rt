@@ -1,5 +1,5 @@
 //! Cells of lists, and free cells.
-ghost use Rattle.std.specs.Prelude.{◌≡◌, ◌↔◌, ◌<◌, ◌≤◌, ◌+◌, IfSome, IsFalse, IsTrue, OnOk, OnErr, IfErr, length, vec_len, vec_capacity, ◌++◌};
+ghost use Rattle.std.specs.Prelude.{◌≡◌, ◌↔◌, ◌<◌, ◌≤◌, ◌+◌, IfSome, IsFalse, IsTrue, OnOk, OnErr, IfErr, length, vec_len, vec_capacity, ◌++◌, ℕ, Some};
 ghost use Rattle.interval_pool.specs.Cells.{head_at, with_head, with_next, with_numbers};
 ghost use Rattle.interval_pool.specs.Intervals.{listed};
 ghost use Rattle.interval_pool.specs.Links.{most_cells};
@@ -189,13 +189,13 @@ pub fn place_run(
 
 /// The cell of the first of these intervals, if there is one: this place.
 #[inline(always)]
-fn next_of(intervals: &[Interval], at: usize) -> Link
-    ensures { at ≤ most_cells → result ≡ next_of intervals.now at }
+fn next_of(intervals: &[Interval], place: Link) -> Link
+    ensures { (at : ℕ) → (0 < length intervals.now → place ≡ Some at) → result ≡ next_of intervals.now at }
 {
     if intervals.is_empty() {
         Link::none()
     } else {
-        Link::to(at)
+        place
     }
 }
 
@@ -208,14 +208,16 @@ fn push_cells(cells: &mut Vec<Cell>, list: u32, intervals: &[Interval])
     ensures capacity { vec_capacity cells.new ≡ vec_capacity cells.old }
 {
     let mut rest = intervals;
+    let mut behind = Link::to(cells.as_slice().len() + 1);
     'push: while let Some((numbers, more)) = rest.split_first() {
-        let next = next_of(more, cells.as_slice().len() + 1);
+        let next = next_of(more, behind);
         cells.push_reserved(Cell {
             lo: numbers.lo,
             hi: numbers.hi,
             next,
             owner: list,
         });
+        behind = behind.behind();
         rest = more;
     }
 }

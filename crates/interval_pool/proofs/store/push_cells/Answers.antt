@@ -1,4 +1,4 @@
-use Rattle.std.proofs.Common.{◌≡◌, ◌∙◌, ◌+◌, ◌++◌, ◌∷◌, [], List, length, ap, sym, arith, length-append}
+use Rattle.std.proofs.Common.{◌≡◌, ◌∙◌, ◌+◌, ◌++◌, ◌∷◌, [], Some, List, length, ap, sym, arith, length-append}
 use Rattle.std.proofs.lemmas.List.{append-nil, nil_from_length}
 use Rattle.interval_pool.specs.declared.cells.Cell.{Cell}
 use Rattle.interval_pool.specs.declared.interval.Interval.{Interval}
@@ -12,17 +12,18 @@ push-preserved c =
     let s : Interval = c.in-Some.numbers.now in
     let ss : List Interval = c.in-Some.more.now in
     let parts : c.push.rest.now ≡ s ∷ ss = c.in-Some.ensures.cases.0 in
-    let at = ap length c.as_slice.ensures.value in
     let many = ap length parts in
     let small = c.push.invariant.small in
     let room = c.push.invariant.room in
-    let next : c.next_of-next.result ≡ next_of ss (length items + 1) = c.next_of-next.ensures (omega (at, many, small, arith)) ∙ ap (λ n. next_of ss (n + 1)) at in
+    let behind = c.push.invariant.behind in
+    let next : c.next_of-next.result ≡ next_of ss (length items + 1) = c.next_of-next.ensures (length items + 1) (λ some. behind (omega (many, some, arith))) in
     let made = c.push_reserved.ensures.items in
     let size = ap length made ∙ length-append items (record { lo = s.lo; hi = s.hi; next = c.next_of-next.result; owner = c.args.list } ∷ []) in
     let len = c.push_reserved.ensures.len in
     let same = c.push_reserved.ensures.capacity in
     record {
       items = run_more items c.push_reserved.new.self.items c.args.list c.next_of-next.result s ss next made ∙ (ap (λ is. items ++ run c.args.list (length items) is) (sym parts) ∙ c.push.invariant.items);
+      behind = λ some. c.behind-behind.ensures (length items + 1) (behind (omega (many, some, arith))) (omega (many, some, small, arith)) ∙ ap (λ n. Some (n + 1)) (sym size);
       small = omega (size, many, small, arith);
       room = omega (len, same, many, room, arith);
       capacity = same ∙ c.push.invariant.capacity;
