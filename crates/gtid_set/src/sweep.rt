@@ -239,6 +239,14 @@ pub fn cut(out: &mut Vec<Span>, span: &Span, holes: &Cursor<'_>) -> Result<(), A
     requires reach { all_reach span.now holes.now ≡ true }
     ensures { OnOk result (Cuts out.old.items span.now holes.now out.new.items) }
 {
+    let Some(first) = meeting(holes, span) else {
+        out.push(*span)?;
+        return Ok(());
+    };
+    if span.hi <= first.hi {
+        push_front(out, span, &first)?;
+        return Ok(());
+    }
     let mut left = *span;
     let mut rest = holes.again();
     while let Some(hole) = meeting(&rest, &left) {
@@ -283,6 +291,9 @@ pub fn overlap(out: &mut Vec<Span>, span: &Span, others: &Cursor<'_>) -> Result<
     requires reach { all_reach span.now others.now ≡ true }
     ensures { OnOk result (Overlaps out.old.items span.now others.now out.new.items) }
 {
+    let Some(_first) = meeting(others, span) else {
+        return Ok(());
+    };
     let mut rest = others.again();
     while let Some(other) = meeting(&rest, span) {
         out.push(Span {

@@ -18,13 +18,13 @@ loop-other-init c = record {
 pub loop-other-preserved : goal.loop-other-preserved
 loop-other-preserved c =
     let t = c.args.span.now in
-    let other = c.in-Some.other in
+    let other = c.in-Some-meeting.other in
     let more = c.advance.new.self in
     let inv = c.loop-other.invariant in
     let old = c.loop-other.out.items in
     let new = c.push.new.self.items in
     let rest = c.loop-other.rest in
-    let h = hole_of rest t other more (subst (Meets rest t other) (sym c.advance.ensures) c.in-Some.ensures.found) inv.rest inv.reach in
+    let h = hole_of rest t other more (subst (Meets rest t other) (sym c.advance.ensures) c.in-Some-meeting.ensures.found) inv.rest inv.reach in
     let e : new ≡ old ++ common_of t other ∷ [] =
     c.in_ok-push.ensures.items ∙ (λ i. old ++ (record { source = other.source; lo = c.max.ensures i; hi = c.min.ensures i }) ∷ []) in
     record {
@@ -43,5 +43,5 @@ returns c =
     record {
       merged = inv.merged;
       later = inv.later;
-      has = λ q. overlap_end (has c.loop-other.out.items q) (within t q) (has c.loop-other.rest q) _ (c.in_default.ensures.apart refl q) (inv.has q);
+      has = λ q. overlap_end (has c.loop-other.out.items q) (within t q) (has c.loop-other.rest q) _ (c.in_default-meeting.ensures.apart refl q) (inv.has q);
     }
