@@ -1,1 +1,3 @@
 pub mod QuotedLaws
+pub mod TokenLaws
+pub mod ValueLaws

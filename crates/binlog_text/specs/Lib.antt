@@ -1,1 +1,3 @@
 pub mod Quoted
+pub mod Tokens
+pub mod Values

@@ -2,5 +2,10 @@
 #![tactic(auto)]
 
 mod quoted;
+mod tokens;
+mod types;
+mod values;
 
 pub use quoted::unquoted;
+pub use types::{ColumnType, IntegerType};
+pub use values::read_value;
