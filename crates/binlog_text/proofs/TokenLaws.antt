@@ -4,7 +4,7 @@ use Rattle.std.specs.Prelude.{option_map, ◌&&◌, MatchOption, ◌≢◌}
 use Rattle.std.proofs.lemmas.Bool.{eqb-true}
 use Rattle.std.proofs.lemmas.Option.{same_Some}
 use Rattle.gtid_text.proofs.Turns.{chosen}
-use Rattle.binlog_text.specs.Tokens.{after, before, behind, cut_at, lacks, nothing_in, ◌>>=◌}
+use Rattle.binlog_text.specs.Tokens.{after, before, behind, cut_at, lacks, nothing_in, last_behind, last_cut, ◌>>=◌}
 
 pub bind_some : {A B : Type 0} (o : Option A) (f : A → Option B) (y : B) → (o >>= f) ≡ Some y → (x : A) × (o ≡ Some x) × (f x ≡ Some y)
 bind_some None f y e = absurd cc
@@ -79,3 +79,23 @@ stripped view front text None h = none (after front text) refl
     none : (o : Option (List ℕ)) → after front text ≡ o → None ≡ o
     none None e = refl
     none (Some rest) e = absurd (h rest (after_found front text rest e))
+
+-- ---- the last byte
+
+last_behind_again : (b : ℕ) (front : List ℕ) (last : ℕ) → last_cut (b ∷ (front ++ last ∷ [])) ≡ Some (b ∷ front, last)
+last_behind_again b [] last = refl
+last_behind_again b (c ∷ cs) last =
+    let rest : last_behind c (cs ++ last ∷ []) ≡ (c ∷ cs, last) = same_Some _ _ (last_behind_again c cs last) in
+    ap (λ (p : List ℕ × ℕ). Some (b ∷ p.0, p.1)) rest
+
+pub last_again : (front : List ℕ) (last : ℕ) → last_cut (front ++ last ∷ []) ≡ Some (front, last)
+last_again [] last = refl
+last_again (b ∷ front) last = last_behind_again b front last
+
+last_behind_found : (b : ℕ) (bs : List ℕ) → b ∷ bs ≡ (last_behind b bs).0 ++ (last_behind b bs).1 ∷ []
+last_behind_found b [] = refl
+last_behind_found b (c ∷ cs) = ap (λ (xs : List ℕ). b ∷ xs) (last_behind_found c cs)
+
+pub last_found : (text : List ℕ) (x : List ℕ × ℕ) → last_cut text ≡ Some x → text ≡ x.0 ++ x.1 ∷ []
+last_found [] x e = absurd cc
+last_found (b ∷ bs) x e = last_behind_found b bs ∙ ap (λ (y : List ℕ × ℕ). y.0 ++ y.1 ∷ []) (same_Some _ _ e)

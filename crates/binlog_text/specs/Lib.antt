@@ -1,3 +1,6 @@
 pub mod Quoted
 pub mod Tokens
 pub mod Values
+pub mod Lines
+pub mod Reading
+pub mod Said

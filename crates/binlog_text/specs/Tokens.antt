@@ -33,3 +33,12 @@ lacks c bs = list_all (λ b. not (b == c)) bs
 abbrev pub nothing_in : List ℕ → Option (Unit {0})
 nothing_in [] = Some tt
 nothing_in (b ∷ bs) = None
+
+abbrev pub last_behind : ℕ → List ℕ → List ℕ × ℕ
+last_behind b [] = ([], b)
+last_behind b (c ∷ cs) = (b ∷ (last_behind c cs).0, (last_behind c cs).1)
+
+-- the last byte, and what stands before it
+abbrev pub last_cut : List ℕ → Option (List ℕ × ℕ)
+last_cut [] = None
+last_cut (b ∷ bs) = Some (last_behind b bs)
