@@ -4,3 +4,4 @@ pub mod Values
 pub mod Lines
 pub mod Reading
 pub mod Said
+pub mod Types

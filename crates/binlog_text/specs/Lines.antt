@@ -100,7 +100,7 @@ comma false = []
 -- no comma stands at its end, unless one more does
 abbrev pub IsWhole : Bool → List ℕ → Type 0
 IsWhole true sources = Unit {0}
-IsWhole false sources = ends_with nat_eq sources (44 ∷ []) ≡ false
+IsWhole false sources = (front : List ℕ) → sources ≡ front ++ 44 ∷ [] → ⊥
 
 -- ---- lines that are known by their fronts and ends
 

@@ -5,10 +5,13 @@ mod lines;
 mod quoted;
 mod reading;
 mod tokens;
+mod type_text;
 mod types;
 mod values;
 
 pub use lines::{Column, Event, Line, Mark, Operation};
 pub use quoted::unquoted;
+pub use reading::read_line;
+pub use type_text::{compares_bytes, type_named};
 pub use types::{ColumnType, IntegerType};
 pub use values::read_value;

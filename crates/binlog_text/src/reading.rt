@@ -175,7 +175,7 @@ fn sources_in(text: &[u8]) -> Option<Line<'_>>
     }
 }
 
-fn begins(text: &[u8], front: &[u8]) -> bool
+pub fn begins(text: &[u8], front: &[u8]) -> bool
     ensures { result ≡ begins front.now text.now }
 {
     after(text, front).is_some()
@@ -417,4 +417,15 @@ fn line_of(text: &[u8]) -> Option<Line<'_>>
         return head_line(rest);
     }
     plain_line(text)
+}
+
+/// What a line says. A line that is none of mysqlbinlog's, or of which nothing is known, says nothing.
+pub fn read_line(text: &[u8]) -> Option<Line<'_>>
+    ensures exact { option_map said result ≡ line_of text.now }
+    // What is read is what the line says.
+    ensures found { IfSome result (λ l. IsLine (said l) text.now) }
+    // What a line says is read.
+    ensures only { (l : Said) → IsLine l text.now → option_map said result ≡ Some l }
+{
+    line_of(text)
 }
