@@ -82,10 +82,7 @@ abbrev NoSetting : List ℕ → Type 0
 NoSetting text = NoOther text × (is_setting text ≡ false)
 
 savepoint_alone : (text : List ℕ) → is_savepoint text ≡ true → NoSetting text
-savepoint_alone text e = elim (either (quotes_then [] (after (codes "SAVEPOINT `") text)) _ e) [
-  | inl p ↦ fronted (codes "SAVEPOINT `") text NoSetting (quoted_front (codes "SAVEPOINT `") [] text (after (codes "SAVEPOINT `") text) refl p) (λ rest. ((refl, refl, refl, refl, refl, refl, refl, refl), refl))
-  | inr p ↦ fronted (codes "ROLLBACK TO `") text NoSetting (quoted_front (codes "ROLLBACK TO `") [] text (after (codes "ROLLBACK TO `") text) refl p) (λ rest. ((refl, refl, refl, refl, refl, refl, refl, refl), refl))
-]
+savepoint_alone text e = fronted (codes "SAVEPOINT `") text NoSetting (quoted_front (codes "SAVEPOINT `") [] text (after (codes "SAVEPOINT `") text) refl e) (λ rest. ((refl, refl, refl, refl, refl, refl, refl, refl), refl))
 
 savepoint_again : (text : List ℕ) → is_savepoint text ≡ true → line_of text ≡ Some (OfMark marks.Savepoint)
 savepoint_again text e = let s = savepoint_alone text e in let n = s.0 in rw (n.0, n.1, n.2, n.3, n.4, n.5, n.6, n.7, s.1, e) refl

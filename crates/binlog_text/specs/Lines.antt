@@ -148,8 +148,9 @@ quotes_then rest (Some text) = named_then rest (cut_at 96 text)
 abbrev pub is_setting : List ℕ → Bool
 is_setting text = (begins_setting text && ends_setting text) || quotes_then (codes "/*!*/;") (after (codes "use `") text)
 
+-- the return to a savepoint is none: it takes rows back that stand before it
 abbrev pub is_savepoint : List ℕ → Bool
-is_savepoint text = quotes_then [] (after (codes "SAVEPOINT `") text) || quotes_then [] (after (codes "ROLLBACK TO `") text)
+is_savepoint text = quotes_then [] (after (codes "SAVEPOINT `") text)
 
 abbrev pub is_frame : List ℕ → Bool
 is_frame text =

@@ -39,7 +39,7 @@ pub enum Mark {
     Ended,
     /// The `COMMIT` of an Xid event.
     Committed,
-    /// A savepoint, or the return to one.
+    /// A savepoint.
     Savepoint,
     /// The GTIDs of a file have ended.
     Automatic,

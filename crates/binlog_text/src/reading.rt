@@ -342,7 +342,7 @@ fn is_setting(text: &[u8]) -> bool
 fn is_savepoint(text: &[u8]) -> bool
     ensures { result ≡ is_savepoint text.now }
 {
-    quotes_then(after(text, b"SAVEPOINT `"), b"") || quotes_then(after(text, b"ROLLBACK TO `"), b"")
+    quotes_then(after(text, b"SAVEPOINT `"), b"")
 }
 
 fn is_frame(text: &[u8]) -> bool
