@@ -1,0 +1,4 @@
+pub mod Tables
+pub mod Bodies
+pub mod Machine
+pub mod Drafts

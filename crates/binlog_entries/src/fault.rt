@@ -1,0 +1,49 @@
+//! Why a line is not taken.
+ghost use Rattle.std.specs.Prelude.{◌≡◌};
+ghost use Rattle.binlog_entries.specs.declared.fault.Fault.TheVariants.{Memory};
+
+use std::alloc::{AllocError, AllocFailed};
+
+/// What is wrong with a line. The first in the order of the reading is named.
+#[derive(Clone, Copy, Debug, PartialEq, Eq)]
+pub enum Refusal {
+    /// It is none of mysqlbinlog's lines, or stands where none of its kind does. A statement's text is told so.
+    Format,
+    /// A GTID that is none of ours, or in the midst of a transaction.
+    Gtid,
+    /// A transaction's line outside of one, or a second beginning.
+    Transaction,
+    /// A table that no line maps, or a name that is none of ours.
+    Table,
+    /// A type whose values are not printed whole.
+    Type,
+    /// A row that lacks a column or a part, or has one too many.
+    Columns,
+    /// A text that is none of a value of its column.
+    Value,
+}
+
+/// Why a line is not taken.
+#[derive(Clone, Copy, Debug, PartialEq, Eq)]
+pub enum Fault {
+    /// Memory was refused.
+    Memory,
+    /// The line is refused.
+    Refused(Refusal),
+}
+
+impl From<AllocError> for Fault {
+    ghost from_gives = { λ _ e. e ≡ Memory };
+
+    fn from(_e: AllocError) -> Fault {
+        Fault::Memory
+    }
+}
+
+impl<T: Drop> From<AllocFailed<T>> for Fault {
+    ghost from_gives = { λ _ e. e ≡ Memory };
+
+    fn from(_e: AllocFailed<T>) -> Fault {
+        Fault::Memory
+    }
+}

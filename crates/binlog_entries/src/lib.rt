@@ -1,0 +1,10 @@
+//! The entries that the text of a binary log tells, out of its lines.
+#![tactic(auto)]
+
+mod bodies;
+mod draft;
+mod fault;
+mod tables;
+
+pub use draft::Draft;
+pub use fault::{Fault, Refusal};
