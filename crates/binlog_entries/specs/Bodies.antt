@@ -98,3 +98,14 @@ behind body kinds.Committed = bodies.Done
 behind body kinds.Automatic = bodies.FileEnd
 behind body kinds.Closed = bodies.Closed
 behind body _ = body
+
+-- what the line behind one is a part of
+abbrev pub next_body : Body → Said → Body
+next_body body (OfHead event) = body_of event
+next_body body (OfMark mark) = behind body (kind_of (OfMark mark))
+next_body body (OfTable database table) = behind body (kind_of (OfTable database table))
+next_body body (OfColumn c) = behind body (kind_of (OfColumn c))
+next_body body (OfGtid gtid) = behind body (kind_of (OfGtid gtid))
+next_body body (OfSources sources more) = behind body (kind_of (OfSources sources more))
+next_body body (OfRow operation database table) = behind body (kind_of (OfRow operation database table))
+next_body body (OfValue n text) = behind body (kind_of (OfValue n text))

@@ -20,7 +20,7 @@ use Rattle.binlog_text.specs.declared.lines.Operation.TheVariants as operations
 use Rattle.binlog_text.specs.Lines.{Column, Said, OfMark, OfHead, OfTable, OfColumn, OfGtid, OfSources, OfRow, OfValue}
 use Rattle.binlog_text.specs.Reading.{line_of}
 use Rattle.binlog_entries.specs.Tables.{Table, table_named}
-use Rattle.binlog_entries.specs.Bodies.{kind_of, takes, body_of, behind}
+use Rattle.binlog_entries.specs.Bodies.{kind_of, takes, next_body}
 use Rattle.binlog_entries.specs.declared.bodies.Body.{Body}
 use Rattle.binlog_entries.specs.declared.bodies.Body.TheVariants as bodies
 use Rattle.binlog_entries.specs.declared.draft.Stage.{Stage}
@@ -300,16 +300,6 @@ told s (OfSources sources more) = Ok s
 told s (OfRow operation database table) = row_line s operation database table
 told s (OfValue n text) = value_line s n text
 
-abbrev pub next_body : Body → Said → Body
-next_body body (OfHead event) = body_of event
-next_body body (OfMark mark) = behind body (kind_of (OfMark mark))
-next_body body (OfTable database table) = behind body (kind_of (OfTable database table))
-next_body body (OfColumn c) = behind body (kind_of (OfColumn c))
-next_body body (OfGtid gtid) = behind body (kind_of (OfGtid gtid))
-next_body body (OfSources sources more) = behind body (kind_of (OfSources sources more))
-next_body body (OfRow operation database table) = behind body (kind_of (OfRow operation database table))
-next_body body (OfValue n text) = behind body (kind_of (OfValue n text))
-
 unfoldable pub step : Standing → Said → Result Standing Refusal
 step s l =
     if takes s.body (kind_of l) then (do
@@ -343,3 +333,8 @@ start = record {
   changes = [];
   entries = [];
 }
+
+-- the last file has ended
+abbrev pub is_closed : Body → Bool
+is_closed bodies.Closed = true
+is_closed _ = false

@@ -1,7 +1,7 @@
 //! Which lines stand where.
 ghost use Rattle.std.specs.Prelude.{◌≡◌};
 ghost use Rattle.binlog_text.specs.Said.{said};
-ghost use Rattle.binlog_entries.specs.Bodies.{kind_of_mark, kind_of, body_of, may_end, has_comments, takes, behind};
+ghost use Rattle.binlog_entries.specs.Bodies.{kind_of_mark, kind_of, body_of, may_end, has_comments, takes, behind, next_body};
 
 use binlog_text::{Event, Line, Mark, Operation};
 
@@ -89,7 +89,7 @@ pub fn kind_of(line: &Line<'_>) -> Kind
 }
 
 /// The body of an event.
-pub fn body_of(event: Event) -> Body
+fn body_of(event: Event) -> Body
     ensures { result ≡ body_of event }
 {
     match event {
@@ -162,7 +162,7 @@ impl Body {
     }
 
     /// What the line behind one of this kind is a part of, where that is no head.
-    pub fn behind(self, kind: Kind) -> Body
+    fn behind(self, kind: Kind) -> Body
         ensures { result ≡ behind self kind }
     {
         match kind {
@@ -182,5 +182,22 @@ impl Body {
             | Kind::Sources
             | Kind::Row => self,
         }
+    }
+}
+
+/// What the line behind one is a part of.
+pub fn next_body(body: Body, line: &Line<'_>) -> Body
+    ensures { result ≡ next_body body (said line.now) }
+{
+    let kind = kind_of(line);
+    match line {
+        Line::Head(event) => body_of(*event),
+        Line::Mark(_)
+        | Line::TableMap(_, _)
+        | Line::Column(_)
+        | Line::Gtid(_)
+        | Line::Sources(_, _)
+        | Line::Row(_, _, _)
+        | Line::Value(_, _) => body.behind(kind),
     }
 }

@@ -2,7 +2,7 @@
 ghost use Rattle.std.specs.Prelude.{◌≡◌, length, IfOk, option_map};
 ghost use Rattle.binlog_entries.specs.Machine.{Finds, is_whole, change_of, is_database, may_be_database, same_operation, has_rows_of, before_due, after_due, type_at, typed_value};
 
-use crate::bodies::{Body, body_of, kind_of};
+use crate::bodies::{Body, kind_of, next_body};
 use crate::fault::{Fault, Refusal};
 use crate::tables::{Mapped, name_of, table_named};
 use binlog_text::{
@@ -187,7 +187,7 @@ fn typed_value(alloc: Global, column: Option<ColumnType>, text: &[u8]) -> Result
 impl Draft {
     ghost use Rattle.std.specs.Prelude.{[], None, Ok, Err, if◌then◌else◌};
     ghost use Rattle.binlog_text.specs.Said.{said, column_said};
-    ghost use Rattle.binlog_entries.specs.Machine.{Takes, Standing, finished, open_row, known_name, begin_row, row_line, where_line, set_line, next_value, value_in, value_line, place_line, map_table, table_line, add_column, column_line, commit_line, begin_line, gtid_line, head_line, mark_line, told, step, judge, start, same_stage};
+    ghost use Rattle.binlog_entries.specs.Machine.{Takes, Standing, finished, open_row, known_name, begin_row, row_line, where_line, set_line, next_value, value_in, value_line, place_line, map_table, table_line, add_column, column_line, commit_line, begin_line, gtid_line, head_line, mark_line, told, step, judge, start, same_stage, is_closed};
     ghost use Rattle.binlog_entries.specs.declared.fault.Refusal.TheVariants as refusals;
     ghost use Rattle.binlog_entries.specs.Drafts.{standing};
 
@@ -524,5 +524,42 @@ impl Draft {
             }
             Line::Value(n, text) => self.value_line(alloc, *n, text),
         }
+    }
+
+    #[tactic(auto, unfolding(crate::specs::Machine::step))]
+    fn step(&mut self, alloc: Global, line: &Line<'_>) -> Result<(), Fault>
+        ensures { Takes result (step (standing self.old) (said line.now)) (standing self.new) }
+    {
+        if !self.body.takes(kind_of(line)) {
+            return Err(Fault::Refused(Refusal::Format));
+        }
+        self.told(alloc, line)?;
+        self.body = next_body(self.body, line);
+        Ok(())
+    }
+
+    /// Takes the next line, or says what is wrong with it. After an error no more lines are to come.
+    #[tactic(auto, unfolding(crate::specs::Machine::judge))]
+    pub fn take_line(&mut self, alloc: Global, text: &[u8]) -> Result<(), Fault>
+        ensures { Takes result (judge (standing self.old) text.now) (standing self.new) }
+    {
+        match read_line(text) {
+            Some(line) => self.step(alloc, &line),
+            None => Err(Fault::Refused(Refusal::Format)),
+        }
+    }
+
+    /// Whether the last file has ended.
+    pub fn is_ended(&self) -> bool
+        ensures { result ≡ is_closed (standing self.now).body }
+    {
+        self.body == Body::Closed
+    }
+
+    /// The entries, in order.
+    pub fn into_entries(self) -> Vec<Entry>
+        ensures { result.items ≡ (standing self).entries }
+    {
+        self.entries
     }
 }
