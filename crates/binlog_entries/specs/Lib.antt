@@ -2,3 +2,4 @@ pub mod Tables
 pub mod Bodies
 pub mod Machine
 pub mod Drafts
+pub mod Meaning

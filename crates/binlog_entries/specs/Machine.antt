@@ -19,7 +19,7 @@ use Rattle.binlog_text.specs.declared.lines.Operation.{Operation}
 use Rattle.binlog_text.specs.declared.lines.Operation.TheVariants as operations
 use Rattle.binlog_text.specs.Lines.{Column, Said, OfMark, OfHead, OfTable, OfColumn, OfGtid, OfSources, OfRow, OfValue}
 use Rattle.binlog_text.specs.Reading.{line_of}
-use Rattle.binlog_entries.specs.Tables.{Table, table_named}
+use Rattle.binlog_entries.specs.Tables.{Table, table_named, with_mapping, type_at}
 use Rattle.binlog_entries.specs.Bodies.{kind_of, takes, next_body}
 use Rattle.binlog_entries.specs.declared.bodies.Body.{Body}
 use Rattle.binlog_entries.specs.declared.bodies.Body.TheVariants as bodies
@@ -177,14 +177,6 @@ where_line s = if is_some s.row && before_due s.operation s.part then Ok (record
 unfoldable pub set_line : Standing → Result Standing Refusal
 set_line s = if is_some s.row && after_due s.operation s.part then Ok (record s { part = parts.After }) else Err refusals.Columns
 
-abbrev pub type_in : Option Table → ℕ → Option ColumnType
-type_in None place = None
-type_in (Some t) place = slice_get t.columns place
-
-abbrev pub type_at : Option (List ℕ) → List Table → ℕ → Option ColumnType
-type_at None tables place = None
-type_at (Some table) tables place = type_in (table_named table tables) place
-
 -- the value of the next column
 abbrev pub typed_value : Option ColumnType → List ℕ → Result Value Refusal
 typed_value None text = Err refusals.Columns
@@ -206,10 +198,6 @@ unfoldable pub value_line : Standing → ℕ → List ℕ → Result Standing Re
 value_line s n text = value_in s s.part n text
 
 -- ---- tables
-
-abbrev pub with_mapping : List Table → Option Table → List Table
-with_mapping tables None = tables
-with_mapping tables (Some t) = tables ++ t ∷ []
 
 -- an event has ended
 unfoldable pub place_line : Standing → Result Standing Refusal
@@ -338,3 +326,8 @@ start = record {
 abbrev pub is_closed : Body → Bool
 is_closed bodies.Closed = true
 is_closed _ = false
+
+-- what lines make, one after another
+abbrev pub runs : Standing → List Said → Result Standing Refusal
+runs s [] = Ok s
+runs s (l ∷ ls) = step s l >>= λ t. runs t ls

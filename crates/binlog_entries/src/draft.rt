@@ -1,6 +1,7 @@
 //! Entries as far as the lines have come.
 ghost use Rattle.std.specs.Prelude.{◌≡◌, length, IfOk, option_map};
-ghost use Rattle.binlog_entries.specs.Machine.{Finds, is_whole, change_of, is_database, may_be_database, same_operation, has_rows_of, before_due, after_due, type_at, typed_value};
+ghost use Rattle.binlog_entries.specs.Machine.{Finds, is_whole, change_of, is_database, may_be_database, same_operation, has_rows_of, before_due, after_due, typed_value};
+ghost use Rattle.binlog_entries.specs.Tables.{type_at};
 
 use crate::bodies::{Body, kind_of, next_body};
 use crate::fault::{Fault, Refusal};

@@ -4,7 +4,9 @@
 mod bodies;
 mod draft;
 mod fault;
+mod laws;
 mod tables;
 
 pub use draft::Draft;
 pub use fault::{Fault, Refusal};
+pub use laws::entries_are_told;
