@@ -136,7 +136,7 @@ joined_spelled stages.Idle gtid cs c row b e = absurd cc
 joined_spelled stages.Named gtid cs c row b e = absurd cc
 joined_spelled stages.Begun gtid cs c row b e =
     ap (λ (xs : List Meaning). Names (gtid_text gtid) ∷ xs)
-      (append-nil (flat_map spelled_change (cs ++ c ∷ [])) ∙ flat_map_more spelled_change cs c ∙ ap (λ (xs : List Meaning). flat_map spelled_change cs ++ xs) (sym e))
+    (append-nil (flat_map spelled_change (cs ++ c ∷ [])) ∙ flat_map_more spelled_change cs c ∙ ap (λ (xs : List Meaning). flat_map spelled_change cs ++ xs) (sym e))
 
 -- a state with a row is one of a transaction that has begun
 row_begun : (s : Standing) (table : List ℕ) → Sound s → s.row ≡ Some table → is_begun s.stage ≡ true
@@ -167,7 +167,7 @@ finish_some : (s : Standing) (table : List ℕ) (n : ℕ) → Sound s → s.row 
 finish_some s table n sound e whole =
     let b = row_begun s table sound e in
     let spelled_as : row_of s ≡ spelled_change (change_of s.operation table s.before s.after) =
-      ap (λ (r : Option (List ℕ)). spelled_row r s.operation s.part s.before s.after) e ∙ change_spelled s.operation s.part table s.before s.after n whole in
+    ap (λ (r : Option (List ℕ)). spelled_row r s.operation s.part s.before s.after) e ∙ change_spelled s.operation s.part table s.before s.after n whole in
     record {
       made = s.changes ++ change_of s.operation table s.before s.after ∷ [];
       is = refl;
@@ -211,7 +211,7 @@ rest_law s t body l sound h rows closed nothing behind_is =
     let a = bind_ok (finished s) _ t h in
     let f = finish_law s a.0 sound a.1 in
     let is : t ≡ record (bare s f.made) { tables = with_mapping s.tables s.mapping; mapping = None } =
-      sym (same_ok _ t a.2) ∙ ap (λ (u : Standing). record u { tables = with_mapping u.tables u.mapping; mapping = None }) f.is in
+    sym (same_ok _ t a.2) ∙ ap (λ (u : Standing). record u { tables = with_mapping u.tables u.mapping; mapping = None }) f.is in
     subst (λ (u : Standing). Tells s l (record u { body = body })) (sym is) (record {
       spells = f.spells ∙ sym (append-nil (spelled_state s)) ∙ ap (λ (xs : List Meaning). spelled_state s ++ xs) (sym nothing);
       context = sym behind_is;
@@ -329,9 +329,9 @@ begin_law s t sound at h =
     let row_none : row_of s ≡ [] = ap (λ (r : Option (List ℕ)). spelled_row r s.operation s.part s.before s.after) quiet.1 in
     subst (λ (u : Standing). Tells s (OfMark marks.Begin) (record u { body = bodies.Statement })) p.1 (record {
       spells =
-        ap (λ (xs : List Meaning). spelled s.entries ++ (Names (gtid_text s.gtid) ∷ xs)) ((λ i. flat_map spelled_change (quiet.0 i) ++ row_none i))
-        ∙ ap (λ (stage : Stage). spelled s.entries ++ spelled_open stage s.gtid s.changes (row_of s)) (sym named)
-        ∙ sym (append-nil (spelled_state s));
+          ap (λ (xs : List Meaning). spelled s.entries ++ (Names (gtid_text s.gtid) ∷ xs)) ((λ i. flat_map spelled_change (quiet.0 i) ++ row_none i))
+          ∙ ap (λ (stage : Stage). spelled s.entries ++ spelled_open stage s.gtid s.changes (row_of s)) (sym named)
+          ∙ sym (append-nil (spelled_state s));
       context = refl;
       sound = record {
         quiet = λ b. absurd (let bad : true ≡ false = b in cc);
@@ -355,12 +355,12 @@ commit_law s t mark body sound outside rows closed commits same h =
     let none = sound.inside outside in
     let row_none : row_of s ≡ [] = ap (λ (r : Option (List ℕ)). spelled_row r s.operation s.part s.before s.after) none in
     let old : spelled_state s ≡ spelled s.entries ++ (Names (gtid_text s.gtid) ∷ flat_map spelled_change s.changes) =
-      (λ i. spelled s.entries ++ spelled_open (begun i) s.gtid s.changes (row_none i))
-      ∙ ap (λ (xs : List Meaning). spelled s.entries ++ (Names (gtid_text s.gtid) ∷ xs)) (append-nil (flat_map spelled_change s.changes)) in
+    (λ i. spelled s.entries ++ spelled_open (begun i) s.gtid s.changes (row_none i))
+    ∙ ap (λ (xs : List Meaning). spelled s.entries ++ (Names (gtid_text s.gtid) ∷ xs)) (append-nil (flat_map spelled_change s.changes)) in
     let new : spelled (s.entries ++ open_entry s ∷ []) ++ [] ≡ (spelled s.entries ++ (Names (gtid_text s.gtid) ∷ flat_map spelled_change s.changes)) ++ Commits ∷ [] =
-      append-nil (spelled (s.entries ++ open_entry s ∷ []))
-      ∙ flat_map_more spelled_entry s.entries (open_entry s)
-      ∙ sym (append_assoc (spelled s.entries) (Names (gtid_text s.gtid) ∷ flat_map spelled_change s.changes) (Commits ∷ [])) in
+    append-nil (spelled (s.entries ++ open_entry s ∷ []))
+    ∙ flat_map_more spelled_entry s.entries (open_entry s)
+    ∙ sym (append_assoc (spelled s.entries) (Names (gtid_text s.gtid) ∷ flat_map spelled_change s.changes) (Commits ∷ [])) in
     subst (λ (u : Standing). Tells s (OfMark mark) (record u { body = body })) p.1 (record {
       spells = new ∙ ap (λ (xs : List Meaning). xs ++ Commits ∷ []) (sym old) ∙ ap (λ (xs : List Meaning). spelled_state s ++ xs) (sym commits);
       context = sym same;
@@ -383,9 +383,9 @@ gtid_law s t word sound at h =
     let text = (gtid_found word i.1 i.2).0 in
     subst (λ (u : Standing). Tells s (OfGtid word) u) i.3 (record {
       spells =
-        ap (λ (xs : List ℕ). spelled s.entries ++ Names xs ∷ []) (sym text)
-        ∙ ap (λ (xs : List Meaning). xs ++ Names word ∷ []) (sym (append-nil (spelled s.entries)))
-        ∙ ap (λ (stage : Stage). (spelled s.entries ++ spelled_open stage s.gtid s.changes (row_of s)) ++ Names word ∷ []) (sym idle);
+          ap (λ (xs : List ℕ). spelled s.entries ++ Names xs ∷ []) (sym text)
+          ∙ ap (λ (xs : List Meaning). xs ++ Names word ∷ []) (sym (append-nil (spelled s.entries)))
+          ∙ ap (λ (stage : Stage). (spelled s.entries ++ spelled_open stage s.gtid s.changes (row_of s)) ++ Names word ∷ []) (sym idle);
       context = refl;
       sound = record {
         quiet = λ b. quiet;
@@ -400,12 +400,15 @@ gtid_law s t word sound at h =
     stage_idle stages.Idle e = refl
     stage_idle stages.Named e = absurd cc
     stage_idle stages.Begun e = absurd cc
+
     closed_gtid : (body : Body) → takes body kinds.Gtid ≡ true → is_closed body ≡ true → ⊥
     closed_gtid bodies.Gtid e c = absurd cc
     closed_gtid _ e c = absurd cc
+
     named : (s : Standing) (word : List ℕ) (o : Option Gtid) (t : Standing) → (or_refused refusals.Gtid o >>= λ g. Ok (record s { stage = stages.Named; gtid = g })) ≡ Ok t → (g : Gtid) × (o ≡ Some g) × (record s { stage = stages.Named; gtid = g } ≡ t)
     named s word None t e = absurd cc
     named s word (Some g) t e = (g, refl, same_ok _ t e)
+
     idle_or : (stage : Stage) (s : Standing) (word : List ℕ) (t : Standing) → cond (not (is_idle stage)) (Err refusals.Gtid) (or_refused refusals.Gtid (gtid_of_word word) >>= λ g. Ok (record s { stage = stages.Named; gtid = g })) ≡ Ok t → (is_idle stage ≡ true) × (g : Gtid) × (gtid_of_word word ≡ Some g) × (record s { stage = stages.Named; gtid = g } ≡ t)
     idle_or stages.Idle s word t e = let n = named s word (gtid_of_word word) t e in (refl, n.0, n.1, n.2)
     idle_or stages.Named s word t e = absurd cc
@@ -536,14 +539,14 @@ value_by s t parts.Before n text sound rows is h =
     let a = bind_ok (next_value s (length s.before) n text) _ t h in
     let v = next_found s (length s.before) n text a.0 a.1 in
     let row : spelled_row s.row s.operation s.part (s.before ++ a.0 ∷ []) s.after ≡ row_of s ++ Holds n (Some a.0) ∷ [] =
-      subst (λ (p : Part). spelled_row s.row s.operation p (s.before ++ a.0 ∷ []) s.after ≡ spelled_row s.row s.operation p s.before s.after ++ Holds n (Some a.0) ∷ []) (sym is)
-        (before_more s.row v.row.0 s.operation s.before s.after n a.0 v.row.1 v.number) in
+    subst (λ (p : Part). spelled_row s.row s.operation p (s.before ++ a.0 ∷ []) s.after ≡ spelled_row s.row s.operation p s.before s.after ++ Holds n (Some a.0) ∷ []) (sym is)
+    (before_more s.row v.row.0 s.operation s.before s.after n a.0 v.row.1 v.number) in
     let fits : RowFits s.row s.part (s.before ++ a.0 ∷ []) s.after =
-      subst (λ (p : Part). RowFits s.row p (s.before ++ a.0 ∷ []) s.after) (sym is)
-        (fits_before s.row v.row.0 s.before (s.before ++ a.0 ∷ []) s.after v.row.1 (subst (λ (p : Part). RowFits s.row p s.before s.after) is sound.fits)) in
+    subst (λ (p : Part). RowFits s.row p (s.before ++ a.0 ∷ []) s.after) (sym is)
+    (fits_before s.row v.row.0 s.before (s.before ++ a.0 ∷ []) s.after v.row.1 (subst (λ (p : Part). RowFits s.row p s.before s.after) is sound.fits)) in
     subst (λ (u : Standing). Tells s (OfValue n text) u) (same_ok _ t a.2) (record {
       spells = grown (spelled s.entries) s.stage s.gtid s.changes (row_of s) _ (Holds n (Some a.0) ∷ []) (sound.begun rows) row
-        ∙ ap (λ (o : Option Value). spelled_state s ++ Holds n o ∷ []) (sym v.shown);
+          ∙ ap (λ (o : Option Value). spelled_state s ++ Holds n o ∷ []) (sym v.shown);
       context = refl;
       sound = sound_rows (record s { before = s.before ++ a.0 ∷ [] }) rows (sound.begun rows) fits;
     })
@@ -551,13 +554,13 @@ value_by s t parts.After n text sound rows is h =
     let a = bind_ok (next_value s (length s.after) n text) _ t h in
     let v = next_found s (length s.after) n text a.0 a.1 in
     let row : spelled_row s.row s.operation s.part s.before (s.after ++ a.0 ∷ []) ≡ row_of s ++ Holds n (Some a.0) ∷ [] =
-      subst (λ (p : Part). spelled_row s.row s.operation p s.before (s.after ++ a.0 ∷ []) ≡ spelled_row s.row s.operation p s.before s.after ++ Holds n (Some a.0) ∷ []) (sym is)
-        (after_more s.row v.row.0 s.operation s.before s.after n a.0 v.row.1 v.number) in
+    subst (λ (p : Part). spelled_row s.row s.operation p s.before (s.after ++ a.0 ∷ []) ≡ spelled_row s.row s.operation p s.before s.after ++ Holds n (Some a.0) ∷ []) (sym is)
+    (after_more s.row v.row.0 s.operation s.before s.after n a.0 v.row.1 v.number) in
     let fits : RowFits s.row s.part s.before (s.after ++ a.0 ∷ []) =
-      subst (λ (p : Part). RowFits s.row p s.before (s.after ++ a.0 ∷ [])) (sym is) (fits_after s.row v.row.0 s.before (s.after ++ a.0 ∷ []) v.row.1) in
+    subst (λ (p : Part). RowFits s.row p s.before (s.after ++ a.0 ∷ [])) (sym is) (fits_after s.row v.row.0 s.before (s.after ++ a.0 ∷ []) v.row.1) in
     subst (λ (u : Standing). Tells s (OfValue n text) u) (same_ok _ t a.2) (record {
       spells = grown (spelled s.entries) s.stage s.gtid s.changes (row_of s) _ (Holds n (Some a.0) ∷ []) (sound.begun rows) row
-        ∙ ap (λ (o : Option Value). spelled_state s ++ Holds n o ∷ []) (sym v.shown);
+          ∙ ap (λ (o : Option Value). spelled_state s ++ Holds n o ∷ []) (sym v.shown);
       context = refl;
       sound = sound_rows (record s { after = s.after ++ a.0 ∷ [] }) rows (sound.begun rows) fits;
     })
@@ -600,8 +603,8 @@ row_law s t operation database table sound rows h =
     let begun = sound.begun rows in
     subst (λ (u : Standing). Tells s (OfRow operation database table) u) o.2 (record {
       spells = grown (spelled s.entries) s.stage s.gtid f.made [] (Row operation o.0 ∷ []) (Row operation o.0 ∷ []) begun refl
-        ∙ ap (λ (xs : List Meaning). xs ++ Row operation o.0 ∷ []) f.spells
-        ∙ ap (λ (xs : List ℕ). spelled_state s ++ Row operation xs ∷ []) (sym name);
+          ∙ ap (λ (xs : List Meaning). xs ++ Row operation o.0 ∷ []) f.spells
+          ∙ ap (λ (xs : List ℕ). spelled_state s ++ Row operation xs ∷ []) (sym name);
       context = ap (λ (xs : List ℕ). record { is_over = s.is_over; mapping = s.mapping; tables = s.tables; row = Some xs }) (sym name);
       sound = sound_rows (record (bare s f.made) { row = Some o.0; operation = operation; part = parts.Head }) rows begun (refl, refl);
     })
@@ -623,7 +626,7 @@ plain_head : (s t : Standing) (event : Event) → Sound s → takes s.body kinds
 plain_head s t event sound at h rows closed same =
     let between : is_rows s.body ≡ false = ap is_rows (between_only s.body kinds.Head at) in
     subst (λ (u : Standing). Tells s (OfHead event) (record u { body = body_of event })) (same_ok s t h)
-      (still s (OfHead event) (body_of event) sound between rows (λ c. absurd (let bad : true ≡ false = sym c ∙ closed in cc)) refl same)
+    (still s (OfHead event) (body_of event) sound between rows (λ c. absurd (let bad : true ≡ false = sym c ∙ closed in cc)) refl same)
 
 head_law : (s t : Standing) (event : Event) → Sound s → takes s.body kinds.Head ≡ true → head_line s event ≡ Ok t → Tells s (OfHead event) (record t { body = body_of event })
 unfolding head_line
@@ -762,9 +765,9 @@ runs_law s (l ∷ ls) t sound h =
     let rest = runs_law a.0 ls t first.sound a.2 in
     record {
       spells = rest.spells
-        ∙ ap (λ (xs : List Meaning). xs ++ meaning (context_of a.0) ls) first.spells
-        ∙ ap (λ (c : Context). (spelled_state s ++ means (context_of s) l) ++ meaning c ls) first.context
-        ∙ append_assoc (spelled_state s) (means (context_of s) l) (meaning (context_behind (context_of s) l) ls);
+          ∙ ap (λ (xs : List Meaning). xs ++ meaning (context_of a.0) ls) first.spells
+          ∙ ap (λ (c : Context). (spelled_state s ++ means (context_of s) l) ++ meaning c ls) first.context
+          ∙ append_assoc (spelled_state s) (means (context_of s) l) (meaning (context_behind (context_of s) l) ls);
       sound = rest.sound;
     }
 

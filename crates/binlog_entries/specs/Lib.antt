@@ -3,3 +3,5 @@ pub mod Bodies
 pub mod Machine
 pub mod Drafts
 pub mod Meaning
+pub mod Stream
+pub mod Readers

@@ -3,6 +3,7 @@ ghost use Rattle.std.specs.Prelude.{◌≡◌};
 ghost use Rattle.binlog_entries.specs.declared.fault.Fault.TheVariants.{Memory};
 
 use std::alloc::{AllocError, AllocFailed};
+use thiserror::Error;
 
 /// What is wrong with a line. The first in the order of the reading is named.
 #[derive(Clone, Copy, Debug, PartialEq, Eq)]
@@ -45,5 +46,29 @@ impl<T: Drop> From<AllocFailed<T>> for Fault {
 
     fn from(_e: AllocFailed<T>) -> Fault {
         Fault::Memory
+    }
+}
+
+/// Why a text is not read. Lines count from 1.
+#[derive(Clone, Copy, Debug, PartialEq, Eq, Error)]
+pub enum ReadFault {
+    /// Memory was refused.
+    #[error("out of memory")]
+    Memory,
+    /// The first line that is refused, and what is wrong with it.
+    #[error("line {line} is refused")]
+    Line { line: u64, refusal: Refusal },
+    /// The text ends before its log does.
+    #[error("unfinished at line {line}")]
+    Unfinished { line: u64 },
+}
+
+impl From<AllocError> for ReadFault {
+    ghost use Rattle.binlog_entries.specs.declared.fault.ReadFault.TheVariants as read_faults;
+
+    ghost from_gives = { λ _ e. e ≡ read_faults.Memory };
+
+    fn from(_e: AllocError) -> ReadFault {
+        ReadFault::Memory
     }
 }

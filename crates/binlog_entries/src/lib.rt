@@ -5,8 +5,10 @@ mod bodies;
 mod draft;
 mod fault;
 mod laws;
+mod reader;
 mod tables;
 
 pub use draft::Draft;
-pub use fault::{Fault, Refusal};
+pub use fault::{Fault, ReadFault, Refusal};
 pub use laws::entries_are_told;
+pub use reader::{Reader, read_log};

@@ -1,0 +1,7 @@
+-- How far a reader has come.
+use Rattle.binlog_entries.specs.Drafts.{standing}
+use Rattle.binlog_entries.specs.Stream.{Progress, Reading, unless_stopped}
+use Rattle.binlog_entries.specs.declared.reader.Reader.{Reader}
+
+abbrev pub progress : Reader → Progress
+progress r = unless_stopped r.stopped (Reading (standing r.draft) r.lines r.rest.items)
