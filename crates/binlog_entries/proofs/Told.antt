@@ -1,13 +1,12 @@
 -- Each line adds what it means to what the entries and what is open spell.
-use Rattle.std.proofs.Common.{◌≡◌, ℕ, ◌+◌, ◌-◌, Bool, true, false, cond, eqb, not, List, [], ◌∷◌, ◌++◌, length, Option, Some, None, Result, Ok, Err, refl, sym, ap, ◌∙◌, subst, append_assoc, append-nil, arith, inl, inr, ◌⊎◌}
-use Rattle.std.specs.Prelude.{option_map, ◌==◌, ◌&&◌, is_some, slice_get}
+use Rattle.std.proofs.Common.{◌≡◌, ℕ, ◌+◌, ◌-◌, Bool, true, false, cond, eqb, not, List, [], ◌∷◌, ◌++◌, length, Option, Some, None, Result, Ok, Err, refl, sym, ap, ◌∙◌, subst, append_assoc, append-nil, arith, inl, inr}
+use Rattle.std.specs.Prelude.{◌&&◌, is_some}
 use Rattle.std.specs.List.{flat_map}
-use Rattle.std.proofs.lemmas.Bool.{eqb-true, and_parts}
+use Rattle.std.proofs.lemmas.Bool.{eqb-true}
 use Rattle.std.proofs.lemmas.Option.{same_Some}
 use Rattle.gtid_text.proofs.Turns.{chosen}
 use Rattle.gtid_text.specs.Canonical.{gtid_text}
 use Rattle.gtid_text.specs.declared.Gtid.{Gtid}
-use Rattle.journal.specs.declared.Entry.{Entry}
 use Rattle.journal_words.specs.Gtids.{gtid_of_word}
 use Rattle.rows.specs.declared.value.Value.{Value}
 use Rattle.rows.specs.declared.change.Change.{Change}
@@ -25,9 +24,9 @@ use Rattle.binlog_text.specs.declared.lines.Operation.{Operation}
 use Rattle.binlog_text.specs.declared.lines.Operation.TheVariants as operations
 use Rattle.binlog_text.specs.Lines.{Column, Said, OfMark, OfHead, OfTable, OfColumn, OfGtid, OfSources, OfRow, OfValue}
 use Rattle.binlog_entries.specs.Tables.{Table, table_named, with_mapping, type_at}
-use Rattle.binlog_entries.specs.Bodies.{kind_of, takes, body_of, may_end, behind, next_body}
+use Rattle.binlog_entries.specs.Bodies.{kind_of, takes, body_of, behind, next_body}
 use Rattle.binlog_entries.specs.Machine.{Standing, ◌>>=◌, or_refused, is_idle, is_named, is_begun, same_stage, is_whole, change_of, with_change, finish_in, finish_by, finished, is_database, has_rows_of, open_row, known_name, may_be_database, begin_row, row_line, before_due, after_due, where_line, set_line, typed_value, next_value, value_in, value_line, place_line, map_table, table_line, add_column, column_line, open_entry, commit_line, begin_line, gtid_line, head_line, mark_line, told, step, runs, start, is_closed}
-use Rattle.binlog_entries.specs.Meaning.{Meaning, Names, Row, Before, After, Holds, Commits, Context, nowhere, shown_in, mark_means, means, behind_place, with_column, behind_mark, behind_head, context_behind, meaning, held, spelled_change, spelled_entry, spelled}
+use Rattle.binlog_entries.specs.Meaning.{Meaning, Names, Row, Before, After, Holds, Commits, Context, nowhere, shown_in, means, behind_place, with_column, context_behind, meaning, held, spelled_change, spelled_entry, spelled}
 use Rattle.binlog_entries.specs.declared.bodies.Body.{Body}
 use Rattle.binlog_entries.specs.declared.bodies.Body.TheVariants as bodies
 use Rattle.binlog_entries.specs.declared.bodies.Kind.{Kind}
