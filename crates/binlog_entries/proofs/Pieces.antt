@@ -62,7 +62,7 @@ line_taken now then total left line after parts took so_far =
 
 pub line_fails : (fault : ReadFault) (now new newer total : Progress) (left line after : List ℕ)
     → left ≡ line ++ 10 ∷ after → TakesPiece (Err fault) new (eats now (line ++ 10 ∷ [])) → eats now left ≡ total → TakesPiece (Err fault) newer total
-line_fails faults.Memory now new newer total left line after parts took so_far = tt
+line_fails (faults.Set fault) now new newer total left line after parts took so_far = tt
 line_fails (faults.Line n refusal) now new newer total left line after parts took so_far =
     sym (line_taken now _ total left line after parts took so_far) ∙ stopped_stays (faults.Line n refusal) after
 line_fails (faults.Unfinished n) now new newer total left line after parts took so_far = absurd took

@@ -7,7 +7,9 @@ use Rattle.std.proofs.lemmas.Option.{same_Some}
 use Rattle.gtid_text.proofs.Turns.{chosen}
 use Rattle.gtid_text.specs.Canonical.{gtid_text}
 use Rattle.gtid_text.specs.declared.Gtid.{Gtid}
-use Rattle.journal_words.specs.Gtids.{gtid_of_word}
+use Rattle.std.specs.FinSet as set
+use Rattle.gtid_set.specs.Sets.{Gtids}
+use Rattle.journal_words.specs.Gtids.{gtid_of_word, set_of_word}
 use Rattle.rows.specs.declared.value.Value.{Value}
 use Rattle.rows.specs.declared.change.Change.{Change}
 use Rattle.rows.specs.Names.{is_name}
@@ -25,7 +27,7 @@ use Rattle.binlog_text.specs.declared.lines.Operation.TheVariants as operations
 use Rattle.binlog_text.specs.Lines.{Column, Said, OfMark, OfHead, OfTable, OfColumn, OfGtid, OfSources, OfRow, OfValue}
 use Rattle.binlog_entries.specs.Tables.{Table, table_named, with_mapping, type_at}
 use Rattle.binlog_entries.specs.Bodies.{kind_of, takes, body_of, behind, next_body}
-use Rattle.binlog_entries.specs.Machine.{Standing, ◌>>=◌, or_refused, is_idle, is_named, is_begun, same_stage, is_whole, change_of, with_change, finish_in, finish_by, finished, is_database, has_rows_of, open_row, known_name, may_be_database, begin_row, row_line, before_due, after_due, where_line, set_line, typed_value, next_value, value_in, value_line, place_line, map_table, table_line, add_column, column_line, open_entry, commit_line, begin_line, gtid_line, head_line, mark_line, told, step, runs, start, is_closed}
+use Rattle.binlog_entries.specs.Machine.{Standing, ◌>>=◌, or_refused, is_idle, is_named, is_begun, same_stage, is_whole, change_of, with_change, finish_in, finish_by, finished, is_database, has_rows_of, open_row, known_name, may_be_database, begin_row, row_line, before_due, after_due, where_line, set_line, typed_value, next_value, value_in, value_line, place_line, map_table, table_line, add_column, column_line, open_entry, commit_line, begin_line, gtid_line, sources_line, head_line, mark_line, told, step, runs, start, is_closed}
 use Rattle.binlog_entries.specs.Meaning.{Meaning, Names, Row, Before, After, Holds, Commits, Context, nowhere, shown_in, means, behind_place, with_column, context_behind, meaning, held, spelled_change, spelled_entry, spelled}
 use Rattle.binlog_entries.specs.declared.bodies.Body.{Body}
 use Rattle.binlog_entries.specs.declared.bodies.Body.TheVariants as bodies
@@ -404,11 +406,11 @@ gtid_law s t word sound at h =
     closed_gtid bodies.Gtid e c = absurd cc
     closed_gtid _ e c = absurd cc
 
-    named : (s : Standing) (word : List ℕ) (o : Option Gtid) (t : Standing) → (or_refused refusals.Gtid o >>= λ g. Ok (record s { stage = stages.Named; gtid = g })) ≡ Ok t → (g : Gtid) × (o ≡ Some g) × (record s { stage = stages.Named; gtid = g } ≡ t)
+    named : (s : Standing) (word : List ℕ) (o : Option Gtid) (t : Standing) → (or_refused refusals.Gtid o >>= λ g. Ok (record s { stage = stages.Named; gtid = g; is_fresh = false })) ≡ Ok t → (g : Gtid) × (o ≡ Some g) × (record s { stage = stages.Named; gtid = g; is_fresh = false } ≡ t)
     named s word None t e = absurd cc
     named s word (Some g) t e = (g, refl, same_ok _ t e)
 
-    idle_or : (stage : Stage) (s : Standing) (word : List ℕ) (t : Standing) → cond (not (is_idle stage)) (Err refusals.Gtid) (or_refused refusals.Gtid (gtid_of_word word) >>= λ g. Ok (record s { stage = stages.Named; gtid = g })) ≡ Ok t → (is_idle stage ≡ true) × (g : Gtid) × (gtid_of_word word ≡ Some g) × (record s { stage = stages.Named; gtid = g } ≡ t)
+    idle_or : (stage : Stage) (s : Standing) (word : List ℕ) (t : Standing) → cond (not (is_idle stage)) (Err refusals.Gtid) (or_refused refusals.Gtid (gtid_of_word word) >>= λ g. Ok (record s { stage = stages.Named; gtid = g; is_fresh = false })) ≡ Ok t → (is_idle stage ≡ true) × (g : Gtid) × (gtid_of_word word ≡ Some g) × (record s { stage = stages.Named; gtid = g; is_fresh = false } ≡ t)
     idle_or stages.Idle s word t e = let n = named s word (gtid_of_word word) t e in (refl, n.0, n.1, n.2)
     idle_or stages.Named s word t e = absurd cc
     idle_or stages.Begun s word t e = absurd cc
@@ -712,6 +714,21 @@ end_law : (s t : Standing) → Sound s → takes s.body kinds.Closed ≡ true �
 end_law s t sound at h = let p = if_ok (same_stage s.stage stages.Idle) s refusals.Transaction t h in
     subst (λ (u : Standing). Tells s (OfMark marks.Closed) (record u { body = bodies.Closed })) p.1 (closed_law s sound at (idle_same s.stage p.0))
 
+sources_law : (s t : Standing) (word : List ℕ) (more : Bool) → Sound s → takes s.body kinds.Sources ≡ true → sources_line s word ≡ Ok t → Tells s (OfSources word more) t
+unfolding sources_line
+sources_law s t word more sound at h = either s.is_fresh h
+  where
+    with_previous : (p : Gtids) → Tells s (OfSources word more) (record s { previous = p })
+    with_previous p = record {
+      spells = sym (append-nil (spelled_state s));
+      context = refl;
+      sound = record { quiet = sound.quiet; inside = sound.inside; begun = sound.begun; closed = sound.closed; fits = sound.fits };
+    }
+
+    either : (b : Bool) → cond b (or_refused refusals.Gtid (set_of_word word) >>= λ gtids. Ok (record s { previous = set.union s.previous gtids })) (Ok s) ≡ Ok t → Tells s (OfSources word more) t
+    either true e = let a = bind_ok (or_refused refusals.Gtid (set_of_word word)) _ t e in subst (Tells s (OfSources word more)) (same_ok _ t a.2) (with_previous (set.union s.previous a.0))
+    either false e = subst (Tells s (OfSources word more)) (same_ok s t e) (with_previous s.previous)
+
 -- a mark
 mark_law : (s t : Standing) (mark : Mark) → Sound s → takes s.body (kind_of (OfMark mark)) ≡ true → mark_line s mark ≡ Ok t → Tells s (OfMark mark) (record t { body = next_body t.body (OfMark mark) })
 mark_law s t marks.Place sound at h = place_law s t sound h
@@ -735,7 +752,7 @@ told_law s t (OfHead event) sound at h = head_law s t event sound at h
 told_law s t (OfTable database table) sound at h = table_law s t database table sound at h
 told_law s t (OfColumn c) sound at h = column_law s t c sound at h
 told_law s t (OfGtid gtid) sound at h = gtid_law s t gtid sound at h
-told_law s t (OfSources sources more) sound at h = unchanged s t (OfSources sources more) kinds.Sources sound (sources_quiet s.body at) refl refl h
+told_law s t (OfSources sources more) sound at h = sources_law s t sources more sound at h
 told_law s t (OfRow operation database table) sound at h = row_law s t operation database table sound (rows_only s.body at) h
 told_law s t (OfValue n text) sound at h = value_law s t n text sound (rows_only s.body at) h
 

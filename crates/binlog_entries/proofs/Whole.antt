@@ -12,7 +12,7 @@ use Rattle.binlog_text.proofs.LinesFound.{line_found}
 use Rattle.binlog_entries.specs.Machine.{Standing, ◌>>=◌, judge, step, step_by, runs, is_closed}
 use Rattle.binlog_entries.specs.Machine as machine
 use Rattle.binlog_entries.specs.Meaning.{spelled}
-use Rattle.binlog_entries.specs.Stream.{Progress, Reading, Stopped, next_number, judged, eat, eats, start, Seen, ended, closing, Ends, ended_line, Say, IsLog, judges, numbered, IsRefused, IsUnfinished, Refuses}
+use Rattle.binlog_entries.specs.Stream.{Progress, Reading, Stopped, next_number, judged, eat, eats, start, Seen, Told, ended, closing, Ends, ended_line, Say, IsLog, judges, numbered, IsRefused, IsUnfinished, Refuses}
 use Rattle.binlog_entries.specs.declared.fault.ReadFault.{ReadFault}
 use Rattle.binlog_entries.specs.declared.fault.ReadFault.TheVariants as faults
 use Rattle.binlog_entries.specs.declared.fault.Refusal.{Refusal}
@@ -157,7 +157,7 @@ pub record Speak (s : Standing) (lines : List (List ℕ)) (t : Standing) : Type 
   pub say : Say lines said
   pub run : runs s said ≡ Ok t
 
-line_said : (s : Standing) (line : List ℕ) (o : Option Said) (t : Standing) → line_of line ≡ o → step_by s o ≡ Ok t → (l : Said) × IsLine l line × (step s l ≡ Ok t)
+line_said : (s : Standing) (line : List ℕ) (o : Option Said) (t : Standing) → line_of line ≡ o → step_by s line o ≡ Ok t → (l : Said) × IsLine l line × (step s l ≡ Ok t)
 line_said s line None t e h = absurd cc
 line_said s line (Some l) t e h = (l, line_found line l e, h)
 
@@ -179,15 +179,18 @@ speak s (line ∷ lines) t h =
 
 -- ---- the whole
 
-ended_is : (b : Bool) (s : Standing) (n : ℕ) (rest : List ℕ) (entries : List Entry) → ended b s n rest ≡ Ok entries → (b ≡ true) × (rest ≡ []) × (s.entries ≡ entries)
-ended_is true s n [] entries e = (refl, refl, cc)
-ended_is true s n (b ∷ bs) entries e = absurd cc
-ended_is false s n rest entries e = absurd cc
+ended_is : (b : Bool) (s : Standing) (n : ℕ) (rest : List ℕ) (x : Told) → ended b s n rest ≡ Ok x → (b ≡ true) × (rest ≡ []) × (s.entries ≡ x.1)
+ended_is true s n [] x e = let same : (s.previous, s.entries) ≡ x = told_same _ x e in (refl, refl, ap (λ (y : Told). y.1) same)
+  where
+    told_same : (x y : Told) → (let r : Result Told ReadFault = Ok x in r) ≡ Ok y → x ≡ y
+    told_same x y e = cc
+ended_is true s n (b ∷ bs) x e = absurd cc
+ended_is false s n rest x e = absurd cc
 
-log_of : (text : List ℕ) (p : Progress) (entries : List Entry) → eats start text ≡ p → closing p ≡ Ok entries → IsLog text entries
-log_of text (Stopped fault) entries e h = absurd cc
-log_of text (Reading s n rest) entries e h =
-    let d = ended_is (is_closed s.body) s n rest entries h in
+log_of : (text : List ℕ) (p : Progress) (x : Told) → eats start text ≡ p → closing p ≡ Ok x → IsLog text x.1
+log_of text (Stopped fault) x e h = absurd cc
+log_of text (Reading s n rest) x e h =
+    let d = ended_is (is_closed s.body) s n rest x h in
     let k = reads_back machine.start 0 [] text s n rest refl e in
     let spoken = speak machine.start k.lines s k.run in
     record {
@@ -199,9 +202,9 @@ log_of text (Reading s n rest) entries e h =
       means = entries_told spoken.said s spoken.run d.0 ∙ ap spelled d.2;
     }
 
-pub read_found : (text : List ℕ) (entries : List Entry) → Ends (Ok entries) (closing (eats start text)) → IsLog text entries
-read_found text entries (inl h) = absurd cc
-read_found text entries (inr h) = log_of text (eats start text) entries refl (sym h)
+pub read_found : (text : List ℕ) (x : Told) → Ends (Ok x) (closing (eats start text)) → IsLog text x.1
+read_found text x (inl h) = absurd (let bad = h.1 in cc)
+read_found text x (inr h) = log_of text (eats start text) x refl (sym h)
 
 unended : (b : Bool) (s : Standing) (n m : ℕ) (rest : List ℕ) → ended b s n rest ≡ Err (faults.Unfinished m) → ((b ≡ true) × (rest ≡ []) → ⊥) × (m ≡ next_number n)
 unended true s n m [] e = absurd cc
@@ -230,7 +233,7 @@ refused_at text (Stopped f) n refusal e h =
       number = sym (line_same _ n k.refusal refusal same).0;
     }
   where
-    fault_same : (f g : ReadFault) → (let x : Result (List Entry) ReadFault = Err f in x) ≡ Err g → f ≡ g
+    fault_same : (f g : ReadFault) → (let x : Result Told ReadFault = Err f in x) ≡ Err g → f ≡ g
     fault_same f g e = cc
 
     line_same : (n m : ℕ) (r q : Refusal) → faults.Line n r ≡ faults.Line m q → (n ≡ m) × (r ≡ q)
@@ -241,7 +244,7 @@ unfinished_at text (Stopped f) n e h =
     let k = stops_back machine.start 0 [] text f refl e in
     absurd (let bad : faults.Line (next_number (numbered 0 k.before)) k.refusal ≡ faults.Unfinished n = sym k.is ∙ fault_same f (faults.Unfinished n) h in cc)
   where
-    fault_same : (f g : ReadFault) → (let x : Result (List Entry) ReadFault = Err f in x) ≡ Err g → f ≡ g
+    fault_same : (f g : ReadFault) → (let x : Result Told ReadFault = Err f in x) ≡ Err g → f ≡ g
     fault_same f g e = cc
 unfinished_at text (Reading s m rest) n e h =
     let k = reads_back machine.start 0 [] text s m rest refl e in
@@ -258,18 +261,18 @@ unfinished_at text (Reading s m rest) n e h =
     }
 
 pub read_refused : (text : List ℕ) (fault : ReadFault) → Ends (Err fault) (closing (eats start text)) → Refuses fault text
-read_refused text faults.Memory h = tt
-read_refused text (faults.Line n refusal) (inl h) = absurd cc
+read_refused text (faults.Set fault) h = tt
+read_refused text (faults.Line n refusal) (inl h) = absurd (let bad = h.1 in cc)
 read_refused text (faults.Line n refusal) (inr h) = refused_at text (eats start text) n refusal refl (sym h)
-read_refused text (faults.Unfinished n) (inl h) = absurd cc
+read_refused text (faults.Unfinished n) (inl h) = absurd (let bad = h.1 in cc)
 read_refused text (faults.Unfinished n) (inr h) = unfinished_at text (eats start text) n refl (sym h)
 
 -- ---- of what was read
 
-pub seen_found : {X : Type 0} (view : X → List Entry) (text : List ℕ) (r : Result X ReadFault) → Ends (Seen view r) (closing (eats start text)) → IfOk r (λ x. IsLog text (view x))
+pub seen_found : {X : Type 0} (view : X → Told) (text : List ℕ) (r : Result X ReadFault) → Ends (Seen view r) (closing (eats start text)) → IfOk r (λ x. IsLog text (view x).1)
 seen_found view text (Ok x) h = read_found text (view x) h
 seen_found view text (Err fault) h = tt
 
-pub seen_refused : {X : Type 0} (view : X → List Entry) (text : List ℕ) (r : Result X ReadFault) → Ends (Seen view r) (closing (eats start text)) → IfErr r (λ fault. Refuses fault text)
+pub seen_refused : {X : Type 0} (view : X → Told) (text : List ℕ) (r : Result X ReadFault) → Ends (Seen view r) (closing (eats start text)) → IfErr r (λ fault. Refuses fault text)
 seen_refused view text (Ok x) h = tt
 seen_refused view text (Err fault) h = read_refused text fault h

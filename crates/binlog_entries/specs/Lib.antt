@@ -1,5 +1,6 @@
 pub mod Tables
 pub mod Bodies
+pub mod Unread
 pub mod Machine
 pub mod Drafts
 pub mod Meaning

@@ -3,7 +3,9 @@ use Rattle.std.specs.Prelude.{◌≡◌, ℕ, ◌+◌, ◌==◌, ◌&&◌, not, 
 use Rattle.std.specs.Str.{bytes_eq}
 use Rattle.gtid_text.specs.declared.Gtid.{Gtid}
 use Rattle.journal.specs.declared.Entry.{Entry}
-use Rattle.journal_words.specs.Gtids.{gtid_of_word}
+use Rattle.std.specs.FinSet as set
+use Rattle.gtid_set.specs.Sets.{Gtids}
+use Rattle.journal_words.specs.Gtids.{gtid_of_word, set_of_word}
 use Rattle.rows.specs.declared.value.Value.{Value}
 use Rattle.rows.specs.declared.change.Change.{Change}
 use Rattle.rows.specs.declared.change.Change.TheVariants as changes
@@ -21,6 +23,7 @@ use Rattle.binlog_text.specs.Lines.{Column, Said, OfMark, OfHead, OfTable, OfCol
 use Rattle.binlog_text.specs.Reading.{line_of}
 use Rattle.binlog_entries.specs.Tables.{Table, table_named, with_mapping, type_at}
 use Rattle.binlog_entries.specs.Bodies.{kind_of, takes, next_body}
+use Rattle.binlog_entries.specs.Unread.{unread}
 use Rattle.binlog_entries.specs.declared.bodies.Body.{Body}
 use Rattle.binlog_entries.specs.declared.bodies.Body.TheVariants as bodies
 use Rattle.binlog_entries.specs.declared.draft.Stage.{Stage}
@@ -41,17 +44,17 @@ abbrev pub or_refused : {A : Type 0} → Refusal → Option A → Result A Refus
 or_refused refusal None = Err refusal
 or_refused refusal (Some x) = Ok x
 
--- What a call did is what judging gives, unless memory ran out.
+-- What a call did is what judging gives, unless memory ran out or a set is full.
 abbrev pub Takes : {S : Type 0} → Result (Unit {0}) Fault → Result S Refusal → S → Type 0
 Takes (Ok _) judged new = judged ≡ Ok new
 Takes (Err (faults.Refused refusal)) judged new = judged ≡ Err refusal
-Takes (Err faults.Memory) judged new = Unit {0}
+Takes (Err (faults.Set fault)) judged new = Unit {0}
 
--- What a call found is what reading gives, unless memory ran out.
+-- What a call found is what reading gives, unless memory ran out or a set is full.
 abbrev pub Finds : {X Y : Type 0} → (X → Y) → Result X Fault → Result Y Refusal → Type 0
 Finds view (Ok x) read = read ≡ Ok (view x)
 Finds view (Err (faults.Refused refusal)) read = read ≡ Err refusal
-Finds view (Err faults.Memory) read = Unit {0}
+Finds view (Err (faults.Set fault)) read = Unit {0}
 
 -- how far the lines have come
 pub record Standing : Type 0 where
@@ -59,6 +62,9 @@ pub record Standing : Type 0 where
   pub stage : Stage
   -- of the transaction that is open
   pub gtid : Gtid
+  -- no GTID has come, and what the files say was executed before
+  pub is_fresh : Bool
+  pub previous : Gtids
   -- rows of the statement have come, so that the next table is another statement's
   pub is_over : Bool
   -- the one database of the log, once it is named
@@ -254,7 +260,15 @@ gtid_line s word =
     if not (is_idle s.stage) then Err refusals.Gtid
     else (do
       gtid ← or_refused refusals.Gtid (gtid_of_word word)
-      Ok (record s { stage = stages.Named; gtid = gtid }))
+      Ok (record s { stage = stages.Named; gtid = gtid; is_fresh = false }))
+
+-- what was executed before the first GTID; later files say again what has come
+unfoldable pub sources_line : Standing → List ℕ → Result Standing Refusal
+sources_line s word =
+    if s.is_fresh then (do
+      gtids ← or_refused refusals.Gtid (set_of_word word)
+      Ok (record s { previous = set.union s.previous gtids }))
+    else Ok s
 
 unfoldable pub head_line : Standing → Event → Result Standing Refusal
 head_line s (events.Rows operation) = if is_begun s.stage then Ok (record s { is_over = true }) else Err refusals.Transaction
@@ -284,7 +298,7 @@ told s (OfHead event) = head_line s event
 told s (OfTable database table) = table_line s database table
 told s (OfColumn c) = column_line s c
 told s (OfGtid gtid) = gtid_line s gtid
-told s (OfSources sources more) = Ok s
+told s (OfSources sources more) = sources_line s sources
 told s (OfRow operation database table) = row_line s operation database table
 told s (OfValue n text) = value_line s n text
 
@@ -295,13 +309,13 @@ step s l =
       Ok (record t { body = next_body t.body l }))
     else Err refusals.Format
 
-abbrev pub step_by : Standing → Option Said → Result Standing Refusal
-step_by s None = Err refusals.Format
-step_by s (Some l) = step s l
+abbrev pub step_by : Standing → List ℕ → Option Said → Result Standing Refusal
+step_by s text None = Err (unread s.body text)
+step_by s text (Some l) = step s l
 
 -- a line that says nothing is refused: a statement's text is no line of ours
 unfoldable pub judge : Standing → List ℕ → Result Standing Refusal
-judge s text = step_by s (line_of text)
+judge s text = step_by s text (line_of text)
 
 -- before the first line
 abbrev pub start : Standing
@@ -309,6 +323,8 @@ start = record {
   body = bodies.Preamble;
   stage = stages.Idle;
   gtid = record { source = 0; number = 0 };
+  is_fresh = true;
+  previous = set.empty;
   is_over = false;
   database = None;
   mapping = None;

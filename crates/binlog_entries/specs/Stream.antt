@@ -1,6 +1,8 @@
 -- The text of a log that comes byte by byte.
 use Rattle.std.specs.Prelude.{◌≡◌, ◌⊎◌, ℕ, ◌+◌, ◌-◌, ◌^◌, min, Bool, true, false, ◌==◌, List, [], ◌∷◌, ◌++◌, Option, Some, None, Result, Ok, Err, if◌then◌else◌}
 use Rattle.std.specs.List.{flat_map, AllByRecursion}
+use Rattle.gtid_set.specs.declared.fault.SetFault.{SetFault}
+use Rattle.gtid_set.specs.Sets.{Gtids}
 use Rattle.journal.specs.declared.Entry.{Entry}
 use Rattle.txn_journal.specs.Words.{IsOneLine}
 use Rattle.binlog_text.specs.Lines.{Said, IsLine}
@@ -45,14 +47,14 @@ abbrev pub answer : Progress → Result (Unit {0}) ReadFault
 answer (Reading s n rest) = Ok tt
 answer (Stopped fault) = Err fault
 
--- it is this, or memory ran out
+-- it is this, or memory ran out or a set is full
 abbrev pub IsAfter : Progress → Progress → Type 0
-IsAfter new after = (new ≡ Stopped faults.Memory) ⊎ (new ≡ after)
+IsAfter new after = ((fault : SetFault) × (new ≡ Stopped (faults.Set fault))) ⊎ (new ≡ after)
 
--- What a call did with bytes is what eating them gives, unless memory ran out.
+-- What a call did with bytes is what eating them gives, unless memory ran out or a set is full.
 abbrev pub TakesPiece : Result (Unit {0}) ReadFault → Progress → Progress → Type 0
 TakesPiece (Ok _) new after = after ≡ new
-TakesPiece (Err faults.Memory) new after = Unit {0}
+TakesPiece (Err (faults.Set fault)) new after = Unit {0}
 TakesPiece (Err (faults.Line n refusal)) new after = after ≡ Stopped (faults.Line n refusal)
 TakesPiece (Err (faults.Unfinished n)) new after = ⊥
 
@@ -61,19 +63,35 @@ abbrev pub Seen : {X Y : Type 0} → (X → Y) → Result X ReadFault → Result
 Seen view (Ok x) = Ok (view x)
 Seen view (Err fault) = Err fault
 
-abbrev pub ended : Bool → Standing → ℕ → List ℕ → Result (List Entry) ReadFault
-ended false s n rest = Err (faults.Unfinished (next_number n))
-ended true s n [] = Ok s.entries
-ended true s n (b ∷ bs) = Err (faults.Unfinished (next_number n))
+-- what was executed before, and the entries
+abbrev pub Told : Type 0
+Told = Gtids × List Entry
+
+-- whether a text may end behind so many lines and part of one more
+abbrev pub ends_at : Bool → ℕ → List ℕ → Result (Unit {0}) ReadFault
+ends_at false n rest = Err (faults.Unfinished (next_number n))
+ends_at true n [] = Ok tt
+ends_at true n (b ∷ bs) = Err (faults.Unfinished (next_number n))
+
+abbrev pub end_of : Progress → Result (Unit {0}) ReadFault
+end_of (Reading s n rest) = ends_at (is_closed s.body) n rest
+end_of (Stopped fault) = Err fault
+
+abbrev pub at_end : {V : Type 0} → Result (Unit {0}) ReadFault → V → Result V ReadFault
+at_end (Ok _) value = Ok value
+at_end (Err fault) value = Err fault
+
+abbrev pub ended : Bool → Standing → ℕ → List ℕ → Result Told ReadFault
+ended b s n rest = at_end (ends_at b n rest) (s.previous, s.entries)
 
 -- the end of the text
-abbrev pub closing : Progress → Result (List Entry) ReadFault
+abbrev pub closing : Progress → Result Told ReadFault
 closing (Reading s n rest) = ended (is_closed s.body) s n rest
 closing (Stopped fault) = Err fault
 
--- it is this, unless memory ran out
-abbrev pub Ends : Result (List Entry) ReadFault → Result (List Entry) ReadFault → Type 0
-Ends result whole = (result ≡ Err faults.Memory) ⊎ (result ≡ whole)
+-- it is this, unless memory ran out or a set is full
+abbrev pub Ends : Result Told ReadFault → Result Told ReadFault → Type 0
+Ends result whole = ((fault : SetFault) × (result ≡ Err (faults.Set fault))) ⊎ (result ≡ whole)
 
 -- ---- the whole of a text
 
@@ -129,6 +147,6 @@ pub record IsUnfinished (text : List ℕ) (n : ℕ) : Type 0 where
   pub number : n ≡ next_number (numbered 0 before)
 
 abbrev pub Refuses : ReadFault → List ℕ → Type 0
-Refuses faults.Memory text = Unit {0}
+Refuses (faults.Set fault) text = Unit {0}
 Refuses (faults.Line n refusal) text = IsRefused text n refusal
 Refuses (faults.Unfinished n) text = IsUnfinished text n

@@ -6,12 +6,14 @@ ghost use Rattle.binlog_entries.specs.Tables.{type_at};
 use crate::bodies::{Body, kind_of, next_body};
 use crate::fault::{Fault, Refusal};
 use crate::tables::{Mapped, name_of, table_named};
+use crate::unread::unread;
 use binlog_text::{
     Column, ColumnType, Event, Line, Mark, Operation, read_line, read_value, type_named,
 };
+use gtid_set::GtidSet;
 use gtid_text::{Gtid, SourceId};
 use journal::Entry;
-use journal_words::gtid_word;
+use journal_words::{gtid_word, set_word};
 use rows::{Change, Changes, Name, Row, Transaction, Value};
 use std::alloc::{AllocError, Global};
 use std::mem;
@@ -37,6 +39,15 @@ pub enum Part {
     After,
 }
 
+/// What a binary log tells.
+#[derive(Drop)]
+pub struct Log {
+    /// What its first file says was executed before.
+    pub previous: GtidSet,
+    /// Its entries, in order.
+    pub entries: Vec<Entry>,
+}
+
 /// The entries of a binary log, as far as its lines have come.
 #[derive(Drop)]
 pub struct Draft {
@@ -44,6 +55,10 @@ pub struct Draft {
     stage: Stage,
     /// Of the transaction that is open.
     gtid: Gtid,
+    /// No GTID has come.
+    is_fresh: bool,
+    /// What the files say was executed before.
+    previous: GtidSet,
     /// Rows of the statement have come: the next table is another statement's.
     is_over: bool,
     /// The one database of the log, once it is named.
@@ -188,7 +203,7 @@ fn typed_value(alloc: Global, column: Option<ColumnType>, text: &[u8]) -> Result
 impl Draft {
     ghost use Rattle.std.specs.Prelude.{[], None, Ok, Err, if◌then◌else◌};
     ghost use Rattle.binlog_text.specs.Said.{said, column_said};
-    ghost use Rattle.binlog_entries.specs.Machine.{Takes, Standing, finished, open_row, known_name, begin_row, row_line, where_line, set_line, next_value, value_in, value_line, place_line, map_table, table_line, add_column, column_line, commit_line, begin_line, gtid_line, head_line, mark_line, told, step, judge, start, same_stage, is_closed};
+    ghost use Rattle.binlog_entries.specs.Machine.{Takes, Standing, finished, open_row, known_name, begin_row, row_line, where_line, set_line, next_value, value_in, value_line, place_line, map_table, table_line, add_column, column_line, commit_line, begin_line, gtid_line, sources_line, head_line, mark_line, told, step, judge, start, same_stage, is_closed};
     ghost use Rattle.binlog_entries.specs.declared.fault.Refusal.TheVariants as refusals;
     ghost use Rattle.binlog_entries.specs.Drafts.{standing};
 
@@ -203,6 +218,8 @@ impl Draft {
                 source: SourceId::from_bits(0),
                 number: 0,
             },
+            is_fresh: true,
+            previous: GtidSet::empty(alloc),
             is_over: false,
             database: None,
             mapping: None,
@@ -347,7 +364,22 @@ impl Draft {
             return Err(Fault::Refused(Refusal::Gtid));
         };
         self.gtid = gtid;
+        self.is_fresh = false;
         self.stage = Stage::Named;
+        Ok(())
+    }
+
+    #[tactic(auto, unfolding(crate::specs::Machine::sources_line))]
+    fn sources_line(&mut self, alloc: Global, word: &[u8]) -> Result<(), Fault>
+        ensures { Takes result (sources_line (standing self.old) word.now) (standing self.new) }
+    {
+        if !self.is_fresh {
+            return Ok(());
+        }
+        let Some(gtids) = set_word(alloc, word)? else {
+            return Err(Fault::Refused(Refusal::Gtid));
+        };
+        self.previous = self.previous.union(alloc, &gtids)?;
         Ok(())
     }
 
@@ -519,7 +551,7 @@ impl Draft {
             Line::TableMap(database, table) => self.table_line(alloc, database, table),
             Line::Column(column) => self.column_line(column),
             Line::Gtid(gtid) => self.gtid_line(alloc, gtid),
-            Line::Sources(_, _) => Ok(()),
+            Line::Sources(sources, _) => self.sources_line(alloc, sources),
             Line::Row(operation, database, table) => {
                 self.row_line(alloc, *operation, database, table)
             }
@@ -546,7 +578,7 @@ impl Draft {
     {
         match read_line(text) {
             Some(line) => self.step(alloc, &line),
-            None => Err(Fault::Refused(Refusal::Format)),
+            None => Err(Fault::Refused(unread(self.body, text))),
         }
     }
 
@@ -557,10 +589,14 @@ impl Draft {
         self.body == Body::Closed
     }
 
-    /// The entries, in order.
-    pub fn into_entries(self) -> Vec<Entry>
-        ensures { result.items ≡ (standing self).entries }
+    /// What the files say was executed before, and the entries in order.
+    pub fn into_log(self) -> Log
+        ensures previous { result.previous ≡ (standing self).previous }
+        ensures entries { result.entries.items ≡ (standing self).entries }
     {
-        self.entries
+        Log {
+            previous: self.previous,
+            entries: self.entries,
+        }
     }
 }

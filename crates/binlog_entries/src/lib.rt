@@ -7,8 +7,9 @@ mod fault;
 mod laws;
 mod reader;
 mod tables;
+mod unread;
 
-pub use draft::Draft;
+pub use draft::{Draft, Log};
 pub use fault::{Fault, ReadFault, Refusal};
 pub use laws::entries_are_told;
 pub use reader::{Reader, read_log};

@@ -1,14 +1,13 @@
 //! A log's text that comes in pieces, cut anywhere.
 ghost use Rattle.std.specs.Prelude.{◌≡◌, ◌++◌, ◌∷◌, [], None, OnOk, IfOk, IfErr, IfSome, IfNone};
 ghost use Rattle.txn_journal.specs.Words.{IsOneLine, BeginsWithLine};
-ghost use Rattle.binlog_entries.specs.Stream.{Seen, answer, eats, start, IsAfter, TakesPiece, Ends, closing, IsLog, Refuses};
+ghost use Rattle.binlog_entries.specs.Stream.{Seen, answer, eats, start, IsAfter, TakesPiece, Ends, end_of, closing, IsLog, Refuses};
 ghost use Rattle.binlog_entries.specs.Machine.{Takes, judge};
 ghost use Rattle.binlog_entries.specs.Drafts.{standing};
-ghost use Rattle.binlog_entries.specs.Readers.{progress};
+ghost use Rattle.binlog_entries.specs.Readers.{progress, log_seen};
 
-use crate::draft::Draft;
+use crate::draft::{Draft, Log};
 use crate::fault::{Fault, ReadFault};
-use journal::Entry;
 use memchr::memchr;
 use std::alloc::Global;
 
@@ -104,7 +103,7 @@ impl Reader {
         self.lines = self.lines.saturating_add(1);
         match self.make(alloc, bytes) {
             Ok(()) => Ok(()),
-            Err(Fault::Memory) => Err(ReadFault::Memory),
+            Err(Fault::Set(fault)) => Err(ReadFault::Set(fault)),
             Err(Fault::Refused(refusal)) => Err(ReadFault::Line {
                 line: self.lines,
                 refusal,
@@ -127,9 +126,9 @@ impl Reader {
         Ok(())
     }
 
-    /// The entries, where the last file has ended.
-    pub fn finish(self) -> Result<Vec<Entry>, ReadFault>
-        ensures { Seen (λ v. v.items) result ≡ closing (progress self) }
+    /// What is wrong with the text as a whole.
+    fn end(&self) -> Result<(), ReadFault>
+        ensures { result ≡ end_of (progress self.now) }
     {
         self.answer()?;
         if !self.draft.is_ended() || !self.rest.is_empty() {
@@ -137,12 +136,22 @@ impl Reader {
                 line: self.lines.saturating_add(1),
             });
         }
-        Ok(self.draft.into_entries())
+        Ok(())
+    }
+
+    /// What the log tells, where the last file has ended.
+    pub fn finish(self) -> Result<Log, ReadFault>
+        ensures { Seen log_seen result ≡ closing (progress self) }
+    {
+        match self.end() {
+            Ok(()) => Ok(self.draft.into_log()),
+            Err(fault) => Err(fault),
+        }
     }
 }
 
-fn read(alloc: Global, text: &[u8]) -> Result<Vec<Entry>, ReadFault>
-    ensures { Ends (Seen (λ v. v.items) result) (closing (eats start text.now)) }
+fn read(alloc: Global, text: &[u8]) -> Result<Log, ReadFault>
+    ensures { Ends (Seen log_seen result) (closing (eats start text.now)) }
 {
     let mut reader = Reader::start(alloc);
     match reader.feed(alloc, text) {
@@ -151,14 +160,14 @@ fn read(alloc: Global, text: &[u8]) -> Result<Vec<Entry>, ReadFault>
     }
 }
 
-/// The entries that the text of a binary log tells, the text of its files one after another.
-pub fn read_log(alloc: Global, text: &[u8]) -> Result<Vec<Entry>, ReadFault>
+/// What the text of a binary log tells, the text of its files one after another.
+pub fn read_log(alloc: Global, text: &[u8]) -> Result<Log, ReadFault>
     // What the lines of the text mean, the entries spell.
-    ensures found { IfOk result (λ entries. IsLog text.now entries.items) }
+    ensures found { IfOk result (λ log. IsLog text.now log.entries.items) }
     // Which line is the first that is refused, and what is wrong with it.
     ensures refused { IfErr result (λ fault. Refuses fault text.now) }
     // The same, by the fold over the bytes.
-    ensures exact { Ends (Seen (λ v. v.items) result) (closing (eats start text.now)) }
+    ensures exact { Ends (Seen log_seen result) (closing (eats start text.now)) }
 {
     read(alloc, text)
 }

@@ -12,6 +12,7 @@ mod values;
 pub use lines::{Column, Event, Line, Mark, Operation};
 pub use quoted::unquoted;
 pub use reading::read_line;
+pub use tokens::cut_at;
 pub use type_text::{compares_bytes, type_named};
 pub use types::{ColumnType, IntegerType};
 pub use values::read_value;
