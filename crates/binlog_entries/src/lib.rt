@@ -11,5 +11,8 @@ mod unread;
 
 pub use draft::{Draft, Log};
 pub use fault::{Fault, ReadFault, Refusal};
-pub use laws::entries_are_told;
+pub use laws::{cut_anywhere, entries_are_told, statements_hold_no_rows};
 pub use reader::{Reader, read_log};
+
+#[cfg(test)]
+mod tests;
