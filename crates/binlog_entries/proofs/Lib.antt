@@ -1,3 +1,4 @@
 pub mod Told
 pub mod Pieces
 pub mod Whole
+pub mod JournalSteps

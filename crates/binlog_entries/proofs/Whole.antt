@@ -4,7 +4,6 @@ use Rattle.std.specs.Prelude.{◌&&◌, IfOk, IfErr}
 use Rattle.std.specs.List.{flat_map, AllByRecursion}
 use Rattle.std.proofs.lemmas.Bool.{eqb-true}
 use Rattle.std.proofs.lemmas.List.Folds.{list_all-append}
-use Rattle.journal.specs.declared.Entry.{Entry}
 use Rattle.txn_journal.specs.Words.{IsOneLine}
 use Rattle.binlog_text.specs.Lines.{Said, IsLine}
 use Rattle.binlog_text.specs.Reading.{line_of}

@@ -6,3 +6,4 @@ pub mod Drafts
 pub mod Meaning
 pub mod Stream
 pub mod Readers
+pub mod Journals

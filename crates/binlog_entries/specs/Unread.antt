@@ -1,5 +1,5 @@
 -- What a line that says nothing is refused for, and the words of refusals.
-use Rattle.std.specs.Prelude.{ℕ, ◌||◌, Bool, true, false, List, Option, Some, None, codes, nat_eq, if◌then◌else◌}
+use Rattle.std.specs.Prelude.{ℕ, ◌||◌, List, Option, Some, None, codes, nat_eq, if◌then◌else◌}
 use Rattle.std.specs.List.{starts_with}
 use Rattle.binlog_text.specs.Tokens.{cut_at}
 use Rattle.binlog_entries.specs.declared.bodies.Body.{Body}

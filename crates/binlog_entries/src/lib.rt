@@ -1,6 +1,7 @@
 //! The entries that the text of a binary log tells, out of its lines.
 #![tactic(auto)]
 
+mod as_journal;
 mod bodies;
 mod draft;
 mod fault;
@@ -9,6 +10,7 @@ mod reader;
 mod tables;
 mod unread;
 
+pub use as_journal::LogFault;
 pub use draft::{Draft, Log};
 pub use fault::{Fault, ReadFault, Refusal};
 pub use laws::{cut_anywhere, entries_are_told, statements_hold_no_rows};
