@@ -1,3 +1,5 @@
+pub mod TransactionLaws
+pub mod RowLaws
 pub mod Told
 pub mod Pieces
 pub mod Whole

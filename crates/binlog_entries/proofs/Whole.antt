@@ -15,7 +15,8 @@ use Rattle.binlog_entries.specs.Stream.{Progress, Reading, Stopped, next_number,
 use Rattle.binlog_entries.specs.declared.fault.ReadFault.{ReadFault}
 use Rattle.binlog_entries.specs.declared.fault.ReadFault.TheVariants as faults
 use Rattle.binlog_entries.specs.declared.fault.Refusal.{Refusal}
-use Rattle.binlog_entries.proofs.Told.{bind_ok, entries_told}
+use Rattle.binlog_entries.proofs.TransactionLaws.{bind_ok}
+use Rattle.binlog_entries.proofs.Told.{entries_told}
 use Rattle.binlog_entries.proofs.Pieces.{stopped_stays}
 
 -- ---- lines out of bytes

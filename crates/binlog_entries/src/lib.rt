@@ -6,6 +6,7 @@ mod bodies;
 mod draft;
 mod fault;
 mod laws;
+mod parts;
 mod reader;
 mod tables;
 mod unread;
