@@ -7,3 +7,4 @@ pub mod Meaning
 pub mod Stream
 pub mod Readers
 pub mod Journals
+pub mod Imports

@@ -5,6 +5,7 @@ mod as_journal;
 mod bodies;
 mod draft;
 mod fault;
+mod import;
 mod laws;
 mod parts;
 mod reader;
@@ -14,6 +15,7 @@ mod unread;
 pub use as_journal::LogFault;
 pub use draft::{Draft, Log};
 pub use fault::{Fault, ReadFault, Refusal};
+pub use import::{ImportFault, import_journal};
 pub use laws::{cut_anywhere, entries_are_told, statements_hold_no_rows};
 pub use reader::{Reader, read_log};
 

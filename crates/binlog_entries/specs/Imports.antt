@@ -1,0 +1,32 @@
+-- The text of a log as that of a journal.
+use Rattle.std.specs.Prelude.{◌≡◌, ℕ, List}
+use Rattle.gtid_set.specs.Sets.{Gtids}
+use Rattle.journal.specs.declared.Entry.{Entry}
+use Rattle.journal.specs.Journals.{JournalValue}
+use Rattle.rows.specs.declared.schema.Table.{Table}
+use Rattle.txn_journal.specs.Spelling.{spelling_as}
+use Rattle.txn_journal.specs.Stamps.{right_stamps}
+use Rattle.txn_journal.specs.declared.lines.Version.TheVariants.{Two}
+use Rattle.binlog_entries.specs.Journals.{IsNoJournal}
+use Rattle.binlog_entries.specs.Stream.{IsLog, Refuses}
+use Rattle.binlog_entries.specs.declared.as_journal.LogFault.{LogFault}
+use Rattle.binlog_entries.specs.declared.import.ImportFault.{ImportFault}
+use Rattle.binlog_entries.specs.declared.import.ImportFault.TheVariants as faults
+
+-- the bytes are the text of a journal whose entries spell what the lines of the log's text mean
+pub record Imports (tables : List Table) (text bytes : List ℕ) : Type 0 where
+  pub journal : JournalValue
+  pub log : IsLog text journal.entries
+  pub spells : bytes ≡ spelling_as Two (right_stamps Two tables journal.entries) journal
+
+-- the text is that of a log, of which an entry may not follow those before it
+pub record IsUnfit (fault : LogFault) (text : List ℕ) : Type 0 where
+  pub previous : Gtids
+  pub entries : List Entry
+  pub log : IsLog text entries
+  pub unfit : IsNoJournal fault previous entries
+
+-- memory was refused, or a line is, or an entry
+abbrev pub IsNoImport : ImportFault → List ℕ → Type 0
+IsNoImport (faults.Text fault) text = Refuses fault text
+IsNoImport (faults.Log fault) text = IsUnfit fault text
