@@ -15,7 +15,7 @@ use Rattle.binlog_text.specs.declared.lines.Operation.{Operation}
 use Rattle.binlog_text.specs.Lines.{Column, Said, OfMark, OfHead, OfTable, OfColumn, OfGtid, OfSources, OfRow, OfValue}
 use Rattle.binlog_entries.specs.Tables.{Table}
 use Rattle.binlog_entries.specs.Bodies.{kind_of, takes, body_of, behind, next_body}
-use Rattle.binlog_entries.specs.Machine.{Standing, ◌>>=◌, or_refused, is_idle, is_begun, same_stage, may_be_database, map_table, table_line, add_column, column_line, sources_line, head_line, mark_line, told, step, runs, start, is_closed}
+use Rattle.binlog_entries.specs.Machine.{Standing, ◌>>=◌, or_refused, is_idle, is_begun, same_stage, may_be_database, map_table, table_line, add_column, noted, column_line, sources_line, head_line, mark_line, told, step, runs, start, is_closed}
 use Rattle.binlog_entries.specs.Meaning.{Meaning, Context, nowhere, means, with_column, context_behind, meaning, spelled}
 use Rattle.binlog_entries.specs.declared.bodies.Body.TheVariants as bodies
 use Rattle.binlog_entries.specs.declared.bodies.Kind.{Kind}
@@ -67,7 +67,7 @@ sound_tables s over database mapping tables sound outside = record {
   fits = sound.fits;
 }
 
-mapped_is : (s t : Standing) (database : List ℕ) (o : Option (List ℕ)) → map_table s database o ≡ Ok t → (name : List ℕ) × (o ≡ Some name) × (record s { is_over = false; database = Some database; mapping = Some (record { name = name; columns = [] }); tables = cond s.is_over [] s.tables } ≡ t)
+pub mapped_is : (s t : Standing) (database : List ℕ) (o : Option (List ℕ)) → map_table s database o ≡ Ok t → (name : List ℕ) × (o ≡ Some name) × (record s { is_over = false; database = Some database; mapping = Some (record { name = name; columns = [] }); tables = cond s.is_over [] s.tables } ≡ t)
 mapped_is s t database None e = absurd cc
 mapped_is s t database (Some name) e = (name, refl, same_ok _ t e)
 
@@ -85,7 +85,7 @@ table_law s t database table sound at h =
       sound = sound_tables s false (Some database) (Some (record { name = m.0; columns = [] })) (cond s.is_over [] s.tables) sound outside;
     })
 
-added_is : (s t : Standing) (o : Option Table) (first : Bool) (type : ColumnType) → add_column s o first type ≡ Ok t → (x : Table) × (o ≡ Some x) × (record s { mapping = Some (record { name = x.name; columns = x.columns ++ type ∷ [] }) } ≡ t)
+pub added_is : (s t : Standing) (o : Option Table) (first : Bool) (type : ColumnType) → add_column s o first type ≡ Ok t → (x : Table) × (o ≡ Some x) × (record s { mapping = Some (record { name = x.name; columns = x.columns ++ type ∷ [] }) } ≡ t)
 added_is s t None first type e = absurd cc
 added_is s t (Some x) first type e = let p = if_ok _ (record s { mapping = Some (record { name = x.name; columns = x.columns ++ type ∷ [] }) }) refusals.Format t e in (x, refl, p.1)
 
@@ -98,7 +98,7 @@ unfolding column_line
 column_law s t c sound at h =
     let a = bind_ok (or_refused refusals.Type (type_named c.column_type)) _ t h in
     let type = refused_is refusals.Type (type_named c.column_type) a.0 a.1 in
-    let m = added_is s t s.mapping c.is_first a.0 a.2 in
+    let m = added_is (noted s c.column_type) t s.mapping c.is_first a.0 a.2 in
     let q = column_quiet s.body at in
     subst (λ (u : Standing). Tells s (OfColumn c) u) m.2 (record {
       spells = sym (append-nil (spelled_state s));
@@ -173,11 +173,11 @@ told_law s t (OfSources sources more) sound at h = sources_law s t sources more 
 told_law s t (OfRow operation database table) sound at h = row_law s t operation database table sound (rows_only s.body at) h
 told_law s t (OfValue n text) sound at h = value_law s t n text sound (rows_only s.body at) h
 
-test_ok : {A : Type 0} (b : Bool) (r : Result A Refusal) (e : Refusal) (x : A) → cond b r (Err e) ≡ Ok x → (b ≡ true) × (r ≡ Ok x)
+pub test_ok : {A : Type 0} (b : Bool) (r : Result A Refusal) (e : Refusal) (x : A) → cond b r (Err e) ≡ Ok x → (b ≡ true) × (r ≡ Ok x)
 test_ok true r e x h = (refl, h)
 test_ok false r e x h = absurd cc
 
-step_law : (s t : Standing) (l : Said) → Sound s → step s l ≡ Ok t → Tells s l t
+pub step_law : (s t : Standing) (l : Said) → Sound s → step s l ≡ Ok t → Tells s l t
 unfolding step
 step_law s t l sound h =
     let p = test_ok (takes s.body (kind_of l)) _ refusals.Format t h in
@@ -204,7 +204,7 @@ runs_law s (l ∷ ls) t sound h =
       sound = rest.sound;
     }
 
-sound_start : Sound start
+pub sound_start : Sound start
 sound_start = record {
   quiet = λ b. (refl, refl);
   inside = λ b. refl;

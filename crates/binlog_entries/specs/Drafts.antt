@@ -21,4 +21,5 @@ standing d = record {
   after = d.after.items;
   changes = d.changes.items;
   entries = d.entries.items;
+  varied = d.varied.items;
 }

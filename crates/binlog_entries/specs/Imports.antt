@@ -9,6 +9,7 @@ use Rattle.txn_journal.specs.Stamps.{right_stamps}
 use Rattle.txn_journal.specs.declared.lines.Version.TheVariants.{Two}
 use Rattle.binlog_entries.specs.Journals.{IsNoJournal}
 use Rattle.binlog_entries.specs.Stream.{IsLog, Refuses}
+use Rattle.binlog_entries.specs.declared.varied.Varied.{Varied}
 use Rattle.binlog_entries.specs.declared.as_journal.LogFault.{LogFault}
 use Rattle.binlog_entries.specs.declared.import.ImportFault.{ImportFault}
 use Rattle.binlog_entries.specs.declared.import.ImportFault.TheVariants as faults
@@ -16,14 +17,16 @@ use Rattle.binlog_entries.specs.declared.import.ImportFault.TheVariants as fault
 -- the bytes are the text of a journal whose entries spell what the lines of the log's text mean
 pub record Imports (tables : List Table) (text bytes : List ℕ) : Type 0 where
   pub journal : JournalValue
-  pub log : IsLog text journal.entries
+  pub varied : List Varied
+  pub log : IsLog text journal.entries varied
   pub spells : bytes ≡ spelling_as Two (right_stamps Two tables journal.entries) journal
 
 -- the text is that of a log, of which an entry may not follow those before it
 pub record IsUnfit (fault : LogFault) (text : List ℕ) : Type 0 where
   pub previous : Gtids
   pub entries : List Entry
-  pub log : IsLog text entries
+  pub varied : List Varied
+  pub log : IsLog text entries varied
   pub unfit : IsNoJournal fault previous entries
 
 -- memory was refused, or a line is, or an entry

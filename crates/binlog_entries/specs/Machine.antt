@@ -24,6 +24,8 @@ use Rattle.binlog_text.specs.Reading.{line_of}
 use Rattle.binlog_entries.specs.Tables.{Table, table_named, with_mapping, type_at}
 use Rattle.binlog_entries.specs.Bodies.{kind_of, takes, next_body}
 use Rattle.binlog_entries.specs.Unread.{unread}
+use Rattle.binlog_entries.specs.Varied.{varied_behind}
+use Rattle.binlog_entries.specs.declared.varied.Varied.{Varied}
 use Rattle.binlog_entries.specs.declared.bodies.Body.{Body}
 use Rattle.binlog_entries.specs.declared.bodies.Body.TheVariants as bodies
 use Rattle.binlog_entries.specs.declared.draft.Stage.{Stage}
@@ -81,6 +83,8 @@ pub record Standing : Type 0 where
   -- of the transaction that is open, and of those before it
   pub changes : List Change
   pub entries : List Entry
+  -- columns whose values the server compares otherwise than their bytes
+  pub varied : List Varied
 
 abbrev pub is_idle : Stage → Bool
 is_idle stages.Idle = true
@@ -237,10 +241,13 @@ add_column s (Some t) is_first type =
     if same_bool is_first (length t.columns == 0) then Ok (record s { mapping = Some (record { name = t.name; columns = t.columns ++ type ∷ [] }) })
     else Err refusals.Format
 
+abbrev pub noted : Standing → List ℕ → Standing
+noted s text = record s { varied = varied_behind s.varied s.mapping text }
+
 unfoldable pub column_line : Standing → Column → Result Standing Refusal
 column_line s c = do
   type ← or_refused refusals.Type (type_named c.column_type)
-  add_column s s.mapping c.is_first type
+  add_column (noted s c.column_type) s.mapping c.is_first type
 
 -- ---- transactions
 
@@ -336,6 +343,7 @@ start = record {
   after = [];
   changes = [];
   entries = [];
+  varied = [];
 }
 
 -- the last file has ended

@@ -17,6 +17,8 @@ use Rattle.binlog_text.specs.declared.lines.Operation.{Operation}
 use Rattle.binlog_text.specs.declared.lines.Operation.TheVariants as operations
 use Rattle.binlog_text.specs.Lines.{Said, OfMark, OfHead, OfTable, OfColumn, OfGtid, OfSources, OfRow, OfValue}
 use Rattle.binlog_entries.specs.Tables.{Table, with_mapping, type_at}
+use Rattle.binlog_entries.specs.Varied.{varied_behind}
+use Rattle.binlog_entries.specs.declared.varied.Varied.{Varied}
 
 -- what a line means for transactions: a GTID, a row of a table, the images of a row with the values of their columns, and the end
 pub data Meaning : Type 0 where
@@ -121,6 +123,21 @@ context_behind c (OfValue n text) = c
 abbrev pub meaning : Context → List Said → List Meaning
 meaning c [] = []
 meaning c (l ∷ ls) = means c l ++ meaning (context_behind c l) ls
+
+-- the columns that the server compares otherwise than their bytes, behind these lines
+abbrev pub varied_by : Context → List Varied → Said → List Varied
+varied_by c vs (OfColumn column) = varied_behind vs c.mapping column.column_type
+varied_by c vs (OfMark mark) = vs
+varied_by c vs (OfHead event) = vs
+varied_by c vs (OfTable database table) = vs
+varied_by c vs (OfGtid gtid) = vs
+varied_by c vs (OfSources sources more) = vs
+varied_by c vs (OfRow operation database table) = vs
+varied_by c vs (OfValue n text) = vs
+
+abbrev pub varied_in : Context → List Varied → List Said → List Varied
+varied_in c vs [] = vs
+varied_in c vs (l ∷ ls) = varied_in (context_behind c l) (varied_by c vs l) ls
 
 -- ---- of entries
 

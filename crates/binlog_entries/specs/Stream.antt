@@ -8,7 +8,8 @@ use Rattle.txn_journal.specs.Words.{IsOneLine}
 use Rattle.binlog_text.specs.Lines.{Said, IsLine}
 use Rattle.binlog_entries.specs.Machine.{Standing, ◌>>=◌, judge, is_closed}
 use Rattle.binlog_entries.specs.Machine as machine
-use Rattle.binlog_entries.specs.Meaning.{meaning, nowhere, spelled}
+use Rattle.binlog_entries.specs.Meaning.{meaning, nowhere, spelled, varied_in}
+use Rattle.binlog_entries.specs.declared.varied.Varied.{Varied}
 use Rattle.binlog_entries.specs.declared.fault.ReadFault.{ReadFault}
 use Rattle.binlog_entries.specs.declared.fault.ReadFault.TheVariants as faults
 use Rattle.binlog_entries.specs.declared.fault.Refusal.{Refusal}
@@ -63,9 +64,9 @@ abbrev pub Seen : {X Y : Type 0} → (X → Y) → Result X ReadFault → Result
 Seen view (Ok x) = Ok (view x)
 Seen view (Err fault) = Err fault
 
--- what was executed before, and the entries
+-- what was executed before, the entries, and the columns that the server compares otherwise than their bytes
 abbrev pub Told : Type 0
-Told = Gtids × List Entry
+Told = Gtids × List Entry × List Varied
 
 -- whether a text may end behind so many lines and part of one more
 abbrev pub ends_at : Bool → ℕ → List ℕ → Result (Unit {0}) ReadFault
@@ -82,7 +83,7 @@ at_end (Ok _) value = Ok value
 at_end (Err fault) value = Err fault
 
 abbrev pub ended : Bool → Standing → ℕ → List ℕ → Result Told ReadFault
-ended b s n rest = at_end (ends_at b n rest) (s.previous, s.entries)
+ended b s n rest = at_end (ends_at b n rest) (s.previous, s.entries, s.varied)
 
 -- the end of the text
 abbrev pub closing : Progress → Result Told ReadFault
@@ -104,14 +105,16 @@ Say [] [] = Unit {0}
 Say (line ∷ lines) (l ∷ ls) = IsLine l line × Say lines ls
 Say _ _ = ⊥
 
--- The text is lines that say something each, and what they mean is what the entries spell, in order.
-pub record IsLog (text : List ℕ) (entries : List Entry) : Type 0 where
+-- The text is lines that say something each, and what they mean is what the entries spell, in order. These are the columns that the server compares
+-- otherwise than their bytes.
+pub record IsLog (text : List ℕ) (entries : List Entry) (varied : List Varied) : Type 0 where
   pub lines : List (List ℕ)
   pub parts : text ≡ flat_map ended_line lines
   pub whole : AllByRecursion IsOneLine lines
   pub said : List Said
   pub say : Say lines said
   pub means : meaning nowhere said ≡ spelled entries
+  pub varies : varied ≡ varied_in nowhere [] said
 
 -- what lines make, one after another
 abbrev pub judges : Standing → List (List ℕ) → Result Standing Refusal

@@ -10,7 +10,10 @@ use crate::parts::{
 };
 use crate::tables::{Mapped, name_of, table_named};
 use crate::unread::unread;
-use binlog_text::{Column, ColumnType, Event, Line, Mark, Operation, read_line, type_named};
+use crate::varied::{Varied, has_varied};
+use binlog_text::{
+    Column, ColumnType, Event, Line, Mark, Operation, compares_bytes, read_line, type_named,
+};
 use gtid_set::GtidSet;
 use gtid_text::{Gtid, SourceId};
 use journal::Entry;
@@ -47,6 +50,8 @@ pub struct Log {
     pub previous: GtidSet,
     /// Its entries, in order.
     pub entries: Vec<Entry>,
+    /// The columns whose values the server compares otherwise than their bytes.
+    pub varied: Vec<Varied>,
 }
 
 /// The entries of a binary log, as far as its lines have come.
@@ -78,12 +83,14 @@ pub struct Draft {
     changes: Vec<Change>,
     /// Those of the transactions before it.
     entries: Vec<Entry>,
+    /// Columns whose values the server compares otherwise than their bytes.
+    varied: Vec<Varied>,
 }
 
 impl Draft {
-    ghost use Rattle.std.specs.Prelude.{[], None, Ok, Err, if◌then◌else◌};
+    ghost use Rattle.std.specs.Prelude.{[], None, Ok, Err, OnOk, if◌then◌else◌};
     ghost use Rattle.binlog_text.specs.Said.{said, column_said};
-    ghost use Rattle.binlog_entries.specs.Machine.{Takes, Standing, finished, open_row, known_name, begin_row, row_line, where_line, set_line, next_value, value_in, value_line, place_line, map_table, table_line, add_column, column_line, commit_line, begin_line, gtid_line, sources_line, head_line, mark_line, told, step, judge, start, same_stage, is_closed};
+    ghost use Rattle.binlog_entries.specs.Machine.{Takes, Standing, finished, open_row, known_name, begin_row, row_line, where_line, set_line, next_value, value_in, value_line, place_line, map_table, table_line, add_column, noted, column_line, commit_line, begin_line, gtid_line, sources_line, head_line, mark_line, told, step, judge, start, same_stage, is_closed};
     ghost use Rattle.binlog_entries.specs.declared.fault.Refusal.TheVariants as refusals;
     ghost use Rattle.binlog_entries.specs.Drafts.{standing};
 
@@ -111,6 +118,7 @@ impl Draft {
             after: Vec::new(alloc),
             changes: Vec::new(alloc),
             entries: Vec::new(alloc),
+            varied: Vec::new(alloc),
         }
     }
 
@@ -385,6 +393,25 @@ impl Draft {
         }
     }
 
+    /// Keeps the next column of the table that is mapped, where the server compares its values otherwise than their bytes.
+    fn note(&mut self, text: &[u8]) -> Result<(), AllocError>
+        ensures { OnOk result (standing self.new ≡ noted (standing self.old) text.now) }
+    {
+        let Some(table) = &self.mapping else {
+            return Ok(());
+        };
+        if compares_bytes(text) {
+            return Ok(());
+        }
+        let column = table.len();
+        if has_varied(table.name().as_str().as_bytes(), column, &self.varied) {
+            return Ok(());
+        }
+        let table = table.name().clone()?;
+        self.varied.push(Varied { table, column })?;
+        Ok(())
+    }
+
     #[tactic(auto, unfolding(crate::specs::Machine::column_line))]
     fn column_line(&mut self, column: &Column<'_>) -> Result<(), Fault>
         ensures { Takes result (column_line (standing self.old) (column_said column.now)) (standing self.new) }
@@ -392,6 +419,7 @@ impl Draft {
         let Some(named) = type_named(column.column_type) else {
             return Err(Fault::Refused(Refusal::Type));
         };
+        self.note(column.column_type)?;
         self.add_column(column.is_first, named)
     }
 
@@ -473,10 +501,12 @@ impl Draft {
     pub fn into_log(self) -> Log
         ensures previous { result.previous ≡ (standing self).previous }
         ensures entries { result.entries.items ≡ (standing self).entries }
+        ensures varied { result.varied.items ≡ (standing self).varied }
     {
         Log {
             previous: self.previous,
             entries: self.entries,
+            varied: self.varied,
         }
     }
 }

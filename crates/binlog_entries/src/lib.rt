@@ -11,6 +11,7 @@ mod parts;
 mod reader;
 mod tables;
 mod unread;
+mod varied;
 
 pub use as_journal::LogFault;
 pub use draft::{Draft, Log};
@@ -18,6 +19,7 @@ pub use fault::{Fault, ReadFault, Refusal};
 pub use import::{ImportFault, import_journal};
 pub use laws::{cut_anywhere, entries_are_told, statements_hold_no_rows};
 pub use reader::{Reader, read_log};
+pub use varied::Varied;
 
 #[cfg(test)]
 mod tests;

@@ -163,7 +163,7 @@ fn read(alloc: Global, text: &[u8]) -> Result<Log, ReadFault>
 /// What the text of a binary log tells, the text of its files one after another.
 pub fn read_log(alloc: Global, text: &[u8]) -> Result<Log, ReadFault>
     // What the lines of the text mean, the entries spell.
-    ensures found { IfOk result (λ log. IsLog text.now log.entries.items) }
+    ensures found { IfOk result (λ log. IsLog text.now log.entries.items log.varied.items) }
     // Which line is the first that is refused, and what is wrong with it.
     ensures refused { IfErr result (λ fault. Refuses fault text.now) }
     // The same, by the fold over the bytes.

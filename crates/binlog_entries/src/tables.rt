@@ -35,6 +35,13 @@ impl Mapped {
         }
     }
 
+    /// Its name.
+    pub fn name(&self) -> &Name
+        ensures { result.now ≡ self.now.name }
+    {
+        &self.name
+    }
+
     /// Adds a column behind the others.
     pub fn add(&mut self, column: ColumnType) -> Result<(), AllocError>
         ensures { OnOk result (self.new ≡ record { name = self.old.name; columns = self.old.columns ++ column ∷ [] }) }
