@@ -2,6 +2,7 @@ pub mod Tables
 pub mod Bodies
 pub mod Unread
 pub mod Varied
+pub mod Keys
 pub mod Machine
 pub mod Drafts
 pub mod Meaning

@@ -7,6 +7,7 @@ ghost use Rattle.binlog_entries.specs.declared.import.ImportFault.TheVariants as
 
 use crate::as_journal::LogFault;
 use crate::fault::ReadFault;
+use crate::keys::varied_key;
 use crate::reader::read_log;
 use gtid_set::SetFault;
 use rows::Schema;
@@ -20,6 +21,9 @@ pub enum ImportFault {
     /// Its text is not read.
     #[error("{0}")]
     Text(ReadFault),
+    /// A key of a table of the schema, counted from 0, whose values the server compares otherwise than their bytes.
+    #[error("a key of table {0} is not compared by bytes")]
+    Key(usize),
     /// What it tells is no journal.
     #[error("{0}")]
     Log(LogFault),
@@ -34,16 +38,25 @@ impl From<AllocError> for ImportFault {
 }
 
 /// The text, by version 2 of the format, of the journal that the text of a binary log tells; its entries change tables of this schema.
-pub fn import_journal(alloc: Global, schema: &Schema, text: &[u8]) -> Result<Vec<u8>, ImportFault>
+/// `bytes` takes keys that the server compares otherwise than their bytes.
+pub fn import_journal(
+    alloc: Global,
+    schema: &Schema,
+    bytes: bool,
+    text: &[u8],
+) -> Result<Vec<u8>, ImportFault>
     // What the lines of the log's text mean, the journal's entries spell.
-    ensures found { IfOk result (λ bytes. Imports schema.now text.now bytes.items) }
-    // Which line is the first that is refused, or which entry may not follow those before it.
-    ensures refused { IfErr result (λ fault. IsNoImport fault text.now) }
+    ensures found { IfOk result (λ written. Imports schema.now bytes text.now written.items) }
+    // Which line is the first that is refused, which key is the first that is not compared by bytes, or which entry may not follow those before it.
+    ensures refused { IfErr result (λ fault. IsNoImport schema.now fault text.now) }
 {
     let log = match read_log(alloc, text) {
         Ok(log) => log,
         Err(fault) => return Err(ImportFault::Text(fault)),
     };
+    if let Some(table) = varied_key(bytes, schema.tables(), &log.varied) {
+        return Err(ImportFault::Key(table));
+    }
     match log.journal(alloc) {
         Ok(journal) => Ok(encode_v2(alloc, schema, &journal)?),
         Err(fault) => Err(ImportFault::Log(fault)),

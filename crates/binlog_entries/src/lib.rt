@@ -6,6 +6,7 @@ mod bodies;
 mod draft;
 mod fault;
 mod import;
+mod keys;
 mod laws;
 mod parts;
 mod reader;

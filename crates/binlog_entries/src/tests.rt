@@ -1,7 +1,8 @@
 //! Logs of MySQL 9.7, shortened.
-use crate::{ReadFault, Reader, Refusal, read_log};
-use std::alloc::Global;
+use crate::{ImportFault, ReadFault, Reader, Refusal, import_journal, read_log};
+use std::alloc::{AllocError, Global};
 use std::test::Fail;
+use txn_journal::decode_bundle;
 
 /// The lines before the first transaction.
 const HEAD: &[&[u8]] = &[
@@ -132,4 +133,34 @@ fn refusals(rt: HostRuntime) {
             })
         );
     }
+}
+
+/// A table whose primary key is the column of text.
+const TEXT_KEY: &[u8] =
+    b"bundle 2\nreplica cccccccc-cccc-cccc-cccc-cccccccccccc\nopening -\ntable two 2 pk 1\ndone\n";
+
+fn whole(alloc: Global) -> Result<Vec<u8>, AllocError> {
+    let mut text = Vec::new(alloc);
+    for lines in [HEAD, REST] {
+        for line in lines {
+            text.extend_from_slice(line)?;
+            text.push(b'\n')?;
+        }
+    }
+    Ok(text)
+}
+
+#[test]
+fn a_key_of_text(rt: HostRuntime) -> Result<(), Fail> {
+    let text = whole(rt.alloc())?;
+    let bundle = decode_bundle(rt.alloc(), TEXT_KEY)?;
+    let refused = import_journal(rt.alloc(), bundle.schema(), false, &text);
+    assert!(rt; matches!(refused, Err(ImportFault::Key(0))));
+    let written = import_journal(rt.alloc(), bundle.schema(), true, &text)?;
+    assert!(rt;
+        written.starts_with(
+            b"journal 2\nprevious c0df3372-e8db-11f1-a586-02fc00000001:1-33\ntxn c0df3372-e8db-11f1-a586-02fc00000001:40 0 1\nupd two 4294967295 x6c617374 | 9 null\nend\nclose\n"
+        )
+    );
+    Ok(())
 }
