@@ -3,7 +3,7 @@ use Rattle.std.specs.Prelude.{ℕ, Result, Ok, Err}
 use Rattle.std.specs.FinSet as set
 use Rattle.gtid_set.specs.Sets.{Gtids}
 use Rattle.journal.specs.declared.Entry.{Entry}
-use Rattle.journal.specs.Faults.{IsFaultOf}
+use Rattle.gtid_set.specs.Full.{IsFaultOf}
 use Rattle.apply_channel.specs.declared.channel.ReceiveFault.{ReceiveFault}
 use Rattle.apply_channel.specs.declared.channel.ReceiveFault.TheVariants.{Full, Set}
 use Rattle.apply_channel.specs.Channels.{ChannelValue, received_gtids}

@@ -6,7 +6,7 @@ ghost use Rattle.std.specs.FinSet as set;
 ghost use Rattle.apply_channel.specs.Channels.{opened, blocker, next_ready, first_waiting, are_settled, settled, settled_at, received_gtids, IsPlace, IsNoPlace, is_full, with_stopped, with_asked, with_entry, with_received};
 ghost use Rattle.apply_channel.specs.Kept.{IsLastOpen, received_of};
 ghost use Rattle.apply_channel.specs.Full.{IsFull, gtids_with, IsReceiveFault};
-ghost use Rattle.journal.specs.Faults.{IsFaultOf};
+ghost use Rattle.gtid_set.specs.Full.{IsFaultOf};
 
 use crate::places::{last_place, open_unless, put_node, put_place, take_place};
 use crate::slot::{Slot, copy_unless, keys_unless, same_entries};

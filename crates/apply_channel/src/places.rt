@@ -1,6 +1,6 @@
 //! The table of the last places of GTIDs, and the node of a new place.
 ghost use Rattle.std.specs.Prelude.{◌≡◌, ◌≢◌, ◌<◌, ◌++◌, [], ◌∷◌, cond, false, length, AllPairs, Some, None, OnOk, OnErr, IfOk, IfErr};
-ghost use Rattle.journal.specs.Faults.{IsFaultOf};
+ghost use Rattle.gtid_set.specs.Full.{IsFaultOf};
 ghost use Rattle.std.specs.FinSet as set;
 ghost use Rattle.std.specs.HashMap.{IsUnchanged};
 ghost use Rattle.gtid_text.specs.declared.Gtid.{Gtid as GtidValue};

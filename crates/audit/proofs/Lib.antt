@@ -11,3 +11,4 @@ pub mod Hashed
 pub mod Apart
 pub mod Rising
 pub mod Once
+pub mod Lacking

@@ -5,3 +5,4 @@ pub mod Ordered
 pub mod Counting
 pub mod Missing
 pub mod Passing
+pub mod Faults

@@ -1,11 +1,13 @@
 //! The audit.
-ghost use Rattle.std.specs.Prelude.{◌≡◌, IfOk, None};
+ghost use Rattle.std.specs.Prelude.{◌≡◌, IfOk, IfErr, None};
 ghost use Rattle.world.specs.Search.{or_next};
 ghost use Rattle.world.specs.Audit.{unequal, purged, shared, not_closed, found_in_keys, verdict, verdict_of_keys};
 ghost use Rattle.world.specs.Meaning.{AreJournals};
 ghost use Rattle.audit.specs.Worlds.{IsWorldOf};
+ghost use Rattle.audit.specs.Faults.{IsAuditFault};
 
 use crate::sources::World;
+use gtid_set::SetFault;
 use journal::Journal;
 use std::alloc::{AllocError, Global};
 use world::Verdict;
@@ -49,9 +51,10 @@ fn found_in_keys(
     alloc: Global,
     world: &World,
     journals: &[Journal],
-) -> Result<Option<Verdict>, AllocError>
+) -> Result<Option<Verdict>, SetFault>
     requires { IsWorldOf world.now journals.now }
-    ensures { IfOk result (λ found. found ≡ found_in_keys world.now journals.now) }
+    ensures found { IfOk result (λ found. found ≡ found_in_keys world.now journals.now) }
+    ensures fault { IfErr result (IsAuditFault world.now.opening_set journals.now) }
 {
     if let Some(verdict) = world.unequal(journals) {
         return Ok(Some(verdict));
@@ -62,22 +65,25 @@ fn found_in_keys(
     if let Some(verdict) = world.missing(journals) {
         return Ok(Some(verdict));
     }
-    shared_or_left_out(alloc, world, journals)
+    Ok(shared_or_left_out(alloc, world, journals)?)
 }
 
-/// What an audit of the keys of journals finds first. It applies no transaction.
-pub fn audit_keys(alloc: Global, world: &World, journals: &[Journal]) -> Result<Verdict, AllocError>
+/// What an audit of the keys of journals finds first. It applies no transaction. `PoolFull` comes only
+/// where the set that the verdict would name has more than 4,294,967,294 intervals.
+pub fn audit_keys(alloc: Global, world: &World, journals: &[Journal]) -> Result<Verdict, SetFault>
     requires { IsWorldOf world.now journals.now }
-    ensures { IfOk result (λ found. found ≡ verdict_of_keys world.now journals.now) }
+    ensures found { IfOk result (λ found. found ≡ verdict_of_keys world.now journals.now) }
+    ensures fault { IfErr result (IsAuditFault world.now.opening_set journals.now) }
 {
     let found = found_in_keys(alloc, world, journals)?;
     Ok(found.unwrap_or(Verdict::Sound))
 }
 
-/// What an audit of journals finds first.
-pub fn audit(alloc: Global, world: &World, journals: &[Journal]) -> Result<Verdict, AllocError>
+/// What an audit of journals finds first. The faults are those of `audit_keys`.
+pub fn audit(alloc: Global, world: &World, journals: &[Journal]) -> Result<Verdict, SetFault>
     requires { IsWorldOf world.now journals.now }
-    ensures { IfOk result (λ found. found ≡ verdict world.now journals.now) }
+    ensures found { IfOk result (λ found. found ≡ verdict world.now journals.now) }
+    ensures fault { IfErr result (IsAuditFault world.now.opening_set journals.now) }
 {
     keep_rules(journals);
     match found_in_keys(alloc, world, journals)? {

@@ -1,11 +1,13 @@
 //! Journals that begin behind the opening set.
-ghost use Rattle.std.specs.Prelude.{◌≡◌, IfOk};
+ghost use Rattle.std.specs.Prelude.{◌≡◌, IfOk, IfErr};
 ghost use Rattle.world.specs.Audit.{purged};
 ghost use Rattle.audit.specs.Passing.{first_from, purged_at};
+ghost use Rattle.audit.specs.Faults.{IsAuditFault};
 
 use crate::sources::World;
+use gtid_set::SetFault;
 use journal::Journal;
-use std::alloc::{AllocError, Global};
+use std::alloc::Global;
 use world::Verdict;
 
 impl World {
@@ -14,24 +16,20 @@ impl World {
         &self,
         alloc: Global,
         journals: &[Journal],
-    ) -> Result<Option<Verdict>, AllocError>
-        ensures { IfOk result (λ found. found ≡ purged self.now journals.now) }
+    ) -> Result<Option<Verdict>, SetFault>
+        ensures found { IfOk result (λ found. found ≡ purged self.now journals.now) }
+        ensures fault { IfErr result (IsAuditFault self.now.opening_set journals.now) }
     {
         self.first_purged(alloc, journals)
     }
 
-    fn first_purged(
-        &self,
-        alloc: Global,
-        journals: &[Journal],
-    ) -> Result<Option<Verdict>, AllocError>
-        ensures { IfOk result (λ found. found ≡ first_from (purged_at self.now) 0 journals.now) }
+    fn first_purged(&self, alloc: Global, journals: &[Journal]) -> Result<Option<Verdict>, SetFault>
+        ensures found { IfOk result (λ found. found ≡ first_from (purged_at self.now) 0 journals.now) }
+        ensures fault { IfErr result (IsAuditFault self.now.opening_set journals.now) }
     {
         for (i, journal) in journals.iter().enumerate() {
             if !journal.previous().is_subset(self.opened()) {
-                let Ok(missing) = journal.previous().subtract(alloc, self.opened()) else {
-                    return Err(AllocError);
-                };
+                let missing = journal.previous().subtract(alloc, self.opened())?;
                 return Ok(Some(Verdict::Purged(i, missing)));
             }
         }

@@ -1,21 +1,30 @@
 -- The GTIDs of the source's own, and what the journal has a record of.
-use Rattle.std.proofs.Common.{◌≡◌, ℕ, zero, suc, ◌+◌, ◌<◌, Bool, true, false, cond, not, eqb, nat_eq, ◌&&◌, ◌||◌, List, [], ◌∷◌, ◌++◌, length, map, take, take-suc, get_or, ◌≤◌, Option, Some, None, Result, Ok, Err, refl, sym, ap, subst, ◌∙◌, arith}
-use Rattle.std.specs.Prelude.{◌==◌, IfOk}
+use Rattle.std.proofs.Common.{◌≡◌, ℕ, suc, ◌+◌, ◌<◌, Bool, true, false, cond, not, eqb, ◌&&◌, ◌||◌, List, [], ◌∷◌, ◌++◌, length, map, take, take-suc, get_or, drop, ◌≤◌, Option, Some, Result, Ok, Err, refl, sym, ap, subst, ◌∙◌, arith}
+use Rattle.std.specs.Prelude.{◌==◌, IfOk, IfErr}
 use Rattle.std.specs.List.{filter, list_any}
 use Rattle.std.specs.List.Sorted.{IsPermutation}
 use Rattle.std.proofs.lemmas.List.Sorted.{list_any-IsPermutation}
-use Rattle.std.proofs.lemmas.Bool.{eqb-true, eqb-false}
-use Rattle.std.proofs.lemmas.List.{map-append, take_all}
+use Rattle.std.proofs.lemmas.Bool.{eqb-true, and_parts, or_left}
+use Rattle.std.proofs.lemmas.List.Folds.{list_any-append}
+use Rattle.std.proofs.lemmas.List.{map-append, take_all, take-append-drop}
 use Rattle.std.proofs.lemmas.Bool.Decides.{nat_tests}
 use Rattle.std.specs.Ordering.{eq_by_cmp}
 use Rattle.std.specs.FinSet as set
 use Rattle.gtid_text.specs.declared.Gtid.{Gtid}
 use Rattle.gtid_text.specs.Gtids.{gtid_cmp}
+use Rattle.gtid_set.specs.declared.fault.SetFault.{SetFault}
+use Rattle.gtid_set.specs.declared.fault.SetFault.TheVariants.{Memory, PoolFull, SourcesFull}
 use Rattle.gtid_set.specs.Sets.{Gtids, gtid, only}
+use Rattle.gtid_set.specs.Full.{IsCrowdedExactly}
+use Rattle.gtid_set.specs.Edges.{HasEdges}
+use Rattle.gtid_set.proofs.EdgeLemmas.{crowd_fault, crowded_only, difference_edges, only_edges, members_edges}
+use Rattle.gtid_set.proofs.FaultLemmas.{fault_map}
+use Rattle.journal.specs.Edges.{HasEndsOf}
+use Rattle.auto_position.proofs.OneSource.{in_entries}
 use Rattle.gtid_set.proofs.SetLemmas.{same_members, gtid_tied}
 use Rattle.journal.specs.declared.Entry.{Entry}
 use Rattle.journal.specs.Journals.{JournalValue, gtids_of, whole}
-use Rattle.auto_position.specs.Sending.{numbers_of, own_of, is_wanted, sent}
+use Rattle.auto_position.specs.Sending.{numbers_of, own_of, is_wanted, sent, HasPlanEdges, IsEntriesFault, IsPlanFault}
 use Rattle.auto_position.specs.declared.PositionFault.TheVariants.{ReplicaHasMore}
 use Rattle.gtid_text.proofs.SameGtid.{gtid_total, gtid_exact}
 
@@ -187,8 +196,59 @@ recorded_all source entries numbers sorted items i now n moved s past is =
     ∙ ap (λ (ns : List ℕ). set.from_list (map (gtid source) ns)) (take_all i items past ∙ s)
     ∙ recorded_is source entries sorted (subst (λ (ns : List ℕ). IsPermutation ns sorted) n moved)
 
+-- each set on the way has GTIDs of the entries alone
+pub recorded_part : (source : ℕ) (entries : List Entry) (numbers sorted items : List ℕ) (i : ℕ) (now : Gtids) → numbers ≡ numbers_of source entries → IsPermutation numbers sorted → items ≡ sorted → i < length items
+    → now ≡ set.from_list (map (gtid source) (take i items)) → (q : Gtid) → set.contains (set.insert now (gtid source (get_or items i 0))) q ≡ true → set.contains (gtids_of entries) q ≡ true
+recorded_part source entries numbers sorted items i now n moved s within is q h =
+    let next = recorded_next source items i now (set.insert now (gtid source (get_or items i 0))) within is refl in
+    let front : list_any (eq_by_cmp gtid_cmp q) (map (gtid source) (take (i + 1) items)) ≡ true = sym (ap (λ (t : Gtids). set.contains t q) next ∙ set.contains-from_list gtid_total (map (gtid source) (take (i + 1) items)) q) ∙ h in
+    let p = λ (k : ℕ). eq_by_cmp gtid_cmp q (gtid source k) in
+    let some : list_any p (take (i + 1) items) ≡ true = sym (map_any (eq_by_cmp gtid_cmp q) source (take (i + 1) items)) ∙ front in
+    let all : list_any p items ≡ true = ap (list_any p) (sym (take-append-drop (i + 1) items)) ∙ list_any-append p (take (i + 1) items) (drop (i + 1) items) ∙ or_left (list_any p (take (i + 1) items)) (list_any p (drop (i + 1) items)) some in
+    let made : set.from_list (map (gtid source) items) ≡ only (gtids_of entries) source = ap (λ (ns : List ℕ). set.from_list (map (gtid source) ns)) s ∙ recorded_is source entries sorted (subst (λ (ns : List ℕ). IsPermutation ns sorted) n moved) in
+    let there : set.contains (only (gtids_of entries) source) q ≡ true = ap (λ (t : Gtids). set.contains t q) (sym made) ∙ (set.contains-from_list gtid_total (map (gtid source) items) q ∙ (map_any (eq_by_cmp gtid_cmp q) source items ∙ all)) in
+    (and_parts (set.contains (gtids_of entries) q) (q.source == source) (sym (contains-only (gtids_of entries) source q) ∙ there)).0
+
 pub is_left : (more none : Gtids) (b : Bool) → b ≡ set.is_subset more none → none ≡ set.empty → b ≡ false → set.is_subset more set.empty ≡ false
 is_left more none b is e left = ap (set.is_subset more) (sym e) ∙ sym is ∙ left
 
 pub is_gone : (more none : Gtids) (b : Bool) → b ≡ set.is_subset more none → none ≡ set.empty → b ≡ true → set.is_subset more set.empty ≡ true
 is_gone more none b is e gone = ap (set.is_subset more) (sym e) ∙ sym is ∙ gone
+
+-- ---- the sets on the way
+
+pub purged_edges : (journal : JournalValue) (ask : Gtids) (f : SetFault) (previous : Gtids) → previous ≡ journal.previous → IsCrowdedExactly {T = Unit {0}} (Err f) (set.difference previous ask) → IsPlanFault journal ask f
+purged_edges journal ask f previous is h =
+    crowd_fault ⊥ f (set.difference previous ask) (HasPlanEdges journal ask)
+    (λ places has. difference_edges places previous ask (subst (HasEdges places) (sym is) has.journal_edges.previous) has.asked)
+    (crowded_only ⊥ f (set.difference previous ask) h)
+
+pub unpurged_edges : (journal : JournalValue) (ask : Gtids) (own : ℕ) (f : SetFault) (asked previous : Gtids) → asked ≡ only ask own → previous ≡ journal.previous → IsCrowdedExactly {T = Unit {0}} (Err f) (set.difference asked previous) → IsPlanFault journal ask f
+unpurged_edges journal ask own f asked previous a p h =
+    crowd_fault ⊥ f (set.difference asked previous) (HasPlanEdges journal ask)
+    (λ places has. difference_edges places asked previous (subst (HasEdges places) (sym a) (only_edges places ask own has.asked)) (subst (HasEdges places) (sym p) has.journal_edges.previous))
+    (crowded_only ⊥ f (set.difference asked previous) h)
+
+-- a set of entries' GTIDs
+gtids_edges : (places : Gtids) (entries : List Entry) → HasEndsOf places entries → HasEdges places (gtids_of entries)
+gtids_edges places entries ends = members_edges places (gtids_of entries) (λ q e. in_entries q entries places (sym (set.contains-from_list gtid_total (map (λ x. x.gtid) entries) q) ∙ e) ends)
+
+pub entries_edges : (journal : JournalValue) (ask : Gtids) (f : SetFault) (entries : List Entry) → entries ≡ journal.entries → IsEntriesFault entries f → IsPlanFault journal ask f
+entries_edges journal ask f entries is h = fault_map f (λ x. x) (λ many places has. many places (subst (HasEndsOf places) (sym is) has.journal_edges.entries)) h
+
+pub left_edges : (journal : JournalValue) (ask : Gtids) (own : ℕ) (f : SetFault) (asked unpurged recorded previous : Gtids) (entries : List Entry)
+    → asked ≡ only ask own → unpurged ≡ set.difference asked previous → recorded ≡ only (gtids_of entries) own → previous ≡ journal.previous → entries ≡ journal.entries
+    → IsCrowdedExactly {T = Unit {0}} (Err f) (set.difference unpurged recorded) → IsPlanFault journal ask f
+left_edges journal ask own f asked unpurged recorded previous entries a u c p e h =
+    crowd_fault ⊥ f (set.difference unpurged recorded) (HasPlanEdges journal ask) (λ places has.
+    let left : HasEdges places (set.difference asked previous) = difference_edges places asked previous (subst (HasEdges places) (sym a) (only_edges places ask own has.asked)) (subst (HasEdges places) (sym p) has.journal_edges.previous) in
+    let right : HasEdges places (only (gtids_of entries) own) = only_edges places (gtids_of entries) own (gtids_edges places entries (subst (HasEndsOf places) (sym e) has.journal_edges.entries)) in
+    difference_edges places unpurged recorded (subst (HasEdges places) (sym u) left) (subst (HasEdges places) (sym c) right))
+    (crowded_only ⊥ f (set.difference unpurged recorded) h)
+
+-- a refusal that is handed on
+pub if_crowded : {T : Type 0} (r : Result T SetFault) (s : Gtids) (P : SetFault → Type 0) → ((f : SetFault) → IsCrowdedExactly {T = Unit {0}} (Err f) s → P f) → IsCrowdedExactly r s → IfErr r P
+if_crowded (Ok x) s P h c = tt
+if_crowded (Err Memory) s P h c = h Memory c
+if_crowded (Err PoolFull) s P h c = h PoolFull c
+if_crowded (Err SourcesFull) s P h c = absurd c

@@ -3,10 +3,13 @@ use Rattle.std.specs.Prelude.{◌≡◌, ℕ, ◌+◌, Bool, not, ◌==◌, map,
 use Rattle.std.specs.List.{filter}
 use Rattle.std.specs.List.Sorted.{IsStrictlyIncreasing}
 use Rattle.std.specs.FinSet as set
-use Rattle.gtid_set.specs.declared.fault.SetFault.TheVariants.{Memory}
+use Rattle.gtid_set.specs.declared.fault.SetFault.{SetFault}
+use Rattle.gtid_set.specs.Full.{IsMemoryOr}
+use Rattle.gtid_set.specs.Edges.{HasEdges, IsCrowd}
 use Rattle.gtid_set.specs.Sets.{Gtids, only}
 use Rattle.journal.specs.declared.Entry.{Entry}
 use Rattle.journal.specs.Journals.{JournalValue, whole}
+use Rattle.journal.specs.Edges.{HasEndsOf, HasEdgesOf}
 use Rattle.auto_position.specs.declared.PositionFault.{PositionFault}
 use Rattle.auto_position.specs.declared.PositionFault.TheVariants.{PurgedRequired, ReplicaHasMore, Set}
 
@@ -50,8 +53,22 @@ pub record IsPlan (entries : List Entry) (places : List ℕ) (sending : Result (
   pub at : AreAt entries places sends
   pub rising : IsStrictlyIncreasing places
 
--- the refusal is that of the definition, or memory was refused
-abbrev pub IsRefusal : PositionFault → Result (List Entry) PositionFault → Type 0
-IsRefusal (Set fault) sending = fault ≡ Memory
-IsRefusal (PurgedRequired s) sending = sending ≡ Err (PurgedRequired s)
-IsRefusal (ReplicaHasMore s) sending = sending ≡ Err (ReplicaHasMore s)
+-- the edges of the sets that a source makes for its answer are among these places
+pub record HasPlanEdges (journal : JournalValue) (ask : Gtids) (places : Gtids) : Type 0 where
+  pub asked : HasEdges places ask
+  pub journal_edges : HasEdgesOf places journal
+
+-- the set of some entries was not made: memory was refused, or these have too many intervals
+abbrev pub IsEntriesFault : List Entry → SetFault → Type 0
+IsEntriesFault entries f = IsMemoryOr ⊥ (IsCrowd (λ places. HasEndsOf places entries)) f
+
+-- A set was not made on the way: memory was refused, or the intervals of the set that is asked with and of the journal's sets and entries
+-- are together too many. None of them has a source that neither the set that is asked with nor the previous set has.
+abbrev pub IsPlanFault : JournalValue → Gtids → SetFault → Type 0
+IsPlanFault journal ask f = IsMemoryOr ⊥ (IsCrowd (HasPlanEdges journal ask)) f
+
+-- the refusal is that of the definition, or a set was not made
+abbrev pub IsRefusal : PositionFault → JournalValue → Gtids → Option ℕ → Type 0
+IsRefusal (Set fault) journal ask own = IsPlanFault journal ask fault
+IsRefusal (PurgedRequired s) journal ask own = sent journal ask own ≡ Err (PurgedRequired s)
+IsRefusal (ReplicaHasMore s) journal ask own = sent journal ask own ≡ Err (ReplicaHasMore s)

@@ -1,12 +1,11 @@
 //! Auto-positioning: which entries of its journal a source sends to a replica that asks with a set of GTIDs.
 #![tactic(auto)]
 
-ghost use Rattle.std.specs.Prelude.{◌≡◌, ◌==◌, IfOk, IfErr, IsOkUnless};
-ghost use Rattle.gtid_set.specs.declared.fault.SetFault.TheVariants.{Memory};
+ghost use Rattle.std.specs.Prelude.{◌≡◌, ◌==◌, IfOk, IfErr};
 ghost use Rattle.std.specs.FinSet as set;
 ghost use Rattle.gtid_set.specs.Sets.{only};
 ghost use Rattle.journal.specs.Journals.{whole, gtids_of};
-ghost use Rattle.auto_position.specs.Sending.{is_wanted, numbers_of, places_from, sent, IsPlan, IsRefusal};
+ghost use Rattle.auto_position.specs.Sending.{is_wanted, numbers_of, places_from, sent, IsPlan, IsRefusal, IsEntriesFault, IsPlanFault};
 
 use gtid_set::{GtidSet, SetFault};
 use gtid_text::{Gtid, SourceId};
@@ -20,7 +19,8 @@ pub enum PositionFault {
     PurgedRequired(GtidSet),
     /// GTIDs of this source that the replica has and the journal has no record of.
     ReplicaHasMore(GtidSet),
-    /// Memory was refused: no set here has more sources than the one that is asked with.
+    /// A set was not made: memory was refused, or there are too many intervals (`PoolFull`). `SourcesFull` never comes: each set has one
+    /// source, or is part of a set that is there.
     Set(SetFault),
 }
 
@@ -61,7 +61,7 @@ fn numbers_of(alloc: Global, source: SourceId, entries: &[Entry]) -> Result<Vec<
 /// The GTIDs of a source among the entries. The set is built with its numbers rising.
 fn recorded(alloc: Global, source: SourceId, entries: &[Entry]) -> Result<GtidSet, SetFault>
     ensures ok { IfOk result (λ s. s ≡ only (gtids_of entries.now) source) }
-    ensures fault { IsOkUnless result Memory }
+    ensures fault { IfErr result (IsEntriesFault entries.now) }
 {
     let mut numbers = numbers_of(alloc, source, entries)?;
     numbers.sort_unstable();
@@ -87,7 +87,7 @@ fn unknown(
     ask: &GtidSet,
 ) -> Result<GtidSet, SetFault>
     ensures ok { IfOk result (λ s. s ≡ set.difference (only ask.now own) (whole journal.now)) }
-    ensures fault { IsOkUnless result Memory }
+    ensures fault { IfErr result (IsPlanFault journal.now ask.now) }
 {
     let asked = ask.only(alloc, own)?;
     let unpurged = asked.subtract(alloc, journal.previous())?;
@@ -100,7 +100,8 @@ fn unknown(
 ///
 /// It refuses where an entry that should be sent was purged, and else where the replica has GTIDs of this source
 /// that the journal has no record of. From the MySQL 8.0 Reference Manual, "GTID Auto-Positioning"; the order of
-/// the refusals, and that the second names the GTIDs, are our own. It takes n log n steps at worst.
+/// the refusals, and that the second names the GTIDs, are our own. `PoolFull` comes only where the intervals of the set that is asked
+/// with, those of the previous set and the entries are together more than 4,294,967,294. It takes n log n steps at worst.
 pub fn plan(
     alloc: Global,
     own: Option<SourceId>,
@@ -108,7 +109,7 @@ pub fn plan(
     ask: &GtidSet,
 ) -> Result<Vec<u64>, PositionFault>
     ensures plan { IfOk result (λ p. IsPlan journal.now.entries p.items (sent journal.now ask.now own)) }
-    ensures refusal { IfErr result (λ f. IsRefusal f (sent journal.now ask.now own)) }
+    ensures refusal { IfErr result (λ f. IsRefusal f journal.now ask.now own) }
 {
     let kept = journal.previous().is_subset(ask);
     if !kept {

@@ -1,12 +1,12 @@
 -- What a bundle is asked for, and what is answered.
-use Rattle.std.specs.Prelude.{ℕ, ◌<◌, List, Some, None, Result, Ok, Err}
+use Rattle.std.specs.Prelude.{ℕ, List, Some, None, Result, Ok, Err}
 use Rattle.std.specs.FinSet as set
 use Rattle.rows.specs.declared.change.RowFault.{RowFault}
 use Rattle.rows.specs.Apply.{Rows}
 use Rattle.world.specs.declared.verdict.Verdict.{Verdict}
 use Rattle.world.specs.declared.verdict.Verdict.TheVariants.{Sound}
 use Rattle.source_history.specs.World.{rows_of}
-use Rattle.gtid_set.specs.Sets.{Gtids, source_count, most_sources}
+use Rattle.gtid_set.specs.Sets.{Gtids}
 use Rattle.faithful_runs.specs.Deciding.{all_of}
 use Rattle.txn_journal.specs.BundleStates.{BundleValue}
 use Rattle.txn_journal.specs.BundleReading.{bundle_start, eats_bundle, closing_bundle}
@@ -17,6 +17,7 @@ use Rattle.txn_journal.specs.declared.fault.JournalFault.{JournalFault}
 use Rattle.gtid_report.specs.State.{state_text}
 use Rattle.gtid_report.specs.VerdictLines.{verdict_line}
 use Rattle.serving.specs.Verdicts.{world_over, verdict_over}
+use Rattle.serving.specs.Faults.{IsBundleFault, IsVerdictFault}
 use Rattle.commands.specs.Said.{Said, ended, Tells}
 use Rattle.commands.specs.declared.edge.Outcome.{Outcome}
 use Rattle.commands.specs.declared.edge.Outcome.TheVariants.{Done, Refused}
@@ -56,7 +57,7 @@ audited b = verdict_said (verdict_over b)
 
 -- it is the answer of an audit to these bytes
 abbrev pub Audits : List ℕ → Said → Type 0
-Audits bytes said = Tells SpellsBundle bundle_in audited (λ b. ⊥) bytes said
+Audits bytes said = Tells SpellsBundle bundle_in audited IsVerdictFault bytes said
 
 -- ---- the bundle by version 2
 
@@ -66,7 +67,7 @@ upgraded b = record { text = upgrade_of b; outcome = Done }
 
 -- it is what upgrading answers to these bytes
 abbrev pub Upgrades : List ℕ → Said → Type 0
-Upgrades bytes said = Tells SpellsOldBundle old_bundle_in upgraded (λ b. ⊥) bytes said
+Upgrades bytes said = Tells SpellsOldBundle old_bundle_in upgraded (λ b f. ⊥) bytes said
 
 -- ---- the state
 
@@ -86,10 +87,6 @@ state_or_verdict v executed rows = verdict_said v
 abbrev pub applied : BundleValue → Said
 applied b = state_or_verdict (verdict_over b) (union_told b) (rows_of (world_over b) (set.contains (union_told b)))
 
--- the GTIDs of all journals together are of too many sources
-abbrev pub HasTooMany : BundleValue → Type 0
-HasTooMany b = most_sources < source_count (union_told b)
-
 -- it is what applying answers to these bytes
 abbrev pub Applies : List ℕ → Said → Type 0
-Applies bytes said = Tells SpellsBundle bundle_in applied HasTooMany bytes said
+Applies bytes said = Tells SpellsBundle bundle_in applied IsBundleFault bytes said

@@ -4,7 +4,7 @@ use Rattle.gtid_text.specs.declared.SourceId.{SourceId}
 use Rattle.gtid_set.specs.Sets.{Gtids}
 use Rattle.journal.specs.declared.Entry.{Entry}
 use Rattle.journal.specs.Journals.{JournalValue}
-use Rattle.auto_position.specs.Sending.{sent}
+use Rattle.auto_position.specs.Sending.{sent, IsPlanFault}
 use Rattle.auto_position.specs.declared.PositionFault.{PositionFault}
 use Rattle.auto_position.specs.declared.PositionFault.TheVariants as faults
 use Rattle.txn_journal.specs.Reading.{before_first, eats_alone, closing}
@@ -16,7 +16,6 @@ use Rattle.gtid_report.specs.Positions.{sending_text, required_line, more_line}
 use Rattle.gtid_report.specs.SetAnswers.{◌>>=◌, set_word, source_word}
 use Rattle.gtid_report.specs.declared.fault.Fault.{Fault}
 use Rattle.commands.specs.Said.{Said, Answering, at_once, to_all, ended, fault_said, Tells}
-use Rattle.commands.specs.declared.edge.Outcome.{Outcome}
 use Rattle.commands.specs.declared.edge.Outcome.TheVariants.{Done, Refused}
 
 -- ---- what the bytes are
@@ -53,7 +52,7 @@ positioned asking j = sending_said (sent j asking.1 (Some asking.0))
 
 -- it is the answer to a journal's bytes
 abbrev pub Positions : Asking → List ℕ → Said → Type 0
-Positions asking bytes said = Tells SpellsJournal journal_in (positioned asking) (λ j. ⊥) bytes said
+Positions asking bytes said = Tells SpellsJournal journal_in (positioned asking) (λ j. IsPlanFault j asking.1) bytes said
 
 -- a bad word is answered with its line, and nothing is read; else what is read is
 abbrev pub to_asking : Result Asking Fault → Answering

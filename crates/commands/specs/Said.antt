@@ -1,7 +1,8 @@
 -- What a command reads, and what it answers.
-use Rattle.std.specs.Prelude.{◌≡◌, ◌⊎◌, ℕ, List, [], ◌∷◌, ◌++◌, Option, Result, Ok, Err}
+use Rattle.std.specs.Prelude.{◌≡◌, ◌⊎◌, ℕ, List, [], ◌∷◌, ◌++◌, Result, Ok, Err}
 use Rattle.std.specs.String.{string_bytes}
 use Rattle.std.specs.Io.KnownBytes.{Appends}
+use Rattle.gtid_set.specs.declared.fault.SetFault.{SetFault}
 use Rattle.gtid_set.specs.declared.fault.SetFault.TheVariants as sets
 use Rattle.txn_journal.specs.declared.fault.JournalFault.{JournalFault}
 use Rattle.txn_journal.specs.declared.fault.JournalFault.TheVariants as journals
@@ -39,16 +40,23 @@ abbrev pub answered : {V : Type 0} → (V → Said) → Result V JournalFault �
 answered says (Ok value) = says value
 answered says (Err f) = fault_said (journal_fault f)
 
--- A set that is made has too many sources: one that reading the bytes makes, or one for the answer to what they spell.
-abbrev pub IsFullFor : {V : Type 0} → (List ℕ → Result V JournalFault → Type 0) → (List ℕ → Result V JournalFault) → (V → Type 0) → List ℕ → Type 0
-IsFullFor {V} Spells decoded HasTooMany bytes =
-    Spells bytes (Err (journals.Set sets.SourcesFull)) ⊎ ((value : V) × Spells bytes (Ok value) × (decoded bytes ≡ Ok value) × HasTooMany value)
+-- A set is not made by this fault: one that reading the bytes makes, or one for the answer to what they spell.
+abbrev pub IsFullFor : {V : Type 0} → (List ℕ → Result V JournalFault → Type 0) → (List ℕ → Result V JournalFault) → (V → SetFault → Type 0) → List ℕ → SetFault → Type 0
+IsFullFor {V} Spells decoded MayFail bytes f =
+    Spells bytes (Err (journals.Set f)) ⊎ ((value : V) × Spells bytes (Ok value) × (decoded bytes ≡ Ok value) × MayFail value f)
 
--- It is the answer to what the bytes are, by their fold and by their grammar; or a set has too many sources, and it is the line of that.
-abbrev pub Tells : {V : Type 0} → (List ℕ → Result V JournalFault → Type 0) → (List ℕ → Result V JournalFault) → (V → Said) → (V → Type 0) → List ℕ → Said → Type 0
-Tells Spells decoded says HasTooMany bytes said =
+-- a set has too many sources, or too many intervals, and it is the line of that
+abbrev pub IsFullSaid : (SetFault → Type 0) → Said → Type 0
+IsFullSaid may said =
+    (may sets.SourcesFull × (said ≡ refused_with refusal.SourcesFull))
+    ⊎ (may sets.PoolFull × (said ≡ refused_with refusal.PoolFull))
+
+-- It is the answer to what the bytes are, by their fold and by their grammar; or a set has too many sources or intervals, and it is the line of
+-- that.
+abbrev pub Tells : {V : Type 0} → (List ℕ → Result V JournalFault → Type 0) → (List ℕ → Result V JournalFault) → (V → Said) → (V → SetFault → Type 0) → List ℕ → Said → Type 0
+Tells Spells decoded says MayFail bytes said =
     (Spells bytes (decoded bytes) × (said ≡ answered says (decoded bytes)))
-    ⊎ (IsFullFor Spells decoded HasTooMany bytes × (said ≡ refused_with refusal.SourcesFull))
+    ⊎ IsFullSaid (IsFullFor Spells decoded MayFail bytes) said
 
 -- the answer that is held is this
 abbrev pub Holds : Answer → Said → Type 0
@@ -64,10 +72,10 @@ Finds says bytes (Ok answer) = HoldsOne says bytes answer
 Finds says bytes (Err (fault.Refused r)) = says bytes (refused_with r)
 Finds says bytes (Err fault.Memory) = Unit {0}
 
--- there is no answer: memory was refused, or a set for it has too many sources
-abbrev pub GivesUp : Type 0 → Fault → Type 0
-GivesUp TooMany fault.Memory = Unit {0}
-GivesUp TooMany (fault.Refused r) = (r ≡ refusal.SourcesFull) × TooMany
+-- there is no answer: memory was refused, or a set for it has too many sources or intervals, where that may be
+abbrev pub GivesUp : (SetFault → Type 0) → Fault → Type 0
+GivesUp may fault.Memory = Unit {0}
+GivesUp may (fault.Refused r) = ((r ≡ refusal.SourcesFull) × may sets.SourcesFull) ⊎ ((r ≡ refusal.PoolFull) × may sets.PoolFull)
 
 -- an answer stands as it is, and a refusal is its line
 abbrev pub Settles : Result Answer Fault → Answer → Type 0

@@ -1,9 +1,10 @@
 //! The command `apply`.
 ghost use Rattle.std.specs.Prelude.{◌≤◌, IfOk, IfErr};
 ghost use Rattle.std.specs.Thread.{IsSync};
+ghost use Rattle.serving.specs.Faults.{IsBundleFault};
 ghost use Rattle.serving.specs.Servable.{IsServable};
 ghost use Rattle.commands.specs.Said.{Holds, GivesUp, to_all, IsDone, HasFailed};
-ghost use Rattle.commands.specs.Bundles.{state_said, applied, Applies, HasTooMany};
+ghost use Rattle.commands.specs.Bundles.{state_said, applied, Applies};
 
 use crate::answer::Answer;
 use crate::audit_command::verdict_answer;
@@ -37,7 +38,7 @@ fn state_answer(alloc: Global, core: &Core) -> Result<Answer, AllocError>
 fn apply_alone(alloc: Global, bundle: &Bundle) -> Result<Answer, Fault>
     requires { IsServable bundle.now }
     ensures comes { IfOk result (λ answer. Holds answer (applied bundle.now)) }
-    ensures fault { IfErr result (GivesUp (HasTooMany bundle.now)) }
+    ensures fault { IfErr result (GivesUp (IsBundleFault bundle.now)) }
 {
     match serve(alloc, bundle)? {
         StateOrVerdict::State(core) => {
@@ -60,7 +61,7 @@ fn apply_together<G: Gate + Sync, R: Threads + Wait + Sync>(
     requires can { IsServable bundle.now }
     requires workers { (1 ≤ workers) × (workers ≤ 64) }
     ensures comes { IfOk result (λ answer. Holds answer (applied bundle.now)) }
-    ensures fault { IfErr result (GivesUp (HasTooMany bundle.now)) }
+    ensures fault { IfErr result (GivesUp (IsBundleFault bundle.now)) }
 {
     match apply_journals(rt, alloc, bundle, workers, gate)? {
         StateOrVerdict::State(book) => {
@@ -74,8 +75,9 @@ fn apply_together<G: Gate + Sync, R: Threads + Wait + Sync>(
 
 /// What a bundle comes to: the same for every number of workers and every order of their steps. One
 /// worker is the calling thread, which passes no gate. The bundle can be served, as each that was read
-/// can. A refusal is `SourcesFull` alone, where the GTIDs of all journals together are of more than
-/// 65,536 sources.
+/// can. A refusal is `SourcesFull`, where the GTIDs of all journals together are of more than 65,536
+/// sources, or `PoolFull`, where the intervals of the opening set and of the previous sets and the entries
+/// are together more than 4,294,967,294.
 pub fn apply_decoded<G: Gate + Sync, R: Threads + Wait + Sync>(
     rt: &R,
     alloc: Global,
@@ -86,7 +88,7 @@ pub fn apply_decoded<G: Gate + Sync, R: Threads + Wait + Sync>(
     requires can { IsServable bundle.now }
     requires workers { (1 ≤ workers) × (workers ≤ 64) }
     ensures comes { IfOk result (λ answer. Holds answer (applied bundle.now)) }
-    ensures fault { IfErr result (GivesUp (HasTooMany bundle.now)) }
+    ensures fault { IfErr result (GivesUp (IsBundleFault bundle.now)) }
 {
     if workers == 1 {
         apply_alone(alloc, bundle)
@@ -109,7 +111,7 @@ impl<'a, R: Threads + Wait + Sync> Request for Apply<'a, R> {
 
     ghost says = { λ _ b. applied b };
 
-    ghost too_many = { λ _ b. HasTooMany b };
+    ghost may_fail = { λ _ b. IsBundleFault b };
 
     fn answer(&self, alloc: Global, bundle: &Bundle) -> Result<Answer, Fault> {
         apply_decoded(self.threads, alloc, bundle, self.workers, &NoGate)

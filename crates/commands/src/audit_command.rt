@@ -1,5 +1,6 @@
 //! The command `audit`.
 ghost use Rattle.std.specs.Prelude.{◌≡◌, IfOk, IfErr};
+ghost use Rattle.serving.specs.Faults.{IsVerdictFault};
 ghost use Rattle.commands.specs.Said.{Holds, to_all, IsDone, HasFailed};
 ghost use Rattle.commands.specs.Bundles.{Audits, audited, verdict_ending, verdict_said};
 
@@ -41,6 +42,8 @@ impl Request for Audit {
     type Value = Bundle;
 
     ghost says = { λ _ b. audited b };
+
+    ghost may_fail = { λ _ b. IsVerdictFault b };
 
     fn answer(&self, alloc: Global, bundle: &Bundle) -> Result<Answer, Fault> {
         let verdict = verdict_over(alloc, bundle)?;

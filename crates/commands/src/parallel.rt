@@ -1,8 +1,7 @@
 //! What the journals of a bundle come to where workers apply them.
 ghost use Rattle.std.specs.Prelude.{◌≤◌, IfOk, IfErr};
-ghost use Rattle.journal.specs.Faults.{IsFaultOf};
-ghost use Rattle.faithful_runs.specs.Deciding.{all_of};
 ghost use Rattle.applier.specs.Draining.{AllApply};
+ghost use Rattle.serving.specs.Faults.{IsBundleFault};
 ghost use Rattle.serving.specs.Servable.{IsFitting, IsServable};
 ghost use Rattle.serving.specs.Serving.{IsReady};
 ghost use Rattle.serving.specs.Verdicts.{IsConcluded, IsStateOrVerdict};
@@ -30,7 +29,7 @@ fn drain_and_conclude(
     requires ready { IsReady bundle.now book.old.opening }
     requires work { AllApply book.old.steps }
     ensures found { IfOk result (IsConcluded bundle.now book.new.now) }
-    ensures fault { IfErr result (λ f. IsFaultOf f (all_of bundle.now.opened bundle.now.journals)) }
+    ensures fault { IfErr result (IsBundleFault bundle.now) }
 {
     let drained = drain(alloc, book);
     let core = book.state();
@@ -48,7 +47,7 @@ fn conclude_history(
     requires ready { IsReady bundle.now book.opening }
     requires work { AllApply book.steps }
     ensures applied { IfOk result (IsStateOrVerdict (HasMergedIn bundle.now) bundle.now) }
-    ensures fault { IfErr result (λ f. IsFaultOf f (all_of bundle.now.opened bundle.now.journals)) }
+    ensures fault { IfErr result (IsBundleFault bundle.now) }
 {
     let concluded = drain_and_conclude(alloc, bundle, &mut book);
     match concluded {
@@ -69,7 +68,7 @@ fn conclude_history(
 fn drain_anew(alloc: Global, bundle: &Bundle) -> Result<StateOrVerdict<ClosedBook>, SetFault>
     requires { IsServable bundle.now }
     ensures applied { IfOk result (IsStateOrVerdict (HasMergedIn bundle.now) bundle.now) }
-    ensures fault { IfErr result (λ f. IsFaultOf f (all_of bundle.now.opened bundle.now.journals)) }
+    ensures fault { IfErr result (IsBundleFault bundle.now) }
 {
     match begin(alloc, bundle)? {
         StateOrVerdict::State(core) => {
@@ -85,8 +84,10 @@ fn drain_anew(alloc: Global, bundle: &Bundle) -> Result<StateOrVerdict<ClosedBoo
 /// does not depend on their number, nor on the order of their steps. The bundle can be served, as each
 /// that was read can.
 ///
-/// `Memory` is want of memory, and `SourcesFull` comes only where the GTIDs of all journals together
-/// are of more than 65,536 sources. A worker's fault is never the answer.
+/// `Memory` is want of memory, `SourcesFull` comes only where the GTIDs of all journals together are of
+/// more than 65,536 sources, and `PoolFull` only where the intervals of the opening set and of the
+/// previous sets and the entries are together more than 4,294,967,294. A worker's fault is never the
+/// answer.
 pub fn apply_journals<G: Gate + Sync, R: Threads + Wait + Sync>(
     rt: &R,
     alloc: Global,
@@ -97,7 +98,7 @@ pub fn apply_journals<G: Gate + Sync, R: Threads + Wait + Sync>(
     requires can { IsServable bundle.now }
     requires workers { (1 ≤ workers) × (workers ≤ 64) }
     ensures applied { IfOk result (IsStateOrVerdict (HasMergedIn bundle.now) bundle.now) }
-    ensures fault { IfErr result (λ f. IsFaultOf f (all_of bundle.now.opened bundle.now.journals)) }
+    ensures fault { IfErr result (IsBundleFault bundle.now) }
 {
     let core = match begin(alloc, bundle)? {
         StateOrVerdict::State(core) => core,

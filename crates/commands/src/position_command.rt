@@ -1,5 +1,6 @@
 //! The command `position`.
 ghost use Rattle.std.specs.Prelude.{◌≡◌, IfOk, IfErr, Ok, Err};
+ghost use Rattle.auto_position.specs.Sending.{IsPlanFault};
 ghost use Rattle.gtid_report.specs.SetAnswers as words;
 ghost use Rattle.commands.specs.Said.{Holds, refused_with, at_once, IsDone, HasFailed};
 ghost use Rattle.commands.specs.Positions.{asking_in, sending_said, positioned, to_asking};
@@ -76,6 +77,8 @@ impl Request for Asked {
     type Value = Journal;
 
     ghost says = { λ asked j. positioned (asked.source, asked.gtids) j };
+
+    ghost may_fail = { λ asked j. IsPlanFault j asked.gtids };
 
     fn answer(&self, alloc: Global, journal: &Journal) -> Result<Answer, Fault> {
         match entries_sent(alloc, Some(self.source), journal, &self.gtids) {

@@ -1,5 +1,6 @@
 //! What a command reads and answers, and how it is run.
 ghost use Rattle.std.specs.Prelude.{◌≡◌, IfOk, IfErr};
+ghost use Rattle.gtid_set.specs.declared.fault.SetFault.{SetFault};
 ghost use Rattle.commands.specs.Said.{Said, Holds, HoldsOne, Finds, Tells, GivesUp, to_all, IsDone, HasFailed};
 
 use crate::answer::{Answer, settle};
@@ -21,22 +22,22 @@ pub(crate) trait Request {
     /// What is printed for a value, and how the command ends.
     ghost says: { Self → Self.Value → Said };
 
-    /// The sets that the answer wants have too many sources.
-    ghost too_many: { Self → Self.Value → Type 0 } = { λ _ _. ⊥ };
+    /// A set that the answer wants is not made, by this fault.
+    ghost may_fail: { Self → Self.Value → SetFault → Type 0 } = { λ _ _ _. ⊥ };
 
     /// The answer to a value that was read.
     fn answer(&self, alloc: Global, value: &Self::Value) -> Result<Answer, Fault>
         requires ready { ready self.now }
         requires read { Self.Value.is_read value.now }
         ensures comes { IfOk result (λ answer. Holds answer (says self.now value.now)) }
-        ensures fault { IfErr result (GivesUp (too_many self.now value.now)) };
+        ensures fault { IfErr result (GivesUp (may_fail self.now value.now)) };
 }
 
 /// The answer to the bytes. They are let go once they are decoded; the value is left to the end of the
 /// process, which takes it back at once and not piece by piece.
 fn find<Q: Request>(alloc: Global, request: &Q, bytes: Vec<u8>) -> Result<Answer, Fault>
     requires { Q.ready request.now }
-    ensures { Finds (Tells Q.Value.spells Q.Value.decoded (Q.says request.now) (Q.too_many request.now)) bytes.items result }
+    ensures { Finds (Tells Q.Value.spells Q.Value.decoded (Q.says request.now) (Q.may_fail request.now)) bytes.items result }
 {
     let decoded = Q::Value::decode(alloc, &bytes);
     drop(bytes);
@@ -53,7 +54,7 @@ fn find<Q: Request>(alloc: Global, request: &Q, bytes: Vec<u8>) -> Result<Answer
 /// What is written for the bytes.
 fn answer_bytes<Q: Request>(alloc: Global, request: &Q, bytes: Vec<u8>) -> Result<Answer, RunFault>
     requires { Q.ready request.now }
-    ensures ok { IfOk result (HoldsOne (Tells Q.Value.spells Q.Value.decoded (Q.says request.now) (Q.too_many request.now)) bytes.items) }
+    ensures ok { IfOk result (HoldsOne (Tells Q.Value.spells Q.Value.decoded (Q.says request.now) (Q.may_fail request.now)) bytes.items) }
     ensures memory { IfErr result (λ f. f ≡ RunFault.Memory) }
 {
     settle(alloc, find(alloc, request, bytes))
@@ -66,8 +67,8 @@ pub(crate) fn run<Q: Request, S: Source, W: Sink>(
     streams: &mut Streams<S, W>,
 ) -> Result<Outcome, RunFault>
     requires { Q.ready request.now }
-    ensures done { let says = Tells Q.Value.spells Q.Value.decoded (Q.says request.now) (Q.too_many request.now) in IfOk result (IsDone (to_all says) streams.old streams.new) }
-    ensures failed { let says = Tells Q.Value.spells Q.Value.decoded (Q.says request.now) (Q.too_many request.now) in IfErr result (HasFailed (to_all says) streams.old streams.new) }
+    ensures done { let says = Tells Q.Value.spells Q.Value.decoded (Q.says request.now) (Q.may_fail request.now) in IfOk result (IsDone (to_all says) streams.old streams.new) }
+    ensures failed { let says = Tells Q.Value.spells Q.Value.decoded (Q.says request.now) (Q.may_fail request.now) in IfErr result (HasFailed (to_all says) streams.old streams.new) }
 {
     let bytes = streams.read_all(alloc)?;
     let answer = answer_bytes(alloc, request, bytes)?;

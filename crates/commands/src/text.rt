@@ -33,8 +33,8 @@ pub(crate) trait Text: Drop {
         ensures exact { IsWhole result (decoded bytes.now) }
         ensures holds { IfOk result is_read };
 
-    /// A set is not made for want of memory, or since the grammar says that it has too many sources.
-    ghost full: { (bytes : List ℕ) (f : SetFault) → spells bytes (Err (journals.Set f)) → IsMemoryOr (spells bytes (Err (journals.Set sets.SourcesFull))) f };
+    /// A set is not made for want of memory, or since the grammar says that it has too many sources or intervals.
+    ghost full: { (bytes : List ℕ) (f : SetFault) → spells bytes (Err (journals.Set f)) → IsMemoryOr (spells bytes (Err (journals.Set sets.SourcesFull))) (spells bytes (Err (journals.Set sets.PoolFull))) f };
 }
 
 impl Text for Bundle {

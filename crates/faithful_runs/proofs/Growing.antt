@@ -123,6 +123,7 @@ pub record Grows (s s' : State) (more : List Entry) : Type 0 where
   pub origin : (g : Gtid) → Known s' g → Known s g ⊎ (is_entry more g ≡ true)
   pub kept : (g : Gtid) → set.contains s.executed g ≡ true → set.contains s'.executed g ≡ true
   pub there : (g : Gtid) → Somewhere s.channels g → Somewhere s'.channels g
+  pub received : (g : Gtid) → Somewhere s'.channels g → Somewhere s.channels g ⊎ (is_entry more g ≡ true)
   pub arrived : (g : Gtid) → is_entry more g ≡ true → Somewhere s'.channels g
 
 pub grows_channels : (s s' : State) (more : List Entry) → s'.executed ≡ s.executed → Gains s.channels s'.channels more → Grows s s' more
@@ -133,6 +134,7 @@ grows_channels s s' more same gains = record {
   ];
   kept = λ g done. ap (λ (x : Gtids). set.contains x g) same ∙ done;
   there = gains.kept;
+  received = gains.origin;
   arrived = gains.arrived;
 }
 
@@ -147,6 +149,7 @@ grows_executing s s' g same gains w = record {
   ];
   kept = λ h done. ap (λ (x : Gtids). set.contains x h) same ∙ (in_insert s.executed g h ∙ or_right (same_gtid h g) (set.contains s.executed h) done);
   there = gains.kept;
+  received = gains.origin;
   arrived = λ h e. nothing h e;
 }
 

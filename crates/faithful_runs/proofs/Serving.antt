@@ -31,6 +31,13 @@ then_grows s t u xs ys f h = record {
   ];
   kept = λ g e. h.kept g (f.kept g e);
   there = λ g w. h.there g (f.there g w);
+  received = λ g w. elim (h.received g w) [
+    | inl was ↦ elim (f.received g was) [
+      | inl before ↦ inl before
+      | inr came ↦ inr (entries_append xs ys g ∙ or_left (is_entry xs g) (is_entry ys g) came)
+    ]
+    | inr came ↦ inr (entries_append xs ys g ∙ or_right (is_entry xs g) (is_entry ys g) came)
+  ];
   arrived = λ g e. elim (or_cases (is_entry xs g) (is_entry ys g) (sym (entries_append xs ys g) ∙ e)) [
     | inl came ↦ h.there g (f.arrived g came)
     | inr came ↦ h.arrived g came

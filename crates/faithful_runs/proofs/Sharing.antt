@@ -28,7 +28,7 @@ use Rattle.faithful_runs.specs.Served.{accepted, on_channel, received_on, commit
 use Rattle.source_history.proofs.Covering.{is_entry, entry_of, has, in_insert, in_entries, in_gtids, in_whole, entries_append}
 use Rattle.faithful_runs.proofs.Sending.{sent_cases}
 use Rattle.faithful_runs.proofs.Receiving.{among_received}
-use Rattle.faithful_runs.proofs.Growing.{nothing, Known, Grows, gains_settled, step_grows}
+use Rattle.faithful_runs.proofs.Growing.{nothing, Known, Somewhere, Grows, gains_settled, step_grows}
 use Rattle.faithful_runs.proofs.Serving.{drained_known, in_filtered, passes}
 use Rattle.std.proofs.lemmas.Map.Keys.{any_passes_from_place}
 use Rattle.gtid_text.proofs.SameGtid.{same_itself, same_is_equal, gtid_total, gtid_exact}
@@ -36,9 +36,10 @@ use Rattle.gtid_set.proofs.SetSources.{same_bool}
 use Rattle.rows.proofs.Lists.{on_option, any_at}
 use Rattle.faithful_runs.proofs.Wholes.{same_ask}
 
--- what is known after events was known before, or is one of these; and these are known
+-- what is known after events was known before, or is one of these, and so is what is received; and these are known
 pub record Moves (s s' : State) (More : Gtid → Type 0) : Type 0 where
   pub origin : (g : Gtid) → Known s' g → Known s g ⊎ More g
+  pub received : (g : Gtid) → Somewhere s'.channels g → Somewhere s.channels g ⊎ More g
   pub stays : (g : Gtid) → Known s g → Known s' g
   pub came : (g : Gtid) → More g → Known s' g
 
@@ -47,11 +48,12 @@ abbrev Brings : Event → Reply → Gtid → Type 0
 Brings e r g = (is_entry (committed_here e r) g ≡ true) ⊎ ((c : ℕ) × (is_entry (on_channel c e (accepted e r)) g ≡ true))
 
 same_moves : (s : State) (More : Gtid → Type 0) → ((g : Gtid) → More g → ⊥) → Moves s s More
-same_moves s More none = record { origin = λ g k. inl k; stays = λ g k. k; came = λ g m. absurd (none g m) }
+same_moves s More none = record { origin = λ g k. inl k; received = λ g w. inl w; stays = λ g k. k; came = λ g m. absurd (none g m) }
 
 from_grows : (s s' : State) (xs : List Entry) (More : Gtid → Type 0) → ((g : Gtid) → is_entry xs g ≡ true → More g) → ((g : Gtid) → More g → is_entry xs g ≡ true) → Grows s s' xs → Moves s s' More
 from_grows s s' xs More into back grows = record {
   origin = λ g k. elim (grows.origin g k) [ inl was ↦ inl was | inr is ↦ inr (into g is) ];
+  received = λ g w. elim (grows.received g w) [ inl was ↦ inl was | inr is ↦ inr (into g is) ];
   stays = λ g k. elim k [ inl done ↦ inl (grows.kept g done) | inr w ↦ inr (grows.there g w) ];
   came = λ g m. inr (grows.arrived g (back g m));
 }
@@ -74,6 +76,7 @@ executing_moves s g t rows More it only =
         ]
         | inr w ↦ elim (gains.origin h w) [ inl was ↦ inl (inr was) | inr never ↦ nothing h never ]
       ];
+      received = λ h w. elim (gains.origin h w) [ inl was ↦ inl was | inr never ↦ nothing h never ];
       stays = λ h k. elim k [
         | inl done ↦ inl (in_insert s.executed g h ∙ or_right (same_gtid h g) (set.contains s.executed h) done)
         | inr w ↦ inr (gains.kept h w)
@@ -150,6 +153,10 @@ run_moves site s (e ∷ es) =
     record {
       origin = λ g k. elim (rest.origin g k) [
         | inl was ↦ elim (one.origin g was) [ inl before ↦ inl before | inr b ↦ inr (brought_first site s e es g b) ]
+        | inr b ↦ inr (brought_later site s e es g b)
+      ];
+      received = λ g w. elim (rest.received g w) [
+        | inl was ↦ elim (one.received g was) [ inl before ↦ inl before | inr b ↦ inr (brought_first site s e es g b) ]
         | inr b ↦ inr (brought_later site s e es g b)
       ];
       stays = λ g k. rest.stays g (one.stays g k);

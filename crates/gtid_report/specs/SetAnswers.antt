@@ -9,12 +9,13 @@ use Rattle.gtid_set.specs.declared.fault.SetTextFault.{SetTextFault}
 use Rattle.gtid_set.specs.declared.fault.SetTextFault.TheVariants.{Text, Set}
 use Rattle.gtid_set.specs.Sets.{Gtids, only, without, source_count, most_sources}
 use Rattle.gtid_set.specs.Runs.{canonical}
+use Rattle.gtid_set.specs.Full.{interval_count, most_intervals}
 use Rattle.gtid_set.specs.Texts.{set_in}
 use Rattle.gtid_report.specs.Faults.{text_fault, set_fault}
 use Rattle.gtid_report.specs.SetFunctions.{function_named}
 use Rattle.gtid_report.specs.declared.fault.Fault.{Fault}
 use Rattle.gtid_report.specs.declared.fault.Fault.TheVariants.{Memory, Refused}
-use Rattle.gtid_report.specs.declared.refusal.Refusal.TheVariants.{SourcesFull, Usage}
+use Rattle.gtid_report.specs.declared.refusal.Refusal.TheVariants.{PoolFull, SourcesFull, Usage}
 use Rattle.gtid_report.specs.declared.functions.OneSet.{OneSet}
 use Rattle.gtid_report.specs.declared.functions.OneSet.TheVariants.{Normalize, Count}
 use Rattle.gtid_report.specs.declared.functions.TwoSets.{TwoSets}
@@ -50,9 +51,21 @@ source_word text = named_source (answer (length text) (source_in text))
 
 -- ---- what is answered
 
--- the canonical text of a set, where it has not too many sources
+-- a set, where it has not too many intervals
+abbrev pub small : Gtids → Result Gtids Fault
+small s = if nat_lt most_intervals (interval_count s) then Err (Refused PoolFull) else Ok s
+
+-- its canonical text
+abbrev pub small_line : Gtids → Result (List ℕ) Fault
+small_line s = small s >>= λ kept. Ok (canonical kept)
+
+-- the same where it has not too many sources either
 abbrev pub set_line : Gtids → Result (List ℕ) Fault
-set_line s = if nat_lt most_sources (source_count s) then Err (Refused SourcesFull) else Ok (canonical s)
+set_line s = if nat_lt most_sources (source_count s) then Err (Refused SourcesFull) else small_line s
+
+-- what only one of two sets has: the differences are made first
+abbrev pub symmetric_line : Gtids → Gtids → Result (List ℕ) Fault
+symmetric_line s t = small (set.difference s t) >>= λ first. small (set.difference t s) >>= λ second. set_line (set.union first second)
 
 -- yes or no
 abbrev pub test_line : Bool → List ℕ
@@ -64,9 +77,9 @@ of_one Count s = Ok (decimal (set.len s))
 
 abbrev pub of_two : TwoSets → Gtids → Gtids → Result (List ℕ) Fault
 of_two Union s t = set_line (set.union s t)
-of_two Intersect s t = Ok (canonical (set.intersection s t))
-of_two Subtract s t = Ok (canonical (set.difference s t))
-of_two Symmetric s t = set_line (set.union (set.difference s t) (set.difference t s))
+of_two Intersect s t = small_line (set.intersection s t)
+of_two Subtract s t = small_line (set.difference s t)
+of_two Symmetric s t = symmetric_line s t
 of_two Subset s t = Ok (test_line (set.is_subset s t))
 of_two Equal s t = Ok (test_line (set.is_subset s t && set.is_subset t s))
 of_two Disjoint s t = Ok (test_line (set.len (set.intersection s t) == 0))

@@ -4,7 +4,7 @@ ghost use Rattle.std.specs.FinSet as set;
 ghost use Rattle.std.specs.Option.{option_map};
 ghost use Rattle.gtid_set.specs.Runs.{canonical};
 ghost use Rattle.gtid_report.specs.SetFunctions.{one_set_named, two_sets_named, of_source_named, function_named};
-ghost use Rattle.gtid_report.specs.SetAnswers.{Answers, set_word, source_word, set_line, test_line, of_one, of_two, of_source, one_line, two_line, source_line, function_line};
+ghost use Rattle.gtid_report.specs.SetAnswers.{Answers, set_word, source_word, set_line, small, small_line, symmetric_line, test_line, of_one, of_two, of_source, one_line, two_line, source_line, function_line};
 
 use crate::fault::Fault;
 use crate::refusal::Refusal;
@@ -159,6 +159,40 @@ fn text_of_union(alloc: Global, left: &GtidSet, right: &GtidSet) -> Result<Strin
     }
 }
 
+fn text_of_common(alloc: Global, left: &GtidSet, right: &GtidSet) -> Result<String, Fault>
+    ensures { Answers string_bytes result (small_line (set.intersection left.now right.now)) }
+{
+    match left.intersect(alloc, right) {
+        Ok(set) => text_of(alloc, &set),
+        Err(fault) => Err(Fault::from(fault)),
+    }
+}
+
+/// The GTIDs of the first set that the second has not.
+fn less(alloc: Global, left: &GtidSet, right: &GtidSet) -> Result<GtidSet, Fault>
+    ensures { Answers (λ s. s) result (small (set.difference left.now right.now)) }
+{
+    match left.subtract(alloc, right) {
+        Ok(rest) => Ok(rest),
+        Err(fault) => Err(Fault::from(fault)),
+    }
+}
+
+fn text_of_less(alloc: Global, left: &GtidSet, right: &GtidSet) -> Result<String, Fault>
+    ensures { Answers string_bytes result (small_line (set.difference left.now right.now)) }
+{
+    let set = less(alloc, left, right)?;
+    text_of(alloc, &set)
+}
+
+fn text_of_symmetric(alloc: Global, left: &GtidSet, right: &GtidSet) -> Result<String, Fault>
+    ensures { Answers string_bytes result (symmetric_line left.now right.now) }
+{
+    let first = less(alloc, left, right)?;
+    let second = less(alloc, right, left)?;
+    text_of_union(alloc, &first, &second)
+}
+
 fn of_one(alloc: Global, function: OneSet, set: &GtidSet) -> Result<String, Fault>
     ensures { Answers string_bytes result (of_one function set.now) }
 {
@@ -178,19 +212,9 @@ fn of_two(
 {
     match function {
         TwoSets::Union => text_of_union(alloc, left, right),
-        TwoSets::Intersect => {
-            let set = left.intersect(alloc, right)?;
-            text_of(alloc, &set)
-        }
-        TwoSets::Subtract => {
-            let set = left.subtract(alloc, right)?;
-            text_of(alloc, &set)
-        }
-        TwoSets::Symmetric => {
-            let first = left.subtract(alloc, right)?;
-            let second = right.subtract(alloc, left)?;
-            text_of_union(alloc, &first, &second)
-        }
+        TwoSets::Intersect => text_of_common(alloc, left, right),
+        TwoSets::Subtract => text_of_less(alloc, left, right),
+        TwoSets::Symmetric => text_of_symmetric(alloc, left, right),
         TwoSets::Subset => text_of_test(alloc, left.is_subset(right)),
         TwoSets::Equal => text_of_test(alloc, left.is_equal(right)),
         TwoSets::Disjoint => text_of_test(alloc, left.is_disjoint(right)),

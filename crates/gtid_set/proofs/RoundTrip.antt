@@ -1,6 +1,6 @@
 -- A set's canonical text spells it.
 use Rattle.std.proofs.Common.{◌≡◌, ◌≤◌, ℕ, Bool, true, false, cond, ◌&&◌, ◌||◌, nat_le, List, [], ◌∷◌, ◌++◌, refl, sym, ap, subst, ◌∙◌, arith}
-use Rattle.std.specs.Prelude.{Option, Some, None, Result, Ok, Err, length, nat_lt, ◌<◌}
+use Rattle.std.specs.Prelude.{Option, Some, None, Result, Ok, Err, length, nat_lt}
 use Rattle.std.specs.FinSet as set
 use Rattle.std.specs.Str.Parse.{digits_value}
 use Rattle.std.proofs.lemmas.Bool.Decides.{nat_tests}
@@ -15,19 +15,20 @@ use Rattle.gtid_text.specs.Reading.{answer, spans_in}
 use Rattle.gtid_text.proofs.Spelled.{spells_read}
 use Rattle.gtid_text.proofs.Found.{read_spells}
 use Rattle.gtid_text.proofs.Shown.{spans_shown, joined_spans, spaced_joined}
-use Rattle.gtid_set.specs.declared.fault.SetFault.TheVariants.{SourcesFull}
+use Rattle.gtid_set.specs.declared.fault.SetFault.TheVariants.{PoolFull, SourcesFull}
 use Rattle.gtid_set.specs.declared.fault.SetTextFault.{SetTextFault}
 use Rattle.gtid_set.specs.declared.fault.SetTextFault.TheVariants.{Set}
 use Rattle.gtid_set.specs.Sets.{Gtids, gtid, source_count, most_sources}
 use Rattle.gtid_set.specs.Spans.{set_of, has, is_merged}
 use Rattle.gtid_set.specs.Sweep.{within}
 use Rattle.gtid_set.specs.Runs.{runs, canonical}
-use Rattle.gtid_set.specs.Texts.{SpellsSet, set_from, set_in}
+use Rattle.gtid_set.specs.Full.{interval_count, most_intervals, HasManySources, HasManyIntervals}
+use Rattle.gtid_set.specs.Texts.{SpellsSet, sized, set_from, set_in}
 use Rattle.gtid_set.specs.Laws.{AreUsable, HaveSources}
 use Rattle.gtid_set.proofs.SetLemmas.{contains-set_of}
 use Rattle.gtid_set.proofs.SpanLemmas.{merged_head}
 use Rattle.gtid_set.proofs.RunLemmas.{runs_are_merged, set_of_runs}
-use Rattle.gtid_set.proofs.TextLemmas.{ReadSpans, same_read, given_set, given_full}
+use Rattle.gtid_set.proofs.TextLemmas.{ReadSpans, same_read, given_set, given_full, given_crowded}
 use Rattle.std.proofs.lemmas.Bool.{or_left, or_right}
 
 -- a filled span has its first number and its last
@@ -132,27 +133,40 @@ spelled_again text s sources h =
 abbrev pub as_set : Gtids → Result Gtids SetTextFault
 as_set s = Ok s
 
-made_of : (t s : Gtids) (b : Bool) → nat_lt most_sources (source_count t) ≡ b → cond b (Err (Set SourcesFull)) (as_set t) ≡ as_set s → (t ≡ s) × (source_count s ≤ most_sources)
-made_of t s true e h = absurd cc
-made_of t s false e h =
-    let same : t ≡ s = cc in
-    (same, subst (λ s. source_count s ≤ most_sources) same (small (source_count t) e))
-  where
-    small : (n : ℕ) → nat_lt most_sources n ≡ false → n ≤ most_sources
-    small n e = grind (arith, nat_tests)
+abbrev pub Fits : Gtids → Type 0
+Fits s = (source_count s ≤ most_sources) × (interval_count s ≤ most_intervals)
 
-answered_by : (text : List ℕ) (s : Gtids) (r : ReadSpans) → spans_in text ≡ r → set_from (answer (length text) r) ≡ as_set s → SpellsSet text s × (source_count s ≤ most_sources)
+sized_fits : (t s : Gtids) → sized t ≡ as_set s → (t ≡ s) × Fits s
+sized_fits t s h = by_sources (nat_lt most_sources (source_count t)) refl h
+  where
+    small : (most n : ℕ) → nat_lt most n ≡ false → n ≤ most
+    small most n e = grind (arith, nat_tests)
+
+    by_intervals : (b : Bool) → nat_lt most_intervals (interval_count t) ≡ b → source_count t ≤ most_sources → cond b (Err (Set PoolFull)) (as_set t) ≡ as_set s → (t ≡ s) × Fits s
+    by_intervals true e few h = absurd cc
+    by_intervals false e few h =
+        let same : t ≡ s = cc in
+        (same, subst Fits same (few, small most_intervals (interval_count t) e))
+
+    by_sources : (b : Bool) → nat_lt most_sources (source_count t) ≡ b → cond b (Err (Set SourcesFull)) (cond (nat_lt most_intervals (interval_count t)) (Err (Set PoolFull)) (as_set t)) ≡ as_set s → (t ≡ s) × Fits s
+    by_sources true e h = absurd cc
+    by_sources false e h = by_intervals (nat_lt most_intervals (interval_count t)) refl (small most_sources (source_count t) e) h
+
+answered_by : (text : List ℕ) (s : Gtids) (r : ReadSpans) → spans_in text ≡ r → set_from (answer (length text) r) ≡ as_set s → SpellsSet text s × Fits s
 answered_by text s (Ok spans) e h =
-    let made = made_of (set_of spans) s (nat_lt most_sources (source_count (set_of spans))) refl h in
+    let made = sized_fits (set_of spans) s h in
     ((spans, read_spells text spans e, made.0), made.1)
 answered_by text s (Err f) e h = absurd cc
 
-pub answers_spelled : (text : List ℕ) (s : Gtids) → set_in text ≡ as_set s → SpellsSet text s × (source_count s ≤ most_sources)
+pub answers_spelled : (text : List ℕ) (s : Gtids) → set_in text ≡ as_set s → SpellsSet text s × Fits s
 unfolding set_in
 answers_spelled text s e = answered_by text s (spans_in text) refl e
 
-pub spelled_answered : (text : List ℕ) (s : Gtids) → SpellsSet text s → source_count s ≤ most_sources → set_in text ≡ as_set s
-spelled_answered text s h fits = given_set text h.0 s (spells_read text h.0 h.1) fits h.2
+pub spelled_answered : (text : List ℕ) (s : Gtids) → SpellsSet text s → source_count s ≤ most_sources → interval_count s ≤ most_intervals → set_in text ≡ as_set s
+spelled_answered text s h few small = given_set text h.0 s (spells_read text h.0 h.1) few small h.2
 
-pub spelled_full : (text : List ℕ) (s : Gtids) → SpellsSet text s → most_sources < source_count s → set_in text ≡ Err (Set SourcesFull)
-spelled_full text s h over = given_full text h.0 (spells_read text h.0 h.1) (subst (λ t. most_sources < source_count t) (sym h.2) over)
+pub spelled_full : (text : List ℕ) (s : Gtids) → SpellsSet text s → HasManySources s → set_in text ≡ Err (Set SourcesFull)
+spelled_full text s h over = given_full text h.0 (spells_read text h.0 h.1) (subst HasManySources (sym h.2) over)
+
+pub spelled_crowded : (text : List ℕ) (s : Gtids) → SpellsSet text s → source_count s ≤ most_sources → HasManyIntervals s → set_in text ≡ Err (Set PoolFull)
+spelled_crowded text s h few over = given_crowded text h.0 (spells_read text h.0 h.1) (subst (λ t. source_count t ≤ most_sources) (sym h.2) few) (subst HasManyIntervals (sym h.2) over)

@@ -15,8 +15,7 @@ use Rattle.gtid_set.specs.Spans.{set_of, has, is_merged, is_before}
 use Rattle.gtid_set.specs.Runs.{is_less, place, in_order, run_before, runs_of, runs}
 use Rattle.gtid_set.specs.Sweep.{within}
 use Rattle.gtid_set.proofs.SetLemmas.{same_members, gtid_tied, contains-set_of, any-numbers}
-use Rattle.gtid_set.proofs.PlaceLemmas.{all_after}
-use Rattle.gtid_set.proofs.SpanLemmas.{merged_head, merged_cons, or_swap}
+use Rattle.gtid_set.proofs.SpanLemmas.{all_after, merged_head, merged_cons, or_swap}
 use Rattle.std.proofs.lemmas.Bool.{and_parts, and_from}
 use mathlib.Core.Bool.{or_assoc}
 

@@ -1,5 +1,5 @@
 -- Membership decides a set, and what is a member after each operation.
-use Rattle.std.proofs.Common.{add_comm, eq-eqb, cond, not, ◌≤◌, ◌<◌, ◌≡◌, ℕ, ◌+◌, ◌-◌, zero, suc, Bool, true, false, ◌&&◌, ◌||◌, List, [], ◌∷◌, ◌++◌, map, refl, sym, ap, ◌∙◌, arith, nat_eq, nat_le, nat_lt}
+use Rattle.std.proofs.Common.{eq-eqb, add_comm, cond, not, ◌≤◌, ◌<◌, ◌≡◌, ℕ, ◌+◌, ◌-◌, zero, suc, Bool, true, false, ◌&&◌, ◌||◌, List, [], ◌∷◌, ◌++◌, map, refl, sym, ap, ◌∙◌, arith, nat_eq, nat_le, nat_lt}
 use Rattle.std.specs.Prelude.{◌==◌}
 use Rattle.std.proofs.lemmas.Bool.Decides.{nat_tests}
 use Rattle.std.specs.List.{range_with_len, list_any}
@@ -25,12 +25,6 @@ same_members s t h = set.same_set gtid_total gtid_exact s t h
 -- the test by which a set knows a GTID
 pub gtid_tied : (x y : Gtid) → eq_by_cmp gtid_cmp x y ≡ ((x.source == y.source) && (x.number == y.number))
 gtid_tied x y = sym (tied_then (nat_cmp x.source y.source) (nat_cmp x.number y.number)) ∙ (λ i. unsigned_tied x.source y.source i && unsigned_tied x.number y.number i)
-
--- a set has what was put into it
-pub has_itself : (s : Gtids) (g : Gtid) → set.contains (set.insert s g) g ≡ true
-has_itself s g =
-    set.contains-insert gtid_total s g g
-    ∙ ap (λ b. b || set.contains s g) (gtid_tied g g ∙ (λ i. eq-eqb g.source g.source refl i && eq-eqb g.number g.number refl i))
 
 both_or : (b e r : Bool) → ((b && e) || (b && r)) ≡ (b && (e || r))
 both_or true e r = refl
@@ -85,14 +79,6 @@ push_any p (y ∷ ys) x = ap (λ b. p y || b) (push_any p ys x) ∙ or_swap (p y
     or_swap true false c = refl
     or_swap false b c = refl
 
--- a span of one GTID at the end adds it
-pub set_of_push : (ss : List Span) (g : Gtid) → set_of (ss ++ record { source = g.source; lo = g.number; hi = g.number } ∷ []) ≡ set.insert (set_of ss) g
-set_of_push ss g = same_members _ _ (λ q.
-    contains-set_of _ q
-    ∙ push_any _ ss _
-    ∙ (λ i. (ap (λ b. (q.source == g.source) && b) (one q.number g.number) ∙ sym (gtid_tied q g)) i || sym (contains-set_of ss q) i)
-    ∙ sym (set.contains-insert gtid_total (set_of ss) g q))
-
 pub union_empty : (s : Gtids) → s ≡ set.union s set.empty
 union_empty s = same_members s (set.union s set.empty) (λ q. sym (set.contains-union gtid_total s set.empty q ∙ ap (λ b. set.contains s q || b) (set.contains-empty gtid_cmp q) ∙ or-false (set.contains s q)))
 
@@ -102,10 +88,6 @@ union_insert s t g = same_members _ _ (λ q.
     ∙ ap (λ b. eq_by_cmp gtid_cmp q g || b) (set.contains-union gtid_total s t q)
     ∙ or_swap (eq_by_cmp gtid_cmp q g) (set.contains s q) (set.contains t q)
     ∙ sym (set.contains-union gtid_total s (set.insert t g) q ∙ ap (λ b. set.contains s q || b) (set.contains-insert gtid_total t g q)))
-
--- one GTID more in a list
-pub set_push : (gs : List Gtid) (g : Gtid) → set.from_list {R = gtid_cmp} (gs ++ g ∷ []) ≡ set.insert (set.from_list gs) g
-set_push gs g = set.from_list_push gtid_total gtid_exact gs g
 
 -- the spans of two lists together
 pub set_of-append : (xs ys : List Span) → set_of (xs ++ ys) ≡ set.union (set_of xs) (set_of ys)
@@ -185,3 +167,13 @@ len-set_of (s ∷ ss) apart =
     ∙ ap (λ k. k + (s.hi + 1 - s.lo)) (len-set_of ss apart.1)
     ∙ add_comm (sum_by size_of ss) (size_of s)
     ∙ sym (sum_by-cons size_of s ss)
+
+-- a set has what was put into it
+pub has_itself : (s : Gtids) (g : Gtid) → set.contains (set.insert s g) g ≡ true
+has_itself s g =
+    set.contains-insert gtid_total s g g
+    ∙ ap (λ b. b || set.contains s g) (gtid_tied g g ∙ (λ i. eq-eqb g.source g.source refl i && eq-eqb g.number g.number refl i))
+
+-- one GTID more in a list
+pub set_push : (gs : List Gtid) (g : Gtid) → set.from_list {R = gtid_cmp} (gs ++ g ∷ []) ≡ set.insert (set.from_list gs) g
+set_push gs g = set.from_list_push gtid_total gtid_exact gs g

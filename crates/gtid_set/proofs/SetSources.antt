@@ -7,7 +7,7 @@ use Rattle.std.specs.Ordering.{nat_cmp, eq_by_cmp}
 use Rattle.std.specs.declared.cmp.Ordering.TheVariants.{Equal}
 use Rattle.std.specs.Cmp.{nat_cmp_total, unsigned_tied}
 use Rattle.std.proofs.lemmas.Bool.Decides.{nat_tests}
-use Rattle.std.proofs.lemmas.List.{append-nil}
+use Rattle.std.proofs.lemmas.List.Folds.{list_any-append}
 use Rattle.gtid_text.specs.declared.Gtid.{Gtid}
 use Rattle.gtid_text.specs.declared.Span.{Span}
 use Rattle.gtid_text.specs.Gtids.{gtid_cmp}
@@ -306,8 +306,37 @@ pub counted_both : (xs ys : List Span) → is_merged xs ≡ true → is_merged y
 counted_both xs ys m n =
     sym (ap set.len (sources_of-set_of (xs ++ ys) (all_joined (λ s. nat_le s.lo s.hi) xs ys (merged_filled xs m) (merged_filled ys n)))) ∙ ap source_count (set_of-append xs ys)
 
-pub counted_one : (xs : List Span) → is_merged xs ≡ true → set.len (sources_in (xs ++ [])) ≡ source_count (set_of xs)
-counted_one xs m = ap (λ ss. set.len (sources_in ss)) (append-nil xs) ∙ sym (ap set.len (sources_of-set_of xs (merged_filled xs m)))
+-- two lists have no more sources than each of them together
+fewer_in : (xs ys : List Span) → set.len (sources_in (xs ++ ys)) ≤ set.len (sources_in xs) + set.len (sources_in ys)
+fewer_in [] ys = omega arith
+fewer_in (x ∷ xs) ys = split (set.contains (sources_in xs) x.source) refl (fewer_in xs ys)
+  where
+    inserted : (zs : List Span) (b : Bool) → set.contains (sources_in zs) x.source ≡ b → set.len (sources_in (x ∷ zs)) ≡ cond b (set.len (sources_in zs)) (set.len (sources_in zs) + 1)
+    inserted zs b e = set.len-insert nat_cmp_total (sources_in zs) x.source ∙ ap (λ b. cond b (set.len (sources_in zs)) (set.len (sources_in zs) + 1)) e
+
+    at_most : (zs : List Span) (b : Bool) → set.contains (sources_in zs) x.source ≡ b → set.len (sources_in (x ∷ zs)) ≤ set.len (sources_in zs) + 1
+    at_most zs true e = let i = inserted zs true e in omega (arith, i)
+    at_most zs false e = let i = inserted zs false e in omega (arith, i)
+
+    split : (b : Bool) → set.contains (sources_in xs) x.source ≡ b → set.len (sources_in (xs ++ ys)) ≤ set.len (sources_in xs) + set.len (sources_in ys)
+        → set.len (sources_in (x ∷ (xs ++ ys))) ≤ set.len (sources_in (x ∷ xs)) + set.len (sources_in ys)
+    split true e le =
+        let there = contains-sources_in (xs ++ ys) x.source ∙ list_any-append (λ s. x.source == s.source) xs ys ∙ or_left (list_any (λ s. x.source == s.source) xs) (list_any (λ s. x.source == s.source) ys) (sym (contains-sources_in xs x.source) ∙ e) in
+        let a = inserted (xs ++ ys) true there in
+        let b = inserted xs true e in
+        omega (arith, a, b, le)
+    split false e le =
+        let a = at_most (xs ++ ys) (set.contains (sources_in (xs ++ ys)) x.source) refl in
+        let b = inserted xs false e in
+        omega (arith, a, b, le)
+
+pub fewer_both : (xs ys : List Span) → is_merged xs ≡ true → is_merged ys ≡ true → source_count (set.union (set_of xs) (set_of ys)) ≤ source_count (set_of xs) + source_count (set_of ys)
+fewer_both xs ys m n =
+    let both = counted_both xs ys m n in
+    let left = ap set.len (sources_of-set_of xs (merged_filled xs m)) in
+    let right = ap set.len (sources_of-set_of ys (merged_filled ys n)) in
+    let le = fewer_in xs ys in
+    omega (arith, both, left, right, le)
 
 -- the sets of the lists that a pass makes
 pub set_of_union : (xs ys new : List Span) → IsListOf (λ q. has xs q || has ys q) new → set_of new ≡ set.union (set_of xs) (set_of ys)
@@ -404,12 +433,6 @@ apart_merged (s ∷ ss) m =
     from : (n : ℕ) → n ≤ s.hi → is_from (gtid s.source n) (gtid s.source (s.hi + 1)) ≡ true
     from n hi = grind (arith, nat_tests)
 
-pub counted_filled : (xs : List Span) → list_all (λ s. nat_le s.lo s.hi) xs ≡ true → set.len (sources_in (xs ++ [])) ≡ source_count (set_of xs)
-counted_filled xs f = ap (λ ss. set.len (sources_in ss)) (append-nil xs) ∙ sym (ap set.len (sources_of-set_of xs f))
-
-pub set_of_gathered : (xs new : List Span) → IsListOf (λ q. has xs q || has [] q) new → set_of new ≡ set_of xs
-set_of_gathered xs new l = set_of_list (λ q. has xs q || has [] q) new (set_of xs) l (λ q. contains-set_of xs q ∙ or-false (has xs q))
-  where
-    or-false : (a : Bool) → a ≡ (a || false)
-    or-false true = refl
-    or-false false = refl
+-- the set of one span, added to another
+pub with_one : (s : Gtids) (t : Span) → set.union s (set_of (t ∷ [])) ≡ set.union s (interval t.source t.lo t.hi)
+with_one s t = ap (set.union s) (same_members (set.union set.empty (interval t.source t.lo t.hi)) (interval t.source t.lo t.hi) (λ q. set.contains-union gtid_total set.empty (interval t.source t.lo t.hi) q ∙ ap (λ b. b || set.contains (interval t.source t.lo t.hi) q) (set.contains-empty gtid_cmp q)))

@@ -1,5 +1,5 @@
 -- The sources of spans, and how many there are.
-use Rattle.std.proofs.Common.{◌≡◌, ◌≤◌, ◌<◌, ◌+◌, ◌-◌, ℕ, Bool, true, false, not, cond, ◌&&◌, ◌||◌, nat_le, List, [], ◌∷◌, ◌++◌, length, refl, sym, ap, ◌∙◌, arith}
+use Rattle.std.proofs.Common.{◌≡◌, ◌≤◌, ◌+◌, ℕ, Bool, true, false, not, cond, ◌&&◌, ◌||◌, nat_le, List, [], ◌∷◌, ◌++◌, refl, sym, ap, ◌∙◌, arith}
 use Rattle.std.specs.Prelude.{◌==◌, Option, Some, None}
 use Rattle.std.specs.List.{list_all, list_any}
 use Rattle.std.specs.FinSet as set
@@ -130,30 +130,31 @@ count_left (Some q) left right x l r false takes from new =
     equal : (q n : ℕ) → not (q == n) ≡ false → q ≡ n
     equal q n h = grind (arith, nat_tests)
 
--- the step of a count
-pub count_step : (last : Option ℕ) (left right : List Span) (x : Span) (l r : List Span) (count new total : ℕ) → TakesFirst left right x l r → all_from last (x ∷ []) ≡ true → 0 < count
-    → new ≡ cond (is_new last x.source) count (count - 1) → count + set.len (besides last (sources_in (left ++ right))) ≡ total + (length left + length right)
-    → new + set.len (besides (Some x.source) (sources_in (l ++ r))) ≡ total + (length l + length r)
-count_step last left right x l r count new total takes from some e h = cases (is_new last x.source) refl
-  where
-    cases : (b : Bool) → is_new last x.source ≡ b → new + set.len (besides (Some x.source) (sources_in (l ++ r))) ≡ total + (length l + length r)
-    cases true b =
-        let n = e ∙ ap (λ b. cond b count (count - 1)) b in
-        let left_now = count_left last left right x l r true takes from b in
-        let shorter = takes.shorter in
-        omega (arith, n, left_now, shorter, h)
-    cases false b =
-        let n = e ∙ ap (λ b. cond b count (count - 1)) b in
-        let left_now = count_left last left right x l r false takes from b in
-        let shorter = takes.shorter in
-        omega (arith, n, left_now, shorter, h, some)
+pub nothing_from : (last : Option ℕ) → all_from last [] ≡ true
+nothing_from None = refl
+nothing_from (Some q) = refl
 
-pub enough_step : (last : Option ℕ) (source count new n m : ℕ) → m + 1 ≡ n → n ≤ count → new ≡ cond (is_new last source) count (count - 1) → m ≤ new
-enough_step last source count new n m e le h = cases (is_new last source) refl
+-- the step of a count
+pub count_step : (last : Option ℕ) (left right : List Span) (x : Span) (l r : List Span) (count new total : ℕ) → TakesFirst left right x l r → all_from last (x ∷ []) ≡ true
+    → new ≡ cond (is_new last x.source) (count + 1) count → count + set.len (besides last (sources_in (left ++ right))) ≡ total → new + set.len (besides (Some x.source) (sources_in (l ++ r))) ≡ total
+count_step last left right x l r count new total takes from e h = cases (is_new last x.source) refl
   where
-    cases : (b : Bool) → is_new last source ≡ b → m ≤ new
-    cases true b = let k = h ∙ ap (λ b. cond b count (count - 1)) b in omega (arith, k, e, le)
-    cases false b = let k = h ∙ ap (λ b. cond b count (count - 1)) b in omega (arith, k, e, le)
+    cases : (b : Bool) → is_new last x.source ≡ b → new + set.len (besides (Some x.source) (sources_in (l ++ r))) ≡ total
+    cases true b =
+        let n = e ∙ ap (λ b. cond b (count + 1) count) b in
+        let left_now = count_left last left right x l r true takes from b in
+        omega (arith, n, left_now, h)
+    cases false b =
+        let n = e ∙ ap (λ b. cond b (count + 1) count) b in
+        let left_now = count_left last left right x l r false takes from b in
+        omega (arith, n, left_now, h)
+
+pub bound_step : (last : Option ℕ) (source count new m n bound : ℕ) → m + 1 ≡ n → new ≡ cond (is_new last source) (count + 1) count → count + n ≤ bound → new + m ≤ bound
+bound_step last source count new m n bound e h le = cases (is_new last source) refl
+  where
+    cases : (b : Bool) → is_new last source ≡ b → new + m ≤ bound
+    cases true b = let k = h ∙ ap (λ b. cond b (count + 1) count) b in omega (arith, k, e, le)
+    cases false b = let k = h ∙ ap (λ b. cond b (count + 1) count) b in omega (arith, k, e, le)
 
 -- the later spans have the source of the first or a greater one
 pub all_from_first : (x : Span) (ss : List Span) → list_all (λ t. is_from (start_of x) (start_of t)) ss ≡ true → all_from (Some x.source) ss ≡ true
@@ -166,12 +167,10 @@ pub first_from : (last : Option ℕ) (left right : List Span) (x : Span) (l r : 
 first_from None left right x l r takes a b = refl
 first_from (Some q) left right x l r takes a b = and_from (nat_le q x.source) true (takes_all left right x l r takes (λ s. nat_le q s.source) a b).0 refl
 
-pub count_end : (last : Option ℕ) (left right : List Span) (count total : ℕ) → left ≡ [] → right ≡ [] → count + set.len (besides last (sources_in (left ++ right))) ≡ total + (length left + length right) → count ≡ total
+pub count_end : (last : Option ℕ) (left right : List Span) (count total : ℕ) → left ≡ [] → right ≡ [] → count + set.len (besides last (sources_in (left ++ right))) ≡ total → count ≡ total
 count_end last left right count total e f h =
     let none : set.len (besides last (sources_in (left ++ right))) ≡ 0 = (λ i. set.len (besides last (sources_in (e i ++ f i)))) ∙ empty last in
-    let a = ap length e in
-    let b = ap length f in
-    omega (arith, none, a, b, h)
+    omega (arith, none, h)
   where
     empty : (last : Option ℕ) → set.len (besides last (sources_in [])) ≡ 0
     empty None = set.len-empty nat_cmp

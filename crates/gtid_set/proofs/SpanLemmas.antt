@@ -357,3 +357,10 @@ merged_rises (s ∷ ss) m =
   where
     later : (t : Span) → is_before s t ≡ true → s.lo ≤ s.hi → is_from (start_of s) (start_of t) ≡ true
     later t b f = grind (arith, nat_tests)
+
+-- all of a merged list is after what its first is after
+pub all_after : (t s : Span) (more : List Span) → IsHead s more → is_before t s ≡ true → list_all (is_before t) (s ∷ more) ≡ true
+all_after t s more h b =
+    let f = h.filled in
+    let le : nat_le s.lo s.hi ≡ true = grind (arith, nat_tests) in
+    and_from (is_before t s) (list_all (is_before t) more) b (all_weaker (is_before s) (is_before t) more (λ u k. before_trans t s u b le k) h.after)

@@ -16,8 +16,8 @@ use Rattle.gtid_set.specs.declared.fault.SetFault.TheVariants.{Memory, PoolFull,
 use Rattle.gtid_set.specs.declared.fault.SetTextFault.TheVariants.{Text, Set}
 use Rattle.gtid_set.specs.Sets.{Gtids, source_count, most_sources}
 use Rattle.gtid_set.specs.Spans.{set_of}
-use Rattle.gtid_set.specs.Full.{IsFullExactly}
-use Rattle.gtid_set.specs.Texts.{set_from, set_in}
+use Rattle.gtid_set.specs.Full.{IsFullExactly, interval_count, most_intervals, HasManySources, HasManyIntervals}
+use Rattle.gtid_set.specs.Texts.{sized, set_from, set_in}
 use Rattle.gtid_set.proofs.SortLemmas.{same_set_sorted}
 use Rattle.gtid_set.proofs.SpanLemmas.{all_joined}
 use Rattle.std.proofs.lemmas.Bool.{and_from}
@@ -66,31 +66,42 @@ pub set_read : (spans read sorted : List Span) (s : Gtids) → as_read spans ≡
 set_read spans read sorted s e p view = same_set_sorted read sorted p ∙ ap set_of (sym (same_read spans read e)) ∙ view
 
 -- the answer, where intervals were read
-counted : (spans : List Span) (b : Bool) → nat_lt most_sources (source_count (set_of spans)) ≡ b → (len : ℕ) → set_from (answer len (as_read spans)) ≡ cond b (Err (Set SourcesFull)) (Ok (set_of spans))
-counted spans b e len = ap (λ b. cond b (Err (Set SourcesFull)) (Ok (set_of spans))) e
+is_small : (most n : ℕ) → n ≤ most → nat_lt most n ≡ false
+is_small most n le = grind (arith, nat_tests)
 
-pub given_set : (text : List ℕ) (spans : List Span) (s : Gtids) → spans_in text ≡ as_read spans → source_count s ≤ most_sources → set_of spans ≡ s → set_in text ≡ Ok s
-unfolding set_in
-given_set text spans s e fits view =
-    ap (λ r. set_from (answer (length text) r)) e
-    ∙ counted spans false (ap (λ s. nat_lt most_sources (source_count s)) view ∙ small (source_count s) fits) (length text)
-    ∙ (λ i. Ok (view i))
-  where
-    small : (n : ℕ) → n ≤ most_sources → nat_lt most_sources n ≡ false
-    small n le = grind (arith, nat_tests)
+is_great : (most n : ℕ) → most < n → nat_lt most n ≡ true
+is_great most n lt = grind (arith, nat_tests)
 
-pub given_full : (text : List ℕ) (spans : List Span) → spans_in text ≡ as_read spans → most_sources < source_count (set_of spans) → set_in text ≡ Err (Set SourcesFull)
+pub fits_sized : (s : Gtids) → source_count s ≤ most_sources → interval_count s ≤ most_intervals → sized s ≡ Ok s
+fits_sized s few small =
+    ap (λ b. cond b (Err (Set SourcesFull)) (cond (nat_lt most_intervals (interval_count s)) (Err (Set PoolFull)) (Ok s))) (is_small most_sources (source_count s) few)
+    ∙ ap (λ b. cond b (Err (Set PoolFull)) (Ok s)) (is_small most_intervals (interval_count s) small)
+
+pub full_sized : (s : Gtids) → HasManySources s → sized s ≡ Err (Set SourcesFull)
+full_sized s many = ap (λ b. cond b (Err (Set SourcesFull)) (cond (nat_lt most_intervals (interval_count s)) (Err (Set PoolFull)) (Ok s))) (is_great most_sources (source_count s) many)
+
+pub crowded_sized : (s : Gtids) → source_count s ≤ most_sources → HasManyIntervals s → sized s ≡ Err (Set PoolFull)
+crowded_sized s few many =
+    ap (λ b. cond b (Err (Set SourcesFull)) (cond (nat_lt most_intervals (interval_count s)) (Err (Set PoolFull)) (Ok s))) (is_small most_sources (source_count s) few)
+    ∙ ap (λ b. cond b (Err (Set PoolFull)) (Ok s)) (is_great most_intervals (interval_count s) many)
+
+given_sized : (text : List ℕ) (spans : List Span) → spans_in text ≡ as_read spans → set_in text ≡ sized (set_of spans)
 unfolding set_in
-given_full text spans e over =
-    ap (λ r. set_from (answer (length text) r)) e ∙ counted spans true (great (source_count (set_of spans)) over) (length text)
-  where
-    great : (n : ℕ) → most_sources < n → nat_lt most_sources n ≡ true
-    great n lt = grind (arith, nat_tests)
+given_sized text spans e = ap (λ r. set_from (answer (length text) r)) e
+
+pub given_set : (text : List ℕ) (spans : List Span) (s : Gtids) → spans_in text ≡ as_read spans → source_count s ≤ most_sources → interval_count s ≤ most_intervals → set_of spans ≡ s → set_in text ≡ Ok s
+given_set text spans s e few small view = given_sized text spans e ∙ ap sized view ∙ fits_sized s few small
+
+pub given_full : (text : List ℕ) (spans : List Span) → spans_in text ≡ as_read spans → HasManySources (set_of spans) → set_in text ≡ Err (Set SourcesFull)
+given_full text spans e many = given_sized text spans e ∙ full_sized (set_of spans) many
+
+pub given_crowded : (text : List ℕ) (spans : List Span) → spans_in text ≡ as_read spans → source_count (set_of spans) ≤ most_sources → HasManyIntervals (set_of spans) → set_in text ≡ Err (Set PoolFull)
+given_crowded text spans e few many = given_sized text spans e ∙ crowded_sized (set_of spans) few many
 
 -- the answer, where the set was not made
 pub given_fault : (text : List ℕ) (spans : List Span) (f : SetFault) → spans_in text ≡ as_read spans → IsFullExactly {T = Unit {0}} (Err f) (set_of spans) → (f ≡ Memory) ⊎ (set_in text ≡ Err (Set f))
 given_fault text spans Memory e full = inl refl
-given_fault text spans PoolFull e full = absurd full
+given_fault text spans PoolFull e full = inr (given_crowded text spans e full.0 full.1)
 given_fault text spans SourcesFull e full = inr (given_full text spans e full)
 
 -- the answer, where the text was refused

@@ -1,12 +1,13 @@
 -- Laws of sets of GTIDs and of their text, as they are stated by public functions.
-use Rattle.std.specs.Prelude.{◌≡◌, ℕ, ◌<◌, ◌≤◌, true, List, Ok, Err}
+use Rattle.std.specs.Prelude.{◌≡◌, ℕ, ◌≤◌, true, List, Ok, Err}
 use Rattle.std.specs.FinSet as set
 use Rattle.gtid_text.specs.declared.Gtid.{Gtid}
 use Rattle.gtid_text.specs.Written.{IsSource, IsUsable}
-use Rattle.gtid_set.specs.declared.fault.SetFault.TheVariants.{SourcesFull}
+use Rattle.gtid_set.specs.declared.fault.SetFault.TheVariants.{PoolFull, SourcesFull}
 use Rattle.gtid_set.specs.declared.fault.SetTextFault.TheVariants.{Set}
 use Rattle.gtid_set.specs.Sets.{Gtids, source_count, most_sources}
 use Rattle.gtid_set.specs.Runs.{canonical}
+use Rattle.gtid_set.specs.Full.{interval_count, HasManySources, HasManyIntervals, most_intervals}
 use Rattle.gtid_set.specs.Texts.{SpellsSet, set_in}
 
 -- ---- union
@@ -75,11 +76,14 @@ CanonicalTells = (s t : Gtids) → AreUsable s → AreUsable t → canonical s �
 
 -- the answer to a text is a set that it spells
 abbrev pub AnswersSpelled : Type 0
-AnswersSpelled = (text : List ℕ) (s : Gtids) → set_in text ≡ Ok s → SpellsSet text s × (source_count s ≤ most_sources)
+AnswersSpelled = (text : List ℕ) (s : Gtids) → set_in text ≡ Ok s → SpellsSet text s × ((source_count s ≤ most_sources) × (interval_count s ≤ most_intervals))
 
--- a text that spells a set is answered that set, or that it has too many sources
+-- a text that spells a set is answered that set, or that it has too many sources, or else too many intervals
 abbrev pub SpelledIsAnswered : Type 0
-SpelledIsAnswered = (text : List ℕ) (s : Gtids) → SpellsSet text s → source_count s ≤ most_sources → set_in text ≡ Ok s
+SpelledIsAnswered = (text : List ℕ) (s : Gtids) → SpellsSet text s → source_count s ≤ most_sources → interval_count s ≤ most_intervals → set_in text ≡ Ok s
 
 abbrev pub SpelledIsFull : Type 0
-SpelledIsFull = (text : List ℕ) (s : Gtids) → SpellsSet text s → most_sources < source_count s → set_in text ≡ Err (Set SourcesFull)
+SpelledIsFull = (text : List ℕ) (s : Gtids) → SpellsSet text s → HasManySources s → set_in text ≡ Err (Set SourcesFull)
+
+abbrev pub SpelledIsCrowded : Type 0
+SpelledIsCrowded = (text : List ℕ) (s : Gtids) → SpellsSet text s → source_count s ≤ most_sources → HasManyIntervals s → set_in text ≡ Err (Set PoolFull)

@@ -1,5 +1,5 @@
 -- What one pass over lists of spans keeps.
-use Rattle.std.specs.Prelude.{◌≡◌, ℕ, Bool, true, false, not, ◌&&◌, ◌||◌, ◌==◌, ◌≤◌, ◌+◌, ◌-◌, ◌<◌, max, min, length, take, drop, map, nat_le, nat_lt, List, [], ◌∷◌, ◌++◌, Option, Some, None, MatchBool, if◌then◌else◌}
+use Rattle.std.specs.Prelude.{◌≡◌, ℕ, Bool, true, false, not, ◌&&◌, ◌||◌, ◌==◌, ◌≤◌, ◌+◌, ◌-◌, ◌<◌, max, min, length, map, nat_le, nat_lt, List, [], ◌∷◌, Option, Some, None, MatchBool, if◌then◌else◌}
 use Rattle.std.specs.List.{list_all, list_any}
 use Rattle.std.specs.FinSet as set
 use Rattle.std.specs.Ordering.{nat_cmp}
@@ -31,10 +31,6 @@ all_before ss t = list_all (λ s. is_before s t) ss
 -- none ends before the span
 abbrev pub all_reach : Span → List Span → Bool
 all_reach t ss = list_all (λ s. not (ends_before (start_of t) s)) ss
-
--- none ends with a number missing before the span
-abbrev pub all_touch : Span → List Span → Bool
-all_touch t ss = list_all (λ s. not (is_before s t)) ss
 
 -- each starts by the later ones
 abbrev pub rises : List Span → Bool
@@ -124,28 +120,6 @@ AreApart p q = (g : Gtid) → p g ≡ true → q g ≡ false
 -- a GTID passes both tests
 abbrev pub HaveCommon : (Gtid → Bool) → (Gtid → Bool) → Type 0
 HaveCommon p q = (g : Gtid) × (p g ≡ true) × (q g ≡ true)
-
--- the least span with all of two that touch
-abbrev pub hull : Span → Span → Span
-hull t s = record { source = t.source; lo = min t.lo s.lo; hi = max t.hi s.hi }
-
--- the place of a span: what ends before it stands in front, and what may touch it behind
-pub record IsPlace (spans : List Span) (t : Span) (at : ℕ) (rest : List Span) : Type 0 where
-  pub bound : at ≤ length spans
-  pub back : rest ≡ drop at spans
-  pub before : all_before (take at spans) t ≡ true
-  pub touched : all_touch t rest ≡ true
-  pub merged : is_merged rest ≡ true
-
--- a span joined with those that it touches, and the spans behind
-pub record Absorbs (t : Span) (spans : List Span) (joined : Span) (rest : List Span) : Type 0 where
-  pub front : List Span
-  pub parts : spans ≡ front ++ rest
-  pub merged : is_merged rest ≡ true
-  pub filled : joined.lo ≤ joined.hi
-  pub after : list_all (is_before joined) rest ≡ true
-  pub lower : (u : Span) → is_before u t ≡ true → list_all (is_before u) spans ≡ true → is_before u joined ≡ true
-  pub has : (q : Gtid) → (within joined q || has rest q) ≡ (within t q || has spans q)
 
 -- the different sources of spans
 abbrev pub sources_in : List Span → set.FinSet nat_cmp

@@ -6,12 +6,12 @@ use Rattle.gtid_text.specs.declared.fault.TextFault.TheVariants as faults
 use Rattle.gtid_text.specs.Grammar.{Spells, IsSetText}
 use Rattle.gtid_text.specs.Reading.{answer, spans_in}
 use Rattle.gtid_text.specs.Refused.{FailsText}
-use Rattle.gtid_set.specs.declared.fault.SetFault.TheVariants.{Memory, SourcesFull}
+use Rattle.gtid_set.specs.declared.fault.SetFault.TheVariants.{Memory, PoolFull, SourcesFull}
 use Rattle.gtid_set.specs.declared.fault.SetTextFault.{SetTextFault}
 use Rattle.gtid_set.specs.declared.fault.SetTextFault.TheVariants.{Text, Set}
 use Rattle.gtid_set.specs.Sets.{Gtids, source_count, most_sources}
 use Rattle.gtid_set.specs.Spans.{set_of}
-use Rattle.gtid_set.specs.Full.{IsFullExactly}
+use Rattle.gtid_set.specs.Full.{IsFullExactly, interval_count, most_intervals}
 
 -- the set is the union of the intervals that the text spells
 abbrev pub SpellsSet : List ℕ → Gtids → Type 0
@@ -22,20 +22,24 @@ abbrev pub WantsMemory : SetTextFault → Type 0
 WantsMemory (Text f) = f ≡ faults.Memory
 WantsMemory (Set f) = f ≡ Memory
 
--- no memory, a refusal of the text, or a set with too many sources
+-- no memory, a refusal of the text, or a set with too many sources or intervals
 abbrev pub RefusesSet : SetTextFault → List ℕ → Type 0
 RefusesSet (Text f) text = FailsText IsSetText f text
 RefusesSet (Set f) text = (spans : List Span) × Spells text spans × IsFullExactly {T = Unit {0}} (Err f) (set_of spans)
 
--- a text that spells a set is read as that set, if memory and its sources allow
+-- a text that spells a set is read as that set, if memory, its sources and its intervals allow
 abbrev pub IsReadAs : Result Gtids SetTextFault → Gtids → Type 0
 IsReadAs (Ok t) s = t ≡ s
 IsReadAs (Err (Text f)) s = f ≡ faults.Memory
 IsReadAs (Err (Set f)) s = IsFullExactly {T = Unit {0}} (Err f) s
 
--- the set of intervals, where it has not too many sources, and else why there is none
+-- a set, where it has not too many sources or intervals, and else why there is none
+abbrev pub sized : Gtids → Result Gtids SetTextFault
+sized s = if nat_lt most_sources (source_count s) then Err (Set SourcesFull) else (if nat_lt most_intervals (interval_count s) then Err (Set PoolFull) else Ok s)
+
+-- the set of intervals, or why there is none
 abbrev pub set_from : Result (List Span) TextFault → Result Gtids SetTextFault
-set_from (Ok spans) = if nat_lt most_sources (source_count (set_of spans)) then Err (Set SourcesFull) else Ok (set_of spans)
+set_from (Ok spans) = sized (set_of spans)
 set_from (Err fault) = Err (Text fault)
 
 -- the set that a text spells, or why there is none

@@ -1,7 +1,9 @@
 ghost use Rattle.std.specs.Prelude.{◌≡◌};
 ghost use Rattle.gtid_set.specs.declared.fault.SetFault.TheVariants.{Memory};
+ghost use Rattle.gtid_set.specs.Full.{fault_of};
 
 use gtid_text::TextFault;
+use interval_pool::PoolFault;
 use std::alloc::{AllocError, AllocFailed};
 use thiserror::Error;
 
@@ -32,6 +34,17 @@ impl<T: Drop> From<AllocFailed<T>> for SetFault {
 
     fn from(_e: AllocFailed<T>) -> SetFault {
         SetFault::Memory
+    }
+}
+
+impl From<PoolFault> for SetFault {
+    ghost from_gives = { λ fault e. e ≡ fault_of fault };
+
+    fn from(fault: PoolFault) -> SetFault {
+        match fault {
+            PoolFault::Memory => SetFault::Memory,
+            PoolFault::Full => SetFault::PoolFull,
+        }
     }
 }
 

@@ -1,7 +1,8 @@
 //! Laws of sets of GTIDs and of their text.
 //!
 //! Each law is the contract of a function that does nothing.
-ghost use Rattle.gtid_set.specs.Laws.{UnionCommutes, UnionAssociates, UnionRepeats, UnionIsUpper, UnionIsLeast, UnionLess, LessUnion, LessBoth, BothOfUnion, BothOfLess, SpellsOne, CanonicalSpells, SpelledAgain, CanonicalTells, AnswersSpelled, SpelledIsAnswered, SpelledIsFull};
+ghost use Rattle.gtid_set.specs.Laws.{UnionCommutes, UnionAssociates, UnionRepeats, UnionIsUpper, UnionIsLeast, UnionLess, LessUnion, LessBoth, BothOfUnion, BothOfLess, SpellsOne, CanonicalSpells, SpelledAgain, CanonicalTells, AnswersSpelled, SpelledIsAnswered, SpelledIsFull, SpelledIsCrowded};
+ghost use Rattle.gtid_set.specs.Edges.{EdgesAreChanges, EdgesAreTwice, EdgesOfUnion, EdgesOfDifference, EdgesOfIntersection, IntervalsOfUnion, IntervalsOfDifference, IntervalsOfIntersection, IntervalsOfInsert};
 
 /// Union depends neither on the order of the sets nor on how often one is named.
 pub fn union_is_free()
@@ -37,9 +38,24 @@ pub fn text_reads_back()
     ensures tells { CanonicalTells }
 {}
 
-/// The one answer to a text is the set that it spells, where that has not too many sources, and is a set for no other text.
+/// The one answer to a text is the set that it spells, where that has not too many sources or intervals, and is a set for no other text.
 pub fn text_is_answered()
     ensures found { AnswersSpelled }
     ensures only { SpelledIsAnswered }
     ensures full { SpelledIsFull }
+    ensures crowded { SpelledIsCrowded }
+{}
+
+/// A set has two edges for each interval, and no edge of what is made of two sets is new: so it has no more intervals than these two
+/// together.
+pub fn intervals_add_up()
+    ensures edges { EdgesAreChanges }
+    ensures twice { EdgesAreTwice }
+    ensures of_union { EdgesOfUnion }
+    ensures of_difference { EdgesOfDifference }
+    ensures of_intersection { EdgesOfIntersection }
+    ensures union { IntervalsOfUnion }
+    ensures difference { IntervalsOfDifference }
+    ensures intersection { IntervalsOfIntersection }
+    ensures insert { IntervalsOfInsert }
 {}

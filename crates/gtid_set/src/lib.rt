@@ -1,7 +1,7 @@
 //! Sets of GTIDs.
 #![tactic(auto)]
 
-ghost use Rattle.std.specs.Prelude.{◌≡◌, ◌≤◌, ◌<◌, ◌↔◌, ℕ, IsTrue, true, false, ◌||◌, IfOk, IfErr, IfSome, IfNone, OnOk, OnErr, IsOkUnless, string_bytes, true, List, nat_le, MatchResult};
+ghost use Rattle.std.specs.Prelude.{◌≡◌, ◌≤◌, ◌<◌, ◌↔◌, ℕ, IsTrue, true, false, ◌||◌, IfOk, IfErr, IfSome, IfNone, OnOk, OnErr, IsOkUnless, string_bytes, true, List, nat_le, nat_lt, ◌≤◌, length, MatchResult};
 ghost use Rattle.std.specs.List.{list_all};
 ghost use Rattle.std.specs.FinSet as set;
 ghost use Rattle.gtid_set.specs.declared.fault.SetFault.TheVariants.{Memory, SourcesFull};
@@ -10,36 +10,33 @@ ghost use Rattle.gtid_set.specs.Spans.{set_of, is_merged, has};
 ghost use Rattle.gtid_set.specs.Runs.{runs, canonical};
 ghost use Rattle.gtid_set.specs.Texts.{SpellsSet, RefusesSet, IsReadAs, GivesSet, set_in};
 ghost use Rattle.gtid_set.specs.Sweep.{IsListOf, rises, within};
-ghost use Rattle.gtid_set.specs.Full.{IsFullExactly, IsKept};
+ghost use Rattle.gtid_set.specs.Full.{IsFullExactly, IsCrowdedExactly, IsKept, most_intervals};
 
+mod cursor;
 mod fault;
+mod kept;
 pub mod laws;
 mod single;
+mod sources;
 mod sweep;
 mod text;
 
 pub use fault::{SetFault, SetTextFault};
 use gtid_text::{Gtid, SourceId, Span, parse_spans};
+use kept::{Kept, MOST_SOURCES};
 use std::alloc::{AllocError, Global};
-use std::collections::BTreeMap;
 use std::marker::Model;
-
-/// The most sources that a set may have. Our own rule.
-const MOST_SOURCES: u32 = 65_536;
 
 /// The greatest number that a transaction may have. Our own rule.
 const GREATEST: u64 = 9_223_372_036_854_775_807;
 
-/// The most spans that are always searched by halves. Our own rule.
-const MOST_SEARCHED: usize = 32;
+/// The most intervals that a set may have. Our own rule.
+const MOST_INTERVALS: usize = 4_294_967_294;
 
-/// A set of GTIDs, as the MySQL 8.0 Reference Manual has it in "GTID Format and Storage". It has at most 65,536 sources.
+/// A set of GTIDs, as the MySQL 8.0 Reference Manual has it in "GTID Format and Storage". It has at most 65,536 sources and 4,294,967,294 intervals.
 #[derive(Drop)]
 pub struct GtidSet {
-    spans: Vec<Span>,
-    sources: u32,
-    // For a source, the place in `spans` where it was last added to: a guess, which may be wrong.
-    tails: BTreeMap<SourceId, usize>,
+    spans: Kept,
 }
 
 impl Model for GtidSet {
@@ -52,118 +49,89 @@ impl Model for GtidSet {
     ghost use Rattle.gtid_set.specs.Spans.{set_of};
     ghost use Rattle.gtid_set.specs.Full.{IsKept};
 
-    ghost view = { λ s. set_of s.spans.items };
+    ghost view = { λ s. set_of s.spans };
 
-    ghost invariant = { λ s. IsKept s.spans.items s.sources };
+    ghost invariant = { λ s. IsKept s.spans };
 }
 
-/// The place where a source was last added to, or the first place.
-fn tail_of(tails: &BTreeMap<SourceId, usize>, source: SourceId) -> usize {
-    match tails.get(&source) {
-        Some(at) => *at,
-        None => 0,
-    }
-}
-
-/// Keeps the place where a source was last added to, among as many spans; where memory is wanting, it is not kept.
-fn keep_tail(tails: &mut BTreeMap<SourceId, usize>, source: SourceId, at: usize, count: usize) {
-    if count > MOST_SEARCHED && tail_of(tails, source) != at {
-        let _ = tails.insert(source, at);
-    }
-}
-
-/// Joins a span to a merged list, and keeps its place for the next one of its source.
-fn add_at_tail(
-    spans: &mut Vec<Span>,
-    tails: &mut BTreeMap<SourceId, usize>,
-    span: Span,
-    guess: usize,
-) -> Result<(), AllocError>
-    requires filled { span.lo ≤ span.hi }
-    requires merged { is_merged spans.old.items ≡ true }
-    ensures ok { OnOk result (IsListOf (λ q. within span q || has spans.old.items q) spans.new.items) }
-    ensures err { OnErr result (spans.new.items ≡ spans.old.items) }
+/// Whether two sets have too many sources together.
+fn have_many_sources(left: &Kept, right: &Kept) -> bool
+    ensures { result ≡ nat_lt most_sources (source_count (set.union (set_of left.now) (set_of right.now))) }
 {
-    let source = span.source;
-    let at = sweep::add_to(spans, span, guess)?;
-    let count = spans.len();
-    keep_tail(tails, source, at, count);
-    Ok(())
-}
-
-/// How many sources a set has with one more span of a source, if they are not too many. Any guess of the source's place serves.
-fn sources_with(spans: &[Span], sources: u32, source: SourceId, guess: usize) -> Option<u32>
-    requires { IsKept spans.now sources }
-    ensures count { IfSome result (λ n. n ≡ set.len (set.insert (sources_of (set_of spans.now)) source)) }
-    ensures fits { IfSome result (λ n. n ≤ most_sources) }
-    ensures full { IfNone result (most_sources < set.len (set.insert (sources_of (set_of spans.now)) source)) }
-{
-    if sweep::has_source(spans, source, guess) {
-        return Some(sources);
-    }
-    if sources == MOST_SOURCES {
-        return None;
-    }
-    Some(sources + 1)
+    left.is_kept();
+    right.is_kept();
+    left.sources() + right.sources() > MOST_SOURCES
+        && sweep::count_sources(left.cursor(), right.cursor()) > MOST_SOURCES as u64
 }
 
 /// The set of a merged list of spans, which has not too many sources.
-fn made(alloc: Global, spans: Vec<Span>) -> GtidSet
-    requires merged { is_merged spans.items ≡ true }
-    requires fits { source_count (set_of spans.items) ≤ most_sources }
-    ensures { result ≡ set_of spans.items }
+fn made(alloc: Global, spans: &[Span]) -> Result<GtidSet, SetFault>
+    requires merged { is_merged spans.now ≡ true }
+    requires fits { source_count (set_of spans.now) ≤ most_sources }
+    ensures ok { IfOk result (λ s. s ≡ set_of spans.now) }
+    ensures full { IsFullExactly result (set_of spans.now) }
 {
-    let sources = sweep::count_sources(&spans, &[]) as u32;
-    let tails = BTreeMap::new(alloc);
-    GtidSet {
-        spans,
-        sources,
-        tails,
+    if spans.len() > MOST_INTERVALS {
+        return Err(SetFault::PoolFull);
     }
+    small(alloc, spans)
 }
 
-/// The set of all that two merged lists of spans have.
-fn united(alloc: Global, left: &[Span], right: &[Span]) -> Result<GtidSet, SetFault>
+/// The same of one with not too many intervals.
+fn small(alloc: Global, spans: &[Span]) -> Result<GtidSet, SetFault>
+    requires merged { is_merged spans.now ≡ true }
+    requires fits { source_count (set_of spans.now) ≤ most_sources }
+    requires small { length spans.now ≤ most_intervals }
+    ensures ok { IfOk result (λ s. s ≡ set_of spans.now) }
+    ensures fault { IsOkUnless result Memory }
+{
+    Ok(GtidSet {
+        spans: Kept::of(alloc, spans)?,
+    })
+}
+
+/// The set of all that two sets have.
+fn united(alloc: Global, left: &Kept, right: &Kept) -> Result<GtidSet, SetFault>
     requires left { is_merged left.now ≡ true }
     requires right { is_merged right.now ≡ true }
     ensures ok { IfOk result (λ s. s ≡ set.union (set_of left.now) (set_of right.now)) }
     ensures full { IsFullExactly result (set.union (set_of left.now) (set_of right.now)) }
 {
-    if sweep::count_sources(left, right) > u128::from(MOST_SOURCES) {
+    if have_many_sources(left, right) {
         return Err(SetFault::SourcesFull);
     }
-    let Ok(spans) = sweep::union_of(alloc, left, right) else {
+    let Ok(spans) = sweep::union_of(alloc, left.cursor(), right.cursor()) else {
         return Err(SetFault::Memory);
     };
-    Ok(made(alloc, spans))
+    made(alloc, &spans)
 }
 
-/// The set of what the first of two merged lists of spans has and the second has not.
-fn reduced(alloc: Global, left: &[Span], right: &[Span]) -> Result<GtidSet, SetFault>
+/// The set of what the first of two sets has and the second has not.
+fn reduced(alloc: Global, left: &Kept, right: &Kept) -> Result<GtidSet, SetFault>
     requires left { is_merged left.now ≡ true }
     requires right { is_merged right.now ≡ true }
     requires fits { source_count (set_of left.now) ≤ most_sources }
     ensures ok { IfOk result (λ s. s ≡ set.difference (set_of left.now) (set_of right.now)) }
-    ensures fault { IsOkUnless result Memory }
+    ensures full { IsCrowdedExactly result (set.difference (set_of left.now) (set_of right.now)) }
 {
-    let Ok(spans) = sweep::difference_of(alloc, left, right) else {
+    let Ok(spans) = sweep::difference_of(alloc, left.cursor(), right.cursor()) else {
         return Err(SetFault::Memory);
     };
-    Ok(made(alloc, spans))
+    made(alloc, &spans)
 }
 
-/// The set of what both of two merged lists of spans have.
-fn common(alloc: Global, left: &[Span], right: &[Span]) -> Result<GtidSet, SetFault>
+/// The set of what both of two sets have.
+fn common(alloc: Global, left: &Kept, right: &Kept) -> Result<GtidSet, SetFault>
     requires left { is_merged left.now ≡ true }
     requires right { is_merged right.now ≡ true }
     requires fits { source_count (set_of left.now) ≤ most_sources }
     ensures ok { IfOk result (λ s. s ≡ set.intersection (set_of left.now) (set_of right.now)) }
-    ensures fault { IsOkUnless result Memory }
+    ensures full { IsCrowdedExactly result (set.intersection (set_of left.now) (set_of right.now)) }
 {
-    let Ok(spans) = sweep::intersection_of(alloc, left, right) else {
+    let Ok(spans) = sweep::intersection_of(alloc, left.cursor(), right.cursor()) else {
         return Err(SetFault::Memory);
     };
-    Ok(made(alloc, spans))
+    made(alloc, &spans)
 }
 
 /// The set of spans that are sorted by where they start, none of them reversed.
@@ -173,43 +141,42 @@ fn gathered(alloc: Global, spans: &[Span]) -> Result<GtidSet, SetFault>
     ensures ok { IfOk result (λ s. s ≡ set_of spans.now) }
     ensures full { IsFullExactly result (set_of spans.now) }
 {
-    if sweep::count_sources(spans, &[]) > u128::from(MOST_SOURCES) {
+    if sweep::count_sources_of(spans) > MOST_SOURCES as u64 {
         return Err(SetFault::SourcesFull);
     }
-    let Ok(merged) = sweep::union_of(alloc, spans, &[]) else {
+    let Ok(merged) = sweep::joined(alloc, spans) else {
         return Err(SetFault::Memory);
     };
-    Ok(made(alloc, merged))
+    made(alloc, &merged)
 }
 
-/// Whether two merged lists of spans are of one set.
-fn are_equal(left: &[Span], right: &[Span]) -> bool
+/// Whether two sets are the same.
+fn are_equal(left: &Kept, right: &Kept) -> bool
     requires left { is_merged left.now ≡ true }
     requires right { is_merged right.now ≡ true }
     ensures { IsTrue result ↔ (set_of left.now ≡ set_of right.now) }
 {
-    if !sweep::is_within(left, right) {
+    if !sweep::is_within(left.cursor(), right.cursor()) {
         return false;
     }
-    sweep::is_within(right, left)
+    sweep::is_within(right.cursor(), left.cursor())
 }
 
-/// The set of one source's GTIDs in a merged list of spans, or of the others.
+/// The set of one source's GTIDs, or of the others.
 fn of_source(
     alloc: Global,
-    spans: &[Span],
+    spans: &Kept,
     source: SourceId,
     wanted: bool,
 ) -> Result<GtidSet, SetFault>
-    requires merged { is_merged spans.now ≡ true }
-    requires fits { source_count (set_of spans.now) ≤ most_sources }
+    requires kept { IsKept spans.now }
     ensures ok { IfOk result (λ s. s ≡ kept_sources (set_of spans.now) source wanted) }
     ensures fault { IsOkUnless result Memory }
 {
-    let Ok(spans) = single::of_source(alloc, spans, source, wanted) else {
+    let Ok(spans) = single::of_source(alloc, spans.cursor(), source, wanted) else {
         return Err(SetFault::Memory);
     };
-    Ok(made(alloc, spans))
+    small(alloc, &spans)
 }
 
 impl GtidSet {
@@ -218,9 +185,7 @@ impl GtidSet {
         ensures { result ≡ set.empty }
     {
         GtidSet {
-            spans: Vec::new(alloc),
-            sources: 0,
-            tails: BTreeMap::new(alloc),
+            spans: Kept::open(alloc),
         }
     }
 
@@ -228,10 +193,7 @@ impl GtidSet {
     pub fn contains(&self, gtid: &Gtid) -> bool
         ensures { result ≡ set.contains self.now gtid.now }
     {
-        match sweep::span_with(&self.spans, gtid) {
-            Some(_) => true,
-            None => false,
-        }
+        self.spans.span_with(gtid).is_some()
     }
 
     /// Adds a GTID. After an error the set is as it was. The number behind a source's last is added without a search among the intervals, unless intervals were put in front of them since.
@@ -253,18 +215,12 @@ impl GtidSet {
         ensures err { OnErr result (self.new ≡ self.old) }
         ensures full { IsFullExactly result (set.union self.old (interval span.source span.lo span.hi)) }
     {
-        let known = self.sources;
+        self.spans.is_kept();
         if span.hi < span.lo {
             return Ok(());
         }
-        let guess = tail_of(&self.tails, span.source);
-        let Some(sources) = sources_with(&self.spans, known, span.source, guess) else {
-            return Err(SetFault::SourcesFull);
-        };
-        let Ok(()) = add_at_tail(&mut self.spans, &mut self.tails, span, guess) else {
-            return Err(SetFault::Memory);
-        };
-        self.sources = sources;
+        self.spans.add(span)?;
+        self.spans.is_kept();
         Ok(())
     }
 
@@ -273,14 +229,8 @@ impl GtidSet {
         ensures ok { IfOk result (λ s. s ≡ self.now) }
         ensures fault { IsOkUnless result Memory }
     {
-        let mut spans = Vec::new(alloc);
-        spans.extend_from_slice(&self.spans)?;
-        let sources = self.sources;
-        let tails = BTreeMap::new(alloc);
         Ok(GtidSet {
-            spans,
-            sources,
-            tails,
+            spans: self.spans.copy(alloc)?,
         })
     }
 
@@ -295,7 +245,7 @@ impl GtidSet {
     /// The GTIDs of this set that the other has not.
     pub fn subtract(&self, alloc: Global, other: &GtidSet) -> Result<GtidSet, SetFault>
         ensures ok { IfOk result (λ s. s ≡ set.difference self.now other.now) }
-        ensures fault { IsOkUnless result Memory }
+        ensures full { IsCrowdedExactly result (set.difference self.now other.now) }
     {
         reduced(alloc, &self.spans, &other.spans)
     }
@@ -303,7 +253,7 @@ impl GtidSet {
     /// The GTIDs that both sets have.
     pub fn intersect(&self, alloc: Global, other: &GtidSet) -> Result<GtidSet, SetFault>
         ensures ok { IfOk result (λ s. s ≡ set.intersection self.now other.now) }
-        ensures fault { IsOkUnless result Memory }
+        ensures full { IsCrowdedExactly result (set.intersection self.now other.now) }
     {
         common(alloc, &self.spans, &other.spans)
     }
@@ -312,21 +262,21 @@ impl GtidSet {
     pub fn is_subset(&self, other: &GtidSet) -> bool
         ensures { result ≡ set.is_subset self.now other.now }
     {
-        sweep::is_within(&self.spans, &other.spans)
+        sweep::is_within(self.spans.cursor(), other.spans.cursor())
     }
 
     /// Whether no GTID is in both sets.
     pub fn is_disjoint(&self, other: &GtidSet) -> bool
         ensures { IsTrue result ↔ (set.intersection self.now other.now ≡ set.empty) }
     {
-        sweep::are_apart(&self.spans, &other.spans)
+        sweep::are_apart(self.spans.cursor(), other.spans.cursor())
     }
 
     /// The least number from 1 that the set has not got of a source, or none where it has all that a transaction may have.
     pub fn least_unused(&self, source: SourceId) -> Option<u64>
         ensures { result ≡ least_unused self.now source }
     {
-        match sweep::span_with(&self.spans, &Gtid { source, number: 1 }) {
+        match self.spans.span_with(&Gtid { source, number: 1 }) {
             None => Some(1),
             Some(span) if span.hi < GREATEST => Some(span.hi + 1),
             Some(_) => None,
@@ -338,7 +288,7 @@ impl GtidSet {
         ensures some { IfSome result (λ last. IsRunEnd self.now source number last) }
         ensures none { IfNone result (set.contains self.now (gtid source number) ≡ false) }
     {
-        match sweep::span_with(&self.spans, &Gtid { source, number }) {
+        match self.spans.span_with(&Gtid { source, number }) {
             Some(span) => Some(span.hi),
             None => None,
         }
@@ -350,9 +300,7 @@ impl GtidSet {
         ensures merged { IfOk result (λ v. is_merged v.items ≡ true) }
         ensures stand { IfOk result (λ v. set_of v.items ≡ self.now) }
     {
-        let mut list = Vec::new(alloc);
-        list.extend_from_slice(&self.spans)?;
-        Ok(list)
+        single::listed(alloc, self.spans.cursor())
     }
 
     /// Reads the text of a set, whatever the order of its intervals.
@@ -381,7 +329,7 @@ impl GtidSet {
     pub fn to_text(&self, alloc: Global) -> Result<String, AllocError>
         ensures { IfOk result (λ t. string_bytes t ≡ canonical self.now) }
     {
-        text::written(alloc, &self.spans)
+        text::written(alloc, self.spans.cursor())
     }
 
     /// Whether the sets have the same GTIDs.
@@ -411,6 +359,6 @@ impl GtidSet {
     pub fn count(&self) -> u128
         ensures { result ≡ set.len self.now }
     {
-        single::count_numbers(&self.spans)
+        single::count_numbers(self.spans.cursor())
     }
 }

@@ -1,8 +1,9 @@
 //! One pass over one merged list of spans.
-ghost use Rattle.std.specs.Prelude.{if◌then◌else◌, ◌≡◌, true, ◌&&◌, OnOk, IfOk, ◌+◌, ◌-◌, ◌∷◌, ◌++◌, [], ◌<◌, sum_by};
+ghost use Rattle.std.specs.Prelude.{if◌then◌else◌, ◌≡◌, true, ◌&&◌, OnOk, IfOk, ◌+◌, ◌-◌, ◌∷◌, ◌++◌, [], ◌<◌, ◌≤◌, length, sum_by};
 ghost use Rattle.gtid_set.specs.Spans.{is_merged, has};
 ghost use Rattle.gtid_set.specs.Sweep.{IsListOf, is_kept, size_of};
 
+use crate::cursor::Cursor;
 use gtid_text::{SourceId, Span};
 use std::alloc::{AllocError, Global};
 
@@ -20,18 +21,19 @@ fn push_if(out: &mut Vec<Span>, span: &Span, wanted: bool) -> Result<(), AllocEr
 /// The merged list of the spans of one source, or of all others.
 pub fn of_source(
     alloc: Global,
-    spans: &[Span],
+    spans: Cursor<'_>,
     source: SourceId,
     wanted: bool,
 ) -> Result<Vec<Span>, AllocError>
-    requires { is_merged spans.now ≡ true }
-    ensures { IfOk result (λ v. IsListOf (λ q. has spans.now q && is_kept source wanted q.source) v.items) }
+    requires { is_merged spans ≡ true }
+    ensures list { IfOk result (λ v. IsListOf (λ q. has spans.entry q && is_kept source wanted q.source) v.items) }
+    ensures few { IfOk result (λ v. length v.items ≤ length spans.entry) }
 {
     let mut out = Vec::new(alloc);
     let mut rest = spans;
-    while let Some((span, more)) = rest.split_first() {
-        push_if(&mut out, span, is_kept(source, wanted, span.source))?;
-        rest = more;
+    while let Some(span) = rest.peek() {
+        push_if(&mut out, &span, is_kept(source, wanted, span.source))?;
+        rest.advance();
     }
     Ok(out)
 }
@@ -44,15 +46,29 @@ fn is_kept(source: SourceId, wanted: bool, other: SourceId) -> bool
 }
 
 /// How many numbers the spans have.
-pub fn count_numbers(spans: &[Span]) -> u128
-    requires { is_merged spans.now ≡ true }
-    ensures { result ≡ sum_by size_of spans.now }
+pub fn count_numbers(spans: Cursor<'_>) -> u128
+    requires merged { is_merged spans ≡ true }
+    requires small { length spans < 18446744073709551616 }
+    ensures { result ≡ sum_by size_of spans.entry }
 {
-    let mut count = spans.len() as u128;
+    let mut count = 0;
     let mut rest = spans;
-    while let Some((span, more)) = rest.split_first() {
-        count += u128::from(span.hi - span.lo);
-        rest = more;
+    while let Some(span) = rest.peek() {
+        count += u128::from(span.hi - span.lo) + 1;
+        rest.advance();
     }
     count
+}
+
+/// The spans as a list.
+pub fn listed(alloc: Global, spans: Cursor<'_>) -> Result<Vec<Span>, AllocError>
+    ensures { IfOk result (λ v. v.items ≡ spans.entry) }
+{
+    let mut list = Vec::new(alloc);
+    let mut rest = spans;
+    while let Some(span) = rest.peek() {
+        list.push(span)?;
+        rest.advance();
+    }
+    Ok(list)
 }

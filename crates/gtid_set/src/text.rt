@@ -4,20 +4,22 @@ ghost use Rattle.std.specs.List.Sorted.{IsPermutation};
 ghost use Rattle.gtid_text.specs.Canonical.{spans_text};
 ghost use Rattle.gtid_set.specs.Sweep.{rises, start_of};
 
+use crate::cursor::Cursor;
 use gtid_text::{Gtid, Span, write_next_span};
 use std::alloc::{AllocError, Global};
 
 /// The text of a list of spans: a source is written where it differs from the one before.
-pub fn written(alloc: Global, spans: &[Span]) -> Result<String, AllocError>
-    ensures { IfOk result (λ t. string_bytes t ≡ spans_text spans.now) }
+pub fn written(alloc: Global, spans: Cursor<'_>) -> Result<String, AllocError>
+    ensures { IfOk result (λ t. string_bytes t ≡ spans_text spans.entry) }
 {
     let mut text = String::new(alloc);
     let mut before = None;
     let mut rest = spans;
-    while let Some((span, more)) = rest.split_first() {
-        write_next_span(&mut text, before, *span)?;
-        before = Some(span.source);
-        rest = more;
+    while let Some(span) = rest.peek() {
+        let source = span.source;
+        write_next_span(&mut text, before, span)?;
+        before = Some(source);
+        rest.advance();
     }
     Ok(text)
 }

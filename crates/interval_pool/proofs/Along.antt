@@ -1,5 +1,6 @@
 -- A walk along a list.
-use Rattle.std.proofs.Common.{◌≡◌, ℕ, ◌≤◌, List, [], ◌∷◌, ◌++◌, length, map, Option, Some, None, refl, sym, ap, ◌∙◌, arith, length-append, append_assoc}
+use Rattle.std.proofs.Common.{◌≡◌, ℕ, ◌+◌, ◌*◌, ◌<◌, ◌≤◌, List, [], ◌∷◌, ◌++◌, length, map, Option, Some, None, refl, sym, ap, ◌∙◌, arith, length-append, append_assoc}
+use Rattle.std.specs.List.{AllByRecursion}
 use Rattle.std.proofs.lemmas.List.{map-append, length-map, append-nil}
 use Rattle.interval_pool.specs.declared.interval.Interval.{Interval}
 use Rattle.interval_pool.specs.Values.{Held, PoolValue, cells_of, spans, first_cell, Follows, Covers, IsAlong}
@@ -49,3 +50,13 @@ along_all p l seen next a all =
     let same = length-map a.before (λ (g : Held). g.numbers) in
     let none = no_more a.behind (omega (parts, size, count, same, all, arith)) in
     a.seen_is ∙ ap (map (λ (g : Held). g.numbers)) (sym (a.parts ∙ (ap (λ hs. a.before ++ hs) none ∙ append-nil a.before)))
+
+-- ---- pairs of numbers, one behind another
+
+pub pairs_before : (i : ℕ) (ss : List Interval) → AllByRecursion (λ t. t.hi < 3 * i) ss → AllByRecursion (λ t. t.hi + 1 < 3 * i + 1) ss
+pairs_before i [] all = tt
+pairs_before i (s ∷ ss) all = (let lt = all.0 in omega (lt, arith), pairs_before i ss all.1)
+
+pub pair_more : (i : ℕ) (ss : List Interval) (s : Interval) → s.hi < 3 * (i + 1) → AllByRecursion (λ t. t.hi < 3 * i) ss → AllByRecursion (λ t. t.hi < 3 * (i + 1)) (ss ++ s ∷ [])
+pair_more i [] s less all = (less, tt)
+pair_more i (t ∷ ts) s less all = (let lt = all.0 in omega (lt, arith), pair_more i ts s less all.1)

@@ -7,7 +7,10 @@ pub mod Lists
 pub mod Putting
 pub mod Meeting
 pub mod Altering
+pub mod Appending
+pub mod Growing
 pub mod Valued
+pub mod Extending
 pub mod Parting
 pub mod Listing
 pub mod Standing

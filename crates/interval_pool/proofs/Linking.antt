@@ -59,7 +59,7 @@ pub is_among_all : (P : ℕ → Type 0) (i : ℕ) (is : List ℕ) → AllByRecur
 is_among_all P i [] all among = absurd among
 is_among_all P i (j ∷ js) all among = ⊎_elim (λ e. subst P (sym e) all.0) (is_among_all P i js all.1) among
 
-last_among : (i p : ℕ) (is : List ℕ) → last_or (Some i) is ≡ Some p → IsAmong p (i ∷ is)
+pub last_among : (i p : ℕ) (is : List ℕ) → last_or (Some i) is ≡ Some p → IsAmong p (i ∷ is)
 last_among i p [] e = inl (cc)
 last_among i p (j ∷ js) e = inr (last_among j p js e)
 
@@ -122,7 +122,7 @@ pub once_parts : (is js : List ℕ) → AreOnce (is ++ js) → AreOnce is × Are
 once_parts [] js once = (tt, once)
 once_parts (i ∷ is) js once = let more = once_parts is js once.1 in (((all_parts (λ j. j ≢ i) is js once.0).0, more.0), more.1)
 
-once_without : (xs ys : List ℕ) (i : ℕ) → AreOnce (xs ++ i ∷ ys) → AreOnce (xs ++ ys) × AllByRecursion (λ j. j ≢ i) (xs ++ ys)
+pub once_without : (xs ys : List ℕ) (i : ℕ) → AreOnce (xs ++ i ∷ ys) → AreOnce (xs ++ ys) × AllByRecursion (λ j. j ≢ i) (xs ++ ys)
 once_without [] ys i once = (once.1, once.0)
 once_without (x ∷ xs) ys i once =
     let more = once_without xs ys i once.1 in

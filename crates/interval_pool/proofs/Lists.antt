@@ -63,6 +63,16 @@ freed cells cells1 cells2 heads heads1 heads2 k i xs ys before at h small not_fr
 
 -- ---- a cell more
 
+pub pushed_spans : (cells : List Cell) (c : Cell) (is : List ℕ) → AllByRecursion (λ j. j < length cells) is → map (interval_at (cells ++ c ∷ [])) is ≡ map (interval_at cells) is
+pushed_spans cells c [] below = refl
+pushed_spans cells c (i ∷ is) below =
+    let here = new_cell cells c i below.0 in
+    (λ p. (let d : Cell = here p in let r : Interval = record { lo = d.lo; hi = d.hi } in r) ∷ pushed_spans cells c is below.1 p)
+
+pub pushed_cell : (cells : List Cell) (c : Cell) → cell_at (cells ++ c ∷ []) (length cells) ≡ c
+pushed_cell [] c = refl
+pushed_cell (d ∷ cells) c = pushed_cell cells c
+
 pub grown : (cells cells2 : List Cell) (heads heads2 : List Head) (c : Cell) → AreWhole cells heads → length cells < most_cells → 0 < length heads
     → Links (cells ++ c ∷ []) heads 0 None (length cells) cells2 heads2 → Grown cells heads cells2 heads2
 grown cells cells2 heads heads2 c h small some into =
@@ -79,17 +89,11 @@ grown cells cells2 heads heads2 c h small some into =
         as_many_chains = joined.keeps.as_many_chains;
         lists = joined.keeps.lists;
         chains = λ m free other. joined.chains m ∙ (chain_other (chain_of cells1 heads) 0 m (n ∷ chain_of cells1 heads 0) free ∙ same m);
-        intervals = λ m free other. same_intervals cells1 cells2 joined.keeps.intervals (chain_of cells heads m) ∙ pushed cells c (chain_of cells heads m) (all_below cells m (chain_of cells heads m) None (h.linked m));
+        intervals = λ m free other. same_intervals cells1 cells2 joined.keeps.intervals (chain_of cells heads m) ∙ pushed_spans cells c (chain_of cells heads m) (all_below cells m (chain_of cells heads m) None (h.linked m));
       };
       as_many = joined.keeps.as_many ∙ size;
       free = joined.chains 0 ∙ (chain_here (chain_of cells1 heads) 0 (n ∷ chain_of cells1 heads 0) ∙ ap (λ is. n ∷ is) (same 0));
     }
-  where
-    pushed : (cells : List Cell) (c : Cell) (is : List ℕ) → AllByRecursion (λ j. j < length cells) is → map (interval_at (cells ++ c ∷ [])) is ≡ map (interval_at cells) is
-    pushed cells c [] below = refl
-    pushed cells c (i ∷ is) below =
-        let here = new_cell cells c i below.0 in
-        (λ p. (let d : Cell = here p in let r : Interval = record { lo = d.lo; hi = d.hi } in r) ∷ pushed cells c is below.1 p)
 
 -- ---- a free cell joins a list
 

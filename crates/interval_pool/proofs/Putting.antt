@@ -58,7 +58,7 @@ drop_map f (suc n) [] = refl
 drop_map f (suc n) (y ∷ ys) = drop_map f n ys
 
 -- a free cell, if there is one
-first_free : (is : List ℕ) → 0 < length is → (i : ℕ) × ((rest : List ℕ) × (is ≡ i ∷ rest))
+pub first_free : (is : List ℕ) → 0 < length is → (i : ℕ) × ((rest : List ℕ) × (is ≡ i ∷ rest))
 first_free [] lt = absurd (omega (lt, arith))
 first_free (i ∷ is) lt = (i, (is, refl))
 

@@ -1,7 +1,8 @@
 -- What callers see of lists that begin or end, and of the cells in lists.
-use Rattle.std.proofs.Common.{◌≡◌, ◌≢◌, ℕ, ◌-◌, ◌<◌, Bool, true, false, nat_le, ◌&&◌, ◌||◌, List, [], ◌∷◌, ◌++◌, length, map, Option, Some, None, refl, sym, ap, subst, ◌∙◌, ⊎_elim, arith}
-use Rattle.std.specs.Prelude.{min, unwrap_or, ◌==◌}
-use Rattle.std.specs.List.{AllByRecursion}
+use Rattle.std.proofs.Common.{◌≡◌, ◌≢◌, ℕ, zero, suc, ◌-◌, ◌<◌, ◌≤◌, Bool, true, false, nat_le, ◌&&◌, ◌||◌, List, [], ◌∷◌, ◌++◌, length, map, Option, Some, None, refl, sym, ap, subst, ◌∙◌, ⊎_elim, arith}
+use Rattle.std.specs.Prelude.{min, unwrap_or, is_some, IfSome, IfNone, ◌==◌}
+use Rattle.std.specs.List.{AllByRecursion, Contains}
+use Rattle.std.proofs.lemmas.List.Elements.{Contains-append_right}
 use Rattle.std.proofs.lemmas.Bool.Decides.{eqb_tells, nat_tests}
 use Rattle.std.proofs.lemmas.List.{map-append, length-map}
 use Rattle.interval_pool.specs.declared.cells.Cell.{Cell}
@@ -19,6 +20,7 @@ use Rattle.interval_pool.proofs.Facts.{bool_cases, or_false, all_weaker}
 use Rattle.interval_pool.proofs.Linking.{in_parts}
 use Rattle.interval_pool.proofs.Lists.{same_intervals}
 use Rattle.interval_pool.proofs.Walking.{after_is}
+use Rattle.interval_pool.proofs.Seeking.{begins}
 use Rattle.interval_pool.proofs.Altering.{has_append, merged_back, below_spans}
 use Rattle.interval_pool.proofs.Listing.{chains_stay, whole_stays}
 use Rattle.interval_pool.proofs.Valued.{slot_is, slot_list, slot_none, list_is, head_is, is_not_free, cells_are, spans_are, held_same}
@@ -188,6 +190,39 @@ found cells heads k n before h merged place =
             let far : n < (cell_at cells y).lo = grind (arith, nat_tests) in
             let later = has_after (map (interval_at cells) ys) n (all_weaker (IsBefore (interval_at cells y)) (λ s. n < s.lo) (map (interval_at cells) ys) (λ s b. omega (b, filled, far, arith)) merged.1) in
             and_true (nat_le (cell_at cells y).lo n) ∙ (sym (λ i. nat_le (cell_at cells y).lo n && upto i) ∙ (or_false (covers (interval_at cells y) n) ∙ sym (λ i. covers (interval_at cells y) n || later i)))
+
+-- the cell at the place of a number, if it begins up to it
+pub stands_there : (cells : List Cell) (heads : List Head) (k n i : ℕ) (before : Option ℕ) → AreWhole cells heads → IsPlace cells heads k n before → after cells heads k before ≡ Some i → (cell_at cells i).lo ≤ n
+    → Contains (spans_of cells heads k) (interval_at cells i) × (covers (interval_at cells i) n ≡ true)
+stands_there cells heads k n i before h place is le =
+    let f : ℕ → Interval = interval_at cells in
+    let at : after cells heads k before ≡ first_or None place.ys = ap (after cells heads k) place.before_is ∙ after_is cells heads None (chain_of cells heads) k place.xs place.ys h place.parts in
+    let rest = begins place.ys i (sym is ∙ at) in
+    let spans : spans_of cells heads k ≡ map f place.xs ++ f i ∷ map f rest.0 = ap (map f) place.parts ∙ (map-append f place.xs place.ys ∙ ap (λ js. map f place.xs ++ map f js) rest.1) in
+    let upto : n ≤ (cell_at cells i).hi = subst (Reaches cells n) rest.1 place.reaches in (
+      subst (λ ss. Contains ss (f i)) (sym spans) (Contains-append_right (map f place.xs) (f i ∷ map f rest.0) (f i) (0, omega arith, refl)),
+      grind (arith, nat_tests),
+    )
+
+pub found_none : (cells : List Cell) (heads : List Head) (k n : ℕ) (before at : Option ℕ) → AreWhole cells heads → AreMerged (spans_of cells heads k) → IsPlace cells heads k n before → at ≡ after cells heads k before → begins_at cells n at ≡ false → has (spans_of cells heads k) n ≡ false
+found_none cells heads k n before at h merged place is none = sym (ap (begins_at cells n) is ∙ found cells heads k n before h merged place) ∙ none
+
+pub begins_later : (a n : ℕ) → n < a → nat_le a n ≡ false
+begins_later a n lt = grind (arith, nat_tests)
+
+pub has_one : (ss : List Interval) (s : Interval) (n : ℕ) → Contains ss s → covers s n ≡ true → has ss n ≡ true
+has_one [] s n one covered = absurd (let lt = one.1 in omega (lt, arith))
+has_one (t ∷ ts) s n (zero, lt, same) covered = (let first : covers t n ≡ true = ap (λ u. covers u n) same ∙ covered in ap (λ b. b || has ts n) first)
+has_one (t ∷ ts) s n (suc k, lt, same) covered = ap (λ b. covers t n || b) (has_one ts s n (k, omega (lt, arith), same) covered) ∙ or_true (covers t n)
+  where
+    or_true : (a : Bool) → (a || true) ≡ true
+    or_true true = refl
+    or_true false = refl
+
+-- so a list has a number where an interval of it does
+pub some_has : (found : Option Interval) (ss : List Interval) (n : ℕ) → IfSome found (λ s. Contains ss s) → IfSome found (λ s. covers s n ≡ true) → IfNone found (has ss n ≡ false) → is_some found ≡ has ss n
+some_has None ss n one covered none = sym none
+some_has (Some s) ss n one covered none = sym (has_one ss s n one covered)
 
 -- ---- every list is merged
 

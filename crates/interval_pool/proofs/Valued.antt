@@ -12,8 +12,8 @@ use Rattle.interval_pool.specs.Links.{most_cells}
 use Rattle.interval_pool.specs.Cells.{head_at, no_head}
 use Rattle.interval_pool.specs.Intervals.{AreMerged, has}
 use Rattle.interval_pool.specs.Pools.{chain_of, interval_at, KeepsOthers}
-use Rattle.interval_pool.specs.Changes.{spans_of, free_count, Changed}
-use Rattle.interval_pool.specs.Values.{Held, is_list, IsList, cells_of, spans, Altered, held, slot, value_of, IsPool}
+use Rattle.interval_pool.specs.Changes.{spans_of, free_count, Changed, Added, with_more}
+use Rattle.interval_pool.specs.Values.{Held, is_list, IsList, cells_of, spans, Altered, Appended, held, slot, value_of, IsPool}
 use Rattle.interval_pool.proofs.Facts.{bool_cases}
 
 -- ---- lists of cells
@@ -108,20 +108,23 @@ slots_kept cells cells' heads heads' k m h keeps other = ⊎_elim
 
 -- ---- a list is altered
 
-pub pool_kept : (cells cells' : List Cell) (heads heads' : List Head) (k : ℕ) (among : ℕ → Bool) → IsPool cells heads → (head_at heads k).is_list ≡ true → Changed cells heads k among cells' heads' → IsPool cells' heads'
-pool_kept cells cells' heads heads' k among h is c = record {
-  whole = c.keeps.whole;
-  small = c.small;
+pub pool_with : (cells cells' : List Cell) (heads heads' : List Head) (k : ℕ) → IsPool cells heads → (head_at heads k).is_list ≡ true → KeepsOthers cells heads k cells' heads' → length cells' ≤ most_cells → AreMerged (spans_of cells' heads' k) → IsPool cells' heads'
+pool_with cells cells' heads heads' k h is keeps small merged = record {
+  whole = keeps.whole;
+  small = small;
   merged = λ m free. ⊎_elim
-      (λ (e : ((m == k) ≡ true) × (m ≡ k)). subst (λ n. AreMerged (spans_of cells' heads' n)) (sym e.1) c.merged)
-      (λ (e : ((m == k) ≡ false) × (m ≢ k)). subst AreMerged (sym (same_spans cells cells' heads heads' k m c.keeps free e.1)) (h.merged m free))
+      (λ (e : ((m == k) ≡ true) × (m ≡ k)). subst (λ n. AreMerged (spans_of cells' heads' n)) (sym e.1) merged)
+      (λ (e : ((m == k) ≡ false) × (m ≢ k)). subst AreMerged (sym (same_spans cells cells' heads heads' k m keeps free e.1)) (h.merged m free))
       (eqb_tells m k);
   gone = λ m none free.
-      let was : (head_at heads m).is_list ≢ true = λ e. none (c.keeps.lists m ∙ e) in
+      let was : (head_at heads m).is_list ≢ true = λ e. none (keeps.lists m ∙ e) in
       let other : m ≢ k = λ e. was (subst (λ n. (head_at heads n).is_list ≡ true) (sym e) is) in
-      c.keeps.chains m free other ∙ h.gone m was free;
-  free_is_none = λ e. h.free_is_none (sym (c.keeps.lists 0) ∙ e);
+      keeps.chains m free other ∙ h.gone m was free;
+  free_is_none = λ e. h.free_is_none (sym (keeps.lists 0) ∙ e);
 }
+
+pub pool_kept : (cells cells' : List Cell) (heads heads' : List Head) (k : ℕ) (among : ℕ → Bool) → IsPool cells heads → (head_at heads k).is_list ≡ true → Changed cells heads k among cells' heads' → IsPool cells' heads'
+pool_kept cells cells' heads heads' k among h is c = pool_with cells cells' heads heads' k h is c.keeps c.small c.merged
 
 room_left : (free free' len len' cells cells' cap cap' : ℕ) → free' + len' + cells ≡ free + len + cells' → (cells' ≡ cells) ⊎ ((free ≡ 0) × (free' ≡ 0) × (cells' ≡ cells + 1)) → cap ≤ cap'
     → free + len + (min cap most_cells - cells) ≤ free' + len' + (min cap' most_cells - cells')
@@ -156,3 +159,14 @@ pub altered_list : (change : List Interval → Interval → ℕ → Bool) (cells
 altered_list change cells cells' heads heads' capacity capacity' l s h is changed le =
     let same = spans_are cells heads capacity l h (is_not_free cells heads l h is) in
     subst (λ ss. Altered (value_of cells heads capacity) l (change ss s) (value_of cells' heads' capacity')) (sym same) (altered cells cells' heads heads' capacity capacity' l (change (spans_of cells heads l) s) h is changed le)
+
+-- an interval was put behind all others
+pub appended_list : (cells cells' : List Cell) (heads heads' : List Head) (capacity capacity' l : ℕ) (s : Interval) → IsPool cells heads → (head_at heads l).is_list ≡ true → Added cells heads l s cells' heads'
+    → spans_of cells' heads' l ≡ spans_of cells heads l ++ s ∷ [] → capacity ≤ capacity' → Appended (value_of cells heads capacity) l s (value_of cells' heads' capacity')
+appended_list cells cells' heads heads' capacity capacity' l s h is added more le =
+    let free = is_not_free cells heads l h is in
+    let h' = pool_kept cells cells' heads heads' l (with_more (spans_of cells heads l) s) h is added in
+    record {
+      added = altered_list with_more cells cells' heads heads' capacity capacity' l s h is added le;
+      spans = spans_are cells' heads' capacity' l h' free ∙ (more ∙ ap (λ ss. ss ++ s ∷ []) (sym (spans_are cells heads capacity l h free)));
+    }

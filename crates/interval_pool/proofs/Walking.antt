@@ -78,7 +78,7 @@ abbrev pub without : ℕ → List ℕ → List ℕ
 without n [] = []
 without n (i ∷ is) = cond (i == n) (without n is) (i ∷ without n is)
 
-without_none : (n : ℕ) (is : List ℕ) → AllByRecursion (λ j. j ≢ n) is → without n is ≡ is
+pub without_none : (n : ℕ) (is : List ℕ) → AllByRecursion (λ j. j ≢ n) is → without n is ≡ is
 without_none n [] ne = refl
 without_none n (i ∷ is) ne = ⊎_elim
     (λ (e : ((i == n) ≡ true) × (i ≡ n)). absurd (ne.0 e.1))

@@ -1,5 +1,5 @@
 -- Cells linked by index into chains.
-use Rattle.std.specs.Prelude.{ℕ, Bool, List, Option, Some, None, slice_set, slice_index_or, false}
+use Rattle.std.specs.Prelude.{ℕ, max, Bool, List, Option, Some, None, slice_set, slice_index_or, false}
 use Rattle.interval_pool.specs.declared.cells.Cell.{Cell}
 use Rattle.interval_pool.specs.declared.cells.Head.{Head}
 
@@ -43,6 +43,11 @@ with_owner cells i k next = slice_set cells i (record (cell_at cells i) { next =
 -- the cell has these numbers
 abbrev pub with_numbers : List Cell → ℕ → ℕ → ℕ → List Cell
 with_numbers cells i lo hi = slice_set cells i (record (cell_at cells i) { lo = lo; hi = hi })
+
+-- the cell ends with this number, if that is more
+abbrev pub with_end : List Cell → Option ℕ → ℕ → List Cell
+with_end cells None hi = cells
+with_end cells (Some i) hi = slice_set cells i (record (cell_at cells i) { hi = max (cell_at cells i).hi hi })
 
 -- the chain is a list, or is none
 abbrev pub with_list : List Head → ℕ → Bool → List Head

@@ -1,5 +1,5 @@
 -- What changes of a list leave.
-use Rattle.std.specs.Prelude.{◌≡◌, ◌≢◌, ℕ, ◌+◌, ◌<◌, ◌≤◌, ◌⊎◌, Bool, true, false, not, ◌&&◌, ◌||◌, List, [], ◌++◌, length, map, drop, min, Option, None, option_to_list}
+use Rattle.std.specs.Prelude.{◌≡◌, ◌≢◌, ℕ, ◌+◌, ◌<◌, ◌≤◌, ◌⊎◌, Bool, true, false, not, ◌&&◌, ◌||◌, List, [], ◌∷◌, ◌++◌, length, map, drop, min, Option, Some, None, option_to_list}
 use Rattle.interval_pool.specs.declared.cells.Cell.{Cell}
 use Rattle.interval_pool.specs.declared.cells.Head.{Head}
 use Rattle.interval_pool.specs.declared.interval.Interval.{Interval}
@@ -70,6 +70,60 @@ abbrev pub Replaces : List Cell → List Head → ℕ → Option ℕ → ℕ →
 Replaces cells heads k before n pieces cells' heads' =
     (xs ys : List ℕ) → AreWhole cells heads → length cells ≤ most_cells → k ≢ 0 → k < length heads → chain_of cells heads k ≡ xs ++ ys → before ≡ last_or None xs
     → n ≤ length ys → length (listed pieces) ≤ n + 1 → Replaced cells heads k xs ys n (listed pieces) cells' heads'
+
+-- a cell more stands behind the last of a list, with these numbers
+pub record Pushed (cells : List Cell) (heads : List Head) (k : ℕ) (s : Interval) (cells' : List Cell) (heads' : List Head) : Type 0 where
+  pub keeps : KeepsOthers cells heads k cells' heads'
+  pub as_many : length cells' ≡ length cells + 1
+  pub list : chain_of cells' heads' k ≡ chain_of cells heads k ++ length cells ∷ []
+  pub spans : spans_of cells' heads' k ≡ spans_of cells heads k ++ s ∷ []
+  pub free : chain_of cells' heads' 0 ≡ chain_of cells heads 0
+
+abbrev pub Pushes : List Cell → List Head → ℕ → Option ℕ → Interval → List Cell → List Head → Type 0
+Pushes cells heads k last s cells' heads' =
+    AreWhole cells heads → length cells < most_cells → k ≢ 0 → k < length heads → last ≡ last_or None (chain_of cells heads k) → Pushed cells heads k s cells' heads'
+
+-- an interval stands behind the last of a list, in a free cell where there is one
+abbrev pub PutsLast : List Cell → List Head → ℕ → Option ℕ → Interval → List Cell → List Head → Type 0
+PutsLast cells heads k last s cells' heads' =
+    AreWhole cells heads → length cells ≤ most_cells → k ≢ 0 → k < length heads → last ≡ last_or None (chain_of cells heads k) → Replaced cells heads k (chain_of cells heads k) [] 0 (s ∷ []) cells' heads'
+
+-- what comes behind a cell before these intervals
+abbrev pub next_of : List Interval → ℕ → Option ℕ
+next_of [] at = None
+next_of (s ∷ ss) at = Some at
+
+-- cells of a list from a place on, one leading to another, with these intervals
+abbrev pub run : ℕ → ℕ → List Interval → List Cell
+run k at [] = []
+run k at (s ∷ ss) = record { lo = s.lo; hi = s.hi; next = next_of ss (at + 1); owner = k } ∷ run k (at + 1) ss
+
+-- intervals stand behind the last of a list
+pub record Prolonged (cells : List Cell) (heads : List Head) (k : ℕ) (ss : List Interval) (cells' : List Cell) (heads' : List Head) : Type 0 where
+  pub keeps : KeepsOthers cells heads k cells' heads'
+  pub small : length cells' ≤ most_cells
+  pub spans : spans_of cells' heads' k ≡ spans_of cells heads k ++ ss
+  pub total : free_count cells' heads' + length ss + length cells ≡ free_count cells heads + length cells'
+
+-- they stand in free cells, the last of them in this one
+pub record PlacedRun (cells : List Cell) (heads : List Head) (k : ℕ) (ss : List Interval) (end : Option ℕ) (cells' : List Cell) (heads' : List Head) : Type 0 where
+  pub made : Prolonged cells heads k ss cells' heads'
+  pub as_many : length cells' ≡ length cells
+  pub end_is : end ≡ last_or None (chain_of cells' heads' k)
+
+abbrev pub PlacesRun : List Cell → List Head → ℕ → Option ℕ → List Interval → Option ℕ → List Cell → List Head → Type 0
+PlacesRun cells heads k last ss end cells' heads' =
+    AreWhole cells heads → length cells ≤ most_cells → k ≢ 0 → k < length heads → last ≡ last_or None (chain_of cells heads k) → length ss ≤ free_count cells heads → PlacedRun cells heads k ss end cells' heads'
+
+-- they stand in new cells
+abbrev pub PushesRun : List Cell → List Head → ℕ → Option ℕ → List Interval → List Cell → List Head → Type 0
+PushesRun cells heads k last ss cells' heads' =
+    AreWhole cells heads → k ≢ 0 → last ≡ last_or None (chain_of cells heads k) → Prolonged cells heads k ss cells' heads'
+
+-- the cell after some of a list has other numbers
+abbrev pub Renews : List Cell → List Head → ℕ → Option ℕ → Interval → List Cell → Type 0
+Renews cells heads k before s cells' =
+    (xs : List ℕ) (i : ℕ) (ys : List ℕ) → AreWhole cells heads → length cells ≤ most_cells → chain_of cells heads k ≡ xs ++ i ∷ ys → before ≡ last_or None xs → Replaced cells heads k xs (i ∷ ys) 1 (s ∷ []) cells' heads
 
 -- a list has the numbers that pass a test, and a cell more only where it needs one and none was free
 pub record Changed (cells : List Cell) (heads : List Head) (k : ℕ) (among : ℕ → Bool) (cells' : List Cell) (heads' : List Head) : Type 0 where

@@ -1,9 +1,10 @@
 -- Where a number stands among the cells of a list.
-use Rattle.std.specs.Prelude.{◌≡◌, ℕ, ◌<◌, ◌≤◌, ⊤, List, [], ◌∷◌, ◌++◌, length, map, Option, Some, None}
+use Rattle.std.specs.Prelude.{◌≡◌, ℕ, ◌+◌, ◌<◌, ◌≤◌, ⊤, List, [], ◌∷◌, ◌++◌, length, map, Option, Some, None}
 use Rattle.std.specs.List.{AllByRecursion}
 use Rattle.interval_pool.specs.declared.cells.Cell.{Cell}
 use Rattle.interval_pool.specs.declared.cells.Head.{Head}
-use Rattle.interval_pool.specs.Cells.{cell_at}
+use Rattle.interval_pool.specs.declared.interval.Interval.{Interval}
+use Rattle.interval_pool.specs.Cells.{cell_at, head_at}
 use Rattle.interval_pool.specs.Chains.{first_or, last_or}
 use Rattle.interval_pool.specs.Intervals.{AreMerged}
 use Rattle.interval_pool.specs.Pools.{interval_at, chain_of}
@@ -44,3 +45,18 @@ pub record IsPlace (cells : List Cell) (heads : List Head) (k n : ℕ) (before :
   pub before_is : before ≡ last_or None xs
   pub below : AreBelow cells n xs
   pub reaches : Reaches cells n ys
+
+-- none, where a list has no cells, or a cell of it with none behind it
+abbrev pub IsEnd : List Cell → List Head → ℕ → Option ℕ → Type 0
+IsEnd cells heads k None = (head_at heads k).len ≡ 0
+IsEnd cells heads k (Some i) = (i < length cells) × ((cell_at cells i).owner ≡ k) × ((cell_at cells i).next ≡ None)
+
+-- numbers begin in the last cell of a list, or right behind it
+abbrev pub TouchesEnd : List Cell → List Head → ℕ → Interval → Option ℕ → Type 0
+TouchesEnd cells heads k s None = ⊥
+TouchesEnd cells heads k s (Some i) = IsEnd cells heads k (Some i) × (((cell_at cells i).lo ≤ s.lo) × (s.lo ≤ (cell_at cells i).hi + 1))
+
+-- they begin further behind it, or the list is empty
+abbrev pub IsBehind : List Cell → List Head → ℕ → Interval → Option ℕ → Type 0
+IsBehind cells heads k s None = IsEnd cells heads k None
+IsBehind cells heads k s (Some i) = IsEnd cells heads k (Some i) × ((cell_at cells i).hi + 1 < s.lo)

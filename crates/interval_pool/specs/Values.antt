@@ -113,6 +113,18 @@ AddedTo p l s q = Altered p l (with_more (spans p l) s) q
 abbrev pub CutFrom : PoolValue → ℕ → Interval → PoolValue → Type 0
 CutFrom p l s q = Altered p l (without (spans p l) s) q
 
+-- numbers were added, as an interval behind all others
+pub record Appended (p : PoolValue) (l : ℕ) (s : Interval) (q : PoolValue) : Type 0 where
+  pub added : AddedTo p l s q
+  pub spans : spans q l ≡ spans p l ++ s ∷ []
+
+-- intervals stand behind all others of a list
+pub record Extended (p : PoolValue) (l : ℕ) (ss : List Interval) (q : PoolValue) : Type 0 where
+  pub lists : (m : ℕ) → is_list q m ≡ is_list p m
+  pub others : (m : ℕ) → m ≢ l → slot_at q m ≡ slot_at p m
+  pub total : length q.free + length (spans q l) + p.cells ≡ length p.free + length (spans p l) + q.cells
+  pub spans : spans q l ≡ spans p l ++ ss
+
 -- no cell is free, and there is room for none more
 pub record HasNoRoom (p : PoolValue) : Type 0 where
   pub free : p.free ≡ []
@@ -129,6 +141,12 @@ IsFullWith p n = most_cells < length (standing p.lists) + n
 -- there are as many lists as there may be
 abbrev pub AreAllLists : PoolValue → Type 0
 AreAllLists p = (l : ℕ) → 1 ≤ l → l ≤ most_cells → IsList p l
+
+-- the same lists and free cells
+pub record Copied (p : PoolValue) (q : PoolValue) : Type 0 where
+  pub lists : q.lists ≡ p.lists
+  pub free : q.free ≡ p.free
+  pub cells : q.cells ≡ p.cells
 
 -- there is room for so many cells
 pub record Reserved (p : PoolValue) (n : ℕ) (q : PoolValue) : Type 0 where

@@ -51,7 +51,7 @@ pub fn after(cells: &[Cell], heads: &[Head], chain: usize, before: Link) -> Link
 }
 
 /// Lets a cell go on with another.
-fn put_next(cells: &mut [Cell], before: Link, next: Link)
+pub fn put_next(cells: &mut [Cell], before: Link, next: Link)
     ensures { cells.new ≡ with_next cells.old before next }
 {
     if let Some(at) = before.place() {
@@ -72,7 +72,7 @@ fn first_with(before: Link, next: Link, first: Link) -> Link
 }
 
 /// Lets a chain have a cell after one of its cells, or else at its start, and so many cells.
-fn put_head(heads: &mut [Head], chain: usize, before: Link, next: Link, len: u32)
+pub fn put_head(heads: &mut [Head], chain: usize, before: Link, next: Link, len: u32)
     ensures { heads.new ≡ with_head heads.old chain before next len }
 {
     if chain < heads.len() {

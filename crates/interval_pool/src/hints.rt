@@ -2,7 +2,7 @@
 use crate::cells::{Cell, Head, after, cell_at, count};
 use crate::interval::Interval;
 use crate::link::Link;
-use std::alloc::Global;
+use std::alloc::{AllocError, Global};
 use std::collections::BTreeMap;
 
 /// A list of no more cells is walked from its first.
@@ -99,6 +99,26 @@ fn search_run(cells: &[Cell], heads: &[Head], list: u32, number: u64) -> Link {
     Link::to(first.saturating_add(below - 1))
 }
 
+/// Whether a cell is what was left beside numbers that were cut out.
+fn is_beside(cell: Cell, numbers: Interval) -> bool {
+    cell.hi.saturating_add(1) == numbers.lo || numbers.hi.saturating_add(1) == cell.lo
+}
+
+/// The last cell of a list whose cells lie one behind another.
+fn end_of_run(cells: &[Cell], heads: &[Head], list: u32) -> Link {
+    let first = after(cells, heads, list as usize, Link::none());
+    first.last_of(count(heads, list as usize))
+}
+
+/// Whether a cell is the last of a list.
+fn is_end(cells: &[Cell], list: u32, place: Link) -> bool {
+    let Some(at) = place.place() else {
+        return false;
+    };
+    let cell = cell_at(cells, at);
+    cell.owner == list && cell.next.is_none()
+}
+
 /// Whether cells behind a place still lie one behind another, where few have changed.
 fn is_still_run(cells: &[Cell], heads: &[Head], list: u32, place: Link) -> bool {
     let mut last = place;
@@ -126,6 +146,17 @@ impl Hints {
         }
     }
 
+    /// The same of a copy of the pool.
+    pub fn copy(&self, alloc: Global) -> Result<Hints, AllocError> {
+        let lists = Vec::from_slice(alloc, &self.lists)?;
+        let index = self.index.clone()?;
+        Ok(Hints {
+            lists,
+            released: self.released,
+            index,
+        })
+    }
+
     fn of(&self, list: u32) -> ListHints {
         match self.lists.get(list as usize) {
             Some(hints) => *hints,
@@ -133,6 +164,7 @@ impl Hints {
         }
     }
 
+    /// Puts what is to be remembered of a list, if there is a place for it.
     fn put(&mut self, list: u32, hints: ListHints) {
         let at = list as usize;
         if at < self.lists.as_slice().len() {
@@ -140,27 +172,36 @@ impl Hints {
         }
     }
 
+    /// The same, and makes a place, if there is memory.
+    fn keep(&mut self, list: u32, hints: ListHints) {
+        let missing = (list as usize + 1).saturating_sub(self.lists.as_slice().len());
+        for _list in 0..missing {
+            let _ = self.lists.push(empty_list());
+        }
+        self.put(list, hints);
+    }
+
     /// A list that may have been released.
     pub fn released(&self) -> u32 {
         self.released
     }
 
-    /// A list begins.
+    /// A list begins. A pool with one list takes no memory for it here.
     pub fn begin(&mut self, list: u32) {
         if self.released == list {
             self.released = self.of(list).released;
         }
-        let missing = (list as usize + 1).saturating_sub(self.lists.as_slice().len());
-        for _list in 0..missing {
-            let _ = self.lists.push(empty_list());
+        if list > 1 {
+            self.keep(list, empty_list());
+        } else {
+            self.put(list, empty_list());
         }
-        self.put(list, empty_list());
     }
 
     /// A list ends.
     pub fn end(&mut self, list: u32) {
         if self.of(list).is_indexed {
-            self.forget(list, 0, u64::MAX);
+            self.forget(list, 0, u64::MAX, u32::MAX);
         }
         let released = self.released;
         self.put(
@@ -193,6 +234,29 @@ impl Hints {
         self.place(cells, heads, list, number)
     }
 
+    /// Whether the cells of a list lie one behind another.
+    pub fn is_run(&self, list: u32) -> bool {
+        self.of(list).is_run
+    }
+
+    /// The last cell of a list, where it is known at once.
+    pub fn last_known(&self, cells: &[Cell], heads: &[Head], list: u32, is_run: bool) -> Link {
+        if is_run {
+            end_of_run(cells, heads, list)
+        } else {
+            self.of(list).cell
+        }
+    }
+
+    /// The last cell of a list, as far as it is known.
+    pub fn last(&self, cells: &[Cell], heads: &[Head], list: u32, is_run: bool) -> Link {
+        let end = self.last_known(cells, heads, list, is_run);
+        if is_run || is_end(cells, list, end) {
+            return end;
+        }
+        self.search_index(cells, list, u64::MAX)
+    }
+
     /// The last cell of the index that ends below a number.
     fn search_index(&self, cells: &[Cell], list: u32, number: u64) -> Link {
         let mut found = self.index.range(..=(list, number));
@@ -214,9 +278,10 @@ impl Hints {
             .insert((list, cell_at(cells, at).lo), Link::to(at));
     }
 
-    /// Takes the cells of a list that begin in this interval out of the index.
-    fn forget(&mut self, list: u32, from: u64, upto: u64) {
-        for _cell in 0..self.index.len() {
+    /// Takes the cells of a list that begin in this interval, at most so many, out of the index.
+    fn forget(&mut self, list: u32, from: u64, upto: u64, most: u32) {
+        let numbers = upto.saturating_add(1).saturating_sub(from);
+        for _cell in 0..numbers.min(most as u64) {
             let Some(key) = self.last_key(list, upto) else {
                 return;
             };
@@ -235,9 +300,9 @@ impl Hints {
         }
     }
 
-    /// Puts all cells of a list into the index.
-    fn remember_all(&mut self, cells: &[Cell], heads: &[Head], list: u32) {
-        let mut next = after(cells, heads, list as usize, Link::none());
+    /// Puts all cells of a list behind a place into the index.
+    fn remember_behind(&mut self, cells: &[Cell], heads: &[Head], list: u32, place: Link) {
+        let mut next = after(cells, heads, list as usize, place);
         for _cell in 0..count(heads, list as usize) {
             let Some(at) = next.place() else {
                 return;
@@ -250,27 +315,42 @@ impl Hints {
     /// Whether the index is to be told of a change behind a place: not where the cells lie one behind another, and not where it is made anew.
     fn keeps_index(&mut self, cells: &[Cell], heads: &[Head], list: u32, place: Link) -> bool {
         let hints = self.of(list);
-        let is_run = hints.is_run && is_still_run(cells, heads, list, place);
-        let is_long = count(heads, list as usize) > SHORT;
-        let begins = !is_run && !hints.is_indexed && is_long;
-        if begins {
-            self.remember_all(cells, heads, list);
+        let is_one = count(heads, list as usize) <= 1;
+        if is_one && hints.is_indexed {
+            self.forget(list, 0, u64::MAX, u32::MAX);
         }
-        let is_indexed = hints.is_indexed || begins;
-        self.put(
-            list,
-            ListHints {
-                place,
-                is_run,
-                is_indexed,
-                ..hints
-            },
-        );
-        hints.is_indexed
+        let was_indexed = hints.is_indexed && !is_one;
+        let is_run = is_one || hints.is_run && is_still_run(cells, heads, list, place);
+        let is_long = count(heads, list as usize) > SHORT;
+        let begins = !is_run && !was_indexed && is_long;
+        if begins {
+            self.remember_behind(cells, heads, list, Link::none());
+        }
+        let is_indexed = was_indexed || begins;
+        let known = ListHints {
+            place,
+            is_run,
+            is_indexed,
+            ..hints
+        };
+        if is_long || !is_run {
+            self.keep(list, known);
+        } else {
+            self.put(list, known);
+        }
+        was_indexed
     }
 
-    /// An interval was added behind a place.
-    pub fn note_added(&mut self, cells: &[Cell], heads: &[Head], list: u32, place: Link) {
+    /// Numbers were added behind a place, where the list had so many cells before.
+    pub fn note_added(
+        &mut self,
+        cells: &[Cell],
+        heads: &[Head],
+        list: u32,
+        place: Link,
+        numbers: Interval,
+        many: u32,
+    ) {
         let cell = after(cells, heads, list as usize, place);
         let Some(at) = cell.place() else {
             return;
@@ -280,10 +360,87 @@ impl Hints {
         let Cell { lo, hi, .. } = cell_at(cells, at);
         let is_same = hints.lo == lo && is_at(hints.cell, at);
         self.put(list, ListHints { lo, cell, ..hints });
-        if is_told && !is_same {
-            self.forget(list, lo.saturating_add(1), hi);
-            self.remember(cells, list, at);
+        if is_told {
+            let joined = many
+                .saturating_add(1)
+                .saturating_sub(count(heads, list as usize));
+            let kept = if lo < numbers.lo { 1 } else { 0 };
+            self.forget(list, lo.saturating_add(1), hi, joined.saturating_sub(kept));
+            if !is_same {
+                self.remember(cells, list, at);
+            }
         }
+    }
+
+    /// An interval was put behind the last cell of a list. A run whose last cells are the last of all goes on.
+    pub fn note_appended(
+        &mut self,
+        cells: &[Cell],
+        heads: &[Head],
+        list: u32,
+        place: Link,
+        numbers: Interval,
+        is_run: bool,
+    ) {
+        if !is_run || !place.is_before(cells.len().saturating_sub(1)) {
+            let many = count(heads, list as usize).saturating_sub(1);
+            self.note_added(cells, heads, list, place, numbers, many);
+        }
+    }
+
+    /// So many intervals were put behind the last cell of a list. A run to which new cells alone came goes on, where its
+    /// last cells are the last of all.
+    #[inline(always)]
+    pub fn note_extended(
+        &mut self,
+        cells: &[Cell],
+        heads: &[Head],
+        list: u32,
+        place: Link,
+        many: usize,
+        is_run: bool,
+    ) {
+        let goes_on = place.is_none() || place.is_before(cells.len().saturating_sub(many));
+        if !is_run || !goes_on {
+            self.note_scattered(cells, heads, list, place, many);
+        }
+    }
+
+    /// So many intervals were put behind a place, and the cells of the list lie no more one behind another.
+    fn note_scattered(
+        &mut self,
+        cells: &[Cell],
+        heads: &[Head],
+        list: u32,
+        place: Link,
+        many: usize,
+    ) {
+        let all = count(heads, list as usize);
+        if many == 0 || all <= 1 {
+            return;
+        }
+        let hints = self.of(list);
+        let is_indexed = hints.is_indexed || all > SHORT;
+        if is_indexed {
+            let known = if hints.is_indexed {
+                place
+            } else {
+                Link::none()
+            };
+            self.remember_behind(cells, heads, list, known);
+        }
+        let end = cells.len().saturating_sub(1);
+        self.keep(
+            list,
+            ListHints {
+                lo: cell_at(cells, end).lo,
+                place,
+                cell: Link::to(end),
+                is_run: false,
+                is_indexed,
+                ..hints
+            },
+        );
     }
 
     /// An interval was cut out behind a place.
@@ -296,14 +453,17 @@ impl Hints {
         numbers: Interval,
     ) {
         if self.keeps_index(cells, heads, list, place) {
-            self.forget(list, numbers.lo, numbers.hi);
+            self.forget(list, numbers.lo, numbers.hi, u32::MAX);
             let mut next = after(cells, heads, list as usize, place);
             for _piece in 0..NEAR {
                 let Some(at) = next.place() else {
                     break;
                 };
-                self.remember(cells, list, at);
-                next = cell_at(cells, at).next;
+                let cell = cell_at(cells, at);
+                next = cell.next;
+                if is_beside(cell, numbers) {
+                    self.remember(cells, list, at);
+                }
             }
         }
         let hints = self.of(list);

@@ -1,5 +1,5 @@
 //! Intervals of numbers.
-ghost use Rattle.std.specs.Prelude.{◌≡◌, length};
+ghost use Rattle.std.specs.Prelude.{◌≡◌, ◌∷◌, [], IfSome, length};
 ghost use Rattle.interval_pool.specs.Intervals.{hull, listed, part_below, part_above};
 
 /// The numbers from one to another, both among them.
@@ -82,5 +82,15 @@ pub fn count_pieces(pieces: Pieces) -> u32
         (Some(_), Some(_)) => 2,
         (None, None) => 0,
         _ => 1,
+    }
+}
+
+/// The only interval of these, if there is one.
+pub fn only_piece(pieces: Pieces) -> Option<Interval>
+    ensures { IfSome result (λ s. listed pieces ≡ s ∷ []) }
+{
+    match (pieces.first, pieces.second) {
+        (Some(piece), None) | (None, Some(piece)) => Some(piece),
+        _ => None,
     }
 }

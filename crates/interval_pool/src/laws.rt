@@ -1,5 +1,6 @@
 //! What follows of pools, whatever made them.
 ghost use Rattle.std.specs.Prelude.{◌+◌, ◌<◌, ◌≤◌, ℕ, List, length};
+ghost use Rattle.interval_pool.specs.Chains.{AreOnce};
 ghost use Rattle.interval_pool.specs.Values.{PoolValue, HasNoRoom, AreSteps, last_of, AreAmong, standing, intervals_of};
 
 /// Where room for so many cells was reserved, none of as many calls of `add` and `cut` after it fails.
@@ -11,4 +12,9 @@ pub fn reserved_lasts()
 /// has that many intervals in the lists that its caller knows.
 pub fn standing_within()
     ensures { (p : PoolValue) (lists : List ℕ) → AreAmong p lists → length (standing p.lists) ≤ intervals_of p lists }
+{}
+
+/// The intervals of distinct lists are together no more than the cells that stand in lists.
+pub fn distinct_stand()
+    ensures { (p : PoolValue) (lists : List ℕ) → AreOnce lists → intervals_of p lists ≤ length (standing p.lists) }
 {}

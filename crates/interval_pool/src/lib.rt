@@ -11,19 +11,21 @@
 //!
 //! From below: `link` is a place among cells, or none. `cells` takes a cell out of a chain and puts it into one.
 //! `store` frees cells, makes room for one more, and puts intervals in the place of others. `seek` finds the place
-//! of a number, `meet` what an interval meets behind it, and `add` and `cut` are these one after another. `claim`
-//! begins and ends lists, and `pool` has the calls.
+//! of a number, `meet` what an interval meets behind it, and `add` and `cut` are these one after another; `append` puts
+//! an interval behind all others of its list, and `extend` several. `claim` begins and ends lists, and `pool` has the calls.
 //!
-//! What a call costs is the way from a guessed place to the right one. `hints` guesses: the place of the last change;
-//! by halves, where the cells of a list lie one behind another; or by an index of cells, kept for lists that are long
-//! and lie otherwise. A guess is tested where it is used, so nothing is proved of it, and where memory for the index
-//! is refused the calls give the same answers in longer time.
+//! What a call costs is the way from a guessed place to the right one. `hints` guesses: the last cell of a list, where
+//! its cells lie one behind another; the place of the last change; by halves, where they lie so; or by an index of
+//! cells, kept for lists that are long and lie otherwise. A guess is tested where it is used, so nothing is proved of
+//! it, and where memory for the index is refused the calls give the same answers in longer time.
 #![tactic(auto)]
 
 mod add;
+mod append;
 mod cells;
 mod claim;
 mod cut;
+mod extend;
 mod fault;
 mod hints;
 mod interval;
@@ -36,7 +38,7 @@ mod store;
 
 pub use fault::PoolFault;
 pub use interval::Interval;
-pub use laws::{reserved_lasts, standing_within};
+pub use laws::{distinct_stand, reserved_lasts, standing_within};
 pub use pool::{ListId, Pool};
 
 #[cfg(test)]

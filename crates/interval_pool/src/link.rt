@@ -1,5 +1,5 @@
 //! A place among cells, or none, in 32 bits.
-ghost use Rattle.std.specs.Prelude.{◌≡◌, ◌≤◌, Some, None};
+ghost use Rattle.std.specs.Prelude.{◌≡◌, ◌≤◌, ◌<◌, ◌+◌, ℕ, Some, None, IsTrue};
 ghost use Rattle.interval_pool.specs.Links.{most_cells};
 
 use std::marker::Model;
@@ -58,6 +58,34 @@ impl Link {
             None
         } else {
             Some(self.code as usize - 1)
+        }
+    }
+
+    /// Whether there is no place.
+    pub fn is_none(self) -> bool
+        ensures { IsTrue result → self ≡ None }
+    {
+        self.code == 0
+    }
+
+    /// The place right behind.
+    pub fn behind(self) -> Link
+        ensures { (place : ℕ) → self ≡ Some place → place < most_cells → result ≡ Some (place + 1) }
+    {
+        Link {
+            code: self.code.wrapping_add(1),
+        }
+    }
+
+    /// Whether a place comes right behind this one.
+    pub fn is_before(self, at: usize) -> bool {
+        self.code as usize == at
+    }
+
+    /// The last of so many places that begin with this one.
+    pub fn last_of(self, count: u32) -> Link {
+        Link {
+            code: self.code.wrapping_add(count).saturating_sub(1),
         }
     }
 

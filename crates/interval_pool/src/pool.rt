@@ -1,18 +1,22 @@
 //! The pool as its callers see it.
-ghost use Rattle.std.specs.Prelude.{◌≡◌, ◌↔◌, ◌≢◌, ℕ, ◌<◌, ◌≤◌, IsOk, OnOk, OnErr, IfOk, IfErr, length, vec_capacity};
-ghost use Rattle.interval_pool.specs.Intervals.{AreMerged, IsApart, IsSplit, has};
-ghost use Rattle.interval_pool.specs.Values.{empty, is_list, IsList, IsRange, cells_of, spans, first_cell, Follows, Covers, IsPartition, Opened, AddedTo, CutFrom, Released, Reserved, HasNoRoom, IsFull, IsFullWith, AreAllLists};
-ghost use Rattle.interval_pool.specs.declared.fault.PoolFault.TheVariants.{Full};
+ghost use Rattle.std.specs.Prelude.{◌≡◌, ◌↔◌, ◌≢◌, ℕ, ◌<◌, ◌≤◌, IsOk, OnOk, OnErr, IfOk, IfErr, IfSome, IfNone, true, false, length, vec_capacity, ◌++◌};
+ghost use Rattle.interval_pool.specs.Links.{most_cells};
+ghost use Rattle.interval_pool.specs.Intervals.{AreMerged, IsBefore, IsApart, IsSplit, covers, has};
+ghost use Rattle.std.specs.List.{AllByRecursion, Contains};
+ghost use Rattle.interval_pool.specs.Values.{empty, is_list, IsList, IsRange, cells_of, spans, first_cell, Follows, Covers, IsPartition, Opened, AddedTo, Appended, Extended, Copied, CutFrom, Released, Reserved, HasNoRoom, IsFull, IsFullWith, AreAllLists};
+ghost use Rattle.interval_pool.specs.declared.fault.PoolFault.TheVariants.{Full, Memory};
 
 use crate::add::add;
+use crate::append::append;
 use crate::cells::{Cell, Head, after, cell_at, count};
 use crate::claim::{claim, drop_list};
 use crate::cut::cut;
+use crate::extend::extend;
 use crate::fault::PoolFault;
 use crate::hints::Hints;
 use crate::interval::Interval;
 use crate::link::{Link, MOST_CELLS};
-use crate::seek::contains;
+use crate::seek::interval_with;
 use std::alloc::Global;
 use std::marker::Model;
 
@@ -90,15 +94,62 @@ impl Pool {
         ensures apart { OnErr result (IsApart (spans self.old list) numbers) }
         ensures full { IfErr result (λ fault. fault ≡ Full ↔ IsFull self.old) }
     {
+        add(
+            &mut self.cells,
+            &mut self.heads,
+            &mut self.hints,
+            list.number(),
+            numbers,
+        )?;
+        Ok(())
+    }
+
+    /// Puts an interval behind all others of a list. It costs a few steps, however many there are, and is for lists that
+    /// are written in order; after `reserve` their cells come to lie one behind another. It fails only where no cell is
+    /// free and memory for one more is refused (`Memory`), or 4,294,967,294 intervals stand in the pool (`Full`). An
+    /// error leaves all as it was.
+    pub fn append(&mut self, list: ListId, numbers: Interval) -> Result<(), PoolFault>
+        requires list { IsList self.old list }
+        requires range { IsRange numbers }
+        requires behind { AllByRecursion (λ t. IsBefore t numbers) (spans self.old list) }
+        ensures ok { OnOk result (Appended self.old list numbers self.new) }
+        ensures err { OnErr result (self.new ≡ self.old) }
+        ensures room { OnErr result (HasNoRoom self.old) }
+        ensures full { IfErr result (λ fault. fault ≡ Full ↔ IsFull self.old) }
+    {
         let list = list.number();
-        let guess = self.hints.near_place(
+        let is_run = self.hints.is_run(list);
+        let guess = self.hints.last(&self.cells, &self.heads, list, is_run);
+        let place = append(&mut self.cells, &mut self.heads, list, numbers, guess)?;
+        self.hints
+            .note_appended(&self.cells, &self.heads, list, place, numbers, is_run);
+        Ok(())
+    }
+
+    /// Puts intervals behind all others of a list, which costs a few steps for each, fewest where no cell is free. It
+    /// fails only where memory for more cells is refused (`Memory`), or so many intervals with those that stand in the
+    /// pool are more than 4,294,967,294 (`Full`). An error leaves all as it was.
+    pub fn extend(&mut self, list: ListId, intervals: &[Interval]) -> Result<(), PoolFault>
+        requires list { IsList self.old list }
+        requires merged { AreMerged (spans self.old list ++ intervals.now) }
+        ensures ok { OnOk result (Extended self.old list intervals.now self.new) }
+        ensures err { OnErr result (self.new ≡ self.old) }
+        ensures full { IfErr result (λ fault. fault ≡ Full ↔ IsFullWith self.old (length intervals.now)) }
+    {
+        let list = list.number();
+        let is_run = self.hints.is_run(list);
+        let guess = self.hints.last(&self.cells, &self.heads, list, is_run);
+        let is_new = count(&self.heads, 0) == 0;
+        let place = extend(&mut self.cells, &mut self.heads, list, intervals, guess)?;
+        let many = intervals.len();
+        self.hints.note_extended(
             &self.cells,
             &self.heads,
             list,
-            numbers.lo.saturating_sub(1),
+            place,
+            many,
+            is_run && is_new,
         );
-        let place = add(&mut self.cells, &mut self.heads, list, numbers, guess)?;
-        self.hints.note_added(&self.cells, &self.heads, list, place);
         Ok(())
     }
 
@@ -122,6 +173,22 @@ impl Pool {
         self.hints
             .note_cut(&self.cells, &self.heads, list, place, numbers);
         Ok(())
+    }
+
+    /// The same pool again: the same lists, with the same cells, and the same free cells. It fails where memory is
+    /// refused (`Memory`).
+    pub fn copy(&self, alloc: Global) -> Result<Pool, PoolFault>
+        ensures ok { IfOk result (λ pool. Copied self.now pool) }
+        ensures memory { IfErr result (λ fault. fault ≡ Memory) }
+    {
+        let hints = self.hints.copy(alloc)?;
+        let heads = Vec::from_slice(alloc, &self.heads)?;
+        let cells = Vec::from_slice(alloc, &self.cells)?;
+        Ok(Pool {
+            cells,
+            heads,
+            hints,
+        })
     }
 
     /// Makes an empty list. It fails where memory is refused (`Memory`), or 4,294,967,294 lists are there (`Full`). An
@@ -158,9 +225,19 @@ impl Pool {
         requires list { IsList self.now list }
         ensures { result ≡ has (spans self.now list) number }
     {
+        self.interval_with(list, number).is_some()
+    }
+
+    /// The interval of a list that has a number, if there is one.
+    pub fn interval_with(&self, list: ListId, number: u64) -> Option<Interval>
+        requires list { IsList self.now list }
+        ensures one { IfSome result (λ s. Contains (spans self.now list) s) }
+        ensures covers { IfSome result (λ s. covers s number ≡ true) }
+        ensures none { IfNone result (has (spans self.now list) number ≡ false) }
+    {
         let list = list.number();
         let guess = self.hints.place(&self.cells, &self.heads, list, number);
-        contains(&self.cells, &self.heads, list, number, guess)
+        interval_with(&self.cells, &self.heads, list, number, guess)
     }
 
     /// How many intervals a list has.
@@ -228,8 +305,10 @@ impl Pool {
         Ok(())
     }
 
-    /// A law, which does nothing: lists are merged; lists and the free cells share no cell, and are together all cells.
+    /// A law, which does nothing: lists are merged; lists and the free cells share no cell, and are together all cells,
+    /// which are no more than 4,294,967,294.
     pub fn partition(&self)
+        ensures small { (self.now).cells ≤ most_cells }
         ensures merged { (l : ℕ) → AreMerged (spans self.now l) }
         ensures parted { IsPartition self.now }
     {

@@ -5,13 +5,14 @@ use Rattle.std.specs.FinSet as set
 use Rattle.std.specs.Cmp.{nat_cmp_total}
 use Rattle.gtid_text.specs.declared.Gtid.{Gtid}
 use Rattle.gtid_set.specs.declared.fault.SetFault.{SetFault}
-use Rattle.gtid_set.specs.Sets.{Gtids, sources_of, source_count, most_sources}
+use Rattle.gtid_set.specs.Sets.{Gtids, sources_of, source_count}
 use Rattle.gtid_set.proofs.FaultLemmas.{fault_map}
 use Rattle.gtid_set.proofs.SetLemmas.{union_empty}
 use Rattle.gtid_set.proofs.SetSources.{sources_with_interval, union_one}
 use Rattle.journal.specs.declared.Entry.{Entry}
-use Rattle.journal.specs.Journals.{gtids_of}
-use Rattle.journal.specs.Faults.{IsFaultOf}
+use Rattle.gtid_set.specs.Full.{IsFaultOf, HasManyIntervals}
+use Rattle.journal.specs.Journals.{JournalValue, gtids_of}
+use Rattle.journal.specs.Faults.{IsAddingFault, IsPurgedFault}
 use Rattle.journal.proofs.EntryLemmas.{union-gtids_of-cons}
 
 pub no_less : (b : Bool) (n : ℕ) → n ≤ cond b n (n + 1)
@@ -45,6 +46,25 @@ fewer n s es =
     subst (λ t. source_count (set.union s (gtids_of (take n es))) ≤ source_count t) (joined n s es)
     (more (drop n es) (set.union s (gtids_of (take n es))))
 
--- what is too much for the first entries is too much for all
-pub fault_of_all : (f : SetFault) (n : ℕ) (s : Gtids) (es : List Entry) → IsFaultOf f (set.union s (gtids_of (take n es))) → IsFaultOf f (set.union s (gtids_of es))
-fault_of_all f n s es h = fault_map f (λ over. let low = fewer n s es in omega (arith, low, over)) h
+-- what is too much for the first entries is too much on the way
+pub adding_fault : (f : SetFault) (n : ℕ) (s : Gtids) (es : List Entry) → IsFaultOf f (set.union s (gtids_of (take n es))) → IsAddingFault f s es
+adding_fault f n s es h = fault_map f (λ over. let low = fewer n s es in omega (arith, low, over)) (λ over. (n, over)) h
+
+-- the first of the first entries
+record IsFront (n most : ℕ) (es : List Entry) : Type 0 where
+  count : ℕ
+  few : count ≤ most
+  same : take n (take most es) ≡ take count es
+
+front : (n most : ℕ) (es : List Entry) → IsFront n most es
+front zero most es = record { count = 0; few = omega arith; same = refl }
+front (suc n) zero es = record { count = 0; few = omega arith; same = refl }
+front (suc n) (suc most) [] = record { count = 0; few = omega arith; same = refl }
+front (suc n) (suc most) (e ∷ es) = let r = front n most es in let few = r.few in record { count = suc r.count; few = omega (arith, few); same = ap (λ xs. e ∷ xs) r.same }
+
+pub purged_fault : (f : SetFault) (count : ℕ) (j : JournalValue) (known : Gtids) (entries : List Entry) → known ≡ j.previous → entries ≡ take count j.entries → IsAddingFault f known entries → IsPurgedFault f count j
+purged_fault f count j known entries is are adds =
+    let h : IsAddingFault f j.previous (take count j.entries) = subst (λ (es : List Entry). IsAddingFault f j.previous es) are (subst (λ (s : Gtids). IsAddingFault f s entries) is adds) in
+    fault_map f (λ over. over) (λ over.
+    let r = front over.0 count j.entries in
+    (r.count, r.few, subst (λ es. HasManyIntervals (set.union j.previous (gtids_of es))) r.same over.1)) h

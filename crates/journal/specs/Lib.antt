@@ -1,3 +1,4 @@
 pub mod Writing
 pub mod Journals
 pub mod Faults
+pub mod Edges

@@ -6,7 +6,7 @@ ghost use Rattle.std.specs.List.{list_all, list_any};
 ghost use Rattle.gtid_text.specs.Gtids.{same_gtid};
 ghost use Rattle.std.specs.FinSet as set;
 ghost use Rattle.journal.specs.Journals.{gtids_of, purged, whole, IsJournal};
-ghost use Rattle.journal.specs.Faults.{IsFaultOf};
+ghost use Rattle.journal.specs.Faults.{IsAddingFault, IsPurgedFault};
 ghost use Rattle.journal.specs.Writing.{is_value_writable, is_image_writable, is_change_writable, is_txn_writable, is_writable, is_number};
 
 use gtid_set::{GtidSet, SetFault};
@@ -127,7 +127,7 @@ fn is_same(a: &Gtid, b: &Gtid) -> bool
 
 fn add_gtids(known: &mut GtidSet, entries: &[Entry]) -> Result<(), SetFault>
     ensures ok { OnOk result (known.new ≡ set.union known.old (gtids_of entries.now)) }
-    ensures fault { IfErr result (λ f. IsFaultOf f (set.union known.old (gtids_of entries.now))) }
+    ensures fault { IfErr result (λ f. IsAddingFault f known.old entries.now) }
 {
     for entry in entries {
         match known.add(entry.gtid) {
@@ -206,11 +206,12 @@ impl Journal {
         self.entries.truncate(kept);
     }
 
-    /// The previous set once the first entries are purged.
+    /// The previous set once the first entries are purged. The GTIDs are added one after another: the set is also too large where it has
+    /// too many intervals once some of them are added.
     pub fn purged(&self, alloc: Global, count: usize) -> Result<GtidSet, SetFault>
         requires { count ≤ length self.now.entries }
         ensures ok { IfOk result (λ s. s ≡ purged count self.now) }
-        ensures fault { IfErr result (λ f. IsFaultOf f (purged count self.now)) }
+        ensures fault { IfErr result (λ f. IsPurgedFault f count self.now) }
     {
         let mut previous = self.previous.copy(alloc)?;
         add_gtids(&mut previous, &self.entries[..count])?;

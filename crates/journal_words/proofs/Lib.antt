@@ -1,6 +1,5 @@
 pub mod Numerals
 pub mod Counts
-pub mod ValueLemmas
 pub mod Cuts
 pub mod ValueLaws
 pub mod AsciiLemmas

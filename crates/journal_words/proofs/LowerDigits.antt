@@ -1,20 +1,21 @@
 -- Lower-case digits: an even number of them is the text of the bytes that it decodes to, and no bytes are spelled with another byte.
-use Rattle.std.proofs.Common.{◌≡◌, ℕ, zero, suc, ◌+◌, ◌*◌, ◌/◌, ◌%◌, ◌<◌, Bool, true, false, eqb, ltb, not, List, [], ◌∷◌, length, get_or, Option, Some, None, Result, Ok, Err, refl, sym, ap, ◌∙◌, arith, inl, inr}
-use Rattle.std.specs.Prelude.{◌&&◌, ◌||◌, MatchResult}
+use Rattle.std.proofs.Common.{◌≡◌, ℕ, zero, suc, ◌+◌, ◌*◌, ◌/◌, ◌%◌, ◌<◌, Bool, true, false, eqb, ltb, not, cond, ◌&&◌, List, [], ◌∷◌, length, get_or, take, drop, set, ◌++◌, Option, Some, None, Ok, refl, sym, ap, ◌∙◌, arith, inl, inr}
+use Rattle.std.specs.Prelude.{◌||◌}
+use Rattle.std.proofs.Math.Seq.{drop-cons, take-length, drop-length}
+use Rattle.std.proofs.lemmas.List.{append_assoc, append-nil, length-set, take_more_set}
 use Rattle.std.specs.List.{list_all}
 use Rattle.std.proofs.lemmas.Bool.{eqb-true, ltb-true, cases_lt, cases_eq, and_parts}
 use Rattle.std.proofs.lemmas.Bool.Decides.{nat_tests}
-use Rattle.hex.specs.Hex.{IsBytes, hex_digit_value, pair_value, decode_pairs, decode_of, decode_sized, encode_lower, encode_with, lower_digits}
-use Rattle.hex.specs.declared.error.FromHexError.{FromHexError}
-use Rattle.hex.proofs.HexLemmas.{decode_of-even, decode_of-odd, decode_sized-odd, decode_sized-twice}
-use Rattle.journal_words.specs.Values.{is_lower_digit, bytes_found, bytes_of, where_same}
+use Rattle.hex.specs.Hex.{IsBytes, hex_digit_value, pair_value, decode_pairs, decode_of, encode_lower, encode_with, lower_digits}
+use Rattle.hex.proofs.HexLemmas.{decode_of-even}
+use Rattle.journal_words.specs.Values.{is_lower_digit, digit_of, pairs_of, bytes_found, bytes_of, where_same}
 use Rattle.journal_words.proofs.ValueLaws.{where_same-again, bytes_found-same, none_is}
 
 -- ---- one digit
 
 -- the test of a byte: a lower-case digit has a value, which is written so
 abbrev is_place : ℕ → Option ℕ → Bool
-is_place b (Some v) = eqb (get_or lower_digits v 0) b && ltb v 16
+is_place b (Some v) = eqb (get_or lower_digits v 0) b && (ltb v 16 && eqb v (digit_of b))
 is_place b None = false
 
 abbrev is_back : ℕ → Bool
@@ -43,11 +44,13 @@ record Place (b : ℕ) : Type 0 where
   is : hex_digit_value b ≡ Some value
   small : value < 16
   back : get_or lower_digits value 0 ≡ b
+  same : value ≡ digit_of b
 
 place_in : (b : ℕ) (o : Option ℕ) → hex_digit_value b ≡ o → is_place b o ≡ true → Place b
 place_in b (Some v) e h =
-    let parts = and_parts (eqb (get_or lower_digits v 0) b) (ltb v 16) h in
-    record { value = v; is = e; small = ltb-true v 16 parts.1; back = eqb-true _ b parts.0 }
+    let parts = and_parts (eqb (get_or lower_digits v 0) b) (ltb v 16 && eqb v (digit_of b)) h in
+    let more = and_parts (ltb v 16) (eqb v (digit_of b)) parts.1 in
+    record { value = v; is = e; small = ltb-true v 16 more.0; back = eqb-true _ b parts.0; same = eqb-true v (digit_of b) more.1 }
 place_in b None e h = absurd cc
 
 place : (b : ℕ) → is_lower_digit b ≡ true → Place b
@@ -61,13 +64,14 @@ record Spelled (i : ℕ) (ds : List ℕ) : Type 0 where
   bytes : List ℕ
   decodes : decode_pairs i ds ≡ Ok bytes
   again : encode_lower bytes ≡ ds
+  pairs : bytes ≡ pairs_of ds
 
 pair_of : (h l i x y : ℕ) → hex_digit_value h ≡ Some x → hex_digit_value l ≡ Some y → pair_value h l i ≡ Ok (x * 16 + y)
 pair_of h l i x y eh el = rw (eh, el) refl
 
 spelled : (i : ℕ) (ds : List ℕ) → list_all is_lower_digit ds ≡ true → length ds % 2 ≡ 0 → Spelled i ds
 unfolding decode_pairs encode_with
-spelled i [] all even = record { bytes = []; decodes = refl; again = refl }
+spelled i [] all even = record { bytes = []; decodes = refl; again = refl; pairs = refl }
 spelled i (h ∷ []) all even = absurd (omega (arith, even))
 spelled i (h ∷ l ∷ rest) all even =
     let first = and_parts (is_lower_digit h) (list_all is_lower_digit (l ∷ rest)) all in
@@ -79,58 +83,51 @@ spelled i (h ∷ l ∷ rest) all even =
     let y = b.value in
     let high : (x * 16 + y) / 16 ≡ x = omega (arith, b.small) in
     let low : (x * 16 + y) % 16 ≡ y = omega (arith, b.small) in
+    let both : x * 16 + y ≡ digit_of h % 16 * 16 + digit_of l % 16 = omega (arith, a.small, b.small, a.same, b.same) in
     record {
       bytes = (x * 16 + y) ∷ r.bytes;
       decodes = rw (pair_of h l i x y a.is b.is, r.decodes) refl;
       again = λ k. (ap (λ n. get_or lower_digits n 0) high ∙ a.back) k ∷ (ap (λ n. get_or lower_digits n 0) low ∙ b.back) k ∷ r.again k;
+      pairs = λ k. both k ∷ r.pairs k;
     }
 
--- what lower-case digits decode to is what they spell
-abbrev some_ok : Result (List ℕ) FromHexError → Option (List ℕ)
-some_ok (Ok bytes) = Some bytes
-some_ok (Err e) = None
-
-lower_even : (ds : List ℕ) → Spelled 0 ds → decode_of ds ≡ decode_pairs 0 ds → bytes_of ds ≡ some_ok (decode_of ds)
+-- an even number of lower-case digits spells its pairs
+lower_even : (ds : List ℕ) → Spelled 0 ds → decode_of ds ≡ decode_pairs 0 ds → bytes_of ds ≡ Some (pairs_of ds)
 lower_even ds s e =
-    let ok = e ∙ s.decodes in
-    ap (bytes_found ds) ok ∙ sym (ap (λ text. where_same encode_lower ds s.bytes) s.again) ∙ ap (λ text. where_same encode_lower text s.bytes) (sym s.again) ∙ where_same-again encode_lower s.bytes ∙ sym (ap some_ok ok)
+    ap (bytes_found ds) (e ∙ s.decodes)
+    ∙ sym (ap (λ text. where_same encode_lower ds s.bytes) s.again) ∙ ap (λ text. where_same encode_lower text s.bytes) (sym s.again)
+    ∙ where_same-again encode_lower s.bytes ∙ ap Some s.pairs
 
-lower_spells : (ds : List ℕ) → list_all is_lower_digit ds ≡ true → bytes_of ds ≡ some_ok (decode_of ds)
-lower_spells ds all =
-    elim (cases_eq (length ds % 2) 1) [
-      | inl odd ↦ let e = decode_of-odd ds odd in ap (bytes_found ds) e ∙ sym (ap some_ok e)
-      | inr other ↦
-          let even : length ds % 2 ≡ 0 = omega arith in
-          lower_even ds (spelled 0 ds all even) (decode_of-even ds even)
-    ]
+-- ---- two digits at a time
 
--- ---- what a room holds
+pub digit_small : (b : ℕ) → ltb (digit_of b) 16 ≡ is_lower_digit b
+digit_small b = grind (arith, nat_tests)
 
-in_room : (ds : List ℕ) (n : ℕ) → n ≡ length ds / 2 → decode_sized ds n ≡ decode_of ds
-in_room ds n half =
-    elim (cases_eq (length ds % 2) 1) [
-      | inl odd ↦ decode_sized-odd ds n odd ∙ sym (decode_of-odd ds odd)
-      | inr other ↦ decode_sized-twice ds n (omega (arith, half, other))
-    ]
+drop_two : (ds : List ℕ) (n i : ℕ) → length ds ≡ 2 * n → i < n → drop (2 * i) ds ≡ get_or ds (2 * i) 0 ∷ get_or ds (2 * i + 1) 0 ∷ drop (2 * (i + 1)) ds
+drop_two ds n i len lt =
+    let one : suc (2 * i) ≡ 2 * i + 1 = omega arith in
+    let two : suc (2 * i + 1) ≡ 2 * (i + 1) = omega arith in
+    drop-cons ds (2 * i) 0 (omega (arith, len, lt))
+    ∙ ap (λ k. get_or ds (2 * i) 0 ∷ drop k ds) one
+    ∙ ap (λ t. get_or ds (2 * i) 0 ∷ t) (drop-cons ds (2 * i + 1) 0 (omega (arith, len, lt)) ∙ ap (λ k. get_or ds (2 * i + 1) 0 ∷ drop k ds) two)
 
-abbrev Written : Result (List ℕ) FromHexError → Result (Unit {0}) FromHexError → List ℕ → Type 0
-Written d r new = MatchResult d (λ bytes. (r ≡ Ok tt) × (new ≡ bytes)) (λ e. r ≡ Err e)
+pub all_three : (a b c : Bool) → ((a && b) && c) ≡ (a && (b && c))
+all_three true b c = refl
+all_three false b c = refl
 
-when_ok : (d : Result (List ℕ) FromHexError) (r : Result (Unit {0}) FromHexError) (new : List ℕ) → Written d r new → r ≡ Ok tt → some_ok d ≡ Some new
-when_ok (Ok bytes) r new h e = ap Some (sym h.1)
-when_ok (Err d) r new h e = absurd (let k = h in cc)
-
-when_err : (d : Result (List ℕ) FromHexError) (r : Result (Unit {0}) FromHexError) (new : List ℕ) (e : FromHexError) → Written d r new → r ≡ Err e → some_ok d ≡ None
-when_err (Ok bytes) r new e h is = absurd (let k = h.0 in cc)
-when_err (Err d) r new e h is = refl
-
-pub room_ok : (ds new : List ℕ) (n : ℕ) (r : Result (Unit {0}) FromHexError) → list_all is_lower_digit ds ≡ true → n ≡ length ds / 2
-    → MatchResult (decode_sized ds n) (λ bytes. (r ≡ Ok tt) × (new ≡ bytes)) (λ e. r ≡ Err e) → r ≡ Ok tt → bytes_of ds ≡ Some new
-room_ok ds new n r all half h e = lower_spells ds all ∙ ap some_ok (sym (in_room ds n half)) ∙ when_ok (decode_sized ds n) r new h e
-
-pub room_err : (ds new : List ℕ) (n : ℕ) (r : Result (Unit {0}) FromHexError) (e : FromHexError) → list_all is_lower_digit ds ≡ true → n ≡ length ds / 2
-    → MatchResult (decode_sized ds n) (λ bytes. (r ≡ Ok tt) × (new ≡ bytes)) (λ d. r ≡ Err d) → r ≡ Err e → bytes_of ds ≡ None
-room_err ds new n r e all half h is = lower_spells ds all ∙ ap some_ok (sym (in_room ds n half)) ∙ when_err (decode_sized ds n) r new e h is
+pub two_more : (ds : List ℕ) (n i x y : ℕ) → length ds ≡ 2 * n → i < n → x ≡ digit_of (get_or ds (2 * i) 0) → y ≡ digit_of (get_or ds (2 * i + 1) 0)
+    → ((x % 16 * 16 + y % 16) ∷ pairs_of (drop (2 * (i + 1)) ds) ≡ pairs_of (drop (2 * i) ds))
+    × (((ltb x 16 && ltb y 16) && list_all is_lower_digit (drop (2 * (i + 1)) ds)) ≡ list_all is_lower_digit (drop (2 * i) ds))
+two_more ds n i x y len lt ex ey =
+    let h = get_or ds (2 * i) 0 in
+    let l = get_or ds (2 * i + 1) 0 in
+    let rest = drop (2 * (i + 1)) ds in
+    let e = drop_two ds n i len lt in (
+      (λ k. (ex k % 16 * 16 + ey k % 16) ∷ pairs_of rest) ∙ sym (ap pairs_of e),
+      (λ k. ((ap (λ v. ltb v 16) ex ∙ digit_small h) k && (ap (λ v. ltb v 16) ey ∙ digit_small l) k) && list_all is_lower_digit rest)
+          ∙ all_three (is_lower_digit h) (is_lower_digit l) (list_all is_lower_digit rest)
+          ∙ sym (ap (list_all is_lower_digit) e),
+    )
 
 -- ---- other bytes
 
@@ -158,5 +155,42 @@ written_lower (b ∷ bs) fits =
     let low = lower_at 16 (b % 16) refl (omega arith) in
     rw (high, low) (written_lower bs (λ k. fits (suc k)))
 
-pub other_spells_none : (ds : List ℕ) → list_all is_lower_digit ds ≡ false → bytes_of ds ≡ None
+other_spells_none : (ds : List ℕ) → list_all is_lower_digit ds ≡ false → bytes_of ds ≡ None
 other_spells_none ds other = sym (none_is (bytes_of ds) (λ bs e. let f = bytes_found-same ds bs e in let all = ap (list_all is_lower_digit) f.0 ∙ written_lower bs f.1 in cc))
+
+-- ---- what digits spell
+
+not_odd : (n : ℕ) → (n % 2 ≡ 1 → ⊥) → n % 2 ≡ 0
+not_odd n h = elim (cases_eq (n % 2) 1) [ inl odd ↦ absurd (h odd) | inr other ↦ omega (arith, other) ]
+
+pub pairs_told : (ds new : List ℕ) (r : Bool) → (length ds % 2 ≡ 1 → ⊥) → r ≡ list_all is_lower_digit ds → new ≡ pairs_of ds → bytes_of ds ≡ cond r (Some new) None
+pairs_told ds new true odd lower is =
+    let even = not_odd (length ds) odd in
+    lower_even ds (spelled 0 ds (sym lower) even) (decode_of-even ds even) ∙ ap Some (sym is)
+pairs_told ds new false odd lower is = other_spells_none ds (sym lower)
+
+-- ---- bytes as digits
+
+pub encoded_next : (bs : List ℕ) (i : ℕ) → i < length bs → get_or lower_digits (get_or bs i 0 / 16) 0 ∷ get_or lower_digits (get_or bs i 0 % 16) 0 ∷ encode_lower (drop (i + 1) bs) ≡ encode_lower (drop i bs)
+unfolding encode_with
+encoded_next bs i lt =
+    let one : i + 1 ≡ suc i = omega arith in
+    ap (λ k. get_or lower_digits (get_or bs i 0 / 16) 0 ∷ get_or lower_digits (get_or bs i 0 % 16) 0 ∷ encode_with lower_digits (drop k bs)) one ∙ sym (ap (encode_with lower_digits) (drop-cons bs i 0 lt))
+
+pub two_set : (room : List ℕ) (i h l : ℕ) → 2 * i + 1 < length room → take (2 * (i + 1)) (set (set room (2 * i) h) (2 * i + 1) l) ≡ take (2 * i) room ++ h ∷ l ∷ []
+two_set room i h l lt =
+    let two : 2 * (i + 1) ≡ 2 * i + 1 + 1 = omega arith in
+    let long : 2 * i + 1 < length (set room (2 * i) h) = omega (arith, lt, length-set room (2 * i) h) in
+    let some : 2 * i < length room = omega (arith, lt) in
+    ap (λ k. take k (set (set room (2 * i) h) (2 * i + 1) l)) two
+    ∙ take_more_set (set room (2 * i) h) (2 * i + 1) l long
+    ∙ ap (λ t. t ++ l ∷ []) (take_more_set room (2 * i) h some)
+    ∙ append_assoc (take (2 * i) room) (h ∷ []) (l ∷ [])
+
+pub all_encoded : (bs room : List ℕ) (i : ℕ) → i ≡ length bs → length room ≡ 2 * length bs → take (2 * i) room ++ encode_lower (drop i bs) ≡ encode_lower bs → room ≡ encode_lower bs
+unfolding encode_with
+all_encoded bs room i e len told =
+    let size : 2 * i ≡ length room = omega (arith, e, len) in
+    let full : take (2 * i) room ≡ room = ap (λ k. take k room) size ∙ take-length room in
+    let none : drop i bs ≡ [] = ap (λ k. drop k bs) e ∙ drop-length bs in
+    sym (append-nil room) ∙ (λ k. sym full k ++ encode_with lower_digits (sym none k)) ∙ told

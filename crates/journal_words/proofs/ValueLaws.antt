@@ -1,22 +1,25 @@
 -- Values: what is spelled is read, and what is read is spelled so.
-use Rattle.std.proofs.Common.{◌≡◌, ℕ, zero, suc, ◌^◌, ◌<◌, true, false, cond, eqb, not, ◌/◌, ◌%◌, List, [], ◌∷◌, length, get_or, Option, Some, None, Result, Ok, Err, refl, sym, ap, subst, ◌∙◌, arith, inl, inr, ℤ, pos, negsuc}
-use Rattle.std.specs.Prelude.{codes, FitsSigned, IfSome, IfNone, option_map}
+use Rattle.std.proofs.Common.{◌≡◌, ℕ, zero, suc, ◌^◌, ◌<◌, ◌≤◌, drop, true, false, cond, eqb, not, ◌/◌, ◌%◌, List, [], ◌∷◌, length, get_or, Option, Some, None, Result, Ok, Err, refl, sym, ap, subst, ◌∙◌, arith, inl, inr, ℤ, pos, negsuc}
+use Rattle.std.specs.Prelude.{codes, FitsSigned, option_map}
 use Rattle.std.specs.Int.{w64}
 use Rattle.std.specs.Fmt.{decimal, signed_decimal}
 use Rattle.std.specs.List.{list_all}
 use Rattle.std.specs.Char.{is_ascii_digit}
 use Rattle.std.specs.Str.{bytes_eq}
-use Rattle.std.specs.Str.Parse.{digits_value}
+use Rattle.std.specs.Str.Parse.{digits_value, starts_with_minus}
 use Rattle.std.proofs.lemmas.Fmt.{digits_decimal, digits_value-decimal, decimal_nonempty}
 use Rattle.std.proofs.lemmas.Bool.{lt-ltb, ltb-true, eqb-true, ne_eqb, and_parts}
 use Rattle.std.proofs.lemmas.Slice.Eq.{bytes_eq-Decides}
+use Rattle.std.proofs.lemmas.Int.{to_z-of_z, to_z_pos}
+use mir.Val.{to_z, of_z}
 use Rattle.hex.specs.Hex.{IsBytes, decode_of, encode_lower, encode_with, lower_digits}
 use Rattle.hex.specs.declared.error.FromHexError.{FromHexError}
 use Rattle.hex.proofs.HexLemmas.{decode_of-encode_lower, decode_of-ok}
 use Rattle.rows.specs.declared.value.Value.{Value}
 use Rattle.rows.specs.declared.value.Value.TheVariants.{Null, Int, Bytes}
+use Rattle.journal_words.specs.Words.{count_of}
 use Rattle.journal_words.specs.Values.{value_text, where_same, below_zero, signed_value, is_small, int_of, bytes_found, bytes_of, other_value, value_of, FitsValue}
-use Rattle.journal_words.proofs.Counts.{lacks, decimal_lacks}
+use Rattle.journal_words.proofs.Counts.{lacks, decimal_lacks, count_found, count_again}
 use Rattle.std.proofs.lemmas.Option.{same_Some}
 use Rattle.gtid_text.proofs.Tokens.{own}
 use Rattle.gtid_text.proofs.Turns.{chosen}
@@ -78,9 +81,56 @@ int_found w z e =
       | inr p ↦ absurd cc
     ]
 
-pub exact_int : (w : List ℕ) (r : Option ℤ) → IfSome r (λ z. w ≡ signed_decimal z) → IfSome r (λ z. FitsSigned w64 z) → IfNone r ((z : ℤ) → FitsSigned w64 z → w ≡ signed_decimal z → ⊥) → r ≡ int_of w
-exact_int w (Some z) found fits none = sym (ap int_of found ∙ int_again z fits)
-exact_int w None found fits none = none_is (int_of w) (λ z e. let f = int_found w z e in none z f.1 f.0)
+no_minus : (m : ℕ) (ds : List ℕ) → m < 2 ^ 64 → 45 ∷ ds ≡ decimal m → ⊥
+no_minus m ds lt e = let k = ap (list_all is_ascii_digit) e ∙ digits_decimal own m lt in cc
+
+-- the number behind a minus, if there is one
+pub below_found : (ds : List ℕ) (n : ℕ) → count_of ds ≡ Some n → 1 ≤ n → n ≤ 2 ^ 63 → int_of (45 ∷ ds) ≡ Some (below_zero n)
+below_found ds zero e low high = absurd (omega (arith, low))
+below_found ds (suc n) e low high = ap (λ (w : List ℕ). int_of (45 ∷ w)) (count_found ds (suc n) e).0 ∙ int_again (negsuc n) (small_fits (negsuc n) (lt-ltb n (2 ^ 63) (omega (arith, high))))
+
+pub below_none : (ds : List ℕ) → ((n : ℕ) → count_of ds ≡ Some n → 1 ≤ n → n ≤ 2 ^ 63 → ⊥) → None ≡ int_of (45 ∷ ds)
+below_none ds none = none_is (int_of (45 ∷ ds)) (λ z e. let f = int_found (45 ∷ ds) z e in by z f.0 f.1)
+  where
+    by : (z : ℤ) → 45 ∷ ds ≡ signed_decimal z → FitsSigned w64 z → ⊥
+    by (pos m) e fits = no_minus m ds (omega (arith, fits)) e
+    by (negsuc m) e fits =
+        let same : ds ≡ decimal (suc m) = ap (drop 1) e in
+        none (suc m) (ap count_of same ∙ count_again (suc m) (omega (arith, fits))) (omega arith) (omega (arith, fits))
+
+fits_below : (n : ℕ) → 1 ≤ n → n ≤ 2 ^ 63 → FitsSigned w64 (below_zero n)
+fits_below zero low high = absurd (omega (arith, low))
+fits_below (suc n) low high = small_fits (negsuc n) (lt-ltb n (2 ^ 63) (omega (arith, high)))
+
+pub below_is : (ds : List ℕ) (n : ℕ) (z : ℤ) → z ≡ below_zero n → Some n ≡ count_of ds → 1 ≤ n → n ≤ 2 ^ 63 → Some (to_z w64 (of_z w64 z)) ≡ int_of (45 ∷ ds)
+below_is ds n z same e low high =
+    ap Some (ap (λ (y : ℤ). to_z w64 (of_z w64 y)) same ∙ to_z-of_z w64 (below_zero n) (fits_below n low high)) ∙ sym (below_found ds n (sym e) low high)
+
+pub below_out : (ds : List ℕ) (number : ℕ) → Some number ≡ count_of ds → (1 ≤ number → number ≤ 2 ^ 63 → ⊥) → None ≡ int_of (45 ∷ ds)
+below_out ds number e out = below_none ds (λ n f low high. let same : number ≡ n = same_Some number n (e ∙ f) in out (omega (arith, same, low)) (omega (arith, same, high)))
+
+pub below_less : (ds : List ℕ) → None ≡ count_of ds → None ≡ int_of (45 ∷ ds)
+below_less ds e = below_none ds (λ n f low high. let k = e ∙ f in cc)
+
+-- the number without a minus, if there is one
+pub above_found : (w : List ℕ) (n : ℕ) → count_of w ≡ Some n → n < 2 ^ 63 → int_of w ≡ Some (pos n)
+above_found w n e lt = ap int_of (count_found w n e).0 ∙ int_again (pos n) (small_fits (pos n) (lt-ltb n (2 ^ 63) lt))
+
+pub above_none : (w : List ℕ) → starts_with_minus w ≡ false → ((n : ℕ) → count_of w ≡ Some n → n < 2 ^ 63 → ⊥) → None ≡ int_of w
+above_none w other none = none_is (int_of w) (λ z e. let f = int_found w z e in by z f.0 f.1)
+  where
+    by : (z : ℤ) → w ≡ signed_decimal z → FitsSigned w64 z → ⊥
+    by (pos m) e fits = none m (ap count_of e ∙ count_again m (omega (arith, fits))) (omega (arith, fits))
+    by (negsuc m) e fits = let k = sym (ap starts_with_minus e) ∙ other in cc
+
+pub above_is : (w : List ℕ) (n : ℕ) → Some n ≡ count_of w → n < 2 ^ 63 → Some (to_z w64 n) ≡ int_of w
+above_is w n e lt = ap Some (to_z_pos w64 n lt) ∙ sym (above_found w n (sym e) lt)
+
+pub above_out : (w : List ℕ) (number : ℕ) → starts_with_minus w ≡ false → Some number ≡ count_of w → (number < 2 ^ 63 → ⊥) → None ≡ int_of w
+above_out w number other e out = above_none w other (λ n f lt. let same : number ≡ n = same_Some number n (e ∙ f) in out (omega (arith, same, lt)))
+
+pub above_less : (w : List ℕ) → starts_with_minus w ≡ false → None ≡ count_of w → None ≡ int_of w
+above_less w other e = above_none w other (λ n f lt. let k = e ∙ f in cc)
 
 -- ---- bytes
 

@@ -1,5 +1,5 @@
 -- Sources, GTIDs and sets of them as words: each has one spelling.
-use Rattle.std.specs.Prelude.{ℕ, ◌+◌, ◌<◌, ◌==◌, ◌&&◌, ◌||◌, nat_lt, Bool, true, List, [], ◌∷◌, Option, Some, None, option_map, Result, Ok, Err, codes, if◌then◌else◌}
+use Rattle.std.specs.Prelude.{ℕ, ◌+◌, ◌==◌, ◌&&◌, ◌||◌, nat_lt, Bool, true, List, [], ◌∷◌, Option, Some, None, option_map, Result, Ok, Err, codes, if◌then◌else◌}
 use Rattle.std.specs.List.{list_all}
 use Rattle.std.specs.Str.{bytes_eq}
 use Rattle.std.specs.FinSet as set
@@ -9,8 +9,8 @@ use Rattle.gtid_text.specs.declared.scan.Refusal.{Refusal}
 use Rattle.gtid_text.specs.Canonical.{source_text, gtid_text, spans_text}
 use Rattle.gtid_text.specs.Reading.{source_in, gtid_in, spans_in}
 use Rattle.gtid_set.specs.declared.fault.SetFault.{SetFault}
-use Rattle.gtid_set.specs.Full.{IsMemoryOr}
-use Rattle.gtid_set.specs.Sets.{Gtids, interval, source_count, most_sources}
+use Rattle.gtid_set.specs.Full.{HasManySources, HasManyIntervals, IsMemoryOr}
+use Rattle.gtid_set.specs.Sets.{Gtids, interval}
 use Rattle.journal_words.specs.Values.{where_same}
 
 abbrev pub is_ascii_byte : ℕ → Bool
@@ -66,11 +66,11 @@ set_with s (t ∷ ts) = set_with (set.union s (interval t.source t.lo t.hi)) ts
 abbrev pub set_of_word : List ℕ → Option Gtids
 set_of_word word = option_map (set_with set.empty) (spans_of_word word)
 
--- the set that a word spells has too many sources
-abbrev pub HasTooMany : Option Gtids → Type 0
-HasTooMany (Some s) = most_sources < source_count s
-HasTooMany None = ⊥
+-- the set that a word spells, if it spells one, has this
+abbrev pub OfSpelled : (Gtids → Type 0) → Option Gtids → Type 0
+OfSpelled Has (Some s) = Has s
+OfSpelled Has None = ⊥
 
--- why a set that a word spells was not made: memory was refused, or the set has too many sources
+-- why a set that a word spells was not made: memory was refused, or the set has too many sources or intervals
 abbrev pub IsWordFault : SetFault → Option Gtids → Type 0
-IsWordFault f spelled = IsMemoryOr (HasTooMany spelled) f
+IsWordFault f spelled = IsMemoryOr (OfSpelled HasManySources spelled) (OfSpelled HasManyIntervals spelled) f

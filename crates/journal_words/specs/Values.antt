@@ -1,5 +1,5 @@
 -- The one spelling of a value, and the value that a word spells.
-use Rattle.std.specs.Prelude.{ℕ, ◌^◌, ℤ, pos, negsuc, zero, suc, ◌==◌, nat_lt, nat_le, ◌&&◌, ◌||◌, Bool, List, [], ◌∷◌, Option, Some, None, option_map, Result, Ok, Err, codes, if◌then◌else◌}
+use Rattle.std.specs.Prelude.{ℕ, ◌+◌, ◌-◌, ◌*◌, ◌%◌, ◌^◌, ℤ, pos, negsuc, zero, suc, ◌==◌, nat_lt, nat_le, ◌&&◌, ◌||◌, Bool, List, [], ◌∷◌, Option, Some, None, option_map, Result, Ok, Err, codes, if◌then◌else◌}
 use Rattle.std.specs.Int.{w64}
 use Rattle.std.specs.Prelude.{FitsSigned}
 use Rattle.std.specs.Fmt.{signed_decimal}
@@ -44,6 +44,16 @@ int_of word = if is_small (signed_value word) then where_same signed_decimal wor
 -- `0` to `9` and `a` to `f`
 abbrev pub is_lower_digit : ℕ → Bool
 is_lower_digit b = (nat_le 48 b && nat_le b 57) || (nat_le 97 b && nat_le b 102)
+
+-- the value of a digit that lower case writes, and 16 for any other byte
+abbrev pub digit_of : ℕ → ℕ
+digit_of b = if nat_le 48 b && nat_le b 57 then b - 48 else if nat_le 97 b && nat_le b 102 then b - 97 + 10 else 16
+
+-- a byte for each two digits
+abbrev pub pairs_of : List ℕ → List ℕ
+pairs_of [] = []
+pairs_of (high ∷ []) = []
+pairs_of (high ∷ low ∷ digits) = (digit_of high % 16 * 16 + digit_of low % 16) ∷ pairs_of digits
 
 abbrev pub bytes_found : List ℕ → Result (List ℕ) FromHexError → Option (List ℕ)
 bytes_found digits (Ok bytes) = where_same encode_lower digits bytes

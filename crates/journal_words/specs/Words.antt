@@ -1,8 +1,12 @@
 -- Words, how numbers are spelled, and names.
-use Rattle.std.specs.Prelude.{ℕ, ◌^◌, Bool, true, false, ◌&&◌, ◌||◌, length, slice_index, List, [], ◌∷◌, Option, Some, None, ◌==◌, nat_lt, nat_le, if◌then◌else◌}
+use Rattle.std.specs.Prelude.{ℕ, ◌^◌, Bool, true, false, ◌&&◌, ◌||◌, length, slice_index, List, [], ◌∷◌, Option, Some, None, ◌==◌, nat_lt, if◌then◌else◌}
 use Rattle.std.specs.Char.{is_ascii_digit}
 use Rattle.std.specs.List.{list_all}
 use Rattle.std.specs.Str.Parse.{digits_value}
+
+-- not empty, with no zero before others
+abbrev pub begins_well : List ℕ → Bool
+begins_well word = if (length word == 0) || (nat_lt 1 (length word) && (slice_index word 0 == 48)) then false else true
 
 -- decimal digits, with no zero before others
 abbrev pub is_count : List ℕ → Bool

@@ -6,6 +6,7 @@ ghost use Rattle.gtid_text.specs.Canonical.{source_text, gtid_text, spans_text};
 ghost use Rattle.journal_words.specs.Values.{where_same};
 ghost use Rattle.std.specs.Str.{bytes_eq};
 ghost use Rattle.std.specs.FinSet as set;
+ghost use Rattle.gtid_set.specs.Spans.{is_merged};
 ghost use Rattle.journal_words.specs.Gtids.{is_ascii_byte, source_of_word, gtid_of_word, is_behind, are_tidy_behind, some_tidy, spans_of_word, set_with, set_of_word, IsWordFault};
 
 use gtid_set::{GtidSet, SetFault};
@@ -165,6 +166,7 @@ fn spans_word(alloc: Global, word: &[u8]) -> Result<Option<Vec<Span>>, AllocErro
 
 /// The set with the GTIDs of these spans.
 fn set_of(alloc: Global, spans: &[Span]) -> Result<GtidSet, SetFault>
+    requires { is_merged spans.now ≡ true }
     ensures found { IfOk result (λ s. s ≡ set_with set.empty spans.now) }
     ensures fault { IfErr result (λ f. IsWordFault f (Some (set_with set.empty spans.now))) }
 {

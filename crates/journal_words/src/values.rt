@@ -1,12 +1,12 @@
 //! Values as words.
-ghost use Rattle.std.specs.Prelude.{◌≡◌, ◌≤◌, ◌/◌, ◌++◌, ℤ, length, Some, None, IfSome, IfNone, IfOk, OnOk, FitsSigned, IsAscii, option_map, if◌then◌else◌};
+ghost use Rattle.std.specs.Prelude.{◌≡◌, ◌≤◌, ◌^◌, ◌*◌, ◌/◌, ◌++◌, ◌∷◌, ◌<◌, get_or, false, length, Some, None, IfOk, OnOk, IsAscii, option_map, if◌then◌else◌};
 ghost use Rattle.std.specs.List.{list_all};
-ghost use Rattle.std.specs.Fmt.{signed_decimal};
-ghost use Rattle.std.specs.Int.{w64};
-ghost use Rattle.hex.specs.Hex.{encode_lower};
+ghost use Rattle.std.specs.Str.Parse.{starts_with_minus};
+ghost use Rattle.hex.specs.Hex.{encode_lower, lower_digits};
 ghost use Rattle.std.specs.String.{string_bytes};
-ghost use Rattle.journal_words.specs.Values.{value_text, int_of, is_lower_digit, bytes_of, value_of};
+ghost use Rattle.journal_words.specs.Values.{value_text, below_zero, int_of, is_lower_digit, digit_of, pairs_of, bytes_of, value_of};
 
+use crate::words::count;
 use itoa::Buffer;
 use rows::{ByteString, Value};
 use std::alloc::{AllocError, Global};
@@ -14,35 +14,79 @@ use std::alloc::{AllocError, Global};
 /// So many digits are decoded on the stack: two for each byte that a value holds in place.
 const FEW_DIGITS: usize = 44;
 
-/// The number that the word spells.
-fn int_word(word: &[u8]) -> Option<i64>
-    ensures found { IfSome result (λ z. word.now ≡ signed_decimal z) }
-    ensures fits { IfSome result (λ z. FitsSigned w64 z) }
-    ensures none { IfNone result ((z : ℤ) → FitsSigned w64 z → word.now ≡ signed_decimal z → ⊥) }
+/// The number that lies as far below 0 as this one above.
+fn negative(number: u64) -> i64
+    requires low { 1 ≤ number }
+    requires high { number ≤ 2 ^ 63 }
+    ensures { result ≡ below_zero number }
 {
-    match std::str::from_utf8(word) {
-        Err(_) => None,
-        Ok(text) => match text.parse::<i64>() {
-            Err(_) => None,
-            Ok(value) => {
-                let mut buffer = Buffer::new();
-                if buffer.format(value).as_bytes() == word {
-                    Some(value)
-                } else {
-                    None
-                }
-            }
-        },
-    }
+    -1 - (number - 1) as i64
 }
 
-/// Whether each digit is one of those that lower case writes. No branch is taken at a digit.
-fn are_lower(digits: &[u8]) -> bool
-    ensures { result ≡ list_all is_lower_digit digits.now }
+/// The number that the digits behind a minus spell.
+fn int_below_zero(digits: &[u8]) -> Option<i64>
+    ensures { result ≡ int_of (45 ∷ digits.now) }
+{
+    let Some(number) = count(digits) else {
+        return None;
+    };
+    if number < 1 {
+        return None;
+    }
+    if number > 0x8000_0000_0000_0000 {
+        return None;
+    }
+    Some(negative(number))
+}
+
+/// The number that a word without a minus spells.
+fn int_from_zero(word: &[u8]) -> Option<i64>
+    requires { starts_with_minus word.now ≡ false }
+    ensures { result ≡ int_of word.now }
+{
+    let Some(number) = count(word) else {
+        return None;
+    };
+    if number >= 0x8000_0000_0000_0000 {
+        return None;
+    }
+    Some(number as i64)
+}
+
+/// The value of each digit that lower case writes, and 16 for any other byte.
+static DIGIT_VALUES: [u8; 256] = [
+    16, 16, 16, 16, 16, 16, 16, 16, 16, 16, 16, 16, 16, 16, 16, 16, 16, 16, 16, 16, 16, 16, 16, 16,
+    16, 16, 16, 16, 16, 16, 16, 16, 16, 16, 16, 16, 16, 16, 16, 16, 16, 16, 16, 16, 16, 16, 16, 16,
+    0, 1, 2, 3, 4, 5, 6, 7, 8, 9, 16, 16, 16, 16, 16, 16, 16, 16, 16, 16, 16, 16, 16, 16, 16, 16,
+    16, 16, 16, 16, 16, 16, 16, 16, 16, 16, 16, 16, 16, 16, 16, 16, 16, 16, 16, 16, 16, 16, 16, 10,
+    11, 12, 13, 14, 15, 16, 16, 16, 16, 16, 16, 16, 16, 16, 16, 16, 16, 16, 16, 16, 16, 16, 16, 16,
+    16, 16, 16, 16, 16, 16, 16, 16, 16, 16, 16, 16, 16, 16, 16, 16, 16, 16, 16, 16, 16, 16, 16, 16,
+    16, 16, 16, 16, 16, 16, 16, 16, 16, 16, 16, 16, 16, 16, 16, 16, 16, 16, 16, 16, 16, 16, 16, 16,
+    16, 16, 16, 16, 16, 16, 16, 16, 16, 16, 16, 16, 16, 16, 16, 16, 16, 16, 16, 16, 16, 16, 16, 16,
+    16, 16, 16, 16, 16, 16, 16, 16, 16, 16, 16, 16, 16, 16, 16, 16, 16, 16, 16, 16, 16, 16, 16, 16,
+    16, 16, 16, 16, 16, 16, 16, 16, 16, 16, 16, 16, 16, 16, 16, 16, 16, 16, 16, 16, 16, 16, 16, 16,
+    16, 16, 16, 16, 16, 16, 16, 16, 16, 16, 16, 16, 16, 16,
+];
+
+/// The value of a digit that lower case writes, and 16 for any other byte. No branch is taken.
+fn digit_of(byte: u8) -> u8
+    ensures { result ≡ digit_of byte }
+{
+    DIGIT_VALUES[byte as usize]
+}
+
+/// Writes the bytes that lower-case digits spell into the room, and says whether they spell any.
+fn pairs_into(digits: &[u8], room: &mut [u8]) -> bool
+    requires { length digits.now ≡ 2 * length room.old }
+    ensures lower { result ≡ list_all is_lower_digit digits.now }
+    ensures bytes { room.new ≡ pairs_of digits.now }
 {
     let mut lower = true;
-    for digit in digits {
-        lower &= matches!(*digit, b'0'..=b'9' | b'a'..=b'f');
+    for i in 0..room.len() {
+        let high = digit_of(digits[2 * i]);
+        let low = digit_of(digits[2 * i + 1]);
+        lower &= (high < 16) & (low < 16);
+        room[i] = high % 16 * 16 + low % 16;
     }
     lower
 }
@@ -52,20 +96,20 @@ fn digits_into(digits: &[u8], room: &mut [u8]) -> bool
     requires { length room.old ≡ length digits.now / 2 }
     ensures { bytes_of digits.now ≡ (if result then Some room.new else None) }
 {
-    if !are_lower(digits) {
+    if digits.len() % 2 == 1 {
         return false;
     }
-    match hex::decode_to_slice(digits, room) {
-        Ok(()) => true,
-        Err(_) => false,
-    }
+    pairs_into(digits, room)
 }
 
 /// The number that the word spells.
 fn int_at(word: &[u8]) -> Option<i64>
     ensures { result ≡ int_of word.now }
 {
-    int_word(word)
+    match word {
+        [b'-', digits @ ..] => int_below_zero(digits),
+        _ => int_from_zero(word),
+    }
 }
 
 /// The bytes that few digits spell, decoded on the stack.
@@ -145,6 +189,30 @@ fn text_of(digits: &[u8]) -> &str
     }
 }
 
+/// The digits of the numbers below 16, in lower case.
+static LOWER_DIGITS: [u8; 16] = *b"0123456789abcdef";
+
+/// The digit of a number below 16.
+fn lower_digit(value: u8) -> u8
+    requires { value < 16 }
+    ensures { result ≡ get_or lower_digits value 0 }
+{
+    LOWER_DIGITS[value as usize]
+}
+
+/// Writes two lower-case digits for each byte into the room.
+fn encode_into(bytes: &[u8], room: &mut [u8])
+    requires { length room.old ≡ 2 * length bytes.now }
+    ensures { room.new ≡ encode_lower bytes.now }
+{
+    for i in 0..bytes.len() {
+        let high = lower_digit(bytes[i] / 16);
+        let low = lower_digit(bytes[i] % 16);
+        room[2 * i] = high;
+        room[2 * i + 1] = low;
+    }
+}
+
 /// Appends two lower-case digits for each byte. Those of few bytes are written on the stack.
 fn write_digits(alloc: Global, out: &mut String, bytes: &[u8]) -> Result<(), AllocError>
     ensures { OnOk result (string_bytes out.new ≡ string_bytes out.old ++ encode_lower bytes.now) }
@@ -155,10 +223,8 @@ fn write_digits(alloc: Global, out: &mut String, bytes: &[u8]) -> Result<(), All
     }
     let mut room = [0; FEW_DIGITS];
     let digits = &mut room[..2 * bytes.len()];
-    match hex::encode_to_slice(bytes, digits) {
-        Ok(()) => out.push_str(text_of(digits)),
-        Err(_) => unreachable!(),
-    }
+    encode_into(bytes, digits);
+    out.push_str(text_of(digits))
 }
 
 /// Appends the word of a value.

@@ -1,34 +1,66 @@
 -- When an event of a network is not answered, and why.
-use Rattle.std.specs.Prelude.{ℕ, List, Option, Some, None, Ok, Err, slice_get, option_and_then}
+use Rattle.std.specs.Prelude.{◌≡◌, ◌⊎◌, ℕ, List, Option, Some, None, Ok, Err, MatchOption, slice_get}
+use Rattle.std.specs.FinMap as finmap
+use Rattle.std.specs.FinSet as set
 use Rattle.gtid_set.specs.declared.fault.SetFault.{SetFault}
+use Rattle.gtid_set.specs.declared.fault.SetFault.TheVariants.{Memory}
+use Rattle.gtid_set.specs.Full.{HasManyIntervals, IsMemoryOr}
 use Rattle.gtid_set.specs.Sets.{Gtids}
+use Rattle.auto_position.specs.Sending.{IsPlanFault}
+use Rattle.apply_channel.specs.Channels.{ChannelValue}
 use Rattle.replica_core.specs.declared.event.Event.{Event}
 use Rattle.replica_core.specs.declared.event.Event.TheVariants as event
-use Rattle.replica_core.specs.Faults.{made_by, IsFaultIn}
+use Rattle.replica_core.specs.Faults.{IsCause}
+use Rattle.replica_core.specs.Machine as machine
 use Rattle.network.specs.declared.event.NetworkEvent.{NetworkEvent}
 use Rattle.network.specs.declared.event.NetworkEvent.TheVariants.{Act, Position, Receive}
 use Rattle.network.specs.Nodes.{Node}
 use Rattle.network.specs.Machine.{Decision, decide}
 
--- the set that an event of its replica makes, if any
-abbrev pub made_by_node : Event → Node → Option Gtids
-made_by_node e node = made_by node.replica.site node.replica.state e
+-- why the replica of a node does not answer an event
+abbrev pub IsCauseBy : SetFault → Event → Node → Type 0
+IsCauseBy f e node = IsCause f node.replica.site node.replica.state e
 
--- the same of the node at a place, if it is there
-abbrev pub made_at : List Node → ℕ → Event → Option Gtids
-made_at nodes i e = option_and_then (made_by_node e) (slice_get nodes i)
+-- the same of the node at a place; where none is there, memory alone may be wanting
+abbrev pub IsCauseAt : SetFault → List Node → ℕ → Event → Type 0
+IsCauseAt f nodes i e = MatchOption (slice_get nodes i) (f ≡ Memory) (IsCauseBy f e)
 
-abbrev pub made_of : List Node → Decision → Option Gtids
-made_of nodes (Err reply) = None
-made_of nodes (Ok m) = made_at nodes m.node m.event
+abbrev pub IsCauseOf : SetFault → List Node → Decision → Type 0
+IsCauseOf f nodes (Err reply) = f ≡ Memory
+IsCauseOf f nodes (Ok m) = IsCauseAt f nodes m.node m.event
 
--- the one set that an event makes; a Position makes the set that it asks with, whatever the source answers
-abbrev pub set_made : List Node → NetworkEvent → Option Gtids
-set_made nodes (Act i e) = made_at nodes i e
-set_made nodes (Position i c k) = made_at nodes i (event.Position c)
-set_made nodes (Receive i c) = made_of nodes (decide nodes (Receive i c))
+-- a source has too many intervals together with the set with which a channel asks
+pub record IsPlanCause (f : SetFault) (nodes : List Node) (i c k : ℕ) : Type 0 where
+  pub node : Node
+  pub source : Node
+  pub channel : ChannelValue
+  pub at : slice_get nodes i ≡ Some node
+  pub from : slice_get nodes k ≡ Some source
+  pub there : slice_get node.replica.state.channels c ≡ Some channel
+  pub plan : IsPlanFault source.replica.state.journal (machine.ask node.replica.state channel) f
+
+-- what a source has purged has too many intervals outside the set with which a channel has asked
+pub record IsReadingCause (f : SetFault) (nodes : List Node) (i c : ℕ) : Type 0 where
+  pub node : Node
+  pub k : ℕ
+  pub source : Node
+  pub channel : ChannelValue
+  pub asked : Gtids
+  pub at : slice_get nodes i ≡ Some node
+  pub reads : finmap.get node.sources c ≡ Some k
+  pub from : slice_get nodes k ≡ Some source
+  pub there : slice_get node.replica.state.channels c ≡ Some channel
+  pub with : channel.asked ≡ Some asked
+  pub purged : IsMemoryOr ⊥ (HasManyIntervals (set.difference source.replica.state.journal.previous asked)) f
+
+-- Why an event is not answered: that of the replica's event that it makes. A Position makes the set that it asks with, whatever the source
+-- answers, and then those that the source makes for its answer; a Receive looks first whether all that was purged has come.
+abbrev pub IsEventCause : SetFault → List Node → NetworkEvent → Type 0
+IsEventCause f nodes (Act i e) = IsCauseAt f nodes i e
+IsEventCause f nodes (Position i c k) = IsCauseAt f nodes i (event.Position c) ⊎ IsPlanCause f nodes i c k
+IsEventCause f nodes (Receive i c) = IsCauseOf f nodes (decide nodes (Receive i c)) ⊎ IsReadingCause f nodes i c
 
 -- a fault of the event that comes next, if any comes; want of memory may come before its step
 abbrev pub IsFaultAt : SetFault → List Node → Option NetworkEvent → Type 0
 IsFaultAt f nodes None = Unit {0}
-IsFaultAt f nodes (Some e) = IsFaultIn f (set_made nodes e)
+IsFaultAt f nodes (Some e) = IsEventCause f nodes e

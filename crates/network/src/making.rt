@@ -2,11 +2,10 @@
 ghost use Rattle.std.specs.Prelude.{◌≡◌, ◌<◌, length, true, false, Some, IfOk, IfErr, OnOk, OnErr, slice_set};
 ghost use Rattle.std.specs.FinMap as finmap;
 ghost use Rattle.replica_core.specs.Machine as machine;
-ghost use Rattle.replica_core.specs.Faults.{IsFaultIn};
 ghost use Rattle.replica_core.specs.declared.event.Event.TheVariants as event;
 ghost use Rattle.network.specs.Machine.{is_for_network};
 ghost use Rattle.network.specs.Made.{MakesAt};
-ghost use Rattle.network.specs.Faults.{made_at};
+ghost use Rattle.network.specs.Faults.{IsCauseAt};
 ghost use Rattle.network.specs.Reading.{AreRead, AreAllMoved, IsReadFrom, entries_at};
 
 use crate::node::Node;
@@ -27,7 +26,7 @@ fn make_at(
     requires numbered { machine.is_numbered event.now ≡ true }
     ensures ok { IfOk result (λ r. MakesAt nodes.old.items node event.now (λ n. n.sources) r nodes.new.items) }
     ensures err { OnErr result (nodes.new.items ≡ nodes.old.items) }
-    ensures fault { IfErr result (λ f. IsFaultIn f (made_at nodes.old.items node event.now)) }
+    ensures fault { IfErr result (λ f. IsCauseAt f nodes.old.items node event.now) }
 {
     let one = &mut nodes[node];
     one.make(alloc, event)
@@ -67,7 +66,7 @@ pub(crate) fn act_at(
     requires read { AreRead nodes.old.items readers.old }
     ensures ok { IfOk result (λ r. MakesAt nodes.old.items node event.now (λ n. n.sources) r nodes.new.items) }
     ensures err { OnErr result (nodes.new.items ≡ nodes.old.items) }
-    ensures fault { IfErr result (λ f. IsFaultIn f (made_at nodes.old.items node event.now)) }
+    ensures fault { IfErr result (λ f. IsCauseAt f nodes.old.items node event.now) }
     ensures read { AreRead nodes.new.items readers.new }
 {
     let before = entries_at(nodes, node);
@@ -92,7 +91,7 @@ pub(crate) fn position_at(
     requires read { AreRead nodes.old.items readers.old }
     ensures ok { IfOk result (λ r. MakesAt nodes.old.items node (event.Position channel) (λ n. finmap.insert n.sources channel source) r nodes.new.items) }
     ensures err { OnErr result (nodes.new.items ≡ nodes.old.items) }
-    ensures fault { IfErr result (λ f. IsFaultIn f (made_at nodes.old.items node (event.Position channel))) }
+    ensures fault { IfErr result (λ f. IsCauseAt f nodes.old.items node (event.Position channel)) }
     ensures read { AreRead nodes.new.items readers.new }
 {
     readers[node].forget(channel);
@@ -116,7 +115,7 @@ pub(crate) fn receive_at(
     requires read_to { (k : _) → IsReadFrom nodes.old.items node channel k (Some place) }
     ensures ok { IfOk result (λ r. MakesAt nodes.old.items node (event.Receive channel entry) (λ n. n.sources) r nodes.new.items) }
     ensures err { OnErr result (nodes.new.items ≡ nodes.old.items) }
-    ensures fault { IfErr result (λ f. IsFaultIn f (made_at nodes.old.items node (event.Receive channel entry))) }
+    ensures fault { IfErr result (λ f. IsCauseAt f nodes.old.items node (event.Receive channel entry)) }
     ensures read { AreRead nodes.new.items readers.new }
 {
     readers[node].put(channel, place)?;

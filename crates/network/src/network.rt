@@ -2,11 +2,11 @@
 ghost use Rattle.std.specs.Prelude.{◌≡◌, ◌<◌, ◌∷◌, [], ◌++◌, length, true, slice_get, IfOk, IfErr, IfSome, OnErr, IsOkUnless, None, vec_len, vec_capacity};
 ghost use Rattle.std.specs.Option.{option_copied, option_map};
 ghost use Rattle.gtid_set.specs.declared.fault.SetFault.TheVariants.{Memory};
+ghost use Rattle.gtid_set.specs.Full.{IsMemoryOr};
 ghost use Rattle.replica_core.specs.Machine as machine;
-ghost use Rattle.replica_core.specs.Faults.{IsFaultIn};
 ghost use Rattle.network.specs.Nodes.{opened, ids_distinct};
 ghost use Rattle.network.specs.Machine.{step, is_numbered, AreNumbered, replies, after, answered};
-ghost use Rattle.network.specs.Faults.{set_made, IsFaultAt};
+ghost use Rattle.network.specs.Faults.{IsEventCause, IsReadingCause, IsFaultAt};
 ghost use Rattle.network.specs.Next.{IsNext};
 ghost use Rattle.network.specs.declared.event.NetworkEvent.TheVariants.{Act, Position, Receive};
 
@@ -114,7 +114,7 @@ impl Network {
         requires { machine.is_numbered event.now ≡ true }
         ensures ok { IfOk result (λ r. (r, self.new) ≡ step self.old (Act node event.now)) }
         ensures err { OnErr result (self.new ≡ self.old) }
-        ensures fault { IfErr result (λ f. IsFaultIn f (set_made self.old (Act node event.now))) }
+        ensures fault { IfErr result (λ f. IsEventCause f self.old (Act node event.now)) }
     {
         if node >= self.nodes.len() {
             return Ok(NetworkReply::NoNode);
@@ -136,7 +136,7 @@ impl Network {
     ) -> Result<NetworkReply, SetFault>
         ensures ok { IfOk result (λ r. (r, self.new) ≡ step self.old (Position node channel source)) }
         ensures err { OnErr result (self.new ≡ self.old) }
-        ensures fault { IfErr result (λ f. IsFaultIn f (set_made self.old (Position node channel source))) }
+        ensures fault { IfErr result (λ f. IsEventCause f self.old (Position node channel source)) }
     {
         let Some(one) = self.nodes.get(node) else {
             return Ok(NetworkReply::NoNode);
@@ -177,7 +177,7 @@ impl Network {
     /// What a channel of a node has to receive.
     fn next(&self, alloc: Global, node: usize, channel: usize) -> Result<Next, SetFault>
         ensures ok { IfOk result (IsNext self.now node channel) }
-        ensures fault { IsOkUnless result Memory }
+        ensures fault { IfErr result (λ f. IsMemoryOr ⊥ (IsReadingCause f self.now node channel) f) }
     {
         let Some(one) = self.nodes.get(node) else {
             return Ok(Next::Reply(NetworkReply::NoNode));
@@ -216,7 +216,7 @@ impl Network {
     ) -> Result<NetworkReply, SetFault>
         ensures ok { IfOk result (λ r. (r, self.new) ≡ step self.old (Receive node channel)) }
         ensures err { OnErr result (self.new ≡ self.old) }
-        ensures fault { IfErr result (λ f. IsFaultIn f (set_made self.old (Receive node channel))) }
+        ensures fault { IfErr result (λ f. IsEventCause f self.old (Receive node channel)) }
     {
         match self.next(alloc, node, channel)? {
             Next::Reply(reply) => Ok(reply),
@@ -239,12 +239,13 @@ impl Network {
         }
     }
 
-    /// One event: its reply, and the nodes that it leaves. After an error nothing has changed.
+    /// One event: its reply, and the nodes that it leaves. After an error nothing has changed. `SourcesFull` and `PoolFull` come only where
+    /// a set that the event makes would have more than 65,536 sources, or its operands together more than 4,294,967,294 intervals.
     pub fn step(&mut self, alloc: Global, event: &NetworkEvent) -> Result<NetworkReply, SetFault>
         requires { is_numbered event.now ≡ true }
         ensures ok { IfOk result (λ r. (r, self.new) ≡ step self.old event.now) }
         ensures err { OnErr result (self.new ≡ self.old) }
-        ensures fault { IfErr result (λ f. IsFaultIn f (set_made self.old event.now)) }
+        ensures fault { IfErr result (λ f. IsEventCause f self.old event.now) }
     {
         match event {
             NetworkEvent::Act { node, event } => self.act(alloc, *node, event),

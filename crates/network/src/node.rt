@@ -4,7 +4,7 @@ ghost use Rattle.std.specs.FinMap as finmap;
 ghost use Rattle.gtid_set.specs.declared.fault.SetFault.TheVariants.{Memory};
 ghost use Rattle.replica_core.specs.Machine.{is_numbered};
 ghost use Rattle.replica_core.specs.declared.event.Event.TheVariants as event;
-ghost use Rattle.replica_core.specs.Faults.{IsFaultIn, made_by};
+ghost use Rattle.replica_core.specs.Faults.{IsCause};
 ghost use Rattle.network.specs.Nodes.{opened_node};
 ghost use Rattle.network.specs.Made.{Makes};
 ghost use Rattle.network.specs.Reading.{reads};
@@ -82,7 +82,7 @@ impl Node {
         requires { is_numbered event.now ≡ true }
         ensures ok { IfOk result (λ r. Makes self.old event.now self.old.sources r self.new) }
         ensures err { OnErr result (self.new ≡ self.old) }
-        ensures fault { IfErr result (λ f. IsFaultIn f (made_by self.old.replica.site self.old.replica.state event.now)) }
+        ensures fault { IfErr result (λ f. IsCause f self.old.replica.site self.old.replica.state event.now) }
     {
         self.core.step(alloc, event)
     }
@@ -96,7 +96,7 @@ impl Node {
     ) -> Result<Reply, SetFault>
         ensures ok { IfOk result (λ r. Makes self.old (event.Position channel) (finmap.insert self.old.sources channel source) r self.new) }
         ensures err { OnErr result (self.new ≡ self.old) }
-        ensures fault { IfErr result (λ f. IsFaultIn f (made_by self.old.replica.site self.old.replica.state (event.Position channel))) }
+        ensures fault { IfErr result (λ f. IsCause f self.old.replica.site self.old.replica.state (event.Position channel)) }
     {
         make_slots(&mut self.sources, channel)?;
         let reply = self.core.step(alloc, &Event::Position(channel))?;

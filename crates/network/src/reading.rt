@@ -1,8 +1,8 @@
 //! What has come to a channel of its source's binary log, and what comes next.
-ghost use Rattle.std.specs.Prelude.{◌≡◌, ◌≤◌, false, true, length, take, IfOk, IsOkUnless, MatchOption};
+ghost use Rattle.std.specs.Prelude.{◌≡◌, ◌≤◌, false, true, length, take, IfOk, IfErr, MatchOption};
 ghost use Rattle.std.specs.List.{list_all};
 ghost use Rattle.std.specs.FinSet as set;
-ghost use Rattle.gtid_set.specs.declared.fault.SetFault.TheVariants.{Memory};
+ghost use Rattle.gtid_set.specs.Full.{HasManyIntervals, IsMemoryOr};
 ghost use Rattle.network.specs.Reading.{HasRead, IsNextPlace, IsRead, has_come};
 
 use gtid_set::{GtidSet, SetFault};
@@ -25,7 +25,7 @@ fn have_come(
     gtids: &GtidSet,
 ) -> Result<bool, SetFault>
     ensures ok { IfOk result (λ b. b ≡ set.is_subset gtids.now (set.union asked.now received.now)) }
-    ensures fault { IsOkUnless result Memory }
+    ensures fault { IfErr result (IsMemoryOr ⊥ (HasManyIntervals (set.difference gtids.now asked.now))) }
 {
     if gtids.is_subset(asked) {
         return Ok(true);
@@ -63,7 +63,7 @@ pub(crate) fn start(
 ) -> Result<Option<usize>, SetFault>
     requires { IsRead (set.union asked.now received.now) journal.now known }
     ensures ok { IfOk result (λ start. MatchOption start (set.is_subset journal.now.previous (set.union asked.now received.now) ≡ false) (HasRead (set.union asked.now received.now) journal.now)) }
-    ensures fault { IsOkUnless result Memory }
+    ensures fault { IfErr result (IsMemoryOr ⊥ (HasManyIntervals (set.difference journal.now.previous asked.now))) }
 {
     if known.is_some() {
         return Ok(known);

@@ -2,6 +2,7 @@
 use Rattle.std.proofs.Common.{◌≡◌, ◌≤◌, ℕ, ◌-◌, true, List, [], ◌∷◌, ◌++◌, take, length, refl, sym, ap, subst, ◌∙◌, suc, arith, length-append, true≢false}
 use Rattle.std.specs.FinSet as set
 use Rattle.gtid_set.specs.Sets.{Gtids, source_count, most_sources}
+use Rattle.gtid_set.specs.Full.{interval_count, most_intervals}
 use Rattle.gtid_set.proofs.SetLemmas.{union_empty, union_insert}
 use Rattle.journal.specs.declared.Entry.{Entry}
 use Rattle.journal.specs.Journals.{JournalValue, gtids_of, whole}
@@ -63,10 +64,10 @@ pub own_start : (s : Gtids) (j : JournalValue) → j ≡ record { previous = s; 
 own_start s j is = record { whole_set = union_empty s ∙ sym (ap whole is); near = refl; before = tt }
 
 -- ... with one entry more
-pub own_appended : (e : Entry) (j : JournalValue) (known : Known) → source_count (set.insert known.executed e.gtid) ≤ most_sources → IsOwn j known → IsOwn (with_last e j) (ahead_by e.gtid known.executed)
-own_appended e j known fits own = record {
+pub own_appended : (e : Entry) (j : JournalValue) (known : Known) → source_count (set.insert known.executed e.gtid) ≤ most_sources → interval_count (set.insert known.executed e.gtid) ≤ most_intervals → IsOwn j known → IsOwn (with_last e j) (ahead_by e.gtid known.executed)
+own_appended e j known fits small own = record {
   whole_set = ap (λ s. set.insert s e.gtid) own.whole_set ∙ sym (whole-with_last e j);
-  near = (refl, fits);
+  near = record { made = refl; fits = fits; small = small };
   before = own.whole_set ∙ sym (ap whole (without_last-with_last e j));
 }
 

@@ -3,6 +3,7 @@ use Rattle.std.specs.Prelude.{◌≡◌, ◌≤◌, Bool, true, false}
 use Rattle.std.specs.FinSet as set
 use Rattle.gtid_text.specs.declared.Gtid.{Gtid}
 use Rattle.gtid_set.specs.Sets.{Gtids, source_count, most_sources}
+use Rattle.gtid_set.specs.Full.{interval_count, most_intervals}
 use Rattle.relay.specs.declared.Known.{Known}
 use Rattle.relay.specs.declared.Behind.{Behind}
 use Rattle.relay.specs.declared.Behind.TheVariants.{Equal, ByLast, By, Ahead}
@@ -42,9 +43,11 @@ settle_by (Ahead gtid) known = known
 abbrev pub lasting : Known → Known
 lasting known = settle_by known.behind known
 
--- a set has one GTID more than another, and not too many sources
-abbrev pub IsStep : Gtids → Gtid → Gtids → Type 0
-IsStep spare gtid executed = (set.insert spare gtid ≡ executed) × (source_count executed ≤ most_sources)
+-- a set has one GTID more than another, and not too many sources or intervals
+pub record IsStep (spare : Gtids) (gtid : Gtid) (executed : Gtids) : Type 0 where
+  pub made : set.insert spare gtid ≡ executed
+  pub fits : source_count executed ≤ most_sources
+  pub small : interval_count executed ≤ most_intervals
 
 abbrev pub IsNearBy : Behind → Gtids → Gtids → Type 0
 IsNearBy Equal spare executed = spare ≡ executed

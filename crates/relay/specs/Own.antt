@@ -3,7 +3,7 @@ use Rattle.std.specs.Prelude.{◌≡◌, ℕ, ◌-◌, Bool, length, take, drop,
 use Rattle.gtid_set.specs.Sets.{Gtids}
 use Rattle.journal.specs.declared.Entry.{Entry}
 use Rattle.journal.specs.Journals.{JournalValue, purged, whole}
-use Rattle.journal.specs.Faults.{IsFaultOf}
+use Rattle.journal.specs.Faults.{IsPurgedFault}
 use Rattle.relay.specs.declared.Known.{Known}
 use Rattle.relay.specs.Known.{IsNear}
 use Rattle.relay.specs.declared.PurgeFault.{PurgeFault}
@@ -51,6 +51,6 @@ IsTooMany (Ok purged) = ⊥
 IsTooMany (Err fault) = IsCountFault fault
 
 -- there were as many entries, and the purged set was not made
-abbrev pub IsPurgeFault : PurgeFault → Gtids → Type 0
-IsPurgeFault (TooMany n) s = Unit {0}
-IsPurgeFault (Set fault) s = IsFaultOf fault s
+abbrev pub IsPurgeFault : PurgeFault → ℕ → JournalValue → Type 0
+IsPurgeFault (TooMany n) count journal = Unit {0}
+IsPurgeFault (Set fault) count journal = IsPurgedFault fault count journal

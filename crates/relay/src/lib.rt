@@ -6,7 +6,7 @@ ghost use Rattle.std.specs.Bool.{Decides};
 ghost use Rattle.std.specs.Option.{option_copied};
 ghost use Rattle.std.specs.FinSet as set;
 ghost use Rattle.journal.specs.Journals.{purged, whole};
-ghost use Rattle.journal.specs.Faults.{IsFaultOf};
+ghost use Rattle.gtid_set.specs.Full.{IsFaultOf};
 ghost use Rattle.gtid_set.specs.declared.fault.SetFault.TheVariants.{Memory};
 ghost use Rattle.gtid_set.specs.Full.{IsFullExactly};
 ghost use Rattle.journal.specs.Writing.{is_writable};
@@ -227,7 +227,7 @@ impl OwnJournal {
         ensures len { (n : ℕ) → result ≡ Err (TooMany n) → n ≡ length self.old.journal.entries }
         ensures executed { whole self.new.journal ≡ whole self.old.journal }
         ensures err { OnErr result (self.new.journal ≡ self.old.journal) }
-        ensures fault { IfErr result (λ f. IsPurgeFault f (purged count self.old.journal)) }
+        ensures fault { IfErr result (λ f. IsPurgeFault f count self.old.journal) }
     {
         let there = self.journal.len();
         if there < count {

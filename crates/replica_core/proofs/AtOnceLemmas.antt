@@ -225,7 +225,7 @@ module _ (r : Replica) (seat c p : ℕ) (e : Entry) (may : IsReadyAtOnce r seat 
     }
 
     -- a fault of its channel
-    pub fault_ahead : (f : SetFault) (site : Site) (s : State) → site ≡ r.site → s ≡ ahead → IsFault f (receiving c e s) (receive site c e s) → IsFault f (receiving c e r.state) (receive r.site c e r.state)
+    pub fault_ahead : (f : SetFault) (site : Site) (s : State) → site ≡ r.site → s ≡ ahead → IsFault (IsFaultIn f (receiving c e s)) (receive site c e s) → IsFault (IsFaultIn f (receiving c e r.state)) (receive r.site c e r.state)
     fault_ahead f site s one now h = record {
       cause = subst (IsFaultIn f) (ap (receiving c e) now ∙ makes_received) h.cause;
       instead = ap (λ (answer : Reply). takes_memory answer) (told_same ∙ sym (ap (λ (x : Step). x.0) (same_received site s one now))) ∙ h.instead;

@@ -2,7 +2,6 @@
 use Rattle.std.proofs.Common.{◌≡◌, ℕ, ◌<◌, ◌≤◌, inl, inr, arith, refl, length, Bool, false, List, [], ◌∷◌, ◌++◌, sym, ap, subst, ◌∙◌, Bor}
 use Rattle.std.specs.Prelude.{Option, Some, None, All, slice_get}
 use Rattle.std.specs.Option.{MatchOption}
-use Rattle.std.specs.FinSet as set
 use Rattle.std.specs.FinMap as finmap
 use Rattle.rows.specs.Database.{Database}
 use Rattle.gtid_set.proofs.SetLemmas.{union_empty}

@@ -10,7 +10,7 @@ use Rattle.replica_core.specs.declared.event.Event.TheVariants.{Receive, Take, C
 use Rattle.replica_core.specs.declared.event.Reply.{Reply}
 use Rattle.replica_core.specs.State.{Site, State, Replica}
 use Rattle.replica_core.specs.Machine.{is_seat, receive, commit, after, executing}
-use Rattle.replica_core.specs.Faults.{IsFault, receiving, committing}
+use Rattle.replica_core.specs.Faults.{IsFault, IsFaultIn, receiving, committing}
 use Rattle.replica_core.specs.Draining.{NothingIsOwned}
 
 -- a channel receives an entry, and a seat takes a place
@@ -34,8 +34,8 @@ IsLeft site seat c p e s t = (t ≡ s) ⊎ ((t ≡ received_and_taken site seat 
 -- a fault of the first event, or of the last
 abbrev pub IsFaultAtOnce : SetFault → Site → ℕ → ℕ → ℕ → Entry → State → Type 0
 IsFaultAtOnce f site seat c p e s =
-    IsFault f (receiving c e s) (receive site c e s)
-    ⊎ IsFault f (committing seat (received_and_taken site seat c p e s)) (commit site seat (received_and_taken site seat c p e s))
+    IsFault (IsFaultIn f (receiving c e s)) (receive site c e s)
+    ⊎ IsFault (IsFaultIn f (committing seat (received_and_taken site seat c p e s))) (commit site seat (received_and_taken site seat c p e s))
 
 -- the reply to the first event, and the state after the last
 pub record IsAtOnce (r : Replica) (seat c p : ℕ) (e : Entry) (reply : Reply) (t : State) : Type 0 where

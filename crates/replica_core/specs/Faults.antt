@@ -6,8 +6,8 @@ use Rattle.gtid_set.specs.declared.fault.SetFault.TheVariants.{Memory}
 use Rattle.gtid_text.specs.declared.Gtid.{Gtid}
 use Rattle.gtid_set.specs.Sets.{Gtids, gtid}
 use Rattle.journal.specs.declared.Entry.{Entry}
-use Rattle.journal.specs.Journals.{purged}
-use Rattle.journal.specs.Faults.{IsFaultOf}
+use Rattle.journal.specs.Faults.{IsPurgedFault}
+use Rattle.gtid_set.specs.Full.{IsFaultOf}
 use Rattle.apply_channel.specs.Full.{gtids_with}
 use Rattle.replica_core.specs.declared.event.Event.{Event}
 use Rattle.replica_core.specs.declared.event.Event.TheVariants as event
@@ -38,26 +38,9 @@ committing seat s = option_map (λ h. executing_too s h.gtid) (held s seat)
 abbrev pub numbering : Site → State → Option Gtids
 numbering site s = option_map (λ n. executing_too s (gtid site.own n)) (next_number site s)
 
--- the purged set with the first entries
-abbrev pub purging : ℕ → State → Option Gtids
-purging k s = Some (purged k s.journal)
-
--- the one set that an event makes, besides copies and parts of sets of the old state
-abbrev pub made_by : Site → State → Event → Option Gtids
-made_by site s (event.OpenChannel name preserve) = None
-made_by site s (event.Position c) = asking c s
-made_by site s (event.Receive c entry) = receiving c entry s
-made_by site s (event.Take seat c p) = None
-made_by site s (event.Commit seat) = committing seat s
-made_by site s (event.Rollback seat) = None
-made_by site s (event.Restart c) = None
-made_by site s (event.Local changes) = numbering site s
-made_by site s (event.Purge k) = purging k s
-made_by site s event.Look = None
-
 -- ---- faults
 
--- memory was refused, or the set, if one is made, would have too many sources
+-- memory was refused, or the set, if one is made, would have too many sources or intervals
 abbrev pub IsFaultIn : SetFault → Option Gtids → Type 0
 IsFaultIn f None = f ≡ Memory
 IsFaultIn f (Some made) = IsFaultOf f made
@@ -93,16 +76,30 @@ takes_memory (TooMany there) = false
 takes_memory (Purged s) = true
 takes_memory (Shown s) = true
 
--- a fault in place of an answer: one for which memory is taken, and which makes this set, if any
-pub record IsFault (f : SetFault) (made : Option Gtids) (answer : Step) : Type 0 where
-  pub cause : IsFaultIn f made
+-- Why an event is not answered. Besides copies and parts of sets of the old state it makes one set at most; a Purge makes its own by adding
+-- the GTIDs of the entries one after another.
+abbrev pub IsCause : SetFault → Site → State → Event → Type 0
+IsCause f site s (event.OpenChannel name preserve) = IsFaultIn f None
+IsCause f site s (event.Position c) = IsFaultIn f (asking c s)
+IsCause f site s (event.Receive c entry) = IsFaultIn f (receiving c entry s)
+IsCause f site s (event.Take seat c p) = IsFaultIn f None
+IsCause f site s (event.Commit seat) = IsFaultIn f (committing seat s)
+IsCause f site s (event.Rollback seat) = IsFaultIn f None
+IsCause f site s (event.Restart c) = IsFaultIn f None
+IsCause f site s (event.Local changes) = IsFaultIn f (numbering site s)
+IsCause f site s (event.Purge k) = IsPurgedFault f k s.journal
+IsCause f site s event.Look = IsFaultIn f None
+
+-- a fault in place of an answer: one for which memory is taken
+pub record IsFault (Cause : Type 0) (answer : Step) : Type 0 where
+  pub cause : Cause
   pub instead : takes_memory answer.0 ≡ true
 
 -- a fault in place of this step
 abbrev pub IsStepFault : SetFault → Site → State → Event → Type 0
-IsStepFault f site s e = IsFault f (made_by site s e) (step site s e)
+IsStepFault f site s e = IsFault (IsCause f site s e) (step site s e)
 
 -- a fault of the event that comes next, if any comes; want of memory may come before its step
 abbrev pub IsFaultAt : SetFault → Site → State → Option Event → Type 0
 IsFaultAt f site s None = Unit {0}
-IsFaultAt f site s (Some e) = IsFaultIn f (made_by site s e)
+IsFaultAt f site s (Some e) = IsCause f site s e

@@ -4,8 +4,8 @@ ghost use Rattle.replica_core.specs.Machine.{commit, rollback, open_before, held
 ghost use Rattle.replica_core.specs.Kept.{IsKept};
 ghost use Rattle.replica_core.specs.Core.{Refuses};
 ghost use Rattle.replica_core.specs.Committing.{IsCommittable, Executes, RefusedBy};
-ghost use Rattle.journal.specs.Faults.{IsFaultOf};
-ghost use Rattle.replica_core.specs.Faults.{IsFault, committing, executing_too, takes_memory};
+ghost use Rattle.gtid_set.specs.Full.{IsFaultOf};
+ghost use Rattle.replica_core.specs.Faults.{IsFault, IsFaultIn, committing, executing_too, takes_memory};
 ghost use Rattle.replica_core.specs.Ready.{IsReady};
 
 use crate::event::{Reply, Spot};
@@ -121,7 +121,7 @@ impl Core {
         ensures ok { IfOk result (λ r. (r, self.new.state) ≡ commit self.old.site seat self.old.state) }
         ensures site { self.new.site ≡ self.old.site }
         ensures err { OnErr result (self.new ≡ self.old) }
-        ensures fault { IfErr result (λ f. IsFault f (committing seat self.old.state) (commit self.old.site seat self.old.state)) }
+        ensures fault { IfErr result (λ f. IsFault (IsFaultIn f (committing seat self.old.state)) (commit self.old.site seat self.old.state)) }
     {
         let Ready { spot, entry, txn } = ready;
         let gtid = entry.gtid;
@@ -146,7 +146,7 @@ impl Core {
         ensures ok { IfOk result (λ r. (r, self.new.state) ≡ commit self.old.site seat self.old.state) }
         ensures site { self.new.site ≡ self.old.site }
         ensures err { OnErr result (self.new ≡ self.old) }
-        ensures fault { IfErr result (λ f. IsFault f (committing seat self.old.state) (commit self.old.site seat self.old.state)) }
+        ensures fault { IfErr result (λ f. IsFault (IsFaultIn f (committing seat self.old.state)) (commit self.old.site seat self.old.state)) }
     {
         match self.may_commit(seat) {
             Err(_) => Err(SetFault::Memory),

@@ -2,7 +2,7 @@
 ghost use Rattle.std.specs.Prelude.{◌≡◌, IfOk, IfErr, OnErr, true, None};
 ghost use Rattle.journal.specs.Writing.{is_number};
 ghost use Rattle.replica_core.specs.Machine.{open_channel, position_on, receive, restart};
-ghost use Rattle.replica_core.specs.Faults.{IsFault, asking, receiving};
+ghost use Rattle.replica_core.specs.Faults.{IsFault, IsFaultIn, asking, receiving};
 
 use crate::event::Reply;
 use crate::machine::Core;
@@ -23,7 +23,7 @@ impl Core {
         ensures ok { IfOk result (λ r. (r, self.new.state) ≡ open_channel name.now preserve self.old.state) }
         ensures site { self.new.site ≡ self.old.site }
         ensures err { OnErr result (self.new ≡ self.old) }
-        ensures fault { IfErr result (λ f. IsFault f None (open_channel name.now preserve self.old.state)) }
+        ensures fault { IfErr result (λ f. IsFault (IsFaultIn f None) (open_channel name.now preserve self.old.state)) }
     {
         if self.channels.has_name(name) {
             return Ok(Reply::NameTaken);
@@ -44,7 +44,7 @@ impl Core {
         ensures ok { IfOk result (λ r. (r, self.new.state) ≡ position_on channel self.old.state) }
         ensures site { self.new.site ≡ self.old.site }
         ensures err { OnErr result (self.new ≡ self.old) }
-        ensures fault { IfErr result (λ f. IsFault f (asking channel self.old.state) (position_on channel self.old.state)) }
+        ensures fault { IfErr result (λ f. IsFault (IsFaultIn f (asking channel self.old.state)) (position_on channel self.old.state)) }
     {
         let Some(one) = self.channels.get(channel) else {
             return Ok(Reply::NoChannel);
@@ -66,7 +66,7 @@ impl Core {
         ensures ok { IfOk result (λ r. (r, self.new.state) ≡ receive self.old.site channel entry.now self.old.state) }
         ensures site { self.new.site ≡ self.old.site }
         ensures err { OnErr result (self.new ≡ self.old) }
-        ensures fault { IfErr result (λ f. IsFault f (receiving channel entry.now self.old.state) (receive self.old.site channel entry.now self.old.state)) }
+        ensures fault { IfErr result (λ f. IsFault (IsFaultIn f (receiving channel entry.now self.old.state)) (receive self.old.site channel entry.now self.old.state)) }
     {
         let Some(one) = self.channels.get(channel) else {
             return Ok(Reply::NoChannel);

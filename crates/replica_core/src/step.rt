@@ -2,7 +2,8 @@
 ghost use Rattle.std.specs.Prelude.{◌≡◌, ◌<◌, ◌∷◌, [], ◌++◌, IfOk, IfErr, IfSome, OnErr, None, true, length, vec_len, vec_capacity, slice_get};
 ghost use Rattle.replica_core.specs.Machine.{purge, look, step, is_numbered, AreNumbered, replies, after};
 ghost use Rattle.replica_core.specs.Replies.{answered};
-ghost use Rattle.replica_core.specs.Faults.{IsFault, IsFaultAt, IsStepFault, purging};
+ghost use Rattle.journal.specs.Faults.{IsPurgedFault};
+ghost use Rattle.replica_core.specs.Faults.{IsFault, IsFaultIn, IsFaultAt, IsStepFault};
 
 use crate::event::{Event, Reply};
 use crate::machine::Core;
@@ -16,7 +17,7 @@ impl Core {
         ensures ok { IfOk result (λ r. (r, self.new.state) ≡ purge count self.old.state) }
         ensures site { self.new.site ≡ self.old.site }
         ensures err { OnErr result (self.new ≡ self.old) }
-        ensures fault { IfErr result (λ f. IsFault f (purging count self.old.state) (purge count self.old.state)) }
+        ensures fault { IfErr result (λ f. IsFault (IsPurgedFault f count self.old.state.journal) (purge count self.old.state)) }
     {
         match self.journal.purge(alloc, count) {
             Ok(purged) => return Ok(Reply::Purged(purged)),
@@ -28,7 +29,7 @@ impl Core {
     /// The event Look.
     fn look(&self, alloc: Global) -> Result<Reply, SetFault>
         ensures ok { IfOk result (λ r. (r, self.now.state) ≡ look self.now.state) }
-        ensures fault { IfErr result (λ f. IsFault f None (look self.now.state)) }
+        ensures fault { IfErr result (λ f. IsFault (IsFaultIn f None) (look self.now.state)) }
     {
         let shown = self.executed().copy(alloc)?;
         Ok(Reply::Shown(shown))
@@ -36,9 +37,10 @@ impl Core {
 
     /// One event: its reply, and the state that it leaves. After an error nothing has changed. An
     /// error comes only in place of a reply that takes memory: `Memory` where memory was refused, and
-    /// `SourcesFull` only where the set that the event makes would have more than 65,536 sources: the
-    /// set to ask with, the received set with the entry's GTID, the executed set with the committed
-    /// GTID, or the purged set.
+    /// `SourcesFull` or `PoolFull` only where the set that the event makes would have more than 65,536
+    /// sources, or more than 4,294,967,294 intervals: the set to ask with, the received set with the
+    /// entry's GTID, the executed set with the committed GTID, or the purged set. The purged set is made
+    /// entry by entry, and has too many intervals also where it has them on the way.
     /// The numbers of received GTIDs are 1 to 9223372036854775807.
     pub fn step(&mut self, alloc: Global, event: &Event) -> Result<Reply, SetFault>
         requires { is_numbered event.now ≡ true }

@@ -2,7 +2,7 @@
 use Rattle.std.specs.Prelude.{◌≡◌, ℕ, false, List, Option, Some, None, option_map, slice_get, ◌⊎◌}
 use Rattle.network.specs.Nodes.{Node}
 use Rattle.network.specs.Machine.{step, is_numbered}
-use Rattle.network.specs.Faults.{set_made}
+use Rattle.network.specs.Faults.{IsEventCause}
 use Rattle.network.specs.declared.event.NetworkEvent.{NetworkEvent}
 use Rattle.network.specs.declared.event.NetworkReply.TheVariants.{NoNode}
 use Rattle.replica_core.specs.State.{Replica}
@@ -25,9 +25,9 @@ pub record IsMadeIn (old : List Node) (event : NetworkEvent) (new : List Node) (
   pub line : text ≡ ended (network_reply_line (step old event).0)
   pub nodes : new ≡ (step old event).1
 
--- an event was made; or the set that it makes would have too many sources, and nothing has changed
+-- an event was made; or a set that it makes would have too many sources or intervals, and nothing has changed
 abbrev pub IsNetworkAnswer : List Node → NetworkEvent → List Node → List ℕ → Type 0
-IsNetworkAnswer old event new text = IsMadeIn old event new text ⊎ (IsFullLine (set_made old event) text × (new ≡ old))
+IsNetworkAnswer old event new text = IsMadeIn old event new text ⊎ (IsFullLine (λ f. IsEventCause f old event) text × (new ≡ old))
 
 -- a query of a replica was answered, or there is no such node
 abbrev pub IsShownBy : Option Replica → Query → List ℕ → Type 0

@@ -3,10 +3,11 @@ use Rattle.std.specs.Prelude.{◌≡◌, ℕ, Bool, true, false, List, [], ◌�
 use Rattle.std.specs.Str.{bytes_eq}
 use Rattle.gtid_set.specs.Sets.{Gtids}
 use Rattle.gtid_set.specs.declared.fault.SetFault.{SetFault}
-use Rattle.gtid_set.specs.declared.fault.SetFault.TheVariants.{SourcesFull}
+use Rattle.gtid_set.specs.declared.fault.SetFault.TheVariants as sets
+use Rattle.gtid_set.specs.declared.fault.SetFault.TheVariants.{PoolFull, SourcesFull}
 use Rattle.replica_core.specs.State.{Replica, State}
 use Rattle.replica_core.specs.Machine.{step, is_numbered}
-use Rattle.replica_core.specs.Faults.{IsFaultIn, asking, made_by}
+use Rattle.replica_core.specs.Faults.{IsFaultIn, IsCause, asking}
 use Rattle.replica_core.specs.declared.event.Event.{Event}
 use Rattle.replica_script.specs.declared.question.Query.{Query}
 use Rattle.replica_script.specs.declared.question.Query.TheVariants as query
@@ -27,9 +28,9 @@ use Rattle.replica_script.specs.Texts.{query_text}
 
 -- ---- answers
 
--- A set, if one is made, would have too many sources, and this is the line that says so.
-abbrev pub IsFullLine : Option Gtids → List ℕ → Type 0
-IsFullLine made text = IsFaultIn SourcesFull made × (text ≡ codes "SourcesFull\n")
+-- A set would have too many sources or intervals, where that may be, and this is the line that says so.
+abbrev pub IsFullLine : (SetFault → Type 0) → List ℕ → Type 0
+IsFullLine may text = (may SourcesFull × (text ≡ codes "SourcesFull\n")) ⊎ (may PoolFull × (text ≡ codes "PoolFull\n"))
 
 -- an event was made: its reply's line, and the state after it
 pub record IsMade (old : Replica) (event : Event) (new : Replica) (text : List ℕ) : Type 0 where
@@ -37,18 +38,18 @@ pub record IsMade (old : Replica) (event : Event) (new : Replica) (text : List �
   pub state : new.state ≡ (step old.site old.state event).1
   pub site : new.site ≡ old.site
 
--- an event was made; or the set that it makes would have too many sources, and nothing has changed
+-- an event was made; or the set that it makes would have too many sources or intervals, and nothing has changed
 abbrev pub IsAnswer : Replica → Event → Replica → List ℕ → Type 0
-IsAnswer old event new text = IsMade old event new text ⊎ (IsFullLine (made_by old.site old.state event) text × (new ≡ old))
+IsAnswer old event new text = IsMade old event new text ⊎ (IsFullLine (λ f. IsCause f old.site old.state event) text × (new ≡ old))
 
 -- the set that is made to answer a query
 abbrev pub made_for : Query → State → Option Gtids
 made_for (query.Ask channel) s = asking channel s
 made_for _ s = None
 
--- a query was answered, or the set that it needs would have too many sources
+-- a query was answered, or the set that it needs would have too many sources or intervals
 abbrev pub IsShown : Replica → Query → List ℕ → Type 0
-IsShown r query text = (text ≡ query_text r query) ⊎ IsFullLine (made_for query r.state) text
+IsShown r query text = (text ≡ query_text r query) ⊎ IsFullLine (λ f. IsFaultIn f (made_for query r.state)) text
 
 -- the answer to a question; a query changes nothing
 abbrev pub Answers : Replica → Question → Replica → List ℕ → Type 0
@@ -75,13 +76,15 @@ IsLeftBy old (question.Query query) new = new ≡ old
 -- what a fault of a set means
 abbrev pub unanswered : SetFault → Unanswered
 unanswered SourcesFull = unasked.SourcesFull
-unanswered _ = unasked.Memory
+unanswered PoolFull = unasked.PoolFull
+unanswered sets.Memory = unasked.Memory
 
--- why there is no answer: memory was refused, or the set that is made, if any, would have too many sources
-abbrev pub IsUnanswered : Option Gtids → Unanswered → Type 0
-IsUnanswered made unasked.Memory = Unit {0}
-IsUnanswered made unasked.SourcesFull = IsFaultIn SourcesFull made
-IsUnanswered made unasked.Changed = ⊥
+-- why there is no answer: memory was refused, or the set that is made would have too many sources or intervals, where that may be
+abbrev pub IsUnanswered : (SetFault → Type 0) → Unanswered → Type 0
+IsUnanswered may unasked.Memory = Unit {0}
+IsUnanswered may unasked.SourcesFull = may SourcesFull
+IsUnanswered may unasked.PoolFull = may PoolFull
+IsUnanswered may unasked.Changed = ⊥
 
 -- ---- the words of the command line
 

@@ -1,7 +1,7 @@
 //! Answers of a replica, as lines.
 ghost use Rattle.std.specs.Prelude.{◌≡◌, IfOk, IfErr, OnErr, true, codes};
 ghost use Rattle.replica_core.specs.Machine.{is_numbered, step};
-ghost use Rattle.replica_core.specs.Faults.{made_by};
+ghost use Rattle.replica_core.specs.Faults.{IsCause, IsFaultIn};
 ghost use Rattle.replica_script.specs.declared.answer.Stop.{Stop};
 ghost use Rattle.replica_script.specs.declared.answer.Stop.TheVariants.{Memory};
 ghost use Rattle.replica_script.specs.declared.question.Question.TheVariants as asked;
@@ -48,6 +48,8 @@ pub enum Asking {
 enum Unanswered {
     /// The set that is made would have too many sources.
     SourcesFull,
+    /// A set that is made would have too many intervals.
+    PoolFull,
     /// Memory was refused.
     Memory,
     /// A call that was refused memory has changed the replica.
@@ -60,7 +62,8 @@ impl From<SetFault> for Unanswered {
     fn from(fault: SetFault) -> Unanswered {
         match fault {
             SetFault::SourcesFull => Unanswered::SourcesFull,
-            _ => Unanswered::Memory,
+            SetFault::PoolFull => Unanswered::PoolFull,
+            SetFault::Memory => Unanswered::Memory,
         }
     }
 }
@@ -87,11 +90,12 @@ fn step_beside(
     ensures ok { IfOk result (λ r. (r, core.new.state) ≡ step core.old.site core.old.state event.now) }
     ensures site { core.new.site ≡ core.old.site }
     ensures err { OnErr result (core.new ≡ core.old) }
-    ensures fault { IfErr result (IsUnanswered (made_by core.old.site core.old.state event.now)) }
+    ensures fault { IfErr result (IsUnanswered (λ f. IsCause f core.old.site core.old.state event.now)) }
 {
     match core.step(alloc, event) {
         Ok(reply) => Ok(reply),
         Err(SetFault::SourcesFull) => Err(Unanswered::SourcesFull),
+        Err(SetFault::PoolFull) => Err(Unanswered::PoolFull),
         Err(_) if core.is_equal(before) => Ok(core.step(alloc, event)?),
         Err(_) => Err(Unanswered::Changed),
     }
@@ -103,7 +107,7 @@ fn step_again(alloc: Global, core: &mut Core, event: &Event) -> Result<Reply, Un
     ensures ok { IfOk result (λ r. (r, core.new.state) ≡ step core.old.site core.old.state event.now) }
     ensures site { core.new.site ≡ core.old.site }
     ensures err { OnErr result (core.new ≡ core.old) }
-    ensures fault { IfErr result (IsUnanswered (made_by core.old.site core.old.state event.now)) }
+    ensures fault { IfErr result (IsUnanswered (λ f. IsCause f core.old.site core.old.state event.now)) }
 {
     match copy_of(alloc, core) {
         Ok(before) => {
@@ -121,7 +125,7 @@ fn step(alloc: Global, core: &mut Core, event: &Event, asking: Asking) -> Result
     ensures ok { IfOk result (λ r. (r, core.new.state) ≡ step core.old.site core.old.state event.now) }
     ensures site { core.new.site ≡ core.old.site }
     ensures err { OnErr result (core.new ≡ core.old) }
-    ensures fault { IfErr result (IsUnanswered (made_by core.old.site core.old.state event.now)) }
+    ensures fault { IfErr result (IsUnanswered (λ f. IsCause f core.old.site core.old.state event.now)) }
 {
     match asking {
         Asking::Once => Ok(core.step(alloc, event)?),
@@ -138,11 +142,12 @@ fn show_beside(
 ) -> Result<Vec<u8>, Unanswered>
     requires { before.now ≡ core.now }
     ensures ok { IfOk result (λ text. text.items ≡ query_text core.now query) }
-    ensures fault { IfErr result (IsUnanswered (made_for query core.now.state)) }
+    ensures fault { IfErr result (IsUnanswered (λ f. IsFaultIn f (made_for query core.now.state))) }
 {
     match query_text(alloc, core, query) {
         Ok(text) => Ok(text),
         Err(SetFault::SourcesFull) => Err(Unanswered::SourcesFull),
+        Err(SetFault::PoolFull) => Err(Unanswered::PoolFull),
         Err(_) if core.is_equal(before) => Ok(query_text(alloc, core, query)?),
         Err(_) => Err(Unanswered::Changed),
     }
@@ -151,7 +156,7 @@ fn show_beside(
 /// The lines that answer a query, with a copy of the replica beside it.
 fn show_again(alloc: Global, core: &Core, query: Query) -> Result<Vec<u8>, Unanswered>
     ensures ok { IfOk result (λ text. text.items ≡ query_text core.now query) }
-    ensures fault { IfErr result (IsUnanswered (made_for query core.now.state)) }
+    ensures fault { IfErr result (IsUnanswered (λ f. IsFaultIn f (made_for query core.now.state))) }
 {
     match copy_of(alloc, core) {
         Ok(before) => {
@@ -166,7 +171,7 @@ fn show_again(alloc: Global, core: &Core, query: Query) -> Result<Vec<u8>, Unans
 /// The lines that answer a query.
 fn show(alloc: Global, core: &Core, query: Query, asking: Asking) -> Result<Vec<u8>, Unanswered>
     ensures ok { IfOk result (λ text. text.items ≡ query_text core.now query) }
-    ensures fault { IfErr result (IsUnanswered (made_for query core.now.state)) }
+    ensures fault { IfErr result (IsUnanswered (λ f. IsFaultIn f (made_for query core.now.state))) }
 {
     match asking {
         Asking::Once => Ok(query_text(alloc, core, query)?),
@@ -181,7 +186,15 @@ pub fn full_line(alloc: Global) -> Result<Vec<u8>, AllocError>
     Vec::from_slice(alloc, b"SourcesFull\n")
 }
 
-/// Asks an event of a replica. Where the set that it makes would have too many sources that is the answer, and nothing has changed.
+/// The line of a set that would have too many intervals.
+pub fn crowded_line(alloc: Global) -> Result<Vec<u8>, AllocError>
+    ensures { IfOk result (λ text. text.items ≡ codes "PoolFull\n") }
+{
+    Vec::from_slice(alloc, b"PoolFull\n")
+}
+
+/// Asks an event of a replica. Where the set that it makes would have too many sources or intervals that is the answer, and nothing has
+/// changed.
 pub fn answer_event(
     alloc: Global,
     core: &mut Core,
@@ -201,6 +214,7 @@ pub fn answer_event(
             Err(_) => Err(Stop::Memory),
         },
         Err(Unanswered::SourcesFull) => Ok(full_line(alloc)?),
+        Err(Unanswered::PoolFull) => Ok(crowded_line(alloc)?),
         Err(Unanswered::Memory) => Err(Stop::Memory),
         Err(Unanswered::Changed) => Err(Stop::Changed),
     }
@@ -219,6 +233,7 @@ pub fn answer_query(
     match show(alloc, core, query, asking) {
         Ok(text) => Ok(text),
         Err(Unanswered::SourcesFull) => Ok(full_line(alloc)?),
+        Err(Unanswered::PoolFull) => Ok(crowded_line(alloc)?),
         Err(Unanswered::Memory) => Err(Stop::Memory),
         Err(Unanswered::Changed) => Err(Stop::Changed),
     }

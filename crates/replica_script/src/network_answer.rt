@@ -3,14 +3,15 @@ ghost use Rattle.std.specs.Prelude.{◌≡◌, IfOk, IfErr};
 ghost use Rattle.replica_script.specs.declared.question.NetworkQuestion.TheVariants as asked;
 ghost use Rattle.replica_script.specs.Networks.{IsNetworkAnswer, IsNetworkLeft, IsNetworkLeftBy, IsNetworkStopAt, IsShownAt, NetworkAnswers};
 
-use crate::answer::{Asking, Stop, answer_query, full_line};
+use crate::answer::{Asking, Stop, answer_query, crowded_line, full_line};
 use crate::question::{NetworkQuestion, Query};
 use crate::reply::network_reply_text;
 use gtid_set::SetFault;
 use network::{Network, NetworkEvent};
 use std::alloc::Global;
 
-/// Asks an event of a network, once. Where the set that it makes would have too many sources that is the answer, and nothing has changed.
+/// Asks an event of a network, once. Where a set that it makes would have too many sources or intervals that is the answer, and nothing
+/// has changed.
 pub fn answer_network_event(
     alloc: Global,
     network: &mut Network,
@@ -29,7 +30,8 @@ pub fn answer_network_event(
             Err(_) => Err(Stop::Memory),
         },
         Err(SetFault::SourcesFull) => Ok(full_line(alloc)?),
-        Err(_) => Err(Stop::Memory),
+        Err(SetFault::PoolFull) => Ok(crowded_line(alloc)?),
+        Err(SetFault::Memory) => Err(Stop::Memory),
     }
 }
 

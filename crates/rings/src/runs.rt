@@ -1,9 +1,8 @@
 //! Runs of a network, with what they leave.
 ghost use Rattle.std.specs.Prelude.{◌≡◌, ◌<◌, [], ◌∷◌, true, length, slice_get, None, IfOk, IfErr, IfSome, OnErr};
-ghost use Rattle.replica_core.specs.Faults.{IsFaultIn};
 ghost use Rattle.network.specs.Machine as machine;
 ghost use Rattle.network.specs.Machine.{is_numbered, AreNumbered, replies, after, answered};
-ghost use Rattle.network.specs.Faults.{set_made, IsFaultAt};
+ghost use Rattle.network.specs.Faults.{IsEventCause, IsFaultAt};
 ghost use Rattle.rings.specs.Rings.{LeavesMerged};
 
 use gtid_set::SetFault;
@@ -21,7 +20,7 @@ pub fn step(
     ensures ok { IfOk result (λ r. (r, network.new) ≡ machine.step network.old event.now) }
     ensures merged { IfOk result (λ r. LeavesMerged network.old (event.now ∷ []) (r ∷ []) network.new) }
     ensures err { OnErr result (network.new ≡ network.old) }
-    ensures fault { IfErr result (λ f. IsFaultIn f (set_made network.old event.now)) }
+    ensures fault { IfErr result (λ f. IsEventCause f network.old event.now) }
 {
     network.step(alloc, event)
 }

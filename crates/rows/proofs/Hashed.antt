@@ -26,7 +26,7 @@ keys_equiv = record {
   congr = λ x y z e. ap (λ k. key_test k z) ((keys-Decide x y).0 e);
 }
 
-hashed_at : (es : List (Key × List Value)) (q : Key) → lookup (key_test q) es ≡ row_at es q
+pub hashed_at : (es : List (Key × List Value)) (q : Key) → lookup (key_test q) es ≡ row_at es q
 hashed_at [] q = refl
 hashed_at (e ∷ es) q = λ i. cond (same_tests q e.0 i) (Some e.1) (hashed_at es q i)
 

@@ -1,5 +1,7 @@
 -- Rows in order.
-use Rattle.std.specs.Prelude.{Bool, ◌==◌, if◌then◌else◌, List, [], ◌∷◌}
+use Rattle.std.specs.Prelude.{Bool, ◌==◌, if◌then◌else◌, List, [], ◌∷◌, map, filter}
+use Rattle.std.specs.Borrow.{Bor}
+use Rattle.std.specs.Map.Iter.{deref_pair}
 use Rattle.std.specs.FinMap.{entries}
 use Rattle.rows.specs.declared.value.Value.{Value}
 use Rattle.rows.specs.declared.change.Key.{Key}
@@ -26,3 +28,16 @@ primary_rows (e ∷ entries) =
 -- the rows in the order of their primary keys: by table name, and then by the values of the key
 abbrev pub rows_listed : Rows → List TableRow
 rows_listed rows = primary_rows (entries rows)
+
+-- ---- before they are in order
+
+-- the entries under primary keys
+abbrev pub primary_entries : List (Key × List Value) → List (Key × List Value)
+primary_entries entries = filter (λ e. is_primary e.0) entries
+
+-- what references show
+abbrev pub key_shown : Bor Key × Bor (List Value) → Key
+key_shown r = r.0.now
+
+abbrev pub all_shown : List (Bor Key × Bor (List Value)) → List (Key × List Value)
+all_shown list = map deref_pair list

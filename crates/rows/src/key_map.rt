@@ -2,24 +2,25 @@
 ghost use Rattle.std.specs.Prelude.{◌≡◌, ◌≤◌, ◌<◌, ◌+◌, ◌^◌, ℕ, drop, OnOk, OnErr, IfOk, IfErr, Ok, Err, None, length};
 ghost use Rattle.std.specs.Bool.{Decides};
 ghost use Rattle.std.specs.Option.{option_copied};
-ghost use Rattle.std.specs.BTreeMap.{IsOrdered};
 ghost use Rattle.std.specs.FinMap as map;
 ghost use Rattle.rows.specs.Apply.{taken, stored, with_row, without_keys, inserted, deleted, apply_change, apply_from};
 ghost use Rattle.rows.specs.Keys.{keys_carried};
-ghost use Rattle.rows.specs.Listing.{is_primary, rows_of, rows_listed};
-ghost use Rattle.rows.specs.Order.{key_cmp};
+ghost use Rattle.rows.specs.Listing.{rows_listed};
 ghost use Rattle.rows.specs.Patch.{put_over};
 ghost use Rattle.rows.specs.Refusal.{Refuses};
 
 use crate::change::{Change, Key, PrepareFault, RowFault, TableRow};
 use crate::keys::carried;
+use crate::listing::list_primary;
+use crate::making::Making;
 use crate::name::Name;
 use crate::schema::Schema;
+use crate::standing::{carrier, holds, taken};
 use crate::value::Row;
 use indexmap::IndexMap;
 use std::alloc::{AllocError, Global};
-use std::collections::BTreeMap;
 use std::marker::Model;
+use std::mem;
 
 /// From each key to the row that carries it.
 #[derive(Drop)]
@@ -67,15 +68,14 @@ impl KeyMap {
     pub(crate) fn list_primary(&self, alloc: Global) -> Result<Vec<TableRow>, AllocError>
         ensures { IfOk result (λ list. list.items ≡ rows_listed self.now) }
     {
-        let sorted = sorted(alloc, &self.carriers)?;
-        listed(alloc, &sorted)
+        list_primary(alloc, &self.carriers)
     }
 
     /// The row that carries a key.
     pub(crate) fn carrier(&self, key: &Key) -> Option<&Row>
         ensures { option_copied result ≡ map.get self.now key.now }
     {
-        self.carriers.get(key)
+        carrier(&self.carriers, key)
     }
 
     /// Puts a row under one key.
@@ -117,18 +117,6 @@ impl KeyMap {
         self.carriers.swap_remove(key);
     }
 
-    /// The number of the first of these keys that a row carries.
-    fn taken(&self, keys: &[Key]) -> Option<u32>
-        ensures { result ≡ taken keys.now self.now }
-    {
-        for key in keys {
-            if self.carrier(key).is_some() {
-                return Some(key.index);
-            }
-        }
-        None
-    }
-
     /// Puts a row under each of these keys, the last first. After want of memory it stands under some last keys.
     fn place(&mut self, keys: &[Key], row: &Row) -> Result<(), AllocError>
         ensures ok { OnOk result (self.new ≡ with_row keys.now row.now self.old) }
@@ -153,23 +141,13 @@ impl KeyMap {
         }
     }
 
-    /// The row under the first of these keys.
-    fn stored(&self, keys: &[Key]) -> Option<&Row>
-        ensures { option_copied result ≡ stored keys.now self.now }
-    {
-        match keys.first() {
-            Some(key) => self.carrier(key),
-            None => None,
-        }
-    }
-
     /// Puts a row under its keys, if each of them is free.
     fn insert_row(&mut self, keys: &[Key], row: &Row, change: u32) -> Result<(), PrepareFault>
         ensures ok { OnOk result (inserted change keys.now row.now self.old ≡ Ok self.new) }
         ensures refused { Refuses result (inserted change keys.now row.now self.old) }
         ensures err { OnErr result (self.new ≡ self.old) }
     {
-        if let Some(key) = self.taken(keys) {
+        if let Some(key) = taken(&self.carriers, keys) {
             return Err(PrepareFault::Row(RowFault::DuplicateKey { change, key }));
         }
         match self.place(keys, row) {
@@ -181,28 +159,12 @@ impl KeyMap {
         }
     }
 
-    fn holds(&self, keys: &[Key], row: &Row, change: u32) -> Result<(), RowFault>
-        ensures ok { OnOk result (deleted change keys.now row.now self.now ≡ Ok (without_keys keys.now self.now)) }
-        ensures refused { IfErr result (λ fault. deleted change keys.now row.now self.now ≡ Err fault) }
-    {
-        match self.stored(keys) {
-            None => Err(RowFault::RowMissing { change, key: 0 }),
-            Some(found) => {
-                if *found == *row {
-                    Ok(())
-                } else {
-                    Err(RowFault::RowDiffers { change, key: 0 })
-                }
-            }
-        }
-    }
-
     fn delete_row(&mut self, keys: &[Key], row: &Row, change: u32) -> Result<(), RowFault>
         ensures ok { OnOk result (deleted change keys.now row.now self.old ≡ Ok self.new) }
         ensures refused { IfErr result (λ fault. deleted change keys.now row.now self.old ≡ Err fault) }
         ensures err { OnErr result (self.new ≡ self.old) }
     {
-        self.holds(keys, row, change)?;
+        holds(&self.carriers, keys, row, change)?;
         self.clear(keys);
         Ok(())
     }
@@ -248,34 +210,7 @@ impl KeyMap {
         }
     }
 
-    /// Makes one change. After want of memory nothing is said of the rows.
-    fn make(
-        &mut self,
-        alloc: Global,
-        schema: &Schema,
-        n: u32,
-        change: &Change,
-    ) -> Result<(), PrepareFault>
-        ensures ok { OnOk result (apply_change schema.now n change.now self.old ≡ Ok self.new) }
-        ensures refused { Refuses result (apply_change schema.now n change.now self.old) }
-    {
-        match change {
-            Change::Insert { table, after } => self.insert_image(alloc, schema, n, table, after),
-            Change::Delete { table, before } => self.delete_image(alloc, schema, n, table, before),
-            Change::Update {
-                table,
-                before,
-                after,
-            } => {
-                match self.delete_image(alloc, schema, n, table, before) {
-                    Ok(()) => self.insert_image(alloc, schema, n, table, after),
-                    Err(fault) => Err(fault),
-                }
-            }
-        }
-    }
-
-    /// Makes changes in order. After want of memory nothing is said of the rows.
+    /// Makes changes in order, wholly or not at all.
     pub(crate) fn make_all(
         &mut self,
         alloc: Global,
@@ -285,49 +220,22 @@ impl KeyMap {
         requires { length changes.now ≤ 65536 }
         ensures ok { OnOk result (apply_from schema.now 0 changes.now self.old ≡ Ok self.new) }
         ensures refused { Refuses result (apply_from schema.now 0 changes.now self.old) }
+        ensures err { OnErr result (self.new ≡ self.old) }
     {
-        for (n, change) in changes.iter().enumerate() {
-            self.make(alloc, schema, n as u32, change)?;
-        }
-        Ok(())
-    }
-}
-
-/// Puts a copy of a row under a copy of a key.
-fn put_sorted(sorted: &mut BTreeMap<Key, Row>, key: &Key, row: &Row) -> Result<(), AllocError>
-    ensures { OnOk result (map.from_entries {R = key_cmp} sorted.new.entries ≡ map.insert (map.from_entries sorted.old.entries) key.now row.now) }
-{
-    let key = key.copied()?;
-    let row = row.copied()?;
-    match sorted.insert(key, row) {
-        Ok(_) => Ok(()),
-        Err(_) => Err(AllocError),
-    }
-}
-
-/// What stands under primary keys, in order.
-fn sorted(alloc: Global, carriers: &IndexMap<Key, Row>) -> Result<BTreeMap<Key, Row>, AllocError>
-    ensures { IfOk result (λ sorted. map.from_entries {R = key_cmp} sorted.entries ≡ map.retain_keys (map.from_entries carriers.now.entries) is_primary) }
-{
-    let mut sorted = BTreeMap::new(alloc);
-    for (key, row) in carriers.iter() {
-        if key.index == 0 {
-            put_sorted(&mut sorted, key, row)?;
+        let Ok(log) = Vec::with_capacity(alloc, 2 * changes.len()) else {
+            return Err(PrepareFault::Memory);
+        };
+        let carriers = mem::replace(&mut self.carriers, IndexMap::new(alloc));
+        let mut making = Making::start(carriers, log);
+        match making.make_all(alloc, schema, changes) {
+            Ok(()) => {
+                self.carriers = making.finish();
+                Ok(())
+            }
+            Err(refusal) => {
+                self.carriers = making.undo();
+                Err(refusal)
+            }
         }
     }
-    Ok(sorted)
-}
-
-/// These rows with their tables.
-fn listed(alloc: Global, sorted: &BTreeMap<Key, Row>) -> Result<Vec<TableRow>, AllocError>
-    ensures rows { IfOk result (λ list. list.items ≡ rows_of sorted.now.entries) }
-    ensures ordered { IsOrdered key_cmp sorted.now }
-{
-    let mut list = Vec::with_capacity(alloc, sorted.len())?;
-    for (key, row) in sorted.iter() {
-        let table = key.table.clone()?;
-        let row = row.clone()?;
-        list.push(TableRow { table, row })?;
-    }
-    Ok(list)
 }

@@ -125,14 +125,17 @@ impl Ord for KeyValues {
 impl Hash for KeyValues {
     ghost use Rattle.std.specs.FinMap.{slice_cmp-IsAntisymmetric};
     ghost use Rattle.rows.specs.Total.{value_exact};
-    ghost use Rattle.rows.specs.Hashing.{alike_by, row_writes};
+    ghost use Rattle.rows.specs.Hashing.{alike_by, key_writes};
 
-    ghost hash_input = { row_writes };
+    ghost hash_input = { key_writes };
 
-    ghost respects_eq = { alike_by row_writes (slice_cmp-IsAntisymmetric value_exact) };
+    ghost respects_eq = { alike_by key_writes (slice_cmp-IsAntisymmetric value_exact) };
 
     fn hash<H: Hasher>(&self, state: &mut H) {
-        self.as_slice().hash(state);
+        match self.as_slice() {
+            [value] => value.hash(state),
+            values => values.hash(state),
+        }
     }
 }
 

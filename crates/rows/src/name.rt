@@ -84,16 +84,15 @@ impl Ord for Name {
 }
 
 impl Hash for Name {
-    ghost use Rattle.std.specs.Hash as fed;
     ghost use Rattle.std.specs.FinMap.{nat_cmp-IsAntisymmetric, slice_cmp-IsAntisymmetric};
-    ghost use Rattle.rows.specs.Hashing.{alike_by};
+    ghost use Rattle.rows.specs.Hashing.{alike_by, bytes_writes};
 
-    ghost hash_input = { fed.str };
+    ghost hash_input = { bytes_writes };
 
-    ghost respects_eq = { alike_by fed.str (slice_cmp-IsAntisymmetric nat_cmp-IsAntisymmetric) };
+    ghost respects_eq = { alike_by bytes_writes (slice_cmp-IsAntisymmetric nat_cmp-IsAntisymmetric) };
 
     fn hash<H: Hasher>(&self, state: &mut H) {
-        self.text.hash(state);
+        state.write(self.text.as_str().as_bytes());
     }
 }
 

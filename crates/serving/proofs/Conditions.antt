@@ -155,14 +155,18 @@ module _ (r : Replica) (c : ℕ) (channel : Channel) (j : JournalValue) (can : C
       ∙ get_push r.state.channels fresh
 
   -- what is asked with has all that is executed
-  pub asked_has : (s : Replica) (asked : Gtids) → s ≡ with_opened r channel → (step s.site s.state (Position c)).0 ≡ Ask asked → set.is_subset j.previous asked ≡ true
-  asked_has s asked is asks_so =
+  -- it asks with what is executed
+  pub asked_is : (s : Replica) (asked : Gtids) → s ≡ with_opened r channel → (step s.site s.state (Position c)).0 ≡ Ask asked → set.union r.state.executed (received_gtids []) ≡ asked
+  asked_is s asked is asks_so =
       let opened : State = record r.state { channels = r.state.channels ++ fresh ∷ [] } in
       let says : (step r.site opened (Position c)).0 ≡ Ask asked =
       ap (λ (x : Step). (step r.site x.1 (Position c)).0) (sym opened_is) ∙ subst (λ (x : Replica). (step x.site x.state (Position c)).0 ≡ Ask asked) is asks_so in
       let at : slice_get opened.channels c ≡ Some fresh = ap (slice_get opened.channels) (sym can.next) ∙ get_push r.state.channels fresh in
-      let same : set.union r.state.executed (received_gtids []) ≡ asked = ap asked_in (sym (ap (λ (x : Step). x.0) (positions r.site opened c fresh at)) ∙ says) in
-      subst (λ (x : Gtids). set.is_subset j.previous x ≡ true) same
+      ap asked_in (sym (ap (λ (x : Step). x.0) (positions r.site opened c fresh at)) ∙ says)
+
+  pub asked_has : (s : Replica) (asked : Gtids) → s ≡ with_opened r channel → (step s.site s.state (Position c)).0 ≡ Ask asked → set.is_subset j.previous asked ≡ true
+  asked_has s asked is asks_so =
+      subst (λ (x : Gtids). set.is_subset j.previous x ≡ true) (asked_is s asked is asks_so)
       (subset_more j.previous r.state.executed (set.union r.state.executed (received_gtids [])) (λ q h.
       set.contains-union gtid_total r.state.executed (received_gtids []) q ∙ or_left (set.contains r.state.executed q) (set.contains (received_gtids []) q) h) can.sends.unpurged)
 

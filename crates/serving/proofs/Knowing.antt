@@ -1,17 +1,24 @@
--- What is executed and received stays within a set, and so does each set that an event makes.
-use Rattle.std.proofs.Common.{◌≡◌, ℕ, ◌+◌, ◌<◌, zero, suc, Bool, true, false, cond, eqb, ◌||◌, inl, inr, List, [], ◌∷◌, ◌++◌, map, take, drop, drop-cons, length, get_or, Option, Some, None, refl, sym, ap, ◌∙◌, subst, arith}
-use Rattle.std.specs.Prelude.{slice_get}
+-- What is executed and received stays within a cover, and so does each set that an event makes.
+use Rattle.std.proofs.Common.{◌≡◌, ℕ, ◌+◌, ◌*◌, ◌<◌, ◌≤◌, zero, suc, Bool, true, false, cond, eqb, ◌||◌, inl, inr, List, [], ◌∷◌, ◌++◌, map, take, drop, drop-cons, length, get_or, Option, Some, None, refl, sym, ap, ◌∙◌, subst, arith, true≢false}
+use Rattle.std.specs.Prelude.{slice_get, ◌⊎◌}
 use Rattle.std.specs.List.{AllByRecursion}
 use Rattle.std.specs.Option.{option_and_then}
 use Rattle.std.specs.FinMap as finmap
 use Rattle.std.specs.FinSet as set
 use Rattle.std.specs.FinSet.{contains-union}
 use Rattle.std.proofs.lemmas.Bool.{cases_eq, or_cases, or_left, or_right, ne_eqb}
+use Rattle.std.proofs.lemmas.List.{length-append}
+use Rattle.std.proofs.lemmas.List.Folds.{list_any-append}
 use Rattle.std.proofs.lemmas.Option.{same_Some}
 use Rattle.gtid_text.specs.declared.Gtid.{Gtid}
 use Rattle.gtid_text.specs.Gtids.{same_gtid}
-use Rattle.gtid_text.proofs.SameGtid.{same_is_equal, gtid_total}
+use Rattle.gtid_text.proofs.SameGtid.{same_itself, same_is_equal, gtid_total}
 use Rattle.gtid_set.specs.declared.fault.SetFault.{SetFault}
+use Rattle.gtid_set.specs.Full.{interval_count, most_intervals, IsFaultOf}
+use Rattle.gtid_set.specs.Edges.{next_to, ends_of, HasEdges, HasEnds, AreManyEdges}
+use Rattle.gtid_set.specs.Runs.{runs}
+use Rattle.gtid_set.proofs.EdgeLemmas.{contains-listed, length-ends, len-listed, many_edges, moved_edges, members_edges, listed_edges, empty_edges, union_edges, insert_edges, difference_few}
+use Rattle.gtid_set.proofs.RunLemmas.{among as is_listed}
 use Rattle.gtid_set.proofs.FaultLemmas.{fault_map, memory_fault}
 use Rattle.gtid_set.specs.Sets.{Gtids}
 use Rattle.gtid_set.proofs.SetSources.{fewer_sources}
@@ -19,7 +26,9 @@ use Rattle.rows.specs.declared.change.Transaction.{Transaction}
 use Rattle.rows.proofs.Lists.{none_some, map_some, and_then_some}
 use Rattle.journal.specs.declared.Entry.{Entry}
 use Rattle.journal.specs.Journals.{JournalValue, whole}
-use Rattle.journal.specs.Faults.{IsFaultOf}
+use Rattle.journal.specs.Edges.{HasEndsOf}
+use Rattle.auto_position.specs.Sending.{IsPlanFault}
+use Rattle.audit.specs.Faults.{IsAuditFault}
 use Rattle.apply_channel.specs.Channels.{ChannelValue, Received, received_gtids}
 use Rattle.apply_channel.specs.Full.{gtids_with}
 use Rattle.replica_core.specs.declared.event.Event.{Event}
@@ -32,73 +41,100 @@ use Rattle.replica_core.specs.AtOnce.{IsFaultAtOnce}
 use Rattle.replica_core.specs.Faults.{asking, receiving, committing, executing_too, IsFaultIn}
 use Rattle.source_history.proofs.Covering.{is_entry, in_insert, in_gtids, in_whole}
 use Rattle.source_history.proofs.Lists.{all_at, all_from, all_drop}
-use Rattle.faithful_runs.specs.Served.{accepted, received_on, local_commits}
+use Rattle.faithful_runs.specs.Served.{accepted, received_on, local_commits, NoLocalCommits}
 use Rattle.faithful_runs.proofs.Receiving.{among_received}
 use Rattle.faithful_runs.proofs.Growing.{nothing}
-use Rattle.faithful_runs.proofs.Sharing.{Brought, run_moves}
+use Rattle.faithful_runs.proofs.Serving.{run_grows}
+use Rattle.faithful_runs.proofs.Sharing.{Moves, Brought, run_moves}
 use Rattle.world.proofs.Contents.{entry_at, entry_from}
 use Rattle.faithful_runs.specs.Deciding.{all_of}
 use Rattle.txn_journal.specs.BundleStates.{BundleValue}
 use Rattle.txn_journal.specs.declared.bundle.Channel.{Channel}
 use Rattle.serving.specs.declared.receiving.Apply.{Apply}
 use Rattle.serving.specs.declared.receiving.Apply.TheVariants.{AtOnce}
-use Rattle.serving.specs.Faults.{IsFaultWhere, IsKnown, Knows, HasEntries, KnowsWith, KnowsToo}
+use Rattle.serving.specs.Faults.{Cover, IsFaultWhere, HasGtid, HasSet, IsReceived, Knows, HasEntries, KnowsWith, HasJournal, KnowsToo, intervals_of, IsBundleFault, IsVerdictFault}
 use Rattle.serving.specs.Serving.{run, IsBetween, IsFeed, Applies, Receives, with_opened, Asks, ServesOne, ServesEach, opening, IsRun}
 use Rattle.serving.proofs.Conditions.{sent_all}
-use Rattle.serving.proofs.Runs.{all_by, IsApart, no_receipts, no_commits, between_apart, feed_apart}
+use Rattle.serving.proofs.Runs.{all_by, IsApart, no_receipts, no_locals, no_commits, between_apart, feed_apart}
 
 -- ---- what a run brings
 
-brought_in : (all : Gtids) (r : Replica) (es : List Event) (g : Gtid) → local_commits r.site r.state es ≡ []
-    → ((c : ℕ) (h : Gtid) → is_entry (received_on c r.site r.state es) h ≡ true → set.contains all h ≡ true) → Brought r.site r.state es g → set.contains all g ≡ true
-brought_in all r es g local came (inl h) = nothing g (ap (λ xs. is_entry xs g) (sym local) ∙ h)
-brought_in all r es g local came (inr h) = came h.0 g h.1
+brought_in : (cover : Cover) (r : Replica) (es : List Event) (g : Gtid) → local_commits r.site r.state es ≡ []
+    → ((c : ℕ) (h : Gtid) → is_entry (received_on c r.site r.state es) h ≡ true → HasGtid cover h) → Brought r.site r.state es g → HasGtid cover g
+brought_in cover r es g local came (inl h) = nothing g (ap (λ xs. is_entry xs g) (sym local) ∙ h)
+brought_in cover r es g local came (inr h) = came h.0 g h.1
 
--- a run without local commits that brings no GTID but those of a set stays within it
-knows_run : (all : Gtids) (r : Replica) (es : List Event) → local_commits r.site r.state es ≡ []
-    → ((c : ℕ) (g : Gtid) → is_entry (received_on c r.site r.state es) g ≡ true → set.contains all g ≡ true) → Knows r.state all → Knows (run r es).state all
-knows_run all r es local came within g k = elim ((run_moves r.site r.state es).origin g k) [ inl was ↦ within g was | inr brought ↦ brought_in all r es g local came brought ]
+-- a run without local commits that brings no GTID but those of a cover stays within it
+knows_run : (cover : Cover) (r : Replica) (es : List Event) → NoLocalCommits r.site r.state es → local_commits r.site r.state es ≡ []
+    → ((c : ℕ) (g : Gtid) → is_entry (received_on c r.site r.state es) g ≡ true → HasGtid cover g) → Knows r.state cover → Knows (run r es).state cover
+knows_run cover r es quiet local came within = record {
+  executed = record {
+    in_all = λ g done. elim (moves.origin g (inl done)) [
+      | inl (inl was) ↦ within.executed.in_all g was
+      | inl (inr there) ↦ (within.received g there).in_all
+      | inr brought ↦ (brought_in cover r es g local came brought).in_all
+    ];
+    edges = moved_edges cover.places r.state.executed (run r es).state.executed within.executed.edges (λ g. changed g (set.contains r.state.executed g) refl (set.contains (run r es).state.executed g) refl);
+  };
+  received = λ g there. elim (moves.received g there) [ inl was ↦ within.received g was | inr brought ↦ brought_in cover r es g local came brought ];
+}
+  where
+    moves : Moves r.state (run r es).state (Brought r.site r.state es)
+    moves = run_moves r.site r.state es
 
-pub knows_applied : (all : Gtids) (apply : Apply) (r t : Replica) → Applies apply r t → Knows r.state all → Knows t.state all
-knows_applied all apply r t w within =
+    kept : (g : Gtid) → set.contains r.state.executed g ≡ true → set.contains (run r es).state.executed g ≡ true
+    kept = (run_grows r.site r.state es quiet).kept
+
+    changed : (g : Gtid) (old : Bool) → set.contains r.state.executed g ≡ old → (new : Bool) → set.contains (run r es).state.executed g ≡ new → (set.contains (run r es).state.executed g ≡ set.contains r.state.executed g) ⊎ HasEnds cover.places g
+    changed g true was new now = inl (kept g was ∙ sym was)
+    changed g false was false now = inl (now ∙ sym was)
+    changed g false was true now = elim (moves.origin g (inl now)) [
+      | inl (inl done) ↦ absurd (true≢false (sym done ∙ was))
+      | inl (inr there) ↦ inr (within.received g there).ends
+      | inr brought ↦ inr (brought_in cover r es g local came brought).ends
+    ]
+
+pub knows_applied : (cover : Cover) (apply : Apply) (r t : Replica) → Applies apply r t → Knows r.state cover → Knows t.state cover
+knows_applied cover apply r t w within =
     let off : (d : ℕ) → AllByRecursion (IsApart d) w.events = λ d. all_by (IsBetween apply) (IsApart d) (between_apart apply d) w.events w.between in
-    subst (λ (x : Replica). Knows x.state all) (sym w.now)
-    (knows_run all r w.events (no_commits 0 r.site r.state w.events (off 0)) (λ c g h. nothing g (ap (λ es. is_entry es g) (sym (no_receipts c r.site r.state w.events (off c))) ∙ h)) within)
+    subst (λ (x : Replica). Knows x.state cover) (sym w.now)
+    (knows_run cover r w.events (no_locals 0 r.site r.state w.events (off 0)) (no_commits 0 r.site r.state w.events (off 0)) (λ c g h. nothing g (ap (λ es. is_entry es g) (sym (no_receipts c r.site r.state w.events (off c))) ∙ h)) within)
 
-among : (es : List Entry) (all : Gtids) (g : Gtid) → HasEntries all es → is_entry es g ≡ true → set.contains all g ≡ true
-among es all g h i = let at = entry_at es g i in ap (set.contains all) (sym at.3) ∙ all_at (λ (e : Entry). set.contains all e.gtid ≡ true) es at.0 at.1 h at.2
+among : (es : List Entry) (cover : Cover) (g : Gtid) → HasEntries cover es → is_entry es g ≡ true → HasGtid cover g
+among es cover g h i = let at = entry_at es g i in subst (HasGtid cover) at.3 (all_at (λ (e : Entry). HasGtid cover e.gtid) es at.0 at.1 h at.2)
 
 -- a channel that receives these brings nothing else
-pub knows_received : (all : Gtids) (apply : Apply) (r t : Replica) (c : ℕ) (entries : List Entry) → Receives apply r c entries t → HasEntries all entries → Knows r.state all → Knows t.state all
-knows_received all apply r t c entries v h within =
+pub knows_received : (cover : Cover) (apply : Apply) (r t : Replica) (c : ℕ) (entries : List Entry) → Receives apply r c entries t → HasEntries cover entries → Knows r.state cover → Knows t.state cover
+knows_received cover apply r t c entries v h within =
     let off : (d : ℕ) → (c ≡ d → ⊥) → AllByRecursion (IsApart d) v.events = λ d other. all_by (IsFeed apply c) (IsApart d) (λ e. feed_apart apply c d e (ne_eqb c d other)) v.events v.feeds in
-    subst (λ (x : Replica). Knows x.state all) (sym v.now)
-    (knows_run all r v.events (no_commits (suc c) r.site r.state v.events (off (suc c) (λ same. absurd (omega (arith, same)))))
+    let past = off (suc c) (λ same. absurd (omega (arith, same))) in
+    subst (λ (x : Replica). Knows x.state cover) (sym v.now)
+    (knows_run cover r v.events (no_locals (suc c) r.site r.state v.events past) (no_commits (suc c) r.site r.state v.events past)
     (λ d g k. elim (cases_eq c d) [
-      | inl same ↦ among entries all g h (ap (λ es. is_entry es g) (sym v.got ∙ ap (λ x. received_on x r.site r.state v.events) same) ∙ k)
+      | inl same ↦ among entries cover g h (ap (λ es. is_entry es g) (sym v.got ∙ ap (λ x. received_on x r.site r.state v.events) same) ∙ k)
       | inr other ↦ nothing g (ap (λ es. is_entry es g) (sym (no_receipts d r.site r.state v.events (off d other))) ∙ k)
     ]) within)
 
-pub knows_opened : (all : Gtids) (r : Replica) (channel : Channel) → Knows r.state all → Knows (with_opened r channel).state all
-knows_opened all r channel within = knows_run all r (OpenChannel channel.name channel.preserve ∷ []) refl (λ c g h. nothing g h) within
+pub knows_opened : (cover : Cover) (r : Replica) (channel : Channel) → Knows r.state cover → Knows (with_opened r channel).state cover
+knows_opened cover r channel within = knows_run cover r (OpenChannel channel.name channel.preserve ∷ []) (tt, tt) refl (λ c g h. nothing g h) within
 
-pub knows_asking : (all : Gtids) (r t : Replica) (c : ℕ) (channel : Channel) (j : JournalValue) (es : List Entry) → Asks r c channel j es t → Knows r.state all → Knows t.state all
-knows_asking all r t c channel j es asks within =
-    subst (λ (x : Replica). Knows x.state all) (sym asks.now) (knows_run all (with_opened r channel) (Position c ∷ []) refl (λ d g h. nothing g h) (knows_opened all r channel within))
+pub knows_asking : (cover : Cover) (r t : Replica) (c : ℕ) (channel : Channel) (j : JournalValue) (es : List Entry) → Asks r c channel j es t → Knows r.state cover → Knows t.state cover
+knows_asking cover r t c channel j es asks within =
+    subst (λ (x : Replica). Knows x.state cover) (sym asks.now) (knows_run cover (with_opened r channel) (Position c ∷ []) (tt, tt) refl (λ d g h. nothing g h) (knows_opened cover r channel within))
 
-pub sends_known : (all : Gtids) (r t : Replica) (c : ℕ) (channel : Channel) (j : JournalValue) (es : List Entry) → Asks r c channel j es t → HasEntries all j.entries → HasEntries all es
-sends_known all r t c channel j es asks h = sent_all (λ (e : Entry). set.contains all e.gtid ≡ true) j asks.ask es asks.all_sent h
+pub sends_known : (cover : Cover) (r t : Replica) (c : ℕ) (channel : Channel) (j : JournalValue) (es : List Entry) → Asks r c channel j es t → HasEntries cover j.entries → HasEntries cover es
+sends_known cover r t c channel j es asks h = sent_all (λ (e : Entry). HasGtid cover e.gtid) j asks.ask es asks.all_sent h
 
-pub knows_one : (all : Gtids) (apply : Apply) (r t : Replica) (c : ℕ) (channel : Channel) (j : JournalValue) → ServesOne apply r c channel j t → HasEntries all j.entries → Knows r.state all → Knows t.state all
-knows_one all apply r t c channel j one h within =
-    knows_received all apply one.asking t c one.all one.received (sends_known all r one.asking c channel j one.all one.asks h) (knows_asking all r one.asking c channel j one.all one.asks within)
+pub knows_one : (cover : Cover) (apply : Apply) (r t : Replica) (c : ℕ) (channel : Channel) (j : JournalValue) → ServesOne apply r c channel j t → HasEntries cover j.entries → Knows r.state cover → Knows t.state cover
+knows_one cover apply r t c channel j one h within =
+    knows_received cover apply one.asking t c one.all one.received (sends_known cover r one.asking c channel j one.all one.asks h) (knows_asking cover r one.asking c channel j one.all one.asks within)
 
-knows_each : (all : Gtids) (apply : Apply) (r : Replica) (c : ℕ) (channels : List Channel) (js : List JournalValue) (t : Replica) → ServesEach apply r c channels js t
-    → AllByRecursion (λ (j : JournalValue). HasEntries all j.entries) js → Knows r.state all → Knows t.state all
-knows_each all apply r c channels [] t x h within = subst (λ (y : Replica). Knows y.state all) (sym x) within
-knows_each all apply r c [] (j ∷ js) t x h within = absurd x
-knows_each all apply r c (channel ∷ channels) (j ∷ js) t x h within =
-    knows_each all apply x.0 (c + 1) channels js t x.2 h.1 (knows_one all apply r x.0 c channel j x.1 h.0 within)
+knows_each : (cover : Cover) (apply : Apply) (r : Replica) (c : ℕ) (channels : List Channel) (js : List JournalValue) (t : Replica) → ServesEach apply r c channels js t
+    → AllByRecursion (HasJournal cover) js → Knows r.state cover → Knows t.state cover
+knows_each cover apply r c channels [] t x h within = subst (λ (y : Replica). Knows y.state cover) (sym x) within
+knows_each cover apply r c [] (j ∷ js) t x h within = absurd x
+knows_each cover apply r c (channel ∷ channels) (j ∷ js) t x h within =
+    knows_each cover apply x.0 (c + 1) channels js t x.2 h.1 (knows_one cover apply r x.0 c channel j x.1 h.0.entries within)
 
 -- ---- from the opening
 
@@ -114,24 +150,108 @@ opened_in opened [] g h = h
 opened_in opened (k ∷ js) g h =
     set.contains-union gtid_total (whole k) (all_of opened js) g ∙ or_right (set.contains (whole k) g) (set.contains (all_of opened js) g) (opened_in opened js g h)
 
-journals_in : (opened : Gtids) (js : List JournalValue) → AllByRecursion (λ (j : JournalValue). HasEntries (all_of opened js) j.entries) js
-journals_in opened js = all_from (λ (j : JournalValue). HasEntries (all_of opened js) j.entries) js (λ i j at.
-    all_from (λ (e : Entry). set.contains (all_of opened js) e.gtid ≡ true) j.entries (λ p e there.
-    in_all opened js i j e.gtid at (in_whole j e.gtid ∙ or_right (set.contains j.previous e.gtid) (is_entry j.entries e.gtid) (entry_from j.entries p e there))))
+-- the ends of the GTIDs of entries
+abbrev pub ends_of_entries : List Entry → List Gtid
+ends_of_entries [] = []
+ends_of_entries (e ∷ es) = e.gtid ∷ next_to e.gtid ∷ ends_of_entries es
 
--- the GTIDs of the opening set and of all journals are all that the replica of a bundle comes to know
-pub knows_opening : (b : BundleValue) → KnowsToo (opening b).state b.journals (all_of b.opened b.journals)
+-- the edges of the opening set and of the previous sets, and the ends of all entries
+abbrev pub listed_places : Gtids → List JournalValue → List Gtid
+listed_places opened [] = ends_of (runs opened)
+listed_places opened (j ∷ js) = (ends_of (runs j.previous) ++ ends_of_entries j.entries) ++ listed_places opened js
+
+abbrev pub places_of : Gtids → List JournalValue → Gtids
+places_of opened js = set.from_list (listed_places opened js)
+
+length-ends_of_entries : (es : List Entry) → length (ends_of_entries es) ≡ 2 * length es
+length-ends_of_entries [] = refl
+length-ends_of_entries (e ∷ es) = let rest = length-ends_of_entries es in omega (arith, rest)
+
+length-listed_places : (opened : Gtids) (js : List JournalValue) → length (listed_places opened js) ≡ 2 * intervals_of opened js
+length-listed_places opened [] = length-ends (runs opened)
+length-listed_places opened (j ∷ js) =
+    let both = length-append (ends_of (runs j.previous) ++ ends_of_entries j.entries) (listed_places opened js) in
+    let own = length-append (ends_of (runs j.previous)) (ends_of_entries j.entries) in
+    let previous = length-ends (runs j.previous) in
+    let entries = length-ends_of_entries j.entries in
+    let rest = length-listed_places opened js in
+    omega (arith, both, own, previous, entries, rest)
+
+-- so there are no more than twice the intervals and entries
+few_places : (opened : Gtids) (js : List JournalValue) → AreManyEdges (places_of opened js) → most_intervals < intervals_of opened js
+few_places opened js many =
+    let le = len-listed (listed_places opened js) in
+    let twice = length-listed_places opened js in
+    omega (arith, many, le, twice)
+
+in_front : (q : Gtid) (xs ys : List Gtid) → is_listed q xs ≡ true → is_listed q (xs ++ ys) ≡ true
+in_front q xs ys h = list_any-append (same_gtid q) xs ys ∙ or_left (is_listed q xs) (is_listed q ys) h
+
+in_back : (q : Gtid) (xs ys : List Gtid) → is_listed q ys ≡ true → is_listed q (xs ++ ys) ≡ true
+in_back q xs ys h = list_any-append (same_gtid q) xs ys ∙ or_right (is_listed q xs) (is_listed q ys) h
+
+-- the places of one journal are among those of all
+in_places : (opened : Gtids) (js : List JournalValue) (i : ℕ) (j : JournalValue) (q : Gtid) → slice_get js i ≡ Some j → is_listed q (ends_of (runs j.previous) ++ ends_of_entries j.entries) ≡ true → is_listed q (listed_places opened js) ≡ true
+in_places opened [] i j q at h = none_some j at
+in_places opened (k ∷ js) zero j q at h =
+    in_front q (ends_of (runs k.previous) ++ ends_of_entries k.entries) (listed_places opened js) (ap (λ (x : JournalValue). is_listed q (ends_of (runs x.previous) ++ ends_of_entries x.entries)) (same_Some k j at) ∙ h)
+in_places opened (k ∷ js) (suc i) j q at h = in_back q (ends_of (runs k.previous) ++ ends_of_entries k.entries) (listed_places opened js) (in_places opened js i j q at h)
+
+opened_places : (opened : Gtids) (js : List JournalValue) (q : Gtid) → is_listed q (ends_of (runs opened)) ≡ true → is_listed q (listed_places opened js) ≡ true
+opened_places opened [] q h = h
+opened_places opened (k ∷ js) q h = in_back q (ends_of (runs k.previous) ++ ends_of_entries k.entries) (listed_places opened js) (opened_places opened js q h)
+
+-- the ends of one entry are among those of all
+entry_ends : (es : List Entry) (p : ℕ) (e : Entry) (q : Gtid) → slice_get es p ≡ Some e → (same_gtid q e.gtid || (same_gtid q (next_to e.gtid) || false)) ≡ true → is_listed q (ends_of_entries es) ≡ true
+entry_ends [] p e q at h = none_some e at
+entry_ends (x ∷ es) zero e q at h = let same = ap (λ (y : Entry). y.gtid) (same_Some x e at) in first (same_gtid q x.gtid) (same_gtid q (next_to x.gtid)) (is_listed q (ends_of_entries es)) (ap (λ (g : Gtid). same_gtid q g || (same_gtid q (next_to g) || false)) same ∙ h)
+  where
+    first : (a b c : Bool) → (a || (b || false)) ≡ true → (a || (b || c)) ≡ true
+    first true b c h = refl
+    first false true c h = refl
+    first false false c h = absurd cc
+entry_ends (x ∷ es) (suc p) e q at h = or_right (same_gtid q x.gtid) (same_gtid q (next_to x.gtid) || is_listed q (ends_of_entries es)) (or_right (same_gtid q (next_to x.gtid)) (is_listed q (ends_of_entries es)) (entry_ends es p e q at h))
+
+-- the GTIDs of the opening set and of all journals, and all these places
+abbrev pub cover_of : Gtids → List JournalValue → Cover
+cover_of opened js = record { all = all_of opened js; places = places_of opened js }
+
+entry_covered : (opened : Gtids) (js : List JournalValue) (i : ℕ) (j : JournalValue) (p : ℕ) (e : Entry) → slice_get js i ≡ Some j → slice_get j.entries p ≡ Some e → HasGtid (cover_of opened js) e.gtid
+entry_covered opened js i j p e at there = record {
+  in_all = in_all opened js i j e.gtid at (in_whole j e.gtid ∙ or_right (set.contains j.previous e.gtid) (is_entry j.entries e.gtid) (entry_from j.entries p e there));
+  ends = (
+    place e.gtid (or_left (same_gtid e.gtid e.gtid) (same_gtid e.gtid (next_to e.gtid) || false) (same_itself e.gtid)),
+    place (next_to e.gtid) (or_right (same_gtid (next_to e.gtid) e.gtid) (same_gtid (next_to e.gtid) (next_to e.gtid) || false) (or_left (same_gtid (next_to e.gtid) (next_to e.gtid)) false (same_itself (next_to e.gtid)))),
+  );
+}
+  where
+    place : (q : Gtid) → (same_gtid q e.gtid || (same_gtid q (next_to e.gtid) || false)) ≡ true → set.contains (places_of opened js) q ≡ true
+    place q h = contains-listed (listed_places opened js) q ∙ in_places opened js i j q at (in_back q (ends_of (runs j.previous)) (ends_of_entries j.entries) (entry_ends j.entries p e q there h))
+
+journals_in : (opened : Gtids) (js : List JournalValue) → AllByRecursion (HasJournal (cover_of opened js)) js
+journals_in opened js = all_from (HasJournal (cover_of opened js)) js (λ i j at. record {
+  previous = listed_edges (listed_places opened js) j.previous (λ q h. in_places opened js i j q at (in_front q (ends_of (runs j.previous)) (ends_of_entries j.entries) h));
+  entries = all_from (λ (e : Entry). HasGtid (cover_of opened js) e.gtid) j.entries (λ p e there. entry_covered opened js i j p e at there);
+})
+
+-- these are all that the replica of a bundle comes to know
+pub knows_opening : (b : BundleValue) → KnowsToo (opening b).state b.journals (cover_of b.opened b.journals)
 knows_opening b = (known, journals_in b.opened b.journals)
   where
-    known : Knows (opening b).state (all_of b.opened b.journals)
-    known g (inl h) = opened_in b.opened b.journals g h
-    known g (inr h) = none_some h.1 h.2
+    known : Knows (opening b).state (cover_of b.opened b.journals)
+    known = record {
+      executed = record {
+        in_all = λ g h. opened_in b.opened b.journals g h;
+        edges = listed_edges (listed_places b.opened b.journals) b.opened (λ q h. opened_places b.opened b.journals q h);
+      };
+      received = λ g h. none_some h.1 h.2;
+    }
 
-knows_all : (b : BundleValue) (core : Replica) → IsRun b core → Knows core.state (all_of b.opened b.journals)
+knows_all : (b : BundleValue) (core : Replica) → IsRun b core → Knows core.state (cover_of b.opened b.journals)
 knows_all b core r =
-    let all = all_of b.opened b.journals in
+    let cover = cover_of b.opened b.journals in
     let start = knows_opening b in
-    knows_applied all AtOnce r.served core r.applies (knows_each all r.apply (opening b) 0 b.channels b.journals r.served r.received.1 start.1 start.0)
+    knows_applied cover AtOnce r.served core r.applies (knows_each cover r.apply (opening b) 0 b.channels b.journals r.served r.received.1 start.1 start.0)
 
 take_all_of : (P : Entry → Type 0) (n : ℕ) (es : List Entry) → AllByRecursion P es → AllByRecursion P (take n es)
 take_all_of P zero es h = tt
@@ -139,66 +259,85 @@ take_all_of P (suc n) [] h = tt
 take_all_of P (suc n) (e ∷ es) h = (h.0, take_all_of P n es h.1)
 
 -- a replica that has received the first of some entries knows no more than these, and the next is one of them
-pub knows_so_far : (all : Gtids) (apply : Apply) (r t : Replica) (c i : ℕ) (e : Entry) (es : List Entry) → i < length es → e ≡ get_or es i e → Receives apply r c (take i es) t
-    → KnowsWith r.state es all → KnowsWith t.state (e ∷ []) all
-knows_so_far all apply r t c i e es few is v has =
-    let P = λ (x : Entry). set.contains all x.gtid ≡ true in (
-      knows_received all apply r t c (take i es) v (take_all_of P i es has.1) has.0,
+pub knows_so_far : (cover : Cover) (apply : Apply) (r t : Replica) (c i : ℕ) (e : Entry) (es : List Entry) → i < length es → e ≡ get_or es i e → Receives apply r c (take i es) t
+    → KnowsWith r.state es cover → KnowsWith t.state (e ∷ []) cover
+knows_so_far cover apply r t c i e es few is v has =
+    let P = λ (x : Entry). HasGtid cover x.gtid in (
+      knows_received cover apply r t c (take i es) v (take_all_of P i es has.1) has.0,
       ((subst (AllByRecursion P) (drop-cons es i e few ∙ (λ k. sym is k ∷ drop (suc i) es)) (all_drop P i es has.1)).0, tt),
     )
 
 -- ---- the set that an event makes
 
-known_received : (s : State) (c : ℕ) (ch : ChannelValue) (g : Gtid) → slice_get s.channels c ≡ Some ch → set.contains (received_gtids ch.received) g ≡ true → IsKnown s g
-known_received s c ch g at h = inr (c, ch, at, among_received ch.received g (sym (in_gtids (map (λ (e : Received). e.gtid) ch.received) g) ∙ h))
-
-known_asked : (s : State) (c : ℕ) (ch : ChannelValue) (g : Gtid) → slice_get s.channels c ≡ Some ch → set.contains (ask s ch) g ≡ true → IsKnown s g
-known_asked s c ch g at h = elim (or_cases (set.contains s.executed g) (set.contains (received_gtids ch.received) g) (sym (contains-union gtid_total s.executed (received_gtids ch.received) g) ∙ h)) [
-  | inl done ↦ inl done
-  | inr there ↦ known_received s c ch g at there
-]
+received_there : (s : State) (c : ℕ) (ch : ChannelValue) (g : Gtid) → slice_get s.channels c ≡ Some ch → set.contains (received_gtids ch.received) g ≡ true → IsReceived s g
+received_there s c ch g at h = (c, ch, at, among_received ch.received g (sym (in_gtids (map (λ (e : Received). e.gtid) ch.received) g) ∙ h))
 
 -- what a seat holds was received
-known_held : (s : State) (seat : ℕ) (h : Held) → held s seat ≡ Some h → IsKnown s h.gtid
-known_held s seat h e =
+held_there : (s : State) (seat : ℕ) (h : Held) → held s seat ≡ Some h → IsReceived s h.gtid
+held_there s seat h e =
     let a = and_then_some (held_at s) (finmap.get s.seats seat) h e in
     let b = and_then_some (λ (ch : ChannelValue). option_and_then (held_of a.0 ch) (slice_get ch.received a.0.place)) (slice_get s.channels a.0.channel) h a.2 in
     let c = and_then_some (held_of a.0 b.0) (slice_get b.0.received a.0.place) h b.2 in
     let d = map_some (λ (t : Transaction). record { spot = a.0; channel = b.0; gtid = c.0.gtid; txn = t }) c.0.txn h c.2 in
-    inr (a.0.channel, b.0, b.1, (a.0.place, c.0, c.1, ap (λ (x : Held). x.gtid) d.2))
+    (a.0.channel, b.0, b.1, (a.0.place, c.0, c.1, ap (λ (x : Held). x.gtid) d.2))
 
-with_one : (all s : Gtids) (g h : Gtid) → set.contains all g ≡ true → (set.contains s h ≡ true → set.contains all h ≡ true) → set.contains (set.insert s g) h ≡ true → set.contains all h ≡ true
-with_one all s g h here there i = elim (or_cases (same_gtid h g) (set.contains s h) (sym (in_insert s g h) ∙ i)) [
-  | inl is ↦ ap (set.contains all) (same_is_equal h g is) ∙ here
-  | inr was ↦ there was
-]
+-- the set of what a channel has received
+has_received : (cover : Cover) (s : State) (c : ℕ) (ch : ChannelValue) → Knows s cover → slice_get s.channels c ≡ Some ch → HasSet cover (received_gtids ch.received)
+has_received cover s c ch within at = record {
+  in_all = λ g h. (within.received g (received_there s c ch g at h)).in_all;
+  edges = members_edges cover.places (received_gtids ch.received) (λ g h. (within.received g (received_there s c ch g at h)).ends);
+}
+
+has_union : (cover : Cover) (s t : Gtids) → HasSet cover s → HasSet cover t → HasSet cover (set.union s t)
+has_union cover s t x y = record {
+  in_all = λ g h. elim (or_cases (set.contains s g) (set.contains t g) (sym (contains-union gtid_total s t g) ∙ h)) [ inl a ↦ x.in_all g a | inr b ↦ y.in_all g b ];
+  edges = union_edges cover.places s t x.edges y.edges;
+}
+
+has_insert : (cover : Cover) (s : Gtids) (g : Gtid) → HasSet cover s → HasGtid cover g → HasSet cover (set.insert s g)
+has_insert cover s g x y = record {
+  in_all = λ h i. elim (or_cases (same_gtid h g) (set.contains s h) (sym (in_insert s g h) ∙ i)) [
+    | inl is ↦ ap (set.contains cover.all) (same_is_equal h g is) ∙ y.in_all
+    | inr was ↦ x.in_all h was
+  ];
+  edges = insert_edges cover.places s g x.edges y.ends;
+}
+
+-- the set with which a channel asks
+pub has_ask : (cover : Cover) (s : State) (c : ℕ) (ch : ChannelValue) → Knows s cover → slice_get s.channels c ≡ Some ch → HasSet cover (ask s ch)
+has_ask cover s c ch within at = has_union cover s.executed (received_gtids ch.received) within.executed (has_received cover s c ch within at)
 
 -- ---- faults
 
--- a fault where less is asked of a set
-pub weaker : (f : SetFault) (Has Has' : Gtids → Type 0) → ((all : Gtids) → Has' all → Has all) → IsFaultWhere Has f → IsFaultWhere Has' f
-weaker f Has Has' has h = fault_map f (λ full all a. full all (has all a)) h
+-- a fault where less is asked of a cover
+pub weaker : (f : SetFault) (Covers Covers' : Cover → Type 0) → ((cover : Cover) → Covers' cover → Covers cover) → IsFaultWhere Covers f → IsFaultWhere Covers' f
+weaker f Covers Covers' has h = fault_map f (λ full cover a. full cover (has cover a)) (λ many cover a. many cover (has cover a)) h
 
--- a set that an event makes has too many sources: so has each of which it is a part
-option_fault : (f : SetFault) (Has : Gtids → Type 0) (o : Option Gtids)
-    → ((all : Gtids) → Has all → (made : Gtids) → o ≡ Some made → (g : Gtid) → set.contains made g ≡ true → set.contains all g ≡ true) → IsFaultIn f o → IsFaultWhere Has f
-option_fault f Has None part h = memory_fault _ f h
-option_fault f Has (Some made) part h = fault_map f (λ high all a. let low = fewer_sources made all (part all a made refl) in omega (arith, low, high)) h
+-- a set that an event makes is too large: then what covers it is
+set_fault : (f : SetFault) (Covers : Cover → Type 0) (made : Gtids) → ((cover : Cover) → Covers cover → HasSet cover made) → IsFaultOf f made → IsFaultWhere Covers f
+set_fault f Covers made part h =
+    fault_map f
+    (λ high cover a. let low = fewer_sources made cover.all (part cover a).in_all in omega (arith, low, high))
+    (λ many cover a. many_edges cover.places made (part cover a).edges many) h
+
+option_fault : (f : SetFault) (Covers : Cover → Type 0) (o : Option Gtids) → ((cover : Cover) → Covers cover → (made : Gtids) → o ≡ Some made → HasSet cover made) → IsFaultIn f o → IsFaultWhere Covers f
+option_fault f Covers None part h = memory_fault _ _ f h
+option_fault f Covers (Some made) part h = set_fault f Covers made (λ cover a. part cover a made refl) h
 
 pub position_fault : (f : SetFault) (s : State) (c : ℕ) → IsFaultIn f (asking c s) → IsFaultWhere (Knows s) f
-position_fault f s c h = option_fault f (Knows s) (asking c s) (λ all within made is g k.
+position_fault f s c h = option_fault f (Knows s) (asking c s) (λ cover within made is.
     let r = map_some (ask s) (slice_get s.channels c) made is in
-    within g (known_asked s c r.0 g r.1 (ap (λ (x : Gtids). set.contains x g) r.2 ∙ k))) h
+    subst (HasSet cover) r.2 (has_ask cover s c r.0 within r.1)) h
 
 pub receive_fault : (f : SetFault) (s : State) (c : ℕ) (e : Entry) → IsFaultIn f (receiving c e s) → IsFaultWhere (KnowsWith s (e ∷ [])) f
-receive_fault f s c e h = option_fault f (KnowsWith s (e ∷ [])) (receiving c e s) (λ all has made is g k.
+receive_fault f s c e h = option_fault f (KnowsWith s (e ∷ [])) (receiving c e s) (λ cover has made is.
     let r = map_some (gtids_with e) (slice_get s.channels c) made is in
-    with_one all (received_gtids r.0.received) e.gtid g has.1.0 (λ there. has.0 g (known_received s c r.0 g r.1 there)) (ap (λ (x : Gtids). set.contains x g) r.2 ∙ k)) h
+    subst (HasSet cover) r.2 (has_insert cover (received_gtids r.0.received) e.gtid (has_received cover s c r.0 has.0 r.1) has.1.0)) h
 
 pub commit_fault : (f : SetFault) (s : State) (seat : ℕ) → IsFaultIn f (committing seat s) → IsFaultWhere (Knows s) f
-commit_fault f s seat h = option_fault f (Knows s) (committing seat s) (λ all within made is g k.
+commit_fault f s seat h = option_fault f (Knows s) (committing seat s) (λ cover within made is.
     let r = map_some (λ (x : Held). executing_too s x.gtid) (held s seat) made is in
-    with_one all s.executed r.0.gtid g (within r.0.gtid (known_held s seat r.0 r.1)) (λ there. within g (inl there)) (ap (λ (x : Gtids). set.contains x g) r.2 ∙ k)) h
+    subst (HasSet cover) r.2 (has_insert cover s.executed r.0.gtid within.executed (within.received r.0.gtid (held_there s seat r.0 r.1)))) h
 
 or_none : (b : Bool) → (b || false) ≡ true → b ≡ true
 or_none true h = h
@@ -214,37 +353,79 @@ fault_at_once f r c p e (inl h) = receive_fault f r.state c e h.cause
 fault_at_once f r c p e (inr h) =
     let taken = run r (Receive c e ∷ Take 1 c p ∷ []) in
     weaker f (Knows taken.state) (KnowsWith r.state (e ∷ []))
-    (λ all has. knows_run all r (Receive c e ∷ Take 1 c p ∷ []) refl (λ d g k. ap (set.contains all) (received_alone (eqb c d) c e (step r.site r.state (Receive c e)).0 g k) ∙ has.1.0) has.0)
+    (λ cover has. knows_run cover r (Receive c e ∷ Take 1 c p ∷ []) (tt, (tt, tt)) refl (λ d g k. subst (HasGtid cover) (sym (received_alone (eqb c d) c e (step r.site r.state (Receive c e)).0 g k)) has.1.0) has.0)
     (commit_fault f taken.state 1 h.cause)
 
--- a fault where such a set is there
-pub fault_of : (f : SetFault) (Has : Gtids → Type 0) (all : Gtids) → Has all → IsFaultWhere Has f → IsFaultOf f all
-fault_of f Has all a h = fault_map f (λ full. full all a) h
+-- the answer of a source to a replica that asks with what is executed is not made
+ends_of_all : (cover : Cover) (es : List Entry) → HasEntries cover es → HasEndsOf cover.places es
+ends_of_all cover [] h = tt
+ends_of_all cover (e ∷ es) h = (h.0.ends, ends_of_all cover es h.1)
+
+pub plan_fault : (f : SetFault) (s : State) (j : JournalValue) (asked : Gtids) → set.union s.executed (received_gtids []) ≡ asked → IsPlanFault j asked f → IsFaultWhere (KnowsToo s (j ∷ [])) f
+plan_fault f s j asked is h = fault_map f (λ none. absurd none) (λ many cover has. many cover.places (record {
+  asked = subst (HasEdges cover.places) is (union_edges cover.places s.executed (received_gtids []) has.0.executed.edges (empty_edges cover.places));
+  journal_edges = record { previous = has.1.0.previous; entries = ends_of_all cover j.entries has.1.0.entries };
+})) h
+
+-- ---- the verdict of an audit
+
+no_fewer : (n : ℕ) → n ≤ n
+no_fewer n = omega arith
+
+opening_few : (opened : Gtids) (js : List JournalValue) → interval_count opened ≤ intervals_of opened js
+opening_few opened [] = no_fewer (interval_count opened)
+opening_few opened (j ∷ js) = let rest = opening_few opened js in omega (arith, rest)
+
+previous_few : (opened : Gtids) (js : List JournalValue) (i : ℕ) (j : JournalValue) → slice_get js i ≡ Some j → interval_count j.previous + interval_count opened ≤ intervals_of opened js
+previous_few opened [] i j at = none_some j at
+previous_few opened (k ∷ js) zero j at =
+    let same = ap (λ (x : JournalValue). interval_count x.previous) (same_Some k j at) in
+    let rest = opening_few opened js in
+    omega (arith, same, rest)
+previous_few opened (k ∷ js) (suc i) j at = let rest = previous_few opened js i j at in omega (arith, rest)
+
+pub verdict_fault : (f : SetFault) (b : BundleValue) (opened : Gtids) (journals : List JournalValue) → opened ≡ b.opened → journals ≡ b.journals → IsAuditFault opened journals f → IsVerdictFault b f
+verdict_fault f b opened journals o js h =
+    fault_map f (λ none. none)
+    (λ lacks.
+    let few = difference_few lacks.journal.previous opened in
+    let sum = previous_few opened journals lacks.place lacks.journal lacks.at in
+    let many = lacks.many in
+    let all : intervals_of opened journals ≡ intervals_of b.opened b.journals = λ i. intervals_of (o i) (js i) in
+    omega (arith, few, sum, many, all))
+    h
+
+pub verdict_bundle : (f : SetFault) (b : BundleValue) → IsVerdictFault b f → IsBundleFault b f
+verdict_bundle f b h = fault_map f (λ none. absurd none) (λ many. many) h
+
+-- a fault of what the cover of a bundle has
+pub bundle_fault : (f : SetFault) (b : BundleValue) (Covers : Cover → Type 0) → Covers (cover_of b.opened b.journals) → IsFaultWhere Covers f → IsBundleFault b f
+bundle_fault f b Covers a h = fault_map f (λ full. full (cover_of b.opened b.journals) a) (λ many. few_places b.opened b.journals (many (cover_of b.opened b.journals) a)) h
 
 -- a fault of work that is done after other work
 pub later_fault : (f : SetFault) (apply : Apply) (r t : Replica) → Applies apply r t → IsFaultWhere (Knows t.state) f → IsFaultWhere (Knows r.state) f
-later_fault f apply r t applies h = weaker f (Knows t.state) (Knows r.state) (λ all within. knows_applied all apply r t applies within) h
+later_fault f apply r t applies h = weaker f (Knows t.state) (Knows r.state) (λ cover within. knows_applied cover apply r t applies within) h
 
 -- a fault of a replica that was served the journals of a bundle
-pub run_fault : (f : SetFault) (b : BundleValue) (core : Replica) → IsRun b core → IsFaultWhere (Knows core.state) f → IsFaultOf f (all_of b.opened b.journals)
-run_fault f b core r h = fault_of f (Knows core.state) (all_of b.opened b.journals) (knows_all b core r) h
+pub run_fault : (f : SetFault) (b : BundleValue) (core : Replica) → IsRun b core → IsFaultWhere (Knows core.state) f → IsBundleFault b f
+run_fault f b core r h = bundle_fault f b (Knows core.state) (knows_all b core r) h
 
 -- ... by which a commit of some seat is answered
-pub seat_fault : (f : SetFault) (b : BundleValue) (core : Replica) (seat : ℕ) → IsRun b core → IsFaultIn f (committing seat core.state) → IsFaultOf f (all_of b.opened b.journals)
+pub seat_fault : (f : SetFault) (b : BundleValue) (core : Replica) (seat : ℕ) → IsRun b core → IsFaultIn f (committing seat core.state) → IsBundleFault b f
 seat_fault f b core seat r h = run_fault f b core r (commit_fault f core.state seat h)
 
 -- a fault of the first journal, and one of the others
 pub first_fault : (f : SetFault) (s : State) (j : JournalValue) (js journals : List JournalValue) → journals ≡ j ∷ js → IsFaultWhere (KnowsToo s (j ∷ [])) f → IsFaultWhere (KnowsToo s journals) f
 first_fault f s j js journals is h =
-    subst (λ (xs : List JournalValue). IsFaultWhere (KnowsToo s xs) f) (sym is) (weaker f (KnowsToo s (j ∷ [])) (KnowsToo s (j ∷ js)) (λ all has. (has.0, (has.1.0, tt))) h)
+    subst (λ (xs : List JournalValue). IsFaultWhere (KnowsToo s xs) f) (sym is) (weaker f (KnowsToo s (j ∷ [])) (KnowsToo s (j ∷ js)) (λ cover has. (has.0, (has.1.0, tt))) h)
 
 pub rest_fault : (f : SetFault) (apply : Apply) (r t : Replica) (c : ℕ) (channel : Channel) (j : JournalValue) (js journals : List JournalValue) → journals ≡ j ∷ js → ServesOne apply r c channel j t
     → IsFaultWhere (KnowsToo t.state js) f → IsFaultWhere (KnowsToo r.state journals) f
 rest_fault f apply r t c channel j js journals is one h =
     subst (λ (xs : List JournalValue). IsFaultWhere (KnowsToo r.state xs) f) (sym is)
-    (weaker f (KnowsToo t.state js) (KnowsToo r.state (j ∷ js)) (λ all has. (knows_one all apply r t c channel j one has.1.0 has.0, has.1.1)) h)
+    (weaker f (KnowsToo t.state js) (KnowsToo r.state (j ∷ js)) (λ cover has. (knows_one cover apply r t c channel j one has.1.0.entries has.0, has.1.1)) h)
 
 -- a fault of entries that a journal sends
 pub sent_fault : (f : SetFault) (r t : Replica) (c : ℕ) (channel : Channel) (j : JournalValue) (es : List Entry) → Asks r c channel j es t → IsFaultWhere (KnowsWith t.state es) f → IsFaultWhere (KnowsToo r.state (j ∷ [])) f
 sent_fault f r t c channel j es asks h =
-    weaker f (KnowsWith t.state es) (KnowsToo r.state (j ∷ [])) (λ all has. (knows_asking all r t c channel j es asks has.0, sends_known all r t c channel j es asks has.1.0)) h
+    weaker f (KnowsWith t.state es) (KnowsToo r.state (j ∷ [])) (λ cover has. (knows_asking cover r t c channel j es asks has.0, sends_known cover r t c channel j es asks has.1.0.entries)) h

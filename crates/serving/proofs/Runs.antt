@@ -67,7 +67,7 @@ no_local : (d : ℕ) (e : Event) (r : Reply) → IsApart d e → IsNoLocalCommit
 no_local d (Local txn) r h = absurd h
 no_local d e r h = tt
 
-no_locals : (d : ℕ) (site : Site) (s : State) (es : List Event) → AllByRecursion (IsApart d) es → NoLocalCommits site s es
+pub no_locals : (d : ℕ) (site : Site) (s : State) (es : List Event) → AllByRecursion (IsApart d) es → NoLocalCommits site s es
 no_locals d site s [] h = tt
 no_locals d site s (e ∷ es) h = (no_local d e (step site s e).0 h.0, no_locals d site (step site s e).1 es h.1)
 

@@ -70,7 +70,7 @@ never_refused true false x y z all known kept e = cc
 never_refused false c x y z all known kept e = cc
 
 -- a source without a UUID refuses nothing that is asked for rightly
-pub never_refuses : (j : JournalValue) (ask : Gtids) (p q : PositionFault) → q ≡ p → IsRefusal q (sent j ask None) → (IsRefusal p (sent j ask None) → sent j ask None ≡ Err p) → set.is_subset j.previous ask ≡ true → ⊥
+pub never_refuses : (j : JournalValue) (ask : Gtids) (p q : PositionFault) → q ≡ p → IsRefusal q j ask None → (IsRefusal p j ask None → sent j ask None ≡ Err p) → set.is_subset j.previous ask ≡ true → ⊥
 never_refuses j ask p q is h says kept =
-    let e : sent j ask None ≡ Err p = says (subst (λ (x : PositionFault). IsRefusal x (sent j ask None)) is h) in
+    let e : sent j ask None ≡ Err p = says (subst (λ (x : PositionFault). IsRefusal x j ask None) is h) in
     never_refused (set.is_subset j.previous ask) (set.is_subset set.empty (whole j)) _ _ p _ (none_own (whole j)) kept e

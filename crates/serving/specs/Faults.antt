@@ -1,39 +1,79 @@
 -- Why journals are not served.
-use Rattle.std.specs.Prelude.{◌≡◌, ℕ, ◌<◌, ◌⊎◌, true, List, slice_get, Some}
+use Rattle.std.specs.Prelude.{◌≡◌, ℕ, ◌+◌, ◌<◌, true, List, [], ◌∷◌, length, slice_get, Some}
 use Rattle.std.specs.List.{AllByRecursion}
 use Rattle.std.specs.FinSet as set
 use Rattle.gtid_text.specs.declared.Gtid.{Gtid}
 use Rattle.gtid_set.specs.declared.fault.SetFault.{SetFault}
-use Rattle.gtid_set.specs.Full.{IsMemoryOr}
-use Rattle.gtid_set.specs.Sets.{Gtids, source_count, most_sources}
+use Rattle.gtid_set.specs.Full.{interval_count, most_intervals, HasManySources, IsMemoryOr}
+use Rattle.gtid_set.specs.Edges.{HasEdges, HasEnds, AreManyEdges}
+use Rattle.gtid_set.specs.Sets.{Gtids}
 use Rattle.journal.specs.declared.Entry.{Entry}
 use Rattle.journal.specs.Journals.{JournalValue}
 use Rattle.apply_channel.specs.Channels.{ChannelValue, Received}
 use Rattle.replica_core.specs.State.{State}
+use Rattle.faithful_runs.specs.Deciding.{all_of}
+use Rattle.txn_journal.specs.BundleStates.{BundleValue}
 
--- memory was refused, or each such set has too many sources
-abbrev pub IsFaultWhere : (Gtids → Type 0) → SetFault → Type 0
-IsFaultWhere Has f = IsMemoryOr ((all : Gtids) → Has all → most_sources < source_count all) f
+-- GTIDs that the sets of a run may have, and the places at which membership in them may change
+pub record Cover : Type 0 where
+  pub all : Gtids
+  pub places : Gtids
+
+-- Memory was refused; or whatever covers this has too many sources; or it has more places than the edges of any set that has not too many
+-- intervals.
+abbrev pub IsFaultWhere : (Cover → Type 0) → SetFault → Type 0
+IsFaultWhere Covers f = IsMemoryOr ((cover : Cover) → Covers cover → HasManySources cover.all) ((cover : Cover) → Covers cover → AreManyEdges cover.places) f
+
+-- a GTID is covered
+pub record HasGtid (cover : Cover) (g : Gtid) : Type 0 where
+  pub in_all : set.contains cover.all g ≡ true
+  pub ends : HasEnds cover.places g
+
+-- a set is covered
+pub record HasSet (cover : Cover) (s : Gtids) : Type 0 where
+  pub in_all : (g : Gtid) → set.contains s g ≡ true → set.contains cover.all g ≡ true
+  pub edges : HasEdges cover.places s
 
 -- a GTID stands among received entries
 abbrev pub IsAmong : Gtid → List Received → Type 0
 IsAmong g received = (p : ℕ) × (e : Received) × (slice_get received p ≡ Some e) × (e.gtid ≡ g)
 
--- a GTID is executed, or was received on some channel
-abbrev pub IsKnown : State → Gtid → Type 0
-IsKnown s g = (set.contains s.executed g ≡ true) ⊎ ((c : ℕ) × (channel : ChannelValue) × (slice_get s.channels c ≡ Some channel) × IsAmong g channel.received)
+-- a GTID was received on some channel
+abbrev pub IsReceived : State → Gtid → Type 0
+IsReceived s g = (c : ℕ) × (channel : ChannelValue) × (slice_get s.channels c ≡ Some channel) × IsAmong g channel.received
 
--- a set has all that is executed or received
-abbrev pub Knows : State → Gtids → Type 0
-Knows s all = (g : Gtid) → IsKnown s g → set.contains all g ≡ true
+-- what is executed and what was received is covered
+pub record Knows (s : State) (cover : Cover) : Type 0 where
+  pub executed : HasSet cover s.executed
+  pub received : (g : Gtid) → IsReceived s g → HasGtid cover g
 
--- a set has the GTIDs of these entries
-abbrev pub HasEntries : Gtids → List Entry → Type 0
-HasEntries all entries = AllByRecursion (λ (e : Entry). set.contains all e.gtid ≡ true) entries
+-- the GTIDs of these entries are covered
+abbrev pub HasEntries : Cover → List Entry → Type 0
+HasEntries cover entries = AllByRecursion (λ (e : Entry). HasGtid cover e.gtid) entries
 
-abbrev pub KnowsWith : State → List Entry → Gtids → Type 0
-KnowsWith s entries all = Knows s all × HasEntries all entries
+abbrev pub KnowsWith : State → List Entry → Cover → Type 0
+KnowsWith s entries cover = Knows s cover × HasEntries cover entries
 
--- ... and of all entries of these journals
-abbrev pub KnowsToo : State → List JournalValue → Gtids → Type 0
-KnowsToo s journals all = Knows s all × AllByRecursion (λ (j : JournalValue). HasEntries all j.entries) journals
+-- the entries of a journal are covered, and the edges of its previous set
+pub record HasJournal (cover : Cover) (journal : JournalValue) : Type 0 where
+  pub previous : HasEdges cover.places journal.previous
+  pub entries : HasEntries cover journal.entries
+
+-- ... and so are these journals
+abbrev pub KnowsToo : State → List JournalValue → Cover → Type 0
+KnowsToo s journals cover = Knows s cover × AllByRecursion (HasJournal cover) journals
+
+-- ---- of a bundle
+
+-- the intervals of the opening set and of the previous sets of all journals, and their entries
+abbrev pub intervals_of : Gtids → List JournalValue → ℕ
+intervals_of opened [] = interval_count opened
+intervals_of opened (j ∷ js) = (interval_count j.previous + length j.entries) + intervals_of opened js
+
+-- memory was refused; or the GTIDs of all journals together have too many sources; or their intervals and entries together are too many
+abbrev pub IsBundleFault : BundleValue → SetFault → Type 0
+IsBundleFault b f = IsMemoryOr (HasManySources (all_of b.opened b.journals)) (most_intervals < intervals_of b.opened b.journals) f
+
+-- the same of its audit, which makes no set but the one that its verdict names
+abbrev pub IsVerdictFault : BundleValue → SetFault → Type 0
+IsVerdictFault b f = IsMemoryOr ⊥ (most_intervals < intervals_of b.opened b.journals) f

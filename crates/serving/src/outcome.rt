@@ -1,11 +1,9 @@
 //! What journals come to.
 ghost use Rattle.std.specs.Prelude.{◌≡◌, IfOk, IfErr, IsOkUnless};
 ghost use Rattle.gtid_set.specs.declared.fault.SetFault.TheVariants.{Memory};
-ghost use Rattle.journal.specs.Faults.{IsFaultOf};
 ghost use Rattle.world.specs.Meaning.{AreJournals};
 ghost use Rattle.replica_core.specs.Draining.{AreStoppedOrDone};
-ghost use Rattle.faithful_runs.specs.Deciding.{all_of};
-ghost use Rattle.serving.specs.Faults.{IsFaultWhere, KnowsToo};
+ghost use Rattle.serving.specs.Faults.{IsFaultWhere, KnowsToo, IsBundleFault, IsVerdictFault};
 ghost use Rattle.serving.specs.Servable.{IsFitting, IsServable, CanServeEach, WrittenIsServable};
 ghost use Rattle.serving.specs.Serving.{opening, ServesEach, HasReceived, IsReady, IsRun};
 ghost use Rattle.serving.specs.Verdicts.{is_sound, world_over, keys_over, verdict_over, IsFoundInKeys, IsStateOrVerdict, HasMerged, IsConcluded};
@@ -66,9 +64,10 @@ fn opening_world(alloc: Global, bundle: &Bundle) -> Result<World, AllocError>
 }
 
 /// What an audit of the journals' keys over the opening rows finds first.
-fn keys_verdict(alloc: Global, bundle: &Bundle) -> Result<Verdict, AllocError>
+fn keys_verdict(alloc: Global, bundle: &Bundle) -> Result<Verdict, SetFault>
     requires { IsFitting bundle.now }
-    ensures { IfOk result (λ found. found ≡ keys_over bundle.now) }
+    ensures found { IfOk result (λ found. found ≡ keys_over bundle.now) }
+    ensures fault { IfErr result (IsBundleFault bundle.now) }
 {
     let world = opening_world(alloc, bundle)?;
     let found = audit_keys(alloc, &world, bundle.journals());
@@ -77,10 +76,12 @@ fn keys_verdict(alloc: Global, bundle: &Bundle) -> Result<Verdict, AllocError>
 }
 
 /// What an audit of a bundle's journals over its opening rows and opening set finds first. The tables
-/// take the transactions, as those of a bundle that was read do. The error is want of memory.
-pub fn verdict_over(alloc: Global, bundle: &Bundle) -> Result<Verdict, AllocError>
+/// take the transactions, as those of a bundle that was read do. The error is want of memory, or `PoolFull`
+/// where the set that the verdict would name has too many intervals.
+pub fn verdict_over(alloc: Global, bundle: &Bundle) -> Result<Verdict, SetFault>
     requires { IsFitting bundle.now }
-    ensures { IfOk result (λ found. found ≡ verdict_over bundle.now) }
+    ensures found { IfOk result (λ found. found ≡ verdict_over bundle.now) }
+    ensures fault { IfErr result (IsVerdictFault bundle.now) }
 {
     let world = opening_world(alloc, bundle)?;
     let found = audit(alloc, &world, bundle.journals());
@@ -90,9 +91,10 @@ pub fn verdict_over(alloc: Global, bundle: &Bundle) -> Result<Verdict, AllocErro
 
 /// What an audit of the journals' keys finds, where that isn't Sound: the whole audit finds it too.
 #[tactic(auto, using(crate::proofs::Runs::keys_found, crate::proofs::Runs::keys_sound))]
-fn unsound_keys(alloc: Global, bundle: &Bundle) -> Result<Option<Verdict>, AllocError>
+fn unsound_keys(alloc: Global, bundle: &Bundle) -> Result<Option<Verdict>, SetFault>
     requires { IsFitting bundle.now }
-    ensures { IfOk result (IsFoundInKeys bundle.now) }
+    ensures found { IfOk result (IsFoundInKeys bundle.now) }
+    ensures fault { IfErr result (IsBundleFault bundle.now) }
 {
     let keys = keys_verdict(alloc, bundle)?;
     if is_sound(&keys) {
@@ -139,7 +141,7 @@ fn receive_all(
 ) -> Result<StateOrVerdict<Core>, SetFault>
     requires { IsServable bundle.now }
     ensures received { IfOk result (IsStateOrVerdict (HasReceived apply bundle.now) bundle.now) }
-    ensures fault { IfErr result (λ f. IsFaultOf f (all_of bundle.now.opened bundle.now.journals)) }
+    ensures fault { IfErr result (IsBundleFault bundle.now) }
 {
     if let Some(verdict) = unsound_keys(alloc, bundle)? {
         return Ok(StateOrVerdict::Verdict(verdict));
@@ -154,24 +156,26 @@ fn receive_all(
 /// verdict is answered, which is that of the whole audit. The bundle can be served, as each that was
 /// read can.
 ///
-/// `Memory` is want of memory, and `SourcesFull` comes only where the GTIDs of all journals together
-/// are of more than 65,536 sources.
+/// `Memory` is want of memory, `SourcesFull` comes only where the GTIDs of all journals together are of
+/// more than 65,536 sources, and `PoolFull` only where the intervals of the opening set and of the
+/// previous sets and the entries are together more than 4,294,967,294.
 pub fn begin(alloc: Global, bundle: &Bundle) -> Result<StateOrVerdict<Core>, SetFault>
     requires { IsServable bundle.now }
     ensures begun { IfOk result (IsStateOrVerdict (IsReady bundle.now) bundle.now) }
-    ensures fault { IfErr result (λ f. IsFaultOf f (all_of bundle.now.opened bundle.now.journals)) }
+    ensures fault { IfErr result (IsBundleFault bundle.now) }
 {
     receive_all(alloc, bundle, Apply::Later)
 }
 
 /// What a replica that was served all journals comes to, once each of its channels is stopped or has
 /// executed all that it received: nothing where all is executed, or else the verdict of the audit, which
-/// isn't Sound then. The error is want of memory.
-pub fn conclude(alloc: Global, bundle: &Bundle, core: &Core) -> Result<Option<Verdict>, AllocError>
+/// isn't Sound then. The faults are those of `verdict_over`.
+pub fn conclude(alloc: Global, bundle: &Bundle, core: &Core) -> Result<Option<Verdict>, SetFault>
     requires fits { IsFitting bundle.now }
     requires run { IsRun bundle.now core.now }
     requires ends { AreStoppedOrDone core.now.state }
-    ensures { IfOk result (IsConcluded bundle.now core.now) }
+    ensures found { IfOk result (IsConcluded bundle.now core.now) }
+    ensures fault { IfErr result (IsBundleFault bundle.now) }
 {
     workers_decide();
     served_holds_all();
@@ -193,7 +197,7 @@ fn finish_and_conclude(
     requires fits { IsFitting bundle.now }
     requires run { IsRun bundle.now core.old }
     ensures found { IfOk result (IsConcluded bundle.now core.new) }
-    ensures fault { IfErr result (λ f. IsFaultOf f (all_of bundle.now.opened bundle.now.journals)) }
+    ensures fault { IfErr result (IsBundleFault bundle.now) }
 {
     finish(alloc, core)?;
     Ok(conclude(alloc, bundle, core)?)
@@ -207,7 +211,7 @@ fn finish_and_conclude(
 pub fn serve(alloc: Global, bundle: &Bundle) -> Result<StateOrVerdict<Core>, SetFault>
     requires { IsServable bundle.now }
     ensures served { IfOk result (IsStateOrVerdict (HasMerged bundle.now) bundle.now) }
-    ensures fault { IfErr result (λ f. IsFaultOf f (all_of bundle.now.opened bundle.now.journals)) }
+    ensures fault { IfErr result (IsBundleFault bundle.now) }
 {
     let mut core = match receive_all(alloc, bundle, Apply::AtOnce)? {
         StateOrVerdict::State(core) => core,

@@ -3,8 +3,8 @@ ghost use Rattle.std.specs.Prelude.{◌≡◌, [], ◌∷◌, IfOk, IfErr, OnOk,
 ghost use Rattle.std.specs.List.{list_all};
 ghost use Rattle.std.specs.FinSet as set;
 ghost use Rattle.gtid_set.specs.declared.fault.SetFault.TheVariants.{Memory};
-ghost use Rattle.auto_position.specs.Sending.{IsRefusal, sent};
-ghost use Rattle.serving.specs.Faults.{IsFaultWhere, Knows, KnowsWith, KnowsToo};
+ghost use Rattle.auto_position.specs.Sending.{IsRefusal, IsPlanFault, sent};
+ghost use Rattle.serving.specs.Faults.{IsFaultWhere, KnowsWith, KnowsToo};
 ghost use Rattle.serving.specs.Servable.{CanReceive, CanServe, CanServeEach};
 ghost use Rattle.serving.specs.Serving.{picked, Receives, Asks, ServesOne, ServesEach};
 
@@ -47,7 +47,7 @@ pub fn entries_sent(
     asked: &GtidSet,
 ) -> Result<Vec<Entry>, PositionFault>
     ensures ok { IfOk result (λ entries. sent journal.now asked.now own ≡ Ok entries.items) }
-    ensures refusal { IfErr result (λ fault. IsRefusal fault (sent journal.now asked.now own)) }
+    ensures refusal { IfErr result (λ fault. IsRefusal fault journal.now asked.now own) }
 {
     match plan(alloc, own, journal, asked) {
         Ok(places) => match entries_at(alloc, journal.entries(), &places) {
@@ -63,7 +63,7 @@ pub fn entries_sent(
 fn sent_to(alloc: Global, journal: &Journal, asked: &GtidSet) -> Result<Vec<Entry>, SetFault>
     requires { set.is_subset journal.now.previous asked.now ≡ true }
     ensures ok { IfOk result (λ entries. sent journal.now asked.now None ≡ Ok entries.items) }
-    ensures fault { IsOkUnless result Memory }
+    ensures fault { IfErr result (IsPlanFault journal.now asked.now) }
 {
     match entries_sent(alloc, None, journal, asked) {
         Ok(entries) => Ok(entries),
@@ -113,7 +113,7 @@ fn ask_for(
 ) -> Result<Vec<Entry>, SetFault>
     requires { CanServe number channel.now.name journal.now core.old }
     ensures asks { IfOk result (λ entries. Asks core.old number channel.now journal.now entries.items core.new) }
-    ensures fault { IfErr result (IsFaultWhere (Knows core.old.state)) }
+    ensures fault { IfErr result (IsFaultWhere (KnowsToo core.old.state (journal.now ∷ []))) }
 {
     open_channel(alloc, core, channel)?;
     let asked = position(alloc, core, number)?;

@@ -1,4 +1,4 @@
--- Want of memory may come anywhere, and too many sources only where a set is made.
+-- Want of memory may come anywhere, and too many sources or intervals only where a set is made.
 use Rattle.std.proofs.Common.{◌≡◌, true, refl}
 use Rattle.std.specs.Prelude.{Option, Some, None}
 use Rattle.gtid_set.specs.Sets.{Gtids}
@@ -8,22 +8,34 @@ use Rattle.gtid_set.proofs.FaultLemmas.{fault_map, memory_fault}
 use Rattle.replica_core.specs.declared.event.Event.{Event}
 use Rattle.replica_core.specs.declared.event.Event.TheVariants as event
 use Rattle.replica_core.specs.State.{Site, State}
-use Rattle.replica_core.specs.Faults.{IsFaultIn, asking, receiving, committing, numbering, purging, made_by}
+use Rattle.replica_core.specs.Faults.{IsFaultIn, IsCause, asking, receiving, committing, numbering}
 use Rattle.shared_replica.specs.Faults.{makes_a_set, IsFaultFor}
 
-pub memory_anywhere : (made : Option Gtids) → IsFaultIn Memory made
-memory_anywhere None = refl
-memory_anywhere (Some made) = tt
+memory_in : (made : Option Gtids) → IsFaultIn Memory made
+memory_in None = refl
+memory_in (Some made) = tt
+
+pub memory_anywhere : (site : Site) (s : State) (e : Event) → IsCause Memory site s e
+memory_anywhere site s (event.OpenChannel name preserve) = refl
+memory_anywhere site s (event.Position channel) = memory_in (asking channel s)
+memory_anywhere site s (event.Receive channel entry) = memory_in (receiving channel entry s)
+memory_anywhere site s (event.Take seat channel place) = refl
+memory_anywhere site s (event.Commit seat) = memory_in (committing seat s)
+memory_anywhere site s (event.Rollback seat) = refl
+memory_anywhere site s (event.Restart channel) = refl
+memory_anywhere site s (event.Local changes) = memory_in (numbering site s)
+memory_anywhere site s (event.Purge count) = tt
+memory_anywhere site s event.Look = refl
 
 memory_for : (f : SetFault) (e : Event) → f ≡ Memory → IsFaultFor e f
-memory_for f e is = memory_fault _ f is
+memory_for f e is = memory_fault _ _ f is
 
 set_for : (f : SetFault) (e : Event) (made : Option Gtids) → makes_a_set e ≡ true → IsFaultIn f made → IsFaultFor e f
 set_for f e None makes is = memory_for f e is
-set_for f e (Some made) makes is = fault_map f (λ full. makes) is
+set_for f e (Some made) makes is = fault_map f (λ full. makes) (λ full. makes) is
 
 -- a fault of an event at a state is one that the event may have
-pub fault_for : (f : SetFault) (site : Site) (s : State) (e : Event) → IsFaultIn f (made_by site s e) → IsFaultFor e f
+pub fault_for : (f : SetFault) (site : Site) (s : State) (e : Event) → IsCause f site s e → IsFaultFor e f
 fault_for f site s (event.OpenChannel name preserve) is = memory_for f (event.OpenChannel name preserve) is
 fault_for f site s (event.Position channel) is = set_for f (event.Position channel) (asking channel s) refl is
 fault_for f site s (event.Receive channel entry) is = set_for f (event.Receive channel entry) (receiving channel entry s) refl is
@@ -32,5 +44,5 @@ fault_for f site s (event.Commit seat) is = set_for f (event.Commit seat) (commi
 fault_for f site s (event.Rollback seat) is = memory_for f (event.Rollback seat) is
 fault_for f site s (event.Restart channel) is = memory_for f (event.Restart channel) is
 fault_for f site s (event.Local changes) is = set_for f (event.Local changes) (numbering site s) refl is
-fault_for f site s (event.Purge count) is = set_for f (event.Purge count) (purging count s) refl is
+fault_for f site s (event.Purge count) is = fault_map f (λ full. refl) (λ full. refl) is
 fault_for f site s event.Look is = memory_for f event.Look is

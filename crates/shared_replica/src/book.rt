@@ -3,7 +3,7 @@ ghost use Rattle.std.specs.Prelude.{◌≡◌, true, [], ◌≤◌, IfOk, IfErr,
 ghost use Rattle.std.specs.Vec.{vec_capacity};
 ghost use Rattle.commit_ledger.specs.Tallies.{no_tally, unused, tally_of};
 ghost use Rattle.replica_core.specs.Machine.{is_numbered, next_ready, step};
-ghost use Rattle.replica_core.specs.Faults.{IsFaultIn, made_by};
+ghost use Rattle.replica_core.specs.Faults.{IsCause};
 ghost use Rattle.shared_replica.specs.Faults.{IsFaultFor};
 ghost use Rattle.shared_replica.specs.History.{IsStep, IsBook, with_step, unwritten};
 ghost use Rattle.shared_replica.specs.Passes.{told};
@@ -81,7 +81,7 @@ impl<N: Naming> Book<N> {
         ensures line { IfOk result (λ r. self.new ≡ with_step event.now r self.new.now self.old) }
         ensures told { IfOk result (λ r. mine.new ≡ told (length self.old.steps) event.now r mine.old) }
         ensures err { OnErr result ((self.new ≡ self.old) × (mine.new ≡ mine.old)) }
-        ensures fault { IfErr result (λ f. IsFaultIn f (made_by self.old.now.site self.old.now.state event.now)) }
+        ensures fault { IfErr result (λ f. IsCause f self.old.now.site self.old.now.state event.now) }
         ensures kind { IfErr result (IsFaultFor event.now) }
     {
         let drafts = drafts_of(
@@ -114,7 +114,7 @@ fn step_of(
     ensures ok { IfOk result (λ r. (r, core.new.state) ≡ step core.old.site core.old.state event.now) }
     ensures site { core.new.site ≡ core.old.site }
     ensures err { OnErr result (core.new ≡ core.old) }
-    ensures fault { IfErr result (λ f. IsFaultIn f (made_by core.old.site core.old.state event.now)) }
+    ensures fault { IfErr result (λ f. IsCause f core.old.site core.old.state event.now) }
 {
     let Some(patch) = patch else {
         return core.step(alloc, event);

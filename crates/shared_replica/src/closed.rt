@@ -1,7 +1,7 @@
 //! A history that no thread shares any more.
 ghost use Rattle.std.specs.Prelude.{◌≡◌, true, ◌++◌, ◌∷◌, [], IfOk, IfErr, OnErr};
 ghost use Rattle.replica_core.specs.Machine.{is_numbered};
-ghost use Rattle.replica_core.specs.Faults.{IsFaultIn, made_by};
+ghost use Rattle.replica_core.specs.Faults.{IsCause};
 ghost use Rattle.shared_replica.specs.History.{line, IsStep, IsReplay};
 ghost use Rattle.shared_replica.specs.Closing.{started, receipts_of};
 
@@ -111,7 +111,7 @@ impl ClosedBook {
         ensures step { IfOk result (λ r. IsStep self.old.now event.now r self.new.now) }
         ensures line { IfOk result (λ r. self.new ≡ record self.old { steps = self.old.steps ++ line event.now r ∷ []; now = self.new.now }) }
         ensures err { OnErr result (self.new ≡ self.old) }
-        ensures fault { IfErr result (λ f. IsFaultIn f (made_by self.old.now.site self.old.now.state event.now)) }
+        ensures fault { IfErr result (λ f. IsCause f self.old.now.site self.old.now.state event.now) }
     {
         self.steps.reserve(1)?;
         let draft = Draft::of(&self.core, alloc, event)?;

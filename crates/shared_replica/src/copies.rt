@@ -3,7 +3,8 @@ ghost use Rattle.std.specs.Prelude.{◌≡◌, IfOk, IfErr, IsSome, Some};
 ghost use Rattle.shared_replica.specs.History.{is_commit};
 ghost use Rattle.shared_replica.specs.Spare.{IsSpare};
 ghost use Rattle.replica_core.specs.Machine.{step, purge};
-ghost use Rattle.replica_core.specs.Faults.{IsFaultIn, made_by, purging};
+ghost use Rattle.journal.specs.Faults.{IsPurgedFault};
+ghost use Rattle.replica_core.specs.Faults.{IsCause};
 
 use gtid_set::{GtidSet, SetFault};
 use replica_core::{Core, Event, Reply};
@@ -43,7 +44,7 @@ pub(crate) fn foresee(
     event: &Event,
 ) -> Result<Option<GtidSet>, SetFault>
     ensures spare { IfOk result (λ spare. IsSpare (step core.now.site core.now.state event.now).0 spare) }
-    ensures fault { IfErr result (λ f. IsFaultIn f (made_by core.now.site core.now.state event.now)) }
+    ensures fault { IfErr result (λ f. IsCause f core.now.site core.now.state event.now) }
 {
     match event {
         Event::Position(channel) => core.ask(alloc, *channel),
@@ -56,7 +57,7 @@ pub(crate) fn foresee(
 /// The purged set that a Purge would answer.
 fn purged_by(core: &Core, alloc: Global, count: usize) -> Result<Option<GtidSet>, SetFault>
     ensures spare { IfOk result (λ spare. IsSpare (purge count core.now.state).0 spare) }
-    ensures fault { IfErr result (λ f. IsFaultIn f (purging count core.now.state)) }
+    ensures fault { IfErr result (λ f. IsPurgedFault f count core.now.state.journal) }
 {
     let journal = core.journal().as_journal();
     if journal.len() < count {

@@ -1,7 +1,7 @@
 //! Steps whose reply is not known yet.
 ghost use Rattle.std.specs.Prelude.{◌≡◌, ◌<◌, IfOk, IfErr, OnOk, vec_len};
 ghost use Rattle.std.specs.Vec.{vec_capacity};
-ghost use Rattle.replica_core.specs.Faults.{IsFaultIn, made_by};
+ghost use Rattle.replica_core.specs.Faults.{IsCause};
 ghost use Rattle.shared_replica.specs.Drafts.{IsDraft};
 ghost use Rattle.shared_replica.specs.History.{line};
 ghost use Rattle.shared_replica.specs.Spare.{IsSpare};
@@ -25,7 +25,7 @@ impl Draft {
     #[tactic(auto, using(crate::proofs::Faulty::memory_anywhere))]
     pub(crate) fn of(core: &Core, alloc: Global, event: &Event) -> Result<Draft, SetFault>
         ensures ok { IfOk result (IsDraft core.now event.now) }
-        ensures fault { IfErr result (λ f. IsFaultIn f (made_by core.now.site core.now.state event.now)) }
+        ensures fault { IfErr result (λ f. IsCause f core.now.site core.now.state event.now) }
     {
         let spare = foresee(core, alloc, event)?;
         let event = copy_of(event)?;
@@ -66,7 +66,7 @@ pub(crate) fn drafts_of(
     ensures room { OnOk result ((vec_len steps.new < vec_capacity steps.new) × (vec_len receipts.new < vec_capacity receipts.new)) }
     ensures line { IfOk result (λ d. IsDraft core.now event.now d.line) }
     ensures receipt { IfOk result (λ d. IsDraft core.now event.now d.receipt) }
-    ensures fault { IfErr result (λ f. IsFaultIn f (made_by core.now.site core.now.state event.now)) }
+    ensures fault { IfErr result (λ f. IsCause f core.now.site core.now.state event.now) }
 {
     steps.reserve(1)?;
     receipts.reserve(1)?;

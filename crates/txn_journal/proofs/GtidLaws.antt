@@ -20,6 +20,7 @@ use Rattle.gtid_text.proofs.Shown.{gtid_shown, joined_gtid, spaced_joined, spans
 use Rattle.gtid_text.proofs.Single.{gtid_reads_back, gtid_spelled}
 use Rattle.gtid_set.proofs.SpanLemmas.{all_weaker, before_trans}
 use Rattle.journal_words.specs.Gtids.{is_ascii_byte, same_or_none, if_ascii, gtid_of_word, are_tidy_behind, some_tidy, tidy_or_none, spans_of_word, set_with, set_of_word}
+use Rattle.journal_words.proofs.SpanLaws.{with_none}
 use Rattle.journal_words.proofs.ValueLaws.{where_same-again, where_same-found}
 use Rattle.std.proofs.lemmas.Option.{same_Some}
 use Rattle.gtid_text.proofs.Tokens.{own}
@@ -31,16 +32,13 @@ use Rattle.std.proofs.lemmas.Slice.Eq.{bytes_eq-Decides}
 use Rattle.gtid_text.specs.declared.Span.{Span}
 use Rattle.gtid_text.proofs.Found.{read_spells}
 use Rattle.gtid_text.proofs.Spelled.{spells_read}
-use Rattle.gtid_set.specs.Sets.{Gtids, interval}
+use Rattle.gtid_set.specs.Sets.{Gtids}
 use Rattle.gtid_set.specs.Spans.{set_of, is_before, is_merged}
-use Rattle.gtid_set.proofs.SetLemmas.{same_members, union_empty}
 use Rattle.gtid_set.specs.Runs.{runs}
 use Rattle.gtid_set.proofs.RunLemmas.{runs_merged}
 use Rattle.journal_words.specs.Values.{where_same}
 use Rattle.txn_journal.specs.WrittenSets.{spans_word, set_text, IsWrittenSet}
 use Rattle.journal_words.proofs.Counts.{lacks}
-use Rattle.gtid_text.proofs.SameGtid.{gtid_total}
-use Rattle.gtid_set.proofs.LawLemmas.{union_swap}
 use Rattle.rows.proofs.Lists.{map_some}
 
 -- ---- a source is a number of 128 bits
@@ -200,28 +198,6 @@ merged_tidy s (t ∷ ts) e =
     let p = and_parts (leb s.lo s.hi) (list_all (is_before s) (t ∷ ts) && is_merged (t ∷ ts)) e in
     let q = and_parts (list_all (is_before s) (t ∷ ts)) (is_merged (t ∷ ts)) p.1 in
     rw (and_parts (is_before s t) (list_all (is_before s) ts) q.0).0 (merged_tidy t ts q.1)
-
--- ---- the set of intervals, one after another
-
-or_turned : (a b c : Bool) → ((a || b) || c) ≡ (a || (c || b))
-or_turned a b c = grind arith
-
-turned : (s t u : Gtids) → set.union (set.union s t) u ≡ set.union s (set.union u t)
-turned s t u = same_members _ _ (λ g.
-    set.contains-union gtid_total (set.union s t) u g
-    ∙ ap (λ b. b || set.contains u g) (set.contains-union gtid_total s t g)
-    ∙ or_turned (set.contains s g) (set.contains t g) (set.contains u g)
-    ∙ sym (set.contains-union gtid_total s (set.union u t) g ∙ ap (λ b. set.contains s g || b) (set.contains-union gtid_total u t g)))
-
-none_before : (s : Gtids) → set.union set.empty s ≡ s
-none_before s = union_swap set.empty s ∙ sym (union_empty s)
-
-with_all : (s : Gtids) (ts : List Span) → set_with s ts ≡ set.union s (set_of ts)
-with_all s [] = union_empty s
-with_all s (t ∷ ts) = with_all (set.union s (interval t.source t.lo t.hi)) ts ∙ turned s (interval t.source t.lo t.hi) (set_of ts)
-
-pub with_none : (ts : List Span) → set_with set.empty ts ≡ set_of ts
-with_none ts = with_all set.empty ts ∙ none_before (set_of ts)
 
 -- ---- the bytes of the text
 

@@ -29,6 +29,7 @@ use Rattle.txn_journal.specs.declared.lines.Place.{Place}
 use Rattle.txn_journal.specs.declared.lines.Place.TheVariants as places
 use Rattle.txn_journal.specs.declared.lines.Version.{Version}
 use Rattle.gtid_set.specs.declared.fault.SetFault.{SetFault}
+use Rattle.gtid_set.specs.declared.fault.SetFault.TheVariants.{PoolFull, SourcesFull}
 use Rattle.txn_journal.proofs.Judged.{done, ok_is}
 use Rattle.txn_journal.proofs.WordLaws.{judged_both}
 use Rattle.txn_journal.proofs.LineReads.{body_of, put, judge_reads, rest_laws}
@@ -152,12 +153,12 @@ inner_taken s tables d line r new none same judged h =
     let taken : judge (Some s.bundle.start.schema) s.draft line ≡ Ok d = ap (λ (t : List Table). judge (Some t) s.draft line) (sym same) ∙ judged in
     subst (λ (x : Result BundleStanding Cause). TakesLine IsFullBundle r x new) (sym (judged_on s d line none taken ∙ ap done (sym (inner_again s d (is_last d.place))))) h
 
-inner_full : (s : BundleStanding) (line : List ℕ) (r : Result Standing Cause) → judge (Some s.bundle.start.schema) s.draft line ≡ r → ends s.draft.place line ≡ false → GivesFull IsFull r → GivesFull IsFullBundle (judge_inner true s line)
+inner_full : (cause : SetFault) (s : BundleStanding) (line : List ℕ) (r : Result Standing Cause) → judge (Some s.bundle.start.schema) s.draft line ≡ r → ends s.draft.place line ≡ false → GivesFull (IsFull cause) r → GivesFull (IsFullBundle cause) (judge_inner true s line)
 unfolding after_inner
-inner_full s line (Ok d) e none h =
+inner_full cause s line (Ok d) e none h =
     let open_still : after_inner s d ≡ record s { draft = d } = ap (λ (v : Bool). ended_or_not s d v) (ap is_last h.0) in
-    subst (GivesFull IsFullBundle) (sym (judged_on s d line none e ∙ ap done open_still)) (inl h)
-inner_full s line (Err cause) e none h = absurd h
+    subst (GivesFull (IsFullBundle cause)) (sym (judged_on s d line none e ∙ ap done open_still)) (inl h)
+inner_full cause s line (Err x) e none h = absurd h
 
 -- a line of the open journal that is not taken is none of the bundle's
 pub inner_failed : (s : BundleStanding) (tables : List Table) (d : Standing) (line : List ℕ) (fault : LineFault) (new : BundleStanding) → ends s.draft.place line ≡ false → tables ≡ s.bundle.start.schema
@@ -166,7 +167,8 @@ unfolding judge_inner
 inner_failed s tables d line (wrong.Wrong cause) new none same h =
     ap (λ (r : Result Standing Cause). r >>= unless_misstamped true s) (ap (λ (t : List Table). judge (Some t) s.draft line) (sym same) ∙ h)
 inner_failed s tables d line (wrong.Set f) new none same h =
-    fault_map f (inner_full s line (judge (Some s.bundle.start.schema) s.draft line) refl none) (subst (λ (t : List Table). IsMemoryOr (GivesFull IsFull (judge (Some t) s.draft line)) f) same h)
+    fault_map f (inner_full SourcesFull s line (judge (Some s.bundle.start.schema) s.draft line) refl none) (inner_full PoolFull s line (judge (Some s.bundle.start.schema) s.draft line) refl none)
+    (subst (λ (t : List Table). IsMemoryOr (GivesFull (IsFull SourcesFull) (judge (Some t) s.draft line)) (GivesFull (IsFull PoolFull) (judge (Some t) s.draft line)) f) same h)
 
 -- ---- the line that ends an entry
 
@@ -232,11 +234,13 @@ ends_well s call t e right written d h same joins =
     ∙ (λ i. done (record (sym t_is i) { draft = joined (sym t_is i).draft (sym h.entry i) }))
     ∙ ap (λ (x : Standing). done (record t { draft = x })) is
 
-pub ends_full : (s call t : BundleStanding) (e : Entry) (right written : ℕ) (f : SetFault) → AtEnd s call t e right written → written ≡ right → IsMemoryOr (GivesFull IsFull (done_draft (joined t.draft e))) f → IsMemoryOr (GivesFull IsFullBundle (ended_inside s)) f
+pub ends_full : (s call t : BundleStanding) (e : Entry) (right written : ℕ) (f : SetFault) → AtEnd s call t e right written → written ≡ right → IsMemoryOr (GivesFull (IsFull SourcesFull) (done_draft (joined t.draft e))) (GivesFull (IsFull PoolFull) (done_draft (joined t.draft e))) f
+    → IsMemoryOr (GivesFull (IsFullBundle SourcesFull) (ended_inside s)) (GivesFull (IsFullBundle PoolFull) (ended_inside s)) f
 ends_full s call t e right written f h same full =
     let t_is : t ≡ record s { draft = record s.draft { changes = [] } } = h.left ∙ h.called in
     let joined_is : joined t.draft e ≡ closed s.draft = λ i. joined (t_is i).draft (h.entry i) in
-    fault_map f (λ k. subst (GivesFull IsFullBundle) (sym (ends_right s call t e right written h same)) (inl (subst IsFull joined_is k))) full
+    fault_map f (λ k. subst (GivesFull (IsFullBundle SourcesFull)) (sym (ends_right s call t e right written h same)) (inl (subst (IsFull SourcesFull) joined_is k)))
+    (λ k. subst (GivesFull (IsFullBundle PoolFull)) (sym (ends_right s call t e right written h same)) (inl (subst (IsFull PoolFull) joined_is k))) full
 
 pub ends_failed : (s call t new : BundleStanding) (e : Entry) (right written : ℕ) (d : Standing) (fault : LineFault) → AtEnd s call t e right written → written ≡ right → TakesLine IsFull (Err fault) (done_draft (joined t.draft e)) d → TakesLine IsFullBundle (Err fault) (ended_inside s) new
 ends_failed s call t new e right written d (wrong.Wrong cause) h same k = absurd cc

@@ -7,6 +7,7 @@ pub mod ImageLaws
 pub mod LineReads
 pub mod SoundLines
 pub mod GtidLaws
+pub mod NearGtids
 pub mod JournalLaws
 pub mod TakenLines
 pub mod WriteLemmas

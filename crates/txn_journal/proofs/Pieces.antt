@@ -3,13 +3,14 @@ use Rattle.std.proofs.Common.{◌≡◌, ℕ, eqb, not, List, [], ◌∷◌, ◌
 use Rattle.std.specs.List.{list_all}
 use Rattle.std.proofs.lemmas.List.{append-nil}
 use Rattle.gtid_set.specs.declared.fault.SetFault.{SetFault}
+use Rattle.gtid_set.specs.declared.fault.SetFault.TheVariants.{PoolFull, SourcesFull}
 use Rattle.gtid_set.specs.Full.{IsMemoryOr}
 use Rattle.gtid_set.proofs.FaultLemmas.{fault_map}
 use Rattle.txn_journal.specs.declared.fault.Cause.{Cause}
 use Rattle.txn_journal.specs.declared.fault.JournalFault.{JournalFault}
 use Rattle.txn_journal.specs.declared.fault.JournalFault.TheVariants as faults
 use Rattle.txn_journal.specs.Words.{IsOneLine}
-use Rattle.txn_journal.specs.Stream.{Judge, Progress, Reading, Stopped, unless_stopped, next_number, judged, eat, eats, GivesFull, HasFull, IsPieceFault, IsAfter, TakesPiece, answer}
+use Rattle.txn_journal.specs.Stream.{Fills, Judge, Progress, Reading, Stopped, unless_stopped, next_number, judged, eat, eats, GivesFull, HasFull, IsPieceFault, IsAfter, TakesPiece, answer}
 use Rattle.std.proofs.lemmas.Bool.{and_parts, not-true}
 
 pub stopped_stays : {S : Type 0} (judge : Judge S) (f : JournalFault) (bs : List ℕ) → eats judge (Stopped f) bs ≡ Stopped f
@@ -71,40 +72,51 @@ judged_full full (Ok s) n h = h
 judged_full full (Err cause) n h = absurd h
 
 -- a fault of a line is one of its bytes
-pub line_fault : {S : Type 0} (full : S → Type 0) (judge : Judge S) (f : SetFault) (o : Option JournalFault) (s : S) (n : ℕ) (rest line : List ℕ)
-    → o ≡ None → IsOneLine line → IsMemoryOr (GivesFull full (judge s (rest ++ line))) f → IsPieceFault full judge (unless_stopped o (Reading s n rest)) (line ++ 10 ∷ []) f
+pub line_fault : {S : Type 0} (full : SetFault → S → Type 0) (judge : Judge S) (f : SetFault) (o : Option JournalFault) (s : S) (n : ℕ) (rest line : List ℕ)
+    → o ≡ None → IsOneLine line → IsMemoryOr (GivesFull (full SourcesFull) (judge s (rest ++ line))) (GivesFull (full PoolFull) (judge s (rest ++ line))) f → IsPieceFault full judge (unless_stopped o (Reading s n rest)) (line ++ 10 ∷ []) f
 line_fault {S} full judge f o s n rest line goes one h =
-    let is = ap (λ (k : Option JournalFault). eats judge (unless_stopped k (Reading s n rest)) (line ++ 10 ∷ [])) goes ∙ eats_line judge s n rest line one in
-    fault_map f (λ k. record {
-      front = line ++ 10 ∷ [];
-      rest = [];
-      parts = sym (append-nil (line ++ 10 ∷ []));
-      is_full = subst (λ (p : Progress S). HasFull full p) (sym is) (judged_full full (judge s (rest ++ line)) (next_number n) k);
-    }) h
+    fault_map f (fills (full SourcesFull)) (fills (full PoolFull)) h
+  where
+    fills : (large : S → Type 0) → GivesFull large (judge s (rest ++ line)) → Fills large judge (unless_stopped o (Reading s n rest)) (line ++ 10 ∷ [])
+    fills large k =
+        let is = ap (λ (k : Option JournalFault). eats judge (unless_stopped k (Reading s n rest)) (line ++ 10 ∷ [])) goes ∙ eats_line judge s n rest line one in
+        record {
+          front = line ++ 10 ∷ [];
+          rest = [];
+          parts = sym (append-nil (line ++ 10 ∷ []));
+          is_full = subst (λ (p : Progress S). HasFull large p) (sym is) (judged_full large (judge s (rest ++ line)) (next_number n) k);
+        }
 
 -- more bytes may follow
-line_in_front : {S : Type 0} (full : S → Type 0) (judge : Judge S) (f : SetFault) (now : Progress S) (left line after : List ℕ)
+line_in_front : {S : Type 0} (full : SetFault → S → Type 0) (judge : Judge S) (f : SetFault) (now : Progress S) (left line after : List ℕ)
     → left ≡ line ++ 10 ∷ after → IsPieceFault full judge now (line ++ 10 ∷ []) f → IsPieceFault full judge now left f
-line_in_front full judge f now left line after parts h = fault_map f (λ k. record {
-  front = k.front;
-  rest = k.rest ++ after;
-  parts = parts ∙ sym (append_assoc line (10 ∷ []) after) ∙ ap (λ x. x ++ after) k.parts ∙ append_assoc k.front k.rest after;
-  is_full = k.is_full;
-}) h
+line_in_front {S} full judge f now left line after parts h = fault_map f (fills (full SourcesFull)) (fills (full PoolFull)) h
+  where
+    fills : (large : S → Type 0) → Fills large judge now (line ++ 10 ∷ []) → Fills large judge now left
+    fills large k = record {
+      front = k.front;
+      rest = k.rest ++ after;
+      parts = parts ∙ sym (append_assoc line (10 ∷ []) after) ∙ ap (λ x. x ++ after) k.parts ∙ append_assoc k.front k.rest after;
+      is_full = k.is_full;
+    }
 
 -- a line that was taken may come before
-pub behind_line : {S : Type 0} (full : S → Type 0) (judge : Judge S) (f : SetFault) (now then : Progress S) (left line after : List ℕ)
+pub behind_line : {S : Type 0} (full : SetFault → S → Type 0) (judge : Judge S) (f : SetFault) (now then : Progress S) (left line after : List ℕ)
     → left ≡ line ++ 10 ∷ after → eats judge now (line ++ 10 ∷ []) ≡ then → IsPieceFault full judge then after f → IsPieceFault full judge now left f
 behind_line {S} full judge f now then left line after parts took h =
-    let whole = line ++ 10 ∷ [] in
-    fault_map f (λ k. record {
-      front = whole ++ k.front;
-      rest = k.rest;
-      parts = parts ∙ sym (append_assoc line (10 ∷ []) after) ∙ ap (λ x. whole ++ x) k.parts ∙ sym (append_assoc whole k.front k.rest);
-      is_full = subst (λ (p : Progress S). HasFull full p) (sym (eats_append judge now whole k.front ∙ ap (λ (p : Progress S). eats judge p k.front) took)) k.is_full;
-    }) h
+    fault_map f (fills (full SourcesFull)) (fills (full PoolFull)) h
+  where
+    fills : (large : S → Type 0) → Fills large judge then after → Fills large judge now left
+    fills large k =
+        let whole = line ++ 10 ∷ [] in
+        record {
+          front = whole ++ k.front;
+          rest = k.rest;
+          parts = parts ∙ sym (append_assoc line (10 ∷ []) after) ∙ ap (λ x. whole ++ x) k.parts ∙ sym (append_assoc whole k.front k.rest);
+          is_full = subst (λ (p : Progress S). HasFull large p) (sym (eats_append judge now whole k.front ∙ ap (λ (p : Progress S). eats judge p k.front) took)) k.is_full;
+        }
 
-pub line_fails : {S : Type 0} (full : S → Type 0) (judge : Judge S) (fault : JournalFault) (may : SetFault → Type 0) (now new newer total : Progress S) (left line after : List ℕ)
+pub line_fails : {S : Type 0} (full : SetFault → S → Type 0) (judge : Judge S) (fault : JournalFault) (may : SetFault → Type 0) (now new newer total : Progress S) (left line after : List ℕ)
     → left ≡ line ++ 10 ∷ after → TakesPiece (IsPieceFault full judge now (line ++ 10 ∷ [])) (Err fault) new (eats judge now (line ++ 10 ∷ [])) → eats judge now left ≡ total
     → ((f : SetFault) → IsPieceFault full judge now left f → may f) → TakesPiece may (Err fault) newer total
 line_fails full judge (faults.Set fault) may now new newer total left line after parts took so_far wider = wider fault (line_in_front full judge fault now left line after parts took)

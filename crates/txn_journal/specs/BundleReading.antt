@@ -59,7 +59,7 @@ bundle_start due = start_of (bundles due)
 abbrev pub eats_bundle : Progress BundleStanding → List ℕ → Progress BundleStanding
 eats_bundle p bytes = eats_by (bundles None) p bytes
 
--- why bytes are not taken, though nothing is wrong with them: memory was refused, or the opening set or that of a channel's journal has too many sources behind some of them
+-- why bytes are not taken, though nothing is wrong with them: memory was refused, or the opening set or that of a channel's journal has too many sources or intervals behind some of them
 abbrev pub IsFaultOfBundle : Progress BundleStanding → List ℕ → SetFault → Type 0
 IsFaultOfBundle p bytes fault = IsFaultBy (bundles None) p bytes fault
 

@@ -1,12 +1,14 @@
 -- A bundle as far as its lines have come.
-use Rattle.std.specs.Prelude.{◌⊎◌, ℕ, ◌<◌, Bool, true, false, not, ◌&&◌, ◌==◌, nat_le, List, [], ◌∷◌, ◌++◌, length, Option, Some, None, is_some, Result, Ok, Err, codes, if◌then◌else◌}
+use Rattle.std.specs.Prelude.{◌⊎◌, ℕ, Bool, true, false, not, ◌&&◌, ◌==◌, nat_le, List, [], ◌∷◌, ◌++◌, length, Option, Some, None, is_some, Result, Ok, Err, codes, if◌then◌else◌}
 use Rattle.std.specs.List.{list_any}
 use Rattle.std.specs.FinMap as map
 use Rattle.std.specs.Str.{bytes_eq}
 use Rattle.std.specs.Ordering.{nat_cmp, eq_by_cmp}
 use Rattle.std.specs.Cmp.Lexicographic.{slice_cmp}
 use Rattle.std.specs.FinSet as set
-use Rattle.gtid_set.specs.Sets.{Gtids, source_count, most_sources}
+use Rattle.gtid_set.specs.declared.fault.SetFault.{SetFault}
+use Rattle.gtid_set.specs.Full.{IsFaultOf}
+use Rattle.gtid_set.specs.Sets.{Gtids}
 use Rattle.rows.specs.declared.schema.Table.{Table}
 use Rattle.rows.specs.declared.change.TableRow.{TableRow}
 use Rattle.rows.specs.declared.change.RowFault.{RowFault}
@@ -59,9 +61,9 @@ pub record BundleStanding : Type 0 where
 abbrev pub no_bundle : Option Version → BundleStanding
 no_bundle due = record { part = parts.Header; due = due; version = One; tables = []; bundle = bare 0 set.empty []; channel = None; draft = empty None }
 
--- the opening set has too many sources, or the journal of the channel that is open has seen too many
-abbrev pub IsFullBundle : BundleStanding → Type 0
-IsFullBundle s = IsFull s.draft ⊎ (most_sources < source_count s.bundle.opened)
+-- the opening set has too many sources or intervals, or the journal of the channel that is open has seen too many
+abbrev pub IsFullBundle : SetFault → BundleStanding → Type 0
+IsFullBundle f s = IsFull f s.draft ⊎ IsFaultOf f s.bundle.opened
 
 abbrev pub is_done : Part → Bool
 is_done parts.Ended = true

@@ -22,8 +22,8 @@ pub record Format : Type 1 where
   pub is_last : State → Bool
   -- what the lines have spelled, once the last has come
   pub value : State → Value
-  -- a set that they have made has too many sources
-  pub IsFull : State → Type 0
+  -- a set that they have made has too many sources, or too many intervals: by this fault
+  pub IsFull : SetFault → State → Type 0
   -- the text of a line, without its line feed
   pub line_text : Line → List ℕ
   -- the bytes are a text of this value
@@ -62,7 +62,7 @@ start_of f = Reading f.start 0 []
 abbrev pub eats_by : (f : Format) → Progress f.State → List ℕ → Progress f.State
 eats_by f p bytes = eats f.judge p bytes
 
--- why bytes are not taken, though nothing is wrong with them: memory was refused, or a set has too many sources after some of them
+-- why bytes are not taken, though nothing is wrong with them: memory was refused, or a set has too many sources or intervals after some of them
 abbrev pub IsFaultBy : (f : Format) → Progress f.State → List ℕ → SetFault → Type 0
 IsFaultBy f p bytes fault = IsPieceFault f.IsFull f.judge p bytes fault
 

@@ -1,8 +1,10 @@
 -- A journal as far as its lines have come.
-use Rattle.std.specs.Prelude.{◌≡◌, ℕ, ◌+◌, ◌<◌, Bool, true, false, not, ◌&&◌, ◌||◌, ◌==◌, nat_le, List, [], ◌∷◌, ◌++◌, length, Option, Some, None, Result, Ok, Err, if◌then◌else◌}
+use Rattle.std.specs.Prelude.{◌≡◌, ℕ, ◌+◌, Bool, true, false, not, ◌&&◌, ◌||◌, ◌==◌, nat_le, List, [], ◌∷◌, ◌++◌, length, Option, Some, None, Result, Ok, Err, if◌then◌else◌}
 use Rattle.std.specs.FinSet as set
 use Rattle.gtid_text.specs.declared.Gtid.{Gtid}
-use Rattle.gtid_set.specs.Sets.{Gtids, source_count, most_sources}
+use Rattle.gtid_set.specs.declared.fault.SetFault.{SetFault}
+use Rattle.gtid_set.specs.Full.{IsFaultOf}
+use Rattle.gtid_set.specs.Sets.{Gtids}
 use Rattle.rows.specs.declared.value.Value.{Value}
 use Rattle.rows.specs.declared.change.Change.{Change}
 use Rattle.rows.specs.declared.change.Change.TheVariants.{Insert, Delete, Update}
@@ -65,9 +67,9 @@ abbrev pub is_within : Place → Bool
 is_within places.Within = true
 is_within _ = false
 
--- between two entries, what was seen has more sources than a set may have
-abbrev pub IsFull : Standing → Type 0
-IsFull s = (s.place ≡ places.Between) × (most_sources < source_count s.seen)
+-- between two entries, what was seen has more sources or intervals than a set may have
+abbrev pub IsFull : SetFault → Standing → Type 0
+IsFull f s = (s.place ≡ places.Between) × IsFaultOf f s.seen
 
 -- its entries were taken
 abbrev pub emptied : Standing → Standing

@@ -66,7 +66,7 @@ before_first = alone_start None
 abbrev pub eats_alone : Progress Standing → List ℕ → Progress Standing
 eats_alone p bytes = eats_by journals p bytes
 
--- why bytes are not taken, though nothing is wrong with them: memory was refused, or a journal's set has too many sources behind some of them
+-- why bytes are not taken, though nothing is wrong with them: memory was refused, or a journal's set has too many sources or intervals behind some of them
 abbrev pub IsFaultAlone : Progress Standing → List ℕ → SetFault → Type 0
 IsFaultAlone p bytes fault = IsFaultBy journals p bytes fault
 

@@ -1,7 +1,7 @@
 -- A text that comes byte by byte. S is what its whole lines have made.
 use Rattle.std.specs.Prelude.{◌≡◌, ◌⊎◌, ℕ, ◌+◌, ◌-◌, ◌^◌, min, Bool, true, false, ◌==◌, List, [], ◌∷◌, ◌++◌, Option, Some, None, Result, Ok, Err, if◌then◌else◌}
 use Rattle.gtid_set.specs.declared.fault.SetFault.{SetFault}
-use Rattle.gtid_set.specs.declared.fault.SetFault.TheVariants.{Memory}
+use Rattle.gtid_set.specs.declared.fault.SetFault.TheVariants.{Memory, PoolFull, SourcesFull}
 use Rattle.gtid_set.specs.Full.{IsMemoryOr}
 use Rattle.txn_journal.specs.declared.fault.Cause.{Cause}
 use Rattle.txn_journal.specs.declared.fault.Cause.TheVariants as causes
@@ -19,11 +19,11 @@ abbrev pub GivesFull : {S : Type 0} → (S → Type 0) → Result S Cause → Ty
 GivesFull full (Ok s) = full s
 GivesFull full (Err cause) = ⊥
 
--- What a call did with a line is what judging it gives, unless memory ran out or what it makes is full.
-abbrev pub TakesLine : {S : Type 0} → (S → Type 0) → Result (Unit {0}) LineFault → Result S Cause → S → Type 0
+-- What a call did with a line is what judging it gives, unless memory ran out or what it makes is full; `full` says of which of the two faults.
+abbrev pub TakesLine : {S : Type 0} → (SetFault → S → Type 0) → Result (Unit {0}) LineFault → Result S Cause → S → Type 0
 TakesLine full (Ok _) judged new = judged ≡ Ok new
 TakesLine full (Err (wrong.Wrong cause)) judged new = judged ≡ Err cause
-TakesLine full (Err (wrong.Set fault)) judged new = IsMemoryOr (GivesFull full judged) fault
+TakesLine full (Err (wrong.Set fault)) judged new = IsMemoryOr (GivesFull (full SourcesFull) judged) (GivesFull (full PoolFull) judged) fault
 
 -- What a call did with a part of a line is what judging it gives, unless memory ran out.
 abbrev pub TakesPart : {S : Type 0} → Result (Unit {0}) LineFault → Result S Cause → S → Type 0
@@ -76,15 +76,15 @@ pub record Fills {S : Type 0} (full : S → Type 0) (judge : Judge S) (p : Progr
   pub is_full : HasFull full (eats judge p front)
 
 -- why bytes are not taken, though nothing is wrong with them: memory was refused, or what some of them make is full
-abbrev pub IsPieceFault : {S : Type 0} → (S → Type 0) → Judge S → Progress S → List ℕ → SetFault → Type 0
-IsPieceFault full judge p bytes fault = IsMemoryOr (Fills full judge p bytes) fault
+abbrev pub IsPieceFault : {S : Type 0} → (SetFault → S → Type 0) → Judge S → Progress S → List ℕ → SetFault → Type 0
+IsPieceFault full judge p bytes fault = IsMemoryOr (Fills (full SourcesFull) judge p bytes) (Fills (full PoolFull) judge p bytes) fault
 
 -- it is this, or it has stopped at a fault that may be
 abbrev pub IsAfter : {S : Type 0} → (SetFault → Type 0) → Progress S → Progress S → Type 0
 IsAfter may new after = ((fault : SetFault) × (new ≡ Stopped (faults.Set fault)) × may fault) ⊎ (new ≡ after)
 
 -- what has come after a piece is what eating it gives, or the reading has stopped at a fault that may be
-abbrev pub Feeds : {S : Type 0} → (S → Type 0) → Judge S → Progress S → List ℕ → Progress S → Type 0
+abbrev pub Feeds : {S : Type 0} → (SetFault → S → Type 0) → Judge S → Progress S → List ℕ → Progress S → Type 0
 Feeds full judge old piece new = IsAfter (IsPieceFault full judge old piece) new (eats judge old piece)
 
 abbrev pub answer : {S : Type 0} → Progress S → Result (Unit {0}) JournalFault

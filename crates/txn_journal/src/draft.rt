@@ -264,7 +264,7 @@ impl Draft {
     fn begin(&mut self, alloc: Global, rest: Option<&[u8]>) -> Result<(), LineFault>
         ensures { TakesLine IsFull result (begun (standing self.old) (option_map (λ r. r.now) rest.entry)) (standing self.new) }
     {
-        let beginning = beginning_at(alloc, self.version, self.count + 1, rest)?;
+        let beginning = beginning_at(alloc, self.gtid.source, self.version, self.count + 1, rest)?;
         let gtid = beginning.gtid;
         if !is_number(gtid.number) {
             return Err(LineFault::Wrong(Cause::Body));

@@ -1,5 +1,6 @@
 //! Lines out of pieces.
 ghost use Rattle.std.specs.Prelude.{◌≡◌, IfSome, IfNone};
+ghost use Rattle.gtid_set.specs.declared.fault.SetFault.{SetFault};
 ghost use Rattle.txn_journal.specs.Words.{IsOneLine, BeginsWithLine};
 ghost use Rattle.txn_journal.specs.Stream.{Judge, TakesLine};
 
@@ -27,7 +28,7 @@ pub trait TakeLine {
     ghost judge: { Judge Self };
 
     // What takes more room than a set has.
-    ghost full: { Self → Type 0 };
+    ghost full: { SetFault → Self → Type 0 };
 
     /// Takes the next line, or says the first thing that is wrong with it.
     fn take_line(&mut self, alloc: Global, line: &[u8]) -> Result<(), LineFault>

@@ -1,5 +1,7 @@
 //! The line that begins an entry: its GTID, and in version 2 its numbers.
-ghost use Rattle.std.specs.Prelude.{◌≡◌, Some, option_map};
+ghost use Rattle.std.specs.Prelude.{◌≡◌, true, Some, IfSome, option_map};
+ghost use Rattle.gtid_text.specs.Canonical.{source_text};
+ghost use Rattle.gtid_text.specs.Written.{IsSource};
 ghost use Rattle.journal_words.specs.Gtids.{gtid_of_word};
 ghost use Rattle.txn_journal.specs.Stream.{Finds};
 ghost use Rattle.txn_journal.specs.Lines.{some_or_body, numbers_in, stamp_in, beginning_at};
@@ -7,9 +9,16 @@ ghost use Rattle.txn_journal.specs.Numbered.{numbers_said, beginning_said};
 
 use crate::fault::{Cause, LineFault};
 use crate::lines::Version;
-use gtid_text::Gtid;
+use gtid_text::{Gtid, SourceId};
 use journal_words::{count, cut, gtid_word, is_count};
 use std::alloc::Global;
+use uuid::Uuid;
+
+/// The bytes of a source's text.
+const SOURCE_LEN: usize = 36;
+
+/// The greatest number of a transaction.
+const MAX_NUMBER: u64 = 9_223_372_036_854_775_807;
 
 /// The numbers of an entry as they are written.
 #[derive(Clone, Copy, Debug)]
@@ -41,9 +50,47 @@ impl Numbers<'_> {
     }
 }
 
-fn gtid_in(alloc: Global, word: &[u8]) -> Result<Gtid, LineFault>
+/// Whether a text is the one spelling of a source.
+fn spells_source(text: &[u8], source: SourceId) -> bool
+    ensures small { IsSource source }
+    ensures spelled { result ≡ true → text.now ≡ source_text source }
+{
+    let mut buffer = Uuid::encode_buffer();
+    let spelling = Uuid::from_u128(source.bits())
+        .hyphenated()
+        .encode_lower(&mut buffer);
+    spelling.as_bytes() == text
+}
+
+/// The GTID of this source that the word spells, where it does.
+fn gtid_of_source(word: &[u8], source: SourceId) -> Option<Gtid>
+    ensures { IfSome result (λ gtid. gtid_of_word word.now ≡ Some gtid) }
+{
+    if word.len() <= SOURCE_LEN {
+        return None;
+    }
+    let (front, back) = word.split_at(SOURCE_LEN);
+    if back[0] != b':' {
+        return None;
+    }
+    if !spells_source(front, source) {
+        return None;
+    }
+    let number = count(&back[1..])?;
+    if number < 1 || number > MAX_NUMBER {
+        return None;
+    }
+    Some(Gtid { source, number })
+}
+
+/// The GTID that the word spells. It is looked for as one of a source first, for GTIDs of one source often follow one
+/// another.
+fn gtid_in(alloc: Global, near: SourceId, word: &[u8]) -> Result<Gtid, LineFault>
     ensures { Finds (λ g. g) result (some_or_body (gtid_of_word word.now)) }
 {
+    if let Some(gtid) = gtid_of_source(word, near) {
+        return Ok(gtid);
+    }
     match gtid_word(alloc, word)? {
         Some(gtid) => Ok(gtid),
         None => Err(LineFault::Wrong(Cause::Body)),
@@ -71,6 +118,7 @@ fn numbers_in(rest: Option<&[u8]>) -> Result<Numbers<'_>, LineFault>
 
 fn beginning_text(
     alloc: Global,
+    near: SourceId,
     version: Version,
     place: u64,
     text: &[u8],
@@ -79,7 +127,7 @@ fn beginning_text(
 {
     match version {
         Version::One => {
-            let gtid = gtid_in(alloc, text)?;
+            let gtid = gtid_in(alloc, near, text)?;
             Ok(Beginning {
                 gtid,
                 stamp: Some(0),
@@ -87,7 +135,7 @@ fn beginning_text(
         }
         Version::Two => {
             let (word, rest) = cut(text);
-            let gtid = gtid_in(alloc, word)?;
+            let gtid = gtid_in(alloc, near, word)?;
             let numbers = numbers_in(rest)?;
             let stamp = numbers.stamp(place);
             Ok(Beginning { gtid, stamp })
@@ -95,9 +143,11 @@ fn beginning_text(
     }
 }
 
-/// What the rest of the line says that begins the entry at a place, counted from 1.
+/// What the rest of the line says that begins the entry at a place, counted from 1. Any source may be given as the one that
+/// its GTID may be of.
 pub fn beginning_at(
     alloc: Global,
+    near: SourceId,
     version: Version,
     place: u64,
     rest: Option<&[u8]>,
@@ -105,7 +155,7 @@ pub fn beginning_at(
     ensures { Finds beginning_said result (beginning_at version place (option_map (λ r. r.now) rest.entry)) }
 {
     match rest {
-        Some(text) => beginning_text(alloc, version, place, text),
+        Some(text) => beginning_text(alloc, near, version, place, text),
         None => Err(LineFault::Wrong(Cause::Body)),
     }
 }

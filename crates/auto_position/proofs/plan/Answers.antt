@@ -1,9 +1,9 @@
-use Rattle.std.proofs.Common.{◌≡◌, ℕ, true, Option, Some, None, refl, sym, ap, subst, ◌∙◌}
+use Rattle.std.proofs.Common.{rules, ◌≡◌, ℕ, true, Option, sym, ap, subst, ◌∙◌}
 use Rattle.std.specs.FinSet as set
 use Rattle.gtid_set.specs.Sets.{Gtids}
 use Rattle.journal.specs.Journals.{whole}
-use Rattle.auto_position.specs.Sending.{is_wanted, places_from, own_of, sent}
-use Rattle.auto_position.proofs.Asked.{none_own, sent_wanted, sent_more, known_own, is_left, is_gone}
+use Rattle.auto_position.specs.Sending.{is_wanted, places_from, own_of, sent, IsPlanFault}
+use Rattle.auto_position.proofs.Asked.{none_own, sent_wanted, sent_more, known_own, is_left, is_gone, purged_edges}
 use Rattle.auto_position.proofs.Planning.{is_plan}
 use Rattle.auto_position.proofs.plan.Goals as goal
 use Rattle.auto_position.proofs.plan.Goals.{in-Some+in_ok-more+else-not-known, in_default}
@@ -28,3 +28,9 @@ returns-clause-plan c =
     is_plan c.args.journal.now.entries c.args.ask.now c.in_ok-places.places.items (sent c.args.journal.now c.args.ask.now c.args.own)
     (c.in_ok-places.ensures ∙ ap (places_from (is_wanted c.args.ask.now) 0) c.entries.ensures)
     (sent_wanted c.args.journal.now c.args.ask.now c.args.own kept known)
+
+pub returns-in_err-purged-clause-refusal : goal.returns-in_err-purged-clause-refusal
+returns-in_err-purged-clause-refusal c =
+    let fault : IsPlanFault c.args.journal.now c.args.ask.now c.in_err-purged.field-0.0 =
+    purged_edges c.args.journal.now c.args.ask.now c.in_err-purged.field-0.0 c.previous-then-not-kept.result.now c.previous-then-not-kept.ensures c.in_err-purged.ensures.full in
+    search rules

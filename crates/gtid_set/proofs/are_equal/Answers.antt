@@ -1,4 +1,7 @@
+use Rattle.std.proofs.Common.{List, subst}
+use Rattle.std.specs.Bool.{MatchBool}
 use Rattle.std.proofs.lemmas.Bool.Decides.{when_true, when_false}
+use Rattle.gtid_text.specs.declared.Span.{Span}
 use Rattle.gtid_set.specs.Spans.{has}
 use Rattle.gtid_set.specs.Sweep.{IsWithin, IsNotWithin}
 use Rattle.gtid_set.proofs.SetSources.{differ_held, equal_held}
@@ -8,12 +11,16 @@ pub returns-then-not-is_within : goal.returns-then-not-is_within
 returns-then-not-is_within c =
     let xs = c.args.left.now in
     let ys = c.args.right.now in
-    let apart = when_false (IsWithin (has xs) (has ys)) (IsNotWithin (has xs) (has ys)) c.if-not-is_within.true c.is_within.ensures in
-    (λ h. absurd cc, λ e. absurd (differ_held xs ys apart e))
+    let P : List Span → List Span → Type 0 = λ xs ys. IsNotWithin (has xs) (has ys) in
+    let apart = when_false (IsWithin (has c.cursor.result) (has c.cursor-2.result)) (IsNotWithin (has c.cursor.result) (has c.cursor-2.result)) c.if-not-is_within.true c.is_within.ensures in
+    (λ h. absurd cc, λ e. absurd (differ_held xs ys (subst (λ zs. P xs zs) c.cursor-2.ensures (subst (λ zs. P zs c.cursor-2.result) c.cursor.ensures apart)) e))
 
 pub returns : goal.returns
 returns c =
     let xs = c.args.left.now in
     let ys = c.args.right.now in
-    let inside = when_true (IsWithin (has xs) (has ys)) (IsNotWithin (has xs) (has ys)) c.if-not-is_within.false c.is_within.ensures in
-    equal_held c.is_within-2.result xs ys inside c.is_within-2.ensures
+    let P : List Span → List Span → Type 0 = λ xs ys. IsWithin (has xs) (has ys) in
+    let Q : List Span → List Span → Type 0 = λ ys xs. MatchBool c.is_within-2.result (IsWithin (has ys) (has xs)) (IsNotWithin (has ys) (has xs)) in
+    let inside = when_true (IsWithin (has c.cursor.result) (has c.cursor-2.result)) (IsNotWithin (has c.cursor.result) (has c.cursor-2.result)) c.if-not-is_within.false c.is_within.ensures in
+    equal_held c.is_within-2.result xs ys (subst (λ zs. P xs zs) c.cursor-2.ensures (subst (λ zs. P zs c.cursor-2.result) c.cursor.ensures inside))
+    (subst (λ zs. Q ys zs) c.cursor-4.ensures (subst (λ zs. Q zs c.cursor-4.result) c.cursor-3.ensures c.is_within-2.ensures))

@@ -4,5 +4,5 @@ use Rattle.commands.proofs.request.answer_bytes.Goals as goal
 
 pub returns-clause-ok : goal.returns-clause-ok
 returns-clause-ok g c =
-    let says = Tells g.Q.Value.Text.spells g.Q.Value.Text.decoded (g.Q.Request.says c.args.request.now) (g.Q.Request.too_many c.args.request.now) in
+    let says = Tells g.Q.Value.Text.spells g.Q.Value.Text.decoded (g.Q.Request.says c.args.request.now) (g.Q.Request.may_fail c.args.request.now) in
     settled says c.find.result c.settle.result c.args.bytes.items c.find.ensures c.settle.ensures.ok

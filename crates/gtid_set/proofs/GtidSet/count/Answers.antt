@@ -8,5 +8,5 @@ use Rattle.gtid_set.proofs.GtidSet.count.Goals as goal
 
 pub returns : goal.returns
 returns c =
-    let items = c.self.inside.spans.items in
-    c.count_numbers.ensures ∙ ap (sum_by size_of) c.deref.ensures.value ∙ sym (len-set_of items (apart_merged items c.self.invariant.merged)) ∙ ap set.len c.self.view_is
+    let items = c.self.inside.spans in
+    c.count_numbers.ensures ∙ ap (sum_by size_of) c.cursor.ensures ∙ sym (len-set_of items (apart_merged items c.self.invariant.merged)) ∙ ap set.len c.self.view_is

@@ -1,10 +1,11 @@
-use Rattle.std.proofs.Common.{◌≤◌, nat_le, ap, sym, subst, ◌∙◌, length, Err}
+use Rattle.std.proofs.Common.{nat_le, ap, sym, subst, ◌∙◌, length, Err}
 use Rattle.std.specs.List.{list_all}
-use Rattle.gtid_set.specs.Sets.{Gtids, source_count}
+use Rattle.gtid_set.specs.Sets.{Gtids}
 use Rattle.gtid_set.specs.Spans.{set_of}
 use Rattle.gtid_set.specs.Full.{IsFullExactly}
 use Rattle.gtid_set.proofs.SortLemmas.{same_set_sorted, filled_sorted}
 use Rattle.gtid_set.proofs.TextLemmas.{spelled_filled, memory_alone, set_read, given_set, given_fault, given_refusal}
+use Rattle.gtid_set.proofs.RoundTrip.{Fits}
 use Rattle.gtid_set.proofs.GtidSet.from_text.Goals as goal
 
 pub returns-in-Err-clause-only : goal.returns-in-Err-clause-only
@@ -31,7 +32,8 @@ pub returns-in-Ok-gathered-clause-exact : goal.returns-in-Ok-gathered-clause-exa
 returns-in-Ok-gathered-clause-exact c =
     let same = same_set_sorted c.in-Ok.spans.items c.sort_by_start.new.spans.items c.sort_by_start.ensures.same in
     let made = c.in-Ok-gathered.ensures.ok ∙ ap set_of c.deref.ensures.value in
-    given_set c.args.text.now c.in-Ok.spans.items c.in-Ok-gathered.set c.in-Ok.ensures.exact (subst (λ s. source_count s ≤ 65536) (sym c.in-Ok-gathered.ensures.ok) c.in-Ok-gathered.ensures.full) (sym same ∙ sym made)
+    let fits = subst Fits (sym c.in-Ok-gathered.ensures.ok) c.in-Ok-gathered.ensures.full in
+    given_set c.args.text.now c.in-Ok.spans.items c.in-Ok-gathered.set c.in-Ok.ensures.exact fits.0 fits.1 (sym same ∙ sym made)
 
 pub returns-clause-only : goal.returns-clause-only
 returns-clause-only c s h =

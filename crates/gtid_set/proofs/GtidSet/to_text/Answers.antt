@@ -7,4 +7,4 @@ use Rattle.gtid_set.proofs.GtidSet.to_text.Goals as goal
 pub returns : goal.returns
 returns c =
     IfOk-weaker c.written.result _ _
-    (λ t e. e ∙ ap spans_text (c.deref.ensures.value ∙ runs_held c.self.inside.spans.items c.args.self.now c.self.invariant.merged c.self.view_is)) c.written.ensures
+    (λ t e. e ∙ ap spans_text (c.cursor.ensures ∙ runs_held c.self.inside.spans c.args.self.now c.self.invariant.merged c.self.view_is)) c.written.ensures

@@ -1,4 +1,4 @@
-use Rattle.std.proofs.Common.{◌≡◌, false, max, ap, sym, ◌∙◌, refl}
+use Rattle.std.proofs.Common.{drop, ◌∷◌, ◌≡◌, false, max, ap, sym, ◌∙◌, refl}
 use Rattle.gtid_set.specs.Sets.{gtid}
 use Rattle.gtid_set.specs.Spans.{has, is_merged}
 use Rattle.gtid_set.proofs.CutLemmas.{within_from, more_from, has_first, has_more, looked, hole_of, common_gtid}
@@ -7,39 +7,39 @@ use Rattle.gtid_set.proofs.sweep.are_apart.Goals as goal
 
 pub loop-span-preserved : goal.loop-span-preserved
 loop-span-preserved c =
-    let span = c.in-Some.span.now in
-    let more = c.in-Some.more.now in
-    let left = c.loop-span.left.now in
-    let rest = c.skip-right.result.now in
+    let span = c.in-Some.span in
+    let more = c.advance.new.self in
+    let left = c.loop-span.left in
+    let rest = c.skip.new.spans in
     let inv = c.loop-span.invariant in
-    let parts = c.in-Some.ensures.cases.0 in
+    let parts = c.in-Some.ensures.cases ∙ sym (ap (λ ss. c.in-Some.span ∷ ss) c.advance.ensures) in
     let head = merged_head span more (sym (ap is_merged parts) ∙ inv.left) in
-    let skips = c.skip-right.ensures in
+    let skips = c.skip.ensures in
     record {
       left = head.tail;
       right = skips.merged;
       still = λ q m. inv.still q (has_more left span more q parts m);
       same = λ q m. skips.same q (more_from span more q head m) ∙ inv.same q (has_more left span more q parts m);
-      done = λ q a m. looked left span more q (has c.args.right.now q ≡ false) parts m
+      done = λ q a m. looked left span more q (has c.args.right q ≡ false) parts m
           (λ w. sym (inv.same q (has_first left span more q parts w)) ∙ sym (skips.same q (within_from span q w)) ∙ c.in_default-meeting.ensures.apart refl q w)
           (λ none. inv.done q a none);
     }
 
 pub returns-in-Some-meeting : goal.returns-in-Some-meeting
 returns-in-Some-meeting c =
-    let span = c.in-Some.span.now in
-    let more = c.in-Some.more.now in
-    let left = c.loop-span.left.now in
-    let rest = c.skip-right.result.now in
+    let span = c.in-Some.span in
+    let more = drop 1 c.loop-span.left in
+    let left = c.loop-span.left in
+    let rest = c.skip.new.spans in
     let inv = c.loop-span.invariant in
-    let parts = c.in-Some.ensures.cases.0 in
+    let parts = c.in-Some.ensures.cases in
     let head = merged_head span more (sym (ap is_merged parts) ∙ inv.left) in
-    let skips = c.skip-right.ensures in
-    let other = c.in-Some-meeting.field-0.0.now in
-    let h = hole_of rest span other c.in-Some-meeting.field-0.1.now c.in-Some-meeting.ensures.found skips.merged skips.reach in
+    let skips = c.skip.ensures in
+    let other = c.in-Some-meeting._other in
+    let h = hole_of rest span other (drop 1 c.skip.new.spans) c.in-Some-meeting.ensures.found skips.merged skips.reach in
     let g = common_gtid span other head.filled h.head.filled h.met h.reached in
     let q = gtid span.source (max span.lo other.lo) in (
       q,
       inv.still q (has_first left span more q parts g.0),
-      sym (inv.same q (has_first left span more q parts g.0)) ∙ sym (skips.same q (within_from span q g.0)) ∙ has_first rest other c.in-Some-meeting.field-0.1.now q h.parts g.1,
+      sym (inv.same q (has_first left span more q parts g.0)) ∙ sym (skips.same q (within_from span q g.0)) ∙ has_first rest other (drop 1 c.skip.new.spans) q h.parts g.1,
     )

@@ -10,8 +10,8 @@ invariant-loop-span l = record {
   right : rises l.right ≡ true;
   left_from : all_from l.last l.left ≡ true;
   right_from : all_from l.last l.right ≡ true;
-  enough : length l.left + length l.right ≤ l.count;
-  count : l.count + set.len (besides l.last (sources_in (l.left ++ l.right))) ≡ set.len (sources_in (l.fn.left ++ l.fn.right)) + (length l.left + length l.right);
+  bound : l.count + (length l.left + length l.right) ≤ length l.fn.left + length l.fn.right;
+  count : l.count + set.len (besides l.last (sources_in (l.left ++ l.right))) ≡ set.len (sources_in (l.fn.left ++ l.fn.right));
 }
 
 abbrev pub decreases-loop-span : goal.decreases-loop-span

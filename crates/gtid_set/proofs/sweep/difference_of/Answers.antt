@@ -1,4 +1,4 @@
-use Rattle.std.proofs.Common.{ap, sym, ◌∙◌, not, ◌&&◌, ◌||◌}
+use Rattle.std.proofs.Common.{drop, ◌∷◌, ap, sym, ◌∙◌, not, ◌&&◌, ◌||◌}
 use Rattle.std.specs.List.{list_all}
 use Rattle.gtid_set.specs.Spans.{has, is_merged}
 use Rattle.gtid_set.specs.Sweep.{all_before, within}
@@ -13,31 +13,31 @@ loop-span-init c =
       left = c.requires.left;
       right = c.requires.right;
       merged = none.merged;
-      before = none.before c.args.left.now;
-      has = λ q. ap (λ b. b || (has c.args.left.now q && not (has c.args.right.now q))) (none.none q);
+      before = none.before c.args.left;
+      has = λ q. ap (λ b. b || (has c.args.left q && not (has c.args.right q))) (none.none q);
     }
 
 pub cut-requires-clause-before : goal.cut-requires-clause-before
 cut-requires-clause-before c =
-    all_before_head c.loop-span.out.items c.loop-span.left.now c.in-Some.span.now c.in-Some.more.now c.in-Some.ensures.cases.0 c.loop-span.invariant.before
+    all_before_head c.loop-span.out.items c.loop-span.left c.in-Some.span (drop 1 c.loop-span.left) c.in-Some.ensures.cases c.loop-span.invariant.before
 
 pub cut-requires-clause-filled : goal.cut-requires-clause-filled
 cut-requires-clause-filled c =
-    (merged_head c.in-Some.span.now c.in-Some.more.now (sym (ap is_merged c.in-Some.ensures.cases.0) ∙ c.loop-span.invariant.left)).filled
+    (merged_head c.in-Some.span (drop 1 c.loop-span.left) (sym (ap is_merged c.in-Some.ensures.cases) ∙ c.loop-span.invariant.left)).filled
 
 pub loop-span-preserved : goal.loop-span-preserved
 loop-span-preserved c =
-    let span = c.in-Some.span.now in
-    let more = c.in-Some.more.now in
+    let span = c.in-Some.span in
+    let more = c.advance.new.self in
     let inv = c.loop-span.invariant in
-    let parts = c.in-Some.ensures.cases.0 in
+    let parts = c.in-Some.ensures.cases ∙ sym (ap (λ ss. c.in-Some.span ∷ ss) c.advance.ensures) in
     let head = merged_head span more (sym (ap is_merged parts) ∙ inv.left) in
-    let skips = c.skip-right.ensures in
+    let skips = c.skip.ensures in
     let made = c.in_ok-cut.ensures in
     let out = c.loop-span.out.items in
     let new = c.cut.new.out.items in
-    let right = c.loop-span.right.now in
-    let rest = c.skip-right.result.now in
+    let right = c.loop-span.right in
+    let rest = c.skip.new.spans in
     record {
       left = head.tail;
       right = skips.merged;

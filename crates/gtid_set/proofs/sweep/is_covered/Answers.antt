@@ -1,5 +1,4 @@
 use Rattle.std.proofs.Common.{ap, sym, ◌∙◌}
-use Rattle.std.proofs.lemmas.List.{nil_from_length}
 use Rattle.gtid_set.specs.Spans.{has}
 use Rattle.gtid_set.specs.Sweep.{start_of}
 use Rattle.gtid_set.proofs.CutLemmas.{covered, uncovered, start_within}
@@ -8,12 +7,12 @@ use Rattle.gtid_set.proofs.sweep.is_covered.Goals as goal
 pub returns-in-None : goal.returns-in-None
 returns-in-None c =
     let t = c.args.span.now in
-    (start_of t, start_within t c.requires.filled, ap (λ ss. has ss (start_of t)) (nil_from_length c.args.spans.now c.in-None.ensures.cases))
+    (start_of t, start_within t c.requires.filled, ap (λ ss. has ss (start_of t)) c.in-None.ensures.cases)
 
 pub returns-in-Some : goal.returns-in-Some
 returns-in-Some c =
-    covered c.args.spans.now c.args.span.now c.in-Some.first.now _ c.in-Some.ensures.cases.0 (sym c.is_inside.ensures ∙ c.if-is_inside.true)
+    covered c.args.spans.now c.args.span.now c.in-Some.first _ c.in-Some.ensures.cases (sym c.is_inside.ensures ∙ c.if-is_inside.true)
 
 pub returns-in-Some-2 : goal.returns-in-Some-2
 returns-in-Some-2 c =
-    uncovered c.args.spans.now c.args.span.now c.in-Some.first.now _ c.in-Some.ensures.cases.0 c.requires.filled c.requires.merged c.requires.reach (sym c.is_inside.ensures ∙ c.if-is_inside.false)
+    uncovered c.args.spans.now c.args.span.now c.in-Some.first _ c.in-Some.ensures.cases c.requires.filled c.requires.merged c.requires.reach (sym c.is_inside.ensures ∙ c.if-is_inside.false)

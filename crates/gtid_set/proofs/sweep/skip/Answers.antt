@@ -1,4 +1,4 @@
-use Rattle.std.proofs.Common.{ap, sym, ◌∙◌}
+use Rattle.std.proofs.Common.{drop, ◌∷◌, ap, sym, ◌∙◌}
 use Rattle.gtid_set.specs.Spans.{is_merged, has}
 use Rattle.gtid_set.specs.Sweep.{all_reach}
 use Rattle.gtid_set.proofs.SpanLemmas.{skip_over, reach_all, merged_head}
@@ -6,9 +6,9 @@ use Rattle.gtid_set.proofs.sweep.skip.Goals as goal
 
 pub loop-first-preserved : goal.loop-first-preserved
 loop-first-preserved c =
-    let parts = c.in-Some.ensures.cases.0 in
-    let first = c.in-Some.first.now in
-    let more = c.in-Some.more.now in
+    let first = c.in-Some.first in
+    let more = c.advance.new.self in
+    let parts = c.in-Some.ensures.cases ∙ sym (ap (λ ss. first ∷ ss) c.advance.ensures) in
     let ended = sym c.ends_before.ensures ∙ c.if-not-ends_before.false in
     record {
       merged = (merged_head first more (sym (ap is_merged parts) ∙ c.loop-first.invariant.merged)).tail;
@@ -17,9 +17,9 @@ loop-first-preserved c =
 
 pub returns-then-not-ends_before : goal.returns-then-not-ends_before
 returns-then-not-ends_before c =
-    let parts = c.in-Some.ensures.cases.0 in
-    let first = c.in-Some.first.now in
-    let more = c.in-Some.more.now in
+    let parts = c.in-Some.ensures.cases in
+    let first = c.in-Some.first in
+    let more = drop 1 c.loop-first.spans in
     let reaches = sym c.ends_before.ensures ∙ c.if-not-ends_before.true in
     record {
       merged = c.loop-first.invariant.merged;

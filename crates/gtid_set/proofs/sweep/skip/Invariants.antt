@@ -6,9 +6,9 @@ use Rattle.gtid_set.proofs.sweep.skip.Given as goal
 
 abbrev pub invariant-loop-first : goal.invariant-loop-first
 invariant-loop-first l = record {
-  merged : is_merged l.rest ≡ true;
-  same : (q : Gtid) → is_from (start_of l.span) q ≡ true → has l.rest q ≡ has l.spans q;
+  merged : is_merged l.spans ≡ true;
+  same : (q : Gtid) → is_from (start_of l.span) q ≡ true → has l.spans q ≡ has l.fn.spans q;
 }
 
 abbrev pub decreases-loop-first : goal.decreases-loop-first
-decreases-loop-first l = length l.rest
+decreases-loop-first l = length l.spans

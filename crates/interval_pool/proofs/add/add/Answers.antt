@@ -1,35 +1,38 @@
-use Rattle.std.proofs.Common.{rules, ◌≡◌, ℕ, ◌+◌, ◌-◌, ◌≤◌, List, subst, map, arith}
+use Rattle.std.proofs.Common.{rules, List, length, ap, sym, subst, arith, ◌≡◌, ◌∙◌}
 use Rattle.interval_pool.specs.declared.cells.Cell.{Cell}
-use Rattle.interval_pool.specs.Intervals.{met}
-use Rattle.interval_pool.specs.Pools.{interval_at, rest_of}
-use Rattle.interval_pool.specs.Places.{IsPlace}
+use Rattle.interval_pool.specs.declared.cells.Head.{Head}
+use Rattle.interval_pool.specs.Cells.{with_end}
+use Rattle.interval_pool.specs.Intervals.{IsApart}
+use Rattle.interval_pool.specs.Places.{IsBehind, TouchesEnd}
+use Rattle.interval_pool.specs.Changes.{spans_of, Added}
 use Rattle.interval_pool.proofs.add.add.Goals as goal
-use Rattle.interval_pool.proofs.Altering.{stands, added, kept_apart}
+use Rattle.interval_pool.proofs.Valued.{seamed}
+use Rattle.interval_pool.proofs.Growing.{apart_behind, behind_all, grown_end, length_end}
 
-pub returns-in_err-replace-clause-needed : goal.returns-in_err-replace-clause-needed
-returns-in_err-replace-clause-needed c =
+pub returns-then-touches_end-clause-ok : goal.returns-then-touches_end-clause-ok
+returns-then-touches_end-clause-ok c =
     let cells : List Cell = c.args.cells.now.items in
-    let heads = c.args.heads.now in
-    let n : ℕ = c.saturating_sub.result in
-    let is : n ≡ c.args.numbers.lo - 1 = c.saturating_sub.ensures in
-    let P : List Cell → Type 0 = λ cs. IsPlace cs heads c.args.list n c.seek-before.result in
-    let Q : List Cell → Type 0 = λ cs. c.meet-joined.result ≡ met (c.args.numbers.hi + 1) c.args.numbers 0 (map (interval_at cs) (rest_of cs heads c.args.list c.seek-before.result)) in
-    let from : c.args.numbers.lo ≤ n + 1 = omega (is, arith) in
-    let t = stands cells heads c.args.list n (c.args.numbers.hi + 1) c.seek-before.result c.args.numbers c.meet-joined.result c.requires.whole c.requires.merged c.requires.filled from (omega arith)
-    (subst P c.deref.ensures.value c.seek-before.ensures) (subst Q c.deref-2.ensures.value c.meet-joined.ensures) in
-    let apart = kept_apart cells heads c.args.list n c.seek-before.result c.args.numbers c.meet-joined.result t is c.in_err-replace.ensures.needed in
+    let heads : List Head = c.args.heads.now in
+    let end = c.last_known-end.result in
+    let s = c.args.numbers in
+    let P : List Cell → Type 0 = λ cs. TouchesEnd cs heads c.args.list s end in
+    let touches = subst P c.deref-2.ensures.value (c.touches_end.ensures c.if-touches_end.true heads) in
+    let same : c.grow_end.new.cells ≡ with_end cells end s.hi = c.grow_end.ensures ∙ ap (λ cs. with_end cs end s.hi) c.deref_mut.ensures.value in
+    let size : length c.grow_end.new.cells ≡ c.args.cells.now.len = (let a = ap length same in let b = length_end cells end s.hi in let d = ap length c.deref_mut.ensures.value in let e = c.deref_mut.ensures.len in omega (a, b, d, e, arith)) in
+    let Q : List Cell → Type 0 = λ cs. Added cells heads c.args.list s cs heads in
+    subst Q (sym (seamed c.grow_end.new.cells cells c.args.cells.now.len size ∙ same)) (grown_end cells heads c.args.list s end c.requires.whole c.requires.small c.requires.merged c.requires.filled touches)
+
+pub append-requires-clause-behind : goal.append-requires-clause-behind
+append-requires-clause-behind c =
+    let cells : List Cell = c.args.cells.now.items in
+    let P : List Cell → Type 0 = λ cs. IsBehind cs c.args.heads.now c.args.list c.args.numbers c.last_known-end.result in
+    behind_all cells c.args.heads.now c.args.list c.args.numbers c.last_known-end.result c.requires.whole c.requires.merged (subst P c.deref-3.ensures.value (c.is_behind.ensures c.if-is_behind.true))
+
+pub returns-in_err-place-clause-needed : goal.returns-in_err-place-clause-needed
+returns-in_err-place-clause-needed c =
+    let cells : List Cell = c.args.cells.now.items in
+    let heads : List Head = c.args.heads.now in
+    let P : List Cell → Type 0 = λ cs. IsBehind cs heads c.args.list c.args.numbers c.last_known-end.result in
+    let behind = behind_all cells heads c.args.list c.args.numbers c.last_known-end.result c.requires.whole c.requires.merged (subst P c.deref-3.ensures.value (c.is_behind.ensures c.if-is_behind.true)) in
+    let apart : IsApart (spans_of cells heads c.args.list) c.args.numbers = apart_behind (spans_of cells heads c.args.list) c.args.numbers behind in
     search rules
-
-pub returns-clause-ok : goal.returns-clause-ok
-returns-clause-ok c =
-    let cells : List Cell = c.args.cells.now.items in
-    let heads = c.args.heads.now in
-    let n : ℕ = c.saturating_sub.result in
-    let is : n ≡ c.args.numbers.lo - 1 = c.saturating_sub.ensures in
-    let P : List Cell → Type 0 = λ cs. IsPlace cs heads c.args.list n c.seek-before.result in
-    let Q : List Cell → Type 0 = λ cs. c.meet-joined.result ≡ met (c.args.numbers.hi + 1) c.args.numbers 0 (map (interval_at cs) (rest_of cs heads c.args.list c.seek-before.result)) in
-    let from : c.args.numbers.lo ≤ n + 1 = omega (is, arith) in
-    let t = stands cells heads c.args.list n (c.args.numbers.hi + 1) c.seek-before.result c.args.numbers c.meet-joined.result c.requires.whole c.requires.merged c.requires.filled from (omega arith)
-    (subst P c.deref.ensures.value c.seek-before.ensures) (subst Q c.deref-2.ensures.value c.meet-joined.ensures) in
-    added cells c.replace.new.cells.items heads c.replace.new.heads c.args.list n c.seek-before.result c.args.numbers c.meet-joined.result t c.requires.whole c.requires.small c.requires.is_list c.requires.there c.requires.filled is
-    c.in_ok-replace.ensures.ok

@@ -1,14 +1,21 @@
-use Rattle.std.proofs.Common.{◌≡◌, ◌+◌, ◌∷◌, drop, ap, sym, ◌∙◌, arith}
-use Rattle.std.proofs.lemmas.List.{drop_more}
+use Rattle.std.proofs.Common.{◌+◌, ap, subst, ◌∙◌, arith, Err}
+use Rattle.std.specs.FinSet as set
+use Rattle.gtid_set.specs.Sets.{Gtids, interval}
+use Rattle.gtid_set.specs.Full.{IsFullExactly}
 use Rattle.gtid_text.specs.declared.Span.{Span}
-use Rattle.journal_words.specs.Gtids.{set_with}
-use Rattle.journal_words.proofs.SpanLaws.{fault_behind}
+use Rattle.journal_words.proofs.SpanLaws.{fault_behind, with_more}
 use Rattle.journal_words.proofs.gtids.set_of.Goals as goal
+
+pub loop-span-preserved : goal.loop-span-preserved
+loop-span-preserved c =
+    let t : Span = c.span-item.result in
+    c.in-Ok.ensures.ok
+    ∙ ap (λ (s : Gtids). set.union s (interval t.source t.lo t.hi)) c.loop-span.invariant
+    ∙ with_more set.empty c.args.spans.now c.loop-span.span-index t (omega arith) c.span-item.is
 
 pub returns-in-Err-clause-fault : goal.returns-in-Err-clause-fault
 returns-in-Err-clause-fault c =
     let i = c.loop-span.span-index in
-    let all = c.args.spans.now in
-    let next : Span = c.span-item.result in
-    let front : drop i all ≡ next ∷ drop (i + 1) all = drop_more all i next (omega arith) ∙ ap (λ (s : Span). s ∷ drop (i + 1) all) (sym c.span-item.is) in
-    fault_behind c.in-Err.fault _ _ (drop (i + 1) all) c.in-Err.ensures.full (sym (ap (set_with c.loop-span.set) front) ∙ c.loop-span.invariant)
+    let t : Span = c.span-item.result in
+    let made = ap (λ (s : Gtids). set.union s (interval t.source t.lo t.hi)) c.loop-span.invariant ∙ with_more set.empty c.args.spans.now i t (omega arith) c.span-item.is in
+    fault_behind c.in-Err.fault (i + 1) c.args.spans.now c.requires (subst (λ s. IsFullExactly {T = Unit {0}} (Err c.in-Err.fault) s) made c.in-Err.ensures.full)

@@ -4,4 +4,4 @@ use Rattle.journal_words.proofs.AsciiLemmas.{ascii_digits}
 use Rattle.journal_words.proofs.values.write_digits.Goals as goal
 
 pub text_of-requires : goal.text_of-requires
-text_of-requires c = subst IsAscii (sym c.in-Ok.ensures.written) (ascii_digits c.args.bytes.now)
+text_of-requires c = subst IsAscii (sym c.encode_into.ensures) (ascii_digits c.args.bytes.now)

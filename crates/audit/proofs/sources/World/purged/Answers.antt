@@ -4,8 +4,8 @@ use Rattle.audit.specs.Passing.{purged_at}
 use Rattle.audit.proofs.Passing.{first_from_start}
 use Rattle.audit.proofs.sources.World.purged.Goals as goal
 
-pub returns : goal.returns
-returns c =
+pub returns-clause-found : goal.returns-clause-found
+returns-clause-found c =
     IfOk-weaker c.first_purged.result _ _
     (λ found e. e ∙ first_from_start (purged_at c.args.self.now) c.args.journals.now)
-    c.first_purged.ensures
+    c.first_purged.ensures.found

@@ -1,4 +1,4 @@
-use Rattle.std.proofs.Common.{◌≡◌, false, ◌<◌, Some, Err, length, refl, ap, sym, ◌∙◌, subst, arith}
+use Rattle.std.proofs.Common.{rules, ◌≡◌, false, ◌<◌, Some, Err, length, refl, ap, sym, ◌∙◌, subst, arith}
 use Rattle.std.specs.Prelude.{slice_get, MatchOption}
 use Rattle.std.specs.FinSet as set
 use Rattle.std.proofs.lemmas.Option.{slice_get_read, slice_get_past}
@@ -7,9 +7,11 @@ use Rattle.replica_core.specs.declared.event.Reply.TheVariants.{NotPositioned}
 use Rattle.network.specs.declared.event.NetworkEvent.TheVariants.{Receive}
 use Rattle.network.specs.declared.event.NetworkReply.TheVariants.{Replied}
 use Rattle.network.specs.Machine.{decide}
+use Rattle.gtid_set.specs.Full.{IsMemoryOr}
+use Rattle.network.specs.Faults.{IsReadingCause}
 use Rattle.network.specs.Next.{IsAtEnd, IsEntryNext}
 use Rattle.network.specs.Reading.{HasRead, IsReadFrom}
-use Rattle.network.proofs.NetworkLemmas.{got, IsAsking, asked_read, purged_decided, next_read, at_end, entry_next}
+use Rattle.network.proofs.NetworkLemmas.{got, IsAsking, purged_cause, asked_read, purged_decided, next_read, at_end, entry_next}
 use Rattle.network.proofs.network.Network.next.Goals as goal
 
 pub start-requires : goal.start-requires
@@ -119,3 +121,30 @@ returns-in-None-clause-ok c =
     subst (λ ns. IsAtEnd ns i d c.next_place-next.result) c.self.view_is
     (at_end N i d k one from channel asked received j a c.next_place-next.result next.read
     (next.next ∙ (ap (λ xs. slice_get xs c.next_place-next.result) (sym c.entries-2.ensures) ∙ slice_get_past c.entries-2.result.now c.next_place-next.result c.in-None.ensures.lookup.3)))
+
+pub returns-in_err-place-clause-fault : goal.returns-in_err-place-clause-fault
+returns-in_err-place-clause-fault c =
+    let N = c.self.inside.nodes.items in
+    let R = c.self.inside.readers.items in
+    let i = c.args.node in
+    let d = c.args.channel in
+    let k = c.in-Some-source.source in
+    let one = c.in-Some.one.now in
+    let from = c.in-Some-get.from.now in
+    let channel = c.in-Some-channel.into.now.channel in
+    let asked = c.in-Some-last_ask.asked.now in
+    let received = c.received.result.now in
+    let j = c.as_journal-journal.result.now in
+    let a : IsAsking N i d k one from channel asked received j = record {
+      at = got c.deref.result.now N i one c.deref.ensures.value c.in-Some.ensures.lookup.3.0 c.in-Some.ensures.lookup.1;
+      there = ap (λ (r : Replica). slice_get r.state.channels d) (sym c.replica.ensures) ∙ c.in-Some-channel.ensures.value;
+      with = c.in-Some-last_ask.ensures;
+      reads = c.in-Some-source.ensures;
+      source = got c.deref-2.result.now N k from c.deref-2.ensures.value c.in-Some-get.ensures.lookup.3.0 c.in-Some-get.ensures.lookup.1;
+      received_is = c.received.ensures;
+      journal = c.as_journal-journal.ensures ∙ (c.journal.ensures ∙ ap (λ (r : Replica). r.state.journal) c.replica-2.ensures);
+    } in
+    let f = c.in_err-place.field-0.0 in
+    let fault : IsMemoryOr ⊥ (IsReadingCause f c.args.self.now i d) f =
+    subst (λ ns. IsMemoryOr ⊥ (IsReadingCause f ns i d) f) c.self.view_is (purged_cause N i d k one from channel asked received j a f c.in_err-place.ensures.fault) in
+    search rules

@@ -1,6 +1,6 @@
 use Rattle.std.proofs.Common.{◌≡◌, inl, inr, true, rules, sym, ap, ◌∙◌, subst}
 use Rattle.journal.specs.declared.Entry.{Entry}
-use Rattle.journal.specs.Faults.{IsFaultOf}
+use Rattle.gtid_set.specs.Full.{IsFaultOf}
 use Rattle.replica_core.specs.State.{Replica}
 use Rattle.replica_core.specs.Faults.{IsFaultIn, executing_too}
 use Rattle.replica_core.specs.AtOnce.{IsLeft, IsFaultAtOnce}

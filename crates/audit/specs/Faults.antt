@@ -1,0 +1,18 @@
+-- Why journals are not audited.
+use Rattle.std.specs.Prelude.{◌≡◌, ℕ, List, Some, slice_get}
+use Rattle.std.specs.FinSet as set
+use Rattle.gtid_set.specs.declared.fault.SetFault.{SetFault}
+use Rattle.gtid_set.specs.Sets.{Gtids}
+use Rattle.gtid_set.specs.Full.{HasManyIntervals, IsMemoryOr}
+use Rattle.journal.specs.Journals.{JournalValue}
+
+-- what some journal's previous set has outside the opening set has too many intervals
+pub record LacksMany (opened : Gtids) (journals : List JournalValue) : Type 0 where
+  pub place : ℕ
+  pub journal : JournalValue
+  pub at : slice_get journals place ≡ Some journal
+  pub many : HasManyIntervals (set.difference journal.previous opened)
+
+-- memory was refused, or the set that the verdict would name has too many intervals
+abbrev pub IsAuditFault : Gtids → List JournalValue → SetFault → Type 0
+IsAuditFault opened journals f = IsMemoryOr ⊥ (LacksMany opened journals) f

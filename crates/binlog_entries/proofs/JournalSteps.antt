@@ -1,0 +1,43 @@
+-- Entries that follow one another in a journal.
+use Rattle.std.proofs.Common.{◌≡◌, ℕ, ◌+◌, ◌<◌, List, [], ◌∷◌, ◌++◌, length, get_or, take, drop, refl, sym, ap, ◌∙◌, suc, arith}
+use Rattle.std.proofs.lemmas.List.{take_more, take-append-drop}
+use Rattle.std.proofs.Math.Seq.{drop-cons}
+use Rattle.std.specs.FinSet as set
+use Rattle.gtid_set.specs.Sets.{Gtids}
+use Rattle.journal.specs.declared.Entry.{Entry}
+use Rattle.binlog_entries.specs.Journals.{MayNotFollow, seen_behind, IsNoJournal}
+use Rattle.binlog_entries.specs.declared.as_journal.LogFault.{LogFault}
+use Rattle.binlog_entries.specs.declared.as_journal.LogFault.TheVariants as faults
+
+-- one entry more
+pub took_more : (xs : List Entry) (i : ℕ) (e : Entry) → i < length xs → e ≡ get_or xs i e → take (i + 1) xs ≡ take i xs ++ e ∷ []
+took_more xs i e lt is = take_more xs i e lt ∙ ap (λ (x : Entry). take i xs ++ x ∷ []) (sym is)
+
+pub seen_behind-push : (seen : Gtids) (xs : List Entry) (e : Entry) → seen_behind seen (xs ++ e ∷ []) ≡ set.insert (seen_behind seen xs) e.gtid
+seen_behind-push seen [] e = refl
+seen_behind-push seen (x ∷ xs) e = seen_behind-push (set.insert seen x.gtid) xs e
+
+split_at : (xs : List Entry) (i : ℕ) (e : Entry) → i < length xs → e ≡ get_or xs i e → xs ≡ take i xs ++ e ∷ drop (i + 1) xs
+split_at xs i e lt is =
+    let next : suc i ≡ i + 1 = omega arith in
+    sym (take-append-drop i xs)
+    ∙ ap (λ (ys : List Entry). take i xs ++ ys) (drop-cons xs i e lt)
+    ∙ ap (λ (x : Entry). take i xs ++ x ∷ drop (suc i) xs) (sym is)
+    ∙ ap (λ (k : ℕ). take i xs ++ e ∷ drop k xs) next
+
+pub unfit_at : (fault : LogFault) (seen now : Gtids) (xs : List Entry) (i : ℕ) (e : Entry) → i < length xs → e ≡ get_or xs i e → now ≡ seen_behind seen (take i xs) → MayNotFollow fault now e → IsNoJournal fault seen xs
+unfit_at (faults.Set fault) seen now xs i e lt is known h = tt
+unfit_at (faults.Twice gtid) seen now xs i e lt is known h = record {
+  before = take i xs;
+  entry = e;
+  behind = drop (i + 1) xs;
+  parts = split_at xs i e lt is;
+  refused = (h.0, ap (λ (s : Gtids). set.contains s e.gtid) (sym known) ∙ h.1);
+}
+unfit_at (faults.TooLarge gtid) seen now xs i e lt is known h = record {
+  before = take i xs;
+  entry = e;
+  behind = drop (i + 1) xs;
+  parts = split_at xs i e lt is;
+  refused = h;
+}

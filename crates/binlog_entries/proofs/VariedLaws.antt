@@ -1,0 +1,162 @@
+-- The columns that the server compares otherwise than their bytes, behind each line.
+use Rattle.std.proofs.Common.{◌≡◌, ℕ, Bool, true, false, cond, List, [], ◌∷◌, Option, Some, None, Ok, Err, refl, sym, ap, ◌∙◌, subst}
+use Rattle.std.specs.FinSet as set
+use Rattle.journal_words.specs.Gtids.{set_of_word}
+use Rattle.txn_journal.specs.Words.{name_of}
+use Rattle.binlog_text.specs.Types.{type_named}
+use Rattle.binlog_text.specs.declared.lines.Event.{Event}
+use Rattle.binlog_text.specs.declared.lines.Event.TheVariants as events
+use Rattle.binlog_text.specs.declared.lines.Mark.{Mark}
+use Rattle.binlog_text.specs.declared.lines.Mark.TheVariants as marks
+use Rattle.binlog_text.specs.declared.lines.Operation.{Operation}
+use Rattle.binlog_text.specs.Lines.{Column, Said, OfMark, OfHead, OfTable, OfColumn, OfGtid, OfSources, OfRow, OfValue}
+use Rattle.binlog_entries.specs.Tables.{Table}
+use Rattle.binlog_entries.specs.Bodies.{kind_of, takes}
+use Rattle.binlog_entries.specs.Meaning.{nowhere}
+use Rattle.binlog_entries.specs.declared.draft.Stage.TheVariants as stages
+use Rattle.binlog_entries.specs.declared.fault.Refusal.{Refusal}
+use Rattle.binlog_entries.specs.declared.fault.Refusal.TheVariants as refusals
+use Rattle.std.proofs.Common.{length}
+use Rattle.std.specs.Prelude.{is_some, ◌&&◌}
+use Rattle.journal_words.specs.Gtids.{gtid_of_word}
+use Rattle.binlog_entries.specs.Tables.{table_named}
+use Rattle.binlog_entries.specs.Meaning.{varied_by, varied_in}
+use Rattle.binlog_entries.specs.Varied.{varied_behind}
+use Rattle.binlog_entries.specs.Machine.{Standing, ◌>>=◌, or_refused, is_idle, is_named, is_begun, same_stage, is_whole, with_change, finish_in, finish_by, finished, is_database, may_be_database, has_rows_of, known_name, row_line, before_due, after_due, where_line, set_line, next_value, value_in, value_line, place_line, table_line, noted, column_line, commit_line, begin_line, gtid_line, sources_line, head_line, mark_line, told, step, runs, start}
+use Rattle.binlog_entries.specs.declared.draft.Part.{Part}
+use Rattle.binlog_entries.specs.declared.draft.Part.TheVariants as parts
+use Rattle.binlog_entries.proofs.TransactionLaws.{bind_ok, same_ok, if_ok, done, context_of, Sound}
+use Rattle.binlog_entries.proofs.RowLaws.{opened_is, unless_not}
+use Rattle.binlog_entries.proofs.Told.{mapped_is, added_is, test_ok, step_law, sound_start}
+
+-- they stay
+abbrev Stay : Standing → Standing → Type 0
+Stay s t = t.varied ≡ s.varied
+
+by_ok : (s x t : Standing) → Stay s x → done x ≡ Ok t → Stay s t
+by_ok s x t same e = subst (Stay s) (same_ok x t e) same
+
+by_test : (b : Bool) (s x t : Standing) (e : Refusal) → Stay s x → cond b (Ok x) (Err e) ≡ Ok t → Stay s t
+by_test b s x t e same h = subst (Stay s) (if_ok b x e t h).1 same
+
+finish_stays : (s u : Standing) (r : Option (List ℕ)) → finish_by s r ≡ Ok u → Stay s u
+finish_stays s u None h = by_ok s s u refl h
+finish_stays s u (Some table) h = named (table_named table s.tables) h
+  where
+    named : (o : Option Table) → finish_in s table o ≡ Ok u → Stay s u
+    named None e = absurd cc
+    named (Some t) e = by_test (is_whole s.operation s.part (length s.before) (length s.after) (length t.columns)) s (with_change s table) u refusals.Columns refl e
+
+finished_stays : (s u : Standing) → finished s ≡ Ok u → Stay s u
+unfolding finished
+finished_stays s u h = finish_stays s u s.row h
+
+place_stays : (s t : Standing) → place_line s ≡ Ok t → Stay s t
+unfolding place_line
+place_stays s t h = let a = bind_ok (finished s) _ t h in by_ok s _ t (finished_stays s a.0 a.1) a.2
+
+row_stays : (s t : Standing) (operation : Operation) (database table : List ℕ) → row_line s operation database table ≡ Ok t → Stay s t
+unfolding row_line
+row_stays s t operation database table h =
+    let a = bind_ok (finished s) _ t h in
+    let b = unless_not (has_rows_of a.0.body operation) refusals.Format _ t a.2 in
+    let c = unless_not (is_database database a.0.database) refusals.Table _ t b.1 in
+    let o = opened_is a.0 t operation (known_name table a.0.tables) c.1 in
+    subst (Stay s) o.2 (finished_stays s a.0 a.1)
+
+value_stays : (s t : Standing) (part : Part) (n : ℕ) (text : List ℕ) → value_in s part n text ≡ Ok t → Stay s t
+value_stays s t parts.Head n text h = absurd cc
+value_stays s t parts.Before n text h = let a = bind_ok (next_value s (length s.before) n text) _ t h in by_ok s _ t refl a.2
+value_stays s t parts.After n text h = let a = bind_ok (next_value s (length s.after) n text) _ t h in by_ok s _ t refl a.2
+
+value_line_stays : (s t : Standing) (n : ℕ) (text : List ℕ) → value_line s n text ≡ Ok t → Stay s t
+unfolding value_line
+value_line_stays s t n text h = value_stays s t s.part n text h
+
+gtid_stays : (s t : Standing) (word : List ℕ) → gtid_line s word ≡ Ok t → Stay s t
+unfolding gtid_line
+gtid_stays s t word h =
+    let a = unless_not (is_idle s.stage) refusals.Gtid _ t h in
+    let b = bind_ok (or_refused refusals.Gtid (gtid_of_word word)) _ t a.1 in
+    by_ok s _ t refl b.2
+
+sources_stays : (s t : Standing) (word : List ℕ) → sources_line s word ≡ Ok t → Stay s t
+unfolding sources_line
+sources_stays s t word h = either s.is_fresh h
+  where
+    either : (b : Bool) → cond b (or_refused refusals.Gtid (set_of_word word) >>= λ gtids. Ok (record s { previous = set.union s.previous gtids })) (Ok s) ≡ Ok t → Stay s t
+    either true e = let a = bind_ok (or_refused refusals.Gtid (set_of_word word)) _ t e in by_ok s _ t refl a.2
+    either false e = by_ok s s t refl e
+
+head_stays : (s t : Standing) (event : Event) → head_line s event ≡ Ok t → Stay s t
+unfolding head_line
+head_stays s t (events.Rows operation) h = by_test (is_begun s.stage) s _ t refusals.Transaction refl h
+head_stays s t events.Start h = by_ok s s t refl h
+head_stays s t events.PreviousGtids h = by_ok s s t refl h
+head_stays s t events.Gtid h = by_ok s s t refl h
+head_stays s t events.Query h = by_ok s s t refl h
+head_stays s t events.Xid h = by_ok s s t refl h
+head_stays s t events.Payload h = by_ok s s t refl h
+head_stays s t events.Rotate h = by_ok s s t refl h
+head_stays s t events.Stop h = by_ok s s t refl h
+
+table_stays : (s t : Standing) (database table : List ℕ) → table_line s database table ≡ Ok t → Stay s t
+unfolding table_line
+table_stays s t database table h =
+    let a = unless_not (is_begun s.stage) refusals.Transaction _ t h in
+    let b = unless_not (may_be_database database s.database) refusals.Table _ t a.1 in
+    let m = mapped_is s t database (name_of table) b.1 in
+    subst (Stay s) m.2 refl
+
+column_varies : (s t : Standing) (c : Column) → column_line s c ≡ Ok t → t.varied ≡ varied_behind s.varied s.mapping c.column_type
+unfolding column_line
+column_varies s t c h =
+    let a = bind_ok (or_refused refusals.Type (type_named c.column_type)) _ t h in
+    let m = added_is (noted s c.column_type) t s.mapping c.is_first a.0 a.2 in
+    subst (λ (u : Standing). u.varied ≡ varied_behind s.varied s.mapping c.column_type) m.2 refl
+
+mark_stays : (s t : Standing) (mark : Mark) → mark_line s mark ≡ Ok t → Stay s t
+unfolding where_line set_line begin_line commit_line
+mark_stays s t marks.Place h = place_stays s t h
+mark_stays s t marks.Automatic h = place_stays s t h
+mark_stays s t marks.Where h = by_test (is_some s.row && before_due s.operation s.part) s _ t refusals.Columns refl h
+mark_stays s t marks.Set h = by_test (is_some s.row && after_due s.operation s.part) s _ t refusals.Columns refl h
+mark_stays s t marks.Begin h = by_test (is_named s.stage) s _ t refusals.Transaction refl h
+mark_stays s t marks.Commit h = by_test (is_begun s.stage) s _ t refusals.Transaction refl h
+mark_stays s t marks.Committed h = by_test (is_begun s.stage) s _ t refusals.Transaction refl h
+mark_stays s t marks.Savepoint h = by_test (same_stage s.stage stages.Begun) s s t refusals.Transaction refl h
+mark_stays s t marks.Closed h = by_test (same_stage s.stage stages.Idle) s s t refusals.Transaction refl h
+mark_stays s t marks.Ended h = by_ok s s t refl h
+mark_stays s t marks.Empty h = by_ok s s t refl h
+mark_stays s t marks.Comment h = by_ok s s t refl h
+mark_stays s t marks.Setting h = by_ok s s t refl h
+mark_stays s t marks.Frame h = by_ok s s t refl h
+
+told_varies : (s t : Standing) (l : Said) → told s l ≡ Ok t → t.varied ≡ varied_by (context_of s) s.varied l
+told_varies s t (OfMark mark) h = mark_stays s t mark h
+told_varies s t (OfHead event) h = head_stays s t event h
+told_varies s t (OfTable database table) h = table_stays s t database table h
+told_varies s t (OfColumn c) h = column_varies s t c h
+told_varies s t (OfGtid gtid) h = gtid_stays s t gtid h
+told_varies s t (OfSources sources more) h = sources_stays s t sources h
+told_varies s t (OfRow operation database table) h = row_stays s t operation database table h
+told_varies s t (OfValue n text) h = value_line_stays s t n text h
+
+step_varies : (s t : Standing) (l : Said) → step s l ≡ Ok t → t.varied ≡ varied_by (context_of s) s.varied l
+unfolding step
+step_varies s t l h =
+    let p = test_ok (takes s.body (kind_of l)) _ refusals.Format t h in
+    let a = bind_ok (told s l) _ t p.1 in
+    subst (λ (u : Standing). u.varied ≡ varied_by (context_of s) s.varied l) (same_ok _ t a.2) (told_varies s a.0 l a.1)
+
+runs_vary : (s : Standing) (ls : List Said) (t : Standing) → Sound s → runs s ls ≡ Ok t → t.varied ≡ varied_in (context_of s) s.varied ls
+runs_vary s [] t sound h = ap (λ (u : Standing). u.varied) (sym (same_ok s t h))
+runs_vary s (l ∷ ls) t sound h =
+    let a = bind_ok (step s l) _ t h in
+    let first = step_law s a.0 l sound a.1 in
+    runs_vary a.0 ls t first.sound a.2
+    ∙ (λ i. varied_in (first.context i) (step_varies s a.0 l a.1 i) ls)
+
+-- those of the lines of a log
+pub varied_told : (ls : List Said) (s : Standing) → runs start ls ≡ Ok s → s.varied ≡ varied_in nowhere [] ls
+varied_told ls s h = runs_vary start ls s sound_start h

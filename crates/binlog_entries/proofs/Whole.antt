@@ -1,0 +1,280 @@
+-- What the whole of a text is read as.
+use Rattle.std.proofs.Common.{◌≡◌, ℕ, eqb, not, Bool, true, false, cond, List, [], ◌∷◌, ◌++◌, Option, Some, None, Result, Ok, Err, refl, sym, ap, subst, ◌∙◌, append_assoc, append-nil, inl, inr}
+use Rattle.std.specs.Prelude.{◌&&◌, IfOk, IfErr}
+use Rattle.std.specs.List.{flat_map, AllByRecursion}
+use Rattle.std.proofs.lemmas.Bool.{eqb-true}
+use Rattle.std.proofs.lemmas.List.Folds.{list_all-append}
+use Rattle.txn_journal.specs.Words.{IsOneLine}
+use Rattle.binlog_text.specs.Lines.{Said, IsLine}
+use Rattle.binlog_text.specs.Reading.{line_of}
+use Rattle.binlog_text.proofs.LinesFound.{line_found}
+use Rattle.binlog_entries.specs.Machine.{Standing, ◌>>=◌, judge, step, step_by, runs, is_closed}
+use Rattle.binlog_entries.specs.Machine as machine
+use Rattle.binlog_entries.specs.Meaning.{spelled}
+use Rattle.binlog_entries.specs.Stream.{Progress, Reading, Stopped, next_number, judged, eat, eats, start, Seen, Told, ended, closing, Ends, ended_line, Say, IsLog, judges, numbered, IsRefused, IsUnfinished, Refuses}
+use Rattle.binlog_entries.specs.declared.fault.ReadFault.{ReadFault}
+use Rattle.binlog_entries.specs.declared.fault.ReadFault.TheVariants as faults
+use Rattle.binlog_entries.specs.declared.fault.Refusal.{Refusal}
+use Rattle.binlog_entries.proofs.TransactionLaws.{bind_ok}
+use Rattle.binlog_entries.proofs.Told.{entries_told}
+use Rattle.binlog_entries.proofs.VariedLaws.{varied_told}
+use Rattle.binlog_entries.proofs.Pieces.{stopped_stays}
+
+-- ---- lines out of bytes
+
+-- bytes behind part of a line are whole lines, and part of one more
+pub record Reads (s : Standing) (n : ℕ) (rest bytes : List ℕ) (t : Standing) (m : ℕ) (more : List ℕ) : Type 0 where
+  pub lines : List (List ℕ)
+  pub parts : rest ++ bytes ≡ flat_map ended_line lines ++ more
+  pub whole : AllByRecursion IsOneLine lines
+  pub one : IsOneLine more
+  pub run : judges s lines ≡ Ok t
+  pub number : m ≡ numbered n lines
+
+longer : (rest : List ℕ) (b : ℕ) → IsOneLine rest → eqb b 10 ≡ false → IsOneLine (rest ++ b ∷ [])
+longer rest b one other = list_all-append (λ c. not (eqb c 10)) rest (b ∷ []) ∙ (λ i. one i && (not (other i) && true))
+
+behind_feed : (rest bs lines more : List ℕ) → bs ≡ lines ++ more → rest ++ 10 ∷ bs ≡ ((rest ++ 10 ∷ []) ++ lines) ++ more
+behind_feed rest bs lines more e =
+    ap (λ (xs : List ℕ). rest ++ 10 ∷ xs) e
+    ∙ sym (append_assoc rest (10 ∷ []) (lines ++ more))
+    ∙ sym (append_assoc (rest ++ 10 ∷ []) lines more)
+
+fed : (s : Standing) (n b : ℕ) (rest bs : List ℕ) (r : Result Standing Refusal) (t : Standing) (m : ℕ) (more : List ℕ) → IsOneLine rest → b ≡ 10 → judge s rest ≡ r
+    → ((u : Standing) → eats (Reading u (next_number n) []) bs ≡ Reading t m more → Reads u (next_number n) [] bs t m more)
+    → eats (judged r (next_number n)) bs ≡ Reading t m more → Reads s n rest (b ∷ bs) t m more
+fed s n b rest bs (Ok u) t m more one is j next e =
+    let k = next u e in record {
+      lines = rest ∷ k.lines;
+      parts = ap (λ (c : ℕ). rest ++ c ∷ bs) is ∙ behind_feed rest bs (flat_map ended_line k.lines) more k.parts;
+      whole = (one, k.whole);
+      one = k.one;
+      run = ap (λ (x : Result Standing Refusal). x >>= λ v. judges v k.lines) j ∙ k.run;
+      number = k.number;
+    }
+fed s n b rest bs (Err refusal) t m more one is j next e = absurd (let bad : Stopped (faults.Line (next_number n) refusal) ≡ Reading t m more = sym (stopped_stays (faults.Line (next_number n) refusal) bs) ∙ e in cc)
+
+eaten : (s : Standing) (n b : ℕ) (rest bs : List ℕ) (test : Bool) (t : Standing) (m : ℕ) (more : List ℕ) → IsOneLine rest → eqb b 10 ≡ test
+    → ((u : Standing) (k : ℕ) (rest : List ℕ) → IsOneLine rest → eats (Reading u k rest) bs ≡ Reading t m more → Reads u k rest bs t m more)
+    → eats (cond test (judged (judge s rest) (next_number n)) (Reading s n (rest ++ b ∷ []))) bs ≡ Reading t m more → Reads s n rest (b ∷ bs) t m more
+eaten s n b rest bs true t m more one is next e = fed s n b rest bs (judge s rest) t m more one (eqb-true b 10 is) refl (λ u. next u (next_number n) [] refl) e
+eaten s n b rest bs false t m more one is next e =
+    let k = next s n (rest ++ b ∷ []) (longer rest b one is) e in record {
+      lines = k.lines;
+      parts = sym (append_assoc rest (b ∷ []) bs) ∙ k.parts;
+      whole = k.whole;
+      one = k.one;
+      run = k.run;
+      number = k.number;
+    }
+
+reading_same : (s t : Standing) (n m : ℕ) (rest more : List ℕ) → Reading s n rest ≡ Reading t m more → (s ≡ t) × (n ≡ m) × (rest ≡ more)
+reading_same s t n m rest more e = (cc, cc, cc)
+
+reads_back : (s : Standing) (n : ℕ) (rest bytes : List ℕ) (t : Standing) (m : ℕ) (more : List ℕ) → IsOneLine rest → eats (Reading s n rest) bytes ≡ Reading t m more → Reads s n rest bytes t m more
+unfolding eat
+reads_back s n rest [] t m more one e =
+    let same = reading_same s t n m rest more e in record {
+      lines = [];
+      parts = append-nil rest ∙ same.2;
+      whole = tt;
+      one = subst IsOneLine same.2 one;
+      run = ap (λ (u : Standing). let r : Result Standing Refusal = Ok u in r) same.0;
+      number = sym same.1;
+    }
+reads_back s n rest (b ∷ bs) t m more one e = eaten s n b rest bs (eqb b 10) t m more one refl (λ u k rest one h. reads_back u k rest bs t m more one h) e
+
+-- ---- the line that is refused
+
+pub record Stops (s : Standing) (n : ℕ) (rest bytes : List ℕ) (fault : ReadFault) : Type 0 where
+  pub before : List (List ℕ)
+  pub line : List ℕ
+  pub more : List ℕ
+  pub parts : rest ++ bytes ≡ flat_map ended_line before ++ (line ++ 10 ∷ more)
+  pub whole : AllByRecursion IsOneLine before × IsOneLine line
+  pub state : Standing
+  pub taken : judges s before ≡ Ok state
+  pub refusal : Refusal
+  pub refused : judge state line ≡ Err refusal
+  pub is : fault ≡ faults.Line (next_number (numbered n before)) refusal
+
+stop_fed : (s : Standing) (n b : ℕ) (rest bs : List ℕ) (r : Result Standing Refusal) (f : ReadFault) → IsOneLine rest → b ≡ 10 → judge s rest ≡ r
+    → ((u : Standing) → eats (Reading u (next_number n) []) bs ≡ Stopped f → Stops u (next_number n) [] bs f)
+    → eats (judged r (next_number n)) bs ≡ Stopped f → Stops s n rest (b ∷ bs) f
+stop_fed s n b rest bs (Ok u) f one is j next e =
+    let k = next u e in record {
+      before = rest ∷ k.before;
+      line = k.line;
+      more = k.more;
+      parts = ap (λ (c : ℕ). rest ++ c ∷ bs) is ∙ behind_feed rest bs (flat_map ended_line k.before) (k.line ++ 10 ∷ k.more) k.parts;
+      whole = ((one, k.whole.0), k.whole.1);
+      state = k.state;
+      taken = ap (λ (x : Result Standing Refusal). x >>= λ v. judges v k.before) j ∙ k.taken;
+      refusal = k.refusal;
+      refused = k.refused;
+      is = k.is;
+    }
+stop_fed s n b rest bs (Err refusal) f one is j next e =
+    let same : Stopped (faults.Line (next_number n) refusal) ≡ Stopped f = sym (stopped_stays (faults.Line (next_number n) refusal) bs) ∙ e in record {
+      before = [];
+      line = rest;
+      more = bs;
+      parts = ap (λ (c : ℕ). rest ++ c ∷ bs) is;
+      whole = (tt, one);
+      state = s;
+      taken = refl;
+      refusal = refusal;
+      refused = j;
+      is = cc;
+    }
+
+stop_eaten : (s : Standing) (n b : ℕ) (rest bs : List ℕ) (test : Bool) (f : ReadFault) → IsOneLine rest → eqb b 10 ≡ test
+    → ((u : Standing) (k : ℕ) (rest : List ℕ) → IsOneLine rest → eats (Reading u k rest) bs ≡ Stopped f → Stops u k rest bs f)
+    → eats (cond test (judged (judge s rest) (next_number n)) (Reading s n (rest ++ b ∷ []))) bs ≡ Stopped f → Stops s n rest (b ∷ bs) f
+stop_eaten s n b rest bs true f one is next e = stop_fed s n b rest bs (judge s rest) f one (eqb-true b 10 is) refl (λ u. next u (next_number n) [] refl) e
+stop_eaten s n b rest bs false f one is next e =
+    let k = next s n (rest ++ b ∷ []) (longer rest b one is) e in record {
+      before = k.before;
+      line = k.line;
+      more = k.more;
+      parts = sym (append_assoc rest (b ∷ []) bs) ∙ k.parts;
+      whole = k.whole;
+      state = k.state;
+      taken = k.taken;
+      refusal = k.refusal;
+      refused = k.refused;
+      is = k.is;
+    }
+
+stops_back : (s : Standing) (n : ℕ) (rest bytes : List ℕ) (f : ReadFault) → IsOneLine rest → eats (Reading s n rest) bytes ≡ Stopped f → Stops s n rest bytes f
+unfolding eat
+stops_back s n rest [] f one e = absurd cc
+stops_back s n rest (b ∷ bs) f one e = stop_eaten s n b rest bs (eqb b 10) f one refl (λ u k rest one h. stops_back u k rest bs f one h) e
+
+-- ---- what lines say
+
+pub record Speak (s : Standing) (lines : List (List ℕ)) (t : Standing) : Type 0 where
+  pub said : List Said
+  pub say : Say lines said
+  pub run : runs s said ≡ Ok t
+
+line_said : (s : Standing) (line : List ℕ) (o : Option Said) (t : Standing) → line_of line ≡ o → step_by s line o ≡ Ok t → (l : Said) × IsLine l line × (step s l ≡ Ok t)
+line_said s line None t e h = absurd cc
+line_said s line (Some l) t e h = (l, line_found line l e, h)
+
+judge_said : (s : Standing) (line : List ℕ) (t : Standing) → judge s line ≡ Ok t → (l : Said) × IsLine l line × (step s l ≡ Ok t)
+unfolding judge
+judge_said s line t h = line_said s line (line_of line) t refl h
+
+speak : (s : Standing) (lines : List (List ℕ)) (t : Standing) → judges s lines ≡ Ok t → Speak s lines t
+speak s [] t h = record { said = []; say = tt; run = h }
+speak s (line ∷ lines) t h =
+    let a = bind_ok (judge s line) _ t h in
+    let first = judge_said s line a.0 a.1 in
+    let rest = speak a.0 lines t a.2 in
+    record {
+      said = first.0 ∷ rest.said;
+      say = (first.1, rest.say);
+      run = ap (λ (r : Result Standing Refusal). r >>= λ u. runs u rest.said) first.2 ∙ rest.run;
+    }
+
+-- ---- the whole
+
+ended_is : (b : Bool) (s : Standing) (n : ℕ) (rest : List ℕ) (x : Told) → ended b s n rest ≡ Ok x → (b ≡ true) × (rest ≡ []) × (s.entries ≡ x.1) × (s.varied ≡ x.2)
+ended_is true s n [] x e = let same : (s.previous, s.entries, s.varied) ≡ x = told_same _ x e in (refl, refl, ap (λ (y : Told). y.1) same, ap (λ (y : Told). y.2) same)
+  where
+    told_same : (x y : Told) → (let r : Result Told ReadFault = Ok x in r) ≡ Ok y → x ≡ y
+    told_same x y e = cc
+ended_is true s n (b ∷ bs) x e = absurd cc
+ended_is false s n rest x e = absurd cc
+
+log_of : (text : List ℕ) (p : Progress) (x : Told) → eats start text ≡ p → closing p ≡ Ok x → IsLog text x.1 x.2
+log_of text (Stopped fault) x e h = absurd cc
+log_of text (Reading s n rest) x e h =
+    let d = ended_is (is_closed s.body) s n rest x h in
+    let k = reads_back machine.start 0 [] text s n rest refl e in
+    let spoken = speak machine.start k.lines s k.run in
+    record {
+      lines = k.lines;
+      parts = k.parts ∙ ap (λ (xs : List ℕ). flat_map ended_line k.lines ++ xs) d.1 ∙ append-nil (flat_map ended_line k.lines);
+      whole = k.whole;
+      said = spoken.said;
+      say = spoken.say;
+      means = entries_told spoken.said s spoken.run d.0 ∙ ap spelled d.2;
+      varies = sym d.3 ∙ varied_told spoken.said s spoken.run;
+    }
+
+pub read_found : (text : List ℕ) (x : Told) → Ends (Ok x) (closing (eats start text)) → IsLog text x.1 x.2
+read_found text x (inl h) = absurd (let bad = h.1 in cc)
+read_found text x (inr h) = log_of text (eats start text) x refl (sym h)
+
+unended : (b : Bool) (s : Standing) (n m : ℕ) (rest : List ℕ) → ended b s n rest ≡ Err (faults.Unfinished m) → ((b ≡ true) × (rest ≡ []) → ⊥) × (m ≡ next_number n)
+unended true s n m [] e = absurd cc
+unended true s n m (b ∷ bs) e = (λ h. absurd (let bad : b ∷ bs ≡ [] = h.1 in cc), cc)
+unended false s n m rest e = (λ h. absurd (let bad : false ≡ true = h.0 in cc), cc)
+
+line_not_ended : (b : Bool) (s : Standing) (n m : ℕ) (rest : List ℕ) (refusal : Refusal) → ended b s n rest ≡ Err (faults.Line m refusal) → ⊥
+line_not_ended true s n m [] refusal e = absurd cc
+line_not_ended true s n m (b ∷ bs) refusal e = absurd cc
+line_not_ended false s n m rest refusal e = absurd cc
+
+refused_at : (text : List ℕ) (p : Progress) (n : ℕ) (refusal : Refusal) → eats start text ≡ p → closing p ≡ Err (faults.Line n refusal) → IsRefused text n refusal
+refused_at text (Reading s m rest) n refusal e h = absurd (line_not_ended (is_closed s.body) s m n rest refusal h)
+refused_at text (Stopped f) n refusal e h =
+    let k = stops_back machine.start 0 [] text f refl e in
+    let same : faults.Line (next_number (numbered 0 k.before)) k.refusal ≡ faults.Line n refusal = sym k.is ∙ fault_same f (faults.Line n refusal) h in
+    record {
+      before = k.before;
+      line = k.line;
+      rest = k.more;
+      parts = k.parts;
+      whole = k.whole;
+      state = k.state;
+      taken = k.taken;
+      refused = k.refused ∙ ap (λ (r : Refusal). let x : Result Standing Refusal = Err r in x) (line_same _ n k.refusal refusal same).1;
+      number = sym (line_same _ n k.refusal refusal same).0;
+    }
+  where
+    fault_same : (f g : ReadFault) → (let x : Result Told ReadFault = Err f in x) ≡ Err g → f ≡ g
+    fault_same f g e = cc
+
+    line_same : (n m : ℕ) (r q : Refusal) → faults.Line n r ≡ faults.Line m q → (n ≡ m) × (r ≡ q)
+    line_same n m r q e = (cc, cc)
+
+unfinished_at : (text : List ℕ) (p : Progress) (n : ℕ) → eats start text ≡ p → closing p ≡ Err (faults.Unfinished n) → IsUnfinished text n
+unfinished_at text (Stopped f) n e h =
+    let k = stops_back machine.start 0 [] text f refl e in
+    absurd (let bad : faults.Line (next_number (numbered 0 k.before)) k.refusal ≡ faults.Unfinished n = sym k.is ∙ fault_same f (faults.Unfinished n) h in cc)
+  where
+    fault_same : (f g : ReadFault) → (let x : Result Told ReadFault = Err f in x) ≡ Err g → f ≡ g
+    fault_same f g e = cc
+unfinished_at text (Reading s m rest) n e h =
+    let k = reads_back machine.start 0 [] text s m rest refl e in
+    let u = unended (is_closed s.body) s m n rest h in
+    record {
+      before = k.lines;
+      rest = rest;
+      parts = k.parts;
+      whole = (k.whole, k.one);
+      state = s;
+      taken = k.run;
+      owed = u.0;
+      number = u.1 ∙ ap next_number k.number;
+    }
+
+pub read_refused : (text : List ℕ) (fault : ReadFault) → Ends (Err fault) (closing (eats start text)) → Refuses fault text
+read_refused text (faults.Set fault) h = tt
+read_refused text (faults.Line n refusal) (inl h) = absurd (let bad = h.1 in cc)
+read_refused text (faults.Line n refusal) (inr h) = refused_at text (eats start text) n refusal refl (sym h)
+read_refused text (faults.Unfinished n) (inl h) = absurd (let bad = h.1 in cc)
+read_refused text (faults.Unfinished n) (inr h) = unfinished_at text (eats start text) n refl (sym h)
+
+-- ---- of what was read
+
+pub seen_found : {X : Type 0} (view : X → Told) (text : List ℕ) (r : Result X ReadFault) → Ends (Seen view r) (closing (eats start text)) → IfOk r (λ x. IsLog text (view x).1 (view x).2)
+seen_found view text (Ok x) h = read_found text (view x) h
+seen_found view text (Err fault) h = tt
+
+pub seen_refused : {X : Type 0} (view : X → Told) (text : List ℕ) (r : Result X ReadFault) → Ends (Seen view r) (closing (eats start text)) → IfErr r (λ fault. Refuses fault text)
+seen_refused view text (Ok x) h = tt
+seen_refused view text (Err fault) h = read_refused text fault h

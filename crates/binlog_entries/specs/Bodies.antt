@@ -1,0 +1,111 @@
+-- Which lines stand where in the text of a binary log.
+use Rattle.std.specs.Prelude.{Bool, true, false}
+use Rattle.binlog_text.specs.declared.lines.Event.{Event}
+use Rattle.binlog_text.specs.declared.lines.Event.TheVariants as events
+use Rattle.binlog_text.specs.declared.lines.Mark.{Mark}
+use Rattle.binlog_text.specs.declared.lines.Mark.TheVariants as marks
+use Rattle.binlog_text.specs.Lines.{Said, OfMark, OfHead, OfTable, OfColumn, OfGtid, OfSources, OfRow, OfValue}
+use Rattle.binlog_entries.specs.declared.bodies.Body.{Body}
+use Rattle.binlog_entries.specs.declared.bodies.Body.TheVariants as bodies
+use Rattle.binlog_entries.specs.declared.bodies.Kind.{Kind}
+use Rattle.binlog_entries.specs.declared.bodies.Kind.TheVariants as kinds
+
+abbrev pub kind_of_mark : Mark → Kind
+kind_of_mark marks.Place = kinds.Place
+kind_of_mark marks.Where = kinds.Row
+kind_of_mark marks.Set = kinds.Row
+kind_of_mark marks.Begin = kinds.Statement
+kind_of_mark marks.Commit = kinds.Statement
+kind_of_mark marks.Ended = kinds.Ended
+kind_of_mark marks.Committed = kinds.Committed
+kind_of_mark marks.Savepoint = kinds.Statement
+kind_of_mark marks.Automatic = kinds.Automatic
+kind_of_mark marks.Empty = kinds.Sources
+kind_of_mark marks.Closed = kinds.Closed
+kind_of_mark marks.Comment = kinds.Comment
+kind_of_mark marks.Setting = kinds.Setting
+kind_of_mark marks.Frame = kinds.Frame
+
+abbrev pub kind_of : Said → Kind
+kind_of (OfMark mark) = kind_of_mark mark
+kind_of (OfHead event) = kinds.Head
+kind_of (OfTable database table) = kinds.TableMap
+kind_of (OfColumn c) = kinds.Column
+kind_of (OfGtid gtid) = kinds.Gtid
+kind_of (OfSources sources more) = kinds.Sources
+kind_of (OfRow operation database table) = kinds.Row
+kind_of (OfValue n text) = kinds.Row
+
+-- what the lines behind an event's head are a part of
+abbrev pub body_of : Event → Body
+body_of events.Start = bodies.Start
+body_of events.PreviousGtids = bodies.PreviousGtids
+body_of events.Gtid = bodies.Gtid
+body_of events.Query = bodies.Query
+body_of (events.Rows operation) = bodies.Rows operation
+body_of events.Xid = bodies.Xid
+body_of events.Payload = bodies.Payload
+body_of events.Rotate = bodies.Done
+body_of events.Stop = bodies.Done
+
+-- no line is owed: a statement owes its text and the end of it, an Xid its commit
+abbrev pub may_end : Body → Bool
+may_end bodies.Query = false
+may_end bodies.Statement = false
+may_end bodies.Xid = false
+may_end bodies.Closed = false
+may_end _ = true
+
+abbrev pub has_comments : Body → Bool
+has_comments bodies.Preamble = true
+has_comments bodies.Start = true
+has_comments bodies.Gtid = true
+has_comments bodies.TableMap = true
+has_comments bodies.Payload = true
+has_comments bodies.Done = true
+has_comments _ = false
+
+-- a line of this kind may stand in this body
+abbrev pub takes : Body → Kind → Bool
+takes body kinds.Place = may_end body
+takes body kinds.Automatic = may_end body
+takes body kinds.Comment = has_comments body
+takes bodies.Gtid kinds.Setting = true
+takes bodies.Query kinds.Setting = true
+takes bodies.Preamble kinds.Frame = true
+takes bodies.Start kinds.Frame = true
+takes bodies.FileEnd kinds.Frame = true
+takes bodies.Closed kinds.Frame = true
+takes bodies.Between kinds.Head = true
+takes bodies.Between kinds.TableMap = true
+takes bodies.TableMap kinds.Column = true
+takes bodies.Gtid kinds.Gtid = true
+takes bodies.PreviousGtids kinds.Sources = true
+takes (bodies.Rows operation) kinds.Row = true
+takes bodies.Query kinds.Statement = true
+takes bodies.Statement kinds.Ended = true
+takes bodies.Xid kinds.Committed = true
+takes bodies.FileEnd kinds.Closed = true
+takes _ _ = false
+
+-- what the line behind one of this kind is a part of, where that is no head of an event
+abbrev pub behind : Body → Kind → Body
+behind body kinds.Place = bodies.Between
+behind body kinds.TableMap = bodies.TableMap
+behind body kinds.Statement = bodies.Statement
+behind body kinds.Ended = bodies.Done
+behind body kinds.Committed = bodies.Done
+behind body kinds.Automatic = bodies.FileEnd
+behind body kinds.Closed = bodies.Closed
+behind body _ = body
+
+-- what the line behind one is a part of
+abbrev pub next_body : Body → Said → Body
+next_body body (OfHead event) = body_of event
+next_body body (OfMark mark) = behind body (kind_of (OfMark mark))
+next_body body (OfTable database table) = behind body (kind_of (OfTable database table))
+next_body body (OfColumn c) = behind body (kind_of (OfColumn c))
+next_body body (OfGtid gtid) = behind body (kind_of (OfGtid gtid))
+next_body body (OfSources sources more) = behind body (kind_of (OfSources sources more))
+next_body body (OfRow operation database table) = behind body (kind_of (OfRow operation database table))
+next_body body (OfValue n text) = behind body (kind_of (OfValue n text))

@@ -1,0 +1,25 @@
+-- How far a draft's lines have come.
+use Rattle.std.specs.Prelude.{option_map}
+use Rattle.binlog_entries.specs.Machine.{Standing}
+use Rattle.binlog_entries.specs.declared.draft.Draft.{Draft}
+
+abbrev pub standing : Draft → Standing
+standing d = record {
+  body = d.body;
+  stage = d.stage;
+  gtid = d.gtid;
+  is_fresh = d.is_fresh;
+  previous = d.previous;
+  is_over = d.is_over;
+  database = option_map (λ v. v.items) d.database;
+  mapping = d.mapping;
+  tables = d.tables.items;
+  row = d.row;
+  operation = d.operation;
+  part = d.part;
+  before = d.before.items;
+  after = d.after.items;
+  changes = d.changes.items;
+  entries = d.entries.items;
+  varied = d.varied.items;
+}

@@ -1,0 +1,12 @@
+pub mod Tables
+pub mod Bodies
+pub mod Unread
+pub mod Varied
+pub mod Keys
+pub mod Machine
+pub mod Drafts
+pub mod Meaning
+pub mod Stream
+pub mod Readers
+pub mod Journals
+pub mod Imports

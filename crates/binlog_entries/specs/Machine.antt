@@ -1,0 +1,357 @@
+-- What lines tell, one after another: tables, rows, changes, entries.
+use Rattle.std.specs.Prelude.{◌≡◌, ℕ, ◌+◌, ◌==◌, ◌&&◌, not, is_some, Bool, true, false, List, [], ◌∷◌, ◌++◌, length, Option, Some, None, Result, Ok, Err, if◌then◌else◌}
+use Rattle.std.specs.Str.{bytes_eq}
+use Rattle.gtid_text.specs.declared.Gtid.{Gtid}
+use Rattle.journal.specs.declared.Entry.{Entry}
+use Rattle.std.specs.FinSet as set
+use Rattle.gtid_set.specs.Sets.{Gtids}
+use Rattle.journal_words.specs.Gtids.{gtid_of_word, set_of_word}
+use Rattle.rows.specs.declared.value.Value.{Value}
+use Rattle.rows.specs.declared.change.Change.{Change}
+use Rattle.rows.specs.declared.change.Change.TheVariants as changes
+use Rattle.txn_journal.specs.Words.{name_of}
+use Rattle.binlog_text.specs.declared.types.ColumnType.{ColumnType}
+use Rattle.binlog_text.specs.Types.{type_named}
+use Rattle.binlog_text.specs.Values.{value_at}
+use Rattle.binlog_text.specs.declared.lines.Event.{Event}
+use Rattle.binlog_text.specs.declared.lines.Event.TheVariants as events
+use Rattle.binlog_text.specs.declared.lines.Mark.{Mark}
+use Rattle.binlog_text.specs.declared.lines.Mark.TheVariants as marks
+use Rattle.binlog_text.specs.declared.lines.Operation.{Operation}
+use Rattle.binlog_text.specs.declared.lines.Operation.TheVariants as operations
+use Rattle.binlog_text.specs.Lines.{Column, Said, OfMark, OfHead, OfTable, OfColumn, OfGtid, OfSources, OfRow, OfValue}
+use Rattle.binlog_text.specs.Reading.{line_of}
+use Rattle.binlog_entries.specs.Tables.{Table, table_named, with_mapping, type_at}
+use Rattle.binlog_entries.specs.Bodies.{kind_of, takes, next_body}
+use Rattle.binlog_entries.specs.Unread.{unread}
+use Rattle.binlog_entries.specs.Varied.{varied_behind}
+use Rattle.binlog_entries.specs.declared.varied.Varied.{Varied}
+use Rattle.binlog_entries.specs.declared.bodies.Body.{Body}
+use Rattle.binlog_entries.specs.declared.bodies.Body.TheVariants as bodies
+use Rattle.binlog_entries.specs.declared.draft.Stage.{Stage}
+use Rattle.binlog_entries.specs.declared.draft.Stage.TheVariants as stages
+use Rattle.binlog_entries.specs.declared.draft.Part.{Part}
+use Rattle.binlog_entries.specs.declared.draft.Part.TheVariants as parts
+use Rattle.binlog_entries.specs.declared.fault.Fault.{Fault}
+use Rattle.binlog_entries.specs.declared.fault.Fault.TheVariants as faults
+use Rattle.binlog_entries.specs.declared.fault.Refusal.{Refusal}
+use Rattle.binlog_entries.specs.declared.fault.Refusal.TheVariants as refusals
+
+infixl 10 ◌>>=◌
+abbrev pub ◌>>=◌ : {A B : Type 0} → Result A Refusal → (A → Result B Refusal) → Result B Refusal
+(Ok x) >>= f = f x
+(Err e) >>= f = Err e
+
+abbrev pub or_refused : {A : Type 0} → Refusal → Option A → Result A Refusal
+or_refused refusal None = Err refusal
+or_refused refusal (Some x) = Ok x
+
+-- What a call did is what judging gives, unless memory ran out or a set is full.
+abbrev pub Takes : {S : Type 0} → Result (Unit {0}) Fault → Result S Refusal → S → Type 0
+Takes (Ok _) judged new = judged ≡ Ok new
+Takes (Err (faults.Refused refusal)) judged new = judged ≡ Err refusal
+Takes (Err (faults.Set fault)) judged new = Unit {0}
+
+-- What a call found is what reading gives, unless memory ran out or a set is full.
+abbrev pub Finds : {X Y : Type 0} → (X → Y) → Result X Fault → Result Y Refusal → Type 0
+Finds view (Ok x) read = read ≡ Ok (view x)
+Finds view (Err (faults.Refused refusal)) read = read ≡ Err refusal
+Finds view (Err (faults.Set fault)) read = Unit {0}
+
+-- how far the lines have come
+pub record Standing : Type 0 where
+  pub body : Body
+  pub stage : Stage
+  -- of the transaction that is open
+  pub gtid : Gtid
+  -- no GTID has come, and what the files say was executed before
+  pub is_fresh : Bool
+  pub previous : Gtids
+  -- rows of the statement have come, so that the next table is another statement's
+  pub is_over : Bool
+  -- the one database of the log, once it is named
+  pub database : Option (List ℕ)
+  -- the table whose columns come, and those that the statement has mapped before
+  pub mapping : Option Table
+  pub tables : List Table
+  -- the row that is open, by its table, what is done to it, and what has come of its images
+  pub row : Option (List ℕ)
+  pub operation : Operation
+  pub part : Part
+  pub before : List Value
+  pub after : List Value
+  -- of the transaction that is open, and of those before it
+  pub changes : List Change
+  pub entries : List Entry
+  -- columns whose values the server compares otherwise than their bytes
+  pub varied : List Varied
+
+abbrev pub is_idle : Stage → Bool
+is_idle stages.Idle = true
+is_idle _ = false
+
+abbrev pub is_named : Stage → Bool
+is_named stages.Named = true
+is_named _ = false
+
+abbrev pub is_begun : Stage → Bool
+is_begun stages.Begun = true
+is_begun _ = false
+
+abbrev pub same_stage : Stage → Stage → Bool
+same_stage stages.Idle = is_idle
+same_stage stages.Named = is_named
+same_stage stages.Begun = is_begun
+
+-- ---- rows
+
+-- an image has a value for each column, and there are those that the operation has
+abbrev pub is_whole : Operation → Part → ℕ → ℕ → ℕ → Bool
+is_whole operations.Insert parts.After before after columns = after == columns
+is_whole operations.Delete parts.Before before after columns = before == columns
+is_whole operations.Update parts.After before after columns = (before == columns) && (after == columns)
+is_whole _ _ before after columns = false
+
+abbrev pub change_of : Operation → List ℕ → List Value → List Value → Change
+change_of operations.Insert table before after = changes.Insert table after
+change_of operations.Delete table before after = changes.Delete table before
+change_of operations.Update table before after = changes.Update table before after
+
+-- the row that is open is whole, and joins the changes
+abbrev pub with_change : Standing → List ℕ → Standing
+with_change s table = record s { row = None; before = []; after = []; changes = s.changes ++ change_of s.operation table s.before s.after ∷ [] }
+
+abbrev pub finish_in : Standing → List ℕ → Option Table → Result Standing Refusal
+finish_in s table None = Err refusals.Table
+finish_in s table (Some t) =
+    if is_whole s.operation s.part (length s.before) (length s.after) (length t.columns) then Ok (with_change s table)
+    else Err refusals.Columns
+
+abbrev pub finish_by : Standing → Option (List ℕ) → Result Standing Refusal
+finish_by s None = Ok s
+finish_by s (Some table) = finish_in s table (table_named table s.tables)
+
+unfoldable pub finished : Standing → Result Standing Refusal
+finished s = finish_by s s.row
+
+-- the log's database is this
+abbrev pub is_database : List ℕ → Option (List ℕ) → Bool
+is_database name None = false
+is_database name (Some database) = bytes_eq database name
+
+-- it is this, or none is named yet
+abbrev pub may_be_database : List ℕ → Option (List ℕ) → Bool
+may_be_database name None = true
+may_be_database name (Some database) = bytes_eq database name
+
+abbrev pub same_operation : Operation → Operation → Bool
+same_operation operations.Insert operations.Insert = true
+same_operation operations.Update operations.Update = true
+same_operation operations.Delete operations.Delete = true
+same_operation _ _ = false
+
+abbrev pub has_rows_of : Body → Operation → Bool
+has_rows_of (bodies.Rows operation) wanted = same_operation operation wanted
+has_rows_of _ wanted = false
+
+abbrev pub open_row : Standing → Operation → Option (List ℕ) → Result Standing Refusal
+open_row s operation None = Err refusals.Table
+open_row s operation (Some table) = Ok (record s { row = Some table; operation = operation; part = parts.Head })
+
+abbrev pub known_name : List ℕ → List Table → Option (List ℕ)
+known_name table tables = if is_some (table_named table tables) then name_of table else None
+
+abbrev pub begin_row : Standing → Operation → List ℕ → List ℕ → Result Standing Refusal
+begin_row s operation database table =
+    if not (has_rows_of s.body operation) then Err refusals.Format
+    else if not (is_database database s.database) then Err refusals.Table
+    else open_row s operation (known_name table s.tables)
+
+unfoldable pub row_line : Standing → Operation → List ℕ → List ℕ → Result Standing Refusal
+row_line s operation database table = finished s >>= λ t. begin_row t operation database table
+
+-- the part that a line begins, where the row may have it next
+abbrev pub before_due : Operation → Part → Bool
+before_due operations.Update parts.Head = true
+before_due operations.Delete parts.Head = true
+before_due _ _ = false
+
+abbrev pub after_due : Operation → Part → Bool
+after_due operations.Insert parts.Head = true
+after_due operations.Update parts.Before = true
+after_due _ _ = false
+
+unfoldable pub where_line : Standing → Result Standing Refusal
+where_line s = if is_some s.row && before_due s.operation s.part then Ok (record s { part = parts.Before }) else Err refusals.Columns
+
+unfoldable pub set_line : Standing → Result Standing Refusal
+set_line s = if is_some s.row && after_due s.operation s.part then Ok (record s { part = parts.After }) else Err refusals.Columns
+
+-- the value of the next column
+abbrev pub typed_value : Option ColumnType → List ℕ → Result Value Refusal
+typed_value None text = Err refusals.Columns
+typed_value (Some type) text = or_refused refusals.Value (value_at type text)
+
+abbrev pub next_value : Standing → ℕ → ℕ → List ℕ → Result Value Refusal
+next_value s place n text = if n == place + 1 then typed_value (type_at s.row s.tables place) text else Err refusals.Columns
+
+abbrev pub value_in : Standing → Part → ℕ → List ℕ → Result Standing Refusal
+value_in s parts.Head n text = Err refusals.Columns
+value_in s parts.Before n text = do
+  v ← next_value s (length s.before) n text
+  Ok (record s { before = s.before ++ v ∷ [] })
+value_in s parts.After n text = do
+  v ← next_value s (length s.after) n text
+  Ok (record s { after = s.after ++ v ∷ [] })
+
+unfoldable pub value_line : Standing → ℕ → List ℕ → Result Standing Refusal
+value_line s n text = value_in s s.part n text
+
+-- ---- tables
+
+-- an event has ended
+unfoldable pub place_line : Standing → Result Standing Refusal
+place_line s = do
+  t ← finished s
+  Ok (record t { tables = with_mapping t.tables t.mapping; mapping = None })
+
+abbrev pub map_table : Standing → List ℕ → Option (List ℕ) → Result Standing Refusal
+map_table s database None = Err refusals.Table
+map_table s database (Some table) =
+    Ok (record s {
+      is_over = false;
+      database = Some database;
+      mapping = Some (record { name = table; columns = [] });
+      tables = if s.is_over then [] else s.tables;
+    })
+
+unfoldable pub table_line : Standing → List ℕ → List ℕ → Result Standing Refusal
+table_line s database table =
+    if not (is_begun s.stage) then Err refusals.Transaction
+    else if not (may_be_database database s.database) then Err refusals.Table
+    else map_table s database (name_of table)
+
+abbrev pub same_bool : Bool → Bool → Bool
+same_bool true b = b
+same_bool false b = not b
+
+abbrev pub add_column : Standing → Option Table → Bool → ColumnType → Result Standing Refusal
+add_column s None is_first type = Err refusals.Format
+add_column s (Some t) is_first type =
+    if same_bool is_first (length t.columns == 0) then Ok (record s { mapping = Some (record { name = t.name; columns = t.columns ++ type ∷ [] }) })
+    else Err refusals.Format
+
+abbrev pub noted : Standing → List ℕ → Standing
+noted s text = record s { varied = varied_behind s.varied s.mapping text }
+
+unfoldable pub column_line : Standing → Column → Result Standing Refusal
+column_line s c = do
+  type ← or_refused refusals.Type (type_named c.column_type)
+  add_column (noted s c.column_type) s.mapping c.is_first type
+
+-- ---- transactions
+
+abbrev pub open_entry : Standing → Entry
+open_entry s = record { gtid = s.gtid; txn = record { changes = s.changes } }
+
+unfoldable pub commit_line : Standing → Result Standing Refusal
+commit_line s =
+    if is_begun s.stage then Ok (record s { stage = stages.Idle; changes = []; entries = s.entries ++ open_entry s ∷ [] })
+    else Err refusals.Transaction
+
+unfoldable pub begin_line : Standing → Result Standing Refusal
+begin_line s = if is_named s.stage then Ok (record s { stage = stages.Begun }) else Err refusals.Transaction
+
+unfoldable pub gtid_line : Standing → List ℕ → Result Standing Refusal
+gtid_line s word =
+    if not (is_idle s.stage) then Err refusals.Gtid
+    else (do
+      gtid ← or_refused refusals.Gtid (gtid_of_word word)
+      Ok (record s { stage = stages.Named; gtid = gtid; is_fresh = false }))
+
+-- what was executed before the first GTID; later files say again what has come
+unfoldable pub sources_line : Standing → List ℕ → Result Standing Refusal
+sources_line s word =
+    if s.is_fresh then (do
+      gtids ← or_refused refusals.Gtid (set_of_word word)
+      Ok (record s { previous = set.union s.previous gtids }))
+    else Ok s
+
+unfoldable pub head_line : Standing → Event → Result Standing Refusal
+head_line s (events.Rows operation) = if is_begun s.stage then Ok (record s { is_over = true }) else Err refusals.Transaction
+head_line s _ = Ok s
+
+-- ---- lines
+
+abbrev pub mark_line : Standing → Mark → Result Standing Refusal
+mark_line s marks.Place = place_line s
+mark_line s marks.Automatic = place_line s
+mark_line s marks.Where = where_line s
+mark_line s marks.Set = set_line s
+mark_line s marks.Begin = begin_line s
+mark_line s marks.Commit = commit_line s
+mark_line s marks.Committed = commit_line s
+mark_line s marks.Savepoint = if same_stage s.stage stages.Begun then Ok s else Err refusals.Transaction
+mark_line s marks.Closed = if same_stage s.stage stages.Idle then Ok s else Err refusals.Transaction
+mark_line s marks.Ended = Ok s
+mark_line s marks.Empty = Ok s
+mark_line s marks.Comment = Ok s
+mark_line s marks.Setting = Ok s
+mark_line s marks.Frame = Ok s
+
+abbrev pub told : Standing → Said → Result Standing Refusal
+told s (OfMark mark) = mark_line s mark
+told s (OfHead event) = head_line s event
+told s (OfTable database table) = table_line s database table
+told s (OfColumn c) = column_line s c
+told s (OfGtid gtid) = gtid_line s gtid
+told s (OfSources sources more) = sources_line s sources
+told s (OfRow operation database table) = row_line s operation database table
+told s (OfValue n text) = value_line s n text
+
+unfoldable pub step : Standing → Said → Result Standing Refusal
+step s l =
+    if takes s.body (kind_of l) then (do
+      t ← told s l
+      Ok (record t { body = next_body t.body l }))
+    else Err refusals.Format
+
+abbrev pub step_by : Standing → List ℕ → Option Said → Result Standing Refusal
+step_by s text None = Err (unread s.body text)
+step_by s text (Some l) = step s l
+
+-- a line that says nothing is refused: a statement's text is no line of ours
+unfoldable pub judge : Standing → List ℕ → Result Standing Refusal
+judge s text = step_by s text (line_of text)
+
+-- before the first line
+abbrev pub start : Standing
+start = record {
+  body = bodies.Preamble;
+  stage = stages.Idle;
+  gtid = record { source = 0; number = 0 };
+  is_fresh = true;
+  previous = set.empty;
+  is_over = false;
+  database = None;
+  mapping = None;
+  tables = [];
+  row = None;
+  operation = operations.Insert;
+  part = parts.Head;
+  before = [];
+  after = [];
+  changes = [];
+  entries = [];
+  varied = [];
+}
+
+-- the last file has ended
+abbrev pub is_closed : Body → Bool
+is_closed bodies.Closed = true
+is_closed _ = false
+
+-- what lines make, one after another
+abbrev pub runs : Standing → List Said → Result Standing Refusal
+runs s [] = Ok s
+runs s (l ∷ ls) = step s l >>= λ t. runs t ls

@@ -1,0 +1,159 @@
+-- What lines mean, and what entries spell.
+use Rattle.std.specs.Prelude.{ℕ, ◌+◌, ◌-◌, Bool, true, false, List, [], ◌∷◌, ◌++◌, Option, Some, None, if◌then◌else◌}
+use Rattle.std.specs.List.{flat_map}
+use Rattle.gtid_text.specs.Canonical.{gtid_text}
+use Rattle.journal.specs.declared.Entry.{Entry}
+use Rattle.rows.specs.declared.value.Value.{Value}
+use Rattle.rows.specs.declared.change.Change.{Change}
+use Rattle.rows.specs.declared.change.Change.TheVariants as changes
+use Rattle.binlog_text.specs.declared.types.ColumnType.{ColumnType}
+use Rattle.binlog_text.specs.Types.{type_named}
+use Rattle.binlog_text.specs.Values.{value_at}
+use Rattle.binlog_text.specs.declared.lines.Event.{Event}
+use Rattle.binlog_text.specs.declared.lines.Event.TheVariants as events
+use Rattle.binlog_text.specs.declared.lines.Mark.{Mark}
+use Rattle.binlog_text.specs.declared.lines.Mark.TheVariants as marks
+use Rattle.binlog_text.specs.declared.lines.Operation.{Operation}
+use Rattle.binlog_text.specs.declared.lines.Operation.TheVariants as operations
+use Rattle.binlog_text.specs.Lines.{Said, OfMark, OfHead, OfTable, OfColumn, OfGtid, OfSources, OfRow, OfValue}
+use Rattle.binlog_entries.specs.Tables.{Table, with_mapping, type_at}
+use Rattle.binlog_entries.specs.Varied.{varied_behind}
+use Rattle.binlog_entries.specs.declared.varied.Varied.{Varied}
+
+-- what a line means for transactions: a GTID, a row of a table, the images of a row with the values of their columns, and the end
+pub data Meaning : Type 0 where
+  Names : List ℕ → Meaning
+  Row : Operation → List ℕ → Meaning
+  Before : Meaning
+  After : Meaning
+  Holds : ℕ → Option Value → Meaning
+  Commits : Meaning
+
+-- ---- of lines
+
+-- The tables that the statement maps, and the table of the row. They tell the types of the values that follow.
+pub record Context : Type 0 where
+  pub is_over : Bool
+  pub mapping : Option Table
+  pub tables : List Table
+  pub row : Option (List ℕ)
+
+-- before the first line
+abbrev pub nowhere : Context
+nowhere = record { is_over = false; mapping = None; tables = []; row = None }
+
+-- the value that a text shows in the nth column of the row
+abbrev pub shown_in : Option ColumnType → List ℕ → Option Value
+shown_in None text = None
+shown_in (Some type) text = value_at type text
+
+abbrev pub mark_means : Mark → List Meaning
+mark_means marks.Where = Before ∷ []
+mark_means marks.Set = After ∷ []
+mark_means marks.Commit = Commits ∷ []
+mark_means marks.Committed = Commits ∷ []
+mark_means marks.Place = []
+mark_means marks.Begin = []
+mark_means marks.Ended = []
+mark_means marks.Savepoint = []
+mark_means marks.Automatic = []
+mark_means marks.Empty = []
+mark_means marks.Closed = []
+mark_means marks.Comment = []
+mark_means marks.Setting = []
+mark_means marks.Frame = []
+
+abbrev pub means : Context → Said → List Meaning
+means c (OfMark mark) = mark_means mark
+means c (OfHead event) = []
+means c (OfTable database table) = []
+means c (OfColumn column) = []
+means c (OfGtid gtid) = Names gtid ∷ []
+means c (OfSources sources more) = []
+means c (OfRow operation database table) = Row operation table ∷ []
+means c (OfValue n text) = Holds n (shown_in (type_at c.row c.tables (n - 1)) text) ∷ []
+
+abbrev pub behind_place : Context → Context
+behind_place c = record { is_over = c.is_over; mapping = None; tables = with_mapping c.tables c.mapping; row = None }
+
+abbrev pub with_column : Option Table → Option ColumnType → Option Table
+with_column None type = None
+with_column (Some t) None = Some t
+with_column (Some t) (Some type) = Some (record { name = t.name; columns = t.columns ++ type ∷ [] })
+
+abbrev pub behind_mark : Context → Mark → Context
+behind_mark c marks.Place = behind_place c
+behind_mark c marks.Automatic = behind_place c
+behind_mark c marks.Where = c
+behind_mark c marks.Set = c
+behind_mark c marks.Begin = c
+behind_mark c marks.Commit = c
+behind_mark c marks.Ended = c
+behind_mark c marks.Committed = c
+behind_mark c marks.Savepoint = c
+behind_mark c marks.Empty = c
+behind_mark c marks.Closed = c
+behind_mark c marks.Comment = c
+behind_mark c marks.Setting = c
+behind_mark c marks.Frame = c
+
+abbrev pub behind_head : Context → Event → Context
+behind_head c (events.Rows operation) = record { is_over = true; mapping = c.mapping; tables = c.tables; row = c.row }
+behind_head c events.Start = c
+behind_head c events.PreviousGtids = c
+behind_head c events.Gtid = c
+behind_head c events.Query = c
+behind_head c events.Xid = c
+behind_head c events.Payload = c
+behind_head c events.Rotate = c
+behind_head c events.Stop = c
+
+-- behind rows the next table is another statement's
+abbrev pub context_behind : Context → Said → Context
+context_behind c (OfMark mark) = behind_mark c mark
+context_behind c (OfHead event) = behind_head c event
+context_behind c (OfTable database table) = record { is_over = false; mapping = Some (record { name = table; columns = [] }); tables = if c.is_over then [] else c.tables; row = c.row }
+context_behind c (OfColumn column) = record { is_over = c.is_over; mapping = with_column c.mapping (type_named column.column_type); tables = c.tables; row = c.row }
+context_behind c (OfGtid gtid) = c
+context_behind c (OfSources sources more) = c
+context_behind c (OfRow operation database table) = record { is_over = c.is_over; mapping = c.mapping; tables = c.tables; row = Some table }
+context_behind c (OfValue n text) = c
+
+-- what lines mean, in order
+abbrev pub meaning : Context → List Said → List Meaning
+meaning c [] = []
+meaning c (l ∷ ls) = means c l ++ meaning (context_behind c l) ls
+
+-- the columns that the server compares otherwise than their bytes, behind these lines
+abbrev pub varied_by : Context → List Varied → Said → List Varied
+varied_by c vs (OfColumn column) = varied_behind vs c.mapping column.column_type
+varied_by c vs (OfMark mark) = vs
+varied_by c vs (OfHead event) = vs
+varied_by c vs (OfTable database table) = vs
+varied_by c vs (OfGtid gtid) = vs
+varied_by c vs (OfSources sources more) = vs
+varied_by c vs (OfRow operation database table) = vs
+varied_by c vs (OfValue n text) = vs
+
+abbrev pub varied_in : Context → List Varied → List Said → List Varied
+varied_in c vs [] = vs
+varied_in c vs (l ∷ ls) = varied_in (context_behind c l) (varied_by c vs l) ls
+
+-- ---- of entries
+
+-- the values of an image, from this column on
+abbrev pub held : ℕ → List Value → List Meaning
+held n [] = []
+held n (v ∷ vs) = Holds n (Some v) ∷ held (n + 1) vs
+
+abbrev pub spelled_change : Change → List Meaning
+spelled_change (changes.Insert table after) = Row operations.Insert table ∷ After ∷ held 1 after
+spelled_change (changes.Delete table before) = Row operations.Delete table ∷ Before ∷ held 1 before
+spelled_change (changes.Update table before after) = Row operations.Update table ∷ Before ∷ (held 1 before ++ After ∷ held 1 after)
+
+abbrev pub spelled_entry : Entry → List Meaning
+spelled_entry e = Names (gtid_text e.gtid) ∷ (flat_map spelled_change e.txn.changes ++ Commits ∷ [])
+
+-- what entries spell, in order
+abbrev pub spelled : List Entry → List Meaning
+spelled entries = flat_map spelled_entry entries

@@ -1,0 +1,155 @@
+-- The text of a log that comes byte by byte.
+use Rattle.std.specs.Prelude.{◌≡◌, ◌⊎◌, ℕ, ◌+◌, ◌-◌, ◌^◌, min, Bool, true, false, ◌==◌, List, [], ◌∷◌, ◌++◌, Option, Some, None, Result, Ok, Err, if◌then◌else◌}
+use Rattle.std.specs.List.{flat_map, AllByRecursion}
+use Rattle.gtid_set.specs.declared.fault.SetFault.{SetFault}
+use Rattle.gtid_set.specs.Sets.{Gtids}
+use Rattle.journal.specs.declared.Entry.{Entry}
+use Rattle.txn_journal.specs.Words.{IsOneLine}
+use Rattle.binlog_text.specs.Lines.{Said, IsLine}
+use Rattle.binlog_entries.specs.Machine.{Standing, ◌>>=◌, judge, is_closed}
+use Rattle.binlog_entries.specs.Machine as machine
+use Rattle.binlog_entries.specs.Meaning.{meaning, nowhere, spelled, varied_in}
+use Rattle.binlog_entries.specs.declared.varied.Varied.{Varied}
+use Rattle.binlog_entries.specs.declared.fault.ReadFault.{ReadFault}
+use Rattle.binlog_entries.specs.declared.fault.ReadFault.TheVariants as faults
+use Rattle.binlog_entries.specs.declared.fault.Refusal.{Refusal}
+
+-- How far the reading has come: so many whole lines, and the bytes of the next; or it has stopped.
+pub data Progress : Type 0 where
+  Reading : Standing → ℕ → List ℕ → Progress
+  Stopped : ReadFault → Progress
+
+abbrev pub unless_stopped : Option ReadFault → Progress → Progress
+unless_stopped None p = p
+unless_stopped (Some fault) p = Stopped fault
+
+-- lines count up to the largest number
+abbrev pub next_number : ℕ → ℕ
+next_number n = min (n + 1) (2 ^ 64 - 1)
+
+abbrev pub judged : Result Standing Refusal → ℕ → Progress
+judged (Ok s) n = Reading s n []
+judged (Err refusal) n = Stopped (faults.Line n refusal)
+
+-- a line feed ends a line
+unfoldable pub eat : Progress → ℕ → Progress
+eat (Reading s n rest) b = if b == 10 then judged (judge s rest) (next_number n) else Reading s n (rest ++ b ∷ [])
+eat (Stopped fault) b = Stopped fault
+
+abbrev pub eats : Progress → List ℕ → Progress
+eats p [] = p
+eats p (b ∷ bs) = eats (eat p b) bs
+
+-- before the first byte
+abbrev pub start : Progress
+start = Reading machine.start 0 []
+
+abbrev pub answer : Progress → Result (Unit {0}) ReadFault
+answer (Reading s n rest) = Ok tt
+answer (Stopped fault) = Err fault
+
+-- it is this, or memory ran out or a set is full
+abbrev pub IsAfter : Progress → Progress → Type 0
+IsAfter new after = ((fault : SetFault) × (new ≡ Stopped (faults.Set fault))) ⊎ (new ≡ after)
+
+-- What a call did with bytes is what eating them gives, unless memory ran out or a set is full.
+abbrev pub TakesPiece : Result (Unit {0}) ReadFault → Progress → Progress → Type 0
+TakesPiece (Ok _) new after = after ≡ new
+TakesPiece (Err (faults.Set fault)) new after = Unit {0}
+TakesPiece (Err (faults.Line n refusal)) new after = after ≡ Stopped (faults.Line n refusal)
+TakesPiece (Err (faults.Unfinished n)) new after = ⊥
+
+-- what was read, seen by view
+abbrev pub Seen : {X Y : Type 0} → (X → Y) → Result X ReadFault → Result Y ReadFault
+Seen view (Ok x) = Ok (view x)
+Seen view (Err fault) = Err fault
+
+-- what was executed before, the entries, and the columns that the server compares otherwise than their bytes
+abbrev pub Told : Type 0
+Told = Gtids × List Entry × List Varied
+
+-- whether a text may end behind so many lines and part of one more
+abbrev pub ends_at : Bool → ℕ → List ℕ → Result (Unit {0}) ReadFault
+ends_at false n rest = Err (faults.Unfinished (next_number n))
+ends_at true n [] = Ok tt
+ends_at true n (b ∷ bs) = Err (faults.Unfinished (next_number n))
+
+abbrev pub end_of : Progress → Result (Unit {0}) ReadFault
+end_of (Reading s n rest) = ends_at (is_closed s.body) n rest
+end_of (Stopped fault) = Err fault
+
+abbrev pub at_end : {V : Type 0} → Result (Unit {0}) ReadFault → V → Result V ReadFault
+at_end (Ok _) value = Ok value
+at_end (Err fault) value = Err fault
+
+abbrev pub ended : Bool → Standing → ℕ → List ℕ → Result Told ReadFault
+ended b s n rest = at_end (ends_at b n rest) (s.previous, s.entries, s.varied)
+
+-- the end of the text
+abbrev pub closing : Progress → Result Told ReadFault
+closing (Reading s n rest) = ended (is_closed s.body) s n rest
+closing (Stopped fault) = Err fault
+
+-- it is this, unless memory ran out or a set is full
+abbrev pub Ends : Result Told ReadFault → Result Told ReadFault → Type 0
+Ends result whole = ((fault : SetFault) × (result ≡ Err (faults.Set fault))) ⊎ (result ≡ whole)
+
+-- ---- the whole of a text
+
+abbrev pub ended_line : List ℕ → List ℕ
+ended_line line = line ++ 10 ∷ []
+
+-- each line says this
+abbrev pub Say : List (List ℕ) → List Said → Type 0
+Say [] [] = Unit {0}
+Say (line ∷ lines) (l ∷ ls) = IsLine l line × Say lines ls
+Say _ _ = ⊥
+
+-- The text is lines that say something each, and what they mean is what the entries spell, in order. These are the columns that the server compares
+-- otherwise than their bytes.
+pub record IsLog (text : List ℕ) (entries : List Entry) (varied : List Varied) : Type 0 where
+  pub lines : List (List ℕ)
+  pub parts : text ≡ flat_map ended_line lines
+  pub whole : AllByRecursion IsOneLine lines
+  pub said : List Said
+  pub say : Say lines said
+  pub means : meaning nowhere said ≡ spelled entries
+  pub varies : varied ≡ varied_in nowhere [] said
+
+-- what lines make, one after another
+abbrev pub judges : Standing → List (List ℕ) → Result Standing Refusal
+judges s [] = Ok s
+judges s (line ∷ lines) = judge s line >>= λ t. judges t lines
+
+-- how many lines these are, counted up to the largest number
+abbrev pub numbered : ℕ → List (List ℕ) → ℕ
+numbered n [] = n
+numbered n (line ∷ lines) = numbered (next_number n) lines
+
+-- Lines that are taken, and then one that is refused.
+pub record IsRefused (text : List ℕ) (n : ℕ) (refusal : Refusal) : Type 0 where
+  pub before : List (List ℕ)
+  pub line : List ℕ
+  pub rest : List ℕ
+  pub parts : text ≡ flat_map ended_line before ++ (line ++ 10 ∷ rest)
+  pub whole : AllByRecursion IsOneLine before × IsOneLine line
+  pub state : Standing
+  pub taken : judges machine.start before ≡ Ok state
+  pub refused : judge state line ≡ Err refusal
+  pub number : n ≡ next_number (numbered 0 before)
+
+-- Lines that are taken, and then less than a line; or the last file has not ended.
+pub record IsUnfinished (text : List ℕ) (n : ℕ) : Type 0 where
+  pub before : List (List ℕ)
+  pub rest : List ℕ
+  pub parts : text ≡ flat_map ended_line before ++ rest
+  pub whole : AllByRecursion IsOneLine before × IsOneLine rest
+  pub state : Standing
+  pub taken : judges machine.start before ≡ Ok state
+  pub owed : (is_closed state.body ≡ true) × (rest ≡ []) → ⊥
+  pub number : n ≡ next_number (numbered 0 before)
+
+abbrev pub Refuses : ReadFault → List ℕ → Type 0
+Refuses (faults.Set fault) text = Unit {0}
+Refuses (faults.Line n refusal) text = IsRefused text n refusal
+Refuses (faults.Unfinished n) text = IsUnfinished text n

@@ -1,0 +1,512 @@
+//! Entries as far as the lines have come.
+ghost use Rattle.std.specs.Prelude.{◌≡◌, length, IfOk, option_map};
+ghost use Rattle.binlog_entries.specs.Machine.{Finds};
+
+use crate::bodies::{Body, kind_of, next_body};
+use crate::fault::{Fault, Refusal};
+use crate::parts::{
+    after_due, before_due, change_of, has_rows_of, is_database, is_whole, may_be_database, type_at,
+    typed_value,
+};
+use crate::tables::{Mapped, name_of, table_named};
+use crate::unread::unread;
+use crate::varied::{Varied, has_varied};
+use binlog_text::{
+    Column, ColumnType, Event, Line, Mark, Operation, compares_bytes, read_line, type_named,
+};
+use gtid_set::GtidSet;
+use gtid_text::{Gtid, SourceId};
+use journal::Entry;
+use journal_words::{gtid_word, set_word};
+use rows::{Change, Changes, Name, Transaction, Value};
+use std::alloc::{AllocError, Global};
+use std::mem;
+
+/// How much of a transaction has come.
+#[derive(Clone, Copy, Debug, PartialEq, Eq)]
+pub enum Stage {
+    /// None is open.
+    Idle,
+    /// Its GTID has come.
+    Named,
+    /// It has begun.
+    Begun,
+}
+
+/// How much of a row has come.
+#[derive(Clone, Copy, Debug, PartialEq, Eq)]
+pub enum Part {
+    Head,
+    /// Values of the row before the change.
+    Before,
+    /// Values of the row after it.
+    After,
+}
+
+/// What a binary log tells.
+#[derive(Drop)]
+pub struct Log {
+    /// What its first file says was executed before.
+    pub previous: GtidSet,
+    /// Its entries, in order.
+    pub entries: Vec<Entry>,
+    /// The columns whose values the server compares otherwise than their bytes.
+    pub varied: Vec<Varied>,
+}
+
+/// The entries of a binary log, as far as its lines have come.
+#[derive(Drop)]
+pub struct Draft {
+    body: Body,
+    stage: Stage,
+    /// Of the transaction that is open.
+    gtid: Gtid,
+    /// No GTID has come.
+    is_fresh: bool,
+    /// What the files say was executed before.
+    previous: GtidSet,
+    /// Rows of the statement have come: the next table is another statement's.
+    is_over: bool,
+    /// The one database of the log, once it is named.
+    database: Option<Vec<u8>>,
+    /// The table whose columns come.
+    mapping: Option<Mapped>,
+    /// Those that the statement has mapped before.
+    tables: Vec<Mapped>,
+    /// The table of the row that is open.
+    row: Option<Name>,
+    operation: Operation,
+    part: Part,
+    before: Vec<Value>,
+    after: Vec<Value>,
+    /// Of the transaction that is open.
+    changes: Vec<Change>,
+    /// Those of the transactions before it.
+    entries: Vec<Entry>,
+    /// Columns whose values the server compares otherwise than their bytes.
+    varied: Vec<Varied>,
+}
+
+impl Draft {
+    ghost use Rattle.std.specs.Prelude.{[], None, Ok, Err, OnOk, if◌then◌else◌};
+    ghost use Rattle.binlog_text.specs.Said.{said, column_said};
+    ghost use Rattle.binlog_entries.specs.Machine.{Takes, Standing, finished, open_row, known_name, begin_row, row_line, where_line, set_line, next_value, value_in, value_line, place_line, map_table, table_line, add_column, noted, column_line, commit_line, begin_line, gtid_line, sources_line, head_line, mark_line, told, step, judge, start, same_stage, is_closed};
+    ghost use Rattle.binlog_entries.specs.declared.fault.Refusal.TheVariants as refusals;
+    ghost use Rattle.binlog_entries.specs.Drafts.{standing};
+
+    /// Before the first line.
+    pub fn start(alloc: Global) -> Draft
+        ensures { standing result ≡ start }
+    {
+        Draft {
+            body: Body::Preamble,
+            stage: Stage::Idle,
+            gtid: Gtid {
+                source: SourceId::from_bits(0),
+                number: 0,
+            },
+            is_fresh: true,
+            previous: GtidSet::empty(alloc),
+            is_over: false,
+            database: None,
+            mapping: None,
+            tables: Vec::new(alloc),
+            row: None,
+            operation: Operation::Insert,
+            part: Part::Head,
+            before: Vec::new(alloc),
+            after: Vec::new(alloc),
+            changes: Vec::new(alloc),
+            entries: Vec::new(alloc),
+            varied: Vec::new(alloc),
+        }
+    }
+
+    /// The row that is open joins the changes, where it is whole.
+    #[tactic(auto, unfolding(crate::specs::Machine::finished))]
+    fn finish(&mut self, alloc: Global) -> Result<(), Fault>
+        ensures { Takes result (finished (standing self.old)) (standing self.new) }
+    {
+        let Some(table) = self.row.take() else {
+            return Ok(());
+        };
+        let Some(mapped) = table_named(table.as_str().as_bytes(), &self.tables) else {
+            return Err(Fault::Refused(Refusal::Table));
+        };
+        if !is_whole(
+            self.operation,
+            self.part,
+            self.before.len(),
+            self.after.len(),
+            mapped.len(),
+        ) {
+            return Err(Fault::Refused(Refusal::Columns));
+        }
+        let before = mem::replace(&mut self.before, Vec::new(alloc));
+        let after = mem::replace(&mut self.after, Vec::new(alloc));
+        let change = change_of(self.operation, table, before, after)?;
+        self.changes.push(change)?;
+        Ok(())
+    }
+
+    #[tactic(auto, unfolding(crate::specs::Machine::where_line))]
+    fn where_line(&mut self) -> Result<(), Fault>
+        ensures { Takes result (where_line (standing self.old)) (standing self.new) }
+    {
+        if self.row.is_none() || !before_due(self.operation, self.part) {
+            return Err(Fault::Refused(Refusal::Columns));
+        }
+        self.part = Part::Before;
+        Ok(())
+    }
+
+    #[tactic(auto, unfolding(crate::specs::Machine::set_line))]
+    fn set_line(&mut self) -> Result<(), Fault>
+        ensures { Takes result (set_line (standing self.old)) (standing self.new) }
+    {
+        if self.row.is_none() || !after_due(self.operation, self.part) {
+            return Err(Fault::Refused(Refusal::Columns));
+        }
+        self.part = Part::After;
+        Ok(())
+    }
+
+    /// The value of the next column of an image that has so many.
+    fn next_value(&self, alloc: Global, place: usize, n: u64, text: &[u8]) -> Result<Value, Fault>
+        ensures { Finds (λ v. v) result (next_value (standing self.now) place n text.now) }
+    {
+        if n == 0 || n - 1 != place as u64 {
+            return Err(Fault::Refused(Refusal::Columns));
+        }
+        typed_value(alloc, type_at(&self.row, &self.tables, place), text)
+    }
+
+    #[tactic(auto, unfolding(crate::specs::Machine::value_line))]
+    fn value_line(&mut self, alloc: Global, n: u64, text: &[u8]) -> Result<(), Fault>
+        ensures { Takes result (value_line (standing self.old) n text.now) (standing self.new) }
+    {
+        match self.part {
+            Part::Head => Err(Fault::Refused(Refusal::Columns)),
+            Part::Before => {
+                let value = self.next_value(alloc, self.before.len(), n, text)?;
+                self.before.push(value)?;
+                Ok(())
+            }
+            Part::After => {
+                let value = self.next_value(alloc, self.after.len(), n, text)?;
+                self.after.push(value)?;
+                Ok(())
+            }
+        }
+    }
+
+    #[tactic(auto, unfolding(crate::specs::Machine::place_line))]
+    fn place_line(&mut self, alloc: Global) -> Result<(), Fault>
+        ensures { Takes result (place_line (standing self.old)) (standing self.new) }
+    {
+        self.finish(alloc)?;
+        if let Some(table) = self.mapping.take() {
+            self.tables.push(table)?;
+        }
+        Ok(())
+    }
+
+    #[tactic(auto, unfolding(crate::specs::Machine::commit_line))]
+    fn commit_line(&mut self, alloc: Global) -> Result<(), Fault>
+        ensures { Takes result (commit_line (standing self.old)) (standing self.new) }
+    {
+        if self.stage != Stage::Begun {
+            return Err(Fault::Refused(Refusal::Transaction));
+        }
+        let changes = mem::replace(&mut self.changes, Vec::new(alloc));
+        let entry = Entry {
+            gtid: self.gtid,
+            txn: Transaction {
+                changes: Changes::new(changes)?,
+            },
+        };
+        self.entries.push(entry)?;
+        self.stage = Stage::Idle;
+        Ok(())
+    }
+
+    #[tactic(auto, unfolding(crate::specs::Machine::begin_line))]
+    fn begin_line(&mut self) -> Result<(), Fault>
+        ensures { Takes result (begin_line (standing self.old)) (standing self.new) }
+    {
+        if self.stage != Stage::Named {
+            return Err(Fault::Refused(Refusal::Transaction));
+        }
+        self.stage = Stage::Begun;
+        Ok(())
+    }
+
+    #[tactic(auto, unfolding(crate::specs::Machine::gtid_line))]
+    fn gtid_line(&mut self, alloc: Global, word: &[u8]) -> Result<(), Fault>
+        ensures { Takes result (gtid_line (standing self.old) word.now) (standing self.new) }
+    {
+        if self.stage != Stage::Idle {
+            return Err(Fault::Refused(Refusal::Gtid));
+        }
+        let Some(gtid) = gtid_word(alloc, word)? else {
+            return Err(Fault::Refused(Refusal::Gtid));
+        };
+        self.gtid = gtid;
+        self.is_fresh = false;
+        self.stage = Stage::Named;
+        Ok(())
+    }
+
+    #[tactic(auto, unfolding(crate::specs::Machine::sources_line))]
+    fn sources_line(&mut self, alloc: Global, word: &[u8]) -> Result<(), Fault>
+        ensures { Takes result (sources_line (standing self.old) word.now) (standing self.new) }
+    {
+        if !self.is_fresh {
+            return Ok(());
+        }
+        let Some(gtids) = set_word(alloc, word)? else {
+            return Err(Fault::Refused(Refusal::Gtid));
+        };
+        self.previous = self.previous.union(alloc, &gtids)?;
+        Ok(())
+    }
+
+    #[tactic(auto, unfolding(crate::specs::Machine::head_line))]
+    fn head_line(&mut self, event: Event) -> Result<(), Fault>
+        ensures { Takes result (head_line (standing self.old) event) (standing self.new) }
+    {
+        match event {
+            Event::Rows(_) => {
+                if self.stage != Stage::Begun {
+                    return Err(Fault::Refused(Refusal::Transaction));
+                }
+                self.is_over = true;
+                Ok(())
+            }
+            Event::Start
+            | Event::PreviousGtids
+            | Event::Gtid
+            | Event::Query
+            | Event::Xid
+            | Event::Payload
+            | Event::Rotate
+            | Event::Stop => Ok(()),
+        }
+    }
+
+    /// The name of a table that the statement maps.
+    fn known_name(&self, alloc: Global, table: &[u8]) -> Result<Option<Name>, AllocError>
+        ensures { IfOk result (λ found. found ≡ known_name table.now (standing self.now).tables) }
+    {
+        if table_named(table, &self.tables).is_none() {
+            return Ok(None);
+        }
+        name_of(alloc, table)
+    }
+
+    fn begin_row(
+        &mut self,
+        alloc: Global,
+        operation: Operation,
+        database: &[u8],
+        table: &[u8],
+    ) -> Result<(), Fault>
+        ensures { Takes result (begin_row (standing self.old) operation database.now table.now) (standing self.new) }
+    {
+        if !has_rows_of(self.body, operation) {
+            return Err(Fault::Refused(Refusal::Format));
+        }
+        if !is_database(database, &self.database) {
+            return Err(Fault::Refused(Refusal::Table));
+        }
+        let Some(name) = self.known_name(alloc, table)? else {
+            return Err(Fault::Refused(Refusal::Table));
+        };
+        self.row = Some(name);
+        self.operation = operation;
+        self.part = Part::Head;
+        Ok(())
+    }
+
+    #[tactic(auto, unfolding(crate::specs::Machine::row_line))]
+    fn row_line(
+        &mut self,
+        alloc: Global,
+        operation: Operation,
+        database: &[u8],
+        table: &[u8],
+    ) -> Result<(), Fault>
+        ensures { Takes result (row_line (standing self.old) operation database.now table.now) (standing self.new) }
+    {
+        self.finish(alloc)?;
+        self.begin_row(alloc, operation, database, table)
+    }
+
+    fn map_table(
+        &mut self,
+        alloc: Global,
+        database: &[u8],
+        table: Option<Name>,
+    ) -> Result<(), Fault>
+        ensures { Takes result (map_table (standing self.old) database.now table) (standing self.new) }
+    {
+        let Some(name) = table else {
+            return Err(Fault::Refused(Refusal::Table));
+        };
+        let mut copy = Vec::new(alloc);
+        copy.extend_from_slice(database)?;
+        self.database = Some(copy);
+        self.mapping = Some(Mapped::new(alloc, name));
+        if self.is_over {
+            self.tables = Vec::new(alloc);
+        }
+        self.is_over = false;
+        Ok(())
+    }
+
+    #[tactic(auto, unfolding(crate::specs::Machine::table_line))]
+    fn table_line(&mut self, alloc: Global, database: &[u8], table: &[u8]) -> Result<(), Fault>
+        ensures { Takes result (table_line (standing self.old) database.now table.now) (standing self.new) }
+    {
+        if self.stage != Stage::Begun {
+            return Err(Fault::Refused(Refusal::Transaction));
+        }
+        if !may_be_database(database, &self.database) {
+            return Err(Fault::Refused(Refusal::Table));
+        }
+        let name = name_of(alloc, table)?;
+        self.map_table(alloc, database, name)
+    }
+
+    fn add_column(&mut self, is_first: bool, column: ColumnType) -> Result<(), Fault>
+        ensures { Takes result (add_column (standing self.old) (standing self.old).mapping is_first column) (standing self.new) }
+    {
+        match &mut self.mapping {
+            None => Err(Fault::Refused(Refusal::Format)),
+            Some(table) => {
+                if is_first != (table.len() == 0) {
+                    return Err(Fault::Refused(Refusal::Format));
+                }
+                table.add(column)?;
+                Ok(())
+            }
+        }
+    }
+
+    /// Keeps the next column of the table that is mapped, where the server compares its values otherwise than their bytes.
+    fn note(&mut self, text: &[u8]) -> Result<(), AllocError>
+        ensures { OnOk result (standing self.new ≡ noted (standing self.old) text.now) }
+    {
+        let Some(table) = &self.mapping else {
+            return Ok(());
+        };
+        if compares_bytes(text) {
+            return Ok(());
+        }
+        let column = table.len();
+        if has_varied(table.name().as_str().as_bytes(), column, &self.varied) {
+            return Ok(());
+        }
+        let table = table.name().clone()?;
+        self.varied.push(Varied { table, column })?;
+        Ok(())
+    }
+
+    #[tactic(auto, unfolding(crate::specs::Machine::column_line))]
+    fn column_line(&mut self, column: &Column<'_>) -> Result<(), Fault>
+        ensures { Takes result (column_line (standing self.old) (column_said column.now)) (standing self.new) }
+    {
+        let Some(named) = type_named(column.column_type) else {
+            return Err(Fault::Refused(Refusal::Type));
+        };
+        self.note(column.column_type)?;
+        self.add_column(column.is_first, named)
+    }
+
+    /// Whether the stage is this one.
+    fn wants(&self, stage: Stage) -> Result<(), Fault>
+        ensures { Takes result (if same_stage (standing self.now).stage stage then Ok (standing self.now) else Err refusals.Transaction) (standing self.now) }
+    {
+        if self.stage == stage {
+            Ok(())
+        } else {
+            Err(Fault::Refused(Refusal::Transaction))
+        }
+    }
+
+    fn mark_line(&mut self, alloc: Global, mark: Mark) -> Result<(), Fault>
+        ensures { Takes result (mark_line (standing self.old) mark) (standing self.new) }
+    {
+        match mark {
+            Mark::Place | Mark::Automatic => self.place_line(alloc),
+            Mark::Where => self.where_line(),
+            Mark::Set => self.set_line(),
+            Mark::Begin => self.begin_line(),
+            Mark::Commit | Mark::Committed => self.commit_line(alloc),
+            Mark::Savepoint => self.wants(Stage::Begun),
+            Mark::Closed => self.wants(Stage::Idle),
+            Mark::Ended | Mark::Empty | Mark::Comment | Mark::Setting | Mark::Frame => Ok(()),
+        }
+    }
+
+    /// What a line tells.
+    fn told(&mut self, alloc: Global, line: &Line<'_>) -> Result<(), Fault>
+        ensures { Takes result (told (standing self.old) (said line.now)) (standing self.new) }
+    {
+        match line {
+            Line::Mark(mark) => self.mark_line(alloc, *mark),
+            Line::Head(event) => self.head_line(*event),
+            Line::TableMap(database, table) => self.table_line(alloc, database, table),
+            Line::Column(column) => self.column_line(column),
+            Line::Gtid(gtid) => self.gtid_line(alloc, gtid),
+            Line::Sources(sources, _) => self.sources_line(alloc, sources),
+            Line::Row(operation, database, table) => {
+                self.row_line(alloc, *operation, database, table)
+            }
+            Line::Value(n, text) => self.value_line(alloc, *n, text),
+        }
+    }
+
+    #[tactic(auto, unfolding(crate::specs::Machine::step))]
+    fn step(&mut self, alloc: Global, line: &Line<'_>) -> Result<(), Fault>
+        ensures { Takes result (step (standing self.old) (said line.now)) (standing self.new) }
+    {
+        if !self.body.takes(kind_of(line)) {
+            return Err(Fault::Refused(Refusal::Format));
+        }
+        self.told(alloc, line)?;
+        self.body = next_body(self.body, line);
+        Ok(())
+    }
+
+    /// Takes the next line, or says what is wrong with it. After an error no more lines are to come.
+    #[tactic(auto, unfolding(crate::specs::Machine::judge))]
+    pub fn take_line(&mut self, alloc: Global, text: &[u8]) -> Result<(), Fault>
+        ensures { Takes result (judge (standing self.old) text.now) (standing self.new) }
+    {
+        match read_line(text) {
+            Some(line) => self.step(alloc, &line),
+            None => Err(Fault::Refused(unread(self.body, text))),
+        }
+    }
+
+    /// Whether the last file has ended.
+    pub fn is_ended(&self) -> bool
+        ensures { result ≡ is_closed (standing self.now).body }
+    {
+        self.body == Body::Closed
+    }
+
+    /// What the files say was executed before, and the entries in order.
+    pub fn into_log(self) -> Log
+        ensures previous { result.previous ≡ (standing self).previous }
+        ensures entries { result.entries.items ≡ (standing self).entries }
+        ensures varied { result.varied.items ≡ (standing self).varied }
+    {
+        Log {
+            previous: self.previous,
+            entries: self.entries,
+            varied: self.varied,
+        }
+    }
+}

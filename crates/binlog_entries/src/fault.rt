@@ -1,0 +1,113 @@
+//! Why a line is not taken.
+ghost use Rattle.std.specs.Prelude.{◌≡◌};
+ghost use Rattle.gtid_set.specs.declared.fault.SetFault.TheVariants.{Memory};
+ghost use Rattle.binlog_entries.specs.declared.fault.Fault.TheVariants.{Set};
+
+use gtid_set::SetFault;
+use std::alloc::{AllocError, AllocFailed};
+use thiserror::Error;
+
+/// What is wrong with a line.
+#[derive(Clone, Copy, Debug, PartialEq, Eq)]
+pub enum Refusal {
+    /// It is none of mysqlbinlog's lines, or stands where none of its kind does.
+    Format,
+    /// A statement other than the beginning, the end and a savepoint of a transaction.
+    Statement,
+    /// A distributed transaction.
+    Xa,
+    /// A GTID that is none of ours, or in the midst of a transaction; or none at all.
+    Gtid,
+    /// A transaction's line outside of one, or a second beginning.
+    Transaction,
+    /// A table that no line maps, a name that is none of ours, or a second database.
+    Table,
+    /// A type whose values are not printed whole.
+    Type,
+    /// A row that lacks a column or a part, or has one too many.
+    Columns,
+    /// A text that is none of a value of its column.
+    Value,
+    /// The text of another server's logs.
+    Mariadb,
+}
+
+impl Refusal {
+    ghost use Rattle.binlog_entries.specs.Unread.{word_of};
+
+    /// The word that names it.
+    pub fn word(self) -> &'static str
+        ensures { result.now ≡ word_of self }
+    {
+        match self {
+            Refusal::Format => "format",
+            Refusal::Statement => "statement",
+            Refusal::Xa => "xa",
+            Refusal::Gtid => "gtid",
+            Refusal::Transaction => "transaction",
+            Refusal::Table => "table",
+            Refusal::Type => "type",
+            Refusal::Columns => "columns",
+            Refusal::Value => "value",
+            Refusal::Mariadb => "mariadb",
+        }
+    }
+}
+
+/// Why a line is not taken.
+#[derive(Clone, Copy, Debug, PartialEq, Eq)]
+pub enum Fault {
+    /// Memory was refused, or a set is full.
+    Set(SetFault),
+    /// The line is refused.
+    Refused(Refusal),
+}
+
+impl From<AllocError> for Fault {
+    ghost from_gives = { λ _ e. e ≡ Set Memory };
+
+    fn from(_e: AllocError) -> Fault {
+        Fault::Set(SetFault::Memory)
+    }
+}
+
+impl From<SetFault> for Fault {
+    ghost from_gives = { λ fault e. e ≡ Set fault };
+
+    fn from(fault: SetFault) -> Fault {
+        Fault::Set(fault)
+    }
+}
+
+impl<T: Drop> From<AllocFailed<T>> for Fault {
+    ghost from_gives = { λ _ e. e ≡ Set Memory };
+
+    fn from(_e: AllocFailed<T>) -> Fault {
+        Fault::Set(SetFault::Memory)
+    }
+}
+
+/// Why a text is not read. Lines count from 1.
+#[derive(Clone, Copy, Debug, PartialEq, Eq, Error)]
+pub enum ReadFault {
+    /// Memory was refused, or a set is full.
+    #[error("{0}")]
+    Set(SetFault),
+    /// The first line that is refused, and what is wrong with it.
+    #[error("line {line} is refused")]
+    Line { line: u64, refusal: Refusal },
+    /// The text ends before its log does.
+    #[error("unfinished at line {line}")]
+    Unfinished { line: u64 },
+}
+
+impl From<AllocError> for ReadFault {
+    ghost use Rattle.gtid_set.specs.declared.fault.SetFault.TheVariants.{Memory};
+    ghost use Rattle.binlog_entries.specs.declared.fault.ReadFault.TheVariants as read_faults;
+
+    ghost from_gives = { λ _ e. e ≡ read_faults.Set Memory };
+
+    fn from(_e: AllocError) -> ReadFault {
+        ReadFault::Set(SetFault::Memory)
+    }
+}

@@ -1,0 +1,139 @@
+//! Parts of rows.
+ghost use Rattle.std.specs.Prelude.{◌≡◌, length, IfOk, option_map};
+ghost use Rattle.binlog_entries.specs.Machine.{Finds, is_whole, change_of, is_database, may_be_database, same_operation, has_rows_of, before_due, after_due, typed_value};
+ghost use Rattle.binlog_entries.specs.Tables.{type_at};
+
+use crate::bodies::Body;
+use crate::draft::Part;
+use crate::fault::{Fault, Refusal};
+use crate::tables::{Mapped, table_named};
+use binlog_text::{ColumnType, Operation, read_value};
+use rows::{Change, Name, Row, Value};
+use std::alloc::{AllocError, Global};
+
+/// Whether a row has the parts that its operation has, with a value for each column.
+pub fn is_whole(
+    operation: Operation,
+    part: Part,
+    before: usize,
+    after: usize,
+    columns: usize,
+) -> bool
+    ensures { result ≡ is_whole operation part before after columns }
+{
+    match operation {
+        Operation::Insert => part == Part::After && after == columns,
+        Operation::Delete => part == Part::Before && before == columns,
+        Operation::Update => part == Part::After && before == columns && after == columns,
+    }
+}
+
+pub fn change_of(
+    operation: Operation,
+    table: Name,
+    before: Vec<Value>,
+    after: Vec<Value>,
+) -> Result<Change, AllocError>
+    ensures { IfOk result (λ change. change ≡ change_of operation table before.items after.items) }
+{
+    match operation {
+        Operation::Insert => {
+            let after = Row::new(after)?;
+            Ok(Change::Insert { table, after })
+        }
+        Operation::Delete => {
+            let before = Row::new(before)?;
+            Ok(Change::Delete { table, before })
+        }
+        Operation::Update => {
+            let before = Row::new(before)?;
+            let after = Row::new(after)?;
+            Ok(Change::Update {
+                table,
+                before,
+                after,
+            })
+        }
+    }
+}
+
+pub fn is_database(name: &[u8], database: &Option<Vec<u8>>) -> bool
+    ensures { result ≡ is_database name.now (option_map (λ v. v.items) database.now) }
+{
+    match database {
+        Some(database) => database.as_slice() == name,
+        None => false,
+    }
+}
+
+pub fn may_be_database(name: &[u8], database: &Option<Vec<u8>>) -> bool
+    ensures { result ≡ may_be_database name.now (option_map (λ v. v.items) database.now) }
+{
+    match database {
+        Some(database) => database.as_slice() == name,
+        None => true,
+    }
+}
+
+pub fn same_operation(operation: Operation, wanted: Operation) -> bool
+    ensures { result ≡ same_operation operation wanted }
+{
+    match operation {
+        Operation::Insert => matches!(wanted, Operation::Insert),
+        Operation::Update => matches!(wanted, Operation::Update),
+        Operation::Delete => matches!(wanted, Operation::Delete),
+    }
+}
+
+pub fn has_rows_of(body: Body, wanted: Operation) -> bool
+    ensures { result ≡ has_rows_of body wanted }
+{
+    match body {
+        Body::Rows(operation) => same_operation(operation, wanted),
+        _ => false,
+    }
+}
+
+pub fn before_due(operation: Operation, part: Part) -> bool
+    ensures { result ≡ before_due operation part }
+{
+    match operation {
+        Operation::Insert => false,
+        Operation::Update | Operation::Delete => part == Part::Head,
+    }
+}
+
+pub fn after_due(operation: Operation, part: Part) -> bool
+    ensures { result ≡ after_due operation part }
+{
+    match operation {
+        Operation::Insert => part == Part::Head,
+        Operation::Update => part == Part::Before,
+        Operation::Delete => false,
+    }
+}
+
+/// The type of a column, counted from 0, of the table of a row.
+pub fn type_at(row: &Option<Name>, tables: &[Mapped], place: usize) -> Option<ColumnType>
+    ensures { result ≡ type_at row.now tables.now place }
+{
+    let Some(row) = row else {
+        return None;
+    };
+    match table_named(row.as_str().as_bytes(), tables) {
+        Some(table) => table.column(place),
+        None => None,
+    }
+}
+
+pub fn typed_value(alloc: Global, column: Option<ColumnType>, text: &[u8]) -> Result<Value, Fault>
+    ensures { Finds (λ v. v) result (typed_value column text.now) }
+{
+    let Some(column) = column else {
+        return Err(Fault::Refused(Refusal::Columns));
+    };
+    match read_value(alloc, column, text)? {
+        Some(value) => Ok(value),
+        None => Err(Fault::Refused(Refusal::Value)),
+    }
+}

@@ -1,0 +1,173 @@
+//! A log's text that comes in pieces, cut anywhere.
+ghost use Rattle.std.specs.Prelude.{◌≡◌, ◌++◌, ◌∷◌, [], None, OnOk, IfOk, IfErr, IfSome, IfNone};
+ghost use Rattle.txn_journal.specs.Words.{IsOneLine, BeginsWithLine};
+ghost use Rattle.binlog_entries.specs.Stream.{Seen, answer, eats, start, IsAfter, TakesPiece, Ends, end_of, closing, IsLog, Refuses};
+ghost use Rattle.binlog_entries.specs.Machine.{Takes, judge};
+ghost use Rattle.binlog_entries.specs.Drafts.{standing};
+ghost use Rattle.binlog_entries.specs.Readers.{progress, log_seen};
+
+use crate::draft::{Draft, Log};
+use crate::fault::{Fault, ReadFault};
+use memchr::memchr;
+use std::alloc::Global;
+
+/// The first line of a text, and what follows its line feed.
+fn cut_line(text: &[u8]) -> Option<(&[u8], &[u8])>
+    ensures found { IfSome result (λ r. BeginsWithLine text.now r.0.now r.1.now) }
+    ensures none { IfNone result (IsOneLine text.now) }
+{
+    let Some(at) = memchr(b'\n', text) else {
+        return None;
+    };
+    let (line, rest) = text.split_at(at);
+    match rest {
+        [_, after @ ..] => Some((line, after)),
+        [] => None,
+    }
+}
+
+/// The text of a binary log, as far as it has come.
+#[derive(Drop)]
+pub struct Reader {
+    draft: Draft,
+    /// How many whole lines have come.
+    lines: u64,
+    /// The bytes of the line that has not come whole.
+    rest: Vec<u8>,
+    stopped: Option<ReadFault>,
+}
+
+impl Reader {
+    /// Before the first byte.
+    pub fn start(alloc: Global) -> Reader
+        ensures { progress result ≡ start }
+    {
+        Reader {
+            draft: Draft::start(alloc),
+            lines: 0,
+            rest: Vec::new(alloc),
+            stopped: None,
+        }
+    }
+
+    fn answer(&self) -> Result<(), ReadFault>
+        ensures { result ≡ answer (progress self.now) }
+    {
+        match self.stopped {
+            None => Ok(()),
+            Some(fault) => Err(fault),
+        }
+    }
+
+    /// Takes the next piece. After an error every later call answers that error.
+    pub fn feed(&mut self, alloc: Global, piece: &[u8]) -> Result<(), ReadFault>
+        ensures next { IsAfter (progress self.new) (eats (progress self.old) piece.now) }
+        ensures answer { result ≡ answer (progress self.new) }
+    {
+        if let Err(fault) = self.answer() {
+            return Err(fault);
+        }
+        if let Err(fault) = self.take_piece(alloc, piece) {
+            self.stopped = Some(fault);
+        }
+        self.answer()
+    }
+
+    fn take_piece(&mut self, alloc: Global, piece: &[u8]) -> Result<(), ReadFault>
+        requires { self.old.stopped ≡ None }
+        ensures next { TakesPiece result (progress self.new) (eats (progress self.old) piece.now) }
+        ensures goes { self.new.stopped ≡ None }
+    {
+        let mut left = piece;
+        'lines: loop {
+            match cut_line(left) {
+                Some((line, after)) => match self.take_line(alloc, line) {
+                    Ok(()) => left = after,
+                    Err(fault) => return Err(fault),
+                },
+                None => {
+                    self.rest.extend_from_slice(left)?;
+                    return Ok(());
+                }
+            }
+        }
+    }
+
+    /// Takes the line whose last bytes are these.
+    fn take_line(&mut self, alloc: Global, bytes: &[u8]) -> Result<(), ReadFault>
+        requires goes { self.old.stopped ≡ None }
+        requires whole { IsOneLine bytes.now }
+        ensures next { TakesPiece result (progress self.new) (eats (progress self.old) (bytes.now ++ 10 ∷ [])) }
+        ensures goes { self.new.stopped ≡ None }
+    {
+        self.lines = self.lines.saturating_add(1);
+        match self.make(alloc, bytes) {
+            Ok(()) => Ok(()),
+            Err(Fault::Set(fault)) => Err(ReadFault::Set(fault)),
+            Err(Fault::Refused(refusal)) => Err(ReadFault::Line {
+                line: self.lines,
+                refusal,
+            }),
+        }
+    }
+
+    fn make(&mut self, alloc: Global, bytes: &[u8]) -> Result<(), Fault>
+        ensures made { Takes result (judge (standing self.old.draft) (self.old.rest.items ++ bytes.now)) (standing self.new.draft) }
+        ensures rest { OnOk result (self.new.rest.items ≡ []) }
+        ensures lines { self.new.lines ≡ self.old.lines }
+        ensures stopped { self.new.stopped ≡ self.old.stopped }
+    {
+        if self.rest.is_empty() {
+            return self.draft.take_line(alloc, bytes);
+        }
+        self.rest.extend_from_slice(bytes)?;
+        self.draft.take_line(alloc, &self.rest)?;
+        self.rest.clear();
+        Ok(())
+    }
+
+    /// What is wrong with the text as a whole.
+    fn end(&self) -> Result<(), ReadFault>
+        ensures { result ≡ end_of (progress self.now) }
+    {
+        self.answer()?;
+        if !self.draft.is_ended() || !self.rest.is_empty() {
+            return Err(ReadFault::Unfinished {
+                line: self.lines.saturating_add(1),
+            });
+        }
+        Ok(())
+    }
+
+    /// What the log tells, where the last file has ended.
+    pub fn finish(self) -> Result<Log, ReadFault>
+        ensures { Seen log_seen result ≡ closing (progress self) }
+    {
+        match self.end() {
+            Ok(()) => Ok(self.draft.into_log()),
+            Err(fault) => Err(fault),
+        }
+    }
+}
+
+fn read(alloc: Global, text: &[u8]) -> Result<Log, ReadFault>
+    ensures { Ends (Seen log_seen result) (closing (eats start text.now)) }
+{
+    let mut reader = Reader::start(alloc);
+    match reader.feed(alloc, text) {
+        Ok(()) => reader.finish(),
+        Err(fault) => Err(fault),
+    }
+}
+
+/// What the text of a binary log tells, the text of its files one after another.
+pub fn read_log(alloc: Global, text: &[u8]) -> Result<Log, ReadFault>
+    // What the lines of the text mean, the entries spell.
+    ensures found { IfOk result (λ log. IsLog text.now log.entries.items log.varied.items) }
+    // Which line is the first that is refused, and what is wrong with it.
+    ensures refused { IfErr result (λ fault. Refuses fault text.now) }
+    // The same, by the fold over the bytes.
+    ensures exact { Ends (Seen log_seen result) (closing (eats start text.now)) }
+{
+    read(alloc, text)
+}

@@ -1,0 +1,5 @@
+pub mod QuotedLaws
+pub mod TokenLaws
+pub mod ValueLaws
+pub mod LinesFound
+pub mod LinesAgain

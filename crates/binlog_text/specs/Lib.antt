@@ -1,0 +1,7 @@
+pub mod Quoted
+pub mod Tokens
+pub mod Values
+pub mod Lines
+pub mod Reading
+pub mod Said
+pub mod Types

@@ -1,0 +1,194 @@
+-- The lines of mysqlbinlog's text, each by itself.
+use Rattle.std.specs.Prelude.{◌≡◌, ℕ, ◌^◌, ◌<◌, ◌==◌, ◌&&◌, ◌||◌, Bool, true, false, List, [], ◌∷◌, ◌++◌, length, Option, Some, None, is_some, codes, decimal, nat_eq}
+use Rattle.std.specs.List.{list_all, ends_with}
+use Rattle.std.specs.Char.{is_ascii_digit}
+use Rattle.std.specs.Str.{bytes_eq}
+use Rattle.journal_words.specs.Values.{is_lower_digit}
+use Rattle.binlog_text.specs.Tokens.{after, cut_at, lacks}
+use Rattle.binlog_text.specs.declared.lines.Operation.{Operation}
+use Rattle.binlog_text.specs.declared.lines.Operation.TheVariants as operations
+use Rattle.binlog_text.specs.declared.lines.Event.{Event}
+use Rattle.binlog_text.specs.declared.lines.Event.TheVariants as events
+use Rattle.binlog_text.specs.declared.lines.Mark.{Mark}
+use Rattle.binlog_text.specs.declared.lines.Mark.TheVariants as marks
+
+-- ---- what a line says
+
+pub record Column : Type 0 where
+  pub is_first : Bool
+  pub name : Option (List ℕ)
+  pub column_type : List ℕ
+  pub is_last : Bool
+
+pub data Said : Type 0 where
+  OfMark : Mark → Said
+  OfHead : Event → Said
+  OfTable : List ℕ → List ℕ → Said
+  OfColumn : Column → Said
+  OfGtid : List ℕ → Said
+  OfSources : List ℕ → Bool → Said
+  OfRow : Operation → List ℕ → List ℕ → Said
+  OfValue : ℕ → List ℕ → Said
+
+-- ---- parts of lines
+
+-- a name between backquotes that has none, and so is printed in one way
+abbrev pub IsName : List ℕ → Type 0
+IsName name = lacks 96 name ≡ true
+
+-- a table by its database's name and its own
+abbrev pub table_text : List ℕ → List ℕ → List ℕ
+table_text database table = 96 ∷ (database ++ 96 ∷ 46 ∷ 96 ∷ (table ++ 96 ∷ []))
+
+abbrev pub operation_text : Operation → List ℕ
+operation_text operations.Insert = codes "INSERT INTO "
+operation_text operations.Update = codes "UPDATE "
+operation_text operations.Delete = codes "DELETE FROM "
+
+-- what the head of an event tells behind its time and place, as far as its kind is told
+abbrev pub event_text : Event → List ℕ
+event_text events.Start = codes "Start: binlog v 4, "
+event_text events.PreviousGtids = codes "Previous-GTIDs"
+event_text events.Gtid = codes "GTID\t"
+event_text events.Query = codes "Query\t"
+event_text (events.Rows operations.Insert) = codes "Write_rows: table id "
+event_text (events.Rows operations.Update) = codes "Update_rows: table id "
+event_text (events.Rows operations.Delete) = codes "Delete_rows: table id "
+event_text events.Xid = codes "Xid = "
+event_text events.Payload = codes "Transaction_Payload\t"
+event_text events.Rotate = codes "Rotate to "
+event_text events.Stop = codes "Stop"
+
+abbrev pub begins_with_digit : List ℕ → Bool
+begins_with_digit [] = false
+begins_with_digit (b ∷ bs) = is_ascii_digit b
+
+-- the time, the server, the place and the checksum: up to the first tab
+pub record IsStamp (stamp : List ℕ) : Type 0 where
+  pub first : begins_with_digit stamp ≡ true
+  pub one : lacks 9 stamp ≡ true
+
+-- the first column stands behind the bracket, the others below it
+abbrev pub column_front : Bool → List ℕ
+column_front true = codes "Columns("
+column_front false = codes "        "
+
+abbrev pub column_end : Bool → ℕ
+column_end true = 41
+column_end false = 44
+
+abbrev pub named_text : Option (List ℕ) → List ℕ → List ℕ
+named_text None type = type
+named_text (Some name) type = 96 ∷ (name ++ 96 ∷ 32 ∷ type)
+
+abbrev pub IsNamed : Option (List ℕ) → List ℕ → Type 0
+IsNamed None type = after (96 ∷ []) type ≡ None
+IsNamed (Some name) type = IsName name
+
+-- the first eight digits of a UUID, and a minus
+abbrev pub is_source_front : Option (List ℕ × List ℕ) → Bool
+is_source_front None = false
+is_source_front (Some parts) = (length parts.0 == 8) && list_all is_lower_digit parts.0
+
+abbrev pub is_source : List ℕ → Bool
+is_source text = is_source_front (cut_at 45 text)
+
+abbrev pub comma : Bool → List ℕ
+comma true = 44 ∷ []
+comma false = []
+
+-- no comma stands at its end, unless one more does
+abbrev pub IsWhole : Bool → List ℕ → Type 0
+IsWhole true sources = Unit {0}
+IsWhole false sources = (front : List ℕ) → sources ≡ front ++ 44 ∷ [] → ⊥
+
+-- ---- lines that are known by their fronts and ends
+
+abbrev pub begins : List ℕ → List ℕ → Bool
+begins front text = is_some (after front text)
+
+-- behind `# `
+abbrev pub is_comment : List ℕ → Bool
+is_comment text =
+    begins (codes "original_commit_timestamp=") text
+    || (begins (codes "immediate_commit_timestamp=") text
+    || (begins (codes "has_generated_invisible_primary_key=") text
+    || (begins (codes "Primary Key(") text
+    || (begins (codes "Start of compressed events.") text
+    || (begins (codes "End of compressed events.") text
+    || (begins (codes "Warning: this binlog is either in use or was not closed properly.") text
+    || (begins (codes "The proper term is pseudo_replica_mode") text
+    || begins (codes "to make the statement usable on server versions") text)))))))
+
+-- the end of a line that mysqlbinlog writes for the session
+abbrev pub ends_setting : List ℕ → Bool
+ends_setting text = ends_with nat_eq text (codes "/*!*/;")
+
+abbrev pub begins_setting : List ℕ → Bool
+begins_setting text =
+    begins (codes "SET TIMESTAMP=") text
+    || (begins (codes "SET @@session.") text
+    || (begins (codes "/*!80001 SET @@session.") text
+    || (begins (codes "/*!80011 SET @@session.") text
+    || (begins (codes "/*!80013 SET @@session.") text
+    || (begins (codes "/*!80014 SET @@session.") text
+    || (begins (codes "/*!80016 SET @@session.") text
+    || (begins (codes "/*!50718 SET TRANSACTION ISOLATION LEVEL READ COMMITTED") text
+    || begins (codes "/*!\\C ") text)))))))
+
+abbrev pub named_then : List ℕ → Option (List ℕ × List ℕ) → Bool
+named_then rest None = false
+named_then rest (Some parts) = bytes_eq parts.1 rest
+
+-- a name up to the backquote behind it, and then this
+abbrev pub quotes_then : List ℕ → Option (List ℕ) → Bool
+quotes_then rest None = false
+quotes_then rest (Some text) = named_then rest (cut_at 96 text)
+
+abbrev pub is_setting : List ℕ → Bool
+is_setting text = (begins_setting text && ends_setting text) || quotes_then (codes "/*!*/;") (after (codes "use `") text)
+
+-- the return to a savepoint is none: it takes rows back that stand before it
+abbrev pub is_savepoint : List ℕ → Bool
+is_savepoint text = quotes_then [] (after (codes "SAVEPOINT `") text)
+
+abbrev pub is_frame : List ℕ → Bool
+is_frame text =
+    bytes_eq text (codes "DELIMITER /*!*/;")
+    || (bytes_eq text (codes "DELIMITER ;")
+    || (bytes_eq text (codes "ROLLBACK/*!*/;")
+    || (bytes_eq text (codes "/*!50530 SET @@SESSION.PSEUDO_SLAVE_MODE=1*/;")
+    || (bytes_eq text (codes "/*!50530 SET @@SESSION.PSEUDO_SLAVE_MODE=0*/;")
+    || (bytes_eq text (codes "/*!50003 SET @OLD_COMPLETION_TYPE=@@COMPLETION_TYPE,COMPLETION_TYPE=0*/;")
+    || bytes_eq text (codes "/*!50003 SET COMPLETION_TYPE=@OLD_COMPLETION_TYPE*/;"))))))
+
+-- ---- the grammar
+
+abbrev pub IsMark : Mark → List ℕ → Type 0
+IsMark marks.Place line = (rest : List ℕ) × (line ≡ codes "# at " ++ rest)
+IsMark marks.Where line = line ≡ codes "### WHERE"
+IsMark marks.Set line = line ≡ codes "### SET"
+IsMark marks.Begin line = line ≡ codes "BEGIN"
+IsMark marks.Commit line = line ≡ codes "COMMIT"
+IsMark marks.Ended line = line ≡ codes "/*!*/;"
+IsMark marks.Committed line = line ≡ codes "COMMIT/*!*/;"
+IsMark marks.Savepoint line = is_savepoint line ≡ true
+IsMark marks.Automatic line = line ≡ codes "SET @@SESSION.GTID_NEXT= 'AUTOMATIC' /* added by mysqlbinlog */ /*!*/;"
+IsMark marks.Empty line = line ≡ codes "# [empty]"
+IsMark marks.Closed line = line ≡ codes "# End of log file"
+IsMark marks.Comment line = (rest : List ℕ) × (line ≡ codes "# " ++ rest) × (is_comment rest ≡ true)
+IsMark marks.Setting line = is_setting line ≡ true
+IsMark marks.Frame line = is_frame line ≡ true
+
+-- the line says this
+abbrev pub IsLine : Said → List ℕ → Type 0
+IsLine (OfMark mark) line = IsMark mark line
+IsLine (OfHead event) line = (stamp : List ℕ) × (rest : List ℕ) × (line ≡ 35 ∷ (stamp ++ 9 ∷ (event_text event ++ rest))) × IsStamp stamp
+IsLine (OfTable database table) line =
+    (stamp : List ℕ) × (n : ℕ) × (line ≡ 35 ∷ (stamp ++ 9 ∷ (codes "Table_map: " ++ (table_text database table ++ (codes " mapped to number " ++ decimal n)))))
+    × IsStamp stamp × IsName database × IsName table × (n < 2 ^ 64)
+IsLine (OfColumn c) line = (line ≡ codes "# " ++ (column_front c.is_first ++ (named_text c.name c.column_type ++ column_end c.is_last ∷ []))) × IsNamed c.name c.column_type
+IsLine (OfGtid gtid) line = (line ≡ codes "SET @@SESSION.GTID_NEXT= '" ++ (gtid ++ codes "'/*!*/;")) × (lacks 39 gtid ≡ true)
+IsLine (OfSources sources more) line = (line ≡ codes "# " ++ (sources ++ comma more)) × (is_source sources ≡ true) × IsWhole more sources
+IsLine (OfRow operation database table) line = (line ≡ codes "### " ++ (operation_text operation ++ table_text database table)) × IsName database × IsName table
+IsLine (OfValue n text) line = (line ≡ codes "###   @" ++ (decimal n ++ 61 ∷ text)) × (n < 2 ^ 64)

@@ -1,0 +1,431 @@
+//! Lines out of bytes.
+ghost use Rattle.std.specs.Prelude.{◌≡◌, ℕ, List, Some, IfSome, option_map};
+ghost use Rattle.std.specs.List.{list_all};
+ghost use Rattle.journal_words.specs.Values.{is_lower_digit};
+ghost use Rattle.binlog_text.specs.Tokens.{last_cut};
+ghost use Rattle.binlog_text.specs.Lines.{Said, IsLine, is_comment, is_source, is_setting, is_savepoint, is_frame, begins_setting, quotes_then, event_text, begins_with_digit, begins};
+ghost use Rattle.binlog_text.specs.Reading.{table_at, row_at, assigned_at, row_line, is_last_at, name_at, column_at, sources, sources_in, comment_line, table_map_at, event_of, told_at, head_line, gtid_at, plain_line, line_of};
+ghost use Rattle.binlog_text.specs.Said.{said};
+
+use crate::lines::{Column, Event, Line, Mark, Operation};
+use crate::tokens::{after, cut_at};
+use journal_words::count;
+
+/// A table by the names of its database and its own, and what follows it.
+fn table(text: &[u8]) -> Option<(&[u8], &[u8], &[u8])>
+    ensures { option_map (λ r. (r.0.now, r.1.now, r.2.now)) result ≡ table_at text.now }
+{
+    let Some(rest) = after(text, b"`") else {
+        return None;
+    };
+    let Some((database, rest)) = cut_at(rest, b'`') else {
+        return None;
+    };
+    let Some(rest) = after(rest, b".`") else {
+        return None;
+    };
+    let Some((table, rest)) = cut_at(rest, b'`') else {
+        return None;
+    };
+    Some((database, table, rest))
+}
+
+fn row(operation: Operation, text: &[u8]) -> Option<Line<'_>>
+    ensures { option_map said result ≡ row_at operation text.now }
+{
+    let Some((database, table, rest)) = table(text) else {
+        return None;
+    };
+    if !rest.is_empty() {
+        return None;
+    }
+    Some(Line::Row(operation, database, table))
+}
+
+fn assigned(text: &[u8]) -> Option<Line<'_>>
+    ensures { option_map said result ≡ assigned_at text.now }
+{
+    let Some((column, value)) = cut_at(text, b'=') else {
+        return None;
+    };
+    let Some(column) = count(column) else {
+        return None;
+    };
+    Some(Line::Value(column, value))
+}
+
+/// The line behind `### `.
+fn row_line(text: &[u8]) -> Option<Line<'_>>
+    ensures { option_map said result ≡ row_line text.now }
+{
+    if let Some(rest) = after(text, b"  @") {
+        return assigned(rest);
+    }
+    if let Some(rest) = after(text, b"INSERT INTO ") {
+        return row(Operation::Insert, rest);
+    }
+    if let Some(rest) = after(text, b"UPDATE ") {
+        return row(Operation::Update, rest);
+    }
+    if let Some(rest) = after(text, b"DELETE FROM ") {
+        return row(Operation::Delete, rest);
+    }
+    if text == b"WHERE".as_slice() {
+        return Some(Line::Mark(Mark::Where));
+    }
+    if text == b"SET".as_slice() {
+        return Some(Line::Mark(Mark::Set));
+    }
+    None
+}
+
+fn is_last(byte: u8) -> Option<bool>
+    ensures { result ≡ is_last_at byte }
+{
+    match byte {
+        b')' => Some(true),
+        b',' => Some(false),
+        _ => None,
+    }
+}
+
+/// The last byte, and what stands before it.
+fn last_cut(text: &[u8]) -> Option<(&[u8], u8)>
+    ensures { option_map (λ r. (r.0.now, r.1)) result ≡ last_cut text.now }
+{
+    match text.split_last() {
+        Some((last, front)) => Some((front, *last)),
+        None => None,
+    }
+}
+
+/// A name up to its backquote, and the type behind it.
+fn name(text: &[u8]) -> Option<(&[u8], &[u8])>
+    ensures { option_map (λ r. (r.0.now, r.1.now)) result ≡ name_at text.now }
+{
+    let Some((name, rest)) = cut_at(text, b'`') else {
+        return None;
+    };
+    let Some(rest) = after(rest, b" ") else {
+        return None;
+    };
+    Some((name, rest))
+}
+
+fn column(is_first: bool, text: &[u8]) -> Option<Line<'_>>
+    ensures { option_map said result ≡ column_at is_first text.now }
+{
+    let Some((front, end)) = last_cut(text) else {
+        return None;
+    };
+    let Some(is_last) = is_last(end) else {
+        return None;
+    };
+    let Some(rest) = after(front, b"`") else {
+        return Some(Line::Column(Column {
+            is_first,
+            name: None,
+            column_type: front,
+            is_last,
+        }));
+    };
+    let Some((name, column_type)) = name(rest) else {
+        return None;
+    };
+    Some(Line::Column(Column {
+        is_first,
+        name: Some(name),
+        column_type,
+        is_last,
+    }))
+}
+
+fn are_lower_digits(text: &[u8]) -> bool
+    ensures { result ≡ list_all is_lower_digit text.now }
+{
+    text.iter().all(|b| (b'0' <= *b && *b <= b'9') || (b'a' <= *b && *b <= b'f'))
+}
+
+fn is_source(text: &[u8]) -> bool
+    ensures { result ≡ is_source text.now }
+{
+    match cut_at(text, b'-') {
+        Some((digits, _)) => digits.len() == 8 && are_lower_digits(digits),
+        None => false,
+    }
+}
+
+fn sources(text: &[u8], more: bool) -> Option<Line<'_>>
+    ensures { option_map said result ≡ sources text.now more }
+{
+    if is_source(text) {
+        Some(Line::Sources(text, more))
+    } else {
+        None
+    }
+}
+
+fn sources_in(text: &[u8]) -> Option<Line<'_>>
+    ensures { option_map said result ≡ sources_in text.now (last_cut text.now) }
+{
+    match last_cut(text) {
+        Some((front, b',')) => sources(front, true),
+        Some(_) => sources(text, false),
+        None => None,
+    }
+}
+
+pub fn begins(text: &[u8], front: &[u8]) -> bool
+    ensures { result ≡ begins front.now text.now }
+{
+    after(text, front).is_some()
+}
+
+fn is_comment(text: &[u8]) -> bool
+    ensures { result ≡ is_comment text.now }
+{
+    begins(text, b"original_commit_timestamp=")
+        || begins(text, b"immediate_commit_timestamp=")
+        || begins(text, b"has_generated_invisible_primary_key=")
+        || begins(text, b"Primary Key(")
+        || begins(text, b"Start of compressed events.")
+        || begins(text, b"End of compressed events.")
+        || begins(
+            text,
+            b"Warning: this binlog is either in use or was not closed properly.",
+        )
+        || begins(text, b"The proper term is pseudo_replica_mode")
+        || begins(text, b"to make the statement usable on server versions")
+}
+
+/// The line behind `# `.
+fn comment_line(text: &[u8]) -> Option<Line<'_>>
+    ensures { option_map said result ≡ comment_line text.now }
+{
+    if begins(text, b"at ") {
+        return Some(Line::Mark(Mark::Place));
+    }
+    if let Some(rest) = after(text, b"Columns(") {
+        return column(true, rest);
+    }
+    if let Some(rest) = after(text, b"        ") {
+        return column(false, rest);
+    }
+    if is_comment(text) {
+        return Some(Line::Mark(Mark::Comment));
+    }
+    if text == b"[empty]".as_slice() {
+        return Some(Line::Mark(Mark::Empty));
+    }
+    if text == b"End of log file".as_slice() {
+        return Some(Line::Mark(Mark::Closed));
+    }
+    sources_in(text)
+}
+
+fn table_map(text: &[u8]) -> Option<Line<'_>>
+    ensures { option_map said result ≡ table_map_at text.now }
+{
+    let Some((database, table, rest)) = table(text) else {
+        return None;
+    };
+    let Some(digits) = after(rest, b" mapped to number ") else {
+        return None;
+    };
+    if count(digits).is_none() {
+        return None;
+    }
+    Some(Line::TableMap(database, table))
+}
+
+/// The kind of an event, by what its head tells.
+fn event(text: &[u8]) -> Option<Event>
+    ensures { result ≡ event_of text.now }
+{
+    if begins(text, b"Query\t") {
+        Some(Event::Query)
+    } else if begins(text, b"GTID\t") {
+        Some(Event::Gtid)
+    } else if begins(text, b"Write_rows: table id ") {
+        Some(Event::Rows(Operation::Insert))
+    } else if begins(text, b"Update_rows: table id ") {
+        Some(Event::Rows(Operation::Update))
+    } else if begins(text, b"Delete_rows: table id ") {
+        Some(Event::Rows(Operation::Delete))
+    } else if begins(text, b"Xid = ") {
+        Some(Event::Xid)
+    } else if begins(text, b"Transaction_Payload\t") {
+        Some(Event::Payload)
+    } else if begins(text, b"Previous-GTIDs") {
+        Some(Event::PreviousGtids)
+    } else if begins(text, b"Start: binlog v 4, ") {
+        Some(Event::Start)
+    } else if begins(text, b"Rotate to ") {
+        Some(Event::Rotate)
+    } else if begins(text, b"Stop") {
+        Some(Event::Stop)
+    } else {
+        None
+    }
+}
+
+fn told(text: &[u8]) -> Option<Line<'_>>
+    ensures { option_map said result ≡ told_at text.now }
+{
+    if let Some(rest) = after(text, b"Table_map: ") {
+        return table_map(rest);
+    }
+    match event(text) {
+        Some(event) => Some(Line::Head(event)),
+        None => None,
+    }
+}
+
+fn begins_with_digit(text: &[u8]) -> bool
+    ensures { result ≡ begins_with_digit text.now }
+{
+    match text {
+        [first, ..] => first.is_ascii_digit(),
+        [] => false,
+    }
+}
+
+/// The head of an event, behind `#`.
+fn head_line(text: &[u8]) -> Option<Line<'_>>
+    ensures { option_map said result ≡ head_line text.now }
+{
+    let Some((stamp, rest)) = cut_at(text, b'\t') else {
+        return None;
+    };
+    if !begins_with_digit(stamp) {
+        return None;
+    }
+    told(rest)
+}
+
+fn quotes_then(text: Option<&[u8]>, rest: &[u8]) -> bool
+    ensures { result ≡ quotes_then rest.now (option_map (λ t. t.now) text.entry) }
+{
+    let Some(text) = text else {
+        return false;
+    };
+    match cut_at(text, b'`') {
+        Some((_, behind)) => behind == rest,
+        None => false,
+    }
+}
+
+fn begins_setting(text: &[u8]) -> bool
+    ensures { result ≡ begins_setting text.now }
+{
+    begins(text, b"SET TIMESTAMP=")
+        || begins(text, b"SET @@session.")
+        || begins(text, b"/*!80001 SET @@session.")
+        || begins(text, b"/*!80011 SET @@session.")
+        || begins(text, b"/*!80013 SET @@session.")
+        || begins(text, b"/*!80014 SET @@session.")
+        || begins(text, b"/*!80016 SET @@session.")
+        || begins(
+            text,
+            b"/*!50718 SET TRANSACTION ISOLATION LEVEL READ COMMITTED",
+        )
+        || begins(text, b"/*!\\C ")
+}
+
+fn is_setting(text: &[u8]) -> bool
+    ensures { result ≡ is_setting text.now }
+{
+    (begins_setting(text) && text.ends_with(b"/*!*/;"))
+        || quotes_then(after(text, b"use `"), b"/*!*/;")
+}
+
+fn is_savepoint(text: &[u8]) -> bool
+    ensures { result ≡ is_savepoint text.now }
+{
+    quotes_then(after(text, b"SAVEPOINT `"), b"")
+}
+
+fn is_frame(text: &[u8]) -> bool
+    ensures { result ≡ is_frame text.now }
+{
+    text == b"DELIMITER /*!*/;".as_slice()
+        || text == b"DELIMITER ;".as_slice()
+        || text == b"ROLLBACK/*!*/;".as_slice()
+        || text == b"/*!50530 SET @@SESSION.PSEUDO_SLAVE_MODE=1*/;".as_slice()
+        || text == b"/*!50530 SET @@SESSION.PSEUDO_SLAVE_MODE=0*/;".as_slice()
+        || text
+            == b"/*!50003 SET @OLD_COMPLETION_TYPE=@@COMPLETION_TYPE,COMPLETION_TYPE=0*/;".as_slice()
+        || text == b"/*!50003 SET COMPLETION_TYPE=@OLD_COMPLETION_TYPE*/;".as_slice()
+}
+
+fn gtid(text: &[u8]) -> Option<Line<'_>>
+    ensures { option_map said result ≡ gtid_at text.now }
+{
+    let Some((gtid, rest)) = cut_at(text, b'\'') else {
+        return None;
+    };
+    if rest == b"/*!*/;".as_slice() {
+        return Some(Line::Gtid(gtid));
+    }
+    if gtid == b"AUTOMATIC".as_slice() && rest == b" /* added by mysqlbinlog */ /*!*/;".as_slice() {
+        return Some(Line::Mark(Mark::Automatic));
+    }
+    None
+}
+
+/// A line that no `#` begins.
+fn plain_line(text: &[u8]) -> Option<Line<'_>>
+    ensures { option_map said result ≡ plain_line text.now }
+{
+    if let Some(rest) = after(text, b"SET @@SESSION.GTID_NEXT= '") {
+        return gtid(rest);
+    }
+    if text == b"BEGIN".as_slice() {
+        return Some(Line::Mark(Mark::Begin));
+    }
+    if text == b"COMMIT".as_slice() {
+        return Some(Line::Mark(Mark::Commit));
+    }
+    if text == b"/*!*/;".as_slice() {
+        return Some(Line::Mark(Mark::Ended));
+    }
+    if text == b"COMMIT/*!*/;".as_slice() {
+        return Some(Line::Mark(Mark::Committed));
+    }
+    if is_setting(text) {
+        return Some(Line::Mark(Mark::Setting));
+    }
+    if is_savepoint(text) {
+        return Some(Line::Mark(Mark::Savepoint));
+    }
+    if is_frame(text) {
+        return Some(Line::Mark(Mark::Frame));
+    }
+    None
+}
+
+fn line_of(text: &[u8]) -> Option<Line<'_>>
+    ensures { option_map said result ≡ line_of text.now }
+{
+    if let Some(rest) = after(text, b"### ") {
+        return row_line(rest);
+    }
+    if let Some(rest) = after(text, b"# ") {
+        return comment_line(rest);
+    }
+    if let Some(rest) = after(text, b"#") {
+        return head_line(rest);
+    }
+    plain_line(text)
+}
+
+/// What a line says. A line that is none of mysqlbinlog's, or of which nothing is known, says nothing.
+pub fn read_line(text: &[u8]) -> Option<Line<'_>>
+    ensures exact { option_map said result ≡ line_of text.now }
+    // What is read is what the line says.
+    ensures found { IfSome result (λ l. IsLine (said l) text.now) }
+    // What a line says is read.
+    ensures only { (l : Said) → IsLine l text.now → option_map said result ≡ Some l }
+{
+    line_of(text)
+}

@@ -1,0 +1,388 @@
+//! Merged spans in a pool, by source and number.
+ghost use Rattle.std.specs.Prelude.{◌≡◌, ◌≤◌, ◌+◌, ◌++◌, ◌||◌, [], true, false, length, IfOk, IfErr, OnOk, OnErr, IfSome, IfNone, IsOkUnless};
+ghost use Rattle.std.specs.FinSet as set;
+ghost use Rattle.gtid_set.specs.declared.fault.SetFault.TheVariants.{Memory};
+ghost use Rattle.gtid_set.specs.Sets.{interval, most_sources, source_count};
+ghost use Rattle.gtid_set.specs.Spans.{set_of, is_merged, has};
+ghost use Rattle.gtid_set.specs.Sweep.{IsListOf, HasSpan, all_before, within};
+ghost use Rattle.gtid_set.specs.Full.{IsFullExactly, IsKept, most_intervals};
+ghost use Rattle.gtid_set.specs.Kept.{IsKeptIn, IsSourceOf, IsSourcePlace, IsListFault, Lists, HasSameLists, Grown, IsRun, Stays, spans_as, are_others, listed, flat, interval_of};
+
+use crate::cursor::Cursor;
+use crate::fault::SetFault;
+use crate::sources::{Source, find, place_of};
+use gtid_text::{Gtid, SourceId, Span};
+use interval_pool::{Interval, ListId, Pool};
+use std::alloc::{AllocError, Global};
+use std::marker::Model;
+
+/// The most sources that a set may have. Our own rule.
+pub const MOST_SOURCES: usize = 65_536;
+
+/// How many intervals are written at once. Our own rule.
+const MOST_AT_ONCE: usize = 256;
+
+/// Merged spans in a pool, in one list for each source.
+#[derive(Drop)]
+pub struct Kept {
+    pool: Pool,
+    // the sources as they came
+    sources: Vec<Source>,
+    // their places, by source
+    order: Vec<u16>,
+    // the place in the order that was last added to: a guess
+    near: usize,
+}
+
+impl Model for Kept {
+    ghost use Rattle.std.specs.Prelude.{List};
+    ghost use Rattle.gtid_text.specs.declared.Span.{Span};
+    ghost use Rattle.gtid_set.specs.Kept.{flat, IsKeptIn};
+
+    ghost Value = { List Span };
+
+    ghost view = { λ k. flat k.pool k.sources.items k.order.items };
+
+    ghost invariant = { λ k. IsKeptIn k.pool k.sources.items k.order.items };
+}
+
+/// The numbers of a span.
+fn numbers(span: &Span) -> Interval
+    ensures { result ≡ interval_of span.now }
+{
+    Interval {
+        lo: span.lo,
+        hi: span.hi,
+    }
+}
+
+/// Adds the numbers of a span to the list of its source.
+fn add_to(
+    pool: &mut Pool,
+    sources: &[Source],
+    order: &[u16],
+    source: Source,
+    span: &Span,
+) -> Result<(), SetFault>
+    requires kept { IsKeptIn pool.old sources.now order.now }
+    requires source { IsSourceOf (listed sources.now order.now) source span.now.source }
+    requires filled { span.now.lo ≤ span.now.hi }
+    ensures ok { OnOk result (Grown pool.old sources.now order.now span.now pool.new sources.now order.now) }
+    ensures err { OnErr result (pool.new ≡ pool.old) }
+    ensures full { IsFullExactly result (set.union (set_of (flat pool.old sources.now order.now)) (interval span.now.source span.now.lo span.now.hi)) }
+{
+    pool.partition();
+    match pool.add(source.list, numbers(span)) {
+        Ok(()) => {
+            pool.partition();
+            Ok(())
+        }
+        Err(fault) => Err(SetFault::from(fault)),
+    }
+}
+
+/// Puts the numbers of a span behind those of its source.
+fn append_to(
+    pool: &mut Pool,
+    sources: &[Source],
+    order: &[u16],
+    source: Source,
+    span: &Span,
+) -> Result<(), SetFault>
+    requires kept { IsKeptIn pool.old sources.now order.now }
+    requires source { IsSourceOf (listed sources.now order.now) source span.now.source }
+    requires filled { span.now.lo ≤ span.now.hi }
+    requires before { all_before (flat pool.old sources.now order.now) span.now ≡ true }
+    ensures ok { OnOk result (Grown pool.old sources.now order.now span.now pool.new sources.now order.now) }
+    ensures full { IsFullExactly result (set.union (set_of (flat pool.old sources.now order.now)) (interval span.now.source span.now.lo span.now.hi)) }
+{
+    pool.partition();
+    match pool.append(source.list, numbers(span)) {
+        Ok(()) => {
+            pool.partition();
+            Ok(())
+        }
+        Err(fault) => Err(SetFault::from(fault)),
+    }
+}
+
+/// A list of these numbers. An error leaves the others as they were.
+fn open_list(pool: &mut Pool, numbers: Interval) -> Result<ListId, SetFault>
+    requires { numbers.lo ≤ numbers.hi }
+    ensures ok { IfOk result (λ l. Lists pool.old l numbers pool.new) }
+    ensures err { OnErr result (HasSameLists pool.old pool.new) }
+    ensures full { IfErr result (λ f. IsListFault f pool.old) }
+{
+    let list = match pool.new_list() {
+        Ok(list) => list,
+        Err(fault) => return Err(SetFault::from(fault)),
+    };
+    match pool.add(list, numbers) {
+        Ok(()) => Ok(list),
+        Err(fault) => {
+            pool.release(list);
+            Err(SetFault::from(fault))
+        }
+    }
+}
+
+/// Adds a span of a source that has none, whose place this is. An error leaves the others as they were.
+fn insert(
+    pool: &mut Pool,
+    sources: &mut Vec<Source>,
+    order: &mut Vec<u16>,
+    at: usize,
+    span: &Span,
+) -> Result<(), SetFault>
+    requires kept { IsKeptIn pool.old sources.old.items order.old.items }
+    requires place { IsSourcePlace (listed sources.old.items order.old.items) span.now.source at }
+    requires new { are_others span.now.source (listed sources.old.items order.old.items) ≡ true }
+    requires filled { span.now.lo ≤ span.now.hi }
+    ensures ok { OnOk result (Grown pool.old sources.old.items order.old.items span.now pool.new sources.new.items order.new.items) }
+    ensures err { OnErr result (Stays pool.old sources.old.items order.old.items pool.new sources.new.items order.new.items) }
+    ensures full { IsFullExactly result (set.union (set_of (flat pool.old sources.old.items order.old.items)) (interval span.now.source span.now.lo span.now.hi)) }
+{
+    let count = sources.as_slice().len();
+    if count == MOST_SOURCES {
+        return Err(SetFault::SourcesFull);
+    }
+    let Ok(()) = sources.reserve(1) else {
+        return Err(SetFault::Memory);
+    };
+    let Ok(()) = order.reserve(1) else {
+        return Err(SetFault::Memory);
+    };
+    match open_list(pool, numbers(span)) {
+        Ok(list) => {
+            let id = span.source;
+            sources.push_reserved(Source { id, list });
+            let _ = order.insert(at, count as u16);
+            pool.partition();
+            Ok(())
+        }
+        Err(fault) => Err(fault),
+    }
+}
+
+/// Puts a span behind the others.
+fn push(
+    pool: &mut Pool,
+    sources: &mut Vec<Source>,
+    order: &mut Vec<u16>,
+    span: &Span,
+) -> Result<(), SetFault>
+    requires kept { IsKeptIn pool.old sources.old.items order.old.items }
+    requires filled { span.now.lo ≤ span.now.hi }
+    requires before { all_before (flat pool.old sources.old.items order.old.items) span.now ≡ true }
+    ensures ok { OnOk result (Grown pool.old sources.old.items order.old.items span.now pool.new sources.new.items order.new.items) }
+    ensures full { IsFullExactly result (set.union (set_of (flat pool.old sources.old.items order.old.items)) (interval span.now.source span.now.lo span.now.hi)) }
+{
+    let end = order.as_slice().len();
+    match find(sources, order, end.saturating_sub(1), span.source) {
+        Some(source) => append_to(pool, sources, order, source, span),
+        None => insert(pool, sources, order, end, span),
+    }
+}
+
+/// The intervals of the first spans, as far as they are of a source and not too many, and the spans behind them.
+fn run_of<'a>(
+    run: &mut Vec<Interval>,
+    id: SourceId,
+    spans: &'a [Span],
+) -> Result<&'a [Span], AllocError>
+    ensures parts { IfOk result (λ rest. spans_as id run.new.items ++ rest.now ≡ spans.now) }
+    ensures shorter { IfOk result (λ rest. length rest.now ≤ length spans.now) }
+{
+    run.clear();
+    let mut rest = spans;
+    while let Some((span, more)) = rest.split_first() {
+        if span.source != id || run.as_slice().len() == MOST_AT_ONCE {
+            return Ok(rest);
+        }
+        run.push(numbers(span))?;
+        rest = more;
+    }
+    Ok(rest)
+}
+
+/// Puts a source's intervals behind all spans.
+fn extend_to(
+    pool: &mut Pool,
+    sources: &[Source],
+    order: &[u16],
+    source: Source,
+    run: &[Interval],
+) -> Result<(), SetFault>
+    requires kept { IsKeptIn pool.old sources.now order.now }
+    requires source { IsSourceOf (listed sources.now order.now) source source.id }
+    requires merged { is_merged (flat pool.old sources.now order.now ++ spans_as source.id run.now) ≡ true }
+    requires small { length (flat pool.old sources.now order.now) + length run.now ≤ most_intervals }
+    ensures ok { OnOk result (IsRun pool.old sources.now order.now source.id run.now pool.new) }
+    ensures fault { IsOkUnless result Memory }
+{
+    pool.partition();
+    match pool.extend(source.list, run) {
+        Ok(()) => {
+            pool.partition();
+            Ok(())
+        }
+        Err(fault) => Err(SetFault::from(fault)),
+    }
+}
+
+/// Puts the first spans behind all others, as far as they are of a source that is there and not too many at once, and answers those behind them.
+fn write_run<'a>(
+    pool: &mut Pool,
+    sources: &[Source],
+    order: &[u16],
+    source: Source,
+    run: &mut Vec<Interval>,
+    spans: &'a [Span],
+) -> Result<&'a [Span], SetFault>
+    requires kept { IsKeptIn pool.old sources.now order.now }
+    requires source { IsSourceOf (listed sources.now order.now) source source.id }
+    requires merged { is_merged (flat pool.old sources.now order.now ++ spans.now) ≡ true }
+    requires small { length (flat pool.old sources.now order.now) + length spans.now ≤ most_intervals }
+    ensures kept { OnOk result (IsKeptIn pool.new sources.now order.now) }
+    ensures parts { IfOk result (λ rest. flat pool.new sources.now order.now ++ rest.now ≡ flat pool.old sources.now order.now ++ spans.now) }
+    ensures shorter { IfOk result (λ rest. length rest.now ≤ length spans.now) }
+    ensures fault { IsOkUnless result Memory }
+{
+    let Ok(rest) = run_of(run, source.id, spans) else {
+        return Err(SetFault::Memory);
+    };
+    match extend_to(pool, sources, order, source, run) {
+        Ok(()) => Ok(rest),
+        Err(fault) => Err(fault),
+    }
+}
+
+impl Kept {
+    /// No spans. Takes no memory.
+    pub fn open(alloc: Global) -> Kept
+        ensures { result ≡ [] }
+    {
+        Kept {
+            pool: Pool::open(alloc),
+            sources: Vec::new(alloc),
+            order: Vec::new(alloc),
+            near: 0,
+        }
+    }
+
+    /// The spans from the first on.
+    pub fn cursor(&self) -> Cursor<'_>
+        ensures { result ≡ self.now }
+    {
+        Cursor::over(&self.pool, &self.sources, &self.order)
+    }
+
+    /// A law, which does nothing: spans are merged, and neither they nor their sources are too many.
+    pub fn is_kept(&self)
+        ensures { IsKept self.now }
+    {
+        let _ = &self.pool;
+    }
+
+    /// How many sources the spans have.
+    pub fn sources(&self) -> usize
+        ensures { result ≡ source_count (set_of self.now) }
+    {
+        self.order.len()
+    }
+
+    /// The span that has a GTID, if there is one.
+    pub fn span_with(&self, gtid: &Gtid) -> Option<Span>
+        ensures none { IfNone result (has self.now gtid.now ≡ false) }
+        ensures some { IfSome result (HasSpan self.now gtid.now) }
+    {
+        let at = place_of(&self.sources, &self.order, gtid.source, self.near);
+        let Some(source) = find(&self.sources, &self.order, at, gtid.source) else {
+            return None;
+        };
+        self.pool.partition();
+        let Some(Interval { lo, hi }) = self.pool.interval_with(source.list, gtid.number) else {
+            return None;
+        };
+        Some(Span {
+            source: gtid.source,
+            lo,
+            hi,
+        })
+    }
+
+    /// Joins a span to the others. An error leaves them as they were.
+    pub fn add(&mut self, span: Span) -> Result<(), SetFault>
+        requires filled { span.lo ≤ span.hi }
+        ensures ok { OnOk result (IsListOf (λ q. within span q || has self.old q) self.new) }
+        ensures err { OnErr result (self.new ≡ self.old) }
+        ensures full { IsFullExactly result (set.union (set_of self.old) (interval span.source span.lo span.hi)) }
+    {
+        let at = place_of(&self.sources, &self.order, span.source, self.near);
+        match find(&self.sources, &self.order, at, span.source) {
+            Some(source) => add_to(&mut self.pool, &self.sources, &self.order, source, &span)?,
+            None => insert(
+                &mut self.pool,
+                &mut self.sources,
+                &mut self.order,
+                at,
+                &span,
+            )?,
+        }
+        self.near = at;
+        Ok(())
+    }
+
+    /// Merged spans, of not too many sources, and not too many.
+    pub fn of(alloc: Global, spans: &[Span]) -> Result<Kept, SetFault>
+        requires merged { is_merged spans.now ≡ true }
+        requires fits { source_count (set_of spans.now) ≤ most_sources }
+        requires small { length spans.now ≤ most_intervals }
+        ensures ok { IfOk result (λ k. k ≡ spans.now) }
+        ensures fault { IsOkUnless result Memory }
+    {
+        let mut pool = Pool::open(alloc);
+        let mut sources = Vec::new(alloc);
+        let mut order = Vec::new(alloc);
+        let mut run = Vec::new(alloc);
+        let mut rest = spans;
+        pool.reserve(spans.len())?;
+        while let Some((span, more)) = rest.split_first() {
+            match push(&mut pool, &mut sources, &mut order, span) {
+                Ok(()) => rest = more,
+                Err(fault) => return Err(fault),
+            }
+            let last = order.as_slice().len().saturating_sub(1);
+            let Some(source) = find(&sources, &order, last, span.source) else {
+                continue;
+            };
+            match write_run(&mut pool, &sources, &order, source, &mut run, rest) {
+                Ok(behind) => rest = behind,
+                Err(fault) => return Err(fault),
+            }
+        }
+        Ok(Kept {
+            pool,
+            sources,
+            order,
+            near: 0,
+        })
+    }
+
+    /// The same spans.
+    pub fn copy(&self, alloc: Global) -> Result<Kept, SetFault>
+        ensures ok { IfOk result (λ k. k ≡ self.now) }
+        ensures fault { IsOkUnless result Memory }
+    {
+        let pool = self.pool.copy(alloc)?;
+        let sources = Vec::from_slice(alloc, &self.sources)?;
+        let order = Vec::from_slice(alloc, &self.order)?;
+        let near = self.near;
+        Ok(Kept {
+            pool,
+            sources,
+            order,
+            near,
+        })
+    }
+}

@@ -1,0 +1,62 @@
+//! Rows in order.
+ghost use Rattle.std.specs.Prelude.{◌≡◌, IsPermutation, IsSortedByKey, OnOk, IfOk};
+ghost use Rattle.std.specs.FinMap as map;
+ghost use Rattle.rows.specs.Listing.{key_shown, all_shown, primary_entries, rows_of, rows_listed};
+ghost use Rattle.rows.specs.Order.{key_cmp};
+
+use crate::change::{Key, TableRow};
+use crate::value::Row;
+use indexmap::IndexMap;
+use std::alloc::{AllocError, Global};
+
+/// What stands under primary keys.
+fn primaries<'a>(
+    alloc: Global,
+    carriers: &'a IndexMap<Key, Row>,
+) -> Result<Vec<(&'a Key, &'a Row)>, AllocError>
+    ensures { IfOk result (λ list. all_shown list.items ≡ primary_entries carriers.now.entries) }
+{
+    let mut list = Vec::new(alloc);
+    for (key, row) in carriers.iter() {
+        if key.index == 0 {
+            list.push((key, row))?;
+        }
+    }
+    Ok(list)
+}
+
+/// Puts rows in the order of their keys.
+fn sort_by_keys(list: &mut Vec<(&Key, &Row)>) -> Result<(), AllocError>
+    ensures same { IsPermutation list.old.items list.new.items }
+    ensures sorted { OnOk result (IsSortedByKey key_shown key_cmp list.new.items) }
+{
+    list.sort_by_key(|entry| entry.0)?;
+    Ok(())
+}
+
+/// These rows with their tables.
+fn listed(alloc: Global, list: &[(&Key, &Row)]) -> Result<Vec<TableRow>, AllocError>
+    ensures { IfOk result (λ rows. rows.items ≡ rows_of (all_shown list.now)) }
+{
+    let mut rows = Vec::with_capacity(alloc, list.len())?;
+    for (key, row) in list {
+        let table = key.table.clone()?;
+        let row = row.copied()?;
+        rows.push(TableRow { table, row })?;
+    }
+    Ok(rows)
+}
+
+/// The rows under primary keys, by table name, and then by the values of the key.
+pub(crate) fn list_primary(
+    alloc: Global,
+    carriers: &IndexMap<Key, Row>,
+) -> Result<Vec<TableRow>, AllocError>
+    ensures { IfOk result (λ list. list.items ≡ rows_listed (map.from_entries carriers.now.entries)) }
+{
+    // `len` is called for its clause that no key stands twice, which the proof cites.
+    let _len = carriers.len();
+    let mut list = primaries(alloc, carriers)?;
+    sort_by_keys(&mut list)?;
+    listed(alloc, &list)
+}

@@ -1,0 +1,340 @@
+//! Changes are made in place, with a way back that takes no memory.
+ghost use Rattle.std.specs.Prelude.{◌≡◌, ◌≤◌, ◌<◌, ◌+◌, ◌++◌, ◌∷◌, [], length, Ok, OnOk, IfOk};
+ghost use Rattle.std.specs.Bool.{Decides};
+ghost use Rattle.std.specs.FinMap as map;
+ghost use Rattle.std.specs.Vec.{vec_capacity};
+ghost use Rattle.indexmap.specs.IndexMap.{spare};
+ghost use Rattle.rows.specs.Apply.{with_row, without_keys, inserted, deleted, apply_change, apply_from};
+ghost use Rattle.rows.specs.Keys.{keys_carried};
+ghost use Rattle.rows.specs.Making.{put_back, updated};
+ghost use Rattle.rows.specs.Order.{key_cmp};
+ghost use Rattle.rows.specs.Patch.{put};
+ghost use Rattle.rows.specs.Refusal.{Refuses};
+
+use crate::change::{Change, Key, PrepareFault, RowFault};
+use crate::keys::carried;
+use crate::name::Name;
+use crate::patch::Seen;
+use crate::schema::Schema;
+use crate::standing::{holds, taken};
+use crate::value::Row;
+use indexmap::IndexMap;
+use std::alloc::{AllocError, Global};
+use std::marker::Model;
+
+/// Rows that are being changed, with what was written over.
+#[derive(Drop)]
+pub(crate) struct Making {
+    carriers: IndexMap<Key, Row>,
+    /// Each key that was written, in order, with what stood there.
+    log: Vec<Seen>,
+}
+
+impl Model for Making {
+    ghost use Rattle.std.specs.Prelude.{◌≤◌, length};
+    ghost use Rattle.std.specs.FinMap as map;
+    ghost use Rattle.indexmap.specs.IndexMap.{spare};
+    ghost use Rattle.rows.specs.Making.{Course, course_code, put_back};
+
+    ghost Value = { Course };
+
+    ghost coded = { course_code };
+
+    ghost view = { λ a. record { made = map.from_entries a.carriers.entries; before = put_back a.log.items (map.from_entries a.carriers.entries) } };
+
+    // Putting all back takes no memory.
+    ghost invariant = { λ a. length a.log.items ≤ spare a.carriers };
+}
+
+/// Room for one more write, and for what puts it back.
+fn make_room(carriers: &mut IndexMap<Key, Row>, log: &mut Vec<Seen>) -> Result<(), AllocError>
+    ensures entries { carriers.new.entries ≡ carriers.old.entries }
+    ensures log { log.new.items ≡ log.old.items }
+    ensures spare { spare carriers.old ≤ spare carriers.new }
+    ensures write { OnOk result (length log.new.items + 2 ≤ spare carriers.new) }
+    ensures note { OnOk result (length log.new.items < vec_capacity log.new) }
+{
+    log.reserve(1)?;
+    carriers.reserve(log.as_slice().len() + 2)
+}
+
+/// Puts a row under a key. What stood there is given back.
+fn put_in_room(carriers: &mut IndexMap<Key, Row>, key: Key, row: Row) -> Option<Row>
+    requires { 0 < spare carriers.old }
+    ensures rows { map.from_entries {R = key_cmp} carriers.new.entries ≡ map.insert (map.from_entries carriers.old.entries) key row }
+    ensures over { result ≡ map.get (map.from_entries {R = key_cmp} carriers.old.entries) key }
+    ensures spare { spare carriers.old ≤ spare carriers.new + 1 }
+{
+    let Ok(over) = carriers.insert(key, row) else {
+        unreachable!()
+    };
+    over
+}
+
+/// Takes away what stands under a key, and gives it back.
+fn take_out(carriers: &mut IndexMap<Key, Row>, key: &Key) -> Option<Row>
+    ensures rows { map.from_entries {R = key_cmp} carriers.new.entries ≡ map.remove (map.from_entries carriers.old.entries) key.now }
+    ensures over { result ≡ map.get (map.from_entries {R = key_cmp} carriers.old.entries) key.now }
+    ensures spare { spare carriers.old ≤ spare carriers.new }
+{
+    carriers.swap_remove(key)
+}
+
+/// Puts back what stood under a key.
+fn restore(carriers: &mut IndexMap<Key, Row>, seen: Seen)
+    requires { 0 < spare carriers.old }
+    ensures rows { map.from_entries {R = key_cmp} carriers.new.entries ≡ put seen.key seen.row (map.from_entries carriers.old.entries) }
+    ensures spare { spare carriers.old ≤ spare carriers.new + 1 }
+{
+    let Seen { key, row } = seen;
+    match row {
+        Some(row) => {
+            put_in_room(carriers, key, row);
+        }
+        None => {
+            take_out(carriers, &key);
+        }
+    }
+}
+
+/// Puts back what stood under each of these keys, the last first.
+fn restore_all(carriers: &mut IndexMap<Key, Row>, log: Vec<Seen>)
+    requires { length log.items ≤ spare carriers.old }
+    ensures { map.from_entries {R = key_cmp} carriers.new.entries ≡ put_back log.items (map.from_entries carriers.old.entries) }
+{
+    let mut log = log;
+    while let Some(seen) = log.pop() {
+        restore(carriers, seen);
+    }
+}
+
+/// Notes what stood under a key.
+fn note(log: &mut Vec<Seen>, seen: Seen)
+    requires { length log.old.items < vec_capacity log.old }
+    ensures { log.new.items ≡ log.old.items ++ seen ∷ [] }
+{
+    let _ = log.push(seen);
+}
+
+/// Whether both lists have the same keys in the same order.
+fn are_same_keys(a: &[Key], b: &[Key]) -> bool
+    ensures { Decides result (a.now ≡ b.now) }
+{
+    a == b
+}
+
+/// The keys of both images of an update.
+fn keys_of_both(
+    alloc: Global,
+    schema: &Schema,
+    table: &Name,
+    before: &Row,
+    after: &Row,
+) -> Result<(Vec<Key>, Vec<Key>), AllocError>
+    ensures before { IfOk result (λ keys. keys.0.items ≡ keys_carried schema.now table.now before.now) }
+    ensures after { IfOk result (λ keys. keys.1.items ≡ keys_carried schema.now table.now after.now) }
+{
+    let keys = carried(alloc, schema, table, before)?;
+    let keys_after = carried(alloc, schema, table, after)?;
+    Ok((keys, keys_after))
+}
+
+impl Making {
+    /// Nothing is made yet.
+    pub(crate) fn start(carriers: IndexMap<Key, Row>, log: Vec<Seen>) -> Making
+        requires { length log.items ≡ 0 }
+        ensures made { result.made ≡ map.from_entries carriers.entries }
+        ensures before { result.before ≡ map.from_entries carriers.entries }
+    {
+        Making { carriers, log }
+    }
+
+    /// The rows that were made.
+    pub(crate) fn finish(self) -> IndexMap<Key, Row>
+        ensures { map.from_entries {R = key_cmp} result.entries ≡ self.made }
+    {
+        let Making { carriers, .. } = self;
+        carriers
+    }
+
+    /// The rows that stood before.
+    pub(crate) fn undo(self) -> IndexMap<Key, Row>
+        ensures { map.from_entries {R = key_cmp} result.entries ≡ self.before }
+    {
+        let Making { carriers, log } = self;
+        let mut carriers = carriers;
+        restore_all(&mut carriers, log);
+        carriers
+    }
+
+    /// Puts a row under a key.
+    fn put(&mut self, key: Key, row: Row) -> Result<(), AllocError>
+        ensures ok { OnOk result (self.new.made ≡ map.insert self.old.made key row) }
+        ensures before { self.new.before ≡ self.old.before }
+    {
+        let own = key.copied()?;
+        make_room(&mut self.carriers, &mut self.log)?;
+        let row = put_in_room(&mut self.carriers, own, row);
+        note(&mut self.log, Seen { key, row });
+        Ok(())
+    }
+
+    /// Takes away what stands under a key.
+    fn take(&mut self, key: Key) -> Result<(), AllocError>
+        ensures ok { OnOk result (self.new.made ≡ map.remove self.old.made key) }
+        ensures before { self.new.before ≡ self.old.before }
+    {
+        make_room(&mut self.carriers, &mut self.log)?;
+        let row = take_out(&mut self.carriers, &key);
+        note(&mut self.log, Seen { key, row });
+        Ok(())
+    }
+
+    /// Puts a row under each of these keys, the last first.
+    fn place(&mut self, keys: Vec<Key>, row: &Row) -> Result<(), AllocError>
+        ensures ok { OnOk result (self.new.made ≡ with_row keys.items row.now self.old.made) }
+        ensures before { self.new.before ≡ self.old.before }
+    {
+        let mut keys = keys;
+        while let Some(key) = keys.pop() {
+            let row = row.copied()?;
+            self.put(key, row)?;
+        }
+        Ok(())
+    }
+
+    /// Takes away what stands under each of these keys, the last first.
+    fn clear(&mut self, keys: Vec<Key>) -> Result<(), AllocError>
+        ensures ok { OnOk result (self.new.made ≡ without_keys keys.items self.old.made) }
+        ensures before { self.new.before ≡ self.old.before }
+    {
+        let mut keys = keys;
+        while let Some(key) = keys.pop() {
+            self.take(key)?;
+        }
+        Ok(())
+    }
+
+    /// Puts a row under its keys, if each of them is free.
+    fn insert_row(&mut self, keys: Vec<Key>, row: &Row, change: u32) -> Result<(), PrepareFault>
+        ensures ok { OnOk result (inserted change keys.items row.now self.old.made ≡ Ok self.new.made) }
+        ensures refused { Refuses result (inserted change keys.items row.now self.old.made) }
+        ensures before { self.new.before ≡ self.old.before }
+    {
+        if let Some(key) = taken(&self.carriers, &keys) {
+            return Err(PrepareFault::Row(RowFault::DuplicateKey { change, key }));
+        }
+        match self.place(keys, row) {
+            Ok(()) => Ok(()),
+            Err(_) => Err(PrepareFault::Memory),
+        }
+    }
+
+    /// Takes away a row under its keys, if it stands there.
+    fn delete_row(&mut self, keys: Vec<Key>, row: &Row, change: u32) -> Result<(), PrepareFault>
+        ensures ok { OnOk result (deleted change keys.items row.now self.old.made ≡ Ok self.new.made) }
+        ensures refused { Refuses result (deleted change keys.items row.now self.old.made) }
+        ensures before { self.new.before ≡ self.old.before }
+    {
+        if let Err(fault) = holds(&self.carriers, &keys, row, change) {
+            return Err(PrepareFault::Row(fault));
+        }
+        match self.clear(keys) {
+            Ok(()) => Ok(()),
+            Err(_) => Err(PrepareFault::Memory),
+        }
+    }
+
+    /// Puts a row in the place of another that carries the same keys, if that stands there.
+    fn replace_row(
+        &mut self,
+        keys: Vec<Key>,
+        before: &Row,
+        after: &Row,
+        change: u32,
+    ) -> Result<(), PrepareFault>
+        ensures ok { OnOk result (updated change keys.items before.now keys.items after.now self.old.made ≡ Ok self.new.made) }
+        ensures refused { Refuses result (updated change keys.items before.now keys.items after.now self.old.made) }
+        ensures before { self.new.before ≡ self.old.before }
+    {
+        if let Err(fault) = holds(&self.carriers, &keys, before, change) {
+            return Err(PrepareFault::Row(fault));
+        }
+        match self.place(keys, after) {
+            Ok(()) => Ok(()),
+            Err(_) => Err(PrepareFault::Memory),
+        }
+    }
+
+    /// Puts a row in the place of another.
+    fn update_row(
+        &mut self,
+        keys: Vec<Key>,
+        before: &Row,
+        keys_after: Vec<Key>,
+        after: &Row,
+        change: u32,
+    ) -> Result<(), PrepareFault>
+        ensures ok { OnOk result (updated change keys.items before.now keys_after.items after.now self.old.made ≡ Ok self.new.made) }
+        ensures refused { Refuses result (updated change keys.items before.now keys_after.items after.now self.old.made) }
+        ensures before { self.new.before ≡ self.old.before }
+    {
+        if are_same_keys(&keys, &keys_after) {
+            return self.replace_row(keys, before, after, change);
+        }
+        match self.delete_row(keys, before, change) {
+            Ok(()) => self.insert_row(keys_after, after, change),
+            Err(fault) => Err(fault),
+        }
+    }
+
+    /// Makes one change.
+    fn make(
+        &mut self,
+        alloc: Global,
+        schema: &Schema,
+        n: u32,
+        change: &Change,
+    ) -> Result<(), PrepareFault>
+        ensures ok { OnOk result (apply_change schema.now n change.now self.old.made ≡ Ok self.new.made) }
+        ensures refused { Refuses result (apply_change schema.now n change.now self.old.made) }
+        ensures before { self.new.before ≡ self.old.before }
+    {
+        match change {
+            Change::Insert { table, after } => match carried(alloc, schema, table, after) {
+                Ok(keys) => self.insert_row(keys, after, n),
+                Err(_) => Err(PrepareFault::Memory),
+            },
+            Change::Delete { table, before } => match carried(alloc, schema, table, before) {
+                Ok(keys) => self.delete_row(keys, before, n),
+                Err(_) => Err(PrepareFault::Memory),
+            },
+            Change::Update {
+                table,
+                before,
+                after,
+            } => match keys_of_both(alloc, schema, table, before, after) {
+                Ok((keys, keys_after)) => self.update_row(keys, before, keys_after, after, n),
+                Err(_) => Err(PrepareFault::Memory),
+            },
+        }
+    }
+
+    /// Makes changes in order. After a refusal some of them stand.
+    pub(crate) fn make_all(
+        &mut self,
+        alloc: Global,
+        schema: &Schema,
+        changes: &[Change],
+    ) -> Result<(), PrepareFault>
+        requires { length changes.now ≤ 65536 }
+        ensures ok { OnOk result (apply_from schema.now 0 changes.now self.old.made ≡ Ok self.new.made) }
+        ensures refused { Refuses result (apply_from schema.now 0 changes.now self.old.made) }
+        ensures before { self.new.before ≡ self.old.before }
+    {
+        for (n, change) in changes.iter().enumerate() {
+            self.make(alloc, schema, n as u32, change)?;
+        }
+        Ok(())
+    }
+}

@@ -1,0 +1,61 @@
+//! What stands under keys.
+ghost use Rattle.std.specs.Prelude.{◌≡◌, Ok, Err, OnOk, IfErr};
+ghost use Rattle.std.specs.Option.{option_copied};
+ghost use Rattle.std.specs.FinMap as map;
+ghost use Rattle.rows.specs.Apply.{taken, stored, without_keys, deleted};
+ghost use Rattle.rows.specs.Order.{key_cmp};
+
+use crate::change::{Key, RowFault};
+use crate::value::Row;
+use indexmap::IndexMap;
+
+/// The row that carries a key.
+pub(crate) fn carrier<'a>(carriers: &'a IndexMap<Key, Row>, key: &Key) -> Option<&'a Row>
+    ensures { option_copied result ≡ map.get (map.from_entries {R = key_cmp} carriers.now.entries) key.now }
+{
+    carriers.get(key)
+}
+
+/// The number of the first of these keys that a row carries.
+pub(crate) fn taken(carriers: &IndexMap<Key, Row>, keys: &[Key]) -> Option<u32>
+    ensures { result ≡ taken keys.now (map.from_entries carriers.now.entries) }
+{
+    for key in keys {
+        if carrier(carriers, key).is_some() {
+            return Some(key.index);
+        }
+    }
+    None
+}
+
+/// The row under the first of these keys.
+fn stored<'a>(carriers: &'a IndexMap<Key, Row>, keys: &[Key]) -> Option<&'a Row>
+    ensures { option_copied result ≡ stored keys.now (map.from_entries carriers.now.entries) }
+{
+    match keys.first() {
+        Some(key) => carrier(carriers, key),
+        None => None,
+    }
+}
+
+/// Whether a row stands under the first of its keys.
+pub(crate) fn holds(
+    carriers: &IndexMap<Key, Row>,
+    keys: &[Key],
+    row: &Row,
+    change: u32,
+) -> Result<(), RowFault>
+    ensures ok { OnOk result (deleted change keys.now row.now (map.from_entries carriers.now.entries) ≡ Ok (without_keys keys.now (map.from_entries carriers.now.entries))) }
+    ensures refused { IfErr result (λ fault. deleted change keys.now row.now (map.from_entries carriers.now.entries) ≡ Err fault) }
+{
+    match stored(carriers, keys) {
+        None => Err(RowFault::RowMissing { change, key: 0 }),
+        Some(found) => {
+            if *found == *row {
+                Ok(())
+            } else {
+                Err(RowFault::RowDiffers { change, key: 0 })
+            }
+        }
+    }
+}
