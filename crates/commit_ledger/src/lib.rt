@@ -1,5 +1,14 @@
-//! Counts of steps and commits that several threads make, each in a share of its own: the shares
-//! add up to the total. (Our own rule.)
+//! Counts of steps and commits that several threads make, each in a share of its own: the shares add up to the total. (Our own rule.)
+//!
+//! It is built on std's ledgers. A type parameter (`Ledgers`) names the two ledgers of one total, so that shares of two totals cannot be
+//! mixed up; the call that opens them picks it (`Brand`). A `Share` takes no bytes and cannot be copied.
+//!
+//! What a contract sees: a `Total` is the number of steps and of commits; a `Share` is a number of seats with what was counted for them.
+//!
+//! `count` adds one step to the total and to the share, and a commit to both exactly where it was one. What a share of all seats has
+//! counted, or the shares of all seats together, is the total (`Total::audit`, `gather`).
+//!
+//! Not proved: that a share is not lost; a total whose shares are not all there cannot be gathered.
 #![tactic(auto)]
 
 ghost use Rattle.std.specs.Prelude.{◌≡◌, ◌<◌, ◌≤◌, IfOk, length, replicate, true, false};

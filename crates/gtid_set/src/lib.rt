@@ -1,4 +1,19 @@
-//! Sets of GTIDs.
+//! Sets of GTIDs, and their text.
+//!
+//! What a contract sees: a `GtidSet` is the finite set of its pairs (source, number), and two sets with the same members are equal. Each
+//! operation is that of finite sets. No interval, list or cell is named above this crate.
+//!
+//! A set has at most 65,536 sources and 4,294,967,294 intervals; a call is refused for that exactly where its result would have more
+//! (`full`). Intervals are bounded by the edges of a set, the places where membership changes: what is made of two sets has no edge that
+//! neither of them has (`laws::intervals_add_up`), so the crates above say by edges where a set may be full.
+//!
+//! How it is kept: the intervals are in one pool (`interval_pool`), a list of merged intervals for each source. A pass over two sets is
+//! one walk of cursors, and sees merged lists of spans, so its proof speaks of lists. Where a source was last added to is a guess that is
+//! tested where it is used. A text is parsed, its spans are sorted once, and the set is built once.
+//!
+//! Cost, by form and not by proof: `add`, `contains` and `run_end` take as many steps as the number of intervals has binary digits, a
+//! source's next number a few; union, difference, intersection and the tests are one pass over both; a new source moves two bytes for
+//! each after it.
 #![tactic(auto)]
 
 ghost use Rattle.std.specs.Prelude.{◌≡◌, ◌≤◌, ◌<◌, ◌↔◌, ℕ, IsTrue, true, false, ◌||◌, IfOk, IfErr, IfSome, IfNone, OnOk, OnErr, IsOkUnless, string_bytes, true, List, nat_le, nat_lt, ◌≤◌, length, MatchResult};

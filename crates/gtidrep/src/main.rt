@@ -1,4 +1,18 @@
-//! The program `gtidrep`: functions of sets, what a source sends, and bundles audited and applied.
+//! The program `gtidrep`: the command line, and a command of crate `commands` over standard input and standard output.
+//!
+//!     set <function> <a> [<b>]               position --own <uuid> --ask <set> < journal
+//!     audit < bundle                         apply [--workers N] < bundle
+//!     upgrade < bundle
+//!
+//! Exit status: 0 done, 1 refused, 2 the command line, 3 out of memory, 4 reading or writing failed (`exit_status`). With 3 and 4 one
+//! line on standard error says what failed; with 2 it says what is wrong with the words; with 0 and 1 it is empty (`message`, which
+//! allocates nothing).
+//!
+//! What is written is proved of the commands. Here: which status and message belong to which end, and that a number of workers is 1 to 64
+//! (`parse_line`).
+//!
+//! Not proved: which command the words name, for the kit's `clap` has no contract from which it would follow. That is tested by
+//! `tests/cases`.
 #![tactic(auto)]
 
 ghost use Rattle.gtidrep.specs.Line.{IsForOneToMost};

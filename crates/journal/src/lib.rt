@@ -1,4 +1,16 @@
-//! Journals: what a server executed, in order.
+//! Journals: what a server executed, in order. A journal is a previous set and the entries after it, each a transaction with its GTID, as
+//! a binary log begins with its Previous-GTIDs event. (MySQL 8.0 Reference Manual, "GTID Life Cycle".)
+//!
+//! What a contract sees: a `Journal` is the record of its previous set and its list of entries. That a clone of an `Entry` shares its
+//! images no contract sees.
+//!
+//! Kept by the type (`IsJournal`): no GTID is there twice or in the previous set, and each entry can be written as text: its number is 1
+//! to 2^63 - 1, it has at most 65,536 changes, images of 1 to 64 values, and values of at most 65,535 bytes.
+//!
+//! Each call is one equation. `purged` and the like are refused for out of memory, or where a set that is made on the way is full
+//! (`fault`).
+//!
+//! Cost: `contains` looks at each entry. Readers and the own journal of a replica keep a set beside the journal instead.
 #![tactic(auto)]
 
 ghost use Rattle.std.specs.Prelude.{◌≡◌, ◌-◌, [], ◌∷◌, ◌++◌, true, false, OnOk, OnErr, IfOk, IfErr, length, take, drop, ◌==◌, ◌≤◌};

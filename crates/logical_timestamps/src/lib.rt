@@ -1,7 +1,16 @@
-//! The logical timestamps of a journal's entries. The sequence number of an entry is its place,
-//! from 1. Its last_committed is the place of the last entry before it that shares a key with it, or
-//! 0: it shares no key with the entries in between, and so may be applied beside them. A table keeps
-//! which entry touched each key last, so that each key of an entry is looked up once.
+//! The logical timestamps of a journal's entries, by which MySQL's binary log tells which transactions may be applied side by side.
+//! (MySQL 8.0 Reference Manual, `binlog_transaction_dependency_tracking`, WRITESET.)
+//!
+//! The sequence number of an entry is its place, from 1. Its last_committed is the place of the last entry before it that shares a key
+//! with it, or 0: it shares no key with the entries in between, and so may be applied beside them.
+//!
+//! What a contract sees: a list of numbers (`last_committed_of`), and a table of last writers by key, which `LastWriters::next` reads and
+//! updates for whichever entries the table is of.
+//!
+//! How it is kept: a hashed table has the entry that touched each key last, so that each key of an entry is looked up once. MySQL keeps
+//! hashes of keys, and forgets them where they are too many; here the keys themselves are kept, and all of them.
+//!
+//! Not proved: speed. The hash has a fixed seed.
 #![tactic(auto)]
 
 mod laws;

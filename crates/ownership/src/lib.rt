@@ -1,4 +1,15 @@
-//! Which seat applies which GTID: a GTID has at most one seat, and a seat at most one GTID.
+//! Which seat applies which GTID: a GTID has at most one seat, and a seat at most one GTID. (MySQL 8.0 Reference Manual, "GTID Life
+//! Cycle": of several attempts at once only one executes a GTID.)
+//!
+//! What a contract sees: an `Owners` is a finite map from seats, 1 to 64, to GTIDs.
+//!
+//! `try_own` gives `SeatBusy` where the seat owns a GTID, else `OwnedBy` where another seat owns this one, else `Owned`; a second taker
+//! is answered at once and never waits (our own rule). `one_seat_each` is the law that no GTID has two seats.
+//!
+//! The replica's state machine (`replica_core`) does not hold an `Owners`: there a seat owns the GTID at the place that it took, so
+//! ownership cannot differ from the places. It takes the lemmas on places in an array from here.
+//!
+//! How it is kept: a vector of 64 slots, made at `open`; after it only `list` allocates. The owner is searched for over all 64.
 #![tactic(auto)]
 
 ghost use Rattle.std.specs.Prelude.{◌≡◌, ◌≢◌, ℕ, Some, IfSome, IfNone, IfOk};

@@ -1,4 +1,16 @@
-//! A server's own journal: what it executed, in the order of the commits.
+//! The own journal of a replica: its binary log, with what it executed in the order of the commits.
+//!
+//! What a contract sees: an `OwnJournal` is its journal: the purged set, and the entries.
+//!
+//! `executed` is the purged set with the GTIDs of the entries (`gtid_executed`), and a purge never changes it; a replica has no second
+//! one. `append` adds an entry or leaves all as it was, and `take_back` undoes the last append and allocates nothing, so that a commit
+//! whose rows are refused can be undone. `purge` moves entries into the purged set (`gtid_purged`) and is refused exactly where there are
+//! fewer.
+//!
+//! How it is kept: the executed set is there twice, one copy an entry behind the other, so that an append can be taken back without
+//! memory and no commit copies a set.
+//!
+//! Not proved: speed. Which error comes is in `fault`: out of memory, or a set that would have too many sources or intervals.
 #![tactic(auto)]
 
 ghost use Rattle.std.specs.Prelude.{◌≡◌, ◌≤◌, ◌<◌, ◌↔◌, [], ◌∷◌, ◌++◌, true, false, ℕ, OnOk, OnErr, IfOk, IfErr, IsOkUnless, Err, Ok, length, take, drop, slice_get};

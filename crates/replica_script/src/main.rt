@@ -1,4 +1,22 @@
-//! The program `replica_script`: a replica, or a network of replicas, is asked what a script says, and the answers are printed.
+//! The program `replica_script`: a replica, or a network of replicas, is asked what a script says, line by line, and each answer is
+//! printed before the next line is read. docs/SCRIPTS.md has the language.
+//!
+//! What a contract sees: a question (an event or a query), the state before it, the printed text and the state after it. The line of an
+//! event is that of the reply of the machine's `step`, and the state after it is `step`'s; a query's lines are those of the state, which
+//! it leaves (`answer`). Where a set is full, that is the line, and nothing has changed. Where memory is refused, the replica is as
+//! before, or in the state after the event whose reply could not be printed (`left`). A network likewise (`answer_network`). A bad line
+//! ends the script (`stop`, `stops`).
+//!
+//! Tables, rows and changes are read by the readers of `txn_journal`.
+//!
+//! With `--again` an event or query that is refused memory is asked once more, where the replica equals a copy that was made before it.
+//! It always does, by proof; the comparison is there for the compilers below the proof (`sweep/refused_memory`).
+//!
+//! Exit status: 0 the whole script was answered, 2 a bad line or another command line, 3 out of memory, 4 reading or writing failed, 5 a
+//! refused call has changed the replica.
+//!
+//! Not proved: that the lines of tables, rows and changes mean what they say; `channel`, `receive` and `local`, and the node after `at`,
+//! are read without a contract of their own.
 #![tactic(auto)]
 
 ghost use Rattle.std.specs.Prelude.{◌≡◌};

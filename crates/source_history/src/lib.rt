@@ -1,9 +1,19 @@
-//! What several sources committed, the rows that a set of their transactions stands for, and which
-//! journals tell the truth about them.
+//! What several sources committed, the rows that a set of their transactions denotes, and which journals tell the truth about them.
 //!
-//! Order doesn't matter where no key is shared, and each source's own order is kept where it is. A
-//! journal tells the truth where each of its fronts is closed and each entry is what its source
-//! committed.
+//! Definitions and laws, and no code: a law is the contract of a public function with an empty body, so that other crates can cite it and
+//! the prover has checked it.
+//!
+//! A `World` is the schema, the opening set with its rows, and for each GTID beyond it the transaction that its source committed. It is
+//! sound where each source has its numbers without a gap, transactions of two sources share no key, and what each source committed
+//! applies alone. A set is closed where it is downward closed under each source's dependencies: with a transaction it has each earlier
+//! one of its source that shares a key. `rows_of` a set applies its transactions by source and number; no channel, worker or order of
+//! commits is in it.
+//!
+//! The laws: in whatever order transactions are committed, each after those that it depends on, none is refused and the rows are those of
+//! the set (`commit_order_is_free`, `commit_orders_agree`); each key has what its last writer left (`last_writer_stands`); closed sets
+//! are a lattice, with the union as join. `sound_worlds_exist` shows that the premises can be met.
+//!
+//! A journal is faithful (`IsFaithful`) where each of its prefixes is closed and each entry is what its source committed (`journals`).
 #![tactic(auto)]
 
 mod journals;

@@ -1,4 +1,8 @@
-//! Tests of workers with a gate between their steps, and of the hands from which they steal, by public calls alone.
+//! Tests of workers with a gate between their steps, and of the deques from which they steal, by public calls alone (`applier`,
+//! `commands`).
+//!
+//! Of two workers the second commits while the first is held before it prepares, so workers do run side by side. Of three tickets the
+//! owner pops the first and the third, and the other worker steals the second.
 #![tactic(auto)]
 
 #[cfg(test)]

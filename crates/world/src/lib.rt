@@ -1,4 +1,17 @@
-//! Whether journals can be merged at all, and if not, which pair of transactions is at fault.
+//! Whether journals can be merged at all, and if not, which transactions are at fault: the verdicts of an audit, as definitions, and what
+//! they mean, as laws. The code that finds them is crate `audit`. (A server neither detects nor resolves conflicts between sources: MySQL
+//! 8.0 Reference Manual, "MySQL Multi-Source Replication".)
+//!
+//! The verdicts in the order in which they are looked for: two journals differ under one GTID (Unequal); a previous set goes beyond the
+//! opening set (Purged); a number is missing (Missing); two sources share a key (Shared); a journal has an entry without an earlier one
+//! that it depends on (NotClosed); a transaction does not apply after the earlier ones of its source (DoesNotApply).
+//!
+//! `sound_means_sound`: where the verdict is Sound, the world of the journals is sound and each journal is faithful (`source_history`).
+//! `verdicts_stand`: every other verdict names a case that is there. `missing_is_least`, `shared_is_least`, `first_source_fails`: the one
+//! that is named is the least. The converse of the first law needs previous sets within the opening set (`sound_is_said`).
+//!
+//! The one-pass laws (`one_pass_shares`, `one_pass_closes`, `one_pass_applies`) say by which single pass an audit finds the same in n log
+//! n steps.
 #![tactic(auto)]
 
 mod laws;

@@ -1,4 +1,16 @@
-//! The keys that transactions touch.
+//! The write set of a transaction: the keys that it touches, as MySQL's `binlog_transaction_dependency_tracking=WRITESET` has it, with
+//! the values themselves in place of hashes.
+//!
+//! `keys_of` gives each key once, in the order of first touch: for each change the keys of the before image, then those of the after
+//! image, by number of the key. A unique key with a null is no key (our own rule). `list_keys` gives the same as a list, and `share_key`
+//! the first key of one set that another has.
+//!
+//! What a contract sees: the list of an `IndexSet`'s keys in order, and the definitions of crate `rows` (`write_set`, `touches`).
+//!
+//! `footprint` and `install` are those of `rows` over such a set of keys: what a transaction needs to be prepared without the lock.
+//!
+//! Not proved: speed. Up to 8 keys are compared with one another, more are hashed with a fixed seed: a writer who chooses colliding keys
+//! makes the call quadratic in the keys of one transaction.
 #![tactic(auto)]
 
 ghost use Rattle.std.specs.Prelude.{◌≡◌, ◌≢◌, IfOk, OnOk, AllPairs};
