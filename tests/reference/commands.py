@@ -6,6 +6,7 @@ from collections.abc import Callable, Sequence
 
 from .audit import apply, audit, position, upgrade
 from .set_text import set_function
+from .states import states
 
 BAD_COMMAND_LINE = "", 2
 
@@ -23,6 +24,8 @@ def answer(words: Sequence[str], text: Callable[[], str]) -> tuple[str, int]:
             line, status = apply(text())
         case ["upgrade"]:
             line, status = upgrade(text())
+        case ["states"]:
+            line, status = states(text())
         case _:
             return BAD_COMMAND_LINE
     return f"{line}\n", status

@@ -202,6 +202,24 @@ def sets(chance: Random) -> list[Run]:
     return [Run("gtidrep", ("set", name, *map(as_word, words)), "")]
 
 
+def server_line(chance: Random, at: int) -> str:
+    """A line of a server: its name, its UUID and its set."""
+    writer = SetWriter(chance)
+    executed = writer.set_text().replace("\n", "\t").replace("\r", "\t")
+    return f"{chance.choice(['east', 'db-2:3306', 's'])}{at} {writer.source()} {chance.choice([executed, executed, executed, '-'])}"
+
+
+def states(chance: Random) -> list[Run]:
+    """Up to six servers, of which a line may be broken, with either end of lines."""
+    lines = [server_line(chance, at) for at in range(chance.randrange(7))]
+    if lines and chance.randrange(5) == 0:
+        at = chance.randrange(len(lines))
+        lines[at] = chance.choice([TextBreaker(chance).line(lines[at]), "", lines[at].replace(" ", "", 1)])
+    end = chance.choice(["\n", "\n", "\r\n"])
+    text = "".join(f"{line}{end}" for line in lines)
+    return [Run("gtidrep", ("states",), text.removesuffix(end) if chance.randrange(5) == 0 else text)]
+
+
 COMMAND_KINDS: dict[str, Callable[[Random], list[Run]]] = {
     "version2": version2,
     "stamps": stamps,
@@ -209,6 +227,7 @@ COMMAND_KINDS: dict[str, Callable[[Random], list[Run]]] = {
     "texts": texts,
     "upgrade": upgrade,
     "sets": sets,
+    "states": states,
 }
 SCRIPT_KINDS: dict[str, Callable[[Random], Made]] = {"scripts": random_scripts.one_replica, "networks": random_scripts.network}
 KINDS = [*SCRIPT_KINDS, *COMMAND_KINDS]

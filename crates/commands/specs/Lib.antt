@@ -4,3 +4,4 @@ pub mod Said
 pub mod Applying
 pub mod Bundles
 pub mod Positions
+pub mod States

@@ -24,6 +24,8 @@ pub enum Command<'a> {
     Audit,
     /// A bundle of version 1 from standard input is written by version 2.
     Upgrade,
+    /// Servers from standard input are set beside one another.
+    States,
     /// A bundle from standard input is applied by 1 to 64 workers.
     Apply {
         workers: u8,
@@ -90,6 +92,16 @@ Example:
 
 Status: 0 printed, 1 refused, 2 the command line, 3 memory, 4 reading or writing failed.";
 
+const STATES_EXAMPLE: &str =
+    "Reads a line for each server: a name, its UUID, and its gtid_executed (`-` where it is empty), a blank between. Prints the
+union of the sets, and for each server what it lacks of that; its gaps, which it lacks below a number that it has of the same source; and
+what it alone has, which is errant where the others replicate from it or it from them. `-` stands for an empty set.
+
+Example:
+  gtidrep states < examples/three.servers
+
+Status: 0 printed, 1 refused, 2 the command line, 3 memory, 4 reading or writing failed.";
+
 const APPLY_EXAMPLE: &str =
     "Prints the executed set and the rows, or the line that says why the bundle does not apply.
 
@@ -148,6 +160,14 @@ fn upgrade_command<'a>(alloc: Global) -> clap::Command<'a> {
         .after_help(UPGRADE_EXAMPLE)
 }
 
+fn states_command<'a>(alloc: Global) -> clap::Command<'a> {
+    clap::Command::new(alloc, "states")
+        .about(
+            "Sets what servers have executed beside one another: states < examples/three.servers",
+        )
+        .after_help(STATES_EXAMPLE)
+}
+
 fn apply_command<'a>(alloc: Global) -> Result<clap::Command<'a>, AllocError> {
     let workers = Arg::new(alloc, "workers")
         .long("workers")
@@ -177,6 +197,7 @@ fn all_commands<'a>(alloc: Global) -> Result<clap::Command<'a>, AllocError> {
     let program = with_command(program, position_command(alloc))?;
     let program = program.subcommand(audit_command(alloc))?;
     let program = program.subcommand(upgrade_command(alloc))?;
+    let program = program.subcommand(states_command(alloc))?;
     with_command(program, apply_command(alloc))
 }
 
@@ -212,6 +233,9 @@ fn command_of<'a>(name: &str, matches: &ArgMatches<'a>) -> Option<Command<'a>>
     }
     if name == "upgrade" {
         return Some(Command::Upgrade);
+    }
+    if name == "states" {
+        return Some(Command::States);
     }
     Some(Command::Apply {
         workers: workers_of(matches)?,

@@ -24,7 +24,7 @@ use crate::ending::{Ending, exit_status, message};
 use crate::line::{Command, LineFault, parse_line};
 use commands::{
     Outcome, RunFault, StdSink, StdSource, Streams, apply_bundle, run_audit, run_position, run_set,
-    run_upgrade,
+    run_states, run_upgrade,
 };
 use std::env;
 use std::io::{self, ErrorKind};
@@ -65,6 +65,7 @@ fn run_command<T: Threads + Wait + Sync>(
         Command::Position { own, ask } => run_position(alloc, own, ask, &mut streams),
         Command::Audit => run_audit(alloc, &mut streams),
         Command::Upgrade => run_upgrade(alloc, &mut streams),
+        Command::States => run_states(alloc, &mut streams),
         Command::Apply { workers } => apply_bundle(threads, alloc, workers, &mut streams),
     }
 }

@@ -1,0 +1,90 @@
+-- What several servers have executed, beside one another. (MySQL 8.0 Reference Manual, "Functions Used with Global Transaction Identifiers
+-- (GTIDs)" and "GTID Life Cycle", for sets and gaps; the lines are our own.)
+use Rattle.std.specs.Prelude.{◌≡◌, ℕ, ◌+◌, ◌<◌, ◌≤◌, nat_lt, true, false, List, [], ◌∷◌, ◌++◌, codes, get_or, length, Result, Ok, Err, if◌then◌else◌}
+use Rattle.std.specs.FinSet as set
+use Rattle.gtid_text.specs.Gtids.{gtid_cmp}
+use Rattle.gtid_text.specs.declared.Gtid.{Gtid}
+use Rattle.gtid_text.specs.declared.Span.{Span}
+use Rattle.gtid_set.specs.Sets.{Gtids, gtid, interval, source_count, most_sources}
+use Rattle.gtid_set.specs.Runs.{runs}
+use Rattle.txn_journal.specs.WrittenSets.{set_text}
+use Rattle.gtid_report.specs.SetAnswers.{◌>>=◌, small}
+use Rattle.gtid_report.specs.declared.fault.Fault.{Fault}
+use Rattle.gtid_report.specs.declared.fault.Fault.TheVariants.{Refused}
+use Rattle.gtid_report.specs.declared.refusal.Refusal.TheVariants.{SourcesFull}
+use Rattle.server_states.specs.Servers.{ServerValue, servers_in}
+
+-- a set that has not too many sources or intervals
+abbrev pub whole : Gtids → Result Gtids Fault
+whole s = if nat_lt most_sources (source_count s) then Err (Refused SourcesFull) else small s
+
+-- ---- of several sets
+
+-- what one at least has, and what two at least have
+pub record TogetherValue : Type 0 where
+  pub all : Gtids
+  pub shared : Gtids
+
+abbrev pub none : TogetherValue
+none = record { all = set.empty; shared = set.empty }
+
+-- with one set more
+abbrev pub with_set : TogetherValue → Gtids → Result TogetherValue Fault
+with_set t s =
+    small (set.intersection t.all s) >>= λ again.
+    whole (set.union t.shared again) >>= λ shared.
+    whole (set.union t.all s) >>= λ all.
+    Ok (record { all = all; shared = shared })
+
+abbrev pub with_servers : TogetherValue → List ServerValue → Result TogetherValue Fault
+with_servers t [] = Ok t
+with_servers t (s ∷ ss) = with_set t s.executed >>= λ more. with_servers more ss
+
+-- how many of the servers have executed a GTID
+abbrev pub holders : Gtid → List ServerValue → ℕ
+holders g [] = 0
+holders g (s ∷ ss) = if set.contains s.executed g then holders g ss + 1 else holders g ss
+
+-- ---- of one set
+
+-- all numbers from 1 to the last of each run
+abbrev pub filled : Gtids → List Span → Result Gtids Fault
+filled before [] = Ok before
+filled before (r ∷ rs) = whole (set.union before (interval r.source 1 r.hi)) >>= λ more. filled more rs
+
+-- what is missing below the last number of each source
+abbrev pub gaps : Gtids → Result Gtids Fault
+gaps s = filled (set.empty) (runs s) >>= λ all. small (set.difference all s)
+
+-- the set has not got it, and has a greater number of its source
+pub record IsGap (s : Gtids) (g : Gtid) : Type 0 where
+  pub missing : set.contains s g ≡ false
+  pub above : 1 ≤ g.number
+  pub last : ℕ
+  pub below : g.number < last
+  pub there : set.contains s (gtid g.source last) ≡ true
+
+-- ---- lines
+
+abbrev pub line : List ℕ → List ℕ → Gtids → List ℕ
+line name word s = name ++ word ++ set_text s ++ 10 ∷ []
+
+-- what a server lacks, its gaps, and what it alone has
+abbrev pub server_lines : TogetherValue → ServerValue → Result (List ℕ) Fault
+server_lines t s =
+    small (set.difference t.all s.executed) >>= λ lacking.
+    gaps s.executed >>= λ missing.
+    small (set.difference s.executed t.shared) >>= λ alone.
+    Ok (line s.name (codes " lacks ") lacking ++ line s.name (codes " gaps ") missing ++ line s.name (codes " alone ") alone)
+
+-- the lines of each server, behind a text
+abbrev pub lines_behind : List ℕ → TogetherValue → List ServerValue → Result (List ℕ) Fault
+lines_behind text t [] = Ok text
+lines_behind text t (s ∷ ss) = server_lines t s >>= λ more. lines_behind (text ++ more) t ss
+
+abbrev pub states_of : List ServerValue → Result (List ℕ) Fault
+states_of ss = with_servers none ss >>= λ t. lines_behind (line (codes "union") (codes " ") t.all) t ss
+
+-- the union of all, and the lines of each server
+abbrev pub states_in : List ℕ → Result (List ℕ) Fault
+states_in text = servers_in text >>= states_of
