@@ -1,8 +1,9 @@
--- The tables of the example: all types whose values an import takes. Key columns are numbers, bytes, or text that is compared by its bytes.
+-- The tables of the example: all types whose values an import takes. Key columns are numbers, bytes, or text that is compared by its bytes
+-- (utf8mb4_0900_bin: the older binary collations pad with blanks).
 CREATE DATABASE shop CHARACTER SET utf8mb4;
 CREATE TABLE shop.items (
   id BIGINT NOT NULL PRIMARY KEY,
-  code VARCHAR(40) CHARACTER SET utf8mb4 COLLATE utf8mb4_bin NOT NULL UNIQUE KEY,
+  code VARCHAR(40) CHARACTER SET utf8mb4 COLLATE utf8mb4_0900_bin NOT NULL UNIQUE KEY,
   quantity INT UNSIGNED,
   price DECIMAL(12, 2)
 );
