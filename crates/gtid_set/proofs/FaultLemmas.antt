@@ -17,13 +17,6 @@ crowded_fault Memory s h = tt
 crowded_fault PoolFull s h = h
 crowded_fault SourcesFull s h = absurd h
 
--- where the sources are few, a call is refused for the intervals alone
-pub crowded_alone : {T : Type 0} (r : Result T SetFault) (s : Gtids) → source_count s ≤ most_sources → IsFullExactly r s → IsCrowdedExactly r s
-crowded_alone (Ok _) s few h = h.1
-crowded_alone (Err Memory) s few h = tt
-crowded_alone (Err PoolFull) s few h = h.1
-crowded_alone (Err SourcesFull) s few h = absurd (omega (arith, few, h))
-
 -- too much of one set, where that means too much of another
 pub fault_map : {A B C D : Type 0} (f : SetFault) → (A → B) → (C → D) → IsMemoryOr A C f → IsMemoryOr B D f
 fault_map Memory sources intervals h = tt
@@ -40,9 +33,14 @@ memory_only Memory no_sources no_intervals h = refl
 memory_only PoolFull no_sources no_intervals h = absurd (no_intervals h)
 memory_only SourcesFull no_sources no_intervals h = absurd (no_sources h)
 
--- a call that wants memory alone, for a set that is not too large
-pub full_small : {T : Type 0} (r : Result T SetFault) (s : Gtids) → source_count s ≤ most_sources → interval_count s ≤ most_intervals → IsOkUnless r Memory → IsFullExactly r s
-full_small (Ok _) s few small h = (few, small)
-full_small (Err Memory) s few small h = few
-full_small (Err PoolFull) s few small h = absurd cc
-full_small (Err SourcesFull) s few small h = absurd cc
+pub crowded_full : {T : Type 0} (r : Result T SetFault) (s : Gtids) → source_count s ≤ most_sources → IsCrowdedExactly r s → IsFullExactly r s
+crowded_full (Ok x) s fits few = (fits, few)
+crowded_full (Err Memory) s fits many = fits
+crowded_full (Err PoolFull) s fits many = (fits, many)
+crowded_full (Err SourcesFull) s fits many = absurd many
+
+pub crowded_small : {T : Type 0} (r : Result T SetFault) (s : Gtids) → interval_count s ≤ most_intervals → IsCrowdedExactly r s → IsOkUnless r Memory
+crowded_small (Ok x) s small few = tt
+crowded_small (Err Memory) s small many = refl
+crowded_small (Err PoolFull) s small many = absurd (let m = many in omega (arith, m, small))
+crowded_small (Err SourcesFull) s small many = absurd many

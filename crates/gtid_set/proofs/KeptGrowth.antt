@@ -27,6 +27,7 @@ use Rattle.gtid_set.specs.Spans.{set_of, is_before, is_merged, has}
 use Rattle.gtid_set.specs.Sweep.{within, all_before, IsListOf, KnowsSource}
 use Rattle.gtid_set.specs.Runs.{runs}
 use Rattle.gtid_set.specs.Full.{fault_of, interval_count, most_intervals, IsFullExactly, HasManyIntervals}
+use Rattle.gtid_set.specs.BySource.{IsTooLong}
 use Rattle.gtid_set.specs.Kept.{span_of, interval_of, spans_in, spans_of, are_rising, have_own, lists_of, listed, is_filled, knows, flat, are_others, HasSameLists, Lists, IsListFault, IsKeptIn, IsSourceOf, IsNoSourceAt, IsSourcePlace, Grown}
 use Rattle.gtid_set.proofs.SpanLemmas.{all_weaker, all_parts, merged_front, merged_pushed}
 use Rattle.gtid_set.proofs.SetSources.{added_set, count_with, len_known, len_unknown, no_sources, with_one, fewer_sources}
@@ -420,17 +421,18 @@ next_of xs t more all parts merged =
       parts = split;
     }
 
--- nothing but memory is wanting for it
-pub memory_next : (xs : List Span) (t : Span) (more all : List Span) (f : SetFault) → IsNext xs t more all → source_count (set_of all) ≤ most_sources → length all ≤ most_intervals → IsFullExactly {T = Unit {0}} (Err f) (with_span (set_of xs) t) → f ≡ Memory
-memory_next xs t more all Memory next few small full = refl
-memory_next xs t more all SourcesFull next few small full =
+-- where it is refused, memory was, or all spans are too many
+pub refused_next : (xs : List Span) (t : Span) (more all : List Span) (f : SetFault) → IsNext xs t more all → source_count (set_of all) ≤ most_sources → IsFullExactly {T = Unit {0}} (Err f) (with_span (set_of xs) t) → IsTooLong all f
+refused_next xs t more all Memory next few full = tt
+refused_next xs t more all SourcesFull next few full =
     let less = fewer_sources (set_of (xs ++ t ∷ [])) (set_of all) (λ q h.
     contains-set_of all q ∙ ap (λ ss. has ss q) (sym next.parts) ∙ list_any-append (λ s. within s q) (xs ++ t ∷ []) more ∙ ap (λ b. b || has more q) (sym (contains-set_of (xs ++ t ∷ []) q) ∙ h)) in
     absurd (let s = ap source_count next.set in omega (arith, full, less, few, s))
-memory_next xs t more all PoolFull next few small full =
+refused_next xs t more all PoolFull next few full =
     let i = ap length (sym (runs_merged (xs ++ t ∷ []) next.merged) ∙ ap runs next.set) in
     let long = next.longer in
-    absurd (let m = full.1 in omega (arith, m, i, long, small))
+    let m = full.1 in
+    omega (arith, m, i, long)
 
 -- spans that have grown by the next
 pub grown_next : (p q : PoolValue) (sources sources' : List Source) (order order' : List ℕ) (t : Span) (more all : List Span) → IsNext (flat p sources order) t more all → Grown p sources order t q sources' order' → flat q sources' order' ++ more ≡ all

@@ -110,7 +110,7 @@ merged_append (x ∷ xs) ys a b c =
     let w = and_parts (list_all (is_before x) ys) (list_all (λ x. list_all (is_before x) ys) xs) c in
     merged_cons x (xs ++ ys) (record { filled = h.filled; after = all_joined (is_before x) xs ys h.after w.0; tail = merged_append xs ys h.tail b w.1 })
 
-merged_of : (id : ℕ) (is : List Interval) → AreMerged is → is_merged (map (span_of id) is) ≡ true
+pub merged_of : (id : ℕ) (is : List Interval) → AreMerged is → is_merged (map (span_of id) is) ≡ true
 merged_of id [] h = refl
 merged_of id (i ∷ is) h = merged_cons (span_of id i) (map (span_of id) is) (record { filled = h.0; after = after is h.1; tail = merged_of id is h.2 })
   where

@@ -1,8 +1,7 @@
 -- Spans of one source, put behind the others at once.
-use Rattle.std.proofs.Common.{◌≡◌, ◌≢◌, ◌≤◌, ◌<◌, ◌+◌, ◌⊎◌, ℕ, zero, suc, Bool, true, false, cond, not, ◌&&◌, ◌||◌, ◌==◌, nat_le, nat_lt, List, [], ◌∷◌, ◌++◌, length, map, Option, Some, None, refl, sym, ap, subst, ◌∙◌, arith, inl, inr, length-append}
+use Rattle.std.proofs.Common.{◌≡◌, ◌≢◌, ◌<◌, ◌+◌, ℕ, suc, Bool, true, false, cond, ◌&&◌, ◌||◌, ◌==◌, nat_lt, List, [], ◌∷◌, ◌++◌, length, Some, refl, sym, ap, ◌∙◌, arith, length-append}
 use Rattle.std.specs.FinSet as set
-use Rattle.std.specs.List.{list_all, list_any, slice_get, AllByRecursion}
-use Rattle.std.specs.Prelude.{Ok, Err, is_some}
+use Rattle.std.specs.List.{list_all, slice_get, AllByRecursion}
 use Rattle.std.proofs.lemmas.Bool.{and_parts, and_from}
 use Rattle.std.proofs.lemmas.Bool.Decides.{nat_tests}
 use Rattle.std.proofs.lemmas.List.Folds.{list_any-append}
@@ -10,27 +9,30 @@ use Rattle.interval_pool.specs.declared.interval.Interval.{Interval}
 use Rattle.interval_pool.specs.Intervals.{IsBefore, AreMerged}
 use Rattle.interval_pool.specs.Intervals.{has as has_number}
 use Rattle.interval_pool.specs.Intervals.{covers as covers_number}
-use Rattle.interval_pool.specs.Values.{PoolValue, slot_at, spans, is_list, Extended, IsFullWith}
+use Rattle.interval_pool.specs.Values.{PoolValue, spans, is_list, Extended, IsFullWith}
 use Rattle.interval_pool.proofs.Within.{stand_within}
 use Rattle.gtid_text.specs.declared.Gtid.{Gtid}
 use Rattle.gtid_text.specs.declared.Span.{Span}
 use Rattle.gtid_set.specs.declared.sources.Source.{Source}
-use Rattle.gtid_set.specs.Sets.{Gtids, source_count, most_sources}
+use Rattle.gtid_set.specs.Sets.{source_count}
 use Rattle.gtid_set.specs.Spans.{set_of, is_before, is_merged, has}
 use Rattle.gtid_set.specs.Sweep.{within, all_before, sources_in}
-use Rattle.gtid_set.specs.Full.{most_intervals}
-use Rattle.gtid_set.specs.Kept.{span_of, interval_of, spans_in, spans_of, are_rising, have_own, lists_of, listed, is_filled, knows, flat, KeepsBut, spans_as, IsRun, IsKeptIn, IsSourceOf}
+use Rattle.interval_pool.specs.declared.fault.PoolFault.{PoolFault}
+use Rattle.interval_pool.specs.declared.fault.PoolFault.TheVariants as pools
+use Rattle.gtid_set.specs.Full.{most_intervals, fault_of}
+use Rattle.gtid_set.specs.BySource.{IsTooLong}
+use Rattle.gtid_set.specs.Kept.{span_of, spans_of, are_rising, have_own, lists_of, listed, is_filled, knows, flat, spans_as, IsRun, IsKeptIn, IsSourceOf}
 use Rattle.std.specs.Ordering.{nat_cmp, eq_by_cmp}
 use Rattle.std.specs.Cmp.{nat_cmp_total}
 use Rattle.gtid_set.proofs.SourceLemmas.{same_numbers, contains-sources_in}
 use Rattle.gtid_set.proofs.SetSources.{sources_of-set_of}
-use Rattle.gtid_set.proofs.SpanLemmas.{any_none, merged_filled, all_weaker, all_parts, merged_head, merged_front, merged_back, front_before_back}
+use Rattle.gtid_set.proofs.SpanLemmas.{any_none, merged_filled, all_weaker, merged_head, merged_back, front_before_back}
 use Rattle.gtid_set.proofs.RunLemmas.{equal_lists}
 use Rattle.gtid_set.proofs.SetLemmas.{same_members, contains-set_of}
 use Rattle.gtid_set.proofs.KeptLemmas.{flat_length, has_span_of, has_spans_of, knows_at, merged_flat, all_of, same_at, knows_other}
 use Rattle.gtid_set.proofs.KeptGrowth.{IsLawful, small_flat, behind_flat}
 
-merged_numbers : (id : ℕ) (is : List Interval) → is_merged (spans_as id is) ≡ true → AreMerged is
+pub merged_numbers : (id : ℕ) (is : List Interval) → is_merged (spans_as id is) ≡ true → AreMerged is
 merged_numbers id [] m = tt
 merged_numbers id (i ∷ is) m =
     let h = merged_head (span_of id i) (spans_as id is) m in
@@ -148,7 +150,7 @@ sources_listed p (s ∷ ss) rising filled =
     let some = (and_parts (is_list p s.list) (nat_lt 0 (length (spans p s.list))) f.0).1 in
     let rest = sources_listed p ss r.1 f.1 in
     let one = ap set.len (same_source s.id (spans p s.list) (spans_of p ss) some) ∙ set.len-insert nat_cmp_total (sources_in (spans_of p ss)) s.id
-        ∙ ap (λ b. cond b (set.len (sources_in (spans_of p ss))) (set.len (sources_in (spans_of p ss)) + 1)) (no_source_of p ss s.id r.0) in
+    ∙ ap (λ b. cond b (set.len (sources_in (spans_of p ss))) (set.len (sources_in (spans_of p ss)) + 1)) (no_source_of p ss s.id r.0) in
     omega (arith, one, rest)
 
 pub count_listed : (p : PoolValue) (ss : List Source) → are_rising ss ≡ true → list_all (is_filled p) ss ≡ true → ((l : ℕ) → AreMerged (spans p l)) → source_count (set_of (spans_of p ss)) ≡ length ss
@@ -184,10 +186,27 @@ run_written p q sources order s id js kept of m more law =
     as_listed [] = refl
     as_listed (i ∷ is) = ap suc (as_listed is)
 
--- there is room for a run, where all spans are not too many
-pub room_for : (p : PoolValue) (sources : List Source) (order : List ℕ) (n : ℕ) → IsKeptIn p sources order → length (flat p sources order) + n ≤ most_intervals → IsFullWith p n → ⊥
-room_for p sources order n kept small full =
+-- where there is no room for a run, all spans are too many
+full_for : (p : PoolValue) (sources : List Source) (order : List ℕ) (n : ℕ) → IsKeptIn p sources order → IsFullWith p n → most_intervals < length (flat p sources order) + n
+full_for p sources order n kept full =
     let l = flat_length p (listed sources order) in
     let w = stand_within p (lists_of (listed sources order)) kept.known in
     let f = full in
-    omega (arith, l, w, f, small)
+    omega (arith, l, w, f)
+
+pub too_long : (p : PoolValue) (sources : List Source) (order : List ℕ) (id : ℕ) (js : List Interval) (f : PoolFault) → IsKeptIn p sources order → (f ≡ pools.Full → IsFullWith p (length js)) → IsTooLong (flat p sources order ++ spans_as id js) (fault_of f)
+too_long p sources order id js pools.Memory kept full = tt
+too_long p sources order id js pools.Full kept full =
+    let more = full_for p sources order (length js) kept (full refl) in
+    let long = length-append (flat p sources order) (spans_as id js) in
+    let same = as_many js in
+    omega (arith, more, long, same)
+  where
+    as_many : (is : List Interval) → length (spans_as id is) ≡ length is
+    as_many [] = refl
+    as_many (i ∷ is) = ap suc (as_many is)
+
+-- a run behind spans, said of other names of the same
+pub run_behind : (p : PoolValue) (sources sources' : List Source) (order order' : List ℕ) (id id' : ℕ) (js : List Interval) → sources' ≡ sources → order' ≡ order → id' ≡ id
+    → flat p sources' order' ++ spans_as id' js ≡ flat p sources order ++ spans_as id js
+run_behind p sources sources' order order' id id' js ss is same = λ i. flat p (ss i) (is i) ++ spans_as (same i) js

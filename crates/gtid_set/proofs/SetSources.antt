@@ -338,19 +338,6 @@ fewer_both xs ys m n =
     let le = fewer_in xs ys in
     omega (arith, both, left, right, le)
 
--- the sets of the lists that a pass makes
-pub set_of_union : (xs ys new : List Span) → IsListOf (λ q. has xs q || has ys q) new → set_of new ≡ set.union (set_of xs) (set_of ys)
-set_of_union xs ys new l = set_of_list (λ q. has xs q || has ys q) new (set.union (set_of xs) (set_of ys)) l
-    (λ q. set.contains-union gtid_total (set_of xs) (set_of ys) q ∙ (λ i. contains-set_of xs q i || contains-set_of ys q i))
-
-pub set_of_difference : (xs ys new : List Span) → IsListOf (λ q. has xs q && not (has ys q)) new → set_of new ≡ set.difference (set_of xs) (set_of ys)
-set_of_difference xs ys new l = set_of_list (λ q. has xs q && not (has ys q)) new (set.difference (set_of xs) (set_of ys)) l
-    (λ q. set.contains-difference gtid_total (set_of xs) (set_of ys) q ∙ (λ i. contains-set_of xs q i && not (contains-set_of ys q i)))
-
-pub set_of_intersection : (xs ys new : List Span) → IsListOf (λ q. has xs q && has ys q) new → set_of new ≡ set.intersection (set_of xs) (set_of ys)
-set_of_intersection xs ys new l = set_of_list (λ q. has xs q && has ys q) new (set.intersection (set_of xs) (set_of ys)) l
-    (λ q. set.contains-intersection gtid_total (set_of xs) (set_of ys) q ∙ (λ i. contains-set_of xs q i && contains-set_of ys q i))
-
 -- a list of a part of another's GTIDs has no more sources
 pub fewer_listed : (test : Gtid → Bool) (xs new : List Span) → IsListOf test new → ((q : Gtid) → test q ≡ true → has xs q ≡ true) → source_count (set_of xs) ≤ most_sources → source_count (set_of new) ≤ most_sources
 fewer_listed test xs new l part fits =

@@ -1,13 +1,15 @@
 //! Merged spans in a pool, by source and number.
-ghost use Rattle.std.specs.Prelude.{◌≡◌, ◌≤◌, ◌+◌, ◌++◌, ◌||◌, [], true, false, length, IfOk, IfErr, OnOk, OnErr, IfSome, IfNone, IsOkUnless};
+ghost use Rattle.std.specs.Prelude.{◌≡◌, ◌≤◌, ◌+◌, ◌++◌, ◌||◌, [], true, false, IfOk, IfErr, OnOk, OnErr, IfSome, IfNone, IsOkUnless};
 ghost use Rattle.std.specs.FinSet as set;
 ghost use Rattle.gtid_set.specs.declared.fault.SetFault.TheVariants.{Memory};
 ghost use Rattle.gtid_set.specs.Sets.{interval, most_sources, source_count};
 ghost use Rattle.gtid_set.specs.Spans.{set_of, is_merged, has};
 ghost use Rattle.gtid_set.specs.Sweep.{IsListOf, HasSpan, all_before, within};
-ghost use Rattle.gtid_set.specs.Full.{IsFullExactly, IsKept, most_intervals};
+ghost use Rattle.gtid_set.specs.Full.{IsFullExactly, IsKept};
+ghost use Rattle.gtid_set.specs.BySource.{IsTooLong};
 ghost use Rattle.gtid_set.specs.Kept.{IsKeptIn, IsSourceOf, IsSourcePlace, IsListFault, Lists, HasSameLists, Grown, IsRun, Stays, spans_as, are_others, listed, flat, interval_of};
 
+use crate::by_source::SourceLists;
 use crate::cursor::Cursor;
 use crate::fault::SetFault;
 use crate::sources::{Source, find, place_of};
@@ -18,9 +20,6 @@ use std::marker::Model;
 
 /// The most sources that a set may have. Our own rule.
 pub const MOST_SOURCES: usize = 65_536;
-
-/// How many intervals are written at once. Our own rule.
-const MOST_AT_ONCE: usize = 256;
 
 /// Merged spans in a pool, in one list for each source.
 #[derive(Drop)]
@@ -94,6 +93,7 @@ fn append_to(
     requires filled { span.now.lo ≤ span.now.hi }
     requires before { all_before (flat pool.old sources.now order.now) span.now ≡ true }
     ensures ok { OnOk result (Grown pool.old sources.now order.now span.now pool.new sources.now order.now) }
+    ensures err { OnErr result (pool.new ≡ pool.old) }
     ensures full { IsFullExactly result (set.union (set_of (flat pool.old sources.now order.now)) (interval span.now.source span.now.lo span.now.hi)) }
 {
     pool.partition();
@@ -175,6 +175,7 @@ fn push(
     requires filled { span.now.lo ≤ span.now.hi }
     requires before { all_before (flat pool.old sources.old.items order.old.items) span.now ≡ true }
     ensures ok { OnOk result (Grown pool.old sources.old.items order.old.items span.now pool.new sources.new.items order.new.items) }
+    ensures err { OnErr result (Stays pool.old sources.old.items order.old.items pool.new sources.new.items order.new.items) }
     ensures full { IsFullExactly result (set.union (set_of (flat pool.old sources.old.items order.old.items)) (interval span.now.source span.now.lo span.now.hi)) }
 {
     let end = order.as_slice().len();
@@ -182,27 +183,6 @@ fn push(
         Some(source) => append_to(pool, sources, order, source, span),
         None => insert(pool, sources, order, end, span),
     }
-}
-
-/// The intervals of the first spans, as far as they are of a source and not too many, and the spans behind them.
-fn run_of<'a>(
-    run: &mut Vec<Interval>,
-    id: SourceId,
-    spans: &'a [Span],
-) -> Result<&'a [Span], AllocError>
-    ensures parts { IfOk result (λ rest. spans_as id run.new.items ++ rest.now ≡ spans.now) }
-    ensures shorter { IfOk result (λ rest. length rest.now ≤ length spans.now) }
-{
-    run.clear();
-    let mut rest = spans;
-    while let Some((span, more)) = rest.split_first() {
-        if span.source != id || run.as_slice().len() == MOST_AT_ONCE {
-            return Ok(rest);
-        }
-        run.push(numbers(span))?;
-        rest = more;
-    }
-    Ok(rest)
 }
 
 /// Puts a source's intervals behind all spans.
@@ -216,9 +196,9 @@ fn extend_to(
     requires kept { IsKeptIn pool.old sources.now order.now }
     requires source { IsSourceOf (listed sources.now order.now) source source.id }
     requires merged { is_merged (flat pool.old sources.now order.now ++ spans_as source.id run.now) ≡ true }
-    requires small { length (flat pool.old sources.now order.now) + length run.now ≤ most_intervals }
     ensures ok { OnOk result (IsRun pool.old sources.now order.now source.id run.now pool.new) }
-    ensures fault { IsOkUnless result Memory }
+    ensures err { OnErr result (pool.new ≡ pool.old) }
+    ensures full { IfErr result (IsTooLong (flat pool.old sources.now order.now ++ spans_as source.id run.now)) }
 {
     pool.partition();
     match pool.extend(source.list, run) {
@@ -230,31 +210,36 @@ fn extend_to(
     }
 }
 
-/// Puts the first spans behind all others, as far as they are of a source that is there and not too many at once, and answers those behind them.
-fn write_run<'a>(
+/// Puts a source's intervals behind all spans.
+fn put_run(
     pool: &mut Pool,
-    sources: &[Source],
-    order: &[u16],
-    source: Source,
-    run: &mut Vec<Interval>,
-    spans: &'a [Span],
-) -> Result<&'a [Span], SetFault>
-    requires kept { IsKeptIn pool.old sources.now order.now }
-    requires source { IsSourceOf (listed sources.now order.now) source source.id }
-    requires merged { is_merged (flat pool.old sources.now order.now ++ spans.now) ≡ true }
-    requires small { length (flat pool.old sources.now order.now) + length spans.now ≤ most_intervals }
-    ensures kept { OnOk result (IsKeptIn pool.new sources.now order.now) }
-    ensures parts { IfOk result (λ rest. flat pool.new sources.now order.now ++ rest.now ≡ flat pool.old sources.now order.now ++ spans.now) }
-    ensures shorter { IfOk result (λ rest. length rest.now ≤ length spans.now) }
-    ensures fault { IsOkUnless result Memory }
+    sources: &mut Vec<Source>,
+    order: &mut Vec<u16>,
+    id: SourceId,
+    run: &[Interval],
+) -> Result<(), SetFault>
+    requires kept { IsKeptIn pool.old sources.old.items order.old.items }
+    requires merged { is_merged (flat pool.old sources.old.items order.old.items ++ spans_as id run.now) ≡ true }
+    requires fits { source_count (set_of (flat pool.old sources.old.items order.old.items ++ spans_as id run.now)) ≤ most_sources }
+    ensures kept { IsKeptIn pool.new sources.new.items order.new.items }
+    ensures parts { OnOk result (flat pool.new sources.new.items order.new.items ≡ flat pool.old sources.old.items order.old.items ++ spans_as id run.now) }
+    ensures full { IfErr result (IsTooLong (flat pool.old sources.old.items order.old.items ++ spans_as id run.now)) }
 {
-    let Ok(rest) = run_of(run, source.id, spans) else {
-        return Err(SetFault::Memory);
-    };
-    match extend_to(pool, sources, order, source, run) {
-        Ok(()) => Ok(rest),
-        Err(fault) => Err(fault),
+    let mut rest = run;
+    while let Some((first, more)) = rest.split_first() {
+        let Interval { lo, hi } = *first;
+        let span = Span { source: id, lo, hi };
+        match push(pool, sources, order, &span) {
+            Ok(()) => rest = more,
+            Err(fault) => return Err(fault),
+        }
+        let last = order.as_slice().len().saturating_sub(1);
+        let Some(source) = find(sources, order, last, id) else {
+            continue;
+        };
+        return extend_to(pool, sources, order, source, more);
     }
+    Ok(())
 }
 
 impl Kept {
@@ -275,6 +260,24 @@ impl Kept {
         ensures { result ≡ self.now }
     {
         Cursor::over(&self.pool, &self.sources, &self.order)
+    }
+
+    /// The sources from the first on, with their numbers.
+    pub fn by_source(&self) -> SourceLists<'_>
+        ensures { result ≡ self.now }
+    {
+        SourceLists::of(&self.pool, &self.sources, &self.order)
+    }
+
+    /// Puts a source's intervals behind all spans. An error leaves some of them there.
+    pub fn put(&mut self, id: SourceId, run: &[Interval]) -> Result<(), SetFault>
+        requires merged { is_merged (self.old ++ spans_as id run.now) ≡ true }
+        requires fits { source_count (set_of (self.old ++ spans_as id run.now)) ≤ most_sources }
+        ensures ok { OnOk result (self.new ≡ self.old ++ spans_as id run.now) }
+        ensures full { IfErr result (IsTooLong (self.old ++ spans_as id run.now)) }
+    {
+        put_run(&mut self.pool, &mut self.sources, &mut self.order, id, run)?;
+        Ok(())
     }
 
     /// A law, which does nothing: spans are merged, and neither they nor their sources are too many.
@@ -331,42 +334,6 @@ impl Kept {
         }
         self.near = at;
         Ok(())
-    }
-
-    /// Merged spans, of not too many sources, and not too many.
-    pub fn of(alloc: Global, spans: &[Span]) -> Result<Kept, SetFault>
-        requires merged { is_merged spans.now ≡ true }
-        requires fits { source_count (set_of spans.now) ≤ most_sources }
-        requires small { length spans.now ≤ most_intervals }
-        ensures ok { IfOk result (λ k. k ≡ spans.now) }
-        ensures fault { IsOkUnless result Memory }
-    {
-        let mut pool = Pool::open(alloc);
-        let mut sources = Vec::new(alloc);
-        let mut order = Vec::new(alloc);
-        let mut run = Vec::new(alloc);
-        let mut rest = spans;
-        pool.reserve(spans.len())?;
-        while let Some((span, more)) = rest.split_first() {
-            match push(&mut pool, &mut sources, &mut order, span) {
-                Ok(()) => rest = more,
-                Err(fault) => return Err(fault),
-            }
-            let last = order.as_slice().len().saturating_sub(1);
-            let Some(source) = find(&sources, &order, last, span.source) else {
-                continue;
-            };
-            match write_run(&mut pool, &sources, &order, source, &mut run, rest) {
-                Ok(behind) => rest = behind,
-                Err(fault) => return Err(fault),
-            }
-        }
-        Ok(Kept {
-            pool,
-            sources,
-            order,
-            near: 0,
-        })
     }
 
     /// The same spans.

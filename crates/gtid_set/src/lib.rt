@@ -7,36 +7,44 @@
 //! (`full`). Intervals are bounded by the edges of a set, the places where membership changes: what is made of two sets has no edge that
 //! neither of them has (`laws::intervals_add_up`), so the crates above say by edges where a set may be full.
 //!
-//! How it is kept: the intervals are in one pool (`interval_pool`), a list of merged intervals for each source. A pass over two sets is
-//! one walk of cursors, and sees merged lists of spans, so its proof speaks of lists. Where a source was last added to is a guess that is
-//! tested where it is used. A text is parsed, its spans are sorted once, and the set is built once.
+//! How it is kept: the intervals are in one pool (`interval_pool`), a list of merged intervals for each source. A pass over two sets goes
+//! source by source, compares numbers alone, and writes the numbers of each source at once; its proof speaks of merged lists of spans.
+//! Where a source was last added to is a guess that is tested where it is used. A text is parsed, its spans are sorted once, and the set
+//! is built once.
 //!
 //! Cost, by form and not by proof: `add`, `contains` and `run_end` take as many steps as the number of intervals has binary digits, a
 //! source's next number a few; union, difference, intersection and the tests are one pass over both; a new source moves two bytes for
 //! each after it.
 #![tactic(auto)]
 
-ghost use Rattle.std.specs.Prelude.{◌≡◌, ◌≤◌, ◌<◌, ◌↔◌, ℕ, IsTrue, true, false, ◌||◌, IfOk, IfErr, IfSome, IfNone, OnOk, OnErr, IsOkUnless, string_bytes, true, List, nat_le, nat_lt, ◌≤◌, length, MatchResult};
+ghost use Rattle.std.specs.Prelude.{◌≡◌, ◌≤◌, ◌<◌, ◌↔◌, IsTrue, true, false, IfOk, IfErr, IfSome, IfNone, OnOk, OnErr, IsOkUnless, string_bytes, nat_le, nat_lt};
 ghost use Rattle.std.specs.List.{list_all};
 ghost use Rattle.std.specs.FinSet as set;
 ghost use Rattle.gtid_set.specs.declared.fault.SetFault.TheVariants.{Memory, SourcesFull};
-ghost use Rattle.gtid_set.specs.Sets.{Gtids, IsRunEnd, gtid, interval, only, without, kept_sources, least_unused, most_sources, source_count, sources_of};
+ghost use Rattle.gtid_set.specs.Sets.{Gtids, IsRunEnd, gtid, interval, only, without, kept_sources, least_unused, most_sources, source_count};
 ghost use Rattle.gtid_set.specs.Spans.{set_of, is_merged, has};
 ghost use Rattle.gtid_set.specs.Runs.{runs, canonical};
 ghost use Rattle.gtid_set.specs.Texts.{SpellsSet, RefusesSet, IsReadAs, GivesSet, set_in};
-ghost use Rattle.gtid_set.specs.Sweep.{IsListOf, rises, within};
-ghost use Rattle.gtid_set.specs.Full.{IsFullExactly, IsCrowdedExactly, IsKept, most_intervals};
+ghost use Rattle.gtid_set.specs.Sweep.{rises};
+ghost use Rattle.gtid_set.specs.BySource.{combined};
+ghost use Rattle.gtid_set.specs.Full.{IsFullExactly, IsCrowdedExactly, IsKept};
 
+mod by_source;
+mod combine;
 mod cursor;
 mod fault;
+mod gather;
 mod kept;
 pub mod laws;
+mod numbers;
 mod single;
 mod sources;
 mod sweep;
 mod text;
 
+use combine::{Operation, are_apart, combine, is_within};
 pub use fault::{SetFault, SetTextFault};
+use gather::gather;
 use gtid_text::{Gtid, SourceId, Span, parse_spans};
 use kept::{Kept, MOST_SOURCES};
 use std::alloc::{AllocError, Global};
@@ -44,9 +52,6 @@ use std::marker::Model;
 
 /// The greatest number that a transaction may have. Our own rule.
 const GREATEST: u64 = 9_223_372_036_854_775_807;
-
-/// The most intervals that a set may have. Our own rule.
-const MOST_INTERVALS: usize = 4_294_967_294;
 
 /// A set of GTIDs, as the MySQL 8.0 Reference Manual has it in "GTID Format and Storage". It has at most 65,536 sources and 4,294,967,294 intervals.
 #[derive(Drop)]
@@ -79,30 +84,21 @@ fn have_many_sources(left: &Kept, right: &Kept) -> bool
         && sweep::count_sources(left.cursor(), right.cursor()) > MOST_SOURCES as u64
 }
 
-/// The set of a merged list of spans, which has not too many sources.
-fn made(alloc: Global, spans: &[Span]) -> Result<GtidSet, SetFault>
-    requires merged { is_merged spans.now ≡ true }
-    requires fits { source_count (set_of spans.now) ≤ most_sources }
-    ensures ok { IfOk result (λ s. s ≡ set_of spans.now) }
-    ensures full { IsFullExactly result (set_of spans.now) }
+/// The set that is made of two sets, where that has not too many sources.
+fn made(alloc: Global, operation: Operation, left: &Kept, right: &Kept) -> Result<GtidSet, SetFault>
+    requires left { is_merged left.now ≡ true }
+    requires right { is_merged right.now ≡ true }
+    requires fits { source_count (combined operation (set_of left.now) (set_of right.now)) ≤ most_sources }
+    ensures ok { IfOk result (λ s. s ≡ combined operation (set_of left.now) (set_of right.now)) }
+    ensures full { IsCrowdedExactly result (combined operation (set_of left.now) (set_of right.now)) }
 {
-    if spans.len() > MOST_INTERVALS {
-        return Err(SetFault::PoolFull);
+    match combine(alloc, operation, left.by_source(), right.by_source()) {
+        Ok(spans) => {
+            spans.is_kept();
+            Ok(GtidSet { spans })
+        }
+        Err(fault) => Err(fault),
     }
-    small(alloc, spans)
-}
-
-/// The same of one with not too many intervals.
-fn small(alloc: Global, spans: &[Span]) -> Result<GtidSet, SetFault>
-    requires merged { is_merged spans.now ≡ true }
-    requires fits { source_count (set_of spans.now) ≤ most_sources }
-    requires small { length spans.now ≤ most_intervals }
-    ensures ok { IfOk result (λ s. s ≡ set_of spans.now) }
-    ensures fault { IsOkUnless result Memory }
-{
-    Ok(GtidSet {
-        spans: Kept::of(alloc, spans)?,
-    })
 }
 
 /// The set of all that two sets have.
@@ -115,10 +111,7 @@ fn united(alloc: Global, left: &Kept, right: &Kept) -> Result<GtidSet, SetFault>
     if have_many_sources(left, right) {
         return Err(SetFault::SourcesFull);
     }
-    let Ok(spans) = sweep::union_of(alloc, left.cursor(), right.cursor()) else {
-        return Err(SetFault::Memory);
-    };
-    made(alloc, &spans)
+    made(alloc, Operation::Union, left, right)
 }
 
 /// The set of what the first of two sets has and the second has not.
@@ -129,10 +122,7 @@ fn reduced(alloc: Global, left: &Kept, right: &Kept) -> Result<GtidSet, SetFault
     ensures ok { IfOk result (λ s. s ≡ set.difference (set_of left.now) (set_of right.now)) }
     ensures full { IsCrowdedExactly result (set.difference (set_of left.now) (set_of right.now)) }
 {
-    let Ok(spans) = sweep::difference_of(alloc, left.cursor(), right.cursor()) else {
-        return Err(SetFault::Memory);
-    };
-    made(alloc, &spans)
+    made(alloc, Operation::Difference, left, right)
 }
 
 /// The set of what both of two sets have.
@@ -143,10 +133,23 @@ fn common(alloc: Global, left: &Kept, right: &Kept) -> Result<GtidSet, SetFault>
     ensures ok { IfOk result (λ s. s ≡ set.intersection (set_of left.now) (set_of right.now)) }
     ensures full { IsCrowdedExactly result (set.intersection (set_of left.now) (set_of right.now)) }
 {
-    let Ok(spans) = sweep::intersection_of(alloc, left.cursor(), right.cursor()) else {
-        return Err(SetFault::Memory);
-    };
-    made(alloc, &spans)
+    made(alloc, Operation::Intersection, left, right)
+}
+
+/// The set of spans that are sorted by where they start, of not too many sources.
+fn sorted(alloc: Global, spans: &[Span]) -> Result<GtidSet, SetFault>
+    requires rises { rises spans.now ≡ true }
+    requires fits { source_count (set_of spans.now) ≤ most_sources }
+    ensures ok { IfOk result (λ s. s ≡ set_of spans.now) }
+    ensures full { IsCrowdedExactly result (set_of spans.now) }
+{
+    match gather(alloc, spans) {
+        Ok(spans) => {
+            spans.is_kept();
+            Ok(GtidSet { spans })
+        }
+        Err(fault) => Err(fault),
+    }
 }
 
 /// The set of spans that are sorted by where they start, none of them reversed.
@@ -159,10 +162,7 @@ fn gathered(alloc: Global, spans: &[Span]) -> Result<GtidSet, SetFault>
     if sweep::count_sources_of(spans) > MOST_SOURCES as u64 {
         return Err(SetFault::SourcesFull);
     }
-    let Ok(merged) = sweep::joined(alloc, spans) else {
-        return Err(SetFault::Memory);
-    };
-    made(alloc, &merged)
+    sorted(alloc, spans)
 }
 
 /// Whether two sets are the same.
@@ -171,10 +171,10 @@ fn are_equal(left: &Kept, right: &Kept) -> bool
     requires right { is_merged right.now ≡ true }
     ensures { IsTrue result ↔ (set_of left.now ≡ set_of right.now) }
 {
-    if !sweep::is_within(left.cursor(), right.cursor()) {
+    if !is_within(left.by_source(), right.by_source()) {
         return false;
     }
-    sweep::is_within(right.cursor(), left.cursor())
+    is_within(right.by_source(), left.by_source())
 }
 
 /// The set of one source's GTIDs, or of the others.
@@ -191,7 +191,7 @@ fn of_source(
     let Ok(spans) = single::of_source(alloc, spans.cursor(), source, wanted) else {
         return Err(SetFault::Memory);
     };
-    small(alloc, &spans)
+    sorted(alloc, &spans)
 }
 
 impl GtidSet {
@@ -277,14 +277,14 @@ impl GtidSet {
     pub fn is_subset(&self, other: &GtidSet) -> bool
         ensures { result ≡ set.is_subset self.now other.now }
     {
-        sweep::is_within(self.spans.cursor(), other.spans.cursor())
+        is_within(self.spans.by_source(), other.spans.by_source())
     }
 
     /// Whether no GTID is in both sets.
     pub fn is_disjoint(&self, other: &GtidSet) -> bool
         ensures { IsTrue result ↔ (set.intersection self.now other.now ≡ set.empty) }
     {
-        sweep::are_apart(self.spans.cursor(), other.spans.cursor())
+        are_apart(self.spans.by_source(), other.spans.by_source())
     }
 
     /// The least number from 1 that the set has not got of a source, or none where it has all that a transaction may have.

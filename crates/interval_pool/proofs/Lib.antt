@@ -17,3 +17,4 @@ pub mod Standing
 pub mod Stepping
 pub mod Along
 pub mod Within
+pub mod Wayside

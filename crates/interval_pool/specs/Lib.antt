@@ -6,3 +6,4 @@ pub mod Pools
 pub mod Places
 pub mod Changes
 pub mod Values
+pub mod Walks

@@ -32,11 +32,13 @@ mod meet;
 mod pool;
 mod seek;
 mod store;
+mod walk;
 
 pub use fault::PoolFault;
 pub use interval::Interval;
 pub use laws::{distinct_stand, reserved_lasts, standing_within};
 pub use pool::{ListId, Pool};
+pub use walk::Walk;
 
 #[cfg(test)]
 mod tests;

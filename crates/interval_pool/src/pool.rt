@@ -17,6 +17,7 @@ use crate::hints::Hints;
 use crate::interval::Interval;
 use crate::link::{Link, MOST_CELLS};
 use crate::seek::interval_with;
+use crate::walk::{Walk, walk_from};
 use std::alloc::Global;
 use std::marker::Model;
 
@@ -260,6 +261,16 @@ impl Pool {
             Link::none(),
         )
         .number()
+    }
+
+    /// The way along a list from its first interval.
+    pub fn walk(&self, list: ListId) -> Walk<'_>
+        requires list { IsList self.now list }
+        ensures { result ≡ spans self.now list }
+    {
+        let list = list.number() as usize;
+        let first = after(&self.cells, &self.heads, list, Link::none());
+        walk_from(&self.cells, first)
     }
 
     /// The cell that comes after this one in its list, none after the last. Of what is no cell of a list nothing is said.

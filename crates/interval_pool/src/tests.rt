@@ -2,7 +2,7 @@
 ghost use Rattle.std.specs.Prelude.{◌≡◌, ◌<◌, ◌≤◌, [], IfOk};
 ghost use Rattle.interval_pool.specs.Values.{IsRange, IsList, spans};
 
-use crate::{Interval, ListId, Pool};
+use crate::{Interval, ListId, Pool, Walk};
 use std::alloc::{AllocError, Global};
 
 fn add(pool: &mut Pool, list: ListId, numbers: Interval) -> bool
@@ -51,6 +51,24 @@ fn shows(pool: &Pool, list: ListId, spans: &[(u64, u64)], free: u32) -> bool {
         next = pool.next(cell);
     }
     next.is_none()
+}
+
+/// Whether a way along a list sees these intervals, one after another.
+fn walks(pool: &Pool, list: ListId, spans: &[(u64, u64)]) -> bool {
+    if !pool.is_list(list) || Walk::empty().peek().is_some() {
+        return false;
+    }
+    let mut rest = pool.walk(list);
+    for (lo, hi) in spans {
+        let Some(found) = rest.again().peek() else {
+            return false;
+        };
+        if found.lo != *lo || found.hi != *hi {
+            return false;
+        }
+        rest.advance();
+    }
+    rest.peek().is_none()
 }
 
 /// The first list after each call on it.
@@ -194,6 +212,7 @@ fn shows_pairs(pool: &mut Pool) -> bool {
         return false;
     };
     shows(pool, list, &[(1, 2), (4, 5), (7, 8)], 0)
+        && walks(pool, list, &[(1, 2), (4, 5), (7, 8)])
         && misses(pool, list, 0)
         && finds(pool, list, 4, 4, 5)
         && finds(pool, list, 5, 4, 5)
@@ -280,6 +299,7 @@ fn shows_extended(pool: &mut Pool, list: ListId) -> bool
         && finds(pool, list, 22, 20, 25)
         && add(pool, list, Interval { lo: 5, hi: 10 })
         && shows(pool, list, &[(1, 2), (4, 11), (20, 25)], 2)
+        && walks(pool, list, &[(1, 2), (4, 11), (20, 25)])
 }
 
 /// A list whose first intervals are put into free cells, and the others into new ones.

@@ -12,8 +12,8 @@ returns-then-not-is_within c =
     let xs = c.args.left.now in
     let ys = c.args.right.now in
     let P : List Span → List Span → Type 0 = λ xs ys. IsNotWithin (has xs) (has ys) in
-    let apart = when_false (IsWithin (has c.cursor.result) (has c.cursor-2.result)) (IsNotWithin (has c.cursor.result) (has c.cursor-2.result)) c.if-not-is_within.true c.is_within.ensures in
-    (λ h. absurd cc, λ e. absurd (differ_held xs ys (subst (λ zs. P xs zs) c.cursor-2.ensures (subst (λ zs. P zs c.cursor-2.result) c.cursor.ensures apart)) e))
+    let apart = when_false (IsWithin (has c.by_source.result) (has c.by_source-2.result)) (IsNotWithin (has c.by_source.result) (has c.by_source-2.result)) c.if-not-is_within.true c.is_within.ensures in
+    (λ h. absurd cc, λ e. absurd (differ_held xs ys (subst (λ zs. P xs zs) c.by_source-2.ensures (subst (λ zs. P zs c.by_source-2.result) c.by_source.ensures apart)) e))
 
 pub returns : goal.returns
 returns c =
@@ -21,6 +21,6 @@ returns c =
     let ys = c.args.right.now in
     let P : List Span → List Span → Type 0 = λ xs ys. IsWithin (has xs) (has ys) in
     let Q : List Span → List Span → Type 0 = λ ys xs. MatchBool c.is_within-2.result (IsWithin (has ys) (has xs)) (IsNotWithin (has ys) (has xs)) in
-    let inside = when_true (IsWithin (has c.cursor.result) (has c.cursor-2.result)) (IsNotWithin (has c.cursor.result) (has c.cursor-2.result)) c.if-not-is_within.false c.is_within.ensures in
-    equal_held c.is_within-2.result xs ys (subst (λ zs. P xs zs) c.cursor-2.ensures (subst (λ zs. P zs c.cursor-2.result) c.cursor.ensures inside))
-    (subst (λ zs. Q ys zs) c.cursor-4.ensures (subst (λ zs. Q zs c.cursor-4.result) c.cursor-3.ensures c.is_within-2.ensures))
+    let inside = when_true (IsWithin (has c.by_source.result) (has c.by_source-2.result)) (IsNotWithin (has c.by_source.result) (has c.by_source-2.result)) c.if-not-is_within.false c.is_within.ensures in
+    equal_held c.is_within-2.result xs ys (subst (λ zs. P xs zs) c.by_source-2.ensures (subst (λ zs. P zs c.by_source-2.result) c.by_source.ensures inside))
+    (subst (λ zs. Q ys zs) c.by_source-4.ensures (subst (λ zs. Q zs c.by_source-4.result) c.by_source-3.ensures c.is_within-2.ensures))

@@ -6,6 +6,6 @@ use Rattle.gtid_set.proofs.GtidSet.is_subset.Goals as goal
 
 pub returns : goal.returns
 returns c =
-    subset_held c.is_within.result c.cursor.result c.cursor-2.result c.is_within.ensures
-    ∙ (λ i. set.is_subset (set_of (c.cursor.ensures i)) (set_of (c.cursor-2.ensures i)))
+    subset_held c.is_within.result c.by_source.result c.by_source-2.result c.is_within.ensures
+    ∙ (λ i. set.is_subset (set_of (c.by_source.ensures i)) (set_of (c.by_source-2.ensures i)))
     ∙ (λ i. set.is_subset (c.self.view_is i) (c.other.view_is i))

@@ -1,14 +1,11 @@
-use Rattle.std.proofs.Common.{◌≡◌, sym, refl, ◌∙◌}
+use Rattle.std.proofs.Common.{◌++◌, sym, subst}
 use Rattle.std.proofs.lemmas.Bool.{and_parts}
 use Rattle.std.specs.Prelude.{nat_lt, length}
-use Rattle.interval_pool.specs.declared.fault.PoolFault.{PoolFault}
-use Rattle.interval_pool.specs.declared.fault.PoolFault.TheVariants as pools
 use Rattle.interval_pool.specs.Values.{spans, is_list}
-use Rattle.gtid_set.specs.declared.fault.SetFault.TheVariants.{Memory}
-use Rattle.gtid_set.specs.Full.{fault_of}
-use Rattle.gtid_set.specs.Kept.{listed, is_filled}
+use Rattle.gtid_set.specs.BySource.{IsTooLong}
+use Rattle.gtid_set.specs.Kept.{listed, is_filled, flat, spans_as}
 use Rattle.gtid_set.proofs.KeptLemmas.{got_all}
-use Rattle.gtid_set.proofs.KeptRuns.{run_merged, run_written, room_for}
+use Rattle.gtid_set.proofs.KeptRuns.{run_merged, run_written, too_long}
 use Rattle.gtid_set.proofs.kept.extend_to.Goals as goal
 
 pub extend-requires-clause-list : goal.extend-requires-clause-list
@@ -26,10 +23,7 @@ returns-in-Ok-clause-ok c =
     run_written c.args.pool.now c.extend.new.self c.args.sources.now c.args.order.now c.args.source c.args.source.id c.args.run.now c.requires.kept c.requires.source c.requires.merged c.in-Ok.ensures.ok
     (record { small = law.small; merged = law.merged; parted = law.parted })
 
-memory_alone : (f : PoolFault) → (f ≡ pools.Full → ⊥) → fault_of f ≡ Memory
-memory_alone pools.Memory none = refl
-memory_alone pools.Full none = absurd (none refl)
-
-pub returns-in-Err-clause-fault : goal.returns-in-Err-clause-fault
-returns-in-Err-clause-fault c =
-    c.from.ensures ∙ memory_alone c.in-Err.fault (λ e. room_for c.args.pool.now c.args.sources.now c.args.order.now (length c.args.run.now) c.requires.kept c.requires.small (c.in-Err.ensures.full.0 e))
+pub returns-in-Err-clause-full : goal.returns-in-Err-clause-full
+returns-in-Err-clause-full c =
+    subst (IsTooLong (flat c.args.pool.now c.args.sources.now c.args.order.now ++ spans_as c.args.source.id c.args.run.now)) (sym c.from.ensures)
+    (too_long c.args.pool.now c.args.sources.now c.args.order.now c.args.source.id c.args.run.now c.in-Err.fault c.requires.kept c.in-Err.ensures.full.0)

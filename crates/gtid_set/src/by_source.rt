@@ -1,0 +1,101 @@
+//! A set gone over source by source.
+ghost use Rattle.std.specs.Prelude.{◌≡◌, ◌<◌, [], true, IfSome, None, length};
+ghost use Rattle.std.specs.List.{list_all};
+ghost use Rattle.gtid_set.specs.Kept.{are_places, are_rising, is_filled, listed, source_at, spans_of};
+ghost use Rattle.gtid_set.specs.BySource.{IsFirstSource, IsNextSource, TakesSource, are_from};
+
+use crate::sources::Source;
+use gtid_text::SourceId;
+use interval_pool::{Pool, Walk};
+use std::marker::Model;
+
+/// The sources of a set from one on, with their numbers.
+#[derive(Drop)]
+pub struct SourceLists<'a> {
+    pool: &'a Pool,
+    sources: &'a [Source],
+    order: &'a [u16],
+}
+
+impl<'a> Model for SourceLists<'a> {
+    ghost use Rattle.std.specs.Prelude.{List};
+    ghost use Rattle.gtid_text.specs.declared.Span.{Span};
+    ghost use Rattle.gtid_set.specs.Kept.{flat};
+    ghost use Rattle.gtid_set.specs.BySource.{AreLists};
+
+    ghost Value = { List Span };
+
+    ghost view = { λ s. flat s.pool.now s.sources.now s.order.now };
+
+    ghost invariant = { λ s. AreLists s.pool.now s.sources.now s.order.now };
+}
+
+/// The source at a place.
+#[inline(always)]
+fn source_of(sources: &[Source], at: u16) -> Source
+    requires { at < length sources.now }
+    ensures { result ≡ source_at sources.now at }
+{
+    sources[at as usize]
+}
+
+impl<'a> SourceLists<'a> {
+    /// All sources of a set.
+    pub fn of(pool: &'a Pool, sources: &'a [Source], order: &'a [u16]) -> SourceLists<'a>
+        requires places { are_places sources.now order.now ≡ true }
+        requires rising { are_rising (listed sources.now order.now) ≡ true }
+        requires filled { list_all (is_filled pool.now) (listed sources.now order.now) ≡ true }
+        ensures { result ≡ spans_of pool.now (listed sources.now order.now) }
+    {
+        SourceLists {
+            pool,
+            sources,
+            order,
+        }
+    }
+
+    /// The first source.
+    #[inline(always)]
+    pub fn first(&self) -> Option<SourceId>
+        ensures none { result ≡ None → self.now ≡ [] }
+        ensures some { IfSome result (IsFirstSource self.now) }
+    {
+        let Some((at, _behind)) = self.order.split_first() else {
+            return None;
+        };
+        Some(source_of(self.sources, *at).id)
+    }
+
+    /// Takes the numbers of a source that none comes before; there are none where it is not the first.
+    pub fn take(&mut self, id: SourceId) -> Walk<'a>
+        requires { are_from id self.old ≡ true }
+        ensures { TakesSource self.old id result self.new }
+    {
+        let Some((at, behind)) = self.order.split_first() else {
+            return Walk::empty();
+        };
+        let source = source_of(self.sources, *at);
+        if source.id != id {
+            return Walk::empty();
+        }
+        self.order = behind;
+        self.pool.walk(source.list)
+    }
+}
+
+/// The least source of two sets.
+pub fn next_source(left: &SourceLists<'_>, right: &SourceLists<'_>) -> Option<SourceId>
+    ensures none { result ≡ None → (left.now ≡ []) × (right.now ≡ []) }
+    ensures some { IfSome result (IsNextSource left.now right.now) }
+{
+    let Some(id) = left.first() else {
+        return right.first();
+    };
+    let Some(other) = right.first() else {
+        return Some(id);
+    };
+    if other < id {
+        return Some(other);
+    }
+    Some(id)
+}
