@@ -1,7 +1,7 @@
 pub mod TransactionLaws
 pub mod RowLaws
 pub mod Told
-pub mod VariedLaws
+pub mod KeptLaws
 pub mod Pieces
 pub mod Whole
 pub mod JournalSteps

@@ -89,7 +89,7 @@ pub added_is : (s t : Standing) (o : Option Table) (first : Bool) (type : Column
 added_is s t None first type e = absurd cc
 added_is s t (Some x) first type e = let p = if_ok _ (record s { mapping = Some (record { name = x.name; columns = x.columns ++ type ∷ [] }) }) refusals.Format t e in (x, refl, p.1)
 
-refused_is : {A : Type 0} (e : Refusal) (o : Option A) (x : A) → or_refused e o ≡ Ok x → o ≡ Some x
+pub refused_is : {A : Type 0} (e : Refusal) (o : Option A) (x : A) → or_refused e o ≡ Ok x → o ≡ Some x
 refused_is e None x h = absurd cc
 refused_is e (Some y) x h = ap Some (same_ok y x h)
 

@@ -17,7 +17,7 @@ use Rattle.binlog_entries.specs.declared.fault.ReadFault.TheVariants as faults
 use Rattle.binlog_entries.specs.declared.fault.Refusal.{Refusal}
 use Rattle.binlog_entries.proofs.TransactionLaws.{bind_ok}
 use Rattle.binlog_entries.proofs.Told.{entries_told}
-use Rattle.binlog_entries.proofs.VariedLaws.{varied_told}
+use Rattle.binlog_entries.proofs.KeptLaws.{before_told, varied_told}
 use Rattle.binlog_entries.proofs.Pieces.{stopped_stays}
 
 -- ---- lines out of bytes
@@ -180,15 +180,15 @@ speak s (line ∷ lines) t h =
 
 -- ---- the whole
 
-ended_is : (b : Bool) (s : Standing) (n : ℕ) (rest : List ℕ) (x : Told) → ended b s n rest ≡ Ok x → (b ≡ true) × (rest ≡ []) × (s.entries ≡ x.1) × (s.varied ≡ x.2)
-ended_is true s n [] x e = let same : (s.previous, s.entries, s.varied) ≡ x = told_same _ x e in (refl, refl, ap (λ (y : Told). y.1) same, ap (λ (y : Told). y.2) same)
+ended_is : (b : Bool) (s : Standing) (n : ℕ) (rest : List ℕ) (x : Told) → ended b s n rest ≡ Ok x → (b ≡ true) × (rest ≡ []) × (s.previous ≡ x.0) × (s.entries ≡ x.1) × (s.varied ≡ x.2)
+ended_is true s n [] x e = let same : (s.previous, s.entries, s.varied) ≡ x = told_same _ x e in (refl, refl, ap (λ (y : Told). y.0) same, ap (λ (y : Told). y.1) same, ap (λ (y : Told). y.2) same)
   where
     told_same : (x y : Told) → (let r : Result Told ReadFault = Ok x in r) ≡ Ok y → x ≡ y
     told_same x y e = cc
 ended_is true s n (b ∷ bs) x e = absurd cc
 ended_is false s n rest x e = absurd cc
 
-log_of : (text : List ℕ) (p : Progress) (x : Told) → eats start text ≡ p → closing p ≡ Ok x → IsLog text x.1 x.2
+log_of : (text : List ℕ) (p : Progress) (x : Told) → eats start text ≡ p → closing p ≡ Ok x → IsLog text x.0 x.1 x.2
 log_of text (Stopped fault) x e h = absurd cc
 log_of text (Reading s n rest) x e h =
     let d = ended_is (is_closed s.body) s n rest x h in
@@ -200,11 +200,12 @@ log_of text (Reading s n rest) x e h =
       whole = k.whole;
       said = spoken.said;
       say = spoken.say;
-      means = entries_told spoken.said s spoken.run d.0 ∙ ap spelled d.2;
-      varies = sym d.3 ∙ varied_told spoken.said s spoken.run;
+      means = entries_told spoken.said s spoken.run d.0 ∙ ap spelled d.3;
+      before = sym d.2 ∙ before_told spoken.said s spoken.run;
+      varies = sym d.4 ∙ varied_told spoken.said s spoken.run;
     }
 
-pub read_found : (text : List ℕ) (x : Told) → Ends (Ok x) (closing (eats start text)) → IsLog text x.1 x.2
+pub read_found : (text : List ℕ) (x : Told) → Ends (Ok x) (closing (eats start text)) → IsLog text x.0 x.1 x.2
 read_found text x (inl h) = absurd (let bad = h.1 in cc)
 read_found text x (inr h) = log_of text (eats start text) x refl (sym h)
 
@@ -271,7 +272,7 @@ read_refused text (faults.Unfinished n) (inr h) = unfinished_at text (eats start
 
 -- ---- of what was read
 
-pub seen_found : {X : Type 0} (view : X → Told) (text : List ℕ) (r : Result X ReadFault) → Ends (Seen view r) (closing (eats start text)) → IfOk r (λ x. IsLog text (view x).1 (view x).2)
+pub seen_found : {X : Type 0} (view : X → Told) (text : List ℕ) (r : Result X ReadFault) → Ends (Seen view r) (closing (eats start text)) → IfOk r (λ x. IsLog text (view x).0 (view x).1 (view x).2)
 seen_found view text (Ok x) h = read_found text (view x) h
 seen_found view text (Err fault) h = tt
 

@@ -15,12 +15,12 @@ use Rattle.binlog_entries.specs.declared.as_journal.LogFault.{LogFault}
 use Rattle.binlog_entries.specs.declared.import.ImportFault.{ImportFault}
 use Rattle.binlog_entries.specs.declared.import.ImportFault.TheVariants as faults
 
--- What is written is the text of a journal whose entries spell what the lines of the log's text mean. The server compares each key by its bytes,
--- unless that is not asked.
+-- What is written is the text of a journal whose entries spell what the lines of the log's text mean, behind what they say was executed before. The
+-- server compares each key by its bytes, unless that is not asked.
 pub record Imports (tables : List Table) (bytes : Bool) (text written : List ℕ) : Type 0 where
   pub journal : JournalValue
   pub varied : List Varied
-  pub log : IsLog text journal.entries varied
+  pub log : IsLog text journal.previous journal.entries varied
   pub keys : bytes ≡ false → place_varied tables varied ≡ None
   pub spells : written ≡ spelling_as Two (right_stamps Two tables journal.entries) journal
 
@@ -29,14 +29,15 @@ pub record IsUnfit (fault : LogFault) (text : List ℕ) : Type 0 where
   pub previous : Gtids
   pub entries : List Entry
   pub varied : List Varied
-  pub log : IsLog text entries varied
+  pub log : IsLog text previous entries varied
   pub unfit : IsNoJournal fault previous entries
 
 -- the text is that of a log, and the first key that the server compares otherwise than its bytes is one of this table
 pub record HasVariedKey (tables : List Table) (place : ℕ) (text : List ℕ) : Type 0 where
+  pub previous : Gtids
   pub entries : List Entry
   pub varied : List Varied
-  pub log : IsLog text entries varied
+  pub log : IsLog text previous entries varied
   pub key : place_varied tables varied ≡ Some place
 
 -- memory was refused, or a line is, or a key, or an entry

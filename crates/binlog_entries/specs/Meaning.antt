@@ -1,7 +1,10 @@
 -- What lines mean, and what entries spell.
 use Rattle.std.specs.Prelude.{ℕ, ◌+◌, ◌-◌, Bool, true, false, List, [], ◌∷◌, ◌++◌, Option, Some, None, if◌then◌else◌}
 use Rattle.std.specs.List.{flat_map}
+use Rattle.std.specs.FinSet as set
+use Rattle.gtid_set.specs.Sets.{Gtids}
 use Rattle.gtid_text.specs.Canonical.{gtid_text}
+use Rattle.journal_words.specs.Gtids.{set_of_word}
 use Rattle.journal.specs.declared.Entry.{Entry}
 use Rattle.rows.specs.declared.value.Value.{Value}
 use Rattle.rows.specs.declared.change.Change.{Change}
@@ -138,6 +141,23 @@ varied_by c vs (OfValue n text) = vs
 abbrev pub varied_in : Context → List Varied → List Said → List Varied
 varied_in c vs [] = vs
 varied_in c vs (l ∷ ls) = varied_in (context_behind c l) (varied_by c vs l) ls
+
+-- what was executed before, behind a line that says so
+abbrev pub with_sources : Gtids → Option Gtids → Gtids
+with_sources before None = before
+with_sources before (Some more) = set.union before more
+
+-- What lines say was executed before: the sets that stand before the first GTID, together.
+abbrev pub executed_before : Gtids → List Said → Gtids
+executed_before before [] = before
+executed_before before (OfGtid gtid ∷ ls) = before
+executed_before before (OfSources sources more ∷ ls) = executed_before (with_sources before (set_of_word sources)) ls
+executed_before before (OfMark mark ∷ ls) = executed_before before ls
+executed_before before (OfHead event ∷ ls) = executed_before before ls
+executed_before before (OfTable database table ∷ ls) = executed_before before ls
+executed_before before (OfColumn column ∷ ls) = executed_before before ls
+executed_before before (OfRow operation database table ∷ ls) = executed_before before ls
+executed_before before (OfValue n text ∷ ls) = executed_before before ls
 
 -- ---- of entries
 

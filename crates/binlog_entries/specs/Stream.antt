@@ -1,6 +1,7 @@
 -- The text of a log that comes byte by byte.
 use Rattle.std.specs.Prelude.{◌≡◌, ◌⊎◌, ℕ, ◌+◌, ◌-◌, ◌^◌, min, Bool, true, false, ◌==◌, List, [], ◌∷◌, ◌++◌, Option, Some, None, Result, Ok, Err, if◌then◌else◌}
 use Rattle.std.specs.List.{flat_map, AllByRecursion}
+use Rattle.std.specs.FinSet as set
 use Rattle.gtid_set.specs.declared.fault.SetFault.{SetFault}
 use Rattle.gtid_set.specs.Sets.{Gtids}
 use Rattle.journal.specs.declared.Entry.{Entry}
@@ -8,7 +9,7 @@ use Rattle.txn_journal.specs.Words.{IsOneLine}
 use Rattle.binlog_text.specs.Lines.{Said, IsLine}
 use Rattle.binlog_entries.specs.Machine.{Standing, ◌>>=◌, judge, is_closed}
 use Rattle.binlog_entries.specs.Machine as machine
-use Rattle.binlog_entries.specs.Meaning.{meaning, nowhere, spelled, varied_in}
+use Rattle.binlog_entries.specs.Meaning.{meaning, nowhere, spelled, executed_before, varied_in}
 use Rattle.binlog_entries.specs.declared.varied.Varied.{Varied}
 use Rattle.binlog_entries.specs.declared.fault.ReadFault.{ReadFault}
 use Rattle.binlog_entries.specs.declared.fault.ReadFault.TheVariants as faults
@@ -105,15 +106,16 @@ Say [] [] = Unit {0}
 Say (line ∷ lines) (l ∷ ls) = IsLine l line × Say lines ls
 Say _ _ = ⊥
 
--- The text is lines that say something each, and what they mean is what the entries spell, in order. These are the columns that the server compares
--- otherwise than their bytes.
-pub record IsLog (text : List ℕ) (entries : List Entry) (varied : List Varied) : Type 0 where
+-- The text is lines that say something each, and what they mean is what the entries spell, in order. This was executed before, and these are the
+-- columns that the server compares otherwise than their bytes.
+pub record IsLog (text : List ℕ) (previous : Gtids) (entries : List Entry) (varied : List Varied) : Type 0 where
   pub lines : List (List ℕ)
   pub parts : text ≡ flat_map ended_line lines
   pub whole : AllByRecursion IsOneLine lines
   pub said : List Said
   pub say : Say lines said
   pub means : meaning nowhere said ≡ spelled entries
+  pub before : previous ≡ executed_before set.empty said
   pub varies : varied ≡ varied_in nowhere [] said
 
 -- what lines make, one after another

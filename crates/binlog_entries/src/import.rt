@@ -1,9 +1,6 @@
 //! The text of a log as that of a journal.
-ghost use Rattle.std.specs.Prelude.{◌≡◌, IfOk, IfErr};
-ghost use Rattle.gtid_set.specs.declared.fault.SetFault.TheVariants.{Memory};
+ghost use Rattle.std.specs.Prelude.{IfOk, IfErr};
 ghost use Rattle.binlog_entries.specs.Imports.{Imports, IsNoImport};
-ghost use Rattle.binlog_entries.specs.declared.as_journal.LogFault.TheVariants as log_faults;
-ghost use Rattle.binlog_entries.specs.declared.import.ImportFault.TheVariants as import_faults;
 
 use crate::as_journal::LogFault;
 use crate::fault::ReadFault;
@@ -11,7 +8,7 @@ use crate::keys::varied_key;
 use crate::reader::read_log;
 use gtid_set::SetFault;
 use rows::Schema;
-use std::alloc::{AllocError, Global};
+use std::alloc::Global;
 use thiserror::Error;
 use txn_journal::encode_v2;
 
@@ -27,14 +24,6 @@ pub enum ImportFault {
     /// What it tells is no journal.
     #[error("{0}")]
     Log(LogFault),
-}
-
-impl From<AllocError> for ImportFault {
-    ghost from_gives = { λ _ e. e ≡ import_faults.Log (log_faults.Set Memory) };
-
-    fn from(_e: AllocError) -> ImportFault {
-        ImportFault::Log(LogFault::Set(SetFault::Memory))
-    }
 }
 
 /// The text, by version 2 of the format, of the journal that the text of a binary log tells; its entries change tables of this schema.
@@ -57,8 +46,12 @@ pub fn import_journal(
     if let Some(table) = varied_key(bytes, schema.tables(), &log.varied) {
         return Err(ImportFault::Key(table));
     }
-    match log.journal(alloc) {
-        Ok(journal) => Ok(encode_v2(alloc, schema, &journal)?),
-        Err(fault) => Err(ImportFault::Log(fault)),
+    let journal = match log.journal(alloc) {
+        Ok(journal) => journal,
+        Err(fault) => return Err(ImportFault::Log(fault)),
+    };
+    match encode_v2(alloc, schema, &journal) {
+        Ok(written) => Ok(written),
+        Err(_) => Err(ImportFault::Log(LogFault::Set(SetFault::Memory))),
     }
 }

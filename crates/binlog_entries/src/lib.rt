@@ -34,7 +34,7 @@ pub use draft::{Draft, Log};
 pub use fault::{Fault, ReadFault, Refusal};
 pub use import::{ImportFault, import_journal};
 pub use laws::{cut_anywhere, entries_are_told, statements_hold_no_rows};
-pub use reader::{Reader, read_log};
+pub use reader::{Reader, cut_line, read_log};
 pub use varied::Varied;
 
 #[cfg(test)]

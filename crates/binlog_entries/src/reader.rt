@@ -12,7 +12,7 @@ use memchr::memchr;
 use std::alloc::Global;
 
 /// The first line of a text, and what follows its line feed.
-fn cut_line(text: &[u8]) -> Option<(&[u8], &[u8])>
+pub fn cut_line(text: &[u8]) -> Option<(&[u8], &[u8])>
     ensures found { IfSome result (λ r. BeginsWithLine text.now r.0.now r.1.now) }
     ensures none { IfNone result (IsOneLine text.now) }
 {
@@ -163,7 +163,7 @@ fn read(alloc: Global, text: &[u8]) -> Result<Log, ReadFault>
 /// What the text of a binary log tells, the text of its files one after another.
 pub fn read_log(alloc: Global, text: &[u8]) -> Result<Log, ReadFault>
     // What the lines of the text mean, the entries spell.
-    ensures found { IfOk result (λ log. IsLog text.now log.entries.items log.varied.items) }
+    ensures found { IfOk result (λ log. IsLog text.now log.previous log.entries.items log.varied.items) }
     // Which line is the first that is refused, and what is wrong with it.
     ensures refused { IfErr result (λ fault. Refuses fault text.now) }
     // The same, by the fold over the bytes.

@@ -2,3 +2,4 @@ pub mod Finding
 pub mod Histories
 pub mod Receipts
 pub mod Written
+pub mod Importing

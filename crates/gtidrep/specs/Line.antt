@@ -1,7 +1,7 @@
 -- What a command line says.
 use Rattle.std.specs.Prelude.{◌≤◌}
 use Rattle.gtidrep.specs.declared.line.Command.{Command}
-use Rattle.gtidrep.specs.declared.line.Command.TheVariants.{Set, Position, Audit, Upgrade, States, Apply}
+use Rattle.gtidrep.specs.declared.line.Command.TheVariants.{Set, Position, Audit, Upgrade, Import, States, Apply}
 
 -- an `apply` is for 1 to 64 workers
 abbrev pub IsForOneToMost : Command → Type 0
@@ -10,4 +10,5 @@ IsForOneToMost (Set function first second) = Unit {0}
 IsForOneToMost Audit = Unit {0}
 IsForOneToMost Upgrade = Unit {0}
 IsForOneToMost States = Unit {0}
+IsForOneToMost (Import bytes) = Unit {0}
 IsForOneToMost (Position own ask) = Unit {0}

@@ -26,6 +26,10 @@ pub enum Command<'a> {
     Upgrade,
     /// Servers from standard input are set beside one another.
     States,
+    /// A bundle from standard input whose journals are the texts of binary logs is written by version 2.
+    Import {
+        bytes: bool,
+    },
     /// A bundle from standard input is applied by 1 to 64 workers.
     Apply {
         workers: u8,
@@ -102,6 +106,17 @@ Example:
 
 Status: 0 printed, 1 refused, 2 the command line, 3 memory, 4 reading or writing failed.";
 
+const IMPORT_EXAMPLE: &str =
+    "Reads a bundle of version 2 in which each journal is what mysqlbinlog prints of binary logs of MySQL, and prints it with
+its journals. Transactions of the opening set are left out by mysqlbinlog itself. A refusal names the line of the input.
+
+Example:
+  (cat head; echo channel east
+   mysqlbinlog -v --base64-output=decode-rows --print-table-metadata --exclude-gtids=OPENING east-bin.0*
+   echo done) | gtidrep import > shop.bundle
+
+Status: 0 printed, 1 refused, 2 the command line, 3 memory, 4 reading or writing failed.";
+
 const APPLY_EXAMPLE: &str =
     "Prints the executed set and the rows, or the line that says why the bundle does not apply.
 
@@ -168,6 +183,17 @@ fn states_command<'a>(alloc: Global) -> clap::Command<'a> {
         .after_help(STATES_EXAMPLE)
 }
 
+fn import_command<'a>(alloc: Global) -> Result<clap::Command<'a>, AllocError> {
+    let bytes = Arg::new(alloc, "bytes")
+        .long("bytes")
+        .action(ArgAction::SetTrue)
+        .help("takes keys that the server compares otherwise than by their bytes");
+    clap::Command::new(alloc, "import")
+        .about("Writes a bundle whose journals are the texts of binary logs: import < examples/shop.logs")
+        .after_help(IMPORT_EXAMPLE)
+        .arg(bytes)
+}
+
 fn apply_command<'a>(alloc: Global) -> Result<clap::Command<'a>, AllocError> {
     let workers = Arg::new(alloc, "workers")
         .long("workers")
@@ -198,6 +224,7 @@ fn all_commands<'a>(alloc: Global) -> Result<clap::Command<'a>, AllocError> {
     let program = program.subcommand(audit_command(alloc))?;
     let program = program.subcommand(upgrade_command(alloc))?;
     let program = program.subcommand(states_command(alloc))?;
+    let program = with_command(program, import_command(alloc))?;
     with_command(program, apply_command(alloc))
 }
 
@@ -236,6 +263,11 @@ fn command_of<'a>(name: &str, matches: &ArgMatches<'a>) -> Option<Command<'a>>
     }
     if name == "states" {
         return Some(Command::States);
+    }
+    if name == "import" {
+        return Some(Command::Import {
+            bytes: matches.get_flag("bytes"),
+        });
     }
     Some(Command::Apply {
         workers: workers_of(matches)?,

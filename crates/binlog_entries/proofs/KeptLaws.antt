@@ -1,4 +1,4 @@
--- The columns that the server compares otherwise than their bytes, behind each line.
+-- What each line leaves of what was executed before, and of the columns that the server compares otherwise than their bytes.
 use Rattle.std.proofs.Common.{◌≡◌, ℕ, Bool, true, false, cond, List, [], ◌∷◌, Option, Some, None, Ok, Err, refl, sym, ap, ◌∙◌, subst}
 use Rattle.std.specs.FinSet as set
 use Rattle.journal_words.specs.Gtids.{set_of_word}
@@ -20,18 +20,26 @@ use Rattle.std.proofs.Common.{length}
 use Rattle.std.specs.Prelude.{is_some, ◌&&◌}
 use Rattle.journal_words.specs.Gtids.{gtid_of_word}
 use Rattle.binlog_entries.specs.Tables.{table_named}
-use Rattle.binlog_entries.specs.Meaning.{varied_by, varied_in}
+use Rattle.binlog_entries.specs.Meaning.{with_sources, executed_before, varied_by, varied_in}
+use Rattle.gtid_set.specs.Sets.{Gtids}
+use Rattle.binlog_entries.specs.declared.varied.Varied.{Varied}
 use Rattle.binlog_entries.specs.Varied.{varied_behind}
 use Rattle.binlog_entries.specs.Machine.{Standing, ◌>>=◌, or_refused, is_idle, is_named, is_begun, same_stage, is_whole, with_change, finish_in, finish_by, finished, is_database, may_be_database, has_rows_of, known_name, row_line, before_due, after_due, where_line, set_line, next_value, value_in, value_line, place_line, table_line, noted, column_line, commit_line, begin_line, gtid_line, sources_line, head_line, mark_line, told, step, runs, start}
 use Rattle.binlog_entries.specs.declared.draft.Part.{Part}
 use Rattle.binlog_entries.specs.declared.draft.Part.TheVariants as parts
 use Rattle.binlog_entries.proofs.TransactionLaws.{bind_ok, same_ok, if_ok, done, context_of, Sound}
 use Rattle.binlog_entries.proofs.RowLaws.{opened_is, unless_not}
-use Rattle.binlog_entries.proofs.Told.{mapped_is, added_is, test_ok, step_law, sound_start}
+use Rattle.binlog_entries.proofs.Told.{mapped_is, added_is, refused_is, test_ok, step_law, sound_start}
+
+abbrev Kept : Type 0
+Kept = List Varied × (Gtids × Bool)
+
+abbrev kept : Standing → Kept
+kept s = (s.varied, (s.previous, s.is_fresh))
 
 -- they stay
 abbrev Stay : Standing → Standing → Type 0
-Stay s t = t.varied ≡ s.varied
+Stay s t = kept t ≡ kept s
 
 by_ok : (s x t : Standing) → Stay s x → done x ≡ Ok t → Stay s t
 by_ok s x t same e = subst (Stay s) (same_ok x t e) same
@@ -73,19 +81,29 @@ value_line_stays : (s t : Standing) (n : ℕ) (text : List ℕ) → value_line s
 unfolding value_line
 value_line_stays s t n text h = value_stays s t s.part n text h
 
-gtid_stays : (s t : Standing) (word : List ℕ) → gtid_line s word ≡ Ok t → Stay s t
+-- no set that comes behind a GTID is read
+gtid_ends : (s t : Standing) (word : List ℕ) → gtid_line s word ≡ Ok t → kept t ≡ (s.varied, (s.previous, false))
 unfolding gtid_line
-gtid_stays s t word h =
+gtid_ends s t word h =
     let a = unless_not (is_idle s.stage) refusals.Gtid _ t h in
     let b = bind_ok (or_refused refusals.Gtid (gtid_of_word word)) _ t a.1 in
-    by_ok s _ t refl b.2
+    subst (λ (u : Standing). kept u ≡ (s.varied, (s.previous, false))) (same_ok _ t b.2) refl
 
-sources_stays : (s t : Standing) (word : List ℕ) → sources_line s word ≡ Ok t → Stay s t
+-- what is executed before, where sets are read
+abbrev joined : Bool → Gtids → Option Gtids → Gtids
+joined true before more = with_sources before more
+joined false before more = before
+
+sources_join : (s t : Standing) (word : List ℕ) → sources_line s word ≡ Ok t → kept t ≡ (s.varied, (joined s.is_fresh s.previous (set_of_word word), s.is_fresh))
 unfolding sources_line
-sources_stays s t word h = either s.is_fresh h
+sources_join s t word h = either s.is_fresh h
   where
-    either : (b : Bool) → cond b (or_refused refusals.Gtid (set_of_word word) >>= λ gtids. Ok (record s { previous = set.union s.previous gtids })) (Ok s) ≡ Ok t → Stay s t
-    either true e = let a = bind_ok (or_refused refusals.Gtid (set_of_word word)) _ t e in by_ok s _ t refl a.2
+    either : (b : Bool) → cond b (or_refused refusals.Gtid (set_of_word word) >>= λ gtids. Ok (record s { previous = set.union s.previous gtids })) (Ok s) ≡ Ok t → kept t ≡ (s.varied, (joined b s.previous (set_of_word word), s.is_fresh))
+    either true e =
+        let a = bind_ok (or_refused refusals.Gtid (set_of_word word)) _ t e in
+        let more = refused_is refusals.Gtid (set_of_word word) a.0 a.1 in
+        subst (λ (u : Standing). kept u ≡ (s.varied, (with_sources s.previous (set_of_word word), s.is_fresh))) (same_ok _ t a.2)
+        (ap (λ (o : Option Gtids). (s.varied, (with_sources s.previous o, s.is_fresh))) (sym more))
     either false e = by_ok s s t refl e
 
 head_stays : (s t : Standing) (event : Event) → head_line s event ≡ Ok t → Stay s t
@@ -108,12 +126,12 @@ table_stays s t database table h =
     let m = mapped_is s t database (name_of table) b.1 in
     subst (Stay s) m.2 refl
 
-column_varies : (s t : Standing) (c : Column) → column_line s c ≡ Ok t → t.varied ≡ varied_behind s.varied s.mapping c.column_type
+column_varies : (s t : Standing) (c : Column) → column_line s c ≡ Ok t → kept t ≡ (varied_behind s.varied s.mapping c.column_type, (s.previous, s.is_fresh))
 unfolding column_line
 column_varies s t c h =
     let a = bind_ok (or_refused refusals.Type (type_named c.column_type)) _ t h in
     let m = added_is (noted s c.column_type) t s.mapping c.is_first a.0 a.2 in
-    subst (λ (u : Standing). u.varied ≡ varied_behind s.varied s.mapping c.column_type) m.2 refl
+    subst (λ (u : Standing). kept u ≡ (varied_behind s.varied s.mapping c.column_type, (s.previous, s.is_fresh))) m.2 refl
 
 mark_stays : (s t : Standing) (mark : Mark) → mark_line s mark ≡ Ok t → Stay s t
 unfolding where_line set_line begin_line commit_line
@@ -132,31 +150,89 @@ mark_stays s t marks.Comment h = by_ok s s t refl h
 mark_stays s t marks.Setting h = by_ok s s t refl h
 mark_stays s t marks.Frame h = by_ok s s t refl h
 
-told_varies : (s t : Standing) (l : Said) → told s l ≡ Ok t → t.varied ≡ varied_by (context_of s) s.varied l
-told_varies s t (OfMark mark) h = mark_stays s t mark h
-told_varies s t (OfHead event) h = head_stays s t event h
-told_varies s t (OfTable database table) h = table_stays s t database table h
-told_varies s t (OfColumn c) h = column_varies s t c h
-told_varies s t (OfGtid gtid) h = gtid_stays s t gtid h
-told_varies s t (OfSources sources more) h = sources_stays s t sources h
-told_varies s t (OfRow operation database table) h = row_stays s t operation database table h
-told_varies s t (OfValue n text) h = value_line_stays s t n text h
+-- whether sets are read, and what was executed before, behind a line
+abbrev before_by : Gtids × Bool → Said → Gtids × Bool
+before_by b (OfGtid gtid) = (b.0, false)
+before_by b (OfSources sources more) = (joined b.1 b.0 (set_of_word sources), b.1)
+before_by b (OfMark mark) = b
+before_by b (OfHead event) = b
+before_by b (OfTable database table) = b
+before_by b (OfColumn column) = b
+before_by b (OfRow operation database table) = b
+before_by b (OfValue n text) = b
 
-step_varies : (s t : Standing) (l : Said) → step s l ≡ Ok t → t.varied ≡ varied_by (context_of s) s.varied l
+abbrev kept_by : Standing → Said → Kept
+kept_by s l = (varied_by (context_of s) s.varied l, before_by (s.previous, s.is_fresh) l)
+
+told_keeps : (s t : Standing) (l : Said) → told s l ≡ Ok t → kept t ≡ kept_by s l
+told_keeps s t (OfMark mark) h = mark_stays s t mark h
+told_keeps s t (OfHead event) h = head_stays s t event h
+told_keeps s t (OfTable database table) h = table_stays s t database table h
+told_keeps s t (OfColumn c) h = column_varies s t c h
+told_keeps s t (OfGtid gtid) h = gtid_ends s t gtid h
+told_keeps s t (OfSources sources more) h = sources_join s t sources h
+told_keeps s t (OfRow operation database table) h = row_stays s t operation database table h
+told_keeps s t (OfValue n text) h = value_line_stays s t n text h
+
+step_keeps : (s t : Standing) (l : Said) → step s l ≡ Ok t → kept t ≡ kept_by s l
 unfolding step
-step_varies s t l h =
+step_keeps s t l h =
     let p = test_ok (takes s.body (kind_of l)) _ refusals.Format t h in
     let a = bind_ok (told s l) _ t p.1 in
-    subst (λ (u : Standing). u.varied ≡ varied_by (context_of s) s.varied l) (same_ok _ t a.2) (told_varies s a.0 l a.1)
+    subst (λ (u : Standing). kept u ≡ kept_by s l) (same_ok _ t a.2) (told_keeps s a.0 l a.1)
+
+-- ---- columns
 
 runs_vary : (s : Standing) (ls : List Said) (t : Standing) → Sound s → runs s ls ≡ Ok t → t.varied ≡ varied_in (context_of s) s.varied ls
 runs_vary s [] t sound h = ap (λ (u : Standing). u.varied) (sym (same_ok s t h))
 runs_vary s (l ∷ ls) t sound h =
     let a = bind_ok (step s l) _ t h in
     let first = step_law s a.0 l sound a.1 in
+    let keeps = ap (λ (k : Kept). k.0) (step_keeps s a.0 l a.1) in
     runs_vary a.0 ls t first.sound a.2
-    ∙ (λ i. varied_in (first.context i) (step_varies s a.0 l a.1 i) ls)
+    ∙ (λ i. varied_in (first.context i) (keeps i) ls)
 
 -- those of the lines of a log
 pub varied_told : (ls : List Said) (s : Standing) → runs start ls ≡ Ok s → s.varied ≡ varied_in nowhere [] ls
 varied_told ls s h = runs_vary start ls s sound_start h
+
+-- ---- what was executed before
+
+-- by what lines say, where their sets are read
+abbrev before_in : Gtids × Bool → List Said → Gtids
+before_in b ls = cond b.1 (executed_before b.0 ls) b.0
+
+passed : (before : Gtids) (fresh : Bool) (l : Said) (ls : List Said) → before_in (before_by (before, fresh) l) ls ≡ before_in (before, fresh) (l ∷ ls)
+passed before true (OfGtid gtid) ls = refl
+passed before false (OfGtid gtid) ls = refl
+passed before true (OfSources sources more) ls = refl
+passed before false (OfSources sources more) ls = refl
+passed before true (OfMark mark) ls = refl
+passed before false (OfMark mark) ls = refl
+passed before true (OfHead event) ls = refl
+passed before false (OfHead event) ls = refl
+passed before true (OfTable database table) ls = refl
+passed before false (OfTable database table) ls = refl
+passed before true (OfColumn column) ls = refl
+passed before false (OfColumn column) ls = refl
+passed before true (OfRow operation database table) ls = refl
+passed before false (OfRow operation database table) ls = refl
+passed before true (OfValue n text) ls = refl
+passed before false (OfValue n text) ls = refl
+
+none_left : (before : Gtids) (fresh : Bool) → before ≡ before_in (before, fresh) []
+none_left before true = refl
+none_left before false = refl
+
+runs_before : (s : Standing) (ls : List Said) (t : Standing) → runs s ls ≡ Ok t → t.previous ≡ before_in (s.previous, s.is_fresh) ls
+runs_before s [] t h = ap (λ (u : Standing). u.previous) (sym (same_ok s t h)) ∙ none_left s.previous s.is_fresh
+runs_before s (l ∷ ls) t h =
+    let a = bind_ok (step s l) _ t h in
+    let keeps = ap (λ (k : Kept). k.1) (step_keeps s a.0 l a.1) in
+    runs_before a.0 ls t a.2
+    ∙ ap (λ (b : Gtids × Bool). before_in b ls) keeps
+    ∙ passed s.previous s.is_fresh l ls
+
+-- that of the lines of a log
+pub before_told : (ls : List Said) (s : Standing) → runs start ls ≡ Ok s → s.previous ≡ executed_before set.empty ls
+before_told ls s h = runs_before start ls s h

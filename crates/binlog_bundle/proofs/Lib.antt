@@ -1,0 +1,4 @@
+pub mod Feeding
+pub mod Cutting
+pub mod Coming
+pub mod OwnLines

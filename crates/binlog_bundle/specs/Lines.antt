@@ -1,0 +1,42 @@
+-- Lines of a bundle among those of logs.
+use Rattle.std.specs.Prelude.{◌≡◌, ℕ, ◌==◌, ◌||◌, Bool, true, false, List, [], ◌∷◌, ◌++◌, codes, nat_eq}
+use Rattle.std.specs.List.{starts_with, count_by, flat_map, AllByRecursion}
+use Rattle.std.specs.Str.{bytes_eq}
+use Rattle.txn_journal.specs.Words.{IsOneLine, BeginsWithLine}
+
+abbrev pub ended : List ℕ → List ℕ
+ended line = line ++ 10 ∷ []
+
+abbrev pub is_channel : List ℕ → Bool
+is_channel line = starts_with nat_eq line (codes "channel ")
+
+-- a line that begins a channel, or the last line of a bundle; no line of a log is either
+abbrev pub is_own : List ℕ → Bool
+is_own line = is_channel line || bytes_eq line (codes "done")
+
+-- how many lines end in a text
+abbrev pub lines_in : List ℕ → ℕ
+lines_in bytes = count_by (λ b. b == 10) bytes
+
+-- a whole line of no bundle's own
+abbrev pub IsOther : List ℕ → Type 0
+IsOther line = IsOneLine line × (is_own line ≡ false)
+
+-- whole lines, none of them a bundle's own, and less than a line
+pub record HasNoOwn (text : List ℕ) : Type 0 where
+  pub lines : List (List ℕ)
+  pub rest : List ℕ
+  pub parts : text ≡ flat_map ended lines ++ rest
+  pub others : AllByRecursion IsOther lines
+  pub part : IsOneLine rest
+
+-- a text is nothing, or begins with a line of a bundle's own
+pub data BeginsOwn (text : List ℕ) : Type 0 where
+  Nothing : text ≡ [] → BeginsOwn text
+  Begins : (line after : List ℕ) → BeginsWithLine text line after → is_own line ≡ true → BeginsOwn text
+
+-- what stands before the first line of a bundle's own, and the text from there on
+pub record IsCut (text front rest : List ℕ) : Type 0 where
+  pub parts : text ≡ front ++ rest
+  pub none : HasNoOwn front
+  pub begins : BeginsOwn rest

@@ -1,0 +1,28 @@
+-- Tables that a log maps.
+use Rattle.std.specs.Prelude.{◌≡◌, ℕ, not, Bool, true, false, List, ◌∷◌, ◌++◌, Option, Some}
+use Rattle.std.specs.List.{list_any, flat_map, AllByRecursion}
+use Rattle.std.specs.Str.{bytes_eq}
+use Rattle.rows.specs.declared.schema.Table.{Table}
+use Rattle.txn_journal.specs.Stream.{next_number}
+use Rattle.txn_journal.specs.Words.{IsOneLine}
+use Rattle.binlog_text.specs.Lines.{Said, OfTable}
+use Rattle.binlog_text.specs.Reading.{line_of}
+use Rattle.binlog_bundle.specs.Lines.{ended, lines_in}
+
+abbrev pub has_table : List Table → List ℕ → Bool
+has_table tables name = list_any (λ t. bytes_eq t.name name) tables
+
+-- what a line says maps a table that is none of these
+abbrev pub maps_other : List Table → Option Said → Bool
+maps_other tables (Some (OfTable database table)) = not (has_table tables table)
+maps_other tables _ = false
+
+-- A line of the log, with this number, maps a table that is none of these.
+pub record HasOther (tables : List Table) (n : ℕ) (log : List ℕ) : Type 0 where
+  pub before : List (List ℕ)
+  pub line : List ℕ
+  pub rest : List ℕ
+  pub parts : log ≡ flat_map ended before ++ (line ++ 10 ∷ rest)
+  pub whole : AllByRecursion IsOneLine before × IsOneLine line
+  pub maps : maps_other tables (line_of line) ≡ true
+  pub number : n ≡ next_number (lines_in (flat_map ended before))

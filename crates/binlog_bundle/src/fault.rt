@@ -1,0 +1,58 @@
+//! Why a bundle of logs is not read.
+ghost use Rattle.std.specs.Prelude.{◌≡◌};
+ghost use Rattle.binlog_bundle.specs.Refused.{moved, placed};
+
+use binlog_entries::ImportFault;
+use thiserror::Error;
+use txn_journal::JournalFault;
+
+/// Why a bundle of logs is not read. Lines count from 1 over the whole text.
+#[derive(Clone, Copy, Debug, PartialEq, Eq, Error)]
+pub enum BundleFault {
+    /// A line of the bundle's own is faulty, or the text ends before its last line.
+    #[error("{0}")]
+    Own(JournalFault),
+    /// The log behind the line of a channel is not imported; its own lines count from the next one.
+    #[error("the log behind line {line}: {fault}")]
+    Log { line: u64, fault: ImportFault },
+    /// A line of the log behind the line of a channel maps a table that the bundle has not; it counts from the next one.
+    #[error("line {at} of the log behind line {line} maps another table")]
+    Table { line: u64, at: u64 },
+    /// What the log behind the line of a channel tells, the bundle's tables or the limits of its format do not allow. The fault names that line.
+    #[error("the journal behind that line: {0}")]
+    Journal(JournalFault),
+}
+
+/// The same fault at another line.
+pub fn moved(fault: JournalFault, line: u64) -> JournalFault
+    ensures { result ≡ moved fault line }
+{
+    match fault {
+        JournalFault::Set(fault) => JournalFault::Set(fault),
+        JournalFault::Line { line: _, cause } => JournalFault::Line { line, cause },
+        JournalFault::Truncated { line: _ } => JournalFault::Truncated { line },
+    }
+}
+
+/// Why a channel is not read, without its line.
+#[derive(Clone, Copy, Debug, PartialEq, Eq)]
+pub enum ChannelFault {
+    Own(JournalFault),
+    Log(ImportFault),
+    Table(u64),
+    Journal(JournalFault),
+}
+
+impl ChannelFault {
+    /// The fault of a bundle whose channel stands at this line.
+    pub fn at(self, line: u64) -> BundleFault
+        ensures { result ≡ placed self line }
+    {
+        match self {
+            ChannelFault::Own(fault) => BundleFault::Own(moved(fault, line)),
+            ChannelFault::Log(fault) => BundleFault::Log { line, fault },
+            ChannelFault::Table(at) => BundleFault::Table { line, at },
+            ChannelFault::Journal(fault) => BundleFault::Journal(moved(fault, line)),
+        }
+    }
+}
