@@ -3,3 +3,4 @@ pub mod Histories
 pub mod Receipts
 pub mod Written
 pub mod Importing
+pub mod Coming

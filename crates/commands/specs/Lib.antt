@@ -6,3 +6,4 @@ pub mod Bundles
 pub mod Imports
 pub mod Positions
 pub mod States
+pub mod Texts

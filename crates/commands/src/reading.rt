@@ -1,29 +1,35 @@
 //! All that a reader gives.
 ghost use Rattle.std.specs.Prelude.{◌≡◌, IfOk, IfErr, OnOk};
-ghost use Rattle.commands.specs.Edge.{input_of, HasRead, ReadFault};
+ghost use Rattle.commands.specs.Edge.{input_of, ReadFault};
+ghost use Rattle.commands.specs.Texts.{HasFound};
 
 use crate::edge::{RunFault, Source};
+use crate::text::Text;
 use std::alloc::Global;
+use txn_journal::JournalFault;
 
 /// A reader that has not ended after so many calls has failed (our own rule).
 const MOST_READS: u64 = 1_099_511_627_776;
 
-/// All bytes that a reader gives, in pieces of at most 4,096.
-pub(crate) fn read_all<S: Source>(alloc: Global, reader: &mut S) -> Result<Vec<u8>, RunFault>
-    ensures read { IfOk result (λ bytes. HasRead (S.left reader.old) (S.left reader.new) bytes.items) }
+/// What all bytes are read as that a reader gives, in pieces of at most 65,536.
+pub(crate) fn read_text<T: Text, S: Source>(
+    alloc: Global,
+    reader: &mut S,
+) -> Result<Result<T, JournalFault>, RunFault>
+    ensures read { IfOk result (HasFound T.spells T.decoded T.is_read (S.left reader.old) (S.left reader.new)) }
     ensures calm { OnOk result (S.failed reader.new ≡ S.failed reader.old) }
     ensures fault { IfErr result (ReadFault (input_of S.left S.failed reader.old) (input_of S.left S.failed reader.new)) }
 {
-    let mut bytes = Vec::new(alloc);
-    let mut piece = [0u8; 4096];
+    let mut text = T::start(alloc);
+    let mut piece = [0u8; 65_536];
     for _turn in 0..MOST_READS {
         let Ok(n) = reader.read(&mut piece) else {
             return Err(RunFault::Read);
         };
         if n == 0 {
-            return Ok(bytes);
+            return Ok(T::finish(alloc, text));
         }
-        let Ok(()) = bytes.extend_from_slice(&piece[..n]) else {
+        let Ok(()) = T::feed(alloc, &mut text, &piece[..n]) else {
             return Err(RunFault::Memory);
         };
     }

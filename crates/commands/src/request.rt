@@ -1,6 +1,7 @@
 //! What a command reads and answers, and how it is run.
-ghost use Rattle.std.specs.Prelude.{◌≡◌, IfOk, IfErr};
+ghost use Rattle.std.specs.Prelude.{◌≡◌, ℕ, List, IfOk, IfErr};
 ghost use Rattle.gtid_set.specs.declared.fault.SetFault.{SetFault};
+ghost use Rattle.commands.specs.Texts.{IsTextOf};
 ghost use Rattle.commands.specs.Said.{Said, Holds, HoldsOne, Finds, Tells, GivesUp, to_all, IsDone, HasFailed};
 
 use crate::answer::{Answer, settle};
@@ -10,6 +11,7 @@ use crate::text::Text;
 use gtid_report::Fault;
 use std::alloc::Global;
 use std::mem;
+use txn_journal::JournalFault;
 
 /// What a command answers to the value that it reads.
 pub(crate) trait Request {
@@ -33,14 +35,17 @@ pub(crate) trait Request {
         ensures fault { IfErr result (GivesUp (may_fail self.now value.now)) };
 }
 
-/// The answer to the bytes. They are let go once they are decoded; the value is left to the end of the
-/// process, which takes it back at once and not piece by piece.
-fn find<Q: Request>(alloc: Global, request: &Q, bytes: Vec<u8>) -> Result<Answer, Fault>
-    requires { Q.ready request.now }
-    ensures { Finds (Tells Q.Value.spells Q.Value.decoded (Q.says request.now) (Q.may_fail request.now)) bytes.items result }
+/// The answer to what the bytes are read as. A value is left to the end of the process, which takes it
+/// back at once and not piece by piece.
+fn find<Q: Request>(
+    alloc: Global,
+    request: &Q,
+    decoded: Result<Q::Value, JournalFault>,
+) -> Result<Answer, Fault>
+    requires ready { Q.ready request.now }
+    requires read { IfOk decoded Q.Value.is_read }
+    ensures { (bytes : List ℕ) → IsTextOf Q.Value.spells Q.Value.decoded Q.Value.is_read bytes decoded → Finds (Tells Q.Value.spells Q.Value.decoded (Q.says request.now) (Q.may_fail request.now)) bytes result }
 {
-    let decoded = Q::Value::decode(alloc, &bytes);
-    drop(bytes);
     match decoded {
         Ok(value) => {
             let answer = request.answer(alloc, &value);
@@ -51,13 +56,18 @@ fn find<Q: Request>(alloc: Global, request: &Q, bytes: Vec<u8>) -> Result<Answer
     }
 }
 
-/// What is written for the bytes.
-fn answer_bytes<Q: Request>(alloc: Global, request: &Q, bytes: Vec<u8>) -> Result<Answer, RunFault>
-    requires { Q.ready request.now }
-    ensures ok { IfOk result (HoldsOne (Tells Q.Value.spells Q.Value.decoded (Q.says request.now) (Q.may_fail request.now)) bytes.items) }
+/// What is written for what the bytes are read as.
+fn answer_decoded<Q: Request>(
+    alloc: Global,
+    request: &Q,
+    decoded: Result<Q::Value, JournalFault>,
+) -> Result<Answer, RunFault>
+    requires ready { Q.ready request.now }
+    requires read { IfOk decoded Q.Value.is_read }
+    ensures ok { (bytes : List ℕ) → IsTextOf Q.Value.spells Q.Value.decoded Q.Value.is_read bytes decoded → IfOk result (HoldsOne (Tells Q.Value.spells Q.Value.decoded (Q.says request.now) (Q.may_fail request.now)) bytes) }
     ensures memory { IfErr result (λ f. f ≡ RunFault.Memory) }
 {
-    settle(alloc, find(alloc, request, bytes))
+    settle(alloc, find(alloc, request, decoded))
 }
 
 /// Reads all, and writes the answer to it and nothing else.
@@ -70,7 +80,7 @@ pub(crate) fn run<Q: Request, S: Source, W: Sink>(
     ensures done { let says = Tells Q.Value.spells Q.Value.decoded (Q.says request.now) (Q.may_fail request.now) in IfOk result (IsDone (to_all says) streams.old streams.new) }
     ensures failed { let says = Tells Q.Value.spells Q.Value.decoded (Q.says request.now) (Q.may_fail request.now) in IfErr result (HasFailed (to_all says) streams.old streams.new) }
 {
-    let bytes = streams.read_all(alloc)?;
-    let answer = answer_bytes(alloc, request, bytes)?;
+    let decoded: Result<Q::Value, JournalFault> = streams.read_text(alloc)?;
+    let answer = answer_decoded(alloc, request, decoded)?;
     streams.send(&answer)
 }

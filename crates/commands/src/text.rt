@@ -1,20 +1,20 @@
 //! What commands read: bundles and journals.
-ghost use Rattle.std.specs.Prelude.{List, ℕ, Result, Err, IfOk};
+ghost use Rattle.std.specs.Prelude.{◌≡◌, ◌++◌, [], List, ℕ, Result, Err, OnOk};
 ghost use Rattle.gtid_set.specs.Full.{IsMemoryOr};
 ghost use Rattle.gtid_set.specs.declared.fault.SetFault.{SetFault};
 ghost use Rattle.gtid_set.specs.declared.fault.SetFault.TheVariants as sets;
-ghost use Rattle.txn_journal.specs.Stream.{IsWhole};
 ghost use Rattle.txn_journal.specs.declared.fault.JournalFault.{JournalFault};
 ghost use Rattle.txn_journal.specs.declared.fault.JournalFault.TheVariants as journals;
 ghost use Rattle.serving.specs.Servable.{IsServable};
 ghost use Rattle.commands.specs.Bundles.{SpellsBundle, SpellsOldBundle, bundle_in, old_bundle_in};
 ghost use Rattle.commands.specs.Positions.{SpellsJournal, journal_in};
+ghost use Rattle.commands.specs.Texts.{IsTextOf, HasCome};
 
 use journal::Journal;
 use serving::written_is_servable;
-use std::alloc::Global;
+use std::alloc::{AllocError, Global};
 use std::marker::Model;
-use txn_journal::{Bundle, JournalFault, decode, decode_bundle, decode_bundle_v1};
+use txn_journal::{Bundle, BundleReader, JournalFault, decode, decode_bundle_v1};
 
 /// What bytes are read as: a bundle or a journal.
 pub(crate) trait Text: Drop {
@@ -27,11 +27,23 @@ pub(crate) trait Text: Drop {
     /// What holds of each value that was read.
     ghost is_read: { Self → Type 0 } = { λ _. Unit {0} };
 
-    /// Reads all of the bytes.
-    fn decode(alloc: Global, bytes: &[u8]) -> Result<Self, JournalFault>
-        ensures spelled { spells bytes.now result }
-        ensures exact { IsWhole result (decoded bytes.now) }
-        ensures holds { IfOk result is_read };
+    /// What takes the bytes, piece by piece.
+    type Reader: Drop;
+
+    /// These bytes have come.
+    ghost has_come: { Self.Reader → List ℕ → Type 0 };
+
+    /// Before the first byte.
+    fn start(alloc: Global) -> Self::Reader
+        ensures { has_come result [] };
+
+    /// Takes the next piece.
+    fn feed(alloc: Global, reader: &mut Self::Reader, piece: &[u8]) -> Result<(), AllocError>
+        ensures { OnOk result ((bytes : List ℕ) → has_come reader.old bytes → has_come reader.new (bytes ++ piece.now)) };
+
+    /// What all pieces together are read as.
+    fn finish(alloc: Global, reader: Self::Reader) -> Result<Self, JournalFault>
+        ensures { (bytes : List ℕ) → has_come reader bytes → IsTextOf spells decoded is_read bytes result };
 
     /// A set is not made for want of memory, or since the grammar says that it has too many sources or intervals.
     ghost full: { (bytes : List ℕ) (f : SetFault) → spells bytes (Err (journals.Set f)) → IsMemoryOr (spells bytes (Err (journals.Set sets.SourcesFull))) (spells bytes (Err (journals.Set sets.PoolFull))) f };
@@ -46,9 +58,22 @@ impl Text for Bundle {
 
     ghost full = { λ bytes f h. h };
 
-    fn decode(alloc: Global, bytes: &[u8]) -> Result<Bundle, JournalFault> {
+    type Reader = BundleReader;
+
+    ghost has_come = { HasCome };
+
+    fn start(alloc: Global) -> BundleReader {
+        BundleReader::start(alloc)
+    }
+
+    fn feed(alloc: Global, reader: &mut BundleReader, piece: &[u8]) -> Result<(), AllocError> {
+        let _ = reader.feed(alloc, piece);
+        Ok(())
+    }
+
+    fn finish(_: Global, reader: BundleReader) -> Result<Bundle, JournalFault> {
         written_is_servable();
-        decode_bundle(alloc, bytes)
+        reader.finish()
     }
 }
 
@@ -78,8 +103,20 @@ impl Text for OldBundle {
 
     ghost full = { λ bytes f h. h };
 
-    fn decode(alloc: Global, bytes: &[u8]) -> Result<OldBundle, JournalFault> {
-        match decode_bundle_v1(alloc, bytes) {
+    type Reader = Vec<u8>;
+
+    ghost has_come = { λ reader bytes. reader.items ≡ bytes };
+
+    fn start(alloc: Global) -> Vec<u8> {
+        Vec::new(alloc)
+    }
+
+    fn feed(_: Global, reader: &mut Vec<u8>, piece: &[u8]) -> Result<(), AllocError> {
+        reader.extend_from_slice(piece)
+    }
+
+    fn finish(alloc: Global, reader: Vec<u8>) -> Result<OldBundle, JournalFault> {
+        match decode_bundle_v1(alloc, &reader) {
             Ok(bundle) => Ok(OldBundle { bundle }),
             Err(fault) => Err(fault),
         }
@@ -93,7 +130,19 @@ impl Text for Journal {
 
     ghost full = { λ bytes f h. h };
 
-    fn decode(alloc: Global, bytes: &[u8]) -> Result<Journal, JournalFault> {
-        decode(alloc, bytes)
+    type Reader = Vec<u8>;
+
+    ghost has_come = { λ reader bytes. reader.items ≡ bytes };
+
+    fn start(alloc: Global) -> Vec<u8> {
+        Vec::new(alloc)
+    }
+
+    fn feed(_: Global, reader: &mut Vec<u8>, piece: &[u8]) -> Result<(), AllocError> {
+        reader.extend_from_slice(piece)
+    }
+
+    fn finish(alloc: Global, reader: Vec<u8>) -> Result<Journal, JournalFault> {
+        decode(alloc, &reader)
     }
 }

@@ -86,7 +86,7 @@ impl Core {
             Ok(Err(_)) => return Ok(None),
             Err(fault) => return Err(fault),
         }
-        let reply = self.receive(alloc, channel, entry)?;
+        let reply = self.receive_fitting(alloc, channel, entry)?;
         Ok(Some(reply))
     }
 

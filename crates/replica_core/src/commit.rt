@@ -15,7 +15,7 @@ use apply_channel::Channel;
 use gtid_set::SetFault;
 use gtid_text::Gtid;
 use journal::Entry;
-use rows::{ApplyFault, RowFault, Transaction};
+use rows::{PrepareFault, RowFault, Transaction};
 use std::alloc::{AllocError, Global};
 use write_set::Patch;
 
@@ -97,15 +97,14 @@ impl Core {
                 free(&mut self.seats, freed);
                 return Ok(Ok(()));
             }
-            Err(ApplyFault::Row(fault)) => {
+            Err(PrepareFault::Row(fault)) => {
                 self.journal.take_back();
                 return Ok(Err(fault));
             }
-            Err(ApplyFault::Memory) => {
+            Err(PrepareFault::Memory) => {
                 self.journal.take_back();
                 return Err(SetFault::Memory);
             }
-            Err(ApplyFault::NotInSchema(_)) => unreachable!(),
         }
     }
 

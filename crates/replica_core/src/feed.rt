@@ -1,6 +1,7 @@
 //! The events of channels: OpenChannel, Position, Receive and Restart.
 ghost use Rattle.std.specs.Prelude.{◌≡◌, IfOk, IfErr, OnErr, true, None};
 ghost use Rattle.journal.specs.Writing.{is_number};
+ghost use Rattle.rows.specs.Fits.{Fits};
 ghost use Rattle.replica_core.specs.Machine.{open_channel, position_on, receive, restart};
 ghost use Rattle.replica_core.specs.Faults.{IsFault, IsFaultIn, asking, receiving};
 
@@ -76,6 +77,29 @@ impl Core {
         }
         if let Err(fault) = fits(self.rows.schema(), &entry.txn) {
             return Ok(Reply::NotInSchema(fault));
+        }
+        self.receive_fitting(alloc, channel, entry)
+    }
+
+    /// The event Receive of an entry whose transaction the schema takes. It is not asked again.
+    pub(crate) fn receive_fitting(
+        &mut self,
+        alloc: Global,
+        channel: usize,
+        entry: &Entry,
+    ) -> Result<Reply, SetFault>
+        requires number { is_number entry.now.gtid.number ≡ true }
+        requires fits { Fits self.old.site.schema entry.now.txn }
+        ensures ok { IfOk result (λ r. (r, self.new.state) ≡ receive self.old.site channel entry.now self.old.state) }
+        ensures site { self.new.site ≡ self.old.site }
+        ensures err { OnErr result (self.new ≡ self.old) }
+        ensures fault { IfErr result (λ f. IsFault (IsFaultIn f (receiving channel entry.now self.old.state)) (receive self.old.site channel entry.now self.old.state)) }
+    {
+        let Some(one) = self.channels.get(channel) else {
+            return Ok(Reply::NoChannel);
+        };
+        if one.last_ask().is_none() {
+            return Ok(Reply::NotPositioned);
         }
         let executed = self.journal.executed().contains(&entry.gtid);
         match self.channels.receive(alloc, channel, entry, executed) {

@@ -2,9 +2,9 @@
 ghost use Rattle.std.specs.Prelude.{◌≡◌, ◌≤◌, None, Ok, true, false, IfOk, IfErr, OnOk, OnErr, IfSome, MatchOption};
 ghost use Rattle.std.specs.Option.{option_copied};
 ghost use Rattle.rows.specs.Apply.{apply};
-ghost use Rattle.rows.specs.Fits.{misfit, Fits};
+ghost use Rattle.rows.specs.Fits.{Fits};
 ghost use Rattle.rows.specs.Patch.{SeesAll, IsAsSeen};
-ghost use Rattle.rows.specs.Refusal.{NamesMisfit, NamesRowFault};
+ghost use Rattle.rows.specs.Refusal.{Refuses};
 ghost use Rattle.replica_core.specs.Faults.{IsFault, IsFaultIn, committing};
 ghost use Rattle.replica_core.specs.Machine.{commit};
 ghost use Rattle.replica_core.specs.Prepared.{held_txn, IsSightOf};
@@ -12,7 +12,7 @@ ghost use Rattle.replica_core.specs.Prepared.{held_txn, IsSightOf};
 use crate::event::Reply;
 use crate::machine::{Core, is_seat};
 use gtid_set::SetFault;
-use rows::{ApplyFault, Outcome, Rows, Transaction};
+use rows::{Outcome, PrepareFault, Rows, Transaction};
 use std::alloc::{AllocError, Global};
 use write_set::{Footprint, Patch, install, list_keys};
 
@@ -33,26 +33,26 @@ fn install_of(rows: &mut Rows, txn: &Transaction, patch: Patch) -> Result<bool, 
     }
 }
 
-/// Applies a transaction: by its patch where there is one, and that is of it and still true.
+/// Applies a transaction that the schema takes: by its patch where there is one, and that is of it and still true.
 pub(crate) fn apply_with(
     rows: &mut Rows,
     alloc: Global,
     txn: &Transaction,
     patch: Option<Patch>,
-) -> Result<(), ApplyFault>
+) -> Result<(), PrepareFault>
+    requires { Fits rows.old.schema txn.now }
     ensures ok { OnOk result (apply rows.old.schema txn.now rows.old.rows ≡ Ok rows.new.rows) }
     ensures same { rows.new.schema ≡ rows.old.schema }
-    ensures not_in_schema { NamesMisfit result (misfit rows.old.schema txn.now) }
-    ensures refused { NamesRowFault result (apply rows.old.schema txn.now rows.old.rows) }
+    ensures refused { Refuses result (apply rows.old.schema txn.now rows.old.rows) }
     ensures err { OnErr result (rows.new ≡ rows.old) }
 {
     let Some(patch) = patch else {
-        return rows.apply(alloc, txn);
+        return rows.apply_fitting(alloc, txn);
     };
     match install_of(rows, txn, patch) {
         Ok(true) => return Ok(()),
-        Ok(false) => return rows.apply(alloc, txn),
-        Err(_) => return Err(ApplyFault::Memory),
+        Ok(false) => return rows.apply_fitting(alloc, txn),
+        Err(_) => return Err(PrepareFault::Memory),
     }
 }
 

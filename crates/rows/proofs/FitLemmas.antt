@@ -1,5 +1,5 @@
 -- What a transaction that fits keeps to.
-use Rattle.std.proofs.Common.{arith, ◌≡◌, ℕ, ◌+◌, ◌≤◌, ◌<◌, nat_le, Bool, true, false, cond, ◌⊎◌, inl, inr, List, [], ◌∷◌, length, Option, Some, None, Result, Ok, Err, sym, ap, subst, ◌∙◌}
+use Rattle.std.proofs.Common.{arith, ◌≡◌, ℕ, ◌+◌, ◌≤◌, ◌<◌, nat_le, Bool, true, false, cond, ◌⊎◌, inl, inr, List, [], ◌∷◌, length, Option, Some, None, Result, Ok, Err, OnOk, OnErr, sym, ap, subst, ◌∙◌}
 use Rattle.std.specs.FinMap.{get, empty, get-empty}
 use Rattle.std.specs.Option.{unwrap_or}
 use Rattle.std.proofs.lemmas.Bool.Decides.{nat_tests}
@@ -172,3 +172,8 @@ pub by_outcome : {E P : Type 0} (r : Result Outcome E) → (r ≡ Ok Installed �
 by_outcome (Ok Installed) f g h = f (λ _. Ok Installed)
 by_outcome (Ok Stale) f g h = g (λ _. Ok Stale)
 by_outcome (Err e) f g h = h e (λ _. Err e)
+
+-- what follows whether a call succeeds or not
+pub by_either : {A E B C P : Type 0} (r : Result A E) → OnOk r B → OnErr r C → (B → P) → (C → P) → P
+by_either (Ok x) b c f g = f b
+by_either (Err e) b c f g = g c

@@ -75,7 +75,10 @@ impl PartialEq for KeyValues {
     ghost laws = { partial_equiv_from_equiv (eq_by_cmp_equiv (lists_total value_total)) };
 
     fn eq(&self, other: &KeyValues) -> bool {
-        self.cmp(other).is_eq()
+        match (&self.held, &other.held) {
+            (HeldValues::One(a), HeldValues::One(b)) => *a == *b,
+            _ => self.as_slice() == other.as_slice(),
+        }
     }
 }
 
@@ -118,7 +121,10 @@ impl Ord for KeyValues {
     ghost matches_eq = { λ a b. refl };
 
     fn cmp(&self, other: &KeyValues) -> Ordering {
-        self.as_slice().cmp(other.as_slice())
+        match (&self.held, &other.held) {
+            (HeldValues::One(a), HeldValues::One(b)) => a.cmp(b),
+            _ => self.as_slice().cmp(other.as_slice()),
+        }
     }
 }
 

@@ -1,5 +1,5 @@
 //! Rows in order.
-ghost use Rattle.std.specs.Prelude.{◌≡◌, IsPermutation, IsSortedByKey, OnOk, IfOk};
+ghost use Rattle.std.specs.Prelude.{◌≡◌, true, IsPermutation, IsSortedByKey, OnOk, IfOk};
 ghost use Rattle.std.specs.FinMap as map;
 ghost use Rattle.rows.specs.Listing.{key_shown, all_shown, primary_entries, rows_of, rows_listed};
 ghost use Rattle.rows.specs.Order.{key_cmp};
@@ -25,13 +25,63 @@ fn primaries<'a>(
     Ok(list)
 }
 
-/// Puts rows in the order of their keys.
-fn sort_by_keys(list: &mut Vec<(&Key, &Row)>) -> Result<(), AllocError>
+/// Whether rows are of one table: then the values of their keys put them in order.
+fn are_of_one_table(list: &[(&Key, &Row)]) -> bool {
+    let [first, others @ ..] = list else {
+        return true;
+    };
+    let first = first.0;
+    for entry in others {
+        let key = entry.0;
+        if key.table != first.table {
+            return false;
+        }
+    }
+    true
+}
+
+/// Whether rows are in the order of their keys.
+fn are_in_order(list: &[(&Key, &Row)]) -> bool
+    ensures { result ≡ true → IsSortedByKey key_shown key_cmp list.now }
+{
+    for i in 1..list.len() {
+        if list[i].0.cmp(list[i - 1].0).is_lt() {
+            return false;
+        }
+    }
+    true
+}
+
+/// Puts rows of one table in the order of their keys' values.
+fn sort_one_table(list: &mut Vec<(&Key, &Row)>) -> Result<(), AllocError>
+    ensures { IsPermutation list.old.items list.new.items }
+{
+    if !are_of_one_table(list) {
+        return Ok(());
+    }
+    list.sort_by_key(|entry| &entry.0.values)?;
+    Ok(())
+}
+
+/// Puts rows in the order of their keys, whatever their order is.
+fn sort_anew(list: &mut Vec<(&Key, &Row)>) -> Result<(), AllocError>
     ensures same { IsPermutation list.old.items list.new.items }
     ensures sorted { OnOk result (IsSortedByKey key_shown key_cmp list.new.items) }
 {
     list.sort_by_key(|entry| entry.0)?;
     Ok(())
+}
+
+/// Puts rows in the order of their keys. Of rows of one table no names are compared more than once.
+fn sort_by_keys(list: &mut Vec<(&Key, &Row)>) -> Result<(), AllocError>
+    ensures same { IsPermutation list.old.items list.new.items }
+    ensures sorted { OnOk result (IsSortedByKey key_shown key_cmp list.new.items) }
+{
+    sort_one_table(list)?;
+    if are_in_order(list) {
+        return Ok(());
+    }
+    sort_anew(list)
 }
 
 /// These rows with their tables.

@@ -10,7 +10,7 @@ ghost use Rattle.rows.specs.Listing.{rows_listed};
 ghost use Rattle.rows.specs.Patch.{seen_of_keys};
 ghost use Rattle.rows.specs.Prepared.{IsStillTrue};
 ghost use Rattle.rows.specs.Database.{opening, AreRowsOf, LeavesImages, NoTwoCarry};
-ghost use Rattle.rows.specs.Refusal.{NamesMisfit, TellsMisfit, NamesRowFault};
+ghost use Rattle.rows.specs.Refusal.{Refuses, NamesMisfit, TellsMisfit, NamesRowFault};
 
 use crate::change::{ApplyFault, Key, PrepareFault, TableRow, Transaction};
 use crate::fitting::{fits, fits_row};
@@ -126,6 +126,19 @@ impl Rows {
         self.schema.is_equal(&other.schema) && self.carriers.is_equal(&other.carriers)
     }
 
+    /// Applies a transaction that the schema takes, wholly or not at all. The schema is not asked again.
+    pub fn apply_fitting(&mut self, alloc: Global, txn: &Transaction) -> Result<(), PrepareFault>
+        requires { Fits self.old.schema txn.now }
+        ensures ok { OnOk result (apply self.old.schema txn.now self.old.rows ≡ Ok self.new.rows) }
+        ensures left { OnOk result (LeavesImages self.old.schema txn.now self.old.rows self.new.rows) }
+        ensures no_two { NoTwoCarry self.new.schema self.new.rows }
+        ensures same { self.new.schema ≡ self.old.schema }
+        ensures refused { Refuses result (apply self.old.schema txn.now self.old.rows) }
+        ensures err { OnErr result (self.new ≡ self.old) }
+    {
+        self.carriers.apply(alloc, &self.schema, txn)
+    }
+
     /// Applies a transaction wholly, or not at all.
     pub fn apply(&mut self, alloc: Global, txn: &Transaction) -> Result<(), ApplyFault>
         ensures ok { OnOk result (apply self.old.schema txn.now self.old.rows ≡ Ok self.new.rows) }
@@ -141,7 +154,7 @@ impl Rows {
         if let Err(fault) = fits(&self.schema, txn) {
             return Err(ApplyFault::NotInSchema(fault));
         }
-        match self.carriers.apply(alloc, &self.schema, txn) {
+        match self.apply_fitting(alloc, txn) {
             Ok(()) => Ok(()),
             Err(PrepareFault::Row(fault)) => Err(ApplyFault::Row(fault)),
             Err(PrepareFault::Memory) => Err(ApplyFault::Memory),

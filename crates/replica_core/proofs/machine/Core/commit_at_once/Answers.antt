@@ -26,7 +26,7 @@ returns-in_err-reply-clause-err c =
     let r = c.args.self.now in
     let e = c.args.entry.now in
     let done = executed_as r c.execute.new.self e c.in_ok-copy.copy c.in_ok-copy.ensures.cases (rw c.in-Ok-Ok.field-0-is at c.in-Ok-Ok.ensures.ok) in
-    let h : IsLeft r.site c.args.seat c.args.channel c.args.place e r.state c.receive.new.self.state =
+    let h : IsLeft r.site c.args.seat c.args.channel c.args.place e r.state c.receive_fitting.new.self.state =
     inr (inr (record {
       rows = c.execute.new.self.state.rows;
       applied = done.applied;
@@ -55,5 +55,5 @@ returns-clause-done c =
     let may = c.is_ready_at_once.ensures yes in
     let kept = c.entries_are_kept.ensures in
     let done = executed_as r c.execute.new.self e c.in_ok-copy.copy c.in_ok-copy.ensures.cases (rw c.in-Ok-Ok.field-0-is at c.in-Ok-Ok.ensures.ok) in
-    done_ahead r c.args.seat c.args.channel c.args.place e may kept c.execute.new.self.state.rows c.execute.new.self.site c.execute.new.self.state c.receive.new.self.state c.in_ok-reply.reply
+    done_ahead r c.args.seat c.args.channel c.args.place e may kept c.execute.new.self.state.rows c.execute.new.self.site c.execute.new.self.state c.receive_fitting.new.self.state c.in_ok-reply.reply
     done.applied done.site done.state c.in_ok-reply.ensures.ok

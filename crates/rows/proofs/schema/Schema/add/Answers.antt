@@ -8,5 +8,5 @@ invariant_of-self c = subst AreTables (sym c.in_default-push.ensures.items) c.se
 
 pub invariant_of-self-2 : goal.invariant_of-self-2
 invariant_of-self-2 c =
-    subst AreTables (sym c.in-Ok.ensures.items)
+    subst AreTables (sym c.in-Ok-push.ensures.items)
     (table_added c.self.inside.tables.items c.args.table c.self.invariant (ap (λ ts. table_fault ts c.args.table) c.self.view_is ∙ sym c.table_fault.ensures ∙ c.in_default.is))

@@ -13,7 +13,7 @@ use Rattle.replica_core.specs.Slots.{seats_of}
 use Rattle.replica_core.specs.Machine.{receive, changed_at}
 use Rattle.replica_core.proofs.CoreLemmas.{replica_of}
 use Rattle.replica_core.proofs.ReceiveLemmas.{received_is, core_received, was_not_full, was_asked, len_is, there_is}
-use Rattle.replica_core.proofs.machine.Core.receive.Goals as goal
+use Rattle.replica_core.proofs.machine.Core.receive_fitting.Goals as goal
 
 pub invariant_of-self : goal.invariant_of-self
 invariant_of-self c =
@@ -21,8 +21,8 @@ invariant_of-self c =
     let e = c.args.entry.now in
     let known = c.contains-executed.ensures ∙ ap (λ (s : Gtids). set.contains s e.gtid) c.executed.ensures in
     let put = c.in-Ok.ensures.put ∙ ap (λ b. changed (changed_at c.args.channel (with_received (received_as b e)) core.channels.list) core.channels) known in
-    let fits = ap (λ (schema : List Table). misfit schema e.txn) (sym c.schema.ensures.value) ∙ c.in_default-fits.ensures.ok in
-    core_received core.rows.schema core.channels c.receive.new.self (whole core.journal.journal) (seats_of core.seats) c.args.channel e c.self.invariant fits c.requires put
+    let fits = ap (λ (schema : List Table). misfit schema e.txn) (sym c.schema.ensures.value) ∙ c.requires.fits in
+    core_received core.rows.schema core.channels c.receive.new.self (whole core.journal.journal) (seats_of core.seats) c.args.channel e c.self.invariant fits c.requires.number put
 
 pub returns-in-Ok-clause-ok : goal.returns-in-Ok-clause-ok
 returns-in-Ok-clause-ok c =
@@ -34,7 +34,7 @@ returns-in-Ok-clause-ok c =
     let at = c.in-Some.ensures.found.value in
     let known = c.contains-executed.ensures ∙ ap (λ (s : Gtids). set.contains s e.gtid) c.executed.ensures in
     let list = ap (λ (w : ChannelsValue). w.list) c.in-Ok.ensures.put ∙ ap (λ b. changed_at n (with_received (received_as b e)) core.channels.list) known in
-    let fits = ap (λ (schema : List Table). misfit schema e.txn) (sym c.schema.ensures.value) ∙ c.in_default-fits.ensures.ok in
+    let fits = ap (λ (schema : List Table). misfit schema e.txn) (sym c.schema.ensures.value) ∙ c.requires.fits in
     let asked = was_asked one (ap is_none (sym c.last_ask.ensures) ∙ there_is c.last_ask.result c.is_none.result c.is_none.ensures c.if-is_none.false) in
     let full = was_not_full n core.channels.list one at c.in-Ok.ensures.full.1 in
     let place = c.in-Ok.ensures.place ∙ len_is n core.channels.list one at in

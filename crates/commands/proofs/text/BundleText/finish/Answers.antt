@@ -1,0 +1,22 @@
+use Rattle.std.proofs.Common.{None, sym, subst}
+use Rattle.std.specs.Prelude.{Result}
+use Rattle.txn_journal.specs.BundleStates.{BundleValue}
+use Rattle.txn_journal.specs.Stream.{IsWholeOr}
+use Rattle.txn_journal.specs.BundleReading.{bundles, bundle_start, IsFaultOfBundle}
+use Rattle.txn_journal.specs.BundleReaders.{bundle_reading}
+use Rattle.txn_journal.specs.declared.fault.JournalFault.{JournalFault}
+use Rattle.txn_journal.proofs.FormatLaws.{closed_after, is_found, is_refused, whole_of}
+use Rattle.txn_journal.proofs.BundleLaws.{IsSoundBundle, bundle_laws}
+use Rattle.commands.specs.Bundles.{bundle_in}
+use Rattle.commands.proofs.Written.{bundle_spelled, bundle_servable}
+use Rattle.commands.proofs.text.BundleText.finish.Goals as goal
+
+pub returns : goal.returns
+returns c = λ bytes come.
+    let read = subst (λ (r : Result BundleValue JournalFault). IsWholeOr (IsFaultOfBundle (bundle_start None) bytes) r (bundle_in bytes)) (sym c.finish.ensures) (closed_after (bundles None) bytes (bundle_reading c.args.reader) come) in
+    let found = is_found (bundles None) (IsSoundBundle None) (bundle_laws None) c.finish.result bytes read in
+    record {
+      spelled = bundle_spelled bytes c.finish.result found (is_refused (bundles None) (IsSoundBundle None) (bundle_laws None) c.finish.result bytes read);
+      exact = whole_of _ _ _ read;
+      holds = bundle_servable bytes c.finish.result c.written_is_servable.ensures found;
+    }

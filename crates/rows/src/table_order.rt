@@ -1,0 +1,84 @@
+//! Tables that are found by their names.
+ghost use Rattle.std.specs.Prelude.{◌≡◌, ◌≤◌, length, true, Some, IfSome};
+ghost use Rattle.std.specs.Option.{option_copied};
+ghost use Rattle.rows.specs.Keys.{table_named};
+ghost use Rattle.rows.specs.Tables.{are_named_once};
+
+use crate::name::Name;
+use crate::schema::Table;
+use std::alloc::AllocError;
+use std::cmp::Ordering;
+
+/// So many tables are looked at one by one; more are kept in order. Our own rule.
+const FEW: usize = 4;
+
+/// The table of a name, looked for by halves among those whose places are in order.
+pub(crate) fn by_halves<'a>(tables: &'a [Table], order: &[usize], name: &Name) -> Option<&'a Table>
+    requires { are_named_once tables.now ≡ true }
+    ensures { IfSome result (λ table. table_named name.now tables.now ≡ Some table.now) }
+{
+    let mut low = 0;
+    let mut high = order.len();
+    while low < high {
+        let middle = low + (high - low) / 2;
+        let Some(place) = order.get(middle) else {
+            return None;
+        };
+        let Some(table) = tables.get(*place) else {
+            return None;
+        };
+        match name.cmp(&table.name) {
+            Ordering::Less => high = middle,
+            Ordering::Equal => return Some(table),
+            Ordering::Greater => low = middle + 1,
+        }
+    }
+    None
+}
+
+/// The table of a name. Each table is looked at.
+pub(crate) fn from_the_first<'a>(tables: &'a [Table], name: &Name) -> Option<&'a Table>
+    ensures { option_copied result ≡ table_named name.now tables.now }
+{
+    for table in tables {
+        if *name == table.name {
+            return Some(table);
+        }
+    }
+    None
+}
+
+/// How many of these places, in the order of their tables' names, come before a name.
+fn before(tables: &[Table], order: &[usize], name: &Name) -> usize
+    ensures { result ≤ length order.now }
+{
+    let mut low = 0;
+    let mut high = order.len();
+    while low < high {
+        let middle = low + (high - low) / 2;
+        match tables.get(order[middle]) {
+            Some(table) if table.name < *name => low = middle + 1,
+            _ => high = middle,
+        }
+    }
+    low
+}
+
+/// The places of these tables and of one more behind them, in order; of few tables none.
+pub(crate) fn order_with(
+    tables: &Vec<Table>,
+    order: &Vec<usize>,
+    name: &Name,
+) -> Result<Vec<usize>, AllocError> {
+    let mut places = order.clone()?;
+    if tables.len() < FEW {
+        return Ok(places);
+    }
+    for place in places.len()..tables.len() {
+        let at = before(tables, &places, &tables[place].name);
+        places.insert(at, place)?;
+    }
+    let at = before(tables, &places, name);
+    places.insert(at, tables.len())?;
+    Ok(places)
+}
