@@ -77,6 +77,13 @@ impl Link {
         }
     }
 
+    /// Whether it is this place.
+    pub fn is_to(self, place: usize) -> bool
+        ensures { IsTrue result → place ≤ most_cells → self ≡ Some place }
+    {
+        self.code as usize == place.wrapping_add(1)
+    }
+
     /// Whether a place comes right behind this one.
     pub fn is_before(self, at: usize) -> bool {
         self.code as usize == at

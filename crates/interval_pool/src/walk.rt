@@ -1,6 +1,6 @@
 //! A way along the cells of a list.
 ghost use Rattle.std.specs.Prelude.{◌≡◌, ◌∷◌, [], drop, MatchOption};
-ghost use Rattle.interval_pool.specs.Walks.{IsWalk, intervals_from};
+ghost use Rattle.interval_pool.specs.Walks.{IsWalk, IsWay, intervals_from, place_in};
 
 use crate::cells::Cell;
 use crate::interval::Interval;
@@ -11,19 +11,33 @@ use std::marker::Model;
 #[derive(Drop)]
 pub struct Walk<'a> {
     cells: &'a [Cell],
-    at: Link,
+    // the cells from the first one on, none at the end
+    rest: &'a [Cell],
 }
 
 impl<'a> Model for Walk<'a> {
     ghost use Rattle.std.specs.Prelude.{List};
     ghost use Rattle.interval_pool.specs.declared.interval.Interval.{Interval};
-    ghost use Rattle.interval_pool.specs.Walks.{IsWalk, intervals_from};
+    ghost use Rattle.interval_pool.specs.Walks.{IsWay, intervals_from, place_in};
 
     ghost Value = { List Interval };
 
-    ghost view = { λ w. intervals_from w.cells.now w.at };
+    ghost view = { λ w. intervals_from w.cells.now (place_in w.cells.now w.rest.now) };
 
-    ghost invariant = { λ w. IsWalk w.cells.now w.at };
+    ghost invariant = { λ w. IsWay w.cells.now w.rest.now };
+}
+
+/// The cells from one on.
+#[inline(never)]
+fn cells_from<'a>(cells: &'a [Cell], at: Link) -> &'a [Cell]
+    requires { IsWalk cells.now at }
+    ensures place { place_in cells.now result.now ≡ at }
+    ensures way { IsWay cells.now result.now }
+{
+    match at.place() {
+        None => &[],
+        Some(at) => &cells[at..],
+    }
 }
 
 /// The intervals of the cells from one on.
@@ -31,7 +45,10 @@ pub fn walk_from<'a>(cells: &'a [Cell], at: Link) -> Walk<'a>
     requires { IsWalk cells.now at }
     ensures { result ≡ intervals_from cells.now at }
 {
-    Walk { cells, at }
+    Walk {
+        cells,
+        rest: cells_from(cells, at),
+    }
 }
 
 impl<'a> Walk<'a> {
@@ -41,7 +58,7 @@ impl<'a> Walk<'a> {
     {
         Walk {
             cells: &[],
-            at: Link::none(),
+            rest: &[],
         }
     }
 
@@ -52,7 +69,7 @@ impl<'a> Walk<'a> {
     {
         Walk {
             cells: self.cells,
-            at: self.at,
+            rest: self.rest,
         }
     }
 
@@ -61,22 +78,27 @@ impl<'a> Walk<'a> {
     pub fn peek(&self) -> Option<Interval>
         ensures cases { MatchOption result (self.now ≡ []) (λ s. self.now ≡ s ∷ drop 1 self.now) }
     {
-        match self.at.place() {
+        match self.rest.split_first() {
             None => None,
-            Some(at) => Some(Interval {
-                lo: self.cells[at].lo,
-                hi: self.cells[at].hi,
+            Some((cell, _rest)) => Some(Interval {
+                lo: cell.lo,
+                hi: cell.hi,
             }),
         }
     }
 
-    /// Goes behind the first interval, if there is one.
+    /// Goes behind the first interval, if there is one. Where the cell behind it lies right behind, no link is followed.
     #[inline(always)]
     pub fn advance(&mut self)
         ensures { self.new ≡ drop 1 self.old }
     {
-        if let Some(at) = self.at.place() {
-            self.at = self.cells[at].next;
+        let Some((cell, rest)) = self.rest.split_first() else {
+            return;
+        };
+        if cell.next.is_to(self.cells.len() - rest.len()) {
+            self.rest = rest;
+        } else {
+            self.rest = cells_from(self.cells, cell.next);
         }
     }
 }

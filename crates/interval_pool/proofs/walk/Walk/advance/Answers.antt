@@ -1,16 +1,20 @@
-use Rattle.std.proofs.Common.{sym, ap, ◌∙◌, drop}
-use Rattle.std.proofs.lemmas.List.{get_or_default}
-use Rattle.interval_pool.specs.declared.cells.Cell.{Cell}
-use Rattle.interval_pool.specs.Cells.{no_cell}
+use Rattle.std.proofs.Common.{rules, ◌≡◌, ◌≤◌, ◌-◌, Some, length, drop, sym, ap, ◌∙◌, arith}
+use Rattle.interval_pool.specs.Links.{most_cells}
 use Rattle.interval_pool.specs.Walks.{intervals_from}
-use Rattle.interval_pool.proofs.Wayside.{goes_on}
+use Rattle.interval_pool.proofs.Wayside.{step_of, way_on}
 use Rattle.interval_pool.proofs.walk.Walk.advance.Goals as goal
 
-pub returns-in-Some : goal.returns-in-Some
-returns-in-Some c =
+pub returns-then-is_to : goal.returns-then-is_to
+returns-then-is_to c =
     let cells = c.self.inside.cells.now in
-    let i = c.in-Some.at in
-    let here = sym c.place.ensures ∙ c.in-Some.is in
-    let on = goes_on cells c.self.inside.at i here c.self.invariant in
-    ap (λ (d : Cell). intervals_from cells d.next) (get_or_default cells i c.index-self-at.result no_cell on.below)
-    ∙ ap (drop 1) (sym on.parts ∙ ap (intervals_from cells) (sym here) ∙ c.self.view_is)
+    let s = step_of cells c.self.inside.rest.now c.in-Some.cell.now c.in-Some.rest.now c.in-Some.ensures.cases.0 c.self.invariant in
+    let small = c.self.invariant.walks.small in
+    let few : length cells - length c.in-Some.rest.now ≤ most_cells = omega (arith, small) in
+    let to : c.in-Some.cell.now.next ≡ Some (length cells - length c.in-Some.rest.now) = search rules in
+    ap (intervals_from cells) (way_on cells c.self.inside.rest.now c.in-Some.cell.now c.in-Some.rest.now s to).0 ∙ ap (drop 1) (sym s.parts ∙ c.self.view_is)
+
+pub returns-else-is_to : goal.returns-else-is_to
+returns-else-is_to c =
+    let cells = c.self.inside.cells.now in
+    let s = step_of cells c.self.inside.rest.now c.in-Some.cell.now c.in-Some.rest.now c.in-Some.ensures.cases.0 c.self.invariant in
+    ap (intervals_from cells) c.cells_from-self-inside.ensures.place ∙ ap (drop 1) (sym s.parts ∙ c.self.view_is)

@@ -1,8 +1,7 @@
-use Rattle.std.proofs.Common.{ap, sym, ◌∙◌, List}
+use Rattle.std.proofs.Common.{ap, sym, subst, ◌∙◌}
 use Rattle.std.specs.Prelude.{is_none}
 use Rattle.std.specs.FinSet as set
-use Rattle.rows.specs.declared.schema.Table.{Table}
-use Rattle.rows.specs.Fits.{misfit}
+use Rattle.rows.specs.Fits.{Fits}
 use Rattle.gtid_set.specs.Sets.{Gtids}
 use Rattle.journal.specs.Journals.{whole}
 use Rattle.apply_channel.specs.Channels.{with_received, received_as}
@@ -21,7 +20,7 @@ invariant_of-self c =
     let e = c.args.entry.now in
     let known = c.contains-executed.ensures ∙ ap (λ (s : Gtids). set.contains s e.gtid) c.executed.ensures in
     let put = c.in-Ok.ensures.put ∙ ap (λ b. changed (changed_at c.args.channel (with_received (received_as b e)) core.channels.list) core.channels) known in
-    let fits = ap (λ (schema : List Table). misfit schema e.txn) (sym c.schema.ensures.value) ∙ c.requires.fits in
+    let fits = subst (λ (r : Replica). Fits r.site.schema e.txn) (sym c.self.view_is) c.requires.fits in
     core_received core.rows.schema core.channels c.receive.new.self (whole core.journal.journal) (seats_of core.seats) c.args.channel e c.self.invariant fits c.requires.number put
 
 pub returns-in-Ok-clause-ok : goal.returns-in-Ok-clause-ok
@@ -34,7 +33,7 @@ returns-in-Ok-clause-ok c =
     let at = c.in-Some.ensures.found.value in
     let known = c.contains-executed.ensures ∙ ap (λ (s : Gtids). set.contains s e.gtid) c.executed.ensures in
     let list = ap (λ (w : ChannelsValue). w.list) c.in-Ok.ensures.put ∙ ap (λ b. changed_at n (with_received (received_as b e)) core.channels.list) known in
-    let fits = ap (λ (schema : List Table). misfit schema e.txn) (sym c.schema.ensures.value) ∙ c.requires.fits in
+    let fits = subst (λ (r : Replica). Fits r.site.schema e.txn) (sym c.self.view_is) c.requires.fits in
     let asked = was_asked one (ap is_none (sym c.last_ask.ensures) ∙ there_is c.last_ask.result c.is_none.result c.is_none.ensures c.if-is_none.false) in
     let full = was_not_full n core.channels.list one at c.in-Ok.ensures.full.1 in
     let place = c.in-Ok.ensures.place ∙ len_is n core.channels.list one at in
