@@ -12,3 +12,6 @@ pub mod Apart
 pub mod Rising
 pub mod Once
 pub mod Lacking
+pub mod Others
+pub mod Passings
+pub mod Parts

@@ -6,3 +6,4 @@ pub mod Counting
 pub mod Missing
 pub mod Passing
 pub mod Faults
+pub mod Others

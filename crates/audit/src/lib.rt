@@ -4,6 +4,9 @@
 //! `world_of` gathers it from journals, where the first transaction of a GTID counts. `audit` gives exactly the definition `verdict`
 //! (`found`), and `audit_keys` all of it but the application. So the laws of `world` hold of what they give.
 //!
+//! `audit_all` gives the verdict and, behind it, the other journals that begin behind the opening set, the other missing GTIDs and the
+//! other shared keys: `faults_are_all` says that these are all there are, and each but once.
+//!
 //! An error is out of memory, or a full set (E8) where the set that a Purged verdict would name has too many intervals (`fault`).
 //!
 //! How it is kept: transactions are in one list in the order of GTIDs, sorted only where journals do not bring them so. One pass each
@@ -21,15 +24,21 @@ mod contents;
 mod equal;
 mod finding;
 mod gaps;
+mod laws;
+mod listing;
 mod missing;
 mod needs;
 mod ordered;
+mod pairs;
 mod purged;
 mod shared;
+mod skipped;
 mod sources;
 mod standing;
 mod touches;
 mod unequal;
 
 pub use finding::{audit, audit_keys};
+pub use laws::faults_are_all;
+pub use listing::{AllFaults, audit_all};
 pub use sources::{World, WorldFault, world_of};

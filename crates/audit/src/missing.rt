@@ -15,7 +15,7 @@ use journal::{Entry, Journal};
 use world::Verdict;
 
 /// The number of the last GTID, if it is of this source, else 0.
-fn number_before(last: Option<Gtid>, source: SourceId) -> u64
+pub(crate) fn number_before(last: Option<Gtid>, source: SourceId) -> u64
     ensures { result ≡ number_before last source }
 {
     match last {

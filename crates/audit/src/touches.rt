@@ -42,13 +42,13 @@ impl Touches {
         }
     }
 
-    fn get(&self, key: &Key) -> Option<&Gtid>
+    pub(crate) fn get(&self, key: &Key) -> Option<&Gtid>
         ensures { option_copied result ≡ finmap.get self.now key.now }
     {
         self.last.get(key)
     }
 
-    fn put(&mut self, key: Key, gtid: &Gtid) -> Result<(), AllocError>
+    pub(crate) fn put(&mut self, key: Key, gtid: &Gtid) -> Result<(), AllocError>
         ensures { OnOk result (self.new ≡ finmap.insert self.old key gtid.now) }
     {
         let Ok(_) = self.last.insert(key, *gtid) else {
@@ -153,7 +153,7 @@ impl Touches {
         Ok((list, own))
     }
 
-    fn has(&self, key: &Key) -> bool
+    pub(crate) fn has(&self, key: &Key) -> bool
         ensures { result ≡ is_some (finmap.get self.now key.now) }
     {
         self.get(key).is_some()

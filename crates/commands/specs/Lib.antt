@@ -7,3 +7,5 @@ pub mod Imports
 pub mod Positions
 pub mod States
 pub mod Texts
+pub mod Version
+pub mod Listings

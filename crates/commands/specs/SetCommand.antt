@@ -1,14 +1,15 @@
 -- What the command `set` prints, and how it ends. The lines are our own.
-use Rattle.std.specs.Prelude.{ℕ, List, [], Option, Result, Ok, Err}
-use Rattle.std.specs.Option.{option_map}
-use Rattle.std.specs.Borrow.{Bor}
+use Rattle.std.specs.Prelude.{◌≡◌, ℕ, Bool, true, false, ◌||◌, if◌then◌else◌, List, [], Option, Result, Ok, Err, codes}
+use Rattle.std.specs.Option.{option_map, option_map_or}
+use Rattle.std.specs.Str.{bytes_eq}
+use Rattle.std.specs.Str.Lossy.{utf8_lossy}
 use Rattle.gtid_report.specs.declared.fault.Fault.{Fault}
 use Rattle.gtid_report.specs.declared.fault.Fault.TheVariants as fault
 use Rattle.gtid_report.specs.declared.refusal.Refusal.{Refusal}
 use Rattle.gtid_report.specs.declared.refusal.Refusal.TheVariants as refusal
 use Rattle.gtid_report.specs.Refusals.{refusal_line}
 use Rattle.gtid_report.specs.SetAnswers.{function_line}
-use Rattle.commands.specs.Said.{Said, ended}
+use Rattle.commands.specs.Said.{Said, Answering, at_once, to_all, ended}
 use Rattle.commands.specs.declared.edge.Outcome.{Outcome}
 use Rattle.commands.specs.declared.edge.Outcome.TheVariants.{Done, Refused, Misused}
 
@@ -24,5 +25,35 @@ line_said (Err (fault.Refused r)) = record { text = ended (refusal_line r); outc
 line_said (Err fault.Memory) = record { text = []; outcome = Refused }
 
 -- what is said to a function's name, its first word, and its second word where one is given
-abbrev pub set_said : List ℕ → List ℕ → Option (Bor (List ℕ)) → Said
-set_said function a b = line_said (function_line function a (option_map (λ w. w.now) b))
+abbrev pub set_said : List ℕ → List ℕ → Option (List ℕ) → Said
+set_said function a b = line_said (function_line function a b)
+
+-- ---- a word that is read
+
+-- a word `-` stands for standard input
+abbrev pub is_input : List ℕ → Bool
+is_input word = bytes_eq word (codes "-")
+
+-- a word that may be given stands for it
+abbrev pub names_input : Option (List ℕ) → Bool
+names_input word = option_map_or is_input word false
+
+-- a word, or this input, where the word stands for it
+abbrev pub word_or : List ℕ → List ℕ → List ℕ
+word_or input word = if is_input word then input else word
+
+-- the same, where a word may stand for this input
+abbrev pub set_said_over : List ℕ → List ℕ → Option (List ℕ) → List ℕ → Said
+set_said_over function a b input = set_said function (word_or input a) (option_map (word_or input) b)
+
+-- it is what is said over all of standard input, in which what is no UTF-8 is replaced
+abbrev pub IsSaidOver : List ℕ → List ℕ → Option (List ℕ) → List ℕ → Said → Type 0
+IsSaidOver function a b bytes said = said ≡ set_said_over function a b (utf8_lossy bytes)
+
+abbrev pub answering_by : Bool → List ℕ → List ℕ → Option (List ℕ) → Answering
+answering_by true function a b = to_all (IsSaidOver function a b)
+answering_by false function a b = at_once (set_said function a b)
+
+-- Where a word stands for standard input, the answer is to all of it; else it is to the words alone.
+abbrev pub set_answering : List ℕ → List ℕ → Option (List ℕ) → Answering
+set_answering function a b = answering_by (is_input a || names_input b) function a b

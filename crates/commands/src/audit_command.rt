@@ -15,7 +15,7 @@ use txn_journal::Bundle;
 use world::Verdict;
 
 /// How a verdict ends a command.
-fn verdict_ending(verdict: &Verdict) -> Outcome
+pub(crate) fn verdict_ending(verdict: &Verdict) -> Outcome
     ensures { result ≡ verdict_ending verdict.now }
 {
     match verdict {

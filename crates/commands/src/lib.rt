@@ -1,5 +1,5 @@
-//! The commands as a library, over any reader and writer: `run_set`, `run_position`, `run_audit`, `run_upgrade`, `apply_bundle`; and
-//! `apply_journals`, which applies journals by workers on threads.
+//! The commands as a library, over any reader and writer: `run_set`, `run_position`, `run_audit`, `run_list`, `run_upgrade`, `apply_bundle`,
+//! `run_version`; and `apply_journals`, which applies journals by workers on threads.
 //!
 //! What a contract sees: of `Streams` the reader with the bytes that it has left and its failed calls (`Input`), and the writer with the
 //! bytes that it holds and its failed calls (`Output`), each where it is known.
@@ -26,6 +26,7 @@ mod edge;
 mod history;
 mod import_command;
 mod import_fault;
+mod list_command;
 mod parallel;
 mod position_command;
 mod reading;
@@ -35,6 +36,7 @@ mod states_command;
 mod streams;
 mod text;
 mod upgrade_command;
+mod version_command;
 mod wrap;
 
 pub use answer::Answer;
@@ -42,10 +44,12 @@ pub use apply_command::{apply_bundle, apply_decoded};
 pub use audit_command::run_audit;
 pub use edge::{Failed, Outcome, RunFault, Sink, Source};
 pub use import_command::run_import;
+pub use list_command::run_list;
 pub use parallel::apply_journals;
 pub use position_command::run_position;
 pub use set_command::run_set;
 pub use states_command::run_states;
 pub use streams::Streams;
 pub use upgrade_command::run_upgrade;
+pub use version_command::run_version;
 pub use wrap::{StdSink, StdSource};

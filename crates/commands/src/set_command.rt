@@ -1,7 +1,9 @@
 //! The command `set`.
-ghost use Rattle.std.specs.Prelude.{◌≡◌, IfOk, IfErr};
-ghost use Rattle.commands.specs.Said.{Holds, at_once, IsDone, HasFailed};
-ghost use Rattle.commands.specs.SetCommand.{set_said, refusal_ending};
+ghost use Rattle.std.specs.Prelude.{◌≡◌, ◌||◌, IfOk, IfErr};
+ghost use Rattle.std.specs.Option.{option_map};
+ghost use Rattle.std.specs.Str.Lossy.{utf8_lossy};
+ghost use Rattle.commands.specs.Said.{Holds, at_once, to_all, IsDone, HasFailed};
+ghost use Rattle.commands.specs.SetCommand.{set_said, set_said_over, set_answering, IsSaidOver, is_input, names_input, word_or, refusal_ending};
 
 use crate::answer::{Answer, ended, refusal_text};
 use crate::edge::{Outcome, RunFault, Sink, Source};
@@ -21,7 +23,7 @@ fn refusal_ending(refusal: &Refusal) -> Outcome
 
 /// What is printed for a function of sets.
 fn set_answer(alloc: Global, function: &str, a: &str, b: Option<&str>) -> Result<Answer, AllocError>
-    ensures { IfOk result (λ answer. Holds answer (set_said function.now a.now b.entry)) }
+    ensures { IfOk result (λ answer. Holds answer (set_said function.now a.now (option_map (λ w. w.now) b.entry))) }
 {
     match set_function(alloc, function, a, b) {
         Ok(line) => Ok(Answer {
@@ -36,7 +38,99 @@ fn set_answer(alloc: Global, function: &str, a: &str, b: Option<&str>) -> Result
     }
 }
 
-/// Writes the line of a function of sets, or that of its refusal, and nothing else; nothing is read.
+/// Whether a word stands for standard input.
+fn is_input(word: &str) -> bool
+    ensures { result ≡ is_input word.now }
+{
+    word.as_bytes() == b"-".as_slice()
+}
+
+/// Whether a word that may be given stands for standard input.
+fn is_given_input(word: Option<&str>) -> bool
+    ensures { result ≡ names_input (option_map (λ w. w.now) word.entry) }
+{
+    match word {
+        Some(word) => is_input(word),
+        None => false,
+    }
+}
+
+/// A word, or what was read, where the word stands for that.
+fn word_or<'a>(input: &'a str, word: &'a str) -> &'a str
+    ensures { result.now ≡ word_or input.now word.now }
+{
+    if is_input(word) { input } else { word }
+}
+
+/// What is printed for a function of sets, where a word may stand for this input.
+fn answer_over(
+    alloc: Global,
+    function: &str,
+    a: &str,
+    b: Option<&str>,
+    input: &str,
+) -> Result<Answer, AllocError>
+    ensures { IfOk result (λ answer. Holds answer (set_said_over function.now a.now (option_map (λ w. w.now) b.entry) input.now)) }
+{
+    let first = word_or(input, a);
+    match b {
+        Some(b) => set_answer(alloc, function, first, Some(word_or(input, b))),
+        None => set_answer(alloc, function, first, None),
+    }
+}
+
+/// The same for bytes that were read; what in them is no UTF-8 is replaced.
+fn answer_to(
+    alloc: Global,
+    function: &str,
+    a: &str,
+    b: Option<&str>,
+    bytes: &[u8],
+) -> Result<Answer, AllocError>
+    ensures { IfOk result (λ answer. Holds answer (set_said_over function.now a.now (option_map (λ w. w.now) b.entry) (utf8_lossy bytes.now))) }
+{
+    let input = String::from_utf8_lossy(alloc, bytes)?;
+    answer_over(alloc, function, a, b, &input)
+}
+
+/// The same, once all of standard input is read.
+fn run_over_input<S: Source, W: Sink>(
+    alloc: Global,
+    function: &str,
+    a: &str,
+    b: Option<&str>,
+    streams: &mut Streams<S, W>,
+) -> Result<Outcome, RunFault>
+    ensures done { IfOk result (IsDone (to_all (IsSaidOver function.now a.now (option_map (λ w. w.now) b.entry))) streams.old streams.new) }
+    ensures failed { IfErr result (HasFailed (to_all (IsSaidOver function.now a.now (option_map (λ w. w.now) b.entry))) streams.old streams.new) }
+{
+    let bytes = streams.read_all(alloc)?;
+    let Ok(answer) = answer_to(alloc, function, a, b, &bytes) else {
+        return Err(RunFault::Memory);
+    };
+    streams.send(&answer)
+}
+
+/// The same, with nothing read.
+fn run_at_once<S: Source, W: Sink>(
+    alloc: Global,
+    function: &str,
+    a: &str,
+    b: Option<&str>,
+    streams: &mut Streams<S, W>,
+) -> Result<Outcome, RunFault>
+    ensures done { IfOk result (IsDone (at_once (set_said function.now a.now (option_map (λ w. w.now) b.entry))) streams.old streams.new) }
+    ensures failed { IfErr result (HasFailed (at_once (set_said function.now a.now (option_map (λ w. w.now) b.entry))) streams.old streams.new) }
+{
+    let Ok(answer) = set_answer(alloc, function, a, b) else {
+        return Err(RunFault::Memory);
+    };
+    streams.send(&answer)
+}
+
+/// Writes the line of a function of sets, or that of its refusal, and nothing else. A word `-` is all
+/// of standard input (our own rule), of which nothing is read where there is no such word; bytes of
+/// it that are no UTF-8 are read as U+FFFD, which the grammar refuses at its place.
 pub fn run_set<S: Source, W: Sink>(
     alloc: Global,
     function: &str,
@@ -44,11 +138,12 @@ pub fn run_set<S: Source, W: Sink>(
     b: Option<&str>,
     streams: &mut Streams<S, W>,
 ) -> Result<Outcome, RunFault>
-    ensures done { IfOk result (IsDone (at_once (set_said function.now a.now b.entry)) streams.old streams.new) }
-    ensures failed { IfErr result (HasFailed (at_once (set_said function.now a.now b.entry)) streams.old streams.new) }
+    ensures done { IfOk result (IsDone (set_answering function.now a.now (option_map (λ w. w.now) b.entry)) streams.old streams.new) }
+    ensures failed { IfErr result (HasFailed (set_answering function.now a.now (option_map (λ w. w.now) b.entry)) streams.old streams.new) }
 {
-    let Ok(answer) = set_answer(alloc, function, a, b) else {
-        return Err(RunFault::Memory);
-    };
-    streams.send(&answer)
+    if is_input(a) || is_given_input(b) {
+        run_over_input(alloc, function, a, b, streams)
+    } else {
+        run_at_once(alloc, function, a, b, streams)
+    }
 }

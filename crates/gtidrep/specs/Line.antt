@@ -1,14 +1,15 @@
 -- What a command line says.
 use Rattle.std.specs.Prelude.{◌≤◌}
 use Rattle.gtidrep.specs.declared.line.Command.{Command}
-use Rattle.gtidrep.specs.declared.line.Command.TheVariants.{Set, Position, Audit, Upgrade, Import, States, Apply}
+use Rattle.gtidrep.specs.declared.line.Command.TheVariants.{Set, Position, Audit, Upgrade, Import, States, Version, Apply}
 
 -- an `apply` is for 1 to 64 workers
 abbrev pub IsForOneToMost : Command → Type 0
 IsForOneToMost (Apply workers) = (1 ≤ workers) × (workers ≤ 64)
 IsForOneToMost (Set function first second) = Unit {0}
-IsForOneToMost Audit = Unit {0}
+IsForOneToMost (Audit all) = Unit {0}
 IsForOneToMost Upgrade = Unit {0}
 IsForOneToMost States = Unit {0}
 IsForOneToMost (Import bytes) = Unit {0}
+IsForOneToMost Version = Unit {0}
 IsForOneToMost (Position own ask) = Unit {0}

@@ -20,8 +20,10 @@ pub enum Command<'a> {
         own: &'a str,
         ask: &'a str,
     },
-    /// A bundle from standard input is audited.
-    Audit,
+    /// A bundle from standard input is audited; all faults of three kinds are listed, or the verdict alone.
+    Audit {
+        all: bool,
+    },
     /// A bundle of version 1 from standard input is written by version 2.
     Upgrade,
     /// Servers from standard input are set beside one another.
@@ -30,6 +32,8 @@ pub enum Command<'a> {
     Import {
         bytes: bool,
     },
+    /// The version of the program is asked for.
+    Version,
     /// A bundle from standard input is applied by 1 to 64 workers.
     Apply {
         workers: u8,
@@ -62,7 +66,8 @@ subset, equal, disjoint. Of a set and a UUID: only, without.
 pub const FUNCTIONS: &str = functions_and!("");
 
 const SET_EXAMPLE: &str = functions_and!(
-    "
+    "A set that is given as `-` is all of standard input, where it may be longer than a command line.
+
 Example:
   gtidrep set subtract aaaaaaaa-aaaa-aaaa-aaaa-aaaaaaaaaaaa:1-10 aaaaaaaa-aaaa-aaaa-aaaa-aaaaaaaaaaaa:3:5-6
 
@@ -118,7 +123,8 @@ Example:
 Status: 0 printed, 1 refused, 2 the command line, 3 memory, 4 reading or writing failed.";
 
 const APPLY_EXAMPLE: &str =
-    "Prints the executed set and the rows, or the line that says why the bundle does not apply.
+    "Prints the executed set and the rows, or the line that says why the bundle does not apply. One worker was the
+fastest wherever it was measured.
 
 Example:
   gtidrep apply --workers 4 < examples/first.bundle
@@ -137,11 +143,11 @@ fn set_command<'a>(alloc: Global) -> Result<clap::Command<'a>, AllocError> {
         .about("Computes with GTID sets: set union <a> <b>")
         .after_help(SET_EXAMPLE)
         .arg(value(alloc, "function", "what is computed"))?
-        .arg(value(alloc, "a", "the first set"))?
+        .arg(value(alloc, "a", "the first set, or -"))?
         .arg(
             Arg::new(alloc, "b")
                 .action(ArgAction::Set)
-                .help("the second set, or a UUID"),
+                .help("the second set, or -, or a UUID"),
         )
 }
 
@@ -163,10 +169,17 @@ fn position_command<'a>(alloc: Global) -> Result<clap::Command<'a>, AllocError> 
         .arg(option(alloc, "ask", "the set that the replica asks with"))
 }
 
-fn audit_command<'a>(alloc: Global) -> clap::Command<'a> {
+fn audit_command<'a>(alloc: Global) -> Result<clap::Command<'a>, AllocError> {
+    let all = Arg::new(alloc, "all")
+        .long("all")
+        .action(ArgAction::SetTrue)
+        .help(
+            "lists behind the verdict every other purged journal, run of missing GTIDs and shared key",
+        );
     clap::Command::new(alloc, "audit")
         .about("Says whether the journals of a bundle can be merged: audit < examples/ring.bundle")
         .after_help(AUDIT_EXAMPLE)
+        .arg(all)
 }
 
 fn upgrade_command<'a>(alloc: Global) -> clap::Command<'a> {
@@ -189,7 +202,9 @@ fn import_command<'a>(alloc: Global) -> Result<clap::Command<'a>, AllocError> {
         .action(ArgAction::SetTrue)
         .help("takes keys that the server compares otherwise than by their bytes");
     clap::Command::new(alloc, "import")
-        .about("Writes a bundle whose journals are the texts of binary logs: import < examples/shop.logs")
+        .about(
+            "Writes a bundle whose journals are the texts of binary logs: import < examples/shop.logs",
+        )
         .after_help(IMPORT_EXAMPLE)
         .arg(bytes)
 }
@@ -217,11 +232,13 @@ fn with_command<'a>(
 
 fn all_commands<'a>(alloc: Global) -> Result<clap::Command<'a>, AllocError> {
     let program = clap::Command::new(alloc, "gtidrep")
+        .bin_name("gtidrep")?
+        .version("0.9.0")
         .about("The replica side of GTID replication, over files of journals.")
         .subcommand_required(true);
     let program = with_command(program, set_command(alloc))?;
     let program = with_command(program, position_command(alloc))?;
-    let program = program.subcommand(audit_command(alloc))?;
+    let program = with_command(program, audit_command(alloc))?;
     let program = program.subcommand(upgrade_command(alloc))?;
     let program = program.subcommand(states_command(alloc))?;
     let program = with_command(program, import_command(alloc))?;
@@ -256,7 +273,9 @@ fn command_of<'a>(name: &str, matches: &ArgMatches<'a>) -> Option<Command<'a>>
         });
     }
     if name == "audit" {
-        return Some(Command::Audit);
+        return Some(Command::Audit {
+            all: matches.get_flag("all"),
+        });
     }
     if name == "upgrade" {
         return Some(Command::Upgrade);
@@ -300,6 +319,7 @@ pub fn parse_line<'a>(alloc: Global, words: &'a [String]) -> Result<Command<'a>,
             }
             Err(LineFault::Line(String::new(alloc)))
         }
+        Err(error) if error.kind() == ErrorKind::DisplayVersion => Ok(Command::Version),
         Err(error) => Err(fault_of(alloc, error)),
     }
 }

@@ -1,4 +1,5 @@
 pub mod Verdicts
+pub mod Listing
 pub mod Serving
 pub mod Servable
 pub mod Faults

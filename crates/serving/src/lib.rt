@@ -19,9 +19,11 @@
 #![tactic(auto)]
 
 mod event;
+mod listing;
 mod outcome;
 mod receiving;
 mod working;
 
+pub use listing::faults_over;
 pub use outcome::{StateOrVerdict, begin, conclude, serve, verdict_over, written_is_servable};
 pub use receiving::entries_sent;

@@ -52,7 +52,7 @@ fn keep_rules(journals: &[Journal])
 }
 
 /// The world of journals over opening rows and an opening set.
-fn opening_world(alloc: Global, bundle: &Bundle) -> Result<World, AllocError>
+pub(crate) fn opening_world(alloc: Global, bundle: &Bundle) -> Result<World, AllocError>
     requires { IsFitting bundle.now }
     ensures { IfOk result (λ world. world ≡ world_over bundle.now) }
 {

@@ -1,0 +1,93 @@
+//! All faults of three kinds: journals that begin behind the opening set, missing GTIDs and shared keys.
+ghost use Rattle.std.specs.Prelude.{◌≡◌, IfOk, IfErr};
+ghost use Rattle.world.specs.Audit.{verdict};
+ghost use Rattle.audit.specs.Faults.{IsAuditFault};
+ghost use Rattle.audit.specs.Others.{IsListFault, HoldsFaults, faults_of, is_of_journal, other_purged};
+ghost use Rattle.audit.specs.Worlds.{IsWorldOf};
+
+use crate::finding::audit;
+use crate::sources::World;
+use gtid_set::{GtidSet, SetFault};
+use journal::Journal;
+use std::alloc::Global;
+use world::Verdict;
+
+/// What an audit lists: its verdict, and what else there is of three kinds.
+#[derive(Drop)]
+pub struct AllFaults {
+    /// The verdict of `audit`.
+    pub verdict: Verdict,
+    /// Each other journal that begins behind the opening set, with what is missing.
+    pub purged: Vec<Verdict>,
+    /// The other missing GTIDs.
+    pub missing: GtidSet,
+    /// Each other shared key, with the least pair that touches it, in the order of the greater GTIDs.
+    pub shared: Vec<Verdict>,
+}
+
+/// Whether a verdict is that of a journal.
+fn is_of_journal(journal: usize, verdict: &Verdict) -> bool
+    ensures { result ≡ is_of_journal journal verdict.now }
+{
+    match verdict {
+        Verdict::Purged(other, _) => *other == journal,
+        _ => false,
+    }
+}
+
+impl World {
+    /// Each journal whose previous set is not within the opening set, but that of the verdict.
+    fn other_purged(
+        &self,
+        alloc: Global,
+        journals: &[Journal],
+        verdict: &Verdict,
+    ) -> Result<Vec<Verdict>, SetFault>
+        ensures found { IfOk result (λ list. list.items ≡ other_purged self.now journals.now verdict.now) }
+        ensures fault { IfErr result (IsAuditFault self.now.opening_set journals.now) }
+    {
+        let mut list = Vec::new(alloc);
+        for (i, journal) in journals.iter().enumerate() {
+            if !journal.previous().is_subset(self.opened()) && !is_of_journal(i, verdict) {
+                let missing = journal.previous().subtract(alloc, self.opened())?;
+                list.push(Verdict::Purged(i, missing))?;
+            }
+        }
+        Ok(list)
+    }
+
+    /// What else there is.
+    fn list_behind(
+        &self,
+        alloc: Global,
+        journals: &[Journal],
+        first: Verdict,
+    ) -> Result<AllFaults, SetFault>
+        requires { first ≡ verdict self.now journals.now }
+        ensures found { IfOk result (λ all. HoldsFaults all (faults_of self.now journals.now)) }
+        ensures fault { IfErr result (IsListFault self.now journals.now) }
+    {
+        let purged = self.other_purged(alloc, journals, &first)?;
+        let missing = self.other_missing(alloc, &first)?;
+        let shared = self.other_pairs(alloc, &first)?;
+        Ok(AllFaults {
+            verdict: first,
+            purged,
+            missing,
+            shared,
+        })
+    }
+}
+
+/// The verdict of `audit`, and behind it each other journal that begins behind the opening set, each
+/// other missing GTID and each other shared key (`faults_are_all`). `SourcesFull` and `PoolFull` come only
+/// where missing GTIDs have too many sources or intervals, or what a journal's previous set has outside
+/// the opening set too many intervals.
+pub fn audit_all(alloc: Global, world: &World, journals: &[Journal]) -> Result<AllFaults, SetFault>
+    requires { IsWorldOf world.now journals.now }
+    ensures found { IfOk result (λ all. HoldsFaults all (faults_of world.now journals.now)) }
+    ensures fault { IfErr result (IsListFault world.now journals.now) }
+{
+    let first = audit(alloc, world, journals)?;
+    world.list_behind(alloc, journals, first)
+}

@@ -1,0 +1,108 @@
+//! The GTIDs that are missing, as a set.
+ghost use Rattle.std.specs.Prelude.{◌≡◌, ◌+◌, ◌-◌, IfOk, IfErr, OnOk, None, map, true};
+ghost use Rattle.std.specs.FinMap as finmap;
+ghost use Rattle.std.specs.FinSet as set;
+ghost use Rattle.gtid_set.specs.Full.{IsFaultOf};
+ghost use Rattle.gtid_set.specs.Sets.{interval};
+ghost use Rattle.audit.specs.Contents.{as_pair};
+ghost use Rattle.audit.specs.Others.{IsPartFault, but_missing, missing_in, skips_from};
+
+use crate::missing::number_before;
+use crate::sources::World;
+use gtid_set::{GtidSet, SetFault};
+use gtid_text::{Gtid, SourceId, Span};
+use journal::Entry;
+use std::alloc::Global;
+use world::Verdict;
+
+/// The numbers between two others.
+fn add_between(
+    skipped: &mut GtidSet,
+    source: SourceId,
+    after: u64,
+    below: u64,
+) -> Result<(), SetFault>
+    ensures ok { OnOk result (skipped.new ≡ set.union skipped.old (interval source (after + 1) (below - 1))) }
+    ensures fault { IfErr result (λ f. IsFaultOf f (set.union skipped.old (interval source (after + 1) (below - 1)))) }
+{
+    if after >= below || below - after == 1 {
+        return Ok(());
+    }
+    skipped.add_span(Span {
+        source,
+        lo: after + 1,
+        hi: below - 1,
+    })
+}
+
+/// The numbers that are passed over before these entries.
+fn skipped_before(alloc: Global, entries: &[Entry]) -> Result<GtidSet, SetFault>
+    ensures ok { IfOk result (λ skipped. skipped ≡ skips_from set.empty None (map as_pair entries.now)) }
+    ensures fault { IfErr result (IsPartFault (skips_from set.empty None (map as_pair entries.now))) }
+{
+    let mut skipped = GtidSet::empty(alloc);
+    let mut last = None;
+    for entry in entries {
+        let after = number_before(last, entry.gtid.source);
+        add_between(&mut skipped, entry.gtid.source, after, entry.gtid.number)?;
+        last = Some(entry.gtid);
+    }
+    Ok(skipped)
+}
+
+/// The set of one GTID.
+fn only(alloc: Global, gtid: Gtid) -> Result<GtidSet, SetFault>
+    ensures ok { IfOk result (λ one. one ≡ set.insert set.empty gtid) }
+    ensures fault { IfErr result (λ f. IsFaultOf f (set.insert set.empty gtid)) }
+{
+    let mut one = GtidSet::empty(alloc);
+    one.add(gtid)?;
+    Ok(one)
+}
+
+/// A set without one of its GTIDs.
+fn take_out(alloc: Global, missing: &GtidSet, gtid: Gtid) -> Result<GtidSet, SetFault>
+    requires { set.contains missing.now gtid ≡ true }
+    ensures ok { IfOk result (λ rest. rest ≡ set.difference missing.now (set.insert set.empty gtid)) }
+    ensures fault { IfErr result (IsPartFault missing.now) }
+{
+    let one = only(alloc, gtid)?;
+    missing.subtract(alloc, &one)
+}
+
+/// Missing GTIDs but for that of the verdict.
+fn without_verdict(alloc: Global, missing: GtidSet, verdict: &Verdict) -> Result<GtidSet, SetFault>
+    ensures ok { IfOk result (λ rest. rest ≡ but_missing verdict.now missing) }
+    ensures fault { IfErr result (IsPartFault missing) }
+{
+    if let Verdict::Missing(gtid) = verdict {
+        if missing.contains(gtid) {
+            return take_out(alloc, &missing, *gtid);
+        }
+    }
+    Ok(missing)
+}
+
+impl World {
+    /// The missing GTIDs.
+    fn missing_set(&self, alloc: Global) -> Result<GtidSet, SetFault>
+        ensures ok { IfOk result (λ missing. missing ≡ missing_in self.now) }
+        ensures fault { IfErr result (IsPartFault (skips_from set.empty None (finmap.entries self.now.contents))) }
+    {
+        let skipped = skipped_before(alloc, self.in_order())?;
+        skipped.subtract(alloc, self.opened())
+    }
+
+    /// The missing GTIDs but for that of the verdict.
+    pub(crate) fn other_missing(
+        &self,
+        alloc: Global,
+        verdict: &Verdict,
+    ) -> Result<GtidSet, SetFault>
+        ensures ok { IfOk result (λ rest. rest ≡ but_missing verdict.now (missing_in self.now)) }
+        ensures fault { IfErr result (IsPartFault (skips_from set.empty None (finmap.entries self.now.contents))) }
+    {
+        let missing = self.missing_set(alloc)?;
+        without_verdict(alloc, missing, verdict)
+    }
+}

@@ -1,0 +1,105 @@
+//! The command `audit --all`.
+ghost use Rattle.std.specs.Prelude.{◌≡◌, ◌++◌, IfOk, IfErr, OnOk, string_bytes};
+ghost use Rattle.gtid_report.specs.VerdictLines.{verdict_line};
+ghost use Rattle.serving.specs.Listing.{IsFaultsFault};
+ghost use Rattle.commands.specs.Said.{Holds, to_all, IsDone, HasFailed, ended};
+ghost use Rattle.commands.specs.Listings.{Lists, faults_said, listed, run_line, run_lines, verdict_lines};
+
+use crate::answer::Answer;
+use crate::audit_command::verdict_ending;
+use crate::edge::{Outcome, RunFault, Sink, Source};
+use crate::request::{Request, run};
+use crate::streams::Streams;
+use audit::AllFaults;
+use gtid_report::{Fault, render_verdict};
+use gtid_text::{Span, write_span};
+use serving::faults_over;
+use std::alloc::{AllocError, Global};
+use std::mem;
+use txn_journal::Bundle;
+use world::Verdict;
+
+/// The line of a verdict.
+fn push_verdict(alloc: Global, text: &mut String, verdict: &Verdict) -> Result<(), AllocError>
+    ensures { OnOk result (string_bytes text.new ≡ string_bytes text.old ++ ended (verdict_line verdict.now)) }
+{
+    let line = render_verdict(alloc, verdict)?;
+    text.push_str(&line)?;
+    text.push_str("\n")
+}
+
+/// The lines of verdicts.
+fn push_verdicts(alloc: Global, text: &mut String, verdicts: &[Verdict]) -> Result<(), AllocError>
+    ensures { OnOk result (string_bytes text.new ≡ string_bytes text.old ++ verdict_lines verdicts.now) }
+{
+    for verdict in verdicts {
+        push_verdict(alloc, text, verdict)?;
+    }
+    Ok(())
+}
+
+/// The line of missing numbers.
+fn push_run(text: &mut String, run: Span) -> Result<(), AllocError>
+    ensures { OnOk result (string_bytes text.new ≡ string_bytes text.old ++ run_line run) }
+{
+    text.push_str("missing ")?;
+    write_span(text, run)?;
+    text.push_str("\n")
+}
+
+/// The lines of missing numbers.
+fn push_runs(text: &mut String, runs: &[Span]) -> Result<(), AllocError>
+    ensures { OnOk result (string_bytes text.new ≡ string_bytes text.old ++ run_lines runs.now) }
+{
+    for run in runs {
+        push_run(text, *run)?;
+    }
+    Ok(())
+}
+
+/// The lines of all faults.
+fn list_answer(alloc: Global, all: &AllFaults) -> Result<Answer, AllocError>
+    ensures { IfOk result (λ answer. Holds answer (faults_said all.now.verdict all.now.purged.items all.now.missing all.now.shared.items)) }
+{
+    let mut text = String::new(alloc);
+    push_verdict(alloc, &mut text, &all.verdict)?;
+    push_verdicts(alloc, &mut text, all.purged.as_slice())?;
+    let runs = all.missing.spans(alloc)?;
+    push_runs(&mut text, runs.as_slice())?;
+    push_verdicts(alloc, &mut text, all.shared.as_slice())?;
+    Ok(Answer {
+        outcome: verdict_ending(&all.verdict),
+        text,
+    })
+}
+
+/// All faults of a bundle are listed.
+struct List;
+
+impl Request for List {
+    type Value = Bundle;
+
+    ghost says = { λ _ b. listed b };
+
+    ghost may_fail = { λ _ b. IsFaultsFault b };
+
+    fn answer(&self, alloc: Global, bundle: &Bundle) -> Result<Answer, Fault> {
+        let all = faults_over(alloc, bundle)?;
+        let answer = list_answer(alloc, &all);
+        mem::forget(all);
+        Ok(answer?)
+    }
+}
+
+/// Reads a bundle, and writes the line of its audit's verdict and behind it one for each other journal
+/// that begins behind the opening set, each other run of missing GTIDs and each other shared key, or the line of
+/// its refusal, and nothing else.
+pub fn run_list<S: Source, W: Sink>(
+    alloc: Global,
+    streams: &mut Streams<S, W>,
+) -> Result<Outcome, RunFault>
+    ensures done { IfOk result (IsDone (to_all Lists) streams.old streams.new) }
+    ensures failed { IfErr result (HasFailed (to_all Lists) streams.old streams.new) }
+{
+    run(alloc, &List, streams)
+}

@@ -1,0 +1,25 @@
+//! What an audit of a bundle lists.
+ghost use Rattle.std.specs.Prelude.{IfOk, IfErr};
+ghost use Rattle.audit.specs.Others.{HoldsFaults};
+ghost use Rattle.serving.specs.Listing.{IsFaultsFault, faults_over};
+ghost use Rattle.serving.specs.Servable.{IsFitting};
+
+use crate::outcome::opening_world;
+use audit::{AllFaults, audit_all};
+use gtid_set::SetFault;
+use std::alloc::Global;
+use txn_journal::Bundle;
+
+/// The verdict of `verdict_over`, and behind it each other journal that begins behind the opening set,
+/// each other missing GTID and each other shared key (`audit::faults_are_all`). What is asked is as for
+/// `verdict_over`; the faults are those of `audit::audit_all`.
+pub fn faults_over(alloc: Global, bundle: &Bundle) -> Result<AllFaults, SetFault>
+    requires { IsFitting bundle.now }
+    ensures found { IfOk result (λ all. HoldsFaults all (faults_over bundle.now)) }
+    ensures fault { IfErr result (IsFaultsFault bundle.now) }
+{
+    let world = opening_world(alloc, bundle)?;
+    let found = audit_all(alloc, &world, bundle.journals());
+    drop(world);
+    found
+}
