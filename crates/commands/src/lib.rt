@@ -37,6 +37,7 @@ mod streams;
 mod text;
 mod upgrade_command;
 mod version_command;
+mod whole;
 mod wrap;
 
 pub use answer::Answer;

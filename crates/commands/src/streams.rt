@@ -1,13 +1,14 @@
 //! A reader and a writer between which a command stands.
 ghost use Rattle.std.specs.Prelude.{◌≡◌, IfOk, IfErr, OnOk, OnErr, string_bytes};
 ghost use Rattle.std.specs.Io.KnownBytes.{Appends};
-ghost use Rattle.commands.specs.Edge.{input_of, output_of, one_more, Begins, ReadFault};
+ghost use Rattle.commands.specs.Edge.{input_of, output_of, one_more, Begins, HasRead, ReadFault};
 ghost use Rattle.commands.specs.Texts.{HasFound};
 
 use crate::answer::Answer;
 use crate::edge::{Outcome, RunFault, Sink, Source};
 use crate::reading::read_text;
 use crate::text::Text;
+use crate::whole::read_all;
 use std::alloc::Global;
 use std::marker::Model;
 use txn_journal::JournalFault;
@@ -43,6 +44,15 @@ impl<S: Source, W: Sink> Streams<S, W> {
     {
         let Streams { reader, writer } = self;
         (reader, writer)
+    }
+
+    /// All bytes that the reader has left.
+    pub(crate) fn read_all(&mut self, alloc: Global) -> Result<Vec<u8>, RunFault>
+        ensures output { self.new.output ≡ self.old.output }
+        ensures read { IfOk result (λ bytes. HasRead self.old.input.left self.new.input.left bytes.items) }
+        ensures fault { IfErr result (ReadFault self.old.input self.new.input) }
+    {
+        read_all(alloc, &mut self.reader)
     }
 
     /// What all bytes are read as that the reader has left.
