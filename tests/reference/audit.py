@@ -128,17 +128,21 @@ class Audit:
         tests = (self.unequal, self.purged, self.missing, self.shared, self.not_closed, self.does_not_apply)
         return next((found for found in (test() for test in tests) if found), "sound")
 
-    def state(self) -> str:
-        """The executed set and the rows, where the verdict is `sound`."""
-        rows: Rows = self.bundle.rows.copy()
+    def rows_of_all(self) -> Rows:
+        """The rows of all transactions, where the verdict is `sound`."""
+        rows = self.bundle.rows.copy()
         for gtid in self.gtids:
             rows.apply(self.contents[gtid])
+        return rows
+
+    def state(self) -> str:
+        """The executed set and the rows, where the verdict is `sound`."""
         executed = self.bundle.opening
         for channel in self.bundle.channels:
             executed = executed | channel.journal.whole()
         if executed.is_full():
             raise Refused("refused E9 sources-full")
-        return "\n".join([f"executed {executed.word()}", *rows.lines()])
+        return "\n".join([f"executed {executed.word()}", *self.rows_of_all().lines()])
 
 
 def refusals_told(call: Callable[..., Answer]) -> Callable[..., Answer]:

@@ -5,6 +5,7 @@ from __future__ import annotations
 from collections.abc import Callable, Sequence
 
 from .audit import apply, audit, position, upgrade
+from .ordered import apply_ordered, audit_ordered
 from .set_text import set_function
 from .states import states
 
@@ -20,8 +21,12 @@ def answer(words: Sequence[str], text: Callable[[], str]) -> tuple[str, int]:
             line, status = position(text(), own, asked)
         case ["audit"]:
             line, status = audit(text())
+        case ["audit", "--ordered"]:
+            line, status = audit_ordered(text())
         case ["apply"] | ["apply", "--workers", _]:
             line, status = apply(text())
+        case ["apply", "--ordered"] | ["apply", "--ordered", "--workers", _] | ["apply", "--workers", _, "--ordered"]:
+            line, status = apply_ordered(text())
         case ["upgrade"]:
             line, status = upgrade(text())
         case ["states"]:

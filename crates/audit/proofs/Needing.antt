@@ -17,7 +17,7 @@ use Rattle.rows.specs.WriteSet.{write_set, touches, is_among}
 use Rattle.source_history.specs.World as history
 use Rattle.source_history.proofs.Gtids.{number_less}
 use Rattle.source_history.proofs.Entries.{IsRising}
-use Rattle.source_history.proofs.Lists.{all_at, get_push_cases}
+use Rattle.ordered_journals.proofs.Lists.{all_at, get_push_cases}
 use Rattle.world.specs.Folds.{FirstTouch}
 use Rattle.world.proofs.OnePass.{source_le}
 use Rattle.audit.specs.Gaps.{touched_last, of_source, with_some, last_of_keys, Needs, needs_over}

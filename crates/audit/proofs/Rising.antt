@@ -14,7 +14,7 @@ use Rattle.journal.specs.declared.Entry.{Entry}
 use Rattle.journal.specs.Journals.{JournalValue, IsJournal}
 use Rattle.source_history.specs.World.{World, content, is_opened}
 use Rattle.source_history.specs.World as history
-use Rattle.source_history.proofs.Lists.{get_take, all_at}
+use Rattle.ordered_journals.proofs.Lists.{get_take, all_at}
 use Rattle.world.specs.declared.verdict.Verdict.TheVariants.{NotClosed}
 use Rattle.world.specs.Search.{or_next}
 use Rattle.world.specs.Audit.{all_entries, world_of, stands_in, stands_before, is_left_out, shared, not_closed}

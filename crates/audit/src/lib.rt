@@ -38,7 +38,7 @@ mod standing;
 mod touches;
 mod unequal;
 
-pub use finding::{audit, audit_keys};
+pub use finding::{audit, audit_gtids, audit_keys, keep_rules};
 pub use laws::faults_are_all;
 pub use listing::{AllFaults, audit_all};
 pub use sources::{World, WorldFault, world_of};

@@ -4,3 +4,5 @@ pub mod Receipts
 pub mod Written
 pub mod Importing
 pub mod Coming
+pub mod Explaining
+pub mod Unsound

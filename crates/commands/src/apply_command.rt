@@ -15,7 +15,7 @@ use crate::streams::Streams;
 use applier::{Gate, NoGate};
 use gtid_report::{Fault, render_state};
 use replica_core::Core;
-use serving::{StateOrVerdict, serve};
+use serving::{Order, StateOrVerdict, serve};
 use std::alloc::{AllocError, Global};
 use std::mem;
 use std::sync::Wait;
@@ -35,12 +35,13 @@ fn state_answer(alloc: Global, core: &Core) -> Result<Answer, AllocError>
 
 /// What a bundle comes to where one thread applies it. What was served is left to the end of the
 /// process.
-fn apply_alone(alloc: Global, bundle: &Bundle) -> Result<Answer, Fault>
+#[tactic(auto, using(crate::proofs::Unsound::verdict_applied))]
+fn apply_alone(alloc: Global, bundle: &Bundle, order: Order) -> Result<Answer, Fault>
     requires { IsServable bundle.now }
-    ensures comes { IfOk result (λ answer. Holds answer (applied bundle.now)) }
+    ensures comes { IfOk result (λ answer. Holds answer (applied order bundle.now)) }
     ensures fault { IfErr result (GivesUp (IsBundleFault bundle.now)) }
 {
-    match serve(alloc, bundle)? {
+    match serve(alloc, bundle, order)? {
         StateOrVerdict::State(core) => {
             let answer = state_answer(alloc, &core);
             mem::forget(core);
@@ -51,19 +52,21 @@ fn apply_alone(alloc: Global, bundle: &Bundle) -> Result<Answer, Fault>
 }
 
 /// What a bundle comes to where workers apply it. What they leave is left to the end of the process.
+#[tactic(auto, using(crate::proofs::Unsound::verdict_applied))]
 fn apply_together<G: Gate + Sync, R: Threads + Wait + Sync>(
     rt: &R,
     alloc: Global,
     bundle: &Bundle,
+    order: Order,
     workers: u8,
     gate: &G,
 ) -> Result<Answer, Fault>
     requires can { IsServable bundle.now }
     requires workers { (1 ≤ workers) × (workers ≤ 64) }
-    ensures comes { IfOk result (λ answer. Holds answer (applied bundle.now)) }
+    ensures comes { IfOk result (λ answer. Holds answer (applied order bundle.now)) }
     ensures fault { IfErr result (GivesUp (IsBundleFault bundle.now)) }
 {
-    match apply_journals(rt, alloc, bundle, workers, gate)? {
+    match apply_journals(rt, alloc, bundle, order, workers, gate)? {
         StateOrVerdict::State(book) => {
             let answer = state_answer(alloc, book.state());
             mem::forget(book);
@@ -82,18 +85,19 @@ pub fn apply_decoded<G: Gate + Sync, R: Threads + Wait + Sync>(
     rt: &R,
     alloc: Global,
     bundle: &Bundle,
+    order: Order,
     workers: u8,
     gate: &G,
 ) -> Result<Answer, Fault>
     requires can { IsServable bundle.now }
     requires workers { (1 ≤ workers) × (workers ≤ 64) }
-    ensures comes { IfOk result (λ answer. Holds answer (applied bundle.now)) }
+    ensures comes { IfOk result (λ answer. Holds answer (applied order bundle.now)) }
     ensures fault { IfErr result (GivesUp (IsBundleFault bundle.now)) }
 {
     if workers == 1 {
-        apply_alone(alloc, bundle)
+        apply_alone(alloc, bundle, order)
     } else {
-        apply_together(rt, alloc, bundle, workers, gate)
+        apply_together(rt, alloc, bundle, order, workers, gate)
     }
 }
 
@@ -101,6 +105,7 @@ pub fn apply_decoded<G: Gate + Sync, R: Threads + Wait + Sync>(
 #[derive(Drop)]
 struct Apply<'a, R: Threads + Wait + Sync> {
     threads: &'a R,
+    order: Order,
     workers: u8,
 }
 
@@ -109,30 +114,39 @@ impl<'a, R: Threads + Wait + Sync> Request for Apply<'a, R> {
 
     ghost ready = { λ asked. (1 ≤ asked.workers) × (asked.workers ≤ 64) × IsSync R.row };
 
-    ghost says = { λ _ b. applied b };
+    ghost says = { λ asked b. applied asked.order b };
 
     ghost may_fail = { λ _ b. IsBundleFault b };
 
     fn answer(&self, alloc: Global, bundle: &Bundle) -> Result<Answer, Fault> {
-        apply_decoded(self.threads, alloc, bundle, self.workers, &NoGate)
+        apply_decoded(
+            self.threads,
+            alloc,
+            bundle,
+            self.order,
+            self.workers,
+            &NoGate,
+        )
     }
 }
 
-/// Reads a bundle, and writes the state in which all its journals are executed, or the line of its
-/// audit's verdict where that is not Sound, or the line of its refusal, and nothing else.
+/// Reads a bundle, and writes the state in which all its journals are executed, or the line of the
+/// verdict of the audit that asks for this order, where that is not Sound, or the line of its refusal, and nothing else.
 pub fn apply_bundle<S: Source, W: Sink, R: Threads + Wait + Sync>(
     rt: &R,
     alloc: Global,
+    order: Order,
     workers: u8,
     streams: &mut Streams<S, W>,
 ) -> Result<Outcome, RunFault>
     requires low { 1 ≤ workers }
     requires high { workers ≤ 64 }
-    ensures done { IfOk result (IsDone (to_all Applies) streams.old streams.new) }
-    ensures failed { IfErr result (HasFailed (to_all Applies) streams.old streams.new) }
+    ensures done { IfOk result (IsDone (to_all (Applies order)) streams.old streams.new) }
+    ensures failed { IfErr result (HasFailed (to_all (Applies order)) streams.old streams.new) }
 {
     let request = Apply {
         threads: rt,
+        order,
         workers,
     };
     run(alloc, &request, streams)
