@@ -4,3 +4,4 @@ pub mod Receipts
 pub mod Written
 pub mod Importing
 pub mod Coming
+pub mod Explaining

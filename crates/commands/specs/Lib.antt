@@ -9,3 +9,4 @@ pub mod States
 pub mod Texts
 pub mod Version
 pub mod Listings
+pub mod Explaining

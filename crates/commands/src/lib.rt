@@ -1,4 +1,4 @@
-//! The commands as a library, over any reader and writer: `run_set`, `run_position`, `run_audit`, `run_list`, `run_upgrade`, `apply_bundle`,
+//! The commands as a library, over any reader and writer: `run_set`, `run_position`, `run_audit`, `run_list`, `run_explain`, `run_upgrade`, `apply_bundle`,
 //! `run_version`; and `apply_journals`, which applies journals by workers on threads.
 //!
 //! What a contract sees: of `Streams` the reader with the bytes that it has left and its failed calls (`Input`), and the writer with the
@@ -23,6 +23,7 @@ mod answer;
 mod apply_command;
 mod audit_command;
 mod edge;
+mod explain_command;
 mod history;
 mod import_command;
 mod import_fault;
@@ -44,6 +45,7 @@ pub use answer::Answer;
 pub use apply_command::{apply_bundle, apply_decoded};
 pub use audit_command::run_audit;
 pub use edge::{Failed, Outcome, RunFault, Sink, Source};
+pub use explain_command::run_explain;
 pub use import_command::run_import;
 pub use list_command::run_list;
 pub use parallel::apply_journals;

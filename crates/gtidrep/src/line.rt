@@ -6,6 +6,17 @@ use clap::error::ErrorKind;
 use clap::{Arg, ArgAction, ArgMatches, Error};
 use std::alloc::{AllocError, Global};
 
+/// What an audit says beside its verdict.
+#[derive(Clone, Copy, Debug, PartialEq, Eq, Drop)]
+pub enum Listing {
+    /// The verdict alone.
+    Verdict,
+    /// All faults of three kinds.
+    All,
+    /// On standard error what the verdict names in the input.
+    Explained,
+}
+
 /// One line of the program's commands, with its values.
 #[derive(Debug, Drop)]
 pub enum Command<'a> {
@@ -20,9 +31,9 @@ pub enum Command<'a> {
         own: &'a str,
         ask: &'a str,
     },
-    /// A bundle from standard input is audited; all faults of three kinds are listed, or the verdict alone.
+    /// A bundle from standard input is audited.
     Audit {
-        all: bool,
+        listing: Listing,
     },
     /// A bundle of version 1 from standard input is written by version 2.
     Upgrade,
@@ -85,7 +96,8 @@ Status: 0 printed, 1 refused, 2 the command line, 3 memory, 4 reading or writing
 
 const AUDIT_EXAMPLE: &str =
     "Prints `sound`, or the first reason why the journals cannot be merged: `shared` and `not-closed` name the pair of
-transactions at fault, `missing`, `unequal` and `does-not-apply` one of them, `purged` a journal.
+transactions at fault, `missing`, `unequal` and `does-not-apply` one of them, `purged` a journal. With --explain standard
+error shows where these stand: channels, entries, lines and changes; of a line that is refused, the line and what is due.
 
 Example:
   gtidrep audit < examples/ring.bundle
@@ -176,10 +188,16 @@ fn audit_command<'a>(alloc: Global) -> Result<clap::Command<'a>, AllocError> {
         .help(
             "lists behind the verdict every other purged journal, run of missing GTIDs and shared key",
         );
+    let explain = Arg::new(alloc, "explain")
+        .long("explain")
+        .action(ArgAction::SetTrue)
+        .conflicts_with("all")?
+        .help("shows on standard error where the input has what the verdict names");
     clap::Command::new(alloc, "audit")
         .about("Says whether the journals of a bundle can be merged: audit < examples/ring.bundle")
         .after_help(AUDIT_EXAMPLE)
-        .arg(all)
+        .arg(all)?
+        .arg(explain)
 }
 
 fn upgrade_command<'a>(alloc: Global) -> clap::Command<'a> {
@@ -256,6 +274,17 @@ fn workers_of(matches: &ArgMatches) -> Option<u8>
     }
 }
 
+fn listing_of(matches: &ArgMatches) -> Listing {
+    if matches.get_flag("explain") {
+        return Listing::Explained;
+    }
+    if matches.get_flag("all") {
+        Listing::All
+    } else {
+        Listing::Verdict
+    }
+}
+
 fn command_of<'a>(name: &str, matches: &ArgMatches<'a>) -> Option<Command<'a>>
     ensures { MatchOption result (Unit {0}) IsForOneToMost }
 {
@@ -274,7 +303,7 @@ fn command_of<'a>(name: &str, matches: &ArgMatches<'a>) -> Option<Command<'a>>
     }
     if name == "audit" {
         return Some(Command::Audit {
-            all: matches.get_flag("all"),
+            listing: listing_of(matches),
         });
     }
     if name == "upgrade" {

@@ -1,13 +1,13 @@
 //! The program `gtidrep`: the command line, and a command of crate `commands` over standard input and standard output.
 //!
 //!     set <function> <a> [<b>]               position --own <uuid> --ask <set> < journal
-//!     audit [--all] < bundle                 apply [--workers N] < bundle
+//!     audit [--all | --explain] < bundle     apply [--workers N] < bundle
 //!     upgrade < bundle                       import [--bytes] < bundle of logs
 //!     states < servers                       --version
 //!
 //! Exit status: 0 done, 1 refused, 2 the command line, 3 out of memory, 4 reading or writing failed (`exit_status`). With 3 and 4 one
 //! line on standard error says what failed; with 2 it says what is wrong with the words; with 0 and 1 it is empty (`message`, which
-//! allocates nothing).
+//! allocates nothing), but for what `--explain` shows there.
 //!
 //! What is written is proved of the commands. Here: which status and message belong to which end, and that a number of workers is 1 to 64
 //! (`parse_line`).
@@ -22,10 +22,10 @@ mod ending;
 mod line;
 
 use crate::ending::{Ending, exit_status, message};
-use crate::line::{Command, LineFault, parse_line};
+use crate::line::{Command, LineFault, Listing, parse_line};
 use commands::{
-    Outcome, RunFault, StdSink, StdSource, Streams, apply_bundle, run_audit, run_import, run_list,
-    run_position, run_set, run_states, run_upgrade, run_version,
+    Outcome, RunFault, StdSink, StdSource, Streams, apply_bundle, run_audit, run_explain,
+    run_import, run_list, run_position, run_set, run_states, run_upgrade, run_version,
 };
 use std::env;
 use std::io::{self, ErrorKind};
@@ -64,8 +64,13 @@ fn run_command<T: Threads + Wait + Sync>(
             second,
         } => run_set(alloc, function, first, second, &mut streams),
         Command::Position { own, ask } => run_position(alloc, own, ask, &mut streams),
-        Command::Audit { all: true } => run_list(alloc, &mut streams),
-        Command::Audit { all: false } => run_audit(alloc, &mut streams),
+        Command::Audit { listing } => match listing {
+            Listing::Verdict => run_audit(alloc, &mut streams),
+            Listing::All => run_list(alloc, &mut streams),
+            Listing::Explained => {
+                run_explain(alloc, &mut streams, &mut StdSink::new(rt.stderr()))
+            }
+        },
         Command::Upgrade => run_upgrade(alloc, &mut streams),
         Command::States => run_states(alloc, &mut streams),
         Command::Import { bytes } => run_import(alloc, bytes, &mut streams),

@@ -1,0 +1,57 @@
+-- What is found for bytes with what explains it, and what is written of it.
+use Rattle.std.proofs.Common.{◌≡◌, ℕ, List, inl, inr, refl, sym, ap, subst}
+use Rattle.std.specs.Prelude.{Result, Ok, Err, IfOk, IfErr}
+use Rattle.txn_journal.specs.BundleStates.{BundleValue}
+use Rattle.txn_journal.specs.Stream.{IsWhole}
+use Rattle.txn_journal.specs.declared.fault.JournalFault.{JournalFault}
+use Rattle.gtid_report.specs.Faults.{journal_fault}
+use Rattle.gtid_report.specs.declared.fault.Fault.{Fault}
+use Rattle.gtid_report.specs.declared.fault.Fault.TheVariants as fault
+use Rattle.gtid_report.specs.declared.refusal.Refusal.{Refusal}
+use Rattle.serving.specs.Faults.{IsVerdictFault}
+use Rattle.serving.specs.Servable.{IsServable}
+use Rattle.commands.specs.Said.{Holds, Finds, GivesUp, answered, refused_with}
+use Rattle.commands.specs.Bundles.{Audits, SpellsBundle, audited, bundle_in}
+use Rattle.commands.specs.Texts.{IsTextOf}
+use Rattle.commands.specs.Explaining.{ExplainsBundle, HoldsExplained, FindsExplained, SettlesExplained}
+use Rattle.commands.specs.declared.edge.RunFault.{RunFault}
+use Rattle.commands.specs.declared.explain_command.Explained.{Explained}
+use Rattle.commands.proofs.Finding.{found_in, fault_in}
+
+abbrev IsBundleText : List ℕ → Result BundleValue JournalFault → Type 0
+IsBundleText bytes found = IsTextOf SpellsBundle bundle_in IsServable bytes found
+
+abbrev bundle_of : BundleValue → Result BundleValue JournalFault
+bundle_of b = Ok b
+
+read_as : (b : BundleValue) (read : Result BundleValue JournalFault) → IsWhole (bundle_of b) read → read ≡ bundle_of b
+read_as b read (inl (fault, e)) = cc
+read_as b read (inr e) = sym e
+
+-- the verdict on a bundle
+pub bundle_found : (bytes : List ℕ) (b : BundleValue) (found : Result Explained Fault) → IsBundleText bytes (Ok b) → IfOk found (λ held. Holds held.answer (audited b))
+    → IfOk found (λ held. ExplainsBundle bytes b (held.notes.items)) → IfErr found (GivesUp (IsVerdictFault b)) → FindsExplained bytes found
+bundle_found bytes b (Ok held) text holds notes none =
+    let e = read_as b (bundle_in bytes) text.exact in
+    record {
+      said = audited b;
+      explains = record { audits = inl (subst (SpellsBundle bytes) (sym e) text.spelled, ap (answered audited) (sym e)); explained = inl (record { bundle = b; spelled = e; verdict = refl; explained = notes }) };
+      holds = holds;
+    }
+bundle_found bytes b (Err (fault.Refused r)) text holds notes full = found_in SpellsBundle bundle_in audited IsVerdictFault bytes b (Err (fault.Refused r)) text.spelled text.exact tt full
+bundle_found bytes b (Err fault.Memory) text holds notes full = tt
+
+refused_so : (bytes : List ℕ) (f : Fault) → Finds Audits bytes (Err f) → FindsExplained bytes (Err f)
+refused_so bytes (fault.Refused r) h = h
+refused_so bytes fault.Memory h = tt
+
+-- the refusal of the bytes
+pub fault_found : (bytes : List ℕ) (f : JournalFault) → IsBundleText bytes (Err f) → FindsExplained bytes (Err (journal_fault f))
+fault_found bytes f text = refused_so bytes (journal_fault f) (fault_in SpellsBundle bundle_in audited IsVerdictFault bytes f (λ g h. h) text.spelled text.exact)
+
+-- what is settled holds the answer with what explains it
+pub settled : (bytes : List ℕ) (found : Result Explained Fault) (settled : Result Explained RunFault) → FindsExplained bytes found → IfOk settled (SettlesExplained bytes found) → IfOk settled (HoldsExplained bytes)
+settled bytes found (Err e) f s = tt
+settled bytes (Ok held) (Ok h) f s = subst (HoldsExplained bytes) (sym s) f
+settled bytes (Err (fault.Refused r)) (Ok h) f s = record { said = refused_with r; explains = record { audits = f; explained = inr (record { refusal = r; refused = refl; explained = s.1 }) }; holds = s.0 }
+settled bytes (Err fault.Memory) (Ok h) f s = absurd s

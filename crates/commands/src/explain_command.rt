@@ -1,0 +1,161 @@
+//! The command `audit --explain`.
+ghost use Rattle.std.specs.Prelude.{◌≡◌, IfOk, IfErr, OnOk, OnErr};
+ghost use Rattle.std.specs.Io.KnownBytes.{Appends};
+ghost use Rattle.serving.specs.Faults.{IsVerdictFault};
+ghost use Rattle.serving.specs.Servable.{IsServable};
+ghost use Rattle.serving.specs.Verdicts.{verdict_over};
+ghost use Rattle.fault_places.specs.Lines.{lines_of};
+ghost use Rattle.fault_places.specs.Explained.{refusal_explained};
+ghost use Rattle.commands.specs.Edge.{output_of, one_more, Begins};
+ghost use Rattle.commands.specs.Said.{Holds, GivesUp, refused_with, to_all, IsDone};
+ghost use Rattle.commands.specs.Bundles.{SpellsBundle, audited, bundle_in};
+ghost use Rattle.commands.specs.Texts.{IsTextOf};
+ghost use Rattle.commands.specs.Explaining.{AreMissingBeside, ExplainsBundle, HoldsExplained, FindsExplained, SettlesExplained, IsToldWhole, HasNotExplained};
+
+use crate::answer::{Answer, refusal_answer};
+use crate::audit_command::verdict_answer;
+use crate::edge::{Outcome, RunFault, Sink, Source};
+use crate::streams::Streams;
+use fault_places::{explain_refusal, explain_verdict};
+use gtid_report::{Fault, Refusal};
+use gtid_set::{GtidSet, SetFault};
+use serving::{faults_over, verdict_over, written_is_servable};
+use std::alloc::{AllocError, Global};
+use std::mem;
+use txn_journal::{Bundle, JournalFault, decode_bundle};
+use world::Verdict;
+
+/// An answer, and the lines that explain it.
+#[derive(Drop)]
+pub(crate) struct Explained {
+    pub(crate) answer: Answer,
+    pub(crate) notes: Vec<u8>,
+}
+
+/// The GTIDs that are missing beside the one of the verdict.
+fn missing_beside(
+    alloc: Global,
+    bundle: &Bundle,
+    verdict: &Verdict,
+) -> Result<Option<GtidSet>, AllocError>
+    requires fitting { IsServable bundle.now }
+    requires verdict { verdict.now ≡ verdict_over bundle.now }
+    ensures { IfOk result (AreMissingBeside bundle.now verdict.now) }
+{
+    match verdict {
+        Verdict::Missing(_) => match faults_over(alloc, bundle) {
+            Ok(all) => Ok(Some(all.missing)),
+            Err(SetFault::Memory) => Err(AllocError),
+            Err(_) => Ok(None),
+        },
+        _ => Ok(None),
+    }
+}
+
+/// The verdict on a bundle, and what explains it.
+fn explain_bundle(alloc: Global, bytes: &[u8], bundle: &Bundle) -> Result<Explained, Fault>
+    requires { IsServable bundle.now }
+    ensures answer { IfOk result (λ held. Holds held.answer (audited bundle.now)) }
+    ensures notes { IfOk result (λ held. ExplainsBundle bytes.now bundle.now held.notes.items) }
+    ensures fault { IfErr result (GivesUp (IsVerdictFault bundle.now)) }
+{
+    let verdict = verdict_over(alloc, bundle)?;
+    let missing = missing_beside(alloc, bundle, &verdict)?;
+    let notes = explain_verdict(alloc, bytes, bundle.journals(), &missing, &verdict)?;
+    Ok(Explained {
+        answer: verdict_answer(alloc, &verdict)?,
+        notes,
+    })
+}
+
+/// The bundle that bytes spell, all of the bytes.
+fn decode_whole(alloc: Global, bytes: &[u8]) -> Result<Bundle, JournalFault>
+    ensures { IsTextOf SpellsBundle bundle_in IsServable bytes.now result }
+{
+    written_is_servable();
+    decode_bundle(alloc, bytes)
+}
+
+/// What is found in bytes. The bundle is left to the end of the process.
+fn explain_found(alloc: Global, bytes: &[u8]) -> Result<Explained, Fault>
+    ensures { FindsExplained bytes.now result }
+{
+    match decode_whole(alloc, bytes) {
+        Ok(bundle) => {
+            let held = explain_bundle(alloc, bytes, &bundle);
+            mem::forget(bundle);
+            held
+        }
+        Err(fault) => Err(Fault::from(fault)),
+    }
+}
+
+/// The line of a refusal, and what explains it.
+fn explain_refused(alloc: Global, bytes: &[u8], refusal: &Refusal) -> Result<Explained, AllocError>
+    ensures answer { IfOk result (λ held. Holds held.answer (refused_with refusal.now)) }
+    ensures notes { IfOk result (λ held. held.notes.items ≡ refusal_explained (lines_of bytes.now) refusal.now) }
+{
+    let notes = explain_refusal(alloc, bytes, refusal)?;
+    Ok(Explained {
+        answer: refusal_answer(alloc, refusal)?,
+        notes,
+    })
+}
+
+/// An answer, or the line of its refusal, and what explains it.
+fn settle_explained(
+    alloc: Global,
+    bytes: &[u8],
+    found: Result<Explained, Fault>,
+) -> Result<Explained, RunFault>
+    ensures ok { IfOk result (SettlesExplained bytes.now found) }
+    ensures memory { IfErr result (λ f. f ≡ RunFault.Memory) }
+{
+    match found {
+        Ok(held) => Ok(held),
+        Err(Fault::Memory) => Err(RunFault::Memory),
+        Err(Fault::Refused(refusal)) => match explain_refused(alloc, bytes, &refusal) {
+            Ok(held) => Ok(held),
+            Err(_) => Err(RunFault::Memory),
+        },
+    }
+}
+
+/// What is answered to bytes, and what explains it.
+fn explain_bytes(alloc: Global, bytes: &[u8]) -> Result<Explained, RunFault>
+    ensures ok { IfOk result (HoldsExplained bytes.now) }
+    ensures memory { IfErr result (λ f. f ≡ RunFault.Memory) }
+{
+    settle_explained(alloc, bytes, explain_found(alloc, bytes))
+}
+
+/// Writes what explains an answer.
+fn tell<E: Sink>(errors: &mut E, notes: &[u8]) -> Result<(), RunFault>
+    ensures done { OnOk result (Appends (E.written errors.old) (E.written errors.new) notes.now) }
+    ensures write { IfErr result (λ f. f ≡ RunFault.Write) }
+    ensures begins { OnErr result (Begins (E.written errors.old) (E.written errors.new) notes.now) }
+    ensures counted { OnErr result (E.failed errors.new ≡ one_more (E.failed errors.old)) }
+{
+    match errors.write(notes) {
+        Ok(()) => Ok(()),
+        Err(_) => Err(RunFault::Write),
+    }
+}
+
+/// Reads a bundle, writes to the streams what `run_audit` writes, and nothing else, and to `errors` lines that explain it: where
+/// the input has what the verdict or the refusal names (`fault_places::explain_verdict`, `explain_refusal`). The text is kept until
+/// then. Where the verdict's line could not be written, nothing explains it.
+pub fn run_explain<S: Source, W: Sink, E: Sink>(
+    alloc: Global,
+    streams: &mut Streams<S, W>,
+    errors: &mut E,
+) -> Result<Outcome, RunFault>
+    ensures done { let told = output_of E.written E.failed errors.old in let new = output_of E.written E.failed errors.new in IfOk result (IsDone (to_all (IsToldWhole told new)) streams.old streams.new) }
+    ensures failed { let told = output_of E.written E.failed errors.old in let new = output_of E.written E.failed errors.new in IfErr result (HasNotExplained told new streams.old streams.new) }
+{
+    let bytes = streams.read_all(alloc)?;
+    let held = explain_bytes(alloc, &bytes)?;
+    let outcome = streams.send(&held.answer)?;
+    tell(errors, &held.notes)?;
+    Ok(outcome)
+}

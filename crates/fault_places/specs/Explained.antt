@@ -1,0 +1,106 @@
+-- What explains a verdict or a refusal: lines of which each begins with two blanks. The words are our own.
+use Rattle.std.specs.Prelude.{ℕ, ◌+◌, ◌*◌, ◌&&◌, Bool, List, [], ◌∷◌, ◌++◌, Option, Some, None, codes, decimal, if◌then◌else◌}
+use Rattle.std.specs.FinSet as set
+use Rattle.std.specs.Str.{bytes_eq}
+use Rattle.gtid_text.specs.declared.Gtid.{Gtid}
+use Rattle.gtid_text.specs.Canonical.{gtid_text}
+use Rattle.gtid_set.specs.Sets.{Gtids}
+use Rattle.rows.specs.declared.change.Key.{Key}
+use Rattle.rows.specs.declared.change.RowFault.{RowFault}
+use Rattle.rows.specs.declared.change.RowFault.TheVariants.{RowMissing, RowDiffers, DuplicateKey}
+use Rattle.journal.specs.Journals.{JournalValue}
+use Rattle.txn_journal.specs.WrittenSets.{set_text}
+use Rattle.world.specs.declared.verdict.Verdict.{Verdict}
+use Rattle.world.specs.declared.verdict.Verdict.TheVariants.{Unequal, Purged, Missing, Shared, NotClosed, DoesNotApply, Sound}
+use Rattle.gtid_report.specs.Verdicts.{row_fault_place}
+use Rattle.gtid_report.specs.declared.refusal.LineCause.{LineCause}
+use Rattle.gtid_report.specs.declared.refusal.LineCause.TheVariants.{Keyword, Body, Limit, Schema, Stamp}
+use Rattle.gtid_report.specs.declared.refusal.Refusal.{Refusal}
+use Rattle.gtid_report.specs.declared.refusal.Refusal.TheVariants.{PoolFull, SourcesFull, Line, Truncated, Twice, Version}
+use Rattle.fault_places.specs.declared.wanted.Wanted.TheVariants.{Every, OfTable, Numbered, Nothing}
+use Rattle.fault_places.specs.Lines.{second_word, word_at, is_table, shown}
+use Rattle.fault_places.specs.Places.{line_text, places_of, previous_sets}
+use Rattle.fault_places.specs.Next.{next_there}
+use Rattle.fault_places.specs.Due.{line_at, due_at}
+
+-- ---- verdicts
+
+-- a line is that of the key's table
+abbrev pub is_of_key : Key → List ℕ → Bool
+is_of_key key line = is_table line && bytes_eq (second_word line) key.table
+
+-- the numbers of the key's columns, by the line of its table, and the line
+abbrev pub columns_text : Key → ℕ → List ℕ → List ℕ
+columns_text key n line = codes "  key " ++ decimal key.index ++ codes " is columns " ++ shown (word_at (4 + 2 * key.index) line) ++ codes ", " ++ line_text n line
+
+-- that of the line of the key's table, and nothing of other lines
+abbrev pub columns_told : Key → ℕ → List ℕ → List ℕ
+columns_told key n line = if is_of_key key line then columns_text key n line else []
+
+-- the same of line n and those behind it
+abbrev pub columns_from : Key → ℕ → List (List ℕ) → List ℕ
+columns_from key n [] = []
+columns_from key n (line ∷ lines) = columns_told key n line ++ columns_from key (n + 1) lines
+
+-- the columns of a key, and the changes of two transactions in its table
+abbrev pub key_explained : Gtid → Gtid → Key → List (List ℕ) → List ℕ
+key_explained g h key lines =
+    columns_from key 1 lines ++ places_of (gtid_text g) (OfTable key.table) lines ++ places_of (gtid_text h) (OfTable key.table) lines
+
+-- how many other GTIDs are missing, and which
+abbrev pub missing_text : Option Gtids → List ℕ
+missing_text None = []
+missing_text (Some gtids) = codes "  also missing: " ++ decimal (set.len gtids) ++ codes ", " ++ set_text gtids ++ codes "\n"
+
+-- the places of the next number that is there
+abbrev pub next_places : Gtid → List (List ℕ) → List ℕ
+next_places g lines = codes "  next there:\n" ++ places_of (gtid_text g) Nothing lines
+
+abbrev pub next_text : Option Gtid → List (List ℕ) → List ℕ
+next_text None lines = []
+next_text (Some g) lines = next_places g lines
+
+-- what a row fault means
+abbrev pub row_fault_meaning : RowFault → List ℕ
+row_fault_meaning (RowMissing change key) = codes "  E10: no row has the primary key of the change's before image\n"
+row_fault_meaning (RowDiffers change key) = codes "  E11: the row with that primary key is another than the change's before image\n"
+row_fault_meaning (DuplicateKey change key) = codes "  E12: a row has this key of the change's after image already\n"
+
+-- what explains a verdict on journals, with the other missing GTIDs
+abbrev pub verdict_explained : List (List ℕ) → List JournalValue → Option Gtids → Verdict → List ℕ
+verdict_explained lines journals gtids (Unequal g) = places_of (gtid_text g) Every lines
+verdict_explained lines journals gtids (Purged i purged) = previous_sets lines
+verdict_explained lines journals gtids (Missing g) = missing_text gtids ++ next_text (next_there g None journals) lines
+verdict_explained lines journals gtids (Shared g h key) = key_explained g h key lines
+verdict_explained lines journals gtids (NotClosed g h) = places_of (gtid_text g) Every lines ++ places_of (gtid_text h) Every lines
+verdict_explained lines journals gtids (DoesNotApply g fault) = row_fault_meaning fault ++ places_of (gtid_text g) (Numbered (row_fault_place fault).0) lines
+verdict_explained lines journals gtids Sound = []
+
+-- ---- refusals
+
+-- a line, and what may stand there
+abbrev pub due_text : ℕ → List (List ℕ) → List ℕ
+due_text n lines = codes "  due here: " ++ due_at lines n ++ codes "\n"
+
+-- what is wrong with a line
+abbrev pub cause_text : LineCause → ℕ → List (List ℕ) → List ℕ
+cause_text Keyword n lines = due_text n lines
+cause_text Body n lines = due_text n lines
+cause_text Limit n lines = codes "  a limit is passed: columns, unique keys, tables, channels, changes, bytes of a value, values of an image, or entries\n"
+cause_text Schema n lines =
+    codes "  the tables do not take it: a name twice, a column that is not there, an unknown table, a wrong number of values, a null in the primary key, or a key that a row has already\n"
+cause_text Stamp n lines = codes "  the sequence number is not the entry's place, or the last_committed is not that of its keys\n"
+
+-- a line with its number
+abbrev pub faulty_line : ℕ → List (List ℕ) → List ℕ
+faulty_line n lines = codes "  " ++ line_text n (line_at lines n)
+
+-- what explains a refusal; other refusals than these are of no bundle
+abbrev pub refusal_explained : List (List ℕ) → Refusal → List ℕ
+refusal_explained lines (Line n cause) = faulty_line n lines ++ cause_text cause n lines
+refusal_explained lines (Truncated n) = faulty_line n lines ++ due_text n lines
+refusal_explained lines (Version n) = faulty_line n lines ++ due_text n lines
+refusal_explained lines (Twice g) = previous_sets lines ++ places_of (gtid_text g) Nothing lines
+refusal_explained lines SourcesFull = codes "  a set has more than 65536 sources\n"
+refusal_explained lines PoolFull = codes "  a set has more than 4294967294 intervals\n"
+refusal_explained lines r = []

@@ -1,0 +1,5 @@
+pub mod Lines
+pub mod Places
+pub mod Next
+pub mod Due
+pub mod Explained

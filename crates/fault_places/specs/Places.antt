@@ -1,0 +1,86 @@
+-- Where the transactions of a GTID stand in the lines of a bundle.
+use Rattle.std.specs.Prelude.{ℕ, ◌+◌, ◌-◌, ◌==◌, ◌&&◌, Bool, true, false, List, [], ◌∷◌, ◌++◌, codes, decimal, if◌then◌else◌}
+use Rattle.std.specs.Str.{bytes_eq}
+use Rattle.fault_places.specs.declared.standing.Standing.{Standing}
+use Rattle.fault_places.specs.declared.wanted.Wanted.{Wanted}
+use Rattle.fault_places.specs.declared.wanted.Wanted.TheVariants.{Every, OfTable, Numbered, Nothing}
+use Rattle.fault_places.specs.Lines.{second_word, is_channel, is_previous, is_transaction, is_change, shown}
+
+-- ---- where a line stands
+
+-- before the first channel
+abbrev pub at_start : Standing
+at_start = record { channels = 0; entries = 0; changes = 0; inside = false }
+
+-- a line is that of a transaction with this GTID
+abbrev pub is_named : List ℕ → List ℕ → Bool
+is_named g line = is_transaction line && bytes_eq (second_word line) g
+
+-- Behind a line: how many channels have begun, entries of this channel, and changes of this entry; and whether the entry has this GTID.
+unfoldable pub after : List ℕ → Standing → List ℕ → Standing
+after g s line =
+    if is_channel line then record { channels = s.channels + 1; entries = 0; changes = 0; inside = false }
+    else if is_transaction line then record { channels = s.channels; entries = s.entries + 1; changes = 0; inside = is_named g line }
+    else if is_change line then record { channels = s.channels; entries = s.entries; changes = s.changes + 1; inside = s.inside }
+    else s
+
+-- the name of the channel that began last
+abbrev pub channel_after : List ℕ → List ℕ → List ℕ
+channel_after name line = if is_channel line then second_word line else name
+
+-- ---- what is said of a line
+
+-- the number and the name of its channel
+abbrev pub channel_text : List ℕ → Standing → List ℕ
+channel_text name s = codes "channel " ++ decimal (s.channels - 1) ++ codes " " ++ shown name
+
+-- ` line <n>: ` and the line
+abbrev pub line_text : ℕ → List ℕ → List ℕ
+line_text n line = codes "line " ++ decimal n ++ codes ": " ++ shown line ++ codes "\n"
+
+-- the place of a transaction: its channel, its entry and its line
+abbrev pub entry_text : List ℕ → List ℕ → Standing → ℕ → List ℕ
+entry_text g name s n =
+    codes "  " ++ g ++ codes ": " ++ channel_text name s ++ codes ", entry " ++ decimal s.entries ++ codes ", line " ++ decimal n ++ codes "\n"
+
+-- a change, with its place in its transaction
+abbrev pub change_text : Standing → ℕ → List ℕ → List ℕ
+change_text s n line = codes "    change " ++ decimal s.changes ++ codes ", " ++ line_text n line
+
+-- a change is one of those that are wanted
+abbrev pub is_wanted : Wanted → ℕ → List ℕ → Bool
+is_wanted Every place line = true
+is_wanted (OfTable table) place line = bytes_eq (second_word line) table
+is_wanted (Numbered number) place line = place == number
+is_wanted Nothing place line = false
+
+-- of a transaction with this GTID its place, of its changes those that are wanted, and nothing of other lines
+abbrev pub entry_told : List ℕ → Wanted → List ℕ → Standing → ℕ → List ℕ → List ℕ
+entry_told g wanted name s n line =
+    if is_named g line then entry_text g name s n
+    else if s.inside && (is_change line && is_wanted wanted s.changes line) then change_text s n line
+    else []
+
+-- the same of line n and those behind it
+abbrev pub entries_told : List ℕ → Wanted → List ℕ → Standing → ℕ → List (List ℕ) → List ℕ
+entries_told g wanted name s n [] = []
+entries_told g wanted name s n (line ∷ lines) =
+    entry_told g wanted name s n line ++ entries_told g wanted (channel_after name line) (after g s line) (n + 1) lines
+
+-- each transaction with this GTID, with those of its changes that are wanted
+abbrev pub places_of : List ℕ → Wanted → List (List ℕ) → List ℕ
+places_of g wanted lines = entries_told g wanted [] at_start 1 lines
+
+-- ---- previous sets
+
+-- the previous set of a journal, with its channel
+abbrev pub previous_told : List ℕ → Standing → ℕ → List ℕ → List ℕ
+previous_told name s n line = if is_previous line then codes "  " ++ channel_text name s ++ codes ", " ++ line_text n line else []
+
+abbrev pub all_previous_told : List ℕ → Standing → ℕ → List (List ℕ) → List ℕ
+all_previous_told name s n [] = []
+all_previous_told name s n (line ∷ lines) = previous_told name s n line ++ all_previous_told (channel_after name line) (after [] s line) (n + 1) lines
+
+-- the previous set of each journal
+abbrev pub previous_sets : List (List ℕ) → List ℕ
+previous_sets lines = all_previous_told [] at_start 1 lines

@@ -1,0 +1,46 @@
+//! The next number that is there.
+ghost use Rattle.std.specs.Prelude.{◌≡◌, None};
+ghost use Rattle.fault_places.specs.Next.{is_before, nearer, nearest, next_there};
+
+use gtid_text::Gtid;
+use journal::{Entry, Journal};
+
+fn is_before(gtid: &Gtid, best: &Option<Gtid>) -> bool
+    ensures { result ≡ is_before gtid.now best.now }
+{
+    match best {
+        Some(best) => gtid.number < best.number,
+        None => true,
+    }
+}
+
+fn nearer(after: &Gtid, best: Option<Gtid>, gtid: &Gtid) -> Option<Gtid>
+    ensures { result ≡ nearer after.now best gtid.now }
+{
+    if gtid.source == after.source && after.number < gtid.number && is_before(gtid, &best) {
+        Some(*gtid)
+    } else {
+        best
+    }
+}
+
+fn nearest(after: &Gtid, best: Option<Gtid>, entries: &[Entry]) -> Option<Gtid>
+    ensures { result ≡ nearest after.now best entries.now }
+{
+    let mut found = best;
+    for entry in entries {
+        found = nearer(after, found, &entry.gtid);
+    }
+    found
+}
+
+/// The least number behind a GTID, in its source, under which some journal has an entry.
+pub(crate) fn next_there(after: &Gtid, journals: &[Journal]) -> Option<Gtid>
+    ensures { result ≡ next_there after.now None journals.now }
+{
+    let mut found = None;
+    for journal in journals {
+        found = nearest(after, found, journal.entries());
+    }
+    found
+}

@@ -1,0 +1,138 @@
+//! Where the transactions of a GTID, and the previous sets of journals, stand.
+ghost use Rattle.std.specs.Prelude.{◌≡◌, ◌++◌, OnOk, map, length, ◌<◌, ◌^◌};
+ghost use Rattle.fault_places.specs.Places.{channel_text, line_text, entry_text, change_text, entry_told, places_of, previous_told, previous_sets};
+
+use crate::lines::{is_change, is_previous, put, put_number, put_shown};
+use crate::standing::{Standing, channel_after, is_named};
+use crate::wanted::Wanted;
+use std::alloc::AllocError;
+
+/// The number and the name of a channel.
+fn put_channel(out: &mut Vec<u8>, name: &[u8], standing: Standing) -> Result<(), AllocError>
+    ensures { OnOk result (out.new.items ≡ out.old.items ++ channel_text name.now standing) }
+{
+    put(out, "channel ")?;
+    put_number(out, standing.channels.saturating_sub(1))?;
+    put(out, " ")?;
+    put_shown(out, name)
+}
+
+/// A line, and its number from 1.
+pub(crate) fn put_line(out: &mut Vec<u8>, number: usize, line: &[u8]) -> Result<(), AllocError>
+    ensures { OnOk result (out.new.items ≡ out.old.items ++ line_text number line.now) }
+{
+    put(out, "line ")?;
+    put_number(out, number)?;
+    put(out, ": ")?;
+    put_shown(out, line)?;
+    put(out, "\n")
+}
+
+fn put_entry(
+    out: &mut Vec<u8>,
+    gtid: &[u8],
+    name: &[u8],
+    standing: Standing,
+    number: usize,
+) -> Result<(), AllocError>
+    ensures { OnOk result (out.new.items ≡ out.old.items ++ entry_text gtid.now name.now standing number) }
+{
+    put(out, "  ")?;
+    out.extend_from_slice(gtid)?;
+    put(out, ": ")?;
+    put_channel(out, name, standing)?;
+    put(out, ", entry ")?;
+    put_number(out, standing.entries)?;
+    put(out, ", line ")?;
+    put_number(out, number)?;
+    put(out, "\n")
+}
+
+fn put_change(
+    out: &mut Vec<u8>,
+    standing: Standing,
+    number: usize,
+    line: &[u8],
+) -> Result<(), AllocError>
+    ensures { OnOk result (out.new.items ≡ out.old.items ++ change_text standing number line.now) }
+{
+    put(out, "    change ")?;
+    put_number(out, standing.changes)?;
+    put(out, ", ")?;
+    put_line(out, number, line)
+}
+
+/// What is said of a line.
+fn tell_entry(
+    out: &mut Vec<u8>,
+    gtid: &[u8],
+    wanted: &Wanted,
+    name: &[u8],
+    standing: Standing,
+    number: usize,
+    line: &[u8],
+) -> Result<(), AllocError>
+    ensures { OnOk result (out.new.items ≡ out.old.items ++ entry_told gtid.now wanted.now name.now standing number line.now) }
+{
+    if is_named(gtid, line) {
+        return put_entry(out, gtid, name, standing, number);
+    }
+    if standing.inside && is_change(line) && wanted.takes(standing.changes, line) {
+        return put_change(out, standing, number, line);
+    }
+    Ok(())
+}
+
+/// Each transaction with this GTID, with those of its changes that are wanted: its channel and its entry, counted from 0, and its line,
+/// counted from 1.
+pub(crate) fn put_places(
+    out: &mut Vec<u8>,
+    gtid: &[u8],
+    wanted: &Wanted,
+    lines: &[&[u8]],
+) -> Result<(), AllocError>
+    requires { length lines.now < 2 ^ 63 }
+    ensures { OnOk result (out.new.items ≡ out.old.items ++ places_of gtid.now wanted.now (map (λ x. x.now) lines.now)) }
+{
+    let mut standing = Standing::at_start();
+    let mut name: &[u8] = &[];
+    for (i, line) in lines.iter().enumerate() {
+        tell_entry(out, gtid, wanted, name, standing, i + 1, line)?;
+        name = channel_after(name, line);
+        standing = standing.after(gtid, line);
+    }
+    Ok(())
+}
+
+fn tell_previous(
+    out: &mut Vec<u8>,
+    name: &[u8],
+    standing: Standing,
+    number: usize,
+    line: &[u8],
+) -> Result<(), AllocError>
+    ensures { OnOk result (out.new.items ≡ out.old.items ++ previous_told name.now standing number line.now) }
+{
+    if !is_previous(line) {
+        return Ok(());
+    }
+    put(out, "  ")?;
+    put_channel(out, name, standing)?;
+    put(out, ", ")?;
+    put_line(out, number, line)
+}
+
+/// The previous set of each journal, with its channel and its line.
+pub(crate) fn put_previous_sets(out: &mut Vec<u8>, lines: &[&[u8]]) -> Result<(), AllocError>
+    requires { length lines.now < 2 ^ 63 }
+    ensures { OnOk result (out.new.items ≡ out.old.items ++ previous_sets (map (λ x. x.now) lines.now)) }
+{
+    let mut standing = Standing::at_start();
+    let mut name: &[u8] = &[];
+    for (i, line) in lines.iter().enumerate() {
+        tell_previous(out, name, standing, i + 1, line)?;
+        name = channel_after(name, line);
+        standing = standing.after(&[], line);
+    }
+    Ok(())
+}

@@ -1,0 +1,107 @@
+//! What explains a refusal.
+ghost use Rattle.std.specs.Prelude.{◌≡◌, ℕ, ◌++◌, ◌<◌, ◌^◌, OnOk, IfOk, map, length};
+ghost use Rattle.fault_places.specs.Lines.{lines_of};
+ghost use Rattle.fault_places.specs.Explained.{due_text, cause_text, faulty_line, refusal_explained};
+
+use crate::due::{due_at, line_at};
+use crate::lines::{lines_of, put};
+use crate::places::{put_line, put_previous_sets};
+use crate::verdict_text::put_gtid;
+use crate::wanted::Wanted;
+use gtid_report::{LineCause, Refusal};
+use std::alloc::{AllocError, Global};
+
+/// What may stand as a line.
+fn put_due(out: &mut Vec<u8>, number: usize, lines: &[&[u8]]) -> Result<(), AllocError>
+    ensures { OnOk result (out.new.items ≡ out.old.items ++ due_text number (map (λ x. x.now) lines.now)) }
+{
+    put(out, "  due here: ")?;
+    put(out, due_at(lines, number))?;
+    put(out, "\n")
+}
+
+/// What is wrong with a line.
+fn put_cause(
+    out: &mut Vec<u8>,
+    cause: LineCause,
+    number: usize,
+    lines: &[&[u8]],
+) -> Result<(), AllocError>
+    ensures { OnOk result (out.new.items ≡ out.old.items ++ cause_text cause number (map (λ x. x.now) lines.now)) }
+{
+    match cause {
+        LineCause::Keyword => put_due(out, number, lines),
+        LineCause::Body => put_due(out, number, lines),
+        LineCause::Limit => put(
+            out,
+            "  a limit is passed: columns, unique keys, tables, channels, changes, bytes of a value, values of an image, or entries\n",
+        ),
+        LineCause::Schema => put(
+            out,
+            "  the tables do not take it: a name twice, a column that is not there, an unknown table, a wrong number of values, a null in the primary key, or a key that a row has already\n",
+        ),
+        LineCause::Stamp => put(
+            out,
+            "  the sequence number is not the entry's place, or the last_committed is not that of its keys\n",
+        ),
+    }
+}
+
+/// A line with its number.
+fn put_faulty(out: &mut Vec<u8>, number: usize, lines: &[&[u8]]) -> Result<(), AllocError>
+    ensures { OnOk result (out.new.items ≡ out.old.items ++ faulty_line number (map (λ x. x.now) lines.now)) }
+{
+    put(out, "  ")?;
+    put_line(out, number, line_at(lines, number))
+}
+
+/// A line, and what may stand there.
+fn put_misplaced(out: &mut Vec<u8>, number: usize, lines: &[&[u8]]) -> Result<(), AllocError>
+    ensures { OnOk result (out.new.items ≡ out.old.items ++ faulty_line number (map (λ x. x.now) lines.now) ++ due_text number (map (λ x. x.now) lines.now)) }
+{
+    put_faulty(out, number, lines)?;
+    put_due(out, number, lines)
+}
+
+/// What explains a refusal.
+fn put_refusal(
+    alloc: Global,
+    out: &mut Vec<u8>,
+    lines: &[&[u8]],
+    refusal: &Refusal,
+) -> Result<(), AllocError>
+    requires { length lines.now < 2 ^ 63 }
+    ensures { OnOk result (out.new.items ≡ out.old.items ++ refusal_explained (map (λ x. x.now) lines.now) refusal.now) }
+{
+    match refusal {
+        Refusal::Line(number, cause) => {
+            put_faulty(out, *number as usize, lines)?;
+            put_cause(out, *cause, *number as usize, lines)
+        }
+        Refusal::Truncated(number) => put_misplaced(out, *number as usize, lines),
+        Refusal::Version(number) => put_misplaced(out, *number as usize, lines),
+        Refusal::Twice(gtid) => {
+            put_previous_sets(out, lines)?;
+            put_gtid(alloc, out, gtid, &Wanted::Nothing, lines)
+        }
+        Refusal::SourcesFull => put(out, "  a set has more than 65536 sources\n"),
+        Refusal::PoolFull => put(out, "  a set has more than 4294967294 intervals\n"),
+        _ => Ok(()),
+    }
+}
+
+/// What explains that these bytes are refused as a bundle, or that a set is full: lines, each behind two blanks and ended by a line
+/// feed. Of a faulty line there is the line, and what may stand there or what is wrong with it; of a GTID that comes twice the previous
+/// set of each journal, and each place. The words are our own.
+pub fn explain_refusal(
+    alloc: Global,
+    bytes: &[u8],
+    refusal: &Refusal,
+) -> Result<Vec<u8>, AllocError>
+    ensures { IfOk result (λ text. text.items ≡ refusal_explained (lines_of bytes.now) refusal.now) }
+{
+    let mut out = Vec::new(alloc);
+    let lines = lines_of(alloc, bytes)?;
+    put_refusal(alloc, &mut out, &lines, refusal)?;
+    Ok(out)
+}

@@ -1,0 +1,228 @@
+//! What explains a verdict.
+ghost use Rattle.std.specs.Prelude.{◌≡◌, ℕ, ◌++◌, ◌<◌, ◌^◌, OnOk, IfOk, map, length, None};
+ghost use Rattle.gtid_text.specs.Canonical.{gtid_text};
+ghost use Rattle.gtid_report.specs.Verdicts.{row_fault_place};
+ghost use Rattle.fault_places.specs.declared.wanted.Wanted.TheVariants.{Numbered};
+ghost use Rattle.fault_places.specs.Lines.{lines_of};
+ghost use Rattle.fault_places.specs.Places.{places_of};
+ghost use Rattle.fault_places.specs.Explained.{is_of_key, columns_text, columns_told, columns_from, key_explained, missing_text, next_places, next_text, row_fault_meaning, verdict_explained};
+
+use crate::lines::{is_table, lines_of, put, put_number, put_shown, second_word, word_at};
+use crate::next_there::next_there;
+use crate::places::{put_line, put_places, put_previous_sets};
+use crate::wanted::Wanted;
+use gtid_report::push_set;
+use gtid_set::GtidSet;
+use gtid_text::{Gtid, write_gtid};
+use itoa::Buffer;
+use journal::Journal;
+use rows::{Key, RowFault};
+use std::alloc::{AllocError, Global};
+use world::Verdict;
+
+/// The places of a GTID.
+pub(crate) fn put_gtid(
+    alloc: Global,
+    out: &mut Vec<u8>,
+    gtid: &Gtid,
+    wanted: &Wanted,
+    lines: &[&[u8]],
+) -> Result<(), AllocError>
+    requires { length lines.now < 2 ^ 63 }
+    ensures { OnOk result (out.new.items ≡ out.old.items ++ places_of (gtid_text gtid.now) wanted.now (map (λ x. x.now) lines.now)) }
+{
+    let mut text = String::new(alloc);
+    write_gtid(&mut text, *gtid)?;
+    put_places(out, text.as_bytes(), wanted, lines)
+}
+
+/// Whether a line is that of a key's table.
+fn is_of_key(key: &Key, line: &[u8]) -> bool
+    ensures { result ≡ is_of_key key.now line.now }
+{
+    is_table(line) && second_word(line) == key.table.as_str().as_bytes()
+}
+
+/// The columns of a key, by the line of its table.
+fn put_columns_of(
+    out: &mut Vec<u8>,
+    key: &Key,
+    number: usize,
+    line: &[u8],
+) -> Result<(), AllocError>
+    ensures { OnOk result (out.new.items ≡ out.old.items ++ columns_text key.now number line.now) }
+{
+    put(out, "  key ")?;
+    put_number(out, key.index as usize)?;
+    put(out, " is columns ")?;
+    put_shown(out, word_at(line, 4 + 2 * key.index as usize))?;
+    put(out, ", ")?;
+    put_line(out, number, line)
+}
+
+/// The columns of a key, on the line of its table.
+fn tell_columns(out: &mut Vec<u8>, key: &Key, number: usize, line: &[u8]) -> Result<(), AllocError>
+    ensures { OnOk result (out.new.items ≡ out.old.items ++ columns_told key.now number line.now) }
+{
+    if is_of_key(key, line) {
+        return put_columns_of(out, key, number, line);
+    }
+    Ok(())
+}
+
+/// The columns of a key.
+fn put_columns(out: &mut Vec<u8>, key: &Key, lines: &[&[u8]]) -> Result<(), AllocError>
+    requires { length lines.now < 2 ^ 63 }
+    ensures { OnOk result (out.new.items ≡ out.old.items ++ columns_from key.now 1 (map (λ x. x.now) lines.now)) }
+{
+    for (i, line) in lines.iter().enumerate() {
+        tell_columns(out, key, i + 1, line)?;
+    }
+    Ok(())
+}
+
+/// The columns of a key, and the changes of two transactions in its table.
+fn put_key(
+    alloc: Global,
+    out: &mut Vec<u8>,
+    first: &Gtid,
+    second: &Gtid,
+    key: &Key,
+    lines: &[&[u8]],
+) -> Result<(), AllocError>
+    requires { length lines.now < 2 ^ 63 }
+    ensures { OnOk result (out.new.items ≡ out.old.items ++ key_explained first.now second.now key.now (map (λ x. x.now) lines.now)) }
+{
+    let wanted = Wanted::OfTable(key.table.clone()?);
+    put_columns(out, key, lines)?;
+    put_gtid(alloc, out, first, &wanted, lines)?;
+    put_gtid(alloc, out, second, &wanted, lines)
+}
+
+/// How many other GTIDs are missing, and which.
+fn put_missing(alloc: Global, out: &mut Vec<u8>, gtids: &Option<GtidSet>) -> Result<(), AllocError>
+    ensures { OnOk result (out.new.items ≡ out.old.items ++ missing_text gtids.now) }
+{
+    let Some(gtids) = gtids else {
+        return Ok(());
+    };
+    let mut set = String::new(alloc);
+    push_set(alloc, &mut set, gtids)?;
+    let mut buffer = Buffer::new();
+    put(out, "  also missing: ")?;
+    put(out, buffer.format(gtids.count()))?;
+    put(out, ", ")?;
+    put(out, &set)?;
+    put(out, "\n")
+}
+
+/// The places of the next number that is there.
+fn put_next_places(
+    alloc: Global,
+    out: &mut Vec<u8>,
+    gtid: &Gtid,
+    lines: &[&[u8]],
+) -> Result<(), AllocError>
+    requires { length lines.now < 2 ^ 63 }
+    ensures { OnOk result (out.new.items ≡ out.old.items ++ next_places gtid.now (map (λ x. x.now) lines.now)) }
+{
+    put(out, "  next there:\n")?;
+    put_gtid(alloc, out, gtid, &Wanted::Nothing, lines)
+}
+
+/// The places of the next number that is there, where there is one.
+fn put_next(
+    alloc: Global,
+    out: &mut Vec<u8>,
+    next: &Option<Gtid>,
+    lines: &[&[u8]],
+) -> Result<(), AllocError>
+    requires { length lines.now < 2 ^ 63 }
+    ensures { OnOk result (out.new.items ≡ out.old.items ++ next_text next.now (map (λ x. x.now) lines.now)) }
+{
+    match next {
+        Some(gtid) => put_next_places(alloc, out, gtid, lines),
+        None => Ok(()),
+    }
+}
+
+fn row_fault_meaning(fault: &RowFault) -> &'static str
+    ensures { result.now ≡ row_fault_meaning fault.now }
+{
+    match fault {
+        RowFault::RowMissing { .. } =>
+            "  E10: no row has the primary key of the change's before image\n",
+        RowFault::RowDiffers { .. } =>
+            "  E11: the row with that primary key is another than the change's before image\n",
+        RowFault::DuplicateKey { .. } =>
+            "  E12: a row has this key of the change's after image already\n",
+    }
+}
+
+/// What a row fault means, and the change that meets it.
+fn put_row_fault(
+    alloc: Global,
+    out: &mut Vec<u8>,
+    gtid: &Gtid,
+    fault: &RowFault,
+    lines: &[&[u8]],
+) -> Result<(), AllocError>
+    requires { length lines.now < 2 ^ 63 }
+    ensures { OnOk result (out.new.items ≡ out.old.items ++ row_fault_meaning fault.now ++ places_of (gtid_text gtid.now) (Numbered (row_fault_place fault.now).0) (map (λ x. x.now) lines.now)) }
+{
+    put(out, row_fault_meaning(fault))?;
+    let change = match fault {
+        RowFault::RowMissing { change, .. } => *change,
+        RowFault::RowDiffers { change, .. } => *change,
+        RowFault::DuplicateKey { change, .. } => *change,
+    };
+    put_gtid(alloc, out, gtid, &Wanted::Numbered(change), lines)
+}
+
+/// What explains a verdict.
+fn put_verdict(
+    alloc: Global,
+    out: &mut Vec<u8>,
+    lines: &[&[u8]],
+    journals: &[Journal],
+    missing: &Option<GtidSet>,
+    verdict: &Verdict,
+) -> Result<(), AllocError>
+    requires { length lines.now < 2 ^ 63 }
+    ensures { OnOk result (out.new.items ≡ out.old.items ++ verdict_explained (map (λ x. x.now) lines.now) journals.now missing.now verdict.now) }
+{
+    match verdict {
+        Verdict::Unequal(gtid) => put_gtid(alloc, out, gtid, &Wanted::Every, lines),
+        Verdict::Purged(_, _) => put_previous_sets(out, lines),
+        Verdict::Missing(gtid) => {
+            put_missing(alloc, out, missing)?;
+            put_next(alloc, out, &next_there(gtid, journals), lines)
+        }
+        Verdict::Shared(a, b, key) => put_key(alloc, out, a, b, key, lines),
+        Verdict::NotClosed(a, b) => {
+            put_gtid(alloc, out, a, &Wanted::Every, lines)?;
+            put_gtid(alloc, out, b, &Wanted::Every, lines)
+        }
+        Verdict::DoesNotApply(gtid, fault) => put_row_fault(alloc, out, gtid, fault, lines),
+        Verdict::Sound => Ok(()),
+    }
+}
+
+/// What explains a verdict on the journals of a bundle, whose text these bytes are: lines, each behind two blanks and ended by a line
+/// feed. Of each GTID that the verdict names there is each transaction, with its channel and its entry, counted from 0, and its line,
+/// counted from 1; behind it its changes: of a shared key those in the key's table, of a row fault the one that meets it. Of other
+/// missing GTIDs, where they are given, there is their number and their set. The words are our own.
+pub fn explain_verdict(
+    alloc: Global,
+    bytes: &[u8],
+    journals: &[Journal],
+    missing: &Option<GtidSet>,
+    verdict: &Verdict,
+) -> Result<Vec<u8>, AllocError>
+    ensures { IfOk result (λ text. text.items ≡ verdict_explained (lines_of bytes.now) journals.now missing.now verdict.now) }
+{
+    let mut out = Vec::new(alloc);
+    let lines = lines_of(alloc, bytes)?;
+    put_verdict(alloc, &mut out, &lines, journals, missing, verdict)?;
+    Ok(out)
+}
