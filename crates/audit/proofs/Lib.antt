@@ -15,3 +15,4 @@ pub mod Lacking
 pub mod Others
 pub mod Passings
 pub mod Parts
+pub mod OtherUnequals

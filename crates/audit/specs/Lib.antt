@@ -7,3 +7,4 @@ pub mod Missing
 pub mod Passing
 pub mod Faults
 pub mod Others
+pub mod OtherUnequal

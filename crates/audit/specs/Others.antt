@@ -25,6 +25,7 @@ use Rattle.world.specs.Folds.{FirstTouch, touched_by, shares_with}
 use Rattle.audit.specs.declared.listing.AllFaults.{AllFaults}
 use Rattle.audit.specs.Faults.{LacksMany}
 use Rattle.audit.specs.Missing.{number_before}
+use Rattle.audit.specs.OtherUnequal.{AreOtherUnequal, other_unequal}
 use Rattle.audit.specs.Worlds.{IsWorldOf}
 
 -- ---- shared keys
@@ -182,9 +183,11 @@ pub record AreOtherJournals (world : World) (journals : List JournalValue) (v : 
 
 -- ---- all of it
 
--- the verdict, and what else there is of these kinds: journals that begin behind the opening set, missing GTIDs and shared keys
+-- the verdict, and what else there is of these kinds: GTIDs under which journals differ, journals that begin behind the opening set, missing GTIDs
+-- and shared keys
 pub record Faults : Type 0 where
   pub verdict : Verdict
+  pub unequal : List Verdict
   pub purged : List Verdict
   pub missing : Gtids
   pub shared : List Verdict
@@ -192,18 +195,27 @@ pub record Faults : Type 0 where
 abbrev pub faults_of : World → List JournalValue → Faults
 faults_of world journals =
     let v = verdict world journals in
-    record { verdict = v; purged = other_purged world journals v; missing = but_missing v (missing_in world); shared = other_pairs world v }
+    record {
+      verdict = v;
+      unequal = other_unequal world journals v;
+      purged = other_purged world journals v;
+      missing = but_missing v (missing_in world);
+      shared = other_pairs world v;
+    }
 
 -- these are held
 pub record HoldsFaults (held : AllFaults) (all : Faults) : Type 0 where
   pub verdict : held.verdict ≡ all.verdict
+  pub unequal : held.unequal.items ≡ all.unequal
   pub purged : held.purged.items ≡ all.purged
   pub missing : held.missing ≡ all.missing
   pub shared : held.shared.items ≡ all.shared
 
--- Behind the verdict there is each other journal that begins behind the opening set, missing GTID and shared key, and nothing else.
+-- Behind the verdict there is each other GTID under which journals differ, journal that begins behind the opening set, missing GTID and shared key,
+-- and nothing else.
 pub record AreAll (world : World) (journals : List JournalValue) (all : Faults) : Type 0 where
   pub verdict : all.verdict ≡ verdict world journals
+  pub unequal : AreOtherUnequal world journals all.verdict all.unequal
   pub purged : AreOtherJournals world journals all.verdict all.purged
   pub missing : AreOtherMissing world journals all.verdict all.missing
   pub shared : AreOtherKeys world all.verdict all.shared

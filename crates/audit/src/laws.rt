@@ -1,8 +1,9 @@
 //! What is listed behind a verdict is all there is. The function's contract is a law, and its body is empty.
 ghost use Rattle.audit.specs.Others.{FaultsAreAll};
 
-/// Behind the verdict is listed each other journal that begins behind the opening set, each other
-/// missing GTID and each other shared key, and nothing else.
+/// Behind the verdict is listed each other GTID under which two journals have different transactions,
+/// each other journal that begins behind the opening set, each other missing GTID and each other shared
+/// key, and nothing else.
 pub fn faults_are_all()
     ensures { FaultsAreAll }
 {}

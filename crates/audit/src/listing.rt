@@ -1,4 +1,4 @@
-//! All faults of three kinds: journals that begin behind the opening set, missing GTIDs and shared keys.
+//! All faults of four kinds: GTIDs under which journals differ, journals that begin behind the opening set, missing GTIDs and shared keys.
 ghost use Rattle.std.specs.Prelude.{◌≡◌, IfOk, IfErr};
 ghost use Rattle.world.specs.Audit.{verdict};
 ghost use Rattle.audit.specs.Faults.{IsAuditFault};
@@ -12,11 +12,13 @@ use journal::Journal;
 use std::alloc::Global;
 use world::Verdict;
 
-/// What an audit lists: its verdict, and what else there is of three kinds.
+/// What an audit lists: its verdict, and what else there is of four kinds.
 #[derive(Drop)]
 pub struct AllFaults {
     /// The verdict of `audit`.
     pub verdict: Verdict,
+    /// Each other GTID under which two journals have different transactions.
+    pub unequal: Vec<Verdict>,
     /// Each other journal that begins behind the opening set, with what is missing.
     pub purged: Vec<Verdict>,
     /// The other missing GTIDs.
@@ -67,11 +69,13 @@ impl World {
         ensures found { IfOk result (λ all. HoldsFaults all (faults_of self.now journals.now)) }
         ensures fault { IfErr result (IsListFault self.now journals.now) }
     {
+        let unequal = self.other_unequal(alloc, journals, &first)?;
         let purged = self.other_purged(alloc, journals, &first)?;
         let missing = self.other_missing(alloc, &first)?;
         let shared = self.other_pairs(alloc, &first)?;
         Ok(AllFaults {
             verdict: first,
+            unequal,
             purged,
             missing,
             shared,
@@ -79,8 +83,8 @@ impl World {
     }
 }
 
-/// The verdict of `audit`, and behind it each other journal that begins behind the opening set, each
-/// other missing GTID and each other shared key (`faults_are_all`). `SourcesFull` and `PoolFull` come only
+/// The verdict of `audit`, and behind it each other GTID under which journals differ, each other journal
+/// that begins behind the opening set, each other missing GTID and each other shared key (`faults_are_all`). `SourcesFull` and `PoolFull` come only
 /// where missing GTIDs have too many sources or intervals, or what a journal's previous set has outside
 /// the opening set too many intervals.
 pub fn audit_all(alloc: Global, world: &World, journals: &[Journal]) -> Result<AllFaults, SetFault>

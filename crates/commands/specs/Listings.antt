@@ -25,16 +25,16 @@ abbrev pub run_lines : List Span → List ℕ
 run_lines [] = []
 run_lines (s ∷ ss) = run_line s ++ run_lines ss
 
--- the verdict; then journals, missing GTIDs by their longest runs, and shared keys
-abbrev pub faults_text : Verdict → List Verdict → Gtids → List Verdict → List ℕ
-faults_text v purged missing shared = ((ended (verdict_line v) ++ verdict_lines purged) ++ run_lines (runs missing)) ++ verdict_lines shared
+-- the verdict; then GTIDs under which journals differ, journals, missing GTIDs by their longest runs, and shared keys
+abbrev pub faults_text : Verdict → List Verdict → List Verdict → Gtids → List Verdict → List ℕ
+faults_text v unequal purged missing shared = (((ended (verdict_line v) ++ verdict_lines unequal) ++ verdict_lines purged) ++ run_lines (runs missing)) ++ verdict_lines shared
 
-abbrev pub faults_said : Verdict → List Verdict → Gtids → List Verdict → Said
-faults_said v purged missing shared = record { text = faults_text v purged missing shared; outcome = verdict_ending v }
+abbrev pub faults_said : Verdict → List Verdict → List Verdict → Gtids → List Verdict → Said
+faults_said v unequal purged missing shared = record { text = faults_text v unequal purged missing shared; outcome = verdict_ending v }
 
--- the verdict of the audit, and what else there is of three kinds
+-- the verdict of the audit, and what else there is of four kinds
 abbrev pub listed : BundleValue → Said
-listed b = let all = faults_over b in faults_said all.verdict all.purged all.missing all.shared
+listed b = let all = faults_over b in faults_said all.verdict all.unequal all.purged all.missing all.shared
 
 -- it is what an audit lists of these bytes
 abbrev pub Lists : List ℕ → Said → Type 0

@@ -59,10 +59,11 @@ fn push_runs(text: &mut String, runs: &[Span]) -> Result<(), AllocError>
 
 /// The lines of all faults.
 fn list_answer(alloc: Global, all: &AllFaults) -> Result<Answer, AllocError>
-    ensures { IfOk result (λ answer. Holds answer (faults_said all.now.verdict all.now.purged.items all.now.missing all.now.shared.items)) }
+    ensures { IfOk result (λ answer. Holds answer (faults_said all.now.verdict all.now.unequal.items all.now.purged.items all.now.missing all.now.shared.items)) }
 {
     let mut text = String::new(alloc);
     push_verdict(alloc, &mut text, &all.verdict)?;
+    push_verdicts(alloc, &mut text, all.unequal.as_slice())?;
     push_verdicts(alloc, &mut text, all.purged.as_slice())?;
     let runs = all.missing.spans(alloc)?;
     push_runs(&mut text, runs.as_slice())?;
@@ -91,8 +92,8 @@ impl Request for List {
     }
 }
 
-/// Reads a bundle, and writes the line of its audit's verdict and behind it one for each other journal
-/// that begins behind the opening set, each other run of missing GTIDs and each other shared key, or the line of
+/// Reads a bundle, and writes the line of its audit's verdict and behind it one for each other GTID under which journals differ, each
+/// other journal that begins behind the opening set, each other run of missing GTIDs and each other shared key, or the line of
 /// its refusal, and nothing else.
 pub fn run_list<S: Source, W: Sink>(
     alloc: Global,

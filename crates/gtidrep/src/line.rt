@@ -11,7 +11,7 @@ use std::alloc::{AllocError, Global};
 pub enum Listing {
     /// The verdict alone.
     Verdict,
-    /// All faults of three kinds.
+    /// All faults of four kinds.
     All,
     /// On standard error what the verdict names in the input.
     Explained,
@@ -186,7 +186,7 @@ fn audit_command<'a>(alloc: Global) -> Result<clap::Command<'a>, AllocError> {
         .long("all")
         .action(ArgAction::SetTrue)
         .help(
-            "lists behind the verdict every other purged journal, run of missing GTIDs and shared key",
+            "lists behind the verdict every other unequal GTID, purged journal, run of missing GTIDs and shared key",
         );
     let explain = Arg::new(alloc, "explain")
         .long("explain")
