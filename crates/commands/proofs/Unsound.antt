@@ -15,15 +15,15 @@ use Rattle.commands.specs.declared.answer.Answer.{Answer}
 
 -- any other verdict is said as it is
 verdict_is_said : (v : Verdict) (executed : Gtids) (rows : Result Rows RowFault) → (v ≡ Sound → ⊥) → state_or_verdict v executed rows ≡ verdict_said v
-verdict_is_said Sound executed rows no = absurd (no refl)
-verdict_is_said (Unequal g) executed rows no = refl
-verdict_is_said (Purged i gtids) executed rows no = refl
-verdict_is_said (Missing g) executed rows no = refl
-verdict_is_said (Shared g h key) executed rows no = refl
-verdict_is_said (Reordered g h key) executed rows no = refl
-verdict_is_said (Concurrent g h key) executed rows no = refl
-verdict_is_said (NotClosed g h) executed rows no = refl
-verdict_is_said (DoesNotApply g fault) executed rows no = refl
+verdict_is_said Sound executed rows isnt = absurd (isnt refl)
+verdict_is_said (Unequal g) executed rows isnt = refl
+verdict_is_said (Purged i gtids) executed rows isnt = refl
+verdict_is_said (Missing g) executed rows isnt = refl
+verdict_is_said (Shared g h key) executed rows isnt = refl
+verdict_is_said (Reordered g h key) executed rows isnt = refl
+verdict_is_said (Concurrent g h key) executed rows isnt = refl
+verdict_is_said (NotClosed g h) executed rows isnt = refl
+verdict_is_said (DoesNotApply g fault) executed rows isnt = refl
 
 -- the line of a verdict that is not Sound is what applying is answered with
 pub verdict_applied : (order : Order) (b : BundleValue) (v : Verdict) (answer : Answer) → IsUnsound order b v → Holds answer (verdict_said v) → Holds answer (applied order b)

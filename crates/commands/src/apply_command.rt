@@ -3,6 +3,7 @@ ghost use Rattle.std.specs.Prelude.{◌≤◌, IfOk, IfErr};
 ghost use Rattle.std.specs.Thread.{IsSync};
 ghost use Rattle.serving.specs.Faults.{IsBundleFault};
 ghost use Rattle.serving.specs.Servable.{IsServable};
+ghost use Rattle.serving.specs.Verdicts.{IsUnsound};
 ghost use Rattle.commands.specs.Said.{Holds, GivesUp, to_all, IsDone, HasFailed};
 ghost use Rattle.commands.specs.Bundles.{state_said, applied, Applies};
 
@@ -21,6 +22,7 @@ use std::mem;
 use std::sync::Wait;
 use std::thread::Threads;
 use txn_journal::Bundle;
+use world::Verdict;
 
 /// The lines of a replica's state.
 fn state_answer(alloc: Global, core: &Core) -> Result<Answer, AllocError>
@@ -33,9 +35,22 @@ fn state_answer(alloc: Global, core: &Core) -> Result<Answer, AllocError>
     })
 }
 
+/// The line of a verdict on a bundle that is not Sound.
+#[tactic(auto, using(crate::proofs::Unsound::verdict_applied))]
+fn unsound_answer(
+    alloc: Global,
+    order: Order,
+    bundle: &Bundle,
+    verdict: &Verdict,
+) -> Result<Answer, AllocError>
+    requires { IsUnsound order bundle.now verdict.now }
+    ensures { IfOk result (λ answer. Holds answer (applied order bundle.now)) }
+{
+    verdict_answer(alloc, verdict)
+}
+
 /// What a bundle comes to where one thread applies it. What was served is left to the end of the
 /// process.
-#[tactic(auto, using(crate::proofs::Unsound::verdict_applied))]
 fn apply_alone(alloc: Global, bundle: &Bundle, order: Order) -> Result<Answer, Fault>
     requires { IsServable bundle.now }
     ensures comes { IfOk result (λ answer. Holds answer (applied order bundle.now)) }
@@ -47,12 +62,15 @@ fn apply_alone(alloc: Global, bundle: &Bundle, order: Order) -> Result<Answer, F
             mem::forget(core);
             Ok(answer?)
         }
-        StateOrVerdict::Verdict(verdict) => Ok(verdict_answer(alloc, &verdict)?),
+        StateOrVerdict::Verdict(verdict) => {
+            let answer = unsound_answer(alloc, order, bundle, &verdict);
+            mem::forget(verdict);
+            Ok(answer?)
+        }
     }
 }
 
 /// What a bundle comes to where workers apply it. What they leave is left to the end of the process.
-#[tactic(auto, using(crate::proofs::Unsound::verdict_applied))]
 fn apply_together<G: Gate + Sync, R: Threads + Wait + Sync>(
     rt: &R,
     alloc: Global,
@@ -72,7 +90,11 @@ fn apply_together<G: Gate + Sync, R: Threads + Wait + Sync>(
             mem::forget(book);
             Ok(answer?)
         }
-        StateOrVerdict::Verdict(verdict) => Ok(verdict_answer(alloc, &verdict)?),
+        StateOrVerdict::Verdict(verdict) => {
+            let answer = unsound_answer(alloc, order, bundle, &verdict);
+            mem::forget(verdict);
+            Ok(answer?)
+        }
     }
 }
 
