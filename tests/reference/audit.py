@@ -7,7 +7,7 @@ from collections.abc import Callable, Iterator
 from functools import wraps
 
 from .formats import Bundle, Entry, Refused, bundle_lines, read_bundle, read_journal
-from .gtids import Gtid, GtidSet
+from .gtids import Gtid, GtidSet, Span
 from .rows import Key, RowFault, Rows, Transaction, keys_of
 from .set_text import TextFault, read_set, read_source
 
@@ -51,6 +51,10 @@ class Audit:
             self.contents.setdefault(entry.gtid, entry.changes)
         self.gtids = sorted(self.contents)
         self.keys = {gtid: keys_of(bundle.schema, changes) for gtid, changes in self.contents.items()}
+        self.touchers: dict[tuple[str, Key], list[Gtid]] = {}
+        for gtid in self.gtids:
+            for key in self.keys[gtid]:
+                self.touchers.setdefault((gtid.source, key), []).append(gtid)
 
     def entries(self) -> Iterator[tuple[int, Entry]]:
         """The entries outside the opening set with the number of their journal, in order of journals and entries."""
@@ -96,16 +100,12 @@ class Audit:
 
     def not_closed(self) -> str | None:
         """The first entry that stands in a journal without a smaller number of its source with a common key, and the least of those."""
-        touchers: dict[tuple[str, Key], list[Gtid]] = {}
-        for gtid in self.gtids:
-            for key in self.keys[gtid]:
-                touchers.setdefault((gtid.source, key), []).append(gtid)
         journal, seen = -1, Seen(self.gtids)
         for number, entry in self.entries():
             if number != journal:
                 journal, seen = number, Seen(self.gtids)
             gtid = entry.gtid
-            lacking = [it for key in self.keys[gtid] for it in seen.lacking(touchers[gtid.source, key], gtid)]
+            lacking = [it for key in self.keys[gtid] for it in seen.lacking(self.touchers[gtid.source, key], gtid)]
             if lacking:
                 return f"not-closed {gtid} {min(lacking)}"
             seen.add(gtid)
@@ -128,17 +128,86 @@ class Audit:
         tests = (self.unequal, self.purged, self.missing, self.shared, self.not_closed, self.does_not_apply)
         return next((found for found in (test() for test in tests) if found), "sound")
 
-    def state(self) -> str:
-        """The executed set and the rows, where the verdict is `sound`."""
-        rows: Rows = self.bundle.rows.copy()
+    def missing_gtids(self) -> GtidSet:
+        """What no journal has though it has a greater number of the source, and was not executed from the start."""
+        greatest = {gtid.source: gtid.number for gtid in self.gtids}
+        return GtidSet(Span(source, 1, number) for source, number in greatest.items()) - (GtidSet.of(self.gtids) | self.bundle.opening)
+
+    def shared_keys(self) -> Iterator[str]:
+        """Each key that two sources touch with its least pair, in the order of the greater GTIDs."""
+        touchers: dict[Key, Gtid] = {}
+        told = set[Key]()
+        for gtid in self.gtids:
+            for key in self.keys[gtid]:
+                first = touchers.setdefault(key, gtid)
+                if first.source < gtid.source and key not in told:
+                    told.add(key)
+                    yield f"shared {first} {gtid} {key.text()}"
+
+    def nearest(self, gtid: Gtid, key: Key) -> Gtid | None:
+        """The last smaller number of the source that touches a key."""
+        touchers = self.touchers.get((gtid.source, key), [])
+        place = bisect_left(touchers, gtid)
+        return touchers[place - 1] if place else None
+
+    def gaps(self) -> Iterator[tuple[Gtid, Gtid]]:
+        """Each GTID that stands somewhere without its nearest earlier one at a key, and the first such, by the order of its keys."""
+        told = set[Gtid]()
+        for channel in self.bundle.channels:
+            there = set[Gtid]()
+            for entry in channel.journal.entries:
+                gtid = entry.gtid
+                nearest = (self.nearest(gtid, key) for key in self.keys.get(gtid, []))
+                absent = [it for it in nearest if it and it not in there and it not in channel.journal.previous]
+                if absent and gtid not in told:
+                    told.add(gtid)
+                    yield gtid, absent[0]
+                there.add(gtid)
+
+    def refused(self) -> Iterator[str]:
+        """Of each source the first transaction that fails in its list, taken alone from the opening rows."""
+        for source in sorted({gtid.source for gtid in self.gtids}):
+            rows = self.bundle.rows.copy()
+            for gtid in (it for it in self.gtids if it.source == source):
+                try:
+                    rows.apply(self.contents[gtid])
+                except RowFault as fault:
+                    yield f"does-not-apply {gtid} {fault.text()}"
+                    break
+
+    def all_faults(self) -> list[str]:
+        """The verdict, and behind it each other fault."""
+        verdict = self.verdict()
+        kind, *names = verdict.split(" ")
+        differing = [entry.gtid for _, entry in self.entries() if entry.changes != self.contents[entry.gtid]]
+        lines = [f"unequal {gtid}" for gtid in dict.fromkeys(differing)]
+        for number, channel in enumerate(self.bundle.channels):
+            if lacking := channel.journal.previous - self.bundle.opening:
+                lines.append(f"purged {number} {lacking}")
+        said = GtidSet.of([Gtid(names[0][:36], int(names[0][37:]))]) if kind == "missing" else GtidSet()
+        for source, low, high in (self.missing_gtids() - said).spans():
+            lines.append(f"missing {source}:{low}" if low == high else f"missing {source}:{low}-{high}")
+        lines += self.shared_keys()
+        lines += [f"not-closed {gtid} {absent}" for gtid, absent in self.gaps() if kind != "not-closed" or str(gtid) != names[0]]
+        if kind == "does-not-apply":
+            lines += self.refused()
+        return [verdict, *(line for line in lines if line != verdict)]
+
+    def rows_of_all(self) -> Rows:
+        """The rows of all transactions, where the verdict is `sound`."""
+        rows = self.bundle.rows.copy()
         for gtid in self.gtids:
             rows.apply(self.contents[gtid])
+        return rows
+
+    def state(self) -> str:
+        """The executed set and the rows, where the verdict is `sound`."""
         executed = self.bundle.opening
         for channel in self.bundle.channels:
             executed = executed | channel.journal.whole()
         if executed.is_full():
             raise Refused("refused E9 sources-full")
-        return "\n".join([f"executed {executed.word()}", *rows.lines()])
+        return "\n".join([f"executed {executed.word()}", *self.rows_of_all().lines()])
 
 
 def refusals_told(call: Callable[..., Answer]) -> Callable[..., Answer]:
@@ -161,6 +230,13 @@ def audit(text: str) -> Answer:
     """What `audit` prints for an input, and its exit status."""
     verdict = Audit(read_bundle(text, VERSIONS)).verdict()
     return verdict, int(verdict != "sound")
+
+
+@refusals_told
+def audit_all(text: str) -> Answer:
+    """What `audit --all` prints for an input, and its exit status."""
+    lines = Audit(read_bundle(text, VERSIONS)).all_faults()
+    return "\n".join(lines), int(lines[0] != "sound")
 
 
 @refusals_told

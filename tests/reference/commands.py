@@ -4,7 +4,8 @@ from __future__ import annotations
 
 from collections.abc import Callable, Sequence
 
-from .audit import apply, audit, position, upgrade
+from .audit import apply, audit, audit_all, position, upgrade
+from .ordered import apply_ordered, audit_ordered
 from .set_text import set_function
 from .states import states
 
@@ -15,13 +16,20 @@ def answer(words: Sequence[str], text: Callable[[], str]) -> tuple[str, int]:
     """What is printed for these words, whose characters are bytes, and the exit status; `text` reads the input."""
     match words:
         case ["set", name, *sets] if 1 <= len(sets) <= 2:
-            line, status = set_function(name, sets)
+            # a word - is all of the input
+            line, status = set_function(name, [text() if it == "-" else it for it in sets])
         case ["position", "--own", own, "--ask", asked]:
             line, status = position(text(), own, asked)
         case ["audit"]:
             line, status = audit(text())
+        case ["audit", "--all"]:
+            line, status = audit_all(text())
+        case ["audit", "--ordered"]:
+            line, status = audit_ordered(text())
         case ["apply"] | ["apply", "--workers", _]:
             line, status = apply(text())
+        case ["apply", "--ordered"] | ["apply", "--ordered", "--workers", _] | ["apply", "--workers", _, "--ordered"]:
+            line, status = apply_ordered(text())
         case ["upgrade"]:
             line, status = upgrade(text())
         case ["states"]:

@@ -269,6 +269,14 @@ class BundleMaker:
                 changes = self.chance.choice(self.chance.choice(journals).entries).changes or self.wild_transaction(tables)
                 put_everywhere(journals, Entry(entry.gtid, changes))
 
+    def spoil_sources(self, bundle: Bundle) -> None:
+        """Gives a transaction of each source the changes of another one of it, which most likely do not apply there."""
+        journals = [channel.journal for channel in bundle.channels]
+        entries = [entry for journal in journals for entry in journal.entries]
+        for source in sorted({entry.gtid.source for entry in entries}):
+            own = [entry for entry in entries if entry.gtid.source == source]
+            put_everywhere(journals, Entry(self.chance.choice(own).gtid, self.chance.choice(own).changes))
+
     def put_in_place(self, journal: Journal, at: int, entry: Entry) -> None:
         """Puts an entry in the place of another one, where its GTID stands nowhere else."""
         others = Journal(journal.previous, [*journal.entries[:at], *journal.entries[at + 1 :]])

@@ -12,8 +12,9 @@ from dataclasses import dataclass
 from random import Random
 
 from . import commands, random_scripts, scripts
-from .formats import Journal, bundle_lines, journal_lines
+from .formats import Journal, bundle_lines, journal_lines, read_bundle
 from .gtids import GtidSet
+from .ordered import VERSIONS, Failovers, OrderedAudit, is_borne_out
 from .random_bundles import SOURCES, BundleMaker
 from .random_scripts import Made
 from .random_texts import SetWriter, TextBreaker
@@ -46,6 +47,20 @@ class Run:
             return Ended(*scripts.run(self.given))
         output, status = commands.answer(self.words, lambda: self.given)
         return Ended(output, status, "" if status < 2 else None)
+
+
+@dataclass(frozen=True)
+class OrderedRun(Run):
+    """A run of `audit --ordered` on a bundle whose text is whole, where the reference tries all orders of a few transactions."""
+
+    def wanted(self) -> Ended:
+        """What the reference does; where its definitions and all orders disagree, that they do."""
+        ended = super().wanted()
+        if ended.output.startswith("refused"):
+            return ended
+        if is_borne_out(OrderedAudit(read_bundle(self.given, VERSIONS)), ended.output.removesuffix("\n")):
+            return ended
+        return Ended(f"by all orders otherwise than {ended.output}", ended.status, ended.said)
 
 
 @dataclass
@@ -95,6 +110,28 @@ def upgrade(chance: Random) -> list[Run]:
     bundle = BundleMaker(chance).bundle(False)
     text, upgraded = (text_of(bundle_lines(bundle, version)) for version in (1, 2))
     return gtidrep(text, "audit", apply_words(chance), "upgrade") + gtidrep(upgraded, "apply", "upgrade")
+
+
+def ordered(chance: Random) -> list[Run]:
+    """A bundle of servers that write the same rows, or of any kind, audited and applied in one order."""
+    maker, version = BundleMaker(chance), chance.choice([1, 2])
+    bundle = maker.bundle(version == 2) if maker.is_one_in(6) else Failovers(chance).bundle()
+    text = text_of(bundle_lines(bundle, 2 if bundle.opening else version))
+    runs: list[Run] = [OrderedRun("gtidrep", ("audit", "--ordered"), text)]
+    if maker.is_one_in(4) or OrderedAudit(bundle).verdict() == "sound":
+        runs += gtidrep(text, f"apply --ordered --workers {chance.choice([1, 1, 2, 4])}")
+    return runs
+
+
+def faults(chance: Random) -> list[Run]:
+    """A bundle with some faults, all of which are listed."""
+    maker, version = BundleMaker(chance), chance.choice([1, 2])
+    bundle = maker.bundle(version == 2)
+    if maker.is_one_in(2):
+        maker.spoil_sources(bundle)
+    for _ in range(maker.few(4)):
+        maker.spoil(bundle)
+    return gtidrep(text_of(bundle_lines(bundle, version)), "audit --all")
 
 
 def restamped(chance: Random, text: str) -> str:
@@ -228,6 +265,8 @@ COMMAND_KINDS: dict[str, Callable[[Random], list[Run]]] = {
     "upgrade": upgrade,
     "sets": sets,
     "states": states,
+    "ordered": ordered,
+    "faults": faults,
 }
 SCRIPT_KINDS: dict[str, Callable[[Random], Made]] = {"scripts": random_scripts.one_replica, "networks": random_scripts.network}
 KINDS = [*SCRIPT_KINDS, *COMMAND_KINDS]

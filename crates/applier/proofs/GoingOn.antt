@@ -4,7 +4,9 @@ use Rattle.replica_core.specs.declared.event.Event.{Event}
 use Rattle.replica_core.specs.declared.event.Reply.{Reply}
 use Rattle.gtid_set.specs.declared.fault.SetFault.{SetFault}
 use Rattle.shared_replica.specs.declared.step.Receipt.{Receipt}
-use Rattle.shared_replica.specs.Passes.{PassValue, IsTold, Makes, receipt}
+use Rattle.replica_core.specs.declared.event.Event.TheVariants.{Take}
+use Rattle.shared_replica.specs.declared.taking.Taking.{Taking}
+use Rattle.shared_replica.specs.Passes.{PassValue, IsTold, Makes, MakesTaking, receipt}
 use Rattle.applier.specs.Applies.{IsApply, AreApply, GoesOn}
 
 pub goes_self : (p : PassValue) → GoesOn p p
@@ -34,6 +36,11 @@ goes_one a b e r ok told = record {
 pub makes_on : (a b : PassValue) (e : Event) (o : Result Reply SetFault) → IsApply e → Makes e a o b → GoesOn a b
 makes_on a b e (Ok r) ok told = goes_one a b e r ok told
 makes_on a b e (Err f) ok same = subst (λ (h : PassValue). GoesOn a h) (sym same.0) (goes_self a)
+
+-- what a take tells of the pass, whatever it answers
+pub takes_on : (channel place : ℕ) (a b : PassValue) (o : Result Taking SetFault) → MakesTaking channel place a o b → GoesOn a b
+takes_on channel place a b (Ok taking) told = goes_one a b (Take a.seat channel place) taking.reply tt told
+takes_on channel place a b (Err f) same = subst (λ (h : PassValue). GoesOn a h) (sym same.0) (goes_self a)
 
 -- what goes on of each worker goes on of each pass
 pub each_pass : {W : Type 0} (pass : W → PassValue) (old new : List W) (ps qs : List PassValue) (w : W) → map pass old ≡ ps → qs ≡ map pass new → length new ≡ length old

@@ -1,5 +1,6 @@
 //! What a worker does.
-ghost use Rattle.std.specs.Prelude.{◌≡◌};
+ghost use Rattle.std.specs.Prelude.{◌≡◌, IfOk, IfSome};
+ghost use Rattle.shared_replica.specs.Preparing.{MayPrepare};
 ghost use Rattle.applier.specs.Applies.{GoesOn};
 
 use crate::gate::Gate;
@@ -9,8 +10,8 @@ use crossbeam_utils::Backoff;
 use gtid_set::SetFault;
 use gtid_text::Gtid;
 use replica_core::Reply;
-use rows::{Patch, PrepareFault, prepare};
-use shared_replica::{Naming, Pass, SharedReplica};
+use rows::{Footprint, Patch, PrepareFault, Transaction, prepare};
+use shared_replica::{Naming, Pass, SharedReplica, Taking};
 use std::alloc::Global;
 use std::sync::Wait;
 
@@ -18,7 +19,11 @@ use std::sync::Wait;
 const TRIES: u32 = 1000;
 
 /// How many places of a channel are put at once.
-const MOST: u32 = 8;
+const MOST: usize = 8;
+
+/// The fewest changes for which it pays to prepare a transaction without the lock. Applying fewer under
+/// it takes less time there than looking for their rows and installing what was prepared.
+const LEAST: usize = 8;
 
 /// What became of a place.
 #[derive(Drop)]
@@ -120,17 +125,18 @@ fn put_channel<N: Naming, R: Wait>(
     hand: &mut Hand,
     channel: usize,
 ) {
-    let mut from = 0;
-    for _ in 0..MOST {
-        let Some(place) = replica.next_ready(rt, channel, from) else {
-            return;
-        };
-        let _refused = hand.push(Ticket { channel, place });
-        from = place.saturating_add(1);
+    let mut places = [0; MOST];
+    let count = replica.ready_places(rt, channel, 0, &mut places);
+    for place in places.iter().take(count) {
+        let _refused = hand.push(Ticket {
+            channel,
+            place: *place,
+        });
     }
 }
 
 /// Gives up what the seat owns before the work begins.
+#[tactic(auto, using(crate::proofs::GoingOn::goes_self))]
 fn let_go<N: Naming, R: Wait>(
     rt: &R,
     alloc: Global,
@@ -139,11 +145,13 @@ fn let_go<N: Naming, R: Wait>(
 ) -> Result<(), SetFault>
     ensures { GoesOn pass.old pass.new }
 {
-    let held = replica.footprint(rt, alloc, pass)?;
-    if held.is_some() {
-        roll_back(rt, alloc, replica, pass)?;
+    if !replica.holds(rt, pass) {
+        return Ok(());
     }
-    Ok(())
+    match roll_back(rt, alloc, replica, pass) {
+        Ok(_) => Ok(()),
+        Err(fault) => Err(fault),
+    }
 }
 
 /// Takes a place and commits it, unless its channel was left.
@@ -161,14 +169,17 @@ fn try_place<N: Naming, G: Gate, R: Wait>(
     if round.is_left(ticket.channel) {
         return Ok(Attempt::Passed);
     }
-    match take(rt, alloc, replica, pass, ticket)? {
-        Reply::Taken(gtid) => return commit_taken(rt, alloc, replica, gate, pass, gtid),
+    let Taking { reply, footprint } = take(rt, alloc, replica, pass, ticket)?;
+    match reply {
+        Reply::Taken(gtid) => {
+            return commit_taken(rt, alloc, replica, gate, pass, gtid, footprint);
+        }
         Reply::Stopped => return Ok(Attempt::Left),
         _ => return Ok(Attempt::Passed),
     }
 }
 
-/// Prepares what was taken without the lock, and commits it. A commit that is early is tried again;
+/// Prepares what was taken without the lock, where there is what that needs, and commits it. A commit that is early is tried again;
 /// one that stays early is given up, with its channel.
 fn commit_taken<N: Naming, G: Gate, R: Wait>(
     rt: &R,
@@ -177,10 +188,13 @@ fn commit_taken<N: Naming, G: Gate, R: Wait>(
     gate: &G,
     pass: &mut Pass<N>,
     gtid: Gtid,
+    footprint: Option<(Transaction, Footprint)>,
 ) -> Result<Attempt, SetFault>
+    requires { IfSome footprint (λ p. MayPrepare p.1.schema p.0 p.1) }
     ensures { GoesOn pass.old pass.new }
 {
-    let mut patch = patch_of(rt, alloc, replica, gate, pass, gtid)?;
+    gate.before_prepare(pass.seat(), gtid);
+    let mut patch = patch_of(alloc, footprint)?;
     let backoff = Backoff::new();
     for _ in 0..TRIES {
         match commit(rt, alloc, replica, pass, patch)? {
@@ -197,18 +211,15 @@ fn commit_taken<N: Naming, G: Gate, R: Wait>(
     Ok(Attempt::Left)
 }
 
-/// A patch for what the seat has taken, if one can be made. It is prepared without the lock.
-fn patch_of<N: Naming, G: Gate, R: Wait>(
-    rt: &R,
+/// A patch for what the seat has taken, if there is what it needs and its changes apply. It is prepared
+/// without the lock.
+fn patch_of(
     alloc: Global,
-    replica: &SharedReplica<N>,
-    gate: &G,
-    pass: &Pass<N>,
-    gtid: Gtid,
-) -> Result<Option<Patch>, SetFault> {
-    let seen = replica.footprint(rt, alloc, pass)?;
-    gate.before_prepare(pass.seat(), gtid);
-    let Some((txn, footprint)) = seen else {
+    footprint: Option<(Transaction, Footprint)>,
+) -> Result<Option<Patch>, SetFault>
+    requires { IfSome footprint (λ p. MayPrepare p.1.schema p.0 p.1) }
+{
+    let Some((txn, footprint)) = footprint else {
         return Ok(None);
     };
     match prepare(alloc, txn, footprint) {
@@ -224,10 +235,11 @@ fn take<N: Naming, R: Wait>(
     replica: &SharedReplica<N>,
     pass: &mut Pass<N>,
     ticket: Ticket,
-) -> Result<Reply, SetFault>
-    ensures { GoesOn pass.old pass.new }
+) -> Result<Taking, SetFault>
+    ensures work { GoesOn pass.old pass.new }
+    ensures seen { IfOk result (λ taking. IfSome taking.footprint (λ p. MayPrepare p.1.schema p.0 p.1)) }
 {
-    replica.take(rt, alloc, pass, ticket.channel, ticket.place)
+    replica.take_to_prepare(rt, alloc, pass, ticket.channel, ticket.place, LEAST)
 }
 
 fn commit<N: Naming, R: Wait>(

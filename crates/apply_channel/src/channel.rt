@@ -36,7 +36,6 @@ pub enum ReceiveFault {
 
 /// What was received from one source, in places from 0.
 /// (MySQL 8.0 Reference Manual, "MySQL Multi-Source Replication".)
-#[derive(Drop)]
 pub struct Channel {
     schema: Schema,
     name: Name,
@@ -47,6 +46,23 @@ pub struct Channel {
     places: IndexMap<Gtid, Option<usize>>,
     graph: Graph,
     received: GtidSet,
+}
+
+impl Drop for Channel {
+    // (by hand: for a caller the end of a Channel is one call)
+    fn drop(self) {
+        let Channel {
+            schema: _schema,
+            name: _name,
+            preserve: _preserve,
+            stopped: _stopped,
+            asked: _asked,
+            slots: _slots,
+            places: _places,
+            graph: _graph,
+            received: _received,
+        } = self;
+    }
 }
 
 impl Model for Channel {

@@ -15,3 +15,7 @@ pub mod Lacking
 pub mod Others
 pub mod Passings
 pub mod Parts
+pub mod OtherUnequals
+pub mod Nearest
+pub mod Gapped
+pub mod Refusals

@@ -17,7 +17,7 @@ use Rattle.source_history.specs.World.{World, content, is_opened}
 use Rattle.source_history.specs.World as history
 use Rattle.source_history.proofs.Gtids.{number_less}
 use Rattle.source_history.proofs.Entries.{IsRising, AreFound, rising, found}
-use Rattle.source_history.proofs.Lists.{all_at}
+use Rattle.ordered_journals.proofs.Lists.{all_at}
 use Rattle.world.specs.declared.verdict.Verdict.{Verdict}
 use Rattle.world.specs.declared.verdict.Verdict.TheVariants.{Missing}
 use Rattle.world.specs.Search.{or_next, when, first}

@@ -17,7 +17,7 @@ use Rattle.rows.specs.WriteSet.{write_set, touches, is_among}
 use Rattle.source_history.specs.World as history
 use Rattle.source_history.proofs.Gtids.{number_less}
 use Rattle.source_history.proofs.Entries.{IsRising}
-use Rattle.source_history.proofs.Lists.{all_at, get_push_cases}
+use Rattle.ordered_journals.proofs.Lists.{all_at, get_push_cases}
 use Rattle.world.specs.Folds.{FirstTouch}
 use Rattle.world.proofs.OnePass.{source_le}
 use Rattle.audit.specs.Gaps.{touched_last, of_source, with_some, last_of_keys, Needs, needs_over}
@@ -55,7 +55,7 @@ cond_or true true x y = refl
 cond_or true false x y = refl
 cond_or false q x y = refl
 
-get-touched : (g : Gtid) (keys : List Key) (last : FirstTouch) (key : Key) → finmap.get (touched_last g keys last) key ≡ cond (is_among keys key) (Some g) (finmap.get last key)
+pub get-touched : (g : Gtid) (keys : List Key) (last : FirstTouch) (key : Key) → finmap.get (touched_last g keys last) key ≡ cond (is_among keys key) (Some g) (finmap.get last key)
 get-touched g [] last key = refl
 get-touched g (k ∷ keys) last key =
     get-touched g keys (finmap.insert last k g) key

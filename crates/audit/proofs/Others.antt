@@ -1,11 +1,10 @@
 -- One pass names every other shared key.
-use Rattle.std.proofs.Common.{◌≡◌, ◌≢◌, ℕ, zero, suc, ◌<◌, ◌≤◌, ◌+◌, Bool, true, false, cond, ◌&&◌, ◌||◌, ◌⊎◌, inl, inr, List, [], ◌∷◌, ◌++◌, length, Option, Some, None, refl, sym, ap, ◌∙◌, subst, arith, append_assoc}
+use Rattle.std.proofs.Common.{◌≡◌, ℕ, zero, suc, ◌<◌, ◌≤◌, Bool, true, false, cond, ◌||◌, ◌⊎◌, inl, inr, List, [], ◌∷◌, ◌++◌, length, Option, Some, None, refl, sym, ap, ◌∙◌, subst, arith, append_assoc}
 use Rattle.std.specs.Prelude.{slice_get, nat_lt, is_some}
 use Rattle.std.specs.List.{list_any, AllByRecursion}
 use Rattle.std.specs.FinMap as finmap
 use Rattle.std.specs.FinMap.{get-empty, get-insert}
-use Rattle.std.specs.declared.cmp.Ordering.{Ordering}
-use Rattle.std.specs.declared.cmp.Ordering.TheVariants.{Less, Equal, Greater}
+use Rattle.std.specs.declared.cmp.Ordering.TheVariants.{Less}
 use Rattle.std.proofs.lemmas.Bool.{or_cases, or_left, or_right}
 use Rattle.std.proofs.lemmas.Option.{same_Some}
 use Rattle.std.proofs.lemmas.List.Folds.{list_any-append}
@@ -21,7 +20,7 @@ use Rattle.source_history.specs.World.{World, content}
 use Rattle.source_history.specs.World as history
 use Rattle.source_history.proofs.Gtids.{number_less}
 use Rattle.source_history.proofs.Entries.{IsRising, rising}
-use Rattle.source_history.proofs.Lists.{all_at, get_push_cases}
+use Rattle.ordered_journals.proofs.Lists.{all_at, get_push_cases}
 use Rattle.world.specs.declared.verdict.Verdict.{Verdict}
 use Rattle.world.specs.declared.verdict.Verdict.TheVariants.{Shared}
 use Rattle.world.specs.Search.{or_next, when}
@@ -31,7 +30,7 @@ use Rattle.world.proofs.Contents.{content_at, at_content}
 use Rattle.world.proofs.OnePass.{rising_parts, source_le}
 use Rattle.world.proofs.Gaps.{number_lt}
 use Rattle.world.proofs.Finding.{below_test}
-use Rattle.audit.specs.Others.{IsLeastPair, IsPairNamed, is_of_key, is_again, AreOnce, AreOtherKeys, pair_of_key, with_pair, with_name, pairs_of_keys, named_by_keys, pairs_from, named_first, other_pairs}
+use Rattle.audit.specs.Others.{IsPairNamed, is_of_key, is_again, AreOnce, AreOtherKeys, pair_of_key, with_pair, with_name, pairs_of_keys, named_by_keys, pairs_from, named_first, other_pairs}
 
 -- ---- keys that were touched
 

@@ -1,5 +1,5 @@
 -- The numbers that entries in the order of GTIDs skip are those that are missing.
-use Rattle.std.proofs.Common.{◌≡◌, ◌≢◌, ℕ, zero, suc, ◌<◌, ◌≤◌, ◌+◌, ◌-◌, Bool, true, false, cond, not, ◌&&◌, ◌||◌, ◌⊎◌, inl, inr, List, [], ◌∷◌, Option, Some, None, refl, sym, ap, ◌∙◌, subst, arith, eqb}
+use Rattle.std.proofs.Common.{◌≡◌, ℕ, zero, suc, ◌<◌, ◌≤◌, ◌+◌, ◌-◌, Bool, true, false, cond, not, ◌&&◌, ◌||◌, ◌⊎◌, inl, inr, List, [], ◌∷◌, Option, Some, None, refl, sym, ap, ◌∙◌, subst, arith, eqb}
 use Rattle.std.specs.Prelude.{slice_get, nat_lt, nat_le}
 use Rattle.std.specs.List.{list_any, AllByRecursion}
 use Rattle.std.specs.FinMap as finmap
@@ -13,7 +13,7 @@ use Rattle.gtid_text.specs.declared.Gtid.{Gtid}
 use Rattle.gtid_text.specs.Gtids.{gtid_cmp, same_gtid}
 use Rattle.gtid_text.proofs.SameGtid.{gtid_total}
 use Rattle.gtid_set.proofs.SetLemmas.{contains-interval}
-use Rattle.source_history.proofs.Covering.{in_insert}
+use Rattle.ordered_journals.proofs.Covering.{in_insert}
 use Rattle.world.specs.declared.verdict.Verdict.{Verdict}
 use Rattle.world.specs.declared.verdict.Verdict.TheVariants.{Purged, Missing}
 use Rattle.gtid_set.specs.Sets.{Gtids, interval}
@@ -25,7 +25,7 @@ use Rattle.source_history.specs.World.{World, content, is_opened}
 use Rattle.source_history.specs.World as history
 use Rattle.source_history.proofs.Gtids.{number_less}
 use Rattle.source_history.proofs.Entries.{IsRising, rising}
-use Rattle.source_history.proofs.Lists.{all_at}
+use Rattle.ordered_journals.proofs.Lists.{all_at}
 use Rattle.world.specs.Search.{when}
 use Rattle.world.specs.Audit.{all_entries, world_of, stands_in}
 use Rattle.world.specs.Cases.{IsMissing}

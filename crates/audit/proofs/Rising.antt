@@ -14,7 +14,7 @@ use Rattle.journal.specs.declared.Entry.{Entry}
 use Rattle.journal.specs.Journals.{JournalValue, IsJournal}
 use Rattle.source_history.specs.World.{World, content, is_opened}
 use Rattle.source_history.specs.World as history
-use Rattle.source_history.proofs.Lists.{get_take, all_at}
+use Rattle.ordered_journals.proofs.Lists.{get_take, all_at}
 use Rattle.world.specs.declared.verdict.Verdict.TheVariants.{NotClosed}
 use Rattle.world.specs.Search.{or_next}
 use Rattle.world.specs.Audit.{all_entries, world_of, stands_in, stands_before, is_left_out, shared, not_closed}
@@ -100,7 +100,7 @@ module _ (opened : Gtids) (es : List Entry) (i : ℕ) where
 
 -- ---- nothing is left out
 
-has_number : (schema : List Table) (opened : Gtids) (rows : Rows) (journals : List JournalValue) → AreJournals journals → (g : Gtid) (t : Transaction) → content (world_of schema opened rows journals) g ≡ Some t → 0 < g.number
+pub has_number : (schema : List Table) (opened : Gtids) (rows : Rows) (journals : List JournalValue) → AreJournals journals → (g : Gtid) (t : Transaction) → content (world_of schema opened rows journals) g ≡ Some t → 0 < g.number
 has_number schema opened rows journals are g t at =
     let a = in_all journals g (contents_entry opened (all_entries journals) g t at) in
     let b = entry_at a.1.entries g a.3 in

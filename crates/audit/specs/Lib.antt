@@ -7,3 +7,6 @@ pub mod Missing
 pub mod Passing
 pub mod Faults
 pub mod Others
+pub mod OtherUnequal
+pub mod OtherGaps
+pub mod OtherRefusals

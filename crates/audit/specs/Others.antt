@@ -21,10 +21,14 @@ use Rattle.world.specs.declared.verdict.Verdict.TheVariants.{Purged, Missing, Sh
 use Rattle.world.specs.Search.{when}
 use Rattle.world.specs.Audit.{verdict}
 use Rattle.world.specs.Cases.{IsPurged, IsMissing, IsShared}
+use Rattle.world.specs.Meaning.{AreJournals}
 use Rattle.world.specs.Folds.{FirstTouch, touched_by, shares_with}
 use Rattle.audit.specs.declared.listing.AllFaults.{AllFaults}
 use Rattle.audit.specs.Faults.{LacksMany}
 use Rattle.audit.specs.Missing.{number_before}
+use Rattle.audit.specs.OtherGaps.{AreOtherGaps, other_gaps}
+use Rattle.audit.specs.OtherRefusals.{AreOtherRefusals, other_refusals}
+use Rattle.audit.specs.OtherUnequal.{AreOtherUnequal, other_unequal}
 use Rattle.audit.specs.Worlds.{IsWorldOf}
 
 -- ---- shared keys
@@ -182,31 +186,50 @@ pub record AreOtherJournals (world : World) (journals : List JournalValue) (v : 
 
 -- ---- all of it
 
--- the verdict, and what else there is of these kinds: journals that begin behind the opening set, missing GTIDs and shared keys
+-- the verdict, and what else there is: GTIDs under which journals differ, journals that begin behind the opening set, missing GTIDs, shared keys,
+-- GTIDs that stand without what they need and sources whose transactions do not apply
 pub record Faults : Type 0 where
   pub verdict : Verdict
+  pub unequal : List Verdict
   pub purged : List Verdict
   pub missing : Gtids
   pub shared : List Verdict
+  pub not_closed : List Verdict
+  pub does_not_apply : List Verdict
 
 abbrev pub faults_of : World → List JournalValue → Faults
 faults_of world journals =
     let v = verdict world journals in
-    record { verdict = v; purged = other_purged world journals v; missing = but_missing v (missing_in world); shared = other_pairs world v }
+    record {
+      verdict = v;
+      unequal = other_unequal world journals v;
+      purged = other_purged world journals v;
+      missing = but_missing v (missing_in world);
+      shared = other_pairs world v;
+      not_closed = other_gaps world journals v;
+      does_not_apply = other_refusals world v;
+    }
 
 -- these are held
 pub record HoldsFaults (held : AllFaults) (all : Faults) : Type 0 where
   pub verdict : held.verdict ≡ all.verdict
+  pub unequal : held.unequal.items ≡ all.unequal
   pub purged : held.purged.items ≡ all.purged
   pub missing : held.missing ≡ all.missing
   pub shared : held.shared.items ≡ all.shared
+  pub not_closed : held.not_closed.items ≡ all.not_closed
+  pub does_not_apply : held.does_not_apply.items ≡ all.does_not_apply
 
--- Behind the verdict there is each other journal that begins behind the opening set, missing GTID and shared key, and nothing else.
+-- Behind the verdict there is each other GTID under which journals differ, journal that begins behind the opening set, missing GTID, shared key and GTID
+-- that stands without what it needs, and, of journals that keep their rules, each other source whose transactions do not apply; and nothing else.
 pub record AreAll (world : World) (journals : List JournalValue) (all : Faults) : Type 0 where
   pub verdict : all.verdict ≡ verdict world journals
+  pub unequal : AreOtherUnequal world journals all.verdict all.unequal
   pub purged : AreOtherJournals world journals all.verdict all.purged
   pub missing : AreOtherMissing world journals all.verdict all.missing
   pub shared : AreOtherKeys world all.verdict all.shared
+  pub not_closed : AreOtherGaps world journals all.verdict all.not_closed
+  pub does_not_apply : AreJournals journals → AreOtherRefusals world all.verdict all.does_not_apply
 
 abbrev pub FaultsAreAll : Type 0
 FaultsAreAll = (world : World) (journals : List JournalValue) → IsWorldOf world journals → AreAll world journals (faults_of world journals)

@@ -1,7 +1,7 @@
 //! The audit.
 ghost use Rattle.std.specs.Prelude.{◌≡◌, IfOk, IfErr, None};
 ghost use Rattle.world.specs.Search.{or_next};
-ghost use Rattle.world.specs.Audit.{unequal, purged, shared, not_closed, found_in_keys, verdict, verdict_of_keys};
+ghost use Rattle.world.specs.Audit.{unequal, purged, shared, not_closed, found_in_gtids, found_in_keys, verdict, verdict_of_keys};
 ghost use Rattle.world.specs.Meaning.{AreJournals};
 ghost use Rattle.audit.specs.Worlds.{IsWorldOf};
 ghost use Rattle.audit.specs.Faults.{IsAuditFault};
@@ -12,8 +12,8 @@ use journal::Journal;
 use std::alloc::{AllocError, Global};
 use world::Verdict;
 
-/// Each journal keeps what a journal keeps.
-fn keep_rules(journals: &[Journal])
+/// Each journal keeps what a journal keeps. (A fact about the type, for the proofs of callers.)
+pub fn keep_rules(journals: &[Journal])
     ensures { AreJournals journals.now }
 {
     for journal in journals {
@@ -46,6 +46,26 @@ fn shared_or_left_out(
     world.not_closed(alloc, &needed.needs, journals)
 }
 
+/// What an audit finds first without looking at a key: Unequal, Purged or Missing. The faults are those
+/// of `audit_keys`.
+pub fn audit_gtids(
+    alloc: Global,
+    world: &World,
+    journals: &[Journal],
+) -> Result<Option<Verdict>, SetFault>
+    requires { IsWorldOf world.now journals.now }
+    ensures found { IfOk result (λ found. found ≡ found_in_gtids world.now journals.now) }
+    ensures fault { IfErr result (IsAuditFault world.now.opening_set journals.now) }
+{
+    if let Some(verdict) = world.unequal(journals) {
+        return Ok(Some(verdict));
+    }
+    if let Some(verdict) = world.purged(alloc, journals)? {
+        return Ok(Some(verdict));
+    }
+    Ok(world.missing(journals))
+}
+
 /// What is found without applying a transaction.
 fn found_in_keys(
     alloc: Global,
@@ -56,13 +76,7 @@ fn found_in_keys(
     ensures found { IfOk result (λ found. found ≡ found_in_keys world.now journals.now) }
     ensures fault { IfErr result (IsAuditFault world.now.opening_set journals.now) }
 {
-    if let Some(verdict) = world.unequal(journals) {
-        return Ok(Some(verdict));
-    }
-    if let Some(verdict) = world.purged(alloc, journals)? {
-        return Ok(Some(verdict));
-    }
-    if let Some(verdict) = world.missing(journals) {
+    if let Some(verdict) = audit_gtids(alloc, world, journals)? {
         return Ok(Some(verdict));
     }
     Ok(shared_or_left_out(alloc, world, journals)?)

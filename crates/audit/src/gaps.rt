@@ -21,7 +21,7 @@ use rows::keys_touched;
 use std::alloc::{AllocError, Global};
 use world::Verdict;
 
-fn stands(previous: &GtidSet, standing: &Standing, gtid: &Gtid) -> bool
+pub(crate) fn stands(previous: &GtidSet, standing: &Standing, gtid: &Gtid) -> bool
     ensures { result ≡ stands previous.now standing.now gtid.now }
 {
     previous.contains(gtid) || standing.has(gtid)

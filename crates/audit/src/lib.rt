@@ -4,8 +4,10 @@
 //! `world_of` gathers it from journals, where the first transaction of a GTID counts. `audit` gives exactly the definition `verdict`
 //! (`found`), and `audit_keys` all of it but the application. So the laws of `world` hold of what they give.
 //!
-//! `audit_all` gives the verdict and, behind it, the other journals that begin behind the opening set, the other missing GTIDs and the
-//! other shared keys: `faults_are_all` says that these are all there are, and each but once.
+//! `audit_all` gives the verdict and, behind it, the other GTIDs under which journals differ, the other journals that begin behind the
+//! opening set, the other missing GTIDs, the other shared keys, the other GTIDs that stand in a journal without the nearest earlier one at
+//! a key, and, where the verdict is that a transaction does not apply, the first that does not of each other source: `faults_are_all` says
+//! that these are all there are, and each but once.
 //!
 //! An error is out of memory, or a full set (E8) where the set that a Purged verdict would name has too many intervals (`fault`).
 //!
@@ -29,6 +31,9 @@ mod listing;
 mod missing;
 mod needs;
 mod ordered;
+mod other_gaps;
+mod other_refusals;
+mod other_unequal;
 mod pairs;
 mod purged;
 mod shared;
@@ -38,7 +43,7 @@ mod standing;
 mod touches;
 mod unequal;
 
-pub use finding::{audit, audit_keys};
+pub use finding::{audit, audit_gtids, audit_keys, keep_rules};
 pub use laws::faults_are_all;
 pub use listing::{AllFaults, audit_all};
 pub use sources::{World, WorldFault, world_of};

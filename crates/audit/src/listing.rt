@@ -1,4 +1,5 @@
-//! All faults of three kinds: journals that begin behind the opening set, missing GTIDs and shared keys.
+//! All faults: GTIDs under which journals differ, journals that begin behind the opening set, missing GTIDs, shared keys, GTIDs that stand
+//! without what they need and sources whose transactions do not apply.
 ghost use Rattle.std.specs.Prelude.{◌≡◌, IfOk, IfErr};
 ghost use Rattle.world.specs.Audit.{verdict};
 ghost use Rattle.audit.specs.Faults.{IsAuditFault};
@@ -12,17 +13,25 @@ use journal::Journal;
 use std::alloc::Global;
 use world::Verdict;
 
-/// What an audit lists: its verdict, and what else there is of three kinds.
+/// What an audit lists: its verdict, and what else there is.
 #[derive(Drop)]
 pub struct AllFaults {
     /// The verdict of `audit`.
     pub verdict: Verdict,
+    /// Each other GTID under which two journals have different transactions.
+    pub unequal: Vec<Verdict>,
     /// Each other journal that begins behind the opening set, with what is missing.
     pub purged: Vec<Verdict>,
     /// The other missing GTIDs.
     pub missing: GtidSet,
     /// Each other shared key, with the least pair that touches it, in the order of the greater GTIDs.
     pub shared: Vec<Verdict>,
+    /// Each other GTID that stands in a journal without the nearest earlier transaction of its source at
+    /// one of its keys, with this one, in the order of journals and entries.
+    pub not_closed: Vec<Verdict>,
+    /// Where a transaction does not apply by the verdict, the first that does not of each other source,
+    /// taken alone, sources rising.
+    pub does_not_apply: Vec<Verdict>,
 }
 
 /// Whether a verdict is that of a journal.
@@ -63,26 +72,34 @@ impl World {
         journals: &[Journal],
         first: Verdict,
     ) -> Result<AllFaults, SetFault>
-        requires { first ≡ verdict self.now journals.now }
+        requires of_journals { IsWorldOf self.now journals.now }
+        requires first { first ≡ verdict self.now journals.now }
         ensures found { IfOk result (λ all. HoldsFaults all (faults_of self.now journals.now)) }
         ensures fault { IfErr result (IsListFault self.now journals.now) }
     {
+        let unequal = self.other_unequal(alloc, journals, &first)?;
         let purged = self.other_purged(alloc, journals, &first)?;
         let missing = self.other_missing(alloc, &first)?;
         let shared = self.other_pairs(alloc, &first)?;
+        let not_closed = self.other_gaps(alloc, journals, &first)?;
+        let does_not_apply = self.other_refusals(alloc, &first)?;
         Ok(AllFaults {
             verdict: first,
+            unequal,
             purged,
             missing,
             shared,
+            not_closed,
+            does_not_apply,
         })
     }
 }
 
-/// The verdict of `audit`, and behind it each other journal that begins behind the opening set, each
-/// other missing GTID and each other shared key (`faults_are_all`). `SourcesFull` and `PoolFull` come only
-/// where missing GTIDs have too many sources or intervals, or what a journal's previous set has outside
-/// the opening set too many intervals.
+/// The verdict of `audit`, and behind it each other GTID under which journals differ, each other journal
+/// that begins behind the opening set, each other missing GTID, each other shared key, each other GTID that
+/// stands without what it needs and each other source whose transactions do not apply (`faults_are_all`).
+/// `SourcesFull` and `PoolFull` come only where missing GTIDs have too many sources or intervals, or what a
+/// journal's previous set has outside the opening set too many intervals.
 pub fn audit_all(alloc: Global, world: &World, journals: &[Journal]) -> Result<AllFaults, SetFault>
     requires { IsWorldOf world.now journals.now }
     ensures found { IfOk result (λ all. HoldsFaults all (faults_of world.now journals.now)) }

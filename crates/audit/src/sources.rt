@@ -13,11 +13,21 @@ use std::marker::Model;
 
 /// The opening set and rows of a replica, and for each GTID beyond that set the first transaction
 /// that some journals bring. Each transaction fits the schema of the rows.
-#[derive(Drop)]
 pub struct World {
     opened: GtidSet,
     rows: Rows,
     contents: Contents,
+}
+
+impl Drop for World {
+    // (by hand: for a caller the end of a World is one call)
+    fn drop(self) {
+        let World {
+            opened: _opened,
+            rows: _rows,
+            contents: _contents,
+        } = self;
+    }
 }
 
 impl Model for World {
@@ -36,14 +46,14 @@ impl Model for World {
 
 impl World {
     /// The set that was executed from the start.
-    pub(crate) fn opened(&self) -> &GtidSet
+    pub fn opened(&self) -> &GtidSet
         ensures { result.now ≡ self.now.opening_set }
     {
         &self.opened
     }
 
     /// The opening rows.
-    pub(crate) fn rows(&self) -> &Rows
+    pub fn rows(&self) -> &Rows
         ensures schema { result.now.schema ≡ self.now.schema }
         ensures rows { result.now.rows ≡ self.now.opening_rows }
     {
@@ -57,8 +67,8 @@ impl World {
         &self.contents
     }
 
-    /// The transactions, in the order of GTIDs.
-    pub(crate) fn in_order(&self) -> &[Entry]
+    /// The transactions, in the order of GTIDs; each fits the schema of the rows.
+    pub fn in_order(&self) -> &[Entry]
         ensures { IsKept self.now.schema self.now.contents result.now }
     {
         self.contents.in_order()

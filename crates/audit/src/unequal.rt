@@ -40,7 +40,7 @@ impl World {
         }
     }
 
-    fn is_unequal(&self, entry: &Entry) -> bool
+    pub(crate) fn is_unequal(&self, entry: &Entry) -> bool
         ensures { result ≡ is_unequal self.now entry.now }
     {
         !self.opened().contains(&entry.gtid) && !self.has(entry)

@@ -10,6 +10,7 @@ use Rattle.gtid_report.specs.declared.fault.Fault.TheVariants as fault
 use Rattle.gtid_report.specs.declared.refusal.Refusal.{Refusal}
 use Rattle.serving.specs.Faults.{IsVerdictFault}
 use Rattle.serving.specs.Servable.{IsServable}
+use Rattle.serving.specs.declared.order.Order.{Order}
 use Rattle.commands.specs.Said.{Holds, Finds, GivesUp, answered, refused_with}
 use Rattle.commands.specs.Bundles.{Audits, SpellsBundle, audited, bundle_in}
 use Rattle.commands.specs.Texts.{IsTextOf}
@@ -29,29 +30,29 @@ read_as b read (inl (fault, e)) = cc
 read_as b read (inr e) = sym e
 
 -- the verdict on a bundle
-pub bundle_found : (bytes : List ℕ) (b : BundleValue) (found : Result Explained Fault) → IsBundleText bytes (Ok b) → IfOk found (λ held. Holds held.answer (audited b))
-    → IfOk found (λ held. ExplainsBundle bytes b (held.notes.items)) → IfErr found (GivesUp (IsVerdictFault b)) → FindsExplained bytes found
-bundle_found bytes b (Ok held) text holds notes none =
+pub bundle_found : (order : Order) (bytes : List ℕ) (b : BundleValue) (found : Result Explained Fault) → IsBundleText bytes (Ok b) → IfOk found (λ held. Holds held.answer (audited order b))
+    → IfOk found (λ held. ExplainsBundle order bytes b (held.notes.items)) → IfErr found (GivesUp (IsVerdictFault b)) → FindsExplained order bytes found
+bundle_found order bytes b (Ok held) text holds notes none =
     let e = read_as b (bundle_in bytes) text.exact in
     record {
-      said = audited b;
-      explains = record { audits = inl (subst (SpellsBundle bytes) (sym e) text.spelled, ap (answered audited) (sym e)); explained = inl (record { bundle = b; spelled = e; verdict = refl; explained = notes }) };
+      said = audited order b;
+      explains = record { audits = inl (subst (SpellsBundle bytes) (sym e) text.spelled, ap (answered (audited order)) (sym e)); explained = inl (record { bundle = b; spelled = e; verdict = refl; explained = notes }) };
       holds = holds;
     }
-bundle_found bytes b (Err (fault.Refused r)) text holds notes full = found_in SpellsBundle bundle_in audited IsVerdictFault bytes b (Err (fault.Refused r)) text.spelled text.exact tt full
-bundle_found bytes b (Err fault.Memory) text holds notes full = tt
+bundle_found order bytes b (Err (fault.Refused r)) text holds notes full = found_in SpellsBundle bundle_in (audited order) IsVerdictFault bytes b (Err (fault.Refused r)) text.spelled text.exact tt full
+bundle_found order bytes b (Err fault.Memory) text holds notes full = tt
 
-refused_so : (bytes : List ℕ) (f : Fault) → Finds Audits bytes (Err f) → FindsExplained bytes (Err f)
-refused_so bytes (fault.Refused r) h = h
-refused_so bytes fault.Memory h = tt
+refused_so : (order : Order) (bytes : List ℕ) (f : Fault) → Finds (Audits order) bytes (Err f) → FindsExplained order bytes (Err f)
+refused_so order bytes (fault.Refused r) h = h
+refused_so order bytes fault.Memory h = tt
 
 -- the refusal of the bytes
-pub fault_found : (bytes : List ℕ) (f : JournalFault) → IsBundleText bytes (Err f) → FindsExplained bytes (Err (journal_fault f))
-fault_found bytes f text = refused_so bytes (journal_fault f) (fault_in SpellsBundle bundle_in audited IsVerdictFault bytes f (λ g h. h) text.spelled text.exact)
+pub fault_found : (order : Order) (bytes : List ℕ) (f : JournalFault) → IsBundleText bytes (Err f) → FindsExplained order bytes (Err (journal_fault f))
+fault_found order bytes f text = refused_so order bytes (journal_fault f) (fault_in SpellsBundle bundle_in (audited order) IsVerdictFault bytes f (λ g h. h) text.spelled text.exact)
 
 -- what is settled holds the answer with what explains it
-pub settled : (bytes : List ℕ) (found : Result Explained Fault) (settled : Result Explained RunFault) → FindsExplained bytes found → IfOk settled (SettlesExplained bytes found) → IfOk settled (HoldsExplained bytes)
-settled bytes found (Err e) f s = tt
-settled bytes (Ok held) (Ok h) f s = subst (HoldsExplained bytes) (sym s) f
-settled bytes (Err (fault.Refused r)) (Ok h) f s = record { said = refused_with r; explains = record { audits = f; explained = inr (record { refusal = r; refused = refl; explained = s.1 }) }; holds = s.0 }
-settled bytes (Err fault.Memory) (Ok h) f s = absurd s
+pub settled : (order : Order) (bytes : List ℕ) (found : Result Explained Fault) (settled : Result Explained RunFault) → FindsExplained order bytes found → IfOk settled (SettlesExplained bytes found) → IfOk settled (HoldsExplained order bytes)
+settled order bytes found (Err e) f s = tt
+settled order bytes (Ok held) (Ok h) f s = subst (HoldsExplained order bytes) (sym s) f
+settled order bytes (Err (fault.Refused r)) (Ok h) f s = record { said = refused_with r; explains = record { audits = f; explained = inr (record { refusal = r; refused = refl; explained = s.1 }) }; holds = s.0 }
+settled order bytes (Err fault.Memory) (Ok h) f s = absurd s

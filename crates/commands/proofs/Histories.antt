@@ -10,6 +10,7 @@ use Rattle.shared_replica.specs.Closing.{ClosedValue}
 use Rattle.applier.specs.Applies.{IsApply}
 use Rattle.applier.specs.Draining.{AllApply, Drains}
 use Rattle.txn_journal.specs.BundleStates.{BundleValue}
+use Rattle.serving.specs.declared.order.Order.{Order}
 use Rattle.serving.specs.Serving.{IsReady, IsRun, run}
 use Rattle.serving.proofs.Runs.{ready_applied}
 
@@ -34,10 +35,10 @@ replayed : (core now : Replica) (steps : List Step) → IsReplay core steps now 
 replayed core now steps legal = λ i. record { site = legal.site i; state = legal.state i }
 
 -- a replica that has received everything, and then a history of work, to which draining has added
-pub history_runs : (b : BundleValue) (worked left : ClosedValue) → IsReady b worked.opening → AllApply worked.steps → Drains worked left
-    → IsReplay left.opening left.steps left.now → IsRun b left.now
-history_runs b worked left ready work drains legal =
+pub history_runs : (order : Order) (b : BundleValue) (worked left : ClosedValue) → IsReady order b worked.opening → AllApply worked.steps → Drains worked left
+    → IsReplay left.opening left.steps left.now → IsRun order b left.now
+history_runs order b worked left ready work drains legal =
     let replay : IsReplay worked.opening left.steps left.now = subst (λ (x : Replica). IsReplay x left.steps left.now) drains.opening legal in
     let all : AllApply left.steps = subst AllApply (sym drains.steps) (both_apply worked.steps drains.more work drains.apply) in
-    ready_applied b worked.opening left.now ready
+    ready_applied order b worked.opening left.now ready
     (record { events = events_of left.steps; between = all_apply _ (λ seat c p. tt) (λ seat. tt) (λ seat. tt) left.steps all; now = replayed worked.opening left.now left.steps replay })

@@ -5,3 +5,4 @@ pub mod Written
 pub mod Importing
 pub mod Coming
 pub mod Explaining
+pub mod Unsound

@@ -7,7 +7,7 @@ use Rattle.world.specs.declared.verdict.Verdict.{Verdict}
 use Rattle.world.specs.declared.verdict.Verdict.TheVariants.{Sound}
 use Rattle.source_history.specs.World.{rows_of}
 use Rattle.gtid_set.specs.Sets.{Gtids}
-use Rattle.faithful_runs.specs.Deciding.{all_of}
+use Rattle.ordered_replicas.specs.Deciding.{all_of}
 use Rattle.txn_journal.specs.BundleStates.{BundleValue}
 use Rattle.txn_journal.specs.BundleReading.{bundle_start, eats_bundle, closing_bundle}
 use Rattle.txn_journal.specs.BundleText.{WritesBundleBy, WritesBundle, upgrade_of}
@@ -16,7 +16,10 @@ use Rattle.txn_journal.specs.declared.lines.Version.TheVariants.{One}
 use Rattle.txn_journal.specs.declared.fault.JournalFault.{JournalFault}
 use Rattle.gtid_report.specs.State.{state_text}
 use Rattle.gtid_report.specs.VerdictLines.{verdict_line}
-use Rattle.serving.specs.Verdicts.{world_over, verdict_over}
+use Rattle.ordered_history.specs.World as ordered
+use Rattle.serving.specs.declared.order.Order.{Order}
+use Rattle.serving.specs.declared.order.Order.TheVariants.{BySource, ByConflict}
+use Rattle.serving.specs.Verdicts.{world_over, joined_over, verdict_over}
 use Rattle.serving.specs.Faults.{IsBundleFault, IsVerdictFault}
 use Rattle.commands.specs.Said.{Said, ended, Tells}
 use Rattle.commands.specs.declared.edge.Outcome.{Outcome}
@@ -51,13 +54,13 @@ verdict_ending v = Refused
 abbrev pub verdict_said : Verdict → Said
 verdict_said v = record { text = ended (verdict_line v); outcome = verdict_ending v }
 
--- the verdict of the audit
-abbrev pub audited : BundleValue → Said
-audited b = verdict_said (verdict_over b)
+-- the verdict of the audit that asks for this order
+abbrev pub audited : Order → BundleValue → Said
+audited order b = verdict_said (verdict_over order b)
 
--- it is the answer of an audit to these bytes
-abbrev pub Audits : List ℕ → Said → Type 0
-Audits bytes said = Tells SpellsBundle bundle_in audited IsVerdictFault bytes said
+-- it is the answer of that audit to these bytes
+abbrev pub Audits : Order → List ℕ → Said → Type 0
+Audits order bytes said = Tells SpellsBundle bundle_in (audited order) IsVerdictFault bytes said
 
 -- ---- the bundle by version 2
 
@@ -83,10 +86,15 @@ abbrev pub state_or_verdict : Verdict → Gtids → Result Rows RowFault → Sai
 state_or_verdict Sound executed (Ok rows) = state_said executed rows
 state_or_verdict v executed rows = verdict_said v
 
--- The executed set is that of all journals together, and the rows are those that this set stands for, where the audit says Sound; else its verdict.
-abbrev pub applied : BundleValue → Said
-applied b = state_or_verdict (verdict_over b) (union_told b) (rows_of (world_over b) (set.contains (union_told b)))
+-- the rows that the GTIDs of all journals together denote: of the sources, or in the joined order
+abbrev pub rows_told : Order → BundleValue → Result Rows RowFault
+rows_told BySource b = rows_of (world_over b) (set.contains (union_told b))
+rows_told ByConflict b = ordered.rows_of (joined_over b) (set.contains (union_told b))
+
+-- The executed set is that of all journals together, and the rows are those that this set denotes, where the audit says Sound; else its verdict.
+abbrev pub applied : Order → BundleValue → Said
+applied order b = state_or_verdict (verdict_over order b) (union_told b) (rows_told order b)
 
 -- it is what applying answers to these bytes
-abbrev pub Applies : List ℕ → Said → Type 0
-Applies bytes said = Tells SpellsBundle bundle_in applied IsBundleFault bytes said
+abbrev pub Applies : Order → List ℕ → Said → Type 0
+Applies order bytes said = Tells SpellsBundle bundle_in (applied order) IsBundleFault bytes said

@@ -9,6 +9,7 @@ use Rattle.txn_journal.specs.BundleStates.{BundleValue}
 use Rattle.gtid_report.specs.declared.fault.Fault.{Fault}
 use Rattle.gtid_report.specs.declared.fault.Fault.TheVariants as fault
 use Rattle.gtid_report.specs.declared.refusal.Refusal.{Refusal}
+use Rattle.serving.specs.declared.order.Order.{Order}
 use Rattle.serving.specs.Verdicts.{verdict_over}
 use Rattle.serving.specs.Listing.{faults_over, IsFaultsFault}
 use Rattle.fault_places.specs.Lines.{lines_of}
@@ -34,16 +35,16 @@ AreMissingBeside b (Missing g) None = AreTooMany b
 AreMissingBeside b v gtids = gtids ≡ None
 
 -- these lines explain the verdict on a bundle that has this text
-abbrev pub ExplainsBundle : List ℕ → BundleValue → List ℕ → Type 0
-ExplainsBundle bytes b notes =
-    (missing : Option Gtids) × AreMissingBeside b (verdict_over b) missing × (notes ≡ verdict_explained (lines_of bytes) b.journals missing (verdict_over b))
+abbrev pub ExplainsBundle : Order → List ℕ → BundleValue → List ℕ → Type 0
+ExplainsBundle order bytes b notes =
+    (missing : Option Gtids) × AreMissingBeside b (verdict_over order b) missing × (notes ≡ verdict_explained (lines_of bytes) b.journals missing (verdict_over order b))
 
 -- it is the verdict on the bundle that the bytes spell, and these lines explain it
-pub record IsVerdictExplained (bytes : List ℕ) (said : Said) (notes : List ℕ) : Type 0 where
+pub record IsVerdictExplained (order : Order) (bytes : List ℕ) (said : Said) (notes : List ℕ) : Type 0 where
   pub bundle : BundleValue
   pub spelled : bundle_in bytes ≡ Ok bundle
-  pub verdict : said ≡ audited bundle
-  pub explained : ExplainsBundle bytes bundle notes
+  pub verdict : said ≡ audited order bundle
+  pub explained : ExplainsBundle order bytes bundle notes
 
 -- it is a refusal, and these lines explain it
 pub record IsRefusalExplained (bytes : List ℕ) (said : Said) (notes : List ℕ) : Type 0 where
@@ -52,23 +53,23 @@ pub record IsRefusalExplained (bytes : List ℕ) (said : Said) (notes : List ℕ
   pub explained : notes ≡ refusal_explained (lines_of bytes) refusal
 
 -- It is what an audit answers to these bytes, and these lines explain that.
-pub record Explains (bytes : List ℕ) (said : Said) (notes : List ℕ) : Type 0 where
-  pub audits : Audits bytes said
-  pub explained : IsVerdictExplained bytes said notes ⊎ IsRefusalExplained bytes said notes
+pub record Explains (order : Order) (bytes : List ℕ) (said : Said) (notes : List ℕ) : Type 0 where
+  pub audits : Audits order bytes said
+  pub explained : IsVerdictExplained order bytes said notes ⊎ IsRefusalExplained bytes said notes
 
 -- ---- what is held
 
 -- an answer is held, and what explains it
-pub record HoldsExplained (bytes : List ℕ) (held : Explained) : Type 0 where
+pub record HoldsExplained (order : Order) (bytes : List ℕ) (held : Explained) : Type 0 where
   pub said : Said
-  pub explains : Explains bytes said (held.notes.items)
+  pub explains : Explains order bytes said (held.notes.items)
   pub holds : Holds held.answer said
 
 -- it is held, or it is the line of a refusal; or memory ran out
-abbrev pub FindsExplained : List ℕ → Result Explained Fault → Type 0
-FindsExplained bytes (Ok held) = HoldsExplained bytes held
-FindsExplained bytes (Err (fault.Refused r)) = Audits bytes (refused_with r)
-FindsExplained bytes (Err fault.Memory) = Unit {0}
+abbrev pub FindsExplained : Order → List ℕ → Result Explained Fault → Type 0
+FindsExplained order bytes (Ok held) = HoldsExplained order bytes held
+FindsExplained order bytes (Err (fault.Refused r)) = Audits order bytes (refused_with r)
+FindsExplained order bytes (Err fault.Memory) = Unit {0}
 
 -- an answer stands as it is, and a refusal is its line with what explains it
 abbrev pub SettlesExplained : List ℕ → Result Explained Fault → Explained → Type 0
@@ -79,19 +80,19 @@ SettlesExplained bytes (Err fault.Memory) held = ⊥
 -- ---- what is written
 
 -- the lines that explain the answer were written behind what stood there, and nothing else
-abbrev pub IsToldWhole : {E : Type 0} → Output E → Output E → List ℕ → Said → Type 0
-IsToldWhole old new bytes said = (notes : List ℕ) × Explains bytes said notes × Appends old.written new.written notes
+abbrev pub IsToldWhole : {E : Type 0} → Order → Output E → Output E → List ℕ → Said → Type 0
+IsToldWhole order old new bytes said = (notes : List ℕ) × Explains order bytes said notes × Appends old.written new.written notes
 
 -- a prefix of them was written, and the writer failed once more
-abbrev pub IsToldInPart : {E : Type 0} → Output E → Output E → List ℕ → Said → Type 0
-IsToldInPart old new bytes said = (notes : List ℕ) × Explains bytes said notes × Begins old.written new.written notes × (new.failed ≡ one_more old.failed)
+abbrev pub IsToldInPart : {E : Type 0} → Order → Output E → Output E → List ℕ → Said → Type 0
+IsToldInPart order old new bytes said = (notes : List ℕ) × Explains order bytes said notes × Begins old.written new.written notes × (new.failed ≡ one_more old.failed)
 
 -- the answer was written, and what explains it only in part
-abbrev pub IsHalfTold : {S W E : Type 0} → Output E → Output E → StreamsValue S W → StreamsValue S W → Type 0
-IsHalfTold told new before after = (outcome : Outcome) × IsDone (to_all (IsToldInPart told new)) before after outcome
+abbrev pub IsHalfTold : {S W E : Type 0} → Order → Output E → Output E → StreamsValue S W → StreamsValue S W → Type 0
+IsHalfTold order told new before after = (outcome : Outcome) × IsDone (to_all (IsToldInPart order told new)) before after outcome
 
 -- Memory was refused, or reading failed, and nothing was written; or writing failed: of the answer, and then nothing explains it, or of what explains it.
-abbrev pub HasNotExplained : {S W E : Type 0} → Output E → Output E → StreamsValue S W → StreamsValue S W → RunFault → Type 0
-HasNotExplained told new before after Memory = (after.output ≡ before.output) × (new ≡ told)
-HasNotExplained told new before after Read = (after.output ≡ before.output) × IsReadFault before.input after.input × (new ≡ told)
-HasNotExplained told new before after Write = (IsCutOff (to_all Audits) before after × (new ≡ told)) ⊎ IsHalfTold told new before after
+abbrev pub HasNotExplained : {S W E : Type 0} → Order → Output E → Output E → StreamsValue S W → StreamsValue S W → RunFault → Type 0
+HasNotExplained order told new before after Memory = (after.output ≡ before.output) × (new ≡ told)
+HasNotExplained order told new before after Read = (after.output ≡ before.output) × IsReadFault before.input after.input × (new ≡ told)
+HasNotExplained order told new before after Write = (IsCutOff (to_all (Audits order)) before after × (new ≡ told)) ⊎ IsHalfTold order told new before after

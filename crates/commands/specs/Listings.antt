@@ -2,11 +2,11 @@
 use Rattle.std.specs.Prelude.{ℕ, List, [], ◌∷◌, ◌++◌, codes}
 use Rattle.gtid_text.specs.declared.Span.{Span}
 use Rattle.gtid_text.specs.Canonical.{span_text}
-use Rattle.gtid_set.specs.Sets.{Gtids}
 use Rattle.gtid_set.specs.Runs.{runs}
 use Rattle.world.specs.declared.verdict.Verdict.{Verdict}
 use Rattle.txn_journal.specs.BundleStates.{BundleValue}
 use Rattle.gtid_report.specs.VerdictLines.{verdict_line}
+use Rattle.audit.specs.declared.listing.AllFaults.{AllFaults}
 use Rattle.audit.specs.Others.{Faults}
 use Rattle.serving.specs.Listing.{faults_over, IsFaultsFault}
 use Rattle.commands.specs.Said.{Said, ended, Tells}
@@ -25,16 +25,32 @@ abbrev pub run_lines : List Span → List ℕ
 run_lines [] = []
 run_lines (s ∷ ss) = run_line s ++ run_lines ss
 
--- the verdict; then journals, missing GTIDs by their longest runs, and shared keys
-abbrev pub faults_text : Verdict → List Verdict → Gtids → List Verdict → List ℕ
-faults_text v purged missing shared = ((ended (verdict_line v) ++ verdict_lines purged) ++ run_lines (runs missing)) ++ verdict_lines shared
+-- what is held
+abbrev pub held_faults : AllFaults → Faults
+held_faults all = record {
+  verdict = all.verdict;
+  unequal = all.unequal.items;
+  purged = all.purged.items;
+  missing = all.missing;
+  shared = all.shared.items;
+  not_closed = all.not_closed.items;
+  does_not_apply = all.does_not_apply.items;
+}
 
-abbrev pub faults_said : Verdict → List Verdict → Gtids → List Verdict → Said
-faults_said v purged missing shared = record { text = faults_text v purged missing shared; outcome = verdict_ending v }
+-- the verdict; then GTIDs under which journals differ, journals, missing GTIDs by their longest runs, shared keys, GTIDs that stand without what
+-- they need, and sources whose transactions do not apply
+abbrev pub faults_text : Faults → List ℕ
+faults_text all =
+    (((((ended (verdict_line all.verdict) ++ verdict_lines all.unequal) ++ verdict_lines all.purged) ++ run_lines (runs all.missing)) ++ verdict_lines all.shared)
+    ++ verdict_lines all.not_closed)
+    ++ verdict_lines all.does_not_apply
 
--- the verdict of the audit, and what else there is of three kinds
+abbrev pub faults_said : Faults → Said
+faults_said all = record { text = faults_text all; outcome = verdict_ending all.verdict }
+
+-- the verdict of the audit, and what else there is
 abbrev pub listed : BundleValue → Said
-listed b = let all = faults_over b in faults_said all.verdict all.purged all.missing all.shared
+listed b = faults_said (faults_over b)
 
 -- it is what an audit lists of these bytes
 abbrev pub Lists : List ℕ → Said → Type 0

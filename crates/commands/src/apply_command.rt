@@ -3,6 +3,7 @@ ghost use Rattle.std.specs.Prelude.{◌≤◌, IfOk, IfErr};
 ghost use Rattle.std.specs.Thread.{IsSync};
 ghost use Rattle.serving.specs.Faults.{IsBundleFault};
 ghost use Rattle.serving.specs.Servable.{IsServable};
+ghost use Rattle.serving.specs.Verdicts.{IsUnsound};
 ghost use Rattle.commands.specs.Said.{Holds, GivesUp, to_all, IsDone, HasFailed};
 ghost use Rattle.commands.specs.Bundles.{state_said, applied, Applies};
 
@@ -15,12 +16,13 @@ use crate::streams::Streams;
 use applier::{Gate, NoGate};
 use gtid_report::{Fault, render_state};
 use replica_core::Core;
-use serving::{StateOrVerdict, serve};
+use serving::{Order, StateOrVerdict, serve};
 use std::alloc::{AllocError, Global};
 use std::mem;
 use std::sync::Wait;
 use std::thread::Threads;
 use txn_journal::Bundle;
+use world::Verdict;
 
 /// The lines of a replica's state.
 fn state_answer(alloc: Global, core: &Core) -> Result<Answer, AllocError>
@@ -33,20 +35,38 @@ fn state_answer(alloc: Global, core: &Core) -> Result<Answer, AllocError>
     })
 }
 
+/// The line of a verdict on a bundle that is not Sound.
+#[tactic(auto, using(crate::proofs::Unsound::verdict_applied))]
+fn unsound_answer(
+    alloc: Global,
+    order: Order,
+    bundle: &Bundle,
+    verdict: &Verdict,
+) -> Result<Answer, AllocError>
+    requires { IsUnsound order bundle.now verdict.now }
+    ensures { IfOk result (λ answer. Holds answer (applied order bundle.now)) }
+{
+    verdict_answer(alloc, verdict)
+}
+
 /// What a bundle comes to where one thread applies it. What was served is left to the end of the
 /// process.
-fn apply_alone(alloc: Global, bundle: &Bundle) -> Result<Answer, Fault>
+fn apply_alone(alloc: Global, bundle: &Bundle, order: Order) -> Result<Answer, Fault>
     requires { IsServable bundle.now }
-    ensures comes { IfOk result (λ answer. Holds answer (applied bundle.now)) }
+    ensures comes { IfOk result (λ answer. Holds answer (applied order bundle.now)) }
     ensures fault { IfErr result (GivesUp (IsBundleFault bundle.now)) }
 {
-    match serve(alloc, bundle)? {
+    match serve(alloc, bundle, order)? {
         StateOrVerdict::State(core) => {
             let answer = state_answer(alloc, &core);
             mem::forget(core);
             Ok(answer?)
         }
-        StateOrVerdict::Verdict(verdict) => Ok(verdict_answer(alloc, &verdict)?),
+        StateOrVerdict::Verdict(verdict) => {
+            let answer = unsound_answer(alloc, order, bundle, &verdict);
+            mem::forget(verdict);
+            Ok(answer?)
+        }
     }
 }
 
@@ -55,21 +75,26 @@ fn apply_together<G: Gate + Sync, R: Threads + Wait + Sync>(
     rt: &R,
     alloc: Global,
     bundle: &Bundle,
+    order: Order,
     workers: u8,
     gate: &G,
 ) -> Result<Answer, Fault>
     requires can { IsServable bundle.now }
     requires workers { (1 ≤ workers) × (workers ≤ 64) }
-    ensures comes { IfOk result (λ answer. Holds answer (applied bundle.now)) }
+    ensures comes { IfOk result (λ answer. Holds answer (applied order bundle.now)) }
     ensures fault { IfErr result (GivesUp (IsBundleFault bundle.now)) }
 {
-    match apply_journals(rt, alloc, bundle, workers, gate)? {
+    match apply_journals(rt, alloc, bundle, order, workers, gate)? {
         StateOrVerdict::State(book) => {
             let answer = state_answer(alloc, book.state());
             mem::forget(book);
             Ok(answer?)
         }
-        StateOrVerdict::Verdict(verdict) => Ok(verdict_answer(alloc, &verdict)?),
+        StateOrVerdict::Verdict(verdict) => {
+            let answer = unsound_answer(alloc, order, bundle, &verdict);
+            mem::forget(verdict);
+            Ok(answer?)
+        }
     }
 }
 
@@ -82,18 +107,19 @@ pub fn apply_decoded<G: Gate + Sync, R: Threads + Wait + Sync>(
     rt: &R,
     alloc: Global,
     bundle: &Bundle,
+    order: Order,
     workers: u8,
     gate: &G,
 ) -> Result<Answer, Fault>
     requires can { IsServable bundle.now }
     requires workers { (1 ≤ workers) × (workers ≤ 64) }
-    ensures comes { IfOk result (λ answer. Holds answer (applied bundle.now)) }
+    ensures comes { IfOk result (λ answer. Holds answer (applied order bundle.now)) }
     ensures fault { IfErr result (GivesUp (IsBundleFault bundle.now)) }
 {
     if workers == 1 {
-        apply_alone(alloc, bundle)
+        apply_alone(alloc, bundle, order)
     } else {
-        apply_together(rt, alloc, bundle, workers, gate)
+        apply_together(rt, alloc, bundle, order, workers, gate)
     }
 }
 
@@ -101,6 +127,7 @@ pub fn apply_decoded<G: Gate + Sync, R: Threads + Wait + Sync>(
 #[derive(Drop)]
 struct Apply<'a, R: Threads + Wait + Sync> {
     threads: &'a R,
+    order: Order,
     workers: u8,
 }
 
@@ -109,30 +136,39 @@ impl<'a, R: Threads + Wait + Sync> Request for Apply<'a, R> {
 
     ghost ready = { λ asked. (1 ≤ asked.workers) × (asked.workers ≤ 64) × IsSync R.row };
 
-    ghost says = { λ _ b. applied b };
+    ghost says = { λ asked b. applied asked.order b };
 
     ghost may_fail = { λ _ b. IsBundleFault b };
 
     fn answer(&self, alloc: Global, bundle: &Bundle) -> Result<Answer, Fault> {
-        apply_decoded(self.threads, alloc, bundle, self.workers, &NoGate)
+        apply_decoded(
+            self.threads,
+            alloc,
+            bundle,
+            self.order,
+            self.workers,
+            &NoGate,
+        )
     }
 }
 
-/// Reads a bundle, and writes the state in which all its journals are executed, or the line of its
-/// audit's verdict where that is not Sound, or the line of its refusal, and nothing else.
+/// Reads a bundle, and writes the state in which all its journals are executed, or the line of the
+/// verdict of the audit that asks for this order, where that is not Sound, or the line of its refusal, and nothing else.
 pub fn apply_bundle<S: Source, W: Sink, R: Threads + Wait + Sync>(
     rt: &R,
     alloc: Global,
+    order: Order,
     workers: u8,
     streams: &mut Streams<S, W>,
 ) -> Result<Outcome, RunFault>
     requires low { 1 ≤ workers }
     requires high { workers ≤ 64 }
-    ensures done { IfOk result (IsDone (to_all Applies) streams.old streams.new) }
-    ensures failed { IfErr result (HasFailed (to_all Applies) streams.old streams.new) }
+    ensures done { IfOk result (IsDone (to_all (Applies order)) streams.old streams.new) }
+    ensures failed { IfErr result (HasFailed (to_all (Applies order)) streams.old streams.new) }
 {
     let request = Apply {
         threads: rt,
+        order,
         workers,
     };
     run(alloc, &request, streams)

@@ -9,7 +9,7 @@ use crate::edge::{Outcome, RunFault, Sink, Source};
 use crate::request::{Request, run};
 use crate::streams::Streams;
 use gtid_report::{Fault, render_verdict};
-use serving::verdict_over;
+use serving::{Order, verdict_over};
 use std::alloc::{AllocError, Global};
 use txn_journal::Bundle;
 use world::Verdict;
@@ -35,29 +35,34 @@ pub(crate) fn verdict_answer(alloc: Global, verdict: &Verdict) -> Result<Answer,
     })
 }
 
-/// A bundle is audited.
-struct Audit;
+/// A bundle is audited by an order.
+#[derive(Drop)]
+struct Audit {
+    order: Order,
+}
 
 impl Request for Audit {
     type Value = Bundle;
 
-    ghost says = { λ _ b. audited b };
+    ghost says = { λ asked b. audited asked.order b };
 
     ghost may_fail = { λ _ b. IsVerdictFault b };
 
     fn answer(&self, alloc: Global, bundle: &Bundle) -> Result<Answer, Fault> {
-        let verdict = verdict_over(alloc, bundle)?;
+        let verdict = verdict_over(alloc, bundle, self.order)?;
         Ok(verdict_answer(alloc, &verdict)?)
     }
 }
 
-/// Reads a bundle, and writes the line of its audit's verdict, or of its refusal, and nothing else.
+/// Reads a bundle, and writes the line of the verdict of the audit that asks for this order, or of its
+/// refusal, and nothing else.
 pub fn run_audit<S: Source, W: Sink>(
     alloc: Global,
+    order: Order,
     streams: &mut Streams<S, W>,
 ) -> Result<Outcome, RunFault>
-    ensures done { IfOk result (IsDone (to_all Audits) streams.old streams.new) }
-    ensures failed { IfErr result (HasFailed (to_all Audits) streams.old streams.new) }
+    ensures done { IfOk result (IsDone (to_all (Audits order)) streams.old streams.new) }
+    ensures failed { IfErr result (HasFailed (to_all (Audits order)) streams.old streams.new) }
 {
-    run(alloc, &Audit, streams)
+    run(alloc, &Audit { order }, streams)
 }

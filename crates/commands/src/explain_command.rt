@@ -3,7 +3,6 @@ ghost use Rattle.std.specs.Prelude.{◌≡◌, IfOk, IfErr, OnOk, OnErr};
 ghost use Rattle.std.specs.Io.KnownBytes.{Appends};
 ghost use Rattle.serving.specs.Faults.{IsVerdictFault};
 ghost use Rattle.serving.specs.Servable.{IsServable};
-ghost use Rattle.serving.specs.Verdicts.{verdict_over};
 ghost use Rattle.fault_places.specs.Lines.{lines_of};
 ghost use Rattle.fault_places.specs.Explained.{refusal_explained};
 ghost use Rattle.commands.specs.Edge.{output_of, one_more, Begins};
@@ -19,7 +18,7 @@ use crate::streams::Streams;
 use fault_places::{explain_refusal, explain_verdict};
 use gtid_report::{Fault, Refusal};
 use gtid_set::{GtidSet, SetFault};
-use serving::{faults_over, verdict_over, written_is_servable};
+use serving::{Order, faults_over, verdict_over, written_is_servable};
 use std::alloc::{AllocError, Global};
 use std::mem;
 use txn_journal::{Bundle, JournalFault, decode_bundle};
@@ -38,8 +37,7 @@ fn missing_beside(
     bundle: &Bundle,
     verdict: &Verdict,
 ) -> Result<Option<GtidSet>, AllocError>
-    requires fitting { IsServable bundle.now }
-    requires verdict { verdict.now ≡ verdict_over bundle.now }
+    requires { IsServable bundle.now }
     ensures { IfOk result (AreMissingBeside bundle.now verdict.now) }
 {
     match verdict {
@@ -53,13 +51,18 @@ fn missing_beside(
 }
 
 /// The verdict on a bundle, and what explains it.
-fn explain_bundle(alloc: Global, bytes: &[u8], bundle: &Bundle) -> Result<Explained, Fault>
+fn explain_bundle(
+    alloc: Global,
+    order: Order,
+    bytes: &[u8],
+    bundle: &Bundle,
+) -> Result<Explained, Fault>
     requires { IsServable bundle.now }
-    ensures answer { IfOk result (λ held. Holds held.answer (audited bundle.now)) }
-    ensures notes { IfOk result (λ held. ExplainsBundle bytes.now bundle.now held.notes.items) }
+    ensures answer { IfOk result (λ held. Holds held.answer (audited order bundle.now)) }
+    ensures notes { IfOk result (λ held. ExplainsBundle order bytes.now bundle.now held.notes.items) }
     ensures fault { IfErr result (GivesUp (IsVerdictFault bundle.now)) }
 {
-    let verdict = verdict_over(alloc, bundle)?;
+    let verdict = verdict_over(alloc, bundle, order)?;
     let missing = missing_beside(alloc, bundle, &verdict)?;
     let notes = explain_verdict(alloc, bytes, bundle.journals(), &missing, &verdict)?;
     Ok(Explained {
@@ -77,12 +80,12 @@ fn decode_whole(alloc: Global, bytes: &[u8]) -> Result<Bundle, JournalFault>
 }
 
 /// What is found in bytes. The bundle is left to the end of the process.
-fn explain_found(alloc: Global, bytes: &[u8]) -> Result<Explained, Fault>
-    ensures { FindsExplained bytes.now result }
+fn explain_found(alloc: Global, order: Order, bytes: &[u8]) -> Result<Explained, Fault>
+    ensures { FindsExplained order bytes.now result }
 {
     match decode_whole(alloc, bytes) {
         Ok(bundle) => {
-            let held = explain_bundle(alloc, bytes, &bundle);
+            let held = explain_bundle(alloc, order, bytes, &bundle);
             mem::forget(bundle);
             held
         }
@@ -122,11 +125,11 @@ fn settle_explained(
 }
 
 /// What is answered to bytes, and what explains it.
-fn explain_bytes(alloc: Global, bytes: &[u8]) -> Result<Explained, RunFault>
-    ensures ok { IfOk result (HoldsExplained bytes.now) }
+fn explain_bytes(alloc: Global, order: Order, bytes: &[u8]) -> Result<Explained, RunFault>
+    ensures ok { IfOk result (HoldsExplained order bytes.now) }
     ensures memory { IfErr result (λ f. f ≡ RunFault.Memory) }
 {
-    settle_explained(alloc, bytes, explain_found(alloc, bytes))
+    settle_explained(alloc, bytes, explain_found(alloc, order, bytes))
 }
 
 /// Writes what explains an answer.
@@ -147,14 +150,15 @@ fn tell<E: Sink>(errors: &mut E, notes: &[u8]) -> Result<(), RunFault>
 /// then. Where the verdict's line could not be written, nothing explains it.
 pub fn run_explain<S: Source, W: Sink, E: Sink>(
     alloc: Global,
+    order: Order,
     streams: &mut Streams<S, W>,
     errors: &mut E,
 ) -> Result<Outcome, RunFault>
-    ensures done { let told = output_of E.written E.failed errors.old in let new = output_of E.written E.failed errors.new in IfOk result (IsDone (to_all (IsToldWhole told new)) streams.old streams.new) }
-    ensures failed { let told = output_of E.written E.failed errors.old in let new = output_of E.written E.failed errors.new in IfErr result (HasNotExplained told new streams.old streams.new) }
+    ensures done { let told = output_of E.written E.failed errors.old in let new = output_of E.written E.failed errors.new in IfOk result (IsDone (to_all (IsToldWhole order told new)) streams.old streams.new) }
+    ensures failed { let told = output_of E.written E.failed errors.old in let new = output_of E.written E.failed errors.new in IfErr result (HasNotExplained order told new streams.old streams.new) }
 {
     let bytes = streams.read_all(alloc)?;
-    let held = explain_bytes(alloc, &bytes)?;
+    let held = explain_bytes(alloc, order, &bytes)?;
     let outcome = streams.send(&held.answer)?;
     tell(errors, &held.notes)?;
     Ok(outcome)

@@ -3,7 +3,7 @@ ghost use Rattle.std.specs.Prelude.{◌≡◌, ◌++◌, IfOk, IfErr, OnOk, stri
 ghost use Rattle.gtid_report.specs.VerdictLines.{verdict_line};
 ghost use Rattle.serving.specs.Listing.{IsFaultsFault};
 ghost use Rattle.commands.specs.Said.{Holds, to_all, IsDone, HasFailed, ended};
-ghost use Rattle.commands.specs.Listings.{Lists, faults_said, listed, run_line, run_lines, verdict_lines};
+ghost use Rattle.commands.specs.Listings.{Lists, faults_said, held_faults, listed, run_line, run_lines, verdict_lines};
 
 use crate::answer::Answer;
 use crate::audit_command::verdict_ending;
@@ -59,14 +59,17 @@ fn push_runs(text: &mut String, runs: &[Span]) -> Result<(), AllocError>
 
 /// The lines of all faults.
 fn list_answer(alloc: Global, all: &AllFaults) -> Result<Answer, AllocError>
-    ensures { IfOk result (λ answer. Holds answer (faults_said all.now.verdict all.now.purged.items all.now.missing all.now.shared.items)) }
+    ensures { IfOk result (λ answer. Holds answer (faults_said (held_faults all.now))) }
 {
     let mut text = String::new(alloc);
     push_verdict(alloc, &mut text, &all.verdict)?;
+    push_verdicts(alloc, &mut text, all.unequal.as_slice())?;
     push_verdicts(alloc, &mut text, all.purged.as_slice())?;
     let runs = all.missing.spans(alloc)?;
     push_runs(&mut text, runs.as_slice())?;
     push_verdicts(alloc, &mut text, all.shared.as_slice())?;
+    push_verdicts(alloc, &mut text, all.not_closed.as_slice())?;
+    push_verdicts(alloc, &mut text, all.does_not_apply.as_slice())?;
     Ok(Answer {
         outcome: verdict_ending(&all.verdict),
         text,
@@ -91,9 +94,10 @@ impl Request for List {
     }
 }
 
-/// Reads a bundle, and writes the line of its audit's verdict and behind it one for each other journal
-/// that begins behind the opening set, each other run of missing GTIDs and each other shared key, or the line of
-/// its refusal, and nothing else.
+/// Reads a bundle, and writes the line of its audit's verdict and behind it one for each other GTID under which journals differ, each
+/// other journal that begins behind the opening set, each other run of missing GTIDs, each other shared key, each other GTID that stands
+/// in a journal without what it needs and, where a transaction does not apply by the verdict, each other source of which one does not,
+/// or the line of its refusal, and nothing else.
 pub fn run_list<S: Source, W: Sink>(
     alloc: Global,
     streams: &mut Streams<S, W>,

@@ -10,7 +10,7 @@ ghost use Rattle.commands.specs.Applying.{HasMergedIn};
 use crate::history::worked;
 use applier::{Gate, drain};
 use gtid_set::SetFault;
-use serving::{StateOrVerdict, begin, conclude};
+use serving::{Order, StateOrVerdict, begin, conclude};
 use shared_replica::ClosedBook;
 use std::alloc::Global;
 use std::sync::Wait;
@@ -23,33 +23,35 @@ use world::Verdict;
 fn drain_and_conclude(
     alloc: Global,
     bundle: &Bundle,
+    order: Order,
     book: &mut ClosedBook,
 ) -> Result<Option<Verdict>, SetFault>
     requires fits { IsFitting bundle.now }
-    requires ready { IsReady bundle.now book.old.opening }
+    requires ready { IsReady order bundle.now book.old.opening }
     requires work { AllApply book.old.steps }
-    ensures found { IfOk result (IsConcluded bundle.now book.new.now) }
+    ensures found { IfOk result (IsConcluded order bundle.now book.new.now) }
     ensures fault { IfErr result (IsBundleFault bundle.now) }
 {
     let drained = drain(alloc, book);
     let core = book.state();
     drained?;
-    Ok(conclude(alloc, bundle, core)?)
+    Ok(conclude(alloc, bundle, order, core)?)
 }
 
 /// What a history of work over a replica that was served all journals comes to.
 fn conclude_history(
     alloc: Global,
     bundle: &Bundle,
+    order: Order,
     mut book: ClosedBook,
 ) -> Result<StateOrVerdict<ClosedBook>, SetFault>
     requires fits { IsFitting bundle.now }
-    requires ready { IsReady bundle.now book.opening }
+    requires ready { IsReady order bundle.now book.opening }
     requires work { AllApply book.steps }
-    ensures applied { IfOk result (IsStateOrVerdict (HasMergedIn bundle.now) bundle.now) }
+    ensures applied { IfOk result (IsStateOrVerdict (HasMergedIn order bundle.now) order bundle.now) }
     ensures fault { IfErr result (IsBundleFault bundle.now) }
 {
-    let concluded = drain_and_conclude(alloc, bundle, &mut book);
+    let concluded = drain_and_conclude(alloc, bundle, order, &mut book);
     match concluded {
         Ok(None) => Ok(StateOrVerdict::State(book)),
         Ok(Some(verdict)) => {
@@ -65,21 +67,25 @@ fn conclude_history(
 
 /// What the journals come to where no worker's history is known: a replica that is opened anew is
 /// drained.
-fn drain_anew(alloc: Global, bundle: &Bundle) -> Result<StateOrVerdict<ClosedBook>, SetFault>
+fn drain_anew(
+    alloc: Global,
+    bundle: &Bundle,
+    order: Order,
+) -> Result<StateOrVerdict<ClosedBook>, SetFault>
     requires { IsServable bundle.now }
-    ensures applied { IfOk result (IsStateOrVerdict (HasMergedIn bundle.now) bundle.now) }
+    ensures applied { IfOk result (IsStateOrVerdict (HasMergedIn order bundle.now) order bundle.now) }
     ensures fault { IfErr result (IsBundleFault bundle.now) }
 {
-    match begin(alloc, bundle)? {
+    match begin(alloc, bundle, order)? {
         StateOrVerdict::State(core) => {
-            conclude_history(alloc, bundle, ClosedBook::start(alloc, core))
+            conclude_history(alloc, bundle, order, ClosedBook::start(alloc, core))
         }
         StateOrVerdict::Verdict(verdict) => Ok(StateOrVerdict::Verdict(verdict)),
     }
 }
 
 /// What the journals of a bundle come to over its opening rows: all of them executed together, or the
-/// verdict of their audit, where that is not Sound. So many workers apply them, each on a thread of
+/// verdict of the audit that asks for this order, where that is not Sound. So many workers apply them, each on a thread of
 /// its own where one can be started; what they leave is applied when they have ended. What is answered
 /// does not depend on their number, nor on the order of their steps. The bundle can be served, as each
 /// that was read can.
@@ -92,20 +98,21 @@ pub fn apply_journals<G: Gate + Sync, R: Threads + Wait + Sync>(
     rt: &R,
     alloc: Global,
     bundle: &Bundle,
+    order: Order,
     workers: u8,
     gate: &G,
 ) -> Result<StateOrVerdict<ClosedBook>, SetFault>
     requires can { IsServable bundle.now }
     requires workers { (1 ≤ workers) × (workers ≤ 64) }
-    ensures applied { IfOk result (IsStateOrVerdict (HasMergedIn bundle.now) bundle.now) }
+    ensures applied { IfOk result (IsStateOrVerdict (HasMergedIn order bundle.now) order bundle.now) }
     ensures fault { IfErr result (IsBundleFault bundle.now) }
 {
-    let core = match begin(alloc, bundle)? {
+    let core = match begin(alloc, bundle, order)? {
         StateOrVerdict::State(core) => core,
         StateOrVerdict::Verdict(verdict) => return Ok(StateOrVerdict::Verdict(verdict)),
     };
     match worked(rt, alloc, core, workers, gate) {
-        Some(book) => conclude_history(alloc, bundle, book),
-        None => drain_anew(alloc, bundle),
+        Some(book) => conclude_history(alloc, bundle, order, book),
+        None => drain_anew(alloc, bundle, order),
     }
 }

@@ -1,42 +1,30 @@
 -- Runs that are served the journals of a bundle, and what they say of the audit.
-use Rattle.std.specs.Prelude.{◌≡◌, ℕ, ◌↔◌, List, [], ◌∷◌, Some, None, Ok, slice_get}
+use Rattle.std.specs.Prelude.{◌≡◌, ◌↔◌, List, Ok}
 use Rattle.std.specs.FinSet as set
 use Rattle.gtid_set.specs.Sets.{Gtids}
 use Rattle.rows.specs.declared.schema.Table.{Table}
 use Rattle.rows.specs.Apply.{Rows}
-use Rattle.journal.specs.Journals.{JournalValue, whole}
+use Rattle.journal.specs.Journals.{JournalValue}
 use Rattle.replica_core.specs.declared.event.Event.{Event}
 use Rattle.replica_core.specs.State.{State, Site}
 use Rattle.replica_core.specs.Machine.{after}
 use Rattle.replica_core.specs.Draining.{AreStoppedOrDone}
 use Rattle.source_history.specs.World.{rows_of}
-use Rattle.source_history.specs.Join.{join}
-use Rattle.faithful_runs.specs.Faithful.{start_with}
-use Rattle.faithful_runs.specs.Served.{IsDrained, NoLocalCommits, received_on}
-use Rattle.faithful_runs.specs.Whole.{WasServedOnce}
+use Rattle.ordered_replicas.specs.Faithful.{start_with}
+use Rattle.ordered_replicas.specs.Served.{IsDrained}
+use Rattle.ordered_replicas.specs.Deciding.{ServesAll, all_of}
 use Rattle.world.specs.declared.verdict.Verdict.TheVariants.{Sound}
 use Rattle.world.specs.Audit.{world_of, verdict_of_keys, verdict}
 use Rattle.world.specs.Meaning.{AreJournals}
 
--- The run serves each journal whole on the channel of its number, once; no other channel receives anything, and nothing commits here.
-pub record ServesAll (site : Site) (s : State) (journals : List JournalValue) (events : List Event) : Type 0 where
-  pub no_local : NoLocalCommits site s events
-  pub served : (c : ℕ) (journal : JournalValue) → slice_get journals c ≡ Some journal → WasServedOnce site s events c journal
-  pub nothing_else : (c : ℕ) → slice_get journals c ≡ None → received_on c site s events ≡ []
-
--- Where the audit of keys says Sound, a run from the opening that was served each journal whole, and whose every channel is
--- stopped or done, has executed all that it received exactly where the audit says Sound. The world may fail to apply.
+-- Where the audit of keys says Sound, a run from the opening that was served each journal whole on some channel, and whose every
+-- channel is stopped or done, has executed all that it received exactly where the audit says Sound. The world may fail to apply.
 abbrev pub WorkersDecide : Type 0
 WorkersDecide = (site : Site) (opened : Gtids) (rows : Rows) (journals : List JournalValue) (events : List Event) → AreJournals journals
     → verdict_of_keys (world_of site.schema opened rows journals) journals ≡ Sound
     → ServesAll site (start_with opened rows) journals events
     → AreStoppedOrDone (after site (start_with opened rows) events)
     → IsDrained (after site (start_with opened rows) events) ↔ (verdict (world_of site.schema opened rows journals) journals ≡ Sound)
-
--- the opening set with all that the journals have a record of
-abbrev pub all_of : Gtids → List JournalValue → Gtids
-all_of opened [] = opened
-all_of opened (j ∷ journals) = join (whole j) (all_of opened journals)
 
 -- the executed set and the rows of a state are those of all journals together
 pub record HoldsAll (schema : List Table) (opened : Gtids) (rows : Rows) (journals : List JournalValue) (s : State) : Type 0 where

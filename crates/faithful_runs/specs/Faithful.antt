@@ -1,5 +1,5 @@
--- Faithful runs, and what they come to.
-use Rattle.std.specs.Prelude.{◌≡◌, ℕ, ◌<◌, ◌==◌, true, false, if◌then◌else◌, List, [], ◌∷◌, ◌++◌, Option, Some, Ok, slice_get, option_and_then}
+-- Faithful runs of a world of sources, and what they come to.
+use Rattle.std.specs.Prelude.{◌≡◌, ℕ, ◌<◌, true, false, List, [], ◌∷◌, ◌++◌, Option, Some, Ok}
 use Rattle.std.specs.List.{AllByRecursion}
 use Rattle.std.specs.FinMap as map
 use Rattle.std.specs.FinSet as set
@@ -10,34 +10,21 @@ use Rattle.journal.specs.declared.Entry.{Entry}
 use Rattle.journal.specs.Journals.{JournalValue}
 use Rattle.apply_channel.specs.Channels.{ChannelValue}
 use Rattle.replica_core.specs.declared.event.Event.{Event}
-use Rattle.replica_core.specs.declared.event.Event.TheVariants.{Receive, Position, Local, OpenChannel}
+use Rattle.replica_core.specs.declared.event.Event.TheVariants.{Receive, Local}
 use Rattle.replica_core.specs.declared.event.Reply.{Reply}
-use Rattle.replica_core.specs.declared.event.Reply.TheVariants.{Opened, Received, Ask, Committed, RowRefused}
+use Rattle.replica_core.specs.declared.event.Reply.TheVariants.{Received, Committed}
 use Rattle.replica_core.specs.State.{State, Site}
-use Rattle.replica_core.specs.Machine.{opening, step, replies, after}
+use Rattle.replica_core.specs.Machine.{step, replies, after}
 use Rattle.source_history.specs.World.{World, content, rows_of, IsSound, IsClosed}
 use Rattle.source_history.specs.LastWriter.{last_writer}
 use Rattle.source_history.specs.Faithful.{IsFaithful}
 use Rattle.auto_position.specs.Sending.{sent}
-
--- a replica on which this set was executed, with these rows
-abbrev pub start_with : Gtids → Rows → State
-start_with = opening
+use Rattle.ordered_replicas.specs.Faithful.{start_with, Since, since_after, asked_with, IsNotRefused}
 
 -- a start: a closed set, with the rows that it stands for
 pub record IsOpening (world : World) (executed : Gtids) (rows : Rows) : Type 0 where
   pub closed : IsClosed world (set.contains executed)
   pub stands_for : rows_of world (set.contains executed) ≡ Ok rows
-
--- what each channel has received since its last Position
-abbrev pub Since : Type 0
-Since = ℕ → List Entry
-
-abbrev pub since_after : Event → Reply → Since → Since
-since_after (Receive c entry) (Received p) since d = if d == c then since c ++ entry ∷ [] else since d
-since_after (Position c) (Ask asked) since d = if d == c then [] else since d
-since_after (OpenChannel name preserve) (Opened c) since d = if d == c then [] else since d
-since_after event reply since d = since d
 
 -- These are a front of what some faithful journal sends to one that asks with this set.
 pub record WasSent (world : World) (ask : Gtids) (entries : List Entry) : Type 0 where
@@ -46,10 +33,6 @@ pub record WasSent (world : World) (ask : Gtids) (entries : List Entry) : Type 0
   pub rest : List Entry
   pub faithful : IsFaithful world journal
   pub front : sent journal ask own ≡ Ok (entries ++ rest)
-
--- the set that a channel has asked with
-abbrev pub asked_with : State → ℕ → Option Gtids
-asked_with s c = option_and_then (λ (channel : ChannelValue). channel.asked) (slice_get s.channels c)
 
 -- What is asked of one event: what is received was sent, and what commits here is what the world has under that GTID, with
 -- every smaller number of this server executed.
@@ -68,10 +51,6 @@ IsFaithfulFrom world site s since (e ∷ es) =
 -- a run from a start
 abbrev pub IsFaithfulRun : World → Site → Gtids → Rows → List Event → Type 0
 IsFaithfulRun world site executed rows events = IsFaithfulFrom world site (start_with executed rows) (λ c. []) events
-
-abbrev pub IsNotRefused : Reply → Type 0
-IsNotRefused (RowRefused g fault) = ⊥
-IsNotRefused reply = Unit {0}
 
 -- What a replica holds is what its executed set stands for.
 pub record IsMerged (world : World) (s : State) : Type 0 where
@@ -95,9 +74,15 @@ EqualSetsEqualRows = (world : World) (a b : Site) (A B : Gtids) (x y : Rows) (es
     → (after a (start_with A x) es).executed ≡ (after b (start_with B y) fs).executed
     → (after a (start_with A x) es).rows ≡ (after b (start_with B y) fs).rows
 
--- A faithful run in two parts: what stands after the second part is merged, whatever call made it.
+-- A front of a faithful run is faithful.
+abbrev pub FrontsAreFaithful : Type 0
+FrontsAreFaithful = (world : World) (site : Site) (executed : Gtids) (rows : Rows) (earlier later : List Event)
+    → IsFaithfulRun world site executed rows (earlier ++ later) → IsFaithfulRun world site executed rows earlier
+
+-- A faithful run in two parts: what stands after the second part is merged, whatever call made it, and none of its commits was
+-- refused for its rows.
 abbrev pub RunsGoOn : Type 0
 RunsGoOn = (world : World) (site : Site) (executed : Gtids) (rows : Rows) (earlier events : List Event) (s : State)
     → site.schema ≡ world.schema → IsSound world → IsOpening world executed rows
     → s ≡ after site (start_with executed rows) earlier → IsFaithfulRun world site executed rows (earlier ++ events)
-    → IsMerged world (after site s events)
+    → IsMerged world (after site s events) × AllByRecursion IsNotRefused (replies site s events)

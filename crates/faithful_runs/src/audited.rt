@@ -1,8 +1,10 @@
 //! What an audit says of runs. Each function's contract is a law, and its body is empty.
 ghost use Rattle.faithful_runs.specs.Deciding.{WorkersDecide, ServedHoldsAll};
+ghost use Rattle.faithful_runs.specs.InOrder.{WorkersDecideInOrder, ServedHoldsAllInOrder};
 
-/// Where the audit of keys says Sound, a run that was served all journals and whose every channel is
-/// stopped or done has executed all that it received exactly where the audit says Sound.
+/// Where the audit of keys says Sound, a run that was served all journals, each on some channel or on
+/// several, and whose every channel is stopped or done has executed all that it received exactly where
+/// the audit says Sound.
 pub fn workers_decide()
     ensures { WorkersDecide }
 {}
@@ -11,4 +13,14 @@ pub fn workers_decide()
 /// and holds the rows that these stand for.
 pub fn served_holds_all()
     ensures { ServedHoldsAll }
+{}
+
+/// The same of the audit in one order.
+pub fn workers_decide_in_order()
+    ensures { WorkersDecideInOrder }
+{}
+
+/// The same of the rows that the journals stand for in the order that they are joined to.
+pub fn served_holds_all_in_order()
+    ensures { ServedHoldsAllInOrder }
 {}

@@ -1,7 +1,6 @@
-//! The merge theorem over runs. Each function's contract is a law, and its body is empty.
-ghost use Rattle.faithful_runs.specs.Faithful.{FaithfulRunsMerge, EqualSetsEqualRows, RunsGoOn};
+//! The merge theorem over runs, for sources. Each function's contract is a law, and its body is empty.
+ghost use Rattle.faithful_runs.specs.Faithful.{FaithfulRunsMerge, EqualSetsEqualRows, FrontsAreFaithful, RunsGoOn};
 ghost use Rattle.faithful_runs.specs.Whole.{ServedIsFaithful};
-ghost use Rattle.faithful_runs.specs.Served.{ServedIsJoined, ServedAreJoined};
 
 /// After every faithful run of a sound world the executed set is closed, the rows held are those
 /// that it stands for, under each key stands the row of its last writer, no channel is stopped, no
@@ -15,20 +14,15 @@ pub fn equal_sets_equal_rows()
     ensures { EqualSetsEqualRows }
 {}
 
-/// The same from the state of a faithful run on, by events that go on faithfully.
+/// A front of a faithful run is faithful.
+pub fn fronts_are_faithful()
+    ensures { FrontsAreFaithful }
+{}
+
+/// From the state of a faithful run on, by events that go on faithfully: what stands then is merged,
+/// and no commit of these events was refused for its rows.
 pub fn runs_go_on()
     ensures { RunsGoOn }
-{}
-
-/// A replica that applied all that a journal sent it has executed the join of what it had and the
-/// whole journal.
-pub fn served_is_joined()
-    ensures { ServedIsJoined }
-{}
-
-/// The same for several channels, each served a journal whole, with local commits beside them.
-pub fn served_are_joined()
-    ensures { ServedAreJoined }
 {}
 
 /// A run without local commits in which each channel is served a faithful journal whole, or receives

@@ -11,7 +11,7 @@ use Rattle.rows.specs.declared.change.RowFault.TheVariants.{RowMissing, RowDiffe
 use Rattle.journal.specs.Journals.{JournalValue}
 use Rattle.txn_journal.specs.WrittenSets.{set_text}
 use Rattle.world.specs.declared.verdict.Verdict.{Verdict}
-use Rattle.world.specs.declared.verdict.Verdict.TheVariants.{Unequal, Purged, Missing, Shared, NotClosed, DoesNotApply, Sound}
+use Rattle.world.specs.declared.verdict.Verdict.TheVariants.{Unequal, Purged, Missing, Shared, Reordered, Concurrent, NotClosed, DoesNotApply, Sound}
 use Rattle.gtid_report.specs.Verdicts.{row_fault_place}
 use Rattle.gtid_report.specs.declared.refusal.LineCause.{LineCause}
 use Rattle.gtid_report.specs.declared.refusal.LineCause.TheVariants.{Keyword, Body, Limit, Schema, Stamp}
@@ -72,6 +72,8 @@ verdict_explained lines journals gtids (Unequal g) = places_of (gtid_text g) Eve
 verdict_explained lines journals gtids (Purged i purged) = previous_sets lines
 verdict_explained lines journals gtids (Missing g) = missing_text gtids ++ next_text (next_there g None journals) lines
 verdict_explained lines journals gtids (Shared g h key) = key_explained g h key lines
+verdict_explained lines journals gtids (Reordered g h key) = key_explained g h key lines
+verdict_explained lines journals gtids (Concurrent g h key) = key_explained g h key lines
 verdict_explained lines journals gtids (NotClosed g h) = places_of (gtid_text g) Every lines ++ places_of (gtid_text h) Every lines
 verdict_explained lines journals gtids (DoesNotApply g fault) = row_fault_meaning fault ++ places_of (gtid_text g) (Numbered (row_fault_place fault).0) lines
 verdict_explained lines journals gtids Sound = []

@@ -198,7 +198,9 @@ fn put_verdict(
             put_missing(alloc, out, missing)?;
             put_next(alloc, out, &next_there(gtid, journals), lines)
         }
-        Verdict::Shared(a, b, key) => put_key(alloc, out, a, b, key, lines),
+        Verdict::Shared(a, b, key)
+        | Verdict::Reordered(a, b, key)
+        | Verdict::Concurrent(a, b, key) => put_key(alloc, out, a, b, key, lines),
         Verdict::NotClosed(a, b) => {
             put_gtid(alloc, out, a, &Wanted::Every, lines)?;
             put_gtid(alloc, out, b, &Wanted::Every, lines)

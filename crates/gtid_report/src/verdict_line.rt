@@ -1,6 +1,6 @@
 //! The printed line of each verdict.
 ghost use Rattle.std.specs.Prelude.{◌≡◌, ◌++◌, IfOk, OnOk, string_bytes};
-ghost use Rattle.gtid_report.specs.VerdictLines.{gtid_line, pair_line, key_text, purged_line, verdict_line};
+ghost use Rattle.gtid_report.specs.VerdictLines.{gtid_line, pair_line, key_line, key_text, purged_line, verdict_line};
 
 use crate::refusal::push_number;
 use crate::state::{push_set, push_values};
@@ -41,6 +41,21 @@ fn push_key(alloc: Global, line: &mut String, key: &Key) -> Result<(), AllocErro
     push_values(alloc, line, key.values.as_slice())
 }
 
+/// A word, two GTIDs and a key that both touch.
+fn key_line(
+    alloc: Global,
+    word: &str,
+    a: &Gtid,
+    b: &Gtid,
+    key: &Key,
+) -> Result<String, AllocError>
+    ensures { IfOk result (λ line. string_bytes line ≡ key_line word.now a.now b.now key.now) }
+{
+    let mut line = pair_line(alloc, word, a, b)?;
+    push_key(alloc, &mut line, key)?;
+    Ok(line)
+}
+
 /// What the previous set of a journal lacks in the opening set.
 fn purged_line(alloc: Global, journal: usize, gtids: &GtidSet) -> Result<String, AllocError>
     ensures { IfOk result (λ line. string_bytes line ≡ purged_line journal gtids.now) }
@@ -60,12 +75,10 @@ pub fn render_verdict(alloc: Global, verdict: &Verdict) -> Result<String, AllocE
         Verdict::Unequal(gtid) => gtid_line(alloc, "unequal ", gtid),
         Verdict::Purged(journal, gtids) => purged_line(alloc, *journal, gtids),
         Verdict::Missing(gtid) => gtid_line(alloc, "missing ", gtid),
-        Verdict::Shared(a, b, key) => {
-            let mut line = pair_line(alloc, "shared ", a, b)?;
-            push_key(alloc, &mut line, key)?;
-            Ok(line)
-        }
+        Verdict::Shared(a, b, key) => key_line(alloc, "shared ", a, b, key),
+        Verdict::Reordered(a, b, key) => key_line(alloc, "reordered ", a, b, key),
         Verdict::NotClosed(a, b) => pair_line(alloc, "not-closed ", a, b),
+        Verdict::Concurrent(a, b, key) => key_line(alloc, "concurrent ", a, b, key),
         Verdict::DoesNotApply(gtid, fault) => render_does_not_apply(alloc, *gtid, *fault),
         Verdict::Sound => String::from_str(alloc, "sound"),
     }

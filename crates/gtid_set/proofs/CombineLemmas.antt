@@ -18,12 +18,13 @@ use Rattle.gtid_set.specs.declared.fault.SetFault.TheVariants.{Memory, PoolFull,
 use Rattle.gtid_set.specs.Sets.{Gtids, gtid, source_count, most_sources}
 use Rattle.gtid_set.specs.Runs.{runs}
 use Rattle.gtid_set.specs.Spans.{is_before, is_merged, has, set_of}
-use Rattle.gtid_set.specs.Sweep.{IsListOf, within, start_of}
+use Rattle.gtid_set.specs.Sweep.{IsListOf, IsRest, within, start_of, is_from, all_before}
 use Rattle.gtid_set.specs.Full.{IsCrowdedExactly, IsKept, interval_count, most_intervals}
 use Rattle.gtid_set.specs.Kept.{spans_as}
 use Rattle.gtid_set.specs.Numbers.{all_numbered}
 use Rattle.gtid_set.specs.BySource.{are_from, are_above, are_below, BeginsWith, IsNextSource, TakesSource, combines, combined, IsTooLong}
-use Rattle.gtid_set.proofs.CutLemmas.{start_within}
+use Rattle.gtid_set.proofs.CutLemmas.{start_within, within_from, more_from}
+use Rattle.gtid_set.proofs.KeptLemmas.{merged_append}
 use Rattle.gtid_set.proofs.SpanLemmas.{merged_head, all_weaker, all_joined, any_none, merged_front, merged_back}
 use Rattle.gtid_set.proofs.SetLemmas.{same_members, contains-set_of}
 use Rattle.gtid_set.proofs.SetSources.{fewer_sources}
@@ -308,3 +309,29 @@ pub taken_merged : (old : List Span) (id : ℕ) (numbers : List Interval) (new :
 taken_merged old id numbers new takes merged =
     let whole = sym (ap is_merged takes.parts) ∙ merged in
     (unnamed id numbers (merged_front (spans_as id numbers) new whole), merged_back (spans_as id numbers) new whole)
+
+-- ---- where there are no more holes
+
+keeps : (o m r t : Bool) → (m ≡ true → r ≡ false) → (o || (m && not r)) ≡ t → (o || m) ≡ t
+keeps o true r t f h = sym (ap (λ x. o || not x) (f refl)) ∙ h
+keeps o false r t f h = h
+
+pub without_holes : (out left right rest new : List Span) (x : Span) (more : List Span) (test : Gtid → Bool) → left ≡ x ∷ more → is_merged left ≡ true → is_merged out ≡ true → list_all (all_before out) left ≡ true
+    → IsRest x right rest → rest ≡ [] → ((q : Gtid) → (has out q || (has left q && not (has right q))) ≡ test q) → new ≡ out ++ left → IsListOf test new
+without_holes out left right rest new x more test parts merged made before holes none same e = record {
+  merged = ap is_merged e ∙ merged_append out left made merged (turned out before);
+  has = λ q. ap (λ ss. has ss q) e ∙ list_any-append (λ t. within t q) out left ∙ keeps (has out q) (has left q) (has right q) (test q) (λ h. missed q h) (same q);
+}
+  where
+    turned : (xs : List Span) → list_all (all_before xs) left ≡ true → list_all (λ y. list_all (is_before y) left) xs ≡ true
+    turned [] h = refl
+    turned (y ∷ ys) h = and_from (list_all (is_before y) left) (list_all (λ y. list_all (is_before y) left) ys)
+        (all_weaker (all_before (y ∷ ys)) (is_before y) left (λ t a. (and_parts (is_before y t) (all_before ys t) a).0) h)
+        (turned ys (all_weaker (all_before (y ∷ ys)) (all_before ys) left (λ t a. (and_parts (is_before y t) (all_before ys t) a).1) h))
+
+    reached : (q : Gtid) (b : Bool) → within x q ≡ b → (b || has more q) ≡ true → is_from (start_of x) q ≡ true
+    reached q true w h = within_from x q w
+    reached q false w h = more_from x more q (merged_head x more (sym (ap is_merged parts) ∙ merged)) h
+
+    missed : (q : Gtid) → has left q ≡ true → has right q ≡ false
+    missed q h = sym (holes.same q (reached q (within x q) refl (sym (ap (λ ss. has ss q) parts) ∙ h))) ∙ ap (λ ss. has ss q) none

@@ -28,7 +28,7 @@ use Rattle.gtid_set.specs.Sweep.{within, all_before, IsListOf, KnowsSource}
 use Rattle.gtid_set.specs.Runs.{runs}
 use Rattle.gtid_set.specs.Full.{fault_of, interval_count, most_intervals, IsFullExactly, HasManyIntervals}
 use Rattle.gtid_set.specs.BySource.{IsTooLong}
-use Rattle.gtid_set.specs.Kept.{span_of, interval_of, spans_in, spans_of, are_rising, have_own, lists_of, listed, is_filled, knows, flat, are_others, HasSameLists, Lists, IsListFault, IsKeptIn, IsSourceOf, IsNoSourceAt, IsSourcePlace, Grown}
+use Rattle.gtid_set.specs.Kept.{span_of, interval_of, spans_in, spans_of, are_rising, have_own, lists_of, listed, is_filled, knows, flat, are_others, HasSameLists, Lists, IsListFault, IsKeptIn, IsSourceOf, IsNoSourceAt, IsSourcePlace, Grown, Stays}
 use Rattle.gtid_set.proofs.SpanLemmas.{all_weaker, all_parts, merged_front, merged_pushed}
 use Rattle.gtid_set.proofs.SetSources.{added_set, count_with, len_known, len_unknown, no_sources, with_one, fewer_sources}
 use Rattle.gtid_set.proofs.SetLemmas.{set_of-append, contains-set_of}
@@ -225,6 +225,29 @@ grown_with p q sources order at l t kept place others le few lists law =
 same_all : (p q : PoolValue) (ss : List Source) → HasSameLists p q → spans_of q ss ≡ spans_of p ss
 same_all p q [] same = refl
 same_all p q (s ∷ ss) same = (λ i. map (span_of s.id) (same_at p q s.list (same s.list) i) ++ same_all p q ss same i)
+
+filled_all : (p q : PoolValue) (ss : List Source) → HasSameLists p q → list_all (is_filled p) ss ≡ true → list_all (is_filled q) ss ≡ true
+filled_all p q ss same h = all_weaker (is_filled p) (is_filled q) ss (λ s f. ap (λ slot. is_some slot && nat_lt 0 (length (map (λ (h : Held). h.numbers) (unwrap_or slot [])))) (same s.list) ∙ f) h
+
+-- they are kept in another pool that has the same lists
+pub kept_again : (p q : PoolValue) (sources : List Source) (order : List ℕ) → HasSameLists p q → IsKeptIn p sources order → Stays p sources order q sources order
+kept_again p q sources order same kept =
+    let parts : flat q sources order ≡ flat p sources order = same_all p q (listed sources order) same in
+    record {
+      kept = record {
+        places = kept.places;
+        as_many = kept.as_many;
+        few = kept.few;
+        rising = kept.rising;
+        filled = filled_all p q (listed sources order) same kept.filled;
+        own = kept.own;
+        known = λ l is. kept.known l (ap is_some (sym (same l)) ∙ is);
+        merged = ap is_merged parts ∙ kept.merged;
+        counted = kept.counted ∙ ap (λ ss. source_count (set_of ss)) (sym parts);
+        small = subst (λ ss. length ss ≤ most_intervals) (sym parts) kept.small;
+      };
+      same = parts;
+    }
 
 -- ---- why there is no list more
 

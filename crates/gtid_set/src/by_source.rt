@@ -1,10 +1,11 @@
 //! A set gone over source by source.
 ghost use Rattle.std.specs.Prelude.{◌≡◌, ◌<◌, [], true, IfSome, None, length};
-ghost use Rattle.std.specs.List.{list_all};
+ghost use Rattle.std.specs.List.{concat, list_all};
 ghost use Rattle.gtid_set.specs.Kept.{are_places, are_rising, is_filled, listed, source_at, spans_of};
 ghost use Rattle.gtid_set.specs.BySource.{IsFirstSource, IsNextSource, TakesSource, are_from};
 
-use crate::sources::Source;
+use crate::order::{Block, Places};
+use crate::sources::{Source, source_of};
 use gtid_text::SourceId;
 use interval_pool::{Pool, Walk};
 use std::marker::Model;
@@ -14,7 +15,7 @@ use std::marker::Model;
 pub struct SourceLists<'a> {
     pool: &'a Pool,
     sources: &'a [Source],
-    order: &'a [u16],
+    order: Places<'a>,
 }
 
 impl<'a> Model for SourceLists<'a> {
@@ -25,32 +26,23 @@ impl<'a> Model for SourceLists<'a> {
 
     ghost Value = { List Span };
 
-    ghost view = { λ s. flat s.pool.now s.sources.now s.order.now };
+    ghost view = { λ s. flat s.pool.now s.sources.now s.order };
 
-    ghost invariant = { λ s. AreLists s.pool.now s.sources.now s.order.now };
-}
-
-/// The source at a place.
-#[inline(always)]
-fn source_of(sources: &[Source], at: u16) -> Source
-    requires { at < length sources.now }
-    ensures { result ≡ source_at sources.now at }
-{
-    sources[at as usize]
+    ghost invariant = { λ s. AreLists s.pool.now s.sources.now s.order };
 }
 
 impl<'a> SourceLists<'a> {
     /// All sources of a set.
-    pub fn of(pool: &'a Pool, sources: &'a [Source], order: &'a [u16]) -> SourceLists<'a>
-        requires places { are_places sources.now order.now ≡ true }
-        requires rising { are_rising (listed sources.now order.now) ≡ true }
-        requires filled { list_all (is_filled pool.now) (listed sources.now order.now) ≡ true }
-        ensures { result ≡ spans_of pool.now (listed sources.now order.now) }
+    pub fn of(pool: &'a Pool, sources: &'a [Source], order: &'a [Block]) -> SourceLists<'a>
+        requires places { are_places sources.now (concat order.now) ≡ true }
+        requires rising { are_rising (listed sources.now (concat order.now)) ≡ true }
+        requires filled { list_all (is_filled pool.now) (listed sources.now (concat order.now)) ≡ true }
+        ensures { result ≡ spans_of pool.now (listed sources.now (concat order.now)) }
     {
         SourceLists {
             pool,
             sources,
-            order,
+            order: Places::of(order),
         }
     }
 
@@ -60,10 +52,10 @@ impl<'a> SourceLists<'a> {
         ensures none { result ≡ None → self.now ≡ [] }
         ensures some { IfSome result (IsFirstSource self.now) }
     {
-        let Some((at, _behind)) = self.order.split_first() else {
+        let Some(at) = self.order.first() else {
             return None;
         };
-        Some(source_of(self.sources, *at).id)
+        Some(source_of(self.sources, at).id)
     }
 
     /// Takes the numbers of a source that none comes before; there are none where it is not the first.
@@ -71,14 +63,14 @@ impl<'a> SourceLists<'a> {
         requires { are_from id self.old ≡ true }
         ensures { TakesSource self.old id result self.new }
     {
-        let Some((at, behind)) = self.order.split_first() else {
+        let Some(at) = self.order.first() else {
             return Walk::empty();
         };
-        let source = source_of(self.sources, *at);
+        let source = source_of(self.sources, at);
         if source.id != id {
             return Walk::empty();
         }
-        self.order = behind;
+        self.order.advance();
         self.pool.walk(source.list)
     }
 }

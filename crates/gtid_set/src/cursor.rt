@@ -1,10 +1,11 @@
 //! A place among the spans of a set.
 ghost use Rattle.std.specs.Prelude.{◌≡◌, ◌∷◌, [], drop, length, true, Some, IfSome, IsSome, MatchOption};
-ghost use Rattle.std.specs.List.{list_all};
+ghost use Rattle.std.specs.List.{concat, list_all};
 ghost use Rattle.interval_pool.specs.Values.{cells_of, first_cell};
 ghost use Rattle.gtid_set.specs.Kept.{are_places, is_filled, listed, spans_of, IsPlaceIn};
 
-use crate::sources::Source;
+use crate::order::{Block, Places};
+use crate::sources::{Source, source_of};
 use gtid_text::Span;
 use interval_pool::{Interval, Pool};
 use std::marker::Model;
@@ -25,7 +26,7 @@ pub struct Cursor<'a> {
     pool: &'a Pool,
     sources: &'a [Source],
     // the places of the sources behind
-    behind: &'a [u16],
+    behind: Places<'a>,
     at: Option<Place>,
 }
 
@@ -36,9 +37,9 @@ impl<'a> Model for Cursor<'a> {
 
     ghost Value = { List Span };
 
-    ghost view = { λ c. cursor_view c.pool.now c.sources.now c.behind.now c.at };
+    ghost view = { λ c. cursor_view c.pool.now c.sources.now c.behind c.at };
 
-    ghost invariant = { λ c. IsCursor c.pool.now c.sources.now c.behind.now c.at };
+    ghost invariant = { λ c. IsCursor c.pool.now c.sources.now c.behind c.at };
 }
 
 /// The place of a cell, so many behind the first of its list.
@@ -70,35 +71,40 @@ fn begin(pool: &Pool, source: Source) -> Option<Place>
 }
 
 /// The spans of sources.
-fn over<'a>(pool: &'a Pool, sources: &'a [Source], order: &'a [u16]) -> Cursor<'a>
-    requires places { are_places sources.now order.now ≡ true }
-    requires filled { list_all (is_filled pool.now) (listed sources.now order.now) ≡ true }
-    ensures { result ≡ spans_of pool.now (listed sources.now order.now) }
+fn over<'a>(pool: &'a Pool, sources: &'a [Source], order: Places<'a>) -> Cursor<'a>
+    requires places { are_places sources.now order ≡ true }
+    requires filled { list_all (is_filled pool.now) (listed sources.now order) ≡ true }
+    ensures { result ≡ spans_of pool.now (listed sources.now order.entry) }
 {
-    match order.split_first() {
+    let mut behind = order;
+    match behind.first() {
         None => Cursor {
             pool,
             sources,
-            behind: order,
+            behind,
             at: None,
         },
-        Some((first, behind)) => Cursor {
-            pool,
-            sources,
-            behind,
-            at: begin(pool, sources[*first as usize]),
-        },
+        Some(first) => {
+            behind.advance();
+            let at = begin(pool, source_of(sources, first));
+            Cursor {
+                pool,
+                sources,
+                behind,
+                at,
+            }
+        }
     }
 }
 
 impl<'a> Cursor<'a> {
     /// The spans of sources.
-    pub fn over(pool: &'a Pool, sources: &'a [Source], order: &'a [u16]) -> Cursor<'a>
-        requires places { are_places sources.now order.now ≡ true }
-        requires filled { list_all (is_filled pool.now) (listed sources.now order.now) ≡ true }
-        ensures { result ≡ spans_of pool.now (listed sources.now order.now) }
+    pub fn over(pool: &'a Pool, sources: &'a [Source], order: &'a [Block]) -> Cursor<'a>
+        requires places { are_places sources.now (concat order.now) ≡ true }
+        requires filled { list_all (is_filled pool.now) (listed sources.now (concat order.now)) ≡ true }
+        ensures { result ≡ spans_of pool.now (listed sources.now (concat order.now)) }
     {
-        over(pool, sources, order)
+        over(pool, sources, Places::of(order))
     }
 
     /// The same spans.
@@ -108,7 +114,7 @@ impl<'a> Cursor<'a> {
         Cursor {
             pool: self.pool,
             sources: self.sources,
-            behind: self.behind,
+            behind: self.behind.again(),
             at: self.at,
         }
     }
@@ -140,7 +146,7 @@ impl<'a> Cursor<'a> {
             Some(cell) => {
                 self.at = Some(place_of_cell(self.pool, at.source, cell, at.passed + 1, at.len));
             }
-            None => *self = over(self.pool, self.sources, self.behind),
+            None => *self = over(self.pool, self.sources, self.behind.again()),
         }
     }
 }

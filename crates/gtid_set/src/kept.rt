@@ -1,5 +1,6 @@
 //! Merged spans in a pool, by source and number.
 ghost use Rattle.std.specs.Prelude.{◌≡◌, ◌≤◌, ◌+◌, ◌++◌, ◌||◌, [], true, false, IfOk, IfErr, OnOk, OnErr, IfSome, IfNone, IsOkUnless};
+ghost use Rattle.std.specs.List.{concat};
 ghost use Rattle.std.specs.FinSet as set;
 ghost use Rattle.gtid_set.specs.declared.fault.SetFault.TheVariants.{Memory};
 ghost use Rattle.gtid_set.specs.Sets.{interval, most_sources, source_count};
@@ -8,11 +9,13 @@ ghost use Rattle.gtid_set.specs.Sweep.{IsListOf, HasSpan, all_before, within};
 ghost use Rattle.gtid_set.specs.Full.{IsFullExactly, IsKept};
 ghost use Rattle.gtid_set.specs.BySource.{IsTooLong};
 ghost use Rattle.gtid_set.specs.Kept.{IsKeptIn, IsSourceOf, IsSourcePlace, IsListFault, Lists, HasSameLists, Grown, IsRun, Stays, spans_as, are_others, listed, flat, interval_of};
+ghost use Rattle.gtid_set.specs.Order.{IsSeat, index_of};
 
 use crate::by_source::SourceLists;
 use crate::cursor::Cursor;
 use crate::fault::SetFault;
-use crate::sources::{Source, find, place_of};
+use crate::order::{Block, Seat, copied, put};
+use crate::sources::{Source, find, find_last, seat_of};
 use gtid_text::{Gtid, SourceId, Span};
 use interval_pool::{Interval, ListId, Pool};
 use std::alloc::{AllocError, Global};
@@ -27,22 +30,23 @@ pub struct Kept {
     pool: Pool,
     // the sources as they came
     sources: Vec<Source>,
-    // their places, by source
-    order: Vec<u16>,
-    // the place in the order that was last added to: a guess
-    near: usize,
+    // their places in blocks, by source
+    order: Vec<Block>,
+    // the seat that was last added to: a guess
+    near: Seat,
 }
 
 impl Model for Kept {
     ghost use Rattle.std.specs.Prelude.{List};
     ghost use Rattle.gtid_text.specs.declared.Span.{Span};
+    ghost use Rattle.std.specs.List.{concat};
     ghost use Rattle.gtid_set.specs.Kept.{flat, IsKeptIn};
 
     ghost Value = { List Span };
 
-    ghost view = { λ k. flat k.pool k.sources.items k.order.items };
+    ghost view = { λ k. flat k.pool k.sources.items (concat k.order.items) };
 
-    ghost invariant = { λ k. IsKeptIn k.pool k.sources.items k.order.items };
+    ghost invariant = { λ k. IsKeptIn k.pool k.sources.items (concat k.order.items) };
 }
 
 /// The numbers of a span.
@@ -59,16 +63,16 @@ fn numbers(span: &Span) -> Interval
 fn add_to(
     pool: &mut Pool,
     sources: &[Source],
-    order: &[u16],
+    order: &[Block],
     source: Source,
     span: &Span,
 ) -> Result<(), SetFault>
-    requires kept { IsKeptIn pool.old sources.now order.now }
-    requires source { IsSourceOf (listed sources.now order.now) source span.now.source }
+    requires kept { IsKeptIn pool.old sources.now (concat order.now) }
+    requires source { IsSourceOf (listed sources.now (concat order.now)) source span.now.source }
     requires filled { span.now.lo ≤ span.now.hi }
-    ensures ok { OnOk result (Grown pool.old sources.now order.now span.now pool.new sources.now order.now) }
+    ensures ok { OnOk result (Grown pool.old sources.now (concat order.now) span.now pool.new sources.now (concat order.now)) }
     ensures err { OnErr result (pool.new ≡ pool.old) }
-    ensures full { IsFullExactly result (set.union (set_of (flat pool.old sources.now order.now)) (interval span.now.source span.now.lo span.now.hi)) }
+    ensures full { IsFullExactly result (set.union (set_of (flat pool.old sources.now (concat order.now))) (interval span.now.source span.now.lo span.now.hi)) }
 {
     pool.partition();
     match pool.add(source.list, numbers(span)) {
@@ -84,17 +88,17 @@ fn add_to(
 fn append_to(
     pool: &mut Pool,
     sources: &[Source],
-    order: &[u16],
+    order: &[Block],
     source: Source,
     span: &Span,
 ) -> Result<(), SetFault>
-    requires kept { IsKeptIn pool.old sources.now order.now }
-    requires source { IsSourceOf (listed sources.now order.now) source span.now.source }
+    requires kept { IsKeptIn pool.old sources.now (concat order.now) }
+    requires source { IsSourceOf (listed sources.now (concat order.now)) source span.now.source }
     requires filled { span.now.lo ≤ span.now.hi }
-    requires before { all_before (flat pool.old sources.now order.now) span.now ≡ true }
-    ensures ok { OnOk result (Grown pool.old sources.now order.now span.now pool.new sources.now order.now) }
+    requires before { all_before (flat pool.old sources.now (concat order.now)) span.now ≡ true }
+    ensures ok { OnOk result (Grown pool.old sources.now (concat order.now) span.now pool.new sources.now (concat order.now)) }
     ensures err { OnErr result (pool.new ≡ pool.old) }
-    ensures full { IsFullExactly result (set.union (set_of (flat pool.old sources.now order.now)) (interval span.now.source span.now.lo span.now.hi)) }
+    ensures full { IsFullExactly result (set.union (set_of (flat pool.old sources.now (concat order.now))) (interval span.now.source span.now.lo span.now.hi)) }
 {
     pool.partition();
     match pool.append(source.list, numbers(span)) {
@@ -130,17 +134,18 @@ fn open_list(pool: &mut Pool, numbers: Interval) -> Result<ListId, SetFault>
 fn insert(
     pool: &mut Pool,
     sources: &mut Vec<Source>,
-    order: &mut Vec<u16>,
-    at: usize,
+    order: &mut Vec<Block>,
+    at: Seat,
     span: &Span,
 ) -> Result<(), SetFault>
-    requires kept { IsKeptIn pool.old sources.old.items order.old.items }
-    requires place { IsSourcePlace (listed sources.old.items order.old.items) span.now.source at }
-    requires new { are_others span.now.source (listed sources.old.items order.old.items) ≡ true }
+    requires kept { IsKeptIn pool.old sources.old.items (concat order.old.items) }
+    requires place { IsSourcePlace (listed sources.old.items (concat order.old.items)) span.now.source (index_of order.old.items at) }
+    requires seat { IsSeat order.old.items at }
+    requires new { are_others span.now.source (listed sources.old.items (concat order.old.items)) ≡ true }
     requires filled { span.now.lo ≤ span.now.hi }
-    ensures ok { OnOk result (Grown pool.old sources.old.items order.old.items span.now pool.new sources.new.items order.new.items) }
-    ensures err { OnErr result (Stays pool.old sources.old.items order.old.items pool.new sources.new.items order.new.items) }
-    ensures full { IsFullExactly result (set.union (set_of (flat pool.old sources.old.items order.old.items)) (interval span.now.source span.now.lo span.now.hi)) }
+    ensures ok { OnOk result (Grown pool.old sources.old.items (concat order.old.items) span.now pool.new sources.new.items (concat order.new.items)) }
+    ensures err { OnErr result (Stays pool.old sources.old.items (concat order.old.items) pool.new sources.new.items (concat order.new.items)) }
+    ensures full { IsFullExactly result (set.union (set_of (flat pool.old sources.old.items (concat order.old.items))) (interval span.now.source span.now.lo span.now.hi)) }
 {
     let count = sources.as_slice().len();
     if count == MOST_SOURCES {
@@ -149,18 +154,21 @@ fn insert(
     let Ok(()) = sources.reserve(1) else {
         return Err(SetFault::Memory);
     };
-    let Ok(()) = order.reserve(1) else {
-        return Err(SetFault::Memory);
+    let opened = match open_list(pool, numbers(span)) {
+        Ok(list) => list,
+        Err(fault) => return Err(fault),
     };
-    match open_list(pool, numbers(span)) {
-        Ok(list) => {
+    match put(order, at, count as u16) {
+        Ok(()) => {
             let id = span.source;
-            sources.push_reserved(Source { id, list });
-            let _ = order.insert(at, count as u16);
+            sources.push_reserved(Source { id, list: opened });
             pool.partition();
             Ok(())
         }
-        Err(fault) => Err(fault),
+        Err(_) => {
+            pool.release(opened);
+            Err(SetFault::Memory)
+        }
     }
 }
 
@@ -168,20 +176,25 @@ fn insert(
 fn push(
     pool: &mut Pool,
     sources: &mut Vec<Source>,
-    order: &mut Vec<u16>,
+    order: &mut Vec<Block>,
     span: &Span,
 ) -> Result<(), SetFault>
-    requires kept { IsKeptIn pool.old sources.old.items order.old.items }
+    requires kept { IsKeptIn pool.old sources.old.items (concat order.old.items) }
     requires filled { span.now.lo ≤ span.now.hi }
-    requires before { all_before (flat pool.old sources.old.items order.old.items) span.now ≡ true }
-    ensures ok { OnOk result (Grown pool.old sources.old.items order.old.items span.now pool.new sources.new.items order.new.items) }
-    ensures err { OnErr result (Stays pool.old sources.old.items order.old.items pool.new sources.new.items order.new.items) }
-    ensures full { IsFullExactly result (set.union (set_of (flat pool.old sources.old.items order.old.items)) (interval span.now.source span.now.lo span.now.hi)) }
+    requires before { all_before (flat pool.old sources.old.items (concat order.old.items)) span.now ≡ true }
+    ensures ok { OnOk result (Grown pool.old sources.old.items (concat order.old.items) span.now pool.new sources.new.items (concat order.new.items)) }
+    ensures err { OnErr result (Stays pool.old sources.old.items (concat order.old.items) pool.new sources.new.items (concat order.new.items)) }
+    ensures full { IsFullExactly result (set.union (set_of (flat pool.old sources.old.items (concat order.old.items))) (interval span.now.source span.now.lo span.now.hi)) }
 {
-    let end = order.as_slice().len();
-    match find(sources, order, end.saturating_sub(1), span.source) {
+    match find_last(sources, order, span.source) {
         Some(source) => append_to(pool, sources, order, source, span),
-        None => insert(pool, sources, order, end, span),
+        None => {
+            let end = Seat {
+                block: order.as_slice().len(),
+                offset: 0,
+            };
+            insert(pool, sources, order, end, span)
+        }
     }
 }
 
@@ -189,16 +202,16 @@ fn push(
 fn extend_to(
     pool: &mut Pool,
     sources: &[Source],
-    order: &[u16],
+    order: &[Block],
     source: Source,
     run: &[Interval],
 ) -> Result<(), SetFault>
-    requires kept { IsKeptIn pool.old sources.now order.now }
-    requires source { IsSourceOf (listed sources.now order.now) source source.id }
-    requires merged { is_merged (flat pool.old sources.now order.now ++ spans_as source.id run.now) ≡ true }
-    ensures ok { OnOk result (IsRun pool.old sources.now order.now source.id run.now pool.new) }
+    requires kept { IsKeptIn pool.old sources.now (concat order.now) }
+    requires source { IsSourceOf (listed sources.now (concat order.now)) source source.id }
+    requires merged { is_merged (flat pool.old sources.now (concat order.now) ++ spans_as source.id run.now) ≡ true }
+    ensures ok { OnOk result (IsRun pool.old sources.now (concat order.now) source.id run.now pool.new) }
     ensures err { OnErr result (pool.new ≡ pool.old) }
-    ensures full { IfErr result (IsTooLong (flat pool.old sources.now order.now ++ spans_as source.id run.now)) }
+    ensures full { IfErr result (IsTooLong (flat pool.old sources.now (concat order.now) ++ spans_as source.id run.now)) }
 {
     pool.partition();
     match pool.extend(source.list, run) {
@@ -214,16 +227,16 @@ fn extend_to(
 fn put_run(
     pool: &mut Pool,
     sources: &mut Vec<Source>,
-    order: &mut Vec<u16>,
+    order: &mut Vec<Block>,
     id: SourceId,
     run: &[Interval],
 ) -> Result<(), SetFault>
-    requires kept { IsKeptIn pool.old sources.old.items order.old.items }
-    requires merged { is_merged (flat pool.old sources.old.items order.old.items ++ spans_as id run.now) ≡ true }
-    requires fits { source_count (set_of (flat pool.old sources.old.items order.old.items ++ spans_as id run.now)) ≤ most_sources }
-    ensures kept { IsKeptIn pool.new sources.new.items order.new.items }
-    ensures parts { OnOk result (flat pool.new sources.new.items order.new.items ≡ flat pool.old sources.old.items order.old.items ++ spans_as id run.now) }
-    ensures full { IfErr result (IsTooLong (flat pool.old sources.old.items order.old.items ++ spans_as id run.now)) }
+    requires kept { IsKeptIn pool.old sources.old.items (concat order.old.items) }
+    requires merged { is_merged (flat pool.old sources.old.items (concat order.old.items) ++ spans_as id run.now) ≡ true }
+    requires fits { source_count (set_of (flat pool.old sources.old.items (concat order.old.items) ++ spans_as id run.now)) ≤ most_sources }
+    ensures kept { IsKeptIn pool.new sources.new.items (concat order.new.items) }
+    ensures parts { OnOk result (flat pool.new sources.new.items (concat order.new.items) ≡ flat pool.old sources.old.items (concat order.old.items) ++ spans_as id run.now) }
+    ensures full { IfErr result (IsTooLong (flat pool.old sources.old.items (concat order.old.items) ++ spans_as id run.now)) }
 {
     let mut rest = run;
     while let Some((first, more)) = rest.split_first() {
@@ -233,8 +246,7 @@ fn put_run(
             Ok(()) => rest = more,
             Err(fault) => return Err(fault),
         }
-        let last = order.as_slice().len().saturating_sub(1);
-        let Some(source) = find(sources, order, last, id) else {
+        let Some(source) = find_last(sources, order, id) else {
             continue;
         };
         return extend_to(pool, sources, order, source, more);
@@ -251,7 +263,10 @@ impl Kept {
             pool: Pool::open(alloc),
             sources: Vec::new(alloc),
             order: Vec::new(alloc),
-            near: 0,
+            near: Seat {
+                block: 0,
+                offset: 0,
+            },
         }
     }
 
@@ -291,7 +306,7 @@ impl Kept {
     pub fn sources(&self) -> usize
         ensures { result ≡ source_count (set_of self.now) }
     {
-        self.order.len()
+        self.sources.len()
     }
 
     /// The span that has a GTID, if there is one.
@@ -299,7 +314,7 @@ impl Kept {
         ensures none { IfNone result (has self.now gtid.now ≡ false) }
         ensures some { IfSome result (HasSpan self.now gtid.now) }
     {
-        let at = place_of(&self.sources, &self.order, gtid.source, self.near);
+        let at = seat_of(&self.sources, &self.order, gtid.source, self.near);
         let Some(source) = find(&self.sources, &self.order, at, gtid.source) else {
             return None;
         };
@@ -321,7 +336,7 @@ impl Kept {
         ensures err { OnErr result (self.new ≡ self.old) }
         ensures full { IsFullExactly result (set.union (set_of self.old) (interval span.source span.lo span.hi)) }
     {
-        let at = place_of(&self.sources, &self.order, span.source, self.near);
+        let at = seat_of(&self.sources, &self.order, span.source, self.near);
         match find(&self.sources, &self.order, at, span.source) {
             Some(source) => add_to(&mut self.pool, &self.sources, &self.order, source, &span)?,
             None => insert(
@@ -343,7 +358,7 @@ impl Kept {
     {
         let pool = self.pool.copy(alloc)?;
         let sources = Vec::from_slice(alloc, &self.sources)?;
-        let order = Vec::from_slice(alloc, &self.order)?;
+        let order = copied(alloc, &self.order)?;
         let near = self.near;
         Ok(Kept {
             pool,

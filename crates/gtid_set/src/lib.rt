@@ -7,14 +7,14 @@
 //! (`full`). Intervals are bounded by the edges of a set, the places where membership changes: what is made of two sets has no edge that
 //! neither of them has (`laws::intervals_add_up`), so the crates above say by edges where a set may be full.
 //!
-//! How it is kept: the intervals are in one pool (`interval_pool`), a list of merged intervals for each source. A pass over two sets goes
-//! source by source, compares numbers alone, and writes the numbers of each source at once; its proof speaks of merged lists of spans.
-//! Where a source was last added to is a guess that is tested where it is used. A text is parsed, its spans are sorted once, and the set
-//! is built once.
+//! How it is kept: the intervals are in one pool (`interval_pool`), a list of merged intervals for each source; the sources stand as they
+//! came, and their places in order in blocks (`order`). A pass over two sets goes source by source, compares numbers alone, and writes the
+//! numbers of each source at once; its proof speaks of merged lists of spans. Where a source was last added to is a guess that is tested
+//! where it is used. A text is parsed, its spans are sorted once, and the set is built once.
 //!
 //! Cost, by form and not by proof: `add`, `contains` and `run_end` take as many steps as the number of intervals has binary digits, a
-//! source's next number a few; union, difference, intersection and the tests are one pass over both; a new source moves two bytes for
-//! each after it.
+//! source's next number a few; union, difference, intersection and the tests are one pass over both; a new source moves some hundred
+//! places of its block, two bytes each.
 #![tactic(auto)]
 
 ghost use Rattle.std.specs.Prelude.{◌≡◌, ◌≤◌, ◌<◌, ◌↔◌, IsTrue, true, false, IfOk, IfErr, IfSome, IfNone, OnOk, OnErr, IsOkUnless, string_bytes, nat_le, nat_lt};
@@ -37,6 +37,7 @@ mod gather;
 mod kept;
 pub mod laws;
 mod numbers;
+mod order;
 mod single;
 mod sources;
 mod sweep;
@@ -54,9 +55,15 @@ use std::marker::Model;
 const GREATEST: u64 = 9_223_372_036_854_775_807;
 
 /// A set of GTIDs, as the MySQL 8.0 Reference Manual has it in "GTID Format and Storage". It has at most 65,536 sources and 4,294,967,294 intervals.
-#[derive(Drop)]
 pub struct GtidSet {
     spans: Kept,
+}
+
+impl Drop for GtidSet {
+    // (by hand: for a caller the end of a GtidSet is one call)
+    fn drop(self) {
+        let GtidSet { spans: _spans } = self;
+    }
 }
 
 impl Model for GtidSet {

@@ -1,5 +1,5 @@
 //! One pass over merged intervals of one source.
-ghost use Rattle.std.specs.Prelude.{◌≡◌, true, false, ◌&&◌, ◌||◌, not, OnOk, MatchBool, IfSome, ◌+◌, ◌-◌, drop, [], ◌≤◌, ◌<◌};
+ghost use Rattle.std.specs.Prelude.{◌≡◌, true, false, ◌&&◌, ◌||◌, not, OnOk, MatchBool, IfSome, ◌+◌, ◌-◌, ◌++◌, drop, [], ◌≤◌, ◌<◌};
 ghost use Rattle.gtid_text.specs.declared.Gtid.{Gtid};
 ghost use Rattle.gtid_set.specs.Numbers.{numbered, all_numbered};
 ghost use Rattle.gtid_set.specs.Spans.{ends_before, is_before, is_merged, has};
@@ -179,6 +179,18 @@ fn cut(out: &mut Vec<Interval>, numbers: Interval, holes: &Walk<'_>) -> Result<(
     Ok(())
 }
 
+/// Puts intervals behind others.
+fn push_all(out: &mut Vec<Interval>, walk: Walk<'_>) -> Result<(), AllocError>
+    ensures { OnOk result (all_numbered out.new.items ≡ all_numbered out.old.items ++ all_numbered walk.entry) }
+{
+    let mut rest = walk;
+    while let Some(numbers) = rest.peek() {
+        out.push(numbers)?;
+        rest.advance();
+    }
+    Ok(())
+}
+
 /// Writes the merged intervals of what the first list has and the second has not over others.
 pub fn reduce(out: &mut Vec<Interval>, left: Walk<'_>, right: Walk<'_>) -> Result<(), AllocError>
     requires left { is_merged (all_numbered left) ≡ true }
@@ -190,6 +202,9 @@ pub fn reduce(out: &mut Vec<Interval>, left: Walk<'_>, right: Walk<'_>) -> Resul
     let mut right = right;
     while let Some(numbers) = left.peek() {
         skip(&mut right, numbers);
+        let Some(_hole) = right.peek() else {
+            return push_all(out, left);
+        };
         cut(out, numbers, &right)?;
         left.advance();
     }

@@ -5,9 +5,9 @@ use Rattle.gtidrep.specs.declared.line.Command.TheVariants.{Set, Position, Audit
 
 -- an `apply` is for 1 to 64 workers
 abbrev pub IsForOneToMost : Command → Type 0
-IsForOneToMost (Apply workers) = (1 ≤ workers) × (workers ≤ 64)
+IsForOneToMost (Apply order workers) = (1 ≤ workers) × (workers ≤ 64)
 IsForOneToMost (Set function first second) = Unit {0}
-IsForOneToMost (Audit listing) = Unit {0}
+IsForOneToMost (Audit order listing) = Unit {0}
 IsForOneToMost Upgrade = Unit {0}
 IsForOneToMost States = Unit {0}
 IsForOneToMost (Import bytes) = Unit {0}

@@ -4,6 +4,7 @@ ghost use Rattle.gtidrep.specs.Line.{IsForOneToMost};
 use clap::builder::ValueParser;
 use clap::error::ErrorKind;
 use clap::{Arg, ArgAction, ArgMatches, Error};
+use serving::Order;
 use std::alloc::{AllocError, Global};
 
 /// What an audit says beside its verdict.
@@ -11,14 +12,14 @@ use std::alloc::{AllocError, Global};
 pub enum Listing {
     /// The verdict alone.
     Verdict,
-    /// All faults of three kinds.
+    /// All faults of all kinds.
     All,
     /// On standard error what the verdict names in the input.
     Explained,
 }
 
 /// One line of the program's commands, with its values.
-#[derive(Debug, Drop)]
+#[derive(Drop)]
 pub enum Command<'a> {
     /// A set function with one set or two words.
     Set {
@@ -31,8 +32,9 @@ pub enum Command<'a> {
         own: &'a str,
         ask: &'a str,
     },
-    /// A bundle from standard input is audited.
+    /// A bundle from standard input is audited by an order.
     Audit {
+        order: Order,
         listing: Listing,
     },
     /// A bundle of version 1 from standard input is written by version 2.
@@ -45,8 +47,9 @@ pub enum Command<'a> {
     },
     /// The version of the program is asked for.
     Version,
-    /// A bundle from standard input is applied by 1 to 64 workers.
+    /// A bundle from standard input is applied by 1 to 64 workers, where the audit that asks for an order allows it.
     Apply {
+        order: Order,
         workers: u8,
     },
 }
@@ -98,6 +101,8 @@ const AUDIT_EXAMPLE: &str =
     "Prints `sound`, or the first reason why the journals cannot be merged: `shared` and `not-closed` name the pair of
 transactions at fault, `missing`, `unequal` and `does-not-apply` one of them, `purged` a journal. With --explain standard
 error shows where these stand: channels, entries, lines and changes; of a line that is refused, the line and what is due.
+With --ordered two sources may write one row, as after a failover: `reordered` and `concurrent` then name two transactions
+that share a key and stand in two orders, or in none.
 
 Example:
   gtidrep audit < examples/ring.bundle
@@ -136,7 +141,7 @@ Status: 0 printed, 1 refused, 2 the command line, 3 memory, 4 reading or writing
 
 const APPLY_EXAMPLE: &str =
     "Prints the executed set and the rows, or the line that says why the bundle does not apply. One worker was the
-fastest wherever it was measured.
+fastest wherever it was measured. --ordered is as for `audit`.
 
 Example:
   gtidrep apply --workers 4 < examples/first.bundle
@@ -181,23 +186,48 @@ fn position_command<'a>(alloc: Global) -> Result<clap::Command<'a>, AllocError> 
         .arg(option(alloc, "ask", "the set that the replica asks with"))
 }
 
-fn audit_command<'a>(alloc: Global) -> Result<clap::Command<'a>, AllocError> {
-    let all = Arg::new(alloc, "all")
+/// The flag that asks for one order in place of sources that share no key.
+fn ordered_flag<'a>(alloc: Global) -> Arg<'a> {
+    Arg::new(alloc, "ordered")
+        .long("ordered")
+        .action(ArgAction::SetTrue)
+        .help(
+            "lets sources share keys, where transactions that do stand in one order in all journals",
+        )
+}
+
+fn all_flag<'a>(alloc: Global) -> Arg<'a> {
+    Arg::new(alloc, "all")
         .long("all")
         .action(ArgAction::SetTrue)
         .help(
-            "lists behind the verdict every other purged journal, run of missing GTIDs and shared key",
-        );
-    let explain = Arg::new(alloc, "explain")
+            "lists behind the verdict every other unequal GTID, purged journal, run of missing GTIDs, shared key, GTID that is not closed and source that does not apply",
+        )
+}
+
+fn explain_flag<'a>(alloc: Global) -> Result<Arg<'a>, AllocError> {
+    Arg::new(alloc, "explain")
         .long("explain")
         .action(ArgAction::SetTrue)
-        .conflicts_with("all")?
-        .help("shows on standard error where the input has what the verdict names");
-    clap::Command::new(alloc, "audit")
+        .help("shows on standard error where the input has what the verdict names")
+        .conflicts_with("all")
+}
+
+/// The command with one flag more, if there was memory for that flag.
+fn with_flag<'a>(
+    command: clap::Command<'a>,
+    flag: Result<Arg<'a>, AllocError>,
+) -> Result<clap::Command<'a>, AllocError> {
+    command.arg(flag?)
+}
+
+fn audit_command<'a>(alloc: Global) -> Result<clap::Command<'a>, AllocError> {
+    let command = clap::Command::new(alloc, "audit")
         .about("Says whether the journals of a bundle can be merged: audit < examples/ring.bundle")
         .after_help(AUDIT_EXAMPLE)
-        .arg(all)?
-        .arg(explain)
+        .arg(all_flag(alloc))?;
+    let command = with_flag(command, explain_flag(alloc))?;
+    with_flag(command, ordered_flag(alloc).conflicts_with("all"))
 }
 
 fn upgrade_command<'a>(alloc: Global) -> clap::Command<'a> {
@@ -237,7 +267,8 @@ fn apply_command<'a>(alloc: Global) -> Result<clap::Command<'a>, AllocError> {
     clap::Command::new(alloc, "apply")
         .about("Applies a bundle from standard input: apply < examples/first.bundle")
         .after_help(APPLY_EXAMPLE)
-        .arg(workers)
+        .arg(workers)?
+        .arg(ordered_flag(alloc))
 }
 
 /// The program with one command more, if there was memory for that command.
@@ -274,6 +305,14 @@ fn workers_of(matches: &ArgMatches) -> Option<u8>
     }
 }
 
+fn order_of(matches: &ArgMatches) -> Order {
+    if matches.get_flag("ordered") {
+        Order::ByConflict
+    } else {
+        Order::BySource
+    }
+}
+
 fn listing_of(matches: &ArgMatches) -> Listing {
     if matches.get_flag("explain") {
         return Listing::Explained;
@@ -303,6 +342,7 @@ fn command_of<'a>(name: &str, matches: &ArgMatches<'a>) -> Option<Command<'a>>
     }
     if name == "audit" {
         return Some(Command::Audit {
+            order: order_of(matches),
             listing: listing_of(matches),
         });
     }
@@ -318,8 +358,16 @@ fn command_of<'a>(name: &str, matches: &ArgMatches<'a>) -> Option<Command<'a>>
         });
     }
     Some(Command::Apply {
+        order: order_of(matches),
         workers: workers_of(matches)?,
     })
+}
+
+fn named_command<'a>(matches: &ArgMatches<'a>) -> Option<Command<'a>>
+    ensures { MatchOption result (Unit {0}) IsForOneToMost }
+{
+    let (name, inner) = matches.subcommand()?;
+    command_of(name, inner)
 }
 
 fn fault_of(alloc: Global, error: Error) -> LineFault {
@@ -340,14 +388,10 @@ pub fn parse_line<'a>(alloc: Global, words: &'a [String]) -> Result<Command<'a>,
         return Err(LineFault::Memory);
     };
     match commands.no_binary_name(true).try_get_matches_from(words) {
-        Ok(matches) => {
-            if let Some((name, inner)) = matches.subcommand() {
-                if let Some(command) = command_of(name, inner) {
-                    return Ok(command);
-                }
-            }
-            Err(LineFault::Line(String::new(alloc)))
-        }
+        Ok(matches) => match named_command(&matches) {
+            Some(command) => Ok(command),
+            None => Err(LineFault::Line(String::new(alloc))),
+        },
         Err(error) if error.kind() == ErrorKind::DisplayVersion => Ok(Command::Version),
         Err(error) => Err(fault_of(alloc, error)),
     }

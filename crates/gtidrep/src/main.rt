@@ -1,7 +1,8 @@
 //! The program `gtidrep`: the command line, and a command of crate `commands` over standard input and standard output.
 //!
 //!     set <function> <a> [<b>]               position --own <uuid> --ask <set> < journal
-//!     audit [--all | --explain] < bundle     apply [--workers N] < bundle
+//!     audit [--all | --explain | --ordered] < bundle
+//!     apply [--ordered] [--workers N] < bundle
 //!     upgrade < bundle                       import [--bytes] < bundle of logs
 //!     states < servers                       --version
 //!
@@ -24,8 +25,8 @@ mod line;
 use crate::ending::{Ending, exit_status, message};
 use crate::line::{Command, LineFault, Listing, parse_line};
 use commands::{
-    Outcome, RunFault, StdSink, StdSource, Streams, apply_bundle, run_audit, run_explain,
-    run_import, run_list, run_position, run_set, run_states, run_upgrade, run_version,
+    Outcome, RunFault, Sink, Source, StdSink, StdSource, Streams, apply_bundle, run_audit,
+    run_explain, run_import, run_list, run_position, run_set, run_states, run_upgrade, run_version,
 };
 use std::env;
 use std::io::{self, ErrorKind};
@@ -47,6 +48,38 @@ fn read_words(rt: &HostRuntime) -> Result<Vec<String>, LineFault> {
     }
 }
 
+/// Runs a command over these streams.
+fn run_over<T: Threads + Wait + Sync, S: Source, W: Sink>(
+    rt: &HostRuntime,
+    threads: &T,
+    command: Command,
+    streams: &mut Streams<S, W>,
+) -> Result<Outcome, RunFault>
+    requires { IsForOneToMost command }
+{
+    let alloc = rt.alloc();
+    match command {
+        Command::Set {
+            function,
+            first,
+            second,
+        } => run_set(alloc, function, first, second, streams),
+        Command::Position { own, ask } => run_position(alloc, own, ask, streams),
+        Command::Audit { order, listing } => match listing {
+            Listing::Verdict => run_audit(alloc, order, streams),
+            Listing::All => run_list(alloc, streams),
+            Listing::Explained => {
+                run_explain(alloc, order, streams, &mut StdSink::new(rt.stderr()))
+            }
+        },
+        Command::Upgrade => run_upgrade(alloc, streams),
+        Command::States => run_states(alloc, streams),
+        Command::Import { bytes } => run_import(alloc, bytes, streams),
+        Command::Version => run_version(alloc, streams),
+        Command::Apply { order, workers } => apply_bundle(threads, alloc, order, workers, streams),
+    }
+}
+
 /// Runs a command over standard input and standard output.
 fn run_command<T: Threads + Wait + Sync>(
     rt: &HostRuntime,
@@ -55,28 +88,8 @@ fn run_command<T: Threads + Wait + Sync>(
 ) -> Result<Outcome, RunFault>
     requires { IsForOneToMost command }
 {
-    let alloc = rt.alloc();
     let mut streams = Streams::new(StdSource::new(rt.reader()), StdSink::new(io::writer(rt)));
-    match command {
-        Command::Set {
-            function,
-            first,
-            second,
-        } => run_set(alloc, function, first, second, &mut streams),
-        Command::Position { own, ask } => run_position(alloc, own, ask, &mut streams),
-        Command::Audit { listing } => match listing {
-            Listing::Verdict => run_audit(alloc, &mut streams),
-            Listing::All => run_list(alloc, &mut streams),
-            Listing::Explained => {
-                run_explain(alloc, &mut streams, &mut StdSink::new(rt.stderr()))
-            }
-        },
-        Command::Upgrade => run_upgrade(alloc, &mut streams),
-        Command::States => run_states(alloc, &mut streams),
-        Command::Import { bytes } => run_import(alloc, bytes, &mut streams),
-        Command::Version => run_version(alloc, &mut streams),
-        Command::Apply { workers } => apply_bundle(threads, alloc, workers, &mut streams),
-    }
+    run_over(rt, threads, command, &mut streams)
 }
 
 /// Runs the command that the words name.

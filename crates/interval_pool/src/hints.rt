@@ -11,34 +11,32 @@ const SHORT: u32 = 32;
 /// How many cells a place may lie behind one that is guessed.
 const NEAR: u32 = 2;
 
-/// What is remembered of a list.
+/// What is remembered of a list, with whether its cells lie one behind another, and whether they are in the index.
 #[derive(Clone, Copy, Drop)]
 struct ListHints {
-    // the least number of the cell of the last change
-    lo: u64,
     // the place of the last change, and the cell behind it
     place: Link,
     cell: Link,
     // the list that was released before it
     released: u32,
-    // whether its cells lie one behind another
     is_run: bool,
-    // whether its cells are in the index
     is_indexed: bool,
 }
 
-/// What is remembered of all lists, and an index of the cells of some by list and least number.
+/// The cells of a list by their least numbers.
+type Index = BTreeMap<u64, Link>;
+
+/// What is remembered of all lists, and an index of the cells of some, at the list's number.
 #[derive(Drop)]
 pub struct Hints {
     lists: Vec<ListHints>,
     released: u32,
-    index: BTreeMap<(u32, u64), Link>,
+    indexes: Vec<Index>,
 }
 
 /// What is remembered of an empty list.
 fn empty_list() -> ListHints {
     ListHints {
-        lo: 0,
         place: Link::none(),
         cell: Link::none(),
         released: 0,
@@ -54,14 +52,6 @@ fn is_below(cells: &[Cell], list: u32, number: u64, place: Link) -> bool {
     };
     let cell = cell_at(cells, at);
     cell.owner == list && cell.hi < number
-}
-
-/// Whether a place is that of this cell.
-fn is_at(place: Link, at: usize) -> bool {
-    match place.place() {
-        Some(other) => other == at,
-        None => false,
-    }
 }
 
 /// Whether a number's place is this one, or near behind it.
@@ -136,24 +126,46 @@ fn is_still_run(cells: &[Cell], heads: &[Head], list: u32, place: Link) -> bool 
     true
 }
 
+/// The last least number of an index up to this one.
+fn last_key(index: &Index, upto: u64) -> Option<u64> {
+    match index.range(..=upto).next_back() {
+        Some((key, _)) => Some(*key),
+        None => None,
+    }
+}
+
+/// Takes the cells that begin in this interval, at most so many, out of an index.
+fn forget_between(index: &mut Index, from: u64, upto: u64, most: u32) {
+    let numbers = upto.saturating_add(1).saturating_sub(from);
+    for _cell in 0..numbers.min(most as u64) {
+        let Some(key) = last_key(index, upto) else {
+            return;
+        };
+        if key < from {
+            return;
+        }
+        let _ = index.remove(&key);
+    }
+}
+
 impl Hints {
     /// No lists.
     pub fn open(alloc: Global) -> Hints {
         Hints {
             lists: Vec::new(alloc),
             released: 0,
-            index: BTreeMap::new(alloc),
+            indexes: Vec::new(alloc),
         }
     }
 
     /// The same of a copy of the pool.
     pub fn copy(&self, alloc: Global) -> Result<Hints, AllocError> {
         let lists = Vec::from_slice(alloc, &self.lists)?;
-        let index = self.index.clone()?;
+        let indexes = self.indexes.clone()?;
         Ok(Hints {
             lists,
             released: self.released,
-            index,
+            indexes,
         })
     }
 
@@ -201,7 +213,7 @@ impl Hints {
     /// A list ends.
     pub fn end(&mut self, list: u32) {
         if self.of(list).is_indexed {
-            self.forget(list, 0, u64::MAX, u32::MAX);
+            self.forget_all(list);
         }
         let released = self.released;
         self.put(
@@ -259,7 +271,10 @@ impl Hints {
 
     /// The last cell of the index that ends below a number.
     fn search_index(&self, cells: &[Cell], list: u32, number: u64) -> Link {
-        let mut found = self.index.range(..=(list, number));
+        let Some(index) = self.indexes.get(list as usize) else {
+            return Link::none();
+        };
+        let mut found = index.range(..=number);
         for _step in 0..NEAR {
             let Some((_, cell)) = found.next_back() else {
                 return Link::none();
@@ -271,32 +286,37 @@ impl Hints {
         Link::none()
     }
 
+    /// Makes an index for a list, if there is memory.
+    fn begin_index(&mut self, list: u32) {
+        let alloc = *self.indexes.allocator();
+        let missing = (list as usize + 1).saturating_sub(self.indexes.as_slice().len());
+        for _list in 0..missing {
+            let _ = self.indexes.push(BTreeMap::new(alloc));
+        }
+    }
+
     /// Puts a cell into the index, if there is memory.
     fn remember(&mut self, cells: &[Cell], list: u32, at: usize) {
-        let _ = self
-            .index
-            .insert((list, cell_at(cells, at).lo), Link::to(at));
+        let place = list as usize;
+        if place < self.indexes.as_slice().len() {
+            let _ = self.indexes[place].insert(cell_at(cells, at).lo, Link::to(at));
+        }
+    }
+
+    /// Takes all cells of a list out of its index.
+    fn forget_all(&mut self, list: u32) {
+        let alloc = *self.indexes.allocator();
+        let place = list as usize;
+        if place < self.indexes.as_slice().len() {
+            self.indexes[place] = BTreeMap::new(alloc);
+        }
     }
 
     /// Takes the cells of a list that begin in this interval, at most so many, out of the index.
     fn forget(&mut self, list: u32, from: u64, upto: u64, most: u32) {
-        let numbers = upto.saturating_add(1).saturating_sub(from);
-        for _cell in 0..numbers.min(most as u64) {
-            let Some(key) = self.last_key(list, upto) else {
-                return;
-            };
-            if key.0 != list || key.1 < from {
-                return;
-            }
-            let _ = self.index.remove(&key);
-        }
-    }
-
-    /// The last key of the index up to this one.
-    fn last_key(&self, list: u32, upto: u64) -> Option<(u32, u64)> {
-        match self.index.range(..=(list, upto)).next_back() {
-            Some((key, _)) => Some(*key),
-            None => None,
+        let place = list as usize;
+        if place < self.indexes.as_slice().len() {
+            forget_between(&mut self.indexes[place], from, upto, most);
         }
     }
 
@@ -317,13 +337,14 @@ impl Hints {
         let hints = self.of(list);
         let is_one = count(heads, list as usize) <= 1;
         if is_one && hints.is_indexed {
-            self.forget(list, 0, u64::MAX, u32::MAX);
+            self.forget_all(list);
         }
         let was_indexed = hints.is_indexed && !is_one;
         let is_run = is_one || hints.is_run && is_still_run(cells, heads, list, place);
         let is_long = count(heads, list as usize) > SHORT;
         let begins = !is_run && !was_indexed && is_long;
         if begins {
+            self.begin_index(list);
             self.remember_behind(cells, heads, list, Link::none());
         }
         let is_indexed = was_indexed || begins;
@@ -358,15 +379,16 @@ impl Hints {
         let is_told = self.keeps_index(cells, heads, list, place);
         let hints = self.of(list);
         let Cell { lo, hi, .. } = cell_at(cells, at);
-        let is_same = hints.lo == lo && is_at(hints.cell, at);
-        self.put(list, ListHints { lo, cell, ..hints });
+        self.put(list, ListHints { cell, ..hints });
         if is_told {
             let joined = many
                 .saturating_add(1)
                 .saturating_sub(count(heads, list as usize));
             let kept = if lo < numbers.lo { 1 } else { 0 };
             self.forget(list, lo.saturating_add(1), hi, joined.saturating_sub(kept));
-            if !is_same {
+            // one that only goes on further has its cell and its least number still
+            let is_longer = joined == 1 && kept == 1;
+            if !is_longer {
                 self.remember(cells, list, at);
             }
         }
@@ -388,8 +410,7 @@ impl Hints {
         }
     }
 
-    /// So many intervals were put behind the last cell of a list. A run to which new cells alone came goes on, where its
-    /// last cells are the last of all.
+    /// So many intervals were put behind the last cell of a list. A run goes on where new cells alone came, the last of all.
     #[inline(always)]
     pub fn note_extended(
         &mut self,
@@ -427,13 +448,13 @@ impl Hints {
             } else {
                 Link::none()
             };
+            self.begin_index(list);
             self.remember_behind(cells, heads, list, known);
         }
         let end = cells.len().saturating_sub(1);
         self.keep(
             list,
             ListHints {
-                lo: cell_at(cells, end).lo,
                 place,
                 cell: Link::to(end),
                 is_run: false,

@@ -51,11 +51,21 @@ impl ListId {
 
 /// Lists of numbers of 64 bits, each kept as merged intervals in cells of one vector. A cell
 /// is named by a number of 32 bits, which holds until the next change of its list.
-#[derive(Drop)]
 pub struct Pool {
     cells: Vec<Cell>,
     heads: Vec<Head>,
     hints: Hints,
+}
+
+impl Drop for Pool {
+    // (by hand: for a caller the end of a Pool is one call)
+    fn drop(self) {
+        let Pool {
+            cells: _cells,
+            heads: _heads,
+            hints: _hints,
+        } = self;
+    }
 }
 
 impl Model for Pool {

@@ -159,10 +159,19 @@ fn drop_front(entries: &mut Vec<Entry>, count: usize)
 
 /// What was executed before, and the entries after it in order. No GTID stands twice or in the
 /// previous set, and each entry can be written.
-#[derive(Drop)]
 pub struct Journal {
     previous: GtidSet,
     entries: Vec<Entry>,
+}
+
+impl Drop for Journal {
+    // (by hand: for a caller the end of a Journal is one call)
+    fn drop(self) {
+        let Journal {
+            previous: _previous,
+            entries: _entries,
+        } = self;
+    }
 }
 
 impl Model for Journal {

@@ -17,10 +17,10 @@ use Rattle.apply_channel.specs.Channels.{ChannelValue, Received, received_gtids,
 use Rattle.replica_core.specs.declared.event.Reply.TheVariants.{NotInSchema, Ask}
 use Rattle.replica_core.specs.State.{State, Site}
 use Rattle.replica_core.specs.Machine.{Step, ask, with_channel, position_on, receive}
-use Rattle.source_history.proofs.Lists.{on_test, get_set_cases}
-use Rattle.source_history.proofs.Covering.{in_gtids}
-use Rattle.faithful_runs.proofs.Invariant.{Stands}
-use Rattle.faithful_runs.proofs.Receiving.{received_entry, among_received}
+use Rattle.ordered_journals.proofs.Lists.{on_test, get_set_cases}
+use Rattle.ordered_journals.proofs.Covering.{in_gtids}
+use Rattle.ordered_replicas.proofs.Invariant.{Stands}
+use Rattle.ordered_replicas.proofs.Receiving.{received_entry, among_received}
 use Rattle.network.specs.Machine.{come}
 use Rattle.network.proofs.Moving.{Was}
 

@@ -18,9 +18,9 @@ use Rattle.replica_core.specs.declared.event.Event.TheVariants.{OpenChannel, Pos
 use Rattle.replica_core.specs.declared.event.Reply.TheVariants.{NotInSchema, Ask, SeatBusy, OwnedBy, Blocked, Early, RolledBack, Restarted}
 use Rattle.replica_core.specs.State.{State, Site, owned_by, owner}
 use Rattle.replica_core.specs.Machine.{Step, is_seat, ask, blocking, open_before, with_channel, without_seat, stopped_at, open_channel, position_on, receive, take_entry, take_place, held, commit_answer, commit_held, commit, rollback, restart, next_number, local_answer, local, purge, step}
-use Rattle.source_history.proofs.Lists.{on_test, get_push_cases, get_set_cases, get_map}
-use Rattle.faithful_runs.proofs.Invariant.{Stands}
-use Rattle.faithful_runs.proofs.Receiving.{settle_gtid}
+use Rattle.ordered_journals.proofs.Lists.{on_test, get_push_cases, get_set_cases, get_map}
+use Rattle.ordered_replicas.proofs.Invariant.{Stands}
+use Rattle.ordered_replicas.proofs.Receiving.{settle_gtid}
 use Rattle.rows.proofs.Lists.{none_some, on_option, get_map_cases}
 use Rattle.network.specs.Machine.{is_for_network}
 

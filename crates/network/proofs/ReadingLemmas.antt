@@ -30,8 +30,8 @@ use Rattle.replica_core.specs.declared.event.Reply.{Reply}
 use Rattle.replica_core.specs.declared.event.Reply.TheVariants.{NotInSchema, Ask}
 use Rattle.replica_core.specs.State.{State, Site, Replica}
 use Rattle.replica_core.specs.Machine as core
-use Rattle.source_history.proofs.Lists.{on_test, get_set_cases}
-use Rattle.source_history.proofs.Covering.{is_entry, in_entries}
+use Rattle.ordered_journals.proofs.Lists.{on_test, get_set_cases}
+use Rattle.ordered_journals.proofs.Covering.{is_entry, in_entries}
 use Rattle.network.specs.Nodes.{Node, Sources}
 use Rattle.network.specs.Machine.{come, is_for_network}
 use Rattle.network.specs.Made.{Makes, MakesAt}

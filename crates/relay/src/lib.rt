@@ -131,10 +131,19 @@ impl From<SetFault> for PurgeFault {
 ///
 /// Two sets are kept, one of them at most one GTID away from the other, so that a commit
 /// copies no set and its entry can be taken back without memory.
-#[derive(Drop)]
 pub struct OwnJournal {
     journal: Journal,
     known: Known,
+}
+
+impl Drop for OwnJournal {
+    // (by hand: for a caller the end of a OwnJournal is one call)
+    fn drop(self) {
+        let OwnJournal {
+            journal: _journal,
+            known: _known,
+        } = self;
+    }
 }
 
 impl Model for OwnJournal {

@@ -18,13 +18,25 @@ use std::alloc::Global;
 use std::marker::Model;
 
 /// A replica: its own UUID and schema, which never change, and its state.
-#[derive(Drop)]
 pub struct Core {
     pub(crate) own: SourceId,
     pub(crate) rows: Rows,
     pub(crate) seats: [Option<Spot>; 64],
     pub(crate) channels: Channels,
     pub(crate) journal: OwnJournal,
+}
+
+impl Drop for Core {
+    // (by hand: for a caller the end of a Core is one call)
+    fn drop(self) {
+        let Core {
+            own: _own,
+            rows: _rows,
+            seats: _seats,
+            channels: _channels,
+            journal: _journal,
+        } = self;
+    }
 }
 
 impl Model for Core {

@@ -1,5 +1,6 @@
 //! Transactions that a worker prepares outside, and commits by their patches.
 ghost use Rattle.std.specs.Prelude.{◌≡◌, ◌≤◌, None, Ok, true, false, IfOk, IfErr, OnOk, OnErr, IfSome, MatchOption};
+ghost use Rattle.std.specs.Prelude.{option_map};
 ghost use Rattle.std.specs.Option.{option_copied};
 ghost use Rattle.rows.specs.Apply.{apply};
 ghost use Rattle.rows.specs.Fits.{Fits};
@@ -7,7 +8,7 @@ ghost use Rattle.rows.specs.Patch.{SeesAll, IsAsSeen};
 ghost use Rattle.rows.specs.Refusal.{Refuses};
 ghost use Rattle.replica_core.specs.Faults.{IsFault, IsFaultIn, committing};
 ghost use Rattle.replica_core.specs.Machine.{commit};
-ghost use Rattle.replica_core.specs.Prepared.{held_txn, IsSightOf};
+ghost use Rattle.replica_core.specs.Prepared.{held_txn, changes_of, IsSightOf};
 
 use crate::event::Reply;
 use crate::machine::{Core, is_seat};
@@ -85,6 +86,14 @@ impl Core {
             return None;
         };
         txn
+    }
+
+    /// How many changes the transaction of a seat has. None for a seat that holds nothing.
+    pub fn held_changes(&self, seat: u8) -> Option<usize>
+        ensures { result ≡ option_map changes_of (held_txn self.now.state seat) }
+    {
+        let txn = self.held_txn(seat)?;
+        Some(txn.changes.as_slice().len())
     }
 
     /// What a worker needs to prepare the transaction of a seat beside this replica: the transaction,

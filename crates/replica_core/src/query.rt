@@ -1,6 +1,7 @@
 //! What a replica shows.
 ghost use Rattle.std.specs.Prelude.{◌≡◌, IfOk, IfErr, MatchOption, All};
 ghost use Rattle.std.specs.Option.{option_copied};
+ghost use Rattle.journal.specs.Journals.{whole};
 ghost use Rattle.replica_core.specs.State.{owned};
 ghost use Rattle.replica_core.specs.Seated.{AreSeated};
 ghost use Rattle.replica_core.specs.Draining.{places};
@@ -18,6 +19,14 @@ use rows::Transaction;
 use std::alloc::{AllocError, Global};
 
 impl Core {
+    /// The own journal has what is executed and nothing else: its previous set and its entries. It does
+    /// nothing: its contract is the law.
+    pub fn executed_is_recorded(&self)
+        ensures { self.now.state.executed ≡ whole self.now.state.journal }
+    {
+        let _ = &self.journal;
+    }
+
     /// The purged set: the executed GTIDs that no entry of the own journal has any more.
     pub fn purged(&self) -> &GtidSet
         ensures { result.now ≡ self.now.state.journal.previous }

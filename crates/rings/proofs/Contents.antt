@@ -1,22 +1,19 @@
--- The transactions of a list in which no GTID stands twice, as a map.
-use Rattle.std.proofs.Common.{◌≡◌, ℕ, zero, suc, Bool, true, false, cond, ◌||◌, ◌⊎◌, inl, inr, List, [], ◌∷◌, ◌++◌, Option, Some, None, refl, sym, ap, ◌∙◌}
-use Rattle.std.specs.Prelude.{slice_get, IsSome}
-use Rattle.std.specs.FinMap as finmap
-use Rattle.std.specs.FinMap.{get-insert, get-empty}
+-- The transactions of a list in which no GTID stands twice, as the order of a world.
+use Rattle.std.proofs.Common.{◌≡◌, ◌≢◌, ℕ, zero, suc, true, false, ◌||◌, ◌⊎◌, inl, inr, List, [], ◌∷◌, ◌++◌, map, Some, refl, sym, ap, ◌∙◌}
+use Rattle.std.specs.Prelude.{slice_get}
 use Rattle.std.proofs.lemmas.Bool.{cases_Bool, or_cases, or_left, or_right, or_parts, or_from}
-use Rattle.std.proofs.lemmas.Option.{same_Some}
 use Rattle.gtid_text.specs.declared.Gtid.{Gtid}
-use Rattle.gtid_text.specs.Gtids.{gtid_cmp, same_gtid}
-use Rattle.gtid_text.proofs.SameGtid.{gtid_total, same_itself, same_is_equal}
-use Rattle.gtid_set.proofs.SetLemmas.{gtid_tied}
-use Rattle.rows.specs.declared.change.Transaction.{Transaction}
-use Rattle.rows.proofs.Lists.{none_some}
+use Rattle.gtid_text.specs.Gtids.{same_gtid}
+use Rattle.gtid_text.proofs.SameGtid.{same_itself, same_is_equal}
 use Rattle.rows.proofs.Patching.{not_both}
 use Rattle.journal.specs.declared.Entry.{Entry}
-use Rattle.source_history.proofs.Covering.{entry_of, entries_append}
-use Rattle.faithful_runs.proofs.Invariant.{IsIn}
+use Rattle.ordered_history.specs.World as ordered
+use Rattle.ordered_history.specs.World.{AreDistinct}
+use Rattle.ordered_history.proofs.Entries.{all_of, found_in}
+use Rattle.ordered_journals.proofs.Covering.{entry_of, entries_append}
+use Rattle.ordered_replicas.proofs.Invariant.{IsIn}
 use Rattle.rings.specs.Sending.{is_entry}
-use Rattle.rings.specs.Runs.{contents_of}
+use Rattle.rings.specs.Runs.{pair}
 use Rattle.rings.proofs.Prefixes.{IsOnce}
 
 -- ---- members
@@ -66,47 +63,30 @@ once_push (e ∷ es) x once n =
       once_push es x once.1 two.1,
     )
 
--- ---- the map
+-- ---- the order
 
-there_by : (e : Entry) (q : Gtid) (b : Bool) (o : Option Transaction) → same_gtid q e.gtid ≡ b → cond (same_gtid q e.gtid) (Some e.txn) o ≡ cond b (Some e.txn) o
-there_by e q b o t = ap (λ c. cond c (Some e.txn) o) t
+-- an entry of the order is one of these
+pub pair_from : (es : List Entry) (x : ordered.Entry) → ordered.IsIn x (map pair es) → IsIn (entry_of x.0 x.1) es
+pair_from [] x i = absurd i
+pair_from (e ∷ es) x (inl same) = inl (λ i. record { gtid = (same i).0; txn = (same i).1 })
+pair_from (e ∷ es) x (inr later) = inr (pair_from es x later)
 
-at_first : (e : Entry) (es : List Entry) (q : Gtid) → finmap.get (contents_of (e ∷ es)) q ≡ cond (same_gtid q e.gtid) (Some e.txn) (finmap.get (contents_of es) q)
-at_first e es q = get-insert gtid_total (contents_of es) e.gtid e.txn q ∙ ap (λ b. cond b (Some e.txn) (finmap.get (contents_of es) q)) (gtid_tied q e.gtid)
+pub pair_there : (es : List Entry) (x : Entry) → IsIn x es → ordered.IsIn (pair x) (map pair es)
+pair_there [] x i = absurd i
+pair_there (e ∷ es) x (inl same) = inl (ap pair same)
+pair_there (e ∷ es) x (inr later) = inr (pair_there es x later)
 
-pub content_there : (es : List Entry) (x : Entry) → IsOnce es → IsIn x es → finmap.get (contents_of es) x.gtid ≡ Some x.txn
-content_there [] x once i = absurd i
-content_there (e ∷ es) x once (inl same) =
-    at_first e es x.gtid
-    ∙ there_by e x.gtid true (finmap.get (contents_of es) x.gtid) (ap (λ (y : Entry). same_gtid x.gtid y.gtid) same ∙ same_itself x.gtid)
-    ∙ ap (λ (y : Entry). Some y.txn) same
-content_there (e ∷ es) x once (inr later) =
-    let other : same_gtid x.gtid e.gtid ≡ false = elim (cases_Bool (same_gtid x.gtid e.gtid)) [
-      | inl same ↦ not_both (is_entry es e.gtid) (ap (is_entry es) (sym (same_is_equal x.gtid e.gtid same)) ∙ is_in_entry es x later) once.0
-      | inr o ↦ o
-    ] in
-    at_first e es x.gtid ∙ (there_by e x.gtid false (finmap.get (contents_of es) x.gtid) other ∙ content_there es x once.1 later)
+pub pairs_append : (xs ys : List Entry) → map pair (xs ++ ys) ≡ map pair xs ++ map pair ys
+pairs_append [] ys = refl
+pairs_append (x ∷ xs) ys = ap (λ (zs : List ordered.Entry). pair x ∷ zs) (pairs_append xs ys)
 
-from_by : (e : Entry) (es : List Entry) (g : Gtid) (t : Transaction) (b : Bool) → same_gtid g e.gtid ≡ b → (finmap.get (contents_of es) g ≡ Some t → IsIn (entry_of g t) es) → cond b (Some e.txn) (finmap.get (contents_of es) g) ≡ Some t → IsIn (entry_of g t) (e ∷ es)
-from_by e es g t true same h f =
-    let is_g : e.gtid ≡ g = sym (same_is_equal g e.gtid same) in
-    let is_t : e.txn ≡ t = same_Some e.txn t f in
-    inl (λ i. record { gtid = is_g i; txn = is_t i })
-from_by e es g t false same h f = inr (h f)
+pub pairs_distinct : (es : List Entry) → IsOnce es → AreDistinct (map pair es)
+pairs_distinct [] once = tt
+pairs_distinct (e ∷ es) once = (
+  all_of (λ (f : ordered.Entry). e.gtid ≢ f.0) (map pair es) (λ f i same.
+      not_both (is_entry es e.gtid) (ap (is_entry es) same ∙ is_in_entry es (entry_of f.0 f.1) (pair_from es f i)) once.0),
+  pairs_distinct es once.1,
+)
 
-pub content_from : (es : List Entry) (g : Gtid) (t : Transaction) → finmap.get (contents_of es) g ≡ Some t → IsIn (entry_of g t) es
-content_from [] g t f = none_some t (sym (get-empty gtid_cmp g) ∙ f)
-content_from (e ∷ es) g t f = from_by e es g t (same_gtid g e.gtid) refl (content_from es g t) (sym (at_first e es g) ∙ f)
-
-pub content_entry : (es : List Entry) (g : Gtid) (o : Option Transaction) → finmap.get (contents_of es) g ≡ o → IsSome o → is_entry es g ≡ true
-content_entry es g (Some t) e h = is_in_entry es (entry_of g t) (content_from es g t e)
-content_entry es g None e h = cc
-
-pub some_content : (es : List Entry) (g : Gtid) → IsOnce es → is_entry es g ≡ true → IsSome (finmap.get (contents_of es) g)
-some_content es g once h =
-    let r = entry_is_in es g h in
-    is_some_at (finmap.get (contents_of es) g) r.0.txn (ap (finmap.get (contents_of es)) r.2 ∙ content_there es r.0 once r.1)
-  where
-    is_some_at : (o : Option Transaction) (t : Transaction) → o ≡ Some t → IsSome o
-    is_some_at (Some u) t e = refl
-    is_some_at None t e = cc
+pub content_there : (es : List Entry) (x : Entry) → IsOnce es → IsIn x es → ordered.find x.gtid (map pair es) ≡ Some x.txn
+content_there es x once i = found_in (map pair es) (pair x) (pairs_distinct es once) (pair_there es x i)

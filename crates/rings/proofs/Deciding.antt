@@ -14,7 +14,7 @@ use Rattle.replica_core.specs.declared.event.Event.TheVariants as event
 use Rattle.replica_core.specs.declared.event.Reply.{Reply}
 use Rattle.replica_core.specs.declared.event.Reply.TheVariants.{NoChannel, NotPositioned}
 use Rattle.replica_core.specs.Machine.{ask}
-use Rattle.source_history.proofs.Lists.{on_test}
+use Rattle.ordered_journals.proofs.Lists.{on_test}
 use Rattle.rows.proofs.Lists.{on_option}
 use Rattle.network.specs.declared.event.NetworkEvent.{NetworkEvent}
 use Rattle.network.specs.declared.event.NetworkEvent.TheVariants.{Act, Position, Receive}

@@ -1,36 +1,45 @@
 -- What holds at each node and for each channel after every event of a network, and the runs of the nodes.
-use Rattle.std.proofs.Common.{◌≡◌, ◌≢◌, ℕ, false, cond, ◌⊎◌, inl, inr, List, [], ◌∷◌, ◌++◌, Option, Some, Ok, Err, refl, sym, ap, ◌∙◌, subst, eqb}
-use Rattle.std.specs.Prelude.{slice_get, slice_set}
+use Rattle.std.proofs.Common.{◌≡◌, ◌≢◌, ℕ, false, cond, ◌⊎◌, inl, inr, List, [], ◌∷◌, ◌++◌, map, Option, Some, Ok, Err, refl, sym, ap, ◌∙◌, subst, eqb, append_assoc}
+use Rattle.std.specs.Prelude.{slice_get, slice_set, IsOk}
 use Rattle.std.specs.Option.{option_map_or}
 use Rattle.std.specs.FinMap as finmap
 use Rattle.std.proofs.lemmas.Bool.{cases_Bool, eqb-true, eq-eqb}
 use Rattle.std.proofs.lemmas.List.{append-nil}
 use Rattle.std.proofs.lemmas.Option.{same_Some}
 use Rattle.gtid_text.specs.declared.Gtid.{Gtid}
-use Rattle.gtid_set.specs.Sets.{gtid}
+use Rattle.std.specs.FinSet as set
+use Rattle.rows.specs.Apply.{Rows, apply}
+use Rattle.rows.specs.declared.schema.Table.{Table}
+use Rattle.ordered_journals.proofs.Covering.{entry_of}
 use Rattle.journal.specs.declared.Entry.{Entry}
 use Rattle.apply_channel.specs.Channels.{ChannelValue}
 use Rattle.replica_core.specs.declared.event.Event.{Event}
 use Rattle.replica_core.specs.declared.event.Event.TheVariants as event
 use Rattle.replica_core.specs.State.{State, Site}
 use Rattle.replica_core.specs.Machine as machine
-use Rattle.source_history.specs.World.{World, content, is_opened, AreKeysSound}
-use Rattle.source_history.proofs.Lists.{get_set_cases}
-use Rattle.faithful_runs.specs.Faithful.{Since, since_after, IsFaithfulStep, IsFaithfulFrom}
-use Rattle.faithful_runs.proofs.Invariant.{IsIn, Invariant}
-use Rattle.faithful_runs.proofs.Steps.{step_keeps}
+use Rattle.ordered_history.specs.World.{World, content, is_opened, apply_all, rows_of, Precedes, AreDistinct, AreGtidsSound}
+use Rattle.ordered_history.specs.World as ordered
+use Rattle.ordered_history.proofs.Placing.{all_in}
+use Rattle.ordered_history.proofs.Ordering.{second_in}
+use Rattle.ordered_history.proofs.Closing.{is_ok_of}
+use Rattle.ordered_journals.proofs.Lists.{get_set_cases}
+use Rattle.ordered_replicas.specs.Faithful.{Since, since_after, IsFaithfulStep, IsFaithfulFrom}
+use Rattle.ordered_replicas.proofs.Invariant.{IsIn, Invariant}
+use Rattle.ordered_replicas.proofs.Steps.{step_keeps}
 use Rattle.rows.proofs.Patching.{not_both}
 use Rattle.network.specs.declared.event.NetworkEvent.{NetworkEvent}
 use Rattle.network.specs.declared.event.NetworkReply.TheVariants.{NoNode}
 use Rattle.network.specs.Nodes.{Node, Sources}
 use Rattle.network.specs.Machine.{Making, Decision, decide, make_at, make, after}
-use Rattle.rings.specs.Runs.{made_at, events_at, local_at, local_of, locals}
+use Rattle.rings.specs.Runs.{made_at, events_at, local_at, local_of, locals, IsInTurnAt, IsInTurn, AreInTurn, pair}
 use Rattle.network.proofs.Moving.{step_moves}
-use Rattle.rings.proofs.Contents.{in_left, in_right}
-use Rattle.rings.proofs.Numbering.{step_learns, own_is_faithful}
+use Rattle.rings.proofs.Applying.{still_applies}
+use Rattle.rings.proofs.Prefixes.{IsOnce}
+use Rattle.rings.proofs.Contents.{in_left, in_right, in_place, pair_from, pairs_append, pairs_distinct, content_there}
+use Rattle.rings.proofs.Numbering.{IsInOrder, step_learns, own_is_faithful}
 use Rattle.rings.proofs.Nodes.{changed, changed_here, changed_other, set_there, set_other, all_after}
 use Rattle.rings.proofs.Deciding.{IsAct, IsPosition, IsReceive, IsMade, decides}
-use Rattle.rings.proofs.Numbers.{Numbers, own_done, numbers_make, accepts_known}
+use Rattle.rings.proofs.Numbers.{Numbers, numbers_make, accepts_known}
 use Rattle.rings.proofs.Logs.{IsLog, log_grows}
 use Rattle.rings.proofs.Links.{Histories, Link, AreLinked, link_more, own_links, position_links, Next, next_entry, receive_links}
 
@@ -51,7 +60,7 @@ pub record Makes (world : World) (site : Site) (s : State) (since : Since) (hist
   pub links : AreLinked (machine.step site s event).1.channels (since_after event (machine.step site s event).0 since) sources history
   pub faithful : IsFaithfulStep world site s since event (machine.step site s event).0
 
-invariant_kept : (world : World) (site : Site) (s : State) (since : Since) (e : Event) → AreKeysSound world → site.schema ≡ world.schema → Invariant world s since
+invariant_kept : (world : World) (site : Site) (s : State) (since : Since) (e : Event) → AreGtidsSound world → site.schema ≡ world.schema → Invariant world s since
     → IsFaithfulStep world site s since e (machine.step site s e).0 → Invariant world (machine.step site s e).1 (since_after e (machine.step site s e).0 since)
 invariant_kept world site s since e sound same inv f =
     let here : record { own = site.own; schema = world.schema } ≡ site = λ i. record { own = site.own; schema = (sym same) i } in
@@ -67,7 +76,7 @@ pub record HeldAfter (world : World) (nodes : List Node) (since : ℕ → Since)
   pub purged : ℕ → List Entry
   pub holds : Holds world nodes since purged
 
-pub holds_make : (world : World) (nodes : List Node) (since : ℕ → Since) (purged : ℕ → List Entry) → AreKeysSound world → ((g : Gtid) → is_opened world g ≡ false) → Holds world nodes since purged
+pub holds_make : (world : World) (nodes : List Node) (since : ℕ → Since) (purged : ℕ → List Entry) → AreGtidsSound world → ((g : Gtid) → is_opened world g ≡ false) → Holds world nodes since purged
     → (m : Making) (node : Node) → slice_get nodes m.node ≡ Some node → Makes world node.replica.site node.replica.state (since m.node) (histories nodes purged) m.event m.sources
     → HeldAfter world (make_at nodes m node).1 (changed m.node (since_after m.event (machine.step node.replica.site node.replica.state m.event).0 (since m.node)) since)
 holds_make world nodes since purged sound unopened h m node at makes =
@@ -112,21 +121,86 @@ holds_make world nodes since purged sound unopened h m node at makes =
       };
     }
 
+-- ---- what commits here is in turn
+
+-- in a list without doubles, what stands before an entry is of the list's part before it
+before_of : (xs ys : List ordered.Entry) (e x : ordered.Entry) → AreDistinct (xs ++ x ∷ ys) → Precedes (xs ++ x ∷ ys) e x → ordered.IsIn e xs
+before_of [] ys e x d (inl p) = absurd (all_in (λ (y : ordered.Entry). x.0 ≢ y.0) x ys d.0 p.1 refl)
+before_of [] ys e x d (inr p) = absurd (all_in (λ (y : ordered.Entry). x.0 ≢ y.0) x ys d.0 (second_in ys e x p) refl)
+before_of (a ∷ xs) ys e x d (inl p) = inl p.0
+before_of (a ∷ xs) ys e x d (inr p) = inr (before_of xs ys e x d.1 p)
+
+-- The world's order is these transactions and more, and no GTID stands twice.
+pub record IsWhole (world : World) (L more : List Entry) : Type 0 where
+  pub order : world.order ≡ map pair (L ++ more)
+  pub once : IsOnce (L ++ more)
+
+-- these apply, in order, to the opening rows
+abbrev pub Apply : World → List Entry → Type 0
+Apply world L = (rows : Rows) × (apply_all world.schema (map pair L) world.opening_rows ≡ Ok rows)
+
+whole_on : (world : World) (L added more : List Entry) → IsWhole world L (added ++ more) → IsWhole world (L ++ added) more
+whole_on world L added more w = record {
+  order = w.order ∙ ap (map pair) (sym (append_assoc L added more));
+  once = subst IsOnce (sym (append_assoc L added more)) w.once;
+}
+
+one_committed : (added : List Entry) (x : Entry) → (added ≡ []) ⊎ ((y : Entry) × (added ≡ y ∷ [])) → IsIn x added → added ≡ x ∷ []
+one_committed added x (inl none) i = absurd (subst (IsIn x) none i)
+one_committed added x (inr one) i = by (subst (IsIn x) one.1 i)
+  where
+    by : IsIn x (one.0 ∷ []) → added ≡ x ∷ []
+    by (inl same) = one.1 ∙ ap (λ (y : Entry). y ∷ []) same
+    by (inr none) = absurd none
+
+-- what a node commits by Local is in turn in the world
+turn_of : (world : World) (L rest : List Entry) (m : Making) (node : Node) → IsWhole world L (local_at m.event node ++ rest) → IsInTurnAt world.schema L m.event (Some node)
+    → (x : Entry) → IsIn x (local_at m.event node) → IsInOrder world node.replica.site node.replica.state x
+turn_of world L rest m node w turn x i =
+    let added : List Entry = local_at m.event node in
+    let only : added ≡ x ∷ [] = one_committed added x (step_learns node.replica.site node.replica.state m.event).alone i in
+    let parts : world.order ≡ map pair L ++ pair x ∷ map pair rest = w.order ∙ ap (λ es. map pair (L ++ (es ++ rest))) only ∙ pairs_append L (x ∷ rest) in
+    let distinct : AreDistinct (map pair L ++ pair x ∷ map pair rest) = subst AreDistinct (sym w.order ∙ parts) (pairs_distinct (L ++ (added ++ rest)) w.once) in (
+      ap (ordered.find x.gtid) w.order ∙ content_there (L ++ (added ++ rest)) x w.once (in_right L (added ++ rest) x (in_left added rest x i)),
+      λ h t p shares.
+          let before : IsIn (entry_of h t) L = pair_from L (h, t) (before_of (map pair L) (map pair rest) (h, t) (pair x) distinct (subst (λ es. Precedes es (h, t) (pair x)) parts p)) in
+          let a = in_place L (entry_of h t) before in
+          let b = in_place added x i in
+          turn b.0 x b.1 a.0 (entry_of h t) a.1 shares,
+    )
+
+-- and with it, all that was committed applies
+applies_on : (world : World) (nodes : List Node) (L rest : List Entry) (since : ℕ → Since) (purged : ℕ → List Entry) → Numbers nodes L → Holds world nodes since purged
+    → (m : Making) (node : Node) → slice_get nodes m.node ≡ Some node → IsWhole world L (local_at m.event node ++ rest) → IsInTurnAt world.schema L m.event (Some node) → Apply world L → Apply world (L ++ local_at m.event node)
+applies_on world nodes L rest since purged n h m node at w turn sofar = by (step_learns node.replica.site node.replica.state m.event).alone
+  where
+    by : (local_at m.event node ≡ []) ⊎ ((x : Entry) × (local_at m.event node ≡ x ∷ [])) → Apply world (L ++ local_at m.event node)
+    by (inl none) = subst (Apply world) (sym (append-nil L) ∙ ap (λ es. L ++ es) (sym none)) sofar
+    by (inr one) =
+        let x = one.0 in
+        let added : List Entry = local_at m.event node in
+        let i : IsIn x added = subst (IsIn x) (sym one.1) (inl refl) in
+        let next = (step_learns node.replica.site node.replica.state m.event).next x i in
+        let b = in_place added x i in
+        subst (λ es. Apply world (L ++ es)) (sym one.1)
+        (still_applies world L (added ++ rest) (set.contains node.replica.state.executed) node.replica.state.rows sofar.0 next.rows x w.order w.once
+        (h.invariant m.node node at).rows
+        (λ g done. n.known m.node node at g (inl done))
+        (λ e k shares. let a = in_place L e k in turn b.0 x b.1 a.0 e a.1 shares)
+        sofar.1 (ap (λ (schema : List Table). apply schema x.txn node.replica.state.rows) (sym (h.schema m.node node at)) ∙ next.applies))
+
 -- ---- the events that are made
 
-made_own : (world : World) (nodes : List Node) (L : List Entry) (since : ℕ → Since) (purged : ℕ → List Entry) → Numbers nodes L → Holds world nodes since purged
-    → (m : Making) (node : Node) → slice_get nodes m.node ≡ Some node → IsAct nodes m node → ((x : Entry) → IsIn x (local_at m.event node) → content world x.gtid ≡ Some x.txn)
+made_own : (world : World) (nodes : List Node) (since : ℕ → Since) (purged : ℕ → List Entry) → Holds world nodes since purged
+    → (m : Making) (node : Node) → slice_get nodes m.node ≡ Some node → IsAct nodes m node → ((x : Entry) → IsIn x (local_at m.event node) → IsInOrder world node.replica.site node.replica.state x)
     → Makes world node.replica.site node.replica.state (since m.node) (histories nodes purged) m.event m.sources
-made_own world nodes L since purged n h m node at a there =
+made_own world nodes since purged h m node at a turn =
     let j = m.node in
     let site = node.replica.site in
     let s = node.replica.state in
     subst (Makes world site s (since j) (histories nodes purged) m.event) (sym a.sources) (record {
       links = (own_links site s (since j) node.sources (histories nodes purged) m.event a.own (h.links j node at)).links;
-      faithful = own_is_faithful world site s (since j) m.event a.own (λ x i. (
-        there x i,
-        λ k low high. own_done nodes L n j node at (gtid site.own k) (n.known j node at (gtid site.own k) (((step_learns site s m.event).next x i).below k low high)) refl,
-      ));
+      faithful = own_is_faithful world site s (since j) m.event a.own turn;
     })
 
 made_receive : (world : World) (nodes : List Node) (since : ℕ → Since) (purged : ℕ → List Entry) → Holds world nodes since purged
@@ -144,17 +218,17 @@ made_receive world nodes since purged h m node at q =
     next.sent in
     record { links = r.links; faithful = r.faithful }
 
-pub made : (world : World) (nodes : List Node) (L : List Entry) (since : ℕ → Since) (purged : ℕ → List Entry) → Numbers nodes L → Holds world nodes since purged
-    → (m : Making) (node : Node) → slice_get nodes m.node ≡ Some node → IsAct nodes m node ⊎ IsPosition nodes m node ⊎ IsReceive nodes m node → ((x : Entry) → IsIn x (local_at m.event node) → content world x.gtid ≡ Some x.txn)
+pub made : (world : World) (nodes : List Node) (since : ℕ → Since) (purged : ℕ → List Entry) → Holds world nodes since purged
+    → (m : Making) (node : Node) → slice_get nodes m.node ≡ Some node → IsAct nodes m node ⊎ IsPosition nodes m node ⊎ IsReceive nodes m node → ((x : Entry) → IsIn x (local_at m.event node) → IsInOrder world node.replica.site node.replica.state x)
     → Makes world node.replica.site node.replica.state (since m.node) (histories nodes purged) m.event m.sources
-made world nodes L since purged n h m node at (inl a) there = made_own world nodes L since purged n h m node at a there
-made world nodes L since purged n h m node at (inr (inl p)) there =
+made world nodes since purged h m node at (inl a) there = made_own world nodes since purged h m node at a there
+made world nodes since purged h m node at (inr (inl p)) there =
     let P : Event → Sources → Type 0 = Makes world node.replica.site node.replica.state (since m.node) (histories nodes purged) in
     subst (P m.event) (sym p.sources) (subst (λ e. P e (finmap.insert node.sources p.c p.k)) (sym p.event) (record {
       links = (position_links node.replica.state (since m.node) node.sources (histories nodes purged) p.c p.k p.channel p.at (h.links m.node node at)).links;
       faithful = tt;
     }))
-made world nodes L since purged n h m node at (inr (inr q)) there =
+made world nodes since purged h m node at (inr (inr q)) there =
     let P : Event → Sources → Type 0 = Makes world node.replica.site node.replica.state (since m.node) (histories nodes purged) in
     subst (P m.event) (sym q.sources) (subst (λ e. P e node.sources) (sym q.event) (made_receive world nodes since purged h m node at q))
 
@@ -165,26 +239,34 @@ pub record RunHolds (world : World) (nodes end : List Node) (since : ℕ → Sin
   pub since' : ℕ → Since
   pub purged' : ℕ → List Entry
   pub holds : Holds world end since' purged'
+  pub applies : IsOk (apply_all world.schema world.order world.opening_rows)
 
-abbrev AreKnown : World → List Entry → Type 0
-AreKnown world es = (x : Entry) → IsIn x es → content world x.gtid ≡ Some x.txn
+-- what is asked of what is committed by Local from here on
+pub record Goes (world : World) (nodes : List Node) (L : List Entry) (events : List NetworkEvent) : Type 0 where
+  pub whole : IsWhole world L (locals nodes events)
+  pub turns : AreInTurn world.schema L nodes events
+  pub sofar : Apply world L
 
-made_run : (world : World) (nodes : List Node) (L : List Entry) (since : ℕ → Since) (purged : ℕ → List Entry) → AreKeysSound world → ((g : Gtid) → is_opened world g ≡ false) → Numbers nodes L → Holds world nodes since purged
+made_run : (world : World) (nodes : List Node) (L : List Entry) (since : ℕ → Since) (purged : ℕ → List Entry) → AreGtidsSound world → ((g : Gtid) → is_opened world g ≡ false) → Numbers nodes L → Holds world nodes since purged → Apply world L
     → (m : Making) (node : Node) → slice_get nodes m.node ≡ Some node → IsAct nodes m node ⊎ IsPosition nodes m node ⊎ IsReceive nodes m node → (es : List NetworkEvent)
-    → ((nodes' : List Node) (L' : List Entry) (since' : ℕ → Since) (purged' : ℕ → List Entry) → Numbers nodes' L' → Holds world nodes' since' purged' → AreKnown world (locals nodes' es) → RunHolds world nodes' (after nodes' es) since' (λ i. events_at i nodes' es))
-    → AreKnown world (local_at m.event node ++ locals (make_at nodes m node).1 es)
+    → ((nodes' : List Node) (L' : List Entry) (since' : ℕ → Since) (purged' : ℕ → List Entry) → Numbers nodes' L' → Holds world nodes' since' purged' → Goes world nodes' L' es → RunHolds world nodes' (after nodes' es) since' (λ i. events_at i nodes' es))
+    → IsWhole world L (local_at m.event node ++ locals (make_at nodes m node).1 es) → IsInTurnAt world.schema L m.event (Some node) → AreInTurn world.schema (L ++ local_at m.event node) (make_at nodes m node).1 es
     → RunHolds world nodes (after (make_at nodes m node).1 es) since (λ i. made_at i (Ok m) ++ events_at i (make_at nodes m node).1 es)
-made_run world nodes L since purged sound unopened n h m node at one es rest known =
+made_run world nodes L since purged sound unopened n h sofar m node at one es rest whole turn turns =
     let j = m.node in
     let site = node.replica.site in
     let s = node.replica.state in
     let nodes' = (make_at nodes m node).1 in
     let new_node : Node = record { replica = record { site = site; state = (machine.step site s m.event).1 }; sources = m.sources } in
     let since_j : Since = since_after m.event (machine.step site s m.event).0 (since j) in
-    let makes = made world nodes L since purged n h m node at one (λ x i. known x (in_left (local_at m.event node) (locals nodes' es) x i)) in
+    let makes = made world nodes since purged h m node at one (turn_of world L (locals nodes' es) m node whole turn) in
     let held = holds_make world nodes since purged sound unopened h m node at makes in
     let n' = numbers_make nodes L n m node at (λ g a. accepts_known nodes L n m node one _ g a) in
-    let r = rest nodes' (L ++ local_at m.event node) (changed j since_j since) held.purged n' held.holds (λ x i. known x (in_right (local_at m.event node) (locals nodes' es) x i)) in
+    let r = rest nodes' (L ++ local_at m.event node) (changed j since_j since) held.purged n' held.holds (record {
+      whole = whole_on world L (local_at m.event node) (locals nodes' es) whole;
+      turns = turns;
+      sofar = applies_on world nodes L (locals nodes' es) since purged n h m node at whole turn sofar;
+    }) in
     let here : IsFaithfulFrom world site s (since j) (m.event ∷ events_at j nodes' es) = (
       makes.faithful,
       subst (λ f. IsFaithfulFrom world site (machine.step site s m.event).1 f (events_at j nodes' es)) (changed_here j since_j since) (r.faithful j new_node (set_there nodes j node new_node at)),
@@ -205,22 +287,33 @@ made_run world nodes L since purged sound unopened n h m node at one es rest kno
       since' = r.since';
       purged' = r.purged';
       holds = r.holds;
+      applies = r.applies;
     }
 
-decided_run : (world : World) (nodes : List Node) (L : List Entry) (since : ℕ → Since) (purged : ℕ → List Entry) → AreKeysSound world → ((g : Gtid) → is_opened world g ≡ false) → Numbers nodes L → Holds world nodes since purged
+decided_run : (world : World) (nodes : List Node) (L : List Entry) (since : ℕ → Since) (purged : ℕ → List Entry) → AreGtidsSound world → ((g : Gtid) → is_opened world g ≡ false) → Numbers nodes L → Holds world nodes since purged → Apply world L
     → (d : Decision) → ((m : Making) → d ≡ Ok m → IsMade nodes m) → (es : List NetworkEvent)
-    → ((nodes' : List Node) (L' : List Entry) (since' : ℕ → Since) (purged' : ℕ → List Entry) → Numbers nodes' L' → Holds world nodes' since' purged' → AreKnown world (locals nodes' es) → RunHolds world nodes' (after nodes' es) since' (λ i. events_at i nodes' es))
-    → AreKnown world (local_of nodes d ++ locals (make nodes d).1 es)
+    → ((nodes' : List Node) (L' : List Entry) (since' : ℕ → Since) (purged' : ℕ → List Entry) → Numbers nodes' L' → Holds world nodes' since' purged' → Goes world nodes' L' es → RunHolds world nodes' (after nodes' es) since' (λ i. events_at i nodes' es))
+    → IsWhole world L (local_of nodes d ++ locals (make nodes d).1 es) → IsInTurn world.schema L nodes d → AreInTurn world.schema (L ++ local_of nodes d) (make nodes d).1 es
     → RunHolds world nodes (after (make nodes d).1 es) since (λ i. made_at i d ++ events_at i (make nodes d).1 es)
-decided_run world nodes L since purged sound unopened n h (Err r) is es rest known = rest nodes L since purged n h known
-decided_run world nodes L since purged sound unopened n h (Ok m) is es rest known =
+decided_run world nodes L since purged sound unopened n h sofar (Err r) is es rest whole turn turns =
+    rest nodes L since purged n h (record { whole = whole; turns = subst (λ es'. AreInTurn world.schema es' nodes es) (append-nil L) turns; sofar = sofar })
+decided_run world nodes L since purged sound unopened n h sofar (Ok m) is es rest whole turn turns =
     let made = is m refl in
     let make_of : Option Node → List Node = λ o. (option_map_or (make_at nodes m) o (NoNode, nodes)).1 in
-    subst (λ (o : Option Node). AreKnown world (option_map_or (local_at m.event) o [] ++ locals (make_of o) es) → RunHolds world nodes (after (make_of o) es) since (λ i. made_at i (Ok m) ++ events_at i (make_of o) es)) (sym made.at)
-    (made_run world nodes L since purged sound unopened n h m made.node made.at made.one es rest) known
+    let local_by : Option Node → List Entry = λ o. option_map_or (local_at m.event) o [] in
+    subst (λ (o : Option Node). IsWhole world L (local_by o ++ locals (make_of o) es) → IsInTurnAt world.schema L m.event o → AreInTurn world.schema (L ++ local_by o) (make_of o) es → RunHolds world nodes (after (make_of o) es) since (λ i. made_at i (Ok m) ++ events_at i (make_of o) es)) (sym made.at)
+    (made_run world nodes L since purged sound unopened n h sofar m made.node made.at made.one es rest) whole turn turns
 
-pub run_holds : (world : World) → AreKeysSound world → ((g : Gtid) → is_opened world g ≡ false) → (events : List NetworkEvent) (nodes : List Node) (L : List Entry) (since : ℕ → Since) (purged : ℕ → List Entry) → Numbers nodes L → Holds world nodes since purged
-    → AreKnown world (locals nodes events) → RunHolds world nodes (after nodes events) since (λ i. events_at i nodes events)
-run_holds world sound unopened [] nodes L since purged n h known = record { faithful = λ i node e. tt; since' = since; purged' = purged; holds = h }
-run_holds world sound unopened (e ∷ es) nodes L since purged n h known =
-    decided_run world nodes L since purged sound unopened n h (decide nodes e) (decides nodes e).made es (λ nodes' L' since' purged' n' h' known'. run_holds world sound unopened es nodes' L' since' purged' n' h' known') known
+pub run_holds : (world : World) → AreGtidsSound world → ((g : Gtid) → is_opened world g ≡ false) → (events : List NetworkEvent) (nodes : List Node) (L : List Entry) (since : ℕ → Since) (purged : ℕ → List Entry) → Numbers nodes L → Holds world nodes since purged
+    → Goes world nodes L events → RunHolds world nodes (after nodes events) since (λ i. events_at i nodes events)
+run_holds world sound unopened [] nodes L since purged n h goes = record {
+  faithful = λ i node e. tt;
+  since' = since;
+  purged' = purged;
+  holds = h;
+  applies = is_ok_of (apply_all world.schema world.order world.opening_rows) goes.sofar.0
+      (ap (λ es. apply_all world.schema es world.opening_rows) (goes.whole.order ∙ ap (map pair) (append-nil L)) ∙ goes.sofar.1);
+}
+run_holds world sound unopened (e ∷ es) nodes L since purged n h goes =
+    decided_run world nodes L since purged sound unopened n h goes.sofar (decide nodes e) (decides nodes e).made es
+    (λ nodes' L' since' purged' n' h' goes'. run_holds world sound unopened es nodes' L' since' purged' n' h' goes') goes.whole goes.turns.0 goes.turns.1

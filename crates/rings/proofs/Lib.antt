@@ -1,5 +1,5 @@
 pub mod Prefixes
-pub mod Sources
+pub mod Applying
 pub mod Contents
 pub mod Numbering
 pub mod Deciding

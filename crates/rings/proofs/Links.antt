@@ -27,12 +27,12 @@ use Rattle.replica_core.specs.declared.event.Event.TheVariants.{OpenChannel, Pos
 use Rattle.replica_core.specs.declared.event.Reply.TheVariants.{NotInSchema, Ask}
 use Rattle.replica_core.specs.State.{State, Site}
 use Rattle.replica_core.specs.Machine.{Step, ask, with_channel, open_channel, position_on, receive, step}
-use Rattle.source_history.specs.World.{World}
-use Rattle.source_history.proofs.Lists.{on_test, get_push_cases, get_set_cases}
-use Rattle.source_history.proofs.Covering.{entries_append}
-use Rattle.faithful_runs.specs.Faithful.{Since, since_after, WasSent, IsFaithfulStep}
-use Rattle.faithful_runs.proofs.Invariant.{Stands, Invariant}
-use Rattle.faithful_runs.proofs.Receiving.{received_entry}
+use Rattle.ordered_history.specs.World.{World}
+use Rattle.ordered_journals.proofs.Lists.{on_test, get_push_cases, get_set_cases}
+use Rattle.ordered_journals.proofs.Covering.{entries_append}
+use Rattle.ordered_replicas.specs.Faithful.{Since, since_after, WasSent, IsFaithfulStep}
+use Rattle.ordered_replicas.proofs.Invariant.{Stands, Invariant}
+use Rattle.ordered_replicas.proofs.Receiving.{received_entry}
 use Rattle.rows.proofs.Lists.{none_some, on_option}
 use Rattle.rows.proofs.Patching.{not_both}
 use Rattle.network.specs.Machine.{come, next_of, is_for_network}

@@ -11,13 +11,13 @@ use Rattle.journal.specs.declared.Entry.{Entry}
 use Rattle.journal.specs.Journals.{JournalValue, AreNew}
 use Rattle.relay.specs.Own.{with_last, purged_to}
 use Rattle.replica_core.specs.State.{State}
-use Rattle.source_history.specs.World.{World, content, is_opened, IsClosed}
-use Rattle.source_history.proofs.Closing.{closed_same}
-use Rattle.source_history.specs.Faithful.{IsFaithful}
-use Rattle.source_history.proofs.Covering.{has, covered, in_insert, in_covered, entries_append}
-use Rattle.source_history.proofs.Keeping.{journal_push}
-use Rattle.faithful_runs.specs.Faithful.{Since}
-use Rattle.faithful_runs.proofs.Invariant.{Invariant}
+use Rattle.ordered_history.specs.World.{World, content, is_opened, IsClosed}
+use Rattle.ordered_history.proofs.Closing.{closed_same}
+use Rattle.ordered_journals.specs.Faithful.{IsFaithful}
+use Rattle.ordered_journals.proofs.Covering.{has, covered, in_insert, in_covered, entries_append}
+use Rattle.ordered_journals.proofs.Keeping.{journal_push}
+use Rattle.ordered_replicas.specs.Faithful.{Since}
+use Rattle.ordered_replicas.proofs.Invariant.{Invariant}
 use Rattle.rings.specs.Sending.{is_entry}
 use Rattle.network.proofs.Moving.{Journals, Stays, Appends, Purges}
 

@@ -1,38 +1,39 @@
 -- The merge theorem for networks.
-use Rattle.std.proofs.Common.{◌≡◌, ℕ, zero, suc, true, false, not, ◌||◌, inl, inr, List, [], ◌∷◌, Some, Result, Ok, refl, sym, ap, ◌∙◌, subst, eqb, ◌++◌}
-use Rattle.std.specs.Prelude.{slice_get, IsSome, IsOk}
+use Rattle.std.proofs.Common.{◌≡◌, ℕ, zero, suc, true, false, not, ◌||◌, inl, inr, List, [], ◌∷◌, Option, Some, None, Result, Ok, Err, refl, sym, ap, ◌∙◌, subst, eqb, ◌++◌, append_assoc}
+use Rattle.std.specs.Prelude.{slice_get}
+use Rattle.std.specs.Option.{option_map_or}
 use Rattle.std.specs.List.{list_any, AllByRecursion}
 use Rattle.std.specs.FinSet as set
-use Rattle.std.proofs.lemmas.Bool.{cases_Bool, or_cases, or_left, or_right, or_parts, and_parts, not-true, eqb-true, eq-eqb}
+use Rattle.std.proofs.lemmas.Bool.{cases_Bool, or_left, or_right, and_parts, not-true, eqb-true, eq-eqb}
 use Rattle.std.proofs.lemmas.Option.{same_Some}
 use Rattle.gtid_text.specs.declared.Gtid.{Gtid}
-use Rattle.gtid_text.specs.Gtids.{gtid_cmp, same_gtid}
-use Rattle.gtid_text.proofs.SameGtid.{same_itself, same_is_equal}
-use Rattle.gtid_set.specs.Sets.{Gtids, gtid}
+use Rattle.gtid_text.specs.Gtids.{gtid_cmp}
+use Rattle.gtid_set.specs.Sets.{Gtids}
 use Rattle.rows.specs.Apply.{Rows}
 use Rattle.rows.specs.declared.change.RowFault.{RowFault}
 use Rattle.rows.specs.declared.schema.Table.{Table}
-use Rattle.rows.proofs.Lists.{none_some, get_map_cases, any_at}
+use Rattle.rows.specs.WriteSet.{shares_key}
+use Rattle.rows.proofs.Lists.{none_some, get_map_cases}
 use Rattle.rows.proofs.Patching.{not_both}
 use Rattle.journal.specs.declared.Entry.{Entry}
 use Rattle.replica_core.specs.Machine as machine
-use Rattle.source_history.specs.World.{World, content, is_opened, of_source, rows_of, AreKeysSound, IsSound}
-use Rattle.source_history.proofs.Committing.{opening_is_closed}
-use Rattle.source_history.proofs.Lists.{get_map}
-use Rattle.faithful_runs.specs.Faithful.{Since, start_with, IsOpening, IsFaithfulRun, IsMerged}
-use Rattle.faithful_runs.proofs.Invariant.{Invariant}
-use Rattle.faithful_runs.proofs.Growing.{Known}
-use Rattle.faithful_runs.proofs.Runs.{opening_holds, faithful_runs_merge}
+use Rattle.ordered_history.specs.World.{World, is_opened, rows_of, AreGtidsSound, IsSound}
+use Rattle.ordered_history.proofs.Committing.{opening_is_closed}
+use Rattle.ordered_journals.proofs.Lists.{get_map}
+use Rattle.ordered_replicas.specs.Faithful.{start_with, IsOpening, IsFaithfulRun, IsMerged}
+use Rattle.ordered_replicas.proofs.Invariant.{IsIn, Invariant}
+use Rattle.ordered_replicas.proofs.Growing.{Known}
+use Rattle.ordered_replicas.proofs.Runs.{opening_holds, faithful_runs_merge}
 use Rattle.network.specs.declared.event.NetworkEvent.{NetworkEvent}
 use Rattle.network.specs.declared.event.NetworkReply.{NetworkReply}
 use Rattle.network.specs.Nodes.{Node, opened_node, opened, ids_distinct}
-use Rattle.network.specs.Machine.{Step, step, replies, after}
+use Rattle.network.specs.Machine.{Making, Decision, decide, Step, step, replies, after}
 use Rattle.rings.specs.Sending.{is_entry}
-use Rattle.rings.specs.Runs.{NetworkRun, AreApart, world_of, start, end, run_locals, run_world, run_of, extension}
-use Rattle.rings.specs.Rings.{HasNoMore, site_of, RingsMerge, LeavesMerged, RingsGoOn}
-use Rattle.rings.proofs.Sources.{source_applies}
-use Rattle.rings.proofs.Contents.{in_place, content_there, content_from, content_entry, some_content}
-use Rattle.rings.proofs.Numbers.{Numbers, own_done}
+use Rattle.rings.specs.Runs.{NetworkRun, AreApart, IsInTurnAt, IsInTurn, AreInTurn, local_at, local_of, locals, world_of, start, end, run_locals, run_world, run_of, extension}
+use Rattle.rings.specs.Rings.{HasNoMore, site_of, RingsMerge, LeavesMerged, RingsGoOn, ApartIsInTurn}
+use Rattle.rings.proofs.Contents.{in_place, in_left, in_right, is_in_entry, pairs_distinct}
+use Rattle.rings.proofs.Numbering.{step_learns}
+use Rattle.rings.proofs.Numbers.{Numbers, own_done, numbers_step}
 use Rattle.rings.proofs.Holding.{Holds, histories, run_holds}
 use Rattle.rings.proofs.Logs.{IsLog}
 use Rattle.rings.proofs.Links.{AreLinked}
@@ -88,61 +89,25 @@ numbers_open ids schema rows distinct = record {
       no_channel_known rows g (subst (λ (x : Node). Known x.replica.state g) (sym u.2) k);
   origin = λ g h. never h;
   once = tt;
-  positive = λ g h. never h;
-  gapless = λ g m h low high. never h;
 }
 
 -- ---- the world of a run
 
-is_there : (es : List Entry) (i : ℕ) (x : Entry) → slice_get es i ≡ Some x → is_entry es x.gtid ≡ true
-is_there [] i x e = none_some x e
-is_there (y ∷ es) zero x e = or_left (same_gtid x.gtid y.gtid) (is_entry es x.gtid) (ap (λ (z : Entry). same_gtid x.gtid z.gtid) (same_Some y x e) ∙ same_itself x.gtid)
-is_there (y ∷ es) (suc i) x e = or_right (same_gtid x.gtid y.gtid) (is_entry es x.gtid) (is_there es i x e)
+place_in : (es : List Entry) (i : ℕ) (x : Entry) → slice_get es i ≡ Some x → IsIn x es
+place_in [] i x e = none_some x e
+place_in (y ∷ es) zero x e = inl (same_Some y x e)
+place_in (y ∷ es) (suc i) x e = inr (place_in es i x e)
 
--- where no entry is of a source, no GTID of it is among them
-nowhere : (s : ℕ) (es : List Entry) (g : Gtid) → is_entry es g ≡ true → eqb s g.source ≡ true → list_any (λ (e : Entry). eqb s e.gtid.source) es ≡ false → ⊥
-nowhere s [] g h t none = never h
-nowhere s (e ∷ es) g h t none =
-    let two = or_parts (eqb s e.gtid.source) (list_any (λ (x : Entry). eqb s x.gtid.source) es) none in
-    elim (or_cases (same_gtid g e.gtid) (is_entry es g) h) [
-      | inl same ↦ not_both (eqb s e.gtid.source) (ap (λ (q : Gtid). eqb s q.source) (sym (same_is_equal g e.gtid same)) ∙ t) two.0
-      | inr later ↦ nowhere s es g later t two.1
-    ]
-
-module _ (schema : List Table) (rows : Rows) (nodes : List Node) (L : List Entry) (n : Numbers nodes L) (apart : AreApart schema L) where
+-- what nodes committed by Local so far, as a world
+module _ (schema : List Table) (rows : Rows) (nodes : List Node) (L : List Entry) (n : Numbers nodes L) where
   abbrev world : World
   world = world_of schema rows L
 
   pub unopened : (g : Gtid) → is_opened world g ≡ false
   unopened g = set.contains-empty gtid_cmp g
 
-  committed : (g : Gtid) → IsSome (content world g) → is_entry L g ≡ true
-  committed g h = content_entry L g (content world g) refl h
-
-  pub keys_sound : AreKeysSound world
-  keys_sound = record {
-    outside = λ g h. unopened g;
-    from_one = λ g h. n.positive g (committed g h);
-    without_gap = λ g m low high h. inr (some_content L (gtid g.source m) n.once (n.gapless g m (committed g h) low high));
-    apart = λ g h t u f k differ.
-        let a = in_place L _ (content_from L g t f) in
-        let b = in_place L _ (content_from L h u k) in
-        apart a.0 b.0 _ _ a.1 b.1 differ;
-  }
-
-  -- each source's node ends with all that it committed
-  pub sources_apply : (since : ℕ → Since) → ((i : ℕ) (node : Node) → slice_get nodes i ≡ Some node → Invariant world node.replica.state (since i)) → (s : ℕ) → IsOk (rows_of world (of_source s))
-  sources_apply since inv s =
-      elim (cases_Bool (list_any (λ (e : Entry). eqb s e.gtid.source) L)) [
-        | inl some ↦
-            let x = any_at (λ (e : Entry). eqb s e.gtid.source) L some in
-            let mine : s ≡ x.1.gtid.source = eqb-true s x.1.gtid.source x.3 in
-            let o = n.origin x.1.gtid (is_there L x.0 x.1 x.2) in
-            source_applies world (set.contains o.node.replica.state.executed) s o.node.replica.state.rows keys_sound (inv o.i o.node o.at).rows
-            (λ g h same. own_done nodes L n o.i o.node o.at g (committed g h) (same ∙ (mine ∙ sym o.own)))
-        | inr none ↦ source_applies world (is_opened world) s rows keys_sound (opening_is_closed world keys_sound).1
-            (λ g h same. absurd (nowhere s L g (committed g h) (ap (eqb s) same ∙ eq-eqb s s refl) none))
-      ]
+  pub gtids_sound : AreGtidsSound world
+  gtids_sound = record { outside = λ g h. unopened g; distinct = pairs_distinct L n.once }
 
 -- ---- the theorem
 
@@ -150,7 +115,7 @@ one_ok : (r : Result Rows RowFault) (x y : Rows) → r ≡ Ok x → r ≡ Ok y �
 one_ok r x y p q = cc
 
 pub rings_merge : RingsMerge
-rings_merge run distinct apart =
+rings_merge run distinct turns =
     let schema = run.schema in
     let rows = run.rows in
     let nodes : List Node = start run in
@@ -159,9 +124,9 @@ rings_merge run distinct apart =
     let W : World = run_world run in
     let first_numbers = numbers_open run.ids schema rows distinct in
     let n : Numbers last L = numbers_run run.events nodes [] first_numbers in
-    let keys : AreKeysSound W = keys_sound schema rows last L n apart in
-    let new : (g : Gtid) → is_opened W g ≡ false = unopened schema rows last L n apart in
-    let opens = opening_is_closed W keys in
+    let gtids : AreGtidsSound W = gtids_sound schema rows last L n in
+    let new : (g : Gtid) → is_opened W g ≡ false = unopened schema rows last L n in
+    let opens = opening_is_closed W gtids in
     let opening : IsOpening W set.empty rows = record { closed = opens.0; stands_for = opens.1 } in
     let first : Invariant W (start_with set.empty rows) (λ c. []) = opening_holds W set.empty rows opening in
     let opened_here : (P : Node → Type 0) → ((own : ℕ) → P (opened_node schema rows own)) → (i : ℕ) (node : Node) → slice_get nodes i ≡ Some node → P node = λ P p i node e.
@@ -173,8 +138,8 @@ rings_merge run distinct apart =
       logs = opened_here (λ x. IsLog W [] x.replica.state.journal) (λ own. record { previous = λ g. set.contains-empty gtid_cmp g; faithful = first.journal });
       links = opened_here (λ x. AreLinked x.replica.state.channels (λ c. []) x.sources (histories nodes (λ i. []))) (λ own c ch A k log f a r h. none_some ch f);
     } in
-    let held = run_holds W keys new run.events nodes [] (λ i c. []) (λ i. []) first_numbers holds (λ x i. content_there L x n.once i) in
-    let sound : IsSound W = record { keys = keys; alone = sources_apply schema rows last L n apart held.since' held.holds.invariant } in
+    let held = run_holds W gtids new run.events nodes [] (λ i c. []) (λ i. []) first_numbers holds (record { whole = record { order = refl; once = n.once }; turns = turns; sofar = (rows, refl) }) in
+    let sound : IsSound W = record { gtids = gtids; applies = held.applies } in
     let faithful : (i own : ℕ) → slice_get run.ids i ≡ Some own → IsFaithfulRun W (site_of run own) set.empty rows (run_of run i) = λ i own e.
     held.faithful i (opened_node schema rows own) (get_map (opened_node schema rows) run.ids i own e) in
     let reached : (i own : ℕ) (node : Node) → slice_get run.ids i ≡ Some own → slice_get last i ≡ Some node → node.replica.state ≡ machine.after (site_of run own) (start_with set.empty rows) (run_of run i) = λ i own node e f.
@@ -195,6 +160,39 @@ rings_merge run distinct apart =
       no_more = no_more run.events nodes [] first_numbers;
     }
 
+-- ---- what is apart is in turn
+
+turn_at : (schema : List Table) (nodes : List Node) (L rest : List Entry) → Numbers nodes L → (m : Making) (o : Option Node) → ((node : Node) → o ≡ Some node → slice_get nodes m.node ≡ Some node)
+    → AreApart schema (L ++ (option_map_or (local_at m.event) o [] ++ rest)) → IsInTurnAt schema L m.event o
+turn_at schema nodes L rest n m None at apart = tt
+turn_at schema nodes L rest n m (Some node) at apart = λ i x here k e there shares.
+    let added : List Entry = local_at m.event node in
+    let in_added : IsIn x added = place_in added i x here in
+    let in_sofar : IsIn e L = place_in L k e there in
+    elim (cases_Bool (eqb e.gtid.source x.gtid.source)) [
+      | inl same ↦ own_done nodes L n m.node node (at node refl) e.gtid (is_in_entry L e in_sofar)
+          (eqb-true e.gtid.source x.gtid.source same ∙ ((step_learns node.replica.site node.replica.state m.event).next x in_added).source)
+      | inr other ↦
+          let a = in_place (L ++ (added ++ rest)) e (in_left L (added ++ rest) e in_sofar) in
+          let b = in_place (L ++ (added ++ rest)) x (in_right L (added ++ rest) x (in_left added rest x in_added)) in
+          not_both (shares_key schema e.txn x.txn) shares (apart a.0 b.0 e x a.1 b.1 (λ s. not_both (eqb e.gtid.source x.gtid.source) (eq-eqb e.gtid.source x.gtid.source s) other))
+    ]
+
+turn_decided : (schema : List Table) (nodes : List Node) (L rest : List Entry) → Numbers nodes L → (d : Decision) → AreApart schema (L ++ (local_of nodes d ++ rest)) → IsInTurn schema L nodes d
+turn_decided schema nodes L rest n (Err r) apart = tt
+turn_decided schema nodes L rest n (Ok m) apart = turn_at schema nodes L rest n m (slice_get nodes m.node) (λ node e. e) apart
+
+turns_from : (schema : List Table) (events : List NetworkEvent) (nodes : List Node) (L : List Entry) → Numbers nodes L → AreApart schema (L ++ locals nodes events) → AreInTurn schema L nodes events
+turns_from schema [] nodes L n apart = tt
+turns_from schema (e ∷ es) nodes L n apart = (
+  turn_decided schema nodes L (locals (step nodes e).1 es) n (decide nodes e) apart,
+  turns_from schema es (step nodes e).1 (L ++ local_of nodes (decide nodes e)) (numbers_step nodes L n e)
+      (subst (AreApart schema) (sym (append_assoc L (local_of nodes (decide nodes e)) (locals (step nodes e).1 es))) apart),
+)
+
+pub apart_is_in_turn : ApartIsInTurn
+apart_is_in_turn run distinct apart = turns_from run.schema run.events (start run) [] (numbers_open run.ids run.schema run.rows distinct) apart
+
 -- ---- from the middle of a run
 
 after_append : (nodes : List Node) (es fs : List NetworkEvent) → after nodes (es ++ fs) ≡ after (after nodes es) fs
@@ -206,9 +204,9 @@ last_replies nodes [] fs h = h
 last_replies nodes (e ∷ es) fs h = last_replies (step nodes e).1 es fs h.1
 
 pub rings_go_on : RingsGoOn
-rings_go_on nodes events run distinct reached apart =
+rings_go_on nodes events run distinct reached turns =
     let all : NetworkRun = extension run events in
-    let m = rings_merge all distinct apart in
+    let m = rings_merge all distinct turns in
     let same : after nodes events ≡ end all = ap (λ (n : List Node). after n events) reached ∙ sym (after_append (start run) run.events events) in
     let there : (i : ℕ) (node : Node) → slice_get (after nodes events) i ≡ Some node → slice_get (end all) i ≡ Some node = λ i node e. ap (λ (n : List Node). slice_get n i) (sym same) ∙ e in
     record {

@@ -2,7 +2,7 @@
 use Rattle.std.proofs.Common.{◌≡◌, ◌≢◌, ℕ, zero, suc, false, cond, inl, inr, List, [], ◌∷◌, Some, refl, sym, ap, subst, eqb}
 use Rattle.std.specs.Prelude.{slice_get, slice_set}
 use Rattle.std.proofs.lemmas.Bool.{cases_Bool, eqb-true, eq-eqb}
-use Rattle.source_history.proofs.Lists.{get_set_cases, get_set_from}
+use Rattle.ordered_journals.proofs.Lists.{get_set_cases, get_set_from}
 use Rattle.rows.proofs.Lists.{none_some}
 
 -- what goes with each number, with another at one of them

@@ -1,5 +1,5 @@
 -- What the nodes of a network know of GTIDs: each was committed by Local at the node of its source, in turn.
-use Rattle.std.proofs.Common.{◌≡◌, ◌≢◌, ℕ, ◌<◌, ◌≤◌, Bool, true, false, ◌||◌, ◌⊎◌, inl, inr, List, [], ◌∷◌, ◌++◌, take, drop, Option, Some, Ok, Err, refl, sym, ap, ◌∙◌, subst, arith, eqb}
+use Rattle.std.proofs.Common.{◌≡◌, ◌≢◌, ℕ, Bool, true, false, ◌||◌, ◌⊎◌, inl, inr, List, [], ◌∷◌, ◌++◌, take, drop, Option, Some, Ok, Err, refl, sym, ap, ◌∙◌, subst, eqb}
 use Rattle.std.specs.Prelude.{slice_get, slice_set}
 use Rattle.std.specs.Option.{option_map_or}
 use Rattle.std.specs.FinSet as set
@@ -9,7 +9,7 @@ use Rattle.std.proofs.lemmas.Option.{same_Some}
 use Rattle.gtid_text.specs.declared.Gtid.{Gtid}
 use Rattle.gtid_text.specs.Gtids.{same_gtid}
 use Rattle.gtid_text.proofs.SameGtid.{same_itself, same_is_equal}
-use Rattle.gtid_set.specs.Sets.{Gtids, gtid}
+use Rattle.gtid_set.specs.Sets.{Gtids}
 use Rattle.journal.specs.declared.Entry.{Entry}
 use Rattle.journal.specs.Journals.{JournalValue}
 use Rattle.replica_core.specs.declared.event.Event.{Event}
@@ -18,12 +18,12 @@ use Rattle.replica_core.specs.declared.event.Reply.{Reply}
 use Rattle.replica_core.specs.declared.event.Reply.TheVariants as reply
 use Rattle.replica_core.specs.State.{State}
 use Rattle.replica_core.specs.Machine as machine
-use Rattle.source_history.proofs.Lists.{get_set_cases}
-use Rattle.source_history.proofs.Covering.{has, covered, in_insert, entries_append}
-use Rattle.source_history.proofs.Keeping.{covered_push, covered_purged}
-use Rattle.faithful_runs.specs.Served.{accepted}
-use Rattle.faithful_runs.proofs.Invariant.{IsIn}
-use Rattle.faithful_runs.proofs.Growing.{Known}
+use Rattle.ordered_journals.proofs.Lists.{get_set_cases}
+use Rattle.ordered_journals.proofs.Covering.{has, covered, in_insert, entries_append}
+use Rattle.ordered_journals.proofs.Keeping.{covered_push, covered_purged}
+use Rattle.ordered_replicas.specs.Served.{accepted}
+use Rattle.ordered_replicas.proofs.Invariant.{IsIn}
+use Rattle.ordered_replicas.proofs.Growing.{Known}
 use Rattle.rows.proofs.Patching.{not_both}
 use Rattle.network.specs.declared.event.NetworkEvent.{NetworkEvent}
 use Rattle.network.specs.declared.event.NetworkReply.TheVariants.{NoNode}
@@ -74,8 +74,6 @@ pub record Numbers (nodes : List Node) (L : List Entry) : Type 0 where
   pub known : (i : ℕ) (node : Node) → slice_get nodes i ≡ Some node → (g : Gtid) → Known node.replica.state g → is_entry L g ≡ true
   pub origin : (g : Gtid) → is_entry L g ≡ true → Origin nodes g
   pub once : IsOnce L
-  pub positive : (g : Gtid) → is_entry L g ≡ true → 0 < g.number
-  pub gapless : (g : Gtid) (m : ℕ) → is_entry L g ≡ true → 0 < m → m ≤ g.number → is_entry L (gtid g.source m) ≡ true
 
 -- a number of the own source that is known at a node is executed there
 pub own_done : (nodes : List Node) (L : List Entry) → Numbers nodes L → (i : ℕ) (node : Node) → slice_get nodes i ≡ Some node → (g : Gtid) → is_entry L g ≡ true → g.source ≡ node.replica.site.own → set.contains node.replica.state.executed g ≡ true
@@ -93,9 +91,6 @@ pub record SameSite (nodes : List Node) (i : ℕ) (a : Node) : Type 0 where
 once_after : (L added : List Entry) → IsOnce L → (added ≡ []) ⊎ ((x : Entry) × (added ≡ x ∷ [])) → ((x : Entry) → IsIn x added → is_entry L x.gtid ≡ false) → IsOnce (L ++ added)
 once_after L added once (inl none) new = subst (λ es. IsOnce (L ++ es)) (sym none) (subst IsOnce (sym (append-nil L)) once)
 once_after L added once (inr one) new = subst (λ es. IsOnce (L ++ es)) (sym one.1) (once_push L one.0 once (new one.0 (subst (IsIn one.0) (sym one.1) (inl refl))))
-
-at_or_below : (m n : ℕ) → m ≤ n → (m ≡ n) ⊎ (m < n)
-at_or_below m n l = grind arith
 
 -- a node makes an event, in which it accepts what was committed somewhere
 pub numbers_make : (nodes : List Node) (L : List Entry) → Numbers nodes L → (m : Making) (node : Node) → slice_get nodes m.node ≡ Some node
@@ -172,27 +167,6 @@ numbers_make nodes L n m node at accepts =
             }
       ];
       once = once_after L added n.once l.alone new;
-      positive = λ g h. elim (parts g h) [
-        | inl old ↦ n.positive g old
-        | inr mine ↦ let x = entry_is_in added g mine in subst (λ (h : Gtid). 0 < h.number) (sym x.2) (l.next x.0 x.1).positive
-      ];
-      gapless = λ g k h low high. elim (parts g h) [
-        | inl old ↦ left (gtid g.source k) (n.gapless g k old low high)
-        | inr mine ↦
-            let x = entry_is_in added g mine in
-            let next = l.next x.0 x.1 in
-            let source : g.source ≡ site.own = ap (λ (h : Gtid). h.source) x.2 ∙ next.source in
-            let number : g.number ≡ x.0.gtid.number = ap (λ (h : Gtid). h.number) x.2 in
-            elim (at_or_below k g.number high) [
-              | inl same ↦
-                  let is_g : gtid g.source k ≡ g = λ i. record { source = g.source; number = same i } in
-                  right (gtid g.source k) (ap (is_entry added) is_g ∙ mine)
-              | inr below ↦
-                  let lower : k < x.0.gtid.number = subst (λ n. k < n) number below in
-                  let known = n.known j node at (gtid site.own k) (next.below k low lower) in
-                  left (gtid g.source k) (ap (λ (o : ℕ). is_entry L (gtid o k)) source ∙ known)
-            ]
-      ];
     }
   where
     is_number : (a b : ℕ) → eqb a b ≡ true → a ≡ b

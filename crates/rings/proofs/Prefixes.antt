@@ -15,7 +15,7 @@ use Rattle.journal.specs.Journals.{AreNew}
 use Rattle.auto_position.specs.Sending.{is_wanted}
 use Rattle.rows.proofs.Lists.{none_some}
 use Rattle.rows.proofs.Patching.{not_both}
-use Rattle.source_history.proofs.Covering.{in_insert, entries_append}
+use Rattle.ordered_journals.proofs.Covering.{in_insert, entries_append}
 use Rattle.rings.specs.Sending.{is_entry, NextIsSent}
 
 -- ---- no GTID twice

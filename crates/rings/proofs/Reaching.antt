@@ -19,9 +19,9 @@ use Rattle.replica_core.specs.declared.event.Event.{Event}
 use Rattle.replica_core.specs.State.{State, Site}
 use Rattle.replica_core.specs.Machine.{ask}
 use Rattle.replica_core.specs.Machine as machine
-use Rattle.source_history.proofs.Lists.{get_set_cases}
-use Rattle.source_history.proofs.Covering.{in_whole}
-use Rattle.faithful_runs.proofs.Sharing.{after_append}
+use Rattle.ordered_journals.proofs.Lists.{get_set_cases}
+use Rattle.ordered_journals.proofs.Covering.{in_whole}
+use Rattle.ordered_replicas.proofs.Sharing.{after_append}
 use Rattle.network.specs.declared.event.NetworkEvent.{NetworkEvent}
 use Rattle.network.specs.declared.event.NetworkReply.{NetworkReply}
 use Rattle.network.specs.declared.event.NetworkReply.TheVariants.{NoNode, NotHere, Refused, Nothing, Replied}

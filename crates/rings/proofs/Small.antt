@@ -26,8 +26,8 @@ use Rattle.replica_core.specs.declared.event.Reply.TheVariants.{NumbersUsedUp}
 use Rattle.replica_core.specs.State.{Site, State, owns, owner, entry_at, seat_numbers}
 use Rattle.replica_core.specs.Machine as machine
 use Rattle.replica_core.specs.Machine.{is_free, next_number, local_answer}
-use Rattle.source_history.specs.SmallWorld.{accounts, account, insertion, nth_of, opens_first, opens_second}
-use Rattle.faithful_runs.specs.Served.{committed_here}
+use Rattle.ordered_history.specs.SmallWorld.{accounts, account, insertion, nth_of, opens_first, opens_second}
+use Rattle.ordered_replicas.specs.Served.{committed_here}
 use Rattle.network.specs.Nodes.{Node, opened_node}
 use Rattle.rings.specs.Runs.{AreApart, local_at, run_locals}
 use Rattle.rings.specs.SmallRun.{small_run, small_commits, ApartRunsExist}

@@ -1,5 +1,4 @@
 pub mod Sending
-pub mod Sources
 pub mod Runs
 pub mod Rings
 pub mod SmallRun

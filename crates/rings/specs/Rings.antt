@@ -6,14 +6,14 @@ use Rattle.auto_position.specs.declared.PositionFault.{PositionFault}
 use Rattle.auto_position.specs.declared.PositionFault.TheVariants.{PurgedRequired, ReplicaHasMore, Set}
 use Rattle.replica_core.specs.State.{Site}
 use Rattle.replica_core.specs.Machine as machine
-use Rattle.source_history.specs.World.{IsSound}
-use Rattle.faithful_runs.specs.Faithful.{start_with, IsFaithfulRun, IsMerged}
+use Rattle.ordered_history.specs.World.{IsSound}
+use Rattle.ordered_replicas.specs.Faithful.{start_with, IsFaithfulRun, IsMerged}
 use Rattle.network.specs.declared.event.NetworkEvent.{NetworkEvent}
 use Rattle.network.specs.declared.event.NetworkReply.{NetworkReply}
 use Rattle.network.specs.declared.event.NetworkReply.TheVariants.{Refused}
 use Rattle.network.specs.Nodes.{Node, ids_distinct}
 use Rattle.network.specs.Machine.{replies, after}
-use Rattle.rings.specs.Runs.{NetworkRun, AreApart, end, run_replies, run_locals, run_world, run_of, extension}
+use Rattle.rings.specs.Runs.{NetworkRun, AreApart, IsRunInTurn, end, run_replies, run_locals, run_world, run_of, extension}
 
 abbrev pub IsNotMore : PositionFault → Type 0
 IsNotMore (PurgedRequired gtids) = Unit {0}
@@ -45,15 +45,19 @@ pub record AreMerged (run : NetworkRun) (nodes : List Node) (replies : List Netw
       → a.replica.state.executed ≡ b.replica.state.executed → a.replica.state.rows ≡ b.replica.state.rows
   pub no_more : AllByRecursion HasNoMore replies
 
--- After every run of a network of different UUIDs in which what is committed by Local at different nodes shares no key.
+-- After every run of a network of different UUIDs in which what is committed by Local comes after what shares a key with it.
 abbrev pub RingsMerge : Type 0
-RingsMerge = (run : NetworkRun) → ids_distinct run.ids ≡ true → AreApart run.schema (run_locals run) → AreMerged run (end run) (run_replies run)
+RingsMerge = (run : NetworkRun) → ids_distinct run.ids ≡ true → IsRunInTurn run → AreMerged run (end run) (run_replies run)
 
 -- Of nodes that a run has left: what further events leave is merged, with these replies.
 abbrev pub LeavesMerged : List Node → List NetworkEvent → List NetworkReply → List Node → Type 0
 LeavesMerged old events replies new = (run : NetworkRun) → ids_distinct run.ids ≡ true → old ≡ end run
-    → AreApart run.schema (run_locals (extension run events)) → AreMerged (extension run events) new replies
+    → IsRunInTurn (extension run events) → AreMerged (extension run events) new replies
 
 -- A run in two parts: what is left after the second part, whatever call made it.
 abbrev pub RingsGoOn : Type 0
 RingsGoOn = (nodes : List Node) (events : List NetworkEvent) → LeavesMerged nodes events (replies nodes events) (after nodes events)
+
+-- Where what is committed by Local at different nodes shares no key, it is in turn: a node has executed what it committed itself.
+abbrev pub ApartIsInTurn : Type 0
+ApartIsInTurn = (run : NetworkRun) → ids_distinct run.ids ≡ true → AreApart run.schema (run_locals run) → IsRunInTurn run

@@ -1,9 +1,8 @@
 -- What happens in a run of a network: the events of each node, and what is committed by Local.
-use Rattle.std.specs.Prelude.{◌≡◌, ◌≢◌, ℕ, ◌==◌, false, if◌then◌else◌, List, [], ◌∷◌, ◌++◌, Some, Ok, Err, slice_get}
+use Rattle.std.specs.Prelude.{◌≡◌, ◌≢◌, ℕ, ◌==◌, true, false, if◌then◌else◌, List, [], ◌∷◌, ◌++◌, map, Option, Some, None, Ok, Err, slice_get}
 use Rattle.std.specs.Option.{option_map_or}
-use Rattle.std.specs.FinMap as finmap
 use Rattle.std.specs.FinSet as set
-use Rattle.gtid_text.specs.Gtids.{gtid_cmp}
+use Rattle.gtid_set.specs.Sets.{Gtids}
 use Rattle.rows.specs.Apply.{Rows}
 use Rattle.rows.specs.WriteSet.{shares_key}
 use Rattle.rows.specs.declared.schema.Table.{Table}
@@ -11,8 +10,9 @@ use Rattle.rows.specs.declared.change.Transaction.{Transaction}
 use Rattle.journal.specs.declared.Entry.{Entry}
 use Rattle.replica_core.specs.declared.event.Event.{Event}
 use Rattle.replica_core.specs.Machine as machine
-use Rattle.source_history.specs.World.{World}
-use Rattle.faithful_runs.specs.Served.{committed_here}
+use Rattle.ordered_history.specs.World as ordered
+use Rattle.ordered_history.specs.World.{World}
+use Rattle.ordered_replicas.specs.Served.{committed_here}
 use Rattle.network.specs.declared.event.NetworkEvent.{NetworkEvent}
 use Rattle.network.specs.declared.event.NetworkReply.{NetworkReply}
 use Rattle.network.specs.Nodes.{Node, opened}
@@ -46,6 +46,28 @@ abbrev pub locals : List Node → List NetworkEvent → List Entry
 locals nodes [] = []
 locals nodes (e ∷ es) = local_of nodes (decide nodes e) ++ locals (step nodes e).1 es
 
+-- ---- one writer a key at a time
+
+-- of these, each that shares a key with a transaction is executed
+abbrev pub HaveCome : List Table → List Entry → Gtids → Transaction → Type 0
+HaveCome schema entries executed t = (i : ℕ) (e : Entry) → slice_get entries i ≡ Some e → shares_key schema e.txn t ≡ true → set.contains executed e.gtid ≡ true
+
+-- what a node commits by Local when it makes an event: of these, the node has executed each that shares a key with it
+abbrev pub IsInTurnAt : List Table → List Entry → Event → Option Node → Type 0
+IsInTurnAt schema entries event None = Unit {0}
+IsInTurnAt schema entries event (Some node) = (i : ℕ) (x : Entry) → slice_get (local_at event node) i ≡ Some x → HaveCome schema entries node.replica.state.executed x.txn
+
+abbrev pub IsInTurn : List Table → List Entry → List Node → Decision → Type 0
+IsInTurn schema entries nodes (Err reply) = Unit {0}
+IsInTurn schema entries nodes (Ok m) = IsInTurnAt schema entries m.event (slice_get nodes m.node)
+
+-- What is committed by Local comes after all that was committed by Local before, these among it, and shares a key with it: the
+-- node has executed that.
+abbrev pub AreInTurn : List Table → List Entry → List Node → List NetworkEvent → Type 0
+AreInTurn schema entries nodes [] = Unit {0}
+AreInTurn schema entries nodes (e ∷ es) =
+    IsInTurn schema entries nodes (decide nodes e) × AreInTurn schema (entries ++ local_of nodes (decide nodes e)) (step nodes e).1 es
+
 -- transactions of different sources share no key
 abbrev pub AreApart : List Table → List Entry → Type 0
 AreApart schema entries = (i k : ℕ) (e f : Entry) → slice_get entries i ≡ Some e → slice_get entries k ≡ Some f
@@ -53,14 +75,13 @@ AreApart schema entries = (i k : ℕ) (e f : Entry) → slice_get entries i ≡ 
 
 -- ---- the world of the local commits
 
--- the transaction of each GTID
-abbrev pub contents_of : List Entry → finmap.FinMap gtid_cmp Transaction
-contents_of [] = finmap.empty
-contents_of (e ∷ es) = finmap.insert (contents_of es) e.gtid e.txn
+-- a transaction under its GTID
+abbrev pub pair : Entry → ordered.Entry
+pair e = (e.gtid, e.txn)
 
--- the world in which each source committed what its node committed by Local
+-- the world of what was committed by Local, in the order of time
 abbrev pub world_of : List Table → Rows → List Entry → World
-world_of schema rows entries = record { schema = schema; opening_set = set.empty; opening_rows = rows; contents = contents_of entries }
+world_of schema rows entries = record { schema = schema; opening_set = set.empty; opening_rows = rows; order = map pair entries }
 
 -- ---- a whole run
 
@@ -87,6 +108,10 @@ run_locals run = locals (start run) run.events
 
 abbrev pub run_world : NetworkRun → World
 run_world run = world_of run.schema run.rows (run_locals run)
+
+-- one writer a key at a time, from the opening on
+abbrev pub IsRunInTurn : NetworkRun → Type 0
+IsRunInTurn run = AreInTurn run.schema [] (start run) run.events
 
 -- the events that the replica of a node makes in a run
 abbrev pub run_of : NetworkRun → ℕ → List Event

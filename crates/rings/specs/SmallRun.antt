@@ -3,7 +3,7 @@ use Rattle.std.specs.Prelude.{◌≡◌, true, List, [], ◌∷◌}
 use Rattle.std.specs.FinMap as map
 use Rattle.journal.specs.declared.Entry.{Entry}
 use Rattle.replica_core.specs.declared.event.Event.TheVariants.{Local}
-use Rattle.source_history.specs.SmallWorld.{accounts, nth_of, opens_first, opens_second}
+use Rattle.ordered_history.specs.SmallWorld.{accounts, nth_of, opens_first, opens_second}
 use Rattle.network.specs.declared.event.NetworkEvent.TheVariants.{Act}
 use Rattle.network.specs.Nodes.{ids_distinct}
 use Rattle.rings.specs.Runs.{NetworkRun, AreApart, run_locals}

@@ -9,8 +9,8 @@ use gtid_set::SetFault;
 use network::{Network, NetworkEvent, NetworkReply};
 use std::alloc::Global;
 
-/// One event, as `Network::step` makes it. Where the network was opened and has run, and what is committed by Local
-/// at different nodes shares no key, what the nodes then hold is merged. After an error nothing has changed.
+/// One event, as `Network::step` makes it. Where the network was opened and has run, and each key had one writer at a
+/// time, what the nodes then hold is merged. After an error nothing has changed.
 pub fn step(
     network: &mut Network,
     alloc: Global,
@@ -26,8 +26,8 @@ pub fn step(
 }
 
 /// Events in turn, as `Network::run` makes them: the replies up to the first error, and that error. Where the network
-/// was opened and has run, and what is committed by Local at different nodes shares no key, what the nodes then hold
-/// is merged: nodes with equal executed sets hold equal rows.
+/// was opened and has run, and each key had one writer at a time, what the nodes then hold is merged: nodes with equal
+/// executed sets hold equal rows.
 pub fn run(
     network: &mut Network,
     alloc: Global,

@@ -10,9 +10,15 @@ use std::marker::Model;
 use std::slice;
 
 /// The values of a key's columns, in the key's order. One value stands in place; a clone shares several.
-#[derive(Drop)]
 pub struct KeyValues {
     held: HeldValues,
+}
+
+impl Drop for KeyValues {
+    // (by hand: for a caller the end of a KeyValues is one call)
+    fn drop(self) {
+        let KeyValues { held: _held } = self;
+    }
 }
 
 /// Where the values are held.

@@ -25,10 +25,19 @@ use std::alloc::{AllocError, Global};
 use std::marker::Model;
 
 /// The rows of a schema's tables. Each row stands under every key that it carries, and under no other.
-#[derive(Drop)]
 pub struct Rows {
     schema: Schema,
     carriers: KeyMap,
+}
+
+impl Drop for Rows {
+    // (by hand: for a caller the end of a Rows is one call)
+    fn drop(self) {
+        let Rows {
+            schema: _schema,
+            carriers: _carriers,
+        } = self;
+    }
 }
 
 impl Model for Rows {

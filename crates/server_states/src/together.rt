@@ -85,6 +85,13 @@ fn with_set(alloc: Global, together: &Together, set: &GtidSet) -> Result<Togethe
     Ok(Together { all, shared })
 }
 
+/// These sets with one more in place of them.
+fn grow(alloc: Global, together: Together, set: &GtidSet) -> Result<Together, Fault>
+    ensures { Answers (λ t. t) result (with_set together set.now) }
+{
+    with_set(alloc, &together, set)
+}
+
 /// The sets of servers together.
 pub fn all_together(alloc: Global, servers: &[Server]) -> Result<Together, Fault>
     ensures { Answers (λ t. t) result (with_servers none servers.now) }
@@ -94,7 +101,7 @@ pub fn all_together(alloc: Global, servers: &[Server]) -> Result<Together, Fault
         shared: GtidSet::empty(alloc),
     };
     for server in servers {
-        match with_set(alloc, &together, server.executed()) {
+        match grow(alloc, together, server.executed()) {
             Ok(more) => together = more,
             Err(fault) => return Err(fault),
         }

@@ -34,10 +34,10 @@ use Rattle.replica_core.specs.declared.event.Reply.TheVariants as reply
 use Rattle.replica_core.specs.State.{State, Site, Replica}
 use Rattle.replica_core.specs.Machine.{Step, step, ask, with_channel}
 use Rattle.auto_position.specs.Sending.{sent, own_of}
-use Rattle.source_history.proofs.Lists.{all_at, all_from}
-use Rattle.faithful_runs.specs.Served.{accepted}
-use Rattle.faithful_runs.proofs.Sending.{sent_cases}
-use Rattle.faithful_runs.proofs.Wholes.{set_there}
+use Rattle.ordered_journals.proofs.Lists.{all_at, all_from}
+use Rattle.ordered_replicas.specs.Served.{accepted}
+use Rattle.ordered_replicas.proofs.Sending.{sent_cases}
+use Rattle.ordered_replicas.proofs.Wholes.{set_there}
 use Rattle.audit.specs.Contents.{in_order, as_entry}
 use Rattle.audit.specs.Worlds.{IsMisfit}
 use Rattle.world.specs.Audit.{all_entries, first_contents, found_in_keys, purged, unequal}
@@ -48,6 +48,10 @@ use Rattle.world.proofs.Finding.{next_none, when_none, first_none}
 use Rattle.world.proofs.Meanings.{keys_not, none_of_sound}
 use Rattle.txn_journal.specs.BundleStates.{BundleValue}
 use Rattle.txn_journal.specs.declared.bundle.Channel.{Channel}
+use Rattle.ordered_bundles.specs.Audit as in_order
+use Rattle.ordered_bundles.proofs.Sounding as sounding
+use Rattle.serving.specs.declared.order.Order.{Order}
+use Rattle.serving.specs.declared.order.Order.TheVariants.{BySource, ByConflict}
 use Rattle.serving.specs.declared.receiving.Apply.{Apply}
 use Rattle.serving.specs.Servable.{FitsJournal, IsFitting, HasRoom, IsServable, CanOpen, IsTaken, CanReceive, CanSend, CanServe, CanServeEach}
 use Rattle.serving.specs.Serving.{run, IsBetween, with_opened, Asks, ServesOne, opening}
@@ -247,12 +251,20 @@ module _ (r : Replica) (c : ℕ) (channel : Channel) (chs rest : List Channel) (
 -- ---- from the opening
 
 -- where the audit of keys is sound, what was purged is executed from the start
-unpurged : (b : BundleValue) → keys_over b ≡ Sound → (i : ℕ) (j : JournalValue) → slice_get b.journals i ≡ Some j → set.is_subset j.previous b.opened ≡ true
-unpurged b sound i j at =
+nothing_purged : (order : Order) (b : BundleValue) → keys_over order b ≡ Sound → (unequal (world_over b) b.journals ≡ None) × (purged (world_over b) b.journals ≡ None)
+nothing_purged BySource b sound =
     let w = world_over b in
     let all = next_none (unequal w b.journals) _ (none_of_sound (found_in_keys w b.journals) (keys_not w b.journals) sound) in
-    let none = next_none (purged w b.journals) _ all.1 in
-    not-false (set.is_subset j.previous b.opened) (when_none (not (set.is_subset j.previous b.opened)) (Purged i (set.difference j.previous b.opened)) (first_none _ b.journals none.0 i j at))
+    (all.0, (next_none (purged w b.journals) _ all.1).0)
+nothing_purged ByConflict b sound =
+    let w = world_over b in
+    let all = next_none (unequal w b.journals) _ (none_of_sound (in_order.found_in_keys w b.journals) (sounding.keys_not w b.journals) sound) in
+    (all.0, (next_none (purged w b.journals) _ all.1).0)
+
+unpurged : (order : Order) (b : BundleValue) → keys_over order b ≡ Sound → (i : ℕ) (j : JournalValue) → slice_get b.journals i ≡ Some j → set.is_subset j.previous b.opened ≡ true
+unpurged order b sound i j at =
+    let none = nothing_purged order b sound in
+    not-false (set.is_subset j.previous b.opened) (when_none (not (set.is_subset j.previous b.opened)) (Purged i (set.difference j.previous b.opened)) (first_none _ b.journals none.1 i j at))
 
 can_send : (schema : List Table) (executed : Gtids) (j : JournalValue) → set.is_subset j.previous executed ≡ true → IsJournal j.previous j.entries → FitsJournal schema j → HasRoom j → CanSend schema executed j
 can_send schema executed j unpurged rules fits room = record {
@@ -265,15 +277,15 @@ can_send schema executed j unpurged rules fits room = record {
 }
 
 -- a bundle that can be served, and whose keys are sound, can be served to its replica
-pub can_serve_all : (b : BundleValue) → IsServable b → keys_over b ≡ Sound → AreJournals b.journals → CanServeEach 0 b.channels b.journals (opening b)
-can_serve_all b can sound rules = record {
+pub can_serve_all : (order : Order) (b : BundleValue) → IsServable b → keys_over order b ≡ Sound → AreJournals b.journals → CanServeEach 0 b.channels b.journals (opening b)
+can_serve_all order b can sound rules = record {
   before = [];
   named = refl;
   next = refl;
   few = let few = can.few in omega (arith, few);
   have = can.have;
   send = all_from (CanSend b.start.schema b.opened) b.journals (λ i j at.
-      can_send b.start.schema b.opened j (unpurged b sound i j at) (all_at (λ (x : JournalValue). IsJournal x.previous x.entries) b.journals i j rules at)
+      can_send b.start.schema b.opened j (unpurged order b sound i j at) (all_at (λ (x : JournalValue). IsJournal x.previous x.entries) b.journals i j rules at)
       (all_at (FitsJournal b.start.schema) b.journals i j can.fits at) (all_at HasRoom b.journals i j can.room at));
 }
 

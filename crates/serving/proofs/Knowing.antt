@@ -39,20 +39,21 @@ use Rattle.replica_core.specs.State.{State, Replica}
 use Rattle.replica_core.specs.Machine.{step, ask, Held, held_of, held_at, held}
 use Rattle.replica_core.specs.AtOnce.{IsFaultAtOnce}
 use Rattle.replica_core.specs.Faults.{asking, receiving, committing, executing_too, IsFaultIn}
-use Rattle.source_history.proofs.Covering.{is_entry, in_insert, in_gtids, in_whole}
-use Rattle.source_history.proofs.Lists.{all_at, all_from, all_drop}
-use Rattle.faithful_runs.specs.Served.{accepted, received_on, local_commits, NoLocalCommits}
-use Rattle.faithful_runs.proofs.Receiving.{among_received}
-use Rattle.faithful_runs.proofs.Growing.{nothing}
-use Rattle.faithful_runs.proofs.Serving.{run_grows}
-use Rattle.faithful_runs.proofs.Sharing.{Moves, Brought, run_moves}
+use Rattle.ordered_journals.proofs.Covering.{is_entry, in_insert, in_gtids, in_whole}
+use Rattle.ordered_journals.proofs.Lists.{all_at, all_from, all_drop}
+use Rattle.ordered_replicas.specs.Served.{accepted, received_on, local_commits, NoLocalCommits}
+use Rattle.ordered_replicas.proofs.Receiving.{among_received}
+use Rattle.ordered_replicas.proofs.Growing.{nothing}
+use Rattle.ordered_replicas.proofs.Serving.{run_grows}
+use Rattle.ordered_replicas.proofs.Sharing.{Moves, Brought, run_moves}
 use Rattle.world.proofs.Contents.{entry_at, entry_from}
-use Rattle.faithful_runs.specs.Deciding.{all_of}
+use Rattle.ordered_replicas.specs.Deciding.{all_of}
 use Rattle.txn_journal.specs.BundleStates.{BundleValue}
 use Rattle.txn_journal.specs.declared.bundle.Channel.{Channel}
 use Rattle.serving.specs.declared.receiving.Apply.{Apply}
 use Rattle.serving.specs.declared.receiving.Apply.TheVariants.{AtOnce}
 use Rattle.serving.specs.Faults.{Cover, IsFaultWhere, HasGtid, HasSet, IsReceived, Knows, HasEntries, KnowsWith, HasJournal, KnowsToo, intervals_of, IsBundleFault, IsVerdictFault}
+use Rattle.serving.specs.declared.order.Order.{Order}
 use Rattle.serving.specs.Serving.{run, IsBetween, IsFeed, Applies, Receives, with_opened, Asks, ServesOne, ServesEach, opening, IsRun}
 use Rattle.serving.proofs.Conditions.{sent_all}
 use Rattle.serving.proofs.Runs.{all_by, IsApart, no_receipts, no_locals, no_commits, between_apart, feed_apart}
@@ -247,8 +248,8 @@ knows_opening b = (known, journals_in b.opened b.journals)
       received = λ g h. none_some h.1 h.2;
     }
 
-knows_all : (b : BundleValue) (core : Replica) → IsRun b core → Knows core.state (cover_of b.opened b.journals)
-knows_all b core r =
+knows_all : (order : Order) (b : BundleValue) (core : Replica) → IsRun order b core → Knows core.state (cover_of b.opened b.journals)
+knows_all order b core r =
     let cover = cover_of b.opened b.journals in
     let start = knows_opening b in
     knows_applied cover AtOnce r.served core r.applies (knows_each cover r.apply (opening b) 0 b.channels b.journals r.served r.received.1 start.1 start.0)
@@ -407,12 +408,12 @@ pub later_fault : (f : SetFault) (apply : Apply) (r t : Replica) → Applies app
 later_fault f apply r t applies h = weaker f (Knows t.state) (Knows r.state) (λ cover within. knows_applied cover apply r t applies within) h
 
 -- a fault of a replica that was served the journals of a bundle
-pub run_fault : (f : SetFault) (b : BundleValue) (core : Replica) → IsRun b core → IsFaultWhere (Knows core.state) f → IsBundleFault b f
-run_fault f b core r h = bundle_fault f b (Knows core.state) (knows_all b core r) h
+pub run_fault : (f : SetFault) (order : Order) (b : BundleValue) (core : Replica) → IsRun order b core → IsFaultWhere (Knows core.state) f → IsBundleFault b f
+run_fault f order b core r h = bundle_fault f b (Knows core.state) (knows_all order b core r) h
 
 -- ... by which a commit of some seat is answered
-pub seat_fault : (f : SetFault) (b : BundleValue) (core : Replica) (seat : ℕ) → IsRun b core → IsFaultIn f (committing seat core.state) → IsBundleFault b f
-seat_fault f b core seat r h = run_fault f b core r (commit_fault f core.state seat h)
+pub seat_fault : (f : SetFault) (order : Order) (b : BundleValue) (core : Replica) (seat : ℕ) → IsRun order b core → IsFaultIn f (committing seat core.state) → IsBundleFault b f
+seat_fault f order b core seat r h = run_fault f order b core r (commit_fault f core.state seat h)
 
 -- a fault of the first journal, and one of the others
 pub first_fault : (f : SetFault) (s : State) (j : JournalValue) (js journals : List JournalValue) → journals ≡ j ∷ js → IsFaultWhere (KnowsToo s (j ∷ [])) f → IsFaultWhere (KnowsToo s journals) f

@@ -1,6 +1,6 @@
 -- Runs that serve journals, and what the laws say of them.
 use Rattle.std.proofs.Common.{◌≡◌, ℕ, zero, suc, ◌+◌, ◌&&◌, inr, Bool, true, false, cond, not, eqb, eq-eqb, List, [], ◌∷◌, ◌++◌, length, Option, Some, None, refl, sym, ap, ◌∙◌, subst, append_assoc, append-nil, arith}
-use Rattle.std.specs.Prelude.{slice_get}
+use Rattle.std.specs.Prelude.{◌↔◌, slice_get}
 use Rattle.std.specs.List.{list_all, AllByRecursion}
 use Rattle.std.specs.Option.{unwrap_or}
 use Rattle.std.specs.FinSet as set
@@ -17,23 +17,29 @@ use Rattle.replica_core.specs.declared.event.Reply.{Reply}
 use Rattle.replica_core.specs.State.{State, Site, Replica}
 use Rattle.replica_core.specs.Machine.{Step, step, after, drained}
 use Rattle.replica_core.specs.Draining.{AreStoppedOrDone}
-use Rattle.faithful_runs.specs.Served.{IsDrained, IsNoLocalCommit, NoLocalCommits, received_on, accepted, on_channel, committed_here, local_commits}
-use Rattle.faithful_runs.specs.Whole.{is_position, WasServedOnce}
-use Rattle.faithful_runs.proofs.Sharing.{after_append, received_append}
-use Rattle.faithful_runs.proofs.Serving.{run_grows}
+use Rattle.ordered_replicas.specs.Served.{IsDrained, IsNoLocalCommit, NoLocalCommits, received_on, accepted, on_channel, committed_here, local_commits}
+use Rattle.ordered_replicas.specs.Whole.{is_position, WasServedOnce}
+use Rattle.ordered_replicas.proofs.Sharing.{after_append, received_append}
+use Rattle.ordered_replicas.proofs.Serving.{run_grows}
 use Rattle.rows.proofs.Lists.{none_some, all_append}
 use Rattle.world.specs.Search.{or_next}
 use Rattle.world.specs.Audit.{found_in_keys, does_not_apply}
 use Rattle.world.specs.Meaning.{AreJournals}
 use Rattle.world.specs.declared.verdict.Verdict.{Verdict}
 use Rattle.world.specs.declared.verdict.Verdict.TheVariants.{Sound}
-use Rattle.faithful_runs.specs.Deciding.{ServesAll, WorkersDecide, ServedHoldsAll, HoldsAll}
+use Rattle.ordered_replicas.specs.Deciding.{ServesAll}
+use Rattle.ordered_replicas.proofs.Deciding.{serves_by_number}
+use Rattle.faithful_runs.specs.Deciding.{WorkersDecide, ServedHoldsAll}
 use Rattle.txn_journal.specs.BundleStates.{BundleValue}
 use Rattle.txn_journal.specs.declared.bundle.Channel.{Channel}
 use Rattle.serving.specs.declared.receiving.Apply.{Apply}
 use Rattle.serving.specs.declared.receiving.Apply.TheVariants.{Later, AtOnce}
 use Rattle.serving.specs.Serving.{run, IsBetween, applied_at, IsFeed, Applies, Receives, with_opened, ServesOne, ServesEach, opening, HasReceived, IsReady, IsRun}
-use Rattle.serving.specs.Verdicts.{is_sound, world_over, keys_over, verdict_over, IsFoundInKeys, IsConcluded}
+use Rattle.ordered_bundles.specs.Audit as in_order
+use Rattle.faithful_runs.specs.InOrder.{WorkersDecideInOrder, ServedHoldsAllInOrder}
+use Rattle.serving.specs.declared.order.Order.{Order}
+use Rattle.serving.specs.declared.order.Order.TheVariants.{BySource, ByConflict}
+use Rattle.serving.specs.Verdicts.{is_sound, world_over, keys_over, verdict_over, HoldsAllBy, IsFoundInKeys, IsConcluded}
 
 -- ---- lists of events
 
@@ -291,8 +297,8 @@ pub record IsRunOf (b : BundleValue) (core : Replica) : Type 0 where
   pub reached : core ≡ run (opening b) events
   pub serves : ServesAll (opening b).site (opening b).state b.journals events
 
-pub run_of : (b : BundleValue) (core : Replica) → IsRun b core → IsRunOf b core
-run_of b core r =
+pub run_of : (order : Order) (b : BundleValue) (core : Replica) → IsRun order b core → IsRunOf b core
+run_of order b core r =
     let from : Replica = opening b in
     let each = serves_each r.apply from 0 b.channels b.journals r.served r.received.1 in
     let later = r.applies.events in
@@ -303,11 +309,10 @@ run_of b core r =
     record {
       events = each.events ++ later;
       reached = then_run from r.served core each.events later each.now r.applies.now;
-      serves = record {
-        no_local = no_locals (length b.journals) from.site from.state (each.events ++ later) (apart (length b.journals) (slice_get_past b.journals (length b.journals) (omega arith)));
-        served = λ c j at. let z : c ≡ 0 + c = omega arith in each.served later off c c j z at;
-        nothing_else = λ c none. no_receipts c from.site from.state (each.events ++ later) (apart c none);
-      };
+      serves = serves_by_number from.site from.state b.journals (each.events ++ later)
+          (no_locals (length b.journals) from.site from.state (each.events ++ later) (apart (length b.journals) (slice_get_past b.journals (length b.journals) (omega arith))))
+          (λ c j at. let z : c ≡ 0 + c = omega arith in each.served later off c c j z at)
+          (λ c none. no_receipts c from.site from.state (each.events ++ later) (apart c none));
     }
 
 pub all_true : {A : Type 0} (p : A → Bool) (xs : List A) (i : ℕ) (x : A) → list_all p xs ≡ true → slice_get xs i ≡ Some x → p x ≡ true
@@ -351,34 +356,57 @@ stays (Some v) p h = refl
 stays None p h = absurd (h refl)
 
 -- what the audit of keys finds is what the audit finds
-pub keys_found : (b : BundleValue) (keys : Verdict) → keys ≡ keys_over b → is_sound keys ≡ false → IsFoundInKeys b (Some keys)
-keys_found b keys is h =
-    let not_sound = sound_not keys h in
-    (is ∙ stays (found_in_keys (world_over b) b.journals) (does_not_apply (world_over b)) (λ e. not_sound (is ∙ e)), not_sound)
+keys_stay : (order : Order) (b : BundleValue) → (keys_over order b ≡ Sound → ⊥) → keys_over order b ≡ verdict_over order b
+keys_stay BySource b h = stays (found_in_keys (world_over b) b.journals) (does_not_apply (world_over b)) h
+keys_stay ByConflict b h = stays (in_order.found_in_keys (world_over b) b.journals) (in_order.does_not_apply (world_over b) b.journals) h
 
-pub keys_sound : (b : BundleValue) (keys : Verdict) → keys ≡ keys_over b → is_sound keys ≡ true → IsFoundInKeys b None
-keys_sound b keys is h = sym is ∙ sound_is keys h
+pub keys_found : (order : Order) (b : BundleValue) (keys : Verdict) → keys ≡ keys_over order b → is_sound keys ≡ false → IsFoundInKeys order b (Some keys)
+keys_found order b keys is h =
+    let not_sound = sound_not keys h in
+    (is ∙ keys_stay order b (λ e. not_sound (is ∙ e)), not_sound)
+
+pub keys_sound : (order : Order) (b : BundleValue) (keys : Verdict) → keys ≡ keys_over order b → is_sound keys ≡ true → IsFoundInKeys order b None
+keys_sound order b keys is h = sym is ∙ sound_is keys h
+
+-- the laws of runs, of both audits
+pub record Laws : Type 0 where
+  pub decide : WorkersDecide
+  pub holds : ServedHoldsAll
+  pub decide_in_order : WorkersDecideInOrder
+  pub holds_in_order : ServedHoldsAllInOrder
+
+-- a run that serves all journals has executed all of them exactly where the audit says Sound
+decides : (order : Order) (b : BundleValue) → Laws → AreJournals b.journals → keys_over order b ≡ Sound → (events : List Event) → ServesAll (opening b).site (opening b).state b.journals events
+    → AreStoppedOrDone (after (opening b).site (opening b).state events) → IsDrained (after (opening b).site (opening b).state events) ↔ (verdict_over order b ≡ Sound)
+decides BySource b laws rules sound events serves ends = laws.decide (opening b).site b.opened b.start.rows b.journals events rules sound serves ends
+decides ByConflict b laws rules sound events serves ends = laws.decide_in_order (opening b).site b.opened b.start.rows b.journals events rules sound serves ends
+
+-- ... and then holds them
+holds_them : (order : Order) (b : BundleValue) → Laws → AreJournals b.journals → keys_over order b ≡ Sound → (events : List Event) → ServesAll (opening b).site (opening b).state b.journals events
+    → IsDrained (after (opening b).site (opening b).state events) → HoldsAllBy order b (after (opening b).site (opening b).state events)
+holds_them BySource b laws rules sound events serves dry = laws.holds (opening b).site b.opened b.start.rows b.journals events rules sound serves dry
+holds_them ByConflict b laws rules sound events serves dry = laws.holds_in_order (opening b).site b.opened b.start.rows b.journals events rules sound serves dry
 
 -- what is drained is what an audit calls sound, and holds all journals
-pub holds_all : (b : BundleValue) (core : Replica) → IsRun b core → AreJournals b.journals → drained core.state ≡ true → WorkersDecide → ServedHoldsAll
-    → (verdict_over b ≡ Sound) × HoldsAll b.start.schema b.opened b.start.rows b.journals core.state
-holds_all b core r rules done decide holds =
-    let w = run_of b core r in
+pub holds_all : (order : Order) (b : BundleValue) (core : Replica) → IsRun order b core → AreJournals b.journals → drained core.state ≡ true → Laws
+    → (verdict_over order b ≡ Sound) × HoldsAllBy order b core.state
+holds_all order b core r rules done laws =
+    let w = run_of order b core r in
     let at : core.state ≡ after (opening b).site (opening b).state w.events = ap (λ (x : Replica). x.state) w.reached in
     let dry = subst IsDrained at (is_drained core.state done) in (
-      (decide (opening b).site b.opened b.start.rows b.journals w.events rules r.received.0 w.serves (stopped_or_done (after (opening b).site (opening b).state w.events) dry)).0 dry,
-      subst (HoldsAll b.start.schema b.opened b.start.rows b.journals) (sym at) (holds (opening b).site b.opened b.start.rows b.journals w.events rules r.received.0 w.serves dry),
+      (decides order b laws rules r.received.0 w.events w.serves (stopped_or_done (after (opening b).site (opening b).state w.events) dry)).0 dry,
+      subst (HoldsAllBy order b) (sym at) (holds_them order b laws rules r.received.0 w.events w.serves dry),
     )
 
 -- where not all is executed, and each channel is stopped or done, the audit's verdict is another
-pub audit_concluded : (b : BundleValue) (core : Replica) (v : Verdict) → IsRun b core → AreJournals b.journals → drained core.state ≡ false → AreStoppedOrDone core.state
-    → v ≡ verdict_over b → WorkersDecide → IsConcluded b core (Some v)
-audit_concluded b core v r rules undone ends is decide = (
+pub audit_concluded : (order : Order) (b : BundleValue) (core : Replica) (v : Verdict) → IsRun order b core → AreJournals b.journals → drained core.state ≡ false → AreStoppedOrDone core.state
+    → v ≡ verdict_over order b → Laws → IsConcluded order b core (Some v)
+audit_concluded order b core v r rules undone ends is laws = (
   is,
   λ sound.
-      let w = run_of b core r in
+      let w = run_of order b core r in
       let at : core.state ≡ after (opening b).site (opening b).state w.events = ap (λ (x : Replica). x.state) w.reached in
-      let dry = (decide (opening b).site b.opened b.start.rows b.journals w.events rules r.received.0 w.serves (subst AreStoppedOrDone at ends)).1 (sym is ∙ sound) in
+      let dry = (decides order b laws rules r.received.0 w.events w.serves (subst AreStoppedOrDone at ends)).1 (sym is ∙ sound) in
       let done : drained core.state ≡ true = all_drained core.state (subst IsDrained (sym at) dry) in
       cc,
 )
@@ -386,13 +414,13 @@ audit_concluded b core v r rules undone ends is decide = (
 -- ---- what the code served
 
 -- what was received, before more is applied
-pub run_begun : (apply : Apply) (b : BundleValue) (core : Replica) → HasReceived apply b core → IsRun b core
-run_begun apply b core received = record { apply = apply; served = core; received = received; applies = applies_none AtOnce core }
+pub run_begun : (order : Order) (apply : Apply) (b : BundleValue) (core : Replica) → HasReceived order apply b core → IsRun order b core
+run_begun order apply b core received = record { apply = apply; served = core; received = received; applies = applies_none AtOnce core }
 
 -- a run that went on
-pub run_further : (b : BundleValue) (core next : Replica) → IsRun b core → Applies AtOnce core next → IsRun b next
-run_further b core next r applies = record { apply = r.apply; served = r.served; received = r.received; applies = applies_more AtOnce r.served core next r.applies applies }
+pub run_further : (order : Order) (b : BundleValue) (core next : Replica) → IsRun order b core → Applies AtOnce core next → IsRun order b next
+run_further order b core next r applies = record { apply = r.apply; served = r.served; received = r.received; applies = applies_more AtOnce r.served core next r.applies applies }
 
 -- a replica that was ready, and to which was applied since
-pub ready_applied : (b : BundleValue) (ready core : Replica) → IsReady b ready → Applies AtOnce ready core → IsRun b core
-ready_applied b ready core received applies = run_further b ready core (run_begun Later b ready received) applies
+pub ready_applied : (order : Order) (b : BundleValue) (ready core : Replica) → IsReady order b ready → Applies AtOnce ready core → IsRun order b core
+ready_applied order b ready core received applies = run_further order b ready core (run_begun order Later b ready received) applies

@@ -21,12 +21,13 @@ use Rattle.replica_core.specs.declared.event.Event.TheVariants.{OpenChannel, Rec
 use Rattle.replica_core.specs.declared.event.Reply.TheVariants.{NameTaken, ChannelsFull, Opened, Ask, NotInSchema, SeatBusy, OwnedBy, Blocked, Early, RolledBack}
 use Rattle.replica_core.specs.State.{State, Site, Replica, owned_by, owner}
 use Rattle.replica_core.specs.Machine.{Step, is_seat, blocking, open_before, without_seat, take_entry, take_place, held, commit_answer, commit_held, commit, position_on, ask, with_channel, step, after}
-use Rattle.source_history.proofs.Lists.{get_map}
+use Rattle.ordered_journals.proofs.Lists.{get_map}
 use Rattle.txn_journal.specs.BundleStates.{BundleValue}
 use Rattle.txn_journal.specs.declared.bundle.Channel.{Channel}
 use Rattle.serving.specs.declared.receiving.Apply.{Apply}
 use Rattle.serving.specs.declared.receiving.Apply.TheVariants.{AtOnce}
 use Rattle.serving.specs.Servable.{IsTaken, CanReceive}
+use Rattle.serving.specs.declared.order.Order.{Order}
 use Rattle.serving.specs.Serving.{IsBetween, IsFeed, Applies, with_opened, ServesOne, ServesEach, opening, IsRun}
 use Rattle.serving.specs.Verdicts.{Naming, names_of, names_asked, IsNamed}
 use Rattle.serving.proofs.Runs.{run_of}
@@ -190,8 +191,8 @@ each_named apply r c (channel ∷ channels) (j ∷ js) t x =
     ∙ ap (λ (ns : List Naming). ns ++ names_asked (take (length js) channels)) (one_named apply r c channel j x.0 x.1)
     ∙ append_assoc (names_of r.state.channels) ((channel.name, channel.preserve) ∷ []) (names_asked (take (length js) channels))
 
-pub run_named : (b : BundleValue) (core : Replica) → IsRun b core → IsNamed b core
-run_named b core r = record {
-  uuid = ap (λ (x : Replica). x.site.own) (run_of b core r).reached;
+pub run_named : (order : Order) (b : BundleValue) (core : Replica) → IsRun order b core → IsNamed b core
+run_named order b core r = record {
+  uuid = ap (λ (x : Replica). x.site.own) (run_of order b core r).reached;
   names = same_names r.served.state.channels core.state.channels (applies_shapes AtOnce r.served core r.applies) ∙ each_named r.apply (opening b) 0 b.channels b.journals r.served r.received.1;
 }

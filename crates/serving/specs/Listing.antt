@@ -4,7 +4,7 @@ use Rattle.audit.specs.Others.{Faults, faults_of, IsListFault}
 use Rattle.txn_journal.specs.BundleStates.{BundleValue}
 use Rattle.serving.specs.Verdicts.{world_over}
 
--- the verdict of the audit, and what else there is of three kinds
+-- the verdict of the audit, and what else there is
 abbrev pub faults_over : BundleValue → Faults
 faults_over b = faults_of (world_over b) b.journals
 

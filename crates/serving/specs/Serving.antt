@@ -12,10 +12,11 @@ use Rattle.replica_core.specs.State.{Replica}
 use Rattle.replica_core.specs.Machine.{step, after}
 use Rattle.replica_core.specs.Core.{opened_with}
 use Rattle.auto_position.specs.Sending.{sent}
-use Rattle.faithful_runs.specs.Served.{received_on}
+use Rattle.ordered_replicas.specs.Served.{received_on}
 use Rattle.world.specs.declared.verdict.Verdict.TheVariants.{Sound}
 use Rattle.txn_journal.specs.BundleStates.{BundleValue}
 use Rattle.txn_journal.specs.declared.bundle.Channel.{Channel}
+use Rattle.serving.specs.declared.order.Order.{Order}
 use Rattle.serving.specs.declared.receiving.Apply.{Apply}
 use Rattle.serving.specs.declared.receiving.Apply.TheVariants.{Later, AtOnce}
 use Rattle.serving.specs.Verdicts.{keys_over}
@@ -88,16 +89,16 @@ abbrev pub opening : BundleValue → Replica
 opening b = opened_with b.replica b.start b.opened
 
 -- the audit of keys says Sound, and the replica of the bundle has received all that its journals send
-abbrev pub HasReceived : Apply → BundleValue → Replica → Type 0
-HasReceived apply b core = (keys_over b ≡ Sound) × ServesEach apply (opening b) 0 b.channels b.journals core
+abbrev pub HasReceived : Order → Apply → BundleValue → Replica → Type 0
+HasReceived order apply b core = (keys_over order b ≡ Sound) × ServesEach apply (opening b) 0 b.channels b.journals core
 
 -- ... of which nothing is applied
-abbrev pub IsReady : BundleValue → Replica → Type 0
-IsReady b core = HasReceived Later b core
+abbrev pub IsReady : Order → BundleValue → Replica → Type 0
+IsReady order b core = HasReceived order Later b core
 
 -- ... of which something may be applied: seats took, committed and rolled back while it came, and afterwards
-pub record IsRun (b : BundleValue) (core : Replica) : Type 0 where
+pub record IsRun (order : Order) (b : BundleValue) (core : Replica) : Type 0 where
   pub apply : Apply
   pub served : Replica
-  pub received : HasReceived apply b served
+  pub received : HasReceived order apply b served
   pub applies : Applies AtOnce served core

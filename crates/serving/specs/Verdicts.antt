@@ -1,14 +1,21 @@
 -- What the audit of a bundle finds, and what its journals come to.
 use Rattle.std.specs.Prelude.{◌≡◌, ℕ, Bool, true, false, List, map, take, length, Option, None, Some}
+use Rattle.journal.specs.Journals.{JournalValue}
 use Rattle.apply_channel.specs.Channels.{ChannelValue}
-use Rattle.replica_core.specs.State.{Replica}
+use Rattle.replica_core.specs.State.{State, Replica}
 use Rattle.source_history.specs.World.{World}
 use Rattle.world.specs.Audit.{world_of, verdict, verdict_of_keys}
 use Rattle.world.specs.declared.verdict.Verdict.{Verdict}
 use Rattle.world.specs.declared.verdict.Verdict.TheVariants.{Sound}
+use Rattle.ordered_history.specs.World as ordered
+use Rattle.ordered_bundles.specs.Audit as in_order
+use Rattle.ordered_bundles.specs.Meaning.{joined_world}
+use Rattle.ordered_replicas.specs.Deciding as runs
 use Rattle.faithful_runs.specs.Deciding.{HoldsAll}
 use Rattle.txn_journal.specs.BundleStates.{BundleValue}
 use Rattle.txn_journal.specs.declared.bundle.Channel.{Channel}
+use Rattle.serving.specs.declared.order.Order.{Order}
+use Rattle.serving.specs.declared.order.Order.TheVariants.{BySource, ByConflict}
 use Rattle.serving.specs.declared.outcome.StateOrVerdict.{StateOrVerdict}
 use Rattle.serving.specs.declared.outcome.StateOrVerdict.TheVariants as found
 
@@ -20,20 +27,34 @@ is_sound _ = false
 abbrev pub world_over : BundleValue → World
 world_over b = world_of b.start.schema b.opened b.start.rows b.journals
 
-abbrev pub verdict_over : BundleValue → Verdict
-verdict_over b = verdict (world_over b) b.journals
+-- the world that the histories of the journals are joined to
+abbrev pub joined_over : BundleValue → ordered.World
+joined_over b = joined_world b.start.schema b.opened b.start.rows b.journals
 
-abbrev pub keys_over : BundleValue → Verdict
-keys_over b = verdict_of_keys (world_over b) b.journals
+-- the verdict of the audit that asks for this order
+abbrev pub verdict_by : Order → World → List JournalValue → Verdict
+verdict_by BySource world journals = verdict world journals
+verdict_by ByConflict world journals = in_order.verdict_in_order world journals
+
+-- ... and without applying a transaction
+abbrev pub keys_by : Order → World → List JournalValue → Verdict
+keys_by BySource world journals = verdict_of_keys world journals
+keys_by ByConflict world journals = in_order.verdict_of_keys world journals
+
+abbrev pub verdict_over : Order → BundleValue → Verdict
+verdict_over order b = verdict_by order (world_over b) b.journals
+
+abbrev pub keys_over : Order → BundleValue → Verdict
+keys_over order b = keys_by order (world_over b) b.journals
 
 -- the verdict of the audit, which is not Sound
-abbrev pub IsUnsound : BundleValue → Verdict → Type 0
-IsUnsound b v = (v ≡ verdict_over b) × (v ≡ Sound → ⊥)
+abbrev pub IsUnsound : Order → BundleValue → Verdict → Type 0
+IsUnsound order b v = (v ≡ verdict_over order b) × (v ≡ Sound → ⊥)
 
 -- what the audit of keys finds, where that is not Sound, is what the audit finds
-abbrev pub IsFoundInKeys : BundleValue → Option Verdict → Type 0
-IsFoundInKeys b None = keys_over b ≡ Sound
-IsFoundInKeys b (Some v) = IsUnsound b v
+abbrev pub IsFoundInKeys : Order → BundleValue → Option Verdict → Type 0
+IsFoundInKeys order b None = keys_over order b ≡ Sound
+IsFoundInKeys order b (Some v) = IsUnsound order b v
 
 -- a channel's name, and whether its transactions commit in order
 abbrev pub Naming : Type 0
@@ -50,19 +71,24 @@ pub record IsNamed (b : BundleValue) (core : Replica) : Type 0 where
   pub uuid : core.site.own ≡ b.replica
   pub names : names_of core.state.channels ≡ names_asked (take (length b.journals) b.channels)
 
+-- the executed set is that of all journals together, and the rows are those that it stands for: of the sources, or in the joined order
+abbrev pub HoldsAllBy : Order → BundleValue → State → Type 0
+HoldsAllBy BySource b s = HoldsAll b.start.schema b.opened b.start.rows b.journals s
+HoldsAllBy ByConflict b s = runs.HoldsAll (joined_over b) b.journals s
+
 -- The audit says Sound, and all journals together are executed on the replica of the bundle, with its channels.
-pub record HasMerged (b : BundleValue) (core : Replica) : Type 0 where
-  pub sound : verdict_over b ≡ Sound
-  pub holds : HoldsAll b.start.schema b.opened b.start.rows b.journals core.state
+pub record HasMerged (order : Order) (b : BundleValue) (core : Replica) : Type 0 where
+  pub sound : verdict_over order b ≡ Sound
+  pub holds : HoldsAllBy order b core.state
   pub named : IsNamed b core
 
 -- all is executed, or it is the audit's verdict, which is not Sound
-abbrev pub IsConcluded : BundleValue → Replica → Option Verdict → Type 0
-IsConcluded b core None = HasMerged b core
-IsConcluded b core (Some v) = IsUnsound b v
+abbrev pub IsConcluded : Order → BundleValue → Replica → Option Verdict → Type 0
+IsConcluded order b core None = HasMerged order b core
+IsConcluded order b core (Some v) = IsUnsound order b v
 
 module _ {S : Type 0} where
   -- this holds of the state, or it is the audit's verdict, which is not Sound
-  abbrev pub IsStateOrVerdict : (S → Type 0) → BundleValue → StateOrVerdict S → Type 0
-  IsStateOrVerdict Holds b (found.State s) = Holds s
-  IsStateOrVerdict Holds b (found.Verdict v) = IsUnsound b v
+  abbrev pub IsStateOrVerdict : (S → Type 0) → Order → BundleValue → StateOrVerdict S → Type 0
+  IsStateOrVerdict Holds order b (found.State s) = Holds s
+  IsStateOrVerdict Holds order b (found.Verdict v) = IsUnsound order b v

@@ -1,6 +1,7 @@
 //! The journals of a bundle served to its replica, each on a channel of its own, and what they result in.
 //!
-//! `begin` audits the keys, opens a replica and its channels, and lets each receive what `plan` of `auto_position` sends. `conclude` says
+//! An audit asks for an `Order`: of sources that share no key (`audit`), or of what shares a key, whichever sources wrote it
+//! (`conflict_audit`). `begin` audits the keys by it, opens a replica and its channels, and lets each receive what `plan` of `auto_position` sends. `conclude` says
 //! what a replica to which was applied since results in. `serve` lets seat 1 commit each entry as it is received. `begin` and `serve`
 //! give a `StateOrVerdict`: a replica, or the verdict of the audit, which is not Sound.
 //!
@@ -20,10 +21,12 @@
 
 mod event;
 mod listing;
+mod order;
 mod outcome;
 mod receiving;
 mod working;
 
 pub use listing::faults_over;
+pub use order::Order;
 pub use outcome::{StateOrVerdict, begin, conclude, serve, verdict_over, written_is_servable};
 pub use receiving::entries_sent;

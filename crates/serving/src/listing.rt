@@ -10,8 +10,10 @@ use gtid_set::SetFault;
 use std::alloc::Global;
 use txn_journal::Bundle;
 
-/// The verdict of `verdict_over`, and behind it each other journal that begins behind the opening set,
-/// each other missing GTID and each other shared key (`audit::faults_are_all`). What is asked is as for
+/// The verdict of `verdict_over`, and behind it each other GTID under which journals differ, each other
+/// journal that begins behind the opening set, each other missing GTID, each other shared key, each other
+/// GTID that stands in a journal without what it needs and, where a transaction does not apply by the
+/// verdict, each other source of which one does not (`audit::faults_are_all`). What is asked is as for
 /// `verdict_over`; the faults are those of `audit::audit_all`.
 pub fn faults_over(alloc: Global, bundle: &Bundle) -> Result<AllFaults, SetFault>
     requires { IsFitting bundle.now }

@@ -6,12 +6,18 @@ ghost use Rattle.replica_core.specs.Draining.{AreStoppedOrDone};
 ghost use Rattle.serving.specs.Faults.{IsFaultWhere, KnowsToo, IsBundleFault, IsVerdictFault};
 ghost use Rattle.serving.specs.Servable.{IsFitting, IsServable, CanServeEach, WrittenIsServable};
 ghost use Rattle.serving.specs.Serving.{opening, ServesEach, HasReceived, IsReady, IsRun};
-ghost use Rattle.serving.specs.Verdicts.{is_sound, world_over, keys_over, verdict_over, IsFoundInKeys, IsStateOrVerdict, HasMerged, IsConcluded};
+ghost use Rattle.audit.specs.Faults.{IsAuditFault};
+ghost use Rattle.audit.specs.Worlds.{IsWorldOf};
+ghost use Rattle.serving.specs.Verdicts.{is_sound, world_over, keys_by, verdict_by, keys_over, verdict_over, IsFoundInKeys, IsStateOrVerdict, HasMerged, IsConcluded};
 
+use crate::order::Order;
 use crate::receiving::{Apply, serve_journals};
 use crate::working::finish;
 use audit::{World, WorldFault, audit, audit_keys, world_of};
-use faithful_runs::{served_holds_all, workers_decide};
+use conflict_audit::{audit_in_order, audit_keys_in_order};
+use faithful_runs::{
+    served_holds_all, served_holds_all_in_order, workers_decide, workers_decide_in_order,
+};
 use gtid_set::SetFault;
 use journal::Journal;
 use replica_core::Core;
@@ -63,40 +69,74 @@ pub(crate) fn opening_world(alloc: Global, bundle: &Bundle) -> Result<World, All
     }
 }
 
+/// What the audit of keys that asks for an order finds first in a world of journals.
+fn audit_keys_by(
+    alloc: Global,
+    order: Order,
+    world: &World,
+    journals: &[Journal],
+) -> Result<Verdict, SetFault>
+    requires { IsWorldOf world.now journals.now }
+    ensures found { IfOk result (λ found. found ≡ keys_by order world.now journals.now) }
+    ensures fault { IfErr result (IsAuditFault world.now.opening_set journals.now) }
+{
+    match order {
+        Order::BySource => audit_keys(alloc, world, journals),
+        Order::ByConflict => audit_keys_in_order(alloc, world, journals),
+    }
+}
+
+/// What the audit that asks for an order finds first in a world of journals.
+fn audit_by(
+    alloc: Global,
+    order: Order,
+    world: &World,
+    journals: &[Journal],
+) -> Result<Verdict, SetFault>
+    requires { IsWorldOf world.now journals.now }
+    ensures found { IfOk result (λ found. found ≡ verdict_by order world.now journals.now) }
+    ensures fault { IfErr result (IsAuditFault world.now.opening_set journals.now) }
+{
+    match order {
+        Order::BySource => audit(alloc, world, journals),
+        Order::ByConflict => audit_in_order(alloc, world, journals),
+    }
+}
+
 /// What an audit of the journals' keys over the opening rows finds first.
-fn keys_verdict(alloc: Global, bundle: &Bundle) -> Result<Verdict, SetFault>
+fn keys_verdict(alloc: Global, bundle: &Bundle, order: Order) -> Result<Verdict, SetFault>
     requires { IsFitting bundle.now }
-    ensures found { IfOk result (λ found. found ≡ keys_over bundle.now) }
+    ensures found { IfOk result (λ found. found ≡ keys_over order bundle.now) }
     ensures fault { IfErr result (IsBundleFault bundle.now) }
 {
     let world = opening_world(alloc, bundle)?;
-    let found = audit_keys(alloc, &world, bundle.journals());
+    let found = audit_keys_by(alloc, order, &world, bundle.journals());
     drop(world);
     found
 }
 
-/// What an audit of a bundle's journals over its opening rows and opening set finds first. The tables
-/// take the transactions, as those of a bundle that was read do. The error is want of memory, or `PoolFull`
+/// What the audit that asks for an order finds first in a bundle's journals over its opening rows and
+/// opening set. The tables take the transactions, as those of a bundle that was read do. The error is want of memory, or `PoolFull`
 /// where the set that the verdict would name has too many intervals.
-pub fn verdict_over(alloc: Global, bundle: &Bundle) -> Result<Verdict, SetFault>
+pub fn verdict_over(alloc: Global, bundle: &Bundle, order: Order) -> Result<Verdict, SetFault>
     requires { IsFitting bundle.now }
-    ensures found { IfOk result (λ found. found ≡ verdict_over bundle.now) }
+    ensures found { IfOk result (λ found. found ≡ verdict_over order bundle.now) }
     ensures fault { IfErr result (IsVerdictFault bundle.now) }
 {
     let world = opening_world(alloc, bundle)?;
-    let found = audit(alloc, &world, bundle.journals());
+    let found = audit_by(alloc, order, &world, bundle.journals());
     drop(world);
     found
 }
 
 /// What an audit of the journals' keys finds, where that isn't Sound: the whole audit finds it too.
 #[tactic(auto, using(crate::proofs::Runs::keys_found, crate::proofs::Runs::keys_sound))]
-fn unsound_keys(alloc: Global, bundle: &Bundle) -> Result<Option<Verdict>, SetFault>
+fn unsound_keys(alloc: Global, bundle: &Bundle, order: Order) -> Result<Option<Verdict>, SetFault>
     requires { IsFitting bundle.now }
-    ensures found { IfOk result (IsFoundInKeys bundle.now) }
+    ensures found { IfOk result (IsFoundInKeys order bundle.now) }
     ensures fault { IfErr result (IsBundleFault bundle.now) }
 {
-    let keys = keys_verdict(alloc, bundle)?;
+    let keys = keys_verdict(alloc, bundle, order)?;
     if is_sound(&keys) {
         Ok(None)
     } else {
@@ -137,13 +177,14 @@ fn serve_all(alloc: Global, bundle: &Bundle, apply: Apply) -> Result<Core, SetFa
 fn receive_all(
     alloc: Global,
     bundle: &Bundle,
+    order: Order,
     apply: Apply,
 ) -> Result<StateOrVerdict<Core>, SetFault>
     requires { IsServable bundle.now }
-    ensures received { IfOk result (IsStateOrVerdict (HasReceived apply bundle.now) bundle.now) }
+    ensures received { IfOk result (IsStateOrVerdict (HasReceived order apply bundle.now) order bundle.now) }
     ensures fault { IfErr result (IsBundleFault bundle.now) }
 {
-    if let Some(verdict) = unsound_keys(alloc, bundle)? {
+    if let Some(verdict) = unsound_keys(alloc, bundle, order)? {
         return Ok(StateOrVerdict::Verdict(verdict));
     }
     keep_rules(bundle.journals());
@@ -151,7 +192,7 @@ fn receive_all(
     Ok(StateOrVerdict::State(core))
 }
 
-/// Audits the keys of a bundle's journals, opens its replica over the opening rows and set, opens and positions
+/// Audits the keys of a bundle's journals by an order, opens its replica over the opening rows and set, opens and positions
 /// each channel, and lets it receive what its journal sends. Where the audit of keys isn't Sound, its
 /// verdict is answered, which is that of the whole audit. The bundle can be served, as each that was
 /// read can.
@@ -159,31 +200,38 @@ fn receive_all(
 /// `Memory` is want of memory, `SourcesFull` comes only where the GTIDs of all journals together are of
 /// more than 65,536 sources, and `PoolFull` only where the intervals of the opening set and of the
 /// previous sets and the entries are together more than 4,294,967,294.
-pub fn begin(alloc: Global, bundle: &Bundle) -> Result<StateOrVerdict<Core>, SetFault>
+pub fn begin(alloc: Global, bundle: &Bundle, order: Order) -> Result<StateOrVerdict<Core>, SetFault>
     requires { IsServable bundle.now }
-    ensures begun { IfOk result (IsStateOrVerdict (IsReady bundle.now) bundle.now) }
+    ensures begun { IfOk result (IsStateOrVerdict (IsReady order bundle.now) order bundle.now) }
     ensures fault { IfErr result (IsBundleFault bundle.now) }
 {
-    receive_all(alloc, bundle, Apply::Later)
+    receive_all(alloc, bundle, order, Apply::Later)
 }
 
 /// What a replica that was served all journals comes to, once each of its channels is stopped or has
 /// executed all that it received: nothing where all is executed, or else the verdict of the audit, which
 /// isn't Sound then. The faults are those of `verdict_over`.
-pub fn conclude(alloc: Global, bundle: &Bundle, core: &Core) -> Result<Option<Verdict>, SetFault>
+pub fn conclude(
+    alloc: Global,
+    bundle: &Bundle,
+    order: Order,
+    core: &Core,
+) -> Result<Option<Verdict>, SetFault>
     requires fits { IsFitting bundle.now }
-    requires run { IsRun bundle.now core.now }
+    requires run { IsRun order bundle.now core.now }
     requires ends { AreStoppedOrDone core.now.state }
-    ensures found { IfOk result (IsConcluded bundle.now core.now) }
+    ensures found { IfOk result (IsConcluded order bundle.now core.now) }
     ensures fault { IfErr result (IsBundleFault bundle.now) }
 {
     workers_decide();
     served_holds_all();
+    workers_decide_in_order();
+    served_holds_all_in_order();
     keep_rules(bundle.journals());
     if core.drained() {
         return Ok(None);
     }
-    let verdict = verdict_over(alloc, bundle)?;
+    let verdict = verdict_over(alloc, bundle, order)?;
     Ok(Some(verdict))
 }
 
@@ -192,15 +240,16 @@ pub fn conclude(alloc: Global, bundle: &Bundle, core: &Core) -> Result<Option<Ve
 fn finish_and_conclude(
     alloc: Global,
     bundle: &Bundle,
+    order: Order,
     core: &mut Core,
 ) -> Result<Option<Verdict>, SetFault>
     requires fits { IsFitting bundle.now }
-    requires run { IsRun bundle.now core.old }
-    ensures found { IfOk result (IsConcluded bundle.now core.new) }
+    requires run { IsRun order bundle.now core.old }
+    ensures found { IfOk result (IsConcluded order bundle.now core.new) }
     ensures fault { IfErr result (IsBundleFault bundle.now) }
 {
     finish(alloc, core)?;
-    Ok(conclude(alloc, bundle, core)?)
+    Ok(conclude(alloc, bundle, order, core)?)
 }
 
 /// What the journals of a bundle come to over its opening rows and set: all of them executed together, or the
@@ -208,16 +257,16 @@ fn finish_and_conclude(
 /// it is received, and what is left at the end. Where not everything was executed, the audit says why.
 /// What is asked, and the faults, are those of `begin`.
 #[tactic(auto, using(crate::proofs::Runs::run_begun))]
-pub fn serve(alloc: Global, bundle: &Bundle) -> Result<StateOrVerdict<Core>, SetFault>
+pub fn serve(alloc: Global, bundle: &Bundle, order: Order) -> Result<StateOrVerdict<Core>, SetFault>
     requires { IsServable bundle.now }
-    ensures served { IfOk result (IsStateOrVerdict (HasMerged bundle.now) bundle.now) }
+    ensures served { IfOk result (IsStateOrVerdict (HasMerged order bundle.now) order bundle.now) }
     ensures fault { IfErr result (IsBundleFault bundle.now) }
 {
-    let mut core = match receive_all(alloc, bundle, Apply::AtOnce)? {
+    let mut core = match receive_all(alloc, bundle, order, Apply::AtOnce)? {
         StateOrVerdict::State(core) => core,
         StateOrVerdict::Verdict(verdict) => return Ok(StateOrVerdict::Verdict(verdict)),
     };
-    let concluded = finish_and_conclude(alloc, bundle, &mut core);
+    let concluded = finish_and_conclude(alloc, bundle, order, &mut core);
     match concluded {
         Ok(None) => Ok(StateOrVerdict::State(core)),
         Ok(Some(verdict)) => {

@@ -4,8 +4,10 @@ use Rattle.commit_ledger.specs.Tallies.{one_if}
 use Rattle.gtid_set.specs.declared.fault.SetFault.{SetFault}
 use Rattle.replica_core.specs.State.{Replica}
 use Rattle.replica_core.specs.declared.event.Event.{Event}
+use Rattle.replica_core.specs.declared.event.Event.TheVariants.{Take}
 use Rattle.replica_core.specs.declared.event.Reply.{Reply}
 use Rattle.shared_replica.specs.declared.step.Receipt.{Receipt}
+use Rattle.shared_replica.specs.declared.taking.Taking.{Taking}
 use Rattle.shared_replica.specs.Faults.{IsFaultFor}
 use Rattle.shared_replica.specs.History.{line, is_commit}
 
@@ -34,6 +36,11 @@ IsTold old event reply new = (place : ℕ) × (new ≡ told place event reply ol
 -- a call that makes this event: the pass is told of the reply; or the pass is as it was, and the fault is one that the event may have
 abbrev pub Makes : Event → PassValue → Result Reply SetFault → PassValue → Type 0
 Makes event old result new = MatchResult result (λ reply. IsTold old event reply new) (λ fault. (new ≡ old) × IsFaultFor event fault)
+
+-- a call that makes the event Take and gives what its worker needs besides
+abbrev pub MakesTaking : ℕ → ℕ → PassValue → Result Taking SetFault → PassValue → Type 0
+MakesTaking channel place old result new =
+    MatchResult result (λ taking. IsTold old (Take old.seat channel place) taking.reply new) (λ fault. (new ≡ old) × IsFaultFor (Take old.seat channel place) fault)
 
 -- the core that was handed in, and the number of seats
 pub record SharedValue : Type 0 where

@@ -6,7 +6,8 @@ ghost use Rattle.replica_core.specs.Machine.{is_numbered, next_ready, step};
 ghost use Rattle.replica_core.specs.Faults.{IsCause};
 ghost use Rattle.shared_replica.specs.Faults.{IsFaultFor};
 ghost use Rattle.shared_replica.specs.History.{IsStep, IsBook, with_step, unwritten};
-ghost use Rattle.shared_replica.specs.Passes.{told};
+ghost use Rattle.replica_core.specs.declared.event.Event.TheVariants.{Take};
+ghost use Rattle.shared_replica.specs.Passes.{told, IsTold};
 ghost use Rattle.shared_replica.specs.Preparing.{MayPrepare};
 ghost use Rattle.shared_replica.specs.Closing.{sheet, IsMerge, tally_of_passes};
 
@@ -18,6 +19,7 @@ use crate::naming::{LedgersOf, Naming};
 use crate::pass::Pass;
 use crate::room::add;
 use crate::step::{Receipt, Receipts, Sheet, Step};
+use crate::taking::Taking;
 use commit_ledger::{Share, Total, count};
 use gtid_set::SetFault;
 use replica_core::{Core, Event, Reply};
@@ -135,6 +137,65 @@ impl<N: Naming> Book<N> {
         ensures { IfOk result (λ r. IfSome r (λ p. MayPrepare N.opening.site.schema p.0 p.1)) }
     {
         self.core.footprint(alloc, seat)
+    }
+
+    /// Whether a seat holds a transaction.
+    pub(crate) fn holds(&self, seat: u8) -> bool {
+        self.core.held_changes(seat).is_some()
+    }
+
+    /// What a seat's worker needs to prepare the transaction that the seat holds, where it has so many changes. Nothing where memory is
+    /// refused.
+    fn footprint_of_many(
+        &self,
+        alloc: Global,
+        seat: u8,
+        least: usize,
+    ) -> Option<(Transaction, Footprint)>
+        ensures { IfSome result (λ p. MayPrepare N.opening.site.schema p.0 p.1) }
+    {
+        if self.core.held_changes(seat)? < least {
+            return None;
+        }
+        self.footprint(alloc, seat).ok().flatten()
+    }
+
+    /// The seat takes a place, and is given what its worker needs to prepare a transaction of so many changes.
+    pub(crate) fn take(
+        &mut self,
+        alloc: Global,
+        channel: usize,
+        place: usize,
+        least: usize,
+        mine: &mut Pass<N>,
+    ) -> Result<Taking, SetFault>
+        ensures taken { IfOk result (λ taking. IsTold mine.old (Take mine.old.seat channel place) taking.reply mine.new) }
+        ensures seen { IfOk result (λ taking. IfSome taking.footprint (λ p. MayPrepare N.opening.site.schema p.0 p.1)) }
+        ensures err { OnErr result (mine.new ≡ mine.old) }
+        ensures kind { IfErr result (IsFaultFor (Take mine.old.seat channel place)) }
+    {
+        let seat = mine.seat();
+        let reply = self.make(alloc, &Event::Take(seat, channel, place), None, mine)?;
+        let footprint = match reply {
+            Reply::Taken(_) => self.footprint_of_many(alloc, seat, least),
+            _ => None,
+        };
+        Ok(Taking { reply, footprint })
+    }
+
+    /// The least places of a channel from this number on that a seat might take, as many as there is room for; and how many they are.
+    pub(crate) fn ready_places(&self, channel: usize, from: usize, places: &mut [usize]) -> usize {
+        let mut from = from;
+        let mut count = 0;
+        for slot in places {
+            let Some(place) = self.next_ready(channel, from) else {
+                return count;
+            };
+            *slot = place;
+            from = place.saturating_add(1);
+            count += 1;
+        }
+        count
     }
 
     /// The least place of a channel from this number on that a seat might take.

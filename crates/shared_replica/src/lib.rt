@@ -15,7 +15,7 @@
 //! How it is kept: all copies and all room are made before the core changes. The opening is a member of the type parameter, so it is not
 //! copied.
 //!
-//! Not proved: that a lock is got, which thread comes first, that the place that `next_ready` names is still free, and that a footprint
+//! Not proved: that a lock is got, which thread comes first, that a place that `ready_places` gives is still free, and that a footprint
 //! is of what the seat holds: a commit validates it.
 #![tactic(auto)]
 
@@ -30,6 +30,7 @@ mod replica;
 pub mod room;
 mod same;
 mod step;
+mod taking;
 
 pub use book::Book;
 pub use closed::ClosedBook;
@@ -37,3 +38,4 @@ pub use naming::{LedgersOf, Naming};
 pub use pass::Pass;
 pub use replica::SharedReplica;
 pub use step::{Receipt, Step};
+pub use taking::Taking;

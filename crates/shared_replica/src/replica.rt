@@ -5,7 +5,7 @@ ghost use Rattle.commit_ledger.specs.Tallies.{no_tally, unused};
 ghost use Rattle.journal.specs.Writing.{is_number};
 ghost use Rattle.replica_core.specs.declared.event.Event.TheVariants.{OpenChannel, Position, Receive, Take, Commit, Rollback, Restart, Local, Purge, Look};
 ghost use Rattle.replica_core.specs.Machine.{is_numbered};
-ghost use Rattle.shared_replica.specs.Passes.{fresh, Makes};
+ghost use Rattle.shared_replica.specs.Passes.{fresh, Makes, MakesTaking};
 ghost use Rattle.shared_replica.specs.Preparing.{MayPrepare};
 ghost use Rattle.shared_replica.specs.Closing.{IsClosed};
 
@@ -15,6 +15,7 @@ use crate::naming::{LedgersOf, Naming};
 use crate::pass::Pass;
 use crate::room::add;
 use crate::step::Sheet;
+use crate::taking::Taking;
 use commit_ledger::{Blanks, Share, Total, open_shares};
 use gtid_set::SetFault;
 use journal::Entry;
@@ -126,6 +127,23 @@ impl<N: Naming> SharedReplica<N> {
         self.book.lock(rt).next_ready(channel, from)
     }
 
+    /// The least places of a channel from this number on that a seat might take, as many as `places` has
+    /// room for, and how many they are. They are hints, as `next_ready` gives them.
+    pub fn ready_places<R: Wait>(
+        &self,
+        rt: &R,
+        channel: usize,
+        from: usize,
+        places: &mut [usize],
+    ) -> usize {
+        self.book.lock(rt).ready_places(channel, from, places)
+    }
+
+    /// Whether the pass's seat holds a transaction.
+    pub fn holds<R: Wait>(&self, rt: &R, pass: &Pass<N>) -> bool {
+        self.book.lock(rt).holds(pass.seat())
+    }
+
     /// What a worker needs to prepare the transaction that the pass's seat holds, without the lock:
     /// the transaction, which the schema takes, and all keys that it touches with the rows that carried
     /// them at that moment. None where the seat holds nothing. It leaves no line and no receipt.
@@ -207,6 +225,24 @@ impl<N: Naming> SharedReplica<N> {
             None,
             pass,
         )
+    }
+
+    /// The seat takes the transaction at a place of a channel, and is given what it needs to prepare a
+    /// transaction of at least so many changes. Where that takes memory that is refused, the take is
+    /// made, and nothing is given.
+    pub fn take_to_prepare<R: Wait>(
+        &self,
+        rt: &R,
+        alloc: Global,
+        pass: &mut Pass<N>,
+        channel: usize,
+        place: usize,
+        least: usize,
+    ) -> Result<Taking, SetFault>
+        ensures makes { MakesTaking channel place pass.old result pass.new }
+        ensures seen { IfOk result (λ taking. IfSome taking.footprint (λ p. MayPrepare self.now.opening.site.schema p.0 p.1)) }
+    {
+        self.book.lock(rt).take(alloc, channel, place, least, pass)
     }
 
     /// The seat commits what it took.

@@ -1,55 +1,17 @@
--- Closed sets, their rows, and what sources make alone and together.
-use Rattle.std.proofs.Common.{◌≡◌, Bool, ◌||◌, inl, inr, List, [], ◌∷◌, Result, Ok, Err, refl, sym, ap, subst, ◌∙◌}
-use Rattle.std.specs.Prelude.{IsOk}
-use Rattle.std.specs.FinMap.{entries}
+-- Closed sets of sources, and the union as join.
+use Rattle.std.proofs.Common.{◌≡◌, ◌||◌, inl, inr, sym, ap, ◌∙◌}
 use Rattle.std.specs.FinSet as set
 use Rattle.std.specs.FinSet.{contains-union, contains-intersection, is_subset-contains, contains-is_subset, same_set}
 use Rattle.gtid_text.specs.declared.Gtid.{Gtid}
 use Rattle.gtid_text.specs.Gtids.{gtid_cmp}
-use Rattle.rows.specs.declared.change.RowFault.{RowFault}
-use Rattle.rows.specs.declared.schema.Table.{Table}
-use Rattle.rows.specs.Apply.{Rows, apply}
-use Rattle.rows.specs.Carriers.{AreCarriers}
-use Rattle.rows.proofs.Local.{bind_ok}
-use Rattle.rows.proofs.Carriers.{apply_keeps_carriers}
-use Rattle.source_history.specs.World.{World, Entry, apply_all, rows_of, entries_in, of_source, IsClosed}
+use Rattle.source_history.specs.World.{IsClosed, World}
 use Rattle.source_history.specs.Join.{join, either, both, JoinLaws}
-use Rattle.source_history.specs.Laws.{ClosedSetsApply, AloneOrTogether, RowsAreCarriers, ClosedUnderUnion, ClosedUnderIntersection, ClosedSetsAreALattice}
+use Rattle.source_history.specs.Laws.{ClosedUnderUnion, ClosedUnderIntersection, ClosedSetsAreALattice}
 use Rattle.source_history.proofs.Tests.{or_itself}
-use Rattle.source_history.proofs.Merging.{got, closed_applies, all_histories, alone_from_all}
 use Rattle.std.proofs.lemmas.Bool.{or_cases, or_left, or_right, and_parts, and_from}
 use mathlib.Core.Bool.{or_comm, or_assoc}
 use Rattle.gtid_text.proofs.SameGtid.{gtid_total, gtid_exact}
-
-pub is_ok_of : {A E : Type 0} (r : Result A E) (a : A) → r ≡ Ok a → IsOk r
-is_ok_of (Ok x) a e = refl
-is_ok_of (Err d) a e = cc
-
-pub closed_sets_apply : ClosedSetsApply
-closed_sets_apply world S sound closed = let h = closed_applies world S sound closed in is_ok_of (rows_of world S) h.0 h.1
-
-pub alone_or_together : AloneOrTogether
-alone_or_together world keys = (
-  λ alone. let h = all_histories world (record { keys = keys; alone = alone }) in is_ok_of (apply_all world.schema (entries world.contents) world.opening_rows) h.0 h.1,
-  λ all s. let end = got (apply_all world.schema (entries world.contents) world.opening_rows) all in
-      let h = alone_from_all world end.0 s keys end.1 in is_ok_of (rows_of world (of_source s)) h.0 h.1,
-)
-
--- ---- no key has a second row
-
-pub ok_same : (a b : Rows) → ◌≡◌ {A = Result Rows RowFault} (Ok a) (Ok b) → a ≡ b
-ok_same a b e = cc
-
-carriers_after : (schema : List Table) (es : List Entry) (rows new : Rows) → AreCarriers schema rows → apply_all schema es rows ≡ Ok new → AreCarriers schema new
-carriers_after schema [] rows new h e = subst (AreCarriers schema) (ok_same rows new e) h
-carriers_after schema (x ∷ es) rows new h e =
-    let first = bind_ok (apply schema x.1 rows) (apply_all schema es) new e in
-    carriers_after schema es first.0 new (apply_keeps_carriers schema x.1 rows first.0 h first.1) first.2
-
-pub rows_are_carriers : RowsAreCarriers
-rows_are_carriers world S rows opening e = carriers_after world.schema (entries_in world S) world.opening_rows rows opening e
-
--- ---- closed sets
+use Rattle.std.proofs.Common.{Bool}
 
 pub closed_under_union : ClosedUnderUnion
 closed_under_union world S U c d = record {

@@ -1,23 +1,21 @@
 -- The entries of a world, in their order.
-use Rattle.std.proofs.Common.{◌≡◌, ◌≢◌, ℕ, Bool, true, false, cond, ◌&&◌, T, inl, inr, List, [], ◌∷◌, Some, refl, sym, ap, ◌∙◌, eqb}
+use Rattle.std.proofs.Common.{◌≡◌, ◌≢◌, Bool, true, false, cond, ◌&&◌, T, inl, inr, List, [], ◌∷◌, Some, refl, sym, ap, ◌∙◌}
 use Rattle.std.specs.declared.cmp.Ordering.{Ordering}
 use Rattle.std.specs.declared.cmp.Ordering.TheVariants.{Less, Equal, Greater}
 use Rattle.std.specs.Ordering.{is_lt, is_eq, ordering_reverse}
 use Rattle.std.specs.List.{AllByRecursion}
 use Rattle.std.specs.FinMap.{entries, entries_sorted, get-entries, find, is_sorted}
 use Rattle.std.specs.FinMap.Entries.{below_all}
-use Rattle.std.proofs.lemmas.Bool.{eqb-true, eq-eqb, cases_Bool}
 use Rattle.std.proofs.lemmas.Cmp.{tied_itself}
 use Rattle.rows.specs.declared.change.Transaction.{Transaction}
-use Rattle.rows.specs.WriteSet.{shares_key}
 use Rattle.gtid_text.specs.declared.Gtid.{Gtid}
 use Rattle.gtid_text.specs.Gtids.{gtid_cmp}
-use Rattle.source_history.specs.World.{World, Entry, content, of_source, AreKeysSound, IsClosed}
-use Rattle.source_history.proofs.Gtids.{number_less}
-use Rattle.source_history.proofs.Commuting.{AreApart, apart_from_test}
-use Rattle.source_history.proofs.Placing.{IsClosedIn, AreDistinct, AreSourcesApart, IsIn, all_map, all_map_two}
+use Rattle.source_history.specs.World.{World, Entry, content, AreKeysSound}
+use Rattle.ordered_history.specs.World.{IsIn, AreDistinct}
+use Rattle.ordered_history.proofs.Commuting.{AreApart, apart_from_test}
+use Rattle.ordered_history.proofs.Placing.{all_map}
+use Rattle.ordered_history.proofs.Entries.{all_two}
 use Rattle.gtid_text.proofs.SameGtid.{gtid_total, gtid_exact}
-use Rattle.rows.proofs.Patching.{not_both}
 
 abbrev pub IsRising : List Entry → Type 0
 IsRising [] = Unit {0}
@@ -71,7 +69,7 @@ all_found : (es : List Entry) → IsRising es → AllByRecursion (λ e. find gti
 all_found [] h = tt
 all_found (e ∷ es) h = (
   find_first e es,
-  all_map_two (λ f. gtid_cmp e.0 f.0 ≡ Less) (λ f. find gtid_cmp f.0 es ≡ Some f.1) (λ f. find gtid_cmp f.0 (e ∷ es) ≡ Some f.1) es (λ f l g. find_later f.0 e es l ∙ g) h.0 (all_found es h.1),
+  all_two (λ f. gtid_cmp e.0 f.0 ≡ Less) (λ f. find gtid_cmp f.0 es ≡ Some f.1) (λ f. find gtid_cmp f.0 (e ∷ es) ≡ Some f.1) es (λ f l g. find_later f.0 e es l ∙ g) h.0 (all_found es h.1),
 )
 
 pub found : (world : World) → AreFound world (entries world.contents)
@@ -101,44 +99,3 @@ is_in world g t f = is_in_from g t (entries world.contents) (sym (get-entries wo
 
 pub apart_sources : (world : World) → AreKeysSound world → (g h : Gtid) (t u : Transaction) → content world g ≡ Some t → content world h ≡ Some u → g.source ≢ h.source → AreApart world.schema t u
 apart_sources world sound g h t u f k n = apart_from_test world.schema t u (sound.apart g h t u f k n)
-
-source_differs : (s t : ℕ) → eqb s t ≡ false → t ≢ s
-source_differs s t n e = not_both (eqb s t) (eq-eqb s t (sym e)) n
-
-pub sources_apart : (world : World) → AreKeysSound world → (es : List Entry) → AreFound world es → AreSourcesApart world.schema es
-sources_apart world sound [] h = tt
-sources_apart world sound (e ∷ es) h = (
-  all_map (λ f. content world f.0 ≡ Some f.1) (λ f. of_source f.0.source e.0 ≡ false → AreApart world.schema e.1 f.1) es
-      (λ f k n. apart_sources world sound e.0 f.0 e.1 f.1 h.0 k (source_differs f.0.source e.0.source n)) h.1,
-  sources_apart world sound es h.1,
-)
-
--- one that is left out, and a later one that is in the set
-apart_left_out : (world : World) (S : Gtid → Bool) → AreKeysSound world → IsClosed world S → (g h : Gtid) (t u : Transaction) → content world g ≡ Some t → content world h ≡ Some u → gtid_cmp g h ≡ Less → S g ≡ false → S h ≡ true → AreApart world.schema t u
-apart_left_out world S sound closed g h t u f k l n y =
-    elim (cases_Bool (eqb g.source h.source)) [
-      | inl same ↦
-          let s : g.source ≡ h.source = eqb-true g.source h.source same in
-          elim (cases_Bool (shares_key world.schema t u)) [
-            | inl shares ↦ not_both (S g) (closed.earlier g h t u f k s (number_less g h l s) shares y) n
-            | inr none ↦ apart_from_test world.schema t u none
-          ]
-      | inr other ↦ apart_sources world sound g h t u f k (λ e. not_both (eqb g.source h.source) (eq-eqb g.source h.source e) other)
-    ]
-
-pub closed_in : (world : World) (S : Gtid → Bool) → AreKeysSound world → IsClosed world S → (es : List Entry) → IsRising es → AreFound world es → IsClosedIn world.schema S es
-closed_in world S sound closed [] r h = tt
-closed_in world S sound closed (e ∷ es) r h = (
-  λ n. all_map_two (λ f. gtid_cmp e.0 f.0 ≡ Less) (λ f. content world f.0 ≡ Some f.1) (λ f. S f.0 ≡ true → AreApart world.schema e.1 f.1) es
-      (λ f l k y. apart_left_out world S sound closed e.0 f.0 e.1 f.1 h.0 k l n y) r.0 h.1,
-  closed_in world S sound closed es r.1 h.1,
-)
-
--- the transactions of one source, of a list: those that are left out are another's
-pub source_closed : (world : World) → AreKeysSound world → (s : ℕ) (es : List Entry) → AreFound world es → IsClosedIn world.schema (of_source s) es
-source_closed world sound s [] h = tt
-source_closed world sound s (e ∷ es) h = (
-  λ n. all_map (λ f. content world f.0 ≡ Some f.1) (λ f. of_source s f.0 ≡ true → AreApart world.schema e.1 f.1) es
-      (λ f k y. apart_sources world sound e.0 f.0 e.1 f.1 h.0 k (λ same. not_both (of_source s e.0) (ap (eqb s) same ∙ y) n)) h.1,
-  source_closed world sound s es h.1,
-)

@@ -6,7 +6,7 @@ use Rattle.rows.specs.declared.schema.Table.{Table}
 use Rattle.rows.specs.Apply.{Rows, ◌>>=◌, apply}
 use Rattle.rows.proofs.Local.{bind_ok, apply_alike}
 use Rattle.source_history.specs.Laws.{UntouchedStays, TouchedDecides, SameOutcome, ApartCommute}
-use Rattle.source_history.proofs.Commuting.{AreApart, apart_from_test, apart_back, frame, swap}
+use Rattle.ordered_history.proofs.Commuting.{AreApart, apart_from_test, apart_back, frame, swap}
 
 pub untouched_stays : UntouchedStays
 untouched_stays schema t rows new k e n = frame schema t rows new k e n

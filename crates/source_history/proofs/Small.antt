@@ -19,9 +19,10 @@ use Rattle.rows.specs.WriteSet.{shares_key}
 use Rattle.source_history.specs.World.{Entry, content, is_opened, apply_all, HasNumber, AreKeysSound, IsSound, IsClosed}
 use Rattle.source_history.specs.Commits.{with_one, IsCommitOrder}
 use Rattle.source_history.specs.SmallWorld.{accounts, account, nth_of, opens_first, changes_first, opens_second, small_history, small_world, first_of_each, SoundWorldsExist}
-use Rattle.source_history.proofs.Placing.{IsIn, all_in}
+use Rattle.ordered_history.specs.World.{IsIn}
+use Rattle.ordered_history.proofs.Placing.{all_in}
 use Rattle.source_history.proofs.Entries.{is_in}
-use Rattle.source_history.proofs.Closing.{alone_or_together}
+use Rattle.source_history.proofs.Alone.{alone_or_together}
 use Rattle.std.proofs.lemmas.Bool.{or_cases}
 use Rattle.gtid_text.proofs.SameGtid.{same_is_equal}
 use Rattle.rows.proofs.Patching.{not_both}

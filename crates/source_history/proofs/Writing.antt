@@ -1,41 +1,24 @@
--- The row under a key is what the last transaction that touches it leaves there.
-use Rattle.std.proofs.Common.{◌≡◌, ◌<◌, Bool, true, false, cond, inl, inr, List, [], ◌∷◌, Option, Some, None, Ok, refl, sym, ap, ◌∙◌, subst, arith, eqb, ltb}
-use Rattle.std.specs.Option.{unwrap_or, is_some}
+-- The row under a key by the last writer: the transaction with the greatest number is the last one in the order of sources.
+use Rattle.std.proofs.Common.{◌≡◌, ◌<◌, Bool, true, false, cond, inl, inr, List, [], ◌∷◌, Option, Some, None, refl, sym, ap, ◌∙◌, subst, arith, eqb, ltb}
 use Rattle.std.specs.List.{filter, AllByRecursion}
-use Rattle.std.specs.FinMap.{get, entries}
+use Rattle.std.specs.FinMap.{entries}
 use Rattle.std.proofs.lemmas.Bool.{eqb-true, eq-eqb, le-ltb, cases_Bool}
 use Rattle.std.specs.declared.cmp.Ordering.TheVariants.{Less}
-use Rattle.rows.specs.declared.value.Value.{Value}
+use Rattle.gtid_text.specs.declared.Gtid.{Gtid}
+use Rattle.gtid_text.specs.Gtids.{gtid_cmp}
 use Rattle.rows.specs.declared.change.Key.{Key}
 use Rattle.rows.specs.declared.schema.Table.{Table}
-use Rattle.rows.specs.Apply.{Rows, apply}
-use Rattle.rows.specs.WriteSet.{touches, left_by}
-use Rattle.rows.proofs.Local.{bind_ok, after_apply, left-touches}
-use Rattle.source_history.specs.World.{World, Entry, content, entries_in, apply_all, AreKeysSound}
-use Rattle.source_history.specs.LastWriter.{later_of, latest, left_or_opening}
-use Rattle.source_history.specs.Laws.{LastWriterStands}
-use Rattle.gtid_text.specs.Gtids.{gtid_cmp}
-use Rattle.source_history.proofs.Gtids.{number_less}
-use Rattle.source_history.proofs.Commuting.{not_touched}
-use Rattle.source_history.proofs.Placing.{kept, all_map, all_map_two}
-use Rattle.source_history.proofs.Entries.{IsRising, AreFound, rising, found, apart_sources}
+use Rattle.rows.specs.WriteSet.{touches}
 use Rattle.rows.proofs.Patching.{not_both}
-
--- what stands under a key after each of these in turn
-abbrev written : List Table → Key → List Entry → Option (List Value) → Option (List Value)
-written schema k [] row = row
-written schema k (e ∷ es) row = written schema k es (unwrap_or (left_by schema e.1 k) row)
-
-after_all : (schema : List Table) (es : List Entry) (rows new : Rows) (k : Key) → apply_all schema es rows ≡ Ok new → get new k ≡ written schema k es (get rows k)
-after_all schema [] rows new k e = cc
-after_all schema (x ∷ es) rows new k e =
-    let first = bind_ok (apply schema x.1 rows) (apply_all schema es) new e in
-    after_all schema es first.0 new k first.2 ∙ ap (written schema k es) (after_apply schema x.1 rows first.0 first.1 k)
-
--- the last of these, and where there is none the row
-abbrev left_or : List Table → Key → Option Entry → Option (List Value) → Option (List Value)
-left_or schema k None row = row
-left_or schema k (Some e) row = unwrap_or (left_by schema e.1 k) None
+use Rattle.ordered_history.specs.LastWriter.{or_this, last}
+use Rattle.ordered_history.specs.LastWriter as ordered
+use Rattle.ordered_history.proofs.Placing.{kept, all_map}
+use Rattle.ordered_history.proofs.Entries.{all_two}
+use Rattle.source_history.specs.World.{World, Entry, content, entries_in, AreKeysSound}
+use Rattle.source_history.specs.LastWriter.{later_of, latest, left_or_opening, last_writer}
+use Rattle.source_history.specs.InOrder.{in_order}
+use Rattle.source_history.proofs.Gtids.{number_less}
+use Rattle.source_history.proofs.Entries.{IsRising, AreFound, rising, found, apart_sources}
 
 -- Those that touch the key are of one source, so their numbers rise.
 abbrev NumbersRise : List Table → Key → List Entry → Type 0
@@ -54,30 +37,26 @@ newest_has : (P : Entry → Type 0) (es : List Entry) → AllByRecursion P es �
 newest_has P [] h f e = cc
 newest_has P (x ∷ es) h f e = newer_has P x f (latest es) (newest_has P es h.1) h.0 e
 
-unwrap_some : {A : Type 0} (o : Option A) (x y : A) → is_some o ≡ true → unwrap_or o x ≡ unwrap_or o y
-unwrap_some (Some z) x y e = refl
-unwrap_some None x y e = cc
-
-newer_wins : (schema : List Table) (k : Key) (e : Entry) (o : Option Entry) (row : Option (List Value)) → touches schema e.1 k ≡ true → ((f : Entry) → o ≡ Some f → e.0.number < f.0.number) → left_or schema k o (unwrap_or (left_by schema e.1 k) row) ≡ left_or schema k (later_of e o) row
-newer_wins schema k e None row t h = unwrap_some (left_by schema e.1 k) row None (left-touches schema e.1 k ∙ t)
-newer_wins schema k e (Some f) row t h =
+-- the later one wins, and it has the greater number
+later_is_last : (e : Entry) (o : Option Entry) → ((f : Entry) → o ≡ Some f → e.0.number < f.0.number) → Some (or_this o e) ≡ later_of e o
+later_is_last e None h = refl
+later_is_last e (Some f) h =
     let below : e.0.number < f.0.number = h f refl in
     let test : ltb f.0.number e.0.number ≡ false = le-ltb f.0.number e.0.number (omega arith) in
-    ap (λ b. left_or schema k (cond b (Some e) (Some f)) row) (sym test)
+    ap (λ b. cond b (Some e) (Some f)) (sym test)
 
-wins_by : (schema : List Table) (k : Key) (e : Entry) (es : List Entry) (row : Option (List Value)) (b : Bool) → touches schema e.1 k ≡ b
+last_by : (schema : List Table) (k : Key) (e : Entry) (es : List Entry) (b : Bool)
     → (b ≡ true → AllByRecursion (λ f. touches schema f.1 k ≡ true → e.0.number < f.0.number) es)
-    → ((r : Option (List Value)) → written schema k es r ≡ left_or schema k (latest (filter (λ f. touches schema f.1 k) es)) r)
-    → written schema k es (unwrap_or (left_by schema e.1 k) row) ≡ left_or schema k (latest (cond b (e ∷ filter (λ f. touches schema f.1 k) es) (filter (λ f. touches schema f.1 k) es))) row
-wins_by schema k e es row true t rise rest =
-    rest (unwrap_or (left_by schema e.1 k) row)
-    ∙ newer_wins schema k e (latest (filter (λ f. touches schema f.1 k) es)) row t (newest_has (λ f. e.0.number < f.0.number) (filter (λ f. touches schema f.1 k) es) (kept (λ f. touches schema f.1 k) (λ f. e.0.number < f.0.number) es (rise refl)))
-wins_by schema k e es row false t rise rest =
-    ap (λ o. written schema k es (unwrap_or o row)) (not_touched schema e.1 k t) ∙ rest row
+    → last (filter (λ f. touches schema f.1 k) es) ≡ latest (filter (λ f. touches schema f.1 k) es)
+    → last (cond b (e ∷ filter (λ f. touches schema f.1 k) es) (filter (λ f. touches schema f.1 k) es)) ≡ latest (cond b (e ∷ filter (λ f. touches schema f.1 k) es) (filter (λ f. touches schema f.1 k) es))
+last_by schema k e es true rise same =
+    ap (λ o. Some (or_this o e)) same
+    ∙ later_is_last e (latest (filter (λ f. touches schema f.1 k) es)) (newest_has (λ f. e.0.number < f.0.number) (filter (λ f. touches schema f.1 k) es) (kept (λ f. touches schema f.1 k) (λ f. e.0.number < f.0.number) es (rise refl)))
+last_by schema k e es false rise same = same
 
-newest_wins : (schema : List Table) (k : Key) (es : List Entry) (row : Option (List Value)) → NumbersRise schema k es → written schema k es row ≡ left_or schema k (latest (filter (λ f. touches schema f.1 k) es)) row
-newest_wins schema k [] row h = refl
-newest_wins schema k (e ∷ es) row h = wins_by schema k e es row (touches schema e.1 k) refl h.0 (λ r. newest_wins schema k es r h.1)
+last_is_latest : (schema : List Table) (k : Key) (es : List Entry) → NumbersRise schema k es → last (filter (λ f. touches schema f.1 k) es) ≡ latest (filter (λ f. touches schema f.1 k) es)
+last_is_latest schema k [] h = refl
+last_is_latest schema k (e ∷ es) h = last_by schema k e es (touches schema e.1 k) h.0 (last_is_latest schema k es h.1)
 
 -- two that touch one key are of one source
 number_rises : (world : World) (k : Key) → AreKeysSound world → (e f : Entry) → content world e.0 ≡ Some e.1 → content world f.0 ≡ Some f.1 → gtid_cmp e.0 f.0 ≡ Less → touches world.schema e.1 k ≡ true → touches world.schema f.1 k ≡ true → e.0.number < f.0.number
@@ -90,7 +69,7 @@ number_rises world k sound e f p q l t u =
 numbers_rise : (world : World) (k : Key) → AreKeysSound world → (es : List Entry) → IsRising es → AreFound world es → NumbersRise world.schema k es
 numbers_rise world k sound [] r h = tt
 numbers_rise world k sound (e ∷ es) r h = (
-  λ t. all_map_two (λ f. gtid_cmp e.0 f.0 ≡ Less) (λ f. content world f.0 ≡ Some f.1) (λ f. touches world.schema f.1 k ≡ true → e.0.number < f.0.number) es (λ f l q u. number_rises world k sound e f h.0 q l t u) r.0 h.1,
+  λ t. all_two (λ f. gtid_cmp e.0 f.0 ≡ Less) (λ f. content world f.0 ≡ Some f.1) (λ f. touches world.schema f.1 k ≡ true → e.0.number < f.0.number) es (λ f l q u. number_rises world k sound e f h.0 q l t u) r.0 h.1,
   numbers_rise world k sound es r.1 h.1,
 )
 
@@ -105,13 +84,13 @@ rise_kept : (p : Entry → Bool) (es : List Entry) → IsRising es → IsRising 
 rise_kept p [] h = tt
 rise_kept p (e ∷ es) h = rise_by e (filter p es) (p e) (all_kept (λ f. gtid_cmp e.0 f.0 ≡ Less) p es h.0) (rise_kept p es h.1)
 
-left_same : (world : World) (k : Key) (o : Option Entry) → left_or world.schema k o (get world.opening_rows k) ≡ left_or_opening world k o
+left_same : (world : World) (k : Key) (o : Option Entry) → ordered.left_or_opening (in_order world) k o ≡ left_or_opening world k o
 left_same world k None = refl
 left_same world k (Some e) = refl
 
-pub last_writer_stands : LastWriterStands
-last_writer_stands world S rows sound e k =
-    let es = entries_in world S in
-    after_all world.schema es world.opening_rows rows k e
-    ∙ newest_wins world.schema k es (get world.opening_rows k) (numbers_rise world k sound es (rise_kept (λ x. S x.0) (entries world.contents) (rising world)) (all_kept (λ x. content world x.0 ≡ Some x.1) (λ x. S x.0) (entries world.contents) (found world)))
-    ∙ left_same world k (latest (filter (λ f. touches world.schema f.1 k) es))
+-- the last writer in the order of sources is the one with the greatest number
+pub same_writer : (world : World) (S : Gtid → Bool) (k : Key) → AreKeysSound world → ordered.last_writer (in_order world) S k ≡ last_writer world S k
+same_writer world S k sound =
+    let es : List Entry = entries_in world S in
+    left_same world k (last (filter (λ f. touches world.schema f.1 k) es))
+    ∙ ap (left_or_opening world k) (last_is_latest world.schema k es (numbers_rise world k sound es (rise_kept (λ x. S x.0) (entries world.contents) (rising world)) (all_kept (λ x. content world x.0 ≡ Some x.1) (λ x. S x.0) (entries world.contents) (found world))))

@@ -2,6 +2,7 @@
 //! empty.
 ghost use Rattle.source_history.specs.Join.{JoinLaws};
 ghost use Rattle.source_history.specs.SmallWorld.{SoundWorldsExist};
+ghost use Rattle.source_history.specs.InOrder.{SourcesAreAnOrder};
 ghost use Rattle.source_history.specs.Laws.{UntouchedStays, TouchedDecides, ApartCommute, CommitOrderIsFree, CommitOrdersAgree, LateCommit, EarlyCommit, OpeningIsClosed, ClosedSetsApply, AloneOrTogether, LastWriterStands, RowsAreCarriers, ClosedUnderUnion, ClosedUnderIntersection, ClosedSetsAreALattice};
 
 /// A transaction leaves what stands under the keys that it does not touch.
@@ -95,4 +96,11 @@ pub fn join_laws()
 /// commit orders of all.
 pub fn sound_worlds_exist()
     ensures { SoundWorldsExist }
+{}
+
+/// Where the keys are sound, a world of sources is a world in one order, sources rising and within
+/// a source numbers rising: it has the same soundness, closed sets, commit orders, rows, last writers
+/// and faithful journals.
+pub fn sources_are_an_order()
+    ensures { SourcesAreAnOrder }
 {}

@@ -13,6 +13,9 @@
 //! the set (`commit_order_is_free`, `commit_orders_agree`); each key has what its last writer left (`last_writer_stands`); closed sets
 //! are a lattice, with the union as join. `sound_worlds_exist` shows that the premises can be met.
 //!
+//! Such a world is one of `ordered_history`, by sources and numbers (`sources_are_an_order`), and what is proved there of an order holds
+//! of sources: these laws follow.
+//!
 //! A journal is faithful (`IsFaithful`) where each of its prefixes is closed and each entry is what its source committed (`journals`).
 #![tactic(auto)]
 
@@ -24,5 +27,5 @@ pub use laws::{
     alone_or_together, apart_commute, closed_sets_apply, closed_sets_are_a_lattice,
     closed_under_intersection, closed_under_union, commit_order_is_free, commit_orders_agree,
     early_commit, join_laws, last_writer_stands, late_commit, opening_is_closed, rows_are_carriers,
-    sound_worlds_exist, touched_decides, untouched_stays,
+    sound_worlds_exist, sources_are_an_order, touched_decides, untouched_stays,
 };

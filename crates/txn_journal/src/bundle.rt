@@ -21,13 +21,25 @@ pub struct Channel {
 }
 
 /// A replica, the set of GTIDs with which it begins, its opening rows, and its channels, each with the journal that it brings.
-#[derive(Drop)]
 pub struct Bundle {
     replica: SourceId,
     opened: GtidSet,
     rows: Rows,
     channels: Vec<Channel>,
     journals: Vec<Journal>,
+}
+
+impl Drop for Bundle {
+    // (by hand: for a caller the end of a Bundle is one call)
+    fn drop(self) {
+        let Bundle {
+            replica: _replica,
+            opened: _opened,
+            rows: _rows,
+            channels: _channels,
+            journals: _journals,
+        } = self;
+    }
 }
 
 impl Model for Bundle {

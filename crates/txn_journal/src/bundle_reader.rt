@@ -1,8 +1,8 @@
 //! The reader of bundles.
-ghost use Rattle.std.specs.Prelude.{◌≡◌, None, Some, IfOk, IfErr};
-ghost use Rattle.txn_journal.specs.BundleStates.{BundleValue};
+ghost use Rattle.std.specs.Prelude.{◌≡◌, ◌++◌, ℕ, List, None, Some, IfOk, IfErr};
+ghost use Rattle.txn_journal.specs.BundleStates.{BundleStanding, BundleValue};
 ghost use Rattle.txn_journal.specs.BundleText.{WritesBundleBy, WritesBundle};
-ghost use Rattle.txn_journal.specs.Stream.{IsWhole, IsWholeOr, IsRead};
+ghost use Rattle.txn_journal.specs.Stream.{Progress, IsWhole, IsWholeOr, IsRead};
 ghost use Rattle.txn_journal.specs.BundleRefused.{RefusesBundleBy, RefusesBundle};
 ghost use Rattle.txn_journal.specs.declared.lines.Version.TheVariants.{One};
 ghost use Rattle.txn_journal.specs.BundleReading.{bundle_start, IsFaultOfBundle, eats_bundle, closing_bundle};
@@ -151,3 +151,8 @@ pub fn decode_bundle_v1(alloc: Global, bytes: &[u8]) -> Result<Bundle, JournalFa
 {
     read_bundle(alloc, Some(Version::One), bytes)
 }
+
+/// A bundle's text is read alike however it is cut.
+pub fn any_cut_of_bundles()
+    ensures { (p : Progress BundleStanding) (front back : List ℕ) → eats_bundle p (front ++ back) ≡ eats_bundle (eats_bundle p front) back }
+{}

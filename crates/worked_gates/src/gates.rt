@@ -11,7 +11,7 @@ use gtid_text::{Gtid, SourceId};
 use journal::Entry;
 use replica_core::{Core, Event};
 use rows::{Changes, Name, Rows, Schema, Transaction};
-use serving::{StateOrVerdict, written_is_servable};
+use serving::{Order, StateOrVerdict, written_is_servable};
 use shared_replica::{ClosedBook, Naming, Pass, SharedReplica};
 use std::alloc::Global;
 use std::marker::Brand;
@@ -187,7 +187,7 @@ fn rows_applied<R: Threads + Wait + Sync>(
 ) -> Option<usize>
     requires can { IsServable bundle.now }
 {
-    match apply_journals(rt, alloc, bundle, 2, gate) {
+    match apply_journals(rt, alloc, bundle, Order::BySource, 2, gate) {
         Ok(StateOrVerdict::State(book)) => count_rows(alloc, &book),
         _ => None,
     }

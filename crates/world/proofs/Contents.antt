@@ -14,10 +14,10 @@ use Rattle.journal.specs.declared.Entry.{Entry}
 use Rattle.journal.specs.Journals.{JournalValue}
 use Rattle.source_history.specs.World.{World, content, is_opened, of_source, entries_in, apply_all, rows_of, HasNumber, IsClosed, AreKeysSound, IsSound}
 use Rattle.source_history.specs.World as history
-use Rattle.source_history.proofs.Placing.{IsIn}
+use Rattle.ordered_history.specs.World.{IsIn}
 use Rattle.source_history.proofs.Entries.{is_in, found}
-use Rattle.source_history.proofs.Lists.{all_at}
-use Rattle.source_history.proofs.Covering.{is_entry, entries_append, any_tied}
+use Rattle.ordered_journals.proofs.Lists.{all_at}
+use Rattle.ordered_journals.proofs.Covering.{is_entry, entries_append, any_tied}
 use Rattle.world.specs.Audit.{all_entries, first_contents}
 use Rattle.std.proofs.lemmas.Bool.{or_cases, or_left, or_right}
 use Rattle.std.proofs.lemmas.Option.{same_Some}

@@ -21,7 +21,7 @@ use Rattle.journal.specs.Journals.{JournalValue}
 use Rattle.source_history.specs.World.{World, content, is_opened}
 use Rattle.source_history.specs.World as history
 use Rattle.source_history.specs.LastWriter.{latest, later_of}
-use Rattle.source_history.proofs.Lists.{get_take}
+use Rattle.ordered_journals.proofs.Lists.{get_take}
 use Rattle.world.specs.declared.verdict.Verdict.{Verdict}
 use Rattle.world.specs.declared.verdict.Verdict.TheVariants.{Unequal, Purged, NotClosed}
 use Rattle.world.specs.Search.{or_next, first_at, first}

@@ -20,7 +20,7 @@ use Rattle.source_history.specs.World.{World, content, of_source, entries_in, ro
 use Rattle.source_history.specs.World as history
 use Rattle.source_history.proofs.Gtids.{number_less}
 use Rattle.source_history.proofs.Entries.{IsRising, rising}
-use Rattle.source_history.proofs.Lists.{get_map, all_at}
+use Rattle.ordered_journals.proofs.Lists.{get_map, all_at}
 use Rattle.world.specs.declared.verdict.Verdict.TheVariants.{Missing, Shared, DoesNotApply}
 use Rattle.world.specs.Search.{first, when}
 use Rattle.world.specs.Audit.{all_entries, world_of, stands_in, present, is_absent, below, first_fault}

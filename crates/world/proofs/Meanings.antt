@@ -21,10 +21,11 @@ use Rattle.journal.specs.Writing.{is_writable, is_number, is_txn_writable}
 use Rattle.journal.specs.Journals.{JournalValue, IsJournal}
 use Rattle.source_history.specs.World.{World, content, is_opened, of_source, entries_in, apply_all, rows_of, HasNumber, IsClosed, AreKeysSound, IsSound}
 use Rattle.source_history.specs.World as history
-use Rattle.source_history.proofs.Commuting.{AreApart, apart_back}
+use Rattle.ordered_history.proofs.Commuting.{AreApart, apart_back}
 use Rattle.source_history.specs.Faithful.{IsFaithful}
-use Rattle.source_history.proofs.Lists.{get_map, get_take, all_at, all_from}
-use Rattle.source_history.proofs.Covering.{is_entry, covered, front, to_fronts}
+use Rattle.ordered_journals.proofs.Lists.{get_map, get_take, all_at, all_from}
+use Rattle.ordered_journals.proofs.Covering.{is_entry, covered}
+use Rattle.source_history.proofs.Fronts.{front, to_fronts}
 use Rattle.world.specs.declared.verdict.Verdict.{Verdict}
 use Rattle.world.specs.declared.verdict.Verdict.TheVariants.{Unequal, Purged, Missing, Shared, NotClosed, DoesNotApply, Sound}
 use Rattle.world.specs.Search.{or_next, when, first_at}
@@ -39,7 +40,7 @@ use Rattle.std.proofs.lemmas.Map.Keys.{any_passes_from_place}
 use Rattle.gtid_text.proofs.SameGtid.{gtid_total}
 use Rattle.rows.proofs.Patching.{not_both}
 use Rattle.rows.proofs.Lists.{none_some, map_some, any_at}
-use Rattle.source_history.proofs.Committing.{some_is}
+use Rattle.ordered_history.proofs.Entries.{some_is}
 
 -- ---- nothing that is found is called Sound
 

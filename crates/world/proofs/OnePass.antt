@@ -19,9 +19,10 @@ use Rattle.rows.specs.WriteSet.{touches, left_by, AgreeOn, Alike}
 use Rattle.rows.proofs.Local.{bind_ok, after_apply, apply_alike}
 use Rattle.source_history.specs.World.{World, content, is_opened, of_source, entries_in, apply_all, rows_of, AreKeysSound}
 use Rattle.source_history.specs.World as history
-use Rattle.source_history.proofs.Commuting.{frame}
-use Rattle.source_history.proofs.Placing.{all_map, chosen_applies}
-use Rattle.source_history.proofs.Entries.{IsRising, AreFound, rising, found, apart_sources, source_closed}
+use Rattle.ordered_history.proofs.Commuting.{frame}
+use Rattle.ordered_history.proofs.Placing.{all_map, chosen_applies}
+use Rattle.source_history.proofs.Entries.{IsRising, AreFound, rising, found, apart_sources}
+use Rattle.source_history.proofs.Alone.{source_closed}
 use Rattle.world.specs.declared.verdict.Verdict.{Verdict}
 use Rattle.world.specs.declared.verdict.Verdict.TheVariants.{DoesNotApply}
 use Rattle.world.specs.Search.{or_next, first}
@@ -30,7 +31,8 @@ use Rattle.world.specs.Folds.{OnePassApplies}
 use Rattle.world.proofs.Meanings.{no_fault}
 use Rattle.world.proofs.Standing.{fails_in}
 use Rattle.world.proofs.Saying.{fault_free, applies_none}
-use Rattle.source_history.proofs.Closing.{alone_or_together, is_ok_of}
+use Rattle.source_history.proofs.Alone.{alone_or_together}
+use Rattle.ordered_history.proofs.Closing.{is_ok_of}
 use Rattle.rows.proofs.Patching.{not_both, fits_err}
 
 -- ---- rows after a part of a list

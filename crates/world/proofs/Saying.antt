@@ -18,8 +18,9 @@ use Rattle.journal.specs.Journals.{JournalValue}
 use Rattle.source_history.specs.World.{World, content, is_opened, of_source, entries_in, apply_all, rows_of, HasNumber, IsClosed, AreKeysSound, IsSound}
 use Rattle.source_history.specs.World as history
 use Rattle.source_history.specs.Faithful.{IsFaithful}
-use Rattle.source_history.proofs.Lists.{get_take, all_at}
-use Rattle.source_history.proofs.Covering.{is_entry, covered, front, fronts_of}
+use Rattle.ordered_journals.proofs.Lists.{get_take, all_at}
+use Rattle.ordered_journals.proofs.Covering.{is_entry, covered}
+use Rattle.source_history.proofs.Fronts.{front, fronts_of}
 use Rattle.world.specs.declared.verdict.Verdict.TheVariants.{Unequal, Purged, Missing, Shared, NotClosed, DoesNotApply, Sound}
 use Rattle.world.specs.Equal.{txn_eq}
 use Rattle.world.specs.Audit.{all_entries, world_of, is_content, is_unequal, unequal, purged, present, is_absent, below, missing, shared, is_left_out, not_closed, fault_after, first_fault, does_not_apply, found_in_keys}
@@ -31,9 +32,9 @@ use Rattle.std.proofs.lemmas.Option.{same_Some, slice_get_within}
 use Rattle.std.proofs.lemmas.Map.Keys.{any_passes_from_place}
 use Rattle.rows.proofs.Patching.{not_both}
 use Rattle.rows.proofs.Lists.{get_map_cases}
-use Rattle.source_history.proofs.Committing.{some_is}
-use Rattle.source_history.proofs.Closing.{is_ok_of}
-use Rattle.source_history.proofs.Merging.{got}
+use Rattle.ordered_history.proofs.Entries.{some_is}
+use Rattle.ordered_history.proofs.Closing.{is_ok_of}
+use Rattle.ordered_history.proofs.Merging.{got}
 use Rattle.world.proofs.Gaps.{number_lt}
 
 module _ (schema : List Table) (opened : Gtids) (rows : Rows) (journals : List JournalValue) where

@@ -17,7 +17,7 @@ use Rattle.gtid_text.specs.declared.Gtid.{Gtid}
 use Rattle.journal.specs.Journals.{JournalValue}
 use Rattle.source_history.specs.World.{World, content, is_opened, of_source, entries_in, apply_all, rows_of, HasNumber, IsClosed, AreKeysSound, IsSound}
 use Rattle.source_history.specs.World as history
-use Rattle.source_history.proofs.Covering.{is_entry, covered}
+use Rattle.ordered_journals.proofs.Covering.{is_entry, covered}
 use Rattle.world.specs.declared.verdict.Verdict.{Verdict}
 use Rattle.world.specs.declared.verdict.Verdict.TheVariants.{Unequal, Purged, Missing, Shared, NotClosed, DoesNotApply, Sound}
 use Rattle.world.specs.Search.{or_next}
@@ -34,7 +34,7 @@ use Rattle.rows.proofs.Lists.{none_some, map_some, get_map_cases}
 use Rattle.world.proofs.Gaps.{number_lt}
 
 module _ (world : World) (journals : List JournalValue) where
-  unequal_stands : (v : Verdict) → unequal world journals ≡ Some v → Stands world journals v
+  pub unequal_stands : (v : Verdict) → unequal world journals ≡ Some v → Stands world journals v
   unequal_stands v f =
       let a = first_some _ journals v f in
       let b = first_some _ a.element.entries v a.gives in
@@ -48,13 +48,13 @@ module _ (world : World) (journals : List JournalValue) where
         differs = λ e. not_both (is_content world b.element) (ap (λ o. option_map_or (txn_eq b.element.txn) o false) e ∙ txn_self b.element.txn) (not-true (is_content world b.element) p.1);
       })
 
-  purged_stands : (v : Verdict) → purged world journals ≡ Some v → Stands world journals v
+  pub purged_stands : (v : Verdict) → purged world journals ≡ Some v → Stands world journals v
   purged_stands v f =
       let a = first_some _ journals v f in
       let c = when_some (not (set.is_subset a.element.previous world.opening_set)) (Purged a.place (set.difference a.element.previous world.opening_set)) v a.gives in
       subst (Stands world journals) c.1 (record { journal = a.element; there = a.there; named = refl; more = not-true (set.is_subset a.element.previous world.opening_set) c.0 })
 
-  missing_stands : (v : Verdict) → missing world journals ≡ Some v → Stands world journals v
+  pub missing_stands : (v : Verdict) → missing world journals ≡ Some v → Stands world journals v
   missing_stands v f =
       let a = first_some _ (present world journals) v f in
       let there = at_content (world_of world.schema world.opening_set world.opening_rows journals) a.place a.element a.there in

@@ -15,7 +15,7 @@ use Rattle.rows.specs.Total.{key_total, key_eq_same}
 use Rattle.rows.specs.WriteSet.{write_set, touches, is_among}
 use Rattle.source_history.specs.World.{World}
 use Rattle.source_history.specs.World as history
-use Rattle.source_history.proofs.Placing.{all_map}
+use Rattle.ordered_history.proofs.Placing.{all_map}
 use Rattle.source_history.proofs.Entries.{IsRising, rising}
 use Rattle.world.specs.declared.verdict.Verdict.{Verdict}
 use Rattle.world.specs.declared.verdict.Verdict.TheVariants.{Shared}

@@ -124,6 +124,10 @@ does_not_apply world =
 
 -- ---- the verdict
 
+-- what is found without looking at a key
+abbrev pub found_in_gtids : World → List JournalValue → Option Verdict
+found_in_gtids world journals = or_next (unequal world journals) (or_next (purged world journals) (missing world journals))
+
 -- what is found without applying a transaction
 abbrev pub found_in_keys : World → List JournalValue → Option Verdict
 found_in_keys world journals =

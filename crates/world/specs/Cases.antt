@@ -13,7 +13,7 @@ use Rattle.journal.specs.Journals.{JournalValue}
 use Rattle.source_history.specs.World.{World, content, is_opened, of_source, entries_in, apply_all}
 use Rattle.source_history.specs.World as history
 use Rattle.world.specs.declared.verdict.Verdict.{Verdict}
-use Rattle.world.specs.declared.verdict.Verdict.TheVariants.{Unequal, Purged, Missing, Shared, NotClosed, DoesNotApply, Sound}
+use Rattle.world.specs.declared.verdict.Verdict.TheVariants.{Unequal, Purged, Missing, Shared, Reordered, NotClosed, Concurrent, DoesNotApply, Sound}
 use Rattle.world.specs.Audit.{all_entries, stands_in, stands_before, verdict}
 
 -- an entry of a journal
@@ -83,12 +83,15 @@ pub record Fails (world : World) (g : Gtid) (fault : RowFault) : Type 0 where
   pub reached : apply_all world.schema before world.opening_rows ≡ Ok rows
   pub refused : apply world.schema t rows ≡ Err fault
 
+-- Two of the verdicts are those of the audit in one order, and never of this one.
 abbrev pub Stands : World → List JournalValue → Verdict → Type 0
 Stands world journals (Unequal g) = DiffersAt world journals g
 Stands world journals (Purged i gtids) = IsPurged world journals i gtids
 Stands world journals (Missing g) = IsMissing world journals g
 Stands world journals (Shared g h key) = IsShared world g h key
+Stands world journals (Reordered g h key) = ⊥
 Stands world journals (NotClosed g h) = IsLeftOut world journals g h
+Stands world journals (Concurrent g h key) = ⊥
 Stands world journals (DoesNotApply g fault) = Fails world g fault
 Stands world journals Sound = Unit {0}
 

@@ -15,8 +15,15 @@ pub enum Verdict {
     Missing(Gtid),
     /// Two GTIDs of different sources that share a key, the greater one second.
     Shared(Gtid, Gtid, Key),
-    /// An entry that stands in a journal without an earlier one of its source that shares a key.
+    /// Two GTIDs that share a key, which two journals have in different orders. Only the audit in one
+    /// order answers it.
+    Reordered(Gtid, Gtid, Key),
+    /// An entry that stands in a journal without an earlier one of its source that shares a key; in the
+    /// audit in one order, without one that shares a key and stands before it in another journal.
     NotClosed(Gtid, Gtid),
+    /// Two GTIDs that share a key, each in a journal that has not the other, where neither journal has
+    /// both. Only the audit in one order answers it.
+    Concurrent(Gtid, Gtid, Key),
     /// A transaction that does not apply after the earlier ones of its source.
     DoesNotApply(Gtid, RowFault),
     /// The journals can be merged.

@@ -1,5 +1,5 @@
-use Rattle.applier.proofs.GoingOn.{makes_on}
+use Rattle.applier.proofs.GoingOn.{takes_on}
 use Rattle.applier.proofs.work.take.Goals as goal
 
-pub returns : goal.returns
-returns g c = makes_on _ _ _ c.take.result tt c.take.ensures
+pub returns-clause-work : goal.returns-clause-work
+returns-clause-work g c = takes_on _ _ _ _ c.take_to_prepare.result c.take_to_prepare.ensures.makes

@@ -1,7 +1,5 @@
-use Rattle.std.proofs.Common.{rules, ◌≡◌, sym, ap, subst}
+use Rattle.std.proofs.Common.{rules}
 use Rattle.std.specs.FinSet as set
-use Rattle.gtid_set.specs.Sets.{Gtids}
-use Rattle.gtid_set.specs.Full.{IsCrowdedExactly}
 use Rattle.audit.specs.Others.{IsPartFault}
 use Rattle.audit.proofs.Parts.{fault_of_part, fault_of_difference, one_within}
 use Rattle.audit.proofs.skipped.take_out.Goals as goal

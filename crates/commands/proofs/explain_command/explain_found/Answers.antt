@@ -7,7 +7,7 @@ use Rattle.commands.proofs.explain_command.explain_found.Goals as goal
 
 pub returns-in-Ok : goal.returns-in-Ok
 returns-in-Ok c =
-    bundle_found c.args.bytes.now c.in-Ok.bundle c.explain_bundle-held.result c.in-Ok.ensures c.explain_bundle-held.ensures.answer c.explain_bundle-held.ensures.notes c.explain_bundle-held.ensures.fault
+    bundle_found c.args.order c.args.bytes.now c.in-Ok.bundle c.explain_bundle-held.result c.in-Ok.ensures c.explain_bundle-held.ensures.answer c.explain_bundle-held.ensures.notes c.explain_bundle-held.ensures.fault
 
 pub returns-in-Err : goal.returns-in-Err
-returns-in-Err c = subst (λ (fault : Fault). FindsExplained c.args.bytes.now (Err fault)) (sym c.from.ensures) (fault_found c.args.bytes.now c.in-Err.fault c.in-Err.ensures)
+returns-in-Err c = subst (λ (fault : Fault). FindsExplained c.args.order c.args.bytes.now (Err fault)) (sym c.from.ensures) (fault_found c.args.order c.args.bytes.now c.in-Err.fault c.in-Err.ensures)

@@ -1,10 +1,12 @@
 use Rattle.std.proofs.Common.{drop, ◌∷◌, ap, sym, ◌∙◌, not, ◌&&◌, ◌||◌}
+use Rattle.std.proofs.lemmas.Result.{on_ok_weaker}
 use Rattle.std.specs.List.{list_all}
 use Rattle.gtid_set.specs.Numbers.{numbered, all_numbered}
 use Rattle.gtid_set.specs.Spans.{has, is_merged}
 use Rattle.gtid_set.specs.Sweep.{all_before, within}
 use Rattle.gtid_set.proofs.CutLemmas.{within_from, more_from, before_later, kept_less, all_before_head}
 use Rattle.gtid_set.proofs.SpanLemmas.{nothing, merged_head}
+use Rattle.gtid_set.proofs.CombineLemmas.{without_holes}
 use Rattle.gtid_set.proofs.numbers.reduce.Goals as goal
 
 pub loop-numbers-init : goal.loop-numbers-init
@@ -48,3 +50,11 @@ loop-numbers-preserved c =
           (λ w. skips.same q (within_from span q w)) (λ m. skips.same q (more_from span more q head m))
           (ap (λ ss. has out q || (has ss q && not (has right q))) (sym parts) ∙ inv.has q);
     }
+
+pub returns-in_default-peek : goal.returns-in_default-peek
+returns-in_default-peek c =
+    let inv = c.loop-numbers.invariant in
+    on_ok_weaker c.push_all.result
+    (λ e. without_holes (all_numbered c.loop-numbers.out.items) (all_numbered c.loop-numbers.left) (all_numbered c.loop-numbers.right) (all_numbered c.skip.new.walk) _ (numbered c.in-Some.numbers) (all_numbered (drop 1 c.loop-numbers.left))
+    (λ q. has (all_numbered c.args.left) q && not (has (all_numbered c.args.right) q)) (ap all_numbered c.in-Some.ensures.cases) inv.left inv.merged inv.before c.skip.ensures (ap all_numbered c.in_default-peek.ensures.cases) inv.has e)
+    c.push_all.ensures

@@ -1,4 +1,4 @@
-use Rattle.source_history.proofs.Closing.{alone_or_together}
+use Rattle.source_history.proofs.Alone.{alone_or_together}
 use Rattle.source_history.proofs.laws.alone_or_together.Goals as goal
 
 pub returns : goal.returns

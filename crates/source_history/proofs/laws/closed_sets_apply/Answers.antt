@@ -1,4 +1,4 @@
-use Rattle.source_history.proofs.Closing.{closed_sets_apply}
+use Rattle.source_history.proofs.Follow.{closed_sets_apply}
 use Rattle.source_history.proofs.laws.closed_sets_apply.Goals as goal
 
 pub returns : goal.returns

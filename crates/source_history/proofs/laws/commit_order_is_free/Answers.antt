@@ -1,4 +1,4 @@
-use Rattle.source_history.proofs.Committing.{commit_order_is_free}
+use Rattle.source_history.proofs.Follow.{commit_order_is_free}
 use Rattle.source_history.proofs.laws.commit_order_is_free.Goals as goal
 
 pub returns : goal.returns

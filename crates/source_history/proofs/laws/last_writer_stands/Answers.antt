@@ -1,4 +1,4 @@
-use Rattle.source_history.proofs.Writing.{last_writer_stands}
+use Rattle.source_history.proofs.Follow.{last_writer_stands}
 use Rattle.source_history.proofs.laws.last_writer_stands.Goals as goal
 
 pub returns : goal.returns

@@ -1,4 +1,4 @@
-use Rattle.source_history.proofs.Closing.{rows_are_carriers}
+use Rattle.source_history.proofs.Follow.{rows_are_carriers}
 use Rattle.source_history.proofs.laws.rows_are_carriers.Goals as goal
 
 pub returns : goal.returns

@@ -1,10 +1,9 @@
-use Rattle.std.proofs.Common.{rules, ◌≡◌, ◌∙◌, ap, map, None, subst}
+use Rattle.std.proofs.Common.{rules, ◌∙◌, ap, None, subst}
 use Rattle.std.specs.FinMap as finmap
 use Rattle.std.specs.FinSet as set
 use Rattle.std.specs.Prelude.{IfErr}
 use Rattle.std.proofs.lemmas.Result.{IfOk-weaker}
 use Rattle.gtid_set.specs.Sets.{Gtids}
-use Rattle.audit.specs.Contents.{as_pair}
 use Rattle.audit.specs.Others.{IsPartFault, skips_from}
 use Rattle.audit.proofs.Made.{pairs_of}
 use Rattle.audit.proofs.Parts.{fault_of_difference}

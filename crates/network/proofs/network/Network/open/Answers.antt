@@ -3,7 +3,7 @@ use Rattle.std.specs.Prelude.{slice_get}
 use Rattle.std.proofs.lemmas.List.{take_more, map_push}
 use Rattle.network.specs.Nodes.{Node, opened_node}
 use Rattle.network.specs.Reading.{Places}
-use Rattle.source_history.proofs.Lists.{get_push_cases}
+use Rattle.ordered_journals.proofs.Lists.{get_push_cases}
 use Rattle.network.proofs.ReadingLemmas.{new_read}
 use Rattle.network.proofs.network.Network.open.Goals as goal
 

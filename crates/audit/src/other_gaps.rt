@@ -1,0 +1,126 @@
+//! Each GTID that stands in a journal without the nearest earlier one at some key of it.
+ghost use Rattle.std.specs.Prelude.{◌≡◌, List, ◌∷◌, ◌++◌, IfOk, OnOk, find, not};
+ghost use Rattle.std.specs.FinSet as set;
+ghost use Rattle.audit.specs.Gaps.{needs_in, stands};
+ghost use Rattle.audit.specs.OtherGaps.{Gap, first_absent, gap_said, gaps_among, gaps_in, other_gaps, told_from, with_gap};
+ghost use Rattle.audit.specs.Worlds.{IsWorldOf};
+
+use crate::finding::keep_rules;
+use crate::gaps::stands;
+use crate::needs::Needs;
+use crate::sources::World;
+use crate::standing::Standing;
+use gtid_set::GtidSet;
+use gtid_text::Gtid;
+use journal::Journal;
+use std::alloc::{AllocError, Global};
+use world::Verdict;
+
+/// The first of these that does not stand.
+fn first_of(previous: &GtidSet, standing: &Standing, gtids: &[Gtid]) -> Option<Gtid>
+    ensures { result ≡ find (λ h. not (stands previous.now standing.now h)) gtids.now }
+{
+    for gtid in gtids {
+        if !stands(previous, standing, gtid) {
+            return Some(*gtid);
+        }
+    }
+    None
+}
+
+/// Of what a GTID needs, the first that does not stand.
+fn first_absent(needs: &Needs, previous: &GtidSet, standing: &Standing, gtid: &Gtid) -> Option<Gtid>
+    ensures { result ≡ first_absent needs.now (stands previous.now standing.now) gtid.now }
+{
+    match needs.get(gtid) {
+        Some(gtids) => first_of(previous, standing, gtids.as_slice()),
+        None => None,
+    }
+}
+
+/// Says that a GTID stands without another, where nothing was said of it.
+fn say_gap(
+    found: &mut Vec<Verdict>,
+    said: &mut Standing,
+    gtid: Gtid,
+    absent: Option<Gtid>,
+) -> Result<(), AllocError>
+    ensures { OnOk result ((rest : List Gap) → found.new.items ++ told_from said.new rest ≡ found.old.items ++ told_from said.old (with_gap gtid absent rest)) }
+{
+    if let Some(absent) = absent {
+        if !said.has(&gtid) {
+            found.push(Verdict::NotClosed(gtid, absent))?;
+            said.put(gtid)?;
+        }
+    }
+    Ok(())
+}
+
+/// Says of each entry of a journal what it stands without.
+fn say_among(
+    alloc: Global,
+    needs: &Needs,
+    found: &mut Vec<Verdict>,
+    said: &mut Standing,
+    journal: &Journal,
+) -> Result<(), AllocError>
+    ensures { OnOk result ((rest : List Gap) → found.new.items ++ told_from said.new rest ≡ found.old.items ++ told_from said.old (gaps_among needs.now journal.now.previous set.empty journal.now.entries rest)) }
+{
+    let previous = journal.previous();
+    let mut standing = Standing::new(alloc);
+    for entry in journal.entries() {
+        let absent = first_absent(needs, previous, &standing, &entry.gtid);
+        say_gap(found, said, entry.gtid, absent)?;
+        standing.put(entry.gtid)?;
+    }
+    Ok(())
+}
+
+/// The GTID of the verdict, of which nothing more is said.
+fn gap_said(alloc: Global, verdict: &Verdict) -> Result<Standing, AllocError>
+    ensures { IfOk result (λ said. said ≡ gap_said verdict.now) }
+{
+    let mut said = Standing::new(alloc);
+    if let Verdict::NotClosed(gtid, _) = verdict {
+        said.put(*gtid)?;
+    }
+    Ok(said)
+}
+
+/// Each GTID that stands without something it needs, but those of which something is said.
+fn gaps_beside(
+    alloc: Global,
+    needs: &Needs,
+    journals: &[Journal],
+    verdict: &Verdict,
+) -> Result<Vec<Verdict>, AllocError>
+    ensures { IfOk result (λ found. found.items ≡ told_from (gap_said verdict.now) (gaps_in needs.now journals.now)) }
+{
+    let mut said = gap_said(alloc, verdict)?;
+    let mut found = Vec::new(alloc);
+    for journal in journals {
+        say_among(alloc, needs, &mut found, &mut said, journal)?;
+    }
+    Ok(found)
+}
+
+impl World {
+    /// Each GTID that stands in a journal without the nearest earlier one at some key of it, but that of
+    /// the verdict. Where journals are in order there is none, and no table of what each needs is made.
+    pub(crate) fn other_gaps(
+        &self,
+        alloc: Global,
+        journals: &[Journal],
+        verdict: &Verdict,
+    ) -> Result<Vec<Verdict>, AllocError>
+        requires { IsWorldOf self.now journals.now }
+        ensures { IfOk result (λ found. found.items ≡ other_gaps self.now journals.now verdict.now) }
+    {
+        keep_rules(journals);
+        if self.are_in_order(alloc, journals)? {
+            return Ok(Vec::new(alloc));
+        }
+        let needed = self.needs(alloc)?;
+        gaps_beside(alloc, &needed.needs, journals, verdict)
+    }
+}

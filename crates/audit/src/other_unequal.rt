@@ -1,0 +1,78 @@
+//! Each GTID under which two journals have different transactions.
+ghost use Rattle.std.specs.Prelude.{◌≡◌, List, ◌∷◌, ◌++◌, IfOk, OnOk};
+ghost use Rattle.journal.specs.declared.Entry.{Entry};
+ghost use Rattle.std.specs.FinSet as set;
+ghost use Rattle.world.specs.Audit.{all_entries};
+ghost use Rattle.audit.specs.OtherUnequal.{other_unequal, unequal_from};
+
+use crate::sources::World;
+use crate::standing::Standing;
+use gtid_text::Gtid;
+use journal::{Entry, Journal};
+use std::alloc::{AllocError, Global};
+use world::Verdict;
+
+impl World {
+    /// Says of an entry that it is unequal, where it is and that was not said of its GTID.
+    fn say_unequal(
+        &self,
+        found: &mut Vec<Verdict>,
+        said: &mut Standing,
+        entry: &Entry,
+    ) -> Result<(), AllocError>
+        ensures { OnOk result ((rest : List Entry) → found.new.items ++ unequal_from self.now said.new rest ≡ found.old.items ++ unequal_from self.now said.old (entry.now ∷ rest)) }
+    {
+        if self.is_unequal(entry) && !said.has(&entry.gtid) {
+            found.push(Verdict::Unequal(entry.gtid))?;
+            said.put(entry.gtid)?;
+        }
+        Ok(())
+    }
+
+    fn say_unequal_among(
+        &self,
+        found: &mut Vec<Verdict>,
+        said: &mut Standing,
+        entries: &[Entry],
+    ) -> Result<(), AllocError>
+        ensures { OnOk result ((rest : List Entry) → found.new.items ++ unequal_from self.now said.new rest ≡ found.old.items ++ unequal_from self.now said.old (entries.now ++ rest)) }
+    {
+        for entry in entries {
+            self.say_unequal(found, said, entry)?;
+        }
+        Ok(())
+    }
+
+    /// Each GTID that is unequal, but one of which that is said.
+    fn unequal_beside(
+        &self,
+        alloc: Global,
+        journals: &[Journal],
+        gtid: Gtid,
+    ) -> Result<Vec<Verdict>, AllocError>
+        ensures { IfOk result (λ found. found.items ≡ unequal_from self.now (set.insert set.empty gtid) (all_entries journals.now)) }
+    {
+        let mut found = Vec::new(alloc);
+        let mut said = Standing::new(alloc);
+        said.put(gtid)?;
+        for journal in journals {
+            self.say_unequal_among(&mut found, &mut said, journal.entries())?;
+        }
+        Ok(found)
+    }
+
+    /// Each GTID that is unequal, but that of the verdict. Where another verdict is found, none is.
+    pub(crate) fn other_unequal(
+        &self,
+        alloc: Global,
+        journals: &[Journal],
+        verdict: &Verdict,
+    ) -> Result<Vec<Verdict>, AllocError>
+        ensures { IfOk result (λ found. found.items ≡ other_unequal self.now journals.now verdict.now) }
+    {
+        match verdict {
+            Verdict::Unequal(gtid) => self.unequal_beside(alloc, journals, *gtid),
+            _ => Ok(Vec::new(alloc)),
+        }
+    }
+}

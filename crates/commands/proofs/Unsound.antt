@@ -1,0 +1,32 @@
+-- What is answered where the verdict is not Sound.
+use Rattle.std.proofs.Common.{◌≡◌, refl, sym, subst}
+use Rattle.std.specs.Prelude.{Result, Ok, Err}
+use Rattle.rows.specs.declared.change.RowFault.{RowFault}
+use Rattle.rows.specs.Apply.{Rows}
+use Rattle.gtid_set.specs.Sets.{Gtids}
+use Rattle.world.specs.declared.verdict.Verdict.{Verdict}
+use Rattle.world.specs.declared.verdict.Verdict.TheVariants.{Unequal, Purged, Missing, Shared, Reordered, Concurrent, NotClosed, DoesNotApply, Sound}
+use Rattle.txn_journal.specs.BundleStates.{BundleValue}
+use Rattle.serving.specs.declared.order.Order.{Order}
+use Rattle.serving.specs.Verdicts.{IsUnsound, verdict_over}
+use Rattle.commands.specs.Said.{Holds}
+use Rattle.commands.specs.Bundles.{verdict_said, state_or_verdict, applied, union_told, rows_told}
+use Rattle.commands.specs.declared.answer.Answer.{Answer}
+
+-- any other verdict is said as it is
+verdict_is_said : (v : Verdict) (executed : Gtids) (rows : Result Rows RowFault) → (v ≡ Sound → ⊥) → state_or_verdict v executed rows ≡ verdict_said v
+verdict_is_said Sound executed rows isnt = absurd (isnt refl)
+verdict_is_said (Unequal g) executed rows isnt = refl
+verdict_is_said (Purged i gtids) executed rows isnt = refl
+verdict_is_said (Missing g) executed rows isnt = refl
+verdict_is_said (Shared g h key) executed rows isnt = refl
+verdict_is_said (Reordered g h key) executed rows isnt = refl
+verdict_is_said (Concurrent g h key) executed rows isnt = refl
+verdict_is_said (NotClosed g h) executed rows isnt = refl
+verdict_is_said (DoesNotApply g fault) executed rows isnt = refl
+
+-- the line of a verdict that is not Sound is what applying is answered with
+pub verdict_applied : (order : Order) (b : BundleValue) (v : Verdict) (answer : Answer) → IsUnsound order b v → Holds answer (verdict_said v) → Holds answer (applied order b)
+verdict_applied order b v answer unsound holds =
+    subst (λ (w : Verdict). Holds answer (state_or_verdict w (union_told b) (rows_told order b))) unsound.0
+    (subst (Holds answer) (sym (verdict_is_said v (union_told b) (rows_told order b) unsound.1)) holds)

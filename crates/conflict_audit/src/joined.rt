@@ -1,0 +1,58 @@
+//! Journals joined to one order.
+ghost use Rattle.std.specs.Prelude.{◌≡◌, [], IfOk, OnOk};
+ghost use Rattle.ordered_bundles.specs.Bundles.{beyond_opening, histories_of};
+ghost use Rattle.conflict_audit.specs.Joined.{with_entry, grown, all_grown};
+
+use gtid_set::GtidSet;
+use gtid_text::Gtid;
+use indexmap::IndexMap;
+use journal::{Entry, Journal};
+use rows::Transaction;
+use std::alloc::{AllocError, Global};
+
+/// Puts an entry at the end of an order, unless its GTID is there.
+fn join_entry(order: &mut IndexMap<Gtid, Transaction>, entry: &Entry) -> Result<(), AllocError>
+    ensures { OnOk result (order.new.entries ≡ with_entry order.old.entries (entry.now.gtid, entry.now.txn)) }
+{
+    if order.contains_key(&entry.gtid) {
+        return Ok(());
+    }
+    let txn = entry.txn.clone()?;
+    let Ok(_) = order.insert(entry.gtid, txn) else {
+        return Err(AllocError);
+    };
+    Ok(())
+}
+
+/// Puts the entries beyond the opening set at the end of an order, where they are not there.
+fn join_entries(
+    order: &mut IndexMap<Gtid, Transaction>,
+    opened: &GtidSet,
+    entries: &[Entry],
+) -> Result<(), AllocError>
+    ensures { OnOk result (order.new.entries ≡ grown order.old.entries (beyond_opening opened.now entries.now)) }
+{
+    for entry in entries {
+        if opened.contains(&entry.gtid) {
+            continue;
+        }
+        join_entry(order, entry)?;
+    }
+    Ok(())
+}
+
+/// The journals' transactions beyond the opening set in one order: each journal in turn, what it has
+/// beyond the earlier ones. The images are shared with the journals.
+pub(crate) fn joined(
+    alloc: Global,
+    opened: &GtidSet,
+    journals: &[Journal],
+) -> Result<IndexMap<Gtid, Transaction>, AllocError>
+    ensures { IfOk result (λ order. order.entries ≡ all_grown [] (histories_of opened.now journals.now)) }
+{
+    let mut order = IndexMap::new(alloc);
+    for journal in journals {
+        join_entries(&mut order, opened, journal.entries())?;
+    }
+    Ok(order)
+}

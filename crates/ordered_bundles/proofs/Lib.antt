@@ -1,0 +1,7 @@
+pub mod Opening
+pub mod Nexts
+pub mod Turns
+pub mod Histories
+pub mod Sounding
+pub mod Naming
+pub mod Standing

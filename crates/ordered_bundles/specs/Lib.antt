@@ -1,0 +1,4 @@
+pub mod Bundles
+pub mod Audit
+pub mod Cases
+pub mod Meaning

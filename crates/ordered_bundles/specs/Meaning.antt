@@ -1,0 +1,31 @@
+-- What Sound means of journals in one order.
+use Rattle.std.specs.Prelude.{◌≡◌, List}
+use Rattle.std.specs.List.{AllByRecursion}
+use Rattle.gtid_set.specs.Sets.{Gtids}
+use Rattle.rows.specs.declared.schema.Table.{Table}
+use Rattle.rows.specs.Apply.{Rows}
+use Rattle.journal.specs.Journals.{JournalValue}
+use Rattle.world.specs.declared.verdict.Verdict.TheVariants.{Sound}
+use Rattle.world.specs.Audit as sources
+use Rattle.world.specs.Meaning.{AreJournals}
+use Rattle.ordered_history.specs.World.{World, AreGtidsSound, IsSound}
+use Rattle.ordered_journals.specs.Faithful.{IsFaithful}
+use Rattle.conflict_order.specs.Histories.{world_of}
+use Rattle.ordered_bundles.specs.Bundles.{histories_of}
+use Rattle.ordered_bundles.specs.Audit.{verdict_of_keys, verdict_in_order}
+
+-- the world that the journals' histories are joined to
+abbrev pub joined_world : List Table → Gtids → Rows → List JournalValue → World
+joined_world schema opened rows journals = world_of schema opened rows (histories_of opened journals)
+
+-- Where the audit in one order says Sound, the joined world is sound and each journal is faithful to it.
+abbrev pub SoundInOrderMeans : Type 0
+SoundInOrderMeans = (schema : List Table) (opened : Gtids) (rows : Rows) (journals : List JournalValue) → AreJournals journals
+    → verdict_in_order (sources.world_of schema opened rows journals) journals ≡ Sound
+    → IsSound (joined_world schema opened rows journals) × AllByRecursion (IsFaithful (joined_world schema opened rows journals)) journals
+
+-- The audit of keys alone: all but the application.
+abbrev pub KeysInOrderMean : Type 0
+KeysInOrderMean = (schema : List Table) (opened : Gtids) (rows : Rows) (journals : List JournalValue) → AreJournals journals
+    → verdict_of_keys (sources.world_of schema opened rows journals) journals ≡ Sound
+    → AreGtidsSound (joined_world schema opened rows journals) × AllByRecursion (IsFaithful (joined_world schema opened rows journals)) journals

@@ -1,0 +1,34 @@
+//! What the histories of journals say of the journals. Each function's contract is a law, and its
+//! body is empty.
+ghost use Rattle.ordered_bundles.specs.Bundles.{JournalsAreFaithful, ChainsAreEnough};
+ghost use Rattle.ordered_bundles.specs.Cases.{VerdictsStandInOrder};
+ghost use Rattle.ordered_bundles.specs.Meaning.{KeysInOrderMean, SoundInOrderMeans};
+
+/// A journal whose history is a linear extension is faithful.
+pub fn journals_are_faithful()
+    ensures { JournalsAreFaithful }
+{}
+
+/// Where an audit by chains finds nothing in the histories of some journals, each of the journals
+/// is faithful to the world that it joins them to.
+pub fn chains_are_enough()
+    ensures { ChainsAreEnough }
+{}
+
+/// Where the audit in one order says Sound, the world that the journals are joined to is sound and
+/// each journal is faithful to it.
+pub fn sound_in_order_means()
+    ensures { SoundInOrderMeans }
+{}
+
+/// Where the audit of keys in one order says Sound, the GTIDs of that world are sound and each
+/// journal is faithful to it.
+pub fn keys_in_order_mean()
+    ensures { KeysInOrderMean }
+{}
+
+/// Each verdict of the audit in one order but Sound names a case that stands: what it says of a pair
+/// two of the journals show.
+pub fn verdicts_stand_in_order()
+    ensures { VerdictsStandInOrder }
+{}

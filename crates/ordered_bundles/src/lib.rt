@@ -1,0 +1,9 @@
+//! What the histories of journals say of the journals, and what an audit of them in one order finds.
+#![tactic(auto)]
+
+mod laws;
+
+pub use laws::{
+    chains_are_enough, journals_are_faithful, keys_in_order_mean, sound_in_order_means,
+    verdicts_stand_in_order,
+};

@@ -1,0 +1,13 @@
+pub mod Invariant
+pub mod Sending
+pub mod Seats
+pub mod Receiving
+pub mod Executing
+pub mod Steps
+pub mod Runs
+pub mod Growing
+pub mod Serving
+pub mod Sharing
+pub mod Asking
+pub mod Wholes
+pub mod Deciding

@@ -1,0 +1,4 @@
+pub mod Faithful
+pub mod Served
+pub mod Whole
+pub mod Deciding

@@ -1,0 +1,7 @@
+use Rattle.std.proofs.Common.{None}
+use Rattle.txn_journal.specs.BundleReading.{bundles}
+use Rattle.txn_journal.proofs.Pieces.{eats_append}
+use Rattle.txn_journal.proofs.bundle_reader.any_cut_of_bundles.Goals as goal
+
+pub returns : goal.returns
+returns c = λ p front back. eats_append (bundles None).judge p front back
