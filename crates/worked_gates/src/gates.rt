@@ -38,7 +38,7 @@ fn workers_run_at_once(rt: HostRuntime) -> Result<(), Fail> {
 }
 
 /// Whether all twenty transactions are committed, and nothing is left for the drain.
-fn shows_twenty(alloc: Global, book: &mut ClosedBook) -> Result<bool, Fail> {
+pub(crate) fn shows_twenty(alloc: Global, book: &mut ClosedBook) -> Result<bool, Fail> {
     let steps = book.steps().len();
     let is_whole = book.state().drained() && book.counts().commits == 20;
     drain(alloc, book)?;
@@ -46,7 +46,7 @@ fn shows_twenty(alloc: Global, book: &mut ClosedBook) -> Result<bool, Fail> {
 }
 
 /// Whether all passes close a book that shows the twenty commits.
-fn closes_with_twenty<N: Naming>(
+pub(crate) fn closes_with_twenty<N: Naming>(
     alloc: Global,
     replica: SharedReplica<N>,
     passes: Vec<Pass<N>>,
@@ -118,7 +118,7 @@ fn receive_twenty(alloc: Global, core: &mut Core) -> Result<(), Fail> {
 }
 
 /// A replica that has received twenty empty transactions on a channel.
-fn core_with_twenty(alloc: Global) -> Result<Core, Fail> {
+pub(crate) fn core_with_twenty(alloc: Global) -> Result<Core, Fail> {
     let rows = Rows::open(alloc, Schema::empty(alloc));
     let mut core = Core::open(alloc, SourceId::from_bits(1), rows)?;
     match receive_twenty(alloc, &mut core) {
@@ -178,23 +178,27 @@ fn count_rows(alloc: Global, book: &ClosedBook) -> Option<usize> {
     }
 }
 
-/// How many rows two workers with a gate leave of a bundle; None where they leave a verdict.
+/// How many rows two workers with a gate leave of a bundle, and how many commits stand in their history; None where they leave
+/// a verdict.
 fn rows_applied<R: Threads + Wait + Sync>(
     rt: &R,
     alloc: Global,
     bundle: &Bundle,
     gate: &Meeting,
-) -> Option<usize>
+) -> Option<(usize, u64)>
     requires can { IsServable bundle.now }
 {
     match apply_journals(rt, alloc, bundle, Order::BySource, 2, gate) {
-        Ok(StateOrVerdict::State(book)) => count_rows(alloc, &book),
+        Ok(StateOrVerdict::State(book)) => {
+            let commits = book.counts().commits;
+            count_rows(alloc, &book).map(|rows| (rows, commits))
+        }
         _ => None,
     }
 }
 
-/// Of two workers one is held before it prepares until the other has committed: so both apply, and
-/// nothing is left for the drain.
+/// Of two workers one is held before it prepares until the other has committed: so both apply, nothing
+/// is left for the drain, and what comes back is their history.
 #[test]
 fn two_workers_apply_at_once(rt: HostRuntime) -> Result<(), Fail> {
     let alloc = rt.alloc();
@@ -209,7 +213,8 @@ fn two_workers_apply_at_once(rt: HostRuntime) -> Result<(), Fail> {
     written_is_servable();
     let rows = rows_applied(&rt, alloc, &bundle, &gate);
     drop(bundle);
-    assert_eq!(rt; rows, Some(2));
+    assert_eq!(rt; rows, Some((2, 2)));
+    assert_eq!(rt; gate.committed.load(Ordering::SeqCst), 2);
     assert_eq!(rt; gate.met.load(Ordering::SeqCst), 1);
     Ok(())
 }

@@ -1,9 +1,12 @@
 //! Tests of workers with a gate between their steps, and of the deques from which they steal, by public calls alone (`applier`,
 //! `commands`).
 //!
-//! Of two workers the second commits while the first is held before it prepares, so workers do run side by side. Of three tickets the
-//! owner pops the first and the third, and the other worker steals the second.
+//! Of two workers the second commits while the first is held before it prepares, so workers do run side by side; of four each commits
+//! something. What `apply_journals` gives back is the history of its workers. A seat that owns a transaction when the workers begin lets
+//! it go. Of three tickets the owner pops the first and the third, and the other worker steals the second.
 #![tactic(auto)]
 
 #[cfg(test)]
 mod gates;
+#[cfg(test)]
+mod seats;
