@@ -42,13 +42,7 @@ fn push_key(alloc: Global, line: &mut String, key: &Key) -> Result<(), AllocErro
 }
 
 /// A word, two GTIDs and a key that both touch.
-fn key_line(
-    alloc: Global,
-    word: &str,
-    a: &Gtid,
-    b: &Gtid,
-    key: &Key,
-) -> Result<String, AllocError>
+fn key_line(alloc: Global, word: &str, a: &Gtid, b: &Gtid, key: &Key) -> Result<String, AllocError>
     ensures { IfOk result (λ line. string_bytes line ≡ key_line word.now a.now b.now key.now) }
 {
     let mut line = pair_line(alloc, word, a, b)?;
