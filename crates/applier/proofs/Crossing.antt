@@ -12,7 +12,7 @@ use Rattle.std.proofs.MapsCrossing as maps
 use Rattle.std.proofs.CrossingOver as over
 use Rattle.gtid_set.specs.contracts.GtidSet as GtidSet
 use Rattle.rows.specs.contracts.rows.Rows as Rows
-use Rattle.rows.specs.contracts.key_values.KeyValues as KeyValues
+use Rattle.row_images.specs.contracts.key_values.KeyValues as KeyValues
 use Rattle.rows.specs.contracts.name.Name as Name
 use Rattle.rows.specs.contracts.change.Changes as Changes
 use Rattle.rows.specs.contracts.schema.Schema as Schema

@@ -16,7 +16,7 @@ abbrev pub AreApply : List Receipt → Type 0
 AreApply [] = ⊤
 AreApply (r ∷ rs) = IsApply r.step.event × AreApply rs
 
--- the same seat, whose earlier receipts are a beginning; the others are of takes, commits and rollbacks
+-- the same seat, whose earlier receipts are a prefix; the others are of takes, commits and rollbacks
 pub record GoesOn (old new : PassValue) : Type 0 where
   pub seat : new.seat ≡ old.seat
   pub more : List Receipt

@@ -12,8 +12,8 @@ use replica_core::{Core, Event};
 use shared_replica::ClosedBook;
 use std::alloc::{AllocError, Global};
 
-/// Rolls back what is owned, and then applies with seat 1 what is left, channels rising and places
-/// rising. Stopped channels are left as they are. What was done before an error stands, and it may be
+/// Rolls back what is owned, and then applies with seat 1 what is left, channels ascending and places
+/// ascending. Stopped channels are left as they are. What was done before an error stands, and it may be
 /// called again; another error than `Memory` comes only where a Commit from the state that was left
 /// may be answered by it.
 pub fn drain(alloc: Global, book: &mut ClosedBook) -> Result<(), SetFault>
@@ -144,7 +144,7 @@ fn is_waiting(core: &Core, channel: usize, place: usize) -> bool
     let Some(one) = core.channel(channel) else {
         return false;
     };
-    if one.stopped() {
+    if one.is_stopped() {
         return false;
     }
     match one.entry(place) {

@@ -1,6 +1,6 @@
 //! Tickets, and the deques through which they travel.
 ghost use Rattle.std.specs.Prelude.{◌≡◌, ℕ, IfOk, replicate, ◌++◌, ◌∷◌, [], ◌<◌, ◌≤◌, length, MatchOption, slice_index_or, set};
-ghost use Rattle.applier.specs.Tickets.{seen, took, reached, nowhere, fresh_on, passes_on, own_views, ReachAll, IsPush, IsPop, IsSteal};
+ghost use Rattle.applier.specs.Tickets.{seen, take_ticket, reached, nowhere, fresh_on, passes_on, own_views, ReachAll, IsPush, IsPop, IsSteal};
 ghost use Rattle.applier.specs.declared.hand.Seen.{Seen};
 
 use crossbeam_deque::protocol::{Outcome, Protocol};
@@ -82,7 +82,7 @@ impl Model for Reach {
 impl Reach {
     /// Takes the first ticket, in one step.
     pub fn steal(&mut self) -> Option<Ticket>
-        ensures { MatchOption result (self.new ≡ self.old) (λ t. self.new ≡ took t self.old) }
+        ensures { MatchOption result (self.new ≡ self.old) (λ t. self.new ≡ take_ticket t self.old) }
     {
         match self.stealer.steal_as::<Takes>(&mut self.pass) {
             Steal::Success(ticket) => Some(ticket),
@@ -142,7 +142,7 @@ impl Hand {
     }
 
     /// A deque with no passes yet.
-    fn alone(alloc: Global) -> Result<Hand, AllocError>
+    fn without_passes(alloc: Global) -> Result<Hand, AllocError>
         ensures { IfOk result (λ h. h.own.seen ≡ seen [] []) }
     {
         let own = Own::fifo_as(alloc, 16)?;
@@ -181,13 +181,13 @@ fn row_of(alloc: Global, hands: &[Hand]) -> Result<Vec<Reach>, AllocError>
 }
 
 /// The deques of n workers, each with a pass on the deque of each worker, in order.
-pub fn hands(alloc: Global, n: usize) -> Result<Vec<Hand>, AllocError>
+pub fn make_hands(alloc: Global, n: usize) -> Result<Vec<Hand>, AllocError>
     requires { (1 ≤ n) × (n ≤ 64) }
     ensures fresh { IfOk result (λ v. own_views v.items ≡ replicate n (seen [] [])) }
     ensures reach { IfOk result (λ v. ReachAll v.items) }
     ensures count { IfOk result (λ v. length v.items ≡ n) }
 {
-    let mut hands = all_alone(alloc, n)?;
+    let mut hands = hands_without_passes(alloc, n)?;
     for me in 0..n {
         let others = row_of(alloc, hands.as_slice())?;
         meet_at(&mut hands, me, others);
@@ -203,12 +203,12 @@ fn meet_at(hands: &mut Vec<Hand>, me: usize, others: Vec<Reach>)
 }
 
 /// Deques with no passes yet.
-fn all_alone(alloc: Global, n: usize) -> Result<Vec<Hand>, AllocError>
+fn hands_without_passes(alloc: Global, n: usize) -> Result<Vec<Hand>, AllocError>
     ensures { IfOk result (λ v. own_views v.items ≡ replicate n (seen [] [])) }
 {
     let mut hands = Vec::with_capacity(alloc, n)?;
     for _i in 0..n {
-        add(&mut hands, Hand::alone(alloc)?);
+        add(&mut hands, Hand::without_passes(alloc)?);
     }
     Ok(hands)
 }

@@ -26,5 +26,5 @@ mod workers;
 
 pub use draining::drain;
 pub use gate::{Gate, NoGate};
-pub use hand::{Hand, Ticket, hands};
+pub use hand::{Hand, Ticket, make_hands};
 pub use workers::{WorkersEnd, run_workers};

@@ -49,7 +49,7 @@ impl Round {
     }
 
     /// How many channels the worker knows to be there.
-    pub(crate) fn known(&self) -> usize {
+    pub(crate) fn known_channels(&self) -> usize {
         self.known
     }
 
@@ -69,7 +69,7 @@ impl Round {
         self.place = 0;
     }
 
-    /// The next ready place of a channel that was not left, channels rising and places rising.
+    /// The next ready place of a channel that was not left, channels ascending and places ascending.
     pub(crate) fn look<N: Naming, R: Wait>(
         &mut self,
         rt: &R,

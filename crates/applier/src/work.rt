@@ -49,7 +49,7 @@ pub(crate) fn work<N: Naming, G: Gate, R: Wait>(
     ensures { GoesOn pass.old pass.new }
 {
     let mut round = Round::new();
-    let_go(rt, alloc, replica, pass)?;
+    release_owned(rt, alloc, replica, pass)?;
     for _ in rt.forever() {
         let Some(ticket) = next_place(rt, replica, hand, me, &mut round) else {
             return Ok(());
@@ -79,7 +79,7 @@ fn next_place<N: Naming, R: Wait>(
     round.popped(own.is_some());
     let ticket = match own {
         Some(ticket) => ticket,
-        None => match stolen(hand, me) {
+        None => match steal_ticket(hand, me) {
             Some(ticket) => ticket,
             None => round.look(rt, replica)?,
         },
@@ -89,7 +89,7 @@ fn next_place<N: Naming, R: Wait>(
 }
 
 /// A ticket of another worker, each of which is asked once.
-fn stolen(hand: &mut Hand, me: usize) -> Option<Ticket> {
+fn steal_ticket(hand: &mut Hand, me: usize) -> Option<Ticket> {
     for other in 0..hand.count() {
         if other != me {
             if let Some(ticket) = hand.steal(other) {
@@ -111,7 +111,7 @@ fn put_ready<N: Naming, R: Wait>(
     if !round.is_dry() {
         return;
     }
-    for channel in 0..round.known() {
+    for channel in 0..round.known_channels() {
         if !round.is_left(channel) {
             put_channel(rt, replica, hand, channel);
         }
@@ -137,7 +137,7 @@ fn put_channel<N: Naming, R: Wait>(
 
 /// Gives up what the seat owns before the work begins.
 #[tactic(auto, using(crate::proofs::GoingOn::goes_self))]
-fn let_go<N: Naming, R: Wait>(
+fn release_owned<N: Naming, R: Wait>(
     rt: &R,
     alloc: Global,
     replica: &SharedReplica<N>,

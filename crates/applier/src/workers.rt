@@ -4,7 +4,7 @@ ghost use Rattle.std.specs.Vec.{vec_capacity};
 ghost use Rattle.applier.specs.Applies.{GoesOn, AllGoOn};
 
 use crate::gate::Gate;
-use crate::hand::{Hand, hands};
+use crate::hand::{Hand, make_hands};
 use crate::round::Round;
 use crate::work::work;
 use gtid_set::SetFault;
@@ -61,9 +61,9 @@ pub fn run_workers<N: Naming + Send + Sync, G: Gate + Sync, R: Threads + Wait + 
             fault: Some(SetFault::Memory),
         };
     };
-    let mut workers = hired(rt, replica, passes, hands, room);
+    let mut workers = make_workers(rt, replica, passes, hands, room);
     serve_all(rt, alloc, replica, gate, workers.as_mut_slice());
-    dismissed(workers, back)
+    into_passes(workers, back)
 }
 
 fn serve_all<N: Naming + Send + Sync, G: Gate + Sync, R: Threads + Wait + Sync>(
@@ -119,13 +119,13 @@ fn places<N: Naming>(
 {
     let workers = Vec::with_capacity(alloc, count)?;
     let passes = Vec::with_capacity(alloc, count)?;
-    let hands = hands(alloc, count)?;
+    let hands = make_hands(alloc, count)?;
     Ok((workers, passes, hands))
 }
 
 /// The worker of each pass, with the first places that are ready, one for each. The hands are taken
 /// from the end.
-fn hired<N: Naming, R: Wait>(
+fn make_workers<N: Naming, R: Wait>(
     rt: &R,
     replica: &SharedReplica<N>,
     passes: Vec<Pass<N>>,
@@ -160,7 +160,7 @@ fn hired<N: Naming, R: Wait>(
 }
 
 /// The passes of the workers, in order, and the first fault.
-fn dismissed<N: Naming>(workers: Vec<Worker<N>>, mut passes: Vec<Pass<N>>) -> WorkersEnd<N>
+fn into_passes<N: Naming>(workers: Vec<Worker<N>>, mut passes: Vec<Pass<N>>) -> WorkersEnd<N>
     requires none { passes.items ≡ [] }
     requires room { vec_len workers ≤ vec_capacity passes }
     ensures { result.passes.items ≡ map (λ w. w.pass) workers.items }

@@ -9,7 +9,7 @@ use Rattle.gtid_text.specs.declared.Gtid.{Gtid}
 use Rattle.gtid_text.specs.Gtids.{same_gtid}
 use Rattle.gtid_text.proofs.SameGtid.{same_itself, same_flip, same_is_equal}
 use Rattle.apply_channel.specs.declared.slot.Slot.{Slot}
-use Rattle.apply_channel.specs.Channels.{Received, settle, map_at, executed_one}
+use Rattle.apply_channel.specs.Channels.{Received, settle, map_at, as_executed}
 use Rattle.apply_channel.specs.Kept.{entries_of, received_of, is_open_of, is_open_at, IsLastOpen, AreLinked, AreLast}
 use Rattle.std.proofs.lemmas.Bool.{and_parts, false_from_ne_true}
 use Rattle.std.proofs.lemmas.Option.{same_Some, slice_get_within}
@@ -197,30 +197,30 @@ module _ (g : Gtid) (slots : List Slot) (p : ℕ) (s : Slot) (done : is_some s.t
   last_settle last next x is new h = λ k. subst (λ o. IsLastOpen (entries_of (slice_set slots p s)) k (length (slice_set slots p s)) o) (sym (new k)) (left_by last x is h k (same_gtid k g) refl)
 
 -- the entries, once one is executed
-pub entries_settled : (slots : List Slot) (p : ℕ) (x s : Slot) → slice_get slots p ≡ Some x → s.gtid ≡ x.gtid → s.txn ≡ None → entries_of (slice_set slots p s) ≡ map_at p executed_one (entries_of slots)
+pub entries_settled : (slots : List Slot) (p : ℕ) (x s : Slot) → slice_get slots p ≡ Some x → s.gtid ≡ x.gtid → s.txn ≡ None → entries_of (slice_set slots p s) ≡ map_at p as_executed (entries_of slots)
 entries_settled [] p x s is gtid txn = none_some x is
 entries_settled (y ∷ slots) zero x s is gtid txn =
     let same : s.gtid ≡ y.gtid = gtid ∙ sym (ap (λ (z : Slot). z.gtid) (same_Some y x is)) in
     λ i. (record { gtid = same i; txn = txn i }) ∷ entries_of slots
 entries_settled (y ∷ slots) (suc p) x s is gtid txn = ap (λ es. received_of y ∷ es) (entries_settled slots p x s is gtid txn)
 
-pub gtids_kept : (es : List Received) (p : ℕ) → map (λ (e : Received). e.gtid) (map_at p executed_one es) ≡ map (λ (e : Received). e.gtid) es
+pub gtids_kept : (es : List Received) (p : ℕ) → map (λ (e : Received). e.gtid) (map_at p as_executed es) ≡ map (λ (e : Received). e.gtid) es
 gtids_kept [] p = refl
 gtids_kept (e ∷ es) zero = refl
 gtids_kept (e ∷ es) (suc p) = ap (λ gs. e.gtid ∷ gs) (gtids_kept es p)
 
 -- ---- all places of a GTID
 
-settle_twice : (e : Received) (b : Bool) → b ≡ true → cond b (executed_one (executed_one e)) (executed_one e) ≡ cond b (executed_one e) e
+settle_twice : (e : Received) (b : Bool) → b ≡ true → cond b (as_executed (as_executed e)) (as_executed e) ≡ cond b (as_executed e) e
 settle_twice e true h = refl
 settle_twice e false h = absurd (true≢false (sym h))
 
-pub settle_again : (g : Gtid) (es : List Received) (p : ℕ) → is_open_at g es p ≡ true → map (settle g) (map_at p executed_one es) ≡ map (settle g) es
+pub settle_again : (g : Gtid) (es : List Received) (p : ℕ) → is_open_at g es p ≡ true → map (settle g) (map_at p as_executed es) ≡ map (settle g) es
 settle_again g [] p h = refl
 settle_again g (e ∷ es) zero h = ap (λ x. x ∷ map (settle g) es) (settle_twice e (same_gtid e.gtid g) (and_parts (is_some e.txn) (same_gtid e.gtid g) h).1)
 settle_again g (e ∷ es) (suc p) h = ap (λ xs. settle g e ∷ xs) (settle_again g es p h)
 
-settle_no : (e : Received) (o : Option Transaction) (b : Bool) → e.txn ≡ o → (is_some o && b) ≡ false → cond b (executed_one e) e ≡ e
+settle_no : (e : Received) (o : Option Transaction) (b : Bool) → e.txn ≡ o → (is_some o && b) ≡ false → cond b (as_executed e) e ≡ e
 settle_no e o false is h = refl
 settle_no e None true is h = λ i. record { gtid = e.gtid; txn = sym is i }
 settle_no e (Some t) true is h = absurd (true≢false h)

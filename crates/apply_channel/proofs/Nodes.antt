@@ -10,9 +10,9 @@ use Rattle.rows.specs.declared.change.Transaction.{Transaction}
 use Rattle.rows.specs.Order.{key_eq}
 use Rattle.rows.specs.WriteSet.{write_set, shares_key, touches, is_among}
 use Rattle.dependency_graph.specs.Graphs as graphs
-use Rattle.dependency_graph.specs.Graphs.{Point, gone, unfinished, dropped, marked_at, finished_at, point_at, least, may_go, IsNextReady}
+use Rattle.dependency_graph.specs.Graphs.{Point, gone, unfinished, drop_finished, mark_at, finish_at, point_at, least, may_go, IsNextReady}
 use Rattle.dependency_graph.proofs.Entries.{flip}
-use Rattle.apply_channel.specs.Channels.{Received, holds_back, txn_at, blocker, is_ready, next_ready, first_waiting, are_settled, map_at, executed_one}
+use Rattle.apply_channel.specs.Channels.{Received, holds_back, txn_at, blocker, is_ready, next_ready, first_waiting, are_settled, map_at, as_executed}
 use Rattle.apply_channel.specs.Kept.{AreKeysOf, IsNodeOf, AreNodesOf}
 use Rattle.std.proofs.lemmas.Option.{same_Some, slice_get_within}
 use Rattle.rows.proofs.Lists.{none_some}
@@ -33,7 +33,7 @@ nodes_push schema [] (f ∷ es) p e h n = absurd h
 nodes_push schema (q ∷ ps) [] p e h n = absurd h
 nodes_push schema (q ∷ ps) (f ∷ es) p e h n = (h.0, nodes_push schema ps es p e h.1 n)
 
-pub marked_last : (ps : List Point) (p : Point) → marked_at (ps ++ p ∷ []) (length ps) ≡ ps ++ (record p { finished = true }) ∷ []
+pub marked_last : (ps : List Point) (p : Point) → mark_at (ps ++ p ∷ []) (length ps) ≡ ps ++ (record p { finished = true }) ∷ []
 marked_last [] p = refl
 marked_last (q ∷ ps) p = ap (λ qs. q ∷ qs) (marked_last ps p)
 
@@ -43,35 +43,35 @@ keys_by : (schema : List Table) (keys : List Key) (o : Option Transaction) → i
 keys_by schema keys None h = tt
 keys_by schema keys (Some t) h = absurd (true≢false (sym h))
 
-by_finished : (schema : List Table) (p : Point) (e : Received) (ps : List Point) (es : List Received) (b : Bool) → p.finished ≡ b → IsNodeOf schema p e → AreNodesOf schema ps es → AreNodesOf schema (dropped ps) es → AreNodesOf schema (cond b (gone ∷ dropped ps) (p ∷ ps)) (e ∷ es)
+by_finished : (schema : List Table) (p : Point) (e : Received) (ps : List Point) (es : List Received) (b : Bool) → p.finished ≡ b → IsNodeOf schema p e → AreNodesOf schema ps es → AreNodesOf schema (drop_finished ps) es → AreNodesOf schema (cond b (gone ∷ drop_finished ps) (p ∷ ps)) (e ∷ es)
 by_finished schema p e ps es true is n h d = let executed : is_none e.txn ≡ true = sym n.finished ∙ is in (record { finished = sym executed; keys = keys_by schema [] e.txn executed }, d)
 by_finished schema p e ps es false is n h d = (n, h)
 
-pub nodes_dropped : (schema : List Table) (ps : List Point) (es : List Received) → AreNodesOf schema ps es → AreNodesOf schema (dropped ps) es
+pub nodes_dropped : (schema : List Table) (ps : List Point) (es : List Received) → AreNodesOf schema ps es → AreNodesOf schema (drop_finished ps) es
 nodes_dropped schema [] [] h = tt
 nodes_dropped schema [] (e ∷ es) h = absurd h
 nodes_dropped schema (p ∷ ps) [] h = absurd h
 nodes_dropped schema (p ∷ ps) (e ∷ es) h = by_finished schema p e ps es p.finished refl h.0 h.1 (nodes_dropped schema ps es h.1)
 
-nodes_marked : (schema : List Table) (ps : List Point) (es : List Received) (n : ℕ) → AreNodesOf schema ps es → AreNodesOf schema (marked_at ps n) (map_at n executed_one es)
+nodes_marked : (schema : List Table) (ps : List Point) (es : List Received) (n : ℕ) → AreNodesOf schema ps es → AreNodesOf schema (mark_at ps n) (map_at n as_executed es)
 nodes_marked schema [] [] n h = tt
 nodes_marked schema [] (e ∷ es) n h = absurd h
 nodes_marked schema (p ∷ ps) [] n h = absurd h
 nodes_marked schema (p ∷ ps) (e ∷ es) zero h = (record { finished = refl; keys = tt }, h.1)
 nodes_marked schema (p ∷ ps) (e ∷ es) (suc n) h = (h.0, nodes_marked schema ps es n h.1)
 
-pub nodes_finished : (schema : List Table) (ps : List Point) (es : List Received) (n : ℕ) → AreNodesOf schema ps es → AreNodesOf schema (finished_at ps n) (map_at n executed_one es)
-nodes_finished schema ps es n h = nodes_dropped schema (marked_at ps n) (map_at n executed_one es) (nodes_marked schema ps es n h)
+pub nodes_finished : (schema : List Table) (ps : List Point) (es : List Received) (n : ℕ) → AreNodesOf schema ps es → AreNodesOf schema (finish_at ps n) (map_at n as_executed es)
+nodes_finished schema ps es n h = nodes_dropped schema (mark_at ps n) (map_at n as_executed es) (nodes_marked schema ps es n h)
 
 -- a new entry with its keys
 pub nodes_open : (schema : List Table) (ps : List Point) (es : List Received) (keys : List Key) (e : Received) (t : Transaction) → e.txn ≡ Some t → AreKeysOf schema keys e.txn → AreNodesOf schema ps es → AreNodesOf schema (ps ++ unfinished keys ∷ []) (es ++ e ∷ [])
 nodes_open schema ps es keys e t is k h = nodes_push schema ps es (unfinished keys) e h (record { finished = sym (ap is_none is); keys = k })
 
 -- ... or an executed one
-pub nodes_done : (schema : List Table) (ps : List Point) (es : List Received) (keys : List Key) (e : Received) (n : ℕ) → n ≡ length ps → e.txn ≡ None → AreNodesOf schema ps es → AreNodesOf schema (finished_at (ps ++ unfinished keys ∷ []) n) (es ++ e ∷ [])
+pub nodes_done : (schema : List Table) (ps : List Point) (es : List Received) (keys : List Key) (e : Received) (n : ℕ) → n ≡ length ps → e.txn ≡ None → AreNodesOf schema ps es → AreNodesOf schema (finish_at (ps ++ unfinished keys ∷ []) n) (es ++ e ∷ [])
 nodes_done schema ps es keys e n at is h =
-    let marked : marked_at (ps ++ unfinished keys ∷ []) n ≡ ps ++ (record { finished = true; keys = keys }) ∷ [] = ap (marked_at (ps ++ unfinished keys ∷ [])) at ∙ marked_last ps (unfinished keys) in
-    subst (λ qs. AreNodesOf schema (dropped qs) (es ++ e ∷ [])) (sym marked)
+    let marked : mark_at (ps ++ unfinished keys ∷ []) n ≡ ps ++ (record { finished = true; keys = keys }) ∷ [] = ap (mark_at (ps ++ unfinished keys ∷ [])) at ∙ marked_last ps (unfinished keys) in
+    subst (λ qs. AreNodesOf schema (drop_finished qs) (es ++ e ∷ [])) (sym marked)
     (nodes_dropped schema (ps ++ (record { finished = true; keys = keys }) ∷ []) (es ++ e ∷ [])
     (nodes_push schema ps es (record { finished = true; keys = keys }) e h (record { finished = sym (ap is_none is); keys = keys_by schema keys e.txn (ap is_none is) })))
 
@@ -99,7 +99,7 @@ swapped f (x ∷ a) b = ap (λ c. list_any (λ y. f x y) b || c) (swapped f a b)
 common_swap : (a b : List Key) → list_any (λ k. is_among a k) b ≡ list_any (λ k. is_among b k) a
 common_swap a b = swapped key_eq b a ∙ (λ i. list_any (λ y. list_any (λ x. flip x y i) b) a)
 
--- keys stand for those that a transaction touches
+-- keys denote those that a transaction touches
 common_alike : (schema : List Table) (t u : Transaction) (keys others : List Key) → ((k : Key) → is_among keys k ≡ touches schema t k) → ((k : Key) → is_among others k ≡ touches schema u k)
     → list_any (λ k. is_among others k) keys ≡ shares_key schema u t
 common_alike schema t u keys others kt ku =
@@ -239,7 +239,7 @@ next_is schema ps es h from (Some n) next =
     (ap (λ c. c && is_ready schema es n) (le-leb from n far) ∙ sym (goes schema ps es h n (omega (below, size, arith))) ∙ next.2)
     (λ m le lt. test_by (nat_le from m) from m (is_ready schema es m) refl (λ to. sym (goes schema ps es h m (omega (lt, below, size, arith))) ∙ next.3 m to lt)))
 
--- ---- the front
+-- ---- the prefix
 
 position_none : {X : Type 0} (r : X → Bool) (xs : List X) → ((i : ℕ) (x : X) → slice_get xs i ≡ Some x → r x ≡ false) → position r xs ≡ None
 position_none r [] h = refl

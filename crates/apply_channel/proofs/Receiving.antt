@@ -10,7 +10,7 @@ use Rattle.rows.specs.declared.change.Transaction.{Transaction}
 use Rattle.gtid_text.specs.declared.Gtid.{Gtid}
 use Rattle.gtid_text.specs.Gtids.{same_gtid}
 use Rattle.gtid_set.specs.Sets.{Gtids}
-use Rattle.dependency_graph.specs.Graphs.{Point, unfinished, finished_at}
+use Rattle.dependency_graph.specs.Graphs.{Point, unfinished, finish_at}
 use Rattle.apply_channel.specs.declared.slot.Slot.{Slot}
 use Rattle.apply_channel.specs.Channels.{received_gtids, most_received, Received}
 use Rattle.apply_channel.specs.Kept.{IsKept, AreNodesOf, AreKeysOf, AreLinked, AreLast, IsLastOpen, entries_of, received_of, place_of}
@@ -45,7 +45,7 @@ module _ (schema : List Table) (slots : List Slot) (places opened : List (Gtid �
   below_more = let longer = length_push graph (unfinished keys) in let here = nodes_at in omega (longer, here, arith)
 
   -- an executed one
-  pub kept_done : (after : List Point) → after ≡ finished_at (graph ++ unfinished keys ∷ []) n → y.txn ≡ None → IsKept schema items opened after all
+  pub kept_done : (after : List Point) → after ≡ finish_at (graph ++ unfinished keys ∷ []) n → y.txn ≡ None → IsKept schema items opened after all
   kept_done after finished done = record {
     nodes = subst (λ (es : List Received). AreNodesOf schema after es) (sym entries)
         (subst (λ (ps : List Point). AreNodesOf schema ps (entries_of slots ++ received_of y ∷ [])) (sym finished) (nodes_done schema graph (entries_of slots) keys (received_of y) n nodes_at done kept.nodes));

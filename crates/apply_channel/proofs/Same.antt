@@ -8,7 +8,7 @@ use Rattle.std.proofs.lemmas.List.{take_more}
 use Rattle.apply_channel.specs.declared.slot.Slot.{Slot}
 use Rattle.apply_channel.specs.Channels.{Keyed, Received}
 use Rattle.apply_channel.specs.Kept.{entries_of, received_of}
-use Rattle.rows.proofs.Equal.{eq_of}
+use Rattle.row_images.proofs.Equal.{eq_of}
 use Rattle.apply_channel.proofs.Slots.{entries_length}
 
 -- channels are the same where all that is seen of them is

@@ -31,10 +31,10 @@ pub record Keyed : Type 0 where
   pub channel : ChannelValue
 
 -- a channel that has received nothing
-abbrev pub opened : List ℕ → Bool → ChannelValue
-opened name preserve = record { name = name; preserve = preserve; stopped = false; asked = None; received = [] }
+abbrev pub new_channel : List ℕ → Bool → ChannelValue
+new_channel name preserve = record { name = name; preserve = preserve; stopped = false; asked = None; received = [] }
 
--- a GTID stands at a place, with its transaction where it is not executed
+-- a GTID is at a place, with its transaction where it is not executed
 abbrev pub IsPlace : Keyed → ℕ → Gtid → Option Transaction → Type 0
 IsPlace c place gtid txn = slice_get c.channel.received place ≡ Some (record { gtid = gtid; txn = txn })
 
@@ -80,16 +80,16 @@ map_at zero f (x ∷ xs) = f x ∷ xs
 map_at (suc n) f (x ∷ xs) = x ∷ map_at n f xs
 
 -- a channel once a GTID is executed
-abbrev pub settled : Gtid → ChannelValue → ChannelValue
-settled gtid c = record c { received = map (settle gtid) c.received }
+abbrev pub settle_channel : Gtid → ChannelValue → ChannelValue
+settle_channel gtid c = record c { received = map (settle gtid) c.received }
 
 -- an entry without its transaction
-abbrev pub executed_one : Received → Received
-executed_one e = record e { txn = None }
+abbrev pub as_executed : Received → Received
+as_executed e = record e { txn = None }
 
 -- a channel once the entry at a place is executed
-abbrev pub settled_at : ℕ → ChannelValue → ChannelValue
-settled_at place c = record c { received = map_at place executed_one c.received }
+abbrev pub settle_at : ℕ → ChannelValue → ChannelValue
+settle_at place c = record c { received = map_at place as_executed c.received }
 
 -- a channel with one entry more
 abbrev pub with_received : Received → ChannelValue → ChannelValue

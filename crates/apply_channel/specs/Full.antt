@@ -3,7 +3,7 @@ use Rattle.std.specs.Prelude.{ℕ, Result, Ok, Err}
 use Rattle.std.specs.FinSet as set
 use Rattle.gtid_set.specs.Sets.{Gtids}
 use Rattle.journal.specs.declared.Entry.{Entry}
-use Rattle.gtid_set.specs.Full.{IsFaultOf}
+use Rattle.gtid_set.specs.Full.{IsFullExactly}
 use Rattle.apply_channel.specs.declared.channel.ReceiveFault.{ReceiveFault}
 use Rattle.apply_channel.specs.declared.channel.ReceiveFault.TheVariants.{Full, Set}
 use Rattle.apply_channel.specs.Channels.{ChannelValue, received_gtids}
@@ -21,7 +21,7 @@ IsFull (Err fault) = IsFullFault fault
 abbrev pub gtids_with : Entry → ChannelValue → Gtids
 gtids_with entry channel = set.insert (received_gtids channel.received) entry.gtid
 
--- where the channel was not full, the set of received GTIDs was not made
+-- where the channel was not full, the set of received GTIDs was not made; because an allocation failed only where it has not too many sources
 abbrev pub IsReceiveFault : ReceiveFault → Gtids → Type 0
 IsReceiveFault Full s = Unit {0}
-IsReceiveFault (Set fault) s = IsFaultOf fault s
+IsReceiveFault (Set fault) s = IsFullExactly {T = Unit {0}} (Err fault) s

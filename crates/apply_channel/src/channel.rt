@@ -3,10 +3,10 @@ ghost use Rattle.std.specs.Prelude.{◌≡◌, ◌≤◌, ◌<◌, ◌↔◌, su
 ghost use Rattle.std.specs.Bool.{Decides};
 ghost use Rattle.std.specs.Option.{option_copied, option_map_or};
 ghost use Rattle.std.specs.FinSet as set;
-ghost use Rattle.apply_channel.specs.Channels.{opened, blocker, next_ready, first_waiting, are_settled, settled, settled_at, received_gtids, IsPlace, IsNoPlace, is_full, with_stopped, with_asked, with_entry, with_received};
+ghost use Rattle.apply_channel.specs.Channels.{new_channel, blocker, next_ready, first_waiting, are_settled, settle_channel, settle_at, received_gtids, IsPlace, IsNoPlace, is_full, with_stopped, with_asked, with_entry, with_received};
 ghost use Rattle.apply_channel.specs.Kept.{IsLastOpen, received_of};
 ghost use Rattle.apply_channel.specs.Full.{IsFull, gtids_with, IsReceiveFault};
-ghost use Rattle.gtid_set.specs.Full.{IsFaultOf};
+ghost use Rattle.gtid_set.specs.Full.{IsFullExactly};
 
 use crate::places::{last_place, open_unless, put_node, put_place, take_place};
 use crate::slot::{Slot, copy_unless, keys_unless, same_entries};
@@ -87,7 +87,7 @@ impl Model for Channel {
 impl Channel {
     /// A channel that has received nothing and is not stopped, for transactions of this schema.
     pub fn open(alloc: Global, schema: Schema, name: Name, preserve: bool) -> Channel
-        ensures { result ≡ record { schema = schema; channel = opened name preserve } }
+        ensures { result ≡ record { schema = schema; channel = new_channel name preserve } }
     {
         Channel {
             schema,
@@ -118,7 +118,7 @@ impl Channel {
     }
 
     /// Whether it is stopped.
-    pub fn stopped(&self) -> bool
+    pub fn is_stopped(&self) -> bool
         ensures { result ≡ self.now.channel.stopped }
     {
         self.stopped
@@ -214,9 +214,12 @@ impl Channel {
     fn put(&mut self, alloc: Global, entry: &Entry, executed: bool) -> Result<(), SetFault>
         requires { is_full self.old.channel ≡ false }
         ensures put { OnOk result (self.new ≡ with_entry executed entry.now self.old) }
-        ensures fault { IfErr result (λ f. IsFaultOf f (gtids_with entry.now self.old.channel)) }
+        ensures fault { IsFullExactly result (gtids_with entry.now self.old.channel) }
         ensures err { OnErr result (self.new ≡ self.old) }
     {
+        if !self.received.has_room_for(&entry.gtid) {
+            return Err(SetFault::SourcesFull);
+        }
         let keys = keys_unless(alloc, executed, &self.schema, &entry.txn)?;
         let txn = copy_unless(executed, &entry.txn)?;
         let earlier = open_unless(executed, &mut self.places, &entry.gtid)?;
@@ -246,7 +249,7 @@ impl Channel {
     /// Drops the transaction at the last place of a GTID that is not executed: the place of the GTID before that one.
     fn settle(&mut self, gtid: &Gtid, place: usize) -> Option<usize>
         requires { IsLastOpen self.old.channel.received gtid.now (length self.old.channel.received) (Some place) }
-        ensures settled { self.new ≡ record self.old { channel = settled_at place self.old.channel } }
+        ensures settled { self.new ≡ record self.old { channel = settle_at place self.old.channel } }
         ensures last { IsLastOpen self.new.channel.received gtid.now (length self.new.channel.received) result }
         ensures below { option_map_or suc result 0 ≤ place }
     {
@@ -268,9 +271,9 @@ impl Channel {
         last_place(&self.places, gtid)
     }
 
-    /// Drops the transactions of a GTID that is executed now, at all its places. Takes no memory.
+    /// Drops the transactions of a GTID that is executed now, at all its places. Does not allocate.
     pub fn mark_executed(&mut self, gtid: &Gtid)
-        ensures { self.new ≡ record self.old { channel = settled gtid.now self.old.channel } }
+        ensures { self.new ≡ record self.old { channel = settle_channel gtid.now self.old.channel } }
     {
         let mut next = self.last_open(gtid);
         'settling: while let Some(place) = next {
@@ -369,7 +372,7 @@ impl Channel {
         }
     }
 
-    /// The same channel. The changes of its transactions are shared, not copied. The one error is want of memory.
+    /// The same channel. The changes of its transactions are shared, not copied. The one error is a failed allocation.
     pub fn copy(&self, alloc: Global) -> Result<Channel, AllocError>
         ensures { IfOk result (λ copy. copy ≡ self.now) }
     {

@@ -1,6 +1,6 @@
 //! The table of the last places of GTIDs, and the node of a new place.
 ghost use Rattle.std.specs.Prelude.{◌≡◌, ◌≢◌, ◌<◌, ◌++◌, [], ◌∷◌, cond, false, length, AllPairs, Some, None, OnOk, OnErr, IfOk, IfErr};
-ghost use Rattle.gtid_set.specs.Full.{IsFaultOf};
+ghost use Rattle.gtid_set.specs.Full.{IsFullExactly};
 ghost use Rattle.std.specs.FinSet as set;
 ghost use Rattle.std.specs.HashMap.{IsUnchanged};
 ghost use Rattle.gtid_text.specs.declared.Gtid.{Gtid as GtidValue};
@@ -105,10 +105,13 @@ pub(crate) fn put_node(
     requires distinct { AllPairs (λ a b. a ≢ b) keys.items }
     ensures graph { OnOk result (graph.new ≡ graph.old ++ unfinished keys.items ∷ []) }
     ensures received { OnOk result (received.new ≡ set.insert received.old gtid) }
-    ensures fault { IfErr result (λ f. IsFaultOf f (set.insert received.old gtid)) }
+    ensures fault { IsFullExactly result (set.insert received.old gtid) }
     ensures same_graph { OnErr result (graph.new ≡ graph.old) }
     ensures same_received { OnErr result (received.new ≡ received.old) }
 {
+    if !received.has_room_for(&gtid) {
+        return Err(SetFault::SourcesFull);
+    }
     let reserved = match mem::replace(graph, Graph::start(alloc)).reserve(keys) {
         Ok(reserved) => reserved,
         Err(same) => {

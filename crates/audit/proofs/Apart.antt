@@ -18,7 +18,7 @@ use Rattle.world.specs.Search.{or_next, first}
 use Rattle.world.specs.Folds.{FirstTouch, touched_by, shares_with, shared_from}
 use Rattle.journal.specs.declared.Entry.{Entry}
 use Rattle.audit.specs.Contents.{as_pair}
-use Rattle.audit.specs.Gaps.{Needs, needs_over, touched_last, last_of_keys, is_own, own_in_turn}
+use Rattle.audit.specs.Gaps.{Needs, needs_over, touch_last, last_of_keys, is_own, own_in_turn}
 use Rattle.rows.proofs.Lists.{not_less}
 use Rattle.world.proofs.Finding.{none_next}
 
@@ -122,7 +122,7 @@ alike_one g key seen last false is alike own k =
     ∙ both_at g (key_eq k key) (finmap.get seen k) (finmap.get last k) (alike k)
     ∙ ap (option_map source_of) (sym (get-insert key_total last key g k))
 
-pub alike_more : (g : Gtid) (keys : List Key) (seen last : FirstTouch) → AreAlike seen last → list_all (is_own g last) keys ≡ true → AreAlike (touched_by g keys seen) (touched_last g keys last)
+pub alike_more : (g : Gtid) (keys : List Key) (seen last : FirstTouch) → AreAlike seen last → list_all (is_own g last) keys ≡ true → AreAlike (touched_by g keys seen) (touch_last g keys last)
 alike_more g [] seen last alike own = alike
 alike_more g (key ∷ keys) seen last alike own =
     let parts = and_parts (is_own g last key) (list_all (is_own g last) keys) own in
@@ -141,7 +141,7 @@ pub apart_first : (schema : List Table) (all : List history.Entry) → IsApart s
 apart_first schema all = record { seen = finmap.empty; alike = λ k. refl; rests = refl }
 
 pub apart_more : (schema : List Table) (all rest : List history.Entry) (h : history.Entry) (last : FirstTouch) → IsApart schema all (h ∷ rest) last
-    → list_all (is_own h.0 last) (write_set schema h.1) ≡ true → IsApart schema all rest (touched_last h.0 (write_set schema h.1) last)
+    → list_all (is_own h.0 last) (write_set schema h.1) ≡ true → IsApart schema all rest (touch_last h.0 (write_set schema h.1) last)
 apart_more schema all rest h last before own =
     let keys = write_set schema h.1 in
     record {
@@ -156,19 +156,19 @@ apart_last schema all last apart = sym apart.rests
 -- one entry more is gone over
 pub needs_more : (schema : List Table) (all : List Entry) (i : ℕ) (e : Entry) (last next : FirstTouch) (needs more : Needs) (keys : List Key) (earlier : List Gtid) (want : Needs)
     → drop i all ≡ e ∷ drop (i + 1) all → keys ≡ write_set schema e.txn → earlier ≡ last_of_keys e.gtid keys last → more ≡ finmap.insert needs e.gtid earlier
-    → next ≡ touched_last e.gtid keys last → needs_over schema last needs (map as_pair (drop i all)) ≡ want → needs_over schema next more (map as_pair (drop (i + 1) all)) ≡ want
+    → next ≡ touch_last e.gtid keys last → needs_over schema last needs (map as_pair (drop i all)) ≡ want → needs_over schema next more (map as_pair (drop (i + 1) all)) ≡ want
 needs_more schema all i e last next needs more keys earlier want left touched were put_in touched_now so_far =
-    (λ k. needs_over schema ((touched_now ∙ ap (λ ks. touched_last e.gtid ks last) touched) k)
+    (λ k. needs_over schema ((touched_now ∙ ap (λ ks. touch_last e.gtid ks last) touched) k)
     ((put_in ∙ ap (finmap.insert needs e.gtid) (were ∙ ap (λ ks. last_of_keys e.gtid ks last) touched)) k)
     (map as_pair (drop (i + 1) all)))
     ∙ ap (λ es. needs_over schema last needs (map as_pair es)) (sym left)
     ∙ so_far
 
 pub apart_step : (schema : List Table) (all : List Entry) (i : ℕ) (e : Entry) (last next : FirstTouch) (keys : List Key)
-    → drop i all ≡ e ∷ drop (i + 1) all → keys ≡ write_set schema e.txn → next ≡ touched_last e.gtid keys last → list_all (is_own e.gtid last) keys ≡ true
+    → drop i all ≡ e ∷ drop (i + 1) all → keys ≡ write_set schema e.txn → next ≡ touch_last e.gtid keys last → list_all (is_own e.gtid last) keys ≡ true
     → IsApart schema (map as_pair all) (map as_pair (drop i all)) last → IsApart schema (map as_pair all) (map as_pair (drop (i + 1) all)) next
 apart_step schema all i e last next keys left touched touched_now own apart =
-    subst (IsApart schema (map as_pair all) (map as_pair (drop (i + 1) all))) (sym (touched_now ∙ ap (λ ks. touched_last e.gtid ks last) touched))
+    subst (IsApart schema (map as_pair all) (map as_pair (drop (i + 1) all))) (sym (touched_now ∙ ap (λ ks. touch_last e.gtid ks last) touched))
     (apart_more schema (map as_pair all) (map as_pair (drop (i + 1) all)) (as_pair e) last
     (subst (λ es. IsApart schema (map as_pair all) (map as_pair es) last) left apart)
     (ap (list_all (is_own e.gtid last)) (sym touched) ∙ own))

@@ -14,7 +14,6 @@ use Rattle.gtid_set.specs.Sets.{Gtids}
 use Rattle.gtid_set.proofs.SetLemmas.{gtid_tied}
 use Rattle.rows.specs.declared.change.Key.{Key}
 use Rattle.rows.specs.declared.schema.Table.{Table}
-use Rattle.rows.specs.Apply.{Rows}
 use Rattle.rows.specs.Order.{key_cmp, key_eq}
 use Rattle.rows.specs.Total.{key_total, key_eq_same, key_eq_self}
 use Rattle.rows.specs.declared.change.Transaction.{Transaction}
@@ -27,13 +26,13 @@ use Rattle.source_history.proofs.Gtids.{number_less}
 use Rattle.source_history.proofs.Entries.{rising}
 use Rattle.world.specs.declared.verdict.Verdict.TheVariants.{NotClosed}
 use Rattle.world.specs.Search.{or_next, when, first_at}
-use Rattle.world.specs.Audit.{world_of, unequal, purged, stands_in, stands_before, is_left_out, not_closed}
+use Rattle.world.specs.Audit.{unequal, purged, stands_in, stands_before, is_left_out, not_closed}
 use Rattle.world.specs.Folds.{FirstTouch, touched_by, last_toucher, has_gap, least_left_out}
 use Rattle.world.proofs.Finding.{none_when, none_first, filtered, left_by_filter, below_test}
 use Rattle.world.proofs.Contents.{content_at}
 use Rattle.world.proofs.Gaps.{guarded, latest_in, latest_over, content_here, nothing_left_out, firsts_same}
 use Rattle.audit.specs.Gaps.{stands, lacks, gap_at, gap_among, first_gap, Needs, needs_over}
-use Rattle.audit.specs.Worlds.{IsWorldOf}
+use Rattle.audit.specs.Worlds.{LieBeyond}
 use Rattle.audit.proofs.Needing.{rises, needs_are}
 use mathlib.Core.Bool.{or_assoc, or-false}
 use Rattle.std.proofs.lemmas.Option.{same_Some}
@@ -78,42 +77,39 @@ any_not P (Some f) e = (f, refl, e)
 some_list : (P : Gtid → Bool) (o : Option (List Gtid)) (gs : List Gtid) → o ≡ Some gs → option_map_or (λ hs. list_any P hs) o false ≡ list_any P gs
 some_list P o gs e = ap (λ x. option_map_or (λ hs. list_any P hs) x false) e
 
--- neither at the same place nor behind it
+-- neither at the same place nor after it
 in_front : (a b : ℕ) → (a ≡ b → ⊥) → (b < a → ⊥) → a < b
 in_front a b same more = elim (cases_lt a b) [
   | inl l ↦ l
   | inr m ↦ elim (le_cases b a m) [ inl l ↦ absurd (more l) | inr e ↦ absurd (same (sym e)) ]
 ]
 
-module _ (schema : List Table) (opened : Gtids) (rows : Rows) (journals : List JournalValue) where
-  abbrev w : World
-  w = world_of schema opened rows journals
-
+module _ (w : World) (outside : (g : Gtid) (t : Transaction) → content w g ≡ Some t → is_opened w g ≡ false) (journals : List JournalValue) where
   abbrev es0 : List history.Entry
   es0 = finmap.entries w.contents
 
   abbrev needed : Needs
-  needed = needs_over schema finmap.empty finmap.empty es0
+  needed = needs_over w.schema finmap.empty finmap.empty es0
 
   module _ (equal : unequal w journals ≡ None) (none_purged : purged w journals ≡ None) (i : ℕ) (j : JournalValue) (hj : slice_get journals i ≡ Some j) where
     -- an entry that lacks nothing has no gap
     no_gap : (place : ℕ) (e : Entry) → slice_get j.entries place ≡ Some e → is_opened w e.gtid ≡ false → lacks needed (stands_before j place) e.gtid ≡ false → has_gap w j place e ≡ false
     no_gap place e he out full = false_from_ne_true (has_gap w j place e) (λ gap.
-        let some = and_parts (not (is_opened w e.gtid)) (list_any (λ key. option_map_or (λ (h : history.Entry). not (stands_before j place h.0)) (last_toucher w e.gtid key) false) (write_set schema e.txn)) gap in
-        let k = any_at (λ key. option_map_or (λ (h : history.Entry). not (stands_before j place h.0)) (last_toucher w e.gtid key) false) (write_set schema e.txn) some.1 in
+        let some = and_parts (not (is_opened w e.gtid)) (list_any (λ key. option_map_or (λ (h : history.Entry). not (stands_before j place h.0)) (last_toucher w e.gtid key) false) (write_set w.schema e.txn)) gap in
+        let k = any_at (λ key. option_map_or (λ (h : history.Entry). not (stands_before j place h.0)) (last_toucher w e.gtid key) false) (write_set w.schema e.txn) some.1 in
         let f = any_not (stands_before j place) (last_toucher w e.gtid k.1) k.3 in
-        by k.1 (any_passes_from_place (key_eq k.1) (write_set schema e.txn) k.0 k.1 k.2 (key_eq_self k.1)) f.0 f.1 f.2)
+        by k.1 (any_passes_from_place (key_eq k.1) (write_set w.schema e.txn) k.0 k.1 k.2 (key_eq_self k.1)) f.0 f.1 f.2)
       where
-        by : (key : Key) → touches schema e.txn key ≡ true → (f : history.Entry) → last_toucher w e.gtid key ≡ Some f → not (stands_before j place f.0) ≡ true → ⊥
+        by : (key : Key) → touches w.schema e.txn key ≡ true → (f : history.Entry) → last_toucher w e.gtid key ≡ Some f → not (stands_before j place f.0) ≡ true → ⊥
         by key touching f is_last stands_not =
-            let p : history.Entry → Bool = λ x. (x.0.source == e.gtid.source) && (nat_lt x.0.number e.gtid.number && touches schema x.1 key) in
+            let p : history.Entry → Bool = λ x. (x.0.source == e.gtid.source) && (nat_lt x.0.number e.gtid.number && touches w.schema x.1 key) in
             let at = latest_in (filter p es0) f is_last in
             let ok = filtered p es0 at.0 f at.1 in
-            let parts = and_parts (f.0.source == e.gtid.source) (nat_lt f.0.number e.gtid.number && touches schema f.1 key) ok.0 in
-            let rest = and_parts (nat_lt f.0.number e.gtid.number) (touches schema f.1 key) parts.1 in
+            let parts = and_parts (f.0.source == e.gtid.source) (nat_lt f.0.number e.gtid.number && touches w.schema f.1 key) ok.0 in
+            let rest = and_parts (nat_lt f.0.number e.gtid.number) (touches w.schema f.1 key) parts.1 in
             let source : f.0.source ≡ e.gtid.source = eqb-true f.0.source e.gtid.source parts.0 in
             let less : f.0.number < e.gtid.number = below f.0.number e.gtid.number rest.0 in
-            let there = content_at w e.gtid e.txn (content_here schema opened rows journals equal none_purged i j place e hj he out) in
+            let there = content_at w e.gtid e.txn (content_here w journals outside equal none_purged i j place e hj he out) in
             let up = rising w in
             let before : ok.1 < there.0 = in_front ok.1 there.0
             (λ same.
@@ -123,12 +119,12 @@ module _ (schema : List Table) (opened : Gtids) (rows : Rows) (journals : List J
             (λ l.
             let n = number_less e.gtid f.0 (rises es0 there.0 ok.1 (e.gtid, e.txn) f up there.1 ok.2 l) (sym source) in
             omega arith) in
-            let has = needs_are schema es0 up there.0 (e.gtid, e.txn) there.1 in
+            let has = needs_are w.schema es0 up there.0 (e.gtid, e.txn) there.1 in
             let r = has.serves key ok.1 f touching before ok.2 source rest.1 in
             let t = r.toucher in
             let t_less : t.0.number < e.gtid.number = number_less t.0 e.gtid (rises es0 r.place there.0 t (e.gtid, e.txn) up r.there there.1 r.early) r.source in
-            let passes : p t ≡ true = and_from (t.0.source == e.gtid.source) (nat_lt t.0.number e.gtid.number && touches schema t.1 key) (eq-eqb t.0.source e.gtid.source r.source)
-            (and_from (nat_lt t.0.number e.gtid.number) (touches schema t.1 key) (below_test t.0.number e.gtid.number t_less) r.touching) in
+            let passes : p t ≡ true = and_from (t.0.source == e.gtid.source) (nat_lt t.0.number e.gtid.number && touches w.schema t.1 key) (eq-eqb t.0.source e.gtid.source r.source)
+            (and_from (nat_lt t.0.number e.gtid.number) (touches w.schema t.1 key) (below_test t.0.number e.gtid.number t_less) r.touching) in
             let t_at = left_by_filter p es0 r.place t r.there passes in
             let top = latest_over (filter p es0) t_at.0 t t_at.1 in
             let top_is : top.0 ≡ f = same_Some top.0 f (sym top.1 ∙ is_last) in
@@ -154,9 +150,9 @@ module _ (schema : List Table) (opened : Gtids) (rows : Rows) (journals : List J
         by : ((is_opened w e.gtid ≡ true) ⊎ (is_opened w e.gtid ≡ false)) → least_left_out w j place e ≡ None
         by (inl opened_it) =
             none_first (λ l h. when (is_left_out w j place e h) (NotClosed e.gtid h.0)) es0 (λ l h hl. none_when (is_left_out w j place e h) (NotClosed e.gtid h.0)
-            (not_out (is_opened w e.gtid) ((h.0.source == e.gtid.source) && (nat_lt h.0.number e.gtid.number && (shares_key schema h.1 e.txn && not (stands_before j place h.0)))) opened_it))
+            (not_out (is_opened w e.gtid) ((h.0.source == e.gtid.source) && (nat_lt h.0.number e.gtid.number && (shares_key w.schema h.1 e.txn && not (stands_before j place h.0)))) opened_it))
         by (inr out) =
-            nothing_left_out schema opened rows journals equal none_purged i j hj place e he before
+            nothing_left_out w journals outside equal none_purged i j hj place e he before
             (no_gap place e he out (and_false (not (is_opened w e.gtid)) (lacks needed (stands_before j place) e.gtid) (not_from_false (is_opened w e.gtid) out) held))
 
     of_journal : gap_among w needed j.previous set.empty j.entries ≡ first_at (least_left_out w j) j.entries
@@ -168,11 +164,9 @@ module _ (schema : List Table) (opened : Gtids) (rows : Rows) (journals : List J
   passed_all equal none_purged =
       firsts_same (λ j. gap_among w needed j.previous set.empty j.entries) (λ j. first_at (least_left_out w j) j.entries) journals (of_journal equal none_purged)
 
-pub closing_passes : (world : World) (journals : List JournalValue) → IsWorldOf world journals → unequal world journals ≡ None → purged world journals ≡ None
+pub closing_passes : (world : World) (journals : List JournalValue) → LieBeyond world.opening_set world.contents → unequal world journals ≡ None → purged world journals ≡ None
     → first_gap world (needs_over world.schema finmap.empty finmap.empty (finmap.entries world.contents)) journals ≡ not_closed world journals
-closing_passes world journals e =
-    subst (λ (x : World). unequal x journals ≡ None → purged x journals ≡ None → first_gap x (needs_over x.schema finmap.empty finmap.empty (finmap.entries x.contents)) journals ≡ not_closed x journals) (sym e)
-    (passed_all world.schema world.opening_set world.opening_rows journals)
+closing_passes world journals beyond = passed_all world beyond.outside journals
 
 -- ---- one entry
 

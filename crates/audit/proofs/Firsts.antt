@@ -5,7 +5,8 @@ use Rattle.std.specs.declared.cmp.Ordering.TheVariants.{Less, Equal, Greater}
 use Rattle.std.specs.Ordering.{is_lt, is_eq, on, ordering_reverse}
 use Rattle.std.specs.FinMap as finmap
 use Rattle.std.specs.FinMap.{same_map}
-use Rattle.std.specs.List.{AllAdjacentBelow, AllByRecursion, dedup, dedup_from, filter}
+use Rattle.std.specs.Prelude.{slice_get}
+use Rattle.std.specs.List.{AllAdjacentBelow, AllByRecursion, HoldsAt, dedup, dedup_from, filter}
 use Rattle.std.specs.List.Sorted.{IsBinarySearchResult, IsSortedByKey, IsStableByKey, IsStrictlySortedBy, ties}
 use Rattle.std.proofs.lemmas.Bool.{cases_lt}
 use Rattle.std.proofs.lemmas.Cmp.{alike_right, on_total, tied_back}
@@ -17,6 +18,8 @@ use Rattle.gtid_set.proofs.SetLemmas.{gtid_tied}
 use Rattle.rows.specs.declared.change.Transaction.{Transaction}
 use Rattle.journal.specs.declared.Entry.{Entry}
 use Rattle.audit.specs.Contents.{IsRising, as_entry, as_pair, contents_of, in_order}
+use Rattle.audit.specs.Worlds.{IsPlaceOf}
+use Rattle.std.proofs.lemmas.Option.{slice_get-get_or}
 use Rattle.audit.proofs.Stored.{at, entries-stored, get-stored}
 use Rattle.gtid_text.proofs.SameGtid.{same_is_equal, gtid_total, gtid_exact}
 
@@ -186,3 +189,15 @@ not_found es q i up ends =
       | inl low ↦ ap is_eq (gtid_total.antisymm q (get_or es k d).gtid ∙ ap ordering_reverse (parted.0 k d (omega arith) low))
       | inr high ↦ ap is_eq (gtid_total.antisymm q (get_or es k d).gtid ∙ ap ordering_reverse (parted.1 k d high within))
     ])
+
+-- a place that a search finds
+pub place_is : (es : List Entry) (q : Gtid) (k : ℕ) → IsRising es → k < length es → HoldsAt (λ (x : Entry). gtid_cmp x.gtid q ≡ Equal) es k → IsPlaceOf (contents_of es) q k
+place_is es q k up within tied_at =
+    let d : Entry = record { gtid = q; txn = record { changes = [] } } in
+    let e : Entry = get_or es k d in
+    record {
+      entry = e;
+      there = ap (λ (xs : List Entry). slice_get xs k) (sym (listed es up)) ∙ slice_get-get_or es k d within;
+      named = gtid_exact e.gtid q (tied_at d);
+      content = found_at es q k d up within (tied_at d);
+    }

@@ -1,4 +1,4 @@
--- What is said of GTIDs that stand without what they need is all there is.
+-- What is reported of GTIDs that are present without what they need is all there is.
 use Rattle.std.proofs.Common.{◌≡◌, ℕ, zero, suc, ◌<◌, Bool, true, false, cond, not, ◌||◌, ◌⊎◌, inl, inr, List, [], ◌∷◌, take, Option, Some, None, refl, sym, ap, ◌∙◌, subst, arith}
 use Rattle.std.specs.Prelude.{slice_get, find}
 use Rattle.std.specs.List.{list_any, AllByRecursion}
@@ -32,17 +32,15 @@ use Rattle.source_history.proofs.Gtids.{number_less}
 use Rattle.source_history.proofs.Entries.{rising}
 use Rattle.world.specs.declared.verdict.Verdict.{Verdict}
 use Rattle.world.specs.declared.verdict.Verdict.TheVariants.{Unequal, Purged, NotClosed}
-use Rattle.world.specs.Audit.{all_entries, is_content, is_unequal, unequal, purged, stands_in, stands_before}
+use Rattle.world.specs.Audit.{is_content, is_unequal, unequal, purged, stands_in, stands_before}
 use Rattle.world.specs.Cases.{IsEntryOf, IsLeftOut, Stands}
 use Rattle.world.proofs.Finding.{when_none, first_none, taken}
-use Rattle.world.proofs.Contents.{content_at, at_content, entry_at, entry_from, contents_outside}
+use Rattle.world.proofs.Contents.{content_at, at_content, entry_at, entry_from}
 use Rattle.world.proofs.Meanings.{content_is_by, le_cases}
-use Rattle.world.specs.Meaning.{AreJournals}
 use Rattle.audit.specs.Ordered.{is_there, AreInOrder, IsInOrder}
-use Rattle.audit.proofs.Rising.{has_number}
 use Rattle.audit.specs.Gaps.{Needs, needs_in, stands}
-use Rattle.audit.specs.OtherGaps.{StandsWithout, IsGapNamed, is_of_gap, is_gap, is_gap_again, AreGapsOnce, AreOtherGaps, Gap, first_absent, with_gap, gaps_among, gaps_in, told_from, gap_said, other_gaps}
-use Rattle.audit.specs.Worlds.{IsWorldOf}
+use Rattle.audit.specs.OtherGaps.{StandsWithout, IsGapNamed, is_of_gap, is_gap, is_gap_again, AreGapsOnce, AreOtherGaps, Gap, first_absent, with_gap, gaps_among, gaps_in, unreported, gap_of_verdict, other_gaps}
+use Rattle.audit.specs.Worlds.{LieBeyond}
 use Rattle.audit.proofs.Needing.{rises}
 use Rattle.audit.proofs.Nearest.{need_is_nearest, need_at, nearest_is_needed}
 
@@ -167,7 +165,7 @@ module _ (needs : Needs) (previous : Gtids) where
 
 -- ---- the pass over journals
 
--- in a journal an entry stands without something that it needs
+-- in a journal an entry is present without something that it needs
 record GapIn (needs : Needs) (js : List JournalValue) (p : Gap) : Type 0 where
   pub entry : Entry
   pub there : IsEntryOf js entry
@@ -207,10 +205,10 @@ of_gaps needs (z ∷ js) (suc i) j k e h x y a =
     let r = of_gaps needs js i j k e h x y a in
     kept_rest needs z.previous z.entries set.empty (gaps_in needs js) r.0 (e.gtid, h) r.1
 
--- ---- what is said
+-- ---- what is reported
 
 abbrev told : Gtids → Gap → List Gap → Bool → List Verdict
-told said q ps b = cond b (told_from said ps) (NotClosed q.0 q.1 ∷ told_from (set.insert said q.0) ps)
+told said q ps b = cond b (unreported said ps) (NotClosed q.0 q.1 ∷ unreported (set.insert said q.0) ps)
 
 swapped : (a b c : Bool) → ((a || b) || c) ≡ true → (b || (a || c)) ≡ true
 swapped true true c e = refl
@@ -218,7 +216,7 @@ swapped true false c e = refl
 swapped false true c e = refl
 swapped false false c e = e
 
-said_all : (said : Gtids) (ps : List Gap) (m : ℕ) (p : Gap) → slice_get ps m ≡ Some p → (set.contains said p.0 || list_any (is_of_gap p.0) (told_from said ps)) ≡ true
+said_all : (said : Gtids) (ps : List Gap) (m : ℕ) (p : Gap) → slice_get ps m ≡ Some p → (set.contains said p.0 || list_any (is_of_gap p.0) (unreported said ps)) ≡ true
 said_all said [] m p x = none_some p x
 said_all said (q ∷ ps) zero p x =
     subst (λ (y : Gap). (set.contains said y.0 || list_any (is_of_gap y.0) (told said q ps (set.contains said q.0))) ≡ true) (same_Some q p x) (now (set.contains said q.0) refl)
@@ -227,52 +225,52 @@ said_all said (q ∷ ps) zero p x =
     now true s = or_left (set.contains said q.0) (list_any (is_of_gap q.0) (told said q ps true)) s
     now false s =
         or_right (set.contains said q.0) (list_any (is_of_gap q.0) (told said q ps false))
-        (or_left (same_gtid q.0 q.0) (list_any (is_of_gap q.0) (told_from (set.insert said q.0) ps)) (same_itself q.0))
+        (or_left (same_gtid q.0 q.0) (list_any (is_of_gap q.0) (unreported (set.insert said q.0) ps)) (same_itself q.0))
 said_all said (q ∷ ps) (suc m) p x = by (set.contains said q.0) (said_all said ps m p x) (said_all (set.insert said q.0) ps m p x)
   where
-    by : (b : Bool) → (set.contains said p.0 || list_any (is_of_gap p.0) (told_from said ps)) ≡ true
-        → (set.contains (set.insert said q.0) p.0 || list_any (is_of_gap p.0) (told_from (set.insert said q.0) ps)) ≡ true
+    by : (b : Bool) → (set.contains said p.0 || list_any (is_of_gap p.0) (unreported said ps)) ≡ true
+        → (set.contains (set.insert said q.0) p.0 || list_any (is_of_gap p.0) (unreported (set.insert said q.0) ps)) ≡ true
         → (set.contains said p.0 || list_any (is_of_gap p.0) (told said q ps b)) ≡ true
     by true old more = old
     by false old more =
-        swapped (same_gtid p.0 q.0) (set.contains said p.0) (list_any (is_of_gap p.0) (told_from (set.insert said q.0) ps))
-        (ap (λ b. b || list_any (is_of_gap p.0) (told_from (set.insert said q.0) ps)) (sym (in_insert said q.0 p.0)) ∙ more)
+        swapped (same_gtid p.0 q.0) (set.contains said p.0) (list_any (is_of_gap p.0) (unreported (set.insert said q.0) ps))
+        (ap (λ b. b || list_any (is_of_gap p.0) (unreported (set.insert said q.0) ps)) (sym (in_insert said q.0 p.0)) ∙ more)
 
--- what was said is not said again
-not_again : (said : Gtids) (ps : List Gap) (g : Gtid) → set.contains said g ≡ true → list_any (is_of_gap g) (told_from said ps) ≡ false
+-- what was reported is not reported again
+not_again : (said : Gtids) (ps : List Gap) (g : Gtid) → set.contains said g ≡ true → list_any (is_of_gap g) (unreported said ps) ≡ false
 not_again said [] g h = refl
 not_again said (q ∷ ps) g h =
     by (set.contains said q.0) refl (not_again said ps g h) (not_again (set.insert said q.0) ps g (in_insert said q.0 g ∙ or_right (same_gtid g q.0) (set.contains said g) h))
   where
-    by : (b : Bool) → set.contains said q.0 ≡ b → list_any (is_of_gap g) (told_from said ps) ≡ false → list_any (is_of_gap g) (told_from (set.insert said q.0) ps) ≡ false
+    by : (b : Bool) → set.contains said q.0 ≡ b → list_any (is_of_gap g) (unreported said ps) ≡ false → list_any (is_of_gap g) (unreported (set.insert said q.0) ps) ≡ false
         → list_any (is_of_gap g) (told said q ps b) ≡ false
     by true s old more = old
     by false s old more =
         let other : same_gtid g q.0 ≡ false = false_from_ne_true (same_gtid g q.0) (λ is. not_both (set.contains said q.0) (ap (set.contains said) (sym (same_is_equal g q.0 is)) ∙ h) s) in
-        ap (λ b. b || list_any (is_of_gap g) (told_from (set.insert said q.0) ps)) other ∙ more
+        ap (λ b. b || list_any (is_of_gap g) (unreported (set.insert said q.0) ps)) other ∙ more
 
-once_from : (said : Gtids) (ps : List Gap) → AreGapsOnce (told_from said ps)
+once_from : (said : Gtids) (ps : List Gap) → AreGapsOnce (unreported said ps)
 once_from said [] = tt
 once_from said (q ∷ ps) = by (set.contains said q.0) (once_from said ps) (once_from (set.insert said q.0) ps)
   where
-    by : (b : Bool) → AreGapsOnce (told_from said ps) → AreGapsOnce (told_from (set.insert said q.0) ps) → AreGapsOnce (told said q ps b)
+    by : (b : Bool) → AreGapsOnce (unreported said ps) → AreGapsOnce (unreported (set.insert said q.0) ps) → AreGapsOnce (told said q ps b)
     by true old more = old
     by false old more =
         (not_again (set.insert said q.0) ps q.0 (in_insert said q.0 q.0 ∙ or_left (same_gtid q.0 q.0) (set.contains said q.0) (same_itself q.0)), more)
 
--- what holds of each holds of what is said
-all_told : (Q : Verdict → Type 0) (said : Gtids) (ps : List Gap) → ((m : ℕ) (p : Gap) → slice_get ps m ≡ Some p → Q (NotClosed p.0 p.1)) → AllByRecursion Q (told_from said ps)
+-- what holds of each holds of what is reported
+all_told : (Q : Verdict → Type 0) (said : Gtids) (ps : List Gap) → ((m : ℕ) (p : Gap) → slice_get ps m ≡ Some p → Q (NotClosed p.0 p.1)) → AllByRecursion Q (unreported said ps)
 all_told Q said [] each = tt
 all_told Q said (q ∷ ps) each =
     by (set.contains said q.0) (all_told Q said ps (λ m p x. each (suc m) p x)) (all_told Q (set.insert said q.0) ps (λ m p x. each (suc m) p x))
   where
-    by : (b : Bool) → AllByRecursion Q (told_from said ps) → AllByRecursion Q (told_from (set.insert said q.0) ps) → AllByRecursion Q (told said q ps b)
+    by : (b : Bool) → AllByRecursion Q (unreported said ps) → AllByRecursion Q (unreported (set.insert said q.0) ps) → AllByRecursion Q (told said q ps b)
     by true old more = old
     by false old more = (each zero q refl, more)
 
 -- ---- the GTID of the verdict
 
-said_is : (v : Verdict) (g : Gtid) → set.contains (gap_said v) g ≡ is_of_gap g v
+said_is : (v : Verdict) (g : Gtid) → set.contains (gap_of_verdict v) g ≡ is_of_gap g v
 said_is (NotClosed a b) g = in_insert set.empty a g ∙ (ap (λ x. same_gtid g a || x) (contains-empty gtid_cmp g) ∙ or-false (same_gtid g a))
 said_is _ g = contains-empty gtid_cmp g
 
@@ -280,7 +278,7 @@ not_of : (v : Verdict) (g : Gtid) → is_gap v ≡ false → is_of_gap g v ≡ f
 not_of (NotClosed a b) g e = cc
 not_of _ g e = refl
 
-first_once : (v : Verdict) (ps : List Gap) → is_gap_again v (told_from (gap_said v) ps) ≡ false
+first_once : (v : Verdict) (ps : List Gap) → is_gap_again v (unreported (gap_of_verdict v) ps) ≡ false
 first_once (NotClosed a b) ps = not_again (set.insert set.empty a) ps a (in_insert set.empty a a ∙ or_left (same_gtid a a) (set.contains set.empty a) (same_itself a))
 first_once _ ps = refl
 
@@ -297,7 +295,7 @@ shares_by schema t u k a b =
     let same : k ≡ r.1 = key_eq_same k r.1 r.3 in
     any_passes_from_place (touches schema u) (write_set schema t) r.0 r.1 r.2 (ap (touches schema u) (sym same) ∙ b)
 
--- what stands before a place stands before a later one
+-- what comes before a place comes before a later one
 stands_later : (j : JournalValue) (q place : ℕ) (g : Gtid) → q < place → stands_before j q g ≡ true → stands_before j place g ≡ true
 stands_later j q place g l h = elim (or_cases (set.contains j.previous g) (stands_in (take q j.entries) g) h) [
   | inl p ↦ or_left (set.contains j.previous g) (stands_in (take place j.entries) g) p
@@ -317,14 +315,14 @@ module _ (world : World) (journals : List JournalValue) where
   abbrev gaps : List Gap
   gaps = gaps_in (needs_in world) journals
 
-  -- each that is found stands without its nearest earlier one
+  -- each that is found is present without its nearest earlier one
   without : (p : Gap) → GapIn (needs_in world) journals p → StandsWithout world journals p.0 p.1
   without p gap =
       let a = absent_from (stands_before gap.there.journal gap.there.place) (finmap.get (needs_in world) p.0) p.1 gap.lacks in
       let n = need_is_nearest world p.0 p.1 a.0 a.2 a.1 a.3 in
       record { entry = gap.entry; there = gap.there; named = gap.named; t = n.t; first = n.first; key = n.key; touched = n.touched; nearest = n.nearest; left_out = a.4 }
 
-  -- each that stands without its nearest earlier one is found
+  -- each that is present without its nearest earlier one is found
   is_found : (g h : Gtid) → StandsWithout world journals g h → (m : ℕ) × (x : Gtid) × (slice_get gaps m ≡ Some (g, x))
   is_found g h w =
       let n = nearest_is_needed world g h w.t w.key w.first w.touched w.nearest in
@@ -353,9 +351,9 @@ module _ (world : World) (journals : List JournalValue) where
         left_out = w.left_out;
       }
 
-  module _ (of_journals : IsWorldOf world journals) where
+  module _ (beyond : LieBeyond world.opening_set world.contents) where
     outside : (g : Gtid) (t : Transaction) → content world g ≡ Some t → is_opened world g ≡ false
-    outside g t f = contents_outside world.opening_set (all_entries journals) g t (sym (ap (λ (w : World). content w g) of_journals) ∙ f)
+    outside = beyond.outside
 
     module _ (within : purged world journals ≡ None) (none : (m : ℕ) (p : Gap) → slice_get gaps m ≡ Some p → ⊥) (i : ℕ) (j : JournalValue) (hj : slice_get journals i ≡ Some j) where
       not_previous : (g : Gtid) (t : Transaction) → content world g ≡ Some t → set.contains j.previous g ≡ true → ⊥
@@ -365,7 +363,7 @@ module _ (world : World) (journals : List JournalValue) where
           not_both (not (set.is_subset j.previous world.opening_set)) (not_from_false (set.is_subset j.previous world.opening_set) no) test) in
           not_both (is_opened world g) (is_subset-contains gtid_total j.previous world.opening_set part g h) (outside g t f)
 
-      -- where every entry stands behind what it needs, it stands behind all that precede it and share a key with it
+      -- where every entry comes after what it needs, it comes after all that precede it and share a key with it
       stands_behind : (n k : ℕ) (e : Entry) (t : Transaction) (h : Gtid) (u : Transaction) → k < n → slice_get j.entries k ≡ Some e → content world e.gtid ≡ Some t → content world h ≡ Some u
           → h.source ≡ e.gtid.source → h.number < e.gtid.number → shares_key world.schema u t ≡ true → stands_before j k h ≡ true
       stands_behind zero k e t h u l he ft fu s less shares = absurd (omega arith)
@@ -398,14 +396,14 @@ module _ (world : World) (journals : List JournalValue) where
           below : (a k n : ℕ) → a < k → k < suc n → a < n
           below a k n x y = omega arith
 
-    module _ (are : AreJournals journals) (ordered : AreInOrder world.opening_set journals) where
-      -- in a journal that is in order nothing stands without what it needs
+    module _ (ordered : AreInOrder world.opening_set journals) where
+      -- in a journal that is in order nothing is present without what it needs
       none_without : (g h : Gtid) → StandsWithout world journals g h → ⊥
       none_without g h w =
           let j = w.there.journal in
           let before : List Entry = take w.there.place j.entries in
           let at : content world h ≡ Some w.nearest.u = w.nearest.there in
-          let positive : 0 < h.number = has_number world.schema world.opening_set world.opening_rows journals are h w.nearest.u (sym (ap (λ (x : World). content x h) of_journals) ∙ at) in
+          let positive : 0 < h.number = beyond.from_one h w.nearest.u at in
           let less : h.number < w.entry.gtid.number = subst (λ (x : Gtid). h.number < x.number) (sym w.named) w.nearest.smaller in
           let in_order : IsInOrder world.opening_set j.entries = all_at (λ (x : JournalValue). IsInOrder world.opening_set x.entries) journals w.there.number j ordered w.there.listed in
           let source : w.entry.gtid.source ≡ h.source = ap (λ (x : Gtid). x.source) w.named ∙ sym w.nearest.source in
@@ -417,26 +415,26 @@ module _ (world : World) (journals : List JournalValue) where
           ]
 
       pub none_in_order : (v : Verdict) → other_gaps world journals v ≡ []
-      none_in_order v = ap (told_from (gap_said v)) (empty gaps (λ m p x. none_without p.0 p.1 (without p (in_gaps (needs_in world) journals m p x))))
+      none_in_order v = ap (unreported (gap_of_verdict v)) (empty gaps (λ m p x. none_without p.0 p.1 (without p (in_gaps (needs_in world) journals m p x))))
         where
           empty : (ps : List Gap) → ((m : ℕ) (p : Gap) → slice_get ps m ≡ Some p → ⊥) → ps ≡ []
           empty [] none = refl
           empty (q ∷ ps) none = absurd (none zero q refl)
 
-    -- the other GTIDs that stand without what they need are listed, and nothing else
+    -- the other GTIDs that are present without what they need are listed, and nothing else
     pub others_gaps : (v : Verdict) → AreOtherGaps world journals v (other_gaps world journals v)
     others_gaps v = record {
-      named = all_told (IsGapNamed world journals) (gap_said v) gaps (λ m p x. without p (in_gaps (needs_in world) journals m p x));
+      named = all_told (IsGapNamed world journals) (gap_of_verdict v) gaps (λ m p x. without p (in_gaps (needs_in world) journals m p x));
       every = λ g h w.
           let r = is_found g h w in
-          ap (λ b. b || list_any (is_of_gap g) (other_gaps world journals v)) (sym (said_is v g)) ∙ said_all (gap_said v) gaps r.0 (g, r.1) r.2;
-      once = (first_once v gaps, once_from (gap_said v) gaps);
-      cases = λ equal. all_told (Stands world journals) (gap_said v) gaps (λ m p x.
+          ap (λ b. b || list_any (is_of_gap g) (other_gaps world journals v)) (sym (said_is v g)) ∙ said_all (gap_of_verdict v) gaps r.0 (g, r.1) r.2;
+      once = (first_once v gaps, once_from (gap_of_verdict v) gaps);
+      cases = λ equal. all_told (Stands world journals) (gap_of_verdict v) gaps (λ m p x.
           let w = without p (in_gaps (needs_in world) journals m p x) in
           left_out equal p.0 p.1 (outside p.0 w.t w.first) w);
       closed = λ other empty within g h b.
           let none : (m : ℕ) (p : Gap) → slice_get gaps m ≡ Some p → ⊥ = λ m p x.
-          let told : (is_of_gap p.0 v || list_any (is_of_gap p.0) (other_gaps world journals v)) ≡ true = ap (λ b. b || list_any (is_of_gap p.0) (other_gaps world journals v)) (sym (said_is v p.0)) ∙ said_all (gap_said v) gaps m p x in
+          let told : (is_of_gap p.0 v || list_any (is_of_gap p.0) (other_gaps world journals v)) ≡ true = ap (λ b. b || list_any (is_of_gap p.0) (other_gaps world journals v)) (sym (said_is v p.0)) ∙ said_all (gap_of_verdict v) gaps m p x in
           not_both (is_of_gap p.0 v || list_any (is_of_gap p.0) (other_gaps world journals v)) told (λ i. not_of v p.0 other i || list_any (is_of_gap p.0) (empty i)) in
           not_both (stands_before b.there.journal b.there.place h)
           (stands_behind within none b.there.number b.there.journal b.there.listed (suc b.there.place) b.there.place b.entry b.t h b.u (itself b.there.place) b.there.there

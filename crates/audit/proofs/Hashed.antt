@@ -6,8 +6,7 @@ use Rattle.std.specs.List.{list_any}
 use Rattle.std.specs.Map.{lookup}
 use Rattle.std.specs.BTreeMap.{is_at}
 use Rattle.std.specs.FinMap.{IsAntisymmetric, from_entries, insert}
-use Rattle.std.specs.FinSet.{from_list}
-use Rattle.std.specs.FinSet.{insert as add}
+use Rattle.std.specs.FinSet.{from_list, insert as add}
 use Rattle.audit.proofs.Stored.{at, one_put, one_key}
 
 module _ {K X : Type 0} (R : K → K → Ordering) (test : K → K → Bool) (same : (a b : K) → test a b ≡ is_at (R a) b) where

@@ -10,7 +10,8 @@ pub mod Sounding
 pub mod Hashed
 pub mod Apart
 pub mod Rising
-pub mod Once
+pub mod Bringing
+pub mod Lying
 pub mod Lacking
 pub mod Others
 pub mod Passings

@@ -21,12 +21,14 @@ use Rattle.ordered_journals.proofs.Lists.{all_at}
 use Rattle.world.specs.declared.verdict.Verdict.{Verdict}
 use Rattle.world.specs.declared.verdict.Verdict.TheVariants.{Missing}
 use Rattle.world.specs.Search.{or_next, when, first}
-use Rattle.world.specs.Audit.{all_entries, world_of, stands_in, is_absent, below, missing}
+use Rattle.world.specs.Audit.{all_entries, first_contents, world_of, present, stands_in, is_absent, below, missing}
 use Rattle.world.proofs.Finding.{when_none, first_none, get_range}
 use Rattle.world.proofs.Contents.{contents_entry, entry_content, content_at, some_of}
 use Rattle.world.proofs.OnePass.{source_le}
+use Rattle.journal.specs.declared.Entry.{Entry}
+use Rattle.audit.specs.Contents.{Contents, as_pair, in_order}
+use Rattle.audit.proofs.Made.{pairs_of}
 use Rattle.audit.specs.Missing.{number_before, missing_between, missing_from}
-use Rattle.audit.specs.Worlds.{IsWorldOf}
 use Rattle.std.proofs.lemmas.Option.{same_Some}
 use Rattle.rows.proofs.Lists.{none_some}
 
@@ -39,7 +41,7 @@ module _ (source : ℕ) (q : Gtid → Bool) where
   abbrev numbers : ℕ → ℕ → List Gtid
   numbers x k = map (gtid source) (range_with_len x k)
 
-  -- what does not pass at the front changes nothing
+  -- what does not pass at the start changes nothing
   skipped : (k x l : ℕ) → ((m : ℕ) → x ≤ m → m < x + k → q (gtid source m) ≡ false) → first named (numbers x (k + l)) ≡ first named (numbers (x + k) l)
   skipped zero x l h =
       let a : zero + l ≡ l = omega arith in
@@ -85,7 +87,7 @@ reaches_on g p e (inr a) (inr b) =
     let s = a.0 in let t = b.0 in let n = a.1 in let m = b.1 in
     inr ((s ∙ t), omega arith)
 
--- what stands before a part of the list
+-- what comes before a part of the list
 abbrev Passed : Option Gtid → Gtid → Type 0
 Passed None g = ⊥
 Passed (Some p) g = Reaches g p
@@ -162,7 +164,7 @@ module _ (schema : List Table) (opened : Gtids) (rows : Rows) (journals : List J
   here g = first (λ h. when (is_absent w journals h) (Missing h)) (below g.0)
 
   module _ (last : Option Gtid) (e : history.Entry) (es : List history.Entry) (up : IsRising (e ∷ es)) (before : Precedes last e.0) (covered : Covered last (e ∷ es)) (clear : Clear last) where
-    -- nothing stands between the last and this one
+    -- nothing is between the last and this one
     between : (m : ℕ) → number_before last e.0.source < m → m < e.0.number → (t : Transaction) → content w (gtid e.0.source m) ≡ Some t → ⊥
     between m low high t h =
         let at = content_at w (gtid e.0.source m) t h in
@@ -244,7 +246,11 @@ module _ (schema : List Table) (opened : Gtids) (rows : Rows) (journals : List J
   pub passed_all : missing_from opened None es0 ≡ missing w journals
   passed_all = pass es0 None (rising w) (found w) (none_before es0) (λ i h s. inr (i, s)) (λ s m positive high. absurd (omega arith))
 
-pub missing_passes : (world : World) (journals : List JournalValue) → IsWorldOf world journals → missing_from world.opening_set None (finmap.entries world.contents) ≡ missing world journals
-missing_passes world journals e =
-    subst (λ (x : World). missing_from x.opening_set None (finmap.entries x.contents) ≡ missing x journals) (sym e)
-    (passed_all world.schema world.opening_set world.opening_rows journals)
+pub missing_passes : (world : World) (journals : List JournalValue) → missing_from world.opening_set None (present world journals) ≡ missing world journals
+missing_passes world journals = passed_all world.schema world.opening_set world.opening_rows journals
+
+-- what journals bring, as a list in the order of GTIDs
+pub brought_pass : (world : World) (journals : List JournalValue) (opened : Gtids) (entries : List Entry) (contents : Contents) → opened ≡ world.opening_set → entries ≡ in_order contents → contents ≡ first_contents world.opening_set (all_entries journals)
+    → missing_from opened None (map as_pair entries) ≡ missing world journals
+brought_pass world journals opened entries contents same listed brought =
+    (λ i. missing_from (same i) None ((pairs_of entries contents listed ∙ ap finmap.entries brought) i)) ∙ missing_passes world journals

@@ -26,7 +26,7 @@ use Rattle.source_history.proofs.Entries.{rising}
 use Rattle.world.specs.Folds.{FirstTouch}
 use Rattle.world.proofs.Contents.{content_at, at_content}
 use Rattle.world.proofs.Meanings.{le_cases}
-use Rattle.audit.specs.Gaps.{touched_last, of_source, with_some, last_of_keys, Needs, needs_over, needs_in}
+use Rattle.audit.specs.Gaps.{touch_last, of_source, with_some, last_of_keys, Needs, needs_over, needs_in}
 use Rattle.audit.specs.OtherGaps.{IsNearest}
 use Rattle.audit.proofs.Needing.{rises, get-touched, needs_are}
 
@@ -120,7 +120,7 @@ module _ (schema : List Table) where
           ];
         }
 
-    lasts_on : LastsAre (pre ++ e ∷ []) (touched_last e.0 (write_set schema e.1) last)
+    lasts_on : LastsAre (pre ++ e ∷ []) (touch_last e.0 (write_set schema e.1) last)
     lasts_on key g q = last_by key g (touches schema e.1 key) refl (sym (get-touched e.0 (write_set schema e.1) last key) ∙ q)
 
     need_by : (g h : Gtid) (gs : List Gtid) (m : ℕ) (b : Bool) → same_gtid g e.0 ≡ b → cond b (Some (last_of_keys e.0 (write_set schema e.1) last)) (finmap.get needs g) ≡ Some gs → slice_get gs m ≡ Some h → NeedBy (pre ++ e ∷ []) g h
@@ -188,7 +188,7 @@ module _ (schema : List Table) where
   by_over (e ∷ es) pre last needs lasts had =
       let parts : (pre ++ e ∷ []) ++ es ≡ pre ++ e ∷ es = append_assoc pre (e ∷ []) es in
       subst (λ (xs : List history.Entry). NeedsBy xs (needs_over schema last needs (e ∷ es))) parts
-      (by_over es (pre ++ e ∷ []) (touched_last e.0 (write_set schema e.1) last) (finmap.insert needs e.0 (last_of_keys e.0 (write_set schema e.1) last))
+      (by_over es (pre ++ e ∷ []) (touch_last e.0 (write_set schema e.1) last) (finmap.insert needs e.0 (last_of_keys e.0 (write_set schema e.1) last))
       (lasts_on pre e last needs lasts had) (needs_on pre e last needs lasts had))
 
   needs_by : (es : List history.Entry) → NeedsBy es (needs_over schema finmap.empty finmap.empty es)
@@ -196,7 +196,7 @@ module _ (schema : List Table) where
 
 -- ---- in a world
 
--- neither at the same place nor behind it
+-- neither at the same place nor after it
 pub in_front : (a b : ℕ) → (a ≡ b → ⊥) → (b < a → ⊥) → a < b
 in_front a b same more = elim (cases_lt a b) [
   | inl l ↦ l
@@ -246,7 +246,7 @@ module _ (world : World) where
         };
       }
 
-  -- an earlier toucher of a key stands before one that is needed, or is it
+  -- an earlier toucher of a key comes before one that is needed, or is it
   pub record Needed (g : Gtid) (key : Key) (place : ℕ) : Type 0 where
     pub gtids : List Gtid
     pub known : finmap.get (needs_in world) g ≡ Some gtids

@@ -20,14 +20,14 @@ use Rattle.source_history.proofs.Entries.{IsRising}
 use Rattle.ordered_journals.proofs.Lists.{all_at, get_push_cases}
 use Rattle.world.specs.Folds.{FirstTouch}
 use Rattle.world.proofs.OnePass.{source_le}
-use Rattle.audit.specs.Gaps.{touched_last, of_source, with_some, last_of_keys, Needs, needs_over}
+use Rattle.audit.specs.Gaps.{touch_last, of_source, with_some, last_of_keys, Needs, needs_over}
 use Rattle.std.proofs.lemmas.Option.{same_Some, slice_get_within}
 use Rattle.gtid_text.proofs.SameGtid.{same_itself, same_is_equal, gtid_total}
 use Rattle.rows.proofs.Patching.{not_both}
 use Rattle.rows.proofs.Lists.{none_some, get_append_left, get_push}
 use Rattle.world.proofs.Touching.{rising_front}
 
--- ---- places in a rising list
+-- ---- places in an ascending list
 
 pub rises : (es : List history.Entry) (i j : ℕ) (a b : history.Entry) → IsRising es → slice_get es i ≡ Some a → slice_get es j ≡ Some b → i < j → gtid_cmp a.0 b.0 ≡ Less
 rises [] i j a b up x y l = none_some a x
@@ -55,7 +55,7 @@ cond_or true true x y = refl
 cond_or true false x y = refl
 cond_or false q x y = refl
 
-pub get-touched : (g : Gtid) (keys : List Key) (last : FirstTouch) (key : Key) → finmap.get (touched_last g keys last) key ≡ cond (is_among keys key) (Some g) (finmap.get last key)
+pub get-touched : (g : Gtid) (keys : List Key) (last : FirstTouch) (key : Key) → finmap.get (touch_last g keys last) key ≡ cond (is_among keys key) (Some g) (finmap.get last key)
 get-touched g [] last key = refl
 get-touched g (k ∷ keys) last key =
     get-touched g keys (finmap.insert last k g) key
@@ -119,7 +119,7 @@ module _ (schema : List Table) where
     less : (i : ℕ) (h : history.Entry) → slice_get pre i ≡ Some h → gtid_cmp h.0 e.0 ≡ Less
     less i h x = rises (pre ++ e ∷ []) i (length pre) h e up (get_append_left pre (e ∷ []) i h x) (get_push pre e) (slice_get_within pre i h x)
 
-    last_on : LastIs (pre ++ e ∷ []) (touched_last e.0 (write_set schema e.1) last)
+    last_on : LastIs (pre ++ e ∷ []) (touch_last e.0 (write_set schema e.1) last)
     last_on key i h x t = elim (cases_Bool (touches schema e.1 key)) [
       | inl now ↦ record {
         place = length pre;
@@ -229,7 +229,7 @@ module _ (schema : List Table) where
       let up_too : IsRising ((pre ++ e ∷ []) ++ es) = subst (λ (xs : List history.Entry). IsRising xs) (sym parts) up in
       let up_here = rising_front (pre ++ e ∷ []) es up_too in
       subst (λ (xs : List history.Entry). NeedsAre xs (needs_over schema last needs (e ∷ es))) parts
-      (over es (pre ++ e ∷ []) (touched_last e.0 (write_set schema e.1) last) (finmap.insert needs e.0 (last_of_keys e.0 (write_set schema e.1) last)) up_too
+      (over es (pre ++ e ∷ []) (touch_last e.0 (write_set schema e.1) last) (finmap.insert needs e.0 (last_of_keys e.0 (write_set schema e.1) last)) up_too
       (last_on pre e up_here last needs touched had) (needs_on pre e up_here last needs touched had))
 
   pub needs_are : (es : List history.Entry) → IsRising es → NeedsAre es (needs_over schema finmap.empty finmap.empty es)

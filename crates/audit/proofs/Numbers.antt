@@ -26,7 +26,7 @@ find_past p (suc k) n b l h =
     ∙ find_past p k (n + 1) b (omega (arith, l)) (λ m a c. h m (omega (arith, a)) (omega (arith, c)))
     ∙ ap (λ m. find p (range_with_len m (b - m))) (omega arith)
 
--- where the numbers of a run are none, the search goes on behind it
+-- where the numbers of a run are none, the search goes on after it
 pub find_behind : (p : ℕ → Bool) (n last b : ℕ) → n ≤ last → last < b → ((m : ℕ) → n ≤ m → m ≤ last → p m ≡ false)
     → find p (range_with_len n (b - n)) ≡ find p (range_with_len (last + 1) (b - (last + 1)))
 find_behind p n last b r l h =

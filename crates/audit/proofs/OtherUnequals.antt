@@ -1,4 +1,4 @@
--- What is said of GTIDs under which journals differ is all there is.
+-- What is reported of GTIDs under which journals differ is all there is.
 use Rattle.std.proofs.Common.{◌≡◌, ◌≢◌, ℕ, zero, suc, Bool, true, false, cond, not, ◌&&◌, ◌||◌, ◌⊎◌, inl, inr, List, [], ◌∷◌, ◌++◌, Option, Some, None, refl, sym, ap, ◌∙◌, subst}
 use Rattle.std.specs.Prelude.{slice_get}
 use Rattle.std.specs.List.{list_any, AllByRecursion}
@@ -75,7 +75,7 @@ module _ (world : World) where
 
   -- ---- entry after entry
 
-  -- it is said here
+  -- it is reported here
   abbrev says : Gtids → Entry → Bool
   says said x = is_unequal world x && not (set.contains said x.gtid)
 
@@ -111,7 +111,7 @@ module _ (world : World) where
           (ap (λ b. b || list_any (is_of_unequal e.gtid) (unequal_from world (set.insert said x.gtid) es)) (sym (in_insert said x.gtid e.gtid)) ∙ more)
       later false more same = same
 
-  -- what was said is not said again
+  -- what was reported is not reported again
   not_again : (said : Gtids) (es : List Entry) (g : Gtid) → set.contains said g ≡ true → list_any (is_of_unequal g) (unequal_from world said es) ≡ false
   not_again said [] g h = refl
   not_again said (x ∷ es) g h =

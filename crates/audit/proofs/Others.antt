@@ -30,7 +30,7 @@ use Rattle.world.proofs.Contents.{content_at, at_content}
 use Rattle.world.proofs.OnePass.{rising_parts, source_le}
 use Rattle.world.proofs.Gaps.{number_lt}
 use Rattle.world.proofs.Finding.{below_test}
-use Rattle.audit.specs.Others.{IsPairNamed, is_of_key, is_again, AreOnce, AreOtherKeys, pair_of_key, with_pair, with_name, pairs_of_keys, named_by_keys, pairs_from, named_first, other_pairs}
+use Rattle.audit.specs.Others.{IsPairNamed, is_of_key, is_again, AreOnce, AreOtherKeys, pair_of_key, with_pair, with_name, pairs_of_keys, named_by_keys, pairs_from, key_of_verdict, other_pairs}
 
 -- ---- keys that were touched
 
@@ -83,7 +83,7 @@ name_one named key k h = ap is_some (get-insert key_total named key h k) ∙ by 
     by true o = refl
     by false o = refl
 
--- what a key is said of
+-- what a key is reported of
 says_by : (h : Gtid) (key : Key) (named : Bool) (o : Option Gtid) (v : Verdict) → cond named None (shares_with h key o) ≡ Some v
     → (named ≡ false) × (g : Gtid) × (o ≡ Some g) × (g.source < h.source) × (v ≡ Shared g h key)
 says_by h key true o v e = none_some v e
@@ -108,7 +108,7 @@ name_more (Some v) h seen named key k vs after e f =
     turn false true c = refl
     turn false false c = refl
 
--- a key was said of before, or is now
+-- a key was reported of before, or is now
 named_keys : (h : Gtid) (seen named : FirstTouch) (keys : List Key) (k : Key) → has (named_by_keys h seen named keys) k ≡ (has named k || list_any (is_of_key k) (pairs_of_keys h seen named keys))
 named_keys h seen named [] k = same (has named k)
   where
@@ -133,7 +133,7 @@ now_said h g key named false first None p e f l =
     no false e n = cc
 now_said h g key named b first (Some v) p e f l = name_one named key key h ∙ or_left (key_eq key key) (has named key) (key_eq_self key)
 
--- a shared key was said of before, or is now
+-- a shared key was reported of before, or is now
 said_keys : (h g : Gtid) (seen named : FirstTouch) (keys : List Key) (k : Key) → is_among keys k ≡ true → finmap.get seen k ≡ Some g → g.source < h.source → has (named_by_keys h seen named keys) k ≡ true
 said_keys h g seen named [] k among first less = cc
 said_keys h g seen named (key ∷ keys) k among first less =
@@ -291,9 +291,9 @@ module _ (schema : List Table) where
         not_both : (a b h : ℕ) → a < b → h ≡ b → h ≡ a → ⊥
         not_both a b h x y z = omega arith
 
--- ---- what is said of one transaction's keys
+-- ---- what is reported of one transaction's keys
 
--- of a key that nothing was said of
+-- of a key that nothing was reported of
 record IsSaid (h : Gtid) (seen named : FirstTouch) (keys : List Key) (v : Verdict) : Type 0 where
   pub g : Gtid
   pub key : Key
@@ -353,7 +353,7 @@ abbrev named_from : List Table → FirstTouch → FirstTouch → List history.En
 named_from schema seen named [] = named
 named_from schema seen named (h ∷ es) = named_from schema (touched_by h.0 (write_set schema h.1) seen) (named_by_keys h.0 seen named (write_set schema h.1)) es
 
--- what was said of a key, or is
+-- what was reported of a key, or is
 names_all : (schema : List Table) (seen named : FirstTouch) (es : List history.Entry) (k : Key) → has (named_from schema seen named es) k ≡ (has named k || list_any (is_of_key k) (pairs_from schema seen named es))
 names_all schema seen named [] k = same (has named k)
   where
@@ -462,7 +462,7 @@ module _ (world : World) where
   nothing_seen = record { from = λ k g e. none_some g (sym (get-empty key_cmp k) ∙ e); all = λ i e k s t. none_some e s }
 
   -- the key of the verdict has its name from the start
-  named_at_first : (v : Verdict) (k : Key) → has (named_first v) k ≡ is_of_key k v
+  named_at_first : (v : Verdict) (k : Key) → has (key_of_verdict v) k ≡ is_of_key k v
   named_at_first (Shared g h key) k = name_one finmap.empty key k h ∙ ap (λ b. key_eq k key || b) (ap is_some (get-empty key_cmp k)) ∙ same (key_eq k key)
     where
       same : (b : Bool) → (b || false) ≡ b
@@ -472,7 +472,7 @@ module _ (world : World) where
 
 -- ---- no key twice
 
--- it is said of a key that has no name
+-- it is reported of a key that has no name
 record IsNew (named : FirstTouch) (v : Verdict) : Type 0 where
   pub g : Gtid
   pub h : Gtid
@@ -484,7 +484,7 @@ new_key : (named : FirstTouch) (k key : Key) (b : Bool) → key_eq k key ≡ b �
 new_key named k key true e n p = let never : false ≡ true = sym n ∙ ap (has named) (sym (key_eq_same k key e)) ∙ p in cc
 new_key named k key false e n p = refl
 
--- nothing is said of a key that has a name
+-- nothing is reported of a key that has a name
 none_again : (named : FirstTouch) (vs : List Verdict) (k : Key) → AllByRecursion (IsNew named) vs → has named k ≡ true → list_any (is_of_key k) vs ≡ false
 none_again named [] k s p = refl
 none_again named (v ∷ vs) k s p =
@@ -520,23 +520,23 @@ once_from schema seen named (h ∷ es) =
     let keys = write_set schema h.1 in
     once_keys h.0 seen named keys (pairs_from schema (touched_by h.0 keys seen) (named_by_keys h.0 seen named keys) es) (once_from schema (touched_by h.0 keys seen) (named_by_keys h.0 seen named keys) es)
 
-not_of_verdict : (v : Verdict) (vs : List Verdict) → AllByRecursion (IsNew (named_first v)) vs → is_again v vs ≡ false
-not_of_verdict (Shared g h key) vs s = none_again (named_first (Shared g h key)) vs key s (name_one finmap.empty key key h ∙ or_left (key_eq key key) (has finmap.empty key) (key_eq_self key))
+not_of_verdict : (v : Verdict) (vs : List Verdict) → AllByRecursion (IsNew (key_of_verdict v)) vs → is_again v vs ≡ false
+not_of_verdict (Shared g h key) vs s = none_again (key_of_verdict (Shared g h key)) vs key s (name_one finmap.empty key key h ∙ or_left (key_eq key key) (has finmap.empty key) (key_eq_self key))
 not_of_verdict _ vs s = refl
 
 -- ---- every other shared key
 
 pub others_named : (world : World) (v : Verdict) → AreOtherKeys world v (other_pairs world v)
 others_named world v =
-    let passed = goes_on world [] (finmap.entries world.contents) finmap.empty (named_first v) refl (nothing_seen world) (λ i j a b k p q l ta tb. none_some a p) in
-    let once = once_from world.schema finmap.empty (named_first v) (finmap.entries world.contents) in
+    let passed = goes_on world [] (finmap.entries world.contents) finmap.empty (key_of_verdict v) refl (nothing_seen world) (λ i j a b k p q l ta tb. none_some a p) in
+    let once = once_from world.schema finmap.empty (key_of_verdict v) (finmap.entries world.contents) in
     record {
       named = passed.0;
       every = λ a b k s.
           let p = content_at world a s.t s.first in
           let q = content_at world b s.u s.second in
           ap (λ c. c || list_any (is_of_key k) (other_pairs world v)) (sym (named_at_first world v k))
-          ∙ sym (names_all world.schema finmap.empty (named_first v) (finmap.entries world.contents) k)
+          ∙ sym (names_all world.schema finmap.empty (key_of_verdict v) (finmap.entries world.contents) k)
           ∙ passed.1 p.0 q.0 (a, s.t) (b, s.u) k p.1 q.1 s.smaller s.touches_first s.touches_second;
       once = (not_of_verdict v (other_pairs world v) once.1, once.0);
     }

@@ -2,12 +2,13 @@
 use Rattle.std.proofs.Common.{◌≡◌, ℕ, ◌+◌, ◌-◌, Bool, true, false, ◌∷◌, not, ◌&&◌, List, map, drop, Option, Some, None, Result, Ok, Err, IfErr, refl, sym, ap, ◌∙◌, subst}
 use Rattle.std.specs.FinMap as finmap
 use Rattle.std.specs.FinSet as set
-use Rattle.std.specs.FinSet.{contains-difference}
-use Rattle.std.proofs.lemmas.Bool.{and_parts, or_left}
+use Rattle.std.specs.FinSet.{contains-difference, contains-empty}
+use Rattle.std.proofs.lemmas.Bool.{and_parts, or_left, false_from_ne_true}
 use Rattle.gtid_text.specs.declared.Gtid.{Gtid}
-use Rattle.gtid_text.specs.Gtids.{same_gtid}
+use Rattle.gtid_text.specs.Gtids.{gtid_cmp, same_gtid}
 use Rattle.world.specs.declared.verdict.Verdict.{Verdict}
 use Rattle.world.specs.declared.verdict.Verdict.TheVariants.{Missing}
+use Rattle.world.specs.Cases.{IsMissing}
 use Rattle.gtid_set.proofs.SetLemmas.{same_members}
 use Rattle.gtid_text.proofs.SameGtid.{gtid_total, same_is_equal}
 use Rattle.gtid_set.specs.declared.fault.SetFault.{SetFault}
@@ -16,12 +17,15 @@ use Rattle.gtid_set.specs.Sets.{Gtids, interval}
 use Rattle.gtid_set.specs.Full.{HasManySources, HasManyIntervals, IsFaultOf, IsCrowdedExactly}
 use Rattle.gtid_set.proofs.FaultLemmas.{fault_map}
 use Rattle.journal.specs.declared.Entry.{Entry}
+use Rattle.journal.specs.Journals.{JournalValue}
 use Rattle.source_history.specs.World.{World}
 use Rattle.source_history.specs.World as history
-use Rattle.audit.specs.Contents.{as_pair}
+use Rattle.world.specs.Audit.{all_entries, first_contents}
+use Rattle.audit.specs.Contents.{Contents, as_pair, in_order}
 use Rattle.audit.specs.Missing.{number_before}
-use Rattle.audit.specs.Others.{HasPart, IsPartFault, but_missing, IsWithin, is_skipped, missing_in, skips_from}
-use Rattle.audit.proofs.Passings.{in_skips, in_one, in_but}
+use Rattle.audit.specs.Others.{HasPart, IsPartFault, but_missing, IsWithin, is_skipped, missing_in, skipped_in, skips_from}
+use Rattle.audit.proofs.Made.{pairs_of}
+use Rattle.audit.proofs.Passings.{in_skips, in_one, in_but, in_set_missing}
 
 part_more : (Many : Gtids → Type 0) (part whole : Gtids) → IsWithin part whole → HasPart Many part → HasPart Many whole
 part_more Many part whole within h = record { part = h.part; within = λ g e. within g (h.within g e); many = h.many }
@@ -61,11 +65,13 @@ fault_of_step f entries rest i e skipped whole last lo left low so_far h =
 
 -- ---- of a world
 
-abbrev pub skipped_in : World → Gtids
-skipped_in world = skips_from set.empty None (finmap.entries world.contents)
+pub missing_within : (world : World) (journals : List JournalValue) → IsWithin (missing_in world journals) (skipped_in world journals)
+missing_within world journals = within_difference (skipped_in world journals) world.opening_set
 
-pub missing_within : (world : World) → IsWithin (missing_in world) (skipped_in world)
-missing_within world = within_difference (skipped_in world) world.opening_set
+-- where none is missing the set is empty
+pub none_in_set : (world : World) (journals : List JournalValue) → ((g : Gtid) → IsMissing world journals g → ⊥) → set.empty ≡ missing_in world journals
+none_in_set world journals none = same_members set.empty (missing_in world journals) (λ g.
+    contains-empty gtid_cmp g ∙ sym (false_from_ne_true (set.contains (missing_in world journals) g) (λ h. none g (in_set_missing world journals g h))))
 
 -- ---- the GTID of the verdict
 
@@ -89,3 +95,10 @@ but_absent v s g is out =
 pub but_other : (v : Verdict) (s : Gtids) → ((x : Gtid) → v ≡ Missing x → ⊥) → s ≡ but_missing v s
 but_other (Missing g) s n = absurd (n g refl)
 but_other _ s n = refl
+
+-- ---- what journals bring
+
+-- as a list in the order of GTIDs
+pub skips_brought : (world : World) (journals : List JournalValue) (entries : List Entry) (contents : Contents) → entries ≡ in_order contents → contents ≡ first_contents world.opening_set (all_entries journals)
+    → skips_from set.empty None (map as_pair entries) ≡ skipped_in world journals
+skips_brought world journals entries contents listed brought = ap (skips_from set.empty None) (pairs_of entries contents listed ∙ ap finmap.entries brought)

@@ -17,8 +17,7 @@ use Rattle.ordered_journals.proofs.Covering.{in_insert}
 use Rattle.world.specs.declared.verdict.Verdict.{Verdict}
 use Rattle.world.specs.declared.verdict.Verdict.TheVariants.{Purged, Missing}
 use Rattle.gtid_set.specs.Sets.{Gtids, interval}
-use Rattle.rows.specs.declared.schema.Table.{Table}
-use Rattle.rows.specs.Apply.{Rows}
+use Rattle.rows.specs.declared.change.Transaction.{Transaction}
 use Rattle.rows.proofs.Lists.{none_some}
 use Rattle.journal.specs.Journals.{JournalValue}
 use Rattle.source_history.specs.World.{World, content, is_opened}
@@ -27,15 +26,14 @@ use Rattle.source_history.proofs.Gtids.{number_less}
 use Rattle.source_history.proofs.Entries.{IsRising, rising}
 use Rattle.ordered_journals.proofs.Lists.{all_at}
 use Rattle.world.specs.Search.{when}
-use Rattle.world.specs.Audit.{all_entries, world_of, stands_in}
+use Rattle.world.specs.Audit.{all_entries, world_of, present, stands_in}
 use Rattle.world.specs.Cases.{IsMissing}
 use Rattle.world.proofs.Finding.{below_test, when_some}
 use Rattle.world.proofs.Gaps.{number_lt}
 use Rattle.world.proofs.Contents.{contents_entry, contents_outside, entry_content, content_at, at_content, some_of}
 use Rattle.world.proofs.OnePass.{source_le}
 use Rattle.audit.specs.Missing.{number_before}
-use Rattle.audit.specs.Worlds.{IsWorldOf}
-use Rattle.audit.specs.Others.{lies_between, is_skipped, skips_from, missing_in, but_missing, is_of_missing, AreOtherMissing, is_of_journal, IsJournalNamed, other_purged_at, other_purged, each_from, with_pair, AreOtherJournals}
+use Rattle.audit.specs.Others.{lies_between, is_skipped, skips_from, skipped_in, missing_in, but_missing, is_of_missing, AreOtherMissing, is_of_journal, IsJournalNamed, other_purged_at, other_purged, each_from, with_pair, AreOtherJournals}
 
 abbrev Lies : Gtid → Gtid → Type 0
 Lies g p = (g.source < p.source) ⊎ ((g.source ≡ p.source) × (g.number < p.number))
@@ -43,7 +41,7 @@ Lies g p = (g.source < p.source) ⊎ ((g.source ≡ p.source) × (g.number < p.n
 lies : (g h : Gtid) → gtid_cmp g h ≡ Less → Lies g h
 lies g h e = elim (source_le g h e) [ inl l ↦ inl l | inr s ↦ inr (s, number_less g h e s) ]
 
--- what stands before a part of the list
+-- what comes before a part of the list
 abbrev Precedes : Option Gtid → Gtid → Type 0
 Precedes None g = Unit {0}
 Precedes (Some p) g = Lies p g
@@ -116,7 +114,7 @@ skipped_here last e es g up h = record {
         not_twice g.number e.0.number f.0.number h.high
         (number_less e.0 f.0 (all_at (λ (x : history.Entry). gtid_cmp e.0 x.0 ≡ Less) es i f up.0 s) (sym h.source ∙ sym (source_of f.0 g q))) (number_of f.0 g q)
 
--- what comes before e, and is of the source of something behind e, is of the source of e
+-- what comes before e, and is of the source of something after e, is of the source of e
 behind_on : (last : Option Gtid) (e f g : Gtid) → Precedes last e → Lies e f → f.source ≡ g.source → (e.source ≡ g.source → e.number < g.number) → Behind last g
 behind_on None e f g l m s h = tt
 behind_on (Some p) e f g l m s h = λ same. by l m same
@@ -231,34 +229,35 @@ two_ways : (b : Bool) → b ≡ true → b ≡ false → ⊥
 two_ways true p q = cc
 two_ways false p q = cc
 
-module _ (schema : List Table) (opened : Gtids) (rows : Rows) (journals : List JournalValue) where
+module _ (world : World) (journals : List JournalValue) where
+  -- the world of these journals
   abbrev w : World
-  w = world_of schema opened rows journals
+  w = world_of world.schema world.opening_set world.opening_rows journals
 
   abbrev es0 : List history.Entry
-  es0 = finmap.entries w.contents
+  es0 = present world journals
 
-  missing_of : (g : Gtid) → is_opened w g ≡ false → is_skipped None es0 g ≡ true → IsMissing w journals g
-  missing_of g new skipped =
+  pub skipped_missing : (g : Gtid) → is_opened world g ≡ false → is_skipped None es0 g ≡ true → IsMissing world journals g
+  skipped_missing g new skipped =
       let s = skipped_is None es0 g (rising w) (none_before es0) skipped in
       let known = at_content w s.place s.greater s.there in
       record {
         new = new;
         absent = false_from_ne_true (stands_in (all_entries journals) g) (λ stands.
-            let t = some_of (content w g) (entry_content opened (all_entries journals) g stands new) in
+            let t = some_of (content w g) (entry_content world.opening_set (all_entries journals) g stands new) in
             let at = content_at w g t.0 t.1 in
             s.absent at.0 (g, t.0) at.1 refl);
         positive = s.positive;
         greater = s.greater.0;
-        beyond = contents_outside opened (all_entries journals) s.greater.0 s.greater.1 known;
-        there = contents_entry opened (all_entries journals) s.greater.0 s.greater.1 known;
+        beyond = contents_outside world.opening_set (all_entries journals) s.greater.0 s.greater.1 known;
+        there = contents_entry world.opening_set (all_entries journals) s.greater.0 s.greater.1 known;
         same = s.same;
         below = s.less;
       }
 
-  skipped_of : (g : Gtid) → IsMissing w journals g → is_skipped None es0 g ≡ true
-  skipped_of g m =
-      let t = some_of (content w m.greater) (entry_content opened (all_entries journals) m.greater m.there m.beyond) in
+  pub missing_skipped : (g : Gtid) → IsMissing world journals g → is_skipped None es0 g ≡ true
+  missing_skipped g m =
+      let t = some_of (content w m.greater) (entry_content world.opening_set (all_entries journals) m.greater m.there m.beyond) in
       let at = content_at w m.greater t.0 t.1 in
       is_skipped_from None es0 g (record {
         place = at.0;
@@ -267,20 +266,10 @@ module _ (schema : List Table) (opened : Gtids) (rows : Rows) (journals : List J
         same = m.same;
         less = m.below;
         absent = λ i f s same. two_ways (stands_in (all_entries journals) g)
-            (subst (λ (x : Gtid). stands_in (all_entries journals) x ≡ true) same (contents_entry opened (all_entries journals) f.0 f.1 (at_content w i f s))) m.absent;
+            (subst (λ (x : Gtid). stands_in (all_entries journals) x ≡ true) same (contents_entry world.opening_set (all_entries journals) f.0 f.1 (at_content w i f s))) m.absent;
         behind = tt;
         positive = m.positive;
       })
-
-pub skipped_missing : (world : World) (journals : List JournalValue) (g : Gtid) → IsWorldOf world journals → is_opened world g ≡ false → is_skipped None (finmap.entries world.contents) g ≡ true → IsMissing world journals g
-skipped_missing world journals g e =
-    subst (λ (x : World). is_opened x g ≡ false → is_skipped None (finmap.entries x.contents) g ≡ true → IsMissing x journals g) (sym e)
-    (missing_of world.schema world.opening_set world.opening_rows journals g)
-
-pub missing_skipped : (world : World) (journals : List JournalValue) (g : Gtid) → IsWorldOf world journals → IsMissing world journals g → is_skipped None (finmap.entries world.contents) g ≡ true
-missing_skipped world journals g e =
-    subst (λ (x : World). IsMissing x journals g → is_skipped None (finmap.entries x.contents) g ≡ true) (sym e)
-    (skipped_of world.schema world.opening_set world.opening_rows journals g)
 
 -- ---- the set of them
 
@@ -317,10 +306,16 @@ in_skips skipped last (e ∷ es) g =
 in_empty_or : (b : Bool) (g : Gtid) → (set.contains {R = gtid_cmp} set.empty g || b) ≡ b
 in_empty_or b g = ap (λ c. c || b) (contains-empty gtid_cmp g)
 
-in_missing : (world : World) (g : Gtid) → set.contains (missing_in world) g ≡ (is_skipped None (finmap.entries world.contents) g && not (is_opened world g))
-in_missing world g =
-    contains-difference gtid_total (skips_from set.empty None (finmap.entries world.contents)) world.opening_set g
-    ∙ ap (λ b. b && not (is_opened world g)) (in_skips set.empty None (finmap.entries world.contents) g ∙ in_empty_or (is_skipped None (finmap.entries world.contents) g) g)
+in_missing : (world : World) (journals : List JournalValue) (g : Gtid) → set.contains (missing_in world journals) g ≡ (is_skipped None (present world journals) g && not (is_opened world g))
+in_missing world journals g =
+    contains-difference gtid_total (skipped_in world journals) world.opening_set g
+    ∙ ap (λ b. b && not (is_opened world g)) (in_skips set.empty None (present world journals) g ∙ in_empty_or (is_skipped None (present world journals) g) g)
+
+-- what is in the set is missing
+pub in_set_missing : (world : World) (journals : List JournalValue) (g : Gtid) → set.contains (missing_in world journals) g ≡ true → IsMissing world journals g
+in_set_missing world journals g h =
+    let q = and_parts (is_skipped None (present world journals) g) (not (is_opened world g)) (sym (in_missing world journals g) ∙ h) in
+    skipped_missing world journals g (not-true (is_opened world g) q.1) q.0
 
 pub in_one : (g h : Gtid) → set.contains {R = gtid_cmp} (set.insert set.empty g) h ≡ same_gtid h g
 in_one g h = in_insert (set.empty {R = gtid_cmp}) g h ∙ ap (λ b. same_gtid h g || b) (contains-empty gtid_cmp h) ∙ sym (no_more (same_gtid h g))
@@ -333,20 +328,44 @@ pub in_but : (v : Verdict) (gtids : Gtids) (g : Gtid) → set.contains (but_miss
 in_but (Missing h) gtids g = contains-difference gtid_total gtids (set.insert set.empty h) g ∙ ap (λ b. set.contains gtids g && not b) (in_one h g)
 in_but _ gtids g = and_not (set.contains gtids g)
 
-pub others_missing : (world : World) (journals : List JournalValue) (v : Verdict) → IsWorldOf world journals → AreOtherMissing world journals v (but_missing v (missing_in world))
-others_missing world journals v e = record {
+pub others_missing : (world : World) (journals : List JournalValue) (v : Verdict) → AreOtherMissing world journals v (but_missing v (missing_in world journals))
+others_missing world journals v = record {
   named = λ g h.
-      let p = and_parts (set.contains (missing_in world) g) (not (is_of_missing g v)) (sym (in_but v (missing_in world) g) ∙ h) in
-      let q = and_parts (is_skipped None (finmap.entries world.contents) g) (not (is_opened world g)) (sym (in_missing world g) ∙ p.0) in
-      (skipped_missing world journals g e (not-true (is_opened world g) q.1) q.0, not-true (is_of_missing g v) p.1);
+      let p = and_parts (set.contains (missing_in world journals) g) (not (is_of_missing g v)) (sym (in_but v (missing_in world journals) g) ∙ h) in
+      (in_set_missing world journals g p.0, not-true (is_of_missing g v) p.1);
   every = λ g m.
-      let q : set.contains (missing_in world) g ≡ true = in_missing world g ∙ and_from (is_skipped None (finmap.entries world.contents) g) (not (is_opened world g)) (missing_skipped world journals g e m) (not_from_false (is_opened world g) m.new) in
-      ap (λ b. is_of_missing g v || b) (in_but v (missing_in world) g ∙ ap (λ b. b && not (is_of_missing g v)) q) ∙ either (is_of_missing g v);
+      let q : set.contains (missing_in world journals) g ≡ true = in_missing world journals g ∙ and_from (is_skipped None (present world journals) g) (not (is_opened world g)) (missing_skipped world journals g m) (not_from_false (is_opened world g) m.new) in
+      ap (λ b. is_of_missing g v || b) (in_but v (missing_in world journals) g ∙ ap (λ b. b && not (is_of_missing g v)) q) ∙ either (is_of_missing g v);
 }
   where
     either : (b : Bool) → (b || (true && not b)) ≡ true
     either true = refl
     either false = refl
+
+-- ---- the numbers that a world's contents pass over
+
+pub content_not_skipped : (world : World) (g : Gtid) (t : Transaction) → content world g ≡ Some t → set.contains (skips_from set.empty None (finmap.entries world.contents)) g ≡ false
+content_not_skipped world g t h = false_from_ne_true (set.contains (skips_from set.empty None (finmap.entries world.contents)) g) (λ e.
+    let es = finmap.entries world.contents in
+    let at = content_at world g t h in
+    let s = skipped_is None es g (rising world) (none_before es) (sym (in_skips set.empty None es g ∙ in_empty_or (is_skipped None es g) g) ∙ e) in
+    s.absent at.0 (g, t) at.1 refl)
+
+pub lower_skipped : (world : World) (g h : Gtid) (t : Transaction) → content world g ≡ Some t → h.source ≡ g.source → 0 < h.number → h.number < g.number → content world h ≡ None
+    → set.contains (skips_from set.empty None (finmap.entries world.contents)) h ≡ true
+lower_skipped world g h t there source positive less none =
+    let es = finmap.entries world.contents in
+    let at = content_at world g t there in
+    in_skips set.empty None es h ∙ (in_empty_or (is_skipped None es h) h ∙ is_skipped_from None es h (record {
+      place = at.0;
+      greater = (g, t);
+      there = at.1;
+      same = sym source;
+      less = less;
+      absent = λ i f s same. none_some f.1 (sym none ∙ (ap (content world) (sym same) ∙ at_content world i f s));
+      behind = tt;
+      positive = positive;
+    }))
 
 -- ---- journals
 

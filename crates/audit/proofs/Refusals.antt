@@ -1,4 +1,4 @@
--- What is said of transactions that do not apply is all there is.
+-- What is reported of transactions that do not apply is all there is.
 use Rattle.std.proofs.Common.{◌≡◌, ℕ, ◌<◌, ◌≤◌, Bool, true, false, cond, ◌⊎◌, inl, inr, List, [], ◌∷◌, ◌++◌, Option, Some, None, Result, Ok, Err, refl, sym, ap, ◌∙◌, subst, append_assoc, arith, eqb}
 use Rattle.std.specs.Prelude.{nat_lt}
 use Rattle.std.specs.List.{list_any, filter, AllByRecursion}
@@ -28,15 +28,14 @@ use Rattle.world.specs.declared.verdict.Verdict.{Verdict}
 use Rattle.world.specs.declared.verdict.Verdict.TheVariants.{Unequal, Purged, Missing, Shared, NotClosed, DoesNotApply, Sound}
 use Rattle.world.specs.Search.{or_next, when, first_at}
 use Rattle.world.specs.Audit.{unequal, purged, present, below, missing, shared, not_closed, fault_after, first_fault, does_not_apply, found_in_keys, verdict}
-use Rattle.world.specs.Meaning.{AreJournals}
-use Rattle.world.proofs.Finding.{next_some, when_some, first_some, below_test}
+use Rattle.world.proofs.Finding.{next_none, next_some, when_some, first_some, below_test}
 use Rattle.world.proofs.Gaps.{number_lt}
 use Rattle.world.proofs.Leasts.{first_source_fails}
 use Rattle.world.proofs.OnePass.{agree_after, rising_parts, source_le}
 use Rattle.world.proofs.Saying.{fault_free}
 use Rattle.audit.specs.OtherRefusals.{refused_alone, IsRefusalNamed, is_of_refusal, is_refusal, is_greater_refusal, AreRefusalsRising, AreOtherRefusals, refused_or, refused_from, other_refusals}
-use Rattle.audit.specs.Worlds.{IsWorldOf}
-use Rattle.audit.proofs.Sounding.{sound_keys}
+use Rattle.audit.specs.Worlds.{LieBeyond}
+use Rattle.audit.proofs.Sounding.{filled, filled_sound}
 
 -- ---- lists in two parts
 
@@ -64,7 +63,7 @@ nothing_more : (xs : List history.Entry) → xs ++ [] ≡ xs
 nothing_more [] = refl
 nothing_more (x ∷ xs) = ap (λ (zs : List history.Entry). x ∷ zs) (nothing_more xs)
 
--- one that does not pass, behind others
+-- one that does not pass, after others
 passed_over : (p : history.Entry → Bool) (xs : List history.Entry) (e : history.Entry) → p e ≡ false → filter p (xs ++ e ∷ []) ≡ filter p xs
 passed_over p xs e fails = filter_parts p xs (e ∷ []) ∙ (ap (λ zs. filter p xs ++ zs) (none_passes p (e ∷ []) (fails, tt)) ∙ nothing_more (filter p xs))
 
@@ -142,7 +141,7 @@ module _ (world : World) (sound : AreKeysSound world) where
       let m = chosen_applies world.schema (of_source s) a.kept world.opening_rows rows (source_closed world sound s a.kept a.known) a.reached in
       (m.0, ap (λ es. apply_all world.schema es world.opening_rows) (sym (a.whole s l)) ∙ m.1)
 
-  -- a source whose transactions all stand before is not refused
+  -- a source whose transactions all come before is not refused
   none_refused : (s : ℕ) (before : List history.Entry) (passed : ℕ) (rows : Rows) → Applied before passed rows → passed < s → entries_in world (of_source s) ≡ filter (own s) before → refused_alone world s ≡ None
   none_refused s before passed rows a l all =
       let m = alone s before passed rows a l in
@@ -205,7 +204,7 @@ module _ (world : World) (sound : AreKeysSound world) where
       whole = λ s l. filter_parts (own s) a.kept (e ∷ []) ∙ (ap (λ zs. zs ++ filter (own s) (e ∷ [])) (a.whole s l) ∙ sym (filter_parts (own s) before (e ∷ [])));
     }
 
-  -- Each of these is said of the first that is refused of its source, and of every greater source than one of which some transaction is refused.
+  -- Each of these is reported of the first that is refused of its source, and of every greater source than one of which some transaction is refused.
   record AreRefused (passed : ℕ) (list : List Verdict) : Type 0 where
     pub named : AllByRecursion (IsRefusalNamed world) list
     pub every : (s : ℕ) (fault : Gtid × RowFault) → passed < s → refused_alone world s ≡ Some fault → list_any (is_of_refusal s) list ≡ true
@@ -305,12 +304,20 @@ from_application world journals g fault = by (found_in_keys world journals) (doe
     by None (Some w) a b e = (a, b ∙ ap Some (sym e))
     by None None a b e = not_both (is_refusal Sound) (sym (ap is_refusal e)) refl
 
-by_verdict : (world : World) (journals : List JournalValue) → IsWorldOf world journals → AreJournals journals → (v : Verdict) → v ≡ verdict world journals → AreOtherRefusals world v (other_refusals world v)
-by_verdict world journals e are (DoesNotApply g fault) is =
+pub shared_none : (world : World) (journals : List JournalValue) → found_in_keys world journals ≡ None → shared world ≡ None
+shared_none world journals e =
+    let a = next_none (unequal world journals) _ e in
+    let b = next_none (purged world journals) _ a.1 in
+    let c = next_none (missing world journals) _ b.1 in
+    (next_none (shared world) (not_closed world journals) c.1).0
+
+by_verdict : (world : World) (journals : List JournalValue) → LieBeyond world.opening_set world.contents → (v : Verdict) → v ≡ verdict world journals → AreOtherRefusals world v (other_refusals world v)
+by_verdict world journals beyond (DoesNotApply g fault) is =
     let f = from_application world journals g fault is in
-    behind world (sound_keys world journals e are f.0) g fault f.1
-by_verdict world journals e are _ is = record { named = tt; every = λ t s f h. cc; rising = (tt, tt); none = λ t. refl }
+    let r = behind (filled world) (filled_sound world beyond (shared_none world journals f.0)) g fault f.1 in
+    record { named = r.named; every = r.every; rising = r.rising; none = r.none }
+by_verdict world journals beyond _ is = record { named = tt; every = λ t s f h. cc; rising = (tt, tt); none = λ t. refl }
 
 -- the other sources of which a transaction is refused are listed, and nothing else
-pub others_refused : (world : World) (journals : List JournalValue) → IsWorldOf world journals → AreJournals journals → AreOtherRefusals world (verdict world journals) (other_refusals world (verdict world journals))
-others_refused world journals e are = by_verdict world journals e are (verdict world journals) refl
+pub others_refused : (world : World) (journals : List JournalValue) → LieBeyond world.opening_set world.contents → AreOtherRefusals world (verdict world journals) (other_refusals world (verdict world journals))
+others_refused world journals beyond = by_verdict world journals beyond (verdict world journals) refl

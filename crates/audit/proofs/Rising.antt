@@ -1,32 +1,30 @@
 -- Nothing is left out of journals that bring the numbers of each source one after another.
-use Rattle.std.proofs.Common.{◌≡◌, ℕ, zero, suc, ◌+◌, [], ◌∷◌, length, get_or, ◌<◌, ◌≤◌, true, false, not, inl, inr, List, take, Option, Some, None, refl, sym, ap, ◌∙◌, subst, arith}
+use Rattle.std.proofs.Common.{◌≡◌, ℕ, zero, suc, ◌+◌, ◌-◌, ◌&&◌, ◌||◌, Bool, [], ◌∷◌, length, get_or, ◌<◌, ◌≤◌, true, false, not, inl, inr, List, take, Option, Some, None, refl, sym, ap, ◌∙◌, subst, arith}
 use Rattle.std.specs.Prelude.{slice_get, nat_lt, ◌==◌}
+use Rattle.std.specs.List.{range_with_len}
 use Rattle.std.specs.FinMap as finmap
 use Rattle.std.specs.FinSet as set
 use Rattle.std.proofs.lemmas.Bool.{eqb-true, or_cases, or_left, or_right, and_parts, not-true, false_from_ne_true}
 use Rattle.gtid_text.specs.declared.Gtid.{Gtid}
 use Rattle.gtid_set.specs.Sets.{Gtids, gtid}
 use Rattle.rows.specs.declared.change.Transaction.{Transaction}
-use Rattle.rows.specs.declared.schema.Table.{Table}
-use Rattle.rows.specs.Apply.{Rows}
 use Rattle.rows.specs.WriteSet.{shares_key}
 use Rattle.journal.specs.declared.Entry.{Entry}
-use Rattle.journal.specs.Journals.{JournalValue, IsJournal}
+use Rattle.journal.specs.Journals.{JournalValue}
 use Rattle.source_history.specs.World.{World, content, is_opened}
 use Rattle.source_history.specs.World as history
 use Rattle.ordered_journals.proofs.Lists.{get_take, all_at}
-use Rattle.world.specs.declared.verdict.Verdict.TheVariants.{NotClosed}
+use Rattle.world.specs.declared.verdict.Verdict.TheVariants.{Missing, NotClosed}
 use Rattle.world.specs.Search.{or_next}
-use Rattle.world.specs.Audit.{all_entries, world_of, stands_in, stands_before, is_left_out, shared, not_closed}
-use Rattle.world.specs.Meaning.{AreJournals}
-use Rattle.world.proofs.Finding.{none_when, none_first, taken}
-use Rattle.world.proofs.Contents.{entry_at, entry_from, in_all, at_content, contents_entry, contents_outside}
-use Rattle.world.proofs.Meanings.{numbered}
+use Rattle.world.specs.Audit.{all_entries, world_of, stands_in, stands_before, is_absent, below, present, unequal, purged, missing, found_in_gtids, is_left_out, shared, not_closed}
+use Rattle.world.specs.Cases.{IsMissing}
+use Rattle.world.proofs.Finding.{none_next, none_when, none_first, taken, range_above}
+use Rattle.world.proofs.Contents.{entry_at, entry_from, in_all, of_all, at_content, contents_entry}
 use Rattle.audit.specs.Ordered.{is_there, AreBelow, IsInOrder, AreInOrder, AreTops, IsRaised}
-use Rattle.audit.specs.Worlds.{IsWorldOf}
+use Rattle.audit.specs.Worlds.{LieBeyond}
 use Rattle.std.proofs.lemmas.Option.{same_Some}
 use Rattle.rows.proofs.Patching.{not_both}
-use Rattle.rows.proofs.Lists.{lt_cases}
+use Rattle.rows.proofs.Lists.{lt_cases, get_map_cases}
 use Rattle.world.proofs.Gaps.{number_lt}
 
 -- ---- one entry more
@@ -100,53 +98,86 @@ module _ (opened : Gtids) (es : List Entry) (i : ℕ) where
 
 -- ---- nothing is left out
 
-pub has_number : (schema : List Table) (opened : Gtids) (rows : Rows) (journals : List JournalValue) → AreJournals journals → (g : Gtid) (t : Transaction) → content (world_of schema opened rows journals) g ≡ Some t → 0 < g.number
-has_number schema opened rows journals are g t at =
-    let a = in_all journals g (contents_entry opened (all_entries journals) g t at) in
-    let b = entry_at a.1.entries g a.3 in
-    let j = all_at (λ (x : JournalValue). IsJournal x.previous x.entries) journals a.0 a.1 are a.2 in
-    subst (λ (x : Gtid). 0 < x.number) b.3 (numbered a.1.entries b.0 b.1 j.writable b.2)
-
-module _ (schema : List Table) (opened : Gtids) (rows : Rows) (journals : List JournalValue) (are : AreJournals journals) where
-  abbrev w : World
-  w = world_of schema opened rows journals
-
-  -- what has a content has a number from 1 on
-  from_one : (h : history.Entry) → content w h.0 ≡ Some h.1 → 0 < h.0.number
-  from_one h at = has_number schema opened rows journals are h.0 h.1 at
-
-  none_left : (j : JournalValue) → IsInOrder opened j.entries → (place : ℕ) (e : Entry) → slice_get j.entries place ≡ Some e
-      → (l : ℕ) (h : history.Entry) → slice_get (finmap.entries w.contents) l ≡ Some h → is_left_out w j place e h ≡ false
-  none_left j ordered place e he l h hl = false_from_ne_true (is_left_out w j place e h) (λ t.
-      let a = and_parts (not (is_opened w e.gtid)) _ t in
+module _ (world : World) (beyond : LieBeyond world.opening_set world.contents) (journals : List JournalValue) where
+  none_left : (j : JournalValue) → IsInOrder world.opening_set j.entries → (place : ℕ) (e : Entry) → slice_get j.entries place ≡ Some e
+      → (l : ℕ) (h : history.Entry) → slice_get (finmap.entries world.contents) l ≡ Some h → is_left_out world j place e h ≡ false
+  none_left j ordered place e he l h hl = false_from_ne_true (is_left_out world j place e h) (λ t.
+      let a = and_parts (not (is_opened world e.gtid)) _ t in
       let b = and_parts (h.0.source == e.gtid.source) _ a.1 in
       let c = and_parts (nat_lt h.0.number e.gtid.number) _ b.1 in
-      let d = and_parts (shares_key schema h.1 e.txn) (not (stands_before j place h.0)) c.1 in
-      let at = at_content w l h hl in
-      let there = ordered place e he h.0.number (from_one h at) (number_lt h.0.number e.gtid.number c.0) in
+      let d = and_parts (shares_key world.schema h.1 e.txn) (not (stands_before j place h.0)) c.1 in
+      let at = at_content world l h hl in
+      let there = ordered place e he h.0.number (beyond.from_one h.0 h.1 at) (number_lt h.0.number e.gtid.number c.0) in
       let is : gtid e.gtid.source h.0.number ≡ h.0 = λ k. record { source = sym (eqb-true h.0.source e.gtid.source b.0) k; number = h.0.number } in
-      stands h.0 h.1 at (subst (λ (g : Gtid). is_there opened (take place j.entries) g ≡ true) is there) (not-true (stands_before j place h.0) d.1))
+      stands h.0 h.1 at (subst (λ (g : Gtid). is_there world.opening_set (take place j.entries) g ≡ true) is there) (not-true (stands_before j place h.0) d.1))
     where
-      stands : (g : Gtid) (t : Transaction) → content w g ≡ Some t → is_there opened (take place j.entries) g ≡ true → stands_before j place g ≡ false → ⊥
-      stands g t at there not_before = elim (or_cases (set.contains opened g) (stands_in (take place j.entries) g) there) [
-        | inl p ↦ not_both (set.contains opened g) p (contents_outside opened (all_entries journals) g t at)
+      stands : (g : Gtid) (t : Transaction) → content world g ≡ Some t → is_there world.opening_set (take place j.entries) g ≡ true → stands_before j place g ≡ false → ⊥
+      stands g t at there not_before = elim (or_cases (is_opened world g) (stands_in (take place j.entries) g) there) [
+        | inl p ↦ not_both (is_opened world g) p (beyond.outside g t at)
         | inr q ↦ not_both (stands_before j place g) (or_right (set.contains j.previous g) (stands_in (take place j.entries) g) q) not_before
       ]
 
-  closed : AreInOrder opened journals → not_closed w journals ≡ None
-  closed ordered = none_first _ journals (λ i j hj. none_first _ j.entries (λ place e he. none_first _ (finmap.entries w.contents) (λ l h hl.
-      none_when (is_left_out w j place e h) (NotClosed e.gtid h.0) (none_left j (all_at (λ (x : JournalValue). IsInOrder opened x.entries) journals i j ordered hj) place e he l h hl))))
-
--- where journals are in order nothing is left out of them
-pub order_closes : (world : World) (journals : List JournalValue) → IsWorldOf world journals → AreJournals journals → AreInOrder world.opening_set journals → not_closed world journals ≡ None
-order_closes world journals e are =
-    subst (λ (x : World). AreInOrder x.opening_set journals → not_closed x journals ≡ None) (sym e)
-    (closed world.schema world.opening_set world.opening_rows journals are)
+  -- where journals are in order nothing is left out of them
+  pub order_closes : AreInOrder world.opening_set journals → not_closed world journals ≡ None
+  order_closes ordered = none_first _ journals (λ i j hj. none_first _ j.entries (λ place e he. none_first _ (finmap.entries world.contents) (λ l h hl.
+      none_when (is_left_out world j place e h) (NotClosed e.gtid h.0) (none_left j (all_at (λ (x : JournalValue). IsInOrder world.opening_set x.entries) journals i j ordered hj) place e he l h hl))))
 
 first_alone : {B : Type 0} (o p : Option B) → p ≡ None → o ≡ or_next o p
 first_alone (Some x) p e = refl
 first_alone None p e = sym e
 
-pub only_shared : (world : World) (journals : List JournalValue) → IsWorldOf world journals → AreJournals journals → AreInOrder world.opening_set journals
+pub only_shared : (world : World) (journals : List JournalValue) → LieBeyond world.opening_set world.contents → AreInOrder world.opening_set journals
     → shared world ≡ or_next (shared world) (not_closed world journals)
-only_shared world journals e are ordered = first_alone (shared world) (not_closed world journals) (order_closes world journals e are ordered)
+only_shared world journals beyond ordered = first_alone (shared world) (not_closed world journals) (order_closes world beyond journals ordered)
+
+-- ---- nothing is missing
+
+module _ (world : World) (journals : List JournalValue) (ordered : AreInOrder world.opening_set journals) where
+  -- a lower number than that of an entry is there
+  pub none_absent : (g h : Gtid) → stands_in (all_entries journals) g ≡ true → h.source ≡ g.source → 0 < h.number → h.number < g.number → (is_opened world h || stands_in (all_entries journals) h) ≡ true
+  none_absent g h stands source positive less =
+      let a = in_all journals g stands in
+      let b = entry_at a.1.entries g a.3 in
+      let in_order = all_at (λ (x : JournalValue). IsInOrder world.opening_set x.entries) journals a.0 a.1 ordered a.2 in
+      let is : gtid b.1.gtid.source h.number ≡ h = λ k. record { source = (ap (λ (x : Gtid). x.source) b.3 ∙ sym source) k; number = h.number } in
+      let there = in_order b.0 b.1 b.2 h.number positive (subst (λ (x : Gtid). h.number < x.number) (sym b.3) less) in
+      elim (or_cases (is_opened world h) (stands_in (take b.0 a.1.entries) h) (subst (λ (x : Gtid). is_there world.opening_set (take b.0 a.1.entries) x ≡ true) is there)) [
+        | inl p ↦ or_left (is_opened world h) (stands_in (all_entries journals) h) p
+        | inr q ↦
+            let c = entry_at (take b.0 a.1.entries) h q in
+            let d = taken a.1.entries b.0 c.0 c.1 c.2 in
+            or_right (is_opened world h) (stands_in (all_entries journals) h)
+            (of_all journals a.0 a.1 h a.2 (subst (λ (x : Gtid). stands_in a.1.entries x ≡ true) c.3 (entry_from a.1.entries c.0 c.1 d.0)))
+      ]
+
+  not_absent : (a b : Bool) → (a || b) ≡ true → (not a && not b) ≡ false
+  not_absent true b e = refl
+  not_absent false b e = ap not e
+
+  -- where journals are in order nothing is missing
+  pub order_misses_none : missing world journals ≡ None
+  order_misses_none = none_first _ (present world journals) (λ i g hi. none_first _ (below g.0) (λ k h hk.
+      let r = get_map_cases (gtid g.0.source) (range_with_len 1 (g.0.number - 1)) k h hk in
+      let q = range_above 1 (g.0.number - 1) k r.0 r.1 in
+      let n : r.0 ≡ h.number = ap (λ (x : Gtid). x.number) r.2 in
+      let there = at_content (world_of world.schema world.opening_set world.opening_rows journals) i g hi in
+      none_when (is_absent world journals h) (Missing h) (not_absent (is_opened world h) (stands_in (all_entries journals) h)
+      (none_absent g.0 h (contents_entry world.opening_set (all_entries journals) g.0 g.1 there) (ap (λ (x : Gtid). x.source) (sym r.2)) (positive r.0 h.number n q.0) (less r.0 h.number g.0.number n q.1 q.0)))))
+    where
+      positive : (a b : ℕ) → a ≡ b → 1 ≤ a → 0 < b
+      positive a b e l = omega arith
+
+      less : (a b n : ℕ) → a ≡ b → a < 1 + (n - 1) → 1 ≤ a → b < n
+      less a b n e l m = omega arith
+
+  -- no case of Missing stands
+  pub none_missing : (g : Gtid) → IsMissing world journals g → ⊥
+  none_missing g m =
+      not_both (is_opened world g || stands_in (all_entries journals) g) (none_absent m.greater g m.there (sym m.same) m.positive m.below)
+      (ap (λ b. b || stands_in (all_entries journals) g) m.new ∙ m.absent)
+
+-- ---- where nothing is unequal or purged either
+
+pub none_in_gtids : (world : World) (journals : List JournalValue) → AreInOrder world.opening_set journals → unequal world journals ≡ None → purged world journals ≡ None → None ≡ found_in_gtids world journals
+none_in_gtids world journals ordered equal within =
+    sym (none_next (unequal world journals) (or_next (purged world journals) (missing world journals)) equal (none_next (purged world journals) (missing world journals) within (order_misses_none world journals ordered)))

@@ -2,8 +2,7 @@
 use Rattle.std.proofs.Common.{◌≡◌, T, Bool, true, false, ◌||◌, map, subst, cond, List, [], ◌∷◌, Option, Some, refl, sym, ap, ◌∙◌}
 use Rattle.std.specs.FinMap.{IsAntisymmetric, same_map, find, get, insert, entries, entries_sorted, get-entries, from_entries, get-from_entries, get-insert}
 use Rattle.std.specs.FinMap.Entries.{below_all, is_sorted, same_entries}
-use Rattle.std.specs.FinSet.{from_list, same_set, contains-from_list, contains-insert}
-use Rattle.std.specs.FinSet.{insert as add}
+use Rattle.std.specs.FinSet.{from_list, same_set, contains-from_list, contains-insert, insert as add}
 use Rattle.std.specs.List.{AllByRecursion, list_any}
 use Rattle.std.specs.List.Sorted.{IsStrictlySortedBy}
 use Rattle.std.specs.Cmp.{IsTotalOrder}

@@ -12,7 +12,7 @@ use Rattle.rows.specs.declared.change.Change.{Change}
 use Rattle.rows.specs.declared.change.Change.TheVariants.{Insert, Delete, Update}
 use Rattle.rows.specs.declared.change.Transaction.{Transaction}
 use Rattle.rows.specs.declared.schema.Table.{Table}
-use Rattle.rows.specs.declared.value.Value.{Value}
+use Rattle.row_images.specs.declared.value.Value.{Value}
 use Rattle.rows.specs.Apply.{Rows}
 use Rattle.rows.specs.Coding.{key_code, row_code, rows_code}
 use Rattle.rows.specs.Order.{key_cmp}

@@ -23,9 +23,9 @@ use Rattle.world.specs.Folds.{FirstTouch}
 -- ---- what each transaction needs
 
 -- these keys were touched last by g
-abbrev pub touched_last : Gtid → List Key → FirstTouch → FirstTouch
-touched_last g [] last = last
-touched_last g (key ∷ keys) last = touched_last g keys (finmap.insert last key g)
+abbrev pub touch_last : Gtid → List Key → FirstTouch → FirstTouch
+touch_last g [] last = last
+touch_last g (key ∷ keys) last = touch_last g keys (finmap.insert last key g)
 
 -- what touched a key, if it is of the source of g
 abbrev pub of_source : Gtid → Option Gtid → Option Gtid
@@ -61,7 +61,7 @@ needs_code = finmap.code gtid_code (coded_list gtid_code)
 abbrev pub needs_over : List Table → FirstTouch → Needs → List history.Entry → Needs
 needs_over schema last needs [] = needs
 needs_over schema last needs (h ∷ es) =
-    needs_over schema (touched_last h.0 (write_set schema h.1) last) (finmap.insert needs h.0 (last_of_keys h.0 (write_set schema h.1) last)) es
+    needs_over schema (touch_last h.0 (write_set schema h.1) last) (finmap.insert needs h.0 (last_of_keys h.0 (write_set schema h.1) last)) es
 
 -- what each transaction of a world needs
 abbrev pub needs_in : World → Needs

@@ -1,4 +1,4 @@
--- What else is left out of journals behind a verdict.
+-- What else is left out of journals after a verdict.
 use Rattle.std.specs.Prelude.{◌≡◌, ◌<◌, Bool, true, false, not, ◌||◌, find, List, [], ◌∷◌, Option, Some, None, if◌then◌else◌}
 use Rattle.std.specs.List.{list_any, AllByRecursion}
 use Rattle.std.specs.Option.{option_map_or}
@@ -30,7 +30,7 @@ pub record IsNearest (world : World) (h g : Gtid) (key : Key) : Type 0 where
   pub smaller : h.number < g.number
   pub last : (m : Gtid) (t : Transaction) → content world m ≡ Some t → m.source ≡ g.source → h.number < m.number → m.number < g.number → touches world.schema t key ≡ false
 
--- g stands in a journal without h before it, the nearest earlier transaction at one of the keys of g; these are those of what came first under g
+-- g is in a journal without h before it, the nearest earlier transaction at one of the keys of g; these are those of what the world has under g
 pub record StandsWithout (world : World) (journals : List JournalValue) (g h : Gtid) : Type 0 where
   pub entry : Entry
   pub there : IsEntryOf journals entry
@@ -42,7 +42,7 @@ pub record StandsWithout (world : World) (journals : List JournalValue) (g h : G
   pub nearest : IsNearest world h g key
   pub left_out : stands_before there.journal there.place h ≡ false
 
--- h comes before g in its source, shares a key with it, and does not stand before it in a journal; of both what came first counts
+-- h comes before g in its source, shares a key with it, and does not come before it in a journal; of both what the world has counts
 pub record StandsBehind (world : World) (journals : List JournalValue) (g h : Gtid) : Type 0 where
   pub entry : Entry
   pub there : IsEntryOf journals entry
@@ -56,12 +56,12 @@ pub record StandsBehind (world : World) (journals : List JournalValue) (g h : Gt
   pub shares : shares_key world.schema u t ≡ true
   pub left_out : stands_before there.journal there.place h ≡ false
 
--- it is said of a GTID that stands without a nearest earlier one, and names this one
+-- it is reported of a GTID that is present without a nearest earlier one, and names this one
 abbrev pub IsGapNamed : World → List JournalValue → Verdict → Type 0
 IsGapNamed world journals (NotClosed g h) = StandsWithout world journals g h
 IsGapNamed world journals _ = ⊥
 
--- it is said of this GTID
+-- it is reported of this GTID
 abbrev pub is_of_gap : Gtid → Verdict → Bool
 is_of_gap g (NotClosed h before) = same_gtid g h
 is_of_gap g _ = false
@@ -71,18 +71,18 @@ abbrev pub is_gap : Verdict → Bool
 is_gap (NotClosed g h) = true
 is_gap _ = false
 
--- one of these is said of the same GTID
+-- one of these is reported of the same GTID
 abbrev pub is_gap_again : Verdict → List Verdict → Bool
 is_gap_again (NotClosed g h) vs = list_any (is_of_gap g) vs
 is_gap_again _ vs = false
 
--- no two of these are said of one GTID
+-- no two of these are reported of one GTID
 abbrev pub AreGapsOnce : List Verdict → Type 0
 AreGapsOnce [] = Unit {0}
 AreGapsOnce (v ∷ vs) = (is_gap_again v vs ≡ false) × AreGapsOnce vs
 
--- Each is said of a GTID that stands in a journal without its nearest earlier one at some key; every such GTID is that of the verdict or of one of these,
--- and of one alone. Where no journals differ each is a case of its verdict. Where none is said, and no journal begins behind the opening set, no
+-- Each is reported of a GTID that is in a journal without its nearest earlier one at some key; every such GTID is that of the verdict or of one of these,
+-- and of one alone. Where nothing is unequal each is a case of its verdict. Where none is reported, and no journal begins after the opening set, no
 -- journal leaves anything out.
 pub record AreOtherGaps (world : World) (journals : List JournalValue) (v : Verdict) (list : List Verdict) : Type 0 where
   pub named : AllByRecursion (IsGapNamed world journals) list
@@ -97,7 +97,7 @@ pub record AreOtherGaps (world : World) (journals : List JournalValue) (v : Verd
 abbrev pub first_absent : Needs → (Gtid → Bool) → Gtid → Option Gtid
 first_absent needs stand g = option_map_or (λ gs. find (λ h. not (stand h)) gs) (finmap.get needs g) None
 
--- a GTID, and what it stands without
+-- a GTID, and what it is present without
 abbrev pub Gap : Type 0
 Gap = Gtid × Gtid
 
@@ -105,7 +105,7 @@ abbrev pub with_gap : Gtid → Option Gtid → List Gap → List Gap
 with_gap g None gaps = gaps
 with_gap g (Some h) gaps = (g, h) ∷ gaps
 
--- each of these entries that stands without something it needs, after others that stand; behind them these
+-- each of these entries that is present without something it needs, after others that stand; after them these
 abbrev pub gaps_among : Needs → Gtids → Gtids → List Entry → List Gap → List Gap
 gaps_among needs previous standing [] rest = rest
 gaps_among needs previous standing (e ∷ es) rest =
@@ -116,16 +116,16 @@ abbrev pub gaps_in : Needs → List JournalValue → List Gap
 gaps_in needs [] = []
 gaps_in needs (j ∷ js) = gaps_among needs j.previous set.empty j.entries (gaps_in needs js)
 
--- of these the first of each GTID, if nothing was said of it
-abbrev pub told_from : Gtids → List Gap → List Verdict
-told_from said [] = []
-told_from said (p ∷ ps) = if set.contains said p.0 then told_from said ps else NotClosed p.0 p.1 ∷ told_from (set.insert said p.0) ps
+-- of these the first of each GTID, if nothing was reported of it
+abbrev pub unreported : Gtids → List Gap → List Verdict
+unreported said [] = []
+unreported said (p ∷ ps) = if set.contains said p.0 then unreported said ps else NotClosed p.0 p.1 ∷ unreported (set.insert said p.0) ps
 
 -- the GTID of the verdict
-abbrev pub gap_said : Verdict → Gtids
-gap_said (NotClosed g h) = set.insert set.empty g
-gap_said _ = set.empty
+abbrev pub gap_of_verdict : Verdict → Gtids
+gap_of_verdict (NotClosed g h) = set.insert set.empty g
+gap_of_verdict _ = set.empty
 
--- each GTID that stands without something it needs, but that of the verdict
+-- each GTID that is present without something it needs, but that of the verdict
 abbrev pub other_gaps : World → List JournalValue → Verdict → List Verdict
-other_gaps world journals v = told_from (gap_said v) (gaps_in (needs_in world) journals)
+other_gaps world journals v = unreported (gap_of_verdict v) (gaps_in (needs_in world) journals)

@@ -1,4 +1,4 @@
--- What else does not apply behind a verdict.
+-- What else does not apply after a verdict.
 use Rattle.std.specs.Prelude.{◌≡◌, ℕ, Bool, true, false, ◌||◌, ◌==◌, nat_lt, List, [], ◌∷◌, Option, Some, Result, Ok, Err, if◌then◌else◌}
 use Rattle.std.specs.List.{list_any, AllByRecursion}
 use Rattle.std.specs.FinMap as finmap
@@ -16,12 +16,12 @@ use Rattle.world.specs.Audit.{first_fault}
 abbrev pub refused_alone : World → ℕ → Option (Gtid × RowFault)
 refused_alone world source = first_fault world.schema (entries_in world (of_source source)) world.opening_rows
 
--- it is said of the first transaction of its source that is refused
+-- it is reported of the first transaction of its source that is refused
 abbrev pub IsRefusalNamed : World → Verdict → Type 0
 IsRefusalNamed world (DoesNotApply g fault) = refused_alone world g.source ≡ Some (g, fault)
 IsRefusalNamed world _ = ⊥
 
--- it is said of a transaction of this source
+-- it is reported of a transaction of this source
 abbrev pub is_of_refusal : ℕ → Verdict → Bool
 is_of_refusal source (DoesNotApply g fault) = g.source == source
 is_of_refusal source _ = false
@@ -31,23 +31,23 @@ abbrev pub is_refusal : Verdict → Bool
 is_refusal (DoesNotApply g fault) = true
 is_refusal _ = false
 
--- it is said of a transaction of a greater source
+-- it is reported of a transaction of a greater source
 abbrev pub is_greater_refusal : ℕ → Verdict → Bool
 is_greater_refusal source (DoesNotApply g fault) = nat_lt source g.source
 is_greater_refusal source _ = false
 
--- these are said of greater sources than one
+-- these are reported of greater sources than one
 abbrev pub AreGreaterRefusals : Verdict → List Verdict → Type 0
 AreGreaterRefusals (DoesNotApply g fault) vs = AllByRecursion (λ v. is_greater_refusal g.source v ≡ true) vs
 AreGreaterRefusals _ vs = Unit {0}
 
--- each is said of a greater source than those before
+-- each is reported of a greater source than those before
 abbrev pub AreRefusalsRising : List Verdict → Type 0
 AreRefusalsRising [] = Unit {0}
 AreRefusalsRising (v ∷ vs) = AreGreaterRefusals v vs × AreRefusalsRising vs
 
--- Where a transaction does not apply by the verdict, each of these is said of the first that is refused in its source's list taken alone; every source
--- whose list taken alone is refused is that of the verdict or of one of these, and of one alone, for sources rise. By another verdict none is said.
+-- Where a transaction does not apply by the verdict, each of these is reported of the first that is refused in its source's list taken alone; every source
+-- whose list taken alone is refused is that of the verdict or of one of these, and of one alone, for sources rise. By another verdict none is reported.
 pub record AreOtherRefusals (world : World) (v : Verdict) (list : List Verdict) : Type 0 where
   pub named : AllByRecursion (IsRefusalNamed world) list
   pub every : is_refusal v ≡ true → (source : ℕ) (fault : Gtid × RowFault) → refused_alone world source ≡ Some fault → (is_of_refusal source v || list_any (is_of_refusal source) list) ≡ true
@@ -56,7 +56,7 @@ pub record AreOtherRefusals (world : World) (v : Verdict) (list : List Verdict) 
 
 -- ---- the pass over the transactions
 
--- what is refused is said, and what is found behind; else what is found from the rows that are left
+-- what is refused is reported, and what is found behind; else what is found from the rows that are left
 abbrev pub refused_or : history.Entry → Result Rows RowFault → (Rows → List Verdict) → List Verdict → List Verdict
 refused_or e (Ok rows) more behind = more rows
 refused_or e (Err fault) more behind = DoesNotApply e.0 fault ∷ behind

@@ -1,4 +1,4 @@
--- What else is unequal behind a verdict.
+-- What else is unequal after a verdict.
 use Rattle.std.specs.Prelude.{◌≡◌, Bool, true, false, not, ◌&&◌, ◌||◌, List, [], ◌∷◌, if◌then◌else◌}
 use Rattle.std.specs.List.{list_any, AllByRecursion}
 use Rattle.std.specs.FinSet as set
@@ -13,33 +13,33 @@ use Rattle.world.specs.declared.verdict.Verdict.TheVariants.{Unequal}
 use Rattle.world.specs.Audit.{all_entries, is_unequal}
 use Rattle.world.specs.Cases.{DiffersAt}
 
--- it is said of a GTID under which two journals have different transactions
+-- it is reported of a GTID under which a journal has another transaction than the world
 abbrev pub IsUnequalNamed : World → List JournalValue → Verdict → Type 0
 IsUnequalNamed world journals (Unequal g) = DiffersAt world journals g
 IsUnequalNamed world journals _ = ⊥
 
--- it is said of this GTID
+-- it is reported of this GTID
 abbrev pub is_of_unequal : Gtid → Verdict → Bool
 is_of_unequal g (Unequal h) = same_gtid g h
 is_of_unequal g _ = false
 
--- one of these is said of the same GTID
+-- one of these is reported of the same GTID
 abbrev pub is_unequal_again : Verdict → List Verdict → Bool
 is_unequal_again (Unequal g) vs = list_any (is_of_unequal g) vs
 is_unequal_again _ vs = false
 
--- no two of these are said of one GTID
+-- no two of these are reported of one GTID
 abbrev pub AreUnequalOnce : List Verdict → Type 0
 AreUnequalOnce [] = Unit {0}
 AreUnequalOnce (v ∷ vs) = (is_unequal_again v vs ≡ false) × AreUnequalOnce vs
 
--- Each is said of a GTID under which two journals have different transactions; every such GTID is that of the verdict or of one of these, and of one alone.
+-- Each is reported of a GTID under which a journal has another transaction than the world; every such GTID is that of the verdict or of one of these, and of one alone.
 pub record AreOtherUnequal (world : World) (journals : List JournalValue) (v : Verdict) (list : List Verdict) : Type 0 where
   pub named : AllByRecursion (IsUnequalNamed world journals) list
   pub every : (g : Gtid) → DiffersAt world journals g → (is_of_unequal g v || list_any (is_of_unequal g) list) ≡ true
   pub once : AreUnequalOnce (v ∷ list)
 
--- of these entries each GTID whose transaction is not the world's, if nothing was said of it
+-- of these entries each GTID whose transaction is not the world's, if nothing was reported of it
 abbrev pub unequal_from : World → Gtids → List Entry → List Verdict
 unequal_from world said [] = []
 unequal_from world said (e ∷ es) =

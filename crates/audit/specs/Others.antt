@@ -1,4 +1,4 @@
--- What an audit lists behind its verdict.
+-- What an audit lists after its verdict.
 use Rattle.std.specs.Prelude.{◌≡◌, ◌≢◌, ◌⊎◌, ℕ, ◌+◌, ◌-◌, Bool, true, false, not, ◌&&◌, ◌||◌, ◌==◌, nat_lt, List, [], ◌∷◌, ◌++◌, Option, Some, None, if◌then◌else◌}
 use Rattle.std.specs.List.{list_any, AllByRecursion}
 use Rattle.std.specs.FinMap as finmap
@@ -19,9 +19,8 @@ use Rattle.source_history.specs.World as history
 use Rattle.world.specs.declared.verdict.Verdict.{Verdict}
 use Rattle.world.specs.declared.verdict.Verdict.TheVariants.{Purged, Missing, Shared}
 use Rattle.world.specs.Search.{when}
-use Rattle.world.specs.Audit.{verdict}
+use Rattle.world.specs.Audit.{present, verdict}
 use Rattle.world.specs.Cases.{IsPurged, IsMissing, IsShared}
-use Rattle.world.specs.Meaning.{AreJournals}
 use Rattle.world.specs.Folds.{FirstTouch, touched_by, shares_with}
 use Rattle.audit.specs.declared.listing.AllFaults.{AllFaults}
 use Rattle.audit.specs.Faults.{LacksMany}
@@ -29,7 +28,7 @@ use Rattle.audit.specs.Missing.{number_before}
 use Rattle.audit.specs.OtherGaps.{AreOtherGaps, other_gaps}
 use Rattle.audit.specs.OtherRefusals.{AreOtherRefusals, other_refusals}
 use Rattle.audit.specs.OtherUnequal.{AreOtherUnequal, other_unequal}
-use Rattle.audit.specs.Worlds.{IsWorldOf}
+use Rattle.audit.specs.Worlds.{LieBeyond}
 
 -- ---- shared keys
 
@@ -39,22 +38,22 @@ pub record IsLeastPair (world : World) (g h : Gtid) (key : Key) : Type 0 where
   pub second : (a b : Gtid) → IsShared world a b key → gtid_cmp b h ≢ Less
   pub first : (a b : Gtid) → IsShared world a b key → gtid_cmp a g ≢ Less
 
--- it is said of the least pair that touches its key
+-- it is reported of the least pair that touches its key
 abbrev pub IsPairNamed : World → Verdict → Type 0
 IsPairNamed world (Shared g h key) = IsLeastPair world g h key
 IsPairNamed world _ = ⊥
 
--- it is said of this key
+-- it is reported of this key
 abbrev pub is_of_key : Key → Verdict → Bool
 is_of_key k (Shared g h key) = key_eq k key
 is_of_key k _ = false
 
--- one of these is said of the same key
+-- one of these is reported of the same key
 abbrev pub is_again : Verdict → List Verdict → Bool
 is_again (Shared g h key) vs = list_any (is_of_key key) vs
 is_again _ vs = false
 
--- no two of these are said of one key
+-- no two of these are reported of one key
 abbrev pub AreOnce : List Verdict → Type 0
 AreOnce [] = Unit {0}
 AreOnce (v ∷ vs) = (is_again v vs ≡ false) × AreOnce vs
@@ -67,7 +66,7 @@ pub record AreOtherKeys (world : World) (v : Verdict) (list : List Verdict) : Ty
 
 -- ---- the pass over the transactions
 
--- the pair that a key is said of, if it is shared and nothing was said of it
+-- the pair that a key is reported of, if it is shared and nothing was reported of it
 abbrev pub pair_of_key : Gtid → FirstTouch → FirstTouch → Key → Option Verdict
 pair_of_key h seen named key = if finmap.contains_key named key then None else shares_with h key (finmap.get seen key)
 
@@ -79,7 +78,7 @@ abbrev pub with_name : Option Verdict → Gtid → Key → FirstTouch → FirstT
 with_name None h key named = named
 with_name (Some v) h key named = finmap.insert named key h
 
--- what is said of the keys of one transaction, and the keys of which something was said then
+-- what is reported of the keys of one transaction, and the keys of which something was reported then
 abbrev pub pairs_of_keys : Gtid → FirstTouch → FirstTouch → List Key → List Verdict
 pairs_of_keys h seen named [] = []
 pairs_of_keys h seen named (key ∷ keys) =
@@ -89,7 +88,7 @@ abbrev pub named_by_keys : Gtid → FirstTouch → FirstTouch → List Key → F
 named_by_keys h seen named [] = named
 named_by_keys h seen named (key ∷ keys) = named_by_keys h seen (with_name (pair_of_key h seen named key) h key named) keys
 
--- what is said of the keys of these, after others that touched keys first
+-- what is reported of the keys of these, after others that touched keys first
 abbrev pub pairs_from : List Table → FirstTouch → FirstTouch → List history.Entry → List Verdict
 pairs_from schema seen named [] = []
 pairs_from schema seen named (h ∷ es) =
@@ -97,13 +96,13 @@ pairs_from schema seen named (h ∷ es) =
     ++ pairs_from schema (touched_by h.0 (write_set schema h.1) seen) (named_by_keys h.0 seen named (write_set schema h.1)) es
 
 -- the key of the verdict
-abbrev pub named_first : Verdict → FirstTouch
-named_first (Shared g h key) = finmap.insert finmap.empty key h
-named_first _ = finmap.empty
+abbrev pub key_of_verdict : Verdict → FirstTouch
+key_of_verdict (Shared g h key) = finmap.insert finmap.empty key h
+key_of_verdict _ = finmap.empty
 
--- what is said of every other key
+-- what is reported of every other key
 abbrev pub other_pairs : World → Verdict → List Verdict
-other_pairs world v = pairs_from world.schema finmap.empty (named_first v) (finmap.entries world.contents)
+other_pairs world v = pairs_from world.schema finmap.empty (key_of_verdict v) (finmap.entries world.contents)
 
 -- ---- missing GTIDs
 
@@ -116,7 +115,7 @@ abbrev pub is_skipped : Option Gtid → List history.Entry → Gtid → Bool
 is_skipped last [] g = false
 is_skipped last (e ∷ es) g = lies_between e.0.source (number_before last e.0.source) e.0.number g || is_skipped (Some e.0) es g
 
--- it is said of this GTID that it is missing
+-- it is reported of this GTID that it is missing
 abbrev pub is_of_missing : Gtid → Verdict → Bool
 is_of_missing g (Missing h) = same_gtid g h
 is_of_missing g _ = false
@@ -132,9 +131,13 @@ skips_from skipped last [] = skipped
 skips_from skipped last (e ∷ es) =
     skips_from (set.union skipped (interval e.0.source (number_before last e.0.source + 1) (e.0.number - 1))) (Some e.0) es
 
+-- the numbers that are passed over before what is in the journals
+abbrev pub skipped_in : World → List JournalValue → Gtids
+skipped_in world journals = skips_from set.empty None (present world journals)
+
 -- what is missing
-abbrev pub missing_in : World → Gtids
-missing_in world = set.difference (skips_from set.empty None (finmap.entries world.contents)) world.opening_set
+abbrev pub missing_in : World → List JournalValue → Gtids
+missing_in world journals = set.difference (skipped_in world journals) world.opening_set
 
 -- but for the one of the verdict
 abbrev pub but_missing : Verdict → Gtids → Gtids
@@ -157,12 +160,12 @@ IsPartFault whole f = IsMemoryOr (HasPart HasManySources whole) (HasPart HasMany
 
 -- ---- journals
 
--- it is said of a journal that begins behind the opening set, with what is missing
+-- it is reported of a journal that begins after the opening set, with what is missing
 abbrev pub IsJournalNamed : World → List JournalValue → Verdict → Type 0
 IsJournalNamed world journals (Purged i gtids) = IsPurged world journals i gtids
 IsJournalNamed world journals _ = ⊥
 
--- it is said of this journal
+-- it is reported of this journal
 abbrev pub is_of_journal : ℕ → Verdict → Bool
 is_of_journal i (Purged k gtids) = k == i
 is_of_journal i _ = false
@@ -179,15 +182,15 @@ each_from f n (x ∷ xs) = with_pair (f n x) (each_from f (n + 1) xs)
 abbrev pub other_purged : World → List JournalValue → Verdict → List Verdict
 other_purged world journals v = each_from (other_purged_at world v) 0 journals
 
--- Each is said of a journal that begins behind the opening set; every such journal is that of the verdict or of one of these.
+-- Each is reported of a journal that begins after the opening set; every such journal is that of the verdict or of one of these.
 pub record AreOtherJournals (world : World) (journals : List JournalValue) (v : Verdict) (list : List Verdict) : Type 0 where
   pub named : AllByRecursion (IsJournalNamed world journals) list
   pub every : (i : ℕ) (gtids : Gtids) → IsPurged world journals i gtids → (is_of_journal i v || list_any (is_of_journal i) list) ≡ true
 
 -- ---- all of it
 
--- the verdict, and what else there is: GTIDs under which journals differ, journals that begin behind the opening set, missing GTIDs, shared keys,
--- GTIDs that stand without what they need and sources whose transactions do not apply
+-- the verdict, and what else there is: GTIDs under which journals differ from the world, journals that begin after the opening set, missing GTIDs, shared keys,
+-- GTIDs that are present without what they need and sources whose transactions do not apply
 pub record Faults : Type 0 where
   pub verdict : Verdict
   pub unequal : List Verdict
@@ -204,7 +207,7 @@ faults_of world journals =
       verdict = v;
       unequal = other_unequal world journals v;
       purged = other_purged world journals v;
-      missing = but_missing v (missing_in world);
+      missing = but_missing v (missing_in world journals);
       shared = other_pairs world v;
       not_closed = other_gaps world journals v;
       does_not_apply = other_refusals world v;
@@ -220,8 +223,9 @@ pub record HoldsFaults (held : AllFaults) (all : Faults) : Type 0 where
   pub not_closed : held.not_closed.items ≡ all.not_closed
   pub does_not_apply : held.does_not_apply.items ≡ all.does_not_apply
 
--- Behind the verdict there is each other GTID under which journals differ, journal that begins behind the opening set, missing GTID, shared key and GTID
--- that stands without what it needs, and, of journals that keep their rules, each other source whose transactions do not apply; and nothing else.
+-- After the verdict there is each other GTID under which journals differ from the world, journal that begins after the opening set, missing GTID, shared key and GTID
+-- that is present without what it needs, and each other source whose transactions do not apply; and nothing else.
+-- The journals may be others than those that the world was made of.
 pub record AreAll (world : World) (journals : List JournalValue) (all : Faults) : Type 0 where
   pub verdict : all.verdict ≡ verdict world journals
   pub unequal : AreOtherUnequal world journals all.verdict all.unequal
@@ -229,13 +233,12 @@ pub record AreAll (world : World) (journals : List JournalValue) (all : Faults) 
   pub missing : AreOtherMissing world journals all.verdict all.missing
   pub shared : AreOtherKeys world all.verdict all.shared
   pub not_closed : AreOtherGaps world journals all.verdict all.not_closed
-  pub does_not_apply : AreJournals journals → AreOtherRefusals world all.verdict all.does_not_apply
+  pub does_not_apply : AreOtherRefusals world all.verdict all.does_not_apply
 
 abbrev pub FaultsAreAll : Type 0
-FaultsAreAll = (world : World) (journals : List JournalValue) → IsWorldOf world journals → AreAll world journals (faults_of world journals)
+FaultsAreAll = (world : World) (journals : List JournalValue) → LieBeyond world.opening_set world.contents → AreAll world journals (faults_of world journals)
 
 -- memory was refused, or the missing GTIDs have too many sources, or they or what some previous set has outside the opening set too many intervals
 abbrev pub IsListFault : World → List JournalValue → SetFault → Type 0
 IsListFault world journals f =
-    IsMemoryOr (HasPart HasManySources (skips_from set.empty None (finmap.entries world.contents)))
-    (LacksMany world.opening_set journals ⊎ HasPart HasManyIntervals (skips_from set.empty None (finmap.entries world.contents))) f
+    IsMemoryOr (HasPart HasManySources (skipped_in world journals)) (LacksMany world.opening_set journals ⊎ HasPart HasManyIntervals (skipped_in world journals)) f

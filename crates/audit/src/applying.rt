@@ -1,9 +1,8 @@
 //! Transactions that do not apply.
-ghost use Rattle.std.specs.Prelude.{◌≡◌, IfOk, map};
+ghost use Rattle.std.specs.Prelude.{◌≡◌, IfOk, None, map};
 ghost use Rattle.std.specs.Option.{option_map};
-ghost use Rattle.source_history.specs.World.{AreKeysSound};
 ghost use Rattle.world.specs.declared.verdict.Verdict.TheVariants.{DoesNotApply};
-ghost use Rattle.world.specs.Audit.{does_not_apply, first_fault};
+ghost use Rattle.world.specs.Audit.{does_not_apply, first_fault, shared};
 ghost use Rattle.audit.specs.Contents.{as_pair};
 ghost use Rattle.audit.specs.Worlds.{AllFit};
 
@@ -36,11 +35,12 @@ fn first_fault(
 }
 
 impl World {
-    /// The first transaction, sources rising, that fails in its own source's list taken alone.
+    /// The first transaction, sources ascending, that fails in its own source's list taken alone.
     pub(crate) fn does_not_apply(&self, alloc: Global) -> Result<Option<Verdict>, AllocError>
-        requires { AreKeysSound self.now }
+        requires { shared self.now ≡ None }
         ensures { IfOk result (λ found. found ≡ does_not_apply self.now) }
     {
+        self.lie_beyond();
         let mut rows = self.rows().copy()?;
         first_fault(alloc, &mut rows, self.in_order())
     }

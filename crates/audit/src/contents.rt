@@ -1,18 +1,23 @@
 //! From each GTID to its transaction.
-ghost use Rattle.std.specs.Prelude.{◌≡◌, ◌++◌, IfOk, OnOk, length, true};
+ghost use Rattle.std.specs.Prelude.{◌≡◌, ◌<◌, ◌++◌, IfOk, OnOk, length, true};
 ghost use Rattle.std.specs.List.Sorted.{IsBinarySearchResult, IsSearchInRange};
 ghost use Rattle.std.specs.Option.{option_copied};
 ghost use Rattle.std.specs.FinMap as finmap;
 ghost use Rattle.gtid_text.specs.Gtids.{gtid_cmp};
 ghost use Rattle.world.specs.Audit.{all_entries, first_contents};
 ghost use Rattle.audit.specs.Contents.{IsRising, beyond, contents_of, in_order};
+ghost use Rattle.audit.specs.Worlds.{IsPlaceIn};
 
 use gtid_set::GtidSet;
-use gtid_text::Gtid;
+use gtid_text::{Gtid, SourceId};
 use journal::{Entry, Journal};
 use rows::Transaction;
 use std::alloc::{AllocError, Global};
 use std::marker::Model;
+
+/// For each source the place at which its next transaction is sought first. Some sources share one: it is a
+/// guess, and what is there is looked at.
+pub(crate) type Guesses = [usize; 16];
 
 /// From each GTID to its transaction: the entries in the order of GTIDs, no GTID twice. The images
 /// are shared with the journals.
@@ -48,12 +53,23 @@ impl Contents {
         Ok(Contents { entries })
     }
 
-    /// The transaction of a GTID.
-    pub(crate) fn get(&self, gtid: &Gtid) -> Option<&Transaction>
+    /// The transaction of a GTID, which is sought at the guess of its source first.
+    pub(crate) fn get_near(&self, guesses: &mut Guesses, gtid: &Gtid) -> Option<&Transaction>
         ensures { option_copied result ≡ finmap.get self.now gtid.now }
     {
-        match place_of(&self.entries, gtid) {
+        match seek(&self.entries, guesses, gtid) {
             Ok(place) => Some(&self.entries[place].txn),
+            Err(_) => None,
+        }
+    }
+
+    /// The place of a GTID in the order of GTIDs, if it has a transaction. It is sought at the guess of its
+    /// source first.
+    pub(crate) fn place_near(&self, guesses: &mut Guesses, gtid: &Gtid) -> Option<usize>
+        ensures { IsPlaceIn self.now gtid.now result }
+    {
+        match seek(&self.entries, guesses, gtid) {
+            Ok(place) => Some(place),
             Err(_) => None,
         }
     }
@@ -81,7 +97,7 @@ fn entries_beyond(
     Ok(list)
 }
 
-/// Puts the entries that were not executed from the start behind others.
+/// Puts the entries that were not executed from the start after others.
 fn push_entries(
     list: &mut Vec<Entry>,
     opened: &GtidSet,
@@ -106,7 +122,7 @@ fn keep_firsts(list: &mut Vec<Entry>) -> Result<(), AllocError>
     ensures rising { OnOk result (IsRising list.new.items) }
     ensures firsts { OnOk result (contents_of list.new.items ≡ contents_of list.old.items) }
 {
-    if is_rising(list) {
+    if is_ascending(list) {
         return Ok(());
     }
     list.sort_by_key(|entry| entry.gtid)?;
@@ -115,10 +131,44 @@ fn keep_firsts(list: &mut Vec<Entry>) -> Result<(), AllocError>
 }
 
 /// Whether the GTIDs of entries rise, none of them twice.
-fn is_rising(entries: &[Entry]) -> bool
+fn is_ascending(entries: &[Entry]) -> bool
     ensures { result ≡ true → IsRising entries.now }
 {
     entries.is_sorted_by(|a, b| a.gtid < b.gtid)
+}
+
+/// The guess of a source.
+fn guess_of(source: SourceId) -> usize
+    ensures { result < 16 }
+{
+    (source.bits() % 16) as usize
+}
+
+/// Where a GTID stands among entries, or where it would. It is sought at the guess of its source first. The
+/// next guess is the place after it.
+fn seek(entries: &[Entry], guesses: &mut Guesses, gtid: &Gtid) -> Result<usize, usize>
+    ensures within { IsSearchInRange result (length entries.now) }
+    ensures place { IsBinarySearchResult (λ e. gtid_cmp e.gtid gtid.now) entries.now result }
+{
+    let guess = guess_of(gtid.source);
+    let found = place_near(entries, guesses[guess], gtid);
+    if let Ok(place) = found {
+        guesses[guess] = place + 1;
+    }
+    found
+}
+
+/// Where a GTID stands among entries, or where it would. It is sought at a guess first.
+fn place_near(entries: &[Entry], guess: usize, gtid: &Gtid) -> Result<usize, usize>
+    ensures within { IsSearchInRange result (length entries.now) }
+    ensures place { IsBinarySearchResult (λ e. gtid_cmp e.gtid gtid.now) entries.now result }
+{
+    if let Some(entry) = entries.get(guess) {
+        if entry.gtid == *gtid {
+            return Ok(guess);
+        }
+    }
+    place_of(entries, gtid)
 }
 
 /// Where a GTID stands among entries, or where it would.

@@ -1,9 +1,9 @@
 //! The audit.
-ghost use Rattle.std.specs.Prelude.{◌≡◌, IfOk, IfErr, None};
+ghost use Rattle.std.specs.Prelude.{◌≡◌, IfOk, IfErr, None, true};
 ghost use Rattle.world.specs.Search.{or_next};
 ghost use Rattle.world.specs.Audit.{unequal, purged, shared, not_closed, found_in_gtids, found_in_keys, verdict, verdict_of_keys};
 ghost use Rattle.world.specs.Meaning.{AreJournals};
-ghost use Rattle.audit.specs.Worlds.{IsWorldOf};
+ghost use Rattle.audit.specs.Ordered.{AreInOrder};
 ghost use Rattle.audit.specs.Faults.{IsAuditFault};
 
 use crate::sources::World;
@@ -23,18 +23,19 @@ pub fn keep_rules(journals: &[Journal])
 
 /// A key that two sources touch, or else what is left out of a journal. Where journals are in order
 /// nothing is left out of them, and no table of what each transaction needs is made.
-fn shared_or_left_out(
+fn find_shared_or_left_out(
     alloc: Global,
     world: &World,
     journals: &[Journal],
+    ordered: bool,
 ) -> Result<Option<Verdict>, AllocError>
-    requires of_journals { IsWorldOf world.now journals.now }
+    requires ordered { ordered ≡ true → AreInOrder world.now.opening_set journals.now }
     requires equal { unequal world.now journals.now ≡ None }
     requires within { purged world.now journals.now ≡ None }
     ensures { IfOk result (λ found. found ≡ or_next (shared world.now) (not_closed world.now journals.now)) }
 {
-    keep_rules(journals);
-    if world.are_in_order(alloc, journals)? {
+    world.lie_beyond();
+    if ordered {
         return world.shared_unless_apart(alloc);
     }
     let needed = world.needs(alloc)?;
@@ -46,14 +47,15 @@ fn shared_or_left_out(
     world.not_closed(alloc, &needed.needs, journals)
 }
 
-/// What an audit finds first without looking at a key: Unequal, Purged or Missing. The faults are those
-/// of `audit_keys`.
-pub fn audit_gtids(
+/// What is found without looking at a key. Where journals are in order nothing is missing, and nothing is
+/// looked for.
+fn found_in_gtids(
     alloc: Global,
     world: &World,
     journals: &[Journal],
+    ordered: bool,
 ) -> Result<Option<Verdict>, SetFault>
-    requires { IsWorldOf world.now journals.now }
+    requires { ordered ≡ true → AreInOrder world.now.opening_set journals.now }
     ensures found { IfOk result (λ found. found ≡ found_in_gtids world.now journals.now) }
     ensures fault { IfErr result (IsAuditFault world.now.opening_set journals.now) }
 {
@@ -63,7 +65,24 @@ pub fn audit_gtids(
     if let Some(verdict) = world.purged(alloc, journals)? {
         return Ok(Some(verdict));
     }
-    Ok(world.missing(journals))
+    if ordered {
+        return Ok(None);
+    }
+    Ok(world.missing(alloc, journals)?)
+}
+
+/// What an audit finds first without looking at a key: Unequal, Purged or Missing. The faults are those
+/// of `audit_keys`.
+pub fn audit_gtids(
+    alloc: Global,
+    world: &World,
+    journals: &[Journal],
+) -> Result<Option<Verdict>, SetFault>
+    ensures found { IfOk result (λ found. found ≡ found_in_gtids world.now journals.now) }
+    ensures fault { IfErr result (IsAuditFault world.now.opening_set journals.now) }
+{
+    let ordered = world.are_in_order(alloc, journals)?;
+    found_in_gtids(alloc, world, journals, ordered)
 }
 
 /// What is found without applying a transaction.
@@ -72,20 +91,19 @@ fn found_in_keys(
     world: &World,
     journals: &[Journal],
 ) -> Result<Option<Verdict>, SetFault>
-    requires { IsWorldOf world.now journals.now }
     ensures found { IfOk result (λ found. found ≡ found_in_keys world.now journals.now) }
     ensures fault { IfErr result (IsAuditFault world.now.opening_set journals.now) }
 {
-    if let Some(verdict) = audit_gtids(alloc, world, journals)? {
+    let ordered = world.are_in_order(alloc, journals)?;
+    if let Some(verdict) = found_in_gtids(alloc, world, journals, ordered)? {
         return Ok(Some(verdict));
     }
-    Ok(shared_or_left_out(alloc, world, journals)?)
+    Ok(find_shared_or_left_out(alloc, world, journals, ordered)?)
 }
 
 /// What an audit of the keys of journals finds first. It applies no transaction. `PoolFull` comes only
 /// where the set that the verdict would name has more than 4,294,967,294 intervals.
 pub fn audit_keys(alloc: Global, world: &World, journals: &[Journal]) -> Result<Verdict, SetFault>
-    requires { IsWorldOf world.now journals.now }
     ensures found { IfOk result (λ found. found ≡ verdict_of_keys world.now journals.now) }
     ensures fault { IfErr result (IsAuditFault world.now.opening_set journals.now) }
 {
@@ -95,11 +113,9 @@ pub fn audit_keys(alloc: Global, world: &World, journals: &[Journal]) -> Result<
 
 /// What an audit of journals finds first. The faults are those of `audit_keys`.
 pub fn audit(alloc: Global, world: &World, journals: &[Journal]) -> Result<Verdict, SetFault>
-    requires { IsWorldOf world.now journals.now }
     ensures found { IfOk result (λ found. found ≡ verdict world.now journals.now) }
     ensures fault { IfErr result (IsAuditFault world.now.opening_set journals.now) }
 {
-    keep_rules(journals);
     match found_in_keys(alloc, world, journals)? {
         Some(found) => Ok(found),
         None => {

@@ -1,4 +1,4 @@
-//! Entries that stand in a journal without an earlier one of their source that shares a key.
+//! Entries that are in a journal without an earlier one of their source that shares a key.
 ghost use Rattle.std.specs.Prelude.{◌≡◌, ◌&&◌, ◌==◌, nat_lt, not, IfOk, is_some, map, None, true, false};
 ghost use Rattle.std.specs.List.{list_any};
 ghost use Rattle.std.specs.FinMap as finmap;
@@ -7,7 +7,6 @@ ghost use Rattle.rows.specs.WriteSet.{write_set};
 ghost use Rattle.world.specs.Audit.{unequal, purged, shared, not_closed};
 ghost use Rattle.audit.specs.Gaps.{stands, lacks, gap_at, gap_among, first_gap, is_left_by, least_left_by, needs_in};
 ghost use Rattle.audit.specs.Contents.{as_pair};
-ghost use Rattle.audit.specs.Worlds.{IsWorldOf};
 ghost use Rattle.world.specs.Folds.{touched_by};
 
 use crate::needs::{Needed, Needs, needs_of};
@@ -161,12 +160,12 @@ impl World {
         needs: &Needs,
         journals: &[Journal],
     ) -> Result<Option<Verdict>, AllocError>
-        requires of_journals { IsWorldOf self.now journals.now }
         requires equal { unequal self.now journals.now ≡ None }
         requires within { purged self.now journals.now ≡ None }
         requires needs { needs.now ≡ needs_in self.now }
         ensures { IfOk result (λ found. found ≡ not_closed self.now journals.now) }
     {
+        self.lie_beyond();
         self.first_gap(alloc, needs, journals)
     }
 

@@ -1,10 +1,9 @@
-//! All faults: GTIDs under which journals differ, journals that begin behind the opening set, missing GTIDs, shared keys, GTIDs that stand
-//! without what they need and sources whose transactions do not apply.
+//! All faults: GTIDs under which journals differ from the world, journals that begin after the opening set, missing GTIDs, shared keys,
+//! GTIDs that are present without what they need and sources whose transactions do not apply.
 ghost use Rattle.std.specs.Prelude.{◌≡◌, IfOk, IfErr};
 ghost use Rattle.world.specs.Audit.{verdict};
 ghost use Rattle.audit.specs.Faults.{IsAuditFault};
 ghost use Rattle.audit.specs.Others.{IsListFault, HoldsFaults, faults_of, is_of_journal, other_purged};
-ghost use Rattle.audit.specs.Worlds.{IsWorldOf};
 
 use crate::finding::audit;
 use crate::sources::World;
@@ -18,19 +17,19 @@ use world::Verdict;
 pub struct AllFaults {
     /// The verdict of `audit`.
     pub verdict: Verdict,
-    /// Each other GTID under which two journals have different transactions.
+    /// Each other GTID under which a journal has another transaction than the world.
     pub unequal: Vec<Verdict>,
-    /// Each other journal that begins behind the opening set, with what is missing.
+    /// Each other journal that begins after the opening set, with what is missing.
     pub purged: Vec<Verdict>,
     /// The other missing GTIDs.
     pub missing: GtidSet,
     /// Each other shared key, with the least pair that touches it, in the order of the greater GTIDs.
     pub shared: Vec<Verdict>,
-    /// Each other GTID that stands in a journal without the nearest earlier transaction of its source at
+    /// Each other GTID that is in a journal without the nearest earlier transaction of its source at
     /// one of its keys, with this one, in the order of journals and entries.
     pub not_closed: Vec<Verdict>,
     /// Where a transaction does not apply by the verdict, the first that does not of each other source,
-    /// taken alone, sources rising.
+    /// taken alone, sources ascending.
     pub does_not_apply: Vec<Verdict>,
 }
 
@@ -72,16 +71,16 @@ impl World {
         journals: &[Journal],
         first: Verdict,
     ) -> Result<AllFaults, SetFault>
-        requires of_journals { IsWorldOf self.now journals.now }
         requires first { first ≡ verdict self.now journals.now }
         ensures found { IfOk result (λ all. HoldsFaults all (faults_of self.now journals.now)) }
         ensures fault { IfErr result (IsListFault self.now journals.now) }
     {
+        let ordered = self.are_in_order(alloc, journals)?;
         let unequal = self.other_unequal(alloc, journals, &first)?;
         let purged = self.other_purged(alloc, journals, &first)?;
-        let missing = self.other_missing(alloc, &first)?;
+        let missing = self.other_missing(alloc, journals, ordered, &first)?;
         let shared = self.other_pairs(alloc, &first)?;
-        let not_closed = self.other_gaps(alloc, journals, &first)?;
+        let not_closed = self.other_gaps(alloc, journals, ordered, &first)?;
         let does_not_apply = self.other_refusals(alloc, &first)?;
         Ok(AllFaults {
             verdict: first,
@@ -95,13 +94,12 @@ impl World {
     }
 }
 
-/// The verdict of `audit`, and behind it each other GTID under which journals differ, each other journal
-/// that begins behind the opening set, each other missing GTID, each other shared key, each other GTID that
-/// stands without what it needs and each other source whose transactions do not apply (`faults_are_all`).
+/// The verdict of `audit`, and after it each other GTID under which journals differ from the world, each other journal
+/// that begins after the opening set, each other missing GTID, each other shared key, each other GTID that
+/// is present without what it needs and each other source whose transactions do not apply (`faults_are_all`).
 /// `SourcesFull` and `PoolFull` come only where missing GTIDs have too many sources or intervals, or what a
 /// journal's previous set has outside the opening set too many intervals.
 pub fn audit_all(alloc: Global, world: &World, journals: &[Journal]) -> Result<AllFaults, SetFault>
-    requires { IsWorldOf world.now journals.now }
     ensures found { IfOk result (λ all. HoldsFaults all (faults_of world.now journals.now)) }
     ensures fault { IfErr result (IsListFault world.now journals.now) }
 {

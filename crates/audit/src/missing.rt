@@ -1,17 +1,17 @@
 //! Numbers that no journal brings.
-ghost use Rattle.std.specs.Prelude.{◌≡◌, ◌+◌, ◌-◌, not, find, map, None};
+ghost use Rattle.std.specs.Prelude.{◌≡◌, ◌+◌, ◌-◌, not, find, map, None, IfOk};
 ghost use Rattle.std.specs.List.{range_with_len};
 ghost use Rattle.std.specs.FinSet as set;
 ghost use Rattle.gtid_set.specs.Sets.{gtid};
-ghost use Rattle.world.specs.Audit.{missing};
+ghost use Rattle.world.specs.Audit.{missing, unequal};
 ghost use Rattle.audit.specs.Contents.{as_pair};
 ghost use Rattle.audit.specs.Missing.{number_before, next_absent, missing_between, missing_from};
-ghost use Rattle.audit.specs.Worlds.{IsWorldOf};
 
 use crate::sources::World;
 use gtid_set::GtidSet;
 use gtid_text::{Gtid, SourceId};
 use journal::{Entry, Journal};
+use std::alloc::{AllocError, Global};
 use world::Verdict;
 
 /// The number of the last GTID, if it is of this source, else 0.
@@ -85,11 +85,17 @@ fn first_missing(opened: &GtidSet, entries: &[Entry]) -> Option<Verdict>
 
 impl World {
     /// The least GTID that is in no journal though a greater number of its source is.
-    pub(crate) fn missing(&self, journals: &[Journal]) -> Option<Verdict>
-        requires { IsWorldOf self.now journals.now }
-        ensures { result ≡ missing self.now journals.now }
+    pub(crate) fn missing(
+        &self,
+        alloc: Global,
+        journals: &[Journal],
+    ) -> Result<Option<Verdict>, AllocError>
+        requires { unequal self.now journals.now ≡ None }
+        ensures { IfOk result (λ found. found ≡ missing self.now journals.now) }
     {
-        let _ = journals;
-        first_missing(self.opened(), self.in_order())
+        match self.brought(alloc, journals, true)? {
+            Some(contents) => Ok(first_missing(self.opened(), contents.in_order())),
+            None => Ok(first_missing(self.opened(), self.in_order())),
+        }
     }
 }

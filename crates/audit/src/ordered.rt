@@ -50,7 +50,7 @@ fn turn_to(
 }
 
 /// The top of a source once a number of it came, unless that skips one.
-fn raised(top: Gtid, number: u64) -> Option<Gtid>
+fn next_top(top: Gtid, number: u64) -> Option<Gtid>
     ensures { IfSome result (λ g. IsRaised top number g) }
 {
     if number <= top.number {
@@ -76,7 +76,7 @@ fn is_in_order(alloc: Global, opened: &GtidSet, entries: &[Entry]) -> Result<boo
     };
     for entry in entries {
         let before = turn_to(&mut tops, opened, top, entry.gtid.source)?;
-        match raised(before, entry.gtid.number) {
+        match next_top(before, entry.gtid.number) {
             Some(next) => top = next,
             None => return Ok(false),
         }

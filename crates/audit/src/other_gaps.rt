@@ -1,11 +1,10 @@
-//! Each GTID that stands in a journal without the nearest earlier one at some key of it.
-ghost use Rattle.std.specs.Prelude.{◌≡◌, List, ◌∷◌, ◌++◌, IfOk, OnOk, find, not};
+//! Each GTID that is in a journal without the nearest earlier one at some key of it.
+ghost use Rattle.std.specs.Prelude.{◌≡◌, List, ◌∷◌, ◌++◌, IfOk, OnOk, find, not, true};
 ghost use Rattle.std.specs.FinSet as set;
 ghost use Rattle.audit.specs.Gaps.{needs_in, stands};
-ghost use Rattle.audit.specs.OtherGaps.{Gap, first_absent, gap_said, gaps_among, gaps_in, other_gaps, told_from, with_gap};
-ghost use Rattle.audit.specs.Worlds.{IsWorldOf};
+ghost use Rattle.audit.specs.OtherGaps.{Gap, first_absent, gap_of_verdict, gaps_among, gaps_in, other_gaps, unreported, with_gap};
+ghost use Rattle.audit.specs.Ordered.{AreInOrder};
 
-use crate::finding::keep_rules;
 use crate::gaps::stands;
 use crate::needs::Needs;
 use crate::sources::World;
@@ -38,14 +37,14 @@ fn first_absent(needs: &Needs, previous: &GtidSet, standing: &Standing, gtid: &G
     }
 }
 
-/// Says that a GTID stands without another, where nothing was said of it.
+/// Says that a GTID is present without another, where nothing was reported of it.
 fn say_gap(
     found: &mut Vec<Verdict>,
     said: &mut Standing,
     gtid: Gtid,
     absent: Option<Gtid>,
 ) -> Result<(), AllocError>
-    ensures { OnOk result ((rest : List Gap) → found.new.items ++ told_from said.new rest ≡ found.old.items ++ told_from said.old (with_gap gtid absent rest)) }
+    ensures { OnOk result ((rest : List Gap) → found.new.items ++ unreported said.new rest ≡ found.old.items ++ unreported said.old (with_gap gtid absent rest)) }
 {
     if let Some(absent) = absent {
         if !said.has(&gtid) {
@@ -56,7 +55,7 @@ fn say_gap(
     Ok(())
 }
 
-/// Says of each entry of a journal what it stands without.
+/// Says of each entry of a journal what it is present without.
 fn say_among(
     alloc: Global,
     needs: &Needs,
@@ -64,7 +63,7 @@ fn say_among(
     said: &mut Standing,
     journal: &Journal,
 ) -> Result<(), AllocError>
-    ensures { OnOk result ((rest : List Gap) → found.new.items ++ told_from said.new rest ≡ found.old.items ++ told_from said.old (gaps_among needs.now journal.now.previous set.empty journal.now.entries rest)) }
+    ensures { OnOk result ((rest : List Gap) → found.new.items ++ unreported said.new rest ≡ found.old.items ++ unreported said.old (gaps_among needs.now journal.now.previous set.empty journal.now.entries rest)) }
 {
     let previous = journal.previous();
     let mut standing = Standing::new(alloc);
@@ -76,9 +75,9 @@ fn say_among(
     Ok(())
 }
 
-/// The GTID of the verdict, of which nothing more is said.
-fn gap_said(alloc: Global, verdict: &Verdict) -> Result<Standing, AllocError>
-    ensures { IfOk result (λ said. said ≡ gap_said verdict.now) }
+/// The GTID of the verdict, of which nothing more is reported.
+fn gap_of_verdict(alloc: Global, verdict: &Verdict) -> Result<Standing, AllocError>
+    ensures { IfOk result (λ said. said ≡ gap_of_verdict verdict.now) }
 {
     let mut said = Standing::new(alloc);
     if let Verdict::NotClosed(gtid, _) = verdict {
@@ -87,16 +86,16 @@ fn gap_said(alloc: Global, verdict: &Verdict) -> Result<Standing, AllocError>
     Ok(said)
 }
 
-/// Each GTID that stands without something it needs, but those of which something is said.
+/// Each GTID that is present without something it needs, but those of which something is reported.
 fn gaps_beside(
     alloc: Global,
     needs: &Needs,
     journals: &[Journal],
     verdict: &Verdict,
 ) -> Result<Vec<Verdict>, AllocError>
-    ensures { IfOk result (λ found. found.items ≡ told_from (gap_said verdict.now) (gaps_in needs.now journals.now)) }
+    ensures { IfOk result (λ found. found.items ≡ unreported (gap_of_verdict verdict.now) (gaps_in needs.now journals.now)) }
 {
-    let mut said = gap_said(alloc, verdict)?;
+    let mut said = gap_of_verdict(alloc, verdict)?;
     let mut found = Vec::new(alloc);
     for journal in journals {
         say_among(alloc, needs, &mut found, &mut said, journal)?;
@@ -105,19 +104,20 @@ fn gaps_beside(
 }
 
 impl World {
-    /// Each GTID that stands in a journal without the nearest earlier one at some key of it, but that of
+    /// Each GTID that is in a journal without the nearest earlier one at some key of it, but that of
     /// the verdict. Where journals are in order there is none, and no table of what each needs is made.
     pub(crate) fn other_gaps(
         &self,
         alloc: Global,
         journals: &[Journal],
+        ordered: bool,
         verdict: &Verdict,
     ) -> Result<Vec<Verdict>, AllocError>
-        requires { IsWorldOf self.now journals.now }
+        requires { ordered ≡ true → AreInOrder self.now.opening_set journals.now }
         ensures { IfOk result (λ found. found.items ≡ other_gaps self.now journals.now verdict.now) }
     {
-        keep_rules(journals);
-        if self.are_in_order(alloc, journals)? {
+        self.lie_beyond();
+        if ordered {
             return Ok(Vec::new(alloc));
         }
         let needed = self.needs(alloc)?;

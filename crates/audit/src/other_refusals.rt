@@ -14,7 +14,7 @@ use world::Verdict;
 
 /// Of each source greater than one the first of these that does not apply, one after another. Where one
 /// does not, the others of its source are passed over.
-fn refused_among(
+fn refusals_among(
     alloc: Global,
     rows: &mut Rows,
     after: SourceId,
@@ -44,11 +44,11 @@ fn refused_among(
 
 impl World {
     /// Of each source greater than one the first transaction that does not apply.
-    fn refused_behind(&self, alloc: Global, source: SourceId) -> Result<Vec<Verdict>, AllocError>
+    fn refusals_after(&self, alloc: Global, source: SourceId) -> Result<Vec<Verdict>, AllocError>
         ensures { IfOk result (λ found. found.items ≡ refused_from self.now.schema source (finmap.entries self.now.contents) self.now.opening_rows) }
     {
         let mut rows = self.rows().copy()?;
-        refused_among(alloc, &mut rows, source, self.in_order())
+        refusals_among(alloc, &mut rows, source, self.in_order())
     }
 
     /// Where a transaction does not apply by the verdict, the first of each other source that does not
@@ -61,7 +61,7 @@ impl World {
         ensures { IfOk result (λ found. found.items ≡ other_refusals self.now verdict.now) }
     {
         match verdict {
-            Verdict::DoesNotApply(gtid, _) => self.refused_behind(alloc, gtid.source),
+            Verdict::DoesNotApply(gtid, _) => self.refusals_after(alloc, gtid.source),
             _ => Ok(Vec::new(alloc)),
         }
     }

@@ -1,10 +1,11 @@
-//! Each GTID under which two journals have different transactions.
+//! Each GTID under which a journal has another transaction than the world.
 ghost use Rattle.std.specs.Prelude.{◌≡◌, List, ◌∷◌, ◌++◌, IfOk, OnOk};
 ghost use Rattle.journal.specs.declared.Entry.{Entry};
 ghost use Rattle.std.specs.FinSet as set;
 ghost use Rattle.world.specs.Audit.{all_entries};
 ghost use Rattle.audit.specs.OtherUnequal.{other_unequal, unequal_from};
 
+use crate::contents::Guesses;
 use crate::sources::World;
 use crate::standing::Standing;
 use gtid_text::Gtid;
@@ -13,16 +14,17 @@ use std::alloc::{AllocError, Global};
 use world::Verdict;
 
 impl World {
-    /// Says of an entry that it is unequal, where it is and that was not said of its GTID.
+    /// Says of an entry that it is unequal, where it is and that was not reported of its GTID.
     fn say_unequal(
         &self,
         found: &mut Vec<Verdict>,
         said: &mut Standing,
+        guesses: &mut Guesses,
         entry: &Entry,
     ) -> Result<(), AllocError>
         ensures { OnOk result ((rest : List Entry) → found.new.items ++ unequal_from self.now said.new rest ≡ found.old.items ++ unequal_from self.now said.old (entry.now ∷ rest)) }
     {
-        if self.is_unequal(entry) && !said.has(&entry.gtid) {
+        if self.is_unequal(guesses, entry) && !said.has(&entry.gtid) {
             found.push(Verdict::Unequal(entry.gtid))?;
             said.put(entry.gtid)?;
         }
@@ -37,13 +39,14 @@ impl World {
     ) -> Result<(), AllocError>
         ensures { OnOk result ((rest : List Entry) → found.new.items ++ unequal_from self.now said.new rest ≡ found.old.items ++ unequal_from self.now said.old (entries.now ++ rest)) }
     {
+        let mut guesses = [0; 16];
         for entry in entries {
-            self.say_unequal(found, said, entry)?;
+            self.say_unequal(found, said, &mut guesses, entry)?;
         }
         Ok(())
     }
 
-    /// Each GTID that is unequal, but one of which that is said.
+    /// Each GTID that is unequal, but one of which that is reported.
     fn unequal_beside(
         &self,
         alloc: Global,

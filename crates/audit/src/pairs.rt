@@ -2,7 +2,7 @@
 ghost use Rattle.std.specs.Prelude.{◌≡◌, ◌++◌, IfOk, OnOk, map};
 ghost use Rattle.std.specs.FinMap as finmap;
 ghost use Rattle.audit.specs.Contents.{as_pair};
-ghost use Rattle.audit.specs.Others.{named_by_keys, named_first, other_pairs, pair_of_key, pairs_from, pairs_of_keys};
+ghost use Rattle.audit.specs.Others.{named_by_keys, key_of_verdict, other_pairs, pair_of_key, pairs_from, pairs_of_keys};
 
 use crate::sources::World;
 use crate::touches::Touches;
@@ -12,9 +12,9 @@ use rows::{Key, Schema, keys_touched};
 use std::alloc::{AllocError, Global};
 use world::Verdict;
 
-/// The key of the verdict, of which nothing more is said.
-fn named_first(alloc: Global, verdict: &Verdict) -> Result<Touches, AllocError>
-    ensures { IfOk result (λ named. named ≡ named_first verdict.now) }
+/// The key of the verdict, of which nothing more is reported.
+fn key_of_verdict(alloc: Global, verdict: &Verdict) -> Result<Touches, AllocError>
+    ensures { IfOk result (λ named. named ≡ key_of_verdict verdict.now) }
 {
     let mut named = Touches::new(alloc);
     if let Verdict::Shared(_, gtid, key) = verdict {
@@ -24,7 +24,7 @@ fn named_first(alloc: Global, verdict: &Verdict) -> Result<Touches, AllocError>
     Ok(named)
 }
 
-/// The pair that a key is said of, if a smaller source touched it and it has no name yet.
+/// The pair that a key is reported of, if a smaller source touched it and it has no name yet.
 fn pair_of_key(
     seen: &Touches,
     named: &Touches,
@@ -73,10 +73,10 @@ fn pairs_among(
     entries: &[Entry],
     verdict: &Verdict,
 ) -> Result<Vec<Verdict>, AllocError>
-    ensures { IfOk result (λ found. found.items ≡ pairs_from schema.now finmap.empty (named_first verdict.now) (map as_pair entries.now)) }
+    ensures { IfOk result (λ found. found.items ≡ pairs_from schema.now finmap.empty (key_of_verdict verdict.now) (map as_pair entries.now)) }
 {
     let mut seen = Touches::new(alloc);
-    let mut named = named_first(alloc, verdict)?;
+    let mut named = key_of_verdict(alloc, verdict)?;
     let mut found = Vec::new(alloc);
     for entry in entries {
         let keys = keys_touched(alloc, schema, &entry.txn)?;

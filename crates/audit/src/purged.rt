@@ -1,4 +1,4 @@
-//! Journals that begin behind the opening set.
+//! Journals that begin after the opening set.
 ghost use Rattle.std.specs.Prelude.{◌≡◌, IfOk, IfErr};
 ghost use Rattle.world.specs.Audit.{purged};
 ghost use Rattle.audit.specs.Passing.{first_from, purged_at};

@@ -1,17 +1,17 @@
 //! The GTIDs that are missing, as a set.
 ghost use Rattle.std.specs.Prelude.{◌≡◌, ◌+◌, ◌-◌, IfOk, IfErr, OnOk, None, map, true};
-ghost use Rattle.std.specs.FinMap as finmap;
 ghost use Rattle.std.specs.FinSet as set;
 ghost use Rattle.gtid_set.specs.Full.{IsFaultOf};
 ghost use Rattle.gtid_set.specs.Sets.{interval};
 ghost use Rattle.audit.specs.Contents.{as_pair};
-ghost use Rattle.audit.specs.Others.{IsPartFault, but_missing, missing_in, skips_from};
+ghost use Rattle.audit.specs.Ordered.{AreInOrder};
+ghost use Rattle.audit.specs.Others.{IsPartFault, but_missing, missing_in, skipped_in, skips_from};
 
 use crate::missing::number_before;
 use crate::sources::World;
 use gtid_set::{GtidSet, SetFault};
 use gtid_text::{Gtid, SourceId, Span};
-use journal::Entry;
+use journal::{Entry, Journal};
 use std::alloc::Global;
 use world::Verdict;
 
@@ -84,12 +84,33 @@ fn without_verdict(alloc: Global, missing: GtidSet, verdict: &Verdict) -> Result
 }
 
 impl World {
-    /// The missing GTIDs.
-    fn missing_set(&self, alloc: Global) -> Result<GtidSet, SetFault>
-        ensures ok { IfOk result (λ missing. missing ≡ missing_in self.now) }
-        ensures fault { IfErr result (IsPartFault (skips_from set.empty None (finmap.entries self.now.contents))) }
+    /// The numbers that are passed over before what is in the journals.
+    fn skipped(&self, alloc: Global, journals: &[Journal]) -> Result<GtidSet, SetFault>
+        ensures ok { IfOk result (λ skipped. skipped ≡ skipped_in self.now journals.now) }
+        ensures fault { IfErr result (IsPartFault (skipped_in self.now journals.now)) }
     {
-        let skipped = skipped_before(alloc, self.in_order())?;
+        let equal = self.unequal(journals).is_none();
+        match self.brought(alloc, journals, equal)? {
+            Some(contents) => skipped_before(alloc, contents.in_order()),
+            None => skipped_before(alloc, self.in_order()),
+        }
+    }
+
+    /// The missing GTIDs. Where journals are in order there is none, and nothing is looked for.
+    fn missing_set(
+        &self,
+        alloc: Global,
+        journals: &[Journal],
+        ordered: bool,
+    ) -> Result<GtidSet, SetFault>
+        requires { ordered ≡ true → AreInOrder self.now.opening_set journals.now }
+        ensures ok { IfOk result (λ missing. missing ≡ missing_in self.now journals.now) }
+        ensures fault { IfErr result (IsPartFault (skipped_in self.now journals.now)) }
+    {
+        if ordered {
+            return Ok(GtidSet::empty(alloc));
+        }
+        let skipped = self.skipped(alloc, journals)?;
         skipped.subtract(alloc, self.opened())
     }
 
@@ -97,12 +118,15 @@ impl World {
     pub(crate) fn other_missing(
         &self,
         alloc: Global,
+        journals: &[Journal],
+        ordered: bool,
         verdict: &Verdict,
     ) -> Result<GtidSet, SetFault>
-        ensures ok { IfOk result (λ rest. rest ≡ but_missing verdict.now (missing_in self.now)) }
-        ensures fault { IfErr result (IsPartFault (skips_from set.empty None (finmap.entries self.now.contents))) }
+        requires { ordered ≡ true → AreInOrder self.now.opening_set journals.now }
+        ensures ok { IfOk result (λ rest. rest ≡ but_missing verdict.now (missing_in self.now journals.now)) }
+        ensures fault { IfErr result (IsPartFault (skipped_in self.now journals.now)) }
     {
-        let missing = self.missing_set(alloc)?;
+        let missing = self.missing_set(alloc, journals, ordered)?;
         without_verdict(alloc, missing, verdict)
     }
 }

@@ -1,9 +1,10 @@
 //! What sources committed, as their journals bring it.
 ghost use Rattle.std.specs.Prelude.{◌≡◌, IfOk, IfErr, OnOk};
 ghost use Rattle.world.specs.Audit.{world_of};
-ghost use Rattle.audit.specs.Worlds.{AllFit, IsKept, IsMisfit, IsWorldFault, IsWorldOf};
+ghost use Rattle.audit.specs.Worlds.{AllFit, IsKept, IsMisfit, IsWorldFault, IsWorldOf, LieBeyond};
 
 use crate::contents::Contents;
+use crate::finding::keep_rules;
 use gtid_set::GtidSet;
 use gtid_text::Gtid;
 use journal::{Entry, Journal};
@@ -12,7 +13,7 @@ use std::alloc::Global;
 use std::marker::Model;
 
 /// The opening set and rows of a replica, and for each GTID beyond that set the first transaction
-/// that some journals bring. Each transaction fits the schema of the rows.
+/// that some journals bring. Each transaction fits the schema of the rows, and each number is 1 or greater.
 pub struct World {
     opened: GtidSet,
     rows: Rows,
@@ -33,7 +34,7 @@ impl Drop for World {
 impl Model for World {
     ghost use Rattle.source_history.specs.World.{World};
     ghost use Rattle.audit.specs.Contents.{in_order, world_code};
-    ghost use Rattle.audit.specs.Worlds.{AllFit};
+    ghost use Rattle.audit.specs.Worlds.{AllFit, LieBeyond};
 
     ghost Value = { World };
 
@@ -41,7 +42,7 @@ impl Model for World {
 
     ghost view = { λ a. record { schema = a.rows.schema; opening_set = a.opened; opening_rows = a.rows.rows; contents = a.contents } };
 
-    ghost invariant = { λ a. AllFit a.rows.schema (in_order a.contents) };
+    ghost invariant = { λ a. AllFit a.rows.schema (in_order a.contents) × LieBeyond a.opened a.contents };
 }
 
 impl World {
@@ -73,6 +74,14 @@ impl World {
     {
         self.contents.in_order()
     }
+
+    /// The opening set has none of the transactions' GTIDs, and their numbers begin with 1. (A fact about
+    /// the type, for the proofs of callers.)
+    pub fn lie_beyond(&self)
+        ensures { LieBeyond self.now.opening_set self.now.contents }
+    {
+        let _ = &self.opened;
+    }
 }
 
 /// Why journals have no world.
@@ -99,6 +108,7 @@ pub fn world_of(
     let Ok(contents) = Contents::of_journals(alloc, opened, journals) else {
         return Err(WorldFault::Memory);
     };
+    keep_rules(journals);
     if let Err((gtid, fault)) = all_fit(rows.schema(), contents.in_order()) {
         return Err(WorldFault::NotInSchema(gtid, fault));
     }

@@ -1,4 +1,4 @@
-//! GTIDs that stand in a journal.
+//! GTIDs that are in a journal.
 ghost use Rattle.std.specs.Prelude.{◌≡◌, OnOk};
 ghost use Rattle.std.specs.FinSet as set;
 

@@ -6,7 +6,7 @@ ghost use Rattle.std.specs.FinMap as finmap;
 ghost use Rattle.rows.specs.WriteSet.{write_set};
 ghost use Rattle.world.specs.Search.{first};
 ghost use Rattle.world.specs.Folds.{touched_by, shares_with};
-ghost use Rattle.audit.specs.Gaps.{touched_last, last_of_keys, is_own, own_in_turn};
+ghost use Rattle.audit.specs.Gaps.{touch_last, last_of_keys, is_own, own_in_turn};
 
 use gtid_text::Gtid;
 use indexmap::IndexMap;
@@ -81,7 +81,7 @@ impl Touches {
 
     /// A GTID touches keys, in the place of what touched them before; whether none of it was of another source.
     pub(crate) fn touch_all_own(&mut self, gtid: &Gtid, keys: Vec<Key>) -> Result<bool, AllocError>
-        ensures touched { OnOk result (self.new ≡ touched_last gtid.now keys.items self.old) }
+        ensures touched { OnOk result (self.new ≡ touch_last gtid.now keys.items self.old) }
         ensures own { IfOk result (λ own. own ≡ own_in_turn gtid.now keys.items self.old) }
     {
         let mut own = true;
@@ -106,7 +106,7 @@ impl Touches {
 
     /// A GTID touches keys, in the place of what touched them before.
     pub(crate) fn touch_last(&mut self, gtid: &Gtid, keys: Vec<Key>) -> Result<(), AllocError>
-        ensures { OnOk result (self.new ≡ touched_last gtid.now keys.items self.old) }
+        ensures { OnOk result (self.new ≡ touch_last gtid.now keys.items self.old) }
     {
         for key in keys {
             self.put(key, gtid)?;

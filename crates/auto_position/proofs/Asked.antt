@@ -179,7 +179,7 @@ sent_more journal ask own more kept is some =
 pub known_own : (journal : JournalValue) (ask : Gtids) (own : ℕ) (more : Gtids) → more ≡ set.difference (only ask own) (whole journal) → set.is_subset more set.empty ≡ true → set.is_subset (own_of ask (Some own)) (whole journal) ≡ true
 known_own journal ask own more is none = subset_from_empty (only ask own) (whole journal) (ap (λ (s : Gtids). set.is_subset s set.empty) (sym is) ∙ none)
 
--- ---- the loop that builds a set of rising numbers
+-- ---- the loop that builds a set of ascending numbers
 
 pub recorded_next : (source : ℕ) (numbers : List ℕ) (i : ℕ) (now next : Gtids) → i < length numbers → now ≡ set.from_list (map (gtid source) (take i numbers)) → next ≡ set.insert now (gtid source (get_or numbers i 0)) → next ≡ set.from_list (map (gtid source) (take (i + 1) numbers))
 recorded_next source numbers i now next within is n =

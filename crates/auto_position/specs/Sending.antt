@@ -39,14 +39,14 @@ sent journal ask own =
     else if not (set.is_subset (own_of ask own) (whole journal)) then Err (ReplicaHasMore (set.difference (own_of ask own) (whole journal)))
     else Ok (filter (is_wanted ask) journal.entries)
 
--- these entries stand at these places
+-- these entries are at these places
 abbrev pub AreAt : List Entry → List ℕ → List Entry → Type 0
 AreAt entries [] [] = Unit {0}
 AreAt entries [] (e ∷ es) = ⊥
 AreAt entries (p ∷ ps) [] = ⊥
 AreAt entries (p ∷ ps) (e ∷ es) = (slice_get entries p ≡ Some e) × AreAt entries ps es
 
--- the places of what is sent, rising
+-- the places of what is sent, ascending
 pub record IsPlan (entries : List Entry) (places : List ℕ) (sending : Result (List Entry) PositionFault) : Type 0 where
   pub sends : List Entry
   pub sent_is : sending ≡ Ok sends

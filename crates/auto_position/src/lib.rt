@@ -68,8 +68,8 @@ fn numbers_of(alloc: Global, source: SourceId, entries: &[Entry]) -> Result<Vec<
     Ok(numbers)
 }
 
-/// The GTIDs of a source among the entries. The set is built with its numbers rising.
-fn recorded(alloc: Global, source: SourceId, entries: &[Entry]) -> Result<GtidSet, SetFault>
+/// The GTIDs of a source among the entries. The set is built with its numbers ascending.
+fn recorded_gtids(alloc: Global, source: SourceId, entries: &[Entry]) -> Result<GtidSet, SetFault>
     ensures ok { IfOk result (λ s. s ≡ only (gtids_of entries.now) source) }
     ensures fault { IfErr result (IsEntriesFault entries.now) }
 {
@@ -90,7 +90,7 @@ fn recorded(alloc: Global, source: SourceId, entries: &[Entry]) -> Result<GtidSe
 }
 
 /// The GTIDs of the source's own that are asked with and that the journal has no record of.
-fn unknown(
+fn unknown_gtids(
     alloc: Global,
     own: SourceId,
     journal: &Journal,
@@ -101,11 +101,11 @@ fn unknown(
 {
     let asked = ask.only(alloc, own)?;
     let unpurged = asked.subtract(alloc, journal.previous())?;
-    let recorded = recorded(alloc, own, journal.entries())?;
+    let recorded = recorded_gtids(alloc, own, journal.entries())?;
     unpurged.subtract(alloc, &recorded)
 }
 
-/// The places in the journal, rising, of the entries that the source sends to a replica that asks with a set:
+/// The places in the journal, ascending, of the entries that the source sends to a replica that asks with a set:
 /// those whose GTID is not in it. `own` is the source's own UUID, where it has one.
 ///
 /// It refuses where an entry that should be sent was purged, and else where the replica has GTIDs of this source
@@ -127,7 +127,7 @@ pub fn plan(
         return Err(PositionFault::PurgedRequired(purged));
     }
     if let Some(own) = own {
-        let more = unknown(alloc, own, journal, ask)?;
+        let more = unknown_gtids(alloc, own, journal, ask)?;
         let known = more.is_subset(&GtidSet::empty(alloc));
         if !known {
             return Err(PositionFault::ReplicaHasMore(more));

@@ -10,9 +10,9 @@ use Rattle.txn_journal.specs.declared.fault.JournalFault.{JournalFault}
 use Rattle.txn_journal.specs.declared.fault.JournalFault.TheVariants as faults
 use Rattle.binlog_entries.specs.Imports.{Imports}
 use Rattle.binlog_entries.proofs.TransactionLaws.{flat_map_more}
-use Rattle.binlog_bundle.specs.Lines.{ended, is_channel, lines_in, HasNoOwn, BeginsOwn, Nothing, IsCut}
+use Rattle.binlog_bundle.specs.Lines.{with_line_feed, is_channel, lines_in, HasNoOwn, BeginsOwn, Nothing, IsCut}
 use Rattle.binlog_bundle.specs.Bundles.{done_line, Brought, log_text, journal_text, HasTables, IsTold, Stands, ImportsBundle}
-use Rattle.binlog_bundle.specs.Refused.{moved, placed, IsFed, StopsAt, IsNoHead, IsNoNext, IsNoJournal, IsNoOwn, IsNoneOf, IsNoBundle}
+use Rattle.binlog_bundle.specs.Refused.{fault_at_line, channel_fault_at, IsFed, StopsAt, IsNoHead, IsNoNext, IsNoJournal, IsNoOwn, IsNoneOf, IsNoBundle}
 use Rattle.binlog_bundle.specs.Channels.{HasCome, Brings, IsJournalFault, CantBring}
 use Rattle.binlog_bundle.specs.declared.fault.ChannelFault.{ChannelFault}
 use Rattle.binlog_bundle.specs.declared.fault.ChannelFault.TheVariants as channels
@@ -44,10 +44,10 @@ stands_more bytes head text written b h told = record {
 pub come_head : (bytes : Bool) (head text left : List ℕ) (p : Progress BundleStanding) → IsCut text head left → IsFed p head → HasCome bytes head text left p
 come_head bytes head text left p cut fed = record { front = head; written = head; stands = stands_none bytes head; parts = cut.parts; begins = cut.begins; fed = fed }
 
-channel_parts : (line after log behind : List ℕ) → IsCut after log behind → ended line ++ after ≡ (ended line ++ log) ++ behind
-channel_parts line after log behind cut = ap (λ (xs : List ℕ). ended line ++ xs) cut.parts ∙ sym (append_assoc (ended line) log behind)
+channel_parts : (line after log behind : List ℕ) → IsCut after log behind → with_line_feed line ++ after ≡ (with_line_feed line ++ log) ++ behind
+channel_parts line after log behind cut = ap (λ (xs : List ℕ). with_line_feed line ++ xs) cut.parts ∙ sym (append_assoc (with_line_feed line) log behind)
 
-pub come_more : (tables : List Table) (bytes : Bool) (head text left line after log behind : List ℕ) (old new : Progress BundleStanding) → is_channel line ≡ true → HasTables head tables → HasCome bytes head text left old → left ≡ ended line ++ after → IsCut after log behind → Brings tables bytes log (ended line) old new → HasCome bytes head text behind new
+pub come_more : (tables : List Table) (bytes : Bool) (head text left line after log behind : List ℕ) (old new : Progress BundleStanding) → is_channel line ≡ true → HasTables head tables → HasCome bytes head text left old → left ≡ with_line_feed line ++ after → IsCut after log behind → Brings tables bytes log (with_line_feed line) old new → HasCome bytes head text behind new
 come_more tables bytes head text left line after log behind old new channel has come begins cut brings =
     let b : Brought = record { line = line; log = log; journal = brings.journal } in
     record {
@@ -59,12 +59,12 @@ come_more tables bytes head text left line after log behind old new channel has 
           come.parts
           ∙ ap (λ (xs : List ℕ). come.front ++ xs) (begins ∙ channel_parts line after log behind cut)
           ∙ sym (append_assoc come.front (log_text b) behind);
-      fed = brings.fed come.written come.fed ∙ ap (λ (xs : List ℕ). eats_bundle (bundle_start None) xs) (append_assoc come.written (ended line) brings.journal);
+      fed = brings.fed come.written come.fed ∙ ap (λ (xs : List ℕ). eats_bundle (bundle_start None) xs) (append_assoc come.written (with_line_feed line) brings.journal);
     }
 
 -- ---- why no more has come
 
-pub own_at : (bytes : Bool) (fault : JournalFault) (n : ℕ) (text : List ℕ) → IsNoNext bytes fault n text → IsNoOwn bytes (moved fault n) text
+pub own_at : (bytes : Bool) (fault : JournalFault) (n : ℕ) (text : List ℕ) → IsNoNext bytes fault n text → IsNoOwn bytes (fault_at_line fault n) text
 own_at bytes (faults.Set fault) n text h = tt
 own_at bytes (faults.Line m cause) n text h = inr (m, h)
 own_at bytes (faults.Truncated m) n text h = inr (m, h)
@@ -74,13 +74,13 @@ head_at bytes (faults.Set fault) text h = tt
 head_at bytes (faults.Line n cause) text h = inl h
 head_at bytes (faults.Truncated n) text h = inl h
 
-journal_at : (bytes : Bool) (fault : JournalFault) (n : ℕ) (text : List ℕ) → IsNoJournal bytes fault n text → IsNoneOf bytes (moved fault n) text
+journal_at : (bytes : Bool) (fault : JournalFault) (n : ℕ) (text : List ℕ) → IsNoJournal bytes fault n text → IsNoneOf bytes (fault_at_line fault n) text
 journal_at bytes (faults.Set fault) n text h = tt
 journal_at bytes (faults.Line m cause) n text h = (m, h)
 journal_at bytes (faults.Truncated m) n text h = (m, h)
 
 -- what comes next is refused
-pub next_refused : (bytes : Bool) (head text left next rest : List ℕ) (p : Progress BundleStanding) (fault : JournalFault) (n : ℕ) → HasCome bytes head text left p → left ≡ next ++ rest → ((before : List ℕ) → IsFed p before → StopsAt fault (before ++ next)) → IsLineAt text left n → IsNoOwn bytes (moved fault n) text
+pub next_refused : (bytes : Bool) (head text left next rest : List ℕ) (p : Progress BundleStanding) (fault : JournalFault) (n : ℕ) → HasCome bytes head text left p → left ≡ next ++ rest → ((before : List ℕ) → IsFed p before → StopsAt fault (before ++ next)) → IsLineAt text left n → IsNoOwn bytes (fault_at_line fault n) text
 next_refused bytes head text left next rest p fault n come parts stops at = own_at bytes fault n text (record {
   head = head;
   front = come.front;
@@ -94,8 +94,8 @@ next_refused bytes head text left next rest p fault n come parts stops at = own_
   number = at come.front come.parts ∙ ap (λ (xs : List ℕ). next_number (lines_in xs)) (sym (append-nil come.front));
 })
 
--- what comes behind a line of the bundle's own is refused
-pub behind_refused : (bytes : Bool) (head text left own behind : List ℕ) (p q : Progress BundleStanding) (fault : JournalFault) (n : ℕ) → HasCome bytes head text left p → left ≡ own ++ behind → ((before : List ℕ) → IsFed p before → IsFed q (before ++ own)) → ((before : List ℕ) → IsFed q before → StopsAt fault (before ++ behind)) → IsLineAt text behind n → IsNoOwn bytes (moved fault n) text
+-- what comes after a line of the bundle's own is refused
+pub behind_refused : (bytes : Bool) (head text left own behind : List ℕ) (p q : Progress BundleStanding) (fault : JournalFault) (n : ℕ) → HasCome bytes head text left p → left ≡ own ++ behind → ((before : List ℕ) → IsFed p before → IsFed q (before ++ own)) → ((before : List ℕ) → IsFed q before → StopsAt fault (before ++ behind)) → IsLineAt text behind n → IsNoOwn bytes (fault_at_line fault n) text
 behind_refused bytes head text left own behind p q fault n come parts fed stops at =
     let whole : text ≡ (come.front ++ own) ++ behind =
     come.parts ∙ ap (λ (xs : List ℕ). come.front ++ xs) parts ∙ sym (append_assoc come.front own behind) in
@@ -113,9 +113,9 @@ behind_refused bytes head text left own behind p q fault n come parts fed stops 
     })
 
 -- a channel is refused
-pub channel_refused : (tables : List Table) (bytes : Bool) (head text left line after log behind : List ℕ) (p : Progress BundleStanding) (fault : ChannelFault) (n : ℕ) → is_channel line ≡ true → HasTables head tables → HasCome bytes head text left p → left ≡ ended line ++ after → IsCut after log behind → ((before : List ℕ) → IsFed p before → CantBring tables bytes log (ended line) before fault) → IsLineAt text left n → IsNoBundle bytes (placed fault n) text
+pub channel_refused : (tables : List Table) (bytes : Bool) (head text left line after log behind : List ℕ) (p : Progress BundleStanding) (fault : ChannelFault) (n : ℕ) → is_channel line ≡ true → HasTables head tables → HasCome bytes head text left p → left ≡ with_line_feed line ++ after → IsCut after log behind → ((before : List ℕ) → IsFed p before → CantBring tables bytes log (with_line_feed line) before fault) → IsLineAt text left n → IsNoBundle bytes (channel_fault_at fault n) text
 channel_refused tables bytes head text left line after log behind p (channels.Own fault) n channel has come begins cut cant at =
-    next_refused bytes head text left (ended line) after p fault n come begins cant at
+    next_refused bytes head text left (with_line_feed line) after p fault n come begins cant at
 channel_refused tables bytes head text left line after log behind p (channels.Log fault) n channel has come begins cut cant at = record {
   head = head;
   front = come.front;
@@ -124,7 +124,7 @@ channel_refused tables bytes head text left line after log behind p (channels.Lo
   channel = line;
   log = log;
   rest = behind;
-  parts = come.parts ∙ ap (λ (xs : List ℕ). come.front ++ xs) (begins ∙ ap (λ (xs : List ℕ). ended line ++ xs) cut.parts);
+  parts = come.parts ∙ ap (λ (xs : List ℕ). come.front ++ xs) (begins ∙ ap (λ (xs : List ℕ). with_line_feed line ++ xs) cut.parts);
   alone = cut.none;
   tables = tables;
   has = has;
@@ -139,7 +139,7 @@ channel_refused tables bytes head text left line after log behind p (channels.Ta
   channel = line;
   log = log;
   rest = behind;
-  parts = come.parts ∙ ap (λ (xs : List ℕ). come.front ++ xs) (begins ∙ ap (λ (xs : List ℕ). ended line ++ xs) cut.parts);
+  parts = come.parts ∙ ap (λ (xs : List ℕ). come.front ++ xs) (begins ∙ ap (λ (xs : List ℕ). with_line_feed line ++ xs) cut.parts);
   alone = cut.none;
   tables = tables;
   has = has;
@@ -157,7 +157,7 @@ channel_refused tables bytes head text left line after log behind p (channels.Jo
       told = record { tables = tables; has = has; channel = channel; alone = cut.none; imports = why.1 };
       rest = behind;
       parts = come.parts ∙ ap (λ (xs : List ℕ). come.front ++ xs) (begins ∙ channel_parts line after log behind cut);
-      stops = subst (StopsAt fault) (append_assoc come.written (ended line) why.0) why.2;
+      stops = subst (StopsAt fault) (append_assoc come.written (with_line_feed line) why.0) why.2;
       number = at come.front come.parts;
     })
 
@@ -189,7 +189,7 @@ head_found bytes text b alone writes = record {
   writes = subst (λ (xs : List ℕ). WritesBundle xs b) (sym (append-nil text)) writes;
 }
 
--- the head alone, or with the end of a bundle behind it
+-- the head alone, or with the end of a bundle after it
 pub head_refused : (bytes : Bool) (fault : JournalFault) (text head rest end : List ℕ) → text ≡ head ++ rest → HasNoOwn head → (end ≡ []) ⊎ (end ≡ done_line) → StopsAt fault (head ++ end) → IsNoOwn bytes fault text
 head_refused bytes fault text head rest end parts alone ends stops =
     head_at bytes fault text (record { head = head; rest = rest; end = end; parts = parts; alone = alone; ends = ends; stops = stops })

@@ -5,28 +5,28 @@ use Rattle.rows.specs.declared.schema.Table.{Table}
 use Rattle.txn_journal.specs.BundleStates.{BundleValue}
 use Rattle.txn_journal.specs.BundleText.{WritesBundle}
 use Rattle.binlog_entries.specs.Imports.{Imports}
-use Rattle.binlog_bundle.specs.Lines.{ended, is_channel, HasNoOwn, BeginsOwn}
+use Rattle.binlog_bundle.specs.Lines.{with_line_feed, is_channel, HasNoOwn, BeginsOwn}
 
 abbrev pub done_line : List ℕ
-done_line = ended (codes "done")
+done_line = with_line_feed (codes "done")
 
--- a channel's line, the text of its log, and that of the journal which the log tells
+-- a channel's line, the text of its log, and that of the journal which the log describes
 pub record Brought : Type 0 where
   pub line : List ℕ
   pub log : List ℕ
   pub journal : List ℕ
 
 abbrev pub log_text : Brought → List ℕ
-log_text b = ended b.line ++ b.log
+log_text b = with_line_feed b.line ++ b.log
 
 abbrev pub journal_text : Brought → List ℕ
-journal_text b = ended b.line ++ b.journal
+journal_text b = with_line_feed b.line ++ b.journal
 
 -- the tables of the bundle that this head begins
 abbrev pub HasTables : List ℕ → List Table → Type 0
 HasTables head tables = (start : BundleValue) × WritesBundle (head ++ done_line) start × (tables ≡ start.start.schema)
 
--- the log tells the journal, whose entries change the tables of this head
+-- the log describes the journal, whose entries change the tables of this head
 pub record IsTold (bytes : Bool) (head : List ℕ) (b : Brought) : Type 0 where
   pub tables : List Table
   pub has : HasTables head tables
@@ -34,15 +34,15 @@ pub record IsTold (bytes : Bool) (head : List ℕ) (b : Brought) : Type 0 where
   pub alone : HasNoOwn b.log
   pub imports : Imports tables bytes b.log b.journal
 
--- The two texts have the same head and the same lines of channels, and the log of each channel stands in the one where the journal that it tells
--- stands in the other.
+-- The two texts have the same head and the same lines of channels, and the log of each channel is in the one where the journal that it tells
+-- is in the other.
 pub record Stands (bytes : Bool) (head text written : List ℕ) : Type 0 where
   pub brought : List Brought
   pub told : AllByRecursion (IsTold bytes head) brought
   pub text_is : text ≡ head ++ flat_map log_text brought
   pub written_is : written ≡ head ++ flat_map journal_text brought
 
--- The text is a bundle's but that the log of each channel stands where its journal does. Both end in the same line. Each log is what stands between two
+-- The text is a bundle's but that the log of each channel stands where its journal does. Both end in the same line. Each log is what is between two
 -- lines of the bundle's own, so there is one way to read a text so.
 pub record ImportsBundle (bytes : Bool) (text : List ℕ) (b : BundleValue) : Type 0 where
   pub head : List ℕ

@@ -21,7 +21,7 @@ pub record HasCome (bytes : Bool) (head text left : List ℕ) (p : Progress Bund
   pub begins : BeginsOwn left
   pub fed : IsFed p written
 
--- the line of a channel has come, and the journal that its log tells
+-- the line of a channel has come, and the journal that its log describes
 pub record Brings (tables : List Table) (bytes : Bool) (log line : List ℕ) (old new : Progress BundleStanding) : Type 0 where
   pub journal : List ℕ
   pub imports : Imports tables bytes log journal
@@ -34,7 +34,7 @@ IsJournalFault tables log fault (channels.Log other) = ⊥
 IsJournalFault tables log fault (channels.Table at) = HasOther tables at log
 IsJournalFault tables log fault (channels.Journal other) = other ≡ fault
 
--- why they have not come, behind these bytes
+-- why they have not come, after these bytes
 abbrev pub CantBring : List Table → Bool → List ℕ → List ℕ → List ℕ → ChannelFault → Type 0
 CantBring tables bytes log line before (channels.Own fault) = StopsAt fault (before ++ line)
 CantBring tables bytes log line before (channels.Log fault) = IsNoImport tables fault log

@@ -4,8 +4,8 @@ use Rattle.std.specs.List.{starts_with, count_by, flat_map, AllByRecursion}
 use Rattle.std.specs.Str.{bytes_eq}
 use Rattle.txn_journal.specs.Words.{IsOneLine, BeginsWithLine}
 
-abbrev pub ended : List ℕ → List ℕ
-ended line = line ++ 10 ∷ []
+abbrev pub with_line_feed : List ℕ → List ℕ
+with_line_feed line = line ++ 10 ∷ []
 
 abbrev pub is_channel : List ℕ → Bool
 is_channel line = starts_with nat_eq line (codes "channel ")
@@ -26,7 +26,7 @@ IsOther line = IsOneLine line × (is_own line ≡ false)
 pub record HasNoOwn (text : List ℕ) : Type 0 where
   pub lines : List (List ℕ)
   pub rest : List ℕ
-  pub parts : text ≡ flat_map ended lines ++ rest
+  pub parts : text ≡ flat_map with_line_feed lines ++ rest
   pub others : AllByRecursion IsOther lines
   pub part : IsOneLine rest
 
@@ -35,7 +35,7 @@ pub data BeginsOwn (text : List ℕ) : Type 0 where
   Nothing : text ≡ [] → BeginsOwn text
   Begins : (line after : List ℕ) → BeginsWithLine text line after → is_own line ≡ true → BeginsOwn text
 
--- what stands before the first line of a bundle's own, and the text from there on
+-- what comes before the first line of a bundle's own, and the text from there on
 pub record IsCut (text front rest : List ℕ) : Type 0 where
   pub parts : text ≡ front ++ rest
   pub none : HasNoOwn front

@@ -9,7 +9,7 @@ use Rattle.txn_journal.specs.declared.fault.JournalFault.TheVariants as faults
 use Rattle.rows.specs.declared.schema.Table.{Table}
 use Rattle.binlog_entries.specs.Imports.{IsNoImport}
 use Rattle.binlog_entries.specs.declared.import.ImportFault.{ImportFault}
-use Rattle.binlog_bundle.specs.Lines.{ended, lines_in, HasNoOwn}
+use Rattle.binlog_bundle.specs.Lines.{with_line_feed, lines_in, HasNoOwn}
 use Rattle.binlog_bundle.specs.Tables.{HasOther}
 use Rattle.binlog_bundle.specs.Bundles.{done_line, Brought, log_text, journal_text, HasTables, IsTold, Stands}
 use Rattle.binlog_bundle.specs.declared.fault.BundleFault.{BundleFault}
@@ -20,17 +20,17 @@ use Rattle.binlog_bundle.specs.declared.fault.ChannelFault.TheVariants as channe
 -- ---- faults
 
 -- the same fault at another line
-abbrev pub moved : JournalFault → ℕ → JournalFault
-moved (faults.Set fault) line = faults.Set fault
-moved (faults.Line n cause) line = faults.Line line cause
-moved (faults.Truncated n) line = faults.Truncated line
+abbrev pub fault_at_line : JournalFault → ℕ → JournalFault
+fault_at_line (faults.Set fault) line = faults.Set fault
+fault_at_line (faults.Line n cause) line = faults.Line line cause
+fault_at_line (faults.Truncated n) line = faults.Truncated line
 
--- the fault of a bundle whose channel stands at this line
-abbrev pub placed : ChannelFault → ℕ → BundleFault
-placed (channels.Own fault) line = bundles.Own (moved fault line)
-placed (channels.Log fault) line = bundles.Log line fault
-placed (channels.Table at) line = bundles.Table line at
-placed (channels.Journal fault) line = bundles.Journal (moved fault line)
+-- the fault of a bundle whose channel is at this line
+abbrev pub channel_fault_at : ChannelFault → ℕ → BundleFault
+channel_fault_at (channels.Own fault) line = bundles.Own (fault_at_line fault line)
+channel_fault_at (channels.Log fault) line = bundles.Log line fault
+channel_fault_at (channels.Table at) line = bundles.Table line at
+channel_fault_at (channels.Journal fault) line = bundles.Journal (fault_at_line fault line)
 
 -- ---- the reader of bundles
 
@@ -46,7 +46,7 @@ StopsAt (faults.Truncated n) bytes = RefusesBundle (faults.Truncated n) bytes
 
 -- ---- the text
 
--- The head, by itself or with the end of a bundle behind it, is none.
+-- The head, by itself or with the end of a bundle after it, is none.
 pub record IsNoHead (fault : JournalFault) (text : List ℕ) : Type 0 where
   pub head : List ℕ
   pub rest : List ℕ
@@ -56,7 +56,7 @@ pub record IsNoHead (fault : JournalFault) (text : List ℕ) : Type 0 where
   pub ends : (end ≡ []) ⊎ (end ≡ done_line)
   pub stops : StopsAt fault (head ++ end)
 
--- Behind the channels that have come, and lines of the bundle's own, what comes next is none of a bundle's; the line with which it begins has this
+-- After the channels that have come, and lines of the bundle's own, what comes next is none of a bundle's; the line with which it begins has this
 -- number.
 pub record IsNoNext (bytes : Bool) (fault : JournalFault) (line : ℕ) (text : List ℕ) : Type 0 where
   pub head : List ℕ
@@ -70,7 +70,7 @@ pub record IsNoNext (bytes : Bool) (fault : JournalFault) (line : ℕ) (text : L
   pub stops : StopsAt fault ((written ++ own) ++ next)
   pub number : line ≡ next_number (lines_in (front ++ own))
 
--- The line of a channel comes behind those that have come; it has this number. Its log is not imported.
+-- The line of a channel comes after those that have come; it has this number. Its log is not imported.
 pub record IsNoLog (bytes : Bool) (fault : ImportFault) (line : ℕ) (text : List ℕ) : Type 0 where
   pub head : List ℕ
   pub front : List ℕ
@@ -79,7 +79,7 @@ pub record IsNoLog (bytes : Bool) (fault : ImportFault) (line : ℕ) (text : Lis
   pub channel : List ℕ
   pub log : List ℕ
   pub rest : List ℕ
-  pub parts : text ≡ front ++ (ended channel ++ (log ++ rest))
+  pub parts : text ≡ front ++ (with_line_feed channel ++ (log ++ rest))
   pub alone : HasNoOwn log
   pub tables : List Table
   pub has : HasTables head tables
@@ -95,14 +95,14 @@ pub record HasNoTable (bytes : Bool) (at line : ℕ) (text : List ℕ) : Type 0 
   pub channel : List ℕ
   pub log : List ℕ
   pub rest : List ℕ
-  pub parts : text ≡ front ++ (ended channel ++ (log ++ rest))
+  pub parts : text ≡ front ++ (with_line_feed channel ++ (log ++ rest))
   pub alone : HasNoOwn log
   pub tables : List Table
   pub has : HasTables head tables
   pub other : HasOther tables at log
   pub number : line ≡ next_number (lines_in front)
 
--- The same, but that its log tells a journal that is none of a bundle's there.
+-- The same, but that its log describes a journal that is none of a bundle's there.
 pub record IsNoJournal (bytes : Bool) (fault : JournalFault) (line : ℕ) (text : List ℕ) : Type 0 where
   pub head : List ℕ
   pub front : List ℕ

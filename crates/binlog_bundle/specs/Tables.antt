@@ -7,7 +7,7 @@ use Rattle.txn_journal.specs.Stream.{next_number}
 use Rattle.txn_journal.specs.Words.{IsOneLine}
 use Rattle.binlog_text.specs.Lines.{Said, OfTable}
 use Rattle.binlog_text.specs.Reading.{line_of}
-use Rattle.binlog_bundle.specs.Lines.{ended, lines_in}
+use Rattle.binlog_bundle.specs.Lines.{with_line_feed, lines_in}
 
 abbrev pub has_table : List Table → List ℕ → Bool
 has_table tables name = list_any (λ t. bytes_eq t.name name) tables
@@ -22,7 +22,7 @@ pub record HasOther (tables : List Table) (n : ℕ) (log : List ℕ) : Type 0 wh
   pub before : List (List ℕ)
   pub line : List ℕ
   pub rest : List ℕ
-  pub parts : log ≡ flat_map ended before ++ (line ++ 10 ∷ rest)
+  pub parts : log ≡ flat_map with_line_feed before ++ (line ++ 10 ∷ rest)
   pub whole : AllByRecursion IsOneLine before × IsOneLine line
   pub maps : maps_other tables (line_of line) ≡ true
-  pub number : n ≡ next_number (lines_in (flat_map ended before))
+  pub number : n ≡ next_number (lines_in (flat_map with_line_feed before))

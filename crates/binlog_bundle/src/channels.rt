@@ -1,7 +1,7 @@
 //! The channels of a bundle of logs.
 ghost use Rattle.std.specs.Prelude.{◌≡◌, ◌++◌, ℕ, List, IfOk, IfErr, OnOk};
 ghost use Rattle.txn_journal.specs.BundleReaders.{bundle_reading};
-ghost use Rattle.binlog_bundle.specs.Lines.{ended, HasNoOwn};
+ghost use Rattle.binlog_bundle.specs.Lines.{with_line_feed, HasNoOwn};
 ghost use Rattle.binlog_bundle.specs.Bundles.{HasTables};
 ghost use Rattle.binlog_bundle.specs.Refused.{IsFed, IsNoBundle};
 ghost use Rattle.binlog_bundle.specs.Channels.{HasCome, Brings, IsJournalFault, CantBring};
@@ -15,7 +15,7 @@ use rows::Schema;
 use std::alloc::Global;
 use txn_journal::{BundleReader, JournalFault};
 
-/// Why the journal that a log tells is not taken: a line of the log that maps a table which the schema has not is named, if there is one.
+/// Why the journal that a log describes is not taken: a line of the log that maps a table which the schema has not is named, if there is one.
 fn journal_fault(schema: &Schema, log: &[u8], fault: JournalFault) -> ChannelFault
     ensures { IsJournalFault schema.now log.now fault result }
 {
@@ -28,8 +28,8 @@ fn journal_fault(schema: &Schema, log: &[u8], fault: JournalFault) -> ChannelFau
     }
 }
 
-/// Takes the line of a channel, with its line feed, and the journal that its log tells.
-fn bring(
+/// Takes the line of a channel, with its line feed, and the journal that its log describes.
+fn take_channel(
     alloc: Global,
     bytes: bool,
     schema: &Schema,
@@ -76,7 +76,7 @@ pub fn take_channels<'a>(
         }
         let (line, _) = split_before(left, after.len());
         let (log, behind) = cut_own(after);
-        match bring(alloc, bytes, schema, reader, line, log) {
+        match take_channel(alloc, bytes, schema, reader, line, log) {
             Ok(()) => left = behind,
             Err(fault) => return Err(fault.at(line_at(text, left))),
         }

@@ -1,6 +1,6 @@
 //! Why a bundle of logs is not read.
 ghost use Rattle.std.specs.Prelude.{◌≡◌};
-ghost use Rattle.binlog_bundle.specs.Refused.{moved, placed};
+ghost use Rattle.binlog_bundle.specs.Refused.{fault_at_line, channel_fault_at};
 
 use binlog_entries::ImportFault;
 use thiserror::Error;
@@ -12,20 +12,20 @@ pub enum BundleFault {
     /// A line of the bundle's own is faulty, or the text ends before its last line.
     #[error("{0}")]
     Own(JournalFault),
-    /// The log behind the line of a channel is not imported; its own lines count from the next one.
+    /// The log after the line of a channel is not imported; its own lines count from the next one.
     #[error("the log behind line {line}: {fault}")]
     Log { line: u64, fault: ImportFault },
-    /// A line of the log behind the line of a channel maps a table that the bundle has not; it counts from the next one.
+    /// A line of the log after the line of a channel maps a table that the bundle has not; it counts from the next one.
     #[error("line {at} of the log behind line {line} maps another table")]
     Table { line: u64, at: u64 },
-    /// What the log behind the line of a channel tells, the bundle's tables or the limits of its format do not allow. The fault names that line.
+    /// What the log after the line of a channel tells, the bundle's tables or the limits of its format do not allow. The fault names that line.
     #[error("the journal behind that line: {0}")]
     Journal(JournalFault),
 }
 
 /// The same fault at another line.
-pub fn moved(fault: JournalFault, line: u64) -> JournalFault
-    ensures { result ≡ moved fault line }
+pub fn fault_at_line(fault: JournalFault, line: u64) -> JournalFault
+    ensures { result ≡ fault_at_line fault line }
 {
     match fault {
         JournalFault::Set(fault) => JournalFault::Set(fault),
@@ -44,15 +44,15 @@ pub enum ChannelFault {
 }
 
 impl ChannelFault {
-    /// The fault of a bundle whose channel stands at this line.
+    /// The fault of a bundle whose channel is at this line.
     pub fn at(self, line: u64) -> BundleFault
-        ensures { result ≡ placed self line }
+        ensures { result ≡ channel_fault_at self line }
     {
         match self {
-            ChannelFault::Own(fault) => BundleFault::Own(moved(fault, line)),
+            ChannelFault::Own(fault) => BundleFault::Own(fault_at_line(fault, line)),
             ChannelFault::Log(fault) => BundleFault::Log { line, fault },
             ChannelFault::Table(at) => BundleFault::Table { line, at },
-            ChannelFault::Journal(fault) => BundleFault::Journal(moved(fault, line)),
+            ChannelFault::Journal(fault) => BundleFault::Journal(fault_at_line(fault, line)),
         }
     }
 }

@@ -7,14 +7,14 @@ ghost use Rattle.binlog_bundle.specs.Refused.{IsNoBundle};
 ghost use Rattle.binlog_bundle.specs.Channels.{HasCome};
 
 use crate::channels::take_channels;
-use crate::fault::{BundleFault, moved};
+use crate::fault::{BundleFault, fault_at_line};
 use crate::lines::{cut_own, line_at, split_line};
 use crate::reading::{add, close, read_head};
 use rows::Schema;
 use std::alloc::Global;
 use txn_journal::{Bundle, BundleReader, decode_bundle};
 
-/// The bundle that a text tells, behind its channels.
+/// The bundle that a text describes, after its channels.
 fn end(
     alloc: Global,
     bytes: bool,
@@ -32,15 +32,15 @@ fn end(
     let (line, behind) = split_line(left);
     match add(alloc, &mut reader, line) {
         Ok(()) => {}
-        Err(fault) => return Err(BundleFault::Own(moved(fault, line_at(text, left)))),
+        Err(fault) => return Err(BundleFault::Own(fault_at_line(fault, line_at(text, left)))),
     }
     match close(alloc, reader, behind) {
         Ok(bundle) => Ok(bundle),
-        Err(fault) => Err(BundleFault::Own(moved(fault, line_at(text, behind)))),
+        Err(fault) => Err(BundleFault::Own(fault_at_line(fault, line_at(text, behind)))),
     }
 }
 
-/// The bundle that a text tells, from its first channel on.
+/// The bundle that a text describes, from its first channel on.
 fn import_channels(
     alloc: Global,
     bytes: bool,
@@ -77,12 +77,12 @@ fn import_head(alloc: Global, bytes: bool, head: &[u8]) -> Result<Bundle, Bundle
     }
 }
 
-/// The bundle that a text tells: a bundle of version 2, but that a log's text, as mysqlbinlog prints it, stands in the place of each journal.
+/// The bundle that a text describes: a bundle of version 2, but that a log's text, as mysqlbinlog prints it, is in the place of each journal.
 /// `bytes` takes keys that the server compares otherwise than their bytes.
 pub fn import_bundle(alloc: Global, bytes: bool, text: &[u8]) -> Result<Bundle, BundleFault>
-    // Its text is the other one with the journals that the logs tell.
+    // Its text is the other one with the journals that the logs describe.
     ensures found { IfOk result (λ b. ImportsBundle bytes text.now b) }
-    // Which line is the first that is refused, or which log tells no journal of that bundle.
+    // Which line is the first that is refused, or which log describes no journal of that bundle.
     ensures refused { IfErr result (λ fault. IsNoBundle bytes fault text.now) }
 {
     let (head, rest) = cut_own(text);

@@ -7,7 +7,7 @@ ghost use Rattle.binlog_entries.specs.Stream.{IsLog};
 ghost use Rattle.binlog_entries.specs.declared.varied.Varied.{Varied};
 ghost use Rattle.binlog_bundle.specs.Lines.{is_own, HasNoOwn};
 
-/// No line that mysqlbinlog prints is one of a bundle's own, so none stands in a log.
+/// No line that mysqlbinlog prints is one of a bundle's own, so none is in a log.
 pub fn logs_are_not_cut()
     ensures line { (l : Said) (line : List ℕ) → IsLine l line → is_own line ≡ false }
     ensures log { (text : List ℕ) (previous : Gtids) (entries : List Entry) (varied : List Varied) → IsLog text previous entries varied → HasNoOwn text }

@@ -1,6 +1,6 @@
 //! Bundles whose journals are the texts of MySQL's binary logs, as `mysqlbinlog` 9.7 prints them.
 //!
-//! The input is a bundle of version 2 in which the text of a channel's logs stands for its journal. It is cut at the lines of the bundle's
+//! The input is a bundle of version 2 in which the text of a channel's logs is in the place of its journal. It is cut at the lines of the bundle's
 //! own (`channel ..`, `done`), which no line of a log is (`logs_are_not_cut`). Each log is read by `binlog_entries::import_journal`, and
 //! the reader of bundles is fed with the lines of the bundle's own and with the text of each journal in the place of its log.
 //!

@@ -19,7 +19,7 @@ fn is_own(line: &[u8]) -> bool
     is_channel(line) || line == b"done".as_slice()
 }
 
-/// A text before and behind the place where so many bytes are left.
+/// A text before and after the place where so many bytes are left.
 pub fn split_before(text: &[u8], left: usize) -> (&[u8], &[u8])
     ensures { (front rest : List ℕ) → text.now ≡ front ++ rest → left ≡ length rest → (result.0.now ≡ front) × (result.1.now ≡ rest) }
 {

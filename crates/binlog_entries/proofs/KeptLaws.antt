@@ -1,7 +1,7 @@
 -- What each line leaves of what was executed before, and of the columns that the server compares otherwise than their bytes.
-use Rattle.std.proofs.Common.{◌≡◌, ℕ, Bool, true, false, cond, List, [], ◌∷◌, Option, Some, None, Ok, Err, refl, sym, ap, ◌∙◌, subst}
+use Rattle.std.proofs.Common.{◌≡◌, ℕ, Bool, true, false, cond, List, [], ◌∷◌, Option, Some, None, Ok, Err, refl, sym, ap, ◌∙◌, subst, length}
 use Rattle.std.specs.FinSet as set
-use Rattle.journal_words.specs.Gtids.{set_of_word}
+use Rattle.journal_words.specs.Gtids.{set_of_word, gtid_of_word}
 use Rattle.txn_journal.specs.Words.{name_of}
 use Rattle.binlog_text.specs.Types.{type_named}
 use Rattle.binlog_text.specs.declared.lines.Event.{Event}
@@ -10,21 +10,17 @@ use Rattle.binlog_text.specs.declared.lines.Mark.{Mark}
 use Rattle.binlog_text.specs.declared.lines.Mark.TheVariants as marks
 use Rattle.binlog_text.specs.declared.lines.Operation.{Operation}
 use Rattle.binlog_text.specs.Lines.{Column, Said, OfMark, OfHead, OfTable, OfColumn, OfGtid, OfSources, OfRow, OfValue}
-use Rattle.binlog_entries.specs.Tables.{Table}
+use Rattle.binlog_entries.specs.Tables.{Table, table_named}
 use Rattle.binlog_entries.specs.Bodies.{kind_of, takes}
-use Rattle.binlog_entries.specs.Meaning.{nowhere}
+use Rattle.binlog_entries.specs.Meaning.{nowhere, with_sources, executed_before, varied_by, varied_in}
 use Rattle.binlog_entries.specs.declared.draft.Stage.TheVariants as stages
-use Rattle.binlog_entries.specs.declared.fault.Refusal.{Refusal}
-use Rattle.binlog_entries.specs.declared.fault.Refusal.TheVariants as refusals
-use Rattle.std.proofs.Common.{length}
+use Rattle.binlog_entries.specs.declared.fault.EntryRefusal.{EntryRefusal}
+use Rattle.binlog_entries.specs.declared.fault.EntryRefusal.TheVariants as refusals
 use Rattle.std.specs.Prelude.{is_some, ◌&&◌}
-use Rattle.journal_words.specs.Gtids.{gtid_of_word}
-use Rattle.binlog_entries.specs.Tables.{table_named}
-use Rattle.binlog_entries.specs.Meaning.{with_sources, executed_before, varied_by, varied_in}
 use Rattle.gtid_set.specs.Sets.{Gtids}
 use Rattle.binlog_entries.specs.declared.varied.Varied.{Varied}
 use Rattle.binlog_entries.specs.Varied.{varied_behind}
-use Rattle.binlog_entries.specs.Machine.{Standing, ◌>>=◌, or_refused, is_idle, is_named, is_begun, same_stage, is_whole, with_change, finish_in, finish_by, finished, is_database, may_be_database, has_rows_of, known_name, row_line, before_due, after_due, where_line, set_line, next_value, value_in, value_line, place_line, table_line, noted, column_line, commit_line, begin_line, gtid_line, sources_line, head_line, mark_line, told, step, runs, start}
+use Rattle.binlog_entries.specs.Machine.{Standing, ◌>>=◌, or_refused, is_idle, is_named, is_begun, same_stage, is_whole, with_change, finish_in, finish_by, finish_row, is_database, may_be_database, has_rows_of, known_name, row_line, before_due, after_due, where_line, set_line, next_value, value_in, value_line, place_line, table_line, note_varied, column_line, commit_line, begin_line, gtid_line, sources_line, head_line, mark_line, take_content, step, runs, start}
 use Rattle.binlog_entries.specs.declared.draft.Part.{Part}
 use Rattle.binlog_entries.specs.declared.draft.Part.TheVariants as parts
 use Rattle.binlog_entries.proofs.TransactionLaws.{bind_ok, same_ok, if_ok, done, context_of, Sound}
@@ -44,7 +40,7 @@ Stay s t = kept t ≡ kept s
 by_ok : (s x t : Standing) → Stay s x → done x ≡ Ok t → Stay s t
 by_ok s x t same e = subst (Stay s) (same_ok x t e) same
 
-by_test : (b : Bool) (s x t : Standing) (e : Refusal) → Stay s x → cond b (Ok x) (Err e) ≡ Ok t → Stay s t
+by_test : (b : Bool) (s x t : Standing) (e : EntryRefusal) → Stay s x → cond b (Ok x) (Err e) ≡ Ok t → Stay s t
 by_test b s x t e same h = subst (Stay s) (if_ok b x e t h).1 same
 
 finish_stays : (s u : Standing) (r : Option (List ℕ)) → finish_by s r ≡ Ok u → Stay s u
@@ -55,18 +51,18 @@ finish_stays s u (Some table) h = named (table_named table s.tables) h
     named None e = absurd cc
     named (Some t) e = by_test (is_whole s.operation s.part (length s.before) (length s.after) (length t.columns)) s (with_change s table) u refusals.Columns refl e
 
-finished_stays : (s u : Standing) → finished s ≡ Ok u → Stay s u
-unfolding finished
+finished_stays : (s u : Standing) → finish_row s ≡ Ok u → Stay s u
+unfolding finish_row
 finished_stays s u h = finish_stays s u s.row h
 
 place_stays : (s t : Standing) → place_line s ≡ Ok t → Stay s t
 unfolding place_line
-place_stays s t h = let a = bind_ok (finished s) _ t h in by_ok s _ t (finished_stays s a.0 a.1) a.2
+place_stays s t h = let a = bind_ok (finish_row s) _ t h in by_ok s _ t (finished_stays s a.0 a.1) a.2
 
 row_stays : (s t : Standing) (operation : Operation) (database table : List ℕ) → row_line s operation database table ≡ Ok t → Stay s t
 unfolding row_line
 row_stays s t operation database table h =
-    let a = bind_ok (finished s) _ t h in
+    let a = bind_ok (finish_row s) _ t h in
     let b = unless_not (has_rows_of a.0.body operation) refusals.Format _ t a.2 in
     let c = unless_not (is_database database a.0.database) refusals.Table _ t b.1 in
     let o = opened_is a.0 t operation (known_name table a.0.tables) c.1 in
@@ -81,7 +77,7 @@ value_line_stays : (s t : Standing) (n : ℕ) (text : List ℕ) → value_line s
 unfolding value_line
 value_line_stays s t n text h = value_stays s t s.part n text h
 
--- no set that comes behind a GTID is read
+-- no set that comes after a GTID is read
 gtid_ends : (s t : Standing) (word : List ℕ) → gtid_line s word ≡ Ok t → kept t ≡ (s.varied, (s.previous, false))
 unfolding gtid_line
 gtid_ends s t word h =
@@ -130,7 +126,7 @@ column_varies : (s t : Standing) (c : Column) → column_line s c ≡ Ok t → k
 unfolding column_line
 column_varies s t c h =
     let a = bind_ok (or_refused refusals.Type (type_named c.column_type)) _ t h in
-    let m = added_is (noted s c.column_type) t s.mapping c.is_first a.0 a.2 in
+    let m = added_is (note_varied s c.column_type) t s.mapping c.is_first a.0 a.2 in
     subst (λ (u : Standing). kept u ≡ (varied_behind s.varied s.mapping c.column_type, (s.previous, s.is_fresh))) m.2 refl
 
 mark_stays : (s t : Standing) (mark : Mark) → mark_line s mark ≡ Ok t → Stay s t
@@ -150,7 +146,7 @@ mark_stays s t marks.Comment h = by_ok s s t refl h
 mark_stays s t marks.Setting h = by_ok s s t refl h
 mark_stays s t marks.Frame h = by_ok s s t refl h
 
--- whether sets are read, and what was executed before, behind a line
+-- whether sets are read, and what was executed before, after a line
 abbrev before_by : Gtids × Bool → Said → Gtids × Bool
 before_by b (OfGtid gtid) = (b.0, false)
 before_by b (OfSources sources more) = (joined b.1 b.0 (set_of_word sources), b.1)
@@ -164,7 +160,7 @@ before_by b (OfValue n text) = b
 abbrev kept_by : Standing → Said → Kept
 kept_by s l = (varied_by (context_of s) s.varied l, before_by (s.previous, s.is_fresh) l)
 
-told_keeps : (s t : Standing) (l : Said) → told s l ≡ Ok t → kept t ≡ kept_by s l
+told_keeps : (s t : Standing) (l : Said) → take_content s l ≡ Ok t → kept t ≡ kept_by s l
 told_keeps s t (OfMark mark) h = mark_stays s t mark h
 told_keeps s t (OfHead event) h = head_stays s t event h
 told_keeps s t (OfTable database table) h = table_stays s t database table h
@@ -178,7 +174,7 @@ step_keeps : (s t : Standing) (l : Said) → step s l ≡ Ok t → kept t ≡ ke
 unfolding step
 step_keeps s t l h =
     let p = test_ok (takes s.body (kind_of l)) _ refusals.Format t h in
-    let a = bind_ok (told s l) _ t p.1 in
+    let a = bind_ok (take_content s l) _ t p.1 in
     subst (λ (u : Standing). kept u ≡ kept_by s l) (same_ok _ t a.2) (told_keeps s a.0 l a.1)
 
 -- ---- columns

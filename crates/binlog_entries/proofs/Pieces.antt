@@ -4,10 +4,10 @@ use Rattle.std.specs.List.{list_all}
 use Rattle.std.proofs.lemmas.Bool.{and_parts, not-true}
 use Rattle.txn_journal.specs.Words.{IsOneLine}
 use Rattle.binlog_entries.specs.Machine.{Standing, judge}
-use Rattle.binlog_entries.specs.Stream.{Progress, Reading, Stopped, unless_stopped, next_number, judged, eat, eats, answer, IsAfter, TakesPiece}
+use Rattle.binlog_entries.specs.Stream.{Progress, Reading, Stopped, unless_stopped, next_number, progress_after, eat, eats, answer, IsAfter, TakesPiece}
 use Rattle.binlog_entries.specs.declared.fault.ReadFault.{ReadFault}
 use Rattle.binlog_entries.specs.declared.fault.ReadFault.TheVariants as faults
-use Rattle.binlog_entries.specs.declared.fault.Refusal.{Refusal}
+use Rattle.binlog_entries.specs.declared.fault.EntryRefusal.{EntryRefusal}
 
 pub stopped_stays : (f : ReadFault) (bs : List ℕ) → eats (Stopped f) bs ≡ Stopped f
 unfolding eat
@@ -27,7 +27,7 @@ eats_rest s n rest (b ∷ bs) one =
     let p = and_parts (not (eqb b 10)) (list_all (λ c. not (eqb c 10)) bs) one in
     rw (not-true (eqb b 10) p.0) (eats_rest s n (rest ++ b ∷ []) bs p.1 ∙ ap (Reading s n) (append_assoc rest (b ∷ []) bs))
 
-pub eats_line : (s : Standing) (n : ℕ) (rest line : List ℕ) → IsOneLine line → eats (Reading s n rest) (line ++ 10 ∷ []) ≡ judged (judge s (rest ++ line)) (next_number n)
+pub eats_line : (s : Standing) (n : ℕ) (rest line : List ℕ) → IsOneLine line → eats (Reading s n rest) (line ++ 10 ∷ []) ≡ progress_after (judge s (rest ++ line)) (next_number n)
 unfolding eat
 eats_line s n rest line one = eats_append (Reading s n rest) line (10 ∷ []) ∙ ap (λ (p : Progress). eat p 10) (eats_rest s n rest line one)
 
@@ -39,19 +39,19 @@ pub line_ok : (o q : Option ReadFault) (s t : Standing) (n m : ℕ) (rest new li
 line_ok o q s t n m rest new line goes same one made none next =
     ap (λ (k : Option ReadFault). eats (unless_stopped k (Reading s n rest)) (line ++ 10 ∷ [])) goes
     ∙ eats_line s n rest line one
-    ∙ ap (λ (r : Result Standing Refusal). judged r (next_number n)) made
+    ∙ ap (λ (r : Result Standing EntryRefusal). progress_after r (next_number n)) made
     ∙ sym (λ i. unless_stopped ((same ∙ goes) i) (Reading t (next i) (none i)))
 
-pub line_refused : (o : Option ReadFault) (s : Standing) (n m : ℕ) (rest line : List ℕ) (refusal : Refusal)
+pub line_refused : (o : Option ReadFault) (s : Standing) (n m : ℕ) (rest line : List ℕ) (refusal : EntryRefusal)
     → o ≡ None → IsOneLine line → judge s (rest ++ line) ≡ Err refusal → m ≡ next_number n
     → eats (unless_stopped o (Reading s n rest)) (line ++ 10 ∷ []) ≡ Stopped (faults.Line m refusal)
 line_refused o s n m rest line refusal goes one made next =
     ap (λ (k : Option ReadFault). eats (unless_stopped k (Reading s n rest)) (line ++ 10 ∷ [])) goes
     ∙ eats_line s n rest line one
-    ∙ ap (λ (r : Result Standing Refusal). judged r (next_number n)) made
+    ∙ ap (λ (r : Result Standing EntryRefusal). progress_after r (next_number n)) made
     ∙ sym (λ i. Stopped (faults.Line (next i) refusal))
 
--- a line in front of what is left
+-- a line before what is left
 pub line_taken : (now then total : Progress) (left line after : List ℕ)
     → left ≡ line ++ 10 ∷ after → eats now (line ++ 10 ∷ []) ≡ then → eats now left ≡ total → eats then after ≡ total
 line_taken now then total left line after parts took so_far =

@@ -1,4 +1,4 @@
--- Each line of a row adds what it means to what the row spells.
+-- Each line of a row adds what it means to what the row denotes.
 use Rattle.std.proofs.Common.{◌≡◌, ℕ, ◌+◌, ◌-◌, Bool, true, false, cond, eqb, not, List, [], ◌∷◌, ◌++◌, length, Option, Some, None, Result, Ok, Err, refl, sym, ap, ◌∙◌, subst, append_assoc, arith, inl, inr}
 use Rattle.std.specs.Prelude.{◌&&◌, is_some}
 use Rattle.std.specs.List.{flat_map}
@@ -7,7 +7,7 @@ use Rattle.std.proofs.lemmas.Option.{same_Some}
 use Rattle.gtid_text.proofs.Turns.{chosen}
 use Rattle.gtid_text.specs.Canonical.{gtid_text}
 use Rattle.gtid_text.specs.declared.Gtid.{Gtid}
-use Rattle.rows.specs.declared.value.Value.{Value}
+use Rattle.row_images.specs.declared.value.Value.{Value}
 use Rattle.rows.specs.declared.change.Change.{Change}
 use Rattle.rows.specs.Names.{is_name}
 use Rattle.txn_journal.specs.Words.{name_of}
@@ -18,16 +18,16 @@ use Rattle.binlog_text.specs.declared.lines.Operation.{Operation}
 use Rattle.binlog_text.specs.declared.lines.Operation.TheVariants as operations
 use Rattle.binlog_text.specs.Lines.{OfMark, OfRow, OfValue}
 use Rattle.binlog_entries.specs.Tables.{Table, table_named, type_at}
-use Rattle.binlog_entries.specs.Machine.{Standing, or_refused, is_begun, finished, is_database, has_rows_of, open_row, known_name, begin_row, row_line, before_due, after_due, where_line, set_line, typed_value, next_value, value_in, value_line, is_closed}
-use Rattle.binlog_entries.specs.Meaning.{Meaning, Names, Row, Before, After, Holds, shown_in, held, spelled_change, spelled}
+use Rattle.binlog_entries.specs.Machine.{Standing, or_refused, is_begun, finish_row, is_database, has_rows_of, open_row, known_name, begin_row, row_line, before_due, after_due, where_line, set_line, parse_value, next_value, value_in, value_line, is_closed}
+use Rattle.binlog_entries.specs.Meaning.{Meaning, Names, Row, Before, After, Holds, shown_in, meaning_of_values, meaning_of_change, meaning_of_entries}
 use Rattle.binlog_entries.specs.declared.bodies.Body.{Body}
 use Rattle.binlog_entries.specs.declared.bodies.Body.TheVariants as bodies
 use Rattle.binlog_entries.specs.declared.draft.Stage.{Stage}
 use Rattle.binlog_entries.specs.declared.draft.Stage.TheVariants as stages
 use Rattle.binlog_entries.specs.declared.draft.Part.{Part}
 use Rattle.binlog_entries.specs.declared.draft.Part.TheVariants as parts
-use Rattle.binlog_entries.specs.declared.fault.Refusal.{Refusal}
-use Rattle.binlog_entries.specs.declared.fault.Refusal.TheVariants as refusals
+use Rattle.binlog_entries.specs.declared.fault.EntryRefusal.{EntryRefusal}
+use Rattle.binlog_entries.specs.declared.fault.EntryRefusal.TheVariants as refusals
 use Rattle.binlog_entries.proofs.TransactionLaws.{bind_ok, same_ok, if_ok, spelled_row, spelled_open, row_of, spelled_state, is_rows, RowFits, Sound, Tells, bare, finish_law}
 
 -- ---- rows
@@ -37,8 +37,8 @@ pub grown : (es : List Meaning) (stage : Stage) (gtid : Gtid) (cs : List Change)
 grown es stages.Idle gtid cs old new m b e = absurd cc
 grown es stages.Named gtid cs old new m b e = absurd cc
 grown es stages.Begun gtid cs old new m b e =
-    ap (λ (xs : List Meaning). es ++ (Names (gtid_text gtid) ∷ xs)) (ap (λ (xs : List Meaning). flat_map spelled_change cs ++ xs) e ∙ sym (append_assoc (flat_map spelled_change cs) old m))
-    ∙ sym (append_assoc es (Names (gtid_text gtid) ∷ (flat_map spelled_change cs ++ old)) m)
+    ap (λ (xs : List Meaning). es ++ (Names (gtid_text gtid) ∷ xs)) (ap (λ (xs : List Meaning). flat_map meaning_of_change cs ++ xs) e ∙ sym (append_assoc (flat_map meaning_of_change cs) old m))
+    ∙ sym (append_assoc es (Names (gtid_text gtid) ∷ (flat_map meaning_of_change cs ++ old)) m)
 
 -- what is known of a state within rows
 pub sound_rows : (s : Standing) → is_rows s.body ≡ true → is_begun s.stage ≡ true → RowFits s.row s.part s.before s.after → Sound s
@@ -56,14 +56,14 @@ sound_rows s rows begun fits = record {
 
 pub where_row : (r : Option (List ℕ)) (operation : Operation) (part : Part) (before after : List Value) → (is_some r && before_due operation part) ≡ true → RowFits r part before after → (spelled_row r operation parts.Before before after ≡ spelled_row r operation part before after ++ Before ∷ []) × RowFits r parts.Before before after
 where_row None operation part before after e fits = absurd cc
-where_row (Some table) operations.Update parts.Head before after e fits = (ap (λ (vs : List Value). Row operations.Update table ∷ Before ∷ held 1 vs) fits.0, fits.1)
-where_row (Some table) operations.Delete parts.Head before after e fits = (ap (λ (vs : List Value). Row operations.Delete table ∷ Before ∷ held 1 vs) fits.0, fits.1)
+where_row (Some table) operations.Update parts.Head before after e fits = (ap (λ (vs : List Value). Row operations.Update table ∷ Before ∷ meaning_of_values 1 vs) fits.0, fits.1)
+where_row (Some table) operations.Delete parts.Head before after e fits = (ap (λ (vs : List Value). Row operations.Delete table ∷ Before ∷ meaning_of_values 1 vs) fits.0, fits.1)
 where_row (Some table) _ _ before after e fits = absurd cc
 
 pub set_row : (r : Option (List ℕ)) (operation : Operation) (part : Part) (before after : List Value) → (is_some r && after_due operation part) ≡ true → RowFits r part before after → (spelled_row r operation parts.After before after ≡ spelled_row r operation part before after ++ After ∷ []) × RowFits r parts.After before after
 set_row None operation part before after e fits = absurd cc
-set_row (Some table) operations.Insert parts.Head before after e fits = (ap (λ (vs : List Value). Row operations.Insert table ∷ After ∷ held 1 vs) fits.1, tt)
-set_row (Some table) operations.Update parts.Before before after e fits = (ap (λ (vs : List Value). Row operations.Update table ∷ Before ∷ (held 1 before ++ After ∷ held 1 vs)) fits, tt)
+set_row (Some table) operations.Insert parts.Head before after e fits = (ap (λ (vs : List Value). Row operations.Insert table ∷ After ∷ meaning_of_values 1 vs) fits.1, tt)
+set_row (Some table) operations.Update parts.Before before after e fits = (ap (λ (vs : List Value). Row operations.Update table ∷ Before ∷ (meaning_of_values 1 before ++ After ∷ meaning_of_values 1 vs)) fits, tt)
 set_row (Some table) _ _ before after e fits = absurd cc
 
 pub where_law : (s t : Standing) → Sound s → is_rows s.body ≡ true → where_line s ≡ Ok t → Tells s (OfMark marks.Where) t
@@ -72,7 +72,7 @@ where_law s t sound rows h =
     let p = if_ok (is_some s.row && before_due s.operation s.part) (record s { part = parts.Before }) refusals.Columns t h in
     let row = where_row s.row s.operation s.part s.before s.after p.0 sound.fits in
     subst (λ (u : Standing). Tells s (OfMark marks.Where) u) p.1 (record {
-      spells = grown (spelled s.entries) s.stage s.gtid s.changes (row_of s) _ (Before ∷ []) (sound.begun rows) row.0;
+      spells = grown (meaning_of_entries s.entries) s.stage s.gtid s.changes (row_of s) _ (Before ∷ []) (sound.begun rows) row.0;
       context = refl;
       sound = sound_rows (record s { part = parts.Before }) rows (sound.begun rows) row.1;
     })
@@ -83,18 +83,18 @@ set_law s t sound rows h =
     let p = if_ok (is_some s.row && after_due s.operation s.part) (record s { part = parts.After }) refusals.Columns t h in
     let row = set_row s.row s.operation s.part s.before s.after p.0 sound.fits in
     subst (λ (u : Standing). Tells s (OfMark marks.Set) u) p.1 (record {
-      spells = grown (spelled s.entries) s.stage s.gtid s.changes (row_of s) _ (After ∷ []) (sound.begun rows) row.0;
+      spells = grown (meaning_of_entries s.entries) s.stage s.gtid s.changes (row_of s) _ (After ∷ []) (sound.begun rows) row.0;
       context = refl;
       sound = sound_rows (record s { part = parts.After }) rows (sound.begun rows) row.1;
     })
 
 -- one value more
-pub held_more : (n m : ℕ) (vs : List Value) (v : Value) → m ≡ n + length vs → held n (vs ++ v ∷ []) ≡ held n vs ++ Holds m (Some v) ∷ []
+pub held_more : (n m : ℕ) (vs : List Value) (v : Value) → m ≡ n + length vs → meaning_of_values n (vs ++ v ∷ []) ≡ meaning_of_values n vs ++ Holds m (Some v) ∷ []
 held_more n m [] v e = ap (λ (k : ℕ). Holds k (Some v) ∷ []) (omega (arith, e))
 held_more n m (w ∷ ws) v e = ap (λ (xs : List Meaning). Holds n (Some w) ∷ xs) (held_more (n + 1) m ws v (omega (arith, e)))
 
 -- the value that was read is that which the column shows
-pub value_found : (type : Option ColumnType) (text : List ℕ) (v : Value) → typed_value type text ≡ Ok v → shown_in type text ≡ Some v
+pub value_found : (type : Option ColumnType) (text : List ℕ) (v : Value) → parse_value type text ≡ Ok v → shown_in type text ≡ Some v
 value_found None text v e = absurd cc
 value_found (Some type) text v e = taken (value_at type text) v e
   where
@@ -108,13 +108,13 @@ pub record Values (s : Standing) (place n : ℕ) (text : List ℕ) (v : Value) :
   pub shown : shown_in (type_at s.row s.tables (n - 1)) text ≡ Some v
   pub row : (table : List ℕ) × (s.row ≡ Some table)
 
-pub row_typed : (r : Option (List ℕ)) (tables : List Table) (place : ℕ) (text : List ℕ) (v : Value) → typed_value (type_at r tables place) text ≡ Ok v → (table : List ℕ) × (r ≡ Some table)
+pub row_typed : (r : Option (List ℕ)) (tables : List Table) (place : ℕ) (text : List ℕ) (v : Value) → parse_value (type_at r tables place) text ≡ Ok v → (table : List ℕ) × (r ≡ Some table)
 row_typed None tables place text v e = absurd cc
 row_typed (Some table) tables place text v e = (table, refl)
 
 pub next_found : (s : Standing) (place n : ℕ) (text : List ℕ) (v : Value) → next_value s place n text ≡ Ok v → Values s place n text v
 next_found s place n text v e =
-    let p = chosen_result (eqb n (place + 1)) (typed_value (type_at s.row s.tables place) text) refusals.Columns v e in
+    let p = chosen_result (eqb n (place + 1)) (parse_value (type_at s.row s.tables place) text) refusals.Columns v e in
     let number = eqb-true n (place + 1) p.0 in
     let back : n - 1 ≡ place = omega (arith, number) in
     record {
@@ -123,7 +123,7 @@ next_found s place n text v e =
       row = row_typed s.row s.tables place text v p.1;
     }
   where
-    chosen_result : (b : Bool) (r : Result Value Refusal) (e : Refusal) (v : Value) → cond b r (Err e) ≡ Ok v → (b ≡ true) × (r ≡ Ok v)
+    chosen_result : (b : Bool) (r : Result Value EntryRefusal) (e : EntryRefusal) (v : Value) → cond b r (Err e) ≡ Ok v → (b ≡ true) × (r ≡ Ok v)
     chosen_result true r e v h = (refl, h)
     chosen_result false r e v h = absurd cc
 
@@ -135,11 +135,11 @@ pub after_more : (r : Option (List ℕ)) (table : List ℕ) (operation : Operati
 after_more None table operation before after n v e m = absurd cc
 after_more (Some t) table operations.Insert before after n v e m = ap (λ (xs : List Meaning). Row operations.Insert t ∷ After ∷ xs) (held_more 1 n after v (omega (arith, m)))
 after_more (Some t) table operations.Update before after n v e m =
-    ap (λ (xs : List Meaning). Row operations.Update t ∷ Before ∷ (held 1 before ++ After ∷ xs)) (held_more 1 n after v (omega (arith, m)))
-    ∙ ap (λ (xs : List Meaning). Row operations.Update t ∷ Before ∷ xs) (sym (append_assoc (held 1 before) (After ∷ held 1 after) (Holds n (Some v) ∷ [])))
+    ap (λ (xs : List Meaning). Row operations.Update t ∷ Before ∷ (meaning_of_values 1 before ++ After ∷ xs)) (held_more 1 n after v (omega (arith, m)))
+    ∙ ap (λ (xs : List Meaning). Row operations.Update t ∷ Before ∷ xs) (sym (append_assoc (meaning_of_values 1 before) (After ∷ meaning_of_values 1 after) (Holds n (Some v) ∷ [])))
 after_more (Some t) table operations.Delete before after n v e m =
-    ap (λ (xs : List Meaning). Row operations.Delete t ∷ Before ∷ (held 1 before ++ After ∷ xs)) (held_more 1 n after v (omega (arith, m)))
-    ∙ ap (λ (xs : List Meaning). Row operations.Delete t ∷ Before ∷ xs) (sym (append_assoc (held 1 before) (After ∷ held 1 after) (Holds n (Some v) ∷ [])))
+    ap (λ (xs : List Meaning). Row operations.Delete t ∷ Before ∷ (meaning_of_values 1 before ++ After ∷ xs)) (held_more 1 n after v (omega (arith, m)))
+    ∙ ap (λ (xs : List Meaning). Row operations.Delete t ∷ Before ∷ xs) (sym (append_assoc (meaning_of_values 1 before) (After ∷ meaning_of_values 1 after) (Holds n (Some v) ∷ [])))
 
 pub fits_before : (r : Option (List ℕ)) (table : List ℕ) (before more after : List Value) → r ≡ Some table → RowFits r parts.Before before after → RowFits r parts.Before more after
 fits_before None table before more after e fits = absurd cc
@@ -161,7 +161,7 @@ value_by s t parts.Before n text sound rows is h =
     subst (λ (p : Part). RowFits s.row p (s.before ++ a.0 ∷ []) s.after) (sym is)
     (fits_before s.row v.row.0 s.before (s.before ++ a.0 ∷ []) s.after v.row.1 (subst (λ (p : Part). RowFits s.row p s.before s.after) is sound.fits)) in
     subst (λ (u : Standing). Tells s (OfValue n text) u) (same_ok _ t a.2) (record {
-      spells = grown (spelled s.entries) s.stage s.gtid s.changes (row_of s) _ (Holds n (Some a.0) ∷ []) (sound.begun rows) row
+      spells = grown (meaning_of_entries s.entries) s.stage s.gtid s.changes (row_of s) _ (Holds n (Some a.0) ∷ []) (sound.begun rows) row
           ∙ ap (λ (o : Option Value). spelled_state s ++ Holds n o ∷ []) (sym v.shown);
       context = refl;
       sound = sound_rows (record s { before = s.before ++ a.0 ∷ [] }) rows (sound.begun rows) fits;
@@ -175,7 +175,7 @@ value_by s t parts.After n text sound rows is h =
     let fits : RowFits s.row s.part s.before (s.after ++ a.0 ∷ []) =
     subst (λ (p : Part). RowFits s.row p s.before (s.after ++ a.0 ∷ [])) (sym is) (fits_after s.row v.row.0 s.before (s.after ++ a.0 ∷ []) v.row.1) in
     subst (λ (u : Standing). Tells s (OfValue n text) u) (same_ok _ t a.2) (record {
-      spells = grown (spelled s.entries) s.stage s.gtid s.changes (row_of s) _ (Holds n (Some a.0) ∷ []) (sound.begun rows) row
+      spells = grown (meaning_of_entries s.entries) s.stage s.gtid s.changes (row_of s) _ (Holds n (Some a.0) ∷ []) (sound.begun rows) row
           ∙ ap (λ (o : Option Value). spelled_state s ++ Holds n o ∷ []) (sym v.shown);
       context = refl;
       sound = sound_rows (record s { after = s.after ++ a.0 ∷ [] }) rows (sound.begun rows) fits;
@@ -198,7 +198,7 @@ known_is table tables name e = elim (chosen (is_some (table_named table tables))
 ]
 
 -- passed tests
-pub unless_not : {A : Type 0} (b : Bool) (e : Refusal) (r : Result A Refusal) (x : A) → cond (not b) (Err e) r ≡ Ok x → (b ≡ true) × (r ≡ Ok x)
+pub unless_not : {A : Type 0} (b : Bool) (e : EntryRefusal) (r : Result A EntryRefusal) (x : A) → cond (not b) (Err e) r ≡ Ok x → (b ≡ true) × (r ≡ Ok x)
 unless_not true e r x h = (refl, h)
 unless_not false e r x h = absurd cc
 
@@ -209,7 +209,7 @@ opened_is s t operation (Some table) e = (table, refl, same_ok _ t e)
 pub row_law : (s t : Standing) (operation : Operation) (database table : List ℕ) → Sound s → is_rows s.body ≡ true → row_line s operation database table ≡ Ok t → Tells s (OfRow operation database table) t
 unfolding row_line
 row_law s t operation database table sound rows h =
-    let a = bind_ok (finished s) _ t h in
+    let a = bind_ok (finish_row s) _ t h in
     let f = finish_law s a.0 sound a.1 in
     let began : begin_row (bare s f.made) operation database table ≡ Ok t = subst (λ (u : Standing). begin_row u operation database table ≡ Ok t) f.is a.2 in
     let b = unless_not (has_rows_of s.body operation) refusals.Format _ t began in
@@ -218,7 +218,7 @@ row_law s t operation database table sound rows h =
     let name = known_is table s.tables o.0 o.1 in
     let begun = sound.begun rows in
     subst (λ (u : Standing). Tells s (OfRow operation database table) u) o.2 (record {
-      spells = grown (spelled s.entries) s.stage s.gtid f.made [] (Row operation o.0 ∷ []) (Row operation o.0 ∷ []) begun refl
+      spells = grown (meaning_of_entries s.entries) s.stage s.gtid f.made [] (Row operation o.0 ∷ []) (Row operation o.0 ∷ []) begun refl
           ∙ ap (λ (xs : List Meaning). xs ++ Row operation o.0 ∷ []) f.spells
           ∙ ap (λ (xs : List ℕ). spelled_state s ++ Row operation xs ∷ []) (sym name);
       context = ap (λ (xs : List ℕ). record { is_over = s.is_over; mapping = s.mapping; tables = s.tables; row = Some xs }) (sym name);

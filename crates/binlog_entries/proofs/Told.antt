@@ -1,4 +1,4 @@
--- Each line adds what it means to what the entries and what is open spell.
+-- Each line adds what it means to what the entries and what is open denote.
 use Rattle.std.proofs.Common.{◌≡◌, ℕ, Bool, true, false, cond, List, [], ◌∷◌, ◌++◌, Option, Some, None, Result, Ok, Err, refl, sym, ap, ◌∙◌, subst, append_assoc, append-nil}
 use Rattle.std.specs.FinSet as set
 use Rattle.gtid_set.specs.Sets.{Gtids}
@@ -15,15 +15,15 @@ use Rattle.binlog_text.specs.declared.lines.Operation.{Operation}
 use Rattle.binlog_text.specs.Lines.{Column, Said, OfMark, OfHead, OfTable, OfColumn, OfGtid, OfSources, OfRow, OfValue}
 use Rattle.binlog_entries.specs.Tables.{Table}
 use Rattle.binlog_entries.specs.Bodies.{kind_of, takes, body_of, behind, next_body}
-use Rattle.binlog_entries.specs.Machine.{Standing, ◌>>=◌, or_refused, is_idle, is_begun, same_stage, may_be_database, map_table, table_line, add_column, noted, column_line, sources_line, head_line, mark_line, told, step, runs, start, is_closed}
-use Rattle.binlog_entries.specs.Meaning.{Meaning, Context, nowhere, means, with_column, context_behind, meaning, spelled}
+use Rattle.binlog_entries.specs.Machine.{Standing, ◌>>=◌, or_refused, is_idle, is_begun, same_stage, may_be_database, map_table, table_line, add_column, note_varied, column_line, sources_line, head_line, mark_line, take_content, step, runs, start, is_closed}
+use Rattle.binlog_entries.specs.Meaning.{Meaning, Context, nowhere, means, with_column, context_behind, meaning, meaning_of_entries}
 use Rattle.binlog_entries.specs.declared.bodies.Body.TheVariants as bodies
 use Rattle.binlog_entries.specs.declared.bodies.Kind.{Kind}
 use Rattle.binlog_entries.specs.declared.bodies.Kind.TheVariants as kinds
 use Rattle.binlog_entries.specs.declared.draft.Stage.{Stage}
 use Rattle.binlog_entries.specs.declared.draft.Stage.TheVariants as stages
-use Rattle.binlog_entries.specs.declared.fault.Refusal.{Refusal}
-use Rattle.binlog_entries.specs.declared.fault.Refusal.TheVariants as refusals
+use Rattle.binlog_entries.specs.declared.fault.EntryRefusal.{EntryRefusal}
+use Rattle.binlog_entries.specs.declared.fault.EntryRefusal.TheVariants as refusals
 use Rattle.binlog_entries.proofs.TransactionLaws.{bind_ok, same_ok, done, if_ok, spelled_open, row_of, spelled_state, context_of, is_rows, Sound, Tells, place_law, automatic_law, still, IsQuiet, closed_not, comment_quiet, setting_quiet, frame_quiet, sources_quiet, ended_quiet, statement_quiet, committed_quiet, column_quiet, tablemap_quiet, between_only, rows_only, neutral, closed_law, begin_law, commit_law, gtid_law}
 use Rattle.binlog_entries.proofs.RowLaws.{sound_rows, where_law, set_law, value_law, named_is, unless_not, row_law}
 
@@ -89,7 +89,7 @@ pub added_is : (s t : Standing) (o : Option Table) (first : Bool) (type : Column
 added_is s t None first type e = absurd cc
 added_is s t (Some x) first type e = let p = if_ok _ (record s { mapping = Some (record { name = x.name; columns = x.columns ++ type ∷ [] }) }) refusals.Format t e in (x, refl, p.1)
 
-pub refused_is : {A : Type 0} (e : Refusal) (o : Option A) (x : A) → or_refused e o ≡ Ok x → o ≡ Some x
+pub refused_is : {A : Type 0} (e : EntryRefusal) (o : Option A) (x : A) → or_refused e o ≡ Ok x → o ≡ Some x
 refused_is e None x h = absurd cc
 refused_is e (Some y) x h = ap Some (same_ok y x h)
 
@@ -98,7 +98,7 @@ unfolding column_line
 column_law s t c sound at h =
     let a = bind_ok (or_refused refusals.Type (type_named c.column_type)) _ t h in
     let type = refused_is refusals.Type (type_named c.column_type) a.0 a.1 in
-    let m = added_is (noted s c.column_type) t s.mapping c.is_first a.0 a.2 in
+    let m = added_is (note_varied s c.column_type) t s.mapping c.is_first a.0 a.2 in
     let q = column_quiet s.body at in
     subst (λ (u : Standing). Tells s (OfColumn c) u) m.2 (record {
       spells = sym (append-nil (spelled_state s));
@@ -163,7 +163,7 @@ mark_law s t marks.Comment sound at h = unchanged s t (OfMark marks.Comment) kin
 mark_law s t marks.Setting sound at h = unchanged s t (OfMark marks.Setting) kinds.Setting sound (setting_quiet s.body at) refl refl h
 mark_law s t marks.Frame sound at h = unchanged s t (OfMark marks.Frame) kinds.Frame sound (frame_quiet s.body at) refl refl h
 
-told_law : (s t : Standing) (l : Said) → Sound s → takes s.body (kind_of l) ≡ true → told s l ≡ Ok t → Tells s l (record t { body = next_body t.body l })
+told_law : (s t : Standing) (l : Said) → Sound s → takes s.body (kind_of l) ≡ true → take_content s l ≡ Ok t → Tells s l (record t { body = next_body t.body l })
 told_law s t (OfMark mark) sound at h = mark_law s t mark sound at h
 told_law s t (OfHead event) sound at h = head_law s t event sound at h
 told_law s t (OfTable database table) sound at h = table_law s t database table sound at h
@@ -173,7 +173,7 @@ told_law s t (OfSources sources more) sound at h = sources_law s t sources more 
 told_law s t (OfRow operation database table) sound at h = row_law s t operation database table sound (rows_only s.body at) h
 told_law s t (OfValue n text) sound at h = value_law s t n text sound (rows_only s.body at) h
 
-pub test_ok : {A : Type 0} (b : Bool) (r : Result A Refusal) (e : Refusal) (x : A) → cond b r (Err e) ≡ Ok x → (b ≡ true) × (r ≡ Ok x)
+pub test_ok : {A : Type 0} (b : Bool) (r : Result A EntryRefusal) (e : EntryRefusal) (x : A) → cond b r (Err e) ≡ Ok x → (b ≡ true) × (r ≡ Ok x)
 test_ok true r e x h = (refl, h)
 test_ok false r e x h = absurd cc
 
@@ -181,7 +181,7 @@ pub step_law : (s t : Standing) (l : Said) → Sound s → step s l ≡ Ok t →
 unfolding step
 step_law s t l sound h =
     let p = test_ok (takes s.body (kind_of l)) _ refusals.Format t h in
-    let a = bind_ok (told s l) _ t p.1 in
+    let a = bind_ok (take_content s l) _ t p.1 in
     subst (Tells s l) (same_ok _ t a.2) (told_law s a.0 l sound p.0 a.1)
 
 -- ---- all lines
@@ -213,13 +213,13 @@ sound_start = record {
   fits = (refl, refl);
 }
 
--- what the lines of a whole log mean is what its entries spell
-pub entries_told : (ls : List Said) (s : Standing) → runs start ls ≡ Ok s → is_closed s.body ≡ true → meaning nowhere ls ≡ spelled s.entries
+-- what the lines of a whole log mean is what its entries denote
+pub entries_told : (ls : List Said) (s : Standing) → runs start ls ≡ Ok s → is_closed s.body ≡ true → meaning nowhere ls ≡ meaning_of_entries s.entries
 entries_told ls s h closed =
     let all = runs_law start ls s sound_start h in
     sym all.spells ∙ idle_spelled s.stage (all.sound.closed closed)
   where
-    idle_spelled : (stage : Stage) → is_idle stage ≡ true → spelled s.entries ++ spelled_open stage s.gtid s.changes (row_of s) ≡ spelled s.entries
-    idle_spelled stages.Idle e = append-nil (spelled s.entries)
+    idle_spelled : (stage : Stage) → is_idle stage ≡ true → meaning_of_entries s.entries ++ spelled_open stage s.gtid s.changes (row_of s) ≡ meaning_of_entries s.entries
+    idle_spelled stages.Idle e = append-nil (meaning_of_entries s.entries)
     idle_spelled stages.Named e = absurd cc
     idle_spelled stages.Begun e = absurd cc

@@ -1,10 +1,10 @@
--- What a state spells, and the lines of events and transactions.
+-- What a state denotes, and the lines of events and transactions.
 use Rattle.std.proofs.Common.{◌≡◌, ℕ, Bool, true, false, cond, not, List, [], ◌∷◌, ◌++◌, length, Option, Some, None, Result, Ok, Err, refl, sym, ap, ◌∙◌, subst, append_assoc, append-nil}
 use Rattle.std.specs.List.{flat_map}
 use Rattle.gtid_text.specs.Canonical.{gtid_text}
 use Rattle.gtid_text.specs.declared.Gtid.{Gtid}
 use Rattle.journal_words.specs.Gtids.{gtid_of_word}
-use Rattle.rows.specs.declared.value.Value.{Value}
+use Rattle.row_images.specs.declared.value.Value.{Value}
 use Rattle.rows.specs.declared.change.Change.{Change}
 use Rattle.txn_journal.proofs.GtidLaws.{gtid_found}
 use Rattle.binlog_text.specs.declared.lines.Mark.{Mark}
@@ -14,8 +14,8 @@ use Rattle.binlog_text.specs.declared.lines.Operation.TheVariants as operations
 use Rattle.binlog_text.specs.Lines.{Said, OfMark, OfGtid}
 use Rattle.binlog_entries.specs.Tables.{Table, table_named, with_mapping}
 use Rattle.binlog_entries.specs.Bodies.{takes, behind}
-use Rattle.binlog_entries.specs.Machine.{Standing, ◌>>=◌, or_refused, is_idle, is_named, is_begun, is_whole, change_of, with_change, finish_in, finish_by, finished, place_line, open_entry, commit_line, begin_line, gtid_line, is_closed}
-use Rattle.binlog_entries.specs.Meaning.{Meaning, Names, Row, Before, After, Commits, Context, means, behind_place, context_behind, held, spelled_change, spelled_entry, spelled}
+use Rattle.binlog_entries.specs.Machine.{Standing, ◌>>=◌, or_refused, is_idle, is_named, is_begun, is_whole, change_of, with_change, finish_in, finish_by, finish_row, place_line, open_entry, commit_line, begin_line, gtid_line, is_closed}
+use Rattle.binlog_entries.specs.Meaning.{Meaning, Names, Row, Before, After, Commits, Context, means, behind_place, context_behind, meaning_of_values, meaning_of_change, meaning_of_entry, meaning_of_entries}
 use Rattle.binlog_entries.specs.declared.bodies.Body.{Body}
 use Rattle.binlog_entries.specs.declared.bodies.Body.TheVariants as bodies
 use Rattle.binlog_entries.specs.declared.bodies.Kind.{Kind}
@@ -24,34 +24,34 @@ use Rattle.binlog_entries.specs.declared.draft.Stage.{Stage}
 use Rattle.binlog_entries.specs.declared.draft.Stage.TheVariants as stages
 use Rattle.binlog_entries.specs.declared.draft.Part.{Part}
 use Rattle.binlog_entries.specs.declared.draft.Part.TheVariants as parts
-use Rattle.binlog_entries.specs.declared.fault.Refusal.{Refusal}
-use Rattle.binlog_entries.specs.declared.fault.Refusal.TheVariants as refusals
+use Rattle.binlog_entries.specs.declared.fault.EntryRefusal.{EntryRefusal}
+use Rattle.binlog_entries.specs.declared.fault.EntryRefusal.TheVariants as refusals
 
 -- ---- results
 
-pub bind_ok : {A B : Type 0} (r : Result A Refusal) (f : A → Result B Refusal) (y : B) → (r >>= f) ≡ Ok y → (x : A) × (r ≡ Ok x) × (f x ≡ Ok y)
+pub bind_ok : {A B : Type 0} (r : Result A EntryRefusal) (f : A → Result B EntryRefusal) (y : B) → (r >>= f) ≡ Ok y → (x : A) × (r ≡ Ok x) × (f x ≡ Ok y)
 bind_ok (Err e) f y h = absurd cc
 bind_ok (Ok x) f y h = (x, refl, h)
 
-pub same_ok : {A : Type 0} (x y : A) → (let r : Result A Refusal = Ok x in r) ≡ Ok y → x ≡ y
+pub same_ok : {A : Type 0} (x y : A) → (let r : Result A EntryRefusal = Ok x in r) ≡ Ok y → x ≡ y
 same_ok x y e = cc
 
-abbrev pub done : Standing → Result Standing Refusal
+abbrev pub done : Standing → Result Standing EntryRefusal
 done s = Ok s
 
 -- where the test passes, it is this
-pub if_ok : {A : Type 0} (b : Bool) (x : A) (e : Refusal) (y : A) → cond b (Ok x) (Err e) ≡ Ok y → (b ≡ true) × (x ≡ y)
+pub if_ok : {A : Type 0} (b : Bool) (x : A) (e : EntryRefusal) (y : A) → cond b (Ok x) (Err e) ≡ Ok y → (b ≡ true) × (x ≡ y)
 if_ok true x e y h = (refl, same_ok x y h)
 if_ok false x e y h = absurd cc
 
--- ---- what a state spells
+-- ---- what a state denotes
 
 abbrev pub spelled_parts : Operation → Part → List Value → List Value → List Meaning
 spelled_parts operation parts.Head before after = []
-spelled_parts operation parts.Before before after = Before ∷ held 1 before
-spelled_parts operations.Insert parts.After before after = After ∷ held 1 after
-spelled_parts operations.Update parts.After before after = Before ∷ (held 1 before ++ After ∷ held 1 after)
-spelled_parts operations.Delete parts.After before after = Before ∷ (held 1 before ++ After ∷ held 1 after)
+spelled_parts operation parts.Before before after = Before ∷ meaning_of_values 1 before
+spelled_parts operations.Insert parts.After before after = After ∷ meaning_of_values 1 after
+spelled_parts operations.Update parts.After before after = Before ∷ (meaning_of_values 1 before ++ After ∷ meaning_of_values 1 after)
+spelled_parts operations.Delete parts.After before after = Before ∷ (meaning_of_values 1 before ++ After ∷ meaning_of_values 1 after)
 
 abbrev pub spelled_row : Option (List ℕ) → Operation → Part → List Value → List Value → List Meaning
 spelled_row None operation part before after = []
@@ -60,13 +60,13 @@ spelled_row (Some table) operation part before after = Row operation table ∷ s
 abbrev pub spelled_open : Stage → Gtid → List Change → List Meaning → List Meaning
 spelled_open stages.Idle gtid changes row = []
 spelled_open stages.Named gtid changes row = Names (gtid_text gtid) ∷ []
-spelled_open stages.Begun gtid changes row = Names (gtid_text gtid) ∷ (flat_map spelled_change changes ++ row)
+spelled_open stages.Begun gtid changes row = Names (gtid_text gtid) ∷ (flat_map meaning_of_change changes ++ row)
 
 abbrev pub row_of : Standing → List Meaning
 row_of s = spelled_row s.row s.operation s.part s.before s.after
 
 abbrev pub spelled_state : Standing → List Meaning
-spelled_state s = spelled s.entries ++ spelled_open s.stage s.gtid s.changes (row_of s)
+spelled_state s = meaning_of_entries s.entries ++ spelled_open s.stage s.gtid s.changes (row_of s)
 
 abbrev pub context_of : Standing → Context
 context_of s = record { is_over = s.is_over; mapping = s.mapping; tables = s.tables; row = s.row }
@@ -107,8 +107,8 @@ stage_begun stages.Idle e = absurd cc
 abbrev pub bare : Standing → List Change → Standing
 bare s cs = record s { row = None; before = []; after = []; changes = cs }
 
--- what spells the row that is open spells the change that it becomes
-pub change_spelled : (operation : Operation) (part : Part) (table : List ℕ) (before after : List Value) (n : ℕ) → is_whole operation part (length before) (length after) n ≡ true → spelled_row (Some table) operation part before after ≡ spelled_change (change_of operation table before after)
+-- what denotes the row that is open denotes the change that it becomes
+pub change_spelled : (operation : Operation) (part : Part) (table : List ℕ) (before after : List Value) (n : ℕ) → is_whole operation part (length before) (length after) n ≡ true → spelled_row (Some table) operation part before after ≡ meaning_of_change (change_of operation table before after)
 change_spelled operations.Insert parts.After table before after n e = refl
 change_spelled operations.Delete parts.Before table before after n e = refl
 change_spelled operations.Update parts.After table before after n e = refl
@@ -119,12 +119,12 @@ flat_map_more f [] x = append-nil (f x)
 flat_map_more f (y ∷ ys) x = ap (λ zs. f y ++ zs) (flat_map_more f ys x) ∙ sym (append_assoc (f y) (flat_map f ys) (f x))
 
 -- a whole row that joins the changes is spelled as before
-pub joined_spelled : (stage : Stage) (gtid : Gtid) (cs : List Change) (c : Change) (row : List Meaning) → is_begun stage ≡ true → row ≡ spelled_change c → spelled_open stage gtid (cs ++ c ∷ []) [] ≡ spelled_open stage gtid cs row
+pub joined_spelled : (stage : Stage) (gtid : Gtid) (cs : List Change) (c : Change) (row : List Meaning) → is_begun stage ≡ true → row ≡ meaning_of_change c → spelled_open stage gtid (cs ++ c ∷ []) [] ≡ spelled_open stage gtid cs row
 joined_spelled stages.Idle gtid cs c row b e = absurd cc
 joined_spelled stages.Named gtid cs c row b e = absurd cc
 joined_spelled stages.Begun gtid cs c row b e =
     ap (λ (xs : List Meaning). Names (gtid_text gtid) ∷ xs)
-    (append-nil (flat_map spelled_change (cs ++ c ∷ [])) ∙ flat_map_more spelled_change cs c ∙ ap (λ (xs : List Meaning). flat_map spelled_change cs ++ xs) (sym e))
+    (append-nil (flat_map meaning_of_change (cs ++ c ∷ [])) ∙ flat_map_more meaning_of_change cs c ∙ ap (λ (xs : List Meaning). flat_map meaning_of_change cs ++ xs) (sym e))
 
 -- a state with a row is one of a transaction that has begun
 pub row_begun : (s : Standing) (table : List ℕ) → Sound s → s.row ≡ Some table → is_begun s.stage ≡ true
@@ -154,12 +154,12 @@ finish_none s sound e =
 pub finish_some : (s : Standing) (table : List ℕ) (n : ℕ) → Sound s → s.row ≡ Some table → is_whole s.operation s.part (length s.before) (length s.after) n ≡ true → Finishes s (with_change s table)
 finish_some s table n sound e whole =
     let b = row_begun s table sound e in
-    let spelled_as : row_of s ≡ spelled_change (change_of s.operation table s.before s.after) =
+    let spelled_as : row_of s ≡ meaning_of_change (change_of s.operation table s.before s.after) =
     ap (λ (r : Option (List ℕ)). spelled_row r s.operation s.part s.before s.after) e ∙ change_spelled s.operation s.part table s.before s.after n whole in
     record {
       made = s.changes ++ change_of s.operation table s.before s.after ∷ [];
       is = refl;
-      spells = ap (λ (xs : List Meaning). spelled s.entries ++ xs) (joined_spelled s.stage s.gtid s.changes (change_of s.operation table s.before s.after) (row_of s) b spelled_as);
+      spells = ap (λ (xs : List Meaning). meaning_of_entries s.entries ++ xs) (joined_spelled s.stage s.gtid s.changes (change_of s.operation table s.before s.after) (row_of s) b spelled_as);
       quiet = λ f. absurd (let bad : true ≡ false = sym b ∙ f in cc);
     }
 
@@ -173,8 +173,8 @@ pub finish_either : (s u : Standing) (r : Option (List ℕ)) → Sound s → s.r
 finish_either s u None sound e h = subst (Finishes s) (same_ok s u h) (finish_none s sound e)
 finish_either s u (Some table) sound e h = finish_named s u table (table_named table s.tables) sound e h
 
-pub finish_law : (s u : Standing) → Sound s → finished s ≡ Ok u → Finishes s u
-unfolding finished
+pub finish_law : (s u : Standing) → Sound s → finish_row s ≡ Ok u → Finishes s u
+unfolding finish_row
 finish_law s u sound h = finish_either s u s.row sound refl h
 
 -- ---- lines that begin and end events
@@ -196,7 +196,7 @@ sound_rests s cs body quiet rows closed = record {
 pub rest_law : (s t : Standing) (body : Body) (l : Said) → Sound s → place_line s ≡ Ok t → is_rows body ≡ false → is_closed body ≡ false → means (context_of s) l ≡ [] → context_behind (context_of s) l ≡ behind_place (context_of s) → Tells s l (record t { body = body })
 unfolding place_line
 rest_law s t body l sound h rows closed nothing behind_is =
-    let a = bind_ok (finished s) _ t h in
+    let a = bind_ok (finish_row s) _ t h in
     let f = finish_law s a.0 sound a.1 in
     let is : t ≡ record (bare s f.made) { tables = with_mapping s.tables s.mapping; mapping = None } =
     sym (same_ok _ t a.2) ∙ ap (λ (u : Standing). record u { tables = with_mapping u.tables u.mapping; mapping = None }) f.is in
@@ -317,8 +317,8 @@ begin_law s t sound at h =
     let row_none : row_of s ≡ [] = ap (λ (r : Option (List ℕ)). spelled_row r s.operation s.part s.before s.after) quiet.1 in
     subst (λ (u : Standing). Tells s (OfMark marks.Begin) (record u { body = bodies.Statement })) p.1 (record {
       spells =
-          ap (λ (xs : List Meaning). spelled s.entries ++ (Names (gtid_text s.gtid) ∷ xs)) ((λ i. flat_map spelled_change (quiet.0 i) ++ row_none i))
-          ∙ ap (λ (stage : Stage). spelled s.entries ++ spelled_open stage s.gtid s.changes (row_of s)) (sym named)
+          ap (λ (xs : List Meaning). meaning_of_entries s.entries ++ (Names (gtid_text s.gtid) ∷ xs)) ((λ i. flat_map meaning_of_change (quiet.0 i) ++ row_none i))
+          ∙ ap (λ (stage : Stage). meaning_of_entries s.entries ++ spelled_open stage s.gtid s.changes (row_of s)) (sym named)
           ∙ sym (append-nil (spelled_state s));
       context = refl;
       sound = record {
@@ -342,13 +342,13 @@ commit_law s t mark body sound outside rows closed commits same h =
     let begun = stage_begun s.stage p.0 in
     let none = sound.inside outside in
     let row_none : row_of s ≡ [] = ap (λ (r : Option (List ℕ)). spelled_row r s.operation s.part s.before s.after) none in
-    let old : spelled_state s ≡ spelled s.entries ++ (Names (gtid_text s.gtid) ∷ flat_map spelled_change s.changes) =
-    (λ i. spelled s.entries ++ spelled_open (begun i) s.gtid s.changes (row_none i))
-    ∙ ap (λ (xs : List Meaning). spelled s.entries ++ (Names (gtid_text s.gtid) ∷ xs)) (append-nil (flat_map spelled_change s.changes)) in
-    let new : spelled (s.entries ++ open_entry s ∷ []) ++ [] ≡ (spelled s.entries ++ (Names (gtid_text s.gtid) ∷ flat_map spelled_change s.changes)) ++ Commits ∷ [] =
-    append-nil (spelled (s.entries ++ open_entry s ∷ []))
-    ∙ flat_map_more spelled_entry s.entries (open_entry s)
-    ∙ sym (append_assoc (spelled s.entries) (Names (gtid_text s.gtid) ∷ flat_map spelled_change s.changes) (Commits ∷ [])) in
+    let old : spelled_state s ≡ meaning_of_entries s.entries ++ (Names (gtid_text s.gtid) ∷ flat_map meaning_of_change s.changes) =
+    (λ i. meaning_of_entries s.entries ++ spelled_open (begun i) s.gtid s.changes (row_none i))
+    ∙ ap (λ (xs : List Meaning). meaning_of_entries s.entries ++ (Names (gtid_text s.gtid) ∷ xs)) (append-nil (flat_map meaning_of_change s.changes)) in
+    let new : meaning_of_entries (s.entries ++ open_entry s ∷ []) ++ [] ≡ (meaning_of_entries s.entries ++ (Names (gtid_text s.gtid) ∷ flat_map meaning_of_change s.changes)) ++ Commits ∷ [] =
+    append-nil (meaning_of_entries (s.entries ++ open_entry s ∷ []))
+    ∙ flat_map_more meaning_of_entry s.entries (open_entry s)
+    ∙ sym (append_assoc (meaning_of_entries s.entries) (Names (gtid_text s.gtid) ∷ flat_map meaning_of_change s.changes) (Commits ∷ [])) in
     subst (λ (u : Standing). Tells s (OfMark mark) (record u { body = body })) p.1 (record {
       spells = new ∙ ap (λ (xs : List Meaning). xs ++ Commits ∷ []) (sym old) ∙ ap (λ (xs : List Meaning). spelled_state s ++ xs) (sym commits);
       context = sym same;
@@ -371,9 +371,9 @@ gtid_law s t word sound at h =
     let text = (gtid_found word i.1 i.2).0 in
     subst (λ (u : Standing). Tells s (OfGtid word) u) i.3 (record {
       spells =
-          ap (λ (xs : List ℕ). spelled s.entries ++ Names xs ∷ []) (sym text)
-          ∙ ap (λ (xs : List Meaning). xs ++ Names word ∷ []) (sym (append-nil (spelled s.entries)))
-          ∙ ap (λ (stage : Stage). (spelled s.entries ++ spelled_open stage s.gtid s.changes (row_of s)) ++ Names word ∷ []) (sym idle);
+          ap (λ (xs : List ℕ). meaning_of_entries s.entries ++ Names xs ∷ []) (sym text)
+          ∙ ap (λ (xs : List Meaning). xs ++ Names word ∷ []) (sym (append-nil (meaning_of_entries s.entries)))
+          ∙ ap (λ (stage : Stage). (meaning_of_entries s.entries ++ spelled_open stage s.gtid s.changes (row_of s)) ++ Names word ∷ []) (sym idle);
       context = refl;
       sound = record {
         quiet = λ b. quiet;

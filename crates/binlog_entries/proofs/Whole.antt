@@ -10,11 +10,11 @@ use Rattle.binlog_text.specs.Reading.{line_of}
 use Rattle.binlog_text.proofs.LinesFound.{line_found}
 use Rattle.binlog_entries.specs.Machine.{Standing, ◌>>=◌, judge, step, step_by, runs, is_closed}
 use Rattle.binlog_entries.specs.Machine as machine
-use Rattle.binlog_entries.specs.Meaning.{spelled}
-use Rattle.binlog_entries.specs.Stream.{Progress, Reading, Stopped, next_number, judged, eat, eats, start, Seen, Told, ended, closing, Ends, ended_line, Say, IsLog, judges, numbered, IsRefused, IsUnfinished, Refuses}
+use Rattle.binlog_entries.specs.Meaning.{meaning_of_entries}
+use Rattle.binlog_entries.specs.Stream.{Progress, Reading, Stopped, next_number, progress_after, eat, eats, start, Seen, Told, end_of_text, closing, Ends, ended_line, Say, IsLog, judges, numbered, IsRefused, IsUnfinished, Refuses}
 use Rattle.binlog_entries.specs.declared.fault.ReadFault.{ReadFault}
 use Rattle.binlog_entries.specs.declared.fault.ReadFault.TheVariants as faults
-use Rattle.binlog_entries.specs.declared.fault.Refusal.{Refusal}
+use Rattle.binlog_entries.specs.declared.fault.EntryRefusal.{EntryRefusal}
 use Rattle.binlog_entries.proofs.TransactionLaws.{bind_ok}
 use Rattle.binlog_entries.proofs.Told.{entries_told}
 use Rattle.binlog_entries.proofs.KeptLaws.{before_told, varied_told}
@@ -22,7 +22,7 @@ use Rattle.binlog_entries.proofs.Pieces.{stopped_stays}
 
 -- ---- lines out of bytes
 
--- bytes behind part of a line are whole lines, and part of one more
+-- bytes after part of a line are whole lines, and part of one more
 pub record Reads (s : Standing) (n : ℕ) (rest bytes : List ℕ) (t : Standing) (m : ℕ) (more : List ℕ) : Type 0 where
   pub lines : List (List ℕ)
   pub parts : rest ++ bytes ≡ flat_map ended_line lines ++ more
@@ -40,23 +40,23 @@ behind_feed rest bs lines more e =
     ∙ sym (append_assoc rest (10 ∷ []) (lines ++ more))
     ∙ sym (append_assoc (rest ++ 10 ∷ []) lines more)
 
-fed : (s : Standing) (n b : ℕ) (rest bs : List ℕ) (r : Result Standing Refusal) (t : Standing) (m : ℕ) (more : List ℕ) → IsOneLine rest → b ≡ 10 → judge s rest ≡ r
+fed : (s : Standing) (n b : ℕ) (rest bs : List ℕ) (r : Result Standing EntryRefusal) (t : Standing) (m : ℕ) (more : List ℕ) → IsOneLine rest → b ≡ 10 → judge s rest ≡ r
     → ((u : Standing) → eats (Reading u (next_number n) []) bs ≡ Reading t m more → Reads u (next_number n) [] bs t m more)
-    → eats (judged r (next_number n)) bs ≡ Reading t m more → Reads s n rest (b ∷ bs) t m more
+    → eats (progress_after r (next_number n)) bs ≡ Reading t m more → Reads s n rest (b ∷ bs) t m more
 fed s n b rest bs (Ok u) t m more one is j next e =
     let k = next u e in record {
       lines = rest ∷ k.lines;
       parts = ap (λ (c : ℕ). rest ++ c ∷ bs) is ∙ behind_feed rest bs (flat_map ended_line k.lines) more k.parts;
       whole = (one, k.whole);
       one = k.one;
-      run = ap (λ (x : Result Standing Refusal). x >>= λ v. judges v k.lines) j ∙ k.run;
+      run = ap (λ (x : Result Standing EntryRefusal). x >>= λ v. judges v k.lines) j ∙ k.run;
       number = k.number;
     }
 fed s n b rest bs (Err refusal) t m more one is j next e = absurd (let bad : Stopped (faults.Line (next_number n) refusal) ≡ Reading t m more = sym (stopped_stays (faults.Line (next_number n) refusal) bs) ∙ e in cc)
 
 eaten : (s : Standing) (n b : ℕ) (rest bs : List ℕ) (test : Bool) (t : Standing) (m : ℕ) (more : List ℕ) → IsOneLine rest → eqb b 10 ≡ test
     → ((u : Standing) (k : ℕ) (rest : List ℕ) → IsOneLine rest → eats (Reading u k rest) bs ≡ Reading t m more → Reads u k rest bs t m more)
-    → eats (cond test (judged (judge s rest) (next_number n)) (Reading s n (rest ++ b ∷ []))) bs ≡ Reading t m more → Reads s n rest (b ∷ bs) t m more
+    → eats (cond test (progress_after (judge s rest) (next_number n)) (Reading s n (rest ++ b ∷ []))) bs ≡ Reading t m more → Reads s n rest (b ∷ bs) t m more
 eaten s n b rest bs true t m more one is next e = fed s n b rest bs (judge s rest) t m more one (eqb-true b 10 is) refl (λ u. next u (next_number n) [] refl) e
 eaten s n b rest bs false t m more one is next e =
     let k = next s n (rest ++ b ∷ []) (longer rest b one is) e in record {
@@ -79,7 +79,7 @@ reads_back s n rest [] t m more one e =
       parts = append-nil rest ∙ same.2;
       whole = tt;
       one = subst IsOneLine same.2 one;
-      run = ap (λ (u : Standing). let r : Result Standing Refusal = Ok u in r) same.0;
+      run = ap (λ (u : Standing). let r : Result Standing EntryRefusal = Ok u in r) same.0;
       number = sym same.1;
     }
 reads_back s n rest (b ∷ bs) t m more one e = eaten s n b rest bs (eqb b 10) t m more one refl (λ u k rest one h. reads_back u k rest bs t m more one h) e
@@ -94,13 +94,13 @@ pub record Stops (s : Standing) (n : ℕ) (rest bytes : List ℕ) (fault : ReadF
   pub whole : AllByRecursion IsOneLine before × IsOneLine line
   pub state : Standing
   pub taken : judges s before ≡ Ok state
-  pub refusal : Refusal
+  pub refusal : EntryRefusal
   pub refused : judge state line ≡ Err refusal
   pub is : fault ≡ faults.Line (next_number (numbered n before)) refusal
 
-stop_fed : (s : Standing) (n b : ℕ) (rest bs : List ℕ) (r : Result Standing Refusal) (f : ReadFault) → IsOneLine rest → b ≡ 10 → judge s rest ≡ r
+stop_fed : (s : Standing) (n b : ℕ) (rest bs : List ℕ) (r : Result Standing EntryRefusal) (f : ReadFault) → IsOneLine rest → b ≡ 10 → judge s rest ≡ r
     → ((u : Standing) → eats (Reading u (next_number n) []) bs ≡ Stopped f → Stops u (next_number n) [] bs f)
-    → eats (judged r (next_number n)) bs ≡ Stopped f → Stops s n rest (b ∷ bs) f
+    → eats (progress_after r (next_number n)) bs ≡ Stopped f → Stops s n rest (b ∷ bs) f
 stop_fed s n b rest bs (Ok u) f one is j next e =
     let k = next u e in record {
       before = rest ∷ k.before;
@@ -109,7 +109,7 @@ stop_fed s n b rest bs (Ok u) f one is j next e =
       parts = ap (λ (c : ℕ). rest ++ c ∷ bs) is ∙ behind_feed rest bs (flat_map ended_line k.before) (k.line ++ 10 ∷ k.more) k.parts;
       whole = ((one, k.whole.0), k.whole.1);
       state = k.state;
-      taken = ap (λ (x : Result Standing Refusal). x >>= λ v. judges v k.before) j ∙ k.taken;
+      taken = ap (λ (x : Result Standing EntryRefusal). x >>= λ v. judges v k.before) j ∙ k.taken;
       refusal = k.refusal;
       refused = k.refused;
       is = k.is;
@@ -130,7 +130,7 @@ stop_fed s n b rest bs (Err refusal) f one is j next e =
 
 stop_eaten : (s : Standing) (n b : ℕ) (rest bs : List ℕ) (test : Bool) (f : ReadFault) → IsOneLine rest → eqb b 10 ≡ test
     → ((u : Standing) (k : ℕ) (rest : List ℕ) → IsOneLine rest → eats (Reading u k rest) bs ≡ Stopped f → Stops u k rest bs f)
-    → eats (cond test (judged (judge s rest) (next_number n)) (Reading s n (rest ++ b ∷ []))) bs ≡ Stopped f → Stops s n rest (b ∷ bs) f
+    → eats (cond test (progress_after (judge s rest) (next_number n)) (Reading s n (rest ++ b ∷ []))) bs ≡ Stopped f → Stops s n rest (b ∷ bs) f
 stop_eaten s n b rest bs true f one is next e = stop_fed s n b rest bs (judge s rest) f one (eqb-true b 10 is) refl (λ u. next u (next_number n) [] refl) e
 stop_eaten s n b rest bs false f one is next e =
     let k = next s n (rest ++ b ∷ []) (longer rest b one is) e in record {
@@ -175,12 +175,12 @@ speak s (line ∷ lines) t h =
     record {
       said = first.0 ∷ rest.said;
       say = (first.1, rest.say);
-      run = ap (λ (r : Result Standing Refusal). r >>= λ u. runs u rest.said) first.2 ∙ rest.run;
+      run = ap (λ (r : Result Standing EntryRefusal). r >>= λ u. runs u rest.said) first.2 ∙ rest.run;
     }
 
 -- ---- the whole
 
-ended_is : (b : Bool) (s : Standing) (n : ℕ) (rest : List ℕ) (x : Told) → ended b s n rest ≡ Ok x → (b ≡ true) × (rest ≡ []) × (s.previous ≡ x.0) × (s.entries ≡ x.1) × (s.varied ≡ x.2)
+ended_is : (b : Bool) (s : Standing) (n : ℕ) (rest : List ℕ) (x : Told) → end_of_text b s n rest ≡ Ok x → (b ≡ true) × (rest ≡ []) × (s.previous ≡ x.0) × (s.entries ≡ x.1) × (s.varied ≡ x.2)
 ended_is true s n [] x e = let same : (s.previous, s.entries, s.varied) ≡ x = told_same _ x e in (refl, refl, ap (λ (y : Told). y.0) same, ap (λ (y : Told). y.1) same, ap (λ (y : Told). y.2) same)
   where
     told_same : (x y : Told) → (let r : Result Told ReadFault = Ok x in r) ≡ Ok y → x ≡ y
@@ -200,7 +200,7 @@ log_of text (Reading s n rest) x e h =
       whole = k.whole;
       said = spoken.said;
       say = spoken.say;
-      means = entries_told spoken.said s spoken.run d.0 ∙ ap spelled d.3;
+      means = entries_told spoken.said s spoken.run d.0 ∙ ap meaning_of_entries d.3;
       before = sym d.2 ∙ before_told spoken.said s spoken.run;
       varies = sym d.4 ∙ varied_told spoken.said s spoken.run;
     }
@@ -209,17 +209,17 @@ pub read_found : (text : List ℕ) (x : Told) → Ends (Ok x) (closing (eats sta
 read_found text x (inl h) = absurd (let bad = h.1 in cc)
 read_found text x (inr h) = log_of text (eats start text) x refl (sym h)
 
-unended : (b : Bool) (s : Standing) (n m : ℕ) (rest : List ℕ) → ended b s n rest ≡ Err (faults.Unfinished m) → ((b ≡ true) × (rest ≡ []) → ⊥) × (m ≡ next_number n)
+unended : (b : Bool) (s : Standing) (n m : ℕ) (rest : List ℕ) → end_of_text b s n rest ≡ Err (faults.Unfinished m) → ((b ≡ true) × (rest ≡ []) → ⊥) × (m ≡ next_number n)
 unended true s n m [] e = absurd cc
 unended true s n m (b ∷ bs) e = (λ h. absurd (let bad : b ∷ bs ≡ [] = h.1 in cc), cc)
 unended false s n m rest e = (λ h. absurd (let bad : false ≡ true = h.0 in cc), cc)
 
-line_not_ended : (b : Bool) (s : Standing) (n m : ℕ) (rest : List ℕ) (refusal : Refusal) → ended b s n rest ≡ Err (faults.Line m refusal) → ⊥
+line_not_ended : (b : Bool) (s : Standing) (n m : ℕ) (rest : List ℕ) (refusal : EntryRefusal) → end_of_text b s n rest ≡ Err (faults.Line m refusal) → ⊥
 line_not_ended true s n m [] refusal e = absurd cc
 line_not_ended true s n m (b ∷ bs) refusal e = absurd cc
 line_not_ended false s n m rest refusal e = absurd cc
 
-refused_at : (text : List ℕ) (p : Progress) (n : ℕ) (refusal : Refusal) → eats start text ≡ p → closing p ≡ Err (faults.Line n refusal) → IsRefused text n refusal
+refused_at : (text : List ℕ) (p : Progress) (n : ℕ) (refusal : EntryRefusal) → eats start text ≡ p → closing p ≡ Err (faults.Line n refusal) → IsRefused text n refusal
 refused_at text (Reading s m rest) n refusal e h = absurd (line_not_ended (is_closed s.body) s m n rest refusal h)
 refused_at text (Stopped f) n refusal e h =
     let k = stops_back machine.start 0 [] text f refl e in
@@ -232,14 +232,14 @@ refused_at text (Stopped f) n refusal e h =
       whole = k.whole;
       state = k.state;
       taken = k.taken;
-      refused = k.refused ∙ ap (λ (r : Refusal). let x : Result Standing Refusal = Err r in x) (line_same _ n k.refusal refusal same).1;
+      refused = k.refused ∙ ap (λ (r : EntryRefusal). let x : Result Standing EntryRefusal = Err r in x) (line_same _ n k.refusal refusal same).1;
       number = sym (line_same _ n k.refusal refusal same).0;
     }
   where
     fault_same : (f g : ReadFault) → (let x : Result Told ReadFault = Err f in x) ≡ Err g → f ≡ g
     fault_same f g e = cc
 
-    line_same : (n m : ℕ) (r q : Refusal) → faults.Line n r ≡ faults.Line m q → (n ≡ m) × (r ≡ q)
+    line_same : (n m : ℕ) (r q : EntryRefusal) → faults.Line n r ≡ faults.Line m q → (n ≡ m) × (r ≡ q)
     line_same n m r q e = (cc, cc)
 
 unfinished_at : (text : List ℕ) (p : Progress) (n : ℕ) → eats start text ≡ p → closing p ≡ Err (faults.Unfinished n) → IsUnfinished text n

@@ -36,7 +36,7 @@ kind_of (OfSources sources more) = kinds.Sources
 kind_of (OfRow operation database table) = kinds.Row
 kind_of (OfValue n text) = kinds.Row
 
--- what the lines behind an event's head are a part of
+-- what the lines after an event's head are a part of
 abbrev pub body_of : Event → Body
 body_of events.Start = bodies.Start
 body_of events.PreviousGtids = bodies.PreviousGtids
@@ -65,7 +65,7 @@ has_comments bodies.Payload = true
 has_comments bodies.Done = true
 has_comments _ = false
 
--- a line of this kind may stand in this body
+-- a line of this kind may be in this body
 abbrev pub takes : Body → Kind → Bool
 takes body kinds.Place = may_end body
 takes body kinds.Automatic = may_end body
@@ -88,7 +88,7 @@ takes bodies.Xid kinds.Committed = true
 takes bodies.FileEnd kinds.Closed = true
 takes _ _ = false
 
--- what the line behind one of this kind is a part of, where that is no head of an event
+-- what the line after one of this kind is a part of, where that is no head of an event
 abbrev pub behind : Body → Kind → Body
 behind body kinds.Place = bodies.Between
 behind body kinds.TableMap = bodies.TableMap
@@ -99,7 +99,7 @@ behind body kinds.Automatic = bodies.FileEnd
 behind body kinds.Closed = bodies.Closed
 behind body _ = body
 
--- what the line behind one is a part of
+-- what the line after one is a part of
 abbrev pub next_body : Body → Said → Body
 next_body body (OfHead event) = body_of event
 next_body body (OfMark mark) = behind body (kind_of (OfMark mark))

@@ -15,7 +15,7 @@ use Rattle.binlog_entries.specs.declared.as_journal.LogFault.{LogFault}
 use Rattle.binlog_entries.specs.declared.import.ImportFault.{ImportFault}
 use Rattle.binlog_entries.specs.declared.import.ImportFault.TheVariants as faults
 
--- What is written is the text of a journal whose entries spell what the lines of the log's text mean, behind what they say was executed before. The
+-- What is written is the text of a journal whose entries denote what the lines of the log's text mean, after what they say was executed before. The
 -- server compares each key by its bytes, unless that is not asked.
 pub record Imports (tables : List Table) (bytes : Bool) (text written : List ℕ) : Type 0 where
   pub journal : JournalValue

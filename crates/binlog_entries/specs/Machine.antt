@@ -6,7 +6,7 @@ use Rattle.journal.specs.declared.Entry.{Entry}
 use Rattle.std.specs.FinSet as set
 use Rattle.gtid_set.specs.Sets.{Gtids}
 use Rattle.journal_words.specs.Gtids.{gtid_of_word, set_of_word}
-use Rattle.rows.specs.declared.value.Value.{Value}
+use Rattle.row_images.specs.declared.value.Value.{Value}
 use Rattle.rows.specs.declared.change.Change.{Change}
 use Rattle.rows.specs.declared.change.Change.TheVariants as changes
 use Rattle.txn_journal.specs.Words.{name_of}
@@ -23,7 +23,7 @@ use Rattle.binlog_text.specs.Lines.{Column, Said, OfMark, OfHead, OfTable, OfCol
 use Rattle.binlog_text.specs.Reading.{line_of}
 use Rattle.binlog_entries.specs.Tables.{Table, table_named, with_mapping, type_at}
 use Rattle.binlog_entries.specs.Bodies.{kind_of, takes, next_body}
-use Rattle.binlog_entries.specs.Unread.{unread}
+use Rattle.binlog_entries.specs.Unread.{refusal_of}
 use Rattle.binlog_entries.specs.Varied.{varied_behind}
 use Rattle.binlog_entries.specs.declared.varied.Varied.{Varied}
 use Rattle.binlog_entries.specs.declared.bodies.Body.{Body}
@@ -32,28 +32,28 @@ use Rattle.binlog_entries.specs.declared.draft.Stage.{Stage}
 use Rattle.binlog_entries.specs.declared.draft.Stage.TheVariants as stages
 use Rattle.binlog_entries.specs.declared.draft.Part.{Part}
 use Rattle.binlog_entries.specs.declared.draft.Part.TheVariants as parts
-use Rattle.binlog_entries.specs.declared.fault.Fault.{Fault}
-use Rattle.binlog_entries.specs.declared.fault.Fault.TheVariants as faults
-use Rattle.binlog_entries.specs.declared.fault.Refusal.{Refusal}
-use Rattle.binlog_entries.specs.declared.fault.Refusal.TheVariants as refusals
+use Rattle.binlog_entries.specs.declared.fault.EntryFault.{EntryFault}
+use Rattle.binlog_entries.specs.declared.fault.EntryFault.TheVariants as faults
+use Rattle.binlog_entries.specs.declared.fault.EntryRefusal.{EntryRefusal}
+use Rattle.binlog_entries.specs.declared.fault.EntryRefusal.TheVariants as refusals
 
 infixl 10 ◌>>=◌
-abbrev pub ◌>>=◌ : {A B : Type 0} → Result A Refusal → (A → Result B Refusal) → Result B Refusal
+abbrev pub ◌>>=◌ : {A B : Type 0} → Result A EntryRefusal → (A → Result B EntryRefusal) → Result B EntryRefusal
 (Ok x) >>= f = f x
 (Err e) >>= f = Err e
 
-abbrev pub or_refused : {A : Type 0} → Refusal → Option A → Result A Refusal
+abbrev pub or_refused : {A : Type 0} → EntryRefusal → Option A → Result A EntryRefusal
 or_refused refusal None = Err refusal
 or_refused refusal (Some x) = Ok x
 
 -- What a call did is what judging gives, unless memory ran out or a set is full.
-abbrev pub Takes : {S : Type 0} → Result (Unit {0}) Fault → Result S Refusal → S → Type 0
+abbrev pub Takes : {S : Type 0} → Result (Unit {0}) EntryFault → Result S EntryRefusal → S → Type 0
 Takes (Ok _) judged new = judged ≡ Ok new
 Takes (Err (faults.Refused refusal)) judged new = judged ≡ Err refusal
 Takes (Err (faults.Set fault)) judged new = Unit {0}
 
 -- What a call found is what reading gives, unless memory ran out or a set is full.
-abbrev pub Finds : {X Y : Type 0} → (X → Y) → Result X Fault → Result Y Refusal → Type 0
+abbrev pub Finds : {X Y : Type 0} → (X → Y) → Result X EntryFault → Result Y EntryRefusal → Type 0
 Finds view (Ok x) read = read ≡ Ok (view x)
 Finds view (Err (faults.Refused refusal)) read = read ≡ Err refusal
 Finds view (Err (faults.Set fault)) read = Unit {0}
@@ -121,18 +121,18 @@ change_of operations.Update table before after = changes.Update table before aft
 abbrev pub with_change : Standing → List ℕ → Standing
 with_change s table = record s { row = None; before = []; after = []; changes = s.changes ++ change_of s.operation table s.before s.after ∷ [] }
 
-abbrev pub finish_in : Standing → List ℕ → Option Table → Result Standing Refusal
+abbrev pub finish_in : Standing → List ℕ → Option Table → Result Standing EntryRefusal
 finish_in s table None = Err refusals.Table
 finish_in s table (Some t) =
     if is_whole s.operation s.part (length s.before) (length s.after) (length t.columns) then Ok (with_change s table)
     else Err refusals.Columns
 
-abbrev pub finish_by : Standing → Option (List ℕ) → Result Standing Refusal
+abbrev pub finish_by : Standing → Option (List ℕ) → Result Standing EntryRefusal
 finish_by s None = Ok s
 finish_by s (Some table) = finish_in s table (table_named table s.tables)
 
-unfoldable pub finished : Standing → Result Standing Refusal
-finished s = finish_by s s.row
+unfoldable pub finish_row : Standing → Result Standing EntryRefusal
+finish_row s = finish_by s s.row
 
 -- the log's database is this
 abbrev pub is_database : List ℕ → Option (List ℕ) → Bool
@@ -154,21 +154,21 @@ abbrev pub has_rows_of : Body → Operation → Bool
 has_rows_of (bodies.Rows operation) wanted = same_operation operation wanted
 has_rows_of _ wanted = false
 
-abbrev pub open_row : Standing → Operation → Option (List ℕ) → Result Standing Refusal
+abbrev pub open_row : Standing → Operation → Option (List ℕ) → Result Standing EntryRefusal
 open_row s operation None = Err refusals.Table
 open_row s operation (Some table) = Ok (record s { row = Some table; operation = operation; part = parts.Head })
 
 abbrev pub known_name : List ℕ → List Table → Option (List ℕ)
 known_name table tables = if is_some (table_named table tables) then name_of table else None
 
-abbrev pub begin_row : Standing → Operation → List ℕ → List ℕ → Result Standing Refusal
+abbrev pub begin_row : Standing → Operation → List ℕ → List ℕ → Result Standing EntryRefusal
 begin_row s operation database table =
     if not (has_rows_of s.body operation) then Err refusals.Format
     else if not (is_database database s.database) then Err refusals.Table
     else open_row s operation (known_name table s.tables)
 
-unfoldable pub row_line : Standing → Operation → List ℕ → List ℕ → Result Standing Refusal
-row_line s operation database table = finished s >>= λ t. begin_row t operation database table
+unfoldable pub row_line : Standing → Operation → List ℕ → List ℕ → Result Standing EntryRefusal
+row_line s operation database table = finish_row s >>= λ t. begin_row t operation database table
 
 -- the part that a line begins, where the row may have it next
 abbrev pub before_due : Operation → Part → Bool
@@ -181,21 +181,21 @@ after_due operations.Insert parts.Head = true
 after_due operations.Update parts.Before = true
 after_due _ _ = false
 
-unfoldable pub where_line : Standing → Result Standing Refusal
+unfoldable pub where_line : Standing → Result Standing EntryRefusal
 where_line s = if is_some s.row && before_due s.operation s.part then Ok (record s { part = parts.Before }) else Err refusals.Columns
 
-unfoldable pub set_line : Standing → Result Standing Refusal
+unfoldable pub set_line : Standing → Result Standing EntryRefusal
 set_line s = if is_some s.row && after_due s.operation s.part then Ok (record s { part = parts.After }) else Err refusals.Columns
 
 -- the value of the next column
-abbrev pub typed_value : Option ColumnType → List ℕ → Result Value Refusal
-typed_value None text = Err refusals.Columns
-typed_value (Some type) text = or_refused refusals.Value (value_at type text)
+abbrev pub parse_value : Option ColumnType → List ℕ → Result Value EntryRefusal
+parse_value None text = Err refusals.Columns
+parse_value (Some type) text = or_refused refusals.Value (value_at type text)
 
-abbrev pub next_value : Standing → ℕ → ℕ → List ℕ → Result Value Refusal
-next_value s place n text = if n == place + 1 then typed_value (type_at s.row s.tables place) text else Err refusals.Columns
+abbrev pub next_value : Standing → ℕ → ℕ → List ℕ → Result Value EntryRefusal
+next_value s place n text = if n == place + 1 then parse_value (type_at s.row s.tables place) text else Err refusals.Columns
 
-abbrev pub value_in : Standing → Part → ℕ → List ℕ → Result Standing Refusal
+abbrev pub value_in : Standing → Part → ℕ → List ℕ → Result Standing EntryRefusal
 value_in s parts.Head n text = Err refusals.Columns
 value_in s parts.Before n text = do
   v ← next_value s (length s.before) n text
@@ -204,18 +204,18 @@ value_in s parts.After n text = do
   v ← next_value s (length s.after) n text
   Ok (record s { after = s.after ++ v ∷ [] })
 
-unfoldable pub value_line : Standing → ℕ → List ℕ → Result Standing Refusal
+unfoldable pub value_line : Standing → ℕ → List ℕ → Result Standing EntryRefusal
 value_line s n text = value_in s s.part n text
 
 -- ---- tables
 
 -- an event has ended
-unfoldable pub place_line : Standing → Result Standing Refusal
+unfoldable pub place_line : Standing → Result Standing EntryRefusal
 place_line s = do
-  t ← finished s
+  t ← finish_row s
   Ok (record t { tables = with_mapping t.tables t.mapping; mapping = None })
 
-abbrev pub map_table : Standing → List ℕ → Option (List ℕ) → Result Standing Refusal
+abbrev pub map_table : Standing → List ℕ → Option (List ℕ) → Result Standing EntryRefusal
 map_table s database None = Err refusals.Table
 map_table s database (Some table) =
     Ok (record s {
@@ -225,7 +225,7 @@ map_table s database (Some table) =
       tables = if s.is_over then [] else s.tables;
     })
 
-unfoldable pub table_line : Standing → List ℕ → List ℕ → Result Standing Refusal
+unfoldable pub table_line : Standing → List ℕ → List ℕ → Result Standing EntryRefusal
 table_line s database table =
     if not (is_begun s.stage) then Err refusals.Transaction
     else if not (may_be_database database s.database) then Err refusals.Table
@@ -235,34 +235,34 @@ abbrev pub same_bool : Bool → Bool → Bool
 same_bool true b = b
 same_bool false b = not b
 
-abbrev pub add_column : Standing → Option Table → Bool → ColumnType → Result Standing Refusal
+abbrev pub add_column : Standing → Option Table → Bool → ColumnType → Result Standing EntryRefusal
 add_column s None is_first type = Err refusals.Format
 add_column s (Some t) is_first type =
     if same_bool is_first (length t.columns == 0) then Ok (record s { mapping = Some (record { name = t.name; columns = t.columns ++ type ∷ [] }) })
     else Err refusals.Format
 
-abbrev pub noted : Standing → List ℕ → Standing
-noted s text = record s { varied = varied_behind s.varied s.mapping text }
+abbrev pub note_varied : Standing → List ℕ → Standing
+note_varied s text = record s { varied = varied_behind s.varied s.mapping text }
 
-unfoldable pub column_line : Standing → Column → Result Standing Refusal
+unfoldable pub column_line : Standing → Column → Result Standing EntryRefusal
 column_line s c = do
   type ← or_refused refusals.Type (type_named c.column_type)
-  add_column (noted s c.column_type) s.mapping c.is_first type
+  add_column (note_varied s c.column_type) s.mapping c.is_first type
 
 -- ---- transactions
 
 abbrev pub open_entry : Standing → Entry
 open_entry s = record { gtid = s.gtid; txn = record { changes = s.changes } }
 
-unfoldable pub commit_line : Standing → Result Standing Refusal
+unfoldable pub commit_line : Standing → Result Standing EntryRefusal
 commit_line s =
     if is_begun s.stage then Ok (record s { stage = stages.Idle; changes = []; entries = s.entries ++ open_entry s ∷ [] })
     else Err refusals.Transaction
 
-unfoldable pub begin_line : Standing → Result Standing Refusal
+unfoldable pub begin_line : Standing → Result Standing EntryRefusal
 begin_line s = if is_named s.stage then Ok (record s { stage = stages.Begun }) else Err refusals.Transaction
 
-unfoldable pub gtid_line : Standing → List ℕ → Result Standing Refusal
+unfoldable pub gtid_line : Standing → List ℕ → Result Standing EntryRefusal
 gtid_line s word =
     if not (is_idle s.stage) then Err refusals.Gtid
     else (do
@@ -270,20 +270,20 @@ gtid_line s word =
       Ok (record s { stage = stages.Named; gtid = gtid; is_fresh = false }))
 
 -- what was executed before the first GTID; later files say again what has come
-unfoldable pub sources_line : Standing → List ℕ → Result Standing Refusal
+unfoldable pub sources_line : Standing → List ℕ → Result Standing EntryRefusal
 sources_line s word =
     if s.is_fresh then (do
       gtids ← or_refused refusals.Gtid (set_of_word word)
       Ok (record s { previous = set.union s.previous gtids }))
     else Ok s
 
-unfoldable pub head_line : Standing → Event → Result Standing Refusal
+unfoldable pub head_line : Standing → Event → Result Standing EntryRefusal
 head_line s (events.Rows operation) = if is_begun s.stage then Ok (record s { is_over = true }) else Err refusals.Transaction
 head_line s _ = Ok s
 
 -- ---- lines
 
-abbrev pub mark_line : Standing → Mark → Result Standing Refusal
+abbrev pub mark_line : Standing → Mark → Result Standing EntryRefusal
 mark_line s marks.Place = place_line s
 mark_line s marks.Automatic = place_line s
 mark_line s marks.Where = where_line s
@@ -299,29 +299,29 @@ mark_line s marks.Comment = Ok s
 mark_line s marks.Setting = Ok s
 mark_line s marks.Frame = Ok s
 
-abbrev pub told : Standing → Said → Result Standing Refusal
-told s (OfMark mark) = mark_line s mark
-told s (OfHead event) = head_line s event
-told s (OfTable database table) = table_line s database table
-told s (OfColumn c) = column_line s c
-told s (OfGtid gtid) = gtid_line s gtid
-told s (OfSources sources more) = sources_line s sources
-told s (OfRow operation database table) = row_line s operation database table
-told s (OfValue n text) = value_line s n text
+abbrev pub take_content : Standing → Said → Result Standing EntryRefusal
+take_content s (OfMark mark) = mark_line s mark
+take_content s (OfHead event) = head_line s event
+take_content s (OfTable database table) = table_line s database table
+take_content s (OfColumn c) = column_line s c
+take_content s (OfGtid gtid) = gtid_line s gtid
+take_content s (OfSources sources more) = sources_line s sources
+take_content s (OfRow operation database table) = row_line s operation database table
+take_content s (OfValue n text) = value_line s n text
 
-unfoldable pub step : Standing → Said → Result Standing Refusal
+unfoldable pub step : Standing → Said → Result Standing EntryRefusal
 step s l =
     if takes s.body (kind_of l) then (do
-      t ← told s l
+      t ← take_content s l
       Ok (record t { body = next_body t.body l }))
     else Err refusals.Format
 
-abbrev pub step_by : Standing → List ℕ → Option Said → Result Standing Refusal
-step_by s text None = Err (unread s.body text)
+abbrev pub step_by : Standing → List ℕ → Option Said → Result Standing EntryRefusal
+step_by s text None = Err (refusal_of s.body text)
 step_by s text (Some l) = step s l
 
 -- a line that says nothing is refused: a statement's text is no line of ours
-unfoldable pub judge : Standing → List ℕ → Result Standing Refusal
+unfoldable pub judge : Standing → List ℕ → Result Standing EntryRefusal
 judge s text = step_by s text (line_of text)
 
 -- before the first line
@@ -352,6 +352,6 @@ is_closed bodies.Closed = true
 is_closed _ = false
 
 -- what lines make, one after another
-abbrev pub runs : Standing → List Said → Result Standing Refusal
+abbrev pub runs : Standing → List Said → Result Standing EntryRefusal
 runs s [] = Ok s
 runs s (l ∷ ls) = step s l >>= λ t. runs t ls

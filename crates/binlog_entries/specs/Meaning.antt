@@ -1,4 +1,4 @@
--- What lines mean, and what entries spell.
+-- What lines mean, and what entries denote.
 use Rattle.std.specs.Prelude.{ℕ, ◌+◌, ◌-◌, Bool, true, false, List, [], ◌∷◌, ◌++◌, Option, Some, None, if◌then◌else◌}
 use Rattle.std.specs.List.{flat_map}
 use Rattle.std.specs.FinSet as set
@@ -6,7 +6,7 @@ use Rattle.gtid_set.specs.Sets.{Gtids}
 use Rattle.gtid_text.specs.Canonical.{gtid_text}
 use Rattle.journal_words.specs.Gtids.{set_of_word}
 use Rattle.journal.specs.declared.Entry.{Entry}
-use Rattle.rows.specs.declared.value.Value.{Value}
+use Rattle.row_images.specs.declared.value.Value.{Value}
 use Rattle.rows.specs.declared.change.Change.{Change}
 use Rattle.rows.specs.declared.change.Change.TheVariants as changes
 use Rattle.binlog_text.specs.declared.types.ColumnType.{ColumnType}
@@ -111,7 +111,7 @@ behind_head c events.Payload = c
 behind_head c events.Rotate = c
 behind_head c events.Stop = c
 
--- behind rows the next table is another statement's
+-- after rows the next table is another statement's
 abbrev pub context_behind : Context → Said → Context
 context_behind c (OfMark mark) = behind_mark c mark
 context_behind c (OfHead event) = behind_head c event
@@ -127,7 +127,7 @@ abbrev pub meaning : Context → List Said → List Meaning
 meaning c [] = []
 meaning c (l ∷ ls) = means c l ++ meaning (context_behind c l) ls
 
--- the columns that the server compares otherwise than their bytes, behind these lines
+-- the columns that the server compares otherwise than their bytes, after these lines
 abbrev pub varied_by : Context → List Varied → Said → List Varied
 varied_by c vs (OfColumn column) = varied_behind vs c.mapping column.column_type
 varied_by c vs (OfMark mark) = vs
@@ -142,12 +142,12 @@ abbrev pub varied_in : Context → List Varied → List Said → List Varied
 varied_in c vs [] = vs
 varied_in c vs (l ∷ ls) = varied_in (context_behind c l) (varied_by c vs l) ls
 
--- what was executed before, behind a line that says so
+-- what was executed before, after a line that says so
 abbrev pub with_sources : Gtids → Option Gtids → Gtids
 with_sources before None = before
 with_sources before (Some more) = set.union before more
 
--- What lines say was executed before: the sets that stand before the first GTID, together.
+-- What lines say was executed before: the sets that come before the first GTID, together.
 abbrev pub executed_before : Gtids → List Said → Gtids
 executed_before before [] = before
 executed_before before (OfGtid gtid ∷ ls) = before
@@ -162,18 +162,18 @@ executed_before before (OfValue n text ∷ ls) = executed_before before ls
 -- ---- of entries
 
 -- the values of an image, from this column on
-abbrev pub held : ℕ → List Value → List Meaning
-held n [] = []
-held n (v ∷ vs) = Holds n (Some v) ∷ held (n + 1) vs
+abbrev pub meaning_of_values : ℕ → List Value → List Meaning
+meaning_of_values n [] = []
+meaning_of_values n (v ∷ vs) = Holds n (Some v) ∷ meaning_of_values (n + 1) vs
 
-abbrev pub spelled_change : Change → List Meaning
-spelled_change (changes.Insert table after) = Row operations.Insert table ∷ After ∷ held 1 after
-spelled_change (changes.Delete table before) = Row operations.Delete table ∷ Before ∷ held 1 before
-spelled_change (changes.Update table before after) = Row operations.Update table ∷ Before ∷ (held 1 before ++ After ∷ held 1 after)
+abbrev pub meaning_of_change : Change → List Meaning
+meaning_of_change (changes.Insert table after) = Row operations.Insert table ∷ After ∷ meaning_of_values 1 after
+meaning_of_change (changes.Delete table before) = Row operations.Delete table ∷ Before ∷ meaning_of_values 1 before
+meaning_of_change (changes.Update table before after) = Row operations.Update table ∷ Before ∷ (meaning_of_values 1 before ++ After ∷ meaning_of_values 1 after)
 
-abbrev pub spelled_entry : Entry → List Meaning
-spelled_entry e = Names (gtid_text e.gtid) ∷ (flat_map spelled_change e.txn.changes ++ Commits ∷ [])
+abbrev pub meaning_of_entry : Entry → List Meaning
+meaning_of_entry e = Names (gtid_text e.gtid) ∷ (flat_map meaning_of_change e.txn.changes ++ Commits ∷ [])
 
--- what entries spell, in order
-abbrev pub spelled : List Entry → List Meaning
-spelled entries = flat_map spelled_entry entries
+-- what entries denote, in order
+abbrev pub meaning_of_entries : List Entry → List Meaning
+meaning_of_entries entries = flat_map meaning_of_entry entries

@@ -9,11 +9,11 @@ use Rattle.txn_journal.specs.Words.{IsOneLine}
 use Rattle.binlog_text.specs.Lines.{Said, IsLine}
 use Rattle.binlog_entries.specs.Machine.{Standing, ◌>>=◌, judge, is_closed}
 use Rattle.binlog_entries.specs.Machine as machine
-use Rattle.binlog_entries.specs.Meaning.{meaning, nowhere, spelled, executed_before, varied_in}
+use Rattle.binlog_entries.specs.Meaning.{meaning, nowhere, meaning_of_entries, executed_before, varied_in}
 use Rattle.binlog_entries.specs.declared.varied.Varied.{Varied}
 use Rattle.binlog_entries.specs.declared.fault.ReadFault.{ReadFault}
 use Rattle.binlog_entries.specs.declared.fault.ReadFault.TheVariants as faults
-use Rattle.binlog_entries.specs.declared.fault.Refusal.{Refusal}
+use Rattle.binlog_entries.specs.declared.fault.EntryRefusal.{EntryRefusal}
 
 -- How far the reading has come: so many whole lines, and the bytes of the next; or it has stopped.
 pub data Progress : Type 0 where
@@ -28,13 +28,13 @@ unless_stopped (Some fault) p = Stopped fault
 abbrev pub next_number : ℕ → ℕ
 next_number n = min (n + 1) (2 ^ 64 - 1)
 
-abbrev pub judged : Result Standing Refusal → ℕ → Progress
-judged (Ok s) n = Reading s n []
-judged (Err refusal) n = Stopped (faults.Line n refusal)
+abbrev pub progress_after : Result Standing EntryRefusal → ℕ → Progress
+progress_after (Ok s) n = Reading s n []
+progress_after (Err refusal) n = Stopped (faults.Line n refusal)
 
 -- a line feed ends a line
 unfoldable pub eat : Progress → ℕ → Progress
-eat (Reading s n rest) b = if b == 10 then judged (judge s rest) (next_number n) else Reading s n (rest ++ b ∷ [])
+eat (Reading s n rest) b = if b == 10 then progress_after (judge s rest) (next_number n) else Reading s n (rest ++ b ∷ [])
 eat (Stopped fault) b = Stopped fault
 
 abbrev pub eats : Progress → List ℕ → Progress
@@ -69,7 +69,7 @@ Seen view (Err fault) = Err fault
 abbrev pub Told : Type 0
 Told = Gtids × List Entry × List Varied
 
--- whether a text may end behind so many lines and part of one more
+-- whether a text may end after so many lines and part of one more
 abbrev pub ends_at : Bool → ℕ → List ℕ → Result (Unit {0}) ReadFault
 ends_at false n rest = Err (faults.Unfinished (next_number n))
 ends_at true n [] = Ok tt
@@ -83,12 +83,12 @@ abbrev pub at_end : {V : Type 0} → Result (Unit {0}) ReadFault → V → Resul
 at_end (Ok _) value = Ok value
 at_end (Err fault) value = Err fault
 
-abbrev pub ended : Bool → Standing → ℕ → List ℕ → Result Told ReadFault
-ended b s n rest = at_end (ends_at b n rest) (s.previous, s.entries, s.varied)
+abbrev pub end_of_text : Bool → Standing → ℕ → List ℕ → Result Told ReadFault
+end_of_text b s n rest = at_end (ends_at b n rest) (s.previous, s.entries, s.varied)
 
 -- the end of the text
 abbrev pub closing : Progress → Result Told ReadFault
-closing (Reading s n rest) = ended (is_closed s.body) s n rest
+closing (Reading s n rest) = end_of_text (is_closed s.body) s n rest
 closing (Stopped fault) = Err fault
 
 -- it is this, unless memory ran out or a set is full
@@ -106,7 +106,7 @@ Say [] [] = Unit {0}
 Say (line ∷ lines) (l ∷ ls) = IsLine l line × Say lines ls
 Say _ _ = ⊥
 
--- The text is lines that say something each, and what they mean is what the entries spell, in order. This was executed before, and these are the
+-- The text is lines that say something each, and what they mean is what the entries denote, in order. This was executed before, and these are the
 -- columns that the server compares otherwise than their bytes.
 pub record IsLog (text : List ℕ) (previous : Gtids) (entries : List Entry) (varied : List Varied) : Type 0 where
   pub lines : List (List ℕ)
@@ -114,12 +114,12 @@ pub record IsLog (text : List ℕ) (previous : Gtids) (entries : List Entry) (va
   pub whole : AllByRecursion IsOneLine lines
   pub said : List Said
   pub say : Say lines said
-  pub means : meaning nowhere said ≡ spelled entries
+  pub means : meaning nowhere said ≡ meaning_of_entries entries
   pub before : previous ≡ executed_before set.empty said
   pub varies : varied ≡ varied_in nowhere [] said
 
 -- what lines make, one after another
-abbrev pub judges : Standing → List (List ℕ) → Result Standing Refusal
+abbrev pub judges : Standing → List (List ℕ) → Result Standing EntryRefusal
 judges s [] = Ok s
 judges s (line ∷ lines) = judge s line >>= λ t. judges t lines
 
@@ -129,7 +129,7 @@ numbered n [] = n
 numbered n (line ∷ lines) = numbered (next_number n) lines
 
 -- Lines that are taken, and then one that is refused.
-pub record IsRefused (text : List ℕ) (n : ℕ) (refusal : Refusal) : Type 0 where
+pub record IsRefused (text : List ℕ) (n : ℕ) (refusal : EntryRefusal) : Type 0 where
   pub before : List (List ℕ)
   pub line : List ℕ
   pub rest : List ℕ

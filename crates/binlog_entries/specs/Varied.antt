@@ -13,7 +13,7 @@ has_varied table column (v ∷ vs) = (bytes_eq v.table table && (v.column == col
 abbrev pub with_varied : List Varied → List ℕ → ℕ → List Varied
 with_varied vs table column = if has_varied table column vs then vs else vs ++ record { table = table; column = column } ∷ []
 
--- behind the next column of the table that is mapped, whose type this text tells
+-- after the next column of the table that is mapped, whose type this text describes
 abbrev pub varied_behind : List Varied → Option Table → List ℕ → List Varied
 varied_behind vs None text = vs
 varied_behind vs (Some t) text = if compares_bytes text then vs else with_varied vs t.name (length t.columns)

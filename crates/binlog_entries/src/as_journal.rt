@@ -64,7 +64,7 @@ fn follow(journal: &mut Journal, seen: &mut GtidSet, entry: &Entry) -> Result<()
     Ok(())
 }
 
-/// Puts entries behind those of a journal whose GTIDs were seen.
+/// Puts entries after those of a journal whose GTIDs were seen.
 fn follow_all(journal: &mut Journal, seen: &mut GtidSet, entries: &[Entry]) -> Result<(), LogFault>
     requires { IsSeen journal.old seen.old }
     ensures journal { OnOk result (journal.new ≡ record journal.old { entries = journal.old.entries ++ entries.now }) }
@@ -80,7 +80,7 @@ fn follow_all(journal: &mut Journal, seen: &mut GtidSet, entries: &[Entry]) -> R
 }
 
 impl Log {
-    /// The journal of these entries behind what was executed before.
+    /// The journal of these entries after what was executed before.
     pub fn journal(&self, alloc: Global) -> Result<Journal, LogFault>
         ensures found { IfOk result (λ j. j ≡ record { previous = self.now.previous; entries = self.now.entries.items }) }
         ensures refused { IfErr result (λ fault. IsNoJournal fault self.now.previous self.now.entries.items) }

@@ -17,7 +17,7 @@ pub enum Body {
     Gtid,
     /// A statement, before its text.
     Query,
-    /// A statement, behind its text.
+    /// A statement, after its text.
     Statement,
     TableMap,
     Rows(Operation),
@@ -25,9 +25,9 @@ pub enum Body {
     Payload,
     /// An event that has no more lines, but for comments.
     Done,
-    /// The lines behind the last event of a file.
+    /// The lines after the last event of a file.
     FileEnd,
-    /// The lines behind the last file.
+    /// The lines after the last file.
     Closed,
 }
 
@@ -161,7 +161,7 @@ impl Body {
         }
     }
 
-    /// What the line behind one of this kind is a part of, where that is no head.
+    /// What the line after one of this kind is a part of, where that is no head.
     fn behind(self, kind: Kind) -> Body
         ensures { result ≡ behind self kind }
     {
@@ -185,7 +185,7 @@ impl Body {
     }
 }
 
-/// What the line behind one is a part of.
+/// What the line after one is a part of.
 pub fn next_body(body: Body, line: &Line<'_>) -> Body
     ensures { result ≡ next_body body (said line.now) }
 {

@@ -3,13 +3,13 @@ ghost use Rattle.std.specs.Prelude.{◌≡◌, length, IfOk, option_map};
 ghost use Rattle.binlog_entries.specs.Machine.{Finds};
 
 use crate::bodies::{Body, kind_of, next_body};
-use crate::fault::{Fault, Refusal};
+use crate::fault::{EntryFault, EntryRefusal};
 use crate::parts::{
-    after_due, before_due, change_of, has_rows_of, is_database, is_whole, may_be_database, type_at,
-    typed_value,
+    after_due, before_due, change_of, has_rows_of, is_database, is_whole, may_be_database,
+    parse_value, type_at,
 };
 use crate::tables::{Mapped, name_of, table_named};
-use crate::unread::unread;
+use crate::unread::refusal_of;
 use crate::varied::{Varied, has_varied};
 use binlog_text::{
     Column, ColumnType, Event, Line, Mark, Operation, compares_bytes, read_line, type_named,
@@ -43,7 +43,7 @@ pub enum Part {
     After,
 }
 
-/// What a binary log tells.
+/// What a binary log describes.
 #[derive(Drop)]
 pub struct Log {
     /// What its first file says was executed before.
@@ -90,8 +90,8 @@ pub struct Draft {
 impl Draft {
     ghost use Rattle.std.specs.Prelude.{[], None, Ok, Err, OnOk, if◌then◌else◌};
     ghost use Rattle.binlog_text.specs.Said.{said, column_said};
-    ghost use Rattle.binlog_entries.specs.Machine.{Takes, Standing, finished, open_row, known_name, begin_row, row_line, where_line, set_line, next_value, value_in, value_line, place_line, map_table, table_line, add_column, noted, column_line, commit_line, begin_line, gtid_line, sources_line, head_line, mark_line, told, step, judge, start, same_stage, is_closed};
-    ghost use Rattle.binlog_entries.specs.declared.fault.Refusal.TheVariants as refusals;
+    ghost use Rattle.binlog_entries.specs.Machine.{Takes, Standing, finish_row, open_row, known_name, begin_row, row_line, where_line, set_line, next_value, value_in, value_line, place_line, map_table, table_line, add_column, note_varied, column_line, commit_line, begin_line, gtid_line, sources_line, head_line, mark_line, take_content, step, judge, start, same_stage, is_closed};
+    ghost use Rattle.binlog_entries.specs.declared.fault.EntryRefusal.TheVariants as refusals;
     ghost use Rattle.binlog_entries.specs.Drafts.{standing};
 
     /// Before the first line.
@@ -123,15 +123,15 @@ impl Draft {
     }
 
     /// The row that is open joins the changes, where it is whole.
-    #[tactic(auto, unfolding(crate::specs::Machine::finished))]
-    fn finish(&mut self, alloc: Global) -> Result<(), Fault>
-        ensures { Takes result (finished (standing self.old)) (standing self.new) }
+    #[tactic(auto, unfolding(crate::specs::Machine::finish_row))]
+    fn finish(&mut self, alloc: Global) -> Result<(), EntryFault>
+        ensures { Takes result (finish_row (standing self.old)) (standing self.new) }
     {
         let Some(table) = self.row.take() else {
             return Ok(());
         };
         let Some(mapped) = table_named(table.as_str().as_bytes(), &self.tables) else {
-            return Err(Fault::Refused(Refusal::Table));
+            return Err(EntryFault::Refused(EntryRefusal::Table));
         };
         if !is_whole(
             self.operation,
@@ -140,7 +140,7 @@ impl Draft {
             self.after.len(),
             mapped.len(),
         ) {
-            return Err(Fault::Refused(Refusal::Columns));
+            return Err(EntryFault::Refused(EntryRefusal::Columns));
         }
         let before = mem::replace(&mut self.before, Vec::new(alloc));
         let after = mem::replace(&mut self.after, Vec::new(alloc));
@@ -150,43 +150,49 @@ impl Draft {
     }
 
     #[tactic(auto, unfolding(crate::specs::Machine::where_line))]
-    fn where_line(&mut self) -> Result<(), Fault>
+    fn where_line(&mut self) -> Result<(), EntryFault>
         ensures { Takes result (where_line (standing self.old)) (standing self.new) }
     {
         if self.row.is_none() || !before_due(self.operation, self.part) {
-            return Err(Fault::Refused(Refusal::Columns));
+            return Err(EntryFault::Refused(EntryRefusal::Columns));
         }
         self.part = Part::Before;
         Ok(())
     }
 
     #[tactic(auto, unfolding(crate::specs::Machine::set_line))]
-    fn set_line(&mut self) -> Result<(), Fault>
+    fn set_line(&mut self) -> Result<(), EntryFault>
         ensures { Takes result (set_line (standing self.old)) (standing self.new) }
     {
         if self.row.is_none() || !after_due(self.operation, self.part) {
-            return Err(Fault::Refused(Refusal::Columns));
+            return Err(EntryFault::Refused(EntryRefusal::Columns));
         }
         self.part = Part::After;
         Ok(())
     }
 
     /// The value of the next column of an image that has so many.
-    fn next_value(&self, alloc: Global, place: usize, n: u64, text: &[u8]) -> Result<Value, Fault>
+    fn next_value(
+        &self,
+        alloc: Global,
+        place: usize,
+        n: u64,
+        text: &[u8],
+    ) -> Result<Value, EntryFault>
         ensures { Finds (λ v. v) result (next_value (standing self.now) place n text.now) }
     {
         if n == 0 || n - 1 != place as u64 {
-            return Err(Fault::Refused(Refusal::Columns));
+            return Err(EntryFault::Refused(EntryRefusal::Columns));
         }
-        typed_value(alloc, type_at(&self.row, &self.tables, place), text)
+        parse_value(alloc, type_at(&self.row, &self.tables, place), text)
     }
 
     #[tactic(auto, unfolding(crate::specs::Machine::value_line))]
-    fn value_line(&mut self, alloc: Global, n: u64, text: &[u8]) -> Result<(), Fault>
+    fn value_line(&mut self, alloc: Global, n: u64, text: &[u8]) -> Result<(), EntryFault>
         ensures { Takes result (value_line (standing self.old) n text.now) (standing self.new) }
     {
         match self.part {
-            Part::Head => Err(Fault::Refused(Refusal::Columns)),
+            Part::Head => Err(EntryFault::Refused(EntryRefusal::Columns)),
             Part::Before => {
                 let value = self.next_value(alloc, self.before.len(), n, text)?;
                 self.before.push(value)?;
@@ -201,7 +207,7 @@ impl Draft {
     }
 
     #[tactic(auto, unfolding(crate::specs::Machine::place_line))]
-    fn place_line(&mut self, alloc: Global) -> Result<(), Fault>
+    fn place_line(&mut self, alloc: Global) -> Result<(), EntryFault>
         ensures { Takes result (place_line (standing self.old)) (standing self.new) }
     {
         self.finish(alloc)?;
@@ -212,11 +218,11 @@ impl Draft {
     }
 
     #[tactic(auto, unfolding(crate::specs::Machine::commit_line))]
-    fn commit_line(&mut self, alloc: Global) -> Result<(), Fault>
+    fn commit_line(&mut self, alloc: Global) -> Result<(), EntryFault>
         ensures { Takes result (commit_line (standing self.old)) (standing self.new) }
     {
         if self.stage != Stage::Begun {
-            return Err(Fault::Refused(Refusal::Transaction));
+            return Err(EntryFault::Refused(EntryRefusal::Transaction));
         }
         let changes = mem::replace(&mut self.changes, Vec::new(alloc));
         let entry = Entry {
@@ -231,25 +237,25 @@ impl Draft {
     }
 
     #[tactic(auto, unfolding(crate::specs::Machine::begin_line))]
-    fn begin_line(&mut self) -> Result<(), Fault>
+    fn begin_line(&mut self) -> Result<(), EntryFault>
         ensures { Takes result (begin_line (standing self.old)) (standing self.new) }
     {
         if self.stage != Stage::Named {
-            return Err(Fault::Refused(Refusal::Transaction));
+            return Err(EntryFault::Refused(EntryRefusal::Transaction));
         }
         self.stage = Stage::Begun;
         Ok(())
     }
 
     #[tactic(auto, unfolding(crate::specs::Machine::gtid_line))]
-    fn gtid_line(&mut self, alloc: Global, word: &[u8]) -> Result<(), Fault>
+    fn gtid_line(&mut self, alloc: Global, word: &[u8]) -> Result<(), EntryFault>
         ensures { Takes result (gtid_line (standing self.old) word.now) (standing self.new) }
     {
         if self.stage != Stage::Idle {
-            return Err(Fault::Refused(Refusal::Gtid));
+            return Err(EntryFault::Refused(EntryRefusal::Gtid));
         }
         let Some(gtid) = gtid_word(alloc, word)? else {
-            return Err(Fault::Refused(Refusal::Gtid));
+            return Err(EntryFault::Refused(EntryRefusal::Gtid));
         };
         self.gtid = gtid;
         self.is_fresh = false;
@@ -258,27 +264,27 @@ impl Draft {
     }
 
     #[tactic(auto, unfolding(crate::specs::Machine::sources_line))]
-    fn sources_line(&mut self, alloc: Global, word: &[u8]) -> Result<(), Fault>
+    fn sources_line(&mut self, alloc: Global, word: &[u8]) -> Result<(), EntryFault>
         ensures { Takes result (sources_line (standing self.old) word.now) (standing self.new) }
     {
         if !self.is_fresh {
             return Ok(());
         }
         let Some(gtids) = set_word(alloc, word)? else {
-            return Err(Fault::Refused(Refusal::Gtid));
+            return Err(EntryFault::Refused(EntryRefusal::Gtid));
         };
         self.previous = self.previous.union(alloc, &gtids)?;
         Ok(())
     }
 
     #[tactic(auto, unfolding(crate::specs::Machine::head_line))]
-    fn head_line(&mut self, event: Event) -> Result<(), Fault>
+    fn head_line(&mut self, event: Event) -> Result<(), EntryFault>
         ensures { Takes result (head_line (standing self.old) event) (standing self.new) }
     {
         match event {
             Event::Rows(_) => {
                 if self.stage != Stage::Begun {
-                    return Err(Fault::Refused(Refusal::Transaction));
+                    return Err(EntryFault::Refused(EntryRefusal::Transaction));
                 }
                 self.is_over = true;
                 Ok(())
@@ -310,17 +316,17 @@ impl Draft {
         operation: Operation,
         database: &[u8],
         table: &[u8],
-    ) -> Result<(), Fault>
+    ) -> Result<(), EntryFault>
         ensures { Takes result (begin_row (standing self.old) operation database.now table.now) (standing self.new) }
     {
         if !has_rows_of(self.body, operation) {
-            return Err(Fault::Refused(Refusal::Format));
+            return Err(EntryFault::Refused(EntryRefusal::Format));
         }
         if !is_database(database, &self.database) {
-            return Err(Fault::Refused(Refusal::Table));
+            return Err(EntryFault::Refused(EntryRefusal::Table));
         }
         let Some(name) = self.known_name(alloc, table)? else {
-            return Err(Fault::Refused(Refusal::Table));
+            return Err(EntryFault::Refused(EntryRefusal::Table));
         };
         self.row = Some(name);
         self.operation = operation;
@@ -335,7 +341,7 @@ impl Draft {
         operation: Operation,
         database: &[u8],
         table: &[u8],
-    ) -> Result<(), Fault>
+    ) -> Result<(), EntryFault>
         ensures { Takes result (row_line (standing self.old) operation database.now table.now) (standing self.new) }
     {
         self.finish(alloc)?;
@@ -347,11 +353,11 @@ impl Draft {
         alloc: Global,
         database: &[u8],
         table: Option<Name>,
-    ) -> Result<(), Fault>
+    ) -> Result<(), EntryFault>
         ensures { Takes result (map_table (standing self.old) database.now table) (standing self.new) }
     {
         let Some(name) = table else {
-            return Err(Fault::Refused(Refusal::Table));
+            return Err(EntryFault::Refused(EntryRefusal::Table));
         };
         let mut copy = Vec::new(alloc);
         copy.extend_from_slice(database)?;
@@ -365,27 +371,27 @@ impl Draft {
     }
 
     #[tactic(auto, unfolding(crate::specs::Machine::table_line))]
-    fn table_line(&mut self, alloc: Global, database: &[u8], table: &[u8]) -> Result<(), Fault>
+    fn table_line(&mut self, alloc: Global, database: &[u8], table: &[u8]) -> Result<(), EntryFault>
         ensures { Takes result (table_line (standing self.old) database.now table.now) (standing self.new) }
     {
         if self.stage != Stage::Begun {
-            return Err(Fault::Refused(Refusal::Transaction));
+            return Err(EntryFault::Refused(EntryRefusal::Transaction));
         }
         if !may_be_database(database, &self.database) {
-            return Err(Fault::Refused(Refusal::Table));
+            return Err(EntryFault::Refused(EntryRefusal::Table));
         }
         let name = name_of(alloc, table)?;
         self.map_table(alloc, database, name)
     }
 
-    fn add_column(&mut self, is_first: bool, column: ColumnType) -> Result<(), Fault>
+    fn add_column(&mut self, is_first: bool, column: ColumnType) -> Result<(), EntryFault>
         ensures { Takes result (add_column (standing self.old) (standing self.old).mapping is_first column) (standing self.new) }
     {
         match &mut self.mapping {
-            None => Err(Fault::Refused(Refusal::Format)),
+            None => Err(EntryFault::Refused(EntryRefusal::Format)),
             Some(table) => {
                 if is_first != (table.len() == 0) {
-                    return Err(Fault::Refused(Refusal::Format));
+                    return Err(EntryFault::Refused(EntryRefusal::Format));
                 }
                 table.add(column)?;
                 Ok(())
@@ -395,7 +401,7 @@ impl Draft {
 
     /// Keeps the next column of the table that is mapped, where the server compares its values otherwise than their bytes.
     fn note(&mut self, text: &[u8]) -> Result<(), AllocError>
-        ensures { OnOk result (standing self.new ≡ noted (standing self.old) text.now) }
+        ensures { OnOk result (standing self.new ≡ note_varied (standing self.old) text.now) }
     {
         let Some(table) = &self.mapping else {
             return Ok(());
@@ -413,28 +419,28 @@ impl Draft {
     }
 
     #[tactic(auto, unfolding(crate::specs::Machine::column_line))]
-    fn column_line(&mut self, column: &Column<'_>) -> Result<(), Fault>
+    fn column_line(&mut self, column: &Column<'_>) -> Result<(), EntryFault>
         ensures { Takes result (column_line (standing self.old) (column_said column.now)) (standing self.new) }
     {
         let Some(named) = type_named(column.column_type) else {
-            return Err(Fault::Refused(Refusal::Type));
+            return Err(EntryFault::Refused(EntryRefusal::Type));
         };
         self.note(column.column_type)?;
         self.add_column(column.is_first, named)
     }
 
     /// Whether the stage is this one.
-    fn wants(&self, stage: Stage) -> Result<(), Fault>
+    fn expect_stage(&self, stage: Stage) -> Result<(), EntryFault>
         ensures { Takes result (if same_stage (standing self.now).stage stage then Ok (standing self.now) else Err refusals.Transaction) (standing self.now) }
     {
         if self.stage == stage {
             Ok(())
         } else {
-            Err(Fault::Refused(Refusal::Transaction))
+            Err(EntryFault::Refused(EntryRefusal::Transaction))
         }
     }
 
-    fn mark_line(&mut self, alloc: Global, mark: Mark) -> Result<(), Fault>
+    fn mark_line(&mut self, alloc: Global, mark: Mark) -> Result<(), EntryFault>
         ensures { Takes result (mark_line (standing self.old) mark) (standing self.new) }
     {
         match mark {
@@ -443,15 +449,15 @@ impl Draft {
             Mark::Set => self.set_line(),
             Mark::Begin => self.begin_line(),
             Mark::Commit | Mark::Committed => self.commit_line(alloc),
-            Mark::Savepoint => self.wants(Stage::Begun),
-            Mark::Closed => self.wants(Stage::Idle),
+            Mark::Savepoint => self.expect_stage(Stage::Begun),
+            Mark::Closed => self.expect_stage(Stage::Idle),
             Mark::Ended | Mark::Empty | Mark::Comment | Mark::Setting | Mark::Frame => Ok(()),
         }
     }
 
     /// What a line tells.
-    fn told(&mut self, alloc: Global, line: &Line<'_>) -> Result<(), Fault>
-        ensures { Takes result (told (standing self.old) (said line.now)) (standing self.new) }
+    fn take_content(&mut self, alloc: Global, line: &Line<'_>) -> Result<(), EntryFault>
+        ensures { Takes result (take_content (standing self.old) (said line.now)) (standing self.new) }
     {
         match line {
             Line::Mark(mark) => self.mark_line(alloc, *mark),
@@ -468,25 +474,25 @@ impl Draft {
     }
 
     #[tactic(auto, unfolding(crate::specs::Machine::step))]
-    fn step(&mut self, alloc: Global, line: &Line<'_>) -> Result<(), Fault>
+    fn step(&mut self, alloc: Global, line: &Line<'_>) -> Result<(), EntryFault>
         ensures { Takes result (step (standing self.old) (said line.now)) (standing self.new) }
     {
         if !self.body.takes(kind_of(line)) {
-            return Err(Fault::Refused(Refusal::Format));
+            return Err(EntryFault::Refused(EntryRefusal::Format));
         }
-        self.told(alloc, line)?;
+        self.take_content(alloc, line)?;
         self.body = next_body(self.body, line);
         Ok(())
     }
 
     /// Takes the next line, or says what is wrong with it. After an error no more lines are to come.
     #[tactic(auto, unfolding(crate::specs::Machine::judge))]
-    pub fn take_line(&mut self, alloc: Global, text: &[u8]) -> Result<(), Fault>
+    pub fn take_line(&mut self, alloc: Global, text: &[u8]) -> Result<(), EntryFault>
         ensures { Takes result (judge (standing self.old) text.now) (standing self.new) }
     {
         match read_line(text) {
             Some(line) => self.step(alloc, &line),
-            None => Err(Fault::Refused(unread(self.body, text))),
+            None => Err(EntryFault::Refused(refusal_of(self.body, text))),
         }
     }
 

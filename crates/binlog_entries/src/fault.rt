@@ -1,7 +1,7 @@
 //! Why a line is not taken.
 ghost use Rattle.std.specs.Prelude.{◌≡◌};
 ghost use Rattle.gtid_set.specs.declared.fault.SetFault.TheVariants.{Memory};
-ghost use Rattle.binlog_entries.specs.declared.fault.Fault.TheVariants.{Set};
+ghost use Rattle.binlog_entries.specs.declared.fault.EntryFault.TheVariants.{Set};
 
 use gtid_set::SetFault;
 use std::alloc::{AllocError, AllocFailed};
@@ -9,7 +9,7 @@ use thiserror::Error;
 
 /// What is wrong with a line.
 #[derive(Clone, Copy, Debug, PartialEq, Eq)]
-pub enum Refusal {
+pub enum EntryRefusal {
     /// It is none of mysqlbinlog's lines, or stands where none of its kind does.
     Format,
     /// A statement other than the beginning, the end and a savepoint of a transaction.
@@ -32,7 +32,7 @@ pub enum Refusal {
     Mariadb,
 }
 
-impl Refusal {
+impl EntryRefusal {
     ghost use Rattle.binlog_entries.specs.Unread.{word_of};
 
     /// The word that names it.
@@ -40,50 +40,50 @@ impl Refusal {
         ensures { result.now ≡ word_of self }
     {
         match self {
-            Refusal::Format => "format",
-            Refusal::Statement => "statement",
-            Refusal::Xa => "xa",
-            Refusal::Gtid => "gtid",
-            Refusal::Transaction => "transaction",
-            Refusal::Table => "table",
-            Refusal::Type => "type",
-            Refusal::Columns => "columns",
-            Refusal::Value => "value",
-            Refusal::Mariadb => "mariadb",
+            EntryRefusal::Format => "format",
+            EntryRefusal::Statement => "statement",
+            EntryRefusal::Xa => "xa",
+            EntryRefusal::Gtid => "gtid",
+            EntryRefusal::Transaction => "transaction",
+            EntryRefusal::Table => "table",
+            EntryRefusal::Type => "type",
+            EntryRefusal::Columns => "columns",
+            EntryRefusal::Value => "value",
+            EntryRefusal::Mariadb => "mariadb",
         }
     }
 }
 
 /// Why a line is not taken.
 #[derive(Clone, Copy, Debug, PartialEq, Eq)]
-pub enum Fault {
+pub enum EntryFault {
     /// Memory was refused, or a set is full.
     Set(SetFault),
     /// The line is refused.
-    Refused(Refusal),
+    Refused(EntryRefusal),
 }
 
-impl From<AllocError> for Fault {
+impl From<AllocError> for EntryFault {
     ghost from_gives = { λ _ e. e ≡ Set Memory };
 
-    fn from(_e: AllocError) -> Fault {
-        Fault::Set(SetFault::Memory)
+    fn from(_e: AllocError) -> EntryFault {
+        EntryFault::Set(SetFault::Memory)
     }
 }
 
-impl From<SetFault> for Fault {
+impl From<SetFault> for EntryFault {
     ghost from_gives = { λ fault e. e ≡ Set fault };
 
-    fn from(fault: SetFault) -> Fault {
-        Fault::Set(fault)
+    fn from(fault: SetFault) -> EntryFault {
+        EntryFault::Set(fault)
     }
 }
 
-impl<T: Drop> From<AllocFailed<T>> for Fault {
+impl<T: Drop> From<AllocFailed<T>> for EntryFault {
     ghost from_gives = { λ _ e. e ≡ Set Memory };
 
-    fn from(_e: AllocFailed<T>) -> Fault {
-        Fault::Set(SetFault::Memory)
+    fn from(_e: AllocFailed<T>) -> EntryFault {
+        EntryFault::Set(SetFault::Memory)
     }
 }
 
@@ -95,7 +95,7 @@ pub enum ReadFault {
     Set(SetFault),
     /// The first line that is refused, and what is wrong with it.
     #[error("line {line} is refused")]
-    Line { line: u64, refusal: Refusal },
+    Line { line: u64, refusal: EntryRefusal },
     /// The text ends before its log does.
     #[error("unfinished at line {line}")]
     Unfinished { line: u64 },

@@ -26,7 +26,7 @@ pub enum ImportFault {
     Log(LogFault),
 }
 
-/// The text, by version 2 of the format, of the journal that the text of a binary log tells; its entries change tables of this schema.
+/// The text, by version 2 of the format, of the journal that the text of a binary log describes; its entries change tables of this schema.
 /// `bytes` takes keys that the server compares otherwise than their bytes.
 pub fn import_journal(
     alloc: Global,
@@ -34,7 +34,7 @@ pub fn import_journal(
     bytes: bool,
     text: &[u8],
 ) -> Result<Vec<u8>, ImportFault>
-    // What the lines of the log's text mean, the journal's entries spell.
+    // What the lines of the log's text mean, the journal's entries denote.
     ensures found { IfOk result (λ written. Imports schema.now bytes text.now written.items) }
     // Which line is the first that is refused, which key is the first that is not compared by bytes, or which entry may not follow those before it.
     ensures refused { IfErr result (λ fault. IsNoImport schema.now fault text.now) }

@@ -1,4 +1,4 @@
-//! What lines mean is what their entries spell. Each law is the contract of a function that does nothing.
+//! What lines mean is what their entries denote. Each law is the contract of a function that does nothing.
 ghost use Rattle.std.specs.Prelude.{◌≡◌, ◌⊎◌, ◌++◌, ℕ, List, Ok, true};
 ghost use Rattle.binlog_text.specs.Lines.{Said};
 ghost use Rattle.binlog_entries.specs.Machine.{Standing, runs, start, is_closed};
@@ -9,14 +9,14 @@ ghost use Rattle.binlog_entries.specs.declared.bodies.Body.TheVariants as bodies
 ghost use Rattle.binlog_entries.specs.declared.bodies.Kind.{Kind};
 ghost use Rattle.binlog_entries.specs.declared.bodies.Kind.TheVariants as kinds;
 ghost use Rattle.binlog_entries.specs.Stream.{Progress, eats};
-ghost use Rattle.binlog_entries.specs.Meaning.{meaning, nowhere, spelled};
+ghost use Rattle.binlog_entries.specs.Meaning.{meaning, nowhere, meaning_of_entries};
 
-/// Where the lines of a whole log are taken, they mean what the entries spell, in order: nothing is dropped, doubled or moved.
+/// Where the lines of a whole log are taken, they mean what the entries denote, in order: nothing is dropped, doubled or moved.
 pub fn entries_are_told()
-    ensures { (lines : List Said) (s : Standing) → runs start lines ≡ Ok s → is_closed s.body ≡ true → meaning nowhere lines ≡ spelled s.entries }
+    ensures { (lines : List Said) (s : Standing) → runs start lines ≡ Ok s → is_closed s.body ≡ true → meaning nowhere lines ≡ meaning_of_entries s.entries }
 {}
 
-/// Rows stand in the bodies of rows events alone, and a statement holds what the session is set to and one of the words of transactions.
+/// Rows are in the bodies of rows events alone, and a statement holds what the session is set to and one of the words of transactions.
 pub fn statements_hold_no_rows()
     ensures rows { (body : Body) → takes body kinds.Row ≡ true → (operation : Operation) × (body ≡ bodies.Rows operation) }
     ensures statements { (kind : Kind) → takes bodies.Query kind ≡ true → (kind ≡ kinds.Setting) ⊎ (kind ≡ kinds.Statement) }

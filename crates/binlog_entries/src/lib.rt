@@ -3,7 +3,7 @@
 //! `Reader` takes the text in pieces (`start`, `feed`, `finish`), and `read_log` is one `feed` and `finish`. A `Log` is what the first
 //! file says was executed before, and the entries in order. `import_journal` writes it as a journal's text, by version 2 of the format.
 //!
-//! What a contract sees: `takes` says which kinds of lines may be in the body of which event, `told` what each tells, and `IsLog` that
+//! What a contract sees: `takes` says which kinds of lines may be in the body of which event, `take_content` what each adds, and `IsLog` that
 //! what the lines mean is what the entries say: GTIDs, rows with their operation, table and images, and commits. Nothing is dropped,
 //! doubled or moved (`entries_are_told`), and it makes no difference where a text is cut (`cut_anywhere`). A refusal names the first line
 //! that is refused.
@@ -31,7 +31,7 @@ mod varied;
 
 pub use as_journal::LogFault;
 pub use draft::{Draft, Log};
-pub use fault::{Fault, ReadFault, Refusal};
+pub use fault::{EntryFault, EntryRefusal, ReadFault};
 pub use import::{ImportFault, import_journal};
 pub use laws::{cut_anywhere, entries_are_told, statements_hold_no_rows};
 pub use reader::{Reader, cut_line, read_log};

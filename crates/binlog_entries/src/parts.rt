@@ -1,11 +1,11 @@
 //! Parts of rows.
 ghost use Rattle.std.specs.Prelude.{◌≡◌, length, IfOk, option_map};
-ghost use Rattle.binlog_entries.specs.Machine.{Finds, is_whole, change_of, is_database, may_be_database, same_operation, has_rows_of, before_due, after_due, typed_value};
+ghost use Rattle.binlog_entries.specs.Machine.{Finds, is_whole, change_of, is_database, may_be_database, same_operation, has_rows_of, before_due, after_due, parse_value};
 ghost use Rattle.binlog_entries.specs.Tables.{type_at};
 
 use crate::bodies::Body;
 use crate::draft::Part;
-use crate::fault::{Fault, Refusal};
+use crate::fault::{EntryFault, EntryRefusal};
 use crate::tables::{Mapped, table_named};
 use binlog_text::{ColumnType, Operation, read_value};
 use rows::{Change, Name, Row, Value};
@@ -126,14 +126,18 @@ pub fn type_at(row: &Option<Name>, tables: &[Mapped], place: usize) -> Option<Co
     }
 }
 
-pub fn typed_value(alloc: Global, column: Option<ColumnType>, text: &[u8]) -> Result<Value, Fault>
-    ensures { Finds (λ v. v) result (typed_value column text.now) }
+pub fn parse_value(
+    alloc: Global,
+    column: Option<ColumnType>,
+    text: &[u8],
+) -> Result<Value, EntryFault>
+    ensures { Finds (λ v. v) result (parse_value column text.now) }
 {
     let Some(column) = column else {
-        return Err(Fault::Refused(Refusal::Columns));
+        return Err(EntryFault::Refused(EntryRefusal::Columns));
     };
     match read_value(alloc, column, text)? {
         Some(value) => Ok(value),
-        None => Err(Fault::Refused(Refusal::Value)),
+        None => Err(EntryFault::Refused(EntryRefusal::Value)),
     }
 }

@@ -7,7 +7,7 @@ ghost use Rattle.binlog_entries.specs.Drafts.{standing};
 ghost use Rattle.binlog_entries.specs.Readers.{progress, log_seen};
 
 use crate::draft::{Draft, Log};
-use crate::fault::{Fault, ReadFault};
+use crate::fault::{EntryFault, ReadFault};
 use memchr::memchr;
 use std::alloc::Global;
 
@@ -103,15 +103,15 @@ impl Reader {
         self.lines = self.lines.saturating_add(1);
         match self.make(alloc, bytes) {
             Ok(()) => Ok(()),
-            Err(Fault::Set(fault)) => Err(ReadFault::Set(fault)),
-            Err(Fault::Refused(refusal)) => Err(ReadFault::Line {
+            Err(EntryFault::Set(fault)) => Err(ReadFault::Set(fault)),
+            Err(EntryFault::Refused(refusal)) => Err(ReadFault::Line {
                 line: self.lines,
                 refusal,
             }),
         }
     }
 
-    fn make(&mut self, alloc: Global, bytes: &[u8]) -> Result<(), Fault>
+    fn make(&mut self, alloc: Global, bytes: &[u8]) -> Result<(), EntryFault>
         ensures made { Takes result (judge (standing self.old.draft) (self.old.rest.items ++ bytes.now)) (standing self.new.draft) }
         ensures rest { OnOk result (self.new.rest.items ≡ []) }
         ensures lines { self.new.lines ≡ self.old.lines }
@@ -139,7 +139,7 @@ impl Reader {
         Ok(())
     }
 
-    /// What the log tells, where the last file has ended.
+    /// What the log describes, where the last file has ended.
     pub fn finish(self) -> Result<Log, ReadFault>
         ensures { Seen log_seen result ≡ closing (progress self) }
     {
@@ -160,9 +160,9 @@ fn read(alloc: Global, text: &[u8]) -> Result<Log, ReadFault>
     }
 }
 
-/// What the text of a binary log tells, the text of its files one after another.
+/// What the text of a binary log describes, the text of its files one after another.
 pub fn read_log(alloc: Global, text: &[u8]) -> Result<Log, ReadFault>
-    // What the lines of the text mean, the entries spell.
+    // What the lines of the text mean, the entries denote.
     ensures found { IfOk result (λ log. IsLog text.now log.previous log.entries.items log.varied.items) }
     // Which line is the first that is refused, and what is wrong with it.
     ensures refused { IfErr result (λ fault. Refuses fault text.now) }

@@ -42,7 +42,7 @@ impl Mapped {
         &self.name
     }
 
-    /// Adds a column behind the others.
+    /// Adds a column after the others.
     pub fn add(&mut self, column: ColumnType) -> Result<(), AllocError>
         ensures { OnOk result (self.new ≡ record { name = self.old.name; columns = self.old.columns ++ column ∷ [] }) }
     {

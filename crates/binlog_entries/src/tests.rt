@@ -1,5 +1,5 @@
 //! Logs of MySQL 9.7, shortened.
-use crate::{ImportFault, ReadFault, Reader, Refusal, import_journal, read_log};
+use crate::{EntryRefusal, ImportFault, ReadFault, Reader, import_journal, read_log};
 use std::alloc::{AllocError, Global};
 use std::test::Fail;
 use txn_journal::decode_bundle;
@@ -28,7 +28,7 @@ const HEAD: &[&[u8]] = &[
     b"SET TIMESTAMP=1795620395/*!*/;",
 ];
 
-/// A transaction behind its GTID, and the end of the log.
+/// A transaction after its GTID, and the end of the log.
 const REST: &[&[u8]] = &[
     b"BEGIN",
     b"/*!*/;",
@@ -66,7 +66,7 @@ fn feed(alloc: Global, reader: &mut Reader, lines: &[&[u8]]) -> Result<(), ReadF
     Ok(())
 }
 
-/// How the reading of these lines ends, behind the head.
+/// How the reading of these lines ends, after the head.
 fn fault_of(alloc: Global, lines: &[&[u8]]) -> Option<ReadFault> {
     let mut reader = Reader::start(alloc);
     if let Err(fault) = feed(alloc, &mut reader, HEAD) {
@@ -94,7 +94,7 @@ fn no_log(rt: HostRuntime) {
             read_log(rt.alloc(), b"BEGIN\n"),
             Err(ReadFault::Line {
                 line: 1,
-                refusal: Refusal::Format
+                refusal: EntryRefusal::Format
             })
         )
     );
@@ -108,21 +108,21 @@ fn no_log(rt: HostRuntime) {
 
 #[test]
 fn refusals(rt: HostRuntime) {
-    let cases: [(&[&[u8]], Refusal); 5] = [
+    let cases: [(&[&[u8]], EntryRefusal); 5] = [
         (
             &[
                 b"CREATE TABLE t (k INT) COMMENT 'line one",
                 b"### INSERT INTO `shop`.`fake`",
             ],
-            Refusal::Statement,
+            EntryRefusal::Statement,
         ),
-        (&[b"XA START X'7831',X'',1"], Refusal::Xa),
-        (&[b"### INSERT INTO `shop`.`fake`"], Refusal::Format),
+        (&[b"XA START X'7831',X'',1"], EntryRefusal::Xa),
+        (&[b"### INSERT INTO `shop`.`fake`"], EntryRefusal::Format),
         (
             &[b"/*!100001 SET @@session.gtid_seq_no=5*//*!*/;"],
-            Refusal::Mariadb,
+            EntryRefusal::Mariadb,
         ),
-        (&[b"COMMIT"], Refusal::Transaction),
+        (&[b"COMMIT"], EntryRefusal::Transaction),
     ];
     for (lines, want) in cases {
         assert_eq!(rt;

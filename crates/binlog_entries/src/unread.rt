@@ -1,39 +1,39 @@
 //! What a line that says nothing is refused for.
 ghost use Rattle.std.specs.Prelude.{◌≡◌};
 ghost use Rattle.binlog_text.specs.Tokens.{cut_at};
-ghost use Rattle.binlog_entries.specs.Unread.{unread_head, unread_in, unread};
+ghost use Rattle.binlog_entries.specs.Unread.{refusal_of_head, refusal_in, refusal_of};
 
 use crate::bodies::Body;
-use crate::fault::Refusal;
+use crate::fault::EntryRefusal;
 use binlog_text::cut_at;
 
-fn unread_head(text: &[u8]) -> Refusal
-    ensures { result ≡ unread_head (cut_at 9 text.now) }
+fn refusal_of_head(text: &[u8]) -> EntryRefusal
+    ensures { result ≡ refusal_of_head (cut_at 9 text.now) }
 {
     let Some((_, rest)) = cut_at(text, b'\t') else {
-        return Refusal::Format;
+        return EntryRefusal::Format;
     };
     if rest.starts_with(b"XA PREPARE ") {
-        Refusal::Xa
+        EntryRefusal::Xa
     } else if rest.starts_with(b"Anonymous_GTID") {
-        Refusal::Gtid
+        EntryRefusal::Gtid
     } else if rest.starts_with(b"Table_map: ") {
-        Refusal::Table
+        EntryRefusal::Table
     } else if rest.starts_with(b"GTID ") || rest.starts_with(b"Gtid list ") {
-        Refusal::Mariadb
+        EntryRefusal::Mariadb
     } else {
-        Refusal::Format
+        EntryRefusal::Format
     }
 }
 
-fn unread_in(body: Body, text: &[u8]) -> Refusal
-    ensures { result ≡ unread_in body text.now }
+fn refusal_in(body: Body, text: &[u8]) -> EntryRefusal
+    ensures { result ≡ refusal_in body text.now }
 {
     match body {
-        Body::Query if text.starts_with(b"XA ") => Refusal::Xa,
-        Body::Query | Body::Statement => Refusal::Statement,
-        Body::Between => unread_head(text),
-        Body::Rows(_) if text.starts_with(b"### ") => Refusal::Table,
+        Body::Query if text.starts_with(b"XA ") => EntryRefusal::Xa,
+        Body::Query | Body::Statement => EntryRefusal::Statement,
+        Body::Between => refusal_of_head(text),
+        Body::Rows(_) if text.starts_with(b"### ") => EntryRefusal::Table,
         Body::Rows(_)
         | Body::Preamble
         | Body::Start
@@ -44,16 +44,16 @@ fn unread_in(body: Body, text: &[u8]) -> Refusal
         | Body::Payload
         | Body::Done
         | Body::FileEnd
-        | Body::Closed => Refusal::Format,
+        | Body::Closed => EntryRefusal::Format,
     }
 }
 
 /// What a line that says nothing is refused for, where it stands.
-pub fn unread(body: Body, text: &[u8]) -> Refusal
-    ensures { result ≡ unread body text.now }
+pub fn refusal_of(body: Body, text: &[u8]) -> EntryRefusal
+    ensures { result ≡ refusal_of body text.now }
 {
     if text.starts_with(b"/*!100") {
-        return Refusal::Mariadb;
+        return EntryRefusal::Mariadb;
     }
-    unread_in(body, text)
+    refusal_in(body, text)
 }

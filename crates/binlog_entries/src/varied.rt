@@ -14,7 +14,7 @@ pub struct Varied {
 
 impl Varied {
     /// Whether it is the column of this table.
-    fn is(&self, table: &[u8], column: usize) -> bool
+    fn is_column(&self, table: &[u8], column: usize) -> bool
         ensures { result ≡ (bytes_eq self.now.table table.now && (self.now.column == column)) }
     {
         self.table.as_str().as_bytes() == table && self.column == column
@@ -26,7 +26,7 @@ pub fn has_varied(table: &[u8], column: usize, varied: &[Varied]) -> bool
     ensures { result ≡ has_varied table.now column varied.now }
 {
     for one in varied {
-        if one.is(table, column) {
+        if one.is_column(table, column) {
             return true;
         }
     }

@@ -6,11 +6,11 @@ use Rattle.std.specs.List.{list_all}
 use Rattle.std.specs.Char.{is_ascii_digit}
 use Rattle.std.proofs.lemmas.Bool.{eqb-true, and_parts}
 use Rattle.std.proofs.lemmas.Bool.Decides.{nat_tests}
-use Rattle.journal_words.specs.Values.{is_lower_digit}
-use Rattle.journal_words.proofs.Counts.{count_again, decimal_lacks}
-use Rattle.binlog_text.specs.Tokens.{after, cut_at, lacks, last_cut, ◌>>=◌}
+use Rattle.row_images.specs.Values.{is_lower_digit}
+use Rattle.row_images.proofs.Counts.{count_again, decimal_lacks}
+use Rattle.binlog_text.specs.Tokens.{after_prefix, cut_at, lacks, last_cut, ◌>>=◌}
 use Rattle.binlog_text.specs.Lines.{Column, Said, OfMark, OfHead, OfTable, OfColumn, OfGtid, OfSources, OfRow, OfValue, IsName, table_text, operation_text, event_text, IsStamp, column_front, column_end, named_text, IsNamed, is_source, is_source_front, comma, IsWhole, begins, is_comment, is_setting, begins_setting, ends_setting, quotes_then, is_savepoint, is_frame, IsMark, IsLine}
-use Rattle.binlog_text.specs.Reading.{branch, table_at, row_at, is_last_at, name_at, column, column_at, sources, sources_in, comment_line, table_map_at, told_at, line_of}
+use Rattle.binlog_text.specs.Reading.{branch, table_at, row_at, is_last_at, name_at, column, column_at, sources, sources_in, comment_line, table_map_at, content_at, line_of}
 use Rattle.binlog_text.specs.declared.lines.Operation.{Operation}
 use Rattle.binlog_text.specs.declared.lines.Operation.TheVariants as operations
 use Rattle.binlog_text.specs.declared.lines.Event.{Event}
@@ -24,16 +24,16 @@ either : (x y : Bool) → (x || y) ≡ true → (x ≡ true) ⊎ (y ≡ true)
 either true y e = inl refl
 either false y e = inr e
 
--- a text that begins so has what the front of it shows
+-- a text that begins so has what the prefix of it shows
 fronted : (front text : List ℕ) (P : List ℕ → Type 0) → begins front text ≡ true → ((rest : List ℕ) → P (front ++ rest)) → P text
-fronted front text P h f = let b = begun front text (after front text) refl h in subst P (sym b.1) (f b.0)
+fronted front text P h f = let b = begun front text (after_prefix front text) refl h in subst P (sym b.1) (f b.0)
 
 -- ---- what a setting is not
 
 abbrev NoOther : List ℕ → Type 0
 NoOther text =
-    (after (codes "### ") text ≡ None) × (after (codes "# ") text ≡ None) × (after (codes "#") text ≡ None)
-    × (after (codes "SET @@SESSION.GTID_NEXT= '") text ≡ None)
+    (after_prefix (codes "### ") text ≡ None) × (after_prefix (codes "# ") text ≡ None) × (after_prefix (codes "#") text ≡ None)
+    × (after_prefix (codes "SET @@SESSION.GTID_NEXT= '") text ≡ None)
     × (bytes_eq text (codes "BEGIN") ≡ false) × (bytes_eq text (codes "COMMIT") ≡ false) × (bytes_eq text (codes "/*!*/;") ≡ false) × (bytes_eq text (codes "COMMIT/*!*/;") ≡ false)
 
 setting_front : (text : List ℕ) → begins_setting text ≡ true → NoOther text
@@ -63,14 +63,14 @@ setting_front text e = elim (either (begins (codes "SET TIMESTAMP=") text) _ e) 
   ]
 ]
 
-quoted_front : (front rest text : List ℕ) (o : Option (List ℕ)) → after front text ≡ o → quotes_then rest o ≡ true → begins front text ≡ true
+quoted_front : (front rest text : List ℕ) (o : Option (List ℕ)) → after_prefix front text ≡ o → quotes_then rest o ≡ true → begins front text ≡ true
 quoted_front front rest text None h e = absurd cc
 quoted_front front rest text (Some more) h e = ap is_some h
 
 setting_alone : (text : List ℕ) → is_setting text ≡ true → NoOther text
 setting_alone text e = elim (either (begins_setting text && ends_setting text) _ e) [
   | inl p ↦ setting_front text (and_parts (begins_setting text) (ends_setting text) p).0
-  | inr p ↦ fronted (codes "use `") text NoOther (quoted_front (codes "use `") (codes "/*!*/;") text (after (codes "use `") text) refl p) (λ rest. (refl, refl, refl, refl, refl, refl, refl, refl))
+  | inr p ↦ fronted (codes "use `") text NoOther (quoted_front (codes "use `") (codes "/*!*/;") text (after_prefix (codes "use `") text) refl p) (λ rest. (refl, refl, refl, refl, refl, refl, refl, refl))
 ]
 
 setting_again : (text : List ℕ) → is_setting text ≡ true → line_of text ≡ Some (OfMark marks.Setting)
@@ -82,7 +82,7 @@ abbrev NoSetting : List ℕ → Type 0
 NoSetting text = NoOther text × (is_setting text ≡ false)
 
 savepoint_alone : (text : List ℕ) → is_savepoint text ≡ true → NoSetting text
-savepoint_alone text e = fronted (codes "SAVEPOINT `") text NoSetting (quoted_front (codes "SAVEPOINT `") [] text (after (codes "SAVEPOINT `") text) refl e) (λ rest. ((refl, refl, refl, refl, refl, refl, refl, refl), refl))
+savepoint_alone text e = fronted (codes "SAVEPOINT `") text NoSetting (quoted_front (codes "SAVEPOINT `") [] text (after_prefix (codes "SAVEPOINT `") text) refl e) (λ rest. ((refl, refl, refl, refl, refl, refl, refl, refl), refl))
 
 savepoint_again : (text : List ℕ) → is_savepoint text ≡ true → line_of text ≡ Some (OfMark marks.Savepoint)
 savepoint_again text e = let s = savepoint_alone text e in let n = s.0 in rw (n.0, n.1, n.2, n.3, n.4, n.5, n.6, n.7, s.1, e) refl
@@ -117,7 +117,7 @@ frame_again text e = elim (either (bytes_eq text (codes "DELIMITER /*!*/;")) _ e
 -- ---- comments
 
 abbrev NoColumn : List ℕ → Type 0
-NoColumn text = (after (codes "at ") text ≡ None) × (after (codes "Columns(") text ≡ None) × (after (codes "        ") text ≡ None)
+NoColumn text = (after_prefix (codes "at ") text ≡ None) × (after_prefix (codes "Columns(") text ≡ None) × (after_prefix (codes "        ") text ≡ None)
 
 comment_alone : (text : List ℕ) → is_comment text ≡ true → NoColumn text
 comment_alone text e = elim (either (begins (codes "original_commit_timestamp=") text) _ e) [
@@ -194,7 +194,7 @@ last_at_again : (last : Bool) → is_last_at (column_end last) ≡ Some last
 last_at_again true = refl
 last_at_again false = refl
 
-named_again : (c : Column) (name : Option (List ℕ)) → IsNamed name c.column_type → branch (after (96 ∷ []) (named_text name c.column_type)) (λ rest. name_at rest >>= λ named. Some (column c.is_first c.is_last (Some named.0) named.1)) (Some (column c.is_first c.is_last None (named_text name c.column_type))) ≡ Some (column c.is_first c.is_last name c.column_type)
+named_again : (c : Column) (name : Option (List ℕ)) → IsNamed name c.column_type → branch (after_prefix (96 ∷ []) (named_text name c.column_type)) (λ rest. name_at rest >>= λ named. Some (column c.is_first c.is_last (Some named.0) named.1)) (Some (column c.is_first c.is_last None (named_text name c.column_type))) ≡ Some (column c.is_first c.is_last name c.column_type)
 named_again c None is = rw is refl
 named_again c (Some name) is =
     let cut : cut_at 96 (name ++ 96 ∷ 32 ∷ c.column_type) ≡ Some (name, 32 ∷ c.column_type) = cut_again 96 name (32 ∷ c.column_type) is in
@@ -228,9 +228,9 @@ no_place false rest e = refl
 -- a text that begins with two digits of a UUID
 digits_alone : (d e : ℕ) (ds : List ℕ) → is_lower_digit d ≡ true → is_lower_digit e ≡ true → comment_line (d ∷ e ∷ ds) ≡ sources_in (d ∷ e ∷ ds) (last_cut (d ∷ e ∷ ds))
 digits_alone d e ds x y =
-    let place : after (codes "at ") (d ∷ e ∷ ds) ≡ None = no_place (eqb 97 d) (after (codes "t ") (e ∷ ds)) (rw (not_digit 116 e refl y) refl) in
-    let columns : after (codes "Columns(") (d ∷ e ∷ ds) ≡ None = rw (not_digit 67 d refl x) refl in
-    let blanks : after (codes "        ") (d ∷ e ∷ ds) ≡ None = rw (not_digit 32 d refl x) refl in
+    let place : after_prefix (codes "at ") (d ∷ e ∷ ds) ≡ None = no_place (eqb 97 d) (after_prefix (codes "t ") (e ∷ ds)) (rw (not_digit 116 e refl y) refl) in
+    let columns : after_prefix (codes "Columns(") (d ∷ e ∷ ds) ≡ None = rw (not_digit 67 d refl x) refl in
+    let blanks : after_prefix (codes "        ") (d ∷ e ∷ ds) ≡ None = rw (not_digit 32 d refl x) refl in
     let comment : is_comment (d ∷ e ∷ ds) ≡ false = rw (not_digit 111 d refl x, not_digit 105 d refl x, not_digit 104 d refl x, not_digit 80 d refl x, not_digit 83 d refl x, not_digit 69 d refl x, not_digit 87 d refl x, not_digit 84 d refl x, not_digit 116 d refl x) refl in
     let empty : bytes_eq (d ∷ e ∷ ds) (codes "[empty]") ≡ false = rw (other_way 91 d (not_digit 91 d refl x)) refl in
     let closed : bytes_eq (d ∷ e ∷ ds) (codes "End of log file") ≡ false = rw (other_way 69 d (not_digit 69 d refl x)) refl in
@@ -255,7 +255,7 @@ source_digits text (Some x) e h =
     let cut = cut_found 45 text x e in
     subst TwoDigits (sym cut.parts) (eight_digits x.0 (45 ∷ x.1) (eqb-true (length x.0) 8 parts.0) parts.1)
 
--- a text with a source at its front
+-- a text with a source at its start
 source_line : (text rest : List ℕ) → is_source text ≡ true → comment_line (text ++ rest) ≡ sources_in (text ++ rest) (last_cut (text ++ rest))
 source_line text rest is =
     let two = source_digits text (cut_at 45 text) refl is in
@@ -285,14 +285,14 @@ sources_again text false is whole =
 digit_is_other : (d : ℕ) → is_ascii_digit d ≡ true → (eqb 35 d ≡ false) × (eqb 32 d ≡ false)
 digit_is_other d e = grind (arith, nat_tests)
 
-head_of : (stamp rest : List ℕ) → IsStamp stamp → line_of (35 ∷ (stamp ++ 9 ∷ rest)) ≡ told_at rest
+head_of : (stamp rest : List ℕ) → IsStamp stamp → line_of (35 ∷ (stamp ++ 9 ∷ rest)) ≡ content_at rest
 head_of [] rest is = absurd (let bad : false ≡ true = is.first in cc)
 head_of (d ∷ ds) rest is =
     let other = digit_is_other d is.first in
     let cut : cut_at 9 (d ∷ (ds ++ 9 ∷ rest)) ≡ Some (d ∷ ds, rest) = cut_again 9 (d ∷ ds) rest is.one in
     rw (other.0, other.1, cut, is.first) refl
 
-event_again : (event : Event) (rest : List ℕ) → told_at (event_text event ++ rest) ≡ Some (OfHead event)
+event_again : (event : Event) (rest : List ℕ) → content_at (event_text event ++ rest) ≡ Some (OfHead event)
 event_again events.Start rest = refl
 event_again events.PreviousGtids rest = refl
 event_again events.Gtid rest = refl

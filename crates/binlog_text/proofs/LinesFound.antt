@@ -6,11 +6,11 @@ use Rattle.std.proofs.lemmas.Bool.{eqb-true}
 use Rattle.std.proofs.lemmas.Option.{same_Some}
 use Rattle.std.proofs.lemmas.Slice.Eq.{bytes_eq-Decides}
 use Rattle.gtid_text.proofs.Turns.{chosen}
-use Rattle.journal_words.specs.Words.{count_of}
-use Rattle.journal_words.proofs.Counts.{count_found}
-use Rattle.binlog_text.specs.Tokens.{after, cut_at, nothing_in, last_cut, ◌>>=◌}
+use Rattle.row_images.specs.Words.{count_of}
+use Rattle.row_images.proofs.Counts.{count_found}
+use Rattle.binlog_text.specs.Tokens.{after_prefix, cut_at, nothing_in, last_cut, ◌>>=◌}
 use Rattle.binlog_text.specs.Lines.{Said, OfMark, OfGtid, OfSources, IsName, table_text, operation_text, event_text, begins_with_digit, IsStamp, column_front, column_end, named_text, is_source, comma, IsWhole, begins, is_comment, is_setting, is_savepoint, is_frame, IsLine}
-use Rattle.binlog_text.specs.Reading.{branch, table_at, row_at, assigned_at, row_line, is_last_at, name_at, column, column_at, sources, sources_in, comment_line, table_map_at, event_of, told_at, head_line, gtid_at, plain_line, line_of}
+use Rattle.binlog_text.specs.Reading.{branch, table_at, row_at, assignment_at, row_line, is_last_at, name_at, column, column_at, sources, sources_in, comment_line, table_map_at, event_of, content_at, head_line, gtid_at, plain_line, line_of}
 use Rattle.binlog_text.specs.declared.lines.Operation.{Operation}
 use Rattle.binlog_text.specs.declared.lines.Operation.TheVariants as operations
 use Rattle.binlog_text.specs.declared.lines.Event.{Event}
@@ -20,17 +20,17 @@ use Rattle.binlog_text.proofs.TokenLaws.{bind_some, after_found, cut_found, noth
 
 -- ---- ways
 
-branch_on : (front text : List ℕ) (o : Option (List ℕ)) (f : List ℕ → Option Said) (other : Option Said) (l : Said) → after front text ≡ o → branch o f other ≡ Some l → ((rest : List ℕ) × (text ≡ front ++ rest) × (f rest ≡ Some l)) ⊎ (other ≡ Some l)
+branch_on : (front text : List ℕ) (o : Option (List ℕ)) (f : List ℕ → Option Said) (other : Option Said) (l : Said) → after_prefix front text ≡ o → branch o f other ≡ Some l → ((rest : List ℕ) × (text ≡ front ++ rest) × (f rest ≡ Some l)) ⊎ (other ≡ Some l)
 branch_on front text None f other l e h = inr h
 branch_on front text (Some rest) f other l e h = inl (rest, after_found front text rest e, h)
 
-pub branch_found : (front text : List ℕ) (f : List ℕ → Option Said) (other : Option Said) (l : Said) → branch (after front text) f other ≡ Some l → ((rest : List ℕ) × (text ≡ front ++ rest) × (f rest ≡ Some l)) ⊎ (other ≡ Some l)
-branch_found front text f other l h = branch_on front text (after front text) f other l refl h
+pub branch_found : (front text : List ℕ) (f : List ℕ → Option Said) (other : Option Said) (l : Said) → branch (after_prefix front text) f other ≡ Some l → ((rest : List ℕ) × (text ≡ front ++ rest) × (f rest ≡ Some l)) ⊎ (other ≡ Some l)
+branch_found front text f other l h = branch_on front text (after_prefix front text) f other l refl h
 
 pub same_text : (text lit : List ℕ) → bytes_eq text lit ≡ true → text ≡ lit
 same_text text lit e = (bytes_eq-Decides text lit).0 e
 
-pub begun : (front text : List ℕ) (o : Option (List ℕ)) → after front text ≡ o → is_some o ≡ true → (rest : List ℕ) × (text ≡ front ++ rest)
+pub begun : (front text : List ℕ) (o : Option (List ℕ)) → after_prefix front text ≡ o → is_some o ≡ true → (rest : List ℕ) × (text ≡ front ++ rest)
 begun front text None e h = absurd cc
 begun front text (Some rest) e h = (rest, after_found front text rest e)
 
@@ -48,11 +48,11 @@ regrouped d t rest = ap (λ (xs : List ℕ). 96 ∷ xs)
 
 table_found : (text : List ℕ) (x : List ℕ × List ℕ × List ℕ) → table_at text ≡ Some x → IsTable text x
 table_found text x e =
-    let a = bind_some (after (96 ∷ []) text) _ x e in
+    let a = bind_some (after_prefix (96 ∷ []) text) _ x e in
     let front = after_found (96 ∷ []) text a.0 a.1 in
     let b = bind_some (cut_at 96 a.0) _ x a.2 in
     let database = cut_found 96 a.0 b.0 b.1 in
-    let c = bind_some (after (46 ∷ 96 ∷ []) b.0.1) _ x b.2 in
+    let c = bind_some (after_prefix (46 ∷ 96 ∷ []) b.0.1) _ x b.2 in
     let middle = after_found (46 ∷ 96 ∷ []) b.0.1 c.0 c.1 in
     let d = bind_some (cut_at 96 c.0) _ x c.2 in
     let table = cut_found 96 c.0 d.0 d.1 in
@@ -76,7 +76,7 @@ row_found operation text l e =
     subst (λ (m : Said). IsLine m (codes "### " ++ (operation_text operation ++ text))) (same_Some _ _ n.2)
     (ap (λ (xs : List ℕ). codes "### " ++ (operation_text operation ++ xs)) whole, table.database, table.table)
 
-assigned_found : (text : List ℕ) (l : Said) → assigned_at text ≡ Some l → IsLine l (codes "###   @" ++ text)
+assigned_found : (text : List ℕ) (l : Said) → assignment_at text ≡ Some l → IsLine l (codes "###   @" ++ text)
 assigned_found text l e =
     let a = bind_some (cut_at 61 text) _ l e in
     let cut = cut_found 61 text a.0 a.1 in
@@ -86,7 +86,7 @@ assigned_found text l e =
     (ap (λ (xs : List ℕ). codes "###   @" ++ xs) (cut.parts ∙ ap (λ (xs : List ℕ). xs ++ 61 ∷ a.0.1) count.0), count.1)
 
 row_line_found : (text : List ℕ) (l : Said) → row_line text ≡ Some l → IsLine l (codes "### " ++ text)
-row_line_found text l e = elim (branch_found (codes "  @") text assigned_at _ l e) [
+row_line_found text l e = elim (branch_found (codes "  @") text assignment_at _ l e) [
   | inl p ↦ subst (λ (xs : List ℕ). IsLine l (codes "### " ++ xs)) (sym p.1) (assigned_found p.0 l p.2)
   | inr p ↦ elim (branch_found (operation_text operations.Insert) text (row_at operations.Insert) _ l p) [
     | inl q ↦ subst (λ (xs : List ℕ). IsLine l (codes "### " ++ xs)) (sym q.1) (row_found operations.Insert q.0 l q.2)
@@ -125,12 +125,12 @@ name_found : (text : List ℕ) (x : List ℕ × List ℕ) → name_at text ≡ S
 name_found text x e =
     let a = bind_some (cut_at 96 text) _ x e in
     let cut = cut_found 96 text a.0 a.1 in
-    let b = bind_some (after (32 ∷ []) a.0.1) _ x a.2 in
+    let b = bind_some (after_prefix (32 ∷ []) a.0.1) _ x a.2 in
     let rest = after_found (32 ∷ []) a.0.1 b.0 b.1 in
     subst (Names text) (same_Some _ _ b.2) (record { parts = cut.parts ∙ ap (λ (xs : List ℕ). a.0.0 ++ 96 ∷ xs) rest; name = cut.free })
 
--- what stands before the end of a column's line
-column_parts : (is_first is_last : Bool) (front : List ℕ) (o : Option (List ℕ)) (l : Said) → after (96 ∷ []) front ≡ o → branch o (λ rest. name_at rest >>= λ named. Some (column is_first is_last (Some named.0) named.1)) (Some (column is_first is_last None front)) ≡ Some l → IsLine l (codes "# " ++ (column_front is_first ++ (front ++ column_end is_last ∷ [])))
+-- what comes before the end of a column's line
+column_parts : (is_first is_last : Bool) (front : List ℕ) (o : Option (List ℕ)) (l : Said) → after_prefix (96 ∷ []) front ≡ o → branch o (λ rest. name_at rest >>= λ named. Some (column is_first is_last (Some named.0) named.1)) (Some (column is_first is_last None front)) ≡ Some l → IsLine l (codes "# " ++ (column_front is_first ++ (front ++ column_end is_last ∷ [])))
 column_parts is_first is_last front None l e h = subst (λ (m : Said). IsLine m (codes "# " ++ (column_front is_first ++ (front ++ column_end is_last ∷ [])))) (same_Some _ _ h) (refl, e)
 column_parts is_first is_last front (Some rest) l e h =
     let a = bind_some (name_at rest) _ l h in
@@ -147,7 +147,7 @@ column_found is_first text l e =
     let end = last_at_found a.0.1 b.0 b.1 in
     let whole : text ≡ a.0.0 ++ column_end b.0 ∷ [] = cut ∙ ap (λ (c : ℕ). a.0.0 ++ c ∷ []) end in
     subst (λ (xs : List ℕ). IsLine l (codes "# " ++ (column_front is_first ++ xs))) (sym whole)
-    (column_parts is_first b.0 a.0.0 (after (96 ∷ []) a.0.0) l refl b.2)
+    (column_parts is_first b.0 a.0.0 (after_prefix (96 ∷ []) a.0.0) l refl b.2)
 
 sources_are : (text : List ℕ) (more : Bool) (l : Said) → sources text more ≡ Some l → IsWhole more text → IsLine l (codes "# " ++ (text ++ comma more))
 sources_are text more l e whole = elim (chosen (is_source text) (Some (OfSources text more)) None (Some l) e) [
@@ -198,7 +198,7 @@ mapped_found : (stamp text : List ℕ) (l : Said) → IsStamp stamp → table_ma
 mapped_found stamp text l is e =
     let a = bind_some (table_at text) _ l e in
     let table = table_found text a.0 a.1 in
-    let b = bind_some (after (codes " mapped to number ") a.0.2) _ l a.2 in
+    let b = bind_some (after_prefix (codes " mapped to number ") a.0.2) _ l a.2 in
     let digits = after_found (codes " mapped to number ") a.0.2 b.0 b.1 in
     let c = bind_some (count_of b.0) _ l b.2 in
     let count = count_found b.0 c.0 c.1 in
@@ -206,12 +206,12 @@ mapped_found stamp text l is e =
     subst (λ (m : Said). IsLine m (35 ∷ (stamp ++ 9 ∷ (codes "Table_map: " ++ text)))) (same_Some _ _ c.2)
     (stamp, c.0, ap (λ (xs : List ℕ). 35 ∷ (stamp ++ 9 ∷ (codes "Table_map: " ++ xs))) whole, is, table.database, table.table, count.1)
 
--- the front of an event's text that was found
+-- the prefix of an event's text that was found
 abbrev pub Tells : List ℕ → Event → Type 0
 Tells text event = (rest : List ℕ) × (text ≡ event_text event ++ rest)
 
 tells : (event found : Event) (text : List ℕ) → begins (event_text event) text ≡ true → event ≡ found → Tells text found
-tells event found text h e = subst (Tells text) e (begun (event_text event) text (after (event_text event) text) refl h)
+tells event found text h e = subst (Tells text) e (begun (event_text event) text (after_prefix (event_text event) text) refl h)
 
 event_found : (text : List ℕ) (event : Event) → event_of text ≡ Some event → Tells text event
 event_found text event e = elim (chosen (begins (event_text events.Query) text) (Some events.Query) _ (Some event) e) [
@@ -249,7 +249,7 @@ event_found text event e = elim (chosen (begins (event_text events.Query) text) 
   ]
 ]
 
-told_found : (stamp text : List ℕ) (l : Said) → IsStamp stamp → told_at text ≡ Some l → IsLine l (35 ∷ (stamp ++ 9 ∷ text))
+told_found : (stamp text : List ℕ) (l : Said) → IsStamp stamp → content_at text ≡ Some l → IsLine l (35 ∷ (stamp ++ 9 ∷ text))
 told_found stamp text l is e = elim (branch_found (codes "Table_map: ") text table_map_at _ l e) [
   | inl p ↦ subst (λ (xs : List ℕ). IsLine l (35 ∷ (stamp ++ 9 ∷ xs))) (sym p.1) (mapped_found stamp p.0 l is p.2)
   | inr p ↦
@@ -262,7 +262,7 @@ head_line_found : (text : List ℕ) (l : Said) → head_line text ≡ Some l →
 head_line_found text l e =
     let a = bind_some (cut_at 9 text) _ l e in
     let cut = cut_found 9 text a.0 a.1 in
-    elim (chosen (begins_with_digit a.0.0) (told_at a.0.1) None (Some l) a.2) [
+    elim (chosen (begins_with_digit a.0.0) (content_at a.0.1) None (Some l) a.2) [
       | inl p ↦ subst (λ (xs : List ℕ). IsLine l (35 ∷ xs)) (sym cut.parts) (told_found a.0.0 a.0.1 l (record { first = p.0; one = cut.free }) p.1)
       | inr p ↦ absurd cc
     ]

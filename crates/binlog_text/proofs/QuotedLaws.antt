@@ -5,7 +5,7 @@ use Rattle.std.proofs.lemmas.Bool.Decides.{nat_tests}
 use Rattle.std.proofs.lemmas.Option.{same_Some}
 use Rattle.std.proofs.lemmas.Bool.{eqb-true}
 use Rattle.gtid_text.proofs.Turns.{chosen}
-use Rattle.binlog_text.specs.Quoted.{hex_digit, shown_byte, shown, quoted, escaped, hex_value, by_digits, plainly, low_of, next, whole, with_byte, gone_on, unread, quoted_in}
+use Rattle.binlog_text.specs.Quoted.{hex_digit, shown_byte, escape, quote, unescape, hex_value, byte_of_digits, plainly, low_of, next, whole, with_byte, go_on, read_quoted, unquote}
 use Rattle.binlog_text.specs.declared.quoted.Mode.{Mode}
 use Rattle.binlog_text.specs.declared.quoted.Mode.TheVariants as modes
 
@@ -33,7 +33,7 @@ shown_whole (Some b) = shown_byte b
 abbrev Steps : Mode → ℕ → Mode × Option ℕ → Type 0
 Steps m b t = Stands t.0 × (owed m ++ b ∷ [] ≡ shown_whole t.1 ++ owed t.0)
 
-pub escape_shown : (b c : ℕ) → escaped b ≡ Some c → shown_byte c ≡ 92 ∷ b ∷ []
+pub escape_shown : (b c : ℕ) → unescape b ≡ Some c → shown_byte c ≡ 92 ∷ b ∷ []
 escape_shown b c e = grind (arith, nat_tests)
 
 plain_shown : (b : ℕ) → eqb b 92 ≡ false → eqb b 39 ≡ false → nat_lt b 32 ≡ false → shown_byte b ≡ b ∷ []
@@ -48,7 +48,7 @@ hex_is b d e = grind (arith, nat_tests)
 above_sixteen : (c d : ℕ) → d < 16 → c ≡ 16 + d → shown_byte c ≡ 92 ∷ 120 ∷ 49 ∷ hex_digit (c - 16) ∷ []
 above_sixteen c d l e = grind (arith, nat_tests)
 
-by_digits_is : (b c : ℕ) → by_digits b ≡ Some c → c ≡ b
+by_digits_is : (b c : ℕ) → byte_of_digits b ≡ Some c → c ≡ b
 by_digits_is b c e = grind (arith, nat_tests)
 
 high_is : (b c : ℕ) (o : Option ℕ) → hex_value b ≡ o → low_of 16 o ≡ Some c → shown_byte c ≡ 92 ∷ 120 ∷ 49 ∷ b ∷ []
@@ -62,7 +62,7 @@ high_is b c (Some d) h e =
 high_shown : (b c : ℕ) → low_of 16 (hex_value b) ≡ Some c → shown_byte c ≡ 92 ∷ 120 ∷ 49 ∷ b ∷ []
 high_shown b c e = high_is b c (hex_value b) refl e
 
-byte_again : (b : ℕ) (rest : List ℕ) → unread modes.Plain (shown_byte b ++ rest) ≡ option_map (λ bs. b ∷ bs) (unread modes.Plain rest)
+byte_again : (b : ℕ) (rest : List ℕ) → read_quoted modes.Plain (shown_byte b ++ rest) ≡ option_map (λ bs. b ∷ bs) (read_quoted modes.Plain rest)
 byte_again b rest = grind (arith, nat_tests)
 
 -- ---- each step
@@ -84,9 +84,9 @@ plainly_step m b None t e f = absurd cc
 plainly_step m b (Some c) t e f = subst (Steps m b) (same_Some _ _ e) (tt, sym (f c refl) ∙ sym (append-nil (shown_byte c)))
 
 escape_step : (b : ℕ) (t : Mode × Option ℕ) → next modes.Escape b ≡ Some t → Steps modes.Escape b t
-escape_step b t e = elim (chosen (eqb b 120) (Some (modes.High, None)) (plainly (escaped b)) (Some t) e) [
+escape_step b t e = elim (chosen (eqb b 120) (Some (modes.High, None)) (plainly (unescape b)) (Some t) e) [
   | inl p ↦ subst (Steps modes.Escape b) (same_Some _ _ p.1) (tt, ap (λ (x : ℕ). 92 ∷ x ∷ []) (omega (arith, eqb-true b 120 p.0)))
-  | inr p ↦ plainly_step modes.Escape b (escaped b) t p.1 (escape_shown b)
+  | inr p ↦ plainly_step modes.Escape b (unescape b) t p.1 (escape_shown b)
 ]
 
 high_step : (b : ℕ) (t : Mode × Option ℕ) → next modes.High b ≡ Some t → Steps modes.High b t
@@ -112,56 +112,56 @@ stepped modes.Closed b t s e = absurd cc
 -- ---- the whole of a string
 
 -- the text that shows these bytes, where a byte may show nothing
-told_by : (o : Option ℕ) (told : Option (List ℕ)) (bytes : List ℕ) → with_byte o told ≡ Some bytes → (rest : List ℕ) × (told ≡ Some rest) × (shown bytes ≡ shown_whole o ++ shown rest)
+told_by : (o : Option ℕ) (told : Option (List ℕ)) (bytes : List ℕ) → with_byte o told ≡ Some bytes → (rest : List ℕ) × (told ≡ Some rest) × (escape bytes ≡ shown_whole o ++ escape rest)
 told_by None told bytes e = (bytes, e, refl)
 told_by (Some b) None bytes e = absurd cc
-told_by (Some b) (Some rest) bytes e = (rest, refl, ap shown (sym (same_Some _ _ e)))
+told_by (Some b) (Some rest) bytes e = (rest, refl, ap escape (sym (same_Some _ _ e)))
 
-ended : (m : Mode) (bytes : List ℕ) → whole m ≡ Some bytes → owed m ++ [] ≡ shown bytes ++ 39 ∷ []
-ended modes.Closed bytes e = ap (λ (bs : List ℕ). shown bs ++ 39 ∷ []) (same_Some _ _ e)
+ended : (m : Mode) (bytes : List ℕ) → whole m ≡ Some bytes → owed m ++ [] ≡ escape bytes ++ 39 ∷ []
+ended modes.Closed bytes e = ap (λ (bs : List ℕ). escape bs ++ 39 ∷ []) (same_Some _ _ e)
 ended modes.Plain bytes e = absurd cc
 ended modes.Escape bytes e = absurd cc
 ended modes.High bytes e = absurd cc
 ended (modes.Low high) bytes e = absurd cc
 
-goes_on : (m : Mode) (b : ℕ) (o : Option (Mode × Option ℕ)) (f : Mode → Option (List ℕ)) (bytes : List ℕ) → gone_on o f ≡ Some bytes → (t : Mode × Option ℕ) × (o ≡ Some t) × (with_byte t.1 (f t.0) ≡ Some bytes)
+goes_on : (m : Mode) (b : ℕ) (o : Option (Mode × Option ℕ)) (f : Mode → Option (List ℕ)) (bytes : List ℕ) → go_on o f ≡ Some bytes → (t : Mode × Option ℕ) × (o ≡ Some t) × (with_byte t.1 (f t.0) ≡ Some bytes)
 goes_on m b None f bytes e = absurd cc
 goes_on m b (Some t) f bytes e = (t, refl, e)
 
-unread_shown : (m : Mode) (text bytes : List ℕ) → Stands m → unread m text ≡ Some bytes → owed m ++ text ≡ shown bytes ++ 39 ∷ []
+unread_shown : (m : Mode) (text bytes : List ℕ) → Stands m → read_quoted m text ≡ Some bytes → owed m ++ text ≡ escape bytes ++ 39 ∷ []
 unread_shown m [] bytes s e = ended m bytes e
 unread_shown m (b ∷ bs) bytes s e =
-    let on = goes_on m b (next m b) (λ n. unread n bs) bytes e in
+    let on = goes_on m b (next m b) (λ n. read_quoted n bs) bytes e in
     let step = stepped m b on.0 s on.1 in
-    let told = told_by on.0.1 (unread on.0.0 bs) bytes on.2 in
-    let rest : owed on.0.0 ++ bs ≡ shown told.0 ++ 39 ∷ [] = unread_shown on.0.0 bs told.0 step.0 told.1 in
+    let told = told_by on.0.1 (read_quoted on.0.0 bs) bytes on.2 in
+    let rest : owed on.0.0 ++ bs ≡ escape told.0 ++ 39 ∷ [] = unread_shown on.0.0 bs told.0 step.0 told.1 in
     sym (append_assoc (owed m) (b ∷ []) bs)
     ∙ ap (λ (xs : List ℕ). xs ++ bs) step.1
     ∙ append_assoc (shown_whole on.0.1) (owed on.0.0) bs
     ∙ ap (λ (xs : List ℕ). shown_whole on.0.1 ++ xs) rest
-    ∙ sym (append_assoc (shown_whole on.0.1) (shown told.0) (39 ∷ []))
+    ∙ sym (append_assoc (shown_whole on.0.1) (escape told.0) (39 ∷ []))
     ∙ ap (λ (xs : List ℕ). xs ++ 39 ∷ []) (sym told.2)
 
 -- what is read is shown so
-pub quoted_found : (text bytes : List ℕ) → quoted_in text ≡ Some bytes → text ≡ quoted bytes
+pub quoted_found : (text bytes : List ℕ) → unquote text ≡ Some bytes → text ≡ quote bytes
 quoted_found [] bytes e = absurd cc
-quoted_found (b ∷ bs) bytes e = elim (chosen (eqb b 39) (unread modes.Plain bs) None (Some bytes) e) [
+quoted_found (b ∷ bs) bytes e = elim (chosen (eqb b 39) (read_quoted modes.Plain bs) None (Some bytes) e) [
   | inl p ↦ ap (λ (c : ℕ). c ∷ bs) (eqb-true b 39 p.0) ∙ ap (λ (xs : List ℕ). 39 ∷ xs) (unread_shown modes.Plain bs bytes tt p.1)
   | inr p ↦ absurd cc
 ]
 
 -- what is shown is read
-unread_again : (bytes : List ℕ) → unread modes.Plain (shown bytes ++ 39 ∷ []) ≡ Some bytes
+unread_again : (bytes : List ℕ) → read_quoted modes.Plain (escape bytes ++ 39 ∷ []) ≡ Some bytes
 unread_again [] = refl
 unread_again (b ∷ bs) =
-    ap (unread modes.Plain) (append_assoc (shown_byte b) (shown bs) (39 ∷ []))
-    ∙ byte_again b (shown bs ++ 39 ∷ [])
+    ap (read_quoted modes.Plain) (append_assoc (shown_byte b) (escape bs) (39 ∷ []))
+    ∙ byte_again b (escape bs ++ 39 ∷ [])
     ∙ ap (option_map (λ (xs : List ℕ). b ∷ xs)) (unread_again bs)
 
-pub quoted_again : (text bytes : List ℕ) → text ≡ quoted bytes → quoted_in text ≡ Some bytes
-quoted_again text bytes e = ap quoted_in e ∙ unread_again bytes
+pub quoted_again : (text bytes : List ℕ) → text ≡ quote bytes → unquote text ≡ Some bytes
+quoted_again text bytes e = ap unquote e ∙ unread_again bytes
 
 -- of what was read, seen by view
-pub seen_found : {V : Type 0} (view : V → List ℕ) (text : List ℕ) (o : Option V) → option_map view o ≡ quoted_in text → IfSome o (λ v. text ≡ quoted (view v))
+pub seen_found : {V : Type 0} (view : V → List ℕ) (text : List ℕ) (o : Option V) → option_map view o ≡ unquote text → IfSome o (λ v. text ≡ quote (view v))
 seen_found view text None e = tt
 seen_found view text (Some v) e = quoted_found text (view v) (sym e)

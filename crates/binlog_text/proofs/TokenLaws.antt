@@ -4,23 +4,23 @@ use Rattle.std.specs.Prelude.{option_map, ◌&&◌, MatchOption, ◌≢◌}
 use Rattle.std.proofs.lemmas.Bool.{eqb-true}
 use Rattle.std.proofs.lemmas.Option.{same_Some}
 use Rattle.gtid_text.proofs.Turns.{chosen}
-use Rattle.binlog_text.specs.Tokens.{after, before, behind, cut_at, lacks, nothing_in, last_behind, last_cut, ◌>>=◌}
+use Rattle.binlog_text.specs.Tokens.{after_prefix, before, behind, cut_at, lacks, nothing_in, last_behind, last_cut, ◌>>=◌}
 
 pub bind_some : {A B : Type 0} (o : Option A) (f : A → Option B) (y : B) → (o >>= f) ≡ Some y → (x : A) × (o ≡ Some x) × (f x ≡ Some y)
 bind_some None f y e = absurd cc
 bind_some (Some x) f y e = (x, refl, e)
 
-pub after_found : (front text rest : List ℕ) → after front text ≡ Some rest → text ≡ front ++ rest
+pub after_found : (front text rest : List ℕ) → after_prefix front text ≡ Some rest → text ≡ front ++ rest
 after_found [] text rest e = same_Some _ _ e
 after_found (b ∷ bs) [] rest e = absurd cc
-after_found (b ∷ bs) (c ∷ cs) rest e = elim (chosen (eqb b c) (after bs cs) None (Some rest) e) [
+after_found (b ∷ bs) (c ∷ cs) rest e = elim (chosen (eqb b c) (after_prefix bs cs) None (Some rest) e) [
   | inl p ↦ ap (λ (x : ℕ). x ∷ cs) (sym (eqb-true b c p.0)) ∙ ap (λ (xs : List ℕ). b ∷ xs) (after_found bs cs rest p.1)
   | inr p ↦ absurd cc
 ]
 
-pub after_again : (front rest : List ℕ) → after front (front ++ rest) ≡ Some rest
+pub after_again : (front rest : List ℕ) → after_prefix front (front ++ rest) ≡ Some rest
 after_again [] rest = refl
-after_again (b ∷ bs) rest = ap (λ (t : Bool). cond t (after bs (bs ++ rest)) None) (eq-eqb b b refl) ∙ after_again bs rest
+after_again (b ∷ bs) rest = ap (λ (t : Bool). cond t (after_prefix bs (bs ++ rest)) None) (eq-eqb b b refl) ∙ after_again bs rest
 
 pub record Cuts (c : ℕ) (text front rest : List ℕ) : Type 0 where
   pub parts : text ≡ front ++ c ∷ rest
@@ -30,7 +30,7 @@ pub nothing_found : (text : List ℕ) (u : Unit {0}) → nothing_in text ≡ Som
 nothing_found [] u e = refl
 nothing_found (b ∷ bs) u e = absurd cc
 
--- what stands behind the first such byte
+-- what comes after the first such byte
 behind_at : (c b : ℕ) (bs rest : List ℕ) (t : Bool) → eqb b c ≡ t → (behind c bs ≡ Some rest → Cuts c bs (before c bs) rest) → cond t (Some bs) (behind c bs) ≡ Some rest → Cuts c (b ∷ bs) (cond t [] (b ∷ before c bs)) rest
 behind_at c b bs rest true h k f = record {
   parts = ap (λ (x : ℕ). x ∷ bs) (eqb-true b c h) ∙ ap (λ (xs : List ℕ). c ∷ xs) (same_Some _ _ f);
@@ -72,11 +72,11 @@ cut_again c front rest free = rw (behind_again c front rest free, before_again c
 
 -- ---- what `strip_prefix` finds
 
-pub stripped : {V : Type 0} (view : V → List ℕ) (front text : List ℕ) (r : Option V) → MatchOption r ((rest : List ℕ) → text ≢ front ++ rest) (λ x. text ≡ front ++ view x) → option_map view r ≡ after front text
-stripped view front text (Some x) h = sym (ap (after front) h ∙ after_again front (view x))
-stripped view front text None h = none (after front text) refl
+pub stripped : {V : Type 0} (view : V → List ℕ) (front text : List ℕ) (r : Option V) → MatchOption r ((rest : List ℕ) → text ≢ front ++ rest) (λ x. text ≡ front ++ view x) → option_map view r ≡ after_prefix front text
+stripped view front text (Some x) h = sym (ap (after_prefix front) h ∙ after_again front (view x))
+stripped view front text None h = none (after_prefix front text) refl
   where
-    none : (o : Option (List ℕ)) → after front text ≡ o → None ≡ o
+    none : (o : Option (List ℕ)) → after_prefix front text ≡ o → None ≡ o
     none None e = refl
     none (Some rest) e = absurd (h rest (after_found front text rest e))
 

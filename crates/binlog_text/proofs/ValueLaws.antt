@@ -8,13 +8,13 @@ use Rattle.std.specs.Str.{bytes_eq}
 use Rattle.std.proofs.lemmas.Option.{same_Some}
 use Rattle.std.specs.List.{list_all}
 use Rattle.gtid_text.proofs.Turns.{chosen}
-use Rattle.journal_words.specs.Words.{count_of}
-use Rattle.journal_words.proofs.Counts.{count_found, count_again, decimal_lacks, lacks-parts}
-use Rattle.rows.specs.declared.value.Value.{Value}
-use Rattle.rows.specs.declared.value.Value.TheVariants.{Null, Int, Bytes}
-use Rattle.binlog_text.specs.Tokens.{after, cut_at, nothing_in, lacks}
-use Rattle.binlog_text.specs.Quoted.{quoted_in}
-use Rattle.binlog_text.specs.Values.{range_of, half_of, negative_text, signed_shown, unsigned_shown, number_shown, is_seconds, is_decimal, is_bit, int_shown, bytes_shown, shown_value, readings_at, agree, negative, large, below, signed_at, unsigned_at, bits_at, typed_at, or_null, value_at}
+use Rattle.row_images.specs.Words.{count_of}
+use Rattle.row_images.proofs.Counts.{count_found, count_again, decimal_lacks, lacks-parts}
+use Rattle.row_images.specs.declared.value.Value.{Value}
+use Rattle.row_images.specs.declared.value.Value.TheVariants.{Null, Int, Bytes}
+use Rattle.binlog_text.specs.Tokens.{after_prefix, cut_at, nothing_in, lacks}
+use Rattle.binlog_text.specs.Quoted.{unquote}
+use Rattle.binlog_text.specs.Values.{range_of, half_of, negative_text, signed_shown, unsigned_shown, number_shown, is_seconds, is_decimal, is_bit, int_shown, bytes_shown, shown_value, readings_at, agree, negative, large, below, signed_value, unsigned_value, bits_at, value_of_type, or_null, value_at}
 use Rattle.binlog_text.specs.declared.types.IntegerType.{IntegerType}
 use Rattle.binlog_text.specs.declared.types.IntegerType.TheVariants as integers
 use Rattle.binlog_text.specs.declared.types.ColumnType.{ColumnType}
@@ -24,7 +24,7 @@ use Rattle.binlog_text.proofs.QuotedLaws.{quoted_found, quoted_again}
 
 -- ---- two readings
 
--- what the text behind a minus says
+-- what the text after a minus says
 pub record Readings (line : List ℕ) (r : ℕ × ℕ) : Type 0 where
   pub text : line ≡ decimal r.0 ++ 32 ∷ 40 ∷ (decimal r.1 ++ 41 ∷ [])
   pub below : r.0 < 2 ^ 64
@@ -34,7 +34,7 @@ readings_found : (text : List ℕ) (r : ℕ × ℕ) → readings_at text ≡ Som
 readings_found text r e =
     let a = bind_some (cut_at 32 text) _ r e in
     let first = cut_found 32 text a.0 a.1 in
-    let b = bind_some (after (40 ∷ []) a.0.1) _ r a.2 in
+    let b = bind_some (after_prefix (40 ∷ []) a.0.1) _ r a.2 in
     let inner = after_found (40 ∷ []) a.0.1 b.0 b.1 in
     let d = bind_some (cut_at 41 b.0) _ r b.2 in
     let second = cut_found 41 b.0 d.0 d.1 in
@@ -114,7 +114,7 @@ negative_is t bs (Some r) z e f = elim (chosen (agree t r.0 r.1) (Some (negsuc (
       (rw (lt_true (r.0 - 1) (half_of t) (omega (arith, fit.0, fit.1)), back, rest) (ap (λ (xs : List ℕ). Some (45 ∷ xs)) (sym read.text)))
 ]
 
-signed_found : (t : IntegerType) (text : List ℕ) (z : ℤ) → signed_at t text ≡ Some z → signed_shown t z ≡ Some text
+signed_found : (t : IntegerType) (text : List ℕ) (z : ℤ) → signed_value t text ≡ Some z → signed_shown t z ≡ Some text
 signed_found t [] z e = absurd cc
 signed_found t (b ∷ bs) z e = elim (chosen (eqb b 45) (negative t (readings_at bs)) _ (Some z) e) [
   | inl p ↦ negative_is t bs (readings_at bs) z refl p.1 ∙ ap (λ (c : ℕ). Some (c ∷ bs)) (sym (eqb-true b 45 p.0))
@@ -124,20 +124,20 @@ signed_found t (b ∷ bs) z e = elim (chosen (eqb b 45) (negative t (readings_at
 ]
 
 -- a number from 0 on is read, with a sign or without
-plain_signed : (t : IntegerType) (text : List ℕ) (n : ℕ) → count_of text ≡ Some n → n < half_of t → signed_at t text ≡ Some (pos n)
+plain_signed : (t : IntegerType) (text : List ℕ) (n : ℕ) → count_of text ≡ Some n → n < half_of t → signed_value t text ≡ Some (pos n)
 plain_signed t [] n e lt = absurd cc
 plain_signed t (b ∷ bs) n e lt = rw (not_negative b bs n e, e, lt_true n (half_of t) lt) refl
 
-plain_unsigned : (t : IntegerType) (text : List ℕ) (n : ℕ) → count_of text ≡ Some n → n < half_of t → unsigned_at t text ≡ Some (pos n)
+plain_unsigned : (t : IntegerType) (text : List ℕ) (n : ℕ) → count_of text ≡ Some n → n < half_of t → unsigned_value t text ≡ Some (pos n)
 plain_unsigned t [] n e lt = absurd cc
 plain_unsigned t (b ∷ bs) n e lt = rw (not_negative b bs n e, e, lt_true n (half_of t) lt) refl
 
-signed_again : (t : IntegerType) (z : ℤ) (text : List ℕ) → signed_shown t z ≡ Some text → signed_at t text ≡ Some z
+signed_again : (t : IntegerType) (z : ℤ) (text : List ℕ) → signed_shown t z ≡ Some text → signed_value t text ≡ Some z
 signed_again t (pos n) text e = elim (chosen (nat_lt n (half_of t)) (Some (decimal n)) None (Some text) e) [
   | inr p ↦ absurd cc
   | inl p ↦
       let lt = true_lt n (half_of t) p.0 in
-      subst (λ (xs : List ℕ). signed_at t xs ≡ Some (pos n)) (same_Some _ _ p.1)
+      subst (λ (xs : List ℕ). signed_value t xs ≡ Some (pos n)) (same_Some _ _ p.1)
       (plain_signed t (decimal n) n (count_again n (omega (arith, lt, half_fits t))) lt)
 ]
 signed_again t (negsuc n) text e = elim (chosen (nat_lt n (half_of t)) (Some (negative_text (n + 1) (range_of t - (n + 1)))) None (Some text) e) [
@@ -148,7 +148,7 @@ signed_again t (negsuc n) text e = elim (chosen (nat_lt n (half_of t)) (Some (ne
       let read : readings_at (decimal (n + 1) ++ 32 ∷ 40 ∷ (decimal (range_of t - (n + 1)) ++ 41 ∷ [])) ≡ Some (n + 1, range_of t - (n + 1)) = readings_again (n + 1) (range_of t - (n + 1)) (omega (arith, lt, small)) (omega (arith, lt, small)) in
       let fit : agree t (n + 1) (range_of t - (n + 1)) ≡ true = agrees (half_of t) (n + 1) (range_of t - (n + 1)) (omega arith) (omega (arith, lt)) (omega (arith, lt)) in
       let back : n + 1 - 1 ≡ n = omega arith in
-      subst (λ (xs : List ℕ). signed_at t xs ≡ Some (negsuc n)) (same_Some _ _ p.1)
+      subst (λ (xs : List ℕ). signed_value t xs ≡ Some (negsuc n)) (same_Some _ _ p.1)
       (ap (negative t) read ∙ rw fit (ap (λ (m : ℕ). Some (negsuc m)) back))
 ]
 
@@ -167,7 +167,7 @@ large_is t bs (Some r) z e f = elim (chosen (agree t r.0 r.1 && nat_lt r.1 (2 ^ 
       (rw (past, within, parts.1, rest) (ap (λ (xs : List ℕ). Some (45 ∷ xs)) (sym read.text)))
 ]
 
-unsigned_found : (t : IntegerType) (text : List ℕ) (z : ℤ) → unsigned_at t text ≡ Some z → unsigned_shown t z ≡ Some text
+unsigned_found : (t : IntegerType) (text : List ℕ) (z : ℤ) → unsigned_value t text ≡ Some z → unsigned_shown t z ≡ Some text
 unsigned_found t [] z e = absurd cc
 unsigned_found t (b ∷ bs) z e = elim (chosen (eqb b 45) (large t (readings_at bs)) _ (Some z) e) [
   | inl p ↦ large_is t bs (readings_at bs) z refl p.1 ∙ ap (λ (c : ℕ). Some (c ∷ bs)) (sym (eqb-true b 45 p.0))
@@ -176,12 +176,12 @@ unsigned_found t (b ∷ bs) z e = elim (chosen (eqb b 45) (large t (readings_at 
       subst (λ (y : ℤ). unsigned_shown t y ≡ Some (b ∷ bs)) (sym n.1) (rw (lt_true n.0 (half_of t) n.2) (ap Some (sym n.3)))
 ]
 
-unsigned_again : (t : IntegerType) (z : ℤ) (text : List ℕ) → unsigned_shown t z ≡ Some text → unsigned_at t text ≡ Some z
+unsigned_again : (t : IntegerType) (z : ℤ) (text : List ℕ) → unsigned_shown t z ≡ Some text → unsigned_value t text ≡ Some z
 unsigned_again t (negsuc n) text e = absurd cc
 unsigned_again t (pos n) text e = elim (chosen (nat_lt n (half_of t)) (Some (decimal n)) _ (Some text) e) [
   | inl p ↦
       let lt = true_lt n (half_of t) p.0 in
-      subst (λ (xs : List ℕ). unsigned_at t xs ≡ Some (pos n)) (same_Some _ _ p.1)
+      subst (λ (xs : List ℕ). unsigned_value t xs ≡ Some (pos n)) (same_Some _ _ p.1)
       (plain_unsigned t (decimal n) n (count_again n (omega (arith, lt, half_fits t))) lt)
   | inr p ↦ elim (chosen (nat_lt n (range_of t) && nat_lt n (2 ^ 63)) (Some (negative_text (range_of t - n) n)) None (Some text) p.1) [
     | inr q ↦ absurd cc
@@ -193,7 +193,7 @@ unsigned_again t (pos n) text e = elim (chosen (nat_lt n (half_of t)) (Some (dec
         let half = half_fits t in
         let read : readings_at (decimal (range_of t - n) ++ 32 ∷ 40 ∷ (decimal n ++ 41 ∷ [])) ≡ Some (range_of t - n, n) = readings_again (range_of t - n) n (omega (arith, past, half)) (omega (arith, small)) in
         let fit : agree t (range_of t - n) n ≡ true = agrees (half_of t) (range_of t - n) n (omega (arith, within)) (omega (arith, past)) (omega (arith, within)) in
-        subst (λ (xs : List ℕ). unsigned_at t xs ≡ Some (pos n)) (same_Some _ _ q.1)
+        subst (λ (xs : List ℕ). unsigned_value t xs ≡ Some (pos n)) (same_Some _ _ q.1)
         (ap (large t) read ∙ rw (fit, parts.1) refl)
   ]
 ]
@@ -221,7 +221,7 @@ bits_lack (b ∷ bs) e = let p = and_parts (is_bit b) (list_all is_bit bs) e in 
 
 bits_found : (text bs : List ℕ) → bits_at text ≡ Some bs → bytes_shown types.Bits bs ≡ Some text
 bits_found text bs e =
-    let a = bind_some (after (98 ∷ 39 ∷ []) text) _ bs e in
+    let a = bind_some (after_prefix (98 ∷ 39 ∷ []) text) _ bs e in
     let front = after_found (98 ∷ 39 ∷ []) text a.0 a.1 in
     let d = bind_some (cut_at 39 a.0) _ bs a.2 in
     let cut = cut_found 39 a.0 d.0 d.1 in
@@ -251,14 +251,14 @@ tested : (b : Bool) (text : List ℕ) (v : Value) → cond b (Some (Bytes text))
 tested true text v e = (refl, same_Some _ _ e)
 tested false text v e = absurd cc
 
-typed_found : (type : ColumnType) (text : List ℕ) (v : Value) → typed_at type text ≡ Some v → shown_value type v ≡ Some text
-typed_found (types.Signed t) text v e = let m = mapped Int (signed_at t text) v e in subst (λ (w : Value). shown_value (types.Signed t) w ≡ Some text) m.2 (signed_found t text m.0 m.1)
-typed_found (types.Unsigned t) text v e = let m = mapped Int (unsigned_at t text) v e in subst (λ (w : Value). shown_value (types.Unsigned t) w ≡ Some text) m.2 (unsigned_found t text m.0 m.1)
+typed_found : (type : ColumnType) (text : List ℕ) (v : Value) → value_of_type type text ≡ Some v → shown_value type v ≡ Some text
+typed_found (types.Signed t) text v e = let m = mapped Int (signed_value t text) v e in subst (λ (w : Value). shown_value (types.Signed t) w ≡ Some text) m.2 (signed_found t text m.0 m.1)
+typed_found (types.Unsigned t) text v e = let m = mapped Int (unsigned_value t text) v e in subst (λ (w : Value). shown_value (types.Unsigned t) w ≡ Some text) m.2 (unsigned_found t text m.0 m.1)
 typed_found types.Number text v e = let m = mapped Int (below (2 ^ 63) (count_of text)) v e in subst (λ (w : Value). shown_value types.Number w ≡ Some text) m.2 (number_found text m.0 m.1)
 typed_found types.Decimal text v e = let m = tested (is_decimal text) text v e in subst (λ (w : Value). shown_value types.Decimal w ≡ Some text) m.1 (rw m.0 refl)
 typed_found types.Seconds text v e = let m = tested (is_seconds text) text v e in subst (λ (w : Value). shown_value types.Seconds w ≡ Some text) m.1 (rw m.0 refl)
 typed_found types.Bits text v e = let m = mapped Bytes (bits_at text) v e in subst (λ (w : Value). shown_value types.Bits w ≡ Some text) m.2 (bits_found text m.0 m.1)
-typed_found types.Quoted text v e = let m = mapped Bytes (quoted_in text) v e in subst (λ (w : Value). shown_value types.Quoted w ≡ Some text) m.2 (ap Some (sym (quoted_found text m.0 m.1)))
+typed_found types.Quoted text v e = let m = mapped Bytes (unquote text) v e in subst (λ (w : Value). shown_value types.Quoted w ≡ Some text) m.2 (ap Some (sym (quoted_found text m.0 m.1)))
 
 null_found : (text : List ℕ) (v : Value) → or_null text None ≡ Some v → (text ≡ codes "NULL") × (Null ≡ v)
 null_found text v e = elim (chosen (bytes_eq text (codes "NULL")) (Some Null) None (Some v) e) [
@@ -266,13 +266,13 @@ null_found text v e = elim (chosen (bytes_eq text (codes "NULL")) (Some Null) No
   | inr p ↦ absurd cc
 ]
 
-value_is : (type : ColumnType) (text : List ℕ) (o : Option Value) (v : Value) → typed_at type text ≡ o → or_null text o ≡ Some v → shown_value type v ≡ Some text
+value_is : (type : ColumnType) (text : List ℕ) (o : Option Value) (v : Value) → value_of_type type text ≡ o → or_null text o ≡ Some v → shown_value type v ≡ Some text
 value_is type text (Some w) v e f = typed_found type text v (e ∙ f)
 value_is type text None v e f = let n = null_found text v f in subst (λ (w : Value). shown_value type w ≡ Some text) n.1 (ap Some (sym n.0))
 
 -- what is read is printed so
 pub value_found : (type : ColumnType) (text : List ℕ) (v : Value) → value_at type text ≡ Some v → shown_value type v ≡ Some text
-value_found type text v e = value_is type text (typed_at type text) v refl e
+value_found type text v e = value_is type text (value_of_type type text) v refl e
 
 -- ---- what is printed is read
 
@@ -288,7 +288,7 @@ null_again type text e = subst (λ (xs : List ℕ). value_at type xs ≡ Some Nu
     null_alone types.Bits = refl
     null_alone types.Quoted = refl
 
-int_again : (type : ColumnType) (z : ℤ) (text : List ℕ) → int_shown type z ≡ Some text → typed_at type text ≡ Some (Int z)
+int_again : (type : ColumnType) (z : ℤ) (text : List ℕ) → int_shown type z ≡ Some text → value_of_type type text ≡ Some (Int z)
 int_again (types.Signed t) z text e = ap (option_map Int) (signed_again t z text e)
 int_again (types.Unsigned t) z text e = ap (option_map Int) (unsigned_again t z text e)
 int_again types.Number z text e = ap (option_map Int) (number_again z text e)
@@ -301,12 +301,12 @@ passed : (b : Bool) (bs text : List ℕ) → cond b (Some bs) None ≡ Some text
 passed true bs text e = (refl, same_Some _ _ e)
 passed false bs text e = absurd cc
 
-bytes_again : (type : ColumnType) (bs text : List ℕ) → bytes_shown type bs ≡ Some text → typed_at type text ≡ Some (Bytes bs)
+bytes_again : (type : ColumnType) (bs text : List ℕ) → bytes_shown type bs ≡ Some text → value_of_type type text ≡ Some (Bytes bs)
 bytes_again (types.Signed t) bs text e = absurd cc
 bytes_again (types.Unsigned t) bs text e = absurd cc
 bytes_again types.Number bs text e = absurd cc
-bytes_again types.Decimal bs text e = let p = passed (is_decimal bs) bs text e in subst (λ (xs : List ℕ). typed_at types.Decimal xs ≡ Some (Bytes bs)) p.1 (rw p.0 refl)
-bytes_again types.Seconds bs text e = let p = passed (is_seconds bs) bs text e in subst (λ (xs : List ℕ). typed_at types.Seconds xs ≡ Some (Bytes bs)) p.1 (rw p.0 refl)
+bytes_again types.Decimal bs text e = let p = passed (is_decimal bs) bs text e in subst (λ (xs : List ℕ). value_of_type types.Decimal xs ≡ Some (Bytes bs)) p.1 (rw p.0 refl)
+bytes_again types.Seconds bs text e = let p = passed (is_seconds bs) bs text e in subst (λ (xs : List ℕ). value_of_type types.Seconds xs ≡ Some (Bytes bs)) p.1 (rw p.0 refl)
 bytes_again types.Bits bs text e = ap (option_map Bytes) (bits_again bs text e)
 bytes_again types.Quoted bs text e = ap (option_map Bytes) (quoted_again text bs (sym (same_Some _ _ e)))
 

@@ -3,8 +3,8 @@ use Rattle.std.specs.Prelude.{◌≡◌, ℕ, ◌^◌, ◌<◌, ◌==◌, ◌&&�
 use Rattle.std.specs.List.{list_all, ends_with}
 use Rattle.std.specs.Char.{is_ascii_digit}
 use Rattle.std.specs.Str.{bytes_eq}
-use Rattle.journal_words.specs.Values.{is_lower_digit}
-use Rattle.binlog_text.specs.Tokens.{after, cut_at, lacks}
+use Rattle.row_images.specs.Values.{is_lower_digit}
+use Rattle.binlog_text.specs.Tokens.{after_prefix, cut_at, lacks}
 use Rattle.binlog_text.specs.declared.lines.Operation.{Operation}
 use Rattle.binlog_text.specs.declared.lines.Operation.TheVariants as operations
 use Rattle.binlog_text.specs.declared.lines.Event.{Event}
@@ -45,7 +45,7 @@ operation_text operations.Insert = codes "INSERT INTO "
 operation_text operations.Update = codes "UPDATE "
 operation_text operations.Delete = codes "DELETE FROM "
 
--- what the head of an event tells behind its time and place, as far as its kind is told
+-- what the head of an event tells after its time and place, as far as its kind is told
 abbrev pub event_text : Event → List ℕ
 event_text events.Start = codes "Start: binlog v 4, "
 event_text events.PreviousGtids = codes "Previous-GTIDs"
@@ -68,7 +68,7 @@ pub record IsStamp (stamp : List ℕ) : Type 0 where
   pub first : begins_with_digit stamp ≡ true
   pub one : lacks 9 stamp ≡ true
 
--- the first column stands behind the bracket, the others below it
+-- the first column comes after the bracket, the others below it
 abbrev pub column_front : Bool → List ℕ
 column_front true = codes "Columns("
 column_front false = codes "        "
@@ -82,7 +82,7 @@ named_text None type = type
 named_text (Some name) type = 96 ∷ (name ++ 96 ∷ 32 ∷ type)
 
 abbrev pub IsNamed : Option (List ℕ) → List ℕ → Type 0
-IsNamed None type = after (96 ∷ []) type ≡ None
+IsNamed None type = after_prefix (96 ∷ []) type ≡ None
 IsNamed (Some name) type = IsName name
 
 -- the first eight digits of a UUID, and a minus
@@ -97,17 +97,17 @@ abbrev pub comma : Bool → List ℕ
 comma true = 44 ∷ []
 comma false = []
 
--- no comma stands at its end, unless one more does
+-- no comma is at its end, unless one more does
 abbrev pub IsWhole : Bool → List ℕ → Type 0
 IsWhole true sources = Unit {0}
 IsWhole false sources = (front : List ℕ) → sources ≡ front ++ 44 ∷ [] → ⊥
 
--- ---- lines that are known by their fronts and ends
+-- ---- lines that are known by their prefixes and ends
 
 abbrev pub begins : List ℕ → List ℕ → Bool
-begins front text = is_some (after front text)
+begins front text = is_some (after_prefix front text)
 
--- behind `# `
+-- after `# `
 abbrev pub is_comment : List ℕ → Bool
 is_comment text =
     begins (codes "original_commit_timestamp=") text
@@ -140,17 +140,17 @@ abbrev pub named_then : List ℕ → Option (List ℕ × List ℕ) → Bool
 named_then rest None = false
 named_then rest (Some parts) = bytes_eq parts.1 rest
 
--- a name up to the backquote behind it, and then this
+-- a name up to the backquote after it, and then this
 abbrev pub quotes_then : List ℕ → Option (List ℕ) → Bool
 quotes_then rest None = false
 quotes_then rest (Some text) = named_then rest (cut_at 96 text)
 
 abbrev pub is_setting : List ℕ → Bool
-is_setting text = (begins_setting text && ends_setting text) || quotes_then (codes "/*!*/;") (after (codes "use `") text)
+is_setting text = (begins_setting text && ends_setting text) || quotes_then (codes "/*!*/;") (after_prefix (codes "use `") text)
 
--- the return to a savepoint is none: it takes rows back that stand before it
+-- the return to a savepoint is none: it takes rows back that come before it
 abbrev pub is_savepoint : List ℕ → Bool
-is_savepoint text = quotes_then [] (after (codes "SAVEPOINT `") text)
+is_savepoint text = quotes_then [] (after_prefix (codes "SAVEPOINT `") text)
 
 abbrev pub is_frame : List ℕ → Bool
 is_frame text =

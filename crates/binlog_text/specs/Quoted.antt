@@ -7,7 +7,7 @@ use Rattle.binlog_text.specs.declared.quoted.Mode.TheVariants as modes
 abbrev pub hex_digit : ℕ → ℕ
 hex_digit d = if nat_lt d 10 then 48 + d else 87 + d
 
--- A backslash and a letter stand for some bytes, `\x` and two digits for the others below the blank. Each other byte stands for itself.
+-- A backslash and a letter denote some bytes, `\x` and two digits for the others below the blank. Each other byte denotes itself.
 abbrev pub shown_byte : ℕ → List ℕ
 shown_byte b =
     if b == 8 then 92 ∷ 98 ∷ []
@@ -21,18 +21,18 @@ shown_byte b =
     else if nat_lt b 32 then 92 ∷ 120 ∷ 49 ∷ hex_digit (b - 16) ∷ []
     else b ∷ []
 
-abbrev pub shown : List ℕ → List ℕ
-shown bytes = flat_map shown_byte bytes
+abbrev pub escape : List ℕ → List ℕ
+escape bytes = flat_map shown_byte bytes
 
 -- the bytes between quotes
-abbrev pub quoted : List ℕ → List ℕ
-quoted bytes = 39 ∷ shown bytes ++ 39 ∷ []
+abbrev pub quote : List ℕ → List ℕ
+quote bytes = 39 ∷ escape bytes ++ 39 ∷ []
 
 -- ---- reading
 
--- the byte that a backslash and this letter stand for
-abbrev pub escaped : ℕ → Option ℕ
-escaped b =
+-- the byte that a backslash and this letter denote
+abbrev pub unescape : ℕ → Option ℕ
+unescape b =
     if b == 98 then Some 8
     else if b == 116 then Some 9
     else if b == 110 then Some 10
@@ -49,8 +49,8 @@ hex_value b =
     else None
 
 -- a byte below the blank that has no letter
-abbrev pub by_digits : ℕ → Option ℕ
-by_digits b = if (b == 8) || (b == 9) || (b == 10) || (b == 12) || (b == 13) then None else Some b
+abbrev pub byte_of_digits : ℕ → Option ℕ
+byte_of_digits b = if (b == 8) || (b == 9) || (b == 10) || (b == 12) || (b == 13) then None else Some b
 
 -- what has come once a byte has come whole, and that byte
 abbrev pub plainly : Option ℕ → Option (Mode × Option ℕ)
@@ -59,16 +59,16 @@ plainly (Some b) = Some (modes.Plain, Some b)
 
 abbrev pub low_of : ℕ → Option ℕ → Option ℕ
 low_of high None = None
-low_of high (Some d) = by_digits (high + d)
+low_of high (Some d) = byte_of_digits (high + d)
 
--- what has come behind one more byte, and the byte of the string that is whole with it
+-- what has come after one more byte, and the byte of the string that is whole with it
 abbrev pub next : Mode → ℕ → Option (Mode × Option ℕ)
 next modes.Plain b =
     if b == 92 then Some (modes.Escape, None)
     else if b == 39 then Some (modes.Closed, None)
     else if nat_lt b 32 then None
     else Some (modes.Plain, Some b)
-next modes.Escape b = if b == 120 then Some (modes.High, None) else plainly (escaped b)
+next modes.Escape b = if b == 120 then Some (modes.High, None) else plainly (unescape b)
 next modes.High b =
     if b == 48 then Some (modes.Low 0, None)
     else if b == 49 then Some (modes.Low 16, None)
@@ -95,16 +95,16 @@ abbrev pub with_byte : Option ℕ → Option (List ℕ) → Option (List ℕ)
 with_byte None told = told
 with_byte (Some b) told = option_map (λ bs. b ∷ bs) told
 
-abbrev pub gone_on : Option (Mode × Option ℕ) → (Mode → Option (List ℕ)) → Option (List ℕ)
-gone_on None f = None
-gone_on (Some t) f = with_byte t.1 (f t.0)
+abbrev pub go_on : Option (Mode × Option ℕ) → (Mode → Option (List ℕ)) → Option (List ℕ)
+go_on None f = None
+go_on (Some t) f = with_byte t.1 (f t.0)
 
 -- the bytes of which the rest of a string tells
-abbrev pub unread : Mode → List ℕ → Option (List ℕ)
-unread mode [] = whole mode
-unread mode (b ∷ bs) = gone_on (next mode b) (λ m. unread m bs)
+abbrev pub read_quoted : Mode → List ℕ → Option (List ℕ)
+read_quoted mode [] = whole mode
+read_quoted mode (b ∷ bs) = go_on (next mode b) (λ m. read_quoted m bs)
 
 -- the bytes that a string between quotes shows
-abbrev pub quoted_in : List ℕ → Option (List ℕ)
-quoted_in [] = None
-quoted_in (b ∷ bs) = if b == 39 then unread modes.Plain bs else None
+abbrev pub unquote : List ℕ → Option (List ℕ)
+unquote [] = None
+unquote (b ∷ bs) = if b == 39 then read_quoted modes.Plain bs else None

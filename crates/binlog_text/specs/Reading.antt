@@ -1,8 +1,8 @@
 -- What each line is read as.
 use Rattle.std.specs.Prelude.{ℕ, ◌==◌, Bool, true, false, ◌∷◌, [], List, Option, Some, None, codes, if◌then◌else◌}
 use Rattle.std.specs.Str.{bytes_eq}
-use Rattle.journal_words.specs.Words.{count_of}
-use Rattle.binlog_text.specs.Tokens.{after, cut_at, last_cut, nothing_in, ◌>>=◌}
+use Rattle.row_images.specs.Words.{count_of}
+use Rattle.binlog_text.specs.Tokens.{after_prefix, cut_at, last_cut, nothing_in, ◌>>=◌}
 use Rattle.binlog_text.specs.Lines.{Said, OfMark, OfHead, OfTable, OfColumn, OfGtid, OfSources, OfRow, OfValue, event_text, operation_text, begins_with_digit, begins, is_comment, is_source, is_setting, is_savepoint, is_frame}
 use Rattle.binlog_text.specs.declared.lines.Operation.{Operation}
 use Rattle.binlog_text.specs.declared.lines.Operation.TheVariants as operations
@@ -10,7 +10,7 @@ use Rattle.binlog_text.specs.declared.lines.Event.{Event}
 use Rattle.binlog_text.specs.declared.lines.Event.TheVariants as events
 use Rattle.binlog_text.specs.declared.lines.Mark.TheVariants as marks
 
--- by what follows a front, or by another way
+-- by what follows a prefix, or by another way
 abbrev pub branch : {A : Type 0} → Option (List ℕ) → (List ℕ → Option A) → Option A → Option A
 branch None f other = other
 branch (Some rest) f other = f rest
@@ -20,9 +20,9 @@ branch (Some rest) f other = f rest
 -- a table, and what follows it
 abbrev pub table_at : List ℕ → Option (List ℕ × List ℕ × List ℕ)
 table_at text = do
-  first ← after (96 ∷ []) text
+  first ← after_prefix (96 ∷ []) text
   database ← cut_at 96 first
-  second ← after (46 ∷ 96 ∷ []) database.1
+  second ← after_prefix (46 ∷ 96 ∷ []) database.1
   table ← cut_at 96 second
   Some (database.0, table.0, table.1)
 
@@ -32,18 +32,18 @@ row_at operation text = do
   _ ← nothing_in table.2
   Some (OfRow operation table.0 table.1)
 
-abbrev pub assigned_at : List ℕ → Option Said
-assigned_at text = do
+abbrev pub assignment_at : List ℕ → Option Said
+assignment_at text = do
   parts ← cut_at 61 text
   n ← count_of parts.0
   Some (OfValue n parts.1)
 
 abbrev pub row_line : List ℕ → Option Said
 row_line text =
-    branch (after (codes "  @") text) assigned_at (
-    branch (after (operation_text operations.Insert) text) (row_at operations.Insert) (
-    branch (after (operation_text operations.Update) text) (row_at operations.Update) (
-    branch (after (operation_text operations.Delete) text) (row_at operations.Delete) (
+    branch (after_prefix (codes "  @") text) assignment_at (
+    branch (after_prefix (operation_text operations.Insert) text) (row_at operations.Insert) (
+    branch (after_prefix (operation_text operations.Update) text) (row_at operations.Update) (
+    branch (after_prefix (operation_text operations.Delete) text) (row_at operations.Delete) (
     if bytes_eq text (codes "WHERE") then Some (OfMark marks.Where)
     else if bytes_eq text (codes "SET") then Some (OfMark marks.Set)
     else None))))
@@ -56,7 +56,7 @@ is_last_at b = if b == 41 then Some true else if b == 44 then Some false else No
 abbrev pub name_at : List ℕ → Option (List ℕ × List ℕ)
 name_at text = do
   name ← cut_at 96 text
-  type ← after (32 ∷ []) name.1
+  type ← after_prefix (32 ∷ []) name.1
   Some (name.0, type)
 
 abbrev pub column : Bool → Bool → Option (List ℕ) → List ℕ → Said
@@ -66,7 +66,7 @@ abbrev pub column_at : Bool → List ℕ → Option Said
 column_at is_first text = do
   parts ← last_cut text
   is_last ← is_last_at parts.1
-  branch (after (96 ∷ []) parts.0)
+  branch (after_prefix (96 ∷ []) parts.0)
       (λ rest. name_at rest >>= λ named. Some (column is_first is_last (Some named.0) named.1))
       (Some (column is_first is_last None parts.0))
 
@@ -79,9 +79,9 @@ sources_in text (Some parts) = if parts.1 == 44 then sources parts.0 true else s
 
 abbrev pub comment_line : List ℕ → Option Said
 comment_line text =
-    branch (after (codes "at ") text) (λ rest. Some (OfMark marks.Place)) (
-    branch (after (codes "Columns(") text) (column_at true) (
-    branch (after (codes "        ") text) (column_at false) (
+    branch (after_prefix (codes "at ") text) (λ rest. Some (OfMark marks.Place)) (
+    branch (after_prefix (codes "Columns(") text) (column_at true) (
+    branch (after_prefix (codes "        ") text) (column_at false) (
     if is_comment text then Some (OfMark marks.Comment)
     else if bytes_eq text (codes "[empty]") then Some (OfMark marks.Empty)
     else if bytes_eq text (codes "End of log file") then Some (OfMark marks.Closed)
@@ -92,7 +92,7 @@ comment_line text =
 abbrev pub table_map_at : List ℕ → Option Said
 table_map_at text = do
   table ← table_at text
-  digits ← after (codes " mapped to number ") table.2
+  digits ← after_prefix (codes " mapped to number ") table.2
   _ ← count_of digits
   Some (OfTable table.0 table.1)
 
@@ -114,13 +114,13 @@ event_of text =
 abbrev pub event_at : List ℕ → Option Said
 event_at text = event_of text >>= λ event. Some (OfHead event)
 
-abbrev pub told_at : List ℕ → Option Said
-told_at text = branch (after (codes "Table_map: ") text) table_map_at (event_at text)
+abbrev pub content_at : List ℕ → Option Said
+content_at text = branch (after_prefix (codes "Table_map: ") text) table_map_at (event_at text)
 
 abbrev pub head_line : List ℕ → Option Said
 head_line text = do
   parts ← cut_at 9 text
-  if begins_with_digit parts.0 then told_at parts.1 else None
+  if begins_with_digit parts.0 then content_at parts.1 else None
 
 -- ---- the others
 
@@ -136,7 +136,7 @@ gtid_at text = cut_at 39 text >>= λ parts. gtid_in parts.0 parts.1
 
 abbrev pub plain_line : List ℕ → Option Said
 plain_line text =
-    branch (after (codes "SET @@SESSION.GTID_NEXT= '") text) gtid_at (
+    branch (after_prefix (codes "SET @@SESSION.GTID_NEXT= '") text) gtid_at (
     if bytes_eq text (codes "BEGIN") then Some (OfMark marks.Begin)
     else if bytes_eq text (codes "COMMIT") then Some (OfMark marks.Commit)
     else if bytes_eq text (codes "/*!*/;") then Some (OfMark marks.Ended)
@@ -149,7 +149,7 @@ plain_line text =
 -- what a line says
 abbrev pub line_of : List ℕ → Option Said
 line_of text =
-    branch (after (codes "### ") text) row_line (
-    branch (after (codes "# ") text) comment_line (
-    branch (after (codes "#") text) head_line (
+    branch (after_prefix (codes "### ") text) row_line (
+    branch (after_prefix (codes "# ") text) comment_line (
+    branch (after_prefix (codes "#") text) head_line (
     plain_line text)))

@@ -1,4 +1,4 @@
--- Parts of a line, each at the front of what is left.
+-- Parts of a line, each at the start of what is left.
 use Rattle.std.specs.Prelude.{ℕ, Bool, not, ◌==◌, List, [], ◌∷◌, Option, Some, None, option_map, if◌then◌else◌}
 use Rattle.std.specs.List.{list_all}
 
@@ -7,13 +7,13 @@ abbrev pub ◌>>=◌ : {A B : Type 0} → Option A → (A → Option B) → Opti
 (Some x) >>= f = f x
 None >>= f = None
 
--- what follows this front
-abbrev pub after : List ℕ → List ℕ → Option (List ℕ)
-after [] text = Some text
-after (b ∷ bs) [] = None
-after (b ∷ bs) (c ∷ cs) = if b == c then after bs cs else None
+-- what follows this prefix
+abbrev pub after_prefix : List ℕ → List ℕ → Option (List ℕ)
+after_prefix [] text = Some text
+after_prefix (b ∷ bs) [] = None
+after_prefix (b ∷ bs) (c ∷ cs) = if b == c then after_prefix bs cs else None
 
--- the bytes before the first of these bytes, and those behind it
+-- the bytes before the first of these bytes, and those after it
 abbrev pub before : ℕ → List ℕ → List ℕ
 before c [] = []
 before c (b ∷ bs) = if b == c then [] else b ∷ before c bs
@@ -38,7 +38,7 @@ abbrev pub last_behind : ℕ → List ℕ → List ℕ × ℕ
 last_behind b [] = ([], b)
 last_behind b (c ∷ cs) = (b ∷ (last_behind c cs).0, (last_behind c cs).1)
 
--- the last byte, and what stands before it
+-- the last byte, and what comes before it
 abbrev pub last_cut : List ℕ → Option (List ℕ × ℕ)
 last_cut [] = None
 last_cut (b ∷ bs) = Some (last_behind b bs)

@@ -1,8 +1,8 @@
--- The types of columns, as mysqlbinlog prints them behind `--print-table-metadata`.
+-- The types of columns, as mysqlbinlog prints them after `--print-table-metadata`.
 use Rattle.std.specs.Prelude.{ℕ, ◌&&◌, ◌||◌, Bool, true, List, Option, Some, None, codes, nat_eq, nat_le, if◌then◌else◌}
 use Rattle.std.specs.List.{ends_with}
 use Rattle.std.specs.Str.{bytes_eq}
-use Rattle.gtid_text.specs.Scan.{run, past}
+use Rattle.gtid_text.specs.Scan.{run, skip_while}
 use Rattle.binlog_text.specs.Lines.{begins}
 use Rattle.binlog_text.specs.declared.types.IntegerType.{IntegerType}
 use Rattle.binlog_text.specs.declared.types.IntegerType.TheVariants as integers
@@ -45,7 +45,7 @@ is_time word = bytes_eq word (codes "DATE") || (bytes_eq word (codes "TIME") || 
 abbrev pub is_quoted : List ℕ → Bool
 is_quoted word = bytes_eq word (codes "CHAR") || (is_varied_text word || (is_binary word || is_time word))
 
--- the type that a word names, and the text behind the word
+-- the type that a word names, and the text after the word
 abbrev pub other_named : List ℕ → List ℕ → Option ColumnType
 other_named word rest =
     if is_quoted word then Some types.Quoted
@@ -61,7 +61,7 @@ integer_or_other None word rest = other_named word rest
 
 -- The type that a text names by its first word. FLOAT, DOUBLE, JSON, GEOMETRY and VECTOR name none: what is printed of their values does not determine them.
 abbrev pub type_named : List ℕ → Option ColumnType
-type_named text = integer_or_other (integer_named (run is_upper text)) (run is_upper text) (past is_upper text)
+type_named text = integer_or_other (integer_named (run is_upper text)) (run is_upper text) (skip_while is_upper text)
 
 -- Two values are equal for the server exactly where their bytes are: of text this holds under a binary collation that pads no text, and of CHAR,
 -- which is kept without blanks at its end, under each binary collation.

@@ -3,11 +3,11 @@ use Rattle.std.specs.Prelude.{ℕ, ℤ, pos, negsuc, ◌+◌, ◌-◌, ◌^◌, 
 use Rattle.std.specs.List.{list_all}
 use Rattle.std.specs.Char.{is_ascii_digit}
 use Rattle.std.specs.Str.{bytes_eq}
-use Rattle.journal_words.specs.Words.{is_count, count_of}
-use Rattle.rows.specs.declared.value.Value.{Value}
-use Rattle.rows.specs.declared.value.Value.TheVariants.{Null, Int, Bytes}
-use Rattle.binlog_text.specs.Tokens.{after, cut_at, nothing_in, ◌>>=◌}
-use Rattle.binlog_text.specs.Quoted.{quoted, quoted_in}
+use Rattle.row_images.specs.Words.{is_count, count_of}
+use Rattle.row_images.specs.declared.value.Value.{Value}
+use Rattle.row_images.specs.declared.value.Value.TheVariants.{Null, Int, Bytes}
+use Rattle.binlog_text.specs.Tokens.{after_prefix, cut_at, nothing_in, ◌>>=◌}
+use Rattle.binlog_text.specs.Quoted.{quote, unquote}
 use Rattle.binlog_text.specs.declared.types.IntegerType.{IntegerType}
 use Rattle.binlog_text.specs.declared.types.IntegerType.TheVariants as integers
 use Rattle.binlog_text.specs.declared.types.ColumnType.{ColumnType}
@@ -57,11 +57,11 @@ abbrev pub seconds_in : List ℕ → Option (List ℕ × List ℕ) → Bool
 seconds_in text None = is_count text
 seconds_in text (Some parts) = is_count parts.0 && are_digits parts.1
 
--- a number, and digits behind a point, if there is one
+-- a number, and digits after a point, if there is one
 abbrev pub is_seconds : List ℕ → Bool
 is_seconds text = seconds_in text (cut_at 46 text)
 
--- the same, behind a minus or none
+-- the same, after a minus or none
 abbrev pub is_decimal : List ℕ → Bool
 is_decimal [] = false
 is_decimal (b ∷ bs) = if b == 45 then is_seconds bs else is_seconds (b ∷ bs)
@@ -87,7 +87,7 @@ bytes_shown types.Number bs = None
 bytes_shown types.Decimal bs = if is_decimal bs then Some bs else None
 bytes_shown types.Seconds bs = if is_seconds bs then Some bs else None
 bytes_shown types.Bits bs = if list_all is_bit bs then Some (98 ∷ 39 ∷ bs ++ 39 ∷ []) else None
-bytes_shown types.Quoted bs = Some (quoted bs)
+bytes_shown types.Quoted bs = Some (quote bs)
 
 -- what is printed of a value in a column of this type, where it may have the value
 abbrev pub shown_value : ColumnType → Value → Option (List ℕ)
@@ -97,11 +97,11 @@ shown_value type (Bytes bs) = bytes_shown type bs
 
 -- ---- reading
 
--- both readings of a number that is printed as one below 0, behind the minus
+-- both readings of a number that is printed as one below 0, after the minus
 abbrev pub readings_at : List ℕ → Option (ℕ × ℕ)
 readings_at text = do
   first ← cut_at 32 text
-  inner ← after (40 ∷ []) first.1
+  inner ← after_prefix (40 ∷ []) first.1
   second ← cut_at 41 inner
   _ ← nothing_in second.1
   below ← count_of first.0
@@ -125,30 +125,30 @@ abbrev pub below : ℕ → Option ℕ → Option ℤ
 below limit None = None
 below limit (Some n) = if nat_lt n limit then Some (pos n) else None
 
-abbrev pub signed_at : IntegerType → List ℕ → Option ℤ
-signed_at t [] = None
-signed_at t (b ∷ bs) = if b == 45 then negative t (readings_at bs) else below (half_of t) (count_of (b ∷ bs))
+abbrev pub signed_value : IntegerType → List ℕ → Option ℤ
+signed_value t [] = None
+signed_value t (b ∷ bs) = if b == 45 then negative t (readings_at bs) else below (half_of t) (count_of (b ∷ bs))
 
-abbrev pub unsigned_at : IntegerType → List ℕ → Option ℤ
-unsigned_at t [] = None
-unsigned_at t (b ∷ bs) = if b == 45 then large t (readings_at bs) else below (half_of t) (count_of (b ∷ bs))
+abbrev pub unsigned_value : IntegerType → List ℕ → Option ℤ
+unsigned_value t [] = None
+unsigned_value t (b ∷ bs) = if b == 45 then large t (readings_at bs) else below (half_of t) (count_of (b ∷ bs))
 
 abbrev pub bits_at : List ℕ → Option (List ℕ)
 bits_at text = do
-  rest ← after (98 ∷ 39 ∷ []) text
+  rest ← after_prefix (98 ∷ 39 ∷ []) text
   bits ← cut_at 39 rest
   _ ← nothing_in bits.1
   if list_all is_bit bits.0 then Some bits.0 else None
 
 -- what a value other than NULL is read as
-abbrev pub typed_at : ColumnType → List ℕ → Option Value
-typed_at (types.Signed t) text = option_map Int (signed_at t text)
-typed_at (types.Unsigned t) text = option_map Int (unsigned_at t text)
-typed_at types.Number text = option_map Int (below (2 ^ 63) (count_of text))
-typed_at types.Decimal text = if is_decimal text then Some (Bytes text) else None
-typed_at types.Seconds text = if is_seconds text then Some (Bytes text) else None
-typed_at types.Bits text = option_map Bytes (bits_at text)
-typed_at types.Quoted text = option_map Bytes (quoted_in text)
+abbrev pub value_of_type : ColumnType → List ℕ → Option Value
+value_of_type (types.Signed t) text = option_map Int (signed_value t text)
+value_of_type (types.Unsigned t) text = option_map Int (unsigned_value t text)
+value_of_type types.Number text = option_map Int (below (2 ^ 63) (count_of text))
+value_of_type types.Decimal text = if is_decimal text then Some (Bytes text) else None
+value_of_type types.Seconds text = if is_seconds text then Some (Bytes text) else None
+value_of_type types.Bits text = option_map Bytes (bits_at text)
+value_of_type types.Quoted text = option_map Bytes (unquote text)
 
 abbrev pub or_null : List ℕ → Option Value → Option Value
 or_null text (Some v) = Some v
@@ -156,4 +156,4 @@ or_null text None = if bytes_eq text (codes "NULL") then Some Null else None
 
 -- the value that a text shows
 abbrev pub value_at : ColumnType → List ℕ → Option Value
-value_at type text = or_null text (typed_at type text)
+value_at type text = or_null text (value_of_type type text)

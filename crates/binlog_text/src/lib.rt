@@ -7,7 +7,7 @@
 //! What a contract sees: `IsLine` is the grammar of lines, by the bytes of each kind. A line is read exactly where the grammar has it
 //! (`found`, `only`), so no line says two things, and a line that is none says nothing. A value is read exactly where its text is what
 //! mysqlbinlog prints of it (`shown_value`): whole numbers by both readings, which must agree; DECIMAL and TIMESTAMP by their digits; BIT
-//! and SET by their bits; strings and times by the bytes between the quotes, which have one spelling (`unquoted`).
+//! and SET by their bits; strings and times by the bytes between the quotes, which have one spelling (`unquote`).
 //!
 //! Not read: FLOAT, DOUBLE, JSON, GEOMETRY and VECTOR, whose values are not printed whole; numbers from 2^63; names with a backquote or
 //! line feed.
@@ -27,7 +27,7 @@ mod types;
 mod values;
 
 pub use lines::{Column, Event, Line, Mark, Operation};
-pub use quoted::unquoted;
+pub use quoted::unquote;
 pub use reading::read_line;
 pub use tokens::cut_at;
 pub use type_text::{compares_bytes, type_named};
@@ -36,7 +36,7 @@ pub use values::read_value;
 
 #[cfg(test)]
 mod tests {
-    use crate::{ColumnType, IntegerType, Line, read_line, read_value, type_named, unquoted};
+    use crate::{ColumnType, IntegerType, Line, read_line, read_value, type_named, unquote};
     use journal_words::write_value;
     use std::test::Fail;
 
@@ -186,7 +186,7 @@ mod tests {
 
     #[test]
     fn low_bytes(rt: HostRuntime) -> Result<(), Fail> {
-        let bytes = unquoted(rt.alloc(), LOW)?.ok_or("not read")?;
+        let bytes = unquote(rt.alloc(), LOW)?.ok_or("not read")?;
         assert_eq!(rt; bytes.len(), 32);
         for (i, byte) in bytes.iter().enumerate() {
             assert_eq!(rt; *byte as usize, i);

@@ -1,6 +1,6 @@
 //! Strings between quotes.
 ghost use Rattle.std.specs.Prelude.{◌≡◌, ◌+◌, ◌≤◌, ℕ, List, Some, IfOk, IfSome, option_map};
-ghost use Rattle.binlog_text.specs.Quoted.{quoted, escaped, hex_value, by_digits, low_of, plainly, next, unread, quoted_in, HighFits};
+ghost use Rattle.binlog_text.specs.Quoted.{quote, unescape, hex_value, byte_of_digits, low_of, plainly, next, read_quoted, unquote, HighFits};
 ghost use Rattle.binlog_text.specs.declared.quoted.Mode.TheVariants as modes;
 
 use std::alloc::{AllocError, Global};
@@ -8,7 +8,7 @@ use std::alloc::{AllocError, Global};
 /// How much of a string has come.
 #[derive(Clone, Copy, Debug, PartialEq, Eq)]
 enum Mode {
-    /// The next byte stands for itself, begins an escape, or is the quote at the end.
+    /// The next byte denotes itself, begins an escape, or is the quote at the end.
     Plain,
     /// A backslash has come.
     Escape,
@@ -20,9 +20,9 @@ enum Mode {
     Closed,
 }
 
-/// The byte that a backslash and a letter stand for.
-fn escaped(letter: u8) -> Option<u8>
-    ensures { result ≡ escaped letter }
+/// The byte that a backslash and a letter denote.
+fn unescape(letter: u8) -> Option<u8>
+    ensures { result ≡ unescape letter }
 {
     match letter {
         b'b' => Some(8),
@@ -48,7 +48,7 @@ fn hex_value(digit: u8) -> Option<u8>
 }
 
 /// The byte of two digits, where it is not one that has a letter.
-fn by_digits(high: u8, digit: u8) -> Option<u8>
+fn byte_of_digits(high: u8, digit: u8) -> Option<u8>
     requires { high ≤ 16 }
     ensures { result ≡ low_of high (hex_value digit) }
 {
@@ -71,7 +71,7 @@ fn plainly(byte: Option<u8>) -> Option<(Mode, Option<u8>)>
 }
 
 impl Mode {
-    /// What has come behind one more byte, and the byte of the string that is whole with it.
+    /// What has come after one more byte, and the byte of the string that is whole with it.
     fn next(self, byte: u8) -> Option<(Mode, Option<u8>)>
         requires { HighFits self }
         ensures next { result ≡ next self byte }
@@ -86,22 +86,22 @@ impl Mode {
             },
             Mode::Escape => match byte {
                 b'x' => Some((Mode::High, None)),
-                _ => plainly(escaped(byte)),
+                _ => plainly(unescape(byte)),
             },
             Mode::High => match byte {
                 b'0' => Some((Mode::Low(0), None)),
                 b'1' => Some((Mode::Low(16), None)),
                 _ => None,
             },
-            Mode::Low(high) => plainly(by_digits(high, byte)),
+            Mode::Low(high) => plainly(byte_of_digits(high, byte)),
             Mode::Closed => None,
         }
     }
 }
 
-/// The bytes behind the quote at the front.
-fn unread(alloc: Global, text: &[u8]) -> Result<Option<Vec<u8>>, AllocError>
-    ensures { IfOk result (λ found. option_map (λ v. v.items) found ≡ unread modes.Plain text.now) }
+/// The bytes after the quote at the start.
+fn read_quoted(alloc: Global, text: &[u8]) -> Result<Option<Vec<u8>>, AllocError>
+    ensures { IfOk result (λ found. option_map (λ v. v.items) found ≡ read_quoted modes.Plain text.now) }
 {
     let mut bytes = Vec::new(alloc);
     let mut mode = Mode::Plain;
@@ -122,19 +122,19 @@ fn unread(alloc: Global, text: &[u8]) -> Result<Option<Vec<u8>>, AllocError>
 }
 
 fn quoted_at(alloc: Global, text: &[u8]) -> Result<Option<Vec<u8>>, AllocError>
-    ensures { IfOk result (λ found. option_map (λ v. v.items) found ≡ quoted_in text.now) }
+    ensures { IfOk result (λ found. option_map (λ v. v.items) found ≡ unquote text.now) }
 {
     match text {
-        [b'\'', rest @ ..] => unread(alloc, rest),
+        [b'\'', rest @ ..] => read_quoted(alloc, rest),
         _ => Ok(None),
     }
 }
 
 /// The bytes that a string shows between quotes, by mysqlbinlog's escapes. Each string of bytes is shown in one way.
-pub fn unquoted(alloc: Global, text: &[u8]) -> Result<Option<Vec<u8>>, AllocError>
-    ensures exact { IfOk result (λ found. option_map (λ v. v.items) found ≡ quoted_in text.now) }
-    ensures found { IfOk result (λ found. IfSome found (λ v. text.now ≡ quoted v.items)) }
-    ensures only { IfOk result (λ found. (bytes : List ℕ) → text.now ≡ quoted bytes → option_map (λ v. v.items) found ≡ Some bytes) }
+pub fn unquote(alloc: Global, text: &[u8]) -> Result<Option<Vec<u8>>, AllocError>
+    ensures exact { IfOk result (λ found. option_map (λ v. v.items) found ≡ unquote text.now) }
+    ensures found { IfOk result (λ found. IfSome found (λ v. text.now ≡ quote v.items)) }
+    ensures only { IfOk result (λ found. (bytes : List ℕ) → text.now ≡ quote bytes → option_map (λ v. v.items) found ≡ Some bytes) }
 {
     quoted_at(alloc, text)
 }

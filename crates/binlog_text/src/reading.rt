@@ -1,27 +1,27 @@
 //! Lines out of bytes.
 ghost use Rattle.std.specs.Prelude.{◌≡◌, ℕ, List, Some, IfSome, option_map};
 ghost use Rattle.std.specs.List.{list_all};
-ghost use Rattle.journal_words.specs.Values.{is_lower_digit};
+ghost use Rattle.row_images.specs.Values.{is_lower_digit};
 ghost use Rattle.binlog_text.specs.Tokens.{last_cut};
 ghost use Rattle.binlog_text.specs.Lines.{Said, IsLine, is_comment, is_source, is_setting, is_savepoint, is_frame, begins_setting, quotes_then, event_text, begins_with_digit, begins};
-ghost use Rattle.binlog_text.specs.Reading.{table_at, row_at, assigned_at, row_line, is_last_at, name_at, column_at, sources, sources_in, comment_line, table_map_at, event_of, told_at, head_line, gtid_at, plain_line, line_of};
+ghost use Rattle.binlog_text.specs.Reading.{table_at, row_at, assignment_at, row_line, is_last_at, name_at, column_at, sources, sources_in, comment_line, table_map_at, event_of, content_at, head_line, gtid_at, plain_line, line_of};
 ghost use Rattle.binlog_text.specs.Said.{said};
 
 use crate::lines::{Column, Event, Line, Mark, Operation};
-use crate::tokens::{after, cut_at};
-use journal_words::count;
+use crate::tokens::{after_prefix, cut_at};
+use row_images::count;
 
 /// A table by the names of its database and its own, and what follows it.
 fn table(text: &[u8]) -> Option<(&[u8], &[u8], &[u8])>
     ensures { option_map (λ r. (r.0.now, r.1.now, r.2.now)) result ≡ table_at text.now }
 {
-    let Some(rest) = after(text, b"`") else {
+    let Some(rest) = after_prefix(text, b"`") else {
         return None;
     };
     let Some((database, rest)) = cut_at(rest, b'`') else {
         return None;
     };
-    let Some(rest) = after(rest, b".`") else {
+    let Some(rest) = after_prefix(rest, b".`") else {
         return None;
     };
     let Some((table, rest)) = cut_at(rest, b'`') else {
@@ -42,8 +42,8 @@ fn row(operation: Operation, text: &[u8]) -> Option<Line<'_>>
     Some(Line::Row(operation, database, table))
 }
 
-fn assigned(text: &[u8]) -> Option<Line<'_>>
-    ensures { option_map said result ≡ assigned_at text.now }
+fn assignment_line(text: &[u8]) -> Option<Line<'_>>
+    ensures { option_map said result ≡ assignment_at text.now }
 {
     let Some((column, value)) = cut_at(text, b'=') else {
         return None;
@@ -54,20 +54,20 @@ fn assigned(text: &[u8]) -> Option<Line<'_>>
     Some(Line::Value(column, value))
 }
 
-/// The line behind `### `.
+/// The line after `### `.
 fn row_line(text: &[u8]) -> Option<Line<'_>>
     ensures { option_map said result ≡ row_line text.now }
 {
-    if let Some(rest) = after(text, b"  @") {
-        return assigned(rest);
+    if let Some(rest) = after_prefix(text, b"  @") {
+        return assignment_line(rest);
     }
-    if let Some(rest) = after(text, b"INSERT INTO ") {
+    if let Some(rest) = after_prefix(text, b"INSERT INTO ") {
         return row(Operation::Insert, rest);
     }
-    if let Some(rest) = after(text, b"UPDATE ") {
+    if let Some(rest) = after_prefix(text, b"UPDATE ") {
         return row(Operation::Update, rest);
     }
-    if let Some(rest) = after(text, b"DELETE FROM ") {
+    if let Some(rest) = after_prefix(text, b"DELETE FROM ") {
         return row(Operation::Delete, rest);
     }
     if text == b"WHERE".as_slice() {
@@ -89,7 +89,7 @@ fn is_last(byte: u8) -> Option<bool>
     }
 }
 
-/// The last byte, and what stands before it.
+/// The last byte, and what comes before it.
 fn last_cut(text: &[u8]) -> Option<(&[u8], u8)>
     ensures { option_map (λ r. (r.0.now, r.1)) result ≡ last_cut text.now }
 {
@@ -99,14 +99,14 @@ fn last_cut(text: &[u8]) -> Option<(&[u8], u8)>
     }
 }
 
-/// A name up to its backquote, and the type behind it.
+/// A name up to its backquote, and the type after it.
 fn name(text: &[u8]) -> Option<(&[u8], &[u8])>
     ensures { option_map (λ r. (r.0.now, r.1.now)) result ≡ name_at text.now }
 {
     let Some((name, rest)) = cut_at(text, b'`') else {
         return None;
     };
-    let Some(rest) = after(rest, b" ") else {
+    let Some(rest) = after_prefix(rest, b" ") else {
         return None;
     };
     Some((name, rest))
@@ -121,7 +121,7 @@ fn column(is_first: bool, text: &[u8]) -> Option<Line<'_>>
     let Some(is_last) = is_last(end) else {
         return None;
     };
-    let Some(rest) = after(front, b"`") else {
+    let Some(rest) = after_prefix(front, b"`") else {
         return Some(Line::Column(Column {
             is_first,
             name: None,
@@ -178,7 +178,7 @@ fn sources_in(text: &[u8]) -> Option<Line<'_>>
 pub fn begins(text: &[u8], front: &[u8]) -> bool
     ensures { result ≡ begins front.now text.now }
 {
-    after(text, front).is_some()
+    after_prefix(text, front).is_some()
 }
 
 fn is_comment(text: &[u8]) -> bool
@@ -198,17 +198,17 @@ fn is_comment(text: &[u8]) -> bool
         || begins(text, b"to make the statement usable on server versions")
 }
 
-/// The line behind `# `.
+/// The line after `# `.
 fn comment_line(text: &[u8]) -> Option<Line<'_>>
     ensures { option_map said result ≡ comment_line text.now }
 {
     if begins(text, b"at ") {
         return Some(Line::Mark(Mark::Place));
     }
-    if let Some(rest) = after(text, b"Columns(") {
+    if let Some(rest) = after_prefix(text, b"Columns(") {
         return column(true, rest);
     }
-    if let Some(rest) = after(text, b"        ") {
+    if let Some(rest) = after_prefix(text, b"        ") {
         return column(false, rest);
     }
     if is_comment(text) {
@@ -229,7 +229,7 @@ fn table_map(text: &[u8]) -> Option<Line<'_>>
     let Some((database, table, rest)) = table(text) else {
         return None;
     };
-    let Some(digits) = after(rest, b" mapped to number ") else {
+    let Some(digits) = after_prefix(rest, b" mapped to number ") else {
         return None;
     };
     if count(digits).is_none() {
@@ -269,10 +269,10 @@ fn event(text: &[u8]) -> Option<Event>
     }
 }
 
-fn told(text: &[u8]) -> Option<Line<'_>>
-    ensures { option_map said result ≡ told_at text.now }
+fn content_line(text: &[u8]) -> Option<Line<'_>>
+    ensures { option_map said result ≡ content_at text.now }
 {
-    if let Some(rest) = after(text, b"Table_map: ") {
+    if let Some(rest) = after_prefix(text, b"Table_map: ") {
         return table_map(rest);
     }
     match event(text) {
@@ -290,7 +290,7 @@ fn begins_with_digit(text: &[u8]) -> bool
     }
 }
 
-/// The head of an event, behind `#`.
+/// The head of an event, after `#`.
 fn head_line(text: &[u8]) -> Option<Line<'_>>
     ensures { option_map said result ≡ head_line text.now }
 {
@@ -300,7 +300,7 @@ fn head_line(text: &[u8]) -> Option<Line<'_>>
     if !begins_with_digit(stamp) {
         return None;
     }
-    told(rest)
+    content_line(rest)
 }
 
 fn quotes_then(text: Option<&[u8]>, rest: &[u8]) -> bool
@@ -336,13 +336,13 @@ fn is_setting(text: &[u8]) -> bool
     ensures { result ≡ is_setting text.now }
 {
     (begins_setting(text) && text.ends_with(b"/*!*/;"))
-        || quotes_then(after(text, b"use `"), b"/*!*/;")
+        || quotes_then(after_prefix(text, b"use `"), b"/*!*/;")
 }
 
 fn is_savepoint(text: &[u8]) -> bool
     ensures { result ≡ is_savepoint text.now }
 {
-    quotes_then(after(text, b"SAVEPOINT `"), b"")
+    quotes_then(after_prefix(text, b"SAVEPOINT `"), b"")
 }
 
 fn is_frame(text: &[u8]) -> bool
@@ -377,7 +377,7 @@ fn gtid(text: &[u8]) -> Option<Line<'_>>
 fn plain_line(text: &[u8]) -> Option<Line<'_>>
     ensures { option_map said result ≡ plain_line text.now }
 {
-    if let Some(rest) = after(text, b"SET @@SESSION.GTID_NEXT= '") {
+    if let Some(rest) = after_prefix(text, b"SET @@SESSION.GTID_NEXT= '") {
         return gtid(rest);
     }
     if text == b"BEGIN".as_slice() {
@@ -407,13 +407,13 @@ fn plain_line(text: &[u8]) -> Option<Line<'_>>
 fn line_of(text: &[u8]) -> Option<Line<'_>>
     ensures { option_map said result ≡ line_of text.now }
 {
-    if let Some(rest) = after(text, b"### ") {
+    if let Some(rest) = after_prefix(text, b"### ") {
         return row_line(rest);
     }
-    if let Some(rest) = after(text, b"# ") {
+    if let Some(rest) = after_prefix(text, b"# ") {
         return comment_line(rest);
     }
-    if let Some(rest) = after(text, b"#") {
+    if let Some(rest) = after_prefix(text, b"#") {
         return head_line(rest);
     }
     plain_line(text)

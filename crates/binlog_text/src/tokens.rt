@@ -1,15 +1,15 @@
 //! Parts of a line.
 ghost use Rattle.std.specs.Prelude.{◌≡◌, option_map};
-ghost use Rattle.binlog_text.specs.Tokens.{after, before, behind, cut_at};
+ghost use Rattle.binlog_text.specs.Tokens.{after_prefix, before, behind, cut_at};
 
-/// What follows a front.
-pub fn after<'a>(text: &'a [u8], front: &[u8]) -> Option<&'a [u8]>
-    ensures { option_map (λ r. r.now) result ≡ after front.now text.now }
+/// What follows a prefix.
+pub fn after_prefix<'a>(text: &'a [u8], front: &[u8]) -> Option<&'a [u8]>
+    ensures { option_map (λ r. r.now) result ≡ after_prefix front.now text.now }
 {
     text.strip_prefix(front)
 }
 
-/// What stands before the first of these bytes, and what stands behind it.
+/// What comes before the first of these bytes, and what comes after it.
 pub fn cut_at(text: &[u8], at: u8) -> Option<(&[u8], &[u8])>
     ensures { option_map (λ r. (r.0.now, r.1.now)) result ≡ cut_at at text.now }
 {

@@ -1,6 +1,6 @@
 //! Types of columns out of text.
 ghost use Rattle.std.specs.Prelude.{◌≡◌};
-ghost use Rattle.gtid_text.specs.Scan.{run, past};
+ghost use Rattle.gtid_text.specs.Scan.{run, skip_while};
 ghost use Rattle.binlog_text.specs.Types.{is_upper, integer_named, is_varied_text, is_binary, is_time, is_quoted, other_named, type_named, compares_bytes};
 
 use crate::reading::begins;
@@ -9,7 +9,7 @@ use crate::types::{ColumnType, IntegerType};
 /// The first word, of capitals, and what follows it.
 fn word(text: &[u8]) -> (&[u8], &[u8])
     ensures word { result.0.now ≡ run is_upper text.now }
-    ensures rest { result.1.now ≡ past is_upper text.now }
+    ensures rest { result.1.now ≡ skip_while is_upper text.now }
 {
     for (i, b) in text.iter().enumerate() {
         if *b < b'A' || b'Z' < *b {

@@ -2,14 +2,14 @@
 ghost use Rattle.std.specs.Prelude.{◌≡◌, ◌+◌, ◌<◌, ◌≤◌, ◌^◌, Some, IfOk, IfSome, option_map};
 ghost use Rattle.std.specs.List.{list_all};
 ghost use Rattle.std.specs.Char.{is_ascii_digit};
-ghost use Rattle.rows.specs.declared.value.Value.TheVariants as Cell;
-ghost use Rattle.rows.specs.declared.value.Value.{Value};
-ghost use Rattle.binlog_text.specs.Values.{range_of, half_of, are_digits, is_seconds, is_decimal, is_bit, readings_at, agree, negative, large, below, signed_at, unsigned_at, bits_at, typed_at, value_at, shown_value};
+ghost use Rattle.row_images.specs.declared.value.Value.TheVariants as Cell;
+ghost use Rattle.row_images.specs.declared.value.Value.{Value};
+ghost use Rattle.binlog_text.specs.Values.{range_of, half_of, are_digits, is_seconds, is_decimal, is_bit, readings_at, agree, negative, large, below, signed_value, unsigned_value, bits_at, value_of_type, value_at, shown_value};
 
-use crate::quoted::unquoted;
-use crate::tokens::{after, cut_at};
+use crate::quoted::unquote;
+use crate::tokens::{after_prefix, cut_at};
 use crate::types::{ColumnType, IntegerType};
-use journal_words::{count, is_count};
+use row_images::{count, is_count};
 use rows::{ByteString, Value};
 use std::alloc::{AllocError, Global};
 
@@ -39,14 +39,14 @@ impl IntegerType {
     }
 }
 
-/// Both readings of a number that is printed as one below 0, behind the minus.
+/// Both readings of a number that is printed as one below 0, after the minus.
 fn readings(text: &[u8]) -> Option<(u64, u64)>
     ensures { result ≡ readings_at text.now }
 {
     let Some((first, rest)) = cut_at(text, b' ') else {
         return None;
     };
-    let Some(inner) = after(rest, b"(") else {
+    let Some(inner) = after_prefix(rest, b"(") else {
         return None;
     };
     let Some((second, rest)) = cut_at(inner, b')') else {
@@ -107,8 +107,8 @@ fn below(limit: u64, number: Option<u64>) -> Option<i64>
     Some(number as i64)
 }
 
-fn signed(integer: IntegerType, text: &[u8]) -> Option<i64>
-    ensures { result ≡ signed_at integer text.now }
+fn signed_value(integer: IntegerType, text: &[u8]) -> Option<i64>
+    ensures { result ≡ signed_value integer text.now }
 {
     match text {
         [] => None,
@@ -117,8 +117,8 @@ fn signed(integer: IntegerType, text: &[u8]) -> Option<i64>
     }
 }
 
-fn unsigned(integer: IntegerType, text: &[u8]) -> Option<i64>
-    ensures { result ≡ unsigned_at integer text.now }
+fn unsigned_value(integer: IntegerType, text: &[u8]) -> Option<i64>
+    ensures { result ≡ unsigned_value integer text.now }
 {
     match text {
         [] => None,
@@ -167,7 +167,7 @@ fn are_bits(text: &[u8]) -> bool
 fn bits(text: &[u8]) -> Option<&[u8]>
     ensures { option_map (λ r. r.now) result ≡ bits_at text.now }
 {
-    let Some(rest) = after(text, b"b'") else {
+    let Some(rest) = after_prefix(text, b"b'") else {
         return None;
     };
     let Some((bits, rest)) = cut_at(rest, b'\'') else {
@@ -188,27 +188,31 @@ fn int_value(number: Option<i64>) -> Option<Value>
     }
 }
 
-fn copied(alloc: Global, bytes: &[u8]) -> Result<Option<Value>, AllocError>
+fn copy_text(alloc: Global, bytes: &[u8]) -> Result<Option<Value>, AllocError>
     ensures { IfOk result (λ found. found ≡ Some (Cell.Bytes bytes.now)) }
 {
     Ok(Some(Value::Bytes(ByteString::from_slice(alloc, bytes)?)))
 }
 
-fn typed(alloc: Global, column: ColumnType, text: &[u8]) -> Result<Option<Value>, AllocError>
-    ensures { IfOk result (λ found. found ≡ typed_at column text.now) }
+fn value_of_type(
+    alloc: Global,
+    column: ColumnType,
+    text: &[u8],
+) -> Result<Option<Value>, AllocError>
+    ensures { IfOk result (λ found. found ≡ value_of_type column text.now) }
 {
     match column {
-        ColumnType::Signed(integer) => Ok(int_value(signed(integer, text))),
-        ColumnType::Unsigned(integer) => Ok(int_value(unsigned(integer, text))),
+        ColumnType::Signed(integer) => Ok(int_value(signed_value(integer, text))),
+        ColumnType::Unsigned(integer) => Ok(int_value(unsigned_value(integer, text))),
         ColumnType::Number => Ok(int_value(below(0x8000_0000_0000_0000, count(text)))),
-        ColumnType::Decimal if is_decimal(text) => copied(alloc, text),
-        ColumnType::Seconds if is_seconds(text) => copied(alloc, text),
+        ColumnType::Decimal if is_decimal(text) => copy_text(alloc, text),
+        ColumnType::Seconds if is_seconds(text) => copy_text(alloc, text),
         ColumnType::Decimal | ColumnType::Seconds => Ok(None),
         ColumnType::Bits => match bits(text) {
-            Some(bits) => copied(alloc, bits),
+            Some(bits) => copy_text(alloc, bits),
             None => Ok(None),
         },
-        ColumnType::Quoted => match unquoted(alloc, text)? {
+        ColumnType::Quoted => match unquote(alloc, text)? {
             Some(bytes) => Ok(Some(Value::Bytes(ByteString::new(bytes)?))),
             None => Ok(None),
         },
@@ -218,7 +222,7 @@ fn typed(alloc: Global, column: ColumnType, text: &[u8]) -> Result<Option<Value>
 fn value_at(alloc: Global, column: ColumnType, text: &[u8]) -> Result<Option<Value>, AllocError>
     ensures { IfOk result (λ found. found ≡ value_at column text.now) }
 {
-    match typed(alloc, column, text)? {
+    match value_of_type(alloc, column, text)? {
         Some(value) => Ok(Some(value)),
         None if text == b"NULL".as_slice() => Ok(Some(Value::Null)),
         None => Ok(None),

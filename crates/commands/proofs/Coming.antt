@@ -13,11 +13,11 @@ module _ {S : Type 0} (full : SetFault → S → Type 0) (judge : Judge S) (star
   abbrev Come : List ℕ → Progress S → Type 0
   Come bytes p = IsAfter (IsPieceFault full judge start bytes) p (eats judge start bytes)
 
-  -- what was full is full, whatever comes behind it
+  -- what was full is full, whatever comes after it
   still : (f : SetFault) (bytes piece : List ℕ) → Fills (full f) judge start bytes → Fills (full f) judge start (bytes ++ piece)
   still f bytes piece h = record { front = h.front; rest = h.rest ++ piece; parts = ap (λ (t : List ℕ). t ++ piece) h.parts ∙ append_assoc h.front h.rest piece; is_full = h.is_full }
 
-  -- what a piece makes full is full behind all
+  -- what a piece makes full is full after all
   behind : (f : SetFault) (bytes piece : List ℕ) (old : Progress S) → old ≡ eats judge start bytes → Fills (full f) judge old piece → Fills (full f) judge start (bytes ++ piece)
   behind f bytes piece old same h = record {
     front = bytes ++ h.front;

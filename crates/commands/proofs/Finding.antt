@@ -11,7 +11,7 @@ use Rattle.gtid_report.specs.Faults.{journal_fault}
 use Rattle.gtid_report.specs.declared.fault.Fault.{Fault}
 use Rattle.gtid_report.specs.declared.fault.Fault.TheVariants as fault
 use Rattle.gtid_report.specs.declared.refusal.Refusal.{Refusal}
-use Rattle.commands.specs.Said.{Said, Holds, HoldsOne, Finds, Settles, Tells, GivesUp, answered, refused_with}
+use Rattle.commands.specs.Said.{Said, Holds, HoldsOne, Finds, Settles, Tells, GivesUp, answer_of, refused_with}
 use Rattle.commands.specs.declared.answer.Answer.{Answer}
 use Rattle.commands.specs.declared.edge.RunFault.{RunFault}
 
@@ -30,7 +30,7 @@ pub found_in : {V : Type 0} (Spells : List ℕ → Result V JournalFault → Typ
     → Spells bytes (ok_of v) → IsWhole (ok_of v) (decoded bytes) → IfOk found (λ answer. Holds answer (says v)) → IfErr found (GivesUp (MayFail v)) → Finds (Tells Spells decoded says MayFail) bytes found
 found_in Spells decoded says MayFail bytes v (Ok answer) w whole held none =
     let e = read_as v (decoded bytes) whole in
-    (says v, inl (subst (Spells bytes) e w, ap (answered says) e), held)
+    (says v, inl (subst (Spells bytes) e w, ap (answer_of says) e), held)
 found_in Spells decoded says MayFail bytes v (Err (fault.Refused r)) w whole held full =
     refused r full
   where
@@ -40,8 +40,8 @@ found_in Spells decoded says MayFail bytes v (Err (fault.Refused r)) w whole hel
 found_in Spells decoded says MayFail bytes v (Err fault.Memory) w whole held full = tt
 
 faulty : {V : Type 0} (Spells : List ℕ → Result V JournalFault → Type 0) (decoded : List ℕ → Result V JournalFault) (says : V → Said) (bytes : List ℕ) (f : JournalFault)
-    → Spells bytes (error_of f) → error_of f ≡ decoded bytes → Spells bytes (decoded bytes) × (answered says (error_of f) ≡ answered says (decoded bytes))
-faulty Spells decoded says bytes f r e = (subst (Spells bytes) e r, ap (answered says) e)
+    → Spells bytes (error_of f) → error_of f ≡ decoded bytes → Spells bytes (decoded bytes) × (answer_of says (error_of f) ≡ answer_of says (decoded bytes))
+faulty Spells decoded says bytes f r e = (subst (Spells bytes) e r, ap (answer_of says) e)
 
 -- the refusal of a set that was not made
 set_in : {V : Type 0} (Spells : List ℕ → Result V JournalFault → Type 0) (decoded : List ℕ → Result V JournalFault) (says : V → Said) (MayFail : V → SetFault → Type 0) (bytes : List ℕ) (f : SetFault)

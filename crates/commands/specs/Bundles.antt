@@ -21,13 +21,13 @@ use Rattle.serving.specs.declared.order.Order.{Order}
 use Rattle.serving.specs.declared.order.Order.TheVariants.{BySource, ByConflict}
 use Rattle.serving.specs.Verdicts.{world_over, joined_over, verdict_over}
 use Rattle.serving.specs.Faults.{IsBundleFault, IsVerdictFault}
-use Rattle.commands.specs.Said.{Said, ended, Tells}
+use Rattle.commands.specs.Said.{Said, with_line_feed, Tells}
 use Rattle.commands.specs.declared.edge.Outcome.{Outcome}
 use Rattle.commands.specs.declared.edge.Outcome.TheVariants.{Done, Refused}
 
 -- ---- what the bytes are
 
--- the bundle that the bytes spell, or the first fault
+-- the bundle that the bytes parse as, or the first fault
 abbrev pub bundle_in : List ℕ → Result BundleValue JournalFault
 bundle_in bytes = closing_bundle (eats_bundle (bundle_start None) bytes)
 
@@ -36,7 +36,7 @@ abbrev pub SpellsBundle : List ℕ → Result BundleValue JournalFault → Type 
 SpellsBundle bytes (Ok b) = WritesBundle bytes b
 SpellsBundle bytes (Err fault) = RefusesBundle fault bytes
 
--- the bundle that the bytes spell by version 1, or the first fault
+-- the bundle that the bytes parse as by version 1, or the first fault
 abbrev pub old_bundle_in : List ℕ → Result BundleValue JournalFault
 old_bundle_in bytes = closing_bundle (eats_bundle (bundle_start (Some One)) bytes)
 
@@ -52,25 +52,25 @@ verdict_ending Sound = Done
 verdict_ending v = Refused
 
 abbrev pub verdict_said : Verdict → Said
-verdict_said v = record { text = ended (verdict_line v); outcome = verdict_ending v }
+verdict_said v = record { text = with_line_feed (verdict_line v); outcome = verdict_ending v }
 
 -- the verdict of the audit that asks for this order
-abbrev pub audited : Order → BundleValue → Said
-audited order b = verdict_said (verdict_over order b)
+abbrev pub audit_answer : Order → BundleValue → Said
+audit_answer order b = verdict_said (verdict_over order b)
 
 -- it is the answer of that audit to these bytes
 abbrev pub Audits : Order → List ℕ → Said → Type 0
-Audits order bytes said = Tells SpellsBundle bundle_in (audited order) IsVerdictFault bytes said
+Audits order bytes said = Tells SpellsBundle bundle_in (audit_answer order) IsVerdictFault bytes said
 
 -- ---- the bundle by version 2
 
 -- its text, with its rows in listed order
-abbrev pub upgraded : BundleValue → Said
-upgraded b = record { text = upgrade_of b; outcome = Done }
+abbrev pub upgrade_answer : BundleValue → Said
+upgrade_answer b = record { text = upgrade_of b; outcome = Done }
 
 -- it is what upgrading answers to these bytes
 abbrev pub Upgrades : List ℕ → Said → Type 0
-Upgrades bytes said = Tells SpellsOldBundle old_bundle_in upgraded (λ b f. ⊥) bytes said
+Upgrades bytes said = Tells SpellsOldBundle old_bundle_in upgrade_answer (λ b f. ⊥) bytes said
 
 -- ---- the state
 
@@ -78,8 +78,8 @@ abbrev pub state_said : Gtids → Rows → Said
 state_said executed rows = record { text = state_text executed rows; outcome = Done }
 
 -- the GTIDs of all journals together
-abbrev pub union_told : BundleValue → Gtids
-union_told b = all_of b.opened b.journals
+abbrev pub union_of_journals : BundleValue → Gtids
+union_of_journals b = all_of b.opened b.journals
 
 -- the state, where the verdict is Sound (these transactions then apply); else the verdict
 abbrev pub state_or_verdict : Verdict → Gtids → Result Rows RowFault → Said
@@ -87,14 +87,14 @@ state_or_verdict Sound executed (Ok rows) = state_said executed rows
 state_or_verdict v executed rows = verdict_said v
 
 -- the rows that the GTIDs of all journals together denote: of the sources, or in the joined order
-abbrev pub rows_told : Order → BundleValue → Result Rows RowFault
-rows_told BySource b = rows_of (world_over b) (set.contains (union_told b))
-rows_told ByConflict b = ordered.rows_of (joined_over b) (set.contains (union_told b))
+abbrev pub rows_of_union : Order → BundleValue → Result Rows RowFault
+rows_of_union BySource b = rows_of (world_over b) (set.contains (union_of_journals b))
+rows_of_union ByConflict b = ordered.rows_of (joined_over b) (set.contains (union_of_journals b))
 
--- The executed set is that of all journals together, and the rows are those that this set denotes, where the audit says Sound; else its verdict.
-abbrev pub applied : Order → BundleValue → Said
-applied order b = state_or_verdict (verdict_over order b) (union_told b) (rows_told order b)
+-- The executed set is that of all journals together, and the rows are those that this set denotes, where the audit reports Sound; else its verdict.
+abbrev pub apply_answer : Order → BundleValue → Said
+apply_answer order b = state_or_verdict (verdict_over order b) (union_of_journals b) (rows_of_union order b)
 
 -- it is what applying answers to these bytes
 abbrev pub Applies : Order → List ℕ → Said → Type 0
-Applies order bytes said = Tells SpellsBundle bundle_in (applied order) IsBundleFault bytes said
+Applies order bytes said = Tells SpellsBundle bundle_in (apply_answer order) IsBundleFault bytes said

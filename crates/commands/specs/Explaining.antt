@@ -16,7 +16,7 @@ use Rattle.fault_places.specs.Lines.{lines_of}
 use Rattle.fault_places.specs.Explained.{verdict_explained, refusal_explained}
 use Rattle.commands.specs.Edge.{Output, StreamsValue, Begins, one_more, IsReadFault}
 use Rattle.commands.specs.Said.{Said, Holds, refused_with, to_all, IsDone, IsCutOff}
-use Rattle.commands.specs.Bundles.{Audits, audited, bundle_in}
+use Rattle.commands.specs.Bundles.{Audits, audit_answer, bundle_in}
 use Rattle.commands.specs.declared.edge.Outcome.{Outcome}
 use Rattle.commands.specs.declared.edge.RunFault.{RunFault}
 use Rattle.commands.specs.declared.edge.RunFault.TheVariants.{Memory, Read, Write}
@@ -39,11 +39,11 @@ abbrev pub ExplainsBundle : Order → List ℕ → BundleValue → List ℕ → 
 ExplainsBundle order bytes b notes =
     (missing : Option Gtids) × AreMissingBeside b (verdict_over order b) missing × (notes ≡ verdict_explained (lines_of bytes) b.journals missing (verdict_over order b))
 
--- it is the verdict on the bundle that the bytes spell, and these lines explain it
+-- it is the verdict on the bundle that the bytes parse as, and these lines explain it
 pub record IsVerdictExplained (order : Order) (bytes : List ℕ) (said : Said) (notes : List ℕ) : Type 0 where
   pub bundle : BundleValue
   pub spelled : bundle_in bytes ≡ Ok bundle
-  pub verdict : said ≡ audited order bundle
+  pub verdict : said ≡ audit_answer order bundle
   pub explained : ExplainsBundle order bytes bundle notes
 
 -- it is a refusal, and these lines explain it
@@ -79,7 +79,7 @@ SettlesExplained bytes (Err fault.Memory) held = ⊥
 
 -- ---- what is written
 
--- the lines that explain the answer were written behind what stood there, and nothing else
+-- the lines that explain the answer were written after what stood there, and nothing else
 abbrev pub IsToldWhole : {E : Type 0} → Order → Output E → Output E → List ℕ → Said → Type 0
 IsToldWhole order old new bytes said = (notes : List ℕ) × Explains order bytes said notes × Appends old.written new.written notes
 

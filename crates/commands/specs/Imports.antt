@@ -12,7 +12,7 @@ use Rattle.gtid_report.specs.declared.refusal.Refusal.TheVariants.{Twice}
 use Rattle.binlog_entries.specs.Unread.{word_of}
 use Rattle.binlog_entries.specs.declared.as_journal.LogFault.{LogFault}
 use Rattle.binlog_entries.specs.declared.as_journal.LogFault.TheVariants as logs
-use Rattle.binlog_entries.specs.declared.fault.Refusal.TheVariants as refusals
+use Rattle.binlog_entries.specs.declared.fault.EntryRefusal.TheVariants as refusals
 use Rattle.binlog_entries.specs.declared.fault.ReadFault.{ReadFault}
 use Rattle.binlog_entries.specs.declared.fault.ReadFault.TheVariants as reads
 use Rattle.binlog_entries.specs.declared.import.ImportFault.{ImportFault}
@@ -21,8 +21,8 @@ use Rattle.binlog_bundle.specs.Bundles.{ImportsBundle}
 use Rattle.binlog_bundle.specs.Refused.{IsNoBundle}
 use Rattle.binlog_bundle.specs.declared.fault.BundleFault.{BundleFault}
 use Rattle.binlog_bundle.specs.declared.fault.BundleFault.TheVariants as bundles
-use Rattle.commands.specs.Said.{Said, ended, fault_said}
-use Rattle.commands.specs.Bundles.{upgraded}
+use Rattle.commands.specs.Said.{Said, with_line_feed, fault_said}
+use Rattle.commands.specs.Bundles.{upgrade_answer}
 use Rattle.commands.specs.declared.edge.Outcome.TheVariants as outcomes
 use Rattle.commands.specs.declared.import_fault.ImportCause.{ImportCause}
 use Rattle.commands.specs.declared.import_fault.ImportCause.TheVariants.{Line, Unfinished, Key, Limit, Schema}
@@ -37,7 +37,7 @@ cause_word Key = codes "key"
 cause_word Limit = codes "limit"
 cause_word Schema = codes "schema"
 
--- a line of a log behind the line of its channel
+-- a line of a log after the line of its channel
 abbrev pub line_behind : ℕ → ℕ → ℕ
 line_behind channel n = min (channel + n) (2 ^ 64 - 1)
 
@@ -78,7 +78,7 @@ import_line line cause = codes "refused import line " ++ (decimal line ++ 32 ∷
 
 abbrev pub refusal_said : Refusal → Said
 refusal_said (Known fault) = fault_said fault
-refusal_said (At line cause) = record { text = ended (import_line line cause); outcome = outcomes.Refused }
+refusal_said (At line cause) = record { text = with_line_feed (import_line line cause); outcome = outcomes.Refused }
 
 -- what a text is refused with
 abbrev pub import_refused : BundleFault → Said
@@ -88,7 +88,7 @@ import_refused fault = refusal_said (bundle_refused fault)
 pub record IsImport (bytes : Bool) (text : List ℕ) (said : Said) : Type 0 where
   pub bundle : BundleValue
   pub imports : ImportsBundle bytes text bundle
-  pub says : said ≡ upgraded bundle
+  pub says : said ≡ upgrade_answer bundle
 
 -- it is the line of a refusal
 pub record IsImportRefused (bytes : Bool) (text : List ℕ) (said : Said) : Type 0 where

@@ -9,17 +9,17 @@ use Rattle.gtid_report.specs.VerdictLines.{verdict_line}
 use Rattle.audit.specs.declared.listing.AllFaults.{AllFaults}
 use Rattle.audit.specs.Others.{Faults}
 use Rattle.serving.specs.Listing.{faults_over, IsFaultsFault}
-use Rattle.commands.specs.Said.{Said, ended, Tells}
+use Rattle.commands.specs.Said.{Said, with_line_feed, Tells}
 use Rattle.commands.specs.Bundles.{SpellsBundle, bundle_in, verdict_ending}
 
 -- the lines of verdicts
 abbrev pub verdict_lines : List Verdict → List ℕ
 verdict_lines [] = []
-verdict_lines (v ∷ vs) = ended (verdict_line v) ++ verdict_lines vs
+verdict_lines (v ∷ vs) = with_line_feed (verdict_line v) ++ verdict_lines vs
 
 -- numbers of a source, from one to another, that are missing
 abbrev pub run_line : Span → List ℕ
-run_line s = ended (codes "missing " ++ span_text s)
+run_line s = with_line_feed (codes "missing " ++ span_text s)
 
 abbrev pub run_lines : List Span → List ℕ
 run_lines [] = []
@@ -37,11 +37,11 @@ held_faults all = record {
   does_not_apply = all.does_not_apply.items;
 }
 
--- the verdict; then GTIDs under which journals differ, journals, missing GTIDs by their longest runs, shared keys, GTIDs that stand without what
+-- the verdict; then GTIDs under which journals differ, journals, missing GTIDs by their longest runs, shared keys, GTIDs that are present without what
 -- they need, and sources whose transactions do not apply
 abbrev pub faults_text : Faults → List ℕ
 faults_text all =
-    (((((ended (verdict_line all.verdict) ++ verdict_lines all.unequal) ++ verdict_lines all.purged) ++ run_lines (runs all.missing)) ++ verdict_lines all.shared)
+    (((((with_line_feed (verdict_line all.verdict) ++ verdict_lines all.unequal) ++ verdict_lines all.purged) ++ run_lines (runs all.missing)) ++ verdict_lines all.shared)
     ++ verdict_lines all.not_closed)
     ++ verdict_lines all.does_not_apply
 
@@ -49,9 +49,9 @@ abbrev pub faults_said : Faults → Said
 faults_said all = record { text = faults_text all; outcome = verdict_ending all.verdict }
 
 -- the verdict of the audit, and what else there is
-abbrev pub listed : BundleValue → Said
-listed b = faults_said (faults_over b)
+abbrev pub list_answer : BundleValue → Said
+list_answer b = faults_said (faults_over b)
 
 -- it is what an audit lists of these bytes
 abbrev pub Lists : List ℕ → Said → Type 0
-Lists bytes said = Tells SpellsBundle bundle_in listed IsFaultsFault bytes said
+Lists bytes said = Tells SpellsBundle bundle_in list_answer IsFaultsFault bytes said

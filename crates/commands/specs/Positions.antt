@@ -15,12 +15,12 @@ use Rattle.gtid_report.specs.Faults.{set_fault}
 use Rattle.gtid_report.specs.Positions.{sending_text, required_line, more_line}
 use Rattle.gtid_report.specs.SetAnswers.{◌>>=◌, set_word, source_word}
 use Rattle.gtid_report.specs.declared.fault.Fault.{Fault}
-use Rattle.commands.specs.Said.{Said, Answering, at_once, to_all, ended, fault_said, Tells}
+use Rattle.commands.specs.Said.{Said, Answering, at_once, to_all, with_line_feed, fault_said, Tells}
 use Rattle.commands.specs.declared.edge.Outcome.TheVariants.{Done, Refused}
 
 -- ---- what the bytes are
 
--- the journal that the bytes spell, or the first fault
+-- the journal that the bytes parse as, or the first fault
 abbrev pub journal_in : List ℕ → Result JournalValue JournalFault
 journal_in bytes = closing (eats_alone before_first bytes)
 
@@ -42,17 +42,17 @@ asking_in own ask = source_word own >>= λ source. set_word ask >>= λ gtids. Ok
 -- what is sent, or why nothing is
 abbrev pub sending_said : Result (List Entry) PositionFault → Said
 sending_said (Ok entries) = record { text = sending_text entries; outcome = Done }
-sending_said (Err (faults.PurgedRequired gtids)) = record { text = ended (required_line gtids); outcome = Refused }
-sending_said (Err (faults.ReplicaHasMore gtids)) = record { text = ended (more_line gtids); outcome = Refused }
+sending_said (Err (faults.PurgedRequired gtids)) = record { text = with_line_feed (required_line gtids); outcome = Refused }
+sending_said (Err (faults.ReplicaHasMore gtids)) = record { text = with_line_feed (more_line gtids); outcome = Refused }
 sending_said (Err (faults.Set fault)) = fault_said (set_fault fault)
 
 -- what the source answers whose journal this is
-abbrev pub positioned : Asking → JournalValue → Said
-positioned asking j = sending_said (sent j asking.1 (Some asking.0))
+abbrev pub position_answer : Asking → JournalValue → Said
+position_answer asking j = sending_said (sent j asking.1 (Some asking.0))
 
 -- it is the answer to a journal's bytes
 abbrev pub Positions : Asking → List ℕ → Said → Type 0
-Positions asking bytes said = Tells SpellsJournal journal_in (positioned asking) (λ j. IsPlanFault j asking.1) bytes said
+Positions asking bytes said = Tells SpellsJournal journal_in (position_answer asking) (λ j. IsPlanFault j asking.1) bytes said
 
 -- a bad word is answered with its line, and nothing is read; else what is read is
 abbrev pub to_asking : Result Asking Fault → Answering

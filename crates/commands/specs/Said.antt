@@ -24,23 +24,23 @@ pub record Said : Type 0 where
   pub text : List ℕ
   pub outcome : Outcome
 
-abbrev pub ended : List ℕ → List ℕ
-ended line = line ++ 10 ∷ []
+abbrev pub with_line_feed : List ℕ → List ℕ
+with_line_feed line = line ++ 10 ∷ []
 
 abbrev pub refused_with : Refusal → Said
-refused_with r = record { text = ended (refusal_line r); outcome = Refused }
+refused_with r = record { text = with_line_feed (refusal_line r); outcome = Refused }
 
--- the line of a fault; want of memory has none
+-- the line of a fault; out of memory has none
 abbrev pub fault_said : Fault → Said
 fault_said (fault.Refused r) = refused_with r
 fault_said fault.Memory = record { text = []; outcome = Refused }
 
 -- the answer to what was decoded, or the line of the refusal
-abbrev pub answered : {V : Type 0} → (V → Said) → Result V JournalFault → Said
-answered says (Ok value) = says value
-answered says (Err f) = fault_said (journal_fault f)
+abbrev pub answer_of : {V : Type 0} → (V → Said) → Result V JournalFault → Said
+answer_of says (Ok value) = says value
+answer_of says (Err f) = fault_said (journal_fault f)
 
--- A set is not made by this fault: one that reading the bytes makes, or one for the answer to what they spell.
+-- A set is not made by this fault: one that reading the bytes makes, or one for the answer to what they parse as.
 abbrev pub IsFullFor : {V : Type 0} → (List ℕ → Result V JournalFault → Type 0) → (List ℕ → Result V JournalFault) → (V → SetFault → Type 0) → List ℕ → SetFault → Type 0
 IsFullFor {V} Spells decoded MayFail bytes f =
     Spells bytes (Err (journals.Set f)) ⊎ ((value : V) × Spells bytes (Ok value) × (decoded bytes ≡ Ok value) × MayFail value f)
@@ -55,7 +55,7 @@ IsFullSaid may said =
 -- that.
 abbrev pub Tells : {V : Type 0} → (List ℕ → Result V JournalFault → Type 0) → (List ℕ → Result V JournalFault) → (V → Said) → (V → SetFault → Type 0) → List ℕ → Said → Type 0
 Tells Spells decoded says MayFail bytes said =
-    (Spells bytes (decoded bytes) × (said ≡ answered says (decoded bytes)))
+    (Spells bytes (decoded bytes) × (said ≡ answer_of says (decoded bytes)))
     ⊎ IsFullSaid (IsFullFor Spells decoded MayFail bytes) said
 
 -- the answer that is held is this

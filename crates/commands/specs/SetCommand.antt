@@ -9,7 +9,7 @@ use Rattle.gtid_report.specs.declared.refusal.Refusal.{Refusal}
 use Rattle.gtid_report.specs.declared.refusal.Refusal.TheVariants as refusal
 use Rattle.gtid_report.specs.Refusals.{refusal_line}
 use Rattle.gtid_report.specs.SetAnswers.{function_line}
-use Rattle.commands.specs.Said.{Said, Answering, at_once, to_all, ended}
+use Rattle.commands.specs.Said.{Said, Answering, at_once, to_all, with_line_feed}
 use Rattle.commands.specs.declared.edge.Outcome.{Outcome}
 use Rattle.commands.specs.declared.edge.Outcome.TheVariants.{Done, Refused, Misused}
 
@@ -20,8 +20,8 @@ refusal_ending r = Refused
 
 -- the line of an answer, or that of its refusal
 abbrev pub line_said : Result (List ℕ) Fault → Said
-line_said (Ok line) = record { text = ended line; outcome = Done }
-line_said (Err (fault.Refused r)) = record { text = ended (refusal_line r); outcome = refusal_ending r }
+line_said (Ok line) = record { text = with_line_feed line; outcome = Done }
+line_said (Err (fault.Refused r)) = record { text = with_line_feed (refusal_line r); outcome = refusal_ending r }
 line_said (Err fault.Memory) = record { text = []; outcome = Refused }
 
 -- what is said to a function's name, its first word, and its second word where one is given
@@ -30,19 +30,19 @@ set_said function a b = line_said (function_line function a b)
 
 -- ---- a word that is read
 
--- a word `-` stands for standard input
+-- a word `-` denotes standard input
 abbrev pub is_input : List ℕ → Bool
 is_input word = bytes_eq word (codes "-")
 
--- a word that may be given stands for it
+-- a word that may be given denotes it
 abbrev pub names_input : Option (List ℕ) → Bool
 names_input word = option_map_or is_input word false
 
--- a word, or this input, where the word stands for it
+-- a word, or this input, where the word denotes it
 abbrev pub word_or : List ℕ → List ℕ → List ℕ
 word_or input word = if is_input word then input else word
 
--- the same, where a word may stand for this input
+-- the same, where a word may denote this input
 abbrev pub set_said_over : List ℕ → List ℕ → Option (List ℕ) → List ℕ → Said
 set_said_over function a b input = set_said function (word_or input a) (option_map (word_or input) b)
 
@@ -54,6 +54,6 @@ abbrev pub answering_by : Bool → List ℕ → List ℕ → Option (List ℕ) �
 answering_by true function a b = to_all (IsSaidOver function a b)
 answering_by false function a b = at_once (set_said function a b)
 
--- Where a word stands for standard input, the answer is to all of it; else it is to the words alone.
+-- Where a word denotes standard input, the answer is to all of it; else it is to the words alone.
 abbrev pub set_answering : List ℕ → List ℕ → Option (List ℕ) → Answering
 set_answering function a b = answering_by (is_input a || names_input b) function a b

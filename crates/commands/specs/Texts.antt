@@ -19,6 +19,6 @@ pub record HasFound {V : Type 0} (Spells : List ℕ → Result V JournalFault �
   pub all : HasRead old new bytes
   pub text : IsTextOf Spells decoded IsRead bytes found
 
--- a reader of bundles stands behind these bytes, or has stopped at a fault of a set that may be
+-- a reader of bundles is after these bytes, or has stopped at a fault of a set that may be
 abbrev pub HasCome : BundleReader → List ℕ → Type 0
 HasCome reader bytes = IsAfter (IsFaultOfBundle (bundle_start None) bytes) (bundle_reading reader) (eats_bundle (bundle_start None) bytes)

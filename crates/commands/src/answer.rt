@@ -1,7 +1,7 @@
 //! An answer.
 ghost use Rattle.std.specs.Prelude.{◌≡◌, IfOk, IfErr, string_bytes};
 ghost use Rattle.gtid_report.specs.Refusals.{refusal_line};
-ghost use Rattle.commands.specs.Said.{ended, refused_with, Holds, Settles};
+ghost use Rattle.commands.specs.Said.{with_line_feed, refused_with, Holds, Settles};
 
 use crate::edge::{Outcome, RunFault};
 use gtid_report::{Fault, Refusal, render_fault};
@@ -15,8 +15,8 @@ pub struct Answer {
 }
 
 /// A line with its line feed.
-pub(crate) fn ended(line: String) -> Result<String, AllocError>
-    ensures { IfOk result (λ text. string_bytes text ≡ ended (string_bytes line)) }
+pub(crate) fn with_line_feed(line: String) -> Result<String, AllocError>
+    ensures { IfOk result (λ text. string_bytes text ≡ with_line_feed (string_bytes line)) }
 {
     let mut text = line;
     text.push_str("\n")?;
@@ -25,10 +25,10 @@ pub(crate) fn ended(line: String) -> Result<String, AllocError>
 
 /// The one line of a refusal.
 pub(crate) fn refusal_text(alloc: Global, refusal: &Refusal) -> Result<String, AllocError>
-    ensures { IfOk result (λ text. string_bytes text ≡ ended (refusal_line refusal.now)) }
+    ensures { IfOk result (λ text. string_bytes text ≡ with_line_feed (refusal_line refusal.now)) }
 {
     let line = render_fault(alloc, refusal)?;
-    ended(line)
+    with_line_feed(line)
 }
 
 /// The answer that a refusal is.

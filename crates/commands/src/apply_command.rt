@@ -5,7 +5,7 @@ ghost use Rattle.serving.specs.Faults.{IsBundleFault};
 ghost use Rattle.serving.specs.Servable.{IsServable};
 ghost use Rattle.serving.specs.Verdicts.{IsUnsound};
 ghost use Rattle.commands.specs.Said.{Holds, GivesUp, to_all, IsDone, HasFailed};
-ghost use Rattle.commands.specs.Bundles.{state_said, applied, Applies};
+ghost use Rattle.commands.specs.Bundles.{state_said, apply_answer, Applies};
 
 use crate::answer::Answer;
 use crate::audit_command::verdict_answer;
@@ -44,16 +44,16 @@ fn unsound_answer(
     verdict: &Verdict,
 ) -> Result<Answer, AllocError>
     requires { IsUnsound order bundle.now verdict.now }
-    ensures { IfOk result (λ answer. Holds answer (applied order bundle.now)) }
+    ensures { IfOk result (λ answer. Holds answer (apply_answer order bundle.now)) }
 {
     verdict_answer(alloc, verdict)
 }
 
-/// What a bundle comes to where one thread applies it. What was served is left to the end of the
+/// What a bundle results in where one thread applies it. What was served is left to the end of the
 /// process.
 fn apply_alone(alloc: Global, bundle: &Bundle, order: Order) -> Result<Answer, Fault>
     requires { IsServable bundle.now }
-    ensures comes { IfOk result (λ answer. Holds answer (applied order bundle.now)) }
+    ensures comes { IfOk result (λ answer. Holds answer (apply_answer order bundle.now)) }
     ensures fault { IfErr result (GivesUp (IsBundleFault bundle.now)) }
 {
     match serve(alloc, bundle, order)? {
@@ -70,7 +70,7 @@ fn apply_alone(alloc: Global, bundle: &Bundle, order: Order) -> Result<Answer, F
     }
 }
 
-/// What a bundle comes to where workers apply it. What they leave is left to the end of the process.
+/// What a bundle results in where workers apply it. What they leave is left to the end of the process.
 fn apply_together<G: Gate + Sync, R: Threads + Wait + Sync>(
     rt: &R,
     alloc: Global,
@@ -81,7 +81,7 @@ fn apply_together<G: Gate + Sync, R: Threads + Wait + Sync>(
 ) -> Result<Answer, Fault>
     requires can { IsServable bundle.now }
     requires workers { (1 ≤ workers) × (workers ≤ 64) }
-    ensures comes { IfOk result (λ answer. Holds answer (applied order bundle.now)) }
+    ensures comes { IfOk result (λ answer. Holds answer (apply_answer order bundle.now)) }
     ensures fault { IfErr result (GivesUp (IsBundleFault bundle.now)) }
 {
     match apply_journals(rt, alloc, bundle, order, workers, gate)? {
@@ -98,7 +98,7 @@ fn apply_together<G: Gate + Sync, R: Threads + Wait + Sync>(
     }
 }
 
-/// What a bundle comes to: the same for every number of workers and every order of their steps. One
+/// What a bundle results in: the same for every number of workers and every order of their steps. One
 /// worker is the calling thread, which passes no gate. The bundle can be served, as each that was read
 /// can. A refusal is `SourcesFull`, where the GTIDs of all journals together are of more than 65,536
 /// sources, or `PoolFull`, where the intervals of the opening set and of the previous sets and the entries
@@ -113,7 +113,7 @@ pub fn apply_decoded<G: Gate + Sync, R: Threads + Wait + Sync>(
 ) -> Result<Answer, Fault>
     requires can { IsServable bundle.now }
     requires workers { (1 ≤ workers) × (workers ≤ 64) }
-    ensures comes { IfOk result (λ answer. Holds answer (applied order bundle.now)) }
+    ensures comes { IfOk result (λ answer. Holds answer (apply_answer order bundle.now)) }
     ensures fault { IfErr result (GivesUp (IsBundleFault bundle.now)) }
 {
     if workers == 1 {
@@ -136,7 +136,7 @@ impl<'a, R: Threads + Wait + Sync> Request for Apply<'a, R> {
 
     ghost ready = { λ asked. (1 ≤ asked.workers) × (asked.workers ≤ 64) × IsSync R.row };
 
-    ghost says = { λ asked b. applied asked.order b };
+    ghost says = { λ asked b. apply_answer asked.order b };
 
     ghost may_fail = { λ _ b. IsBundleFault b };
 

@@ -2,9 +2,9 @@
 ghost use Rattle.std.specs.Prelude.{◌≡◌, IfOk, IfErr};
 ghost use Rattle.serving.specs.Faults.{IsVerdictFault};
 ghost use Rattle.commands.specs.Said.{Holds, to_all, IsDone, HasFailed};
-ghost use Rattle.commands.specs.Bundles.{Audits, audited, verdict_ending, verdict_said};
+ghost use Rattle.commands.specs.Bundles.{Audits, audit_answer, verdict_ending, verdict_said};
 
-use crate::answer::{Answer, ended};
+use crate::answer::{Answer, with_line_feed};
 use crate::edge::{Outcome, RunFault, Sink, Source};
 use crate::request::{Request, run};
 use crate::streams::Streams;
@@ -31,7 +31,7 @@ pub(crate) fn verdict_answer(alloc: Global, verdict: &Verdict) -> Result<Answer,
     let line = render_verdict(alloc, verdict)?;
     Ok(Answer {
         outcome: verdict_ending(verdict),
-        text: ended(line)?,
+        text: with_line_feed(line)?,
     })
 }
 
@@ -44,7 +44,7 @@ struct Audit {
 impl Request for Audit {
     type Value = Bundle;
 
-    ghost says = { λ asked b. audited asked.order b };
+    ghost says = { λ asked b. audit_answer asked.order b };
 
     ghost may_fail = { λ _ b. IsVerdictFault b };
 

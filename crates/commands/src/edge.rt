@@ -26,7 +26,7 @@ pub trait Sink {
 
     ghost failed: { Self → ℕ };
 
-    /// Writes all of the bytes, or a beginning of them.
+    /// Writes all of the bytes, or a prefix of them.
     fn write(&mut self, bytes: &[u8]) -> Result<(), Failed>
         ensures ok { OnOk result (Appends (written self.old) (written self.new) bytes.now) }
         ensures begins { OnErr result (Begins (written self.old) (written self.new) bytes.now) }
@@ -38,7 +38,7 @@ pub trait Sink {
 pub enum Outcome {
     Done,
     Refused,
-    /// The words of a command are none that it takes, which is said on standard output.
+    /// The command does not take its words, which standard output reports.
     Misused,
 }
 

@@ -7,7 +7,7 @@ ghost use Rattle.fault_places.specs.Lines.{lines_of};
 ghost use Rattle.fault_places.specs.Explained.{refusal_explained};
 ghost use Rattle.commands.specs.Edge.{output_of, one_more, Begins};
 ghost use Rattle.commands.specs.Said.{Holds, GivesUp, refused_with, to_all, IsDone};
-ghost use Rattle.commands.specs.Bundles.{SpellsBundle, audited, bundle_in};
+ghost use Rattle.commands.specs.Bundles.{SpellsBundle, audit_answer, bundle_in};
 ghost use Rattle.commands.specs.Texts.{IsTextOf};
 ghost use Rattle.commands.specs.Explaining.{AreMissingBeside, ExplainsBundle, HoldsExplained, FindsExplained, SettlesExplained, IsToldWhole, HasNotExplained};
 
@@ -58,7 +58,7 @@ fn explain_bundle(
     bundle: &Bundle,
 ) -> Result<Explained, Fault>
     requires { IsServable bundle.now }
-    ensures answer { IfOk result (λ held. Holds held.answer (audited order bundle.now)) }
+    ensures answer { IfOk result (λ held. Holds held.answer (audit_answer order bundle.now)) }
     ensures notes { IfOk result (λ held. ExplainsBundle order bytes.now bundle.now held.notes.items) }
     ensures fault { IfErr result (GivesUp (IsVerdictFault bundle.now)) }
 {
@@ -71,7 +71,7 @@ fn explain_bundle(
     })
 }
 
-/// The bundle that bytes spell, all of the bytes.
+/// The bundle that bytes parse as, all of the bytes.
 fn decode_whole(alloc: Global, bytes: &[u8]) -> Result<Bundle, JournalFault>
     ensures { IsTextOf SpellsBundle bundle_in IsServable bytes.now result }
 {

@@ -14,7 +14,7 @@ use std::thread::Threads;
 /// Workers on threads over a replica that they share, one for each seat: its history, of takes, commits
 /// and rollbacks alone, since each step has a receipt. None where memory was refused at the beginning,
 /// or where receipts and history differ.
-fn shared<N: Naming + Send + Sync, G: Gate + Sync, R: Threads + Wait + Sync>(
+fn run_shared<N: Naming + Send + Sync, G: Gate + Sync, R: Threads + Wait + Sync>(
     rt: &R,
     alloc: Global,
     blanks: Blanks,
@@ -39,9 +39,9 @@ fn shared<N: Naming + Send + Sync, G: Gate + Sync, R: Threads + Wait + Sync>(
     }
 }
 
-/// What workers did over a replica: a history of takes, commits and rollbacks alone. None where it can't
-/// be told.
-pub(crate) fn worked<G: Gate + Sync, R: Threads + Wait + Sync>(
+/// What workers did over a replica: a history of takes, commits and rollbacks alone. None where it is not
+/// known.
+pub(crate) fn run_history<G: Gate + Sync, R: Threads + Wait + Sync>(
     rt: &R,
     alloc: Global,
     core: Core,
@@ -52,5 +52,5 @@ pub(crate) fn worked<G: Gate + Sync, R: Threads + Wait + Sync>(
     ensures opening { IfSome result (λ b. b.opening ≡ core) }
     ensures work { IfSome result (λ b. AllApply b.steps) }
 {
-    shared::<Brand, G, R>(rt, alloc, Blanks::new(seats as u64), core, seats, gate)
+    run_shared::<Brand, G, R>(rt, alloc, Blanks::new(seats as u64), core, seats, gate)
 }

@@ -1,7 +1,7 @@
 //! The command `import`.
 ghost use Rattle.std.specs.Prelude.{◌≡◌, IfOk, IfErr};
 ghost use Rattle.commands.specs.Said.{Holds, HoldsOne, to_all, IsDone, HasFailed};
-ghost use Rattle.commands.specs.Bundles.{upgraded};
+ghost use Rattle.commands.specs.Bundles.{upgrade_answer};
 ghost use Rattle.commands.specs.Imports.{TellsImport};
 
 use crate::answer::Answer;
@@ -15,7 +15,7 @@ use txn_journal::{Bundle, bundle_text_v2};
 
 /// The text of a bundle.
 fn import_found(alloc: Global, bundle: &Bundle) -> Result<Answer, RunFault>
-    ensures ok { IfOk result (λ answer. Holds answer (upgraded bundle.now)) }
+    ensures ok { IfOk result (λ answer. Holds answer (upgrade_answer bundle.now)) }
     ensures memory { IfErr result (λ f. f ≡ RunFault.Memory) }
 {
     match bundle_text_v2(alloc, bundle) {

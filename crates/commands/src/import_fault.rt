@@ -3,15 +3,15 @@ ghost use Rattle.std.specs.Prelude.{◌≡◌, IfOk, IfErr, string_bytes};
 ghost use Rattle.commands.specs.Said.{Holds};
 ghost use Rattle.commands.specs.Imports.{cause_word, text_refused, entry_refused, log_refused, cause_refused, journal_refused, bundle_refused, import_line, refusal_said, import_refused};
 
-use crate::answer::{Answer, ended, refusal_answer};
+use crate::answer::{Answer, refusal_answer, with_line_feed};
 use crate::edge::{Outcome, RunFault};
 use binlog_bundle::BundleFault;
-use binlog_entries::{ImportFault, LogFault, ReadFault, Refusal as LineRefusal};
+use binlog_entries::{EntryRefusal as LineRefusal, ImportFault, LogFault, ReadFault};
 use gtid_report::{Fault, Refusal, push_number};
 use std::alloc::{AllocError, Global};
 use txn_journal::{Cause, JournalFault};
 
-/// What is wrong with a line of a log, or with the log behind the line of a channel.
+/// What is wrong with a line of a log, or with the log after the line of a channel.
 #[derive(Clone, Copy, Debug, PartialEq, Eq, Drop)]
 pub(crate) enum ImportCause {
     /// The line is refused.
@@ -31,7 +31,7 @@ pub(crate) enum ImportCause {
 pub(crate) enum Refused {
     /// As any text is.
     Known(Fault),
-    /// A line of a log is, or the log behind the line of a channel.
+    /// A line of a log is, or the log after the line of a channel.
     At(u64, ImportCause),
 }
 
@@ -142,7 +142,7 @@ fn line_answer(alloc: Global, line: u64, cause: ImportCause) -> Result<Answer, A
     let text = import_line(alloc, line, cause)?;
     Ok(Answer {
         outcome: Outcome::Refused,
-        text: ended(text)?,
+        text: with_line_feed(text)?,
     })
 }
 

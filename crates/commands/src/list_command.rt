@@ -2,8 +2,8 @@
 ghost use Rattle.std.specs.Prelude.{◌≡◌, ◌++◌, IfOk, IfErr, OnOk, string_bytes};
 ghost use Rattle.gtid_report.specs.VerdictLines.{verdict_line};
 ghost use Rattle.serving.specs.Listing.{IsFaultsFault};
-ghost use Rattle.commands.specs.Said.{Holds, to_all, IsDone, HasFailed, ended};
-ghost use Rattle.commands.specs.Listings.{Lists, faults_said, held_faults, listed, run_line, run_lines, verdict_lines};
+ghost use Rattle.commands.specs.Said.{Holds, to_all, IsDone, HasFailed, with_line_feed};
+ghost use Rattle.commands.specs.Listings.{Lists, faults_said, held_faults, list_answer, run_line, run_lines, verdict_lines};
 
 use crate::answer::Answer;
 use crate::audit_command::verdict_ending;
@@ -21,7 +21,7 @@ use world::Verdict;
 
 /// The line of a verdict.
 fn push_verdict(alloc: Global, text: &mut String, verdict: &Verdict) -> Result<(), AllocError>
-    ensures { OnOk result (string_bytes text.new ≡ string_bytes text.old ++ ended (verdict_line verdict.now)) }
+    ensures { OnOk result (string_bytes text.new ≡ string_bytes text.old ++ with_line_feed (verdict_line verdict.now)) }
 {
     let line = render_verdict(alloc, verdict)?;
     text.push_str(&line)?;
@@ -82,7 +82,7 @@ struct List;
 impl Request for List {
     type Value = Bundle;
 
-    ghost says = { λ _ b. listed b };
+    ghost says = { λ _ b. list_answer b };
 
     ghost may_fail = { λ _ b. IsFaultsFault b };
 
@@ -94,8 +94,8 @@ impl Request for List {
     }
 }
 
-/// Reads a bundle, and writes the line of its audit's verdict and behind it one for each other GTID under which journals differ, each
-/// other journal that begins behind the opening set, each other run of missing GTIDs, each other shared key, each other GTID that stands
+/// Reads a bundle, and writes the line of its audit's verdict and after it one for each other GTID under which journals differ, each
+/// other journal that begins after the opening set, each other run of missing GTIDs, each other shared key, each other GTID that stands
 /// in a journal without what it needs and, where a transaction does not apply by the verdict, each other source of which one does not,
 /// or the line of its refusal, and nothing else.
 pub fn run_list<S: Source, W: Sink>(

@@ -1,4 +1,4 @@
-//! What the journals of a bundle come to where workers apply them.
+//! What the journals of a bundle result in where workers apply them.
 ghost use Rattle.std.specs.Prelude.{◌≤◌, IfOk, IfErr};
 ghost use Rattle.applier.specs.Draining.{AllApply};
 ghost use Rattle.serving.specs.Faults.{IsBundleFault};
@@ -7,7 +7,7 @@ ghost use Rattle.serving.specs.Serving.{IsReady};
 ghost use Rattle.serving.specs.Verdicts.{IsConcluded, IsStateOrVerdict};
 ghost use Rattle.commands.specs.Applying.{HasMergedIn};
 
-use crate::history::worked;
+use crate::history::run_history;
 use applier::{Gate, drain};
 use gtid_set::SetFault;
 use serving::{Order, StateOrVerdict, begin, conclude};
@@ -18,7 +18,7 @@ use std::thread::Threads;
 use txn_journal::Bundle;
 use world::Verdict;
 
-/// What a history of work over a replica that was served all journals comes to, once what it left is
+/// What a history of work over a replica that was served all journals results in, once what it left is
 /// drained: nothing where all is executed, or else the verdict of the audit.
 fn drain_and_conclude(
     alloc: Global,
@@ -38,7 +38,7 @@ fn drain_and_conclude(
     Ok(conclude(alloc, bundle, order, core)?)
 }
 
-/// What a history of work over a replica that was served all journals comes to.
+/// What a history of work over a replica that was served all journals results in.
 fn conclude_history(
     alloc: Global,
     bundle: &Bundle,
@@ -65,7 +65,7 @@ fn conclude_history(
     }
 }
 
-/// What the journals come to where no worker's history is known: a replica that is opened anew is
+/// What the journals result in where no worker's history is known: a replica that is opened anew is
 /// drained.
 fn drain_anew(
     alloc: Global,
@@ -84,13 +84,13 @@ fn drain_anew(
     }
 }
 
-/// What the journals of a bundle come to over its opening rows: all of them executed together, or the
+/// What the journals of a bundle result in over its opening rows: all of them executed together, or the
 /// verdict of the audit that asks for this order, where that is not Sound. So many workers apply them, each on a thread of
 /// its own where one can be started; what they leave is applied when they have ended. What is answered
 /// does not depend on their number, nor on the order of their steps. The bundle can be served, as each
 /// that was read can.
 ///
-/// `Memory` is want of memory, `SourcesFull` comes only where the GTIDs of all journals together are of
+/// `Memory` is a failed allocation, `SourcesFull` comes only where the GTIDs of all journals together are of
 /// more than 65,536 sources, and `PoolFull` only where the intervals of the opening set and of the
 /// previous sets and the entries are together more than 4,294,967,294. A worker's fault is never the
 /// answer.
@@ -111,7 +111,7 @@ pub fn apply_journals<G: Gate + Sync, R: Threads + Wait + Sync>(
         StateOrVerdict::State(core) => core,
         StateOrVerdict::Verdict(verdict) => return Ok(StateOrVerdict::Verdict(verdict)),
     };
-    match worked(rt, alloc, core, workers, gate) {
+    match run_history(rt, alloc, core, workers, gate) {
         Some(book) => conclude_history(alloc, bundle, order, book),
         None => drain_anew(alloc, bundle, order),
     }

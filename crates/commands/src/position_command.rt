@@ -3,9 +3,9 @@ ghost use Rattle.std.specs.Prelude.{◌≡◌, IfOk, IfErr, Ok, Err};
 ghost use Rattle.auto_position.specs.Sending.{IsPlanFault};
 ghost use Rattle.gtid_report.specs.SetAnswers as words;
 ghost use Rattle.commands.specs.Said.{Holds, refused_with, at_once, IsDone, HasFailed};
-ghost use Rattle.commands.specs.Positions.{asking_in, sending_said, positioned, to_asking};
+ghost use Rattle.commands.specs.Positions.{asking_in, sending_said, position_answer, to_asking};
 
-use crate::answer::{Answer, ended, refusal_answer};
+use crate::answer::{Answer, refusal_answer, with_line_feed};
 use crate::edge::{Outcome, RunFault, Sink, Source};
 use crate::request::{Request, run};
 use crate::streams::Streams;
@@ -58,7 +58,7 @@ fn purged_answer(alloc: Global, gtids: &GtidSet) -> Result<Answer, AllocError>
     let line = render_required(alloc, gtids)?;
     Ok(Answer {
         outcome: Outcome::Refused,
-        text: ended(line)?,
+        text: with_line_feed(line)?,
     })
 }
 
@@ -69,14 +69,14 @@ fn more_answer(alloc: Global, gtids: &GtidSet) -> Result<Answer, AllocError>
     let line = render_more(alloc, gtids)?;
     Ok(Answer {
         outcome: Outcome::Refused,
-        text: ended(line)?,
+        text: with_line_feed(line)?,
     })
 }
 
 impl Request for Asked {
     type Value = Journal;
 
-    ghost says = { λ asked j. positioned (asked.source, asked.gtids) j };
+    ghost says = { λ asked j. position_answer (asked.source, asked.gtids) j };
 
     ghost may_fail = { λ asked j. IsPlanFault j asked.gtids };
 

@@ -5,7 +5,7 @@ ghost use Rattle.std.specs.Str.Lossy.{utf8_lossy};
 ghost use Rattle.commands.specs.Said.{Holds, at_once, to_all, IsDone, HasFailed};
 ghost use Rattle.commands.specs.SetCommand.{set_said, set_said_over, set_answering, IsSaidOver, is_input, names_input, word_or, refusal_ending};
 
-use crate::answer::{Answer, ended, refusal_text};
+use crate::answer::{Answer, refusal_text, with_line_feed};
 use crate::edge::{Outcome, RunFault, Sink, Source};
 use crate::streams::Streams;
 use gtid_report::{Fault, Refusal, set_function};
@@ -28,7 +28,7 @@ fn set_answer(alloc: Global, function: &str, a: &str, b: Option<&str>) -> Result
     match set_function(alloc, function, a, b) {
         Ok(line) => Ok(Answer {
             outcome: Outcome::Done,
-            text: ended(line)?,
+            text: with_line_feed(line)?,
         }),
         Err(Fault::Memory) => Err(AllocError),
         Err(Fault::Refused(refusal)) => Ok(Answer {
@@ -38,14 +38,14 @@ fn set_answer(alloc: Global, function: &str, a: &str, b: Option<&str>) -> Result
     }
 }
 
-/// Whether a word stands for standard input.
+/// Whether a word denotes standard input.
 fn is_input(word: &str) -> bool
     ensures { result ≡ is_input word.now }
 {
     word.as_bytes() == b"-".as_slice()
 }
 
-/// Whether a word that may be given stands for standard input.
+/// Whether a word that may be given denotes standard input.
 fn is_given_input(word: Option<&str>) -> bool
     ensures { result ≡ names_input (option_map (λ w. w.now) word.entry) }
 {
@@ -55,14 +55,14 @@ fn is_given_input(word: Option<&str>) -> bool
     }
 }
 
-/// A word, or what was read, where the word stands for that.
+/// A word, or what was read, where the word denotes that.
 fn word_or<'a>(input: &'a str, word: &'a str) -> &'a str
     ensures { result.now ≡ word_or input.now word.now }
 {
     if is_input(word) { input } else { word }
 }
 
-/// What is printed for a function of sets, where a word may stand for this input.
+/// What is printed for a function of sets, where a word may denote this input.
 fn answer_over(
     alloc: Global,
     function: &str,

@@ -45,7 +45,7 @@ pub(crate) trait Text: Drop {
     fn finish(alloc: Global, reader: Self::Reader) -> Result<Self, JournalFault>
         ensures { (bytes : List ℕ) → has_come reader bytes → IsTextOf spells decoded is_read bytes result };
 
-    /// A set is not made for want of memory, or since the grammar says that it has too many sources or intervals.
+    /// A set is not made because an allocation failed, or since the grammar says that it has too many sources or intervals.
     ghost full: { (bytes : List ℕ) (f : SetFault) → spells bytes (Err (journals.Set f)) → IsMemoryOr (spells bytes (Err (journals.Set sets.SourcesFull))) (spells bytes (Err (journals.Set sets.PoolFull))) f };
 }
 

@@ -54,7 +54,7 @@ fn flush_again<W: Write>(writer: &mut W) -> Result<(), Failed>
     Err(Failed)
 }
 
-/// Writes all of the bytes and flushes, or writes a beginning of them.
+/// Writes all of the bytes and flushes, or writes a prefix of them.
 fn write_whole<W: Write>(writer: &mut W, bytes: &[u8]) -> Result<(), Failed>
     ensures ok { OnOk result (Appends (W.contents writer.old) (W.contents writer.new) bytes.now) }
     ensures begins { OnErr result (Begins (W.contents writer.old) (W.contents writer.new) bytes.now) }

@@ -34,12 +34,12 @@ abbrev pub counted : Bool → Portion → Portion
 counted committed p = record { seats = p.seats; steps = p.steps + 1; commits = p.commits + one_if committed }
 
 -- two portions together
-abbrev pub joined : Portion → Portion → Portion
-joined p q = record { seats = p.seats + q.seats; steps = p.steps + q.steps; commits = p.commits + q.commits }
+abbrev pub add_portions : Portion → Portion → Portion
+add_portions p q = record { seats = p.seats + q.seats; steps = p.steps + q.steps; commits = p.commits + q.commits }
 
 -- several portions together
-abbrev pub gathered : List Portion → Portion
-gathered ps = record { seats = sum_by (λ p. p.seats) ps; steps = sum_by (λ p. p.steps) ps; commits = sum_by (λ p. p.commits) ps }
+abbrev pub total_portion : List Portion → Portion
+total_portion ps = record { seats = sum_by (λ p. p.seats) ps; steps = sum_by (λ p. p.steps) ps; commits = sum_by (λ p. p.commits) ps }
 
 abbrev pub tally_of : Portion → Tally
 tally_of p = record { steps = p.steps; commits = p.commits }

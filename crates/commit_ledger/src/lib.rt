@@ -12,7 +12,7 @@
 #![tactic(auto)]
 
 ghost use Rattle.std.specs.Prelude.{◌≡◌, ◌<◌, ◌≤◌, IfOk, length, replicate, true, false};
-ghost use Rattle.commit_ledger.specs.Tallies.{Tally, no_tally, unused, one_more, counted, joined, gathered, tally_of};
+ghost use Rattle.commit_ledger.specs.Tallies.{Tally, no_tally, unused, one_more, counted, add_portions, total_portion, tally_of};
 
 mod naming;
 
@@ -67,7 +67,7 @@ impl<L: Ledgers> Model for Share<L> {
     ghost invariant = { λ s. s.commits.parts ≡ s.steps.parts };
 }
 
-/// A total of nothing, and a share for each seat. The only error is want of memory.
+/// A total of nothing, and a share for each seat. The only error is a failed allocation.
 pub fn open_shares<L: Ledgers>(
     alloc: Global,
     blanks: Blanks,
@@ -123,7 +123,7 @@ pub fn count<L: Ledgers>(total: &mut Total<L>, share: &mut Share<L>, committed: 
 impl<L: Ledgers> Share<L> {
     /// Takes in what another share has counted, with its seats.
     pub fn join(&mut self, other: Share<L>)
-        ensures sum { self.new ≡ joined self.old other }
+        ensures sum { self.new ≡ add_portions self.old other }
         ensures seats { self.new.seats ≤ L.seats }
     {
         let Share { steps, commits } = other;
@@ -168,9 +168,9 @@ impl<L: Ledgers> Total<L> {
 
 /// The shares of all seats add up to the total. They are used up.
 pub fn gather<L: Ledgers>(total: &mut Total<L>, shares: Vec<Share<L>>) -> Counts
-    requires { (gathered shares.items).seats ≡ L.seats }
+    requires { (total_portion shares.items).seats ≡ L.seats }
     ensures same { total.new ≡ total.old }
-    ensures sum { total.old ≡ tally_of (gathered shares.items) }
+    ensures sum { total.old ≡ tally_of (total_portion shares.items) }
     ensures counts { (result.steps ≡ total.old.steps) × (result.commits ≡ total.old.commits) }
 {
     let mut all = total.no_share();

@@ -5,7 +5,7 @@ use std::marker::{Brand, PhantomData};
 use std::sync::ledger::{Blank, Ledger};
 
 /// Names the two ledgers of one total, one of steps and one of commits, and the number of their
-/// seats. A type stands for them, so that shares of two totals can't be mixed up. The call that
+/// seats. A type denotes them, so that shares of two totals can't be mixed up. The call that
 /// opens them picks the names (`Brand`).
 pub trait Ledgers {
     ghost use Rattle.std.specs.Prelude.{ℕ};

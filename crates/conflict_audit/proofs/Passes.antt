@@ -35,8 +35,8 @@ use Rattle.ordered_bundles.proofs.Turns.{is_brought}
 use Rattle.conflict_audit.specs.declared.chain.Turn.{Turn}
 use Rattle.conflict_audit.specs.declared.chain.Turn.TheVariants.{Again, AtEnd, Next, Behind}
 use Rattle.conflict_audit.specs.declared.turns.OutOfTurn.{OutOfTurn}
-use Rattle.conflict_audit.specs.Chains.{KeyChain, no_chain, read_by, was_read, turn_at, turn_of, visited, next_in, expected, visit_key, visit_keys, out_of_keys, visit_entries, out_of_entries, named, name_or, conflict_from}
-use Rattle.conflict_audit.specs.Joined.{with_entry, grown, all_grown}
+use Rattle.conflict_audit.specs.Chains.{KeyChain, no_chain, read_by, was_read, turn_at, turn_of, visit, next_in, expected, visit_key, visit_keys, out_of_keys, visit_entries, out_of_entries, name_verdict, name_or, conflict_from}
+use Rattle.conflict_audit.specs.Joined.{with_entry, append_new, append_all_new}
 use Rattle.conflict_audit.proofs.Visits.{IsRead, turn_is, visited_at_end, visited_next, out_first, none_out, keys_visited}
 
 -- ---- the order, an entry at a time
@@ -55,13 +55,13 @@ front_of_with : (L : List Entry) (e : Entry) (b : Bool) → IsFront L (cond b L 
 front_of_with L e true = front_itself L
 front_of_with L e false = (e ∷ [], refl)
 
-front_of_grown : (L : List Entry) (es : History) → IsFront L (grown L es)
+front_of_grown : (L : List Entry) (es : History) → IsFront L (append_new L es)
 front_of_grown L [] = front_itself L
-front_of_grown L (e ∷ es) = front_through L (with_entry L e) (grown (with_entry L e) es) (front_of_with L e (has L e.0)) (front_of_grown (with_entry L e) es)
+front_of_grown L (e ∷ es) = front_through L (with_entry L e) (append_new (with_entry L e) es) (front_of_with L e (has L e.0)) (front_of_grown (with_entry L e) es)
 
-front_of_all : (L : List Entry) (hs : List History) → IsFront L (all_grown L hs)
+front_of_all : (L : List Entry) (hs : List History) → IsFront L (append_all_new L hs)
 front_of_all L [] = front_itself L
-front_of_all L (h ∷ hs) = front_through L (grown L h) (all_grown (grown L h) hs) (front_of_grown L h) (front_of_all (grown L h) hs)
+front_of_all L (h ∷ hs) = front_through L (append_new L h) (append_all_new (append_new L h) hs) (front_of_grown L h) (front_of_all (append_new L h) hs)
 
 -- ---- the order is that of the definition
 
@@ -87,19 +87,19 @@ beyond_with L e (f ∷ es) other =
     or_false true = refl
     or_false false = refl
 
-grown_is : (L : List Entry) (h : History) → AreDistinct h → grown L h ≡ L ++ beyond L h
+grown_is : (L : List Entry) (h : History) → AreDistinct h → append_new L h ≡ L ++ beyond L h
 grown_is L [] d = sym (append_none L)
 grown_is L (e ∷ es) d = by_test (grown_is L es d.1) (grown_is (L ++ e ∷ []) es d.1) (has L e.0)
   where
-    by_test : grown L es ≡ L ++ beyond L es → grown (L ++ e ∷ []) es ≡ (L ++ e ∷ []) ++ beyond (L ++ e ∷ []) es → (b : Bool) → grown (cond b L (L ++ e ∷ [])) es ≡ L ++ cond (not b) (e ∷ beyond L es) (beyond L es)
+    by_test : append_new L es ≡ L ++ beyond L es → append_new (L ++ e ∷ []) es ≡ (L ++ e ∷ []) ++ beyond (L ++ e ∷ []) es → (b : Bool) → append_new (cond b L (L ++ e ∷ [])) es ≡ L ++ cond (not b) (e ∷ beyond L es) (beyond L es)
     by_test old new true = old
     by_test old new false =
         new ∙ ap (λ (xs : List Entry). (L ++ e ∷ []) ++ xs) (beyond_with L e es (λ f i. same_gtid_other f.0 e.0 (λ same. all_in (λ (x : Entry). e.0 ≢ x.0) f es d.0 i (sym same))))
         ∙ append_assoc L (e ∷ []) (beyond L es)
 
-pub all_grown_is : (L : List Entry) (hs : List History) → ((h : History) → IsAmong h hs → AreDistinct h) → all_grown L hs ≡ joined L hs
+pub all_grown_is : (L : List Entry) (hs : List History) → ((h : History) → IsAmong h hs → AreDistinct h) → append_all_new L hs ≡ joined L hs
 all_grown_is L [] each = refl
-all_grown_is L (h ∷ hs) each = ap (λ (xs : List Entry). all_grown xs hs) (grown_is L h (each h (inl refl))) ∙ all_grown_is (L ++ beyond L h) hs (λ x k. each x (inr k))
+all_grown_is L (h ∷ hs) each = ap (λ (xs : List Entry). append_all_new xs hs) (grown_is L h (each h (inl refl))) ∙ all_grown_is (L ++ beyond L h) hs (λ x k. each x (inr k))
 
 -- ---- GTIDs of a chain
 
@@ -124,7 +124,7 @@ found_at_place : (o : Option Gtid) (g : Gtid) → option_map_or (λ x. same_gtid
 found_at_place None g e = cc
 found_at_place (Some x) g e = ap Some (same_is_equal x g e)
 
--- the last of a front is not one that the front has not
+-- the last of a prefix is not one that the prefix has not
 not_last : (xs zs : List Entry) (g : Gtid) → has xs g ≡ false → was_read (length xs) (gtids_of (xs ++ zs)) g ≡ false
 not_last xs zs g n = false_from_ne_true (was_read (length xs) (gtids_of (xs ++ zs)) g) (λ y.
     let p = and_parts (nat_lt 0 (length xs)) (option_map_or (λ x. same_gtid x g) (slice_get (gtids_of (xs ++ zs)) (length xs - 1)) false) y in
@@ -138,7 +138,7 @@ at_the_end [] [] = refl
 at_the_end [] (z ∷ zs) = refl
 at_the_end (x ∷ xs) zs = at_the_end xs zs
 
--- ---- what is known when a front of a history was read
+-- ---- what is known when a prefix of a history was read
 
 module _ (schema : List Table) (r : ℕ) where
   -- L is the order so far, and these entries of history r were read
@@ -177,10 +177,10 @@ module _ (schema : List Table) (r : ℕ) where
       expected_is = ap next_in (turn_is r e.0 (chains k) (gtids_of (chain schema k L)) (length (chain schema k before)) (sofar.reads k) not_again ∙ ap (turn_at e.0) at_place)
 
       -- it is the next of the chain
-      next_read : has L e.0 ≡ true → slice_get (sofar.fronts k).0 zero ≡ Some e → IsRead r (visited r e.0 (chains k)) (gtids_of (chain schema k (with_entry L e))) (length (chain schema k (before ++ e ∷ [])))
+      next_read : has L e.0 ≡ true → slice_get (sofar.fronts k).0 zero ≡ Some e → IsRead r (visit r e.0 (chains k)) (gtids_of (chain schema k (with_entry L e))) (length (chain schema k (before ++ e ∷ [])))
       next_read there head =
-          subst (λ b. IsRead r (visited r e.0 (chains k)) (gtids_of (chain schema k (cond b L (L ++ e ∷ [])))) (length (chain schema k (before ++ e ∷ [])))) (sym there)
-          (subst (IsRead r (visited r e.0 (chains k)) (gtids_of (chain schema k L))) (sym (ap (λ (xs : List Entry). length xs) (chain_with schema before e k t) ∙ length_with (chain schema k before) e))
+          subst (λ b. IsRead r (visit r e.0 (chains k)) (gtids_of (chain schema k (cond b L (L ++ e ∷ [])))) (length (chain schema k (before ++ e ∷ [])))) (sym there)
+          (subst (IsRead r (visit r e.0 (chains k)) (gtids_of (chain schema k L))) (sym (ap (λ (xs : List Entry). length xs) (chain_with schema before e k t) ∙ length_with (chain schema k before) e))
           (visited_next r e.0 (chains k) (gtids_of (chain schema k L)) (length (chain schema k before)) e.0 (sofar.reads k) not_again (at_place ∙ ap (option_map (λ (x : Entry). x.0)) head) (same_itself e.0)))
 
       next_front : has L e.0 ≡ true → slice_get (sofar.fronts k).0 zero ≡ Some e → IsFront (chain schema k (before ++ e ∷ [])) (chain schema k (with_entry L e))
@@ -192,12 +192,12 @@ module _ (schema : List Table) (r : ℕ) where
       all_of [] none same = sym (append_none (chain schema k before)) ∙ same
       all_of (z ∷ zs) none same = cc
 
-      end_read : has L e.0 ≡ false → slice_get (sofar.fronts k).0 zero ≡ None → IsRead r (visited r e.0 (chains k)) (gtids_of (chain schema k (with_entry L e))) (length (chain schema k (before ++ e ∷ [])))
+      end_read : has L e.0 ≡ false → slice_get (sofar.fronts k).0 zero ≡ None → IsRead r (visit r e.0 (chains k)) (gtids_of (chain schema k (with_entry L e))) (length (chain schema k (before ++ e ∷ [])))
       end_read absent none =
           let all : chain schema k before ≡ chain schema k L = all_of (sofar.fronts k).0 none (sofar.fronts k).1 in
-          subst (λ b. IsRead r (visited r e.0 (chains k)) (gtids_of (chain schema k (cond b L (L ++ e ∷ [])))) (length (chain schema k (before ++ e ∷ [])))) (sym absent)
-          (subst (λ (gs : List Gtid). IsRead r (visited r e.0 (chains k)) gs (length (chain schema k (before ++ e ∷ [])))) (sym (ap gtids_of (chain_with schema L e k t) ∙ gtids_with (chain schema k L) e))
-          (subst (IsRead r (visited r e.0 (chains k)) (gtids_of (chain schema k L) ++ e.0 ∷ [])) (sym (ap (λ (xs : List Entry). length xs) (chain_with schema before e k t) ∙ length_with (chain schema k before) e))
+          subst (λ b. IsRead r (visit r e.0 (chains k)) (gtids_of (chain schema k (cond b L (L ++ e ∷ [])))) (length (chain schema k (before ++ e ∷ [])))) (sym absent)
+          (subst (λ (gs : List Gtid). IsRead r (visit r e.0 (chains k)) gs (length (chain schema k (before ++ e ∷ [])))) (sym (ap gtids_of (chain_with schema L e k t) ∙ gtids_with (chain schema k L) e))
+          (subst (IsRead r (visit r e.0 (chains k)) (gtids_of (chain schema k L) ++ e.0 ∷ [])) (sym (ap (λ (xs : List Entry). length xs) (chain_with schema before e k t) ∙ length_with (chain schema k before) e))
           (visited_at_end r e.0 (chains k) (gtids_of (chain schema k L)) (length (chain schema k before)) (sofar.reads k) not_again (at_place ∙ ap (option_map (λ (x : Entry). x.0)) none)
           (ap (λ (xs : List Entry). length xs) all ∙ sym (gtids_length (chain schema k L))))))
 
@@ -253,7 +253,7 @@ module _ (schema : List Table) (hs : List History) (d : AreDistinct (order_of hs
 
   module _ (r : ℕ) (h : History) where
     abbrev name : OutOfTurn → Option Verdict
-    name = named hs h
+    name = name_verdict hs h
 
     -- one entry, told what was read
     module _ (L before : List Entry) (chains : Key → KeyChain) (sofar : IsSoFar schema r L before chains) (e : Entry) (known : (x : Entry) → IsIn x before → IsIn x order) (listed : IsIn e order) (fresh : IsIn e before → ⊥)
@@ -328,7 +328,7 @@ module _ (schema : List Table) (hs : List History) (d : AreDistinct (order_of hs
         -- in turn
         record IsKept : Type 0 where
           front : IsFront (chain schema k (before ++ e ∷ [])) (chain schema k (with_entry L e))
-          read : IsRead r (visited r e.0 (chains k)) (gtids_of (chain schema k (with_entry L e))) (length (chain schema k (before ++ e ∷ [])))
+          read : IsRead r (visit r e.0 (chains k)) (gtids_of (chain schema k (with_entry L e))) (length (chain schema k (before ++ e ∷ [])))
 
         same_by : (x : Entry) (b : Bool) → same_gtid x.0 e.0 ≡ b → next_in (cond b Next (Behind x.0)) ≡ None → x.0 ≡ e.0
         same_by x true t none = same_is_equal x.0 e.0 t
@@ -374,8 +374,8 @@ module _ (schema : List Table) (hs : List History) (d : AreDistinct (order_of hs
           let nothing = none_out r e.0 chains at.1 (expected r e.0 (chains at.1)) (first_none _ keys (sym out_is ∙ none) at.0 at.1 at.2) in
           ap (λ q. expected r e.0 (chains q)) (key_eq_same k at.1 at.3) ∙ nothing
 
-      chain_then : (k : Key) (b : Bool) → touches schema e.1 k ≡ b → out_of_keys r e.0 keys chains ≡ None → visit_keys r e.0 keys chains k ≡ cond b (visited r e.0 (chains k)) (chains k)
-      chain_then k b t none = (keys_visited r e.0 chains keys).1 none k ∙ ap (λ b. cond b (visited r e.0 (chains k)) (chains k)) t
+      chain_then : (k : Key) (b : Bool) → touches schema e.1 k ≡ b → out_of_keys r e.0 keys chains ≡ None → visit_keys r e.0 keys chains k ≡ cond b (visit r e.0 (chains k)) (chains k)
+      chain_then k b t none = (keys_visited r e.0 chains keys).1 none k ∙ ap (λ b. cond b (visit r e.0 (chains k)) (chains k)) t
 
       pub entry_after : out_of_keys r e.0 keys chains ≡ None → IsSoFar schema r (with_entry L e) (before ++ e ∷ []) (visit_keys r e.0 keys chains)
       entry_after none = record {
@@ -394,7 +394,7 @@ module _ (schema : List Table) (hs : List History) (d : AreDistinct (order_of hs
     record Reads (L before es : List Entry) (chains : Key → KeyChain) : Type 0 where
       same : walk (entry_fault schema hs h) before es ≡ name_or (out_of_entries schema r es chains) name None
       is_named : (o : OutOfTurn) → out_of_entries schema r es chains ≡ Some o → (v : Verdict) × (name o ≡ Some v)
-      after : out_of_entries schema r es chains ≡ None → IsSoFar schema r (grown L es) (before ++ es) (visit_entries schema r es chains)
+      after : out_of_entries schema r es chains ≡ None → IsSoFar schema r (append_new L es) (before ++ es) (visit_entries schema r es chains)
 
     -- an entry, and then the others
     reads_more : (L before : List Entry) (e : Entry) (es : List Entry) (chains : Key → KeyChain)
@@ -417,7 +417,7 @@ module _ (schema : List Table) (hs : List History) (d : AreDistinct (order_of hs
         by_out None is = let a = rest is in record {
           same = ap (λ v. or_next v walk_later) (same_here ∙ ap (λ o. name_or o name None) is) ∙ a.same ∙ sym (ap (λ o. name_or (or_next o later) name None) is);
           is_named = λ o f. a.is_named o (sym (ap (λ p. or_next p later) is) ∙ f);
-          after = λ none. subst (λ (xs : List Entry). IsSoFar schema r (grown (with_entry L e) es) xs (visit_entries schema r es then_chains)) (append_assoc before (e ∷ []) es)
+          after = λ none. subst (λ (xs : List Entry). IsSoFar schema r (append_new (with_entry L e) es) xs (visit_entries schema r es then_chains)) (append_assoc before (e ∷ []) es)
               (a.after (sym (ap (λ p. or_next p later) is) ∙ none));
         }
         by_out (Some o) is =
@@ -428,7 +428,7 @@ module _ (schema : List Table) (hs : List History) (d : AreDistinct (order_of hs
               after = λ none. none_some o (sym (sym (ap (λ q. or_next q later) is) ∙ none));
             }
 
-    entries_read : (L before es : List Entry) (chains : Key → KeyChain) → IsSoFar schema r L before chains → AreDistinct (before ++ es) → ((x : Entry) → IsIn x (before ++ es) → IsIn x order) → IsFront (grown L es) order
+    entries_read : (L before es : List Entry) (chains : Key → KeyChain) → IsSoFar schema r L before chains → AreDistinct (before ++ es) → ((x : Entry) → IsIn x (before ++ es) → IsIn x order) → IsFront (append_new L es) order
         → Reads L before es chains
     entries_read L before [] chains sofar c listed more = record {
       same = refl;
@@ -439,7 +439,7 @@ module _ (schema : List Table) (hs : List History) (d : AreDistinct (order_of hs
         let known : (x : Entry) → IsIn x before → IsIn x order = λ x i. listed x (in_front before (e ∷ es) x i) in
         let here : IsIn e order = listed e (in_back before (e ∷ es) e (inl refl)) in
         let fresh : IsIn e before → ⊥ = λ i. twice before (e ∷ es) e c i (inl refl) in
-        let front : IsFront (with_entry L e) order = front_through (with_entry L e) (grown (with_entry L e) es) order (front_of_grown (with_entry L e) es) more in
+        let front : IsFront (with_entry L e) order = front_through (with_entry L e) (append_new (with_entry L e) es) order (front_of_grown (with_entry L e) es) more in
         let join : (before ++ e ∷ []) ++ es ≡ before ++ e ∷ es = append_assoc before (e ∷ []) es in
         reads_more L before e es chains
         (entry_same L before chains sofar e known here fresh front)
@@ -464,12 +464,12 @@ module _ (schema : List Table) (hs : List History) (d : AreDistinct (order_of hs
   goes_on r L h chains sofar = record { members = λ k. (sofar.reads k).members; unread = λ k s more. (sofar.reads k).later s (omega arith) }
 
   histories_read : HaveOneContent hs → ((x : History) → IsAmong x hs → AreDistinct x) → (r : ℕ) (L : List Entry) (rest : List History) (chains : Key → KeyChain) → IsFresh r L chains → ((x : History) → IsAmong x rest → IsAmong x hs)
-      → all_grown L rest ≡ order → conflict_from schema hs r rest chains ≡ first (λ (h : History). walk (entry_fault schema hs h) [] h) rest
+      → append_all_new L rest ≡ order → conflict_from schema hs r rest chains ≡ first (λ (h : History). walk (entry_fault schema hs h) [] h) rest
   histories_read one each r L [] chains fresh among same = refl
   histories_read one each r L (h ∷ rest) chains fresh among same =
       by_out (out_of_entries schema r h chains) refl
-      (entries_read r h L [] h chains (begins r L chains fresh) (each h (among h (inl refl))) (λ x i. order_known hs one h (among h (inl refl)) x i) (subst (IsFront (grown L h)) same (front_of_all (grown L h) rest)))
-      (λ next. histories_read one each (r + 1) (grown L h) rest (visit_entries schema r h chains) next (λ x i. among x (inr i)) same)
+      (entries_read r h L [] h chains (begins r L chains fresh) (each h (among h (inl refl))) (λ x i. order_known hs one h (among h (inl refl)) x i) (subst (IsFront (append_new L h)) same (front_of_all (append_new L h) rest)))
+      (λ next. histories_read one each (r + 1) (append_new L h) rest (visit_entries schema r h chains) next (λ x i. among x (inr i)) same)
     where
       later : Option Verdict
       later = conflict_from schema hs (r + 1) rest (visit_entries schema r h chains)
@@ -477,14 +477,14 @@ module _ (schema : List Table) (hs : List History) (d : AreDistinct (order_of hs
       walk_later : Option Verdict
       walk_later = first (λ (h : History). walk (entry_fault schema hs h) [] h) rest
 
-      by_out : (o : Option OutOfTurn) → out_of_entries schema r h chains ≡ o → Reads r h L [] h chains → (IsFresh (r + 1) (grown L h) (visit_entries schema r h chains) → later ≡ walk_later)
-          → name_or (out_of_entries schema r h chains) (named hs h) later ≡ or_next (walk (entry_fault schema hs h) [] h) walk_later
+      by_out : (o : Option OutOfTurn) → out_of_entries schema r h chains ≡ o → Reads r h L [] h chains → (IsFresh (r + 1) (append_new L h) (visit_entries schema r h chains) → later ≡ walk_later)
+          → name_or (out_of_entries schema r h chains) (name_verdict hs h) later ≡ or_next (walk (entry_fault schema hs h) [] h) walk_later
       by_out None is a next =
-          ap (λ o. name_or o (named hs h) later) is ∙ next (goes_on r (grown L h) h (visit_entries schema r h chains) (a.after is))
-          ∙ sym (ap (λ v. or_next v walk_later) (a.same ∙ ap (λ o. name_or o (named hs h) None) is))
+          ap (λ o. name_or o (name_verdict hs h) later) is ∙ next (goes_on r (append_new L h) h (visit_entries schema r h chains) (a.after is))
+          ∙ sym (ap (λ v. or_next v walk_later) (a.same ∙ ap (λ o. name_or o (name_verdict hs h) None) is))
       by_out (Some o) is a next =
           let v = a.is_named o is in
-          ap (λ p. name_or p (named hs h) later) is ∙ v.1 ∙ sym (ap (λ w. or_next w walk_later) (a.same ∙ ap (λ p. name_or p (named hs h) None) is ∙ v.1))
+          ap (λ p. name_or p (name_verdict hs h) later) is ∙ v.1 ∙ sym (ap (λ w. or_next w walk_later) (a.same ∙ ap (λ p. name_or p (name_verdict hs h) None) is ∙ v.1))
 
 never_read : (s : ℕ) (b : Bool) → cond b 0 0 ≡ zero
 never_read s true = refl

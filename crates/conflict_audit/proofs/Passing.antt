@@ -31,7 +31,7 @@ use Rattle.ordered_bundles.specs.Audit.{conflict, does_not_apply}
 use Rattle.ordered_bundles.proofs.Histories.{all_new, has_content, one_content}
 use Rattle.conflict_audit.specs.Applying.{AllTaken}
 use Rattle.conflict_audit.specs.Chains.{no_chain, conflict_from}
-use Rattle.conflict_audit.specs.Joined.{all_grown}
+use Rattle.conflict_audit.specs.Joined.{append_all_new}
 use Rattle.conflict_audit.proofs.Passes.{all_grown_is, conflict_found}
 
 each_distinct : (opened : Gtids) (js : List JournalValue) → AreJournals js → (h : History) → IsAmong h (histories_of opened js) → AreDistinct h
@@ -42,7 +42,7 @@ pub conflict_passes : (world : World) (js : List JournalValue) → AreJournals j
 conflict_passes world js are equal =
     conflict_found world.schema (histories_of world.opening_set js) (order_distinct world.opening_set (histories_of world.opening_set js) (all_new world.opening_set js are)) (one_content world js equal) (each_distinct world.opening_set js are)
 
-pub order_joined : (opened : Gtids) (js : List JournalValue) → AreJournals js → all_grown [] (histories_of opened js) ≡ order_of (histories_of opened js)
+pub order_joined : (opened : Gtids) (js : List JournalValue) → AreJournals js → append_all_new [] (histories_of opened js) ≡ order_of (histories_of opened js)
 order_joined opened js are = all_grown_is [] (histories_of opened js) (each_distinct opened js are)
 
 -- ---- the schema takes each transaction of the order
@@ -55,7 +55,7 @@ fits_at : (schema : List Table) (es : List Entry) → AllFit schema es → (i : 
 fits_at schema es all i e at =
     subst (λ (x : Entry). Fits schema x.txn) (get_or_from_slice_get es i e e at) (All-get_or (λ (x : Entry). Fits schema x.txn) es i e (slice_get_within es i e at) all)
 
-pub order_taken : (world : World) (js : List JournalValue) (es : List Entry) → AreJournals js → unequal world js ≡ None → IsKept world.schema world.contents es → AllTaken world.schema (all_grown [] (histories_of world.opening_set js))
+pub order_taken : (world : World) (js : List JournalValue) (es : List Entry) → AreJournals js → unequal world js ≡ None → IsKept world.schema world.contents es → AllTaken world.schema (append_all_new [] (histories_of world.opening_set js))
 order_taken world js es are equal kept =
     subst (AllTaken world.schema) (sym (order_joined world.opening_set js are))
     (taken_all world.schema (order_of (histories_of world.opening_set js)) (λ e i.
@@ -73,14 +73,14 @@ conflict_is world js schema opened found are equal same_schema same_set is =
 
 -- what the code knows of the order and the rows
 pub taken_is : (world : World) (js : List JournalValue) (es : List Entry) (schema : List Table) (opened : Gtids) (order : List history.Entry) → AreJournals js → unequal world js ≡ None → IsKept world.schema world.contents es
-    → schema ≡ world.schema → opened ≡ world.opening_set → order ≡ all_grown [] (histories_of opened js) → AllTaken schema order
+    → schema ≡ world.schema → opened ≡ world.opening_set → order ≡ append_all_new [] (histories_of opened js) → AllTaken schema order
 taken_is world js es schema opened order are equal kept same_schema same_set is =
     subst (λ (s : List Table). AllTaken s order) (sym same_schema)
-    (subst (AllTaken world.schema) (sym (is ∙ ap (λ (o : Gtids). all_grown [] (histories_of o js)) same_set)) (order_taken world js es are equal kept))
+    (subst (AllTaken world.schema) (sym (is ∙ ap (λ (o : Gtids). append_all_new [] (histories_of o js)) same_set)) (order_taken world js es are equal kept))
 
 pub applies_is : (world : World) (js : List JournalValue) (schema : List Table) (opened : Gtids) (rows : Rows) (order : List history.Entry) (found : Option Verdict) → AreJournals js
-    → schema ≡ world.schema → opened ≡ world.opening_set → rows ≡ world.opening_rows → order ≡ all_grown [] (histories_of opened js)
+    → schema ≡ world.schema → opened ≡ world.opening_set → rows ≡ world.opening_rows → order ≡ append_all_new [] (histories_of opened js)
     → found ≡ option_map (λ fault. DoesNotApply fault.0 fault.1) (first_fault schema order rows) → found ≡ does_not_apply world js
 applies_is world js schema opened rows order found are same_schema same_set same_rows joined is =
-    let same_order : order ≡ order_of (histories_of world.opening_set js) = joined ∙ ap (λ (o : Gtids). all_grown [] (histories_of o js)) same_set ∙ order_joined world.opening_set js are in
+    let same_order : order ≡ order_of (histories_of world.opening_set js) = joined ∙ ap (λ (o : Gtids). append_all_new [] (histories_of o js)) same_set ∙ order_joined world.opening_set js are in
     is ∙ (λ i. option_map (λ fault. DoesNotApply fault.0 fault.1) (first_fault (same_schema i) (same_order i) (same_rows i)))

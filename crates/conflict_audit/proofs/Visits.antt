@@ -2,7 +2,7 @@
 use Rattle.std.proofs.Common.{◌≡◌, ℕ, zero, suc, ◌+◌, ◌-◌, ◌<◌, ◌⊎◌, Bool, true, false, cond, ◌&&◌, ◌||◌, inl, inr, true≢false, List, [], ◌∷◌, ◌++◌, length, Option, Some, None, refl, sym, ap, ◌∙◌, subst, arith}
 use Rattle.std.specs.Prelude.{slice_get, nat_lt, ◌==◌}
 use Rattle.std.specs.List.{list_any}
-use Rattle.std.specs.Option.{option_map, option_map_or}
+use Rattle.std.specs.Option.{option_map, option_map_or, unwrap_or}
 use Rattle.std.proofs.lemmas.Bool.{eq-eqb, eqb-true, false_from_ne_true, and_from, or_cases}
 use Rattle.std.proofs.lemmas.Option.{same_Some}
 use Rattle.gtid_text.specs.declared.Gtid.{Gtid}
@@ -21,8 +21,7 @@ use Rattle.conflict_audit.specs.declared.chain.Turn.TheVariants.{Again, AtEnd, N
 use Rattle.conflict_audit.specs.declared.turns.OutOfTurn.{OutOfTurn}
 use Rattle.rows.proofs.Hashed.{same_tests}
 use Rattle.std.specs.Map.{lookup}
-use Rattle.std.specs.Option.{unwrap_or}
-use Rattle.conflict_audit.specs.Chains.{KeyChain, no_chain, same_key, chains_of, IsVisitedAt, read_by, was_read, turn_at, turn_of, after_turn, visited, next_in, expected, visit_key, visit_keys, out_at, out_of_keys}
+use Rattle.conflict_audit.specs.Chains.{KeyChain, no_chain, same_key, chains_of, IsVisitedAt, read_by, was_read, turn_at, turn_of, after_turn, visit, next_in, expected, visit_key, visit_keys, out_at, out_of_keys}
 
 -- ---- one chain
 
@@ -48,7 +47,7 @@ turn_is r g c gs n is fresh =
     ∙ ap (λ b. cond b Again (turn_at g (slice_get gs n))) fresh
 
 pub visited_at_end : (r : ℕ) (g : Gtid) (c : KeyChain) (gs : List Gtid) (n : ℕ) → IsRead r c gs n → was_read n gs g ≡ false → slice_get gs n ≡ None → n ≡ length gs
-    → IsRead r (visited r g c) (gs ++ g ∷ []) (n + 1)
+    → IsRead r (visit r g c) (gs ++ g ∷ []) (n + 1)
 visited_at_end r g c gs n is fresh none all =
     let turn : turn_of r g c ≡ AtEnd = turn_is r g c gs n is fresh ∙ ap (turn_at g) none in
     let count : length c.members + 1 ≡ n + 1 = ap (λ (xs : List Gtid). length xs + 1) is.members ∙ ap (λ m. m + 1) (sym all) in
@@ -56,7 +55,7 @@ visited_at_end r g c gs n is fresh none all =
     (subst (λ m. IsRead r (after_turn r g c AtEnd) (gs ++ g ∷ []) m) count (read_now r (c.members ++ g ∷ []) (gs ++ g ∷ []) (length c.members + 1) (ap (λ xs. xs ++ g ∷ []) is.members)))
 
 pub visited_next : (r : ℕ) (g : Gtid) (c : KeyChain) (gs : List Gtid) (n : ℕ) (x : Gtid) → IsRead r c gs n → was_read n gs g ≡ false → slice_get gs n ≡ Some x → same_gtid x g ≡ true
-    → IsRead r (visited r g c) gs (n + 1)
+    → IsRead r (visit r g c) gs (n + 1)
 visited_next r g c gs n x is fresh some same =
     let turn : turn_of r g c ≡ Next = turn_is r g c gs n is fresh ∙ ap (turn_at g) some ∙ ap (λ b. cond b Next (Behind x)) same in
     let count : read_by r c + 1 ≡ n + 1 = ap (λ m. m + 1) is.read in
@@ -88,7 +87,7 @@ again_by r g c false (Some x) was at none = by_same (same_gtid x g) refl none
         ap (λ b. cond b Again (turn_at g (slice_get after.members (read_by r after)))) (read_last c.members g x (read_by r after) (read_by r c) (own r (read_by r c + 1)) at same)
     by_same false same none = cc
 
-pub again : (r : ℕ) (g : Gtid) (c : KeyChain) → expected r g c ≡ None → turn_of r g (visited r g c) ≡ Again
+pub again : (r : ℕ) (g : Gtid) (c : KeyChain) → expected r g c ≡ None → turn_of r g (visit r g c) ≡ Again
 again r g c none = again_by r g c (was_read (read_by r c) c.members g) (slice_get c.members (read_by r c)) refl refl none
 
 -- ---- all chains
@@ -111,13 +110,13 @@ all_visited r g key old new visits = λ i k. at k i
   where
     at : (k : Key) → chains_of new k ≡ visit_key r g key (chains_of old) k
     at k =
-        ap (λ o. unwrap_or o no_chain) (visits k) ∙ unwrap_cond (same_key key k) (visited r g (chains_of old key)) (lookup (same_key k) old)
-        ∙ ap (λ b. cond b (visited r g (chains_of old key)) (chains_of old k)) (same_tests key k ∙ flip key k)
+        ap (λ o. unwrap_or o no_chain) (visits k) ∙ unwrap_cond (same_key key k) (visit r g (chains_of old key)) (lookup (same_key k) old)
+        ∙ ap (λ b. cond b (visit r g (chains_of old key)) (chains_of old k)) (same_tests key k ∙ flip key k)
 
 module _ (r : ℕ) (g : Gtid) (start : Key → KeyChain) where
   -- these keys were visited
   abbrev pub IsVisited : (Key → Bool) → (Key → KeyChain) → Type 0
-  IsVisited done chains = (k : Key) → chains k ≡ cond (done k) (visited r g (start k)) (start k)
+  IsVisited done chains = (k : Key) → chains k ≡ cond (done k) (visit r g (start k)) (start k)
 
   -- what is out of turn at a key, at the start
   abbrev pub out_first : Key → Option OutOfTurn
@@ -127,7 +126,7 @@ module _ (r : ℕ) (g : Gtid) (start : Key → KeyChain) where
   none_out key None e = refl
   none_out key (Some x) e = cc
 
-  same_out : (key : Key) (c : KeyChain) (b : Bool) → c ≡ cond b (visited r g (start key)) (start key) → (b ≡ true → expected r g (start key) ≡ None)
+  same_out : (key : Key) (c : KeyChain) (b : Bool) → c ≡ cond b (visit r g (start key)) (start key) → (b ≡ true → expected r g (start key) ≡ None)
       → option_map (λ x. record { next = x; entry = g; key = key }) (expected r g c) ≡ out_first key
   same_out key c true is quiet =
       ap (λ (c : KeyChain). option_map (λ x. record { next = x; entry = g; key = key }) (expected r g c)) is
@@ -135,18 +134,18 @@ module _ (r : ℕ) (g : Gtid) (start : Key → KeyChain) where
       ∙ ap (option_map (λ x. record { next = x; entry = g; key = key })) (sym (quiet refl))
   same_out key c false is quiet = ap (λ (c : KeyChain). option_map (λ x. record { next = x; entry = g; key = key }) (expected r g c)) is
 
-  one_visit : (key : Key) (c : KeyChain) (b : Bool) → c ≡ cond b (visited r g (start key)) (start key) → expected r g (start key) ≡ None → visited r g c ≡ visited r g (start key)
-  one_visit key c true is quiet = ap (visited r g) is ∙ ap (after_turn r g (visited r g (start key))) (again r g (start key) quiet)
-  one_visit key c false is quiet = ap (visited r g) is
+  one_visit : (key : Key) (c : KeyChain) (b : Bool) → c ≡ cond b (visit r g (start key)) (start key) → expected r g (start key) ≡ None → visit r g c ≡ visit r g (start key)
+  one_visit key c true is quiet = ap (visit r g) is ∙ ap (after_turn r g (visit r g (start key))) (again r g (start key) quiet)
+  one_visit key c false is quiet = ap (visit r g) is
 
   more_done : (done : Key → Bool) (chains : Key → KeyChain) (key : Key) → IsVisited done chains → expected r g (start key) ≡ None → IsVisited (λ k. done k || key_eq k key) (visit_key r g key chains)
   more_done done chains key is quiet k = by_key (key_eq k key) refl (done k) refl
     where
-      by_key : (b : Bool) → key_eq k key ≡ b → (d : Bool) → done k ≡ d → cond b (visited r g (chains key)) (chains k) ≡ cond (d || b) (visited r g (start k)) (start k)
-      by_key true e true f = one_visit key (chains key) (done key) (is key) quiet ∙ ap (λ q. visited r g (start q)) (sym (key_eq_same k key e))
-      by_key true e false f = one_visit key (chains key) (done key) (is key) quiet ∙ ap (λ q. visited r g (start q)) (sym (key_eq_same k key e))
-      by_key false e true f = is k ∙ ap (λ b. cond b (visited r g (start k)) (start k)) f
-      by_key false e false f = is k ∙ ap (λ b. cond b (visited r g (start k)) (start k)) f
+      by_key : (b : Bool) → key_eq k key ≡ b → (d : Bool) → done k ≡ d → cond b (visit r g (chains key)) (chains k) ≡ cond (d || b) (visit r g (start k)) (start k)
+      by_key true e true f = one_visit key (chains key) (done key) (is key) quiet ∙ ap (λ q. visit r g (start q)) (sym (key_eq_same k key e))
+      by_key true e false f = one_visit key (chains key) (done key) (is key) quiet ∙ ap (λ q. visit r g (start q)) (sym (key_eq_same k key e))
+      by_key false e true f = is k ∙ ap (λ b. cond b (visit r g (start k)) (start k)) f
+      by_key false e false f = is k ∙ ap (λ b. cond b (visit r g (start k)) (start k)) f
 
   or_both : (a b c : Bool) → ((a || b) || c) ≡ (a || (b || c))
   or_both true b c = refl
@@ -179,7 +178,7 @@ module _ (r : ℕ) (g : Gtid) (start : Key → KeyChain) where
       by_out : (o : Option Gtid) → expected r g (start key) ≡ o → Visits done chains (key ∷ keys)
       by_out None e = let v = rest e in record {
         out = ap (λ o. or_next o more) same ∙ ap (or_next (out_first key)) v.out;
-        after = λ none k. v.after (next_none (out_at r g key chains) more none).1 k ∙ ap (λ b. cond b (visited r g (start k)) (start k)) (or_both (done k) (key_eq k key) (is_among keys k));
+        after = λ none k. v.after (next_none (out_at r g key chains) more none).1 k ∙ ap (λ b. cond b (visit r g (start k)) (start k)) (or_both (done k) (key_eq k key) (is_among keys k));
       }
       by_out (Some x) e =
           let first_is : ◌≡◌ {A = Option OutOfTurn} (out_first key) (Some (record { next = x; entry = g; key = key })) = ap (option_map (λ x. record { next = x; entry = g; key = key })) e in
@@ -195,10 +194,10 @@ module _ (r : ℕ) (g : Gtid) (start : Key → KeyChain) where
               by_equation e = cc
 
   visits : (done : Key → Bool) (chains : Key → KeyChain) (keys : List Key) → IsVisited done chains → ((k : Key) → done k ≡ true → expected r g (start k) ≡ None) → Visits done chains keys
-  visits done chains [] is quiet = record { out = refl; after = λ none k. is k ∙ ap (λ b. cond b (visited r g (start k)) (start k)) (sym (or_none (done k))) }
+  visits done chains [] is quiet = record { out = refl; after = λ none k. is k ∙ ap (λ b. cond b (visit r g (start k)) (start k)) (sym (or_none (done k))) }
   visits done chains (key ∷ keys) is quiet = with_key done chains key keys is quiet (λ none. visits (λ k. done k || key_eq k key) (visit_key r g key chains) keys (more_done done chains key is none) (quiet_more done key quiet none))
 
   -- From the start: what is out of turn first, and the chains where nothing is.
   pub keys_visited : (keys : List Key) → (out_of_keys r g keys start ≡ first out_first keys)
-      × (out_of_keys r g keys start ≡ None → (k : Key) → visit_keys r g keys start k ≡ cond (is_among keys k) (visited r g (start k)) (start k))
+      × (out_of_keys r g keys start ≡ None → (k : Key) → visit_keys r g keys start k ≡ cond (is_among keys k) (visit r g (start k)) (start k))
   keys_visited keys = let v = visits (λ k. false) start keys (λ k. refl) (λ k e. absurd (true≢false (sym e))) in (v.out, v.after)

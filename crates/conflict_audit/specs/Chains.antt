@@ -8,7 +8,8 @@ use Rattle.gtid_text.specs.declared.Gtid.{Gtid}
 use Rattle.gtid_text.specs.Gtids.{same_gtid}
 use Rattle.rows.specs.declared.change.Key.{Key}
 use Rattle.rows.specs.declared.schema.Table.{Table}
-use Rattle.rows.specs.Order.{key_eq, row_eq}
+use Rattle.rows.specs.Order.{key_eq}
+use Rattle.row_images.specs.Order.{row_eq}
 use Rattle.rows.specs.WriteSet.{write_set}
 use Rattle.world.specs.declared.verdict.Verdict.{Verdict}
 use Rattle.world.specs.Search.{or_next}
@@ -19,13 +20,13 @@ use Rattle.conflict_audit.specs.declared.chain.Turn.{Turn}
 use Rattle.conflict_audit.specs.declared.chain.Turn.TheVariants.{Again, AtEnd, Next, Behind}
 use Rattle.conflict_audit.specs.declared.turns.OutOfTurn.{OutOfTurn}
 
--- those that touched a key, and how many of them stand in the journal that was read last
+-- those that touched a key, and how many of them are in the journal that was read last
 pub record KeyChain : Type 0 where
   pub members : List Gtid
   pub read : ℕ
   pub reader : ℕ
 
--- how many of them stand in this journal
+-- how many of them are in this journal
 abbrev pub read_by : ℕ → KeyChain → ℕ
 read_by r c = if c.reader == r then c.read else 0
 
@@ -48,8 +49,8 @@ after_turn r g c AtEnd = record { members = c.members ++ g ∷ []; read = length
 after_turn r g c Next = record { members = c.members; read = read_by r c + 1; reader = r }
 after_turn r g c (Behind x) = c
 
-abbrev pub visited : ℕ → Gtid → KeyChain → KeyChain
-visited r g c = after_turn r g c (turn_of r g c)
+abbrev pub visit : ℕ → Gtid → KeyChain → KeyChain
+visit r g c = after_turn r g c (turn_of r g c)
 
 abbrev pub next_in : Turn → Option Gtid
 next_in Again = None
@@ -77,10 +78,10 @@ chains_of es k = unwrap_or (lookup (same_key k) es) no_chain
 
 -- the chain of this key was visited, and the others are as they were
 abbrev pub IsVisitedAt : ℕ → Gtid → Key → List (Key × KeyChain) → List (Key × KeyChain) → Type 0
-IsVisitedAt r g key old new = (k : Key) → lookup (same_key k) new ≡ (if same_key key k then Some (visited r g (chains_of old key)) else lookup (same_key k) old)
+IsVisitedAt r g key old new = (k : Key) → lookup (same_key k) new ≡ (if same_key key k then Some (visit r g (chains_of old key)) else lookup (same_key k) old)
 
 abbrev pub visit_key : ℕ → Gtid → Key → (Key → KeyChain) → Key → KeyChain
-visit_key r g key chains k = if key_eq k key then visited r g (chains key) else chains k
+visit_key r g key chains k = if key_eq k key then visit r g (chains key) else chains k
 
 abbrev pub visit_keys : ℕ → Gtid → List Key → (Key → KeyChain) → Key → KeyChain
 visit_keys r g [] chains = chains
@@ -106,9 +107,9 @@ out_of_entries schema r [] chains = None
 out_of_entries schema r (e ∷ es) chains =
     or_next (out_of_keys r e.0 (write_set schema e.1) chains) (out_of_entries schema r es (visit_keys r e.0 (write_set schema e.1) chains))
 
--- what is said of it
-abbrev pub named : List History → History → OutOfTurn → Option Verdict
-named hs h o = option_map (λ a. pair_fault a h o.next o.entry o.key) (bringer hs o.next)
+-- what is reported of it
+abbrev pub name_verdict : List History → History → OutOfTurn → Option Verdict
+name_verdict hs h o = option_map (λ a. pair_fault a h o.next o.entry o.key) (bringer hs o.next)
 
 abbrev pub name_or : Option OutOfTurn → (OutOfTurn → Option Verdict) → Option Verdict → Option Verdict
 name_or None name later = later
@@ -118,4 +119,4 @@ name_or (Some o) name later = name o
 abbrev pub conflict_from : List Table → List History → ℕ → List History → (Key → KeyChain) → Option Verdict
 conflict_from schema hs r [] chains = None
 conflict_from schema hs r (h ∷ rest) chains =
-    name_or (out_of_entries schema r h chains) (named hs h) (conflict_from schema hs (r + 1) rest (visit_entries schema r h chains))
+    name_or (out_of_entries schema r h chains) (name_verdict hs h) (conflict_from schema hs (r + 1) rest (visit_entries schema r h chains))

@@ -7,10 +7,10 @@ use Rattle.conflict_order.specs.Histories.{History, has}
 abbrev pub with_entry : List Entry → Entry → List Entry
 with_entry order e = if has order e.0 then order else order ++ e ∷ []
 
-abbrev pub grown : List Entry → History → List Entry
-grown order [] = order
-grown order (e ∷ es) = grown (with_entry order e) es
+abbrev pub append_new : List Entry → History → List Entry
+append_new order [] = order
+append_new order (e ∷ es) = append_new (with_entry order e) es
 
-abbrev pub all_grown : List Entry → List History → List Entry
-all_grown order [] = order
-all_grown order (h ∷ hs) = all_grown (grown order h) hs
+abbrev pub append_all_new : List Entry → List History → List Entry
+append_all_new order [] = order
+append_all_new order (h ∷ hs) = append_all_new (append_new order h) hs

@@ -1,14 +1,14 @@
 //! The transactions that touch one key, in one order, and how far a journal has them.
 ghost use Rattle.std.specs.Prelude.{◌≡◌, IfOk, OnOk};
 ghost use Rattle.std.specs.Option.{option_copied};
-ghost use Rattle.conflict_audit.specs.Chains.{no_chain, read_by, was_read, turn_of, turn_at, visited, expected};
+ghost use Rattle.conflict_audit.specs.Chains.{no_chain, read_by, was_read, turn_of, turn_at, visit, expected};
 
 use gtid_text::Gtid;
 use std::alloc::{AllocError, Global};
 use std::marker::Model;
 
 /// Those that touch a key, in one order. Of the journal that was read last it is known how many of
-/// them stand in it; a journal that is read for the first time has none.
+/// them are in it; a journal that is read for the first time has none.
 #[derive(Drop)]
 pub(crate) struct Chain {
     members: Vec<Gtid>,
@@ -29,7 +29,7 @@ impl Model for Chain {
 pub(crate) enum Turn {
     /// It was read just now: it touches the key twice.
     Again,
-    /// All of the chain was read. It is new, and comes behind them.
+    /// All of the chain was read. It is new, and comes after them.
     AtEnd,
     /// It is the next of the chain.
     Next,
@@ -76,7 +76,7 @@ impl Chain {
         }
     }
 
-    /// How many of them stand in this journal.
+    /// How many of them are in this journal.
     fn read_by(&self, reader: usize) -> usize
         ensures { result ≡ read_by reader self.now }
     {
@@ -96,7 +96,7 @@ impl Chain {
     /// A journal has this GTID next of those that touch the key. Gives what has to come before it, if
     /// anything.
     pub(crate) fn visit(&mut self, reader: usize, gtid: &Gtid) -> Result<Option<Gtid>, AllocError>
-        ensures chain { OnOk result (self.new ≡ visited reader gtid.now self.old) }
+        ensures chain { OnOk result (self.new ≡ visit reader gtid.now self.old) }
         ensures found { IfOk result (λ next. next ≡ expected reader gtid.now self.old) }
     {
         match self.turn_of(reader, gtid) {

@@ -6,7 +6,7 @@ ghost use Rattle.ordered_bundles.specs.Audit.{conflict};
 ghost use Rattle.ordered_bundles.specs.Bundles.{histories_of};
 ghost use Rattle.conflict_audit.specs.Chains.{no_chain, conflict_from};
 
-use crate::naming::named;
+use crate::naming::name_verdict;
 use crate::turns::out_of_entries;
 use audit::World;
 use gtid_set::GtidSet;
@@ -29,7 +29,7 @@ fn first_out_of_turn(
     for (number, journal) in journals.iter().enumerate() {
         let entries = journal.entries();
         if let Some(out) = out_of_entries(alloc, &mut chains, opened, schema, number, entries)? {
-            return Ok(named(opened, journals, journal, out));
+            return Ok(name_verdict(opened, journals, journal, out));
         }
     }
     Ok(None)

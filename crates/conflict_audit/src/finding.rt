@@ -3,12 +3,11 @@ ghost use Rattle.std.specs.Prelude.{◌≡◌, IfOk, IfErr, None};
 ghost use Rattle.world.specs.Audit.{unequal};
 ghost use Rattle.world.specs.Meaning.{AreJournals};
 ghost use Rattle.audit.specs.Faults.{IsAuditFault};
-ghost use Rattle.audit.specs.Worlds.{IsWorldOf};
 ghost use Rattle.ordered_bundles.specs.Audit.{does_not_apply, found_in_keys, verdict_of_keys, verdict_in_order};
 
 use crate::applying::first_refusal;
 use crate::conflict::first_conflict;
-use crate::joined::joined;
+use crate::joined::join_journals;
 use audit::{World, audit_gtids, keep_rules};
 use gtid_set::SetFault;
 use journal::Journal;
@@ -21,7 +20,6 @@ fn found_in_keys(
     world: &World,
     journals: &[Journal],
 ) -> Result<Option<Verdict>, SetFault>
-    requires { IsWorldOf world.now journals.now }
     ensures found { IfOk result (λ found. found ≡ found_in_keys world.now journals.now) }
     ensures fault { IfErr result (IsAuditFault world.now.opening_set journals.now) }
 {
@@ -38,13 +36,12 @@ fn does_not_apply(
     world: &World,
     journals: &[Journal],
 ) -> Result<Option<Verdict>, AllocError>
-    requires of_journals { IsWorldOf world.now journals.now }
-    requires equal { unequal world.now journals.now ≡ None }
+    requires { unequal world.now journals.now ≡ None }
     ensures { IfOk result (λ found. found ≡ does_not_apply world.now journals.now) }
 {
     keep_rules(journals);
     let _fitting = world.in_order();
-    let order = joined(alloc, world.opened(), journals)?;
+    let order = join_journals(alloc, world.opened(), journals)?;
     let mut rows = world.rows().copy()?;
     first_refusal(alloc, &mut rows, &order)
 }
@@ -57,7 +54,6 @@ pub fn audit_keys_in_order(
     world: &World,
     journals: &[Journal],
 ) -> Result<Verdict, SetFault>
-    requires { IsWorldOf world.now journals.now }
     ensures found { IfOk result (λ found. found ≡ verdict_of_keys world.now journals.now) }
     ensures fault { IfErr result (IsAuditFault world.now.opening_set journals.now) }
 {
@@ -72,7 +68,6 @@ pub fn audit_in_order(
     world: &World,
     journals: &[Journal],
 ) -> Result<Verdict, SetFault>
-    requires { IsWorldOf world.now journals.now }
     ensures found { IfOk result (λ found. found ≡ verdict_in_order world.now journals.now) }
     ensures fault { IfErr result (IsAuditFault world.now.opening_set journals.now) }
 {

@@ -1,7 +1,7 @@
 //! Journals joined to one order.
 ghost use Rattle.std.specs.Prelude.{◌≡◌, [], IfOk, OnOk};
 ghost use Rattle.ordered_bundles.specs.Bundles.{beyond_opening, histories_of};
-ghost use Rattle.conflict_audit.specs.Joined.{with_entry, grown, all_grown};
+ghost use Rattle.conflict_audit.specs.Joined.{with_entry, append_new, append_all_new};
 
 use gtid_set::GtidSet;
 use gtid_text::Gtid;
@@ -30,7 +30,7 @@ fn join_entries(
     opened: &GtidSet,
     entries: &[Entry],
 ) -> Result<(), AllocError>
-    ensures { OnOk result (order.new.entries ≡ grown order.old.entries (beyond_opening opened.now entries.now)) }
+    ensures { OnOk result (order.new.entries ≡ append_new order.old.entries (beyond_opening opened.now entries.now)) }
 {
     for entry in entries {
         if opened.contains(&entry.gtid) {
@@ -43,12 +43,12 @@ fn join_entries(
 
 /// The journals' transactions beyond the opening set in one order: each journal in turn, what it has
 /// beyond the earlier ones. The images are shared with the journals.
-pub(crate) fn joined(
+pub(crate) fn join_journals(
     alloc: Global,
     opened: &GtidSet,
     journals: &[Journal],
 ) -> Result<IndexMap<Gtid, Transaction>, AllocError>
-    ensures { IfOk result (λ order. order.entries ≡ all_grown [] (histories_of opened.now journals.now)) }
+    ensures { IfOk result (λ order. order.entries ≡ append_all_new [] (histories_of opened.now journals.now)) }
 {
     let mut order = IndexMap::new(alloc);
     for journal in journals {

@@ -1,7 +1,8 @@
 //! The audit of journals in one order: the first verdict that holds, as crate `ordered_bundles` defines it.
 //!
 //! What a contract sees: a `World` is that of crate `audit`. `audit_in_order` gives exactly the definition `verdict_in_order` (`found`),
-//! and `audit_keys_in_order` all of it but the application. So the laws of `ordered_bundles` hold of what they give.
+//! and `audit_keys_in_order` all of it but the application. So the laws of `ordered_bundles` hold of what they give. The journals that are
+//! audited may be others than those that the world was made of.
 //!
 //! An error is that of `audit` (`fault`).
 //!

@@ -1,10 +1,10 @@
-//! What is said of an entry that is out of turn.
+//! What is reported of an entry that is out of turn.
 ghost use Rattle.std.specs.Prelude.{◌≡◌};
 ghost use Rattle.world.specs.Audit.{stands_in};
 ghost use Rattle.conflict_order.specs.Histories.{has};
 ghost use Rattle.ordered_bundles.specs.Audit.{pair_fault};
 ghost use Rattle.ordered_bundles.specs.Bundles.{beyond_opening, history_of, histories_of};
-ghost use Rattle.conflict_audit.specs.Chains.{named};
+ghost use Rattle.conflict_audit.specs.Chains.{name_verdict};
 
 use crate::turns::OutOfTurn;
 use gtid_set::GtidSet;
@@ -45,14 +45,14 @@ fn pair_fault(opened: &GtidSet, bringer: &Journal, journal: &Journal, out: OutOf
     }
 }
 
-/// What is said of an entry that is out of turn in a journal, and of what has to come before it.
-pub(crate) fn named(
+/// What is reported of an entry that is out of turn in a journal, and of what has to come before it.
+pub(crate) fn name_verdict(
     opened: &GtidSet,
     journals: &[Journal],
     journal: &Journal,
     out: OutOfTurn,
 ) -> Option<Verdict>
-    ensures { result ≡ named (histories_of opened.now journals.now) (history_of opened.now journal.now) out }
+    ensures { result ≡ name_verdict (histories_of opened.now journals.now) (history_of opened.now journal.now) out }
 {
     for bringer in journals {
         if has(opened, bringer.entries(), &out.next) {

@@ -21,9 +21,9 @@ use Rattle.conflict_order.proofs.Lists.{has_of, found_at, in_part, into_part, be
 use Rattle.conflict_order.proofs.Joining.{among_all, all_among, in_beyond, all_has, opened_not, consistent_have_an_order}
 use Rattle.conflict_order.proofs.Faults.{extended_are_consistent}
 
--- ---- fronts
+-- ---- prefixes
 
--- in a list without doubles, nothing stands both in a front and after it; and what stands before one of the front stands before it in the front
+-- in a list without doubles, nothing stands both in a prefix and after it; and what comes before one of the prefix comes before it in the prefix
 pub twice : (xs zs : List Entry) (f : Entry) → AreDistinct (xs ++ zs) → IsIn f xs → IsIn f zs → ⊥
 twice [] zs f d i j = i
 twice (x ∷ xs) zs f d (inl same) j = all_in (λ (y : Entry). x.0 ≢ y.0) f (xs ++ zs) d.0 (in_back xs zs f j) (ap (λ (y : Entry). y.0) same)
@@ -37,7 +37,7 @@ before_in_the_front xs zs e f d p i = by_part (before_either xs zs e f p)
     by_part (inr (inl r)) = absurd (twice xs zs f d i r.1)
     by_part (inr (inr q)) = absurd (twice xs zs f d i (second_in zs e f q))
 
--- The other way: a part of a list that has, before each of its own, all that stands before it in the list, is a front.
+-- The other way: a part of a list that has, before each of its own, all that comes before it in the list, is a prefix.
 front_of : (xs ys : List Entry) → AreDistinct xs → AreDistinct ys → ((e : Entry) → IsIn e xs → IsIn e ys) → ((e f : Entry) → Precedes ys e f → IsIn f xs → Precedes xs e f) → IsFront xs ys
 front_of [] ys d c known ordered = (ys, refl)
 front_of (x ∷ xs) [] d c known ordered = absurd (known x (inl refl))

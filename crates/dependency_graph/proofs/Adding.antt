@@ -1,4 +1,4 @@
--- A node is added behind the others, and linked at each of its keys.
+-- A node is added after the others, and linked at each of its keys.
 use Rattle.std.proofs.Common.{◌≡◌, ℕ, zero, suc, ◌+◌, ◌-◌, ◌<◌, ◌≤◌, ◌⊎◌, Bool, true, false, ◌||◌, cond, List, [], ◌∷◌, ◌++◌, map, length, replicate, Option, is_some, refl, sym, ap, subst, ◌∙◌, ⊎_elim, inl, inr, arith, take, drop, append_assoc, nat_eq, eq-eqb}
 use Rattle.std.proofs.lemmas.Bool.{lt-ltb, le-ltb, cases_lt, both_ways}
 use Rattle.std.proofs.lemmas.List.{take_more, drop_more, map-append, length_push, get_or_append_left, get_or_push, get_or_past}

@@ -1,6 +1,5 @@
--- The nodes behind those that were dropped.
-use Rattle.std.proofs.Common.{◌≡◌, ℕ, zero, suc, ◌+◌, ◌-◌, ◌<◌, ◌≤◌, Bool, true, false, List, [], ◌∷◌, ◌++◌, map, length, replicate, refl, sym, ap, ◌∙◌, arith}
-use Rattle.std.proofs.Common.{not, ◌&&◌, take}
+-- The nodes after those that were dropped.
+use Rattle.std.proofs.Common.{◌≡◌, ℕ, zero, suc, ◌+◌, ◌-◌, ◌<◌, ◌≤◌, Bool, true, false, List, [], ◌∷◌, ◌++◌, map, length, replicate, refl, sym, ap, ◌∙◌, arith, not, ◌&&◌, take}
 use Rattle.std.proofs.Math.Dec.{ltb, eqb-suc-zero}
 use Rattle.std.proofs.lemmas.Bool.{ltb-true, ltb-false}
 use Rattle.std.specs.Prelude.{slice_index_or, nat_eq, is_none, Option, None}

@@ -89,7 +89,7 @@ count_one : (b : Bool) (c : ℕ) (r : Bool) → r ≡ nat_eq c 0 → (not b && r
 count_one true c r h = let more : suc c ≡ 1 + c = omega arith in sym (ap (λ n. nat_eq n 0) (sym more) ∙ eqb-suc-zero c)
 count_one false c r h = let same : c ≡ 0 + c = omega arith in h ∙ ap (λ n. nat_eq n 0) same
 
--- nothing holds the keys back where none of them has an earlier node at its front
+-- nothing holds the keys back where none of them has an earlier node at its head
 pub ready_count : (first : Key → Option ℕ) (n : ℕ) (ps : List Point) → ((k : Key) → first k ≡ least (is_open_at k) 0 ps) → (ks : List Key)
     → is_none (least (holds_back ks) 0 (take n ps)) ≡ nat_eq (waiting first n ks) 0
 ready_count first n ps h [] = ap is_none (none_at 0 (take n ps))

@@ -1,4 +1,4 @@
--- A node is marked as finished, its keys are settled one by one, and the finished beginning is dropped.
+-- A node is marked as finished, its keys are settled one by one, and the finished prefix is dropped.
 use Rattle.std.proofs.Common.{◌≡◌, ℕ, zero, suc, ◌+◌, ◌<◌, Bool, true, false, not, ◌&&◌, ◌||◌, cond, List, [], ◌∷◌, ◌++◌, map, length, replicate, Some, refl, sym, ap, subst, ◌∙◌, ⊎_elim, inl, inr, arith, drop}
 use Rattle.std.proofs.lemmas.Bool.{cases_eq, both_ways}
 use Rattle.std.proofs.lemmas.List.{get_or-set_same, get_or-set_other}
@@ -8,7 +8,7 @@ use Rattle.rows.specs.declared.change.Key.{Key}
 use Rattle.rows.specs.Order.{key_eq}
 use Rattle.rows.specs.Total.{key_eq_same}
 use Rattle.rows.specs.WriteSet.{is_among}
-use Rattle.dependency_graph.specs.Graphs.{Point, gone, point_at, is_open_at, dropped}
+use Rattle.dependency_graph.specs.Graphs.{Point, gone, point_at, is_open_at, drop_finished}
 use Rattle.dependency_graph.specs.Chains.{first_number}
 use Rattle.dependency_graph.specs.Kept.{points, point_of, waiting, is_finished_at, is_finished_first, StartsOpen, IsChained, IsCounted, IsKept, keys_at, IsFrontOpen}
 use Rattle.dependency_graph.specs.declared.graph.Node.{Node}
@@ -142,7 +142,7 @@ kept_settled d nodes c k late kept front = record {
   counted = kept.counted;
 }
 
--- ---- the finished beginning
+-- ---- the finished prefix
 one_gone : (d : ℕ) (ps : List Point) → replicate (suc d) gone ++ ps ≡ replicate d gone ++ gone ∷ ps
 one_gone zero ps = refl
 one_gone (suc d) ps = ap (λ qs. gone ∷ qs) (one_gone d ps)
@@ -150,29 +150,29 @@ one_gone (suc d) ps = ap (λ qs. gone ∷ qs) (one_gone d ps)
 more_gone : (d : ℕ) (ps : List Point) → replicate (d + 1) gone ++ ps ≡ replicate d gone ++ gone ∷ ps
 more_gone d ps = let same : d + 1 ≡ suc d = omega arith in ap (λ n. replicate n gone ++ ps) same ∙ one_gone d ps
 
-behind_gone : (d : ℕ) (ps : List Point) → dropped (replicate d gone ++ ps) ≡ replicate d gone ++ dropped ps
+behind_gone : (d : ℕ) (ps : List Point) → drop_finished (replicate d gone ++ ps) ≡ replicate d gone ++ drop_finished ps
 behind_gone zero ps = refl
 behind_gone (suc d) ps = ap (λ qs. gone ∷ qs) (behind_gone d ps)
 
-goes : (d : ℕ) (n : Node) (rest : List Node) → n.finished ≡ true → dropped (points (d + 1) rest) ≡ dropped (points d (n ∷ rest))
+goes : (d : ℕ) (n : Node) (rest : List Node) → n.finished ≡ true → drop_finished (points (d + 1) rest) ≡ drop_finished (points d (n ∷ rest))
 goes d n rest e =
-    ap dropped (more_gone d (map point_of rest))
+    ap drop_finished (more_gone d (map point_of rest))
     ∙ behind_gone d (gone ∷ map point_of rest)
-    ∙ ap (λ b. replicate d gone ++ cond b (gone ∷ dropped (map point_of rest)) (point_of n ∷ map point_of rest)) (sym e)
+    ∙ ap (λ b. replicate d gone ++ cond b (gone ∷ drop_finished (map point_of rest)) (point_of n ∷ map point_of rest)) (sym e)
     ∙ sym (behind_gone d (point_of n ∷ map point_of rest))
 
-stays : (d : ℕ) (n : Node) (rest : List Node) → n.finished ≡ false → points d (n ∷ rest) ≡ dropped (points d (n ∷ rest))
+stays : (d : ℕ) (n : Node) (rest : List Node) → n.finished ≡ false → points d (n ∷ rest) ≡ drop_finished (points d (n ∷ rest))
 stays d n rest e =
     sym (behind_gone d (point_of n ∷ map point_of rest)
-    ∙ ap (λ b. replicate d gone ++ cond b (gone ∷ dropped (map point_of rest)) (point_of n ∷ map point_of rest)) e)
+    ∙ ap (λ b. replicate d gone ++ cond b (gone ∷ drop_finished (map point_of rest)) (point_of n ∷ map point_of rest)) e)
 
-pub nothing_goes : (d : ℕ) (nodes : List Node) → is_finished_first nodes ≡ false → points d nodes ≡ dropped (points d nodes)
+pub nothing_goes : (d : ℕ) (nodes : List Node) → is_finished_first nodes ≡ false → points d nodes ≡ drop_finished (points d nodes)
 nothing_goes d [] e = sym (behind_gone d [])
 nothing_goes d (n ∷ rest) e = stays d n rest e
 
-pub drop_goes : (d : ℕ) (nodes new : List Node) → is_finished_first nodes ≡ true → new ≡ drop 1 nodes → dropped (points (d + 1) new) ≡ dropped (points d nodes)
+pub drop_goes : (d : ℕ) (nodes new : List Node) → is_finished_first nodes ≡ true → new ≡ drop 1 nodes → drop_finished (points (d + 1) new) ≡ drop_finished (points d nodes)
 drop_goes d [] new e is = cc
-drop_goes d (n ∷ rest) new e is = ap (λ ns. dropped (points (d + 1) ns)) is ∙ goes d n rest e
+drop_goes d (n ∷ rest) new e is = ap (λ ns. drop_finished (points (d + 1) ns)) is ∙ goes d n rest e
 
 -- two lists of nodes that are open and finished alike
 record IsAlike (ps qs : List Point) : Type 0 where

@@ -7,7 +7,7 @@ use Rattle.rows.specs.Order.{key_eq}
 use Rattle.rows.specs.Total.{key_eq_self}
 use Rattle.rows.specs.WriteSet.{is_among}
 use Rattle.slab.specs.Slab.{slab_len}
-use Rattle.dependency_graph.specs.Graphs.{Point, gone, marked_at, point_at}
+use Rattle.dependency_graph.specs.Graphs.{Point, gone, mark_at, point_at}
 use Rattle.std.specs.Bool.{OnTrue, OnFalse}
 use Rattle.dependency_graph.specs.Chains.{Holds, with_chain, first_number, first_of, PopsFirst}
 use Rattle.dependency_graph.specs.Kept.{points, point_of, is_finished_at, IsKept, keys_at, IsFrontOpen, Releases, CanRelease}
@@ -102,7 +102,7 @@ settled d nodes c ks i lt kept front =
     kept_settled d nodes c (slice_index_or ks i some_key) (drop (i + 1) ks) (subst (IsKept d nodes c) parts kept) (subst (IsFrontOpen (points d nodes) c) parts front)
 
 pub marked_is : (d : ℕ) (nodes now : List Node) (at : ℕ) (x : Node) → x ≡ slice_index_or nodes at x → at < length nodes
-    → map point_of now ≡ map point_of (slice_set nodes at (record x { finished = true })) → points d now ≡ marked_at (points d nodes) (d + at)
+    → map point_of now ≡ map point_of (slice_set nodes at (record x { finished = true })) → points d now ≡ mark_at (points d nodes) (d + at)
 marked_is d nodes now at x read lt same =
     ap (λ qs. replicate d gone ++ qs) same
     ∙ points_set d at nodes (record x { finished = true })

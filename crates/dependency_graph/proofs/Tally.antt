@@ -28,7 +28,7 @@ tally_nothing p a (suc k) h =
     ap (λ b. cond b 1 0 + tally p (suc a) k) (h a (omega arith) (omega arith))
     ∙ (let rest = tally_nothing p (suc a) k (λ m lo hi. h m (omega (lo, arith)) (omega (hi, arith))) in omega (rest, arith))
 
--- the numbers before one, that one, and those behind it
+-- the numbers before one, that one, and those after it
 pub tally_at : (p : ℕ → Bool) (a j k n : ℕ) → n ≡ j + suc k → tally p a n ≡ tally p a j + (cond (p (a + j)) 1 0 + tally p (suc (a + j)) k)
 tally_at p a zero k n e =
     let whole : tally p a n ≡ cond (p a) 1 0 + tally p (suc a) k = ap (tally p a) (next e) in
@@ -87,7 +87,7 @@ tally_more p q a k n t lo hi =
     let high = is.1 in
     omega (old, new, front, back, was, low, high, arith)
 
--- a number stands in its block
+-- a number is in its block
 pub in_block : (w n : ℕ) → 0 < w → (n / w * w ≤ n) × (n < n / w * w + w)
 in_block w n pos = (div-mul-le_self n w, lt-div-mul-add pos)
 
@@ -117,7 +117,7 @@ by_below true first w n pos e lo =
     absurd (omega (far, hi, lo, arith))
 by_below false first w n pos e lo = ltb-false (n / w) first e
 
--- a block that starts by a number is not behind the number's
+-- a block that starts by a number is not after the number's
 pub from_block : (first w n : ℕ) → 0 < w → first * w ≤ n → first ≤ n / w
 from_block first w n pos lo = by_below (ltb (n / w) first) first w n pos refl lo
 
@@ -129,7 +129,7 @@ by_above false end w n pos e hi =
     let lo = here.0 in
     absurd (omega (le, lo, hi, arith))
 
--- a number before a block stands in an earlier one
+-- a number before a block is in an earlier one
 pub below_block : (end w n : ℕ) → 0 < w → n < end * w → n / w < end
 below_block end w n pos hi = by_above (ltb (n / w) end) end w n pos refl hi
 

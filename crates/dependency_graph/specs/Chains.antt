@@ -7,7 +7,8 @@ use Rattle.std.specs.Cmp.Lexicographic.{slice_cmp}
 use Rattle.std.specs.Option.{unwrap_or, option_map, option_map_or, option_and_then}
 use Rattle.slab.specs.Slab as slots
 use Rattle.rows.specs.declared.change.Key.{Key}
-use Rattle.rows.specs.Order.{key_eq, row_eq}
+use Rattle.rows.specs.Order.{key_eq}
+use Rattle.row_images.specs.Order.{row_eq}
 use Rattle.rows.specs.WriteSet.{is_among}
 use Rattle.dependency_graph.specs.declared.chains.Chains.{Chains}
 use Rattle.dependency_graph.specs.declared.chains.Edge.{Edge}
@@ -33,7 +34,7 @@ abbrev pub ends_of : List Link → Option Ends
 ends_of [] = None
 ends_of (l ∷ ls) = Some (record { first = l.at; last = last_of l ls })
 
--- the edges that these links stand for, one behind the other
+-- the edges that these links denote, one after the other
 abbrev pub IsLinked : (ℕ → Option Edge) → List Link → Type 0
 IsLinked edges [] = ⊤
 IsLinked edges (l ∷ ls) = (edges l.at ≡ Some (record { node = l.node; after = head_of ls })) × IsLinked edges ls
@@ -114,7 +115,7 @@ pub record KeepsRoom (old new : Chains) : Type 0 where
   pub edges : (more : ℕ) → slots.HasRoomFor old.edges (suc more) → slots.HasRoomFor new.edges more
   pub entries : (k : Key) → HasEntry old k → HasEntry new k
 
--- the edge has this one behind it
+-- the edge has this one after it
 abbrev pub Links : Chains → Chains → ℕ → ℕ → Type 0
 Links old new last at = (edge : Edge) → edge_at old last ≡ Some edge → edge_at new last ≡ Some (record edge { after = Some at })
 
@@ -122,14 +123,14 @@ abbrev pub first_or : ℕ → Option Ends → ℕ
 first_or at ends = option_map_or (λ (e : Ends). e.first) ends at
 
 -- the ends of a chain that ends with this edge now
-abbrev pub ended : ℕ → Option Ends → Ends
-ended at before = record { first = first_or at before; last = at }
+abbrev pub extend_ends : ℕ → Option Ends → Ends
+extend_ends at before = record { first = first_or at before; last = at }
 
 -- the last edge of the key's chain is there
 abbrev pub HasLast : Chains → Key → Type 0
 HasLast c key = (e : Ends) → ends_at c key ≡ Some e → IsSome (edge_at c e.last)
 
--- the node has an edge of its own behind the key's last one
+-- the node has an edge of its own after the key's last one
 pub record Pushes (old new : Chains) (key : Key) (node : ℕ) : Type 0 where
   pub at : ℕ
   pub fresh : edge_at old at ≡ None
@@ -138,7 +139,7 @@ pub record Pushes (old new : Chains) (key : Key) (node : ℕ) : Type 0 where
   pub same : (j : ℕ) → (j ≡ at → ⊥) → ((e : Ends) → ends_at old key ≡ Some e → e.last ≡ j → ⊥) → edge_at new j ≡ edge_at old j
   pub ends : (k : Key) → ends_at new k ≡ cond (key_eq k key) (Some (record { first = first_or at (ends_at old key); last = at })) (ends_at old k)
 
--- the key's chain begins with the edge behind its first one
+-- the key's chain begins with the edge after its first one
 pub record Pops (old new : Chains) (key : Key) (e : Ends) (edge : Edge) : Type 0 where
   pub fewer : slots.slab_len new.edges + 1 ≡ slots.slab_len old.edges
   pub same : (j : ℕ) → (j ≡ e.first → ⊥) → edge_at new j ≡ edge_at old j

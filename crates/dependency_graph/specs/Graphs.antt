@@ -13,7 +13,7 @@ pub record Point : Type 0 where
 abbrev pub point_code : Coded Point
 point_code = code_by (Bool × List Key) (coded× coded_bool (coded_list key_code)) (λ p. (p.finished, p.keys)) (λ p. record { finished = p.0; keys = p.1 }) (λ _. refl)
 
--- a node of the longest finished beginning
+-- a node of the longest finished prefix
 abbrev pub gone : Point
 gone = record { finished = true; keys = [] }
 
@@ -53,18 +53,18 @@ abbrev pub IsNextReady : List Point → ℕ → Option ℕ → Type 0
 IsNextReady ps from None = (m : ℕ) → from ≤ m → m < length ps → may_go ps m ≡ false
 IsNextReady ps from (Some n) = (from ≤ n) × (n < length ps) × (may_go ps n ≡ true) × ((m : ℕ) → from ≤ m → m < n → may_go ps m ≡ false)
 
--- without the keys of the longest finished beginning
-abbrev pub dropped : List Point → List Point
-dropped [] = []
-dropped (p ∷ ps) = cond p.finished (gone ∷ dropped ps) (p ∷ ps)
+-- without the keys of the longest finished prefix
+abbrev pub drop_finished : List Point → List Point
+drop_finished [] = []
+drop_finished (p ∷ ps) = cond p.finished (gone ∷ drop_finished ps) (p ∷ ps)
 
 -- with this node finished
-abbrev pub marked_at : List Point → ℕ → List Point
-marked_at ps n = slice_set ps n (record (point_at ps n) { finished = true })
+abbrev pub mark_at : List Point → ℕ → List Point
+mark_at ps n = slice_set ps n (record (point_at ps n) { finished = true })
 
 -- once this node is finished
-abbrev pub finished_at : List Point → ℕ → List Point
-finished_at ps n = dropped (marked_at ps n)
+abbrev pub finish_at : List Point → ℕ → List Point
+finish_at ps n = drop_finished (mark_at ps n)
 
 -- a graph with room for a node that touches these keys
 pub record Awaiting : Type 0 where

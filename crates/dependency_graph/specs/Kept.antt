@@ -1,4 +1,4 @@
--- What a graph keeps: its nodes behind those that were dropped, and the chains of their keys.
+-- What a graph keeps: its nodes after those that were dropped, and the chains of their keys.
 use Rattle.std.specs.Prelude.{ℕ, ◌+◌, ◌-◌, ◌≡◌, ◌<◌, ◌≤◌, ◌⊎◌, ⊤, Bool, true, false, cond, nat_lt, nat_eq, List, [], ◌∷◌, ◌++◌, map, length, replicate, slice_index_or, slice_set, Option, Some, take, ◌≢◌}
 use Rattle.std.specs.Option.{option_map_or}
 use Rattle.std.specs.List.{list_any, AllByRecursion, AllPairs, IsDistinct}
@@ -21,7 +21,7 @@ points before nodes = replicate before gone ++ map point_of nodes
 abbrev pub is_below : ℕ → Option ℕ → Bool
 is_below n first = option_map_or (λ f. nat_lt f n) first false
 
--- how many keys have an earlier node at the front of their chain
+-- how many keys have an earlier node at the head of their chain
 abbrev pub waiting : (Key → Option ℕ) → ℕ → List Key → ℕ
 waiting first n [] = 0
 waiting first n (k ∷ ks) = cond (is_below n (first k)) 1 0 + waiting first n ks
@@ -48,7 +48,7 @@ abbrev pub StartsOpen : List Point → Bool → List ℕ → Type 0
 StartsOpen ps late [] = ⊤
 StartsOpen ps late (n ∷ ns) = (is_finished_at ps n ≡ false) ⊎ (late ≡ true)
 
--- The chain of a key holds its unfinished nodes, and behind the first of them perhaps finished ones.
+-- The chain of a key holds its unfinished nodes, and after the first of them perhaps finished ones.
 -- Only the chains of late keys may begin with a finished node.
 pub record IsChained (ps : List Point) (nodes : Key → List ℕ) (late : List Key) : Type 0 where
   pub rising : (k : Key) → IsRising (nodes k)
@@ -84,11 +84,11 @@ pub record LowersAt (before : ℕ) (old new : List Node) (n : ℕ) : Type 0 wher
   pub at : node ≡ slice_index_or old (n - before) node
   pub is : new ≡ slice_set old (n - before) (record node { waits = node.waits - 1 })
 
--- an unfinished node that comes to the front of a chain counts that key
+-- an unfinished node that comes to the head of a chain counts that key
 abbrev pub CanRelease : ℕ → List Node → Option ℕ → Type 0
 CanRelease before nodes first = (n : ℕ) (x : Node) → first ≡ Some n → is_finished_at (points before nodes) n ≡ false → x ≡ slice_index_or nodes (n - before) x → 1 ≤ x.waits
 
--- an unfinished node that comes to the front of a chain counts one key less
+-- an unfinished node that comes to the head of a chain counts one key less
 pub record Releases (before : ℕ) (old new : List Node) (first : Option ℕ) : Type 0 where
   pub unfinished : (n : ℕ) → first ≡ Some n → is_finished_at (points before old) n ≡ false → LowersAt before old new n
   pub others : ((n : ℕ) → first ≡ Some n → is_finished_at (points before old) n ≡ true) → new ≡ old
@@ -108,7 +108,7 @@ CountsAll old keys node waits = (f : Key → List ℕ) → Holds old f → IsBel
 abbrev pub awaiting_of : ℕ → List Node → Awaiting
 awaiting_of before nodes = record { nodes = points before (take (length nodes - 1) nodes); keys = keys_at nodes (length nodes - 1) }
 
--- room for the last of these nodes, behind those that are kept
+-- room for the last of these nodes, after those that are kept
 pub record IsReserved (before : ℕ) (nodes : List Node) (c : Chains) : Type 0 where
   pub old : List Node
   pub node : Node

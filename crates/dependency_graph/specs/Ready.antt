@@ -76,18 +76,18 @@ pub record Passes (old new : Level) (block : ℕ) : Type 0 where
   pub counts : (b : ℕ) → new.first ≤ b → count_at new b ≡ count_at old b
 
 -- an unfinished node that waits for no key
-abbrev pub goes : Node → Bool
-goes n = not n.finished && nat_eq n.waits 0
+abbrev pub is_unblocked : Node → Bool
+is_unblocked n = not n.finished && nat_eq n.waits 0
 
-abbrev pub goes_in : List Node → ℕ → Bool
-goes_in [] i = false
-goes_in (x ∷ xs) zero = goes x
-goes_in (x ∷ xs) (suc i) = goes_in xs i
+abbrev pub is_unblocked_in : List Node → ℕ → Bool
+is_unblocked_in [] i = false
+is_unblocked_in (x ∷ xs) zero = is_unblocked x
+is_unblocked_in (x ∷ xs) (suc i) = is_unblocked_in xs i
 
 -- the node with this number, where so many were dropped, is unfinished and waits for no key
-abbrev pub goes_at : ℕ → List Node → ℕ → Bool
-goes_at before nodes n = cond (nat_lt n before) false (goes_in nodes (n - before))
+abbrev pub is_unblocked_at : ℕ → List Node → ℕ → Bool
+is_unblocked_at before nodes n = cond (nat_lt n before) false (is_unblocked_in nodes (n - before))
 
 -- the nodes that may go are listed
 abbrev pub IsListed : ℕ → List Node → Ready → Type 0
-IsListed before nodes r = IsListing r before (before + length nodes) (goes_at before nodes)
+IsListed before nodes r = IsListing r before (before + length nodes) (is_unblocked_at before nodes)

@@ -1,17 +1,17 @@
-//! For each key the chain of the nodes that touch it, in rising order, linked by index.
+//! For each key the chain of the nodes that touch it, in ascending order, linked by index.
 
 ghost use Rattle.std.specs.Prelude.{◌≡◌, ℕ, [], ◌∷◌, Some, None, is_some, OnOk, OnErr};
 ghost use Rattle.std.specs.HashMap.{IsUnchanged};
 ghost use Rattle.slab.specs.Slab.{HasRoomFor};
 ghost use Rattle.rows.specs.declared.change.Key.{Key as KeyValue};
-ghost use Rattle.dependency_graph.specs.Chains.{Holds, HasEntry, HasLast, HasRoom, IsOpened, IsSame, KeepsRoom, Links, Pushes, PopsFirst, edge_at, ended, ends_at, first_of, node_at, with_chain};
+ghost use Rattle.dependency_graph.specs.Chains.{Holds, HasEntry, HasLast, HasRoom, IsOpened, IsSame, KeepsRoom, Links, Pushes, PopsFirst, edge_at, extend_ends, ends_at, first_of, node_at, with_chain};
 
 use indexmap::IndexMap;
 use rows::Key;
 use slab::Slab;
 use std::alloc::{AllocError, Global};
 
-/// A node in the chain of one key, and the edge behind it there.
+/// A node in the chain of one key, and the edge after it there.
 #[derive(Clone, Copy, Drop)]
 pub struct Edge {
     pub node: usize,
@@ -33,8 +33,8 @@ pub struct Chains {
 }
 
 /// The ends of a chain that ends with this edge now.
-fn ended(at: usize, before: Option<Ends>) -> Ends
-    ensures { result ≡ ended at before }
+fn extend_ends(at: usize, before: Option<Ends>) -> Ends
+    ensures { result ≡ extend_ends at before }
 {
     let first = match before {
         Some(ends) => ends.first,
@@ -135,18 +135,18 @@ impl Chains {
         requires { HasEntry self.old key.now }
         ensures edges { self.new.edges ≡ self.old.edges }
         ensures before { result ≡ ends_at self.old key.now }
-        ensures ends { (k : KeyValue) → ends_at self.new k ≡ with_chain (ends_at self.old) key.now (Some (ended at (ends_at self.old key.now))) k }
+        ensures ends { (k : KeyValue) → ends_at self.new k ≡ with_chain (ends_at self.old) key.now (Some (extend_ends at (ends_at self.old key.now))) k }
         ensures stays { (k : KeyValue) → HasEntry self.old k → HasEntry self.new k }
     {
         let Some(place) = self.table.get_mut(key) else {
             return None;
         };
         let before = *place;
-        *place = Some(ended(at, before));
+        *place = Some(extend_ends(at, before));
         before
     }
 
-    /// Links an edge behind another.
+    /// Links an edge after another.
     fn link(&mut self, last: usize, at: usize)
         ensures table { self.new.table ≡ self.old.table }
         ensures linked { Links self.old self.new last at }

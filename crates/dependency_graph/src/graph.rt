@@ -4,9 +4,9 @@ ghost use Rattle.std.specs.Prelude.{◌≡◌, ◌≢◌, ℕ, Some, true, false
 ghost use Rattle.std.specs.List.{AllPairs};
 ghost use Rattle.std.specs.Bool.{OnTrue, OnFalse};
 ghost use Rattle.slab.specs.Slab.{slab_len};
-ghost use Rattle.dependency_graph.specs.Graphs.{blocker, is_ready, IsNextReady, dropped, finished_at, marked_at, unfinished};
+ghost use Rattle.dependency_graph.specs.Graphs.{blocker, is_ready, IsNextReady, drop_finished, finish_at, mark_at, unfinished};
 ghost use Rattle.dependency_graph.specs.Chains.{HasRoom};
-ghost use Rattle.dependency_graph.specs.Ready.{IsListed, goes};
+ghost use Rattle.dependency_graph.specs.Ready.{IsListed, is_unblocked};
 ghost use Rattle.dependency_graph.specs.Kept.{is_finished_first, is_finished_at, points, point_of, keys_at, IsKept, IsFrontOpen, CanRelease, Releases, LinksAll, CountsAll};
 
 use crate::chains::Chains;
@@ -45,8 +45,8 @@ impl Drop for Graph {
 }
 
 /// The node is unfinished and waits for no key.
-fn goes(node: &Node) -> bool
-    ensures { result ≡ goes node.now }
+fn is_unblocked(node: &Node) -> bool
+    ensures { result ≡ is_unblocked node.now }
 {
     !node.finished && node.waits == 0
 }
@@ -74,7 +74,7 @@ fn is_finished(dropped: usize, nodes: &VecDeque<Node>, node: usize) -> bool
     }
 }
 
-/// An unfinished node that comes to the front of a chain waits for one key less.
+/// An unfinished node that comes to the head of a chain waits for one key less.
 fn release(dropped: usize, nodes: &mut VecDeque<Node>, ready: &mut Ready, first: Option<usize>)
     requires { CanRelease dropped nodes.old.items first }
     ensures releases { Releases dropped nodes.old.items nodes.new.items first }
@@ -100,7 +100,7 @@ fn is_done(dropped: usize, nodes: &VecDeque<Node>, node: Option<usize>) -> bool
     }
 }
 
-/// Takes a finished node off the front of the chain of a node's i-th key: whether one stands there then.
+/// Takes a finished node off the head of the chain of a node's i-th key: whether one is there then.
 fn pop_finished(
     dropped: usize,
     nodes: &mut VecDeque<Node>,
@@ -129,7 +129,7 @@ fn pop_finished(
     is_done(dropped, nodes, next)
 }
 
-/// Takes all finished nodes off the front of the chain of a node's i-th key.
+/// Takes all finished nodes off the head of the chain of a node's i-th key.
 fn settle(
     dropped: usize,
     nodes: &mut VecDeque<Node>,
@@ -158,10 +158,10 @@ fn mark(
     requires in_range { at < length nodes.old.items }
     requires kept { IsKept dropped nodes.old.items chains.old [] }
     ensures kept { IsKept dropped nodes.new.items chains.new [] }
-    ensures marked { points dropped nodes.new.items ≡ marked_at (points dropped nodes.old.items) (dropped + at) }
+    ensures marked { points dropped nodes.new.items ≡ mark_at (points dropped nodes.old.items) (dropped + at) }
     ensures listed { IsListed dropped nodes.old.items ready.old → IsListed dropped nodes.new.items ready.new }
 {
-    ready.remove_if(dropped + at, goes(&nodes[at]));
+    ready.remove_if(dropped + at, is_unblocked(&nodes[at]));
     nodes[at].finished = true;
     for i in 0..nodes[at].keys.len() {
         settle(dropped, nodes, chains, ready, at, i);
@@ -244,10 +244,10 @@ impl Graph {
         Ok(number)
     }
 
-    /// The node is finished, and the longest finished beginning is dropped.
+    /// The node is finished, and the longest finished prefix is dropped.
     pub fn finish(&mut self, node: usize)
         requires { node < length self.old }
-        ensures { self.new ≡ finished_at self.old node }
+        ensures { self.new ≡ finish_at self.old node }
     {
         if node >= self.dropped {
             let at = node - self.dropped;
@@ -263,7 +263,7 @@ impl Graph {
     }
 
     fn drop_front(&mut self)
-        ensures { self.new ≡ dropped self.old }
+        ensures { self.new ≡ drop_finished self.old }
     {
         while starts_finished(&self.nodes) {
             let _ = self.nodes.pop_front();
@@ -282,7 +282,7 @@ impl Graph {
             return None;
         }
         let here = &self.nodes[node - self.dropped];
-        if goes(here) {
+        if is_unblocked(here) {
             return None;
         }
         for key in &here.keys {
@@ -321,7 +321,7 @@ impl Graph {
             from
         };
         while node < end {
-            if goes(&self.nodes[node - self.dropped]) {
+            if is_unblocked(&self.nodes[node - self.dropped]) {
                 return Some(node);
             }
             node += 1;

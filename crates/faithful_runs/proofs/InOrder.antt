@@ -36,7 +36,7 @@ use Rattle.gtid_text.specs.Gtids.{same_gtid}
 use Rattle.gtid_text.proofs.SameGtid.{same_itself}
 use Rattle.faithful_runs.specs.InOrder.{WorkersDecideInOrder, ServedHoldsAllInOrder}
 
--- ---- what is in the joined world stands in a journal
+-- ---- what is in the joined world is in a journal
 
 joined_from : (es : List Entry) (hs : List History) (e : Entry) → IsIn e (joined es hs) → IsIn e es ⊎ ((h : History) × IsAmong h hs × IsIn e h)
 joined_from es [] e i = inl i

@@ -59,7 +59,7 @@ local_own site t s =
     (λ n is. answer_own site.own n t s (apply site.schema t s.rows)))
     (λ fault e. tt)
 
--- what stands before it in the order and shares a key with it is an earlier one of its source
+-- what comes before it in the order and shares a key with it is an earlier one of its source
 before_is_earlier : (world : World) → AreKeysSound world → (h g : Gtid) (t u : Transaction) → Precedes (entries world.contents) (h, t) (g, u) → shares_key world.schema t u ≡ true → (h.source ≡ g.source) × (0 < h.number) × (h.number < g.number)
 before_is_earlier world keys h g t u p s =
     let c = stands world (h, t) (first_in (entries world.contents) (h, t) (g, u) p) in

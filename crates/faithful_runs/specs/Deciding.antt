@@ -17,8 +17,8 @@ use Rattle.world.specs.declared.verdict.Verdict.TheVariants.{Sound}
 use Rattle.world.specs.Audit.{world_of, verdict_of_keys, verdict}
 use Rattle.world.specs.Meaning.{AreJournals}
 
--- Where the audit of keys says Sound, a run from the opening that was served each journal whole on some channel, and whose every
--- channel is stopped or done, has executed all that it received exactly where the audit says Sound. The world may fail to apply.
+-- Where the audit of keys reports Sound, a run from the opening that was served each journal whole on some channel, and whose every
+-- channel is stopped or done, has executed all that it received exactly where the audit reports Sound. The world may fail to apply.
 abbrev pub WorkersDecide : Type 0
 WorkersDecide = (site : Site) (opened : Gtids) (rows : Rows) (journals : List JournalValue) (events : List Event) → AreJournals journals
     → verdict_of_keys (world_of site.schema opened rows journals) journals ≡ Sound
@@ -31,7 +31,7 @@ pub record HoldsAll (schema : List Table) (opened : Gtids) (rows : Rows) (journa
   pub executed : s.executed ≡ all_of opened journals
   pub rows_are : rows_of (world_of schema opened rows journals) (set.contains (all_of opened journals)) ≡ Ok s.rows
 
--- Where it has executed all that it received, it holds what all journals together stand for.
+-- Where it has executed all that it received, it holds what all journals together denote.
 abbrev pub ServedHoldsAll : Type 0
 ServedHoldsAll = (site : Site) (opened : Gtids) (rows : Rows) (journals : List JournalValue) (events : List Event) → AreJournals journals
     → verdict_of_keys (world_of site.schema opened rows journals) journals ≡ Sound

@@ -1,4 +1,4 @@
--- Faithful runs of a world of sources, and what they come to.
+-- Faithful runs of a world of sources, and what they result in.
 use Rattle.std.specs.Prelude.{◌≡◌, ℕ, ◌<◌, true, false, List, [], ◌∷◌, ◌++◌, Option, Some, Ok}
 use Rattle.std.specs.List.{AllByRecursion}
 use Rattle.std.specs.FinMap as map
@@ -21,12 +21,12 @@ use Rattle.source_history.specs.Faithful.{IsFaithful}
 use Rattle.auto_position.specs.Sending.{sent}
 use Rattle.ordered_replicas.specs.Faithful.{start_with, Since, since_after, asked_with, IsNotRefused}
 
--- a start: a closed set, with the rows that it stands for
+-- a start: a closed set, with the rows that it denotes
 pub record IsOpening (world : World) (executed : Gtids) (rows : Rows) : Type 0 where
   pub closed : IsClosed world (set.contains executed)
   pub stands_for : rows_of world (set.contains executed) ≡ Ok rows
 
--- These are a front of what some faithful journal sends to one that asks with this set.
+-- These are a prefix of what some faithful journal sends to one that asks with this set.
 pub record WasSent (world : World) (ask : Gtids) (entries : List Entry) : Type 0 where
   pub journal : JournalValue
   pub own : Option ℕ
@@ -52,7 +52,7 @@ IsFaithfulFrom world site s since (e ∷ es) =
 abbrev pub IsFaithfulRun : World → Site → Gtids → Rows → List Event → Type 0
 IsFaithfulRun world site executed rows events = IsFaithfulFrom world site (start_with executed rows) (λ c. []) events
 
--- What a replica holds is what its executed set stands for.
+-- What a replica holds is what its executed set denotes.
 pub record IsMerged (world : World) (s : State) : Type 0 where
   pub closed : IsClosed world (set.contains s.executed)
   pub rows : rows_of world (set.contains s.executed) ≡ Ok s.rows
@@ -60,7 +60,7 @@ pub record IsMerged (world : World) (s : State) : Type 0 where
   pub running : AllByRecursion (λ (c : ChannelValue). c.stopped ≡ false) s.channels
   pub journal : IsFaithful world s.journal
 
--- What stands after a faithful run of a sound world is merged, and no commit was refused for its rows.
+-- What comes after a faithful run of a sound world is merged, and no commit was refused for its rows.
 abbrev pub FaithfulRunsMerge : Type 0
 FaithfulRunsMerge = (world : World) (site : Site) (executed : Gtids) (rows : Rows) (events : List Event)
     → site.schema ≡ world.schema → IsSound world → IsOpening world executed rows → IsFaithfulRun world site executed rows events
@@ -74,12 +74,12 @@ EqualSetsEqualRows = (world : World) (a b : Site) (A B : Gtids) (x y : Rows) (es
     → (after a (start_with A x) es).executed ≡ (after b (start_with B y) fs).executed
     → (after a (start_with A x) es).rows ≡ (after b (start_with B y) fs).rows
 
--- A front of a faithful run is faithful.
+-- A prefix of a faithful run is faithful.
 abbrev pub FrontsAreFaithful : Type 0
 FrontsAreFaithful = (world : World) (site : Site) (executed : Gtids) (rows : Rows) (earlier later : List Event)
     → IsFaithfulRun world site executed rows (earlier ++ later) → IsFaithfulRun world site executed rows earlier
 
--- A faithful run in two parts: what stands after the second part is merged, whatever call made it, and none of its commits was
+-- A faithful run in two parts: what comes after the second part is merged, whatever call made it, and none of its commits was
 -- refused for its rows.
 abbrev pub RunsGoOn : Type 0
 RunsGoOn = (world : World) (site : Site) (executed : Gtids) (rows : Rows) (earlier events : List Event) (s : State)

@@ -16,9 +16,9 @@ use Rattle.world.specs.Meaning.{AreJournals}
 use Rattle.ordered_bundles.specs.Audit.{verdict_of_keys, verdict_in_order}
 use Rattle.ordered_bundles.specs.Meaning.{joined_world}
 
--- Where the audit of keys in one order says Sound, a run from the opening that was served each journal whole on some
+-- Where the audit of keys in one order reports Sound, a run from the opening that was served each journal whole on some
 -- channel, and whose every channel is stopped or done, has executed all that it received exactly where the audit in one order
--- says Sound.
+-- reports Sound.
 abbrev pub WorkersDecideInOrder : Type 0
 WorkersDecideInOrder = (site : Site) (opened : Gtids) (rows : Rows) (journals : List JournalValue) (events : List Event) → AreJournals journals
     → verdict_of_keys (world_of site.schema opened rows journals) journals ≡ Sound
@@ -26,7 +26,7 @@ WorkersDecideInOrder = (site : Site) (opened : Gtids) (rows : Rows) (journals : 
     → AreStoppedOrDone (after site (start_with opened rows) events)
     → IsDrained (after site (start_with opened rows) events) ↔ (verdict_in_order (world_of site.schema opened rows journals) journals ≡ Sound)
 
--- Where it has executed all that it received, it holds what all journals together stand for in the joined world.
+-- Where it has executed all that it received, it holds what all journals together denote in the joined world.
 abbrev pub ServedHoldsAllInOrder : Type 0
 ServedHoldsAllInOrder = (site : Site) (opened : Gtids) (rows : Rows) (journals : List JournalValue) (events : List Event) → AreJournals journals
     → verdict_of_keys (world_of site.schema opened rows journals) journals ≡ Sound

@@ -2,15 +2,15 @@
 ghost use Rattle.faithful_runs.specs.Deciding.{WorkersDecide, ServedHoldsAll};
 ghost use Rattle.faithful_runs.specs.InOrder.{WorkersDecideInOrder, ServedHoldsAllInOrder};
 
-/// Where the audit of keys says Sound, a run that was served all journals, each on some channel or on
+/// Where the audit of keys reports Sound, a run that was served all journals, each on some channel or on
 /// several, and whose every channel is stopped or done has executed all that it received exactly where
-/// the audit says Sound.
+/// the audit reports Sound.
 pub fn workers_decide()
     ensures { WorkersDecide }
 {}
 
 /// Where it has executed all that it received, it has executed the opening set with all journals,
-/// and holds the rows that these stand for.
+/// and holds the rows that these denote.
 pub fn served_holds_all()
     ensures { ServedHoldsAll }
 {}
@@ -20,7 +20,7 @@ pub fn workers_decide_in_order()
     ensures { WorkersDecideInOrder }
 {}
 
-/// The same of the rows that the journals stand for in the order that they are joined to.
+/// The same of the rows that the journals denote in the order that they are joined to.
 pub fn served_holds_all_in_order()
     ensures { ServedHoldsAllInOrder }
 {}

@@ -3,7 +3,7 @@ ghost use Rattle.faithful_runs.specs.Faithful.{FaithfulRunsMerge, EqualSetsEqual
 ghost use Rattle.faithful_runs.specs.Whole.{ServedIsFaithful};
 
 /// After every faithful run of a sound world the executed set is closed, the rows held are those
-/// that it stands for, under each key stands the row of its last writer, no channel is stopped, no
+/// that it denotes, under each key is the row of its last writer, no channel is stopped, no
 /// commit was refused for its rows, and the own journal is faithful.
 pub fn faithful_runs_merge()
     ensures { FaithfulRunsMerge }
@@ -14,7 +14,7 @@ pub fn equal_sets_equal_rows()
     ensures { EqualSetsEqualRows }
 {}
 
-/// A front of a faithful run is faithful.
+/// A prefix of a faithful run is faithful.
 pub fn fronts_are_faithful()
     ensures { FrontsAreFaithful }
 {}

@@ -1,4 +1,4 @@
--- What is due in a bundle behind a line. The formats are our own.
+-- What is due in a bundle after a line. The formats are our own.
 use Rattle.std.specs.Prelude.{ℕ, ◌-◌, ◌||◌, ◌&&◌, nat_lt, Bool, List, [], codes, get_or, if◌then◌else◌}
 use Rattle.std.specs.Str.{bytes_eq}
 use Rattle.fault_places.specs.Lines.{first_word}
@@ -14,7 +14,7 @@ word_before lines n = if nat_lt n 2 then [] else first_word (line_at lines (n - 
 abbrev pub is_of_version_two : List (List ℕ) → Bool
 is_of_version_two lines = bytes_eq (line_at lines 1) (codes "bundle 2")
 
--- the lines that may come behind a line that begins with this word, in version 2 or 1
+-- the lines that may come after a line that begins with this word, in version 2 or 1
 unfoldable pub due_behind : Bool → List ℕ → List ℕ
 due_behind two word =
     if bytes_eq word (codes "bundle") then codes "replica <uuid>"

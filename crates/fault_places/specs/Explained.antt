@@ -18,7 +18,7 @@ use Rattle.gtid_report.specs.declared.refusal.LineCause.TheVariants.{Keyword, Bo
 use Rattle.gtid_report.specs.declared.refusal.Refusal.{Refusal}
 use Rattle.gtid_report.specs.declared.refusal.Refusal.TheVariants.{PoolFull, SourcesFull, Line, Truncated, Twice, Version}
 use Rattle.fault_places.specs.declared.wanted.Wanted.TheVariants.{Every, OfTable, Numbered, Nothing}
-use Rattle.fault_places.specs.Lines.{second_word, word_at, is_table, shown}
+use Rattle.fault_places.specs.Lines.{second_word, word_at, is_table, shorten}
 use Rattle.fault_places.specs.Places.{line_text, places_of, previous_sets}
 use Rattle.fault_places.specs.Next.{next_there}
 use Rattle.fault_places.specs.Due.{line_at, due_at}
@@ -31,16 +31,16 @@ is_of_key key line = is_table line && bytes_eq (second_word line) key.table
 
 -- the numbers of the key's columns, by the line of its table, and the line
 abbrev pub columns_text : Key → ℕ → List ℕ → List ℕ
-columns_text key n line = codes "  key " ++ decimal key.index ++ codes " is columns " ++ shown (word_at (4 + 2 * key.index) line) ++ codes ", " ++ line_text n line
+columns_text key n line = codes "  key " ++ decimal key.index ++ codes " is columns " ++ shorten (word_at (4 + 2 * key.index) line) ++ codes ", " ++ line_text n line
 
 -- that of the line of the key's table, and nothing of other lines
-abbrev pub columns_told : Key → ℕ → List ℕ → List ℕ
-columns_told key n line = if is_of_key key line then columns_text key n line else []
+abbrev pub report_columns : Key → ℕ → List ℕ → List ℕ
+report_columns key n line = if is_of_key key line then columns_text key n line else []
 
--- the same of line n and those behind it
+-- the same of line n and those after it
 abbrev pub columns_from : Key → ℕ → List (List ℕ) → List ℕ
 columns_from key n [] = []
-columns_from key n (line ∷ lines) = columns_told key n line ++ columns_from key (n + 1) lines
+columns_from key n (line ∷ lines) = report_columns key n line ++ columns_from key (n + 1) lines
 
 -- the columns of a key, and the changes of two transactions in its table
 abbrev pub key_explained : Gtid → Gtid → Key → List (List ℕ) → List ℕ

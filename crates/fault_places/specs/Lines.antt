@@ -2,18 +2,18 @@
 use Rattle.std.specs.Prelude.{ℕ, zero, suc, ◌+◌, ◌==◌, ◌||◌, ◌&&◌, ◌/◌, ◌%◌, nat_eq, nat_le, nat_lt, Bool, List, [], ◌∷◌, take, codes, if◌then◌else◌}
 use Rattle.std.specs.List.{starts_with, slice_split, before_first, after_first, flat_map}
 
--- what stands between line feeds: line n, counted from 1, is the n-th part
+-- what is between line feeds: line n, counted from 1, is the n-th part
 abbrev pub lines_of : List ℕ → List (List ℕ)
 lines_of bytes = slice_split (λ b. b == 10) bytes
 
 abbrev pub first_word : List ℕ → List ℕ
 first_word line = before_first (λ b. b == 32) line
 
--- what stands behind the first word and its blank
+-- what comes after the first word and its blank
 abbrev pub behind_word : List ℕ → List ℕ
 behind_word line = after_first (λ b. b == 32) line
 
--- the word behind k others
+-- the word after k others
 abbrev pub word_at : ℕ → List ℕ → List ℕ
 word_at zero line = first_word line
 word_at (suc k) line = word_at k (behind_word line)
@@ -49,5 +49,5 @@ abbrev pub shown_byte : ℕ → List ℕ
 shown_byte b = if nat_le 32 b && nat_lt b 127 then b ∷ [] else 92 ∷ 120 ∷ hex_digit (b / 16) ∷ hex_digit (b % 16) ∷ []
 
 -- the first 120 bytes of a line
-abbrev pub shown : List ℕ → List ℕ
-shown line = flat_map shown_byte (take 120 line)
+abbrev pub shorten : List ℕ → List ℕ
+shorten line = flat_map shown_byte (take 120 line)

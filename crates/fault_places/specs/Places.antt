@@ -1,10 +1,10 @@
--- Where the transactions of a GTID stand in the lines of a bundle.
+-- Where the transactions of a GTID are in the lines of a bundle.
 use Rattle.std.specs.Prelude.{ℕ, ◌+◌, ◌-◌, ◌==◌, ◌&&◌, Bool, true, false, List, [], ◌∷◌, ◌++◌, codes, decimal, if◌then◌else◌}
 use Rattle.std.specs.Str.{bytes_eq}
 use Rattle.fault_places.specs.declared.standing.Standing.{Standing}
 use Rattle.fault_places.specs.declared.wanted.Wanted.{Wanted}
 use Rattle.fault_places.specs.declared.wanted.Wanted.TheVariants.{Every, OfTable, Numbered, Nothing}
-use Rattle.fault_places.specs.Lines.{second_word, is_channel, is_previous, is_transaction, is_change, shown}
+use Rattle.fault_places.specs.Lines.{second_word, is_channel, is_previous, is_transaction, is_change, shorten}
 
 -- ---- where a line stands
 
@@ -16,7 +16,7 @@ at_start = record { channels = 0; entries = 0; changes = 0; inside = false }
 abbrev pub is_named : List ℕ → List ℕ → Bool
 is_named g line = is_transaction line && bytes_eq (second_word line) g
 
--- Behind a line: how many channels have begun, entries of this channel, and changes of this entry; and whether the entry has this GTID.
+-- After a line: how many channels have begun, entries of this channel, and changes of this entry; and whether the entry has this GTID.
 unfoldable pub after : List ℕ → Standing → List ℕ → Standing
 after g s line =
     if is_channel line then record { channels = s.channels + 1; entries = 0; changes = 0; inside = false }
@@ -28,15 +28,15 @@ after g s line =
 abbrev pub channel_after : List ℕ → List ℕ → List ℕ
 channel_after name line = if is_channel line then second_word line else name
 
--- ---- what is said of a line
+-- ---- what is reported of a line
 
 -- the number and the name of its channel
 abbrev pub channel_text : List ℕ → Standing → List ℕ
-channel_text name s = codes "channel " ++ decimal (s.channels - 1) ++ codes " " ++ shown name
+channel_text name s = codes "channel " ++ decimal (s.channels - 1) ++ codes " " ++ shorten name
 
 -- ` line <n>: ` and the line
 abbrev pub line_text : ℕ → List ℕ → List ℕ
-line_text n line = codes "line " ++ decimal n ++ codes ": " ++ shown line ++ codes "\n"
+line_text n line = codes "line " ++ decimal n ++ codes ": " ++ shorten line ++ codes "\n"
 
 -- the place of a transaction: its channel, its entry and its line
 abbrev pub entry_text : List ℕ → List ℕ → Standing → ℕ → List ℕ
@@ -55,32 +55,32 @@ is_wanted (Numbered number) place line = place == number
 is_wanted Nothing place line = false
 
 -- of a transaction with this GTID its place, of its changes those that are wanted, and nothing of other lines
-abbrev pub entry_told : List ℕ → Wanted → List ℕ → Standing → ℕ → List ℕ → List ℕ
-entry_told g wanted name s n line =
+abbrev pub report_entry : List ℕ → Wanted → List ℕ → Standing → ℕ → List ℕ → List ℕ
+report_entry g wanted name s n line =
     if is_named g line then entry_text g name s n
     else if s.inside && (is_change line && is_wanted wanted s.changes line) then change_text s n line
     else []
 
--- the same of line n and those behind it
-abbrev pub entries_told : List ℕ → Wanted → List ℕ → Standing → ℕ → List (List ℕ) → List ℕ
-entries_told g wanted name s n [] = []
-entries_told g wanted name s n (line ∷ lines) =
-    entry_told g wanted name s n line ++ entries_told g wanted (channel_after name line) (after g s line) (n + 1) lines
+-- the same of line n and those after it
+abbrev pub report_entries : List ℕ → Wanted → List ℕ → Standing → ℕ → List (List ℕ) → List ℕ
+report_entries g wanted name s n [] = []
+report_entries g wanted name s n (line ∷ lines) =
+    report_entry g wanted name s n line ++ report_entries g wanted (channel_after name line) (after g s line) (n + 1) lines
 
 -- each transaction with this GTID, with those of its changes that are wanted
 abbrev pub places_of : List ℕ → Wanted → List (List ℕ) → List ℕ
-places_of g wanted lines = entries_told g wanted [] at_start 1 lines
+places_of g wanted lines = report_entries g wanted [] at_start 1 lines
 
 -- ---- previous sets
 
 -- the previous set of a journal, with its channel
-abbrev pub previous_told : List ℕ → Standing → ℕ → List ℕ → List ℕ
-previous_told name s n line = if is_previous line then codes "  " ++ channel_text name s ++ codes ", " ++ line_text n line else []
+abbrev pub report_previous : List ℕ → Standing → ℕ → List ℕ → List ℕ
+report_previous name s n line = if is_previous line then codes "  " ++ channel_text name s ++ codes ", " ++ line_text n line else []
 
-abbrev pub all_previous_told : List ℕ → Standing → ℕ → List (List ℕ) → List ℕ
-all_previous_told name s n [] = []
-all_previous_told name s n (line ∷ lines) = previous_told name s n line ++ all_previous_told (channel_after name line) (after [] s line) (n + 1) lines
+abbrev pub report_all_previous : List ℕ → Standing → ℕ → List (List ℕ) → List ℕ
+report_all_previous name s n [] = []
+report_all_previous name s n (line ∷ lines) = report_previous name s n line ++ report_all_previous (channel_after name line) (after [] s line) (n + 1) lines
 
 -- the previous set of each journal
 abbrev pub previous_sets : List (List ℕ) → List ℕ
-previous_sets lines = all_previous_told [] at_start 1 lines
+previous_sets lines = report_all_previous [] at_start 1 lines

@@ -1,4 +1,4 @@
-//! What is due in a bundle behind a line.
+//! What is due in a bundle after a line.
 ghost use Rattle.std.specs.Prelude.{◌≡◌, map};
 ghost use Rattle.fault_places.specs.Due.{line_at, word_before, is_of_version_two, due_behind, due_at};
 
@@ -30,7 +30,7 @@ fn is_of_version_two(lines: &[&[u8]]) -> bool
     line_at(lines, 1) == b"bundle 2".as_slice()
 }
 
-/// The lines that may come behind a line that begins with this word.
+/// The lines that may come after a line that begins with this word.
 #[tactic(auto, unfolding(crate::specs::Due::due_behind))]
 fn due_behind(two: bool, word: &[u8]) -> &'static str
     ensures { result.now ≡ due_behind two word.now }

@@ -1,7 +1,7 @@
 //! The lines of an input, and their words.
 ghost use Rattle.std.specs.Prelude.{◌≡◌, ℕ, ◌==◌, ◌<◌, ◌≤◌, length, ◌++◌, IfOk, OnOk, map, codes, string_bytes, decimal};
 ghost use Rattle.std.specs.List.{flat_map, position_or_len};
-ghost use Rattle.fault_places.specs.Lines.{lines_of, first_word, behind_word, word_at, second_word, is_channel, is_previous, is_table, is_transaction, is_change, hex_digit, shown_byte, shown};
+ghost use Rattle.fault_places.specs.Lines.{lines_of, first_word, behind_word, word_at, second_word, is_channel, is_previous, is_table, is_transaction, is_change, hex_digit, shown_byte, shorten};
 
 use itoa::Buffer;
 use std::alloc::{AllocError, Global};
@@ -9,7 +9,7 @@ use std::alloc::{AllocError, Global};
 /// The most bytes of a line that are shown (our own rule).
 const MOST_SHOWN: usize = 120;
 
-/// What stands between the line feeds of a text, in order: line n, counted from 1, is the n-th.
+/// What is between the line feeds of a text, in order: line n, counted from 1, is the n-th.
 pub(crate) fn lines_of(alloc: Global, bytes: &[u8]) -> Result<Vec<&[u8]>, AllocError>
     ensures { IfOk result (λ lines. map (λ x. x.now) lines.items ≡ lines_of bytes.now) }
 {
@@ -29,14 +29,14 @@ fn first_blank(line: &[u8]) -> usize
     line.len()
 }
 
-/// What stands before the first blank.
+/// What comes before the first blank.
 pub(crate) fn first_word(line: &[u8]) -> &[u8]
     ensures { result.now ≡ first_word line.now }
 {
     &line[..first_blank(line)]
 }
 
-/// What stands behind the first blank.
+/// What comes after the first blank.
 fn behind_word(line: &[u8]) -> &[u8]
     ensures { result.now ≡ behind_word line.now }
 {
@@ -48,7 +48,7 @@ fn behind_word(line: &[u8]) -> &[u8]
     }
 }
 
-/// The word behind so many others.
+/// The word after so many others.
 pub(crate) fn word_at(line: &[u8], place: usize) -> &[u8]
     ensures { result.now ≡ word_at place line.now }
 {
@@ -147,7 +147,7 @@ fn put_bytes(out: &mut Vec<u8>, bytes: &[u8]) -> Result<(), AllocError>
 
 /// Appends the first bytes of a line.
 pub(crate) fn put_shown(out: &mut Vec<u8>, line: &[u8]) -> Result<(), AllocError>
-    ensures { OnOk result (out.new.items ≡ out.old.items ++ shown line.now) }
+    ensures { OnOk result (out.new.items ≡ out.old.items ++ shorten line.now) }
 {
     if line.len() < MOST_SHOWN {
         put_bytes(out, line)

@@ -34,7 +34,7 @@ fn nearest(after: &Gtid, best: Option<Gtid>, entries: &[Entry]) -> Option<Gtid>
     found
 }
 
-/// The least number behind a GTID, in its source, under which some journal has an entry.
+/// The least number after a GTID, in its source, under which some journal has an entry.
 pub(crate) fn next_there(after: &Gtid, journals: &[Journal]) -> Option<Gtid>
     ensures { result ≡ next_there after.now None journals.now }
 {

@@ -1,6 +1,6 @@
 //! Where the transactions of a GTID, and the previous sets of journals, stand.
 ghost use Rattle.std.specs.Prelude.{◌≡◌, ◌++◌, OnOk, map, length, ◌<◌, ◌^◌};
-ghost use Rattle.fault_places.specs.Places.{channel_text, line_text, entry_text, change_text, entry_told, places_of, previous_told, previous_sets};
+ghost use Rattle.fault_places.specs.Places.{channel_text, line_text, entry_text, change_text, report_entry, places_of, report_previous, previous_sets};
 
 use crate::lines::{is_change, is_previous, put, put_number, put_shown};
 use crate::standing::{Standing, channel_after, is_named};
@@ -62,7 +62,7 @@ fn put_change(
     put_line(out, number, line)
 }
 
-/// What is said of a line.
+/// What is reported of a line.
 fn tell_entry(
     out: &mut Vec<u8>,
     gtid: &[u8],
@@ -72,7 +72,7 @@ fn tell_entry(
     number: usize,
     line: &[u8],
 ) -> Result<(), AllocError>
-    ensures { OnOk result (out.new.items ≡ out.old.items ++ entry_told gtid.now wanted.now name.now standing number line.now) }
+    ensures { OnOk result (out.new.items ≡ out.old.items ++ report_entry gtid.now wanted.now name.now standing number line.now) }
 {
     if is_named(gtid, line) {
         return put_entry(out, gtid, name, standing, number);
@@ -111,7 +111,7 @@ fn tell_previous(
     number: usize,
     line: &[u8],
 ) -> Result<(), AllocError>
-    ensures { OnOk result (out.new.items ≡ out.old.items ++ previous_told name.now standing number line.now) }
+    ensures { OnOk result (out.new.items ≡ out.old.items ++ report_previous name.now standing number line.now) }
 {
     if !is_previous(line) {
         return Ok(());

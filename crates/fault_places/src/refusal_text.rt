@@ -90,7 +90,7 @@ fn put_refusal(
     }
 }
 
-/// What explains that these bytes are refused as a bundle, or that a set is full: lines, each behind two blanks and ended by a line
+/// What explains that these bytes are refused as a bundle, or that a set is full: lines, each after two blanks and ended by a line
 /// feed. Of a faulty line there is the line, and what may stand there or what is wrong with it; of a GTID that comes twice the previous
 /// set of each journal, and each place. The words are our own.
 pub fn explain_refusal(

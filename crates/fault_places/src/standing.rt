@@ -24,7 +24,7 @@ pub(crate) fn is_named(gtid: &[u8], line: &[u8]) -> bool
     is_transaction(line) && second_word(line) == gtid
 }
 
-/// The name of the channel that has begun last, behind a line.
+/// The name of the channel that has begun last, after a line.
 pub(crate) fn channel_after<'a>(name: &'a [u8], line: &'a [u8]) -> &'a [u8]
     ensures { result.now ≡ channel_after name.now line.now }
 {
@@ -48,7 +48,7 @@ impl Standing {
         }
     }
 
-    /// Behind a line.
+    /// After a line.
     #[tactic(auto, unfolding(crate::specs::Places::after))]
     pub(crate) fn after(self, gtid: &[u8], line: &[u8]) -> Standing
         requires { (self.channels < 2 ^ 63) × (self.entries < 2 ^ 63) × (self.changes < 2 ^ 63) }

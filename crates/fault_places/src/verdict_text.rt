@@ -5,7 +5,7 @@ ghost use Rattle.gtid_report.specs.Verdicts.{row_fault_place};
 ghost use Rattle.fault_places.specs.declared.wanted.Wanted.TheVariants.{Numbered};
 ghost use Rattle.fault_places.specs.Lines.{lines_of};
 ghost use Rattle.fault_places.specs.Places.{places_of};
-ghost use Rattle.fault_places.specs.Explained.{is_of_key, columns_text, columns_told, columns_from, key_explained, missing_text, next_places, next_text, row_fault_meaning, verdict_explained};
+ghost use Rattle.fault_places.specs.Explained.{is_of_key, columns_text, report_columns, columns_from, key_explained, missing_text, next_places, next_text, row_fault_meaning, verdict_explained};
 
 use crate::lines::{is_table, lines_of, put, put_number, put_shown, second_word, word_at};
 use crate::next_there::next_there;
@@ -62,7 +62,7 @@ fn put_columns_of(
 
 /// The columns of a key, on the line of its table.
 fn tell_columns(out: &mut Vec<u8>, key: &Key, number: usize, line: &[u8]) -> Result<(), AllocError>
-    ensures { OnOk result (out.new.items ≡ out.old.items ++ columns_told key.now number line.now) }
+    ensures { OnOk result (out.new.items ≡ out.old.items ++ report_columns key.now number line.now) }
 {
     if is_of_key(key, line) {
         return put_columns_of(out, key, number, line);
@@ -210,9 +210,9 @@ fn put_verdict(
     }
 }
 
-/// What explains a verdict on the journals of a bundle, whose text these bytes are: lines, each behind two blanks and ended by a line
+/// What explains a verdict on the journals of a bundle, whose text these bytes are: lines, each after two blanks and ended by a line
 /// feed. Of each GTID that the verdict names there is each transaction, with its channel and its entry, counted from 0, and its line,
-/// counted from 1; behind it its changes: of a shared key those in the key's table, of a row fault the one that meets it. Of other
+/// counted from 1; after it its changes: of a shared key those in the key's table, of a row fault the one that meets it. Of other
 /// missing GTIDs, where they are given, there is their number and their set. The words are our own.
 pub fn explain_verdict(
     alloc: Global,

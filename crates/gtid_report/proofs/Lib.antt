@@ -1,3 +1,4 @@
 pub mod AnswerLemmas
 pub mod OwnedLemmas
 pub mod ToldLemmas
+pub mod ImageLemmas

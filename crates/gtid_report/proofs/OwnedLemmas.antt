@@ -75,7 +75,7 @@ one_put owned left es fs p some front at so_far new =
 
 -- ---- lines
 
--- a name, a word and a line feed, one behind the other
+-- a name, a word and a line feed, one after the other
 pub line_told : {E : Type 0} (r : Result (Unit {0}) E) (old named worded told name word : List ℕ) → named ≡ old ++ name → worded ≡ named ++ word
     → told ≡ (if is_ok r then worded ++ 10 ∷ [] else worded) → OnOk r (told ≡ old ++ (name ++ (word ++ 10 ∷ [])))
 line_told (Ok done) old named worded told name word a b c =

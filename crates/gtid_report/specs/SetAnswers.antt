@@ -32,7 +32,7 @@ abbrev pub ◌>>=◌ : {A B : Type 0} → Result A Fault → (A → Result B Fau
 
 -- ---- what the words name
 
--- the set that a text spells, or the refusal
+-- the set that a text parses as, or the refusal
 abbrev pub named_set : Result Gtids SetTextFault → Result Gtids Fault
 named_set (Ok s) = Ok s
 named_set (Err (Text f)) = Err (text_fault f)

@@ -1,14 +1,14 @@
 -- The printed lines of a state. The words and their order are our own.
 use Rattle.std.specs.Prelude.{ℕ, List, [], ◌∷◌, ◌++◌, codes, flat_map}
 use Rattle.gtid_set.specs.Sets.{Gtids}
-use Rattle.rows.specs.declared.value.Value.{Value}
+use Rattle.row_images.specs.declared.value.Value.{Value}
 use Rattle.rows.specs.declared.change.TableRow.{TableRow}
 use Rattle.rows.specs.Apply.{Rows}
 use Rattle.rows.specs.Listing.{rows_listed}
-use Rattle.journal_words.specs.Values.{value_text}
+use Rattle.row_images.specs.Values.{value_text}
 use Rattle.txn_journal.specs.WrittenSets.{set_text}
 
--- the words of values, each behind a blank
+-- the words of values, each after a blank
 abbrev pub values_text : List Value → List ℕ
 values_text values = flat_map (λ v. 32 ∷ value_text v) values
 

@@ -18,7 +18,7 @@ gtid_line word g = word ++ gtid_text g
 abbrev pub pair_line : List ℕ → Gtid → Gtid → List ℕ
 pair_line word g h = gtid_line word g ++ codes " " ++ gtid_text h
 
--- a table's name, the number of a key and the values of the key's columns, each behind a blank
+-- a table's name, the number of a key and the values of the key's columns, each after a blank
 abbrev pub key_text : Key → List ℕ
 key_text key = codes " " ++ key.table ++ codes " " ++ decimal key.index ++ values_text key.values
 

@@ -65,7 +65,7 @@ fn refusal_name(refusal: &Refusal) -> &'static str
     }
 }
 
-/// Appends a number in decimal digits. After want of memory the text is as it was.
+/// Appends a number in decimal digits. After a failed allocation the text is as it was.
 pub fn push_number(out: &mut String, number: u64) -> Result<(), AllocError>
     ensures ok { OnOk result (string_bytes out.new ≡ string_bytes out.old ++ decimal number) }
     ensures err { OnErr result (string_bytes out.new ≡ string_bytes out.old) }

@@ -89,7 +89,7 @@ fn push_channel(alloc: Global, out: &mut String, channel: &Channel) -> Result<()
     out.push_str("channel ")?;
     out.push_str(channel.name().as_str())?;
     out.push_str(" ")?;
-    out.push_str(run_word(channel.stopped()))?;
+    out.push_str(run_word(channel.is_stopped()))?;
     out.push_str(" ")?;
     push_set(alloc, out, channel.received())?;
     out.push_str("\n")
@@ -111,7 +111,7 @@ fn push_channels(alloc: Global, out: &mut String, core: &Core) -> Result<(), All
 
 /// The printed lines of a replica: the executed set, the purged set, what its seats own, and each channel in the order of their
 /// numbers, with what it has received. A set is its canonical text, or `-` where it is empty. An owned GTID stands with the number of
-/// its seat behind a `#`; they are in the order of GTIDs and joined by commas, or `-` where there is none.
+/// its seat after a `#`; they are in the order of GTIDs and joined by commas, or `-` where there is none.
 ///
 /// The three names are those of MySQL's variables (MySQL 8.0 Reference Manual, "Global Transaction ID System Variables"); the lines
 /// are our own.

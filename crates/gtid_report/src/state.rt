@@ -5,11 +5,11 @@ ghost use Rattle.gtid_report.specs.State.{values_text, row_line, executed_line, 
 
 use gtid_set::GtidSet;
 use gtid_text::{Span, write_next_span};
-use journal_words::write_value;
-use rows::{Rows, TableRow, Value};
+use row_images::write_value;
+use rows::{Row, Rows, TableRow, Value};
 use std::alloc::{AllocError, Global};
 
-/// The words of values, each behind a blank.
+/// The words of values, each after a blank.
 pub(crate) fn push_values(
     alloc: Global,
     out: &mut String,
@@ -24,32 +24,44 @@ pub(crate) fn push_values(
     Ok(())
 }
 
-fn push_row(alloc: Global, out: &mut String, row: &TableRow) -> Result<(), AllocError>
+/// The words of a row's values, each after a blank.
+#[tactic(auto, using(crate::proofs::ImageLemmas::values_joined))]
+fn push_image(out: &mut String, row: &Row) -> Result<(), AllocError>
+    ensures { OnOk result (string_bytes out.new ≡ string_bytes out.old ++ values_text row.now) }
+{
+    if row.is_empty() {
+        return Ok(());
+    }
+    out.push_str(" ")?;
+    out.push_str(row.as_str())
+}
+
+fn push_row(out: &mut String, row: &TableRow) -> Result<(), AllocError>
     ensures { OnOk result (string_bytes out.new ≡ string_bytes out.old ++ row_line row.now) }
 {
     out.push_str("row ")?;
     out.push_str(row.table.as_str())?;
-    push_values(alloc, out, row.row.values())?;
+    push_image(out, &row.row)?;
     out.push_str("\n")
 }
 
-fn push_rows(alloc: Global, out: &mut String, rows: &[TableRow]) -> Result<(), AllocError>
+fn push_rows(out: &mut String, rows: &[TableRow]) -> Result<(), AllocError>
     ensures { OnOk result (string_bytes out.new ≡ string_bytes out.old ++ flat_map row_line rows.now) }
 {
     for row in rows {
-        push_row(alloc, out, row)?;
+        push_row(out, row)?;
     }
     Ok(())
 }
 
 /// The line of each row, in the order of the list.
-pub fn render_rows(alloc: Global, out: &mut String, rows: &[TableRow]) -> Result<(), AllocError>
+pub fn render_rows(out: &mut String, rows: &[TableRow]) -> Result<(), AllocError>
     ensures { OnOk result (string_bytes out.new ≡ string_bytes out.old ++ flat_map row_line rows.now) }
 {
-    push_rows(alloc, out, rows)
+    push_rows(out, rows)
 }
 
-/// Intervals, each behind the one before.
+/// Intervals, each after the one before.
 fn push_spans(out: &mut String, spans: &[Span]) -> Result<(), AllocError>
     ensures { OnOk result (string_bytes out.new ≡ string_bytes out.old ++ spans_text spans.now) }
 {
@@ -95,6 +107,6 @@ pub fn render_state(alloc: Global, executed: &GtidSet, rows: &Rows) -> Result<St
 {
     let mut text = executed_line(alloc, executed)?;
     let list = rows.list_sorted(alloc)?;
-    push_rows(alloc, &mut text, &list)?;
+    push_rows(&mut text, &list)?;
     Ok(text)
 }

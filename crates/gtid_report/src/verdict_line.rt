@@ -30,7 +30,7 @@ fn pair_line(alloc: Global, word: &str, a: &Gtid, b: &Gtid) -> Result<String, Al
     Ok(line)
 }
 
-/// A key, each of its words behind a blank.
+/// A key, each of its words after a blank.
 fn push_key(alloc: Global, line: &mut String, key: &Key) -> Result<(), AllocError>
     ensures { OnOk result (string_bytes line.new ≡ string_bytes line.old ++ key_text key.now) }
 {

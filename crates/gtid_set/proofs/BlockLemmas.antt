@@ -6,7 +6,7 @@ use Rattle.std.proofs.lemmas.Bool.{and_parts, and_from}
 use Rattle.std.proofs.lemmas.Bool.Decides.{nat_tests}
 use Rattle.std.proofs.lemmas.List.{length-append, map-append, take-append-le, drop-append-le, append_assoc, append-nil}
 use Rattle.gtid_set.specs.declared.sources.Source.{Source}
-use Rattle.gtid_set.specs.Kept.{source_at, listed, are_places, are_rising, comes_before, IsSourceAt, IsNoSourceAt, IsSourcePlace}
+use Rattle.gtid_set.specs.Kept.{source_at, sources_at, are_places, are_ascending, comes_before, IsSourceAt, IsNoSourceAt, IsSourcePlace}
 use Rattle.gtid_set.specs.Order.{are_below, block_at, HasFrom, BeginsBelow, IsBlockOf}
 use Rattle.gtid_set.proofs.SpanLemmas.{all_weaker, all_parts, all_joined}
 use Rattle.gtid_set.proofs.KeptLemmas.{got_all}
@@ -29,7 +29,7 @@ inside_got sources is n i all e = let lt = place_got (λ i. nat_lt i (length sou
     less : nat_lt i (length sources) ≡ true → i < length sources
     less lt = grind (arith, nat_tests)
 
-pub listed_got : (sources : List Source) (is : List ℕ) (n i : ℕ) → slice_get is n ≡ Some i → slice_get (listed sources is) n ≡ Some (source_at sources i)
+pub listed_got : (sources : List Source) (is : List ℕ) (n i : ℕ) → slice_get is n ≡ Some i → slice_get (sources_at sources is) n ≡ Some (source_at sources i)
 listed_got sources [] zero i e = absurd cc
 listed_got sources [] (suc n) i e = absurd cc
 listed_got sources (j ∷ js) zero i e = ap (λ k. Some (source_at sources k)) (same_one j i e)
@@ -38,22 +38,22 @@ listed_got sources (j ∷ js) zero i e = ap (λ k. Some (source_at sources k)) (
     same_one j i e = cc
 listed_got sources (j ∷ js) (suc n) i e = listed_got sources js n i e
 
-pub listed_none : (sources : List Source) (is : List ℕ) (n : ℕ) → slice_get is n ≡ None → slice_get (listed sources is) n ≡ None
+pub listed_none : (sources : List Source) (is : List ℕ) (n : ℕ) → slice_get is n ≡ None → slice_get (sources_at sources is) n ≡ None
 listed_none sources [] zero e = refl
 listed_none sources [] (suc n) e = refl
 listed_none sources (j ∷ js) zero e = absurd cc
 listed_none sources (j ∷ js) (suc n) e = listed_none sources js n e
 
-pub found_at : (sources : List Source) (is : List ℕ) (n i id : ℕ) → slice_get is n ≡ Some i → (source_at sources i).id ≡ id → IsSourceAt (listed sources is) n id (source_at sources i)
+pub found_at : (sources : List Source) (is : List ℕ) (n i id : ℕ) → slice_get is n ≡ Some i → (source_at sources i).id ≡ id → IsSourceAt (sources_at sources is) n id (source_at sources i)
 found_at sources is n i id e same = record { got = listed_got sources is n i e; same = same }
 
-pub other_at : (sources : List Source) (is : List ℕ) (n i id : ℕ) → slice_get is n ≡ Some i → (source_at sources i).id ≢ id → IsNoSourceAt (listed sources is) n id
+pub other_at : (sources : List Source) (is : List ℕ) (n i id : ℕ) → slice_get is n ≡ Some i → (source_at sources i).id ≢ id → IsNoSourceAt (sources_at sources is) n id
 other_at sources is n i id e other s got same = other (ap (λ (t : Source). t.id) (one (sym (listed_got sources is n i e) ∙ got)) ∙ same)
   where
     one : {t u : Source} → Some t ≡ Some u → t ≡ u
     one e = cc
 
-pub none_at : (sources : List Source) (is : List ℕ) (n id : ℕ) → slice_get is n ≡ None → IsNoSourceAt (listed sources is) n id
+pub none_at : (sources : List Source) (is : List ℕ) (n id : ℕ) → slice_get is n ≡ None → IsNoSourceAt (sources_at sources is) n id
 none_at sources is n id e s got same = absurd (never (sym (listed_none sources is n e) ∙ got))
   where
     never : None ≡ Some s → ⊥
@@ -80,26 +80,26 @@ pub all_block : (test : ℕ → Bool) (blocks : List (List ℕ)) (b : ℕ) → b
 all_block test blocks b lt all =
     (all_parts test (block_at blocks b) (concat (drop (b + 1) blocks)) (all_parts test (concat (take b blocks)) (block_at blocks b ++ concat (drop (b + 1) blocks)) (ap (list_all test) (sym (split_concat blocks b lt)) ∙ all)).1).0
 
-rising_parts : (xs ys : List Source) → are_rising (xs ++ ys) ≡ true → (are_rising xs ≡ true) × (are_rising ys ≡ true)
+rising_parts : (xs ys : List Source) → are_ascending (xs ++ ys) ≡ true → (are_ascending xs ≡ true) × (are_ascending ys ≡ true)
 rising_parts [] ys r = (refl, r)
 rising_parts (x ∷ xs) ys r =
-    let w = and_parts (list_all (λ t. nat_lt x.id t.id) (xs ++ ys)) (are_rising (xs ++ ys)) r in
+    let w = and_parts (list_all (λ t. nat_lt x.id t.id) (xs ++ ys)) (are_ascending (xs ++ ys)) r in
     let more = rising_parts xs ys w.1 in
-    (and_from (list_all (λ t. nat_lt x.id t.id) xs) (are_rising xs) (all_parts (λ t. nat_lt x.id t.id) xs ys w.0).0 more.0, more.1)
+    (and_from (list_all (λ t. nat_lt x.id t.id) xs) (are_ascending xs) (all_parts (λ t. nat_lt x.id t.id) xs ys w.0).0 more.0, more.1)
 
 -- the sources in order, as those of the blocks before one, of its own, and of those behind
 listed_split : (sources : List Source) (blocks : List (List ℕ)) (b : ℕ) → b < length blocks
-    → listed sources (concat blocks) ≡ listed sources (concat (take b blocks)) ++ (listed sources (block_at blocks b) ++ listed sources (concat (drop (b + 1) blocks)))
+    → sources_at sources (concat blocks) ≡ sources_at sources (concat (take b blocks)) ++ (sources_at sources (block_at blocks b) ++ sources_at sources (concat (drop (b + 1) blocks)))
 listed_split sources blocks b lt =
-    ap (listed sources) (split_concat blocks b lt) ∙ map-append (source_at sources) (concat (take b blocks)) (block_at blocks b ++ concat (drop (b + 1) blocks))
-    ∙ ap (λ ys. listed sources (concat (take b blocks)) ++ ys) (map-append (source_at sources) (block_at blocks b) (concat (drop (b + 1) blocks)))
+    ap (sources_at sources) (split_concat blocks b lt) ∙ map-append (source_at sources) (concat (take b blocks)) (block_at blocks b ++ concat (drop (b + 1) blocks))
+    ∙ ap (λ ys. sources_at sources (concat (take b blocks)) ++ ys) (map-append (source_at sources) (block_at blocks b) (concat (drop (b + 1) blocks)))
 
-pub rising_block : (sources : List Source) (blocks : List (List ℕ)) (b : ℕ) → b < length blocks → are_rising (listed sources (concat blocks)) ≡ true → are_rising (listed sources (block_at blocks b)) ≡ true
+pub rising_block : (sources : List Source) (blocks : List (List ℕ)) (b : ℕ) → b < length blocks → are_ascending (sources_at sources (concat blocks)) ≡ true → are_ascending (sources_at sources (block_at blocks b)) ≡ true
 rising_block sources blocks b lt r =
-    let before = listed sources (concat (take b blocks)) in
-    let here = listed sources (block_at blocks b) in
-    let behind = listed sources (concat (drop (b + 1) blocks)) in
-    (rising_parts here behind (rising_parts before (here ++ behind) (ap are_rising (sym (listed_split sources blocks b lt)) ∙ r)).1).0
+    let before = sources_at sources (concat (take b blocks)) in
+    let here = sources_at sources (block_at blocks b) in
+    let behind = sources_at sources (concat (drop (b + 1) blocks)) in
+    (rising_parts here behind (rising_parts before (here ++ behind) (ap are_ascending (sym (listed_split sources blocks b lt)) ∙ r)).1).0
 
 -- ---- less, and not less
 
@@ -107,49 +107,49 @@ less_through : (a b c : ℕ) → nat_lt a b ≡ true → nat_lt b c ≡ true →
 less_through a b c h k = grind (arith, nat_tests)
 
 -- all are less where the last is
-less_by_last : (ss : List Source) (s : Source) (id : ℕ) → are_rising ss ≡ true → slice_get ss (length ss - 1) ≡ Some s → nat_lt s.id id ≡ true → list_all (λ t. nat_lt t.id id) ss ≡ true
+less_by_last : (ss : List Source) (s : Source) (id : ℕ) → are_ascending ss ≡ true → slice_get ss (length ss - 1) ≡ Some s → nat_lt s.id id ≡ true → list_all (λ t. nat_lt t.id id) ss ≡ true
 less_by_last [] s id r got lt = refl
 less_by_last (t ∷ []) s id r got lt = and_from (nat_lt t.id id) true (ap (λ (u : Source). nat_lt u.id id) (one got) ∙ lt) refl
   where
     one : Some t ≡ Some s → t ≡ s
     one e = cc
 less_by_last (t ∷ u ∷ us) s id r got lt =
-    let w = and_parts (list_all (λ v. nat_lt t.id v.id) (u ∷ us)) (are_rising (u ∷ us)) r in
+    let w = and_parts (list_all (λ v. nat_lt t.id v.id) (u ∷ us)) (are_ascending (u ∷ us)) r in
     let more = less_by_last (u ∷ us) s id w.1 (ap (slice_get (t ∷ u ∷ us)) (let k : suc (length (u ∷ us) - 1) ≡ length (t ∷ u ∷ us) - 1 = omega arith in k) ∙ got) lt in
     and_from (nat_lt t.id id) (list_all (λ v. nat_lt v.id id) (u ∷ us))
     (less_through t.id u.id id (and_parts (nat_lt t.id u.id) (list_all (λ v. nat_lt t.id v.id) us) w.0).0 (and_parts (nat_lt u.id id) (list_all (λ v. nat_lt v.id id) us) more).0) more
 
 -- those before one that is less are less
-less_before : (xs ys : List Source) (n : ℕ) (s : Source) (id : ℕ) → are_rising (xs ++ ys) ≡ true → slice_get ys n ≡ Some s → nat_lt s.id id ≡ true → list_all (λ t. nat_lt t.id id) xs ≡ true
+less_before : (xs ys : List Source) (n : ℕ) (s : Source) (id : ℕ) → are_ascending (xs ++ ys) ≡ true → slice_get ys n ≡ Some s → nat_lt s.id id ≡ true → list_all (λ t. nat_lt t.id id) xs ≡ true
 less_before [] ys n s id r got lt = refl
 less_before (x ∷ xs) ys n s id r got lt =
-    let w = and_parts (list_all (λ t. nat_lt x.id t.id) (xs ++ ys)) (are_rising (xs ++ ys)) r in
+    let w = and_parts (list_all (λ t. nat_lt x.id t.id) (xs ++ ys)) (are_ascending (xs ++ ys)) r in
     and_from (nat_lt x.id id) (list_all (λ t. nat_lt t.id id) xs)
     (less_through x.id s.id id (got_all (λ t. nat_lt x.id t.id) ys n s (all_parts (λ t. nat_lt x.id t.id) xs ys w.0).1 got) lt) (less_before xs ys n s id w.1 got lt)
 
 not_less_through : (a b c : ℕ) → nat_lt a c ≡ false → nat_lt a b ≡ true → not (nat_lt b c) ≡ true
 not_less_through a b c h k = grind (arith, nat_tests)
 
--- those behind one that is not less are not less
-not_less_behind : (xs ys : List Source) (n : ℕ) (s : Source) (id : ℕ) → are_rising (xs ++ ys) ≡ true → slice_get xs n ≡ Some s → nat_lt s.id id ≡ false → list_all (λ t. not (nat_lt t.id id)) ys ≡ true
+-- those after one that is not less are not less
+not_less_behind : (xs ys : List Source) (n : ℕ) (s : Source) (id : ℕ) → are_ascending (xs ++ ys) ≡ true → slice_get xs n ≡ Some s → nat_lt s.id id ≡ false → list_all (λ t. not (nat_lt t.id id)) ys ≡ true
 not_less_behind [] ys zero s id r got ge = absurd cc
 not_less_behind [] ys (suc n) s id r got ge = absurd cc
 not_less_behind (x ∷ xs) ys zero s id r got ge =
-    let w = and_parts (list_all (λ t. nat_lt x.id t.id) (xs ++ ys)) (are_rising (xs ++ ys)) r in
+    let w = and_parts (list_all (λ t. nat_lt x.id t.id) (xs ++ ys)) (are_ascending (xs ++ ys)) r in
     all_weaker (λ t. nat_lt x.id t.id) (λ t. not (nat_lt t.id id)) ys (λ t lt. not_less_through x.id t.id id (ap (λ (u : Source). nat_lt u.id id) (one got) ∙ ge) lt) (all_parts (λ t. nat_lt x.id t.id) xs ys w.0).1
   where
     one : Some x ≡ Some s → x ≡ s
     one e = cc
-not_less_behind (x ∷ xs) ys (suc n) s id r got ge = not_less_behind xs ys n s id (and_parts (list_all (λ t. nat_lt x.id t.id) (xs ++ ys)) (are_rising (xs ++ ys)) r).1 got ge
+not_less_behind (x ∷ xs) ys (suc n) s id r got ge = not_less_behind xs ys n s id (and_parts (list_all (λ t. nat_lt x.id t.id) (xs ++ ys)) (are_ascending (xs ++ ys)) r).1 got ge
 
 -- ---- the block of a source
 
-pub ends_below : (sources : List Source) (block : List ℕ) (place id : ℕ) → are_rising (listed sources block) ≡ true → slice_get block (length block - 1) ≡ Some place → comes_before sources id place ≡ true → are_below sources id block ≡ true
+pub ends_below : (sources : List Source) (block : List ℕ) (place id : ℕ) → are_ascending (sources_at sources block) ≡ true → slice_get block (length block - 1) ≡ Some place → comes_before sources id place ≡ true → are_below sources id block ≡ true
 ends_below sources block place id r got before =
-    less_by_last (listed sources block) (source_at sources place) id r (ap (λ n. slice_get (listed sources block) (n - 1)) (sym (long block)) ∙ listed_got sources block (length block - 1) place got)
+    less_by_last (sources_at sources block) (source_at sources place) id r (ap (λ n. slice_get (sources_at sources block) (n - 1)) (sym (long block)) ∙ listed_got sources block (length block - 1) place got)
     (and_parts (nat_lt place (length sources)) (nat_lt (source_at sources place).id id) before).1
   where
-    long : (is : List ℕ) → length is ≡ length (listed sources is)
+    long : (is : List ℕ) → length is ≡ length (sources_at sources is)
     long [] = refl
     long (i ∷ is) = ap suc (long is)
 
@@ -172,11 +172,11 @@ begins_below sources block place id got before = record {
   below = (and_parts (nat_lt place (length sources)) (nat_lt (source_at sources place).id id) before).1;
 }
 
-pub start_below : (sources : List Source) (blocks : List (List ℕ)) (id b : ℕ) → are_rising (listed sources (concat blocks)) ≡ true → b < length blocks → BeginsBelow sources (block_at blocks b) id → are_below sources id (concat (take b blocks)) ≡ true
+pub start_below : (sources : List Source) (blocks : List (List ℕ)) (id b : ℕ) → are_ascending (sources_at sources (concat blocks)) ≡ true → b < length blocks → BeginsBelow sources (block_at blocks b) id → are_below sources id (concat (take b blocks)) ≡ true
 start_below sources blocks id b r lt begins =
-    let here = listed sources (block_at blocks b) in
-    let behind = listed sources (concat (drop (b + 1) blocks)) in
-    less_before (listed sources (concat (take b blocks))) (here ++ behind) 0 begins.source id (ap are_rising (sym (listed_split sources blocks b lt)) ∙ r) (first here behind begins.source begins.got) begins.below
+    let here = sources_at sources (block_at blocks b) in
+    let behind = sources_at sources (concat (drop (b + 1) blocks)) in
+    less_before (sources_at sources (concat (take b blocks))) (here ++ behind) 0 begins.source id (ap are_ascending (sym (listed_split sources blocks b lt)) ∙ r) (first here behind begins.source begins.got) begins.below
   where
     first : (xs ys : List Source) (s : Source) → slice_get xs 0 ≡ Some s → slice_get (xs ++ ys) 0 ≡ Some s
     first [] ys s e = absurd cc
@@ -184,13 +184,13 @@ start_below sources blocks id b r lt begins =
 
 pub below_next : (sources : List Source) (blocks : List (List ℕ)) (id b : ℕ) → b < length blocks → are_below sources id (concat (take b blocks)) ≡ true → are_below sources id (block_at blocks b) ≡ true → are_below sources id (concat (take (b + 1) blocks)) ≡ true
 below_next sources blocks id b lt before here =
-    ap (λ is. list_all (λ s. nat_lt s.id id) (listed sources is)) (next_concat blocks b lt)
+    ap (λ is. list_all (λ s. nat_lt s.id id) (sources_at sources is)) (next_concat blocks b lt)
     ∙ ap (list_all (λ s. nat_lt s.id id)) (map-append (source_at sources) (concat (take b blocks)) (block_at blocks b))
-    ∙ all_joined (λ s. nat_lt s.id id) (listed sources (concat (take b blocks))) (listed sources (block_at blocks b)) before here
+    ∙ all_joined (λ s. nat_lt s.id id) (sources_at sources (concat (take b blocks))) (sources_at sources (block_at blocks b)) before here
 
 -- ---- the seat of a source
 
-length_listed : (sources : List Source) (is : List ℕ) → length is ≡ length (listed sources is)
+length_listed : (sources : List Source) (is : List ℕ) → length is ≡ length (sources_at sources is)
 length_listed sources [] = refl
 length_listed sources (i ∷ is) = ap suc (length_listed sources is)
 
@@ -208,21 +208,21 @@ place_joined xs ys zs id o before place behind =
     }
 
 -- a seat within a block
-pub seated : (sources : List Source) (blocks : List (List ℕ)) (id b o : ℕ) → are_rising (listed sources (concat blocks)) ≡ true → b < length blocks → IsBlockOf sources blocks id b → IsSourcePlace (listed sources (block_at blocks b)) id o
-    → IsSourcePlace (listed sources (concat blocks)) id (length (concat (take b blocks)) + o)
+pub seated : (sources : List Source) (blocks : List (List ℕ)) (id b o : ℕ) → are_ascending (sources_at sources (concat blocks)) ≡ true → b < length blocks → IsBlockOf sources blocks id b → IsSourcePlace (sources_at sources (block_at blocks b)) id o
+    → IsSourcePlace (sources_at sources (concat blocks)) id (length (concat (take b blocks)) + o)
 seated sources blocks id b o r lt of place =
-    let xs = listed sources (concat (take b blocks)) in
-    let here = listed sources (block_at blocks b) in
-    let zs = listed sources (concat (drop (b + 1) blocks)) in
+    let xs = sources_at sources (concat (take b blocks)) in
+    let here = sources_at sources (block_at blocks b) in
+    let zs = sources_at sources (concat (drop (b + 1) blocks)) in
     let from = of.ends lt in
-    let r2 = (rising_parts xs (here ++ zs) (ap are_rising (sym (listed_split sources blocks b lt)) ∙ r)).1 in
+    let r2 = (rising_parts xs (here ++ zs) (ap are_ascending (sym (listed_split sources blocks b lt)) ∙ r)).1 in
     subst (λ ss. IsSourcePlace ss id (length (concat (take b blocks)) + o)) (sym (listed_split sources blocks b lt))
     (subst (λ n. IsSourcePlace (xs ++ (here ++ zs)) id (n + o)) (sym (length_listed sources (concat (take b blocks))))
     (place_joined xs here zs id o of.before place (not_less_behind here zs from.at from.source id r2 from.got from.from)))
 
 -- it is one of the block's
-pub seat_within : (sources : List Source) (block : List ℕ) (id o : ℕ) → HasFrom sources block id → IsSourcePlace (listed sources block) id o → o < length block
-seat_within sources block id o from place = let long = length_listed sources block in let lt = short (listed sources block) o from.at from.source from.got from.from place.bound place.before in omega (arith, long, lt)
+pub seat_within : (sources : List Source) (block : List ℕ) (id o : ℕ) → HasFrom sources block id → IsSourcePlace (sources_at sources block) id o → o < length block
+seat_within sources block id o from place = let long = length_listed sources block in let lt = short (sources_at sources block) o from.at from.source from.got from.from place.bound place.before in omega (arith, long, lt)
   where
     short : (ss : List Source) (o n : ℕ) (s : Source) → slice_get ss n ≡ Some s → nat_lt s.id id ≡ false → o ≤ length ss → list_all (λ t. nat_lt t.id id) (take o ss) ≡ true → o < length ss
     short [] o zero s got ge le all = absurd cc
@@ -239,14 +239,14 @@ seat_within sources block id o from place = let long = length_listed sources blo
         let lt = short ts o n s got ge (omega (arith, le)) (and_parts (nat_lt t.id id) (list_all (λ t. nat_lt t.id id) (take o ts)) all).1 in
         omega (arith, lt)
 
--- behind all blocks
-pub seated_behind : (sources : List Source) (blocks : List (List ℕ)) (id b : ℕ) → length blocks ≤ b → IsBlockOf sources blocks id b → IsSourcePlace (listed sources (concat blocks)) id (length (concat (take b blocks)) + 0)
+-- after all blocks
+pub seated_behind : (sources : List Source) (blocks : List (List ℕ)) (id b : ℕ) → length blocks ≤ b → IsBlockOf sources blocks id b → IsSourcePlace (sources_at sources (concat blocks)) id (length (concat (take b blocks)) + 0)
 seated_behind sources blocks id b le of =
     let all = take_all blocks b le in
     let long = length_listed sources (concat blocks) in
     let less : are_below sources id (concat blocks) ≡ true = ap (λ xs. are_below sources id (concat xs)) (sym all) ∙ of.before in
-    let end : length (concat (take b blocks)) + 0 ≡ length (listed sources (concat blocks)) = (let k = ap (λ xs. length (concat xs)) all in omega (arith, k, long)) in
-    subst (IsSourcePlace (listed sources (concat blocks)) id) (sym end) (last (listed sources (concat blocks)) less)
+    let end : length (concat (take b blocks)) + 0 ≡ length (sources_at sources (concat blocks)) = (let k = ap (λ xs. length (concat xs)) all in omega (arith, k, long)) in
+    subst (IsSourcePlace (sources_at sources (concat blocks)) id) (sym end) (last (sources_at sources (concat blocks)) less)
   where
     last : (ss : List Source) → list_all (λ s. nat_lt s.id id) ss ≡ true → IsSourcePlace ss id (length ss)
     last [] h = record { bound = omega arith; before = refl; behind = refl }

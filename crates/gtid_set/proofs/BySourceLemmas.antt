@@ -7,7 +7,7 @@ use Rattle.interval_pool.specs.declared.interval.Interval.{Interval}
 use Rattle.interval_pool.specs.Values.{PoolValue, is_list, spans}
 use Rattle.gtid_text.specs.declared.Span.{Span}
 use Rattle.gtid_set.specs.declared.sources.Source.{Source}
-use Rattle.gtid_set.specs.Kept.{span_of, spans_as, spans_of, spans_in, source_at, listed, are_rising, is_filled, flat}
+use Rattle.gtid_set.specs.Kept.{span_of, spans_as, spans_of, spans_in, source_at, sources_at, are_ascending, is_filled, flat}
 use Rattle.gtid_set.specs.BySource.{are_from, are_above, AreLists, BeginsWith, IsFirstSource, TakesSource}
 use Rattle.gtid_set.proofs.SpanLemmas.{all_weaker}
 use Rattle.gtid_set.proofs.KeptLemmas.{all_of}
@@ -27,9 +27,9 @@ begins_listed p s more filled = some (spans p s.list) (and_parts (is_list p s.li
     some [] h = absurd cc
     some (i ∷ is) h = record { first = span_of s.id i; more = map (span_of s.id) is ++ more; parts = refl; source = refl }
 
-first_listed : (p : PoolValue) (s : Source) (ss : List Source) → are_rising (s ∷ ss) ≡ true → list_all (is_filled p) (s ∷ ss) ≡ true → IsFirstSource (spans_of p (s ∷ ss)) s.id
+first_listed : (p : PoolValue) (s : Source) (ss : List Source) → are_ascending (s ∷ ss) ≡ true → list_all (is_filled p) (s ∷ ss) ≡ true → IsFirstSource (spans_of p (s ∷ ss)) s.id
 first_listed p s ss rising filled =
-    let r = and_parts (list_all (λ t. nat_lt s.id t.id) ss) (are_rising ss) rising in
+    let r = and_parts (list_all (λ t. nat_lt s.id t.id) ss) (are_ascending ss) rising in
     let f = and_parts (is_filled p s) (list_all (is_filled p) ss) filled in
     record {
       begins = begins_listed p s (spans_of p ss) f.0;
@@ -40,7 +40,7 @@ pub first_source : (p : PoolValue) (sources : List Source) (order : List ℕ) (a
 first_source p sources order at behind ss e h view =
     let k = subst (AreLists p sources) e h in
     subst (λ xs. IsFirstSource xs (source_at sources at).id) (sym (ap (flat p sources) e) ∙ view)
-    (first_listed p (source_at sources at) (listed sources behind) k.rising k.filled)
+    (first_listed p (source_at sources at) (sources_at sources behind) k.rising k.filled)
 
 -- ---- a source is taken
 
@@ -51,14 +51,14 @@ takes_none p sources order at behind ss id none e h view from other empty =
     let k = subst (AreLists p sources) e h in
     let s = source_at sources at in
     let whole : flat p sources (at ∷ behind) ≡ ss = sym (ap (flat p sources) e) ∙ view in
-    let f = and_parts (is_filled p s) (list_all (is_filled p) (listed sources behind)) k.filled in
-    let r = and_parts (list_all (λ t. nat_lt s.id t.id) (listed sources behind)) (are_rising (listed sources behind)) k.rising in
-    let begins = begins_listed p s (spans_of p (listed sources behind)) f.0 in
+    let f = and_parts (is_filled p s) (list_all (is_filled p) (sources_at sources behind)) k.filled in
+    let r = and_parts (list_all (λ t. nat_lt s.id t.id) (sources_at sources behind)) (are_ascending (sources_at sources behind)) k.rising in
+    let begins = begins_listed p s (spans_of p (sources_at sources behind)) f.0 in
     let less : nat_lt id s.id ≡ true = least begins (ap (are_from id) whole ∙ from) in
     record {
       parts = ap (λ is. spans_as id is ++ ss) (sym empty);
-      above = sym (ap (are_above id) whole) ∙ all_of (λ n. nat_lt id n) p (s ∷ listed sources behind)
-          (and_from (nat_lt id s.id) (list_all (λ t. nat_lt id t.id) (listed sources behind)) less (all_weaker (λ t. nat_lt s.id t.id) (λ t. nat_lt id t.id) (listed sources behind) (λ t lt. later t less lt) r.0));
+      above = sym (ap (are_above id) whole) ∙ all_of (λ n. nat_lt id n) p (s ∷ sources_at sources behind)
+          (and_from (nat_lt id s.id) (list_all (λ t. nat_lt id t.id) (sources_at sources behind)) less (all_weaker (λ t. nat_lt s.id t.id) (λ t. nat_lt id t.id) (sources_at sources behind) (λ t lt. later t less lt) r.0));
     }
   where
     later : (t : Source) → nat_lt id (source_at sources at).id ≡ true → nat_lt (source_at sources at).id t.id ≡ true → nat_lt id t.id ≡ true
@@ -78,10 +78,10 @@ pub takes_first : (p : PoolValue) (sources : List Source) (order : List ℕ) (at
 takes_first p sources order at behind ss id numbers e h view same is =
     let k = subst (AreLists p sources) e h in
     let s = source_at sources at in
-    let r = and_parts (list_all (λ t. nat_lt s.id t.id) (listed sources behind)) (are_rising (listed sources behind)) k.rising in
+    let r = and_parts (list_all (λ t. nat_lt s.id t.id) (sources_at sources behind)) (are_ascending (sources_at sources behind)) k.rising in
     record {
       parts = sym view ∙ ap (flat p sources) e ∙ (λ i. spans_as (same i) (sym is i) ++ flat p sources behind);
-      above = sym (ap (λ n. are_above n (flat p sources behind)) same) ∙ all_of (λ n. nat_lt s.id n) p (listed sources behind) r.0;
+      above = sym (ap (λ n. are_above n (flat p sources behind)) same) ∙ all_of (λ n. nat_lt s.id n) p (sources_at sources behind) r.0;
     }
 
 -- ---- the least source of two

@@ -22,14 +22,13 @@ use Rattle.gtid_set.specs.Sweep.{IsListOf, IsRest, within, start_of, is_from, al
 use Rattle.gtid_set.specs.Full.{IsCrowdedExactly, IsKept, interval_count, most_intervals}
 use Rattle.gtid_set.specs.Kept.{spans_as}
 use Rattle.gtid_set.specs.Numbers.{all_numbered}
-use Rattle.gtid_set.specs.BySource.{are_from, are_above, are_below, BeginsWith, IsNextSource, TakesSource, combines, combined, IsTooLong}
+use Rattle.gtid_set.specs.BySource.{are_from, are_above, are_below, BeginsWith, IsNextSource, TakesSource, combines, combination, IsTooLong}
 use Rattle.gtid_set.proofs.CutLemmas.{start_within, within_from, more_from}
-use Rattle.gtid_set.proofs.KeptLemmas.{merged_append}
+use Rattle.gtid_set.proofs.KeptLemmas.{merged_append, has_span_of, merged_of}
 use Rattle.gtid_set.proofs.SpanLemmas.{merged_head, all_weaker, all_joined, any_none, merged_front, merged_back}
 use Rattle.gtid_set.proofs.SetLemmas.{same_members, contains-set_of}
 use Rattle.gtid_set.proofs.SetSources.{fewer_sources}
 use Rattle.gtid_set.proofs.RunLemmas.{runs_merged, runs_are_merged, set_of_runs}
-use Rattle.gtid_set.proofs.KeptLemmas.{has_span_of, merged_append, merged_of}
 use Rattle.gtid_set.proofs.KeptRuns.{merged_numbers}
 
 -- ---- an operation on what two sets have
@@ -222,7 +221,7 @@ made_short o s out left right h =
 
 -- ---- where it begins and ends
 
-pub made_of : (o : Operation) (xs ys : List Span) (q : Gtid) → set.contains (combined o (set_of xs) (set_of ys)) q ≡ combines o (has xs q) (has ys q)
+pub made_of : (o : Operation) (xs ys : List Span) (q : Gtid) → set.contains (combination o (set_of xs) (set_of ys)) q ≡ combines o (has xs q) (has ys q)
 made_of Union xs ys q = set.contains-union gtid_total (set_of xs) (set_of ys) q ∙ (λ i. contains-set_of xs q i || contains-set_of ys q i)
 made_of Difference xs ys q = set.contains-difference gtid_total (set_of xs) (set_of ys) q ∙ (λ i. contains-set_of xs q i && not (contains-set_of ys q i))
 made_of Intersection xs ys q = set.contains-intersection gtid_total (set_of xs) (set_of ys) q ∙ (λ i. contains-set_of xs q i && contains-set_of ys q i)
@@ -304,7 +303,7 @@ next_from o s out left right id h next = either next.begins
     either (inl b) = begins_from left id h.bound b h.left_from
     either (inr b) = begins_from right id h.bound b h.right_from
 
--- the numbers of a source are merged, and the spans behind them
+-- the numbers of a source are merged, and the spans after them
 pub taken_merged : (old : List Span) (id : ℕ) (numbers : List Interval) (new : List Span) → TakesSource old id numbers new → is_merged old ≡ true → (is_merged (all_numbered numbers) ≡ true) × (is_merged new ≡ true)
 taken_merged old id numbers new takes merged =
     let whole = sym (ap is_merged takes.parts) ∙ merged in

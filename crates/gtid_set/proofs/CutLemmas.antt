@@ -46,7 +46,7 @@ cut_off true m t hole q a b c d e = refl
 cut_off false true t hole q a b c d e = let f = e refl in grind (arith, nat_tests)
 cut_off false false t hole q a b c d e = grind (arith, nat_tests)
 
--- what stands in the way of a cut: the list is merged, its first span is met, and is not before the span
+-- what is in the way of a cut: the list is merged, its first span is met, and is not before the span
 pub record IsHole (rest : List Span) (t hole : Span) (more : List Span) : Type 0 where
   pub parts : rest ≡ hole ∷ more
   pub met : is_met hole t ≡ true

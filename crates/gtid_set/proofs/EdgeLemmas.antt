@@ -37,7 +37,7 @@ number_before g = gtid g.source (g.number - 1)
 abbrev before_in : List Span → Gtid → Bool
 before_in ss g = not (g.number == 0) && has ss (number_before g)
 
--- a GTID in a span, or right behind it
+-- a GTID in a span, or right after it
 abbrev is_near : Span → Gtid → Bool
 is_near s g = (g.source == s.source) && (nat_le s.lo g.number && nat_le g.number (s.hi + 1))
 
@@ -220,7 +220,7 @@ len-within (g ∷ gs) t h = cases (among g gs) refl (λ u. len-within gs u)
         let less = len-less t g first in
         omega (arith, more, le, less)
 
--- ---- sets whose edges stand in a set of places
+-- ---- sets whose edges are in a set of places
 
 pub edge_at : (places s : Gtids) → HasEdges places s → (g : Gtid) → changes_at s g ≡ true → set.contains places g ≡ true
 edge_at places s h g e = set.is_subset-contains gtid_total (edges s) places h g (contains-edges s g ∙ e)

@@ -9,7 +9,7 @@ use Rattle.gtid_text.specs.declared.Span.{Span}
 use Rattle.gtid_set.specs.declared.combine.Operation.TheVariants.{Union}
 use Rattle.gtid_set.specs.Sets.{Gtids, gtid}
 use Rattle.gtid_set.specs.Spans.{is_merged, has}
-use Rattle.gtid_set.specs.Sweep.{Joins, all_start_by, rises, is_from, start_of, within}
+use Rattle.gtid_set.specs.Sweep.{Joins, all_start_by, is_sorted, is_from, start_of, within}
 use Rattle.gtid_set.specs.Kept.{span_of, spans_as, interval_of}
 use Rattle.gtid_set.specs.Numbers.{numbered, all_numbered}
 use Rattle.gtid_set.specs.BySource.{are_from, are_above, BeginsWith, JoinsSource}
@@ -20,12 +20,12 @@ use Rattle.gtid_set.proofs.CombineLemmas.{IsMaking, has_here, has_there, or_none
 pub record IsJoining (spans : List Span) (id : ℕ) (run : List Interval) (rest : List Span) : Type 0 where
   pub merged : is_merged (all_numbered run) ≡ true
   pub has : (q : Gtid) → has spans q ≡ (has (spans_as id run) q || has rest q)
-  pub rising : rises rest ≡ true
+  pub rising : is_sorted rest ≡ true
   pub from : are_from id rest ≡ true
   pub order : list_all (all_start_by (spans_as id run)) rest ≡ true
   pub gone : (length rest < length spans) ⊎ (rest ≡ spans)
 
-pub joining : (spans : List Span) (id : ℕ) (run : List Interval) → run ≡ [] → rises spans ≡ true → are_from id spans ≡ true → IsJoining spans id run spans
+pub joining : (spans : List Span) (id : ℕ) (run : List Interval) → run ≡ [] → is_sorted spans ≡ true → are_from id spans ≡ true → IsJoining spans id run spans
 joining spans id run none r f = record {
   merged = ap (λ is. is_merged (all_numbered is)) none;
   has = λ q. ap (λ is. has (spans_as id is) q || has spans q) (sym none);
@@ -85,8 +85,8 @@ joined_more spans id run run' rest span more h e same joins = record {
   gone = inl (less h.gone);
 }
   where
-    r : (list_all (λ t. is_from (start_of span) (start_of t)) more ≡ true) × (rises more ≡ true)
-    r = and_parts (list_all (λ t. is_from (start_of span) (start_of t)) more) (rises more) (sym (ap rises e) ∙ h.rising)
+    r : (list_all (λ t. is_from (start_of span) (start_of t)) more ≡ true) × (is_sorted more ≡ true)
+    r = and_parts (list_all (λ t. is_from (start_of span) (start_of t)) more) (is_sorted more) (sym (ap is_sorted e) ∙ h.rising)
 
     less : (length rest < length spans) ⊎ (rest ≡ spans) → length more < length spans
     less (inl lt) = let long = ap length e in omega (arith, long, lt)
@@ -116,8 +116,8 @@ joined_upto spans id run rest span more h e other =
     (ap (are_above id) e ∙ and_from (nat_lt id span.source) (are_above id more) least (all_weaker (λ t. is_from (start_of span) (start_of t)) (λ t. nat_lt id t.source) more (λ t f. later t least f) r.0))
     (λ begins. differs begins (sym e ∙ begins.parts))
   where
-    r : (list_all (λ t. is_from (start_of span) (start_of t)) more ≡ true) × (rises more ≡ true)
-    r = and_parts (list_all (λ t. is_from (start_of span) (start_of t)) more) (rises more) (sym (ap rises e) ∙ h.rising)
+    r : (list_all (λ t. is_from (start_of span) (start_of t)) more ≡ true) × (is_sorted more ≡ true)
+    r = and_parts (list_all (λ t. is_from (start_of span) (start_of t)) more) (is_sorted more) (sym (ap is_sorted e) ∙ h.rising)
 
     above : nat_le id span.source ≡ true → span.source ≢ id → nat_lt id span.source ≡ true
     above a b = grind (arith, nat_tests)
@@ -133,9 +133,9 @@ joined_upto spans id run rest span more h e other =
 
 -- ---- a source more of a set that is being made
 
-pub rises_from : (rest : List Span) (first : Span) (more : List Span) → rest ≡ first ∷ more → rises rest ≡ true → are_from first.source rest ≡ true
+pub rises_from : (rest : List Span) (first : Span) (more : List Span) → rest ≡ first ∷ more → is_sorted rest ≡ true → are_from first.source rest ≡ true
 rises_from rest first more e r =
-    let w = and_parts (list_all (λ t. is_from (start_of first) (start_of t)) more) (rises more) (sym (ap rises e) ∙ r) in
+    let w = and_parts (list_all (λ t. is_from (start_of first) (start_of t)) more) (is_sorted more) (sym (ap is_sorted e) ∙ r) in
     ap (are_from first.source) e ∙ and_from (nat_le first.source first.source) (are_from first.source more) itself (all_weaker (λ t. is_from (start_of first) (start_of t)) (λ t. nat_le first.source t.source) more (λ t f. later t f) w.0)
   where
     itself : nat_le first.source first.source ≡ true

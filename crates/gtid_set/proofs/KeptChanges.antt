@@ -8,9 +8,7 @@ use Rattle.std.proofs.lemmas.List.{length-append, take-append-drop, get_or_appen
 use Rattle.std.proofs.Math.Seq.{get_or-append_seam}
 use Rattle.interval_pool.specs.declared.interval.Interval.{Interval}
 use Rattle.interval_pool.specs.Chains.{IsAmong}
-use Rattle.interval_pool.specs.Intervals.{IsBefore, AreMerged, IsApart}
-use Rattle.interval_pool.specs.Intervals.{has as has_number}
-use Rattle.interval_pool.specs.Intervals.{covers as covers_number}
+use Rattle.interval_pool.specs.Intervals.{IsBefore, AreMerged, IsApart, has as has_number, covers as covers_number}
 use Rattle.interval_pool.specs.Values.{PoolValue, spans, is_list, AddedTo}
 use Rattle.gtid_text.specs.declared.Gtid.{Gtid}
 use Rattle.gtid_text.specs.declared.Span.{Span}
@@ -19,7 +17,7 @@ use Rattle.gtid_set.specs.Sets.{gtid, interval}
 use Rattle.gtid_set.specs.Spans.{set_of, is_before, is_merged, has}
 use Rattle.gtid_set.specs.Sweep.{within, KnowsSource}
 use Rattle.gtid_set.specs.Full.{interval_count}
-use Rattle.gtid_set.specs.Kept.{span_of, interval_of, spans_in, spans_of, are_rising, have_own, lists_of, listed, source_at, are_places, is_filled, knows, are_others, IsSourcePlace}
+use Rattle.gtid_set.specs.Kept.{span_of, interval_of, spans_in, spans_of, are_ascending, have_own, lists_of, sources_at, source_at, are_places, is_filled, knows, are_others, IsSourcePlace}
 use Rattle.gtid_set.proofs.SpanLemmas.{all_weaker, all_weaker2, merged_head, merged_cons, all_joined, all_parts}
 use Rattle.gtid_set.proofs.SetSources.{added_set}
 use Rattle.gtid_set.proofs.RunLemmas.{runs_merged}
@@ -33,7 +31,7 @@ or_turn true false = refl
 or_turn false true = refl
 or_turn false false = refl
 
-pub knows_added : (p q : PoolValue) (ss : List Source) (at : ℕ) (s : Source) (t : Span) (g : Gtid) → are_rising ss ≡ true → have_own ss ≡ true → slice_get ss at ≡ Some s → s.id ≡ t.source
+pub knows_added : (p q : PoolValue) (ss : List Source) (at : ℕ) (s : Source) (t : Span) (g : Gtid) → are_ascending ss ≡ true → have_own ss ≡ true → slice_get ss at ≡ Some s → s.id ≡ t.source
     → AddedTo p s.list (interval_of t) q → knows q ss g ≡ (within t g || knows p ss g)
 knows_added p q ss at s t g r own e same added = split (g.source == s.id) refl
   where
@@ -79,7 +77,7 @@ filled_added p q l t le added s filled = split (s.list == l) refl
         and_from (is_list q s.list) (nat_lt 0 (length (spans q s.list))) (added.lists s.list ∙ w.0) (ap (λ is. nat_lt 0 (length is)) (same_at p q s.list (added.others s.list other)) ∙ w.1)
 
 -- the first number of a source that has intervals
-pub first_number : (p : PoolValue) (ss : List Source) (at : ℕ) (s : Source) → are_rising ss ≡ true → slice_get ss at ≡ Some s → list_all (is_filled p) ss ≡ true → ((l : ℕ) → AreMerged (spans p l)) → KnowsSource true (spans_of p ss) s.id
+pub first_number : (p : PoolValue) (ss : List Source) (at : ℕ) (s : Source) → are_ascending ss ≡ true → slice_get ss at ≡ Some s → list_all (is_filled p) ss ≡ true → ((l : ℕ) → AreMerged (spans p l)) → KnowsSource true (spans_of p ss) s.id
 first_number p ss at s r e filled merged = given (spans p s.list) refl
   where
     some : nat_lt 0 (length (spans p s.list)) ≡ true
@@ -184,12 +182,12 @@ apart_in id (i ∷ is) t same a = and_from (is_apart t (span_of id i)) (list_all
     one (inl b) = let lt : i.hi + 1 < t.lo = b in grind (arith, nat_tests)
     one (inr b) = let lt : t.hi + 1 < i.lo = b in grind (arith, nat_tests)
 
-pub apart_at : (p : PoolValue) (ss : List Source) (at : ℕ) (s : Source) (t : Span) → are_rising ss ≡ true → slice_get ss at ≡ Some s → s.id ≡ t.source → IsApart (spans p s.list) (interval_of t) → list_all (is_apart t) (spans_of p ss) ≡ true
+pub apart_at : (p : PoolValue) (ss : List Source) (at : ℕ) (s : Source) (t : Span) → are_ascending ss ≡ true → slice_get ss at ≡ Some s → s.id ≡ t.source → IsApart (spans p s.list) (interval_of t) → list_all (is_apart t) (spans_of p ss) ≡ true
 apart_at p [] zero s t r e same a = absurd cc
 apart_at p [] (suc n) s t r e same a = absurd cc
 apart_at p (u ∷ us) zero s t r e same a =
     let is : u ≡ s = cc in
-    let w = and_parts (list_all (λ v. nat_lt u.id v.id) us) (are_rising us) r in
+    let w = and_parts (list_all (λ v. nat_lt u.id v.id) us) (are_ascending us) r in
     all_joined (is_apart t) (spans_in p u) (spans_of p us)
     (apart_in u.id (spans p u.list) t (sym same ∙ sym (ap (λ (v : Source). v.id) is)) (subst (λ (v : Source). IsApart (spans p v.list) (interval_of t)) (sym is) a))
     (apart_others p us t (all_weaker (λ v. nat_lt u.id v.id) (λ v. not (t.source == v.id)) us (λ v lt. differs v lt is) w.0))
@@ -197,7 +195,7 @@ apart_at p (u ∷ us) zero s t r e same a =
     differs : (v : Source) → nat_lt u.id v.id ≡ true → u ≡ s → not (t.source == v.id) ≡ true
     differs v lt is = let k : t.source ≡ u.id = sym same ∙ sym (ap (λ (v : Source). v.id) is) in grind (arith, nat_tests)
 apart_at p (u ∷ us) (suc n) s t r e same a =
-    let w = and_parts (list_all (λ v. nat_lt u.id v.id) us) (are_rising us) r in
+    let w = and_parts (list_all (λ v. nat_lt u.id v.id) us) (are_ascending us) r in
     let lt = got_all (λ v. nat_lt u.id v.id) us n s w.0 e in
     let ne : not (t.source == u.id) ≡ true = grind (arith, nat_tests) in
     all_joined (is_apart t) (spans_in p u) (spans_of p us) (apart_others_in ne) (apart_at p us n s t w.1 e same a)
@@ -216,17 +214,17 @@ all_with test ss zero s all h = and_from (test s) (list_all test ss) h all
 all_with test [] (suc n) s all h = and_from (test s) true h refl
 all_with test (t ∷ ts) (suc n) s all h = let w = and_parts (test t) (list_all test ts) all in and_from (test t) (list_all test (with_source ts n s)) w.0 (all_with test ts n s w.1 h)
 
-pub rising_with : (ss : List Source) (at : ℕ) (s : Source) → are_rising ss ≡ true → IsSourcePlace ss s.id at → are_others s.id ss ≡ true → are_rising (with_source ss at s) ≡ true
-rising_with ss zero s r place others = and_from (list_all (λ u. nat_lt s.id u.id) ss) (are_rising ss) (all_weaker2 (λ u. not (s.id == u.id)) (λ u. not (nat_lt u.id s.id)) (λ u. nat_lt s.id u.id) ss (λ u ne ge. more u ne ge) others place.behind) r
+pub rising_with : (ss : List Source) (at : ℕ) (s : Source) → are_ascending ss ≡ true → IsSourcePlace ss s.id at → are_others s.id ss ≡ true → are_ascending (with_source ss at s) ≡ true
+rising_with ss zero s r place others = and_from (list_all (λ u. nat_lt s.id u.id) ss) (are_ascending ss) (all_weaker2 (λ u. not (s.id == u.id)) (λ u. not (nat_lt u.id s.id)) (λ u. nat_lt s.id u.id) ss (λ u ne ge. more u ne ge) others place.behind) r
   where
     more : (u : Source) → not (s.id == u.id) ≡ true → not (nat_lt u.id s.id) ≡ true → nat_lt s.id u.id ≡ true
     more u ne ge = grind (arith, nat_tests)
 rising_with [] (suc n) s r place others = refl
 rising_with (t ∷ ts) (suc n) s r place others =
-    let w = and_parts (list_all (λ u. nat_lt t.id u.id) ts) (are_rising ts) r in
+    let w = and_parts (list_all (λ u. nat_lt t.id u.id) ts) (are_ascending ts) r in
     let b = and_parts (nat_lt t.id s.id) (list_all (λ u. nat_lt u.id s.id) (take n ts)) place.before in
     let bound = place.bound in
-    and_from (list_all (λ u. nat_lt t.id u.id) (with_source ts n s)) (are_rising (with_source ts n s)) (all_with (λ u. nat_lt t.id u.id) ts n s w.0 b.0)
+    and_from (list_all (λ u. nat_lt t.id u.id) (with_source ts n s)) (are_ascending (with_source ts n s)) (all_with (λ u. nat_lt t.id u.id) ts n s w.0 b.0)
     (rising_with ts n s w.1 (record { bound = omega (arith, bound); before = b.1; behind = place.behind }) (and_parts (not (s.id == t.id)) (are_others s.id ts) others).1)
 
 pub own_with : (ss : List Source) (at : ℕ) (s : Source) → have_own ss ≡ true → list_all (λ t. not (t.list == s.list)) ss ≡ true → have_own (with_source ss at s) ≡ true
@@ -254,8 +252,8 @@ knows_with p (t ∷ ts) (suc n) s g =
     ap (λ b. ((g.source == t.id) && has_number (spans p t.list) g.number) || b) (knows_with p ts n s g)
     ∙ or_swap ((g.source == t.id) && has_number (spans p t.list) g.number) ((g.source == s.id) && has_number (spans p s.list) g.number) (knows p ts g)
 
--- the sources at places, with one more behind them
-map_places : (sources : List Source) (s : Source) (is : List ℕ) → are_places sources is ≡ true → listed (sources ++ s ∷ []) is ≡ listed sources is
+-- the sources at places, with one more after them
+map_places : (sources : List Source) (s : Source) (is : List ℕ) → are_places sources is ≡ true → sources_at (sources ++ s ∷ []) is ≡ sources_at sources is
 map_places sources s [] all = refl
 map_places sources s (i ∷ is) all =
     let w = and_parts (nat_lt i (length sources)) (are_places sources is) all in
@@ -264,7 +262,7 @@ map_places sources s (i ∷ is) all =
     less : nat_lt i (length sources) ≡ true → i < length sources
     less lt = grind (arith, nat_tests)
 
-pub listed_with : (sources : List Source) (order : List ℕ) (s : Source) (at : ℕ) → are_places sources order ≡ true → listed (sources ++ s ∷ []) (take at order ++ length sources ∷ drop at order) ≡ with_source (listed sources order) at s
+pub listed_with : (sources : List Source) (order : List ℕ) (s : Source) (at : ℕ) → are_places sources order ≡ true → sources_at (sources ++ s ∷ []) (take at order ++ length sources ∷ drop at order) ≡ with_source (sources_at sources order) at s
 listed_with sources order s zero all = (λ i. last_is i ∷ map_places sources s order all i)
   where
     last_is : source_at (sources ++ s ∷ []) (length sources) ≡ s

@@ -13,8 +13,7 @@ use Rattle.interval_pool.specs.declared.fault.PoolFault.{PoolFault}
 use Rattle.interval_pool.specs.declared.fault.PoolFault.TheVariants as pools
 use Rattle.interval_pool.specs.Chains.{IsAmong, AreOnce}
 use Rattle.interval_pool.specs.Links.{most_cells}
-use Rattle.interval_pool.specs.Intervals.{IsBefore, AreMerged, IsApart}
-use Rattle.interval_pool.specs.Intervals.{covers as covers_number}
+use Rattle.interval_pool.specs.Intervals.{IsBefore, AreMerged, IsApart, covers as covers_number}
 use Rattle.interval_pool.specs.Values.{Held, PoolValue, slot_at, spans, is_list, IsList, intervals_of, AreAmong, AreAllLists, AddedTo, Opened, IsPartition, IsFull}
 use Rattle.interval_pool.proofs.Within.{stand_within, distinct_stand}
 use Rattle.gtid_text.specs.declared.Gtid.{Gtid}
@@ -28,7 +27,7 @@ use Rattle.gtid_set.specs.Sweep.{within, all_before, IsListOf, KnowsSource}
 use Rattle.gtid_set.specs.Runs.{runs}
 use Rattle.gtid_set.specs.Full.{fault_of, interval_count, most_intervals, IsFullExactly, HasManyIntervals}
 use Rattle.gtid_set.specs.BySource.{IsTooLong}
-use Rattle.gtid_set.specs.Kept.{span_of, interval_of, spans_in, spans_of, are_rising, have_own, lists_of, listed, is_filled, knows, flat, are_others, HasSameLists, Lists, IsListFault, IsKeptIn, IsSourceOf, IsNoSourceAt, IsSourcePlace, Grown, Stays}
+use Rattle.gtid_set.specs.Kept.{span_of, interval_of, spans_in, spans_of, are_ascending, have_own, lists_of, sources_at, is_filled, knows, flat, are_others, HasSameLists, Lists, IsListFault, IsKeptIn, IsSourceOf, IsNoSourceAt, IsSourcePlace, Grown, Stays}
 use Rattle.gtid_set.proofs.SpanLemmas.{all_weaker, all_parts, merged_front, merged_pushed}
 use Rattle.gtid_set.proofs.SetSources.{added_set, count_with, len_known, len_unknown, no_sources, with_one, fewer_sources}
 use Rattle.gtid_set.proofs.SetLemmas.{set_of-append, contains-set_of}
@@ -77,16 +76,16 @@ full_flat p ss known full =
 abbrev pub with_span : Gtids → Span → Gtids
 with_span s t = set.union s (interval t.source t.lo t.hi)
 
-known_count : (p : PoolValue) (sources : List Source) (order : List ℕ) (s : Source) (t : Span) → IsKeptIn p sources order → ((l : ℕ) → AreMerged (spans p l)) → IsSourceOf (listed sources order) s t.source → t.lo ≤ t.hi
+known_count : (p : PoolValue) (sources : List Source) (order : List ℕ) (s : Source) (t : Span) → IsKeptIn p sources order → ((l : ℕ) → AreMerged (spans p l)) → IsSourceOf (sources_at sources order) s t.source → t.lo ≤ t.hi
     → length order ≡ source_count (with_span (set_of (flat p sources order)) t)
 known_count p sources order s t kept merged of le =
-    len_known (flat p sources order) t.source (length order) kept.counted (subst (KnowsSource true (flat p sources order)) of.same (first_number p (listed sources order) of.at s kept.rising of.got kept.filled merged))
+    len_known (flat p sources order) t.source (length order) kept.counted (subst (KnowsSource true (flat p sources order)) of.same (first_number p (sources_at sources order) of.at s kept.rising of.got kept.filled merged))
     ∙ count_with (flat p sources order) (flat p sources order) (set_of (flat p sources order)) t.source t.lo t.hi refl refl le
 
-pub grown_at : (p q : PoolValue) (sources : List Source) (order : List ℕ) (s : Source) (t : Span) → IsKeptIn p sources order → ((l : ℕ) → AreMerged (spans p l)) → IsSourceOf (listed sources order) s t.source → t.lo ≤ t.hi
+pub grown_at : (p q : PoolValue) (sources : List Source) (order : List ℕ) (s : Source) (t : Span) → IsKeptIn p sources order → ((l : ℕ) → AreMerged (spans p l)) → IsSourceOf (sources_at sources order) s t.source → t.lo ≤ t.hi
     → AddedTo p s.list (interval_of t) q → IsLawful q → Grown p sources order t q sources order
 grown_at p q sources order s t kept merged of le added law =
-    let ss = listed sources order in
+    let ss = sources_at sources order in
     let list : IsListOf (λ g. within t g || has (flat p sources order) g) (flat q sources order) = record {
       merged = merged_flat q ss kept.rising law.merged;
       has = λ g. has_spans_of q ss g ∙ knows_added p q ss of.at s t g kept.rising kept.own of.got of.same added ∙ ap (λ b. within t g || b) (sym (has_spans_of p ss g));
@@ -109,14 +108,14 @@ grown_at p q sources order s t kept merged of le added law =
 
 -- ---- why there is no room
 
-pub fault_at : (p : PoolValue) (sources : List Source) (order : List ℕ) (s : Source) (t : Span) (f : PoolFault) → IsKeptIn p sources order → ((l : ℕ) → AreMerged (spans p l)) → IsSourceOf (listed sources order) s t.source → t.lo ≤ t.hi
+pub fault_at : (p : PoolValue) (sources : List Source) (order : List ℕ) (s : Source) (t : Span) (f : PoolFault) → IsKeptIn p sources order → ((l : ℕ) → AreMerged (spans p l)) → IsSourceOf (sources_at sources order) s t.source → t.lo ≤ t.hi
     → IsApart (spans p s.list) (interval_of t) → (f ≡ pools.Full → IsFull p) → IsFullExactly {T = Unit {0}} (Err (fault_of f)) (with_span (set_of (flat p sources order)) t)
 fault_at p sources order s t pools.Memory kept merged of le apart full = let c = known_count p sources order s t kept merged of le in let few = kept.few in omega (arith, c, few)
 fault_at p sources order s t pools.Full kept merged of le apart full =
     let c = known_count p sources order s t kept merged of le in
     let few = kept.few in
-    let m = one_more (flat p sources order) t kept.merged le (apart_at p (listed sources order) of.at s t kept.rising of.got of.same apart) in
-    let f = full_flat p (listed sources order) kept.known (full refl) in
+    let m = one_more (flat p sources order) t kept.merged le (apart_at p (sources_at sources order) of.at s t kept.rising of.got of.same apart) in
+    let f = full_flat p (sources_at sources order) kept.known (full refl) in
     (omega (arith, c, few), omega (arith, m, f))
 
 -- spans that have grown are of no set that is too large
@@ -131,10 +130,10 @@ fits_grown p q sources sources' order order' t grown =
 
 -- ---- a source more
 
-unknown_count : (p : PoolValue) (sources : List Source) (order : List ℕ) (t : Span) → IsKeptIn p sources order → are_others t.source (listed sources order) ≡ true → t.lo ≤ t.hi
+unknown_count : (p : PoolValue) (sources : List Source) (order : List ℕ) (t : Span) → IsKeptIn p sources order → are_others t.source (sources_at sources order) ≡ true → t.lo ≤ t.hi
     → length order + 1 ≡ source_count (with_span (set_of (flat p sources order)) t)
 unknown_count p sources order t kept others le =
-    len_unknown (flat p sources order) t.source (length order) kept.counted (λ n. has_spans_of p (listed sources order) (gtid t.source n) ∙ knows_none p (listed sources order) (gtid t.source n) others)
+    len_unknown (flat p sources order) t.source (length order) kept.counted (λ n. has_spans_of p (sources_at sources order) (gtid t.source n) ∙ knows_none p (sources_at sources order) (gtid t.source n) others)
     ∙ count_with (flat p sources order) (flat p sources order) (set_of (flat p sources order)) t.source t.lo t.hi refl refl le
 
 not_there : (o : Option (List Held)) → o ≡ None → is_some o ≡ true → ⊥
@@ -155,24 +154,24 @@ apart_lists p ss l none filled = all_weaker (is_filled p) (λ t. not (t.list == 
             let is = (and_parts (is_list p t.list) (nat_lt 0 (length (spans p t.list))) f).0 in
             absurd (not_there (slot_at p l) none (sym (ap (is_list p) same) ∙ is))
 
-pub grown_with : (p q : PoolValue) (sources : List Source) (order : List ℕ) (at l : ℕ) (t : Span) → IsKeptIn p sources order → IsSourcePlace (listed sources order) t.source at → are_others t.source (listed sources order) ≡ true
+pub grown_with : (p q : PoolValue) (sources : List Source) (order : List ℕ) (at l : ℕ) (t : Span) → IsKeptIn p sources order → IsSourcePlace (sources_at sources order) t.source at → are_others t.source (sources_at sources order) ≡ true
     → t.lo ≤ t.hi → length order < most_sources → Lists p l (interval_of t) q → IsLawful q
     → Grown p sources order t q (sources ++ record { id = t.source; list = l } ∷ []) (take at order ++ length sources ∷ drop at order)
 grown_with p q sources order at l t kept place others le few lists law =
-    let ss = listed sources order in
+    let ss = sources_at sources order in
     let s : Source = record { id = t.source; list = l } in
     let order' = take at order ++ length sources ∷ drop at order in
     let sources' = sources ++ s ∷ [] in
-    let same : listed sources' order' ≡ with_source ss at s = listed_with sources order s at kept.places in
+    let same : sources_at sources' order' ≡ with_source ss at s = listed_with sources order s at kept.places in
     let apart = apart_lists p ss l lists.new kept.filled in
-    let rising : are_rising (listed sources' order') ≡ true = ap are_rising same ∙ rising_with ss at s kept.rising place others in
-    let own : have_own (listed sources' order') ≡ true = ap have_own same ∙ own_with ss at s kept.own apart in
-    let here : (g : Gtid) → knows q (listed sources' order') g ≡ (within t g || knows p ss g) = λ g.
+    let rising : are_ascending (sources_at sources' order') ≡ true = ap are_ascending same ∙ rising_with ss at s kept.rising place others in
+    let own : have_own (sources_at sources' order') ≡ true = ap have_own same ∙ own_with ss at s kept.own apart in
+    let here : (g : Gtid) → knows q (sources_at sources' order') g ≡ (within t g || knows p ss g) = λ g.
     ap (λ xs. knows q xs g) same ∙ knows_with q ss at s g
     ∙ (λ i. ((g.source == t.source) && lists.numbers g.number i) || knows_same p q l ss g lists.others apart i) in
     let list : IsListOf (λ g. within t g || has (flat p sources order) g) (flat q sources' order') = record {
-      merged = merged_flat q (listed sources' order') rising law.merged;
-      has = λ g. has_spans_of q (listed sources' order') g ∙ here g ∙ ap (λ b. within t g || b) (sym (has_spans_of p ss g));
+      merged = merged_flat q (sources_at sources' order') rising law.merged;
+      has = λ g. has_spans_of q (sources_at sources' order') g ∙ here g ∙ ap (λ b. within t g || b) (sym (has_spans_of p ss g));
     } in
     let long : length order' ≡ length order + 1 = length_with order (length sources) at in
     record {
@@ -186,7 +185,7 @@ grown_with p q sources order at l t kept place others le few lists law =
         known = λ m is. subst (λ xs. IsAmong m (lists_of xs)) (sym same) (among_with ss at s m (among m is));
         merged = list.merged;
         counted = long ∙ unknown_count p sources order t kept others le ∙ sym (ap source_count (added_set (flat p sources order) (flat q sources' order') (set_of (flat p sources order)) t refl list));
-        small = small_flat q (listed sources' order') law own;
+        small = small_flat q (sources_at sources' order') law own;
       };
       list = list;
     }
@@ -214,10 +213,10 @@ grown_with p q sources order at l t kept place others le few lists law =
         let w = and_parts (is_filled p u) (list_all (is_filled p) us) b in
         and_from (is_filled q u) (list_all (is_filled q) us) (still u v.0 w.0) (all_still us v.1 w.1)
 
-    among : (m : ℕ) → IsList q m → (m ≡ l) ⊎ IsAmong m (lists_of (listed sources order))
+    among : (m : ℕ) → IsList q m → (m ≡ l) ⊎ IsAmong m (lists_of (sources_at sources order))
     among m is = split (m == l) refl
       where
-        split : (b : Bool) → (m == l) ≡ b → (m ≡ l) ⊎ IsAmong m (lists_of (listed sources order))
+        split : (b : Bool) → (m == l) ≡ b → (m ≡ l) ⊎ IsAmong m (lists_of (sources_at sources order))
         split true e = inl (grind (arith, nat_tests))
         split false e = inr (kept.known m (sym (ap is_some (lists.others m (λ k. absurd (let n = k in grind (arith, nat_tests))))) ∙ is))
 
@@ -232,14 +231,14 @@ filled_all p q ss same h = all_weaker (is_filled p) (is_filled q) ss (λ s f. ap
 -- they are kept in another pool that has the same lists
 pub kept_again : (p q : PoolValue) (sources : List Source) (order : List ℕ) → HasSameLists p q → IsKeptIn p sources order → Stays p sources order q sources order
 kept_again p q sources order same kept =
-    let parts : flat q sources order ≡ flat p sources order = same_all p q (listed sources order) same in
+    let parts : flat q sources order ≡ flat p sources order = same_all p q (sources_at sources order) same in
     record {
       kept = record {
         places = kept.places;
         as_many = kept.as_many;
         few = kept.few;
         rising = kept.rising;
-        filled = filled_all p q (listed sources order) same kept.filled;
+        filled = filled_all p q (sources_at sources order) same kept.filled;
         own = kept.own;
         known = λ l is. kept.known l (ap is_some (sym (same l)) ∙ is);
         merged = ap is_merged parts ∙ kept.merged;
@@ -251,35 +250,35 @@ kept_again p q sources order same kept =
 
 -- ---- why there is no list more
 
-pub unknown_fits : (p : PoolValue) (sources : List Source) (order : List ℕ) (t : Span) → IsKeptIn p sources order → are_others t.source (listed sources order) ≡ true → t.lo ≤ t.hi → length order < most_sources
+pub unknown_fits : (p : PoolValue) (sources : List Source) (order : List ℕ) (t : Span) → IsKeptIn p sources order → are_others t.source (sources_at sources order) ≡ true → t.lo ≤ t.hi → length order < most_sources
     → source_count (with_span (set_of (flat p sources order)) t) ≤ most_sources
 unknown_fits p sources order t kept others le few = let c = unknown_count p sources order t kept others le in omega (arith, c, few)
 
-pub unknown_full : (p : PoolValue) (sources : List Source) (order : List ℕ) (t : Span) → IsKeptIn p sources order → are_others t.source (listed sources order) ≡ true → t.lo ≤ t.hi → most_sources ≤ length order
+pub unknown_full : (p : PoolValue) (sources : List Source) (order : List ℕ) (t : Span) → IsKeptIn p sources order → are_others t.source (sources_at sources order) ≡ true → t.lo ≤ t.hi → most_sources ≤ length order
     → most_sources < source_count (with_span (set_of (flat p sources order)) t)
 unknown_full p sources order t kept others le many = let c = unknown_count p sources order t kept others le in omega (arith, c, many)
 
-pub fault_with : (p : PoolValue) (sources : List Source) (order : List ℕ) (t : Span) (f : SetFault) → IsKeptIn p sources order → are_others t.source (listed sources order) ≡ true → t.lo ≤ t.hi → length order < most_sources
+pub fault_with : (p : PoolValue) (sources : List Source) (order : List ℕ) (t : Span) (f : SetFault) → IsKeptIn p sources order → are_others t.source (sources_at sources order) ≡ true → t.lo ≤ t.hi → length order < most_sources
     → IsListFault f p → IsFullExactly {T = Unit {0}} (Err f) (with_span (set_of (flat p sources order)) t)
 fault_with p sources order t Memory kept others le few fault = unknown_fits p sources order t kept others le few
 fault_with p sources order t SourcesFull kept others le few fault = absurd fault
 fault_with p sources order t PoolFull kept others le few fault =
-    let m = one_more (flat p sources order) t kept.merged le (apart_others p (listed sources order) t others) in
-    let l = flat_length p (listed sources order) in
-    (unknown_fits p sources order t kept others le few, crowded (fault (lists_of (listed sources order)) kept.known) m l)
+    let m = one_more (flat p sources order) t kept.merged le (apart_others p (sources_at sources order) t others) in
+    let l = flat_length p (sources_at sources order) in
+    (unknown_fits p sources order t kept others le few, crowded (fault (lists_of (sources_at sources order)) kept.known) m l)
   where
     as_listed : (ss : List Source) → length (lists_of ss) ≡ length ss
     as_listed [] = refl
     as_listed (s ∷ ss) = ap suc (as_listed ss)
 
-    as_ordered : (is : List ℕ) → length (listed sources is) ≡ length is
+    as_ordered : (is : List ℕ) → length (sources_at sources is) ≡ length is
     as_ordered [] = refl
     as_ordered (i ∷ is) = ap suc (as_ordered is)
 
-    crowded : (most_intervals ≤ intervals_of p (lists_of (listed sources order))) ⊎ (most_intervals ≤ length (lists_of (listed sources order)))
-        → interval_count (with_span (set_of (flat p sources order)) t) ≡ length (flat p sources order) + 1 → length (flat p sources order) ≡ intervals_of p (lists_of (listed sources order)) → HasManyIntervals (with_span (set_of (flat p sources order)) t)
+    crowded : (most_intervals ≤ intervals_of p (lists_of (sources_at sources order))) ⊎ (most_intervals ≤ length (lists_of (sources_at sources order)))
+        → interval_count (with_span (set_of (flat p sources order)) t) ≡ length (flat p sources order) + 1 → length (flat p sources order) ≡ intervals_of p (lists_of (sources_at sources order)) → HasManyIntervals (with_span (set_of (flat p sources order)) t)
     crowded (inl h) m l = omega (arith, h, m, l)
-    crowded (inr h) m l = let a = as_listed (listed sources order) in let b = as_ordered order in absurd (omega (arith, h, a, b, few))
+    crowded (inr h) m l = let a = as_listed (sources_at sources order) in let b = as_ordered order in absurd (omega (arith, h, a, b, few))
 
 -- no list can be had
 pub list_fault : (p : PoolValue) (f : PoolFault) → (f ≡ pools.Full → AreAllLists p) → IsListFault (fault_of f) p
@@ -317,7 +316,7 @@ cell_fault p q l pools.Full opened full = λ lists known. inl (bound lists known
         split m true e is = inl (grind (arith, nat_tests))
         split m false e is = inr (known m (sym (ap is_some (opened.others m (λ k. absurd (let n = k in grind (arith, nat_tests))))) ∙ is))
 
--- ---- a span behind the others
+-- ---- a span after the others
 
 pub behind_flat : (p : PoolValue) (ss : List Source) (at : ℕ) (s : Source) (t : Span) → slice_get ss at ≡ Some s → s.id ≡ t.source → all_before (spans_of p ss) t ≡ true → AllByRecursion (λ i. IsBefore i (interval_of t)) (spans p s.list)
 behind_flat p [] zero s t e same before = absurd cc
@@ -355,14 +354,14 @@ ids_behind p (s ∷ ss) t filled before =
     here (i ∷ is) some all = one i (and_parts (is_before (span_of s.id i) t) (list_all (λ x. is_before x t) (map (span_of s.id) is)) all).0
 
 -- where the last is another, all are less
-all_less : (ss : List Source) (id : ℕ) → are_rising ss ≡ true → list_all (λ s. nat_le s.id id) ss ≡ true → IsNoSourceAt ss (length ss - 1) id → list_all (λ s. nat_lt s.id id) ss ≡ true
+all_less : (ss : List Source) (id : ℕ) → are_ascending ss ≡ true → list_all (λ s. nat_le s.id id) ss ≡ true → IsNoSourceAt ss (length ss - 1) id → list_all (λ s. nat_lt s.id id) ss ≡ true
 all_less [] id r le none = refl
 all_less (s ∷ []) id r le none = and_from (nat_lt s.id id) true (less (none s refl) (and_parts (nat_le s.id id) true le).0) refl
   where
     less : s.id ≢ id → nat_le s.id id ≡ true → nat_lt s.id id ≡ true
     less ne le = grind (arith, nat_tests)
 all_less (s ∷ u ∷ us) id r le none =
-    let w = and_parts (list_all (λ t. nat_lt s.id t.id) (u ∷ us)) (are_rising (u ∷ us)) r in
+    let w = and_parts (list_all (λ t. nat_lt s.id t.id) (u ∷ us)) (are_ascending (u ∷ us)) r in
     let l = and_parts (nat_le s.id id) (list_all (λ s. nat_le s.id id) (u ∷ us)) le in
     let rest = all_less (u ∷ us) id w.1 l.1 (λ t e. none t (last_of t e)) in
     and_from (nat_lt s.id id) (list_all (λ s. nat_lt s.id id) (u ∷ us)) (less (and_parts (nat_lt s.id u.id) (list_all (λ t. nat_lt s.id t.id) us) w.0).0 (and_parts (nat_lt u.id id) (list_all (λ s. nat_lt s.id id) us) rest).0) rest
@@ -373,10 +372,10 @@ all_less (s ∷ u ∷ us) id r le none =
     last_of : (t : Source) → slice_get (u ∷ us) (length (u ∷ us) - 1) ≡ Some t → slice_get (s ∷ u ∷ us) (length (s ∷ u ∷ us) - 1) ≡ Some t
     last_of t e = ap (slice_get (s ∷ u ∷ us)) (let k : length (s ∷ u ∷ us) - 1 ≡ suc (length (u ∷ us) - 1) = omega arith in k) ∙ e
 
-pub ends_at : (p : PoolValue) (sources : List Source) (order : List ℕ) (t : Span) → IsKeptIn p sources order → all_before (flat p sources order) t ≡ true → IsNoSourceAt (listed sources order) (length order - 1) t.source
-    → IsSourcePlace (listed sources order) t.source (length order) × (are_others t.source (listed sources order) ≡ true)
+pub ends_at : (p : PoolValue) (sources : List Source) (order : List ℕ) (t : Span) → IsKeptIn p sources order → all_before (flat p sources order) t ≡ true → IsNoSourceAt (sources_at sources order) (length order - 1) t.source
+    → IsSourcePlace (sources_at sources order) t.source (length order) × (are_others t.source (sources_at sources order) ≡ true)
 ends_at p sources order t kept before none =
-    let ss = listed sources order in
+    let ss = sources_at sources order in
     let long : length order ≡ length ss = as_ordered order in
     let less = all_less ss t.source kept.rising (ids_behind p ss t kept.filled before) (subst (λ n. IsNoSourceAt ss (n - 1) t.source) long none) in
     let place : IsSourcePlace ss t.source (length order) = record {
@@ -389,7 +388,7 @@ ends_at p sources order t kept before none =
     other : (s : Source) → nat_lt s.id t.source ≡ true → not (t.source == s.id) ≡ true
     other s lt = grind (arith, nat_tests)
 
-    as_ordered : (is : List ℕ) → length is ≡ length (listed sources is)
+    as_ordered : (is : List ℕ) → length is ≡ length (sources_at sources is)
     as_ordered [] = refl
     as_ordered (i ∷ is) = ap suc (as_ordered is)
 

@@ -8,16 +8,14 @@ use Rattle.std.proofs.lemmas.Bool.Decides.{nat_tests}
 use Rattle.std.proofs.lemmas.List.{length-append}
 use Rattle.std.proofs.lemmas.List.Folds.{list_any-append}
 use Rattle.interval_pool.specs.declared.interval.Interval.{Interval}
-use Rattle.interval_pool.specs.Intervals.{IsBefore, AreMerged}
-use Rattle.interval_pool.specs.Intervals.{has as has_number}
-use Rattle.interval_pool.specs.Intervals.{covers as covers_number}
+use Rattle.interval_pool.specs.Intervals.{IsBefore, AreMerged, has as has_number, covers as covers_number}
 use Rattle.interval_pool.specs.Values.{PoolValue, slot_at, spans, intervals_of, Held}
 use Rattle.gtid_text.specs.declared.Gtid.{Gtid}
 use Rattle.gtid_text.specs.declared.Span.{Span}
 use Rattle.gtid_set.specs.declared.sources.Source.{Source}
 use Rattle.gtid_set.specs.Spans.{is_before, is_merged, has}
 use Rattle.gtid_set.specs.Sweep.{within}
-use Rattle.gtid_set.specs.Kept.{span_of, spans_in, spans_of, are_rising, have_own, listed, source_at, are_places, lists_of, knows, are_others, KeepsBut, IsSourcePlace}
+use Rattle.gtid_set.specs.Kept.{span_of, spans_in, spans_of, are_ascending, have_own, sources_at, source_at, are_places, lists_of, knows, are_others, KeepsBut, IsSourcePlace}
 use Rattle.gtid_set.proofs.SpanLemmas.{all_weaker, any_none, merged_head, merged_cons, all_joined}
 
 -- ---- what the spans have
@@ -54,11 +52,11 @@ knows_none p ss q others = any_none (λ s. (q.source == s.id) && has_number (spa
     fails true b o = absurd cc
     fails false b o = refl
 
-pub knows_at : (p : PoolValue) (ss : List Source) (at : ℕ) (s : Source) (q : Gtid) → are_rising ss ≡ true → slice_get ss at ≡ Some s → q.source ≡ s.id → knows p ss q ≡ has_number (spans p s.list) q.number
+pub knows_at : (p : PoolValue) (ss : List Source) (at : ℕ) (s : Source) (q : Gtid) → are_ascending ss ≡ true → slice_get ss at ≡ Some s → q.source ≡ s.id → knows p ss q ≡ has_number (spans p s.list) q.number
 knows_at p [] zero s q r e same = absurd cc
 knows_at p [] (suc n) s q r e same = absurd cc
 knows_at p (t ∷ ts) zero s q r e same =
-    let w = and_parts (list_all (λ u. nat_lt t.id u.id) ts) (are_rising ts) r in
+    let w = and_parts (list_all (λ u. nat_lt t.id u.id) ts) (are_ascending ts) r in
     let is : t ≡ s = cc in
     let hit : (q.source == t.id) ≡ true = (let k : q.source ≡ t.id = same ∙ sym (ap (λ (u : Source). u.id) is) in grind (arith, nat_tests)) in
     (λ i. (hit i && has_number (spans p t.list) q.number) || knows_none p ts q (all_weaker (λ u. nat_lt t.id u.id) (λ u. not (q.source == u.id)) ts (λ u lt. differs u lt is) w.0) i)
@@ -72,16 +70,16 @@ knows_at p (t ∷ ts) zero s q r e same =
     differs : (u : Source) → nat_lt t.id u.id ≡ true → t ≡ s → not (q.source == u.id) ≡ true
     differs u lt is = let k : q.source ≡ t.id = same ∙ sym (ap (λ (u : Source). u.id) is) in grind (arith, nat_tests)
 knows_at p (t ∷ ts) (suc n) s q r e same =
-    let w = and_parts (list_all (λ u. nat_lt t.id u.id) ts) (are_rising ts) r in
+    let w = and_parts (list_all (λ u. nat_lt t.id u.id) ts) (are_ascending ts) r in
     let lt = got_all (λ u. nat_lt t.id u.id) ts n s w.0 e in
     let miss : (q.source == t.id) ≡ false = grind (arith, nat_tests) in
     ap (λ b. (b && has_number (spans p t.list) q.number) || knows p ts q) miss ∙ knows_at p ts n s q w.1 e same
 
 -- a source that is not at its place is not there
-pub others_at : (ss : List Source) (id at : ℕ) → are_rising ss ≡ true → IsSourcePlace ss id at → ((s : Source) → slice_get ss at ≡ Some s → s.id ≢ id) → are_others id ss ≡ true
+pub others_at : (ss : List Source) (id at : ℕ) → are_ascending ss ≡ true → IsSourcePlace ss id at → ((s : Source) → slice_get ss at ≡ Some s → s.id ≢ id) → are_others id ss ≡ true
 others_at [] id at r place differs = refl
 others_at (t ∷ ts) id zero r place differs =
-    let w = and_parts (list_all (λ u. nat_lt t.id u.id) ts) (are_rising ts) r in
+    let w = and_parts (list_all (λ u. nat_lt t.id u.id) ts) (are_ascending ts) r in
     let here = (and_parts (not (nat_lt t.id id)) (list_all (λ s. not (nat_lt s.id id)) ts) place.behind).0 in
     let apart : t.id ≢ id = differs t refl in
     and_from (not (id == t.id)) (are_others id ts) (other t here apart) (all_weaker (λ u. nat_lt t.id u.id) (λ u. not (id == u.id)) ts (λ u lt. later u lt here) w.0)
@@ -92,7 +90,7 @@ others_at (t ∷ ts) id zero r place differs =
     later : (u : Source) → nat_lt t.id u.id ≡ true → not (nat_lt t.id id) ≡ true → not (id == u.id) ≡ true
     later u lt here = grind (arith, nat_tests)
 others_at (t ∷ ts) id (suc n) r place differs =
-    let w = and_parts (list_all (λ u. nat_lt t.id u.id) ts) (are_rising ts) r in
+    let w = and_parts (list_all (λ u. nat_lt t.id u.id) ts) (are_ascending ts) r in
     let b = and_parts (nat_lt t.id id) (list_all (λ s. nat_lt s.id id) (take n ts)) place.before in
     let bound = place.bound in
     let less = b.0 in
@@ -132,10 +130,10 @@ all_of test p (s ∷ ss) all =
     each [] h = refl
     each (i ∷ is) h = and_from (test s.id) (list_all (λ (t : Span). test t.source) (map (span_of s.id) is)) h (each is h)
 
-pub merged_flat : (p : PoolValue) (ss : List Source) → are_rising ss ≡ true → ((l : ℕ) → AreMerged (spans p l)) → is_merged (spans_of p ss) ≡ true
+pub merged_flat : (p : PoolValue) (ss : List Source) → are_ascending ss ≡ true → ((l : ℕ) → AreMerged (spans p l)) → is_merged (spans_of p ss) ≡ true
 merged_flat p [] r m = refl
 merged_flat p (s ∷ ss) r m =
-    let w = and_parts (list_all (λ t. nat_lt s.id t.id) ss) (are_rising ss) r in
+    let w = and_parts (list_all (λ t. nat_lt s.id t.id) ss) (are_ascending ss) r in
     merged_append (spans_in p s) (spans_of p ss) (merged_of s.id (spans p s.list) (m s.list)) (merged_flat p ss w.1 m) (before (spans p s.list) (all_of (λ id. nat_lt s.id id) p ss w.0))
   where
     less : (i : Interval) (t : Span) → nat_lt s.id t.source ≡ true → is_before (span_of s.id i) t ≡ true
@@ -196,12 +194,12 @@ knows_other p q (t ∷ ts) (suc n) s g own e keeps ne =
     differs t o k = absurd (grind (arith, nat_tests))
 
 -- the source at a place in the order
-pub listed_get : (sources : List Source) (is : List ℕ) (n d : ℕ) → n < length is → slice_get (listed sources is) n ≡ Some (source_at sources (get_or is n d))
+pub listed_get : (sources : List Source) (is : List ℕ) (n d : ℕ) → n < length is → slice_get (sources_at sources is) n ≡ Some (source_at sources (get_or is n d))
 listed_get sources [] n d lt = absurd (omega (arith, lt))
 listed_get sources (i ∷ is) zero d lt = refl
 listed_get sources (i ∷ is) (suc n) d lt = listed_get sources is n d (omega (arith, lt))
 
-pub listed_past : (sources : List Source) (is : List ℕ) (n : ℕ) → length is ≤ n → slice_get (listed sources is) n ≡ None
+pub listed_past : (sources : List Source) (is : List ℕ) (n : ℕ) → length is ≤ n → slice_get (sources_at sources is) n ≡ None
 listed_past sources [] zero le = refl
 listed_past sources [] (suc n) le = refl
 listed_past sources (i ∷ is) zero le = absurd (omega (arith, le))

@@ -5,8 +5,7 @@ use Rattle.std.proofs.lemmas.Bool.{and_parts, and_from}
 use Rattle.std.proofs.lemmas.Bool.Decides.{nat_tests}
 use Rattle.std.specs.List.Sorted.{IsPartitionedBy, IsPartitionPoint}
 use Rattle.interval_pool.specs.declared.interval.Interval.{Interval}
-use Rattle.interval_pool.specs.Intervals.{IsBefore, AreMerged, covers}
-use Rattle.interval_pool.specs.Intervals.{has as has_number}
+use Rattle.interval_pool.specs.Intervals.{IsBefore, AreMerged, covers, has as has_number}
 use Rattle.interval_pool.specs.Values.{PoolValue, spans}
 use Rattle.interval_pool.proofs.Standing.{has_one}
 use Rattle.gtid_text.specs.declared.Gtid.{Gtid}
@@ -14,7 +13,7 @@ use Rattle.gtid_set.specs.declared.sources.Source.{Source}
 use Rattle.gtid_set.specs.Sets.{gtid}
 use Rattle.gtid_set.specs.Spans.{has}
 use Rattle.gtid_set.specs.Sweep.{HasSpan}
-use Rattle.gtid_set.specs.Kept.{span_of, spans_of, source_at, listed, are_places, are_rising, comes_before, IsSourcePlace, IsSourceAt, IsNoSourceAt}
+use Rattle.gtid_set.specs.Kept.{span_of, spans_of, source_at, sources_at, are_places, are_ascending, comes_before, IsSourcePlace, IsSourceAt, IsNoSourceAt}
 use Rattle.gtid_set.proofs.PlaceLemmas.{all_take, all_drop}
 use Rattle.gtid_set.proofs.SpanLemmas.{all_weaker}
 use Rattle.gtid_set.proofs.KeptLemmas.{has_spans_of, got_all, knows_none, knows_at, others_at}
@@ -28,7 +27,7 @@ missed i n (j ∷ is) lt after le = (λ k. one k || missed i n is lt after.1 le 
     one : covers j n ≡ false
     one = let b : i.hi + 1 < j.lo = after.0 in grind (arith, nat_tests)
 
--- the number behind an interval is missing
+-- the number after an interval is missing
 pub ended_at : (is : List Interval) (k : ℕ) (s : Interval) → AreMerged is → k < length is → get_or is k s ≡ s → has_number is (s.hi + 1) ≡ false
 ended_at [] k s m lt e = absurd (omega (arith, lt))
 ended_at (i ∷ is) zero s m lt e =
@@ -61,7 +60,7 @@ ended_at (i ∷ is) (suc k) s m lt e =
     passed : i.hi + 1 < s.lo → s.lo ≤ s.hi → covers i (s.hi + 1) ≡ false
     passed b f = grind (arith, nat_tests)
 
-pub span_here : (p : PoolValue) (ss : List Source) (at : ℕ) (s : Source) (i : Interval) (q : Gtid) → are_rising ss ≡ true → ((l : ℕ) → AreMerged (spans p l)) → IsSourceAt ss at q.source s → Contains (spans p s.list) i → covers i q.number ≡ true
+pub span_here : (p : PoolValue) (ss : List Source) (at : ℕ) (s : Source) (i : Interval) (q : Gtid) → are_ascending ss ≡ true → ((l : ℕ) → AreMerged (spans p l)) → IsSourceAt ss at q.source s → Contains (spans p s.list) i → covers i q.number ≡ true
     → HasSpan (spans_of p ss) q (span_of q.source i)
 span_here p ss at s i q rising merged is one here = record {
   reaches = (let h = here in grind (arith, nat_tests));
@@ -75,21 +74,21 @@ span_here p ss at s i q rising merged is one here = record {
     inside : (n : ℕ) → q.number ≤ n → n ≤ i.hi → covers i n ≡ true
     inside n lo hi = let h = here in grind (arith, nat_tests)
 
-pub missing_here : (p : PoolValue) (ss : List Source) (at : ℕ) (s : Source) (q : Gtid) → are_rising ss ≡ true → IsSourceAt ss at q.source s → has_number (spans p s.list) q.number ≡ false → has (spans_of p ss) q ≡ false
+pub missing_here : (p : PoolValue) (ss : List Source) (at : ℕ) (s : Source) (q : Gtid) → are_ascending ss ≡ true → IsSourceAt ss at q.source s → has_number (spans p s.list) q.number ≡ false → has (spans_of p ss) q ≡ false
 missing_here p ss at s q rising is none = has_spans_of p ss q ∙ knows_at p ss at s q rising is.got (sym is.same) ∙ none
 
-pub missing_source : (p : PoolValue) (ss : List Source) (at : ℕ) (q : Gtid) → are_rising ss ≡ true → IsSourcePlace ss q.source at → IsNoSourceAt ss at q.source → has (spans_of p ss) q ≡ false
+pub missing_source : (p : PoolValue) (ss : List Source) (at : ℕ) (q : Gtid) → are_ascending ss ≡ true → IsSourcePlace ss q.source at → IsNoSourceAt ss at q.source → has (spans_of p ss) q ≡ false
 missing_source p ss at q rising place none = has_spans_of p ss q ∙ knows_none p ss q (others_at ss q.source at rising place none)
 
 -- ---- the place of a source
 
 -- a source that is there has its place
-pub place_there : (ss : List Source) (at : ℕ) (s : Source) → are_rising ss ≡ true → slice_get ss at ≡ Some s → IsSourcePlace ss s.id at
+pub place_there : (ss : List Source) (at : ℕ) (s : Source) → are_ascending ss ≡ true → slice_get ss at ≡ Some s → IsSourcePlace ss s.id at
 place_there [] zero s r e = absurd cc
 place_there [] (suc n) s r e = absurd cc
 place_there (t ∷ ts) zero s r e =
     let is : t ≡ s = cc in
-    let w = and_parts (list_all (λ u. nat_lt t.id u.id) ts) (are_rising ts) r in
+    let w = and_parts (list_all (λ u. nat_lt t.id u.id) ts) (are_ascending ts) r in
     subst (λ (u : Source). IsSourcePlace (t ∷ ts) u.id zero) is (record {
       bound = omega arith;
       before = refl;
@@ -102,7 +101,7 @@ place_there (t ∷ ts) zero s r e =
     later : (u : Source) → nat_lt t.id u.id ≡ true → not (nat_lt u.id t.id) ≡ true
     later u lt = grind (arith, nat_tests)
 place_there (t ∷ ts) (suc n) s r e =
-    let w = and_parts (list_all (λ u. nat_lt t.id u.id) ts) (are_rising ts) r in
+    let w = and_parts (list_all (λ u. nat_lt t.id u.id) ts) (are_ascending ts) r in
     let rest = place_there ts n s w.1 e in
     let bound = rest.bound in
     record {
@@ -112,23 +111,23 @@ place_there (t ∷ ts) (suc n) s r e =
     }
 
 -- what a test says of places, said of the sources there
-all_listed : (test : Source → Bool) (sources : List Source) (is : List ℕ) → list_all test (listed sources is) ≡ list_all (λ i. test (source_at sources i)) is
+all_listed : (test : Source → Bool) (sources : List Source) (is : List ℕ) → list_all test (sources_at sources is) ≡ list_all (λ i. test (source_at sources i)) is
 all_listed test sources [] = refl
 all_listed test sources (i ∷ is) = ap (λ b. test (source_at sources i) && b) (all_listed test sources is)
 
-take_listed : (sources : List Source) (is : List ℕ) (n : ℕ) → take n (listed sources is) ≡ listed sources (take n is)
+take_listed : (sources : List Source) (is : List ℕ) (n : ℕ) → take n (sources_at sources is) ≡ sources_at sources (take n is)
 take_listed sources [] zero = refl
 take_listed sources [] (suc n) = refl
 take_listed sources (i ∷ is) zero = refl
 take_listed sources (i ∷ is) (suc n) = ap (λ ss. source_at sources i ∷ ss) (take_listed sources is n)
 
-drop_listed : (sources : List Source) (is : List ℕ) (n : ℕ) → drop n (listed sources is) ≡ listed sources (drop n is)
+drop_listed : (sources : List Source) (is : List ℕ) (n : ℕ) → drop n (sources_at sources is) ≡ sources_at sources (drop n is)
 drop_listed sources [] zero = refl
 drop_listed sources [] (suc n) = refl
 drop_listed sources (i ∷ is) zero = refl
 drop_listed sources (i ∷ is) (suc n) = drop_listed sources is n
 
-length_listed : (sources : List Source) (is : List ℕ) → length is ≡ length (listed sources is)
+length_listed : (sources : List Source) (is : List ℕ) → length is ≡ length (sources_at sources is)
 length_listed sources [] = refl
 length_listed sources (i ∷ is) = ap suc (length_listed sources is)
 
@@ -138,18 +137,18 @@ inside_all sources (j ∷ is) zero all lt d = (and_parts (nat_lt j (length sourc
 inside_all sources (j ∷ is) (suc i) all lt d = inside_all sources is i (and_parts (nat_lt j (length sources)) (are_places sources is) all).1 (omega (arith, lt)) d
 
 -- the test of a search fails from some place on
-pub parted_places : (sources : List Source) (is : List ℕ) (id : ℕ) → are_places sources is ≡ true → are_rising (listed sources is) ≡ true → IsPartitionedBy (comes_before sources id) is
+pub parted_places : (sources : List Source) (is : List ℕ) (id : ℕ) → are_places sources is ≡ true → are_ascending (sources_at sources is) ≡ true → IsPartitionedBy (comes_before sources id) is
 parted_places sources [] id places rising i j d le lt e = absurd (omega (arith, lt))
 parted_places sources (k ∷ is) id places rising zero zero d le lt e = e
 parted_places sources (k ∷ is) id places rising zero (suc j) d le lt e =
-    let w = and_parts (list_all (λ u. nat_lt (source_at sources k).id u.id) (listed sources is)) (are_rising (listed sources is)) rising in
+    let w = and_parts (list_all (λ u. nat_lt (source_at sources k).id u.id) (sources_at sources is)) (are_ascending (sources_at sources is)) rising in
     let p = and_parts (nat_lt k (length sources)) (are_places sources is) places in
     falls (get_or is j d) p.0 (less is j w.0 (omega (arith, lt))) e
   where
-    less : (js : List ℕ) (n : ℕ) → list_all (λ u. nat_lt (source_at sources k).id u.id) (listed sources js) ≡ true → n < length js → nat_lt (source_at sources k).id (source_at sources (get_or js n d)).id ≡ true
+    less : (js : List ℕ) (n : ℕ) → list_all (λ u. nat_lt (source_at sources k).id u.id) (sources_at sources js) ≡ true → n < length js → nat_lt (source_at sources k).id (source_at sources (get_or js n d)).id ≡ true
     less [] n all lt = absurd (omega (arith, lt))
-    less (j ∷ js) zero all lt = (and_parts (nat_lt (source_at sources k).id (source_at sources j).id) (list_all (λ u. nat_lt (source_at sources k).id u.id) (listed sources js)) all).0
-    less (j ∷ js) (suc n) all lt = less js n (and_parts (nat_lt (source_at sources k).id (source_at sources j).id) (list_all (λ u. nat_lt (source_at sources k).id u.id) (listed sources js)) all).1 (omega (arith, lt))
+    less (j ∷ js) zero all lt = (and_parts (nat_lt (source_at sources k).id (source_at sources j).id) (list_all (λ u. nat_lt (source_at sources k).id u.id) (sources_at sources js)) all).0
+    less (j ∷ js) (suc n) all lt = less js n (and_parts (nat_lt (source_at sources k).id (source_at sources j).id) (list_all (λ u. nat_lt (source_at sources k).id u.id) (sources_at sources js)) all).1 (omega (arith, lt))
 
     through : (x y : ℕ) → nat_lt x y ≡ true → nat_lt y id ≡ true → nat_lt x id ≡ true
     through x y a b = grind (arith, nat_tests)
@@ -160,9 +159,9 @@ parted_places sources (k ∷ is) id places rising zero (suc j) d le lt e =
         and_from (nat_lt k (length sources)) (nat_lt (source_at sources k).id id) inside (through (source_at sources k).id (source_at sources m).id lt b)
 parted_places sources (k ∷ is) id places rising (suc i) zero d le lt e = absurd (omega (arith, le))
 parted_places sources (k ∷ is) id places rising (suc i) (suc j) d le lt e =
-    parted_places sources is id (and_parts (nat_lt k (length sources)) (are_places sources is) places).1 (and_parts (list_all (λ u. nat_lt (source_at sources k).id u.id) (listed sources is)) (are_rising (listed sources is)) rising).1 i j d (omega (arith, le)) (omega (arith, lt)) e
+    parted_places sources is id (and_parts (nat_lt k (length sources)) (are_places sources is) places).1 (and_parts (list_all (λ u. nat_lt (source_at sources k).id u.id) (sources_at sources is)) (are_ascending (sources_at sources is)) rising).1 i j d (omega (arith, le)) (omega (arith, lt)) e
 
-pub placed_source : (sources : List Source) (is : List ℕ) (id at : ℕ) → are_places sources is ≡ true → at ≤ length is → IsPartitionPoint (λ i. comes_before sources id i ≡ true) (λ i. comes_before sources id i ≡ false) is at → IsSourcePlace (listed sources is) id at
+pub placed_source : (sources : List Source) (is : List ℕ) (id at : ℕ) → are_places sources is ≡ true → at ≤ length is → IsPartitionPoint (λ i. comes_before sources id i ≡ true) (λ i. comes_before sources id i ≡ false) is at → IsSourcePlace (sources_at sources is) id at
 placed_source sources is id at places le part =
     let long = length_listed sources is in
     record {

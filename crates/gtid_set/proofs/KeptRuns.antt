@@ -1,4 +1,4 @@
--- Spans of one source, put behind the others at once.
+-- Spans of one source, put after the others at once.
 use Rattle.std.proofs.Common.{◌≡◌, ◌≢◌, ◌<◌, ◌+◌, ℕ, suc, Bool, true, false, cond, ◌&&◌, ◌||◌, ◌==◌, nat_lt, List, [], ◌∷◌, ◌++◌, length, Some, refl, sym, ap, ◌∙◌, arith, length-append}
 use Rattle.std.specs.FinSet as set
 use Rattle.std.specs.List.{list_all, slice_get, AllByRecursion}
@@ -6,9 +6,7 @@ use Rattle.std.proofs.lemmas.Bool.{and_parts, and_from}
 use Rattle.std.proofs.lemmas.Bool.Decides.{nat_tests}
 use Rattle.std.proofs.lemmas.List.Folds.{list_any-append}
 use Rattle.interval_pool.specs.declared.interval.Interval.{Interval}
-use Rattle.interval_pool.specs.Intervals.{IsBefore, AreMerged}
-use Rattle.interval_pool.specs.Intervals.{has as has_number}
-use Rattle.interval_pool.specs.Intervals.{covers as covers_number}
+use Rattle.interval_pool.specs.Intervals.{IsBefore, AreMerged, has as has_number, covers as covers_number}
 use Rattle.interval_pool.specs.Values.{PoolValue, spans, is_list, Extended, IsFullWith}
 use Rattle.interval_pool.proofs.Within.{stand_within}
 use Rattle.gtid_text.specs.declared.Gtid.{Gtid}
@@ -21,7 +19,7 @@ use Rattle.interval_pool.specs.declared.fault.PoolFault.{PoolFault}
 use Rattle.interval_pool.specs.declared.fault.PoolFault.TheVariants as pools
 use Rattle.gtid_set.specs.Full.{most_intervals, fault_of}
 use Rattle.gtid_set.specs.BySource.{IsTooLong}
-use Rattle.gtid_set.specs.Kept.{span_of, spans_of, are_rising, have_own, lists_of, listed, is_filled, knows, flat, spans_as, IsRun, IsKeptIn, IsSourceOf}
+use Rattle.gtid_set.specs.Kept.{span_of, spans_of, are_ascending, have_own, lists_of, sources_at, is_filled, knows, flat, spans_as, IsRun, IsKeptIn, IsSourceOf}
 use Rattle.std.specs.Ordering.{nat_cmp, eq_by_cmp}
 use Rattle.std.specs.Cmp.{nat_cmp_total}
 use Rattle.gtid_set.proofs.SourceLemmas.{same_numbers, contains-sources_in}
@@ -62,7 +60,7 @@ joined (i ∷ is) js m n b = (m.0, both is js m.1 (firsts js b), joined is js m.
     both (k ∷ ks) js a b = (a.0, both ks js a.1 b)
 
 -- what is asked of the pool for it
-pub run_merged : (p : PoolValue) (sources : List Source) (order : List ℕ) (s : Source) (id : ℕ) (js : List Interval) → ((l : ℕ) → AreMerged (spans p l)) → IsSourceOf (listed sources order) s id
+pub run_merged : (p : PoolValue) (sources : List Source) (order : List ℕ) (s : Source) (id : ℕ) (js : List Interval) → ((l : ℕ) → AreMerged (spans p l)) → IsSourceOf (sources_at sources order) s id
     → is_merged (flat p sources order ++ spans_as id js) ≡ true → AreMerged (spans p s.list ++ js)
 run_merged p sources order s id js merged of m =
     joined (spans p s.list) js (merged s.list) (merged_numbers id js (merged_back (flat p sources order) (spans_as id js) m))
@@ -78,11 +76,11 @@ run_merged p sources order s id js merged of m =
     each [] h = tt
     each (i ∷ is) h =
         let w = and_parts (all_before (flat p sources order) (span_of id i)) (list_all (λ y. all_before (flat p sources order) y) (spans_as id is)) h in
-        (behind_flat p (listed sources order) of.at s (span_of id i) of.got of.same w.0, each is w.1)
+        (behind_flat p (sources_at sources order) of.at s (span_of id i) of.got of.same w.0, each is w.1)
 
 -- ---- what it leaves
 
-pub knows_extended : (p q : PoolValue) (ss : List Source) (at : ℕ) (s : Source) (id : ℕ) (js : List Interval) (g : Gtid) → are_rising ss ≡ true → have_own ss ≡ true → slice_get ss at ≡ Some s → s.id ≡ id
+pub knows_extended : (p q : PoolValue) (ss : List Source) (at : ℕ) (s : Source) (id : ℕ) (js : List Interval) (g : Gtid) → are_ascending ss ≡ true → have_own ss ≡ true → slice_get ss at ≡ Some s → s.id ≡ id
     → Extended p s.list js q → knows q ss g ≡ (knows p ss g || has (spans_as id js) g)
 knows_extended p q ss at s id js g r own e same more = split (g.source == s.id) refl
   where
@@ -142,10 +140,10 @@ no_source_of p ss id less = contains-sources_in (spans_of p ss) id ∙ any_none 
     differs : (s : Span) → nat_lt id s.source ≡ true → (id == s.source) ≡ false
     differs s lt = grind (arith, nat_tests)
 
-sources_listed : (p : PoolValue) (ss : List Source) → are_rising ss ≡ true → list_all (is_filled p) ss ≡ true → set.len (sources_in (spans_of p ss)) ≡ length ss
+sources_listed : (p : PoolValue) (ss : List Source) → are_ascending ss ≡ true → list_all (is_filled p) ss ≡ true → set.len (sources_in (spans_of p ss)) ≡ length ss
 sources_listed p [] rising filled = set.len-empty nat_cmp
 sources_listed p (s ∷ ss) rising filled =
-    let r = and_parts (list_all (λ t. nat_lt s.id t.id) ss) (are_rising ss) rising in
+    let r = and_parts (list_all (λ t. nat_lt s.id t.id) ss) (are_ascending ss) rising in
     let f = and_parts (is_filled p s) (list_all (is_filled p) ss) filled in
     let some = (and_parts (is_list p s.list) (nat_lt 0 (length (spans p s.list))) f.0).1 in
     let rest = sources_listed p ss r.1 f.1 in
@@ -153,15 +151,15 @@ sources_listed p (s ∷ ss) rising filled =
     ∙ ap (λ b. cond b (set.len (sources_in (spans_of p ss))) (set.len (sources_in (spans_of p ss)) + 1)) (no_source_of p ss s.id r.0) in
     omega (arith, one, rest)
 
-pub count_listed : (p : PoolValue) (ss : List Source) → are_rising ss ≡ true → list_all (is_filled p) ss ≡ true → ((l : ℕ) → AreMerged (spans p l)) → source_count (set_of (spans_of p ss)) ≡ length ss
+pub count_listed : (p : PoolValue) (ss : List Source) → are_ascending ss ≡ true → list_all (is_filled p) ss ≡ true → ((l : ℕ) → AreMerged (spans p l)) → source_count (set_of (spans_of p ss)) ≡ length ss
 count_listed p ss rising filled merged = ap set.len (sources_of-set_of (spans_of p ss) (merged_filled (spans_of p ss) (merged_flat p ss rising merged))) ∙ sources_listed p ss rising filled
 
 -- ---- a run is written
 
-pub run_written : (p q : PoolValue) (sources : List Source) (order : List ℕ) (s : Source) (id : ℕ) (js : List Interval) → IsKeptIn p sources order → IsSourceOf (listed sources order) s id
+pub run_written : (p q : PoolValue) (sources : List Source) (order : List ℕ) (s : Source) (id : ℕ) (js : List Interval) → IsKeptIn p sources order → IsSourceOf (sources_at sources order) s id
     → is_merged (flat p sources order ++ spans_as id js) ≡ true → Extended p s.list js q → IsLawful q → IsRun p sources order id js q
 run_written p q sources order s id js kept of m more law =
-    let ss = listed sources order in
+    let ss = sources_at sources order in
     let merged = merged_flat q ss kept.rising law.merged in
     let filled = all_weaker (is_filled p) (is_filled q) ss (λ u f. still_filled p q s.list js more u f) kept.filled in
     record {
@@ -182,15 +180,15 @@ run_written p q sources order s id js kept of m more law =
           ∙ ap (λ b. b || has (spans_as id js) g) (sym (has_spans_of p ss g)) ∙ sym (list_any-append (λ x. within x g) (flat p sources order) (spans_as id js)) ∙ sym (contains-set_of (flat p sources order ++ spans_as id js) g)));
     }
   where
-    as_listed : (is : List ℕ) → length is ≡ length (listed sources is)
+    as_listed : (is : List ℕ) → length is ≡ length (sources_at sources is)
     as_listed [] = refl
     as_listed (i ∷ is) = ap suc (as_listed is)
 
 -- where there is no room for a run, all spans are too many
 full_for : (p : PoolValue) (sources : List Source) (order : List ℕ) (n : ℕ) → IsKeptIn p sources order → IsFullWith p n → most_intervals < length (flat p sources order) + n
 full_for p sources order n kept full =
-    let l = flat_length p (listed sources order) in
-    let w = stand_within p (lists_of (listed sources order)) kept.known in
+    let l = flat_length p (sources_at sources order) in
+    let w = stand_within p (lists_of (sources_at sources order)) kept.known in
     let f = full in
     omega (arith, l, w, f)
 
@@ -206,7 +204,7 @@ too_long p sources order id js pools.Full kept full =
     as_many [] = refl
     as_many (i ∷ is) = ap suc (as_many is)
 
--- a run behind spans, said of other names of the same
+-- a run after spans, said of other names of the same
 pub run_behind : (p : PoolValue) (sources sources' : List Source) (order order' : List ℕ) (id id' : ℕ) (js : List Interval) → sources' ≡ sources → order' ≡ order → id' ≡ id
     → flat p sources' order' ++ spans_as id' js ≡ flat p sources order ++ spans_as id js
 run_behind p sources sources' order order' id id' js ss is same = λ i. flat p (ss i) (is i) ++ spans_as (same i) js

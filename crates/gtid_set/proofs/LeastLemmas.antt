@@ -1,4 +1,4 @@
--- The least number that passes a test, behind a run of numbers that fail.
+-- The least number that passes a test, after a run of numbers that fail.
 use Rattle.std.proofs.Common.{◌≡◌, ◌≤◌, ◌<◌, ◌+◌, ◌-◌, ℕ, zero, suc, Bool, true, false, not, cond, sym, ap, ◌∙◌, arith, List}
 use Rattle.std.specs.Prelude.{Some, None}
 use Rattle.std.specs.FinSet as set

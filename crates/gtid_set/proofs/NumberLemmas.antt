@@ -8,7 +8,7 @@ use Rattle.gtid_set.specs.Spans.{is_before, is_merged}
 use Rattle.gtid_set.specs.Sweep.{Joins, all_start_by}
 use Rattle.gtid_set.proofs.SpanLemmas.{IsLast, last_got, joins_at, joins_set}
 
--- an interval more behind others
+-- an interval more after others
 pub pushed : (old new : List Interval) (s : Interval) → new ≡ old ++ s ∷ [] → all_numbered new ≡ all_numbered old ++ numbered s ∷ []
 pushed old new s e = ap all_numbered e ∙ behind old
   where

@@ -10,7 +10,7 @@ use Rattle.std.proofs.lemmas.Option.{slice_get_within, slice_get_past}
 use Rattle.gtid_set.specs.declared.order.Seat.{Seat}
 use Rattle.gtid_set.specs.Order.{index_of, block_at}
 
--- ---- what stands at a seat
+-- ---- what is at a seat
 
 got_right : (xs ys : List ℕ) (n : ℕ) → slice_get (xs ++ ys) (length xs + n) ≡ slice_get ys n
 got_right [] ys n = ap (slice_get ys) (let e : 0 + n ≡ n = omega arith in e)
@@ -42,7 +42,7 @@ take_all (x ∷ xs) (suc b) le = ap (λ ys. x ∷ ys) (take_all xs b (omega (ari
 pub got_behind : (blocks : List (List ℕ)) (b o : ℕ) → length blocks ≤ b → slice_get (concat blocks) (length (concat (take b blocks)) + o) ≡ None
 got_behind blocks b o le = slice_get_past (concat blocks) (length (concat (take b blocks)) + o) (let all = ap (λ xs. length (concat xs)) (take_all blocks b le) in omega (arith, all))
 
--- behind all blocks all places stand before a seat
+-- after all blocks all places come before a seat
 pub index_behind : (blocks : List (List ℕ)) (seat : Seat) → length blocks ≤ seat.block → index_of blocks seat ≤ length (concat blocks) → index_of blocks seat ≡ length (concat blocks)
 index_behind blocks seat le bound = let all = ap (λ xs. length (concat xs)) (take_all blocks seat.block le) in omega (arith, all, bound)
 

@@ -1,9 +1,9 @@
--- A list before a partition point, and behind it.
+-- A list before a partition point, and after it.
 use Rattle.std.proofs.Common.{[], zero, take, drop, length, suc, ◌≡◌, ◌≤◌, ℕ, Bool, true, false, not, List, ◌∷◌, refl, ap, arith}
 use Rattle.std.specs.List.{list_all, AllWithin}
 use Rattle.std.proofs.lemmas.Bool.{and_from}
 
--- the front of a list before a partition point passes, and the back fails
+-- the prefix of a list before a partition point passes, and the back fails
 pub all_take : {X : Type 0} (p : X → Bool) (xs : List X) (i : ℕ) → i ≤ length xs → AllWithin (λ y. p y ≡ true) xs 0 i → list_all p (take i xs) ≡ true
 all_take p xs zero le h = refl
 all_take p [] (suc i) le h = refl

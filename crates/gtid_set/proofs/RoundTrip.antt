@@ -1,4 +1,4 @@
--- A set's canonical text spells it.
+-- A set's canonical text parses as it.
 use Rattle.std.proofs.Common.{◌≡◌, ◌≤◌, ℕ, Bool, true, false, cond, ◌&&◌, ◌||◌, nat_le, List, [], ◌∷◌, ◌++◌, refl, sym, ap, subst, ◌∙◌, arith}
 use Rattle.std.specs.Prelude.{Option, Some, None, Result, Ok, Err, length, nat_lt}
 use Rattle.std.specs.FinSet as set
@@ -6,8 +6,7 @@ use Rattle.std.specs.Str.Parse.{digits_value}
 use Rattle.std.proofs.lemmas.Bool.Decides.{nat_tests}
 use Rattle.gtid_text.specs.Scan.{number_of}
 use Rattle.gtid_text.specs.Grammar.{Number, Interval, Element, IsUpper, AreIntervals, IsElement, AreElements, Spells}
-use Rattle.gtid_text.specs.Written.{IsNumbered, IsUsable, spans_tokens, joined}
-use Rattle.gtid_text.specs.Written.{AreUsable as AreUsableSpans}
+use Rattle.gtid_text.specs.Written.{IsNumbered, IsUsable, spans_tokens, text_of_tokens, AreUsable as AreUsableSpans}
 use Rattle.gtid_text.specs.declared.Gtid.{Gtid}
 use Rattle.gtid_text.specs.declared.Span.{Span}
 use Rattle.gtid_text.specs.declared.SourceId.{SourceId}
@@ -23,7 +22,7 @@ use Rattle.gtid_set.specs.Spans.{set_of, has, is_merged}
 use Rattle.gtid_set.specs.Sweep.{within}
 use Rattle.gtid_set.specs.Runs.{runs, canonical}
 use Rattle.gtid_set.specs.Full.{interval_count, most_intervals, HasManySources, HasManyIntervals}
-use Rattle.gtid_set.specs.Texts.{SpellsSet, sized, set_from, set_in}
+use Rattle.gtid_set.specs.Texts.{SpellsSet, check_size, set_from, set_in}
 use Rattle.gtid_set.specs.Laws.{AreUsable, HaveSources}
 use Rattle.gtid_set.proofs.SetLemmas.{contains-set_of}
 use Rattle.gtid_set.proofs.SpanLemmas.{merged_head}
@@ -53,7 +52,7 @@ pub canonical_spells : (s : Gtids) → AreUsable s → SpellsSet (canonical s) s
 canonical_spells s u =
     let P : List ℕ → Type 0 = λ text. Spells text (runs s) in
     let usable = usable_spans (runs s) (runs_are_merged s) (λ q e. u q (sym (ap (λ t. set.contains t q) (set_of_runs s)) ∙ contains-set_of (runs s) q ∙ e)) in
-    (runs s, subst P (joined_spans (runs s)) (spans_shown (runs s) usable (joined (spans_tokens (runs s))) (spaced_joined (spans_tokens (runs s)))), set_of_runs s)
+    (runs s, subst P (joined_spans (runs s)) (spans_shown (runs s) usable (text_of_tokens (spans_tokens (runs s))) (spaced_joined (spans_tokens (runs s)))), set_of_runs s)
 
 pub spells_one : (text : List ℕ) (s t : Gtids) → SpellsSet text s → SpellsSet text t → s ≡ t
 spells_one text s t h k = sym h.2 ∙ ap set_of (same_read h.0 k.0 (sym (spells_read text h.0 h.1) ∙ spells_read text k.0 k.1)) ∙ k.2
@@ -136,7 +135,7 @@ as_set s = Ok s
 abbrev pub Fits : Gtids → Type 0
 Fits s = (source_count s ≤ most_sources) × (interval_count s ≤ most_intervals)
 
-sized_fits : (t s : Gtids) → sized t ≡ as_set s → (t ≡ s) × Fits s
+sized_fits : (t s : Gtids) → check_size t ≡ as_set s → (t ≡ s) × Fits s
 sized_fits t s h = by_sources (nat_lt most_sources (source_count t)) refl h
   where
     small : (most n : ℕ) → nat_lt most n ≡ false → n ≤ most

@@ -116,7 +116,7 @@ same_rest x xs ys c d h q = cases (same_gtid q x) refl
         ap (λ g. among g xs) (same_is_equal q x e) ∙ less_none x xs p.0 p.1 ∙ sym (ap (λ g. among g ys) (same_is_equal q x e) ∙ less_none x ys r.0 r.1)
     cases false e = sym (ap (λ b. b || among q xs) e) ∙ h q ∙ ap (λ b. b || among q ys) e
 
--- rising lists of the same GTIDs are one
+-- ascending lists of the same GTIDs are one
 same_firsts : (x y : Gtid) (xs ys : List Gtid) (a b : Bool) → is_less x y ≡ a → same_gtid x y ≡ b → climbs (x ∷ xs) ≡ true → climbs (y ∷ ys) ≡ true → ((q : Gtid) → among q (x ∷ xs) ≡ among q (y ∷ ys)) → x ≡ y
 same_firsts x y xs ys true b e f c d h = absurd (not_later x y xs ys e d h)
 same_firsts x y xs ys false true e f c d h = same_is_equal x y f

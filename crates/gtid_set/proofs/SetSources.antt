@@ -14,8 +14,7 @@ use Rattle.gtid_text.specs.Gtids.{gtid_cmp}
 use Rattle.gtid_set.specs.Sets.{Gtids, gtid, interval, covers, only, without, kept_sources, sources_of, source_count, most_sources}
 use Rattle.gtid_set.specs.Spans.{set_of, has, is_merged}
 use Rattle.gtid_set.specs.Sweep.{IsListOf, IsWithin, IsNotWithin, AreApart, HaveCommon, KnowsSource, is_kept, is_from, sources_in, within}
-use Rattle.gtid_set.proofs.SetLemmas.{same_members, gtid_tied, contains-set_of, contains-interval, set_of-append}
-use Rattle.gtid_set.proofs.SetLemmas.{AreApart as AreDisjoint}
+use Rattle.gtid_set.proofs.SetLemmas.{same_members, gtid_tied, contains-set_of, contains-interval, set_of-append, AreApart as AreDisjoint}
 use Rattle.gtid_set.proofs.SpanLemmas.{merged_filled, all_joined, merged_head, has_later}
 use Rattle.gtid_set.proofs.SourceLemmas.{same_numbers, contains-sources_in, len_besides}
 use Rattle.std.proofs.lemmas.Bool.{and_parts, or_left, or_right}

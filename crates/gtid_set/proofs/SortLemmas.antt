@@ -9,7 +9,7 @@ use Rattle.gtid_text.specs.declared.Gtid.{Gtid}
 use Rattle.gtid_text.specs.declared.Span.{Span}
 use Rattle.gtid_text.specs.Gtids.{gtid_cmp}
 use Rattle.gtid_set.specs.Spans.{set_of}
-use Rattle.gtid_set.specs.Sweep.{start_of, is_from, rises, within}
+use Rattle.gtid_set.specs.Sweep.{start_of, is_from, is_sorted, within}
 use Rattle.gtid_set.proofs.SetLemmas.{same_members, contains-set_of}
 use Rattle.gtid_set.proofs.SpanLemmas.{any_none}
 use Rattle.std.proofs.lemmas.Bool.{and_from}
@@ -22,14 +22,14 @@ all_far : (p : Span → Bool) (ss : List Span) → ((j : ℕ) (d : Span) → j <
 all_far p [] h = refl
 all_far p (s ∷ ss) h = and_from (p s) (list_all p ss) (h 0 s (omega arith)) (all_far p ss (λ j d lt. h (suc j) d (omega arith)))
 
-rises_far : (ss : List Span) → ((i j : ℕ) (d : Span) → i ≤ j → j < length ss → is_from (start_of (get_or ss i d)) (start_of (get_or ss j d)) ≡ true) → rises ss ≡ true
+rises_far : (ss : List Span) → ((i j : ℕ) (d : Span) → i ≤ j → j < length ss → is_from (start_of (get_or ss i d)) (start_of (get_or ss j d)) ≡ true) → is_sorted ss ≡ true
 rises_far [] h = refl
 rises_far (s ∷ ss) h =
-    and_from (list_all (λ t. is_from (start_of s) (start_of t)) ss) (rises ss)
+    and_from (list_all (λ t. is_from (start_of s) (start_of t)) ss) (is_sorted ss)
     (all_far (λ t. is_from (start_of s) (start_of t)) ss (λ j d lt. h 0 (suc j) d (omega arith) (omega arith)))
     (rises_far ss (λ i j d le lt. h (suc i) (suc j) d (omega arith) (omega arith)))
 
-pub rises_sorted : (ss : List Span) → IsSortedByKey start_of gtid_cmp ss → rises ss ≡ true
+pub rises_sorted : (ss : List Span) → IsSortedByKey start_of gtid_cmp ss → is_sorted ss ≡ true
 rises_sorted ss up = rises_far ss (λ i j d le lt.
     from_not_less (start_of (get_or ss i d)) (start_of (get_or ss j d)) (sorted_far (λ x y. is_lt (gtid_cmp (start_of x) (start_of y))) (ranks_by gtid_total start_of) ss up i j d le lt))
 

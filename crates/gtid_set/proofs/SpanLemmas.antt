@@ -8,7 +8,7 @@ use Rattle.gtid_text.specs.declared.Gtid.{Gtid}
 use Rattle.gtid_text.specs.declared.Span.{Span}
 use Rattle.gtid_set.specs.Sets.{gtid}
 use Rattle.gtid_set.specs.Spans.{is_before, ends_before, is_merged, has}
-use Rattle.gtid_set.specs.Sweep.{Joins, TakesFirst, all_start_by, all_before, all_reach, rises, is_met, start_of, within, is_from}
+use Rattle.gtid_set.specs.Sweep.{Joins, TakesFirst, all_start_by, all_before, all_reach, is_sorted, is_met, start_of, within, is_from}
 use Rattle.std.proofs.lemmas.Bool.{and_parts, and_from}
 
 pub before_trans : (s t u : Span) → is_before s t ≡ true → nat_le t.lo t.hi ≡ true → is_before t u ≡ true → is_before s u ≡ true
@@ -220,10 +220,10 @@ from_trans p q r a b = grind (arith, nat_tests)
 pub from_other : (p q : Gtid) → is_from p q ≡ false → is_from q p ≡ true
 from_other p q a = grind (arith, nat_tests)
 
--- all of a rising list is from a GTID on, if its first is
-pub all_later : (g : Gtid) (s : Span) (ss : List Span) → is_from g (start_of s) ≡ true → rises (s ∷ ss) ≡ true → list_all (λ t. is_from g (start_of t)) (s ∷ ss) ≡ true
+-- all of an ascending list is from a GTID on, if its first is
+pub all_later : (g : Gtid) (s : Span) (ss : List Span) → is_from g (start_of s) ≡ true → is_sorted (s ∷ ss) ≡ true → list_all (λ t. is_from g (start_of t)) (s ∷ ss) ≡ true
 all_later g s ss a r =
-    let v = and_parts (list_all (λ t. is_from (start_of s) (start_of t)) ss) (rises ss) r in
+    let v = and_parts (list_all (λ t. is_from (start_of s) (start_of t)) ss) (is_sorted ss) r in
     and_from (is_from g (start_of s)) (list_all (λ t. is_from g (start_of t)) ss) a
     (all_weaker (λ t. is_from (start_of s) (start_of t)) (λ t. is_from g (start_of t)) ss (λ t h. from_trans g (start_of s) (start_of t) a h) v.0)
 
@@ -232,9 +232,9 @@ or_swap true true c = refl
 or_swap true false c = refl
 or_swap false b c = refl
 
-pub takes_left : (left right : List Span) (a : Span) (more : List Span) → left ≡ a ∷ more → rises left ≡ true → rises right ≡ true → list_all (λ t. is_from (start_of a) (start_of t)) right ≡ true → TakesFirst left right a more right
+pub takes_left : (left right : List Span) (a : Span) (more : List Span) → left ≡ a ∷ more → is_sorted left ≡ true → is_sorted right ≡ true → list_all (λ t. is_from (start_of a) (start_of t)) right ≡ true → TakesFirst left right a more right
 takes_left left right a more e l r later =
-    let v = and_parts (list_all (λ t. is_from (start_of a) (start_of t)) more) (rises more) (sym (ap rises e) ∙ l) in
+    let v = and_parts (list_all (λ t. is_from (start_of a) (start_of t)) more) (is_sorted more) (sym (ap is_sorted e) ∙ l) in
     let long = ap length e in
     record {
       any = λ p. ap (λ ss. list_any p ss || list_any p right) e ∙ sym (or_assoc (p a) (list_any p more) (list_any p right));
@@ -245,9 +245,9 @@ takes_left left right a more e l r later =
       shorter = omega (arith, long);
     }
 
-pub takes_right : (left right : List Span) (b : Span) (more : List Span) → right ≡ b ∷ more → rises left ≡ true → rises right ≡ true → list_all (λ t. is_from (start_of b) (start_of t)) left ≡ true → TakesFirst left right b left more
+pub takes_right : (left right : List Span) (b : Span) (more : List Span) → right ≡ b ∷ more → is_sorted left ≡ true → is_sorted right ≡ true → list_all (λ t. is_from (start_of b) (start_of t)) left ≡ true → TakesFirst left right b left more
 takes_right left right b more e l r later =
-    let v = and_parts (list_all (λ t. is_from (start_of b) (start_of t)) more) (rises more) (sym (ap rises e) ∙ r) in
+    let v = and_parts (list_all (λ t. is_from (start_of b) (start_of t)) more) (is_sorted more) (sym (ap is_sorted e) ∙ r) in
     let long = ap length e in
     record {
       any = λ p. ap (λ ss. list_any p left || list_any p ss) e ∙ or_swap (list_any p left) (p b) (list_any p more);
@@ -328,14 +328,14 @@ pub merged_back : (xs ys : List Span) → is_merged (xs ++ ys) ≡ true → is_m
 merged_back [] ys m = m
 merged_back (x ∷ xs) ys m = merged_back xs ys (merged_head x (xs ++ ys) m).tail
 
--- a front is before the back of a merged list
+-- a prefix is before the back of a merged list
 pub front_before_back : (xs ys : List Span) → is_merged (xs ++ ys) ≡ true → list_all (λ x. list_all (is_before x) ys) xs ≡ true
 front_before_back [] ys m = refl
 front_before_back (x ∷ xs) ys m =
     let h = merged_head x (xs ++ ys) m in
     and_from (list_all (is_before x) ys) (list_all (λ x. list_all (is_before x) ys) xs) (all_parts (is_before x) xs ys h.after).1 (front_before_back xs ys h.tail)
 
--- a span between a front and a back
+-- a span between a prefix and a back
 pub merged_mid : (xs : List Span) (t : Span) (ys : List Span) → is_merged xs ≡ true → is_merged ys ≡ true → t.lo ≤ t.hi → all_before xs t ≡ true → list_all (is_before t) ys ≡ true → is_merged (xs ++ t ∷ ys) ≡ true
 merged_mid [] t ys a b f c d = merged_cons t ys (record { filled = f; after = d; tail = b })
 merged_mid (x ∷ xs) t ys a b f c d =
@@ -349,11 +349,11 @@ merged_mid (x ∷ xs) t ys a b f c d =
     })
 
 -- a merged list rises
-pub merged_rises : (ss : List Span) → is_merged ss ≡ true → rises ss ≡ true
+pub merged_rises : (ss : List Span) → is_merged ss ≡ true → is_sorted ss ≡ true
 merged_rises [] m = refl
 merged_rises (s ∷ ss) m =
     let h = merged_head s ss m in
-    and_from (list_all (λ t. is_from (start_of s) (start_of t)) ss) (rises ss) (all_weaker (is_before s) (λ t. is_from (start_of s) (start_of t)) ss (λ t b. later t b h.filled) h.after) (merged_rises ss h.tail)
+    and_from (list_all (λ t. is_from (start_of s) (start_of t)) ss) (is_sorted ss) (all_weaker (is_before s) (λ t. is_from (start_of s) (start_of t)) ss (λ t b. later t b h.filled) h.after) (merged_rises ss h.tail)
   where
     later : (t : Span) → is_before s t ≡ true → s.lo ≤ s.hi → is_from (start_of s) (start_of t) ≡ true
     later t b f = grind (arith, nat_tests)

@@ -1,4 +1,4 @@
--- The spans that a text spells are filled, and sorted they are of the set that it spells.
+-- The spans that a text parses as are filled, and sorted they are of the set that it parses as.
 use Rattle.std.proofs.Common.{◌≡◌, ◌⊎◌, ◌≤◌, ◌<◌, ℕ, Bool, true, false, cond, nat_le, nat_lt, List, [], ◌∷◌, length, refl, sym, ap, ◌∙◌, arith, inl, inr}
 use Rattle.std.specs.Prelude.{Option, Some, None, Result, Ok, Err}
 use Rattle.std.specs.List.{list_all}
@@ -8,7 +8,7 @@ use Rattle.gtid_text.specs.declared.Span.{Span}
 use Rattle.gtid_text.specs.declared.SourceId.{SourceId}
 use Rattle.gtid_text.specs.Grammar.{Number, Interval, Element, IsUpper, AreIntervals, IsElement, AreElements, Spells}
 use Rattle.gtid_text.specs.Reading.{answer, spans_in}
-use Rattle.gtid_text.specs.declared.scan.Refusal.{Refusal}
+use Rattle.gtid_text.specs.declared.scan.ScanFault.{ScanFault}
 use Rattle.gtid_text.specs.declared.fault.TextFault.{TextFault}
 use Rattle.gtid_text.specs.declared.fault.TextFault.TheVariants as faults
 use Rattle.gtid_set.specs.declared.fault.SetFault.{SetFault}
@@ -17,7 +17,7 @@ use Rattle.gtid_set.specs.declared.fault.SetTextFault.TheVariants.{Text, Set}
 use Rattle.gtid_set.specs.Sets.{Gtids, source_count, most_sources}
 use Rattle.gtid_set.specs.Spans.{set_of}
 use Rattle.gtid_set.specs.Full.{IsFullExactly, interval_count, most_intervals, HasManySources, HasManyIntervals}
-use Rattle.gtid_set.specs.Texts.{sized, set_from, set_in}
+use Rattle.gtid_set.specs.Texts.{check_size, set_from, set_in}
 use Rattle.gtid_set.proofs.SortLemmas.{same_set_sorted}
 use Rattle.gtid_set.proofs.SpanLemmas.{all_joined}
 use Rattle.std.proofs.lemmas.Bool.{and_from}
@@ -48,7 +48,7 @@ spelled_filled text ss h = elements_filled h.elements ss h.says
 
 -- what reading answers
 abbrev pub ReadSpans : Type 0
-ReadSpans = Result (List Span) Refusal
+ReadSpans = Result (List Span) ScanFault
 
 abbrev pub as_read : List Span → ReadSpans
 as_read spans = Ok spans
@@ -72,25 +72,25 @@ is_small most n le = grind (arith, nat_tests)
 is_great : (most n : ℕ) → most < n → nat_lt most n ≡ true
 is_great most n lt = grind (arith, nat_tests)
 
-pub fits_sized : (s : Gtids) → source_count s ≤ most_sources → interval_count s ≤ most_intervals → sized s ≡ Ok s
+pub fits_sized : (s : Gtids) → source_count s ≤ most_sources → interval_count s ≤ most_intervals → check_size s ≡ Ok s
 fits_sized s few small =
     ap (λ b. cond b (Err (Set SourcesFull)) (cond (nat_lt most_intervals (interval_count s)) (Err (Set PoolFull)) (Ok s))) (is_small most_sources (source_count s) few)
     ∙ ap (λ b. cond b (Err (Set PoolFull)) (Ok s)) (is_small most_intervals (interval_count s) small)
 
-pub full_sized : (s : Gtids) → HasManySources s → sized s ≡ Err (Set SourcesFull)
+pub full_sized : (s : Gtids) → HasManySources s → check_size s ≡ Err (Set SourcesFull)
 full_sized s many = ap (λ b. cond b (Err (Set SourcesFull)) (cond (nat_lt most_intervals (interval_count s)) (Err (Set PoolFull)) (Ok s))) (is_great most_sources (source_count s) many)
 
-pub crowded_sized : (s : Gtids) → source_count s ≤ most_sources → HasManyIntervals s → sized s ≡ Err (Set PoolFull)
+pub crowded_sized : (s : Gtids) → source_count s ≤ most_sources → HasManyIntervals s → check_size s ≡ Err (Set PoolFull)
 crowded_sized s few many =
     ap (λ b. cond b (Err (Set SourcesFull)) (cond (nat_lt most_intervals (interval_count s)) (Err (Set PoolFull)) (Ok s))) (is_small most_sources (source_count s) few)
     ∙ ap (λ b. cond b (Err (Set PoolFull)) (Ok s)) (is_great most_intervals (interval_count s) many)
 
-given_sized : (text : List ℕ) (spans : List Span) → spans_in text ≡ as_read spans → set_in text ≡ sized (set_of spans)
+given_sized : (text : List ℕ) (spans : List Span) → spans_in text ≡ as_read spans → set_in text ≡ check_size (set_of spans)
 unfolding set_in
 given_sized text spans e = ap (λ r. set_from (answer (length text) r)) e
 
 pub given_set : (text : List ℕ) (spans : List Span) (s : Gtids) → spans_in text ≡ as_read spans → source_count s ≤ most_sources → interval_count s ≤ most_intervals → set_of spans ≡ s → set_in text ≡ Ok s
-given_set text spans s e few small view = given_sized text spans e ∙ ap sized view ∙ fits_sized s few small
+given_set text spans s e few small view = given_sized text spans e ∙ ap check_size view ∙ fits_sized s few small
 
 pub given_full : (text : List ℕ) (spans : List Span) → spans_in text ≡ as_read spans → HasManySources (set_of spans) → set_in text ≡ Err (Set SourcesFull)
 given_full text spans e many = given_sized text spans e ∙ full_sized (set_of spans) many

@@ -13,9 +13,9 @@ use Rattle.gtid_set.specs.declared.fault.SetFault.{SetFault}
 use Rattle.gtid_set.specs.Sets.{Gtids}
 use Rattle.gtid_set.specs.Full.{IsMemoryOr, most_intervals}
 use Rattle.gtid_set.specs.Spans.{is_merged, has}
-use Rattle.gtid_set.specs.Sweep.{rises}
+use Rattle.gtid_set.specs.Sweep.{is_sorted}
 use Rattle.gtid_set.specs.Numbers.{all_numbered}
-use Rattle.gtid_set.specs.Kept.{spans_as, are_places, are_rising, is_filled, listed}
+use Rattle.gtid_set.specs.Kept.{spans_as, are_places, are_ascending, is_filled, sources_at}
 
 -- the sources of all spans are from this one on, or greater, or less
 abbrev pub are_from : ℕ → List Span → Bool
@@ -30,8 +30,8 @@ are_below id ss = list_all (λ s. nat_lt s.source id) ss
 -- sources rise, and each has a list with intervals
 pub record AreLists (p : PoolValue) (sources : List Source) (order : List ℕ) : Type 0 where
   pub places : are_places sources order ≡ true
-  pub rising : are_rising (listed sources order) ≡ true
-  pub filled : list_all (is_filled p) (listed sources order) ≡ true
+  pub rising : are_ascending (sources_at sources order) ≡ true
+  pub filled : list_all (is_filled p) (sources_at sources order) ≡ true
 
 -- the first span is of this source
 pub record BeginsWith (ss : List Span) (id : ℕ) : Type 0 where
@@ -56,12 +56,12 @@ pub record TakesSource (old : List Span) (id : ℕ) (numbers : List Interval) (n
   pub parts : old ≡ spans_as id numbers ++ new
   pub above : are_above id new ≡ true
 
--- the merged intervals of the first spans, which are of a source, and the spans behind them
+-- the merged intervals of the first spans, which are of a source, and the spans after them
 pub record JoinsSource (old : List Span) (id : ℕ) (numbers : List Interval) (new : List Span) : Type 0 where
   pub merged : is_merged (all_numbered numbers) ≡ true
   pub has : (q : Gtid) → has old q ≡ (has (spans_as id numbers) q || has new q)
   pub above : are_above id new ≡ true
-  pub rises : rises new ≡ true
+  pub rises : is_sorted new ≡ true
   pub begun : BeginsWith old id → length new < length old
 
 -- what an operation keeps of what the first set has and the second
@@ -70,10 +70,10 @@ combines Union a b = a || b
 combines Difference a b = a && not b
 combines Intersection a b = a && b
 
-abbrev pub combined : Operation → Gtids → Gtids → Gtids
-combined Union s t = set.union s t
-combined Difference s t = set.difference s t
-combined Intersection s t = set.intersection s t
+abbrev pub combination : Operation → Gtids → Gtids → Gtids
+combination Union s t = set.union s t
+combination Difference s t = set.difference s t
+combination Intersection s t = set.intersection s t
 
 -- memory was refused, or the spans are too many
 abbrev pub IsTooLong : List Span → SetFault → Type 0

@@ -1,4 +1,4 @@
--- Where membership in a set changes: at the first number of each run, and at the number behind its last. Of a set that is made of
+-- Where membership in a set changes: at the first number of each run, and at the number after its last. Of a set that is made of
 -- others by union, difference and intersection no edge is new, so the edges of the others bound its intervals.
 use Rattle.std.specs.Prelude.{◌≡◌, ◌+◌, ◌-◌, ◌*◌, ◌<◌, ◌≤◌, ◌==◌, ◌&&◌, ◌||◌, Bool, true, not, List, [], ◌∷◌}
 use Rattle.std.specs.FinSet as set
@@ -12,7 +12,7 @@ use Rattle.gtid_set.specs.Full.{interval_count, most_intervals}
 abbrev pub next_to : Gtid → Gtid
 next_to g = gtid g.source (g.number + 1)
 
--- the first GTID of each span, and the one behind its last
+-- the first GTID of each span, and the one after its last
 abbrev pub ends_of : List Span → List Gtid
 ends_of [] = []
 ends_of (s ∷ ss) = gtid s.source s.lo ∷ gtid s.source (s.hi + 1) ∷ ends_of ss

@@ -4,8 +4,7 @@ use Rattle.std.specs.List.{list_all, list_any, slice_get}
 use Rattle.gtid_text.specs.declared.Gtid.{Gtid}
 use Rattle.gtid_text.specs.declared.Span.{Span}
 use Rattle.interval_pool.specs.declared.interval.Interval.{Interval}
-use Rattle.interval_pool.specs.Intervals.{covers}
-use Rattle.interval_pool.specs.Intervals.{has as has_number}
+use Rattle.interval_pool.specs.Intervals.{covers, has as has_number}
 use Rattle.interval_pool.specs.Values.{PoolValue, slot_at, is_list, AreAmong, intervals_of, spans, cells_of, first_cell}
 use Rattle.gtid_set.specs.declared.sources.Source.{Source}
 use Rattle.gtid_set.specs.declared.cursor.Place.{Place}
@@ -36,19 +35,19 @@ abbrev pub source_at : List Source → ℕ → Source
 source_at sources i = slice_index_or sources i (record { id = 0; list = 0 })
 
 -- the sources at places
-abbrev pub listed : List Source → List ℕ → List Source
-listed sources order = map (source_at sources) order
+abbrev pub sources_at : List Source → List ℕ → List Source
+sources_at sources order = map (source_at sources) order
 
 abbrev pub are_places : List Source → List ℕ → Bool
 are_places sources order = list_all (λ i. nat_lt i (length sources)) order
 
 abbrev pub flat : PoolValue → List Source → List ℕ → List Span
-flat p sources order = spans_of p (listed sources order)
+flat p sources order = spans_of p (sources_at sources order)
 
 -- each source is less than the later ones
-abbrev pub are_rising : List Source → Bool
-are_rising [] = true
-are_rising (s ∷ ss) = list_all (λ t. nat_lt s.id t.id) ss && are_rising ss
+abbrev pub are_ascending : List Source → Bool
+are_ascending [] = true
+are_ascending (s ∷ ss) = list_all (λ t. nat_lt s.id t.id) ss && are_ascending ss
 
 -- a source has a list with intervals
 abbrev pub is_filled : PoolValue → Source → Bool
@@ -67,10 +66,10 @@ pub record IsKeptIn (p : PoolValue) (sources : List Source) (order : List ℕ) :
   pub places : are_places sources order ≡ true
   pub as_many : length order ≡ length sources
   pub few : length order ≤ most_sources
-  pub rising : are_rising (listed sources order) ≡ true
-  pub filled : list_all (is_filled p) (listed sources order) ≡ true
-  pub own : have_own (listed sources order) ≡ true
-  pub known : AreAmong p (lists_of (listed sources order))
+  pub rising : are_ascending (sources_at sources order) ≡ true
+  pub filled : list_all (is_filled p) (sources_at sources order) ≡ true
+  pub own : have_own (sources_at sources order) ≡ true
+  pub known : AreAmong p (lists_of (sources_at sources order))
   pub merged : is_merged (flat p sources order) ≡ true
   pub counted : length order ≡ source_count (set_of (flat p sources order))
   pub small : length (flat p sources order) ≤ most_intervals
@@ -137,7 +136,7 @@ pub record Grown (p : PoolValue) (sources : List Source) (order : List ℕ) (t :
 abbrev pub spans_as : ℕ → List Interval → List Span
 spans_as id is = map (span_of id) is
 
--- spans of a source that is there stand behind all others
+-- spans of a source that is there come after all others
 pub record IsRun (p : PoolValue) (sources : List Source) (order : List ℕ) (id : ℕ) (is : List Interval) (q : PoolValue) : Type 0 where
   pub kept : IsKeptIn q sources order
   pub parts : flat q sources order ≡ flat p sources order ++ spans_as id is
@@ -155,9 +154,9 @@ spans_from p at = map (span_of at.source.id) (drop at.passed (spans p at.source.
 
 abbrev pub cursor_view : PoolValue → List Source → List ℕ → Option Place → List Span
 cursor_view p sources behind None = []
-cursor_view p sources behind (Some at) = spans_from p at ++ spans_of p (listed sources behind)
+cursor_view p sources behind (Some at) = spans_from p at ++ spans_of p (sources_at sources behind)
 
--- an interval of a source's list, so many behind the first, and the cell behind it
+-- an interval of a source's list, so many after the first, and the cell after it
 pub record IsPlaceIn (p : PoolValue) (s : Source) (n : ℕ) (at : Place) : Type 0 where
   pub source : at.source ≡ s
   pub passed : at.passed ≡ n
@@ -165,16 +164,16 @@ pub record IsPlaceIn (p : PoolValue) (s : Source) (n : ℕ) (at : Place) : Type 
   pub next : at.next ≡ first_cell (drop (n + 1) (cells_of p s.list))
   pub len : at.len ≡ length (cells_of p s.list)
 
--- the spans behind a place
+-- the spans after a place
 abbrev pub spans_behind : PoolValue → List Source → List ℕ → Place → List Span
-spans_behind p sources behind at = map (span_of at.source.id) (drop (at.passed + 1) (spans p at.source.list)) ++ spans_of p (listed sources behind)
+spans_behind p sources behind at = map (span_of at.source.id) (drop (at.passed + 1) (spans p at.source.list)) ++ spans_of p (sources_at sources behind)
 
--- a place of a list, and sources behind it
+-- a place of a list, and sources after it
 pub record IsAt (p : PoolValue) (sources : List Source) (behind : List ℕ) (at : Place) : Type 0 where
   pub place : IsPlaceIn p at.source at.passed at
   pub passed : at.passed < at.len
   pub places : are_places sources behind ≡ true
-  pub filled : list_all (is_filled p) (listed sources behind) ≡ true
+  pub filled : list_all (is_filled p) (sources_at sources behind) ≡ true
 
 abbrev pub IsCursor : PoolValue → List Source → List ℕ → Option Place → Type 0
 IsCursor p sources behind None = Unit {0}

@@ -58,11 +58,11 @@ AreUsable s = (g : Gtid) → set.contains s g ≡ true → IsUsable g
 abbrev pub HaveSources : Gtids → Type 0
 HaveSources s = (g : Gtid) → set.contains s g ≡ true → IsSource g.source
 
--- a text spells one set at most
+-- a text parses as one set at most
 abbrev pub SpellsOne : Type 0
 SpellsOne = (text : List ℕ) (s t : Gtids) → SpellsSet text s → SpellsSet text t → s ≡ t
 
--- the canonical text of a set spells it
+-- the canonical text of a set parses as it
 abbrev pub CanonicalSpells : Type 0
 CanonicalSpells = (s : Gtids) → AreUsable s → SpellsSet (canonical s) s
 
@@ -74,11 +74,11 @@ SpelledAgain = (text : List ℕ) (s : Gtids) → HaveSources s → SpellsSet tex
 abbrev pub CanonicalTells : Type 0
 CanonicalTells = (s t : Gtids) → AreUsable s → AreUsable t → canonical s ≡ canonical t → s ≡ t
 
--- the answer to a text is a set that it spells
+-- the answer to a text is a set that it parses as
 abbrev pub AnswersSpelled : Type 0
 AnswersSpelled = (text : List ℕ) (s : Gtids) → set_in text ≡ Ok s → SpellsSet text s × ((source_count s ≤ most_sources) × (interval_count s ≤ most_intervals))
 
--- a text that spells a set is answered that set, or that it has too many sources, or else too many intervals
+-- a text that parses as a set is answered that set, or that it has too many sources, or else too many intervals
 abbrev pub SpelledIsAnswered : Type 0
 SpelledIsAnswered = (text : List ℕ) (s : Gtids) → SpellsSet text s → source_count s ≤ most_sources → interval_count s ≤ most_intervals → set_in text ≡ Ok s
 

@@ -3,21 +3,21 @@ use Rattle.std.specs.Prelude.{◌≡◌, ℕ, Bool, true, false, ◌+◌, ◌<�
 use Rattle.std.specs.List.{concat, list_all, slice_get}
 use Rattle.gtid_set.specs.declared.order.Seat.{Seat}
 use Rattle.gtid_set.specs.declared.sources.Source.{Source}
-use Rattle.gtid_set.specs.Kept.{listed}
+use Rattle.gtid_set.specs.Kept.{sources_at}
 
--- how many stand before a seat: those of the blocks before, and those before it in its block
+-- how many come before a seat: those of the blocks before, and those before it in its block
 abbrev pub index_of : List (List ℕ) → Seat → ℕ
 index_of blocks seat = length (concat (take seat.block blocks)) + seat.offset
 
--- the block at a place; beyond the last none stand in it
+-- the block at a place; beyond the last none are in it
 abbrev pub block_at : List (List ℕ) → ℕ → List ℕ
 block_at blocks i = slice_index_or blocks i []
 
--- a seat is one of a block's, or behind all blocks
+-- a seat is one of a block's, or after all blocks
 abbrev pub IsSeat : List (List ℕ) → Seat → Type 0
 IsSeat blocks seat = (seat.offset < length (block_at blocks seat.block)) ⊎ (length blocks ≤ seat.block)
 
--- none are left in a block where some are behind it
+-- none are left in a block where some are after it
 abbrev pub IsSettled : List ℕ → List (List ℕ) → Type 0
 IsSettled here blocks = here ≡ [] → concat blocks ≡ []
 
@@ -25,19 +25,19 @@ IsSettled here blocks = here ≡ [] → concat blocks ≡ []
 
 -- the sources at places are less than another
 abbrev pub are_below : List Source → ℕ → List ℕ → Bool
-are_below sources id places = list_all (λ s. nat_lt s.id id) (listed sources places)
+are_below sources id places = list_all (λ s. nat_lt s.id id) (sources_at sources places)
 
 -- one of the sources at places is not less than another
 pub record HasFrom (sources : List Source) (places : List ℕ) (id : ℕ) : Type 0 where
   pub at : ℕ
   pub source : Source
-  pub got : slice_get (listed sources places) at ≡ Some source
+  pub got : slice_get (sources_at sources places) at ≡ Some source
   pub from : nat_lt source.id id ≡ false
 
 -- the first of the sources at places is less than another
 pub record BeginsBelow (sources : List Source) (places : List ℕ) (id : ℕ) : Type 0 where
   pub source : Source
-  pub got : slice_get (listed sources places) 0 ≡ Some source
+  pub got : slice_get (sources_at sources places) 0 ≡ Some source
   pub below : nat_lt source.id id ≡ true
 
 -- the block in which a source's seat is: all before are less, and not all of its own; or it is behind all blocks

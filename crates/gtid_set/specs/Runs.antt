@@ -37,6 +37,6 @@ runs_of (g ∷ gs) = run_before g (runs_of gs)
 unfoldable pub runs : Gtids → List Span
 runs s = runs_of (in_order (set.items s))
 
--- the one text of a set: sources in lower case and rising, the longest runs rising, one comma between sources
+-- the one text of a set: sources in lower case and ascending, the longest runs ascending, one comma between sources
 abbrev pub canonical : Gtids → List ℕ
 canonical s = spans_text (runs s)

@@ -1,4 +1,4 @@
--- What a list of spans stands for: the union of its intervals. A set is kept as the one merged list that stands for it.
+-- What a list of spans denotes: the union of its intervals. A set is kept as the one merged list that denotes it.
 use Rattle.std.specs.Prelude.{◌+◌, Bool, true, ◌&&◌, ◌||◌, ◌==◌, nat_le, nat_lt, List, [], ◌∷◌}
 use Rattle.std.specs.List.{list_any, list_all}
 use Rattle.std.specs.FinSet as set

@@ -16,7 +16,7 @@ is_from g q = nat_lt g.source q.source || ((g.source == q.source) && nat_le g.nu
 abbrev pub start_of : Span → Gtid
 start_of s = gtid s.source s.lo
 
--- whether a GTID stands in a span
+-- whether a GTID is in a span
 abbrev pub within : Span → Gtid → Bool
 within s = covers s.source s.lo s.hi
 
@@ -33,9 +33,9 @@ abbrev pub all_reach : Span → List Span → Bool
 all_reach t ss = list_all (λ s. not (ends_before (start_of t) s)) ss
 
 -- each starts by the later ones
-abbrev pub rises : List Span → Bool
-rises [] = true
-rises (s ∷ ss) = list_all (λ t. is_from (start_of s) (start_of t)) ss && rises ss
+abbrev pub is_sorted : List Span → Bool
+is_sorted [] = true
+is_sorted (s ∷ ss) = list_all (λ t. is_from (start_of s) (start_of t)) ss && is_sorted ss
 
 -- the spans that don't end before the span
 pub record IsRest (t : Span) (spans rest : List Span) : Type 0 where
@@ -94,8 +94,8 @@ pub record Meets (spans : List Span) (t first : Span) (more : List Span) : Type 
 -- the span of two lists that starts first, and what is left of both
 pub record TakesFirst (left right : List Span) (first : Span) (left' right' : List Span) : Type 0 where
   pub any : (p : Span → Bool) → (list_any p left || list_any p right) ≡ (p first || (list_any p left' || list_any p right'))
-  pub left_rises : rises left' ≡ true
-  pub right_rises : rises right' ≡ true
+  pub left_rises : is_sorted left' ≡ true
+  pub right_rises : is_sorted right' ≡ true
   pub left_later : list_all (λ t. is_from (start_of first) (start_of t)) left' ≡ true
   pub right_later : list_all (λ t. is_from (start_of first) (start_of t)) right' ≡ true
   pub shorter : length left' + length right' + 1 ≡ length left + length right

@@ -1,7 +1,7 @@
 //! A set gone over source by source.
 ghost use Rattle.std.specs.Prelude.{◌≡◌, ◌<◌, [], true, IfSome, None, length};
 ghost use Rattle.std.specs.List.{concat, list_all};
-ghost use Rattle.gtid_set.specs.Kept.{are_places, are_rising, is_filled, listed, source_at, spans_of};
+ghost use Rattle.gtid_set.specs.Kept.{are_places, are_ascending, is_filled, sources_at, source_at, spans_of};
 ghost use Rattle.gtid_set.specs.BySource.{IsFirstSource, IsNextSource, TakesSource, are_from};
 
 use crate::order::{Block, Places};
@@ -35,9 +35,9 @@ impl<'a> SourceLists<'a> {
     /// All sources of a set.
     pub fn of(pool: &'a Pool, sources: &'a [Source], order: &'a [Block]) -> SourceLists<'a>
         requires places { are_places sources.now (concat order.now) ≡ true }
-        requires rising { are_rising (listed sources.now (concat order.now)) ≡ true }
-        requires filled { list_all (is_filled pool.now) (listed sources.now (concat order.now)) ≡ true }
-        ensures { result ≡ spans_of pool.now (listed sources.now (concat order.now)) }
+        requires rising { are_ascending (sources_at sources.now (concat order.now)) ≡ true }
+        requires filled { list_all (is_filled pool.now) (sources_at sources.now (concat order.now)) ≡ true }
+        ensures { result ≡ spans_of pool.now (sources_at sources.now (concat order.now)) }
     {
         SourceLists {
             pool,

@@ -5,7 +5,7 @@ ghost use Rattle.gtid_set.specs.Spans.{set_of, is_merged, has};
 ghost use Rattle.gtid_set.specs.Sweep.{IsListOf, IsWithin, IsNotWithin, AreApart, HaveCommon};
 ghost use Rattle.gtid_set.specs.Full.{IsCrowdedExactly};
 ghost use Rattle.gtid_set.specs.Numbers.{all_numbered};
-ghost use Rattle.gtid_set.specs.BySource.{combines, combined};
+ghost use Rattle.gtid_set.specs.BySource.{combines, combination};
 
 use crate::by_source::{SourceLists, next_source};
 use crate::fault::SetFault;
@@ -50,9 +50,9 @@ pub fn combine(
 ) -> Result<Kept, SetFault>
     requires left { is_merged left ≡ true }
     requires right { is_merged right ≡ true }
-    requires fits { source_count (combined operation (set_of left) (set_of right)) ≤ most_sources }
-    ensures ok { IfOk result (λ k. set_of k ≡ combined operation (set_of left.entry) (set_of right.entry)) }
-    ensures full { IsCrowdedExactly result (combined operation (set_of left.entry) (set_of right.entry)) }
+    requires fits { source_count (combination operation (set_of left) (set_of right)) ≤ most_sources }
+    ensures ok { IfOk result (λ k. set_of k ≡ combination operation (set_of left.entry) (set_of right.entry)) }
+    ensures full { IsCrowdedExactly result (combination operation (set_of left.entry) (set_of right.entry)) }
 {
     let mut kept = Kept::open(alloc);
     let mut run = Vec::new(alloc);

@@ -2,7 +2,7 @@
 ghost use Rattle.std.specs.Prelude.{◌≡◌, ◌∷◌, [], drop, length, true, Some, IfSome, IsSome, MatchOption};
 ghost use Rattle.std.specs.List.{concat, list_all};
 ghost use Rattle.interval_pool.specs.Values.{cells_of, first_cell};
-ghost use Rattle.gtid_set.specs.Kept.{are_places, is_filled, listed, spans_of, IsPlaceIn};
+ghost use Rattle.gtid_set.specs.Kept.{are_places, is_filled, sources_at, spans_of, IsPlaceIn};
 
 use crate::order::{Block, Places};
 use crate::sources::{Source, source_of};
@@ -10,7 +10,7 @@ use gtid_text::Span;
 use interval_pool::{Interval, Pool};
 use std::marker::Model;
 
-/// An interval of a source's list, the cell behind it, how many intervals of the list lie before, and how many it has.
+/// An interval of a source's list, the cell after it, how many intervals of the list lie before, and how many it has.
 #[derive(Clone, Copy, Drop)]
 struct Place {
     source: Source,
@@ -42,7 +42,7 @@ impl<'a> Model for Cursor<'a> {
     ghost invariant = { λ c. IsCursor c.pool.now c.sources.now c.behind c.at };
 }
 
-/// The place of a cell, so many behind the first of its list.
+/// The place of a cell, so many after the first of its list.
 #[inline(always)]
 fn place_of_cell(pool: &Pool, source: Source, cell: u32, passed: u32, len: u32) -> Place
     requires cell { first_cell (drop passed (cells_of pool.now source.list)) ≡ Some cell }
@@ -73,8 +73,8 @@ fn begin(pool: &Pool, source: Source) -> Option<Place>
 /// The spans of sources.
 fn over<'a>(pool: &'a Pool, sources: &'a [Source], order: Places<'a>) -> Cursor<'a>
     requires places { are_places sources.now order ≡ true }
-    requires filled { list_all (is_filled pool.now) (listed sources.now order) ≡ true }
-    ensures { result ≡ spans_of pool.now (listed sources.now order.entry) }
+    requires filled { list_all (is_filled pool.now) (sources_at sources.now order) ≡ true }
+    ensures { result ≡ spans_of pool.now (sources_at sources.now order.entry) }
 {
     let mut behind = order;
     match behind.first() {
@@ -101,8 +101,8 @@ impl<'a> Cursor<'a> {
     /// The spans of sources.
     pub fn over(pool: &'a Pool, sources: &'a [Source], order: &'a [Block]) -> Cursor<'a>
         requires places { are_places sources.now (concat order.now) ≡ true }
-        requires filled { list_all (is_filled pool.now) (listed sources.now (concat order.now)) ≡ true }
-        ensures { result ≡ spans_of pool.now (listed sources.now (concat order.now)) }
+        requires filled { list_all (is_filled pool.now) (sources_at sources.now (concat order.now)) ≡ true }
+        ensures { result ≡ spans_of pool.now (sources_at sources.now (concat order.now)) }
     {
         over(pool, sources, Places::of(order))
     }
@@ -134,7 +134,7 @@ impl<'a> Cursor<'a> {
         }
     }
 
-    /// Goes behind the first span, if there is one.
+    /// Goes after the first span, if there is one.
     #[inline(always)]
     pub fn advance(&mut self)
         ensures { self.new ≡ drop 1 self.old }

@@ -2,7 +2,7 @@
 ghost use Rattle.std.specs.Prelude.{◌≡◌, ◌≤◌, true, IfOk};
 ghost use Rattle.gtid_set.specs.Sets.{source_count, most_sources};
 ghost use Rattle.gtid_set.specs.Spans.{set_of};
-ghost use Rattle.gtid_set.specs.Sweep.{rises};
+ghost use Rattle.gtid_set.specs.Sweep.{is_sorted};
 ghost use Rattle.gtid_set.specs.Full.{IsCrowdedExactly};
 ghost use Rattle.gtid_set.specs.BySource.{JoinsSource, are_from};
 
@@ -13,13 +13,13 @@ use gtid_text::{SourceId, Span};
 use interval_pool::Interval;
 use std::alloc::{AllocError, Global};
 
-/// Writes the merged intervals of the first spans, as far as they are of a source, over others, and answers the spans behind them.
+/// Writes the merged intervals of the first spans, as far as they are of a source, over others, and answers the spans after them.
 fn join_source<'a>(
     run: &mut Vec<Interval>,
     id: SourceId,
     spans: &'a [Span],
 ) -> Result<&'a [Span], AllocError>
-    requires rises { rises spans.now ≡ true }
+    requires rises { is_sorted spans.now ≡ true }
     requires from { are_from id spans.now ≡ true }
     ensures { IfOk result (λ rest. JoinsSource spans.now id run.new.items rest.now) }
 {
@@ -43,7 +43,7 @@ fn join_source<'a>(
 
 /// The merged spans of all that a list has, of not too many sources.
 pub fn gather(alloc: Global, spans: &[Span]) -> Result<Kept, SetFault>
-    requires rises { rises spans.now ≡ true }
+    requires rises { is_sorted spans.now ≡ true }
     requires fits { source_count (set_of spans.now) ≤ most_sources }
     ensures ok { IfOk result (λ k. set_of k ≡ set_of spans.now) }
     ensures full { IsCrowdedExactly result (set_of spans.now) }

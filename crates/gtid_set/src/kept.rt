@@ -5,16 +5,16 @@ ghost use Rattle.std.specs.FinSet as set;
 ghost use Rattle.gtid_set.specs.declared.fault.SetFault.TheVariants.{Memory};
 ghost use Rattle.gtid_set.specs.Sets.{interval, most_sources, source_count};
 ghost use Rattle.gtid_set.specs.Spans.{set_of, is_merged, has};
-ghost use Rattle.gtid_set.specs.Sweep.{IsListOf, HasSpan, all_before, within};
+ghost use Rattle.gtid_set.specs.Sweep.{IsListOf, HasSpan, KnowsSource, all_before, within};
 ghost use Rattle.gtid_set.specs.Full.{IsFullExactly, IsKept};
 ghost use Rattle.gtid_set.specs.BySource.{IsTooLong};
-ghost use Rattle.gtid_set.specs.Kept.{IsKeptIn, IsSourceOf, IsSourcePlace, IsListFault, Lists, HasSameLists, Grown, IsRun, Stays, spans_as, are_others, listed, flat, interval_of};
+ghost use Rattle.gtid_set.specs.Kept.{IsKeptIn, IsSourceOf, IsSourcePlace, IsListFault, Lists, HasSameLists, Grown, IsRun, Stays, spans_as, are_others, sources_at, flat, interval_of};
 ghost use Rattle.gtid_set.specs.Order.{IsSeat, index_of};
 
 use crate::by_source::SourceLists;
 use crate::cursor::Cursor;
 use crate::fault::SetFault;
-use crate::order::{Block, Seat, copied, put};
+use crate::order::{Block, Seat, copy_order, put};
 use crate::sources::{Source, find, find_last, seat_of};
 use gtid_text::{Gtid, SourceId, Span};
 use interval_pool::{Interval, ListId, Pool};
@@ -68,7 +68,7 @@ fn add_to(
     span: &Span,
 ) -> Result<(), SetFault>
     requires kept { IsKeptIn pool.old sources.now (concat order.now) }
-    requires source { IsSourceOf (listed sources.now (concat order.now)) source span.now.source }
+    requires source { IsSourceOf (sources_at sources.now (concat order.now)) source span.now.source }
     requires filled { span.now.lo ≤ span.now.hi }
     ensures ok { OnOk result (Grown pool.old sources.now (concat order.now) span.now pool.new sources.now (concat order.now)) }
     ensures err { OnErr result (pool.new ≡ pool.old) }
@@ -84,7 +84,7 @@ fn add_to(
     }
 }
 
-/// Puts the numbers of a span behind those of its source.
+/// Puts the numbers of a span after those of its source.
 fn append_to(
     pool: &mut Pool,
     sources: &[Source],
@@ -93,7 +93,7 @@ fn append_to(
     span: &Span,
 ) -> Result<(), SetFault>
     requires kept { IsKeptIn pool.old sources.now (concat order.now) }
-    requires source { IsSourceOf (listed sources.now (concat order.now)) source span.now.source }
+    requires source { IsSourceOf (sources_at sources.now (concat order.now)) source span.now.source }
     requires filled { span.now.lo ≤ span.now.hi }
     requires before { all_before (flat pool.old sources.now (concat order.now)) span.now ≡ true }
     ensures ok { OnOk result (Grown pool.old sources.now (concat order.now) span.now pool.new sources.now (concat order.now)) }
@@ -139,9 +139,9 @@ fn insert(
     span: &Span,
 ) -> Result<(), SetFault>
     requires kept { IsKeptIn pool.old sources.old.items (concat order.old.items) }
-    requires place { IsSourcePlace (listed sources.old.items (concat order.old.items)) span.now.source (index_of order.old.items at) }
+    requires place { IsSourcePlace (sources_at sources.old.items (concat order.old.items)) span.now.source (index_of order.old.items at) }
     requires seat { IsSeat order.old.items at }
-    requires new { are_others span.now.source (listed sources.old.items (concat order.old.items)) ≡ true }
+    requires new { are_others span.now.source (sources_at sources.old.items (concat order.old.items)) ≡ true }
     requires filled { span.now.lo ≤ span.now.hi }
     ensures ok { OnOk result (Grown pool.old sources.old.items (concat order.old.items) span.now pool.new sources.new.items (concat order.new.items)) }
     ensures err { OnErr result (Stays pool.old sources.old.items (concat order.old.items) pool.new sources.new.items (concat order.new.items)) }
@@ -172,7 +172,7 @@ fn insert(
     }
 }
 
-/// Puts a span behind the others.
+/// Puts a span after the others.
 fn push(
     pool: &mut Pool,
     sources: &mut Vec<Source>,
@@ -198,7 +198,7 @@ fn push(
     }
 }
 
-/// Puts a source's intervals behind all spans.
+/// Puts a source's intervals after all spans.
 fn extend_to(
     pool: &mut Pool,
     sources: &[Source],
@@ -207,7 +207,7 @@ fn extend_to(
     run: &[Interval],
 ) -> Result<(), SetFault>
     requires kept { IsKeptIn pool.old sources.now (concat order.now) }
-    requires source { IsSourceOf (listed sources.now (concat order.now)) source source.id }
+    requires source { IsSourceOf (sources_at sources.now (concat order.now)) source source.id }
     requires merged { is_merged (flat pool.old sources.now (concat order.now) ++ spans_as source.id run.now) ≡ true }
     ensures ok { OnOk result (IsRun pool.old sources.now (concat order.now) source.id run.now pool.new) }
     ensures err { OnErr result (pool.new ≡ pool.old) }
@@ -223,7 +223,7 @@ fn extend_to(
     }
 }
 
-/// Puts a source's intervals behind all spans.
+/// Puts a source's intervals after all spans.
 fn put_run(
     pool: &mut Pool,
     sources: &mut Vec<Source>,
@@ -255,7 +255,7 @@ fn put_run(
 }
 
 impl Kept {
-    /// No spans. Takes no memory.
+    /// No spans. Does not allocate.
     pub fn open(alloc: Global) -> Kept
         ensures { result ≡ [] }
     {
@@ -284,7 +284,7 @@ impl Kept {
         SourceLists::of(&self.pool, &self.sources, &self.order)
     }
 
-    /// Puts a source's intervals behind all spans. An error leaves some of them there.
+    /// Puts a source's intervals after all spans. An error leaves some of them there.
     pub fn put(&mut self, id: SourceId, run: &[Interval]) -> Result<(), SetFault>
         requires merged { is_merged (self.old ++ spans_as id run.now) ≡ true }
         requires fits { source_count (set_of (self.old ++ spans_as id run.now)) ≤ most_sources }
@@ -329,6 +329,18 @@ impl Kept {
         })
     }
 
+    /// Whether one of the spans is of a source.
+    pub fn has_source(&self, id: SourceId) -> bool
+        ensures { KnowsSource result self.now id }
+    {
+        self.pool.partition();
+        let at = seat_of(&self.sources, &self.order, id, self.near);
+        match find(&self.sources, &self.order, at, id) {
+            Some(_source) => true,
+            None => false,
+        }
+    }
+
     /// Joins a span to the others. An error leaves them as they were.
     pub fn add(&mut self, span: Span) -> Result<(), SetFault>
         requires filled { span.lo ≤ span.hi }
@@ -358,7 +370,7 @@ impl Kept {
     {
         let pool = self.pool.copy(alloc)?;
         let sources = Vec::from_slice(alloc, &self.sources)?;
-        let order = copied(alloc, &self.order)?;
+        let order = copy_order(alloc, &self.order)?;
         let near = self.near;
         Ok(Kept {
             pool,

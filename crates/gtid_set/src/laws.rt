@@ -30,7 +30,7 @@ pub fn intersect_distributes()
     ensures of_difference { BothOfLess }
 {}
 
-/// A text spells one set at most. The canonical text of a set spells it, and tells it from every other.
+/// A text parses as one set at most. The canonical text of a set parses as it, and tells it from every other.
 pub fn text_reads_back()
     ensures one { SpellsOne }
     ensures spells { CanonicalSpells }
@@ -38,7 +38,7 @@ pub fn text_reads_back()
     ensures tells { CanonicalTells }
 {}
 
-/// The one answer to a text is the set that it spells, where that has not too many sources or intervals, and is a set for no other text.
+/// The one answer to a text is the set that it parses as, where that has not too many sources or intervals, and is a set for no other text.
 pub fn text_is_answered()
     ensures found { AnswersSpelled }
     ensures only { SpelledIsAnswered }

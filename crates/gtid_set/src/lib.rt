@@ -4,8 +4,9 @@
 //! operation is that of finite sets. No interval, list or cell is named above this crate.
 //!
 //! A set has at most 65,536 sources and 4,294,967,294 intervals; a call is refused for that exactly where its result would have more
-//! (`full`). Intervals are bounded by the edges of a set, the places where membership changes: what is made of two sets has no edge that
-//! neither of them has (`laws::intervals_add_up`), so the crates above say by edges where a set may be full.
+//! (`full`), and because an allocation failed only where the sources are not too many: `has_room_for` and `has_room_for_all` ask that without memory.
+//! Intervals are bounded by the edges of a set, the places where membership changes: what is made of two sets has no edge that neither of
+//! them has (`laws::intervals_add_up`), so the crates above say by edges where a set may be full.
 //!
 //! How it is kept: the intervals are in one pool (`interval_pool`), a list of merged intervals for each source; the sources stand as they
 //! came, and their places in order in blocks (`order`). A pass over two sets goes source by source, compares numbers alone, and writes the
@@ -25,9 +26,9 @@ ghost use Rattle.gtid_set.specs.Sets.{Gtids, IsRunEnd, gtid, interval, only, wit
 ghost use Rattle.gtid_set.specs.Spans.{set_of, is_merged, has};
 ghost use Rattle.gtid_set.specs.Runs.{runs, canonical};
 ghost use Rattle.gtid_set.specs.Texts.{SpellsSet, RefusesSet, IsReadAs, GivesSet, set_in};
-ghost use Rattle.gtid_set.specs.Sweep.{rises};
-ghost use Rattle.gtid_set.specs.BySource.{combined};
-ghost use Rattle.gtid_set.specs.Full.{IsFullExactly, IsCrowdedExactly, IsKept};
+ghost use Rattle.gtid_set.specs.Sweep.{is_sorted};
+ghost use Rattle.gtid_set.specs.BySource.{combination};
+ghost use Rattle.gtid_set.specs.Full.{IsFullExactly, IsCrowdedExactly, IsKept, HasManySources, interval_count, most_intervals};
 
 mod by_source;
 mod combine;
@@ -92,12 +93,17 @@ fn have_many_sources(left: &Kept, right: &Kept) -> bool
 }
 
 /// The set that is made of two sets, where that has not too many sources.
-fn made(alloc: Global, operation: Operation, left: &Kept, right: &Kept) -> Result<GtidSet, SetFault>
+fn combination(
+    alloc: Global,
+    operation: Operation,
+    left: &Kept,
+    right: &Kept,
+) -> Result<GtidSet, SetFault>
     requires left { is_merged left.now ≡ true }
     requires right { is_merged right.now ≡ true }
-    requires fits { source_count (combined operation (set_of left.now) (set_of right.now)) ≤ most_sources }
-    ensures ok { IfOk result (λ s. s ≡ combined operation (set_of left.now) (set_of right.now)) }
-    ensures full { IsCrowdedExactly result (combined operation (set_of left.now) (set_of right.now)) }
+    requires fits { source_count (combination operation (set_of left.now) (set_of right.now)) ≤ most_sources }
+    ensures ok { IfOk result (λ s. s ≡ combination operation (set_of left.now) (set_of right.now)) }
+    ensures full { IsCrowdedExactly result (combination operation (set_of left.now) (set_of right.now)) }
 {
     match combine(alloc, operation, left.by_source(), right.by_source()) {
         Ok(spans) => {
@@ -109,7 +115,7 @@ fn made(alloc: Global, operation: Operation, left: &Kept, right: &Kept) -> Resul
 }
 
 /// The set of all that two sets have.
-fn united(alloc: Global, left: &Kept, right: &Kept) -> Result<GtidSet, SetFault>
+fn union(alloc: Global, left: &Kept, right: &Kept) -> Result<GtidSet, SetFault>
     requires left { is_merged left.now ≡ true }
     requires right { is_merged right.now ≡ true }
     ensures ok { IfOk result (λ s. s ≡ set.union (set_of left.now) (set_of right.now)) }
@@ -118,34 +124,34 @@ fn united(alloc: Global, left: &Kept, right: &Kept) -> Result<GtidSet, SetFault>
     if have_many_sources(left, right) {
         return Err(SetFault::SourcesFull);
     }
-    made(alloc, Operation::Union, left, right)
+    combination(alloc, Operation::Union, left, right)
 }
 
 /// The set of what the first of two sets has and the second has not.
-fn reduced(alloc: Global, left: &Kept, right: &Kept) -> Result<GtidSet, SetFault>
+fn difference(alloc: Global, left: &Kept, right: &Kept) -> Result<GtidSet, SetFault>
     requires left { is_merged left.now ≡ true }
     requires right { is_merged right.now ≡ true }
     requires fits { source_count (set_of left.now) ≤ most_sources }
     ensures ok { IfOk result (λ s. s ≡ set.difference (set_of left.now) (set_of right.now)) }
     ensures full { IsCrowdedExactly result (set.difference (set_of left.now) (set_of right.now)) }
 {
-    made(alloc, Operation::Difference, left, right)
+    combination(alloc, Operation::Difference, left, right)
 }
 
 /// The set of what both of two sets have.
-fn common(alloc: Global, left: &Kept, right: &Kept) -> Result<GtidSet, SetFault>
+fn intersection(alloc: Global, left: &Kept, right: &Kept) -> Result<GtidSet, SetFault>
     requires left { is_merged left.now ≡ true }
     requires right { is_merged right.now ≡ true }
     requires fits { source_count (set_of left.now) ≤ most_sources }
     ensures ok { IfOk result (λ s. s ≡ set.intersection (set_of left.now) (set_of right.now)) }
     ensures full { IsCrowdedExactly result (set.intersection (set_of left.now) (set_of right.now)) }
 {
-    made(alloc, Operation::Intersection, left, right)
+    combination(alloc, Operation::Intersection, left, right)
 }
 
 /// The set of spans that are sorted by where they start, of not too many sources.
-fn sorted(alloc: Global, spans: &[Span]) -> Result<GtidSet, SetFault>
-    requires rises { rises spans.now ≡ true }
+fn from_fitting_spans(alloc: Global, spans: &[Span]) -> Result<GtidSet, SetFault>
+    requires rises { is_sorted spans.now ≡ true }
     requires fits { source_count (set_of spans.now) ≤ most_sources }
     ensures ok { IfOk result (λ s. s ≡ set_of spans.now) }
     ensures full { IsCrowdedExactly result (set_of spans.now) }
@@ -160,8 +166,8 @@ fn sorted(alloc: Global, spans: &[Span]) -> Result<GtidSet, SetFault>
 }
 
 /// The set of spans that are sorted by where they start, none of them reversed.
-fn gathered(alloc: Global, spans: &[Span]) -> Result<GtidSet, SetFault>
-    requires rises { rises spans.now ≡ true }
+fn from_spans(alloc: Global, spans: &[Span]) -> Result<GtidSet, SetFault>
+    requires rises { is_sorted spans.now ≡ true }
     requires filled { list_all (λ s. nat_le s.lo s.hi) spans.now ≡ true }
     ensures ok { IfOk result (λ s. s ≡ set_of spans.now) }
     ensures full { IsFullExactly result (set_of spans.now) }
@@ -169,7 +175,7 @@ fn gathered(alloc: Global, spans: &[Span]) -> Result<GtidSet, SetFault>
     if sweep::count_sources_of(spans) > MOST_SOURCES as u64 {
         return Err(SetFault::SourcesFull);
     }
-    sorted(alloc, spans)
+    from_fitting_spans(alloc, spans)
 }
 
 /// Whether two sets are the same.
@@ -198,7 +204,7 @@ fn of_source(
     let Ok(spans) = single::of_source(alloc, spans.cursor(), source, wanted) else {
         return Err(SetFault::Memory);
     };
-    sorted(alloc, &spans)
+    from_fitting_spans(alloc, &spans)
 }
 
 impl GtidSet {
@@ -218,7 +224,35 @@ impl GtidSet {
         self.spans.span_with(gtid).is_some()
     }
 
-    /// Adds a GTID. After an error the set is as it was. The number behind a source's last is added without a search among the intervals, unless intervals were put in front of them since.
+    /// A law, which does nothing: a set has at most 65,536 sources and 4,294,967,294 intervals.
+    pub fn keeps_limits(&self)
+        ensures sources { source_count self.now ≤ most_sources }
+        ensures intervals { interval_count self.now ≤ most_intervals }
+    {
+        self.spans.is_kept();
+    }
+
+    /// Whether the set has not too many sources once it has a GTID more. It does not allocate, and no more than the search for a source.
+    pub fn has_room_for(&self, gtid: &Gtid) -> bool
+        ensures room { result ≡ true → source_count (set.insert self.now gtid.now) ≤ most_sources }
+        ensures full { result ≡ false → HasManySources (set.insert self.now gtid.now) }
+    {
+        self.spans.is_kept();
+        if self.spans.sources() < MOST_SOURCES {
+            return true;
+        }
+        self.spans.has_source(gtid.source)
+    }
+
+    /// Whether the set and another have not too many sources together. It does not allocate: a look at the two counts, and a pass over both sets where these add up to too many.
+    pub fn has_room_for_all(&self, other: &GtidSet) -> bool
+        ensures room { result ≡ true → source_count (set.union self.now other.now) ≤ most_sources }
+        ensures full { result ≡ false → HasManySources (set.union self.now other.now) }
+    {
+        !have_many_sources(&self.spans, &other.spans)
+    }
+
+    /// Adds a GTID. After an error the set is as it was. The number after a source's last is added without a search among the intervals, unless intervals were put before them since.
     pub fn add(&mut self, gtid: Gtid) -> Result<(), SetFault>
         ensures ok { OnOk result (self.new ≡ set.insert self.old gtid) }
         ensures err { OnErr result (self.new ≡ self.old) }
@@ -261,7 +295,7 @@ impl GtidSet {
         ensures ok { IfOk result (λ s. s ≡ set.union self.now other.now) }
         ensures full { IsFullExactly result (set.union self.now other.now) }
     {
-        united(alloc, &self.spans, &other.spans)
+        union(alloc, &self.spans, &other.spans)
     }
 
     /// The GTIDs of this set that the other has not.
@@ -269,7 +303,7 @@ impl GtidSet {
         ensures ok { IfOk result (λ s. s ≡ set.difference self.now other.now) }
         ensures full { IsCrowdedExactly result (set.difference self.now other.now) }
     {
-        reduced(alloc, &self.spans, &other.spans)
+        difference(alloc, &self.spans, &other.spans)
     }
 
     /// The GTIDs that both sets have.
@@ -277,7 +311,7 @@ impl GtidSet {
         ensures ok { IfOk result (λ s. s ≡ set.intersection self.now other.now) }
         ensures full { IsCrowdedExactly result (set.intersection self.now other.now) }
     {
-        common(alloc, &self.spans, &other.spans)
+        intersection(alloc, &self.spans, &other.spans)
     }
 
     /// Whether the other set has all GTIDs of this one.
@@ -322,7 +356,7 @@ impl GtidSet {
         ensures merged { IfOk result (λ v. is_merged v.items ≡ true) }
         ensures stand { IfOk result (λ v. set_of v.items ≡ self.now) }
     {
-        single::listed(alloc, self.spans.cursor())
+        single::collect_spans(alloc, self.spans.cursor())
     }
 
     /// Reads the text of a set, whatever the order of its intervals.
@@ -331,7 +365,7 @@ impl GtidSet {
         ensures found { IfOk result (λ s. SpellsSet text.now s) }
         // What is spelled so is read, if memory and its sources allow.
         ensures only { (s : Gtids) → SpellsSet text.now s → IsReadAs result s }
-        // It is refused where the text spells no set, or one with too many sources.
+        // It is refused where the text parses as no set, or one with too many sources.
         ensures refused { IfErr result (λ fault. RefusesSet fault text.now) }
         // Which refusal it is.
         ensures exact { GivesSet result (set_in text.now) }
@@ -341,17 +375,17 @@ impl GtidSet {
             Err(fault) => return Err(SetTextFault::Text(fault)),
         };
         text::sort_by_start(&mut spans);
-        match gathered(alloc, &spans) {
+        match from_spans(alloc, &spans) {
             Ok(set) => Ok(set),
             Err(fault) => Err(SetTextFault::Set(fault)),
         }
     }
 
-    /// The canonical text: sources in lower case and rising, the longest runs rising, one comma and nothing else between sources. Our own rule.
+    /// The canonical text: sources in lower case and ascending, the longest runs ascending, one comma and nothing else between sources. Our own rule.
     pub fn to_text(&self, alloc: Global) -> Result<String, AllocError>
         ensures { IfOk result (λ t. string_bytes t ≡ canonical self.now) }
     {
-        text::written(alloc, self.spans.cursor())
+        text::format_spans(alloc, self.spans.cursor())
     }
 
     /// Whether the sets have the same GTIDs.

@@ -3,7 +3,7 @@ ghost use Rattle.std.specs.Prelude.{◌≡◌, true, false, ◌&&◌, ◌||◌, 
 ghost use Rattle.gtid_text.specs.declared.Gtid.{Gtid};
 ghost use Rattle.gtid_set.specs.Numbers.{numbered, all_numbered};
 ghost use Rattle.gtid_set.specs.Spans.{ends_before, is_before, is_merged, has};
-ghost use Rattle.gtid_set.specs.Sweep.{IsRest, Joins, AddsFront, Cuts, Overlaps, Meets, TakesFirst, IsListOf, IsWithin, IsNotWithin, AreApart, HaveCommon, all_start_by, all_before, all_reach, rises, is_met, is_inside, start_of, within, is_from};
+ghost use Rattle.gtid_set.specs.Sweep.{IsRest, Joins, AddsFront, Cuts, Overlaps, Meets, TakesFirst, IsListOf, IsWithin, IsNotWithin, AreApart, HaveCommon, all_start_by, all_before, all_reach, is_sorted, is_met, is_inside, start_of, within, is_from};
 
 use interval_pool::{Interval, Walk};
 use std::alloc::AllocError;
@@ -84,7 +84,7 @@ fn is_met(first: Interval, numbers: Interval) -> bool
 
 /// The first of the intervals, where it has a number of an interval that it reaches.
 #[inline(always)]
-fn meeting(walk: &Walk<'_>, numbers: Interval) -> Option<Interval>
+fn first_overlapping(walk: &Walk<'_>, numbers: Interval) -> Option<Interval>
     requires merged { is_merged (all_numbered walk.now) ≡ true }
     requires reach { all_reach (numbered numbers) (all_numbered walk.now) ≡ true }
     ensures apart { result ≡ None → (q : Gtid) → within (numbered numbers) q ≡ true → has (all_numbered walk.now) q ≡ false }
@@ -100,8 +100,8 @@ fn meeting(walk: &Walk<'_>, numbers: Interval) -> Option<Interval>
 /// Takes the interval that starts first from two lists.
 #[inline(always)]
 fn take_first(left: &mut Walk<'_>, right: &mut Walk<'_>) -> Option<Interval>
-    requires left { rises (all_numbered left.old) ≡ true }
-    requires right { rises (all_numbered right.old) ≡ true }
+    requires left { is_sorted (all_numbered left.old) ≡ true }
+    requires right { is_sorted (all_numbered right.old) ≡ true }
     ensures none { result ≡ None → (left.old ≡ []) × (right.old ≡ []) }
     ensures some { IfSome result (λ first. TakesFirst (all_numbered left.old) (all_numbered right.old) (numbered first) (all_numbered left.new) (all_numbered right.new)) }
 {
@@ -124,8 +124,8 @@ fn take_first(left: &mut Walk<'_>, right: &mut Walk<'_>) -> Option<Interval>
 
 /// Writes the merged intervals of all numbers of two lists over others.
 pub fn unite(out: &mut Vec<Interval>, left: Walk<'_>, right: Walk<'_>) -> Result<(), AllocError>
-    requires left { rises (all_numbered left) ≡ true }
-    requires right { rises (all_numbered right) ≡ true }
+    requires left { is_sorted (all_numbered left) ≡ true }
+    requires right { is_sorted (all_numbered right) ≡ true }
     ensures { OnOk result (IsListOf (λ q. has (all_numbered left.entry) q || has (all_numbered right.entry) q) (all_numbered out.new.items)) }
 {
     out.clear();
@@ -137,7 +137,7 @@ pub fn unite(out: &mut Vec<Interval>, left: Walk<'_>, right: Walk<'_>) -> Result
     Ok(())
 }
 
-/// Adds the part of an interval that stands before a hole.
+/// Adds the part of an interval that comes before a hole.
 #[inline(always)]
 fn push_front(out: &mut Vec<Interval>, numbers: Interval, hole: Interval) -> Result<(), AllocError>
     requires merged { is_merged (all_numbered out.old.items) ≡ true }
@@ -167,7 +167,7 @@ fn cut(out: &mut Vec<Interval>, numbers: Interval, holes: &Walk<'_>) -> Result<(
 {
     let mut left = numbers;
     let mut rest = holes.again();
-    while let Some(hole) = meeting(&rest, left) {
+    while let Some(hole) = first_overlapping(&rest, left) {
         push_front(out, left, hole)?;
         if numbers.hi <= hole.hi {
             return Ok(());
@@ -179,7 +179,7 @@ fn cut(out: &mut Vec<Interval>, numbers: Interval, holes: &Walk<'_>) -> Result<(
     Ok(())
 }
 
-/// Puts intervals behind others.
+/// Puts intervals after others.
 fn push_all(out: &mut Vec<Interval>, walk: Walk<'_>) -> Result<(), AllocError>
     ensures { OnOk result (all_numbered out.new.items ≡ all_numbered out.old.items ++ all_numbered walk.entry) }
 {
@@ -222,7 +222,7 @@ fn overlap(out: &mut Vec<Interval>, numbers: Interval, others: &Walk<'_>) -> Res
     ensures { OnOk result (Overlaps (all_numbered out.old.items) (numbered numbers) (all_numbered others.now) (all_numbered out.new.items)) }
 {
     let mut rest = others.again();
-    while let Some(other) = meeting(&rest, numbers) {
+    while let Some(other) = first_overlapping(&rest, numbers) {
         out.push(Interval {
             lo: numbers.lo.max(other.lo),
             hi: numbers.hi.min(other.hi),
@@ -300,7 +300,7 @@ pub fn are_apart(left: Walk<'_>, right: Walk<'_>) -> bool
     let mut right = right;
     while let Some(numbers) = left.peek() {
         skip(&mut right, numbers);
-        if let Some(_other) = meeting(&right, numbers) {
+        if let Some(_other) = first_overlapping(&right, numbers) {
             return false;
         }
         left.advance();

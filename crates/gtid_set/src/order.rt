@@ -9,7 +9,7 @@ use std::marker::Model;
 /// A block of more places is cut in halves where one is put between them.
 const LONG: usize = 512;
 
-/// Some places, one behind another in the order.
+/// Some places, one after another in the order.
 #[derive(Drop)]
 pub struct Block {
     places: Vec<u16>,
@@ -23,7 +23,7 @@ impl Model for Block {
     ghost view = { λ b. b.places.items };
 }
 
-/// A seat in the order: a block, and how many stand before it there.
+/// A seat in the order: a block, and how many come before it there.
 #[derive(Clone, Copy, Drop)]
 pub struct Seat {
     pub block: usize,
@@ -110,7 +110,7 @@ fn split_block(order: &mut Vec<Block>, at: usize)
     let _ = order.insert(at + 1, upper);
 }
 
-/// Puts a place behind all others. An error leaves them as they were.
+/// Puts a place after all others. An error leaves them as they were.
 fn put_last(order: &mut Vec<Block>, place: u16) -> Result<(), AllocError>
     ensures ok { OnOk result (concat order.new.items ≡ concat order.old.items ++ place ∷ []) }
     ensures err { OnErr result (concat order.new.items ≡ concat order.old.items) }
@@ -147,7 +147,7 @@ pub fn put(order: &mut Vec<Block>, seat: Seat, place: u16) -> Result<(), AllocEr
 }
 
 /// The same places, in one block.
-pub fn copied(alloc: Global, order: &[Block]) -> Result<Vec<Block>, AllocError>
+pub fn copy_order(alloc: Global, order: &[Block]) -> Result<Vec<Block>, AllocError>
     ensures { IfOk result (λ blocks. concat blocks.items ≡ concat order.now) }
 {
     if order.is_empty() {
@@ -184,8 +184,8 @@ impl<'a> Model for Places<'a> {
     ghost invariant = { λ p. IsSettled p.here.now p.behind.now };
 }
 
-/// Places of a block and of those behind it, from the first block on that has some.
-fn settled<'a>(places: &'a [u16], behind: &'a [Block]) -> Places<'a>
+/// Places of a block and of those after it, from the first block on that has some.
+fn skip_empty<'a>(places: &'a [u16], behind: &'a [Block]) -> Places<'a>
     ensures { result ≡ places.now ++ concat behind.now }
 {
     let mut here = places;
@@ -205,7 +205,7 @@ impl<'a> Places<'a> {
     pub fn of(order: &'a [Block]) -> Places<'a>
         ensures { result ≡ concat order.now }
     {
-        settled(&[], order)
+        skip_empty(&[], order)
     }
 
     /// The same places.
@@ -230,7 +230,7 @@ impl<'a> Places<'a> {
         }
     }
 
-    /// Goes behind the first place, if there is one.
+    /// Goes after the first place, if there is one.
     #[inline(always)]
     pub fn advance(&mut self)
         ensures { self.new ≡ drop 1 self.old }
@@ -238,6 +238,6 @@ impl<'a> Places<'a> {
         let Some((_place, more)) = self.here.split_first() else {
             return;
         };
-        *self = settled(more, self.behind);
+        *self = skip_empty(more, self.behind);
     }
 }

@@ -61,7 +61,7 @@ pub fn count_numbers(spans: Cursor<'_>) -> u128
 }
 
 /// The spans as a list.
-pub fn listed(alloc: Global, spans: Cursor<'_>) -> Result<Vec<Span>, AllocError>
+pub fn collect_spans(alloc: Global, spans: Cursor<'_>) -> Result<Vec<Span>, AllocError>
     ensures { IfOk result (λ v. v.items ≡ spans.entry) }
 {
     let mut list = Vec::new(alloc);

@@ -1,7 +1,7 @@
 //! The sources of a set, and their order.
 ghost use Rattle.std.specs.Prelude.{◌≡◌, ◌<◌, ◌-◌, length, take, true, Some, None, IfSome, IfNone, IsSome, IsTrue, MatchBool};
 ghost use Rattle.std.specs.List.{concat, slice_get};
-ghost use Rattle.gtid_set.specs.Kept.{comes_before, are_places, are_rising, listed, source_at, IsSourceAt, IsNoSourceAt, IsSourcePlace};
+ghost use Rattle.gtid_set.specs.Kept.{comes_before, are_places, are_ascending, sources_at, source_at, IsSourceAt, IsNoSourceAt, IsSourcePlace};
 ghost use Rattle.gtid_set.specs.Order.{IsSeat, IsBlockOf, BeginsBelow, HasFrom, are_below, index_of};
 
 use crate::order::{Block, Seat, last_place, place_at};
@@ -35,9 +35,9 @@ pub fn source_of(sources: &[Source], at: u16) -> Source
 /// The source at a seat, if it has this identifier.
 pub fn find(sources: &[Source], order: &[Block], at: Seat, id: SourceId) -> Option<Source>
     requires { are_places sources.now (concat order.now) ≡ true }
-    ensures some { IfSome result (IsSourceAt (listed sources.now (concat order.now)) (index_of order.now at) id) }
+    ensures some { IfSome result (IsSourceAt (sources_at sources.now (concat order.now)) (index_of order.now at) id) }
     ensures seat { IsSome result → IsSeat order.now at }
-    ensures none { IfNone result (IsSeat order.now at → IsNoSourceAt (listed sources.now (concat order.now)) (index_of order.now at) id) }
+    ensures none { IfNone result (IsSeat order.now at → IsNoSourceAt (sources_at sources.now (concat order.now)) (index_of order.now at) id) }
 {
     let Some(place) = place_at(order, at) else {
         return None;
@@ -52,8 +52,8 @@ pub fn find(sources: &[Source], order: &[Block], at: Seat, id: SourceId) -> Opti
 /// The last source, if it has this identifier.
 pub fn find_last(sources: &[Source], order: &[Block], id: SourceId) -> Option<Source>
     requires { are_places sources.now (concat order.now) ≡ true }
-    ensures some { IfSome result (IsSourceAt (listed sources.now (concat order.now)) (length (concat order.now) - 1) id) }
-    ensures none { IfNone result (IsNoSourceAt (listed sources.now (concat order.now)) (length (concat order.now) - 1) id) }
+    ensures some { IfSome result (IsSourceAt (sources_at sources.now (concat order.now)) (length (concat order.now) - 1) id) }
+    ensures none { IfNone result (IsNoSourceAt (sources_at sources.now (concat order.now)) (length (concat order.now) - 1) id) }
 {
     let Some(place) = last_place(order) else {
         return None;
@@ -76,7 +76,7 @@ fn begins_before(sources: &[Source], block: &Block, id: SourceId) -> bool
 /// Whether all sources of a block are less than another.
 fn ends_before(sources: &[Source], block: &Block, id: SourceId) -> bool
     requires places { are_places sources.now block.now ≡ true }
-    requires rising { are_rising (listed sources.now block.now) ≡ true }
+    requires rising { are_ascending (sources_at sources.now block.now) ≡ true }
     ensures { MatchBool result (are_below sources.now id block.now ≡ true) (HasFrom sources.now block.now id) }
 {
     let places = block.places();
@@ -89,7 +89,7 @@ fn ends_before(sources: &[Source], block: &Block, id: SourceId) -> bool
 
 /// A block, such that the sources of those before it are less than another.
 fn start_of_search(sources: &[Source], order: &[Block], id: SourceId) -> usize
-    requires { are_rising (listed sources.now (concat order.now)) ≡ true }
+    requires { are_ascending (sources_at sources.now (concat order.now)) ≡ true }
     ensures { are_below sources.now id (concat (take result order.now)) ≡ true }
 {
     let behind = order.partition_point(|block| begins_before(sources, block, id));
@@ -103,7 +103,7 @@ fn start_of_search(sources: &[Source], order: &[Block], id: SourceId) -> usize
 /// The block in which a source has its seat.
 fn block_of(sources: &[Source], order: &[Block], id: SourceId) -> usize
     requires places { are_places sources.now (concat order.now) ≡ true }
-    requires rising { are_rising (listed sources.now (concat order.now)) ≡ true }
+    requires rising { are_ascending (sources_at sources.now (concat order.now)) ≡ true }
     ensures { IsBlockOf sources.now order.now id result }
 {
     let mut at = start_of_search(sources, order, id);
@@ -119,8 +119,8 @@ fn block_of(sources: &[Source], order: &[Block], id: SourceId) -> usize
 /// The seat of a source in the order. Any guess of it serves; a good one saves the search.
 pub fn seat_of(sources: &[Source], order: &[Block], id: SourceId, guess: Seat) -> Seat
     requires places { are_places sources.now (concat order.now) ≡ true }
-    requires rising { are_rising (listed sources.now (concat order.now)) ≡ true }
-    ensures place { IsSourcePlace (listed sources.now (concat order.now)) id (index_of order.now result) }
+    requires rising { are_ascending (sources_at sources.now (concat order.now)) ≡ true }
+    ensures place { IsSourcePlace (sources_at sources.now (concat order.now)) id (index_of order.now result) }
     ensures seat { IsSeat order.now result }
 {
     if let Some(_source) = find(sources, order, guess, id) {

@@ -1,7 +1,7 @@
 //! One pass over merged lists of spans.
 ghost use Rattle.std.specs.Prelude.{if◌then◌else◌, ◌≡◌, true, ◌&&◌, ◌||◌, not, IfSome, ◌+◌, ◌-◌, length, ◌++◌, [], ◌<◌};
 ghost use Rattle.std.specs.FinSet as set;
-ghost use Rattle.gtid_set.specs.Sweep.{TakesFirst, sources_in, is_new, rises, start_of, is_from};
+ghost use Rattle.gtid_set.specs.Sweep.{TakesFirst, sources_in, is_new, is_sorted, start_of, is_from};
 
 use crate::cursor::Cursor;
 use gtid_text::{SourceId, Span};
@@ -18,8 +18,8 @@ pub fn starts_by(span: &Span, next: &Span) -> bool
 /// Takes the span that starts first from two lists.
 #[inline(always)]
 pub fn take_first(left: &mut Cursor<'_>, right: &mut Cursor<'_>) -> Option<Span>
-    requires left { rises left.old ≡ true }
-    requires right { rises right.old ≡ true }
+    requires left { is_sorted left.old ≡ true }
+    requires right { is_sorted right.old ≡ true }
     ensures none { result ≡ None → (left.old ≡ []) × (right.old ≡ []) }
     ensures some { IfSome result (λ first. TakesFirst left.old right.old first left.new right.new) }
 {
@@ -66,8 +66,8 @@ fn with_new(count: u64, last: Option<SourceId>, source: SourceId) -> u64
 
 /// How many sources the spans of two lists have together.
 pub fn count_sources(left: Cursor<'_>, right: Cursor<'_>) -> u64
-    requires left { rises left ≡ true }
-    requires right { rises right ≡ true }
+    requires left { is_sorted left ≡ true }
+    requires right { is_sorted right ≡ true }
     requires small { length left + length right < 18446744073709551616 }
     ensures { result ≡ set.len (sources_in (left.entry ++ right.entry)) }
 {
@@ -84,7 +84,7 @@ pub fn count_sources(left: Cursor<'_>, right: Cursor<'_>) -> u64
 
 /// How many sources spans have.
 pub fn count_sources_of(spans: &[Span]) -> u64
-    requires { rises spans.now ≡ true }
+    requires { is_sorted spans.now ≡ true }
     ensures { result ≡ set.len (sources_in spans.now) }
 {
     let mut count = 0;

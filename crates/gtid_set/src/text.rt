@@ -2,14 +2,14 @@
 ghost use Rattle.std.specs.Prelude.{◌≡◌, true, IfOk, string_bytes};
 ghost use Rattle.std.specs.List.Sorted.{IsPermutation};
 ghost use Rattle.gtid_text.specs.Canonical.{spans_text};
-ghost use Rattle.gtid_set.specs.Sweep.{rises, start_of};
+ghost use Rattle.gtid_set.specs.Sweep.{is_sorted, start_of};
 
 use crate::cursor::Cursor;
 use gtid_text::{Gtid, Span, write_next_span};
 use std::alloc::{AllocError, Global};
 
 /// The text of a list of spans: a source is written where it differs from the one before.
-pub fn written(alloc: Global, spans: Cursor<'_>) -> Result<String, AllocError>
+pub fn format_spans(alloc: Global, spans: Cursor<'_>) -> Result<String, AllocError>
     ensures { IfOk result (λ t. string_bytes t ≡ spans_text spans.entry) }
 {
     let mut text = String::new(alloc);
@@ -36,7 +36,7 @@ fn start(span: &Span) -> Gtid
 
 /// Sorts spans by where they start.
 pub fn sort_by_start(spans: &mut Vec<Span>)
-    ensures rises { rises spans.new.items ≡ true }
+    ensures rises { is_sorted spans.new.items ≡ true }
     ensures same { IsPermutation spans.old.items spans.new.items }
 {
     spans.sort_unstable_by_key(|span| start(span));

@@ -12,7 +12,7 @@ use Rattle.gtid_text.proofs.Single.{source_reads_back, source_spelled, source_st
 use Rattle.gtid_text.specs.declared.SourceId.{SourceId}
 use Rattle.gtid_text.specs.declared.Gtid.{Gtid}
 use Rattle.gtid_text.specs.Refused.{Refuses, FailsText}
-use Rattle.gtid_text.specs.declared.scan.Refusal.{Refusal}
+use Rattle.gtid_text.specs.declared.scan.ScanFault.{ScanFault}
 
 pub is_found : {X : Type 0} (view : X → List Span) (text : List ℕ) (r : Result X TextFault) (len : ℕ) → GivesText view r len (spans_in text) → IfOk r (λ v. Spells text (view v))
 is_found view text (Ok v) len h = read_spells text (view v) h
@@ -23,7 +23,7 @@ is_only view text (Ok v) len h spans s = sym (spells_read text spans s) ∙ h
 is_only view text (Err f) len (inl e) spans s = inl e
 is_only view text (Err f) len (inr e) spans s = inr (ap (answer len) (sym (spells_read text spans s)) ∙ e)
 
-fault_is : {A : Type 0} (len : ℕ) (read : Result A Refusal) (f : TextFault) → answer len read ≡ Err f → (r : Refusal) × (read ≡ Err r) × (f ≡ fault_in len r)
+fault_is : {A : Type 0} (len : ℕ) (read : Result A ScanFault) (f : TextFault) → answer len read ≡ Err f → (r : ScanFault) × (read ≡ Err r) × (f ≡ fault_in len r)
 fault_is len (Ok x) f e = absurd cc
 fault_is len (Err r) f e = (r, refl, cc)
 
@@ -32,11 +32,11 @@ is_refused view text (Ok v) h = tt
 is_refused view text (Err f) (inl e) = inl e
 is_refused view text (Err f) (inr e) = let k = fault_is (length text) (spans_in text) f e in inr (k.0, k.2, is_stuck text k.0 k.1)
 
-answered_ok : {A : Type 0} (len : ℕ) (read : Result A Refusal) (x : A) (r : Result A TextFault) → r ≡ answer len read → r ≡ Ok x → read ≡ Ok x
+answered_ok : {A : Type 0} (len : ℕ) (read : Result A ScanFault) (x : A) (r : Result A TextFault) → r ≡ answer len read → r ≡ Ok x → read ≡ Ok x
 answered_ok len (Ok y) x r e h = let k : answer len (Ok y) ≡ Ok x = sym e ∙ h in cc
 answered_ok len (Err f) x r e h = let k : answer len (Err f) ≡ Ok x = sym e ∙ h in absurd cc
 
-answered_err : {A : Type 0} (len : ℕ) (read : Result A Refusal) (f : TextFault) → Err f ≡ answer len read → (r : Refusal) × (read ≡ Err r) × (f ≡ fault_in len r)
+answered_err : {A : Type 0} (len : ℕ) (read : Result A ScanFault) (f : TextFault) → Err f ≡ answer len read → (r : ScanFault) × (read ≡ Err r) × (f ≡ fault_in len r)
 answered_err len read f e = fault_is len read f (sym e)
 
 pub source_found : (text : List ℕ) (r : Result SourceId TextFault) → r ≡ answer (length text) (source_in text) → IfOk r (λ id. SpellsSource text id)

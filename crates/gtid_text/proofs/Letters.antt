@@ -46,7 +46,7 @@ list_all_lower : (p : ℕ → Bool) (xs : List ℕ) → ((c : ℕ) → p (to_asc
 list_all_lower p [] same = refl
 list_all_lower p (x ∷ xs) same = rw (same x, list_all_lower p xs same) refl
 
--- what stands at a place
+-- what is at a place
 at_lower : (xs : List ℕ) (k : ℕ) → slice_index (str_to_ascii_lowercase xs) k ≡ to_ascii_lowercase (slice_index xs k)
 at_lower xs k = get_or-map to_ascii_lowercase xs k 0
 

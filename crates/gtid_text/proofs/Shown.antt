@@ -7,11 +7,11 @@ use Rattle.std.proofs.lemmas.Bool.{eqb-true, and_parts}
 use Rattle.std.proofs.lemmas.Bool.Decides.{nat_tests}
 use Rattle.std.proofs.lemmas.Fmt.{digits_decimal, decimal_nonempty}
 use Rattle.std.proofs.lemmas.List.{append-nil, length-append}
-use Rattle.gtid_text.specs.Scan.{is_blank, is_uuid_byte, past, colon_at}
+use Rattle.gtid_text.specs.Scan.{is_blank, is_uuid_byte, skip_while, colon_at}
 use Rattle.gtid_text.specs.Reading.{separator_at, element_at, with_front, spans_in}
 use Rattle.gtid_text.specs.Canonical.{source_text, gtid_text, numbers_text, text_behind, spans_text}
 use Rattle.gtid_text.specs.Grammar.{Number, Interval, number_text, interval_text, IsGap, IsNumber, IsInterval, Spells, IsUuid, SpellsSource, SpellsGtid}
-use Rattle.gtid_text.specs.Written.{IsSource, IsNumbered, IsUsable, IsUsableSpan, AreUsable, Tokens, token, source_tokens, gtid_tokens, numbers_then, tokens_behind, spans_tokens, SameButCase, IsSpaced, joined}
+use Rattle.gtid_text.specs.Written.{IsSource, IsNumbered, IsUsable, IsUsableSpan, AreUsable, Tokens, token, source_tokens, gtid_tokens, numbers_then, tokens_behind, spans_tokens, SameButCase, IsSpaced, text_of_tokens}
 use Rattle.gtid_text.specs.declared.Gtid.{Gtid}
 use Rattle.gtid_text.specs.declared.Span.{Span}
 use Rattle.gtid_text.proofs.Tokens.{own}
@@ -157,10 +157,10 @@ follows_byte : (b : ℕ) (gap more tail : List ℕ) → IsGap gap → is_ascii_d
 follows_byte b gap more tail blank digit apart dash is =
     record {
       digit = ap (starts is_ascii_digit) is ∙ starts_gap is_ascii_digit gap (b ∷ more) refl refl refl refl blank digit;
-      dash = ap (λ (t : List ℕ). starts is_dash (past is_blank t)) is ∙ ap (starts is_dash) (past_front is_blank gap (b ∷ more) blank ∙ past_cut is_blank (b ∷ more) apart) ∙ dash;
+      dash = ap (λ (t : List ℕ). starts is_dash (skip_while is_blank t)) is ∙ ap (starts is_dash) (past_front is_blank gap (b ∷ more) blank ∙ past_cut is_blank (b ∷ more) apart) ∙ dash;
     }
 
--- an interval ends before the tokens behind it
+-- an interval ends before the tokens after it
 follows_tokens : (id : ℕ) (ss : List Span) (tail : List ℕ) → IsSpaced (tokens_behind id ss) tail → Follows tail
 follows_tokens id [] tail s = (ends_last tail s).follows
 follows_tokens id (t ∷ ts) tail spaced =
@@ -183,7 +183,7 @@ begun_element id ts text fits s =
     let b = shown_byte 58 ts a.more refl a.spaced in
     let tail = b.gap ++ 58 ∷ b.more in
     let some = uuid_some a.uuid id a.names.names in
-    let left : past is_blank (a.gap ++ (a.uuid ++ tail)) ≡ a.uuid ++ tail = past_front is_blank a.gap (a.uuid ++ tail) a.blank ∙ past_cut is_blank (a.uuid ++ tail) (starts_blank is_uuid_byte a.uuid tail refl refl refl refl a.names.bytes some) in
+    let left : skip_while is_blank (a.gap ++ (a.uuid ++ tail)) ≡ a.uuid ++ tail = past_front is_blank a.gap (a.uuid ++ tail) a.blank ∙ past_cut is_blank (a.uuid ++ tail) (starts_blank is_uuid_byte a.uuid tail refl refl refl refl a.names.bytes some) in
     let cut : starts is_uuid_byte tail ≡ false = starts_gap is_uuid_byte b.gap (58 ∷ b.more) refl refl refl refl b.blank refl in
     let long : 0 < length (a.uuid ++ tail) = omega (arith, some, length-append a.uuid tail) in
     let found : element_at (a.uuid ++ tail) ≡ Ok (Some id, b.more) = element_uuid (a.uuid ++ tail) tail id b.more long (uuid_no_comma a.uuid tail a.names.bytes some) (source_reads a.uuid tail id a.names.bytes a.names.names cut) (ap colon_at (past_front is_blank b.gap (58 ∷ b.more) b.blank)) in
@@ -196,14 +196,14 @@ begun_element id ts text fits s =
 
 -- ---- all intervals
 
-goes_on : (id : ℕ) (b : ℕ) (next : Option ℕ) (gap more tail : List ℕ) → IsGap gap → is_blank b ≡ false → tail ≡ gap ++ b ∷ more → separator_at id (b ∷ more) ≡ Ok (next, more) → separator_at id (past is_blank tail) ≡ Ok (next, more)
-goes_on id b next gap more tail blank apart is sep = ap (λ (t : List ℕ). separator_at id (past is_blank t)) is ∙ ap (separator_at id) (past_front is_blank gap (b ∷ more) blank ∙ past_cut is_blank (b ∷ more) apart) ∙ sep
+goes_on : (id : ℕ) (b : ℕ) (next : Option ℕ) (gap more tail : List ℕ) → IsGap gap → is_blank b ≡ false → tail ≡ gap ++ b ∷ more → separator_at id (b ∷ more) ≡ Ok (next, more) → separator_at id (skip_while is_blank tail) ≡ Ok (next, more)
+goes_on id b next gap more tail blank apart is sep = ap (λ (t : List ℕ). separator_at id (skip_while is_blank t)) is ∙ ap (separator_at id) (past_front is_blank gap (b ∷ more) blank ∙ past_cut is_blank (b ∷ more) apart) ∙ sep
 
-reads_turn : (s : Span) (ss : List Span) (text : List ℕ) (v : ShownInterval s (tokens_behind s.source ss) text) (next : Option ℕ) (more : List ℕ) → separator_at s.source (past is_blank v.tail) ≡ Ok (next, more) → left_of (Some s.source) text ≡ with_front (s ∷ []) (left_of next more)
+reads_turn : (s : Span) (ss : List Span) (text : List ℕ) (v : ShownInterval s (tokens_behind s.source ss) text) (next : Option ℕ) (more : List ℕ) → separator_at s.source (skip_while is_blank v.tail) ≡ Ok (next, more) → left_of (Some s.source) text ≡ with_front (s ∷ []) (left_of next more)
 reads_turn s ss text v next more sep =
     let read = interval_reads v.i s.source s v.tail v.says (follows_tokens s.source ss v.tail v.spaced) in
     ap (left_of (Some s.source)) v.is
-    ∙ left_of-turn (Some s.source) (interval_text v.i ++ v.tail) (Some s, next, more) (turn_interval s.source (interval_text v.i ++ v.tail) (past is_blank v.tail) s (next, more) read sep)
+    ∙ left_of-turn (Some s.source) (interval_text v.i ++ v.tail) (Some s, next, more) (turn_interval s.source (interval_text v.i ++ v.tail) (skip_while is_blank v.tail) s (next, more) read sep)
 
 reads_next : (s t : Span) (ts : List Span) (text : List ℕ) (v : ShownInterval s (tokens_behind s.source (t ∷ ts)) text) → IsSource t.source → ((more : List ℕ) → IsSpaced (numbers_then t.lo t.hi (tokens_behind t.source ts)) more → left_of (Some t.source) more ≡ Ok (t ∷ ts)) → left_of (Some s.source) text ≡ Ok (s ∷ t ∷ ts)
 unfolding separator_at
@@ -233,8 +233,8 @@ reads_spans s (t ∷ ts) text fits all spaced =
 spans_read : (spans : List Span) → AreUsable spans → (text : List ℕ) → IsSpaced (spans_tokens spans) text → left_of None text ≡ Ok spans
 spans_read [] all text s = left_of-end None text (turn_end text (past_blank text s))
   where
-    past_blank : (text : List ℕ) → IsGap text → past is_blank text ≡ []
-    past_blank text g = ap (past is_blank) (sym (append-nil text)) ∙ past_front is_blank text [] g
+    past_blank : (text : List ℕ) → IsGap text → skip_while is_blank text ≡ []
+    past_blank text g = ap (skip_while is_blank) (sym (append-nil text)) ∙ past_front is_blank text [] g
 spans_read (s ∷ ss) all text spaced =
     let e = begun_element s.source (numbers_then s.lo s.hi (tokens_behind s.source ss)) text all.0.source spaced in
     e.reads ∙ ap (with_front []) (reads_spans s ss e.more all.0 all.1 e.spaced)
@@ -245,32 +245,32 @@ spans_shown spans all text s = read_spells text spans (spans_read spans all text
 
 -- ---- the canonical text is its tokens and nothing else
 
-pub spaced_joined : (ts : Tokens) → IsSpaced ts (joined ts)
+pub spaced_joined : (ts : Tokens) → IsSpaced ts (text_of_tokens ts)
 spaced_joined [] = refl
-spaced_joined (t ∷ ts) = ([], t, joined ts, refl, refl, refl, spaced_joined ts)
+spaced_joined (t ∷ ts) = ([], t, text_of_tokens ts, refl, refl, refl, spaced_joined ts)
 
-pub joined_gtid : (g : Gtid) → joined (gtid_tokens g) ≡ gtid_text g
+pub joined_gtid : (g : Gtid) → text_of_tokens (gtid_tokens g) ≡ gtid_text g
 joined_gtid g = ap (λ (t : List ℕ). source_text g.source ++ 58 ∷ t) (append-nil (decimal g.number))
 
-joined_numbers : (lo hi : ℕ) (ts : Tokens) → joined (numbers_then lo hi ts) ≡ numbers_text lo hi ++ joined ts
-joined_numbers lo hi ts = elim (eqb lo hi) as (λ b. joined (cond b (decimal lo ∷ ts) (decimal lo ∷ token 45 ∷ decimal hi ∷ ts)) ≡ cond b (decimal lo) (decimal lo ++ 45 ∷ decimal hi) ++ joined ts) [
+joined_numbers : (lo hi : ℕ) (ts : Tokens) → text_of_tokens (numbers_then lo hi ts) ≡ numbers_text lo hi ++ text_of_tokens ts
+joined_numbers lo hi ts = elim (eqb lo hi) as (λ b. text_of_tokens (cond b (decimal lo ∷ ts) (decimal lo ∷ token 45 ∷ decimal hi ∷ ts)) ≡ cond b (decimal lo) (decimal lo ++ 45 ∷ decimal hi) ++ text_of_tokens ts) [
   | true ↦ refl
-  | false ↦ sym (append_assoc (decimal lo) (45 ∷ decimal hi) (joined ts))
+  | false ↦ sym (append_assoc (decimal lo) (45 ∷ decimal hi) (text_of_tokens ts))
 ]
 
-joined_span : (s : Span) (ts : Tokens) → joined (source_text s.source ∷ token 58 ∷ numbers_then s.lo s.hi ts) ≡ (source_text s.source ++ 58 ∷ numbers_text s.lo s.hi) ++ joined ts
-joined_span s ts = ap (λ (t : List ℕ). source_text s.source ++ 58 ∷ t) (joined_numbers s.lo s.hi ts) ∙ sym (append_assoc (source_text s.source) (58 ∷ numbers_text s.lo s.hi) (joined ts))
+joined_span : (s : Span) (ts : Tokens) → text_of_tokens (source_text s.source ∷ token 58 ∷ numbers_then s.lo s.hi ts) ≡ (source_text s.source ++ 58 ∷ numbers_text s.lo s.hi) ++ text_of_tokens ts
+joined_span s ts = ap (λ (t : List ℕ). source_text s.source ++ 58 ∷ t) (joined_numbers s.lo s.hi ts) ∙ sym (append_assoc (source_text s.source) (58 ∷ numbers_text s.lo s.hi) (text_of_tokens ts))
 
-joined_behind : (id : ℕ) (ss : List Span) → joined (tokens_behind id ss) ≡ text_behind (Some id) ss
+joined_behind : (id : ℕ) (ss : List Span) → text_of_tokens (tokens_behind id ss) ≡ text_behind (Some id) ss
 joined_behind id [] = refl
 joined_behind id (s ∷ ss) =
     let rest = tokens_behind s.source ss in
     let known = joined_behind s.source ss in
-    elim (eqb id s.source) as (λ b. joined (cond b (token 58 ∷ numbers_then s.lo s.hi rest) (token 44 ∷ source_text s.source ∷ token 58 ∷ numbers_then s.lo s.hi rest)) ≡ cond b (58 ∷ numbers_text s.lo s.hi) (44 ∷ (source_text s.source ++ 58 ∷ numbers_text s.lo s.hi)) ++ text_behind (Some s.source) ss) [
+    elim (eqb id s.source) as (λ b. text_of_tokens (cond b (token 58 ∷ numbers_then s.lo s.hi rest) (token 44 ∷ source_text s.source ∷ token 58 ∷ numbers_then s.lo s.hi rest)) ≡ cond b (58 ∷ numbers_text s.lo s.hi) (44 ∷ (source_text s.source ++ 58 ∷ numbers_text s.lo s.hi)) ++ text_behind (Some s.source) ss) [
       | true ↦ ap (λ (t : List ℕ). 58 ∷ t) (joined_numbers s.lo s.hi rest ∙ ap (λ (t : List ℕ). numbers_text s.lo s.hi ++ t) known)
       | false ↦ ap (λ (t : List ℕ). 44 ∷ t) (joined_span s rest ∙ ap (λ (t : List ℕ). (source_text s.source ++ 58 ∷ numbers_text s.lo s.hi) ++ t) known)
     ]
 
-pub joined_spans : (spans : List Span) → joined (spans_tokens spans) ≡ spans_text spans
+pub joined_spans : (spans : List Span) → text_of_tokens (spans_tokens spans) ≡ spans_text spans
 joined_spans [] = refl
 joined_spans (s ∷ ss) = joined_span s (tokens_behind s.source ss) ∙ ap (λ (t : List ℕ). (source_text s.source ++ 58 ∷ numbers_text s.lo s.hi) ++ t) (joined_behind s.source ss)

@@ -21,12 +21,12 @@ numbers_text lo hi = if lo == hi then decimal lo else decimal lo ++ 45 ∷ decim
 abbrev pub span_text : Span → List ℕ
 span_text s = source_text s.source ++ 58 ∷ numbers_text s.lo s.hi
 
--- an interval behind the one before it: its own source isn't written again
+-- an interval after the one before it: its own source isn't written again
 abbrev pub next_text : Option ℕ → Span → List ℕ
 next_text None s = span_text s
 next_text (Some id) s = if id == s.source then 58 ∷ numbers_text s.lo s.hi else 44 ∷ span_text s
 
--- intervals behind one of this source, if there is one
+-- intervals after one of this source, if there is one
 abbrev pub text_behind : Option ℕ → List Span → List ℕ
 text_behind before [] = []
 text_behind before (s ∷ ss) = next_text before s ++ text_behind (Some s.source) ss

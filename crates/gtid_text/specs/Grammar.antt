@@ -9,17 +9,17 @@ use Rattle.gtid_text.specs.declared.Span.{Span}
 
 -- ---- what is written
 
--- digits behind blanks
+-- digits after blanks
 pub record Number : Type 0 where
   pub gap : List ℕ
   pub digits : List ℕ
 
--- a number, or two with a hyphen between, which may stand behind blanks
+-- a number, or two with a hyphen between, which may come after blanks
 pub record Interval : Type 0 where
   pub lo : Number
   pub upper : Option (List ℕ × Number)
 
--- a UUID behind blanks, and one interval or more, each behind blanks and a colon
+-- a UUID after blanks, and one interval or more, each after blanks and a colon
 pub record Named : Type 0 where
   pub gap : List ℕ
   pub uuid : List ℕ
@@ -101,13 +101,13 @@ abbrev pub AreElements : List Element → List Span → Type 0
 AreElements [] spans = spans ≡ []
 AreElements (e ∷ es) spans = (front : List Span) × (back : List Span) × (spans ≡ front ++ back) × IsElement e front × AreElements es back
 
--- the text spells these intervals
+-- the text parses as these intervals
 pub record Spells (text : List ℕ) (spans : List Span) : Type 0 where
   pub elements : List Element
   pub text_is : text ≡ set_text elements
   pub says : AreElements elements spans
 
--- a text that spells some set
+-- a text that parses as some set
 abbrev pub IsSetText : List ℕ → Type 0
 IsSetText text = (spans : List Span) × Spells text spans
 

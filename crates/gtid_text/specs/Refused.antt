@@ -5,7 +5,7 @@ use Rattle.gtid_text.specs.Scan.{is_uuid_byte, run, source_of, number_of}
 use Rattle.gtid_text.specs.Reading.{fault_in}
 use Rattle.gtid_text.specs.declared.scan.Kind.{Kind}
 use Rattle.gtid_text.specs.declared.scan.Kind.TheVariants as kinds
-use Rattle.gtid_text.specs.declared.scan.Refusal.{Refusal}
+use Rattle.gtid_text.specs.declared.scan.ScanFault.{ScanFault}
 use Rattle.gtid_text.specs.declared.fault.TextFault.{TextFault}
 use Rattle.gtid_text.specs.declared.fault.TextFault.TheVariants as faults
 
@@ -27,7 +27,7 @@ IsDue kinds.NumberRange more = 0 < length (run is_ascii_digit more)
 IsDue kinds.Reversed more = 0 < length (run is_ascii_digit more)
 IsDue kinds.Stray more = more ≡ []
 
--- what stands there in its place: no UUID, no digits, a number that no transaction has, or one that some transaction has
+-- what is there in its place: no UUID, no digits, a number that no transaction has, or one that some transaction has
 abbrev pub IsMet : Kind → List ℕ → Type 0
 IsMet kinds.BadUuid rest = source_of (run is_uuid_byte rest) ≡ None
 IsMet kinds.NoInterval rest = Unit {0}
@@ -41,8 +41,8 @@ pub record SameToken (kind : Kind) (a b : List ℕ) : Type 0 where
   pub runs : run (token_byte kind) a ≡ run (token_byte kind) b
   pub first : take 1 a ≡ take 1 b
 
--- What stands before the refusal can be gone on with, by what is due; with the token that stands there it can't.
-pub record IsStuck (IsRead : List ℕ → Type 0) (text : List ℕ) (r : Refusal) : Type 0 where
+-- What comes before the refusal can be gone on with, by what is due; with the token that is there it can't.
+pub record IsStuck (IsRead : List ℕ → Type 0) (text : List ℕ) (r : ScanFault) : Type 0 where
   pub front : List ℕ
   pub rest : List ℕ
   pub parts : text ≡ front ++ rest
@@ -55,7 +55,7 @@ pub record IsStuck (IsRead : List ℕ → Type 0) (text : List ℕ) (r : Refusal
 
 -- a fault says what is wrong with the text, and at which byte
 abbrev pub Refuses : (List ℕ → Type 0) → TextFault → List ℕ → Type 0
-Refuses IsRead fault text = (r : Refusal) × (fault ≡ fault_in (length text) r) × IsStuck IsRead text r
+Refuses IsRead fault text = (r : ScanFault) × (fault ≡ fault_in (length text) r) × IsStuck IsRead text r
 
 -- memory ran out, or the text is refused
 abbrev pub FailsText : (List ℕ → Type 0) → TextFault → List ℕ → Type 0

@@ -47,7 +47,7 @@ gtid_tokens g = source_text g.source ∷ token 58 ∷ decimal g.number ∷ []
 abbrev pub numbers_then : ℕ → ℕ → Tokens → Tokens
 numbers_then lo hi rest = if lo == hi then decimal lo ∷ rest else decimal lo ∷ token 45 ∷ decimal hi ∷ rest
 
--- intervals behind one of this source: after its own source a colon is enough
+-- intervals after one of this source: after its own source a colon is enough
 abbrev pub tokens_behind : ℕ → List Span → Tokens
 tokens_behind id [] = []
 tokens_behind id (s ∷ ss) =
@@ -65,13 +65,13 @@ spans_tokens (s ∷ ss) = source_text s.source ∷ token 58 ∷ numbers_then s.l
 abbrev pub SameButCase : List ℕ → List ℕ → Type 0
 SameButCase a b = str_to_ascii_lowercase a ≡ str_to_ascii_lowercase b
 
--- the text is these tokens, in either case, with blanks before, between and behind them
+-- the text is these tokens, in either case, with blanks before, between and after them
 abbrev pub IsSpaced : Tokens → List ℕ → Type 0
 IsSpaced [] text = IsGap text
 IsSpaced (t ∷ ts) text =
     (gap : List ℕ) × (shown : List ℕ) × (rest : List ℕ) × (text ≡ gap ++ (shown ++ rest)) × IsGap gap × SameButCase shown t × IsSpaced ts rest
 
 -- the text is these tokens and nothing else
-abbrev pub joined : Tokens → List ℕ
-joined [] = []
-joined (t ∷ ts) = t ++ joined ts
+abbrev pub text_of_tokens : Tokens → List ℕ
+text_of_tokens [] = []
+text_of_tokens (t ∷ ts) = t ++ text_of_tokens ts

@@ -5,7 +5,7 @@ ghost use Rattle.std.specs.Prelude.{◌≡◌, ℕ, List};
 ghost use Rattle.gtid_text.specs.Canonical.{gtid_text, spans_text};
 ghost use Rattle.gtid_text.specs.Grammar.{Spells, SpellsSource, SpellsGtid};
 ghost use Rattle.gtid_text.specs.Scan.{source_of};
-ghost use Rattle.gtid_text.specs.Written.{IsSource, IsUsable, AreUsable, Tokens, source_tokens, gtid_tokens, spans_tokens, SameButCase, IsSpaced, joined};
+ghost use Rattle.gtid_text.specs.Written.{IsSource, IsUsable, AreUsable, Tokens, source_tokens, gtid_tokens, spans_tokens, SameButCase, IsSpaced, text_of_tokens};
 ghost use Rattle.gtid_text.specs.declared.Gtid.{Gtid};
 ghost use Rattle.gtid_text.specs.declared.Span.{Span};
 
@@ -16,22 +16,22 @@ pub fn case_is_free()
 
 /// Tokens with no blank between them are a text of these tokens.
 pub fn blanks_may_be_left_out()
-    ensures { (tokens : Tokens) → IsSpaced tokens (joined tokens) }
+    ensures { (tokens : Tokens) → IsSpaced tokens (text_of_tokens tokens) }
 {}
 
-/// The tokens of a source spell it.
+/// The tokens of a source parse as it.
 pub fn source_reads_back()
     ensures { (id : ℕ) → IsSource id → (text : List ℕ) → IsSpaced (source_tokens id) text → SpellsSource text id }
 {}
 
-/// The tokens of a GTID spell it, and joined they are its one text.
+/// The tokens of a GTID parse as it, and joined they are its one text.
 pub fn gtid_reads_back()
     ensures spells { (g : Gtid) → IsUsable g → (text : List ℕ) → IsSpaced (gtid_tokens g) text → SpellsGtid text g }
-    ensures joins { (g : Gtid) → joined (gtid_tokens g) ≡ gtid_text g }
+    ensures joins { (g : Gtid) → text_of_tokens (gtid_tokens g) ≡ gtid_text g }
 {}
 
-/// The tokens of intervals spell them, and joined they are their one text.
+/// The tokens of intervals parse as them, and joined they are their one text.
 pub fn spans_read_back()
     ensures spells { (s : List Span) → AreUsable s → (text : List ℕ) → IsSpaced (spans_tokens s) text → Spells text s }
-    ensures joins { (s : List Span) → joined (spans_tokens s) ≡ spans_text s }
+    ensures joins { (s : List Span) → text_of_tokens (spans_tokens s) ≡ spans_text s }
 {}

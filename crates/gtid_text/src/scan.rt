@@ -2,7 +2,7 @@ ghost use Rattle.std.specs.Prelude.{◌≡◌, ◌+◌, ◌-◌, ◌*◌, true};
 ghost use Rattle.std.specs.Char.{is_ascii_digit};
 ghost use Rattle.std.specs.List.{list_all};
 ghost use Rattle.std.specs.Str.Parse.{digits_value};
-ghost use Rattle.gtid_text.specs.Scan.{is_blank, is_uuid_byte, run, past, number_of, small, source_of, source_at, number_at, colon_at, end_at, Sees};
+ghost use Rattle.gtid_text.specs.Scan.{is_blank, is_uuid_byte, run, skip_while, number_of, small, source_of, source_at, number_at, colon_at, end_at, Sees};
 
 use crate::SourceId;
 use uuid::Uuid;
@@ -23,7 +23,7 @@ pub enum Kind {
 
 /// What is wrong, and how many bytes are left there.
 #[derive(Clone, Copy, Debug, PartialEq, Eq)]
-pub struct Refusal {
+pub struct ScanFault {
     pub kind: Kind,
     pub left: usize,
 }
@@ -40,9 +40,9 @@ fn is_uuid_byte(byte: u8) -> bool
     byte.is_ascii_hexdigit() || byte == b'-'
 }
 
-/// What follows the blanks at the front.
+/// What follows the blanks at the start.
 pub fn skip(rest: &[u8]) -> &[u8]
-    ensures { result.now ≡ past is_blank rest.now }
+    ensures { result.now ≡ skip_while is_blank rest.now }
 {
     for (i, b) in rest.iter().enumerate() {
         if !is_blank(*b) {
@@ -54,7 +54,7 @@ pub fn skip(rest: &[u8]) -> &[u8]
 
 fn uuid_run(rest: &[u8]) -> (&[u8], &[u8])
     ensures run { result.0.now ≡ run is_uuid_byte rest.now }
-    ensures past { result.1.now ≡ past is_uuid_byte rest.now }
+    ensures past { result.1.now ≡ skip_while is_uuid_byte rest.now }
 {
     for (i, b) in rest.iter().enumerate() {
         if !is_uuid_byte(*b) {
@@ -66,7 +66,7 @@ fn uuid_run(rest: &[u8]) -> (&[u8], &[u8])
 
 fn digit_run(rest: &[u8]) -> (&[u8], &[u8])
     ensures run { result.0.now ≡ run is_ascii_digit rest.now }
-    ensures past { result.1.now ≡ past is_ascii_digit rest.now }
+    ensures past { result.1.now ≡ skip_while is_ascii_digit rest.now }
 {
     for (i, b) in rest.iter().enumerate() {
         if !b.is_ascii_digit() {
@@ -89,14 +89,14 @@ fn source_id(text: &[u8]) -> Option<SourceId>
     }
 }
 
-/// The UUID at the front, and what follows it.
-pub fn source(rest: &[u8]) -> Result<(SourceId, &[u8]), Refusal>
+/// The UUID at the start, and what follows it.
+pub fn source(rest: &[u8]) -> Result<(SourceId, &[u8]), ScanFault>
     ensures { Sees (λ x. (x.0, x.1.now)) result (source_at rest.now) }
 {
     let (run, after) = uuid_run(rest);
     match source_id(run) {
         Some(id) => Ok((id, after)),
-        None => Err(Refusal {
+        None => Err(ScanFault {
             kind: Kind::BadUuid,
             left: rest.len(),
         }),
@@ -111,8 +111,8 @@ fn with_digit(number: u64, digit: u8) -> Option<u64>
     number.checked_mul(10)?.checked_add(u64::from(digit - b'0'))
 }
 
-/// The number that digits spell, where it is below 2 ^ 64.
-fn parsed(digits: &[u8]) -> Option<u64>
+/// The number that digits parse as, where it is below 2 ^ 64.
+fn parse_digits(digits: &[u8]) -> Option<u64>
     requires { list_all is_ascii_digit digits.now ≡ true }
     ensures { result ≡ small (digits_value 10 digits.now) }
 {
@@ -126,54 +126,54 @@ fn parsed(digits: &[u8]) -> Option<u64>
     Some(number)
 }
 
-/// The number that digits spell, where a transaction may have it.
+/// The number that digits parse as, where a transaction may have it.
 fn value(digits: &[u8]) -> Option<u64>
     requires { list_all is_ascii_digit digits.now ≡ true }
     ensures { result ≡ number_of digits.now }
 {
-    match parsed(digits) {
+    match parse_digits(digits) {
         Some(number) if number >= 1 && number <= MAX_NUMBER => Some(number),
         _ => None,
     }
 }
 
-/// The number of a transaction at the front, and what follows it.
-pub fn number(rest: &[u8]) -> Result<(u64, &[u8]), Refusal>
+/// The number of a transaction at the start, and what follows it.
+pub fn number(rest: &[u8]) -> Result<(u64, &[u8]), ScanFault>
     ensures { Sees (λ x. (x.0, x.1.now)) result (number_at rest.now) }
 {
     let (digits, after) = digit_run(rest);
     if digits.is_empty() {
-        return Err(Refusal {
+        return Err(ScanFault {
             kind: Kind::BadNumber,
             left: rest.len(),
         });
     }
     match value(digits) {
         Some(number) => Ok((number, after)),
-        None => Err(Refusal {
+        None => Err(ScanFault {
             kind: Kind::NumberRange,
             left: rest.len(),
         }),
     }
 }
 
-pub fn colon(rest: &[u8]) -> Result<&[u8], Refusal>
+pub fn colon(rest: &[u8]) -> Result<&[u8], ScanFault>
     ensures { Sees (λ x. x.now) result (colon_at rest.now) }
 {
     match rest {
         [b':', after @ ..] => Ok(after),
-        _ => Err(Refusal {
+        _ => Err(ScanFault {
             kind: Kind::NoInterval,
             left: rest.len(),
         }),
     }
 }
 
-pub fn end(rest: &[u8]) -> Result<(), Refusal>
+pub fn end(rest: &[u8]) -> Result<(), ScanFault>
     ensures { Sees (λ x. x) result (end_at rest.now) }
 {
     if !rest.is_empty() {
-        return Err(Refusal {
+        return Err(ScanFault {
             kind: Kind::Stray,
             left: rest.len(),
         });

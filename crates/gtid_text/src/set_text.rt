@@ -8,11 +8,11 @@ ghost use Rattle.gtid_text.specs.declared.set_text.ScanError.TheVariants.{Memory
 ghost use Rattle.gtid_text.specs.Reading.{fault_in, source_in, gtid_in, upper_at, interval_at, separator_at, element_at, turn_at, spans_in, Gives, answer, GivesText};
 
 use crate::fault::TextFault;
-use crate::scan::{Kind, Refusal, colon, end, number, skip, source};
+use crate::scan::{Kind, ScanFault, colon, end, number, skip, source};
 use crate::{Gtid, SourceId, Span};
 use std::alloc::{AllocFailed, Global};
 
-impl Refusal {
+impl ScanFault {
     /// The fault in a text of this length.
     fn in_text(self, len: usize) -> TextFault
         ensures { result ≡ fault_in len self }
@@ -30,7 +30,7 @@ impl Refusal {
 }
 
 #[tactic(auto, unfolding(crate::specs::Reading::source_in))]
-fn whole_source(bytes: &[u8]) -> Result<SourceId, Refusal>
+fn whole_source(bytes: &[u8]) -> Result<SourceId, ScanFault>
     ensures { Sees (λ x. x) result (source_in bytes.now) }
 {
     let (id, rest) = match source(skip(bytes)) {
@@ -42,7 +42,7 @@ fn whole_source(bytes: &[u8]) -> Result<SourceId, Refusal>
 }
 
 #[tactic(auto, unfolding(crate::specs::Reading::gtid_in))]
-fn whole_gtid(bytes: &[u8]) -> Result<Gtid, Refusal>
+fn whole_gtid(bytes: &[u8]) -> Result<Gtid, ScanFault>
     ensures { Sees (λ x. x) result (gtid_in bytes.now) }
 {
     let (id, rest) = match source(skip(bytes)) {
@@ -59,7 +59,7 @@ fn whole_gtid(bytes: &[u8]) -> Result<Gtid, Refusal>
 #[derive(Clone, Copy, Debug, PartialEq, Eq)]
 pub enum ScanError {
     Memory,
-    Refused(Refusal),
+    Refused(ScanFault),
 }
 
 impl<T: Drop> From<AllocFailed<T>> for ScanError {
@@ -70,15 +70,15 @@ impl<T: Drop> From<AllocFailed<T>> for ScanError {
     }
 }
 
-impl From<Refusal> for ScanError {
+impl From<ScanFault> for ScanError {
     ghost from_gives = { λ r e. e ≡ Refused r };
 
-    fn from(refusal: Refusal) -> ScanError {
+    fn from(refusal: ScanFault) -> ScanError {
         ScanError::Refused(refusal)
     }
 }
 
-fn upper(id: SourceId, lo: u64, rest: &[u8]) -> Result<(Span, &[u8]), Refusal>
+fn upper(id: SourceId, lo: u64, rest: &[u8]) -> Result<(Span, &[u8]), ScanFault>
     ensures { Sees (λ x. (x.0, x.1.now)) result (upper_at id lo rest.now) }
 {
     let [b'-', after @ ..] = rest else {
@@ -94,7 +94,7 @@ fn upper(id: SourceId, lo: u64, rest: &[u8]) -> Result<(Span, &[u8]), Refusal>
     let digits = skip(after);
     let (hi, after) = number(digits)?;
     if hi < lo {
-        return Err(Refusal {
+        return Err(ScanFault {
             kind: Kind::Reversed,
             left: digits.len(),
         });
@@ -103,7 +103,7 @@ fn upper(id: SourceId, lo: u64, rest: &[u8]) -> Result<(Span, &[u8]), Refusal>
 }
 
 #[tactic(auto, unfolding(crate::specs::Reading::interval_at))]
-fn interval(id: SourceId, rest: &[u8]) -> Result<(Span, &[u8]), Refusal>
+fn interval(id: SourceId, rest: &[u8]) -> Result<(Span, &[u8]), ScanFault>
     ensures { Sees (λ x. (x.0, x.1.now)) result (interval_at id rest.now) }
 {
     let (lo, rest) = number(skip(rest))?;
@@ -111,14 +111,14 @@ fn interval(id: SourceId, rest: &[u8]) -> Result<(Span, &[u8]), Refusal>
 }
 
 #[tactic(auto, unfolding(crate::specs::Reading::separator_at))]
-fn separator(id: SourceId, rest: &[u8]) -> Result<(Option<SourceId>, &[u8]), Refusal>
+fn separator(id: SourceId, rest: &[u8]) -> Result<(Option<SourceId>, &[u8]), ScanFault>
     ensures { Sees (λ x. (x.0, x.1.now)) result (separator_at id rest.now) }
 {
     match rest {
         [] => Ok((None, rest)),
         [b':', after @ ..] => Ok((Some(id), after)),
         [b',', after @ ..] => Ok((None, after)),
-        [_, ..] => Err(Refusal {
+        [_, ..] => Err(ScanFault {
             kind: Kind::Stray,
             left: rest.len(),
         }),
@@ -126,7 +126,7 @@ fn separator(id: SourceId, rest: &[u8]) -> Result<(Option<SourceId>, &[u8]), Ref
 }
 
 #[tactic(auto, unfolding(crate::specs::Reading::element_at))]
-fn element(rest: &[u8]) -> Result<(Option<SourceId>, &[u8]), Refusal>
+fn element(rest: &[u8]) -> Result<(Option<SourceId>, &[u8]), ScanFault>
     ensures { Sees (λ x. (x.0, x.1.now)) result (element_at rest.now) }
 {
     match rest {
@@ -147,7 +147,7 @@ fn element(rest: &[u8]) -> Result<(Option<SourceId>, &[u8]), Refusal>
 fn turn(
     inside: Option<SourceId>,
     rest: &[u8],
-) -> Result<Option<(Option<Span>, Option<SourceId>, &[u8])>, Refusal>
+) -> Result<Option<(Option<Span>, Option<SourceId>, &[u8])>, ScanFault>
     ensures { Sees (option_map (λ x. (x.0, x.1, x.2.now))) result (turn_at inside rest.now) }
 {
     match inside {
@@ -232,7 +232,7 @@ pub fn parse_source(text: &str) -> Result<SourceId, TextFault>
     ensures found { IfOk result (λ id. SpellsSource text.now id) }
     // What is spelled so is read.
     ensures only { (id : ℕ) → SpellsSource text.now id → result ≡ Ok id }
-    // It is refused at the first token at which no continuation spells a source.
+    // It is refused at the first token at which no continuation parses as a source.
     ensures refused { IfErr result (λ fault. Refuses IsSourceText fault text.now) }
     // Which refusal it is.
     ensures exact { result ≡ answer (length text.now) (source_in text.now) }
@@ -246,7 +246,7 @@ pub fn parse_gtid(text: &str) -> Result<Gtid, TextFault>
     ensures found { IfOk result (λ gtid. SpellsGtid text.now gtid) }
     // What is spelled so is read.
     ensures only { (gtid : Gtid) → SpellsGtid text.now gtid → result ≡ Ok gtid }
-    // It is refused at the first token at which no continuation spells a GTID.
+    // It is refused at the first token at which no continuation parses as a GTID.
     ensures refused { IfErr result (λ fault. Refuses IsGtidText fault text.now) }
     // Which refusal it is.
     ensures exact { result ≡ answer (length text.now) (gtid_in text.now) }
@@ -270,7 +270,7 @@ pub fn parse_spans(alloc: Global, text: &str) -> Result<Vec<Span>, TextFault>
     ensures found { IfOk result (λ v. Spells text.now v.items) }
     // What is spelled so is read, unless memory runs out.
     ensures only { (spans : List Span) → Spells text.now spans → GivesText (λ v. v.items) result (length text.now) (Ok spans) }
-    // It is refused at the first token at which no continuation spells a set.
+    // It is refused at the first token at which no continuation parses as a set.
     ensures refused { IfErr result (λ fault. FailsText IsSetText fault text.now) }
     // Which refusal it is.
     ensures exact { GivesText (λ v. v.items) result (length text.now) (spans_in text.now) }

@@ -13,7 +13,7 @@ const SOURCE_LEN: usize = 36;
 /// The most bytes that the text of a number takes.
 const NUMBER_LEN: usize = 20;
 
-/// The most bytes that the text of an interval takes, behind its colon.
+/// The most bytes that the text of an interval takes, after its colon.
 const NUMBERS_LEN: usize = 41;
 
 /// Appends a text for which there is room.
@@ -85,7 +85,7 @@ pub fn write_gtid(out: &mut String, gtid: Gtid) -> Result<(), AllocError>
     Ok(())
 }
 
-/// Appends an interval behind its source: `lo` where it is one number, else `lo-hi`.
+/// Appends an interval after its source: `lo` where it is one number, else `lo-hi`.
 pub fn write_span(out: &mut String, span: Span) -> Result<(), AllocError>
     ensures ok { OnOk result (string_bytes out.new ≡ string_bytes out.old ++ span_text span) }
     ensures err { OnErr result (string_bytes out.new ≡ string_bytes out.old) }
@@ -97,7 +97,7 @@ pub fn write_span(out: &mut String, span: Span) -> Result<(), AllocError>
     Ok(())
 }
 
-/// Appends an interval behind the one before it, which is of the source `before`, if there is one:
+/// Appends an interval after the one before it, which is of the source `before`, if there is one:
 /// after its own source a colon is enough, after another one it needs a comma and its source.
 pub fn write_next_span(
     out: &mut String,

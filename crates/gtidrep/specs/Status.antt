@@ -2,7 +2,7 @@
 use Rattle.std.specs.Prelude.{ℕ, List, [], Ok, Err, codes, string_bytes}
 use Rattle.commands.specs.declared.edge.Outcome.TheVariants.{Done, Refused, Misused}
 use Rattle.commands.specs.declared.edge.RunFault.TheVariants.{Memory, Read, Write}
-use Rattle.gtidrep.specs.declared.line.LineFault.TheVariants as line
+use Rattle.gtidrep.specs.declared.line.CommandFault.TheVariants as line
 use Rattle.gtidrep.specs.declared.ending.Ending.{Ending}
 use Rattle.gtidrep.specs.declared.ending.Ending.TheVariants.{Ran, NoCommand}
 

@@ -2,7 +2,7 @@
 ghost use Rattle.std.specs.Prelude.{◌≡◌};
 ghost use Rattle.gtidrep.specs.Status.{message_of, status_of};
 
-use crate::line::{FUNCTIONS, LineFault};
+use crate::line::{CommandFault, FUNCTIONS};
 use commands::{Outcome, RunFault};
 
 /// How the program ends.
@@ -11,7 +11,7 @@ pub enum Ending {
     /// A command ran.
     Ran(Result<Outcome, RunFault>),
     /// The words of the command line are no command.
-    NoCommand(LineFault),
+    NoCommand(CommandFault),
 }
 
 /// The status that the program ends with (our own rule).
@@ -25,14 +25,14 @@ pub fn exit_status(ending: &Ending) -> u8
         Ending::Ran(Err(RunFault::Memory)) => 3,
         Ending::Ran(Err(RunFault::Read)) => 4,
         Ending::Ran(Err(RunFault::Write)) => 4,
-        Ending::NoCommand(LineFault::Memory) => 3,
-        Ending::NoCommand(LineFault::NotUtf8) => 2,
-        Ending::NoCommand(LineFault::Line(_)) => 2,
+        Ending::NoCommand(CommandFault::Memory) => 3,
+        Ending::NoCommand(CommandFault::NotUtf8) => 2,
+        Ending::NoCommand(CommandFault::Line(_)) => 2,
     }
 }
 
 /// What standard error is told: whole lines, and nothing where standard output says all (our own
-/// rule). It takes no memory.
+/// rule). It does not allocate.
 pub fn message(ending: &Ending) -> &str
     ensures { result.now ≡ message_of ending.now }
 {
@@ -43,9 +43,9 @@ pub fn message(ending: &Ending) -> &str
         Ending::Ran(Err(RunFault::Memory)) => "gtidrep: out of memory\n",
         Ending::Ran(Err(RunFault::Read)) => "gtidrep: reading standard input failed\n",
         Ending::Ran(Err(RunFault::Write)) => "gtidrep: writing failed\n",
-        Ending::NoCommand(LineFault::Memory) => "gtidrep: out of memory\n",
-        Ending::NoCommand(LineFault::NotUtf8) =>
+        Ending::NoCommand(CommandFault::Memory) => "gtidrep: out of memory\n",
+        Ending::NoCommand(CommandFault::NotUtf8) =>
             "gtidrep: a word of the command line is not UTF-8\n",
-        Ending::NoCommand(LineFault::Line(text)) => text.as_str(),
+        Ending::NoCommand(CommandFault::Line(text)) => text.as_str(),
     }
 }

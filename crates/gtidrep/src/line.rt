@@ -56,7 +56,7 @@ pub enum Command<'a> {
 
 /// Why the words are no command.
 #[derive(Drop)]
-pub enum LineFault {
+pub enum CommandFault {
     Memory,
     /// A word is not UTF-8.
     NotUtf8,
@@ -370,27 +370,27 @@ fn named_command<'a>(matches: &ArgMatches<'a>) -> Option<Command<'a>>
     command_of(name, inner)
 }
 
-fn fault_of(alloc: Global, error: Error) -> LineFault {
+fn fault_of(alloc: Global, error: Error) -> CommandFault {
     if error.kind() == ErrorKind::OutOfMemory {
-        return LineFault::Memory;
+        return CommandFault::Memory;
     }
     match error.to_string(alloc) {
-        Ok(text) => LineFault::Line(text),
-        Err(_) => LineFault::Memory,
+        Ok(text) => CommandFault::Line(text),
+        Err(_) => CommandFault::Memory,
     }
 }
 
 /// Reads the words after the program's name.
-pub fn parse_line<'a>(alloc: Global, words: &'a [String]) -> Result<Command<'a>, LineFault>
+pub fn parse_line<'a>(alloc: Global, words: &'a [String]) -> Result<Command<'a>, CommandFault>
     ensures { IfOk result IsForOneToMost }
 {
     let Ok(commands) = all_commands(alloc) else {
-        return Err(LineFault::Memory);
+        return Err(CommandFault::Memory);
     };
     match commands.no_binary_name(true).try_get_matches_from(words) {
         Ok(matches) => match named_command(&matches) {
             Some(command) => Ok(command),
-            None => Err(LineFault::Line(String::new(alloc))),
+            None => Err(CommandFault::Line(String::new(alloc))),
         },
         Err(error) if error.kind() == ErrorKind::DisplayVersion => Ok(Command::Version),
         Err(error) => Err(fault_of(alloc, error)),

@@ -23,7 +23,7 @@ mod ending;
 mod line;
 
 use crate::ending::{Ending, exit_status, message};
-use crate::line::{Command, LineFault, Listing, parse_line};
+use crate::line::{Command, CommandFault, Listing, parse_line};
 use commands::{
     Outcome, RunFault, Sink, Source, StdSink, StdSource, Streams, apply_bundle, run_audit,
     run_explain, run_import, run_list, run_position, run_set, run_states, run_upgrade, run_version,
@@ -36,15 +36,15 @@ use std::thread::Threads;
 
 /// The words after the program's name. What `env::args` refuses but for memory is a word that is not
 /// UTF-8.
-fn read_words(rt: &HostRuntime) -> Result<Vec<String>, LineFault> {
+fn read_words(rt: &HostRuntime) -> Result<Vec<String>, CommandFault> {
     let args = match env::args(rt) {
         Ok(args) => args,
-        Err(error) if error.kind() == ErrorKind::OutOfMemory => return Err(LineFault::Memory),
-        Err(_) => return Err(LineFault::NotUtf8),
+        Err(error) if error.kind() == ErrorKind::OutOfMemory => return Err(CommandFault::Memory),
+        Err(_) => return Err(CommandFault::NotUtf8),
     };
     match args.skip(1).collect(rt.alloc()) {
         Ok(words) => Ok(words),
-        Err(_) => Err(LineFault::Memory),
+        Err(_) => Err(CommandFault::Memory),
     }
 }
 

@@ -51,7 +51,7 @@ along_all p l seen next a all =
     let none = no_more a.behind (omega (parts, size, count, same, all, arith)) in
     a.seen_is ∙ ap (map (λ (g : Held). g.numbers)) (sym (a.parts ∙ (ap (λ hs. a.before ++ hs) none ∙ append-nil a.before)))
 
--- ---- pairs of numbers, one behind another
+-- ---- pairs of numbers, one after another
 
 pub pairs_before : (i : ℕ) (ss : List Interval) → AllByRecursion (λ t. t.hi < 3 * i) ss → AllByRecursion (λ t. t.hi + 1 < 3 * i + 1) ss
 pairs_before i [] all = tt

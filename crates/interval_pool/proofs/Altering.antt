@@ -12,7 +12,7 @@ use Rattle.interval_pool.specs.declared.interval.Pieces.{Pieces}
 use Rattle.interval_pool.specs.Links.{most_cells}
 use Rattle.interval_pool.specs.Cells.{head_at, after}
 use Rattle.interval_pool.specs.Chains.{first_or, last_or, AreLinked}
-use Rattle.interval_pool.specs.Intervals.{IsBefore, IsApart, IsSplit, AreMerged, covers, has, met, listed, part_below, part_above}
+use Rattle.interval_pool.specs.Intervals.{IsBefore, IsApart, IsSplit, AreMerged, covers, has, meet, listed, part_below, part_above}
 use Rattle.interval_pool.specs.Pools.{walk, chain_of, rest_of, interval_at, AreWhole}
 use Rattle.interval_pool.specs.Places.{AreBelow, Reaches, IsPlace}
 use Rattle.interval_pool.specs.Changes.{spans_of, Replaced, Replaces, Changed, Added, Cut, with_more, without}
@@ -21,7 +21,7 @@ use Rattle.interval_pool.proofs.Linking.{in_parts}
 use Rattle.interval_pool.proofs.Walking.{after_is}
 use Rattle.interval_pool.proofs.Meeting.{Meets, meets}
 
--- ---- what stands after a cell
+-- ---- what comes after a cell
 
 walk_more : (cells : List Cell) (k n : ℕ) (is : List ℕ) → AreLinked cells k is None → length is ≤ n → walk cells n (first_or None is) ≡ is
 walk_more cells k zero [] linked le = refl
@@ -75,7 +75,7 @@ merged_with P (u ∷ us) ss ts merged all good step =
     let parts = all_parts (IsBefore u) us ss merged.1 in
     (merged.0, all_joined (IsBefore u) us ts parts.0 (step u all.0 parts.1), merged_with P us ss ts merged.2 all.1 good step)
 
--- ---- what a joined interval stands for in a list
+-- ---- what a joined interval denotes in a list
 
 pub record Stands (cells : List Cell) (heads : List Head) (k n limit : ℕ) (before : Option ℕ) (s : Interval) (j : Joined) : Type 0 where
   pub xs : List ℕ
@@ -90,7 +90,7 @@ pub record Stands (cells : List Cell) (heads : List Head) (k n limit : ℕ) (bef
   pub few : j.count ≤ length ys
 
 pub stands : (cells : List Cell) (heads : List Head) (k n limit : ℕ) (before : Option ℕ) (s : Interval) (j : Joined) → AreWhole cells heads → AreMerged (spans_of cells heads k) → s.lo ≤ s.hi → s.lo ≤ n + 1 → limit ≤ s.hi + 1
-    → IsPlace cells heads k n before → j ≡ met limit s 0 (map (interval_at cells) (rest_of cells heads k before)) → Stands cells heads k n limit before s j
+    → IsPlace cells heads k n before → j ≡ meet limit s 0 (map (interval_at cells) (rest_of cells heads k before)) → Stands cells heads k n limit before s j
 stands cells heads k n limit before s j h merged filled from near place is_joined =
     let f : ℕ → Interval = interval_at cells in
     let xs = place.xs in
@@ -98,7 +98,7 @@ stands cells heads k n limit before s j h merged filled from near place is_joine
     let spans : spans_of cells heads k ≡ map f xs ++ map f ys = ap (map f) place.parts ∙ map-append f xs ys in
     let both : AreMerged (map f xs ++ map f ys) = subst AreMerged spans merged in
     let back : AreMerged (map f ys) = merged_back (map f xs) (map f ys) both in
-    let is : j ≡ met limit s 0 (map f ys) = is_joined ∙ ap (λ js. met limit s 0 (map f js)) (rest_is cells heads k before xs ys h place.parts place.before_is) in
+    let is : j ≡ meet limit s 0 (map f ys) = is_joined ∙ ap (λ js. meet limit s 0 (map f js)) (rest_is cells heads k before xs ys h place.parts place.before_is) in
     let m : Meets limit s 0 (map f ys) j = subst (Meets limit s 0 (map f ys)) (sym is) (meets limit s 0 (map f ys) filled near back (touches cells n s.lo ys from back place.reaches)) in
     let count = m.count in
     let size = ap length m.parts in
@@ -268,7 +268,7 @@ cut_has false true false false e g = refl
 cut_has false false true false e g = refl
 cut_has false false false false e g = refl
 
--- the intervals behind the part above
+-- the intervals after the part above
 above_merged : (w s : Interval) (rest : List Interval) → AreMerged rest → (w.hi ≡ s.hi) ⊎ AllByRecursion (IsBefore w) rest → AreMerged (option_to_list (part_above w s) ++ rest)
 above_merged w s rest merged later = ⊎_elim
     (λ (e : (s.hi < w.hi) × (part_above w s ≡ Some (high_part w s))).
@@ -285,7 +285,7 @@ above_all P w s rest one all = ⊎_elim
     (λ (e : (w.hi ≤ s.hi) × (part_above w s ≡ None)). subst (λ o. AllByRecursion P (option_to_list o ++ rest)) (sym e.1) all)
     (above_part w s)
 
--- and the intervals behind the part below
+-- and the intervals after the part below
 parts_merged : (w s : Interval) (rest : List Interval) → s.lo ≤ s.hi → AllByRecursion (λ t. s.hi < t.lo) rest → AreMerged rest → (w.hi ≡ s.hi) ⊎ AllByRecursion (IsBefore w) rest
     → AreMerged (option_to_list (part_below w s) ++ (option_to_list (part_above w s) ++ rest))
 parts_merged w s rest filled beyond merged later =

@@ -1,4 +1,4 @@
--- What an interval behind all others of a list leaves.
+-- What an interval after all others of a list leaves.
 use Rattle.std.proofs.Common.{◌≡◌, ◌≢◌, ℕ, ◌+◌, ◌<◌, ◌≤◌, ◌||◌, List, [], ◌∷◌, ◌++◌, length, map, Option, Some, None, refl, sym, ap, subst, ◌∙◌, ⊎_elim, inl, inr, arith, length-append}
 use Rattle.std.specs.Prelude.{slice_set, IfSome}
 use Rattle.std.specs.List.{AllByRecursion}
@@ -117,7 +117,7 @@ pushed_last cells heads k last c owner next h small not_free lt is_last =
       free = joined.chains 0 ∙ (chain_other (chain_of cells1 heads) k 0 (xs ++ n ∷ []) (λ e. not_free (sym e)) ∙ same 0);
     }
 
--- ---- an interval behind the last cell
+-- ---- an interval after the last cell
 
 pub put_new : (cells cells1 : List Cell) (heads heads1 : List Head) (k : ℕ) (last : Option ℕ) (s : Interval) → (head_at heads 0).len ≤ 0 → length cells < most_cells → Pushes cells heads k last s cells1 heads1 → PutsLast cells heads k last s cells1 heads1
 put_new cells cells1 heads heads1 k last s none less pushes h small not_free lt is_last =
@@ -133,7 +133,7 @@ put_new cells cells1 heads heads1 k last s none less pushes h small not_free lt 
       more = inr (omega (n, none, arith), omega (n, none, free, arith), more);
     }
 
--- the first free cell stands behind the last of a list
+-- the first free cell comes after the last of a list
 pub free_placed : (cells cells1 : List Cell) (heads heads1 : List Head) (k : ℕ) (last : Option ℕ) (s : Interval) → 0 < (head_at heads 0).len → Places cells heads k last s cells1 heads1 → AreWhole cells heads → length cells ≤ most_cells → k ≢ 0
     → k < length heads → last ≡ last_or None (chain_of cells heads k) → (i : ℕ) × ((rest : List ℕ) × ((chain_of cells heads 0 ≡ i ∷ rest) × Placed cells heads k (chain_of cells heads k) [] i rest s cells1 heads1))
 free_placed cells cells1 heads heads1 k last s some places h small not_free lt is_last =
@@ -162,7 +162,7 @@ put_free cells cells1 heads heads1 k last s some places h small not_free lt is_l
       more = inl many;
     }
 
--- ---- an interval behind all others
+-- ---- an interval after all others
 
 merged_end : (ss : List Interval) (s : Interval) → AreMerged ss → s.lo ≤ s.hi → AllByRecursion (λ t. IsBefore t s) ss → AreMerged (ss ++ s ∷ [])
 merged_end [] s merged filled all = (filled, tt, tt)

@@ -21,7 +21,7 @@ use Rattle.interval_pool.proofs.Lists.{same_but}
 use Rattle.interval_pool.proofs.Appending.{end_parts}
 use Rattle.interval_pool.proofs.Altering.{has_append}
 
--- ---- a cell with the same owner and the same cell behind it
+-- ---- a cell with the same owner and the same cell after it
 
 module _ (cells : List Cell) (i : ℕ) (c : Cell) (lt : i < length cells) (owner : c.owner ≡ (cell_at cells i).owner) (next : c.next ≡ (cell_at cells i).next) where
   abbrev rewritten : List Cell
@@ -120,7 +120,7 @@ renewed_length cells cells' heads k s xs ys i r = ⊎_elim
     (λ (e : (free_count cells heads ≡ 0) × (free_count cells' heads ≡ 0) × (length cells' ≡ length cells + 1)). let total = r.total in let a = e.0 in let b = e.1 in let n = e.2 in omega (total, a, b, n, arith))
     r.more
 
--- ---- numbers behind the last cell
+-- ---- numbers after the last cell
 
 ends_all : (us : List Interval) (t s : Interval) → AreMerged (us ++ t ∷ []) → IsBefore t s → AllByRecursion (λ u. IsBefore u s) (us ++ t ∷ [])
 ends_all [] t s merged before = (before, tt)

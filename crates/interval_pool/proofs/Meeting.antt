@@ -7,25 +7,25 @@ use Rattle.interval_pool.specs.declared.cells.Cell.{Cell}
 use Rattle.interval_pool.specs.declared.interval.Interval.{Interval}
 use Rattle.interval_pool.specs.declared.interval.Joined.{Joined}
 use Rattle.interval_pool.specs.Cells.{cell_at}
-use Rattle.interval_pool.specs.Intervals.{IsBefore, AreMerged, covers, has, hull, met}
+use Rattle.interval_pool.specs.Intervals.{IsBefore, AreMerged, covers, has, hull, meet}
 use Rattle.interval_pool.specs.Pools.{walk, interval_at}
 use Rattle.interval_pool.proofs.Facts.{or_false, or_three, all_weaker, all_parts}
 
 -- the next cell of a walk is met too
 pub meets_next : (cells : List Cell) (limit : ℕ) (s h : Interval) (k left i : ℕ) (at : Option ℕ) (c : Cell) → at ≡ Some i → 0 < left → c ≡ cell_at cells i → c.lo ≤ limit → h ≡ hull s (record { lo = c.lo; hi = c.hi })
-    → met limit h (k + 1) (map (interval_at cells) (walk cells (left - 1) c.next)) ≡ met limit s k (map (interval_at cells) (walk cells left at))
+    → meet limit h (k + 1) (map (interval_at cells) (walk cells (left - 1) c.next)) ≡ meet limit s k (map (interval_at cells) (walk cells left at))
 meets_next cells limit s h k zero i at c is lt here le hulled = absurd (omega (lt, arith))
 meets_next cells limit s h k (suc n) i at c is lt here le hulled =
-    let P : Option ℕ → Type 0 = λ o. met limit h (k + 1) (map (interval_at cells) (walk cells (suc n - 1) c.next)) ≡ met limit s k (map (interval_at cells) (walk cells (suc n) o)) in
+    let P : Option ℕ → Type 0 = λ o. meet limit h (k + 1) (map (interval_at cells) (walk cells (suc n - 1) c.next)) ≡ meet limit s k (map (interval_at cells) (walk cells (suc n) o)) in
     let less : suc n - 1 ≡ n = omega arith in
     subst P (sym is) (
-    ap (λ m. met limit h (k + 1) (map (interval_at cells) (walk cells m c.next))) less ∙ (
+    ap (λ m. meet limit h (k + 1) (map (interval_at cells) (walk cells m c.next))) less ∙ (
     let rest = map (interval_at cells) (walk cells n (cell_at cells i).next) in
     let there : (cell_at cells i).lo ≤ limit = subst (λ (d : Cell). d.lo ≤ limit) here le in
     let test : nat_le (cell_at cells i).lo limit ≡ true = grind (arith, nat_tests) in
-    ap (λ j. met limit j (k + 1) (map (interval_at cells) (walk cells n c.next))) hulled
-    ∙ (ap (λ (d : Cell). met limit (hull s (record { lo = d.lo; hi = d.hi })) (k + 1) (map (interval_at cells) (walk cells n d.next))) here
-    ∙ ap (λ b. if b then met limit (hull s (interval_at cells i)) (k + 1) rest else record { numbers = s; count = k }) (sym test))))
+    ap (λ j. meet limit j (k + 1) (map (interval_at cells) (walk cells n c.next))) hulled
+    ∙ (ap (λ (d : Cell). meet limit (hull s (record { lo = d.lo; hi = d.hi })) (k + 1) (map (interval_at cells) (walk cells n d.next))) here
+    ∙ ap (λ b. if b then meet limit (hull s (interval_at cells i)) (k + 1) rest else record { numbers = s; count = k }) (sym test))))
 
 -- ---- those that it meets, and those beyond
 
@@ -52,7 +52,7 @@ least a b = grind arith
 greatest : (a b : ℕ) → (max a b ≡ a) ⊎ ((max a b ≡ b) × (a < b))
 greatest a b = grind arith
 
-pub meets : (limit : ℕ) (s : Interval) (k : ℕ) (spans : List Interval) → s.lo ≤ s.hi → limit ≤ s.hi + 1 → AreMerged spans → AllByRecursion (λ t. s.lo ≤ t.hi + 1) spans → Meets limit s k spans (met limit s k spans)
+pub meets : (limit : ℕ) (s : Interval) (k : ℕ) (spans : List Interval) → s.lo ≤ s.hi → limit ≤ s.hi + 1 → AreMerged spans → AllByRecursion (λ t. s.lo ≤ t.hi + 1) spans → Meets limit s k spans (meet limit s k spans)
 meets limit s k [] filled near merged touch = record {
   front = [];
   rest = [];
@@ -70,13 +70,13 @@ meets limit s k (t ∷ ts) filled near merged touch = chosen (nat_le t.lo limit)
     (meets limit (hull s t) (k + 1) ts (let le = merged.0 in omega (filled, le, arith)) (omega (near, arith)) merged.2
     (all_weaker (λ u. s.lo ≤ u.hi + 1) (λ u. (hull s t).lo ≤ u.hi + 1) ts (λ u le. omega (le, arith)) touch.1))
   where
-    chosen : (b : Bool) → nat_le t.lo limit ≡ b → Meets limit (hull s t) (k + 1) ts (met limit (hull s t) (k + 1) ts)
-        → Meets limit s k (t ∷ ts) (if b then met limit (hull s t) (k + 1) ts else record { numbers = s; count = k })
+    chosen : (b : Bool) → nat_le t.lo limit ≡ b → Meets limit (hull s t) (k + 1) ts (meet limit (hull s t) (k + 1) ts)
+        → Meets limit s k (t ∷ ts) (if b then meet limit (hull s t) (k + 1) ts else record { numbers = s; count = k })
     chosen true e m =
         let begins : t.lo ≤ limit = grind (arith, nat_tests) in
         let first = touch.0 in
         let le = merged.0 in
-        let j : Joined = met limit (hull s t) (k + 1) ts in
+        let j : Joined = meet limit (hull s t) (k + 1) ts in
         let before : AllByRecursion (IsBefore t) m.rest = (all_parts (IsBefore t) m.front m.rest (subst (AllByRecursion (IsBefore t)) m.parts merged.1)).1 in
         let small = m.lo in
         let great = m.hi in

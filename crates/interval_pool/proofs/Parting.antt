@@ -70,7 +70,7 @@ once_both cells k (i ∷ is) js here there one two =
       once_both cells k is js here.1 there one.1 two,
     )
 
--- ---- the cells that stand in lists
+-- ---- the cells that are in lists
 
 stands_more : (cells : List Cell) (h : Head) (slots : List (Option (List Held))) → h.is_list ≡ true → standing (slot cells h ∷ slots) ≡ walk cells h.len h.first ++ standing slots
 stands_more cells h slots is =

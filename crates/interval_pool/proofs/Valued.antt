@@ -160,7 +160,7 @@ altered_list change cells cells' heads heads' capacity capacity' l s h is change
     let same = spans_are cells heads capacity l h (is_not_free cells heads l h is) in
     subst (λ ss. Altered (value_of cells heads capacity) l (change ss s) (value_of cells' heads' capacity')) (sym same) (altered cells cells' heads heads' capacity capacity' l (change (spans_of cells heads l) s) h is changed le)
 
--- an interval was put behind all others
+-- an interval was put after all others
 pub appended_list : (cells cells' : List Cell) (heads heads' : List Head) (capacity capacity' l : ℕ) (s : Interval) → IsPool cells heads → (head_at heads l).is_list ≡ true → Added cells heads l s cells' heads'
     → spans_of cells' heads' l ≡ spans_of cells heads l ++ s ∷ [] → capacity ≤ capacity' → Appended (value_of cells heads capacity) l s (value_of cells' heads' capacity')
 appended_list cells cells' heads heads' capacity capacity' l s h is added more le =

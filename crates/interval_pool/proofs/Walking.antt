@@ -137,7 +137,7 @@ all_below cells k (i ∷ is) e linked = (linked.0.below, all_below cells k is e 
 pub chain_few : (cells : List Cell) (heads : List Head) (out : Option ℕ) (chain : ℕ → List ℕ) (k : ℕ) → AreChains cells heads out chain → length (chain k) ≤ length cells
 chain_few cells heads out chain k h = once_few (length cells) (chain k) (h.once k) (all_below cells k (chain k) None (h.linked k))
 
--- and fewer while one stands in none
+-- and fewer while one is in none
 pub chain_fewer : (cells : List Cell) (heads : List Head) (i : ℕ) (chain : ℕ → List ℕ) (k : ℕ) → AreChains cells heads (Some i) chain → i < length cells → length (chain k) < length cells
 chain_fewer cells heads i chain k h lt =
     let more = once_few (length cells) (i ∷ chain k) (h.apart i k refl, h.once k) (lt, all_below cells k (chain k) None (h.linked k)) in

@@ -1,4 +1,4 @@
--- The cells that stand in lists are no more than the intervals of all lists that a caller knows.
+-- The cells that are in lists are no more than the intervals of all lists that a caller knows.
 use Rattle.std.proofs.Common.{◌≡◌, ◌≢◌, ℕ, suc, ◌+◌, ◌-◌, ◌≤◌, Bool, true, false, cond, List, [], ◌∷◌, length, map, Option, Some, None, sym, ap, subst, ◌∙◌, ⊎_elim, arith, length-append}
 use Rattle.std.specs.Prelude.{is_some, unwrap_or, slice_index_or, ◌==◌}
 use Rattle.std.proofs.lemmas.Bool.Decides.{eqb_tells}

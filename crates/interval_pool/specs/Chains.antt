@@ -34,7 +34,7 @@ abbrev pub IsAmong : ℕ → List ℕ → Type 0
 IsAmong i [] = ⊥
 IsAmong i (j ∷ js) = (i ≡ j) ⊎ IsAmong i js
 
--- Each chain has these cells, and each cell stands in the chain of its owner, but for one that stands in none.
+-- Each chain has these cells, and each cell is in the chain of its owner, but for one that is in none.
 pub record AreChains (cells : List Cell) (heads : List Head) (out : Option ℕ) (chain : ℕ → List ℕ) : Type 0 where
   pub first : (k : ℕ) → (head_at heads k).first ≡ first_or None (chain k)
   pub count : (k : ℕ) → (head_at heads k).len ≡ length (chain k)

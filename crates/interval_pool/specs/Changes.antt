@@ -30,7 +30,7 @@ abbrev pub MakesRoom : List Cell → List Head → ℕ → ℕ → List Cell →
 MakesRoom cells heads freed needed cells' heads' =
     AreWhole cells heads → length cells ≤ most_cells → 0 < length heads → needed ≤ freed + 1 → HasRoom cells heads freed needed cells' heads'
 
--- none or one interval stands in a list after some of its cells
+-- none or one interval is in a list after some of its cells
 pub record Set (cells : List Cell) (heads : List Head) (k : ℕ) (xs ys : List ℕ) (some : Option Interval) (cells' : List Cell) (heads' : List Head) : Type 0 where
   pub keeps : KeepsOthers cells heads k cells' heads'
   pub as_many : length cells' ≡ length cells
@@ -46,7 +46,7 @@ Sets cells heads k before some cells' heads' =
     (xs ys : List ℕ) → AreWhole cells heads → length cells ≤ most_cells → k ≢ 0 → k < length heads → chain_of cells heads k ≡ xs ++ ys → before ≡ last_or None xs
     → length (option_to_list some) ≤ free_count cells heads → Set cells heads k xs ys some cells' heads'
 
--- intervals stand in a list in place of so many after some
+-- intervals are in a list in place of so many after some
 pub record Put (cells : List Cell) (heads : List Head) (k : ℕ) (xs ys : List ℕ) (n : ℕ) (pieces : List Interval) (cells' : List Cell) (heads' : List Head) : Type 0 where
   pub keeps : KeepsOthers cells heads k cells' heads'
   pub as_many : length cells' ≡ length cells
@@ -71,7 +71,7 @@ Replaces cells heads k before n pieces cells' heads' =
     (xs ys : List ℕ) → AreWhole cells heads → length cells ≤ most_cells → k ≢ 0 → k < length heads → chain_of cells heads k ≡ xs ++ ys → before ≡ last_or None xs
     → n ≤ length ys → length (listed pieces) ≤ n + 1 → Replaced cells heads k xs ys n (listed pieces) cells' heads'
 
--- a cell more stands behind the last of a list, with these numbers
+-- a cell more comes after the last of a list, with these numbers
 pub record Pushed (cells : List Cell) (heads : List Head) (k : ℕ) (s : Interval) (cells' : List Cell) (heads' : List Head) : Type 0 where
   pub keeps : KeepsOthers cells heads k cells' heads'
   pub as_many : length cells' ≡ length cells + 1
@@ -83,12 +83,12 @@ abbrev pub Pushes : List Cell → List Head → ℕ → Option ℕ → Interval 
 Pushes cells heads k last s cells' heads' =
     AreWhole cells heads → length cells < most_cells → k ≢ 0 → k < length heads → last ≡ last_or None (chain_of cells heads k) → Pushed cells heads k s cells' heads'
 
--- an interval stands behind the last of a list, in a free cell where there is one
+-- an interval comes after the last of a list, in a free cell where there is one
 abbrev pub PutsLast : List Cell → List Head → ℕ → Option ℕ → Interval → List Cell → List Head → Type 0
 PutsLast cells heads k last s cells' heads' =
     AreWhole cells heads → length cells ≤ most_cells → k ≢ 0 → k < length heads → last ≡ last_or None (chain_of cells heads k) → Replaced cells heads k (chain_of cells heads k) [] 0 (s ∷ []) cells' heads'
 
--- what comes behind a cell before these intervals
+-- what comes after a cell before these intervals
 abbrev pub next_of : List Interval → ℕ → Option ℕ
 next_of [] at = None
 next_of (s ∷ ss) at = Some at
@@ -98,7 +98,7 @@ abbrev pub run : ℕ → ℕ → List Interval → List Cell
 run k at [] = []
 run k at (s ∷ ss) = record { lo = s.lo; hi = s.hi; next = next_of ss (at + 1); owner = k } ∷ run k (at + 1) ss
 
--- intervals stand behind the last of a list
+-- intervals come after the last of a list
 pub record Prolonged (cells : List Cell) (heads : List Head) (k : ℕ) (ss : List Interval) (cells' : List Cell) (heads' : List Head) : Type 0 where
   pub keeps : KeepsOthers cells heads k cells' heads'
   pub small : length cells' ≤ most_cells

@@ -27,9 +27,9 @@ abbrev pub hull : Interval → Interval → Interval
 hull s t = record { lo = min s.lo t.lo; hi = max s.hi t.hi }
 
 -- an interval joined with the first of some, those that begin up to a number, beside so many others
-abbrev pub met : ℕ → Interval → ℕ → List Interval → Joined
-met limit s k [] = record { numbers = s; count = k }
-met limit s k (t ∷ ts) = if nat_le t.lo limit then met limit (hull s t) (k + 1) ts else record { numbers = s; count = k }
+abbrev pub meet : ℕ → Interval → ℕ → List Interval → Joined
+meet limit s k [] = record { numbers = s; count = k }
+meet limit s k (t ∷ ts) = if nat_le t.lo limit then meet limit (hull s t) (k + 1) ts else record { numbers = s; count = k }
 
 -- what an interval has below the numbers of another, and above
 abbrev pub part_below : Interval → Interval → Option Interval

@@ -46,12 +46,12 @@ pub record IsPlace (cells : List Cell) (heads : List Head) (k n : ℕ) (before :
   pub below : AreBelow cells n xs
   pub reaches : Reaches cells n ys
 
--- none, where a list has no cells, or a cell of it with none behind it
+-- none, where a list has no cells, or a cell of it with none after it
 abbrev pub IsEnd : List Cell → List Head → ℕ → Option ℕ → Type 0
 IsEnd cells heads k None = (head_at heads k).len ≡ 0
 IsEnd cells heads k (Some i) = (i < length cells) × ((cell_at cells i).owner ≡ k) × ((cell_at cells i).next ≡ None)
 
--- numbers begin in the last cell of a list, or right behind it
+-- numbers begin in the last cell of a list, or right after it
 abbrev pub TouchesEnd : List Cell → List Head → ℕ → Interval → Option ℕ → Type 0
 TouchesEnd cells heads k s None = ⊥
 TouchesEnd cells heads k s (Some i) = IsEnd cells heads k (Some i) × (((cell_at cells i).lo ≤ s.lo) × (s.lo ≤ (cell_at cells i).hi + 1))

@@ -22,11 +22,11 @@ chain_of cells heads k = walk cells (head_at heads k).len (head_at heads k).firs
 abbrev pub rest_of : List Cell → List Head → ℕ → Option ℕ → List ℕ
 rest_of cells heads k before = walk cells (head_at heads k).len (after cells heads k before)
 
--- each cell stands in the chain of its owner
+-- each cell is in the chain of its owner
 abbrev pub AreWhole : List Cell → List Head → Type 0
 AreWhole cells heads = AreChains cells heads None (chain_of cells heads)
 
--- but for this one, which stands in none
+-- but for this one, which is in none
 abbrev pub AreWholeBut : List Cell → List Head → ℕ → Type 0
 AreWholeBut cells heads i = AreChains cells heads (Some i) (chain_of cells heads)
 
@@ -54,7 +54,7 @@ Unlinks cells heads k before at cells' heads' =
     (xs : List ℕ) (i : ℕ) (ys : List ℕ) → AreWhole cells heads → k < length heads → chain_of cells heads k ≡ xs ++ i ∷ ys → before ≡ last_or None xs
     → Unlinked cells heads k xs i ys at cells' heads'
 
--- the cell stands in a chain after some of its cells
+-- the cell is in a chain after some of its cells
 pub record Linked (cells : List Cell) (heads : List Head) (k : ℕ) (xs : List ℕ) (i : ℕ) (ys : List ℕ) (cells' : List Cell) (heads' : List Head) : Type 0 where
   pub whole : AreWhole cells' heads'
   pub chains : (m : ℕ) → chain_of cells' heads' m ≡ with_chain (chain_of cells heads) k (xs ++ i ∷ ys) m
@@ -97,7 +97,7 @@ pub record Grown (cells : List Cell) (heads : List Head) (cells' : List Cell) (h
 abbrev pub Grows : List Cell → List Head → List Cell → List Head → Type 0
 Grows cells heads cells' heads' = AreWhole cells heads → length cells < most_cells → 0 < length heads → Grown cells heads cells' heads'
 
--- the first free cell has these numbers, and stands in a list after some of its cells
+-- the first free cell has these numbers, and is in a list after some of its cells
 pub record Placed (cells : List Cell) (heads : List Head) (k : ℕ) (xs ys : List ℕ) (i : ℕ) (rest : List ℕ) (numbers : Interval) (cells' : List Cell) (heads' : List Head) : Type 0 where
   pub keeps : KeepsOthers cells heads k cells' heads'
   pub as_many : length cells' ≡ length cells

@@ -62,7 +62,7 @@ first_cell (h ∷ hs) = Some h.cell
 abbrev pub IsRange : Interval → Type 0
 IsRange s = s.lo ≤ s.hi
 
--- the cells that stand in lists
+-- the cells that are in lists
 abbrev pub standing : List (Option (List Held)) → List ℕ
 standing [] = []
 standing (None ∷ slots) = standing slots
@@ -113,12 +113,12 @@ AddedTo p l s q = Altered p l (with_more (spans p l) s) q
 abbrev pub CutFrom : PoolValue → ℕ → Interval → PoolValue → Type 0
 CutFrom p l s q = Altered p l (without (spans p l) s) q
 
--- numbers were added, as an interval behind all others
+-- numbers were added, as an interval after all others
 pub record Appended (p : PoolValue) (l : ℕ) (s : Interval) (q : PoolValue) : Type 0 where
   pub added : AddedTo p l s q
   pub spans : spans q l ≡ spans p l ++ s ∷ []
 
--- intervals stand behind all others of a list
+-- intervals come after all others of a list
 pub record Extended (p : PoolValue) (l : ℕ) (ss : List Interval) (q : PoolValue) : Type 0 where
   pub lists : (m : ℕ) → is_list q m ≡ is_list p m
   pub others : (m : ℕ) → m ≢ l → slot_at q m ≡ slot_at p m
@@ -130,7 +130,7 @@ pub record HasNoRoom (p : PoolValue) : Type 0 where
   pub free : p.free ≡ []
   pub room : p.room ≡ 0
 
--- all cells that there may be stand in lists
+-- all cells that there may be are in lists
 abbrev pub IsFull : PoolValue → Type 0
 IsFull p = most_cells ≤ length (standing p.lists)
 
@@ -166,7 +166,7 @@ slot cells h = if h.is_list then Some (map (held cells) (walk cells h.len h.firs
 abbrev pub value_of : List Cell → List Head → ℕ → PoolValue
 value_of cells heads capacity = record { lists = map (slot cells) heads; free = chain_of cells heads 0; cells = length cells; room = min capacity most_cells - length cells }
 
--- Each cell stands in the chain of its owner. Lists are merged, and what is no list has no cells, but for the free ones.
+-- Each cell is in the chain of its owner. Lists are merged, and what is no list has no cells, but for the free ones.
 pub record IsPool (cells : List Cell) (heads : List Head) : Type 0 where
   pub whole : AreWhole cells heads
   pub small : length cells ≤ most_cells

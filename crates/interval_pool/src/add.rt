@@ -52,7 +52,7 @@ fn add_at(
     Ok(before)
 }
 
-/// Whether numbers begin in the last cell of a list, or right behind it.
+/// Whether numbers begin in the last cell of a list, or right after it.
 fn touches_end(cells: &[Cell], list: u32, numbers: Interval, end: Link) -> bool
     ensures { IsTrue result → (heads : List Head) → TouchesEnd cells.now heads list numbers end }
 {

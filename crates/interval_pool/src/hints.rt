@@ -8,13 +8,13 @@ use std::collections::BTreeMap;
 /// A list of no more cells is walked from its first.
 const SHORT: u32 = 32;
 
-/// How many cells a place may lie behind one that is guessed.
+/// How many cells a place may lie after one that is guessed.
 const NEAR: u32 = 2;
 
-/// What is remembered of a list, with whether its cells lie one behind another, and whether they are in the index.
+/// What is remembered of a list, with whether its cells lie one after another, and whether they are in the index.
 #[derive(Clone, Copy, Drop)]
 struct ListHints {
-    // the place of the last change, and the cell behind it
+    // the place of the last change, and the cell after it
     place: Link,
     cell: Link,
     // the list that was released before it
@@ -54,7 +54,7 @@ fn is_below(cells: &[Cell], list: u32, number: u64, place: Link) -> bool {
     cell.owner == list && cell.hi < number
 }
 
-/// Whether a number's place is this one, or near behind it.
+/// Whether a number's place is this one, or near after it.
 fn is_near(cells: &[Cell], heads: &[Head], list: u32, number: u64, place: Link) -> bool {
     if place.place().is_some() && !is_below(cells, list, number, place) {
         return false;
@@ -73,7 +73,7 @@ fn is_near(cells: &[Cell], heads: &[Head], list: u32, number: u64, place: Link) 
     false
 }
 
-/// The last cell that ends below a number, of a list whose cells lie one behind another.
+/// The last cell that ends below a number, of a list whose cells lie one after another.
 fn search_run(cells: &[Cell], heads: &[Head], list: u32, number: u64) -> Link {
     let Some(first) = after(cells, heads, list as usize, Link::none()).place() else {
         return Link::none();
@@ -94,7 +94,7 @@ fn is_beside(cell: Cell, numbers: Interval) -> bool {
     cell.hi.saturating_add(1) == numbers.lo || numbers.hi.saturating_add(1) == cell.lo
 }
 
-/// The last cell of a list whose cells lie one behind another.
+/// The last cell of a list whose cells lie one after another.
 fn end_of_run(cells: &[Cell], heads: &[Head], list: u32) -> Link {
     let first = after(cells, heads, list as usize, Link::none());
     first.last_of(count(heads, list as usize))
@@ -109,7 +109,7 @@ fn is_end(cells: &[Cell], list: u32, place: Link) -> bool {
     cell.owner == list && cell.next.is_none()
 }
 
-/// Whether cells behind a place still lie one behind another, where few have changed.
+/// Whether cells after a place still lie one after another, where few have changed.
 fn is_still_run(cells: &[Cell], heads: &[Head], list: u32, place: Link) -> bool {
     let mut last = place;
     for _step in 0..NEAR + 1 {
@@ -194,11 +194,11 @@ impl Hints {
     }
 
     /// A list that may have been released.
-    pub fn released(&self) -> u32 {
+    pub fn released_list(&self) -> u32 {
         self.released
     }
 
-    /// A list begins. A pool with one list takes no memory for it here.
+    /// A list begins. A pool with one list allocates nothing for it here.
     pub fn begin(&mut self, list: u32) {
         if self.released == list {
             self.released = self.of(list).released;
@@ -246,7 +246,7 @@ impl Hints {
         self.place(cells, heads, list, number)
     }
 
-    /// Whether the cells of a list lie one behind another.
+    /// Whether the cells of a list lie one after another.
     pub fn is_run(&self, list: u32) -> bool {
         self.of(list).is_run
     }
@@ -320,7 +320,7 @@ impl Hints {
         }
     }
 
-    /// Puts all cells of a list behind a place into the index.
+    /// Puts all cells of a list after a place into the index.
     fn remember_behind(&mut self, cells: &[Cell], heads: &[Head], list: u32, place: Link) {
         let mut next = after(cells, heads, list as usize, place);
         for _cell in 0..count(heads, list as usize) {
@@ -332,7 +332,7 @@ impl Hints {
         }
     }
 
-    /// Whether the index is to be told of a change behind a place: not where the cells lie one behind another, and not where it is made anew.
+    /// Whether the index is to be told of a change after a place: not where the cells lie one after another, and not where it is made anew.
     fn keeps_index(&mut self, cells: &[Cell], heads: &[Head], list: u32, place: Link) -> bool {
         let hints = self.of(list);
         let is_one = count(heads, list as usize) <= 1;
@@ -362,7 +362,7 @@ impl Hints {
         was_indexed
     }
 
-    /// Numbers were added behind a place, where the list had so many cells before.
+    /// Numbers were added after a place, where the list had so many cells before.
     pub fn note_added(
         &mut self,
         cells: &[Cell],
@@ -394,7 +394,7 @@ impl Hints {
         }
     }
 
-    /// An interval was put behind the last cell of a list. A run whose last cells are the last of all goes on.
+    /// An interval was put after the last cell of a list. A run whose last cells are the last of all goes on.
     pub fn note_appended(
         &mut self,
         cells: &[Cell],
@@ -410,7 +410,7 @@ impl Hints {
         }
     }
 
-    /// So many intervals were put behind the last cell of a list. A run goes on where new cells alone came, the last of all.
+    /// So many intervals were put after the last cell of a list. A run goes on where new cells alone came, the last of all.
     #[inline(always)]
     pub fn note_extended(
         &mut self,
@@ -427,7 +427,7 @@ impl Hints {
         }
     }
 
-    /// So many intervals were put behind a place, and the cells of the list lie no more one behind another.
+    /// So many intervals were put after a place, and the cells of the list lie no more one after another.
     fn note_scattered(
         &mut self,
         cells: &[Cell],
@@ -464,7 +464,7 @@ impl Hints {
         );
     }
 
-    /// An interval was cut out behind a place.
+    /// An interval was cut out after a place.
     pub fn note_cut(
         &mut self,
         cells: &[Cell],

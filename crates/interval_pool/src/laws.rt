@@ -8,13 +8,13 @@ pub fn reserved_lasts()
     ensures { (p : PoolValue) (n : ℕ) (steps : List PoolValue) → n ≤ length p.free + p.room → AreSteps p steps → length steps < n → HasNoRoom (last_of p steps) → ⊥ }
 {}
 
-/// The cells that stand in lists are no more than the intervals of lists among which all are. So a pool that is full
+/// The cells that are in lists are no more than the intervals of lists among which all are. So a pool that is full
 /// has that many intervals in the lists that its caller knows.
 pub fn standing_within()
     ensures { (p : PoolValue) (lists : List ℕ) → AreAmong p lists → length (standing p.lists) ≤ intervals_of p lists }
 {}
 
-/// The intervals of distinct lists are together no more than the cells that stand in lists.
+/// The intervals of distinct lists are together no more than the cells that are in lists.
 pub fn distinct_stand()
     ensures { (p : PoolValue) (lists : List ℕ) → AreOnce lists → intervals_of p lists ≤ length (standing p.lists) }
 {}

@@ -84,7 +84,7 @@ impl Link {
         self.code as usize == place.wrapping_add(1)
     }
 
-    /// Whether a place comes right behind this one.
+    /// Whether a place comes right after this one.
     pub fn is_before(self, at: usize) -> bool {
         self.code as usize == at
     }

@@ -1,6 +1,6 @@
 //! An interval joined with those of a list that it meets.
 ghost use Rattle.std.specs.Prelude.{◌≡◌, ◌+◌, map, nat_lt};
-ghost use Rattle.interval_pool.specs.Intervals.{met};
+ghost use Rattle.interval_pool.specs.Intervals.{meet};
 ghost use Rattle.interval_pool.specs.Pools.{interval_at, rest_of};
 
 use crate::cells::{Cell, Head, after, cell_at, count};
@@ -14,7 +14,7 @@ fn is_beyond(number: u64, hi: u64, reach: u64) -> bool
     number > hi && number - hi > reach
 }
 
-/// An interval joined with the cells of a list after one of them, as long as the next begins within so many numbers behind it.
+/// An interval joined with the cells of a list after one of them, as long as the next begins within so many numbers after it.
 pub fn meet(
     cells: &[Cell],
     heads: &[Head],
@@ -23,7 +23,7 @@ pub fn meet(
     numbers: Interval,
     reach: u64,
 ) -> Joined
-    ensures { result ≡ met (numbers.hi + reach) numbers 0 (map (interval_at cells.now) (rest_of cells.now heads.now list before)) }
+    ensures { result ≡ meet (numbers.hi + reach) numbers 0 (map (interval_at cells.now) (rest_of cells.now heads.now list before)) }
 {
     let mut joined = Joined { numbers, count: 0 };
     let mut at = after(cells, heads, list as usize, before);

@@ -82,7 +82,7 @@ impl Model for Pool {
 }
 
 impl Pool {
-    /// No lists and no cells. Takes no memory.
+    /// No lists and no cells. Does not allocate.
     pub fn open(alloc: Global) -> Pool
         ensures { result ≡ empty }
     {
@@ -94,7 +94,7 @@ impl Pool {
     }
 
     /// Adds numbers to a list. It fails only where they touch no interval of the list, no cell is free and memory
-    /// for one more is refused (`Memory`), or 4,294,967,294 intervals stand in the pool (`Full`). An error leaves all
+    /// for one more is refused (`Memory`), or 4,294,967,294 intervals are in the pool (`Full`). An error leaves all
     /// as it was.
     pub fn add(&mut self, list: ListId, numbers: Interval) -> Result<(), PoolFault>
         requires list { IsList self.old list }
@@ -115,9 +115,9 @@ impl Pool {
         Ok(())
     }
 
-    /// Puts an interval behind all others of a list. It costs a few steps, however many there are, and is for lists that
-    /// are written in order; after `reserve` their cells come to lie one behind another. It fails only where no cell is
-    /// free and memory for one more is refused (`Memory`), or 4,294,967,294 intervals stand in the pool (`Full`). An
+    /// Puts an interval after all others of a list. It costs a few steps, however many there are, and is for lists that
+    /// are written in order; after `reserve` their cells come to lie one after another. It fails only where no cell is
+    /// free and memory for one more is refused (`Memory`), or 4,294,967,294 intervals are in the pool (`Full`). An
     /// error leaves all as it was.
     pub fn append(&mut self, list: ListId, numbers: Interval) -> Result<(), PoolFault>
         requires list { IsList self.old list }
@@ -137,8 +137,8 @@ impl Pool {
         Ok(())
     }
 
-    /// Puts intervals behind all others of a list, which costs a few steps for each, fewest where no cell is free. It
-    /// fails only where memory for more cells is refused (`Memory`), or so many intervals with those that stand in the
+    /// Puts intervals after all others of a list, which costs a few steps for each, fewest where no cell is free. It
+    /// fails only where memory for more cells is refused (`Memory`), or so many intervals with those that are in the
     /// pool are more than 4,294,967,294 (`Full`). An error leaves all as it was.
     pub fn extend(&mut self, list: ListId, intervals: &[Interval]) -> Result<(), PoolFault>
         requires list { IsList self.old list }
@@ -165,7 +165,7 @@ impl Pool {
     }
 
     /// Cuts numbers out of a list. It fails only where they lie within an interval that goes on at both ends, no cell
-    /// is free and memory for one more is refused (`Memory`), or 4,294,967,294 intervals stand in the pool (`Full`).
+    /// is free and memory for one more is refused (`Memory`), or 4,294,967,294 intervals are in the pool (`Full`).
     /// An error leaves all as it was.
     pub fn cut(&mut self, list: ListId, numbers: Interval) -> Result<(), PoolFault>
         requires list { IsList self.old list }
@@ -209,12 +209,12 @@ impl Pool {
         ensures err { OnErr result (self.new ≡ self.old) }
         ensures full { IfErr result (λ fault. fault ≡ Full ↔ AreAllLists self.old) }
     {
-        let number = claim(&mut self.heads, self.hints.released())?;
+        let number = claim(&mut self.heads, self.hints.released_list())?;
         self.hints.begin(number);
         Ok(ListId { number })
     }
 
-    /// Frees the cells of a list, which is one no more. Takes no memory.
+    /// Frees the cells of a list, which is one no more. Does not allocate.
     pub fn release(&mut self, list: ListId)
         requires list { IsList self.old list }
         ensures { Released self.old list self.new }
@@ -310,7 +310,7 @@ impl Pool {
 
     /// Makes room for so many cells, so that as many calls of `add` and `cut` succeed after it (`reserved_lasts`). The
     /// free cells stay as they are. It fails where memory is refused (`Memory`), or so many cells with those that
-    /// stand in lists are more than 4,294,967,294 (`Full`). An error leaves all as it was.
+    /// are in lists are more than 4,294,967,294 (`Full`). An error leaves all as it was.
     pub fn reserve(&mut self, more: usize) -> Result<(), PoolFault>
         ensures ok { OnOk result (Reserved self.old more self.new) }
         ensures err { OnErr result (self.new ≡ self.old) }

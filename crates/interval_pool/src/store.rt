@@ -106,7 +106,7 @@ fn lead_on(cells: &mut [Cell], heads: &mut [Head], list: u32, last: Link, next: 
     }
 }
 
-/// Puts a cell more behind the last of a list, with these numbers.
+/// Puts a cell more after the last of a list, with these numbers.
 #[inline(always)]
 fn push(
     cells: &mut Vec<Cell>,
@@ -136,7 +136,7 @@ fn push(
     Ok(())
 }
 
-/// Puts an interval behind the last cell of a list. A free cell is taken before one is made.
+/// Puts an interval after the last cell of a list. A free cell is taken before one is made.
 #[inline(always)]
 pub fn put_last(
     cells: &mut Vec<Cell>,
@@ -166,7 +166,7 @@ pub fn put_last(
     Ok(())
 }
 
-/// Puts intervals behind the last cell of a list, in free cells. Gives back the last cell of then.
+/// Puts intervals after the last cell of a list, in free cells. Gives back the last cell of then.
 pub fn place_run(
     cells: &mut [Cell],
     heads: &mut [Head],
@@ -222,7 +222,7 @@ fn push_cells(cells: &mut Vec<Cell>, list: u32, intervals: &[Interval])
     }
 }
 
-/// Puts intervals behind the last cell of a list, in new cells, for which there is room.
+/// Puts intervals after the last cell of a list, in new cells, for which there is room.
 pub fn push_run(
     cells: &mut Vec<Cell>,
     heads: &mut [Head],

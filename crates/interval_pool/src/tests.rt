@@ -158,7 +158,7 @@ fn walk_along_a_list(rt: HostRuntime) {
     assert!(rt; seen);
 }
 
-/// Puts so many intervals of two numbers into an empty list, one behind another, with a number missing between two.
+/// Puts so many intervals of two numbers into an empty list, one after another, with a number missing between two.
 fn append_all(pool: &mut Pool, list: ListId, count: u64) -> bool
     requires list { IsList pool.old list }
     requires none { spans pool.old list ≡ [] }
@@ -273,7 +273,7 @@ fn a_copy_changes_alone(rt: HostRuntime) {
     assert!(rt; shown);
 }
 
-/// Intervals behind those of a list with none, and behind these.
+/// Intervals after those of a list with none, and after these.
 fn shows_extended(pool: &mut Pool, list: ListId) -> bool
     requires list { IsList pool.old list }
     requires none { spans pool.old list ≡ [] }

@@ -41,7 +41,7 @@ joined (suc n) seen (x ∷ es) =
     ∙ union-gtids_of-cons seen x es
 
 -- the GTIDs of all entries have no fewer sources than those of the first ones
-fewer : (n : ℕ) (s : Gtids) (es : List Entry) → source_count (set.union s (gtids_of (take n es))) ≤ source_count (set.union s (gtids_of es))
+pub fewer : (n : ℕ) (s : Gtids) (es : List Entry) → source_count (set.union s (gtids_of (take n es))) ≤ source_count (set.union s (gtids_of es))
 fewer n s es =
     subst (λ t. source_count (set.union s (gtids_of (take n es))) ≤ source_count t) (joined n s es)
     (more (drop n es) (set.union s (gtids_of (take n es))))

@@ -27,7 +27,7 @@ abbrev pub AreNew : Gtids → List Entry → Type 0
 AreNew seen [] = Unit {0}
 AreNew seen (entry ∷ entries) = (set.contains seen entry.gtid ≡ false) × AreNew (set.insert seen entry.gtid) entries
 
--- what a journal keeps: no GTID stands twice or in the previous set, and each entry can be written
+-- what a journal keeps: no GTID occurs twice or in the previous set, and each entry can be written
 pub record IsJournal (previous : Gtids) (entries : List Entry) : Type 0 where
   pub new : AreNew previous entries
   pub writable : list_all is_writable entries ≡ true

@@ -52,28 +52,20 @@ impl Clone for Entry {
     }
 }
 
-fn is_value_writable(value: &Value) -> bool
-    ensures { result ≡ is_value_writable value.now }
+/// Whether no value has more than 65,535 bytes.
+#[tactic(auto, using(crate::proofs::WritableLemmas::values_writable))]
+fn are_values_writable(image: &Row) -> bool
+    ensures { result ≡ list_all is_value_writable image.now }
 {
-    match value {
-        Value::Null => true,
-        Value::Int(_) => true,
-        Value::Bytes(bytes) => bytes.as_slice().len() <= 65_535,
-    }
-}
-
-fn are_values_writable(values: &[Value]) -> bool
-    ensures { result ≡ list_all is_value_writable values.now }
-{
-    values.iter().all(|value| is_value_writable(value))
+    !image.has_long_value()
 }
 
 /// Whether an image can be written: 1 to 64 values of at most 65,535 bytes (our own limits).
 pub fn is_image_writable(image: &Row) -> bool
     ensures { result ≡ is_image_writable image.now }
 {
-    let values = image.values();
-    1 <= values.len() && values.len() <= 64 && are_values_writable(values)
+    let values = image.len();
+    1 <= values && values <= 64 && are_values_writable(image)
 }
 
 /// Whether a change can be written: each image has 1 to 64 values of at most 65,535 bytes (our own limits).
@@ -157,7 +149,7 @@ fn drop_front(entries: &mut Vec<Entry>, count: usize)
     entries.drain(..count);
 }
 
-/// What was executed before, and the entries after it in order. No GTID stands twice or in the
+/// What was executed before, and the entries after it in order. No GTID occurs twice or in the
 /// previous set, and each entry can be written.
 pub struct Journal {
     previous: GtidSet,
@@ -271,7 +263,7 @@ impl Journal {
         &self.entries
     }
 
-    /// A journal keeps to its rules: no GTID stands twice or in the previous set, and each entry can
+    /// A journal keeps to its rules: no GTID occurs twice or in the previous set, and each entry can
     /// be written. It does nothing; a proof calls it for its contract.
     pub fn keeps_rules(&self)
         ensures { IsJournal self.now.previous self.now.entries }

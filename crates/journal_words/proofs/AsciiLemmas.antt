@@ -4,8 +4,6 @@ use Rattle.std.specs.List.{list_all}
 use Rattle.std.specs.Str.{IsAscii, IsUtf8}
 use Rattle.std.proofs.lemmas.Str.{IsUtf8-from_ascii}
 use Rattle.std.proofs.lemmas.Bool.{ltb-true, and_parts}
-use Rattle.hex.specs.Hex.{encode_lower, lower_digits}
-use Rattle.hex.proofs.HexLemmas.{IsAscii-encode_with}
 use Rattle.journal_words.specs.Gtids.{is_ascii_byte}
 
 pub all_ascii : (w : List ℕ) → list_all is_ascii_byte w ≡ true → IsAscii w
@@ -15,7 +13,3 @@ all_ascii (b ∷ bs) e (suc i) = all_ascii bs (and_parts (is_ascii_byte b) (list
 
 pub ascii_utf8 : (w : List ℕ) → list_all is_ascii_byte w ≡ true → IsUtf8 w
 ascii_utf8 w e = IsUtf8-from_ascii w (all_ascii w e)
-
--- two digits for each byte are
-pub ascii_digits : (bytes : List ℕ) → IsAscii (encode_lower bytes)
-ascii_digits bytes = IsAscii-encode_with lower_digits bytes (all_ascii lower_digits refl)

@@ -1,4 +1,4 @@
--- A set that a word spells, as its intervals are added one after another.
+-- A set that a word parses as, as its intervals are added one after another.
 use Rattle.std.proofs.Common.{◌≡◌, ℕ, ◌≤◌, ◌<◌, ◌+◌, Bool, true, ◌&&◌, ◌||◌, refl, List, [], ◌∷◌, ◌++◌, length, take, drop, get_or, Option, Some, None, Result, Ok, Err, inl, inr, arith, ap, sym, ◌∙◌}
 use Rattle.std.specs.Prelude.{codes, nat_le}
 use Rattle.std.specs.List.{list_all}
@@ -8,7 +8,7 @@ use Rattle.std.proofs.lemmas.Bool.{and_parts, and_from}
 use Rattle.std.proofs.lemmas.List.{take_more, take-append-drop, length-take}
 use Rattle.std.proofs.lemmas.Option.{same_Some}
 use Rattle.gtid_text.specs.declared.Span.{Span}
-use Rattle.gtid_text.specs.declared.scan.Refusal.{Refusal}
+use Rattle.gtid_text.specs.declared.scan.ScanFault.{ScanFault}
 use Rattle.gtid_text.specs.Canonical.{spans_text}
 use Rattle.gtid_text.specs.Reading.{spans_in}
 use Rattle.gtid_text.proofs.Found.{read_spells}
@@ -27,8 +27,8 @@ use Rattle.gtid_set.proofs.SetSources.{fewer_sources}
 use Rattle.gtid_set.proofs.SpanLemmas.{all_weaker, before_trans, merged_front}
 use Rattle.gtid_set.proofs.TextLemmas.{spelled_filled}
 use Rattle.journal_words.specs.Gtids.{is_ascii_byte, if_ascii, are_tidy_behind, some_tidy, tidy_or_none, spans_of_word, set_with, IsWordFault}
-use Rattle.journal_words.specs.Values.{where_same}
-use Rattle.journal_words.proofs.ValueLaws.{where_same-found}
+use Rattle.row_images.specs.Values.{where_same}
+use Rattle.row_images.proofs.ValueLaws.{where_same-found}
 
 -- ---- tidy intervals are a merged list
 
@@ -58,14 +58,14 @@ tidy_found w (u ∷ us) ss read e =
       | inr p ↦ absurd cc
     ]
 
-read_tidy : (w : List ℕ) (r : Result (List Span) Refusal) (ss : List Span) → spans_in w ≡ r → tidy_or_none w r ≡ Some ss → is_merged ss ≡ true
+read_tidy : (w : List ℕ) (r : Result (List Span) ScanFault) (ss : List Span) → spans_in w ≡ r → tidy_or_none w r ≡ Some ss → is_merged ss ≡ true
 read_tidy w (Ok us) ss read e = tidy_found w us ss read e
 read_tidy w (Err x) ss read e = absurd cc
 
 ascii_found : {A : Type 0} (w : List ℕ) (o : Option A) (x : A) → if_ascii w o ≡ Some x → o ≡ Some x
 ascii_found w o x e = elim (chosen (list_all is_ascii_byte w) o None (Some x) e) [ inl p ↦ p.1 | inr p ↦ absurd cc ]
 
--- the intervals that a word spells
+-- the intervals that a word parses as
 pub word_merged : (w : List ℕ) (ss : List Span) → spans_of_word w ≡ Some ss → is_merged ss ≡ true
 word_merged w ss e =
     elim (chosen (bytes_eq w (codes "-")) (Some []) (if_ascii w (tidy_or_none w (spans_in w))) (Some ss) e) [

@@ -5,26 +5,26 @@ use Rattle.std.specs.Str.{bytes_eq}
 use Rattle.std.specs.FinSet as set
 use Rattle.gtid_text.specs.declared.Gtid.{Gtid}
 use Rattle.gtid_text.specs.declared.Span.{Span}
-use Rattle.gtid_text.specs.declared.scan.Refusal.{Refusal}
+use Rattle.gtid_text.specs.declared.scan.ScanFault.{ScanFault}
 use Rattle.gtid_text.specs.Canonical.{source_text, gtid_text, spans_text}
 use Rattle.gtid_text.specs.Reading.{source_in, gtid_in, spans_in}
 use Rattle.gtid_set.specs.declared.fault.SetFault.{SetFault}
 use Rattle.gtid_set.specs.Full.{HasManySources, HasManyIntervals, IsMemoryOr}
 use Rattle.gtid_set.specs.Sets.{Gtids, interval}
-use Rattle.journal_words.specs.Values.{where_same}
+use Rattle.row_images.specs.Values.{where_same}
 
 abbrev pub is_ascii_byte : ℕ → Bool
 is_ascii_byte b = nat_lt b 128
 
 -- what was read, where its one text is the word
-abbrev pub same_or_none : {A : Type 0} → (A → List ℕ) → List ℕ → Result A Refusal → Option A
+abbrev pub same_or_none : {A : Type 0} → (A → List ℕ) → List ℕ → Result A ScanFault → Option A
 same_or_none text word (Ok x) = where_same text word x
 same_or_none text word (Err r) = None
 
 abbrev pub if_ascii : {A : Type 0} → List ℕ → Option A → Option A
 if_ascii word found = if list_all is_ascii_byte word then found else None
 
--- the source, or the GTID, that a word spells
+-- the source, or the GTID, that a word parses as
 abbrev pub source_of_word : List ℕ → Option ℕ
 source_of_word word = if_ascii word (same_or_none source_text word (source_in word))
 
@@ -33,11 +33,11 @@ gtid_of_word word = if_ascii word (same_or_none gtid_text word (gtid_in word))
 
 -- ---- sets
 
--- an interval stands behind another, with a number missing between where both are of one source
+-- an interval comes after another, with a number missing between where both are of one source
 abbrev pub is_behind : Span → Span → Bool
 is_behind earlier span = nat_lt earlier.source span.source || ((earlier.source == span.source) && nat_lt (earlier.hi + 1) span.lo)
 
--- each interval stands behind the one before it
+-- each interval comes after the one before it
 abbrev pub are_tidy_behind : Option Span → List Span → Bool
 are_tidy_behind before [] = true
 are_tidy_behind None (s ∷ ss) = are_tidy_behind (Some s) ss
@@ -47,11 +47,11 @@ abbrev pub some_tidy : List ℕ → List Span → Option (List Span)
 some_tidy word [] = None
 some_tidy word (s ∷ ss) = if are_tidy_behind None (s ∷ ss) then where_same spans_text word (s ∷ ss) else None
 
-abbrev pub tidy_or_none : List ℕ → Result (List Span) Refusal → Option (List Span)
+abbrev pub tidy_or_none : List ℕ → Result (List Span) ScanFault → Option (List Span)
 tidy_or_none word (Ok spans) = some_tidy word spans
 tidy_or_none word (Err r) = None
 
--- the intervals that a word spells, in their one order; `-` spells none
+-- the intervals that a word parses as, in their one order; `-` parses as none
 abbrev pub spans_of_word : List ℕ → Option (List Span)
 spans_of_word word =
     if bytes_eq word (codes "-") then Some []
@@ -62,15 +62,15 @@ abbrev pub set_with : Gtids → List Span → Gtids
 set_with s [] = s
 set_with s (t ∷ ts) = set_with (set.union s (interval t.source t.lo t.hi)) ts
 
--- the set that a word spells
+-- the set that a word parses as
 abbrev pub set_of_word : List ℕ → Option Gtids
 set_of_word word = option_map (set_with set.empty) (spans_of_word word)
 
--- the set that a word spells, if it spells one, has this
+-- the set that a word parses as, if it parses as one, has this
 abbrev pub OfSpelled : (Gtids → Type 0) → Option Gtids → Type 0
 OfSpelled Has (Some s) = Has s
 OfSpelled Has None = ⊥
 
--- why a set that a word spells was not made: memory was refused, or the set has too many sources or intervals
+-- why a set that a word parses as was not made: memory was refused, or the set has too many sources or intervals
 abbrev pub IsWordFault : SetFault → Option Gtids → Type 0
 IsWordFault f spelled = IsMemoryOr (OfSpelled HasManySources spelled) (OfSpelled HasManyIntervals spelled) f

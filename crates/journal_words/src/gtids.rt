@@ -3,7 +3,7 @@ ghost use Rattle.std.specs.Prelude.{◌≡◌, ◌++◌, true, false, IfOk, IfEr
 ghost use Rattle.std.specs.String.{string_bytes};
 ghost use Rattle.std.specs.List.{list_all};
 ghost use Rattle.gtid_text.specs.Canonical.{source_text, gtid_text, spans_text};
-ghost use Rattle.journal_words.specs.Values.{where_same};
+ghost use Rattle.row_images.specs.Values.{where_same};
 ghost use Rattle.std.specs.Str.{bytes_eq};
 ghost use Rattle.std.specs.FinSet as set;
 ghost use Rattle.gtid_set.specs.Spans.{is_merged};
@@ -64,7 +64,7 @@ fn as_gtid(alloc: Global, word: &[u8], gtid: Gtid) -> Result<Option<Gtid>, Alloc
     }
 }
 
-/// The source that the word spells.
+/// The source that the word parses as.
 pub fn source_word(alloc: Global, word: &[u8]) -> Result<Option<SourceId>, AllocError>
     ensures { IfOk result (λ found. found ≡ source_of_word word.now) }
 {
@@ -77,7 +77,7 @@ pub fn source_word(alloc: Global, word: &[u8]) -> Result<Option<SourceId>, Alloc
     }
 }
 
-/// The GTID that the word spells.
+/// The GTID that the word parses as.
 pub fn gtid_word(alloc: Global, word: &[u8]) -> Result<Option<Gtid>, AllocError>
     ensures { IfOk result (λ found. found ≡ gtid_of_word word.now) }
 {
@@ -90,7 +90,7 @@ pub fn gtid_word(alloc: Global, word: &[u8]) -> Result<Option<Gtid>, AllocError>
     }
 }
 
-/// Whether a span stands behind another, with a gap between where both are of one source.
+/// Whether a span comes after another, with a gap between where both are of one source.
 fn is_behind(earlier: &Span, span: &Span) -> bool
     ensures { result ≡ is_behind earlier.now span.now }
 {
@@ -98,7 +98,7 @@ fn is_behind(earlier: &Span, span: &Span) -> bool
         || (earlier.source == span.source && earlier.hi < span.lo && 1 < span.lo - earlier.hi)
 }
 
-/// Whether each span stands behind the one before it.
+/// Whether each span comes after the one before it.
 fn are_tidy(spans: &[Span]) -> bool
     ensures { result ≡ are_tidy_behind None spans.now }
 {
@@ -147,7 +147,7 @@ fn as_spans(alloc: Global, word: &[u8], spans: Vec<Span>) -> Result<Option<Vec<S
     Ok(Some(spans))
 }
 
-/// The spans that the word spells. `-` spells none.
+/// The spans that the word parses as. `-` parses as none.
 fn spans_word(alloc: Global, word: &[u8]) -> Result<Option<Vec<Span>>, AllocError>
     ensures { IfOk result (λ found. option_map (λ v. v.items) found ≡ spans_of_word word.now) }
 {
@@ -180,7 +180,7 @@ fn set_of(alloc: Global, spans: &[Span]) -> Result<GtidSet, SetFault>
     Ok(set)
 }
 
-/// The set that the word spells: canonical set text, or `-` for the empty set.
+/// The set that the word parses as: canonical set text, or `-` for the empty set.
 pub fn set_word(alloc: Global, word: &[u8]) -> Result<Option<GtidSet>, SetFault>
     ensures found { IfOk result (λ found. found ≡ set_of_word word.now) }
     ensures fault { IfErr result (λ f. IsWordFault f (set_of_word word.now)) }

@@ -12,7 +12,7 @@ use Rattle.rows.specs.WriteSet.{write_set, touches, shares_key}
 use Rattle.journal.specs.declared.Entry.{Entry}
 use Rattle.std.proofs.lemmas.Cmp.{eq_by_cmp_equiv}
 use Rattle.logical_timestamps.specs.Timestamps.{last_place, last_committed}
-use Rattle.logical_timestamps.specs.Writers.{Writers, IsNext, written, writers_after, earlier_place, latest_in_turn}
+use Rattle.logical_timestamps.specs.Writers.{Writers, IsNext, record_writes, writers_after, earlier_place, latest_in_turn}
 use Rattle.logical_timestamps.proofs.Places.{last_place_below, latest, any_place}
 use Rattle.logical_timestamps.proofs.Writing.{place_or_0, writers_at, writers_more, in_turn, agree}
 
@@ -79,7 +79,7 @@ next_last_committed schema writers place earlier e h = (λ i. latest_in_turn (h.
 
 -- what the table is after it
 pub next_writers : (schema : List Table) (writers : Writers) (place : ℕ) (earlier : List Entry) (e : Entry) → IsNext writers schema place earlier
-    → written place (write_set schema e.txn) writers ≡ writers_after schema (earlier ++ e ∷ [])
+    → record_writes place (write_set schema e.txn) writers ≡ writers_after schema (earlier ++ e ∷ [])
 next_writers schema writers place earlier e h =
     let at : length earlier + 1 ≡ 1 + length earlier = omega arith in
-    (λ i. written ((h.1 ∙ at) i) (write_set schema e.txn) (h.0 i)) ∙ sym (writers_more schema 1 empty earlier e)
+    (λ i. record_writes ((h.1 ∙ at) i) (write_set schema e.txn) (h.0 i)) ∙ sym (writers_more schema 1 empty earlier e)

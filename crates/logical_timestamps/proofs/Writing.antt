@@ -10,7 +10,7 @@ use Rattle.rows.specs.Total.{key_total, key_eq_same}
 use Rattle.rows.specs.WriteSet.{write_set, touches, is_among}
 use Rattle.journal.specs.declared.Entry.{Entry}
 use Rattle.logical_timestamps.specs.Timestamps.{last_place}
-use Rattle.logical_timestamps.specs.Writers.{Writers, written, writers_from, earlier_place, latest_in_turn}
+use Rattle.logical_timestamps.specs.Writers.{Writers, record_writes, writers_from, earlier_place, latest_in_turn}
 use Rattle.logical_timestamps.proofs.Places.{latest}
 
 -- the place of a writer; 0 where there is none
@@ -28,7 +28,7 @@ either_key false true place n = refl
 either_key false false place n = refl
 
 -- a key among those that were written has this place, any other the old one
-pub written_at : (place : ℕ) (keys : List Key) (writers : Writers) (k : Key) → place_or_0 (get (written place keys writers) k) ≡ cond (is_among keys k) place (place_or_0 (get writers k))
+pub written_at : (place : ℕ) (keys : List Key) (writers : Writers) (k : Key) → place_or_0 (get (record_writes place keys writers) k) ≡ cond (is_among keys k) place (place_or_0 (get writers k))
 written_at place [] writers k = refl
 written_at place (x ∷ keys) writers k =
     written_at place keys (insert writers x place) k
@@ -41,19 +41,19 @@ pub writers_at : (schema : List Table) (place : ℕ) (writers : Writers) (es : L
     → place_or_0 (get (writers_from schema place writers es) k) ≡ last_place (λ (f : Entry). touches schema f.txn k) place (place_or_0 (get writers k)) es
 writers_at schema place writers [] k = refl
 writers_at schema place writers (e ∷ es) k =
-    writers_at schema (place + 1) (written place (write_set schema e.txn) writers) es k
+    writers_at schema (place + 1) (record_writes place (write_set schema e.txn) writers) es k
     ∙ ap (λ n. last_place (λ (f : Entry). touches schema f.txn k) (place + 1) n es) (written_at place (write_set schema e.txn) writers k)
 
 -- one more entry
 pub writers_more : (schema : List Table) (place : ℕ) (writers : Writers) (es : List Entry) (e : Entry)
-    → writers_from schema place writers (es ++ e ∷ []) ≡ written (place + length es) (write_set schema e.txn) (writers_from schema place writers es)
+    → writers_from schema place writers (es ++ e ∷ []) ≡ record_writes (place + length es) (write_set schema e.txn) (writers_from schema place writers es)
 writers_more schema place writers [] e =
     let at : place ≡ place + 0 = omega arith in
-    ap (λ n. written n (write_set schema e.txn) writers) at
+    ap (λ n. record_writes n (write_set schema e.txn) writers) at
 writers_more schema place writers (x ∷ es) e =
     let at : (place + 1) + length es ≡ place + length (x ∷ es) = omega arith in
-    writers_more schema (place + 1) (written place (write_set schema x.txn) writers) es e
-    ∙ ap (λ n. written n (write_set schema e.txn) (writers_from schema place writers (x ∷ es))) at
+    writers_more schema (place + 1) (record_writes place (write_set schema x.txn) writers) es e
+    ∙ ap (λ n. record_writes n (write_set schema e.txn) (writers_from schema place writers (x ∷ es))) at
 
 -- ---- in turn
 

@@ -18,24 +18,24 @@ abbrev pub writers_code : Coded Writers
 writers_code = finmap.code key_code coded_ℕ
 
 -- the entry at this place touches these keys
-abbrev pub written : ℕ → List Key → Writers → Writers
-written place [] writers = writers
-written place (key ∷ keys) writers = written place keys (finmap.insert writers key place)
+abbrev pub record_writes : ℕ → List Key → Writers → Writers
+record_writes place [] writers = writers
+record_writes place (key ∷ keys) writers = record_writes place keys (finmap.insert writers key place)
 
 -- after these entries, the first of which is at this place
 abbrev pub writers_from : List Table → ℕ → Writers → List Entry → Writers
 writers_from schema place writers [] = writers
-writers_from schema place writers (e ∷ es) = writers_from schema (place + 1) (written place (write_set schema e.txn) writers) es
+writers_from schema place writers (e ∷ es) = writers_from schema (place + 1) (record_writes place (write_set schema e.txn) writers) es
 
 -- after these entries, from the first of a journal on
 abbrev pub writers_after : List Table → List Entry → Writers
 writers_after schema es = writers_from schema 1 finmap.empty es
 
--- the table stands for these entries, and the next one is at this place
+-- the table denotes these entries, and the next one is at this place
 abbrev pub IsNext : Writers → List Table → ℕ → List Entry → Type 0
 IsNext writers schema place es = (writers ≡ writers_after schema es) × (place ≡ length es + 1)
 
--- the last_committed of the next entry, whichever entries the table stands for
+-- the last_committed of the next entry, whichever entries the table denotes
 abbrev pub IsNextLastCommitted : Writers → List Table → ℕ → Entry → ℕ → Type 0
 IsNextLastCommitted writers schema place e n = (earlier : List Entry) → IsNext writers schema place earlier → n ≡ last_committed schema earlier e
 

@@ -2,7 +2,7 @@
 ghost use Rattle.std.specs.Prelude.{◌≡◌, IfOk, OnOk};
 ghost use Rattle.std.specs.FinMap as finmap;
 ghost use Rattle.logical_timestamps.specs.Timestamps.{last_committed_of};
-ghost use Rattle.logical_timestamps.specs.Writers.{IsNextLastCommitted, AreNextWriters, writers_after, written, earlier_place, latest_in_turn};
+ghost use Rattle.logical_timestamps.specs.Writers.{IsNextLastCommitted, AreNextWriters, writers_after, record_writes, earlier_place, latest_in_turn};
 
 use indexmap::IndexMap;
 use journal::{Entry, Journal};
@@ -77,7 +77,7 @@ impl LastWriters {
 
     /// An entry touches keys. The greatest number of what touched them before that entry comes back, or 0.
     fn write_all(&mut self, keys: Vec<Key>, number: u64) -> Result<u64, AllocError>
-        ensures written { OnOk result (self.new ≡ written number keys.items self.old) }
+        ensures written { OnOk result (self.new ≡ record_writes number keys.items self.old) }
         ensures latest { IfOk result (λ n. n ≡ latest_in_turn number keys.items self.old 0) }
     {
         let mut latest = 0;

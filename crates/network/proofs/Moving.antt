@@ -11,13 +11,13 @@ use Rattle.rows.specs.declared.change.RowFault.{RowFault}
 use Rattle.rows.specs.Fits.{misfit}
 use Rattle.rows.specs.Apply.{Rows, apply}
 use Rattle.journal.specs.declared.Entry.{Entry}
-use Rattle.relay.specs.Own.{with_last, purged_to}
-use Rattle.apply_channel.specs.Channels.{ChannelValue, Received, settle, settled, same_name, is_full}
+use Rattle.relay.specs.Own.{with_last, purge_to}
+use Rattle.apply_channel.specs.Channels.{ChannelValue, Received, settle, settle_channel, same_name, is_full}
 use Rattle.replica_core.specs.declared.event.Event.{Event}
 use Rattle.replica_core.specs.declared.event.Event.TheVariants.{OpenChannel, Position, Receive, Take, Commit, Rollback, Restart, Local, Purge, Look}
 use Rattle.replica_core.specs.declared.event.Reply.TheVariants.{NotInSchema, Ask, SeatBusy, OwnedBy, Blocked, Early, RolledBack, Restarted}
 use Rattle.replica_core.specs.State.{State, Site, owned_by, owner}
-use Rattle.replica_core.specs.Machine.{Step, is_seat, ask, blocking, open_before, with_channel, without_seat, stopped_at, open_channel, position_on, receive, take_entry, take_place, held, commit_answer, commit_held, commit, rollback, restart, next_number, local_answer, local, purge, step}
+use Rattle.replica_core.specs.Machine.{Step, is_seat, ask, blocking, open_before, with_channel, without_seat, set_stopped_at, open_channel, position_on, receive, take_entry, take_place, held, commit_answer, commit_held, commit, rollback, restart, next_number, local_answer, local, purge, step}
 use Rattle.ordered_journals.proofs.Lists.{on_test, get_push_cases, get_set_cases, get_map}
 use Rattle.ordered_replicas.proofs.Invariant.{Stands}
 use Rattle.ordered_replicas.proofs.Receiving.{settle_gtid}
@@ -37,7 +37,7 @@ pub record Appends (old new : State) : Type 0 where
 
 pub record Purges (old new : State) : Type 0 where
   pub count : ℕ
-  pub journal : new.journal ≡ purged_to count old.journal
+  pub journal : new.journal ≡ purge_to count old.journal
   pub executed : new.executed ≡ old.executed
 
 abbrev pub Journals : State → State → Type 0
@@ -87,9 +87,9 @@ stood h rs g w =
 stays : (h : Gtid) (rs : List Received) (g : Gtid) → Stands g rs → Stands g (map (settle h) rs)
 stays h rs g w = (w.0, settle h w.1, get_map (settle h) rs w.0 w.1 w.2, settle_gtid h w.1 ∙ w.3)
 
-pub before_settled : (channels : List ChannelValue) (h : Gtid) → AreAsBefore channels (map (settled h) channels)
+pub before_settled : (channels : List ChannelValue) (h : Gtid) → AreAsBefore channels (map (settle_channel h) channels)
 before_settled channels h c ch A e a =
-    let r = get_map_cases (settled h) channels c ch e in
+    let r = get_map_cases (settle_channel h) channels c ch e in
     record {
       channel = r.0;
       there = r.1;
@@ -171,7 +171,7 @@ module _ (site : Site) (s : State) where
       (λ n. record { journals = still s; channels = λ f. same_channels s.channels })
       (λ h n. record { journals = inl (record { journal = refl; executed = refl }); channels = λ f. same_channels s.channels }))
 
-  stopped_before : (c : ℕ) → AreAsBefore s.channels (stopped_at true c s.channels)
+  stopped_before : (c : ℕ) → AreAsBefore s.channels (set_stopped_at true c s.channels)
   stopped_before c =
       on_option (AreAsBefore s.channels) (λ channel. slice_set s.channels c (record channel { stopped = true })) (slice_get s.channels c) s.channels
       (λ e. same_channels s.channels)

@@ -5,7 +5,7 @@ use Rattle.std.proofs.lemmas.Bool.{cases_Bool, eqb-true}
 use Rattle.std.proofs.lemmas.Bool.Decides.{nat_tests}
 use Rattle.network.specs.Nodes.{Sources}
 use Rattle.network.specs.Slots.{sources_of}
-use Rattle.network.specs.Reading.{moved, reads, place_after, AreMoved}
+use Rattle.network.specs.Reading.{shift_place, reads, place_after, AreMoved}
 use Rattle.network.proofs.SlotLemmas.{get-sources_of, at_slot, beyond}
 
 -- the slots below a number have moved, and the others have not
@@ -46,13 +46,13 @@ old_here : (n : ℕ) (sources : Sources) (k count : ℕ) (old new : List (Option
 old_here n sources k count old new m = m.each n ∙ ap (λ b. cond b (place_after sources k count n (get_or old n None)) (get_or old n None)) (here_not_less n)
 
 -- the channel reads the node: its place moves
-pub one_moves : (n : ℕ) (sources : Sources) (k count : ℕ) (old new : List (Option ℕ)) (v : Option ℕ) → n < length new → AreMovedTo n sources k count old new → reads sources n k ≡ true → v ≡ moved count (get_or new n None)
+pub one_moves : (n : ℕ) (sources : Sources) (k count : ℕ) (old new : List (Option ℕ)) (v : Option ℕ) → n < length new → AreMovedTo n sources k count old new → reads sources n k ≡ true → v ≡ shift_place count (get_or new n None)
     → AreMovedTo (n + 1) sources k count old (set new n v)
 one_moves n sources k count old new v below m r is =
     one_more n sources k count old new (set new n v) m (length-set new n v)
     (λ c other. at_slot v new n c below ∙ ap (λ b. cond b v (get_or new c None)) other)
     (at_slot v new n n below ∙ (ap (λ b. cond b v (get_or new n None)) (itself n)
-    ∙ (is ∙ (ap (moved count) (old_here n sources k count old new m) ∙ sym (ap (λ b. cond b (moved count (get_or old n None)) (get_or old n None)) r)))))
+    ∙ (is ∙ (ap (shift_place count) (old_here n sources k count old new m) ∙ sym (ap (λ b. cond b (shift_place count (get_or old n None)) (get_or old n None)) r)))))
   where
     itself : (i : ℕ) → (i == i) ≡ true
     itself i = grind (arith, nat_tests)
@@ -61,7 +61,7 @@ one_moves n sources k count old new v below m r is =
 pub one_stays : (n : ℕ) (sources : Sources) (k count : ℕ) (old new : List (Option ℕ)) → AreMovedTo n sources k count old new → reads sources n k ≡ false → AreMovedTo (n + 1) sources k count old new
 one_stays n sources k count old new m r =
     one_more n sources k count old new new m refl (λ c other. refl)
-    (old_here n sources k count old new m ∙ sym (ap (λ b. cond b (moved count (get_or old n None)) (get_or old n None)) r))
+    (old_here n sources k count old new m ∙ sym (ap (λ b. cond b (shift_place count (get_or old n None)) (get_or old n None)) r))
 
 -- all slots
 pub all_moved : (n : ℕ) (sources : Sources) (k count : ℕ) (old new : List (Option ℕ)) → length old ≤ n → AreMovedTo n sources k count old new → AreMoved sources k count (sources_of old) (sources_of new)
@@ -76,6 +76,6 @@ all_moved n sources k count old new far m c =
           ∙ (none ∙ sym (ap (place_after sources k count c) (get-sources_of old c ∙ none) ∙ both (reads sources c k)))
     ]))
   where
-    both : (b : Bool) → cond b (moved count None) None ≡ None
+    both : (b : Bool) → cond b (shift_place count None) None ≡ None
     both true = refl
     both false = refl

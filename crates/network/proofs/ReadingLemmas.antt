@@ -19,9 +19,8 @@ use Rattle.gtid_set.specs.Sets.{Gtids}
 use Rattle.rows.proofs.Lists.{none_some, on_option, lt_cases}
 use Rattle.journal.specs.declared.Entry.{Entry}
 use Rattle.journal.specs.Journals.{JournalValue, gtids_of, purged}
-use Rattle.relay.specs.Own.{with_last, purged_to}
-use Rattle.apply_channel.specs.Channels.{ChannelValue}
-use Rattle.apply_channel.specs.Channels.{is_full}
+use Rattle.relay.specs.Own.{with_last, purge_to}
+use Rattle.apply_channel.specs.Channels.{ChannelValue, is_full}
 use Rattle.gtid_set.specs.declared.fault.SetFault.{SetFault}
 use Rattle.rows.specs.Fits.{misfit}
 use Rattle.replica_core.specs.declared.event.Event.{Event}
@@ -35,7 +34,7 @@ use Rattle.ordered_journals.proofs.Covering.{is_entry, in_entries}
 use Rattle.network.specs.Nodes.{Node, Sources}
 use Rattle.network.specs.Machine.{come, is_for_network}
 use Rattle.network.specs.Made.{Makes, MakesAt}
-use Rattle.network.specs.Reading.{Places, has_come, HasRead, IsRead, IsReadFrom, AreRead, moved, reads, place_after, AreMoved, AreAllMoved, entries_at}
+use Rattle.network.specs.Reading.{Places, has_come, HasRead, IsRead, IsReadFrom, AreRead, shift_place, reads, place_after, AreMoved, AreAllMoved, entries_at}
 use Rattle.network.proofs.Moving.{Journals, Moves, step_moves}
 use Rattle.network.proofs.Coming.{Grew, still_come, grew_as_before, grew_same, position_grew, receive_grew}
 
@@ -61,10 +60,10 @@ read_more came more grows journal (Some place) r = record {
 at_place : (came : Gtids) (journal : JournalValue) (p q : ℕ) → p ≡ q → HasRead came journal p → HasRead came journal q
 at_place came journal p q e = subst (HasRead came journal) e
 
-at_known : (came : Gtids) (journal : JournalValue) (count p : ℕ) → (nat_le count p ≡ true → HasRead came journal (p - count)) → IsRead came journal (moved count (Some p))
+at_known : (came : Gtids) (journal : JournalValue) (count p : ℕ) → (nat_le count p ≡ true → HasRead came journal (p - count)) → IsRead came journal (shift_place count (Some p))
 at_known came journal count p h = on_test (IsRead came journal) (nat_le count p) (Some (p - count)) None h (λ far. tt)
 
--- entries of a front of a front
+-- entries of a prefix of a prefix
 all_front : (f : Entry → Bool) (count p : ℕ) (es : List Entry) → length es - (length es - count) ≤ p → list_all f (take p es) ≡ true → list_all f (take count es) ≡ true
 all_front f zero p es h all = refl
 all_front f (suc count) p [] h all = refl
@@ -73,7 +72,7 @@ all_front f (suc count) (suc p) (e ∷ es) h all =
     let two = and_parts (f e) (list_all f (take p es)) all in
     both_true (f e) (list_all f (take count es)) two.0 (all_front f count p es (omega (h, arith)) two.1)
 
--- entries of a front, without the first ones
+-- entries of a prefix, without the first ones
 all_behind : (f : Entry → Bool) (count p : ℕ) (es : List Entry) → list_all f (take p es) ≡ true → list_all f (take (p - count) (drop count es)) ≡ true
 all_behind f zero p es all = ap (λ n. list_all f (take n es)) less_none ∙ all
   where
@@ -104,7 +103,7 @@ all_come came (e ∷ es) g all i =
     ]
 
 purged_read : (came : Gtids) (j : JournalValue) (count p : ℕ) → HasRead came j p → length j.entries - length (drop count j.entries) ≤ p
-    → HasRead came (purged_to count j) (p - (length j.entries - length (drop count j.entries)))
+    → HasRead came (purge_to count j) (p - (length j.entries - length (drop count j.entries)))
 purged_read came j count p r near =
     let left : length (drop count j.entries) ≡ length j.entries - count = length-drop count j.entries in
     let there : length j.entries - (length j.entries - count) ≤ p = omega (left, near, arith) in
@@ -123,7 +122,7 @@ purged_read came j count p r near =
 
 -- what has been read of a binary log is read after an event of its node
 pub journal_read : (came : Gtids) (old new : State) → Journals old new → (place : Option ℕ) → IsRead came old.journal place
-    → IsRead came new.journal (moved (length old.journal.entries - length new.journal.entries) place)
+    → IsRead came new.journal (shift_place (length old.journal.entries - length new.journal.entries) place)
 journal_read came old new moves None r = tt
 journal_read came old new (inl stays) (Some p) r =
     at_known came new.journal (length old.journal.entries - length new.journal.entries) p (λ near.
@@ -179,19 +178,19 @@ was_reading N i node after at j d k y ch A keeps here source there asked =
 
 -- what a channel has read before an event of some node, it has read after it
 pub read_after : (N : List Node) (i : ℕ) (node after : Node) → slice_get N i ≡ Some node → Journals node.replica.state after.replica.state → (j d k : ℕ) (place : Option ℕ) → (j ≡ i → Keeps node after d)
-    → IsReadFrom N j d k place → IsReadFrom (slice_set N i after) j d k (cond (k == i) (moved (length node.replica.state.journal.entries - length after.replica.state.journal.entries) place) place)
+    → IsReadFrom N j d k place → IsReadFrom (slice_set N i after) j d k (cond (k == i) (shift_place (length node.replica.state.journal.entries - length after.replica.state.journal.entries) place) place)
 read_after N i node after at moves j d k place keeps read y z ch A here from source there asked =
     let was = was_reading N i node after at j d k y ch A keeps here source there asked in
     let more : (j : JournalValue) (p : Option ℕ) → IsRead (come A was.channel.channel) j p → IsRead (come A ch) j p = read_more (come A was.channel.channel) (come A ch) (still_come was.node.replica.state.channels d ch A was.channel) in
     elim (get_set_cases N i after k z from) [
       | inl made ↦
           let r = read was.node node was.channel.channel A was.at (ap (slice_get N) made.0 ∙ at) was.source was.channel.there was.channel.asked in
-          subst (λ b. IsRead (come A ch) z.replica.state.journal (cond b (moved (length node.replica.state.journal.entries - length after.replica.state.journal.entries) place) place)) (sym (eq-eqb k i made.0))
-          (subst (λ (x : Node). IsRead (come A ch) x.replica.state.journal (moved (length node.replica.state.journal.entries - length after.replica.state.journal.entries) place)) made.1
+          subst (λ b. IsRead (come A ch) z.replica.state.journal (cond b (shift_place (length node.replica.state.journal.entries - length after.replica.state.journal.entries) place) place)) (sym (eq-eqb k i made.0))
+          (subst (λ (x : Node). IsRead (come A ch) x.replica.state.journal (shift_place (length node.replica.state.journal.entries - length after.replica.state.journal.entries) place)) made.1
           (journal_read (come A ch) node.replica.state after.replica.state moves place (more node.replica.state.journal place r)))
       | inr other ↦
           let r = read was.node z was.channel.channel A was.at other.1 was.source was.channel.there was.channel.asked in
-          subst (λ b. IsRead (come A ch) z.replica.state.journal (cond b (moved (length node.replica.state.journal.entries - length after.replica.state.journal.entries) place) place)) (sym (other_number k i other.0)) (more z.replica.state.journal place r)
+          subst (λ b. IsRead (come A ch) z.replica.state.journal (cond b (shift_place (length node.replica.state.journal.entries - length after.replica.state.journal.entries) place) place)) (sym (other_number k i other.0)) (more z.replica.state.journal place r)
     ]
   where
     other_number : (m n : ℕ) → m ≢ n → (m == n) ≡ false
@@ -244,9 +243,9 @@ new_read N R same new = record {
   read = λ i d k x at. nothing_read N i d k (finmap.get x d) (ap (λ (m : Places). finmap.get m d) (new i x at) ∙ finmap.get-empty nat_cmp d);
 }
 
-unmoved : (count : ℕ) (place : Option ℕ) → count ≡ 0 → moved count place ≡ place
+unmoved : (count : ℕ) (place : Option ℕ) → count ≡ 0 → shift_place count place ≡ place
 unmoved count None e = refl
-unmoved count (Some p) e = ap (λ n. moved n (Some p)) e ∙ (λ j. cond (near j) (Some (same j)) None)
+unmoved count (Some p) e = ap (λ n. shift_place n (Some p)) e ∙ (λ j. cond (near j) (Some (same j)) None)
   where
     near : nat_le 0 p ≡ true
     near = grind (arith, nat_tests)
@@ -289,8 +288,8 @@ acted_read N R R' i node after at moves keeps read all = record {
       let old = get_before R R' j x all.length_is e in
       let count = length node.replica.state.journal.entries - length after.replica.state.journal.entries in
       let place = all.each j y old.0 x here old.1 e d in
-      let reads_k : place_after y.sources i count d (finmap.get old.0 d) ≡ cond (k == i) (moved count (finmap.get old.0 d)) (finmap.get old.0 d) =
-      ap (λ o. cond (option_map_or (λ source. source == i) o false) (moved count (finmap.get old.0 d)) (finmap.get old.0 d)) source in
+      let reads_k : place_after y.sources i count d (finmap.get old.0 d) ≡ cond (k == i) (shift_place count (finmap.get old.0 d)) (finmap.get old.0 d) =
+      ap (λ o. cond (option_map_or (λ source. source == i) o false) (shift_place count (finmap.get old.0 d)) (finmap.get old.0 d)) source in
       subst (IsRead (come A ch) z.replica.state.journal) (sym (place ∙ reads_k))
       (read_after N i node after at moves j d k (finmap.get old.0 d) (λ m. keeps d) (read.read j d k old.0 old.1) y z ch A here from source there asked);
 }

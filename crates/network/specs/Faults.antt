@@ -21,7 +21,7 @@ use Rattle.network.specs.Machine.{Decision, decide}
 abbrev pub IsCauseBy : SetFault → Event → Node → Type 0
 IsCauseBy f e node = IsCause f node.replica.site node.replica.state e
 
--- the same of the node at a place; where none is there, memory alone may be wanting
+-- the same of the node at a place; where none is there, an allocation alone may fail
 abbrev pub IsCauseAt : SetFault → List Node → ℕ → Event → Type 0
 IsCauseAt f nodes i e = MatchOption (slice_get nodes i) (f ≡ Memory) (IsCauseBy f e)
 
@@ -60,7 +60,7 @@ IsEventCause f nodes (Act i e) = IsCauseAt f nodes i e
 IsEventCause f nodes (Position i c k) = IsCauseAt f nodes i (event.Position c) ⊎ IsPlanCause f nodes i c k
 IsEventCause f nodes (Receive i c) = IsCauseOf f nodes (decide nodes (Receive i c)) ⊎ IsReadingCause f nodes i c
 
--- a fault of the event that comes next, if any comes; want of memory may come before its step
+-- a fault of the event that comes next, if any comes; a failed allocation may come before its step
 abbrev pub IsFaultAt : SetFault → List Node → Option NetworkEvent → Type 0
 IsFaultAt f nodes None = Unit {0}
 IsFaultAt f nodes (Some e) = IsEventCause f nodes e

@@ -19,13 +19,13 @@ pub record Node : Type 0 where
 
 -- a replica with these rows and nothing else, which reads nothing
 abbrev pub opened_node : List Table → Rows → ℕ → Node
-opened_node schema rows own = record { replica = core.opened own (record { schema = schema; rows = rows }); sources = finmap.empty }
+opened_node schema rows own = record { replica = core.new_replica own (record { schema = schema; rows = rows }); sources = finmap.empty }
 
 -- a node for each UUID, all with the same rows
-abbrev pub opened : List ℕ → List Table → Rows → List Node
-opened ids schema rows = map (opened_node schema rows) ids
+abbrev pub new_nodes : List ℕ → List Table → Rows → List Node
+new_nodes ids schema rows = map (opened_node schema rows) ids
 
--- no UUID stands twice
+-- no UUID occurs twice
 abbrev pub ids_distinct : List ℕ → Bool
 ids_distinct [] = true
 ids_distinct (own ∷ ids) = not (list_any (λ other. other == own) ids) && ids_distinct ids

@@ -48,10 +48,10 @@ pub record AreRead (nodes : List Node) (readers : List Places) : Type 0 where
 abbrev pub entries_at : List Node → ℕ → ℕ
 entries_at nodes i = option_map_or (λ (n : Node). length n.replica.state.journal.entries) (slice_get nodes i) 0
 
--- a place, once so many entries are purged: it is no longer known where they do not all stand before it
-abbrev pub moved : ℕ → Option ℕ → Option ℕ
-moved count None = None
-moved count (Some place) = if nat_le count place then Some (place - count) else None
+-- a place, once so many entries are purged: it is no longer known where they do not all come before it
+abbrev pub shift_place : ℕ → Option ℕ → Option ℕ
+shift_place count None = None
+shift_place count (Some place) = if nat_le count place then Some (place - count) else None
 
 -- whether a channel reads a node
 abbrev pub reads : Sources → ℕ → ℕ → Bool
@@ -59,7 +59,7 @@ reads sources c k = option_map_or (λ source. source == k) (finmap.get sources c
 
 -- the place of a channel, once so many entries of this node are purged
 abbrev pub place_after : Sources → ℕ → ℕ → ℕ → Option ℕ → Option ℕ
-place_after sources k count c place = if reads sources c k then moved count place else place
+place_after sources k count c place = if reads sources c k then shift_place count place else place
 
 -- the places of a node's channels, before and after that
 abbrev pub AreMoved : Sources → ℕ → ℕ → Places → Places → Type 0

@@ -4,8 +4,8 @@ ghost use Rattle.std.specs.Option.{option_copied, option_map};
 ghost use Rattle.gtid_set.specs.declared.fault.SetFault.TheVariants.{Memory};
 ghost use Rattle.gtid_set.specs.Full.{IsMemoryOr};
 ghost use Rattle.replica_core.specs.Machine as machine;
-ghost use Rattle.network.specs.Nodes.{opened, ids_distinct};
-ghost use Rattle.network.specs.Machine.{step, is_numbered, AreNumbered, replies, after, answered};
+ghost use Rattle.network.specs.Nodes.{new_nodes, ids_distinct};
+ghost use Rattle.network.specs.Machine.{step, is_numbered, AreNumbered, replies, after, answered_events};
 ghost use Rattle.network.specs.Faults.{IsEventCause, IsReadingCause, IsFaultAt};
 ghost use Rattle.network.specs.Next.{IsNext};
 ghost use Rattle.network.specs.declared.event.NetworkEvent.TheVariants.{Act, Position, Receive};
@@ -71,7 +71,7 @@ enum Next {
     Entry(usize, Entry),
 }
 
-/// Whether no UUID stands twice.
+/// Whether no UUID occurs twice.
 pub fn ids_distinct(ids: &[SourceId]) -> bool
     ensures { result ≡ ids_distinct ids.now }
 {
@@ -104,7 +104,7 @@ impl Network {
     /// A replica for each UUID, all with these rows and nothing else.
     pub fn open(alloc: Global, ids: &[SourceId], rows: &Rows) -> Result<Network, SetFault>
         requires { ids_distinct ids.now ≡ true }
-        ensures ok { IfOk result (λ n. n ≡ opened ids.now rows.now.schema rows.now.rows) }
+        ensures ok { IfOk result (λ n. n ≡ new_nodes ids.now rows.now.schema rows.now.rows) }
         ensures fault { IsOkUnless result Memory }
     {
         let mut nodes = Vec::new(alloc);
@@ -287,8 +287,8 @@ impl Network {
         events: &[NetworkEvent],
     ) -> (Vec<NetworkReply>, Option<SetFault>)
         requires { AreNumbered events.now }
-        ensures told { result.0.items ≡ replies self.old (answered result.0.items events.now) }
-        ensures nodes { self.new ≡ after self.old (answered result.0.items events.now) }
+        ensures told { result.0.items ≡ replies self.old (answered_events result.0.items events.now) }
+        ensures nodes { self.new ≡ after self.old (answered_events result.0.items events.now) }
         ensures whole { result.1 ≡ None → length result.0.items ≡ length events.now }
         ensures cut { IfSome result.1 (λ fault. length result.0.items < length events.now) }
         ensures fault { IfSome result.1 (λ f. IsFaultAt f self.new (slice_get events.now (length result.0.items))) }

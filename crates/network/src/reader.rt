@@ -2,14 +2,14 @@
 ghost use Rattle.std.specs.Prelude.{◌≡◌, OnOk, OnErr};
 ghost use Rattle.std.specs.FinMap as finmap;
 ghost use Rattle.network.specs.Slots.{sources_of};
-ghost use Rattle.network.specs.Reading.{AreMoved, moved};
+ghost use Rattle.network.specs.Reading.{AreMoved, shift_place};
 
 use crate::node::Node;
 use crate::slots::{fill, free, make_slots, slot_at};
 use std::alloc::{AllocError, Global};
 use std::marker::Model;
 
-/// For each channel of a node, how many entries at the front of its source's binary log have come, where that is known.
+/// For each channel of a node, how many entries at the start of its source's binary log have come, where that is known.
 #[derive(Drop)]
 pub(crate) struct Reader {
     places: Vec<Option<usize>>,
@@ -28,8 +28,8 @@ impl Model for Reader {
 }
 
 /// A place, once so many entries are purged.
-fn moved(place: Option<usize>, count: usize) -> Option<usize>
-    ensures { result ≡ moved count place }
+fn shift_place(place: Option<usize>, count: usize) -> Option<usize>
+    ensures { result ≡ shift_place count place }
 {
     let place = place?;
     if count <= place {
@@ -45,7 +45,7 @@ fn move_slots(places: &mut [Option<usize>], node: &Node, source: usize, count: u
 {
     for channel in 0..places.len() {
         if node.reads(channel, source) {
-            places[channel] = moved(places[channel], count);
+            places[channel] = shift_place(places[channel], count);
         }
     }
 }
@@ -60,14 +60,14 @@ impl Reader {
         }
     }
 
-    /// How many entries at the front have come to a channel, where that is known.
+    /// How many entries at the start have come to a channel, where that is known.
     pub(crate) fn place(&self, channel: usize) -> Option<usize>
         ensures { result ≡ finmap.get self.now channel }
     {
         slot_at(&self.places, channel)
     }
 
-    /// So many entries at the front have come to a channel.
+    /// So many entries at the start have come to a channel.
     pub(crate) fn put(&mut self, channel: usize, place: usize) -> Result<(), AllocError>
         ensures ok { OnOk result (self.new ≡ finmap.insert self.old channel place) }
         ensures err { OnErr result (self.new ≡ self.old) }

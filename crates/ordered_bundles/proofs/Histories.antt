@@ -1,4 +1,4 @@
--- The histories of a bundle's journals: each GTID is new and stands once, and has one content where no entry is unequal.
+-- The histories of a bundle's journals: each GTID is new and occurs once, and has one content where no entry is unequal.
 use Rattle.std.proofs.Common.{◌≡◌, ◌≢◌, ℕ, zero, suc, ◌⊎◌, Bool, true, false, cond, not, ◌||◌, inl, inr, List, [], ◌∷◌, Option, Some, None, refl, sym, ap, ◌∙◌, subst}
 use Rattle.std.specs.Prelude.{slice_get}
 use Rattle.std.specs.List.{AllByRecursion}
@@ -33,7 +33,7 @@ use Rattle.conflict_order.specs.Laws as laws
 use Rattle.conflict_order.specs.Chains.{HaveOneContent}
 use Rattle.ordered_bundles.specs.Bundles.{beyond_opening, history_of, histories_of, IsOpen}
 
--- ---- what stands in a history
+-- ---- what is in a history
 
 abbrev pub pair : Entry → ordered.Entry
 pair e = (e.gtid, e.txn)

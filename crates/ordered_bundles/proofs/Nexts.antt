@@ -54,7 +54,7 @@ module _ (schema : List Table) where
   next_chain [] before k = refl
   next_chain (x ∷ xs) before k = ap (or_next (when (touches schema x.1 k && not (has before x.0)) x)) (next_chain xs before k) ∙ by_touch before (touches schema x.1 k) x (chain schema k xs)
 
-  -- each chain of these is a front of the order's
+  -- each chain of these is a prefix of the order's
   abbrev pub AreRead : List Entry → List Entry → Type 0
   AreRead order before = (k : Key) → IsFront (chain schema k before) (chain schema k order)
 

@@ -1,4 +1,4 @@
--- Where an audit finds nothing out of turn, each chain of each history is a front of the order's.
+-- Where an audit finds nothing out of turn, each chain of each history is a prefix of the order's.
 use Rattle.std.proofs.Common.{◌≡◌, ◌⊎◌, ℕ, zero, suc, Bool, true, false, cond, inl, inr, List, [], ◌∷◌, ◌++◌, Option, Some, None, refl, sym, ap, ◌∙◌, subst}
 use Rattle.std.specs.Prelude.{slice_get}
 use Rattle.std.specs.List.{AllByRecursion}

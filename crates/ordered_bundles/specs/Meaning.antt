@@ -18,7 +18,7 @@ use Rattle.ordered_bundles.specs.Audit.{verdict_of_keys, verdict_in_order}
 abbrev pub joined_world : List Table → Gtids → Rows → List JournalValue → World
 joined_world schema opened rows journals = world_of schema opened rows (histories_of opened journals)
 
--- Where the audit in one order says Sound, the joined world is sound and each journal is faithful to it.
+-- Where the audit in one order reports Sound, the joined world is sound and each journal is faithful to it.
 abbrev pub SoundInOrderMeans : Type 0
 SoundInOrderMeans = (schema : List Table) (opened : Gtids) (rows : Rows) (journals : List JournalValue) → AreJournals journals
     → verdict_in_order (sources.world_of schema opened rows journals) journals ≡ Sound

@@ -15,13 +15,13 @@ pub fn chains_are_enough()
     ensures { ChainsAreEnough }
 {}
 
-/// Where the audit in one order says Sound, the world that the journals are joined to is sound and
+/// Where the audit in one order reports Sound, the world that the journals are joined to is sound and
 /// each journal is faithful to it.
 pub fn sound_in_order_means()
     ensures { SoundInOrderMeans }
 {}
 
-/// Where the audit of keys in one order says Sound, the GTIDs of that world are sound and each
+/// Where the audit of keys in one order reports Sound, the GTIDs of that world are sound and each
 /// journal is faithful to it.
 pub fn keys_in_order_mean()
     ensures { KeysInOrderMean }

@@ -13,13 +13,13 @@ use Rattle.gtid_text.specs.declared.Gtid.{Gtid}
 use Rattle.gtid_text.specs.Gtids.{same_gtid}
 use Rattle.gtid_set.specs.Sets.{Gtids}
 use Rattle.journal.specs.declared.Entry.{Entry}
-use Rattle.apply_channel.specs.Channels.{ChannelValue, Received, settle, settled, same_name, is_full}
+use Rattle.apply_channel.specs.Channels.{ChannelValue, Received, settle, settle_channel, same_name, is_full}
 use Rattle.replica_core.specs.declared.event.Event.{Event}
 use Rattle.replica_core.specs.declared.event.Event.TheVariants.{OpenChannel, Position, Receive, Take, Commit, Rollback, Restart, Local, Purge, Look}
 use Rattle.replica_core.specs.declared.event.Reply.TheVariants.{NotInSchema, Ask, SeatBusy, OwnedBy, Blocked, Early, RolledBack, Restarted}
 use Rattle.replica_core.specs.State.{State, Site, owned_by, owner}
-use Rattle.replica_core.specs.Machine.{Step, is_seat, ask, blocking, open_before, with_channel, without_seat, stopped_at, open_channel, position_on, receive, take_entry, take_place, Held, held_of, held_at, held, commit_answer, commit_held, commit, rollback, restart, next_number, local_answer, local, purge, step}
-use Rattle.ordered_replicas.specs.Served.{accepted, IsNoLocalCommit}
+use Rattle.replica_core.specs.Machine.{Step, is_seat, ask, blocking, open_before, with_channel, without_seat, set_stopped_at, open_channel, position_on, receive, take_entry, take_place, Held, held_of, held_at, held, commit_answer, commit_held, commit, rollback, restart, next_number, local_answer, local, purge, step}
+use Rattle.ordered_replicas.specs.Served.{accepted_entries, IsNoLocalCommit}
 use Rattle.ordered_journals.proofs.Lists.{on_test, get_push_cases, get_set_cases, get_set_from, get_map}
 use Rattle.ordered_replicas.proofs.Receiving.{settle_gtid, received_entry}
 use Rattle.ordered_replicas.proofs.Invariant.{Stands}
@@ -104,13 +104,13 @@ gains_received channels c old new e entry here same id =
     never : false ≡ true → ⊥
     never p = cc
 
-pub gains_settled : (channels : List ChannelValue) (h : Gtid) → Gains channels (map (settled h) channels) []
+pub gains_settled : (channels : List ChannelValue) (h : Gtid) → Gains channels (map (settle_channel h) channels) []
 gains_settled channels h = record {
   origin = λ g w.
-      let r = get_map_cases (settled h) channels w.0 w.1 w.2 in
+      let r = get_map_cases (settle_channel h) channels w.0 w.1 w.2 in
       let q = get_map_cases (settle h) r.0.received w.3.0 w.3.1 (ap (λ (x : ChannelValue). slice_get x.received w.3.0) r.2 ∙ w.3.2) in
       inl (w.0, r.0, r.1, (w.3.0, q.0, q.1, sym (settle_gtid h q.0) ∙ (ap (λ (x : Received). x.gtid) q.2 ∙ w.3.3)));
-  kept = λ g w. (w.0, settled h w.1, get_map (settled h) channels w.0 w.1 w.2, (w.3.0, settle h w.3.1, get_map (settle h) w.1.received w.3.0 w.3.1 w.3.2, settle_gtid h w.3.1 ∙ w.3.3));
+  kept = λ g w. (w.0, settle_channel h w.1, get_map (settle_channel h) channels w.0 w.1 w.2, (w.3.0, settle h w.3.1, get_map (settle h) w.1.received w.3.0 w.3.1 w.3.2, settle_gtid h w.3.1 ∙ w.3.3));
   arrived = λ g e. nothing g e;
 }
 
@@ -154,7 +154,7 @@ grows_executing s s' g same gains w = record {
 }
 
 pub record StepGrows (s : State) (event : Event) (after : Step) : Type 0 where
-  pub grows : IsNoLocalCommit event after.0 → Grows s after.1 (accepted event after.0)
+  pub grows : IsNoLocalCommit event after.0 → Grows s after.1 (accepted_entries event after.0)
 
 module _ (site : Site) (s : State) where
   abbrev same : Grows s s []
@@ -228,7 +228,7 @@ module _ (site : Site) (s : State) where
       let d = map_some (λ (t : Transaction). record { spot = a.0; channel = b.0; gtid = c.0.gtid; txn = t }) c.0.txn h c.2 in
       (a.0.channel, b.0, b.1, (a.0.place, c.0, c.1, ap (λ (x : Held). x.gtid) d.2))
 
-  stopped_gains : (c : ℕ) → Gains s.channels (stopped_at true c s.channels) []
+  stopped_gains : (c : ℕ) → Gains s.channels (set_stopped_at true c s.channels) []
   stopped_gains c =
       on_option (λ xs. Gains s.channels xs []) (λ channel. slice_set s.channels c (record channel { stopped = true })) (slice_get s.channels c) s.channels
       (λ e. gains_none s.channels)

@@ -12,7 +12,7 @@ use Rattle.replica_core.specs.State.{State, Site}
 use Rattle.replica_core.specs.Machine.{step, after}
 use Rattle.ordered_history.specs.Join.{join}
 use Rattle.auto_position.specs.Sending.{own_of}
-use Rattle.ordered_replicas.specs.Served.{IsDrained, accepted, received_in, NoLocalCommits, ServedIsJoined}
+use Rattle.ordered_replicas.specs.Served.{IsDrained, accepted_entries, received_in, NoLocalCommits, ServedIsJoined}
 use Rattle.ordered_replicas.proofs.Sending.{sent_cases}
 use Rattle.ordered_journals.proofs.Covering.{is_entry, has, in_whole, entries_append}
 use Rattle.ordered_replicas.proofs.Growing.{Known, Grows, gains_none, grows_channels, step_grows}
@@ -47,7 +47,7 @@ then_grows s t u xs ys f h = record {
 pub run_grows : (site : Site) (s : State) (events : List Event) → NoLocalCommits site s events → Grows s (after site s events) (received_in site s events)
 run_grows site s [] n = grows_channels s s [] refl (gains_none s.channels)
 run_grows site s (e ∷ es) n =
-    then_grows s (step site s e).1 (after site (step site s e).1 es) (accepted e (step site s e).0) (received_in site (step site s e).1 es)
+    then_grows s (step site s e).1 (after site (step site s e).1 es) (accepted_entries e (step site s e).0) (received_in site (step site s e).1 es)
     ((step_grows site s e).grows n.0) (run_grows site (step site s e).1 es n.1)
 
 pub drained_known : (s : State) (g : Gtid) → IsDrained s → Known s g → set.contains s.executed g ≡ true

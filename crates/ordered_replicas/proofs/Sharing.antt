@@ -24,7 +24,7 @@ use Rattle.replica_core.specs.State.{State, Site}
 use Rattle.replica_core.specs.Machine.{Step, ask, with_channel, executing, next_number, local_answer, local, step, after}
 use Rattle.ordered_history.specs.Join.{join}
 use Rattle.auto_position.specs.Sending.{own_of}
-use Rattle.ordered_replicas.specs.Served.{accepted, on_channel, received_on, committed_here, local_commits, WasServed, Plan, is_planned, whole_sets, ServedAreJoined}
+use Rattle.ordered_replicas.specs.Served.{accepted_entries, on_channel, received_on, committed_here, local_commits, WasServed, Plan, is_planned, whole_sets, ServedAreJoined}
 use Rattle.ordered_journals.proofs.Covering.{is_entry, entry_of, has, in_insert, in_entries, in_gtids, in_whole, entries_append}
 use Rattle.ordered_replicas.proofs.Sending.{sent_cases}
 use Rattle.ordered_replicas.proofs.Receiving.{among_received}
@@ -45,7 +45,7 @@ pub record Moves (s s' : State) (More : Gtid → Type 0) : Type 0 where
 
 -- a step from s brings these
 abbrev Brings : Event → Reply → Gtid → Type 0
-Brings e r g = (is_entry (committed_here e r) g ≡ true) ⊎ ((c : ℕ) × (is_entry (on_channel c e (accepted e r)) g ≡ true))
+Brings e r g = (is_entry (committed_here e r) g ≡ true) ⊎ ((c : ℕ) × (is_entry (on_channel c e (accepted_entries e r)) g ≡ true))
 
 same_moves : (s : State) (More : Gtid → Type 0) → ((g : Gtid) → More g → ⊥) → Moves s s More
 same_moves s More none = record { origin = λ g k. inl k; received = λ g w. inl w; stays = λ g k. k; came = λ g m. absurd (none g m) }
@@ -119,7 +119,7 @@ module _ (site : Site) (s : State) where
   pub step_moves : (e : Event) → Moves s (step site s e).1 (Brings e (step site s e).0)
   step_moves (OpenChannel name preserve) = from_grows s _ [] _ (λ g h. inl h) none_came ((step_grows site s (OpenChannel name preserve)).grows tt)
   step_moves (Position c) = from_grows s _ [] _ (λ g h. inl h) none_came ((step_grows site s (Position c)).grows tt)
-  step_moves (Receive c entry) = from_grows s _ (accepted (Receive c entry) (step site s (Receive c entry)).0) _ (λ g h. inr (c, on_itself c (accepted (Receive c entry) (step site s (Receive c entry)).0) g h)) (receive_back c (accepted (Receive c entry) (step site s (Receive c entry)).0)) ((step_grows site s (Receive c entry)).grows tt)
+  step_moves (Receive c entry) = from_grows s _ (accepted_entries (Receive c entry) (step site s (Receive c entry)).0) _ (λ g h. inr (c, on_itself c (accepted_entries (Receive c entry) (step site s (Receive c entry)).0) g h)) (receive_back c (accepted_entries (Receive c entry) (step site s (Receive c entry)).0)) ((step_grows site s (Receive c entry)).grows tt)
   step_moves (Take seat c p) = from_grows s _ [] _ (λ g h. inl h) none_came ((step_grows site s (Take seat c p)).grows tt)
   step_moves (Commit seat) = from_grows s _ [] _ (λ g h. inl h) none_came ((step_grows site s (Commit seat)).grows tt)
   step_moves (Rollback seat) = from_grows s _ [] _ (λ g h. inl h) none_came ((step_grows site s (Rollback seat)).grows tt)
@@ -135,15 +135,15 @@ Brought site s events g = (is_entry (local_commits site s events) g ≡ true) �
 
 brought_first : (site : Site) (s : State) (e : Event) (es : List Event) (g : Gtid) → Brings e (step site s e).0 g → Brought site s (e ∷ es) g
 brought_first site s e es g (inl h) = inl (entries_append (committed_here e (step site s e).0) (local_commits site (step site s e).1 es) g ∙ or_left (is_entry (committed_here e (step site s e).0) g) _ h)
-brought_first site s e es g (inr h) = inr (h.0, entries_append (on_channel h.0 e (accepted e (step site s e).0)) (received_on h.0 site (step site s e).1 es) g ∙ or_left (is_entry (on_channel h.0 e (accepted e (step site s e).0)) g) _ h.1)
+brought_first site s e es g (inr h) = inr (h.0, entries_append (on_channel h.0 e (accepted_entries e (step site s e).0)) (received_on h.0 site (step site s e).1 es) g ∙ or_left (is_entry (on_channel h.0 e (accepted_entries e (step site s e).0)) g) _ h.1)
 
 brought_later : (site : Site) (s : State) (e : Event) (es : List Event) (g : Gtid) → Brought site (step site s e).1 es g → Brought site s (e ∷ es) g
 brought_later site s e es g (inl h) = inl (entries_append (committed_here e (step site s e).0) (local_commits site (step site s e).1 es) g ∙ or_right (is_entry (committed_here e (step site s e).0) g) _ h)
-brought_later site s e es g (inr h) = inr (h.0, entries_append (on_channel h.0 e (accepted e (step site s e).0)) (received_on h.0 site (step site s e).1 es) g ∙ or_right (is_entry (on_channel h.0 e (accepted e (step site s e).0)) g) _ h.1)
+brought_later site s e es g (inr h) = inr (h.0, entries_append (on_channel h.0 e (accepted_entries e (step site s e).0)) (received_on h.0 site (step site s e).1 es) g ∙ or_right (is_entry (on_channel h.0 e (accepted_entries e (step site s e).0)) g) _ h.1)
 
 brought_cases : (site : Site) (s : State) (e : Event) (es : List Event) (g : Gtid) → Brought site s (e ∷ es) g → Brings e (step site s e).0 g ⊎ Brought site (step site s e).1 es g
 brought_cases site s e es g (inl h) = elim (or_cases (is_entry (committed_here e (step site s e).0) g) (is_entry (local_commits site (step site s e).1 es) g) (sym (entries_append (committed_here e (step site s e).0) (local_commits site (step site s e).1 es) g) ∙ h)) [ inl a ↦ inl (inl a) | inr b ↦ inr (inl b) ]
-brought_cases site s e es g (inr h) = elim (or_cases (is_entry (on_channel h.0 e (accepted e (step site s e).0)) g) (is_entry (received_on h.0 site (step site s e).1 es) g) (sym (entries_append (on_channel h.0 e (accepted e (step site s e).0)) (received_on h.0 site (step site s e).1 es) g) ∙ h.1)) [ inl a ↦ inl (inr (h.0, a)) | inr b ↦ inr (inr (h.0, b)) ]
+brought_cases site s e es g (inr h) = elim (or_cases (is_entry (on_channel h.0 e (accepted_entries e (step site s e).0)) g) (is_entry (received_on h.0 site (step site s e).1 es) g) (sym (entries_append (on_channel h.0 e (accepted_entries e (step site s e).0)) (received_on h.0 site (step site s e).1 es) g) ∙ h.1)) [ inl a ↦ inl (inr (h.0, a)) | inr b ↦ inr (inr (h.0, b)) ]
 
 pub run_moves : (site : Site) (s : State) (events : List Event) → Moves s (after site s events) (Brought site s events)
 run_moves site s [] = same_moves s _ no_locals
@@ -170,8 +170,8 @@ after_append site s (x ∷ xs) ys = after_append site (step site s x).1 xs ys
 pub received_append : (c : ℕ) (site : Site) (s : State) (xs ys : List Event) → received_on c site s (xs ++ ys) ≡ received_on c site s xs ++ received_on c site (after site s xs) ys
 received_append c site s [] ys = refl
 received_append c site s (x ∷ xs) ys =
-    ap (λ zs. on_channel c x (accepted x (step site s x).0) ++ zs) (received_append c site (step site s x).1 xs ys)
-    ∙ sym (append_assoc (on_channel c x (accepted x (step site s x).0)) (received_on c site (step site s x).1 xs) (received_on c site (after site (step site s x).1 xs) ys))
+    ap (λ zs. on_channel c x (accepted_entries x (step site s x).0) ++ zs) (received_append c site (step site s x).1 xs ys)
+    ∙ sym (append_assoc (on_channel c x (accepted_entries x (step site s x).0)) (received_on c site (step site s x).1 xs) (received_on c site (after site (step site s x).1 xs) ys))
 
 abbrev asking : State → ℕ → Option ChannelValue → Step
 asking s c o = option_map_or (λ channel. (Ask (ask s channel), with_channel s c (record channel { asked = Some (ask s channel) }))) o (NoChannel, s)

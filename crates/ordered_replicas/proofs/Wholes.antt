@@ -20,7 +20,7 @@ use Rattle.ordered_journals.specs.Faithful.{IsFaithful}
 use Rattle.ordered_journals.proofs.Lists.{on_test}
 use Rattle.auto_position.specs.Sending.{sent}
 use Rattle.ordered_replicas.specs.Faithful.{Since, since_after, asked_with, IsFaithfulStep, IsFaithfulFrom}
-use Rattle.ordered_replicas.specs.Served.{accepted, on_channel, received_on, IsNoLocalCommit, NoLocalCommits}
+use Rattle.ordered_replicas.specs.Served.{accepted_entries, on_channel, received_on, IsNoLocalCommit, NoLocalCommits}
 use Rattle.ordered_replicas.specs.Whole.{is_position, WasServedOnce, ServedIsFaithful}
 use Rattle.ordered_replicas.proofs.Asking.{step_asks}
 use Rattle.std.proofs.lemmas.Option.{same_Some, slice_get_within}
@@ -45,7 +45,7 @@ old_channel s k A h =
 
 -- what a positioned channel has received since goes on by what it receives
 abbrev GoesOn : Event → ℕ → Since → Step → Type 0
-GoesOn e k since x = since_after e x.0 since k ≡ since k ++ on_channel k e (accepted e x.0)
+GoesOn e k since x = since_after e x.0 since k ≡ since k ++ on_channel k e (accepted_entries e x.0)
 
 nothing_new : (b : Bool) (xs : List Entry) → xs ≡ xs ++ cond b [] []
 nothing_new true xs = sym (append-nil xs)
@@ -98,7 +98,7 @@ module _ (site : Site) (s : State) (since : Since) (k : ℕ) (A : Gtids) (asked 
 
 -- ---- the phases of a channel
 
--- These are a front of what a journal sends to one that asks with this set, and the journal is of the kind T.
+-- These are a prefix of what a journal sends to one that asks with this set, and the journal is of the kind T.
 pub record WasSentBy (T : JournalValue → Type 0) (ask : Gtids) (entries : List Entry) : Type 0 where
   pub journal : JournalValue
   pub own : Option ℕ
@@ -106,7 +106,7 @@ pub record WasSentBy (T : JournalValue → Type 0) (ask : Gtids) (entries : List
   pub is : T journal
   pub front : sent journal ask own ≡ Ok (entries ++ rest)
 
--- it was positioned, and has received a front of what is sent; the rest comes
+-- it was positioned, and has received a prefix of what is sent; the rest comes
 pub record Runs (T : JournalValue → Type 0) (site : Site) (s : State) (since : Since) (rest : List Event) (k : ℕ) : Type 0 where
   pub journal : JournalValue
   pub own : Option ℕ
@@ -163,7 +163,7 @@ module _ (T : JournalValue → Type 0) (site : Site) (s : State) (since : Since)
   waits_on x xs (y ∷ ys) later e = let a : x ≡ y = cc in let b : xs ≡ ys ++ Position k ∷ later = cc in inr (ys, (λ i. sym a i ∷ ys), b)
 
   idle_next : received_on k site s (e ∷ es) ≡ [] → received_on k site s' es ≡ []
-  idle_next h = (none_before (on_channel k e (accepted e (step site s e).0)) (received_on k site s' es) h).1
+  idle_next h = (none_before (on_channel k e (accepted_entries e (step site s e).0)) (received_on k site s' es) h).1
 
   runs_next : Runs T site s since (e ∷ es) k → Runs T site s' since' es k
   runs_next r =
@@ -175,7 +175,7 @@ module _ (T : JournalValue → Type 0) (site : Site) (s : State) (since : Since)
         ask = r.ask;
         is = r.is;
         asked = (step_asks site s e).asks k r.ask other r.asked;
-        comes = r.comes ∙ ap Ok (sym (append_assoc (since k) (on_channel k e (accepted e (step site s e).0)) (received_on k site s' es)) ∙ ap (λ xs. xs ++ received_on k site s' es) (sym (goes_on site s since k r.ask r.asked e other)));
+        comes = r.comes ∙ ap Ok (sym (append_assoc (since k) (on_channel k e (accepted_entries e (step site s e).0)) (received_on k site s' es)) ∙ ap (λ xs. xs ++ received_on k site s' es) (sym (goes_on site s since k r.ask r.asked e other)));
         once = once.1;
       }
 
@@ -204,7 +204,7 @@ module _ (T : JournalValue → Type 0) (site : Site) (s : State) (since : Since)
   ]
     where
       idle_at : (rest : List Event) → received_on k site s (e ∷ rest) ≡ [] → received_on k site s' rest ≡ []
-      idle_at rest h = (none_before (on_channel k e (accepted e (step site s e).0)) (received_on k site s' rest) h).1
+      idle_at rest h = (none_before (on_channel k e (accepted_entries e (step site s e).0)) (received_on k site s' rest) h).1
 
       starts : (w : Waits T site s (e ∷ es) k) → e ≡ Position k → es ≡ w.2.served.later → w.2.served.before ≡ [] → Runs T site s' since' es k
       starts w is later none =
@@ -240,7 +240,7 @@ pub receive_sent : (T : JournalValue → Type 0) (site : Site) (s : State) (sinc
 receive_sent T site s since c entry es p is phase ask asked =
     let s' = (step site s (Receive c entry)).1 in
     let now : (rest : List Event) → received_on c site s (Receive c entry ∷ rest) ≡ entry ∷ received_on c site s' rest = λ rest.
-    ap (λ r. on_channel c (Receive c entry) (accepted (Receive c entry) r) ++ received_on c site s' rest) is ∙ received_now c entry (received_on c site s' rest) in
+    ap (λ r. on_channel c (Receive c entry) (accepted_entries (Receive c entry) r) ++ received_on c site s' rest) is ∙ received_now c entry (received_on c site s' rest) in
     by now phase
   where
     by : ((rest : List Event) → received_on c site s (Receive c entry ∷ rest) ≡ entry ∷ received_on c site (step site s (Receive c entry)).1 rest) → Phase T site s since (Receive c entry ∷ es) c → WasSentBy T ask (since c ++ entry ∷ [])

@@ -65,7 +65,7 @@ pub record HoldsAll (world : World) (journals : List JournalValue) (s : State) :
   pub executed : s.executed ≡ all_of world.opening_set journals
   pub rows_are : rows_of world (set.contains (all_of world.opening_set journals)) ≡ Ok s.rows
 
--- Where it has executed all that it received, it holds what all journals together stand for.
+-- Where it has executed all that it received, it holds what all journals together denote.
 abbrev pub ServedRunsHoldAll : Type 0
 ServedRunsHoldAll = (world : World) (site : Site) (journals : List JournalValue) (events : List Event)
     → site.schema ≡ world.schema → AreJournalsOf world journals → ServesAll site (start_of world) journals events

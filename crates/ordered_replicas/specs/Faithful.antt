@@ -1,4 +1,4 @@
--- Faithful runs, and what they come to.
+-- Faithful runs, and what they result in.
 use Rattle.std.specs.Prelude.{◌≡◌, ℕ, ◌==◌, true, false, if◌then◌else◌, List, [], ◌∷◌, ◌++◌, Option, Some, Ok, slice_get, option_and_then}
 use Rattle.std.specs.List.{AllByRecursion}
 use Rattle.std.specs.FinMap as map
@@ -27,7 +27,7 @@ use Rattle.auto_position.specs.Sending.{sent}
 abbrev pub start_with : Gtids → Rows → State
 start_with = opening
 
--- a start: a closed set, with the rows that it stands for
+-- a start: a closed set, with the rows that it denotes
 pub record IsOpening (world : World) (executed : Gtids) (rows : Rows) : Type 0 where
   pub closed : IsClosed world (set.contains executed)
   pub stands_for : rows_of world (set.contains executed) ≡ Ok rows
@@ -42,7 +42,7 @@ since_after (Position c) (Ask asked) since d = if d == c then [] else since d
 since_after (OpenChannel name preserve) (Opened c) since d = if d == c then [] else since d
 since_after event reply since d = since d
 
--- These are a front of what some faithful journal sends to one that asks with this set.
+-- These are a prefix of what some faithful journal sends to one that asks with this set.
 pub record WasSent (world : World) (ask : Gtids) (entries : List Entry) : Type 0 where
   pub journal : JournalValue
   pub own : Option ℕ
@@ -55,7 +55,7 @@ abbrev pub asked_with : State → ℕ → Option Gtids
 asked_with s c = option_and_then (λ (channel : ChannelValue). channel.asked) (slice_get s.channels c)
 
 -- What is asked of one event: what is received was sent, and what commits here is what the world has under that GTID, with
--- all executed that stands before it in the world's order and shares a key with it.
+-- all executed that comes before it in the world's order and shares a key with it.
 abbrev pub IsFaithfulStep : World → Site → State → Since → Event → Reply → Type 0
 IsFaithfulStep world site s since (Receive c entry) (Received p) = (ask : Gtids) → asked_with s c ≡ Some ask → WasSent world ask (since c ++ entry ∷ [])
 IsFaithfulStep world site s since (Local txn) (Committed g) =
@@ -76,7 +76,7 @@ abbrev pub IsNotRefused : Reply → Type 0
 IsNotRefused (RowRefused g fault) = ⊥
 IsNotRefused reply = Unit {0}
 
--- What a replica holds is what its executed set stands for.
+-- What a replica holds is what its executed set denotes.
 pub record IsMerged (world : World) (s : State) : Type 0 where
   pub closed : IsClosed world (set.contains s.executed)
   pub rows : rows_of world (set.contains s.executed) ≡ Ok s.rows
@@ -84,7 +84,7 @@ pub record IsMerged (world : World) (s : State) : Type 0 where
   pub running : AllByRecursion (λ (c : ChannelValue). c.stopped ≡ false) s.channels
   pub journal : IsFaithful world s.journal
 
--- What stands after a faithful run of a sound world is merged, and no commit was refused for its rows.
+-- What comes after a faithful run of a sound world is merged, and no commit was refused for its rows.
 abbrev pub FaithfulRunsMerge : Type 0
 FaithfulRunsMerge = (world : World) (site : Site) (executed : Gtids) (rows : Rows) (events : List Event)
     → site.schema ≡ world.schema → IsSound world → IsOpening world executed rows → IsFaithfulRun world site executed rows events
@@ -98,12 +98,12 @@ EqualSetsEqualRows = (world : World) (a b : Site) (A B : Gtids) (x y : Rows) (es
     → (after a (start_with A x) es).executed ≡ (after b (start_with B y) fs).executed
     → (after a (start_with A x) es).rows ≡ (after b (start_with B y) fs).rows
 
--- A front of a faithful run is faithful.
+-- A prefix of a faithful run is faithful.
 abbrev pub FrontsAreFaithful : Type 0
 FrontsAreFaithful = (world : World) (site : Site) (executed : Gtids) (rows : Rows) (earlier later : List Event)
     → IsFaithfulRun world site executed rows (earlier ++ later) → IsFaithfulRun world site executed rows earlier
 
--- A faithful run in two parts: what stands after the second part is merged, whatever call made it, and none of its commits was
+-- A faithful run in two parts: what comes after the second part is merged, whatever call made it, and none of its commits was
 -- refused for its rows.
 abbrev pub RunsGoOn : Type 0
 RunsGoOn = (world : World) (site : Site) (executed : Gtids) (rows : Rows) (earlier events : List Event) (s : State)

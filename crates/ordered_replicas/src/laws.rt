@@ -5,7 +5,7 @@ ghost use Rattle.ordered_replicas.specs.Served.{ServedIsJoined, ServedAreJoined}
 ghost use Rattle.ordered_replicas.specs.Deciding.{ServedRunsDecide, ServedRunsHoldAll};
 
 /// After every faithful run of a sound world the executed set is closed, the rows held are those
-/// that it stands for, under each key stands the row of its last writer, no channel is stopped, no
+/// that it denotes, under each key is the row of its last writer, no channel is stopped, no
 /// commit was refused for its rows, and the own journal is faithful.
 pub fn faithful_runs_merge()
     ensures { FaithfulRunsMerge }
@@ -16,7 +16,7 @@ pub fn equal_sets_equal_rows()
     ensures { EqualSetsEqualRows }
 {}
 
-/// A front of a faithful run is faithful.
+/// A prefix of a faithful run is faithful.
 pub fn fronts_are_faithful()
     ensures { FrontsAreFaithful }
 {}
@@ -51,7 +51,7 @@ pub fn served_runs_decide()
 {}
 
 /// Where it has executed all that it received, it has executed the opening set with all journals,
-/// and holds the rows that these stand for.
+/// and holds the rows that these denote.
 pub fn served_runs_hold_all()
     ensures { ServedRunsHoldAll }
 {}

@@ -10,7 +10,7 @@ taken_from seat [] = []
 taken_from seat (None ∷ slots) = taken_from (seat + 1) slots
 taken_from seat (Some x ∷ slots) = (seat, x) ∷ taken_from (seat + 1) slots
 
--- the map that slots stand for, the first being seat 1
+-- the map that slots denote, the first being seat 1
 abbrev pub of_slots : {X : Type 0} → List (Option X) → map.FinMap nat_cmp X
 of_slots slots = map.from_entries (taken_from 1 slots)
 

@@ -5,14 +5,14 @@ use Rattle.gtid_set.specs.Sets.{Gtids, source_count, most_sources}
 use Rattle.gtid_set.specs.Full.{interval_count, most_intervals}
 use Rattle.gtid_set.proofs.SetLemmas.{union_empty, union_insert}
 use Rattle.journal.specs.declared.Entry.{Entry}
-use Rattle.journal.specs.Journals.{JournalValue, gtids_of, whole}
+use Rattle.journal.specs.Journals.{JournalValue, gtids_of, purged, whole}
 use Rattle.journal.proofs.EntryLemmas.{gtids_of-push}
 use Rattle.relay.specs.declared.Behind.{Behind}
 use Rattle.relay.specs.declared.Behind.TheVariants.{Equal, ByLast, By, Ahead}
-use Rattle.relay.specs.Known.{IsNear, IsNearBy, is_undoable, equal_to, ahead_by, step_back_by, stepped_back, settle_by, lasting}
+use Rattle.relay.specs.Known.{IsNear, IsNearBy, is_undoable, equal_to, ahead_by, step_back_by, step_back, settle_by, keep_step}
 use Rattle.relay.specs.declared.Known.{Known}
-use Rattle.relay.specs.Own.{IsOwn, IsBefore, with_last, without_last, purged_to}
-use Rattle.journal.proofs.FaultLemmas.{joined}
+use Rattle.relay.specs.Own.{IsOwn, IsBefore, with_last, without_last, purge_to}
+use Rattle.journal.proofs.FaultLemmas.{joined, fewer}
 
 -- one entry more
 pub whole-with_last : (e : Entry) (j : JournalValue) → whole (with_last e j) ≡ set.insert (whole j) e.gtid
@@ -30,8 +30,15 @@ pub without_last-with_last : (e : Entry) (j : JournalValue) → without_last (wi
 without_last-with_last e j = λ i. let r : JournalValue = record j { entries = take_before j.entries e i } in r
 
 -- a purge leaves the executed set
-pub whole-purged_to : (n : ℕ) (j : JournalValue) → whole (purged_to n j) ≡ whole j
+pub whole-purged_to : (n : ℕ) (j : JournalValue) → whole (purge_to n j) ≡ whole j
 whole-purged_to n j = joined n j.previous j.entries
+
+-- the purged set is a part of the executed set
+pub purged_fits : (n : ℕ) (j : JournalValue) (known : Known) → IsOwn j known → source_count known.executed ≤ most_sources → source_count (purged n j) ≤ most_sources
+purged_fits n j known own fits =
+    let same = ap source_count own.whole_set in
+    let part = fewer n j.previous j.entries in
+    omega (arith, same, part, fits)
 
 near_lasting : (b : Behind) (spare executed : Gtids) → IsNearBy b spare executed → IsNear (settle_by b (record { executed = executed; spare = spare; behind = b }))
 near_lasting Equal spare executed near = near
@@ -52,11 +59,11 @@ executed_lasting (By gtid) known = refl
 executed_lasting (Ahead gtid) known = refl
 
 -- what is kept, after a purge
-pub own_purged : (n : ℕ) (j : JournalValue) (known : Known) → IsOwn j known → IsOwn (purged_to n j) (lasting known)
+pub own_purged : (n : ℕ) (j : JournalValue) (known : Known) → IsOwn j known → IsOwn (purge_to n j) (keep_step known)
 own_purged n j known own = record {
   whole_set = executed_lasting known.behind known ∙ own.whole_set ∙ sym (whole-purged_to n j);
   near = near_lasting known.behind known.spare known.executed own.near;
-  before = before_lasting known.behind known (purged_to n j) refl;
+  before = before_lasting known.behind known (purge_to n j) refl;
 }
 
 -- what is kept at the start
@@ -78,7 +85,7 @@ back_by (ByLast gtid) j known may before = record { whole_set = before; near = t
 back_by (By gtid) j known may before = absurd (true≢false (sym may))
 back_by (Ahead gtid) j known may before = absurd (true≢false (sym may))
 
-pub own_back : (j : JournalValue) (known : Known) → is_undoable known.behind ≡ true → IsOwn j known → IsOwn (without_last j) (stepped_back known)
+pub own_back : (j : JournalValue) (known : Known) → is_undoable known.behind ≡ true → IsOwn j known → IsOwn (without_last j) (step_back known)
 own_back j known may own = back_by known.behind j known may own.before
 
 -- caught up, the journal is the same

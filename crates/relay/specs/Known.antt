@@ -30,8 +30,8 @@ step_back_by (By gtid) known = known
 step_back_by (Ahead gtid) known = known
 
 -- the last step is taken back
-abbrev pub stepped_back : Known → Known
-stepped_back known = step_back_by known.behind known
+abbrev pub step_back : Known → Known
+step_back known = step_back_by known.behind known
 
 abbrev pub settle_by : Behind → Known → Known
 settle_by Equal known = known
@@ -40,8 +40,8 @@ settle_by (By gtid) known = known
 settle_by (Ahead gtid) known = known
 
 -- the last step stays
-abbrev pub lasting : Known → Known
-lasting known = settle_by known.behind known
+abbrev pub keep_step : Known → Known
+keep_step known = settle_by known.behind known
 
 -- a set has one GTID more than another, and not too many sources or intervals
 pub record IsStep (spare : Gtids) (gtid : Gtid) (executed : Gtids) : Type 0 where

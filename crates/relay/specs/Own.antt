@@ -1,6 +1,6 @@
 -- A server's own journal, with its executed set beside it.
-use Rattle.std.specs.Prelude.{◌≡◌, ℕ, ◌-◌, Bool, length, take, drop, [], ◌∷◌, ◌++◌, Result, Ok, Err}
-use Rattle.gtid_set.specs.Sets.{Gtids}
+use Rattle.std.specs.Prelude.{◌≡◌, ℕ, ◌≤◌, ◌-◌, Bool, length, take, drop, [], ◌∷◌, ◌++◌, Result, Ok, Err}
+use Rattle.gtid_set.specs.Sets.{Gtids, source_count, most_sources}
 use Rattle.journal.specs.declared.Entry.{Entry}
 use Rattle.journal.specs.Journals.{JournalValue, purged, whole}
 use Rattle.journal.specs.Faults.{IsPurgedFault}
@@ -25,8 +25,8 @@ abbrev pub with_last : Entry → JournalValue → JournalValue
 with_last entry journal = record journal { entries = journal.entries ++ entry ∷ [] }
 
 -- ... and with its first entries purged
-abbrev pub purged_to : ℕ → JournalValue → JournalValue
-purged_to count journal = record { previous = purged count journal; entries = drop count journal.entries }
+abbrev pub purge_to : ℕ → JournalValue → JournalValue
+purge_to count journal = record { previous = purged count journal; entries = drop count journal.entries }
 
 -- one entry behind, the spare set is that of the journal without its last entry
 abbrev pub IsBefore : Behind → Gtids → JournalValue → Type 0
@@ -50,7 +50,7 @@ abbrev pub IsTooMany : Result Gtids PurgeFault → Type 0
 IsTooMany (Ok purged) = ⊥
 IsTooMany (Err fault) = IsCountFault fault
 
--- there were as many entries, and the purged set was not made
+-- there were as many entries, and the purged set was not made; being a part of the executed set, it has not too many sources
 abbrev pub IsPurgeFault : PurgeFault → ℕ → JournalValue → Type 0
 IsPurgeFault (TooMany n) count journal = Unit {0}
-IsPurgeFault (Set fault) count journal = IsPurgedFault fault count journal
+IsPurgeFault (Set fault) count journal = IsPurgedFault fault count journal × (source_count (purged count journal) ≤ most_sources)

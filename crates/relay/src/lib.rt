@@ -18,11 +18,10 @@ ghost use Rattle.std.specs.Bool.{Decides};
 ghost use Rattle.std.specs.Option.{option_copied};
 ghost use Rattle.std.specs.FinSet as set;
 ghost use Rattle.journal.specs.Journals.{purged, whole};
-ghost use Rattle.gtid_set.specs.Full.{IsFaultOf};
-ghost use Rattle.gtid_set.specs.declared.fault.SetFault.TheVariants.{Memory};
 ghost use Rattle.gtid_set.specs.Full.{IsFullExactly};
+ghost use Rattle.gtid_set.specs.declared.fault.SetFault.TheVariants.{Memory};
 ghost use Rattle.journal.specs.Writing.{is_writable};
-ghost use Rattle.relay.specs.Own.{without_last, with_last, purged_to, IsTooMany, IsPurgeFault};
+ghost use Rattle.relay.specs.Own.{without_last, with_last, purge_to, IsTooMany, IsPurgeFault};
 ghost use Rattle.relay.specs.declared.PurgeFault.TheVariants.{TooMany, Set};
 
 use gtid_set::{GtidSet, SetFault};
@@ -55,7 +54,7 @@ struct Known {
 }
 
 impl Known {
-    ghost use Rattle.relay.specs.Known.{IsNear, equal_to, ahead_by, stepped_back, lasting};
+    ghost use Rattle.relay.specs.Known.{IsNear, equal_to, ahead_by, step_back, keep_step};
 
     /// Makes the spare set equal to the executed set.
     fn catch_up(&mut self, alloc: Global) -> Result<(), SetFault>
@@ -89,7 +88,7 @@ impl Known {
 
     /// Takes the last step back.
     fn step_back(&mut self)
-        ensures { self.new ≡ stepped_back self.old }
+        ensures { self.new ≡ step_back self.old }
     {
         if let Behind::ByLast(gtid) = self.behind {
             mem::swap(&mut self.executed, &mut self.spare);
@@ -99,7 +98,7 @@ impl Known {
 
     /// From now on the last step cannot be taken back.
     fn settle(&mut self)
-        ensures { self.new ≡ lasting self.old }
+        ensures { self.new ≡ keep_step self.old }
     {
         if let Behind::ByLast(gtid) = self.behind {
             self.behind = Behind::By(gtid);
@@ -216,9 +215,12 @@ impl OwnJournal {
         ensures ok { OnOk result (self.new.journal ≡ with_last entry self.old.journal) }
         ensures undoable { OnOk result (self.new.undoable ≡ true) }
         ensures err { OnErr result (self.new.journal ≡ self.old.journal) }
-        ensures fault { IfErr result (λ f. IsFaultOf f (set.insert (whole self.old.journal) entry.gtid)) }
+        ensures fault { IsFullExactly result (set.insert (whole self.old.journal) entry.gtid) }
     {
         let gtid = entry.gtid;
+        if !self.known.executed.has_room_for(&gtid) {
+            return Err(SetFault::SourcesFull);
+        }
         self.known.catch_up(alloc)?;
         self.journal.push(entry)?;
         match self.known.advance(&gtid) {
@@ -230,7 +232,7 @@ impl OwnJournal {
         }
     }
 
-    /// Takes the entry that was appended last back, as if it had never been there. Takes no memory.
+    /// Takes the entry that was appended last back, as if it had never been there. Does not allocate.
     pub fn take_back(&mut self)
         requires { self.old.undoable ≡ true }
         ensures { self.new.journal ≡ without_last self.old.journal }
@@ -243,7 +245,7 @@ impl OwnJournal {
     /// The executed set stays.
     pub fn purge(&mut self, alloc: Global, count: usize) -> Result<GtidSet, PurgeFault>
         ensures ok { IfOk result (λ s. s ≡ purged count self.old.journal) }
-        ensures rest { OnOk result (self.new.journal ≡ purged_to count self.old.journal) }
+        ensures rest { OnOk result (self.new.journal ≡ purge_to count self.old.journal) }
         ensures many { IsTooMany result ↔ (length self.old.journal.entries < count) }
         ensures len { (n : ℕ) → result ≡ Err (TooMany n) → n ≡ length self.old.journal.entries }
         ensures executed { whole self.new.journal ≡ whole self.old.journal }
@@ -254,6 +256,7 @@ impl OwnJournal {
         if there < count {
             return Err(PurgeFault::TooMany(there));
         }
+        self.known.executed.keeps_limits();
         let previous = self.journal.purged(alloc, count)?;
         let shown = previous.copy(alloc)?;
         self.known.settle();
@@ -308,7 +311,7 @@ fn copy_journal(alloc: Global, journal: &Journal) -> Result<Journal, SetFault>
 
 impl OwnJournal {
     /// The same own journal. The changes of its transactions are shared, not copied. The one error
-    /// is want of memory.
+    /// is a failed allocation.
     pub fn copy(&self, alloc: Global) -> Result<OwnJournal, SetFault>
         ensures ok { IfOk result (λ copy. copy ≡ self.now) }
         ensures fault { IsOkUnless result Memory }

@@ -21,7 +21,7 @@ use Rattle.rows.specs.declared.change.RowFault.{RowFault}
 use Rattle.rows.specs.Apply.{Rows, apply}
 use Rattle.journal.specs.declared.Entry.{Entry}
 use Rattle.journal.specs.Writing.{is_number}
-use Rattle.apply_channel.specs.Channels.{ChannelValue, Received, settle, settled, with_received, received_as, most_received}
+use Rattle.apply_channel.specs.Channels.{ChannelValue, Received, settle, settle_channel, with_received, received_as, most_received}
 use Rattle.apply_channel.specs.Full.{gtids_with}
 use Rattle.replica_core.specs.declared.event.Spot.{Spot}
 use Rattle.replica_core.specs.declared.event.Reply.{Reply}
@@ -32,8 +32,8 @@ use Rattle.replica_core.specs.Kept.{IsKept, AreKept}
 use Rattle.replica_core.specs.Seated.{IsUnowned}
 use Rattle.replica_core.specs.Committing.{IsCommittable, Executes}
 use Rattle.replica_core.specs.Draining.{NothingIsOwned, IsWaiting}
-use Rattle.replica_core.specs.Faults.{IsFaultIn, IsFault, takes_memory, receiving, committing, executing_too}
-use Rattle.replica_core.specs.Machine.{Step, Held, held, changed_at, receive, take_place, taking, commit, commit_answer, executing, without_seat, open_before}
+use Rattle.replica_core.specs.Faults.{IsFaultIn, IsFault, HasRoomFor, takes_memory, receiving, committing, executing_too}
+use Rattle.replica_core.specs.Machine.{Step, Held, held, change_at, receive, take_place, taking, commit, commit_answer, executing, without_seat, open_before}
 use Rattle.replica_core.specs.AtOnce.{received_and_taken, received_and_committed, IsAtOnce, IsReadyAtOnce}
 use Rattle.replica_core.proofs.KeptLemmas.{found, gone_by}
 use Rattle.replica_core.proofs.ReceiveLemmas.{received_is, was_asked}
@@ -89,7 +89,7 @@ done_of e = record { gtid = e.gtid; txn = None }
 settled_entry : (e : Entry) → settle e.gtid (entry_of e) ≡ done_of e
 settled_entry e = ap (λ b. cond b (done_of e) (entry_of e)) (same_itself e.gtid)
 
-settled_channel : (e : Entry) (channel : ChannelValue) → settled e.gtid (with_received (entry_of e) channel) ≡ with_received (done_of e) (settled e.gtid channel)
+settled_channel : (e : Entry) (channel : ChannelValue) → settle_channel e.gtid (with_received (entry_of e) channel) ≡ with_received (done_of e) (settle_channel e.gtid channel)
 settled_channel e channel = λ i. record channel { received = same i }
   where
     same : map (settle e.gtid) (channel.received ++ entry_of e ∷ []) ≡ map (settle e.gtid) channel.received ++ done_of e ∷ []
@@ -103,7 +103,7 @@ module _ (r : Replica) (seat c p : ℕ) (e : Entry) (may : IsReadyAtOnce r seat 
 
   -- the state in which it is received
   abbrev got : State
-  got = record r.state { channels = changed_at c (with_received (entry_of e)) r.state.channels }
+  got = record r.state { channels = change_at c (with_received (entry_of e)) r.state.channels }
 
   abbrev spot : Spot
   spot = record { channel = c; place = p }
@@ -111,8 +111,8 @@ module _ (r : Replica) (seat c p : ℕ) (e : Entry) (may : IsReadyAtOnce r seat 
   is_received : ◌≡◌ {A = Step} (reply.Received (length may.channel.received), got) (receive r.site c e r.state)
   is_received =
       let asked = was_asked may.channel may.next.asked in
-      received_is r.site r.state c e may.channel asked.0 (length may.channel.received) (changed_at c (with_received (entry_of e)) r.state.channels)
-      may.at asked.1 may.fits may.next.room refl (ap (λ b. changed_at c (with_received (received_as b e)) r.state.channels) (sym may.new))
+      received_is r.site r.state c e may.channel asked.0 (length may.channel.received) (change_at c (with_received (entry_of e)) r.state.channels)
+      may.at asked.1 may.fits may.next.room refl (ap (λ b. change_at c (with_received (received_as b e)) r.state.channels) (sym may.new))
 
   at_channel : slice_get got.channels c ≡ Some grown
   at_channel =
@@ -169,29 +169,29 @@ module _ (r : Replica) (seat c p : ℕ) (e : Entry) (may : IsReadyAtOnce r seat 
     abbrev pub ahead : State
     ahead = executing r.state e.gtid e.txn rows
 
-    at_settled : slice_get ahead.channels c ≡ Some (settled e.gtid may.channel)
-    at_settled = slice_get-map (settled e.gtid) r.state.channels c ∙ ap (option_map (settled e.gtid)) may.at
+    at_settled : slice_get ahead.channels c ≡ Some (settle_channel e.gtid may.channel)
+    at_settled = slice_get-map (settle_channel e.gtid) r.state.channels c ∙ ap (option_map (settle_channel e.gtid)) may.at
 
     same_len : length (map (settle e.gtid) may.channel.received) ≡ length may.channel.received
     same_len = length-map may.channel.received (settle e.gtid)
 
-    is_received_done : ◌≡◌ {A = Step} (reply.Received (length (map (settle e.gtid) may.channel.received)), record ahead { channels = changed_at c (with_received (done_of e)) ahead.channels }) (receive r.site c e ahead)
+    is_received_done : ◌≡◌ {A = Step} (reply.Received (length (map (settle e.gtid) may.channel.received)), record ahead { channels = change_at c (with_received (done_of e)) ahead.channels }) (receive r.site c e ahead)
     is_received_done =
         let asked = was_asked may.channel may.next.asked in
-        received_is r.site ahead c e (settled e.gtid may.channel) asked.0 (length (map (settle e.gtid) may.channel.received)) (changed_at c (with_received (done_of e)) ahead.channels)
-        at_settled asked.1 may.fits (ap (nat_le most_received) same_len ∙ may.next.room) refl (ap (λ b. changed_at c (with_received (received_as b e)) ahead.channels) (sym (has_itself r.state.executed e.gtid)))
+        received_is r.site ahead c e (settle_channel e.gtid may.channel) asked.0 (length (map (settle e.gtid) may.channel.received)) (change_at c (with_received (done_of e)) ahead.channels)
+        at_settled asked.1 may.fits (ap (nat_le most_received) same_len ∙ may.next.room) refl (ap (λ b. change_at c (with_received (received_as b e)) ahead.channels) (sym (has_itself r.state.executed e.gtid)))
 
-    same_channels : map (settled e.gtid) got.channels ≡ changed_at c (with_received (done_of e)) ahead.channels
+    same_channels : map (settle_channel e.gtid) got.channels ≡ change_at c (with_received (done_of e)) ahead.channels
     same_channels =
-        ap (λ o. map (settled e.gtid) (option_map_or (λ (x : ChannelValue). slice_set r.state.channels c (with_received (entry_of e) x)) o r.state.channels)) may.at
-        ∙ map-set (settled e.gtid) r.state.channels c grown
+        ap (λ o. map (settle_channel e.gtid) (option_map_or (λ (x : ChannelValue). slice_set r.state.channels c (with_received (entry_of e) x)) o r.state.channels)) may.at
+        ∙ map-set (settle_channel e.gtid) r.state.channels c grown
         ∙ ap (slice_set ahead.channels c) (settled_channel e may.channel)
         ∙ sym (ap (λ o. option_map_or (λ (x : ChannelValue). slice_set ahead.channels c (with_received (done_of e) x)) o ahead.channels) at_settled)
 
     same_seats : finmap.remove (finmap.insert r.state.seats seat spot) seat ≡ r.state.seats
     same_seats = finmap.same_map nat_cmp_total nat_cmp-IsAntisymmetric _ _ (λ q. at_rest r.state seat spot may.idle q ∙ sym (may.idle q))
 
-    same_state : executing (without_seat (taking seat c p got) seat) e.gtid e.txn rows ≡ record ahead { channels = changed_at c (with_received (done_of e)) ahead.channels }
+    same_state : executing (without_seat (taking seat c p got) seat) e.gtid e.txn rows ≡ record ahead { channels = change_at c (with_received (done_of e)) ahead.channels }
     same_state = λ i. record ahead { seats = same_seats i; channels = same_channels i }
 
     -- its channel answers the same
@@ -230,6 +230,10 @@ module _ (r : Replica) (seat c p : ℕ) (e : Entry) (may : IsReadyAtOnce r seat 
       cause = subst (IsFaultIn f) (ap (receiving c e) now ∙ makes_received) h.cause;
       instead = ap (λ (answer : Reply). takes_memory answer) (told_same ∙ sym (ap (λ (x : Step). x.0) (same_received site s one now))) ∙ h.instead;
     }
+
+    -- ... has room for the same set
+    pub room_ahead : (f : SetFault) (s : State) → s ≡ ahead → HasRoomFor f (receiving c e s) → HasRoomFor f (receiving c e r.state)
+    room_ahead f s now h = subst (HasRoomFor f) (ap (receiving c e) now ∙ makes_received) h
 
 -- ---- what may be executed at once
 

@@ -9,18 +9,16 @@ use Rattle.journal.specs.Journals.{JournalValue, whole}
 use Rattle.std.proofs.lemmas.List.Elements.{All-append, All-cons, All-nil}
 use Rattle.rows.specs.declared.schema.Table.{Table}
 use Rattle.gtid_set.specs.Sets.{Gtids}
-use Rattle.apply_channel.specs.Channels.{ChannelValue, with_stopped}
-use Rattle.apply_channel.specs.Channels.{opened as open_one}
+use Rattle.apply_channel.specs.Channels.{ChannelValue, with_stopped, new_channel as open_one, Keyed}
 use Rattle.replica_core.specs.declared.event.Spot.{Spot}
 use Rattle.std.proofs.lemmas.Option.{slice_get_cases, slice_get_past}
 use Rattle.replica_core.specs.declared.event.Reply.TheVariants.{Restarted, NoChannel}
 use Rattle.replica_core.specs.State.{Seats, State, Replica}
 use Rattle.replica_core.specs.Slots.{seats_of}
-use Rattle.apply_channel.specs.Channels.{Keyed}
 use Rattle.replica_core.specs.Kept.{ChannelsValue, IsKept, AreKept}
-use Rattle.replica_core.specs.Keyed.{IsAt, IsNotAt, changed}
-use Rattle.replica_core.specs.Machine.{Step, changed_at, restart}
-use Rattle.replica_core.specs.Core.{opened_with, IsCore, IsAtCore, IsNotAtCore}
+use Rattle.replica_core.specs.Keyed.{IsAt, IsNotAt, with_channels}
+use Rattle.replica_core.specs.Machine.{Step, change_at, restart}
+use Rattle.replica_core.specs.Core.{new_replica_with, IsCore, IsAtCore, IsNotAtCore}
 use Rattle.replica_core.proofs.KeptLemmas.{found, kept_stopped}
 use Rattle.replica_core.proofs.SeatLemmas.{seated_changed, seated_pushed, seated_empty}
 
@@ -31,7 +29,7 @@ replica_of own rows seats channels journal = record {
   state = record { executed = whole journal; rows = rows.rows; seats = seats; channels = channels; journal = journal };
 }
 
-pub opened_is : (own : ℕ) (rows : Database) (executed : Gtids) (slots : List (Option Spot)) (channels : ChannelsValue) (journal : JournalValue) → seats_of slots ≡ finmap.empty → channels.list ≡ [] → journal ≡ record { previous = executed; entries = [] } → replica_of own rows (seats_of slots) channels.list journal ≡ opened_with own rows executed
+pub opened_is : (own : ℕ) (rows : Database) (executed : Gtids) (slots : List (Option Spot)) (channels : ChannelsValue) (journal : JournalValue) → seats_of slots ≡ finmap.empty → channels.list ≡ [] → journal ≡ record { previous = executed; entries = [] } → replica_of own rows (seats_of slots) channels.list journal ≡ new_replica_with own rows executed
 opened_is own rows executed slots channels journal seats none start =
     λ i. let r : Replica = record {
       site = record { own = own; schema = rows.schema };
@@ -61,7 +59,7 @@ at_core r channels n (Some k) list schema kept at =
     }
 
 -- a channel is stopped, or runs again
-pub core_stopped : (schema : List Table) (channels new_channels : ChannelsValue) (executed : Gtids) (seats : Seats) (c : ℕ) (flag : Bool) → IsCore schema channels executed seats → new_channels ≡ changed (changed_at c (with_stopped flag) channels.list) channels → IsCore schema new_channels executed seats
+pub core_stopped : (schema : List Table) (channels new_channels : ChannelsValue) (executed : Gtids) (seats : Seats) (c : ℕ) (flag : Bool) → IsCore schema channels executed seats → new_channels ≡ with_channels (change_at c (with_stopped flag) channels.list) channels → IsCore schema new_channels executed seats
 core_stopped schema channels new_channels executed seats c flag core is =
     subst (λ (v : ChannelsValue). IsCore schema v executed seats) (sym is) (record {
       same = core.same;
@@ -70,7 +68,7 @@ core_stopped schema channels new_channels executed seats c flag core is =
     })
 
 -- one channel more
-pub core_pushed : (schema : List Table) (channels new_channels : ChannelsValue) (executed : Gtids) (seats : Seats) (name : List ℕ) (preserve : Bool) → IsCore schema channels executed seats → new_channels ≡ changed (channels.list ++ open_one name preserve ∷ []) channels → IsCore schema new_channels executed seats
+pub core_pushed : (schema : List Table) (channels new_channels : ChannelsValue) (executed : Gtids) (seats : Seats) (name : List ℕ) (preserve : Bool) → IsCore schema channels executed seats → new_channels ≡ with_channels (channels.list ++ open_one name preserve ∷ []) channels → IsCore schema new_channels executed seats
 core_pushed schema channels new_channels executed seats name preserve core is =
     let none : All (IsKept schema executed) (open_one name preserve).received = All-nil (IsKept schema executed) in
     subst (λ (v : ChannelsValue). IsCore schema v executed seats) (sym is) (record {
@@ -81,10 +79,10 @@ core_pushed schema channels new_channels executed seats name preserve core is =
 
 -- ---- Restart
 
-running : (s : State) (c : ℕ) (list : List ChannelValue) (x : ChannelValue) → list ≡ changed_at c (with_stopped false) s.channels → slice_get s.channels c ≡ Some x → ◌≡◌ {A = Step} (Restarted, record s { channels = list }) (restart c s)
+running : (s : State) (c : ℕ) (list : List ChannelValue) (x : ChannelValue) → list ≡ change_at c (with_stopped false) s.channels → slice_get s.channels c ≡ Some x → ◌≡◌ {A = Step} (Restarted, record s { channels = list }) (restart c s)
 running s c list x is at = simp (at, is) refl
 
-pub restarted : (s : State) (c : ℕ) (list : List ChannelValue) → list ≡ changed_at c (with_stopped false) s.channels → c < length s.channels → ◌≡◌ {A = Step} (Restarted, record s { channels = list }) (restart c s)
+pub restarted : (s : State) (c : ℕ) (list : List ChannelValue) → list ≡ change_at c (with_stopped false) s.channels → c < length s.channels → ◌≡◌ {A = Step} (Restarted, record s { channels = list }) (restart c s)
 restarted s c list is h =
     elim ((slice_get_cases s.channels c).1) [
       | inl w ↦ running s c list w.0 is w.2

@@ -15,9 +15,9 @@ use Rattle.gtid_text.specs.declared.Gtid.{Gtid}
 use Rattle.gtid_text.specs.Gtids.{same_gtid}
 use Rattle.gtid_set.specs.Sets.{Gtids}
 use Rattle.gtid_set.proofs.SetLemmas.{gtid_tied}
-use Rattle.apply_channel.specs.Channels.{ChannelValue, Received, blocker, first_waiting, are_settled, holds_back, settle, settled, with_stopped, with_asked, with_received, received_as}
+use Rattle.apply_channel.specs.Channels.{ChannelValue, Received, blocker, first_waiting, are_settled, holds_back, settle, settle_channel, with_stopped, with_asked, with_received, received_as}
 use Rattle.replica_core.specs.State.{State}
-use Rattle.replica_core.specs.Machine.{is_in_the_way, is_open, blocking, open_before, changed_at}
+use Rattle.replica_core.specs.Machine.{is_in_the_way, is_open, blocking, open_before, change_at}
 use Rattle.replica_core.specs.Kept.{FitsIf, IsKept, AreKept}
 use Rattle.gtid_text.proofs.SameGtid.{gtid_total}
 
@@ -86,9 +86,9 @@ settle_kept schema executed g e kept = record {
 }
 
 -- once a GTID is executed, each channel is still kept
-pub kept_settled : (schema : List Table) (executed : Gtids) (g : Gtid) (channels : List ChannelValue) → AreKept schema executed channels → AreKept schema (set.insert executed g) (map (settled g) channels)
+pub kept_settled : (schema : List Table) (executed : Gtids) (g : Gtid) (channels : List ChannelValue) → AreKept schema executed channels → AreKept schema (set.insert executed g) (map (settle_channel g) channels)
 kept_settled schema executed g channels kept =
-    All-map (λ (c : ChannelValue). All (IsKept schema (set.insert executed g)) c.received) (settled g) channels
+    All-map (λ (c : ChannelValue). All (IsKept schema (set.insert executed g)) c.received) (settle_channel g) channels
     (λ k d h. All-map (IsKept schema (set.insert executed g)) (settle g) _ (λ i e l. settle_kept schema executed g _ (kept k d h i e l)))
 
 -- ---- one channel changes
@@ -97,13 +97,13 @@ changed_by : {X : Type 0} (P : X → Type 0) (i : ℕ) (f : X → X) (xs : List 
 changed_by P i f xs None at keeps all = all
 changed_by P i f xs (Some x) at keeps all = All-set P xs i (f x) (keeps x (found P xs i x all at)) all
 
-pub All-changed_at : {X : Type 0} (P : X → Type 0) (i : ℕ) (f : X → X) (xs : List X) → ((x : X) → P x → P (f x)) → All P xs → All P (changed_at i f xs)
+pub All-changed_at : {X : Type 0} (P : X → Type 0) (i : ℕ) (f : X → X) (xs : List X) → ((x : X) → P x → P (f x)) → All P xs → All P (change_at i f xs)
 All-changed_at P i f xs keeps all = changed_by P i f xs (slice_get xs i) refl keeps all
 
-pub kept_stopped : (schema : List Table) (executed : Gtids) (c : ℕ) (flag : Bool) (channels : List ChannelValue) → AreKept schema executed channels → AreKept schema executed (changed_at c (with_stopped flag) channels)
+pub kept_stopped : (schema : List Table) (executed : Gtids) (c : ℕ) (flag : Bool) (channels : List ChannelValue) → AreKept schema executed channels → AreKept schema executed (change_at c (with_stopped flag) channels)
 kept_stopped schema executed c flag channels kept = All-changed_at (λ (x : ChannelValue). All (IsKept schema executed) x.received) c (with_stopped flag) channels (λ x all. all) kept
 
-pub kept_asked : (schema : List Table) (executed : Gtids) (c : ℕ) (asked : Gtids) (channels : List ChannelValue) → AreKept schema executed channels → AreKept schema executed (changed_at c (with_asked asked) channels)
+pub kept_asked : (schema : List Table) (executed : Gtids) (c : ℕ) (asked : Gtids) (channels : List ChannelValue) → AreKept schema executed channels → AreKept schema executed (change_at c (with_asked asked) channels)
 kept_asked schema executed c asked channels kept = All-changed_at (λ (x : ChannelValue). All (IsKept schema executed) x.received) c (with_asked asked) channels (λ x all. all) kept
 
 taken_if : (b : Bool) (t : Transaction) → is_some (cond b None (Some t)) ≡ not b
@@ -121,7 +121,7 @@ kept_entry schema executed e fits number = record {
   number = number;
 }
 
-pub kept_received : (schema : List Table) (executed : Gtids) (c : ℕ) (e : Received) (channels : List ChannelValue) → IsKept schema executed e → AreKept schema executed channels → AreKept schema executed (changed_at c (with_received e) channels)
+pub kept_received : (schema : List Table) (executed : Gtids) (c : ℕ) (e : Received) (channels : List ChannelValue) → IsKept schema executed e → AreKept schema executed channels → AreKept schema executed (change_at c (with_received e) channels)
 kept_received schema executed c e channels keeps kept =
     All-changed_at (λ (x : ChannelValue). All (IsKept schema executed) x.received) c (with_received e) channels
     (λ x all. All-append (IsKept schema executed) x.received (e ∷ []) all (All-cons (IsKept schema executed) e [] keeps (All-nil (IsKept schema executed)))) kept

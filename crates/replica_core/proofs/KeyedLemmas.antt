@@ -9,10 +9,10 @@ use Rattle.rows.specs.declared.schema.Table.{Table}
 use Rattle.gtid_text.specs.declared.Gtid.{Gtid}
 use Rattle.gtid_set.specs.Sets.{Gtids}
 use Rattle.journal.specs.declared.Entry.{Entry}
-use Rattle.apply_channel.specs.Channels.{Keyed, ChannelValue, settled, same_name, with_stopped, with_asked, with_received, with_entry, received_as, is_full}
+use Rattle.apply_channel.specs.Channels.{Keyed, ChannelValue, settle_channel, same_name, with_stopped, with_asked, with_received, with_entry, received_as, is_full}
 use Rattle.replica_core.specs.Kept.{AreOf}
 use Rattle.replica_core.specs.Keyed.{keyed_settled, keyed_stopped, keyed_asked, keyed_len_at, keyed_full_at, len_at, full_at}
-use Rattle.replica_core.specs.Machine.{changed_at}
+use Rattle.replica_core.specs.Machine.{change_at}
 use Rattle.replica_core.proofs.KeptLemmas.{All-changed_at}
 
 abbrev pub channel_of : Keyed → ChannelValue
@@ -27,23 +27,23 @@ changed_as : {X Y : Type 0} (p : X → Y) (f : X → X) (g : Y → Y) → ((x : 
 changed_as p f g same i xs None = refl
 changed_as p f g same i xs (Some x) = map_set p xs i (f x) ∙ ap (slice_set (map p xs) i) (same x)
 
-pub map-changed_at : {X Y : Type 0} (p : X → Y) (f : X → X) (g : Y → Y) → ((x : X) → p (f x) ≡ g (p x)) → (i : ℕ) (xs : List X) → map p (changed_at i f xs) ≡ changed_at i g (map p xs)
+pub map-changed_at : {X Y : Type 0} (p : X → Y) (f : X → X) (g : Y → Y) → ((x : X) → p (f x) ≡ g (p x)) → (i : ℕ) (xs : List X) → map p (change_at i f xs) ≡ change_at i g (map p xs)
 map-changed_at p f g same i xs =
     changed_as p f g same i xs (slice_get xs i)
     ∙ ap (λ o. option_map_or (λ y. slice_set (map p xs) i (g y)) o (map p xs)) (sym (slice_get-map p xs i))
 
-pub stopped_as : (c : ℕ) (flag : Bool) (ks : List Keyed) → map channel_of (changed_at c (keyed_stopped flag) ks) ≡ changed_at c (with_stopped flag) (map channel_of ks)
+pub stopped_as : (c : ℕ) (flag : Bool) (ks : List Keyed) → map channel_of (change_at c (keyed_stopped flag) ks) ≡ change_at c (with_stopped flag) (map channel_of ks)
 stopped_as c flag ks = map-changed_at channel_of (keyed_stopped flag) (with_stopped flag) (λ k. refl) c ks
 
-pub asked_as : (c : ℕ) (asked : Gtids) (ks : List Keyed) → map channel_of (changed_at c (keyed_asked asked) ks) ≡ changed_at c (with_asked asked) (map channel_of ks)
+pub asked_as : (c : ℕ) (asked : Gtids) (ks : List Keyed) → map channel_of (change_at c (keyed_asked asked) ks) ≡ change_at c (with_asked asked) (map channel_of ks)
 asked_as c asked ks = map-changed_at channel_of (keyed_asked asked) (with_asked asked) (λ k. refl) c ks
 
-pub received_as_one : (c : ℕ) (executed : Bool) (e : Entry) (ks : List Keyed) → map channel_of (changed_at c (with_entry executed e) ks) ≡ changed_at c (with_received (received_as executed e)) (map channel_of ks)
+pub received_as_one : (c : ℕ) (executed : Bool) (e : Entry) (ks : List Keyed) → map channel_of (change_at c (with_entry executed e) ks) ≡ change_at c (with_received (received_as executed e)) (map channel_of ks)
 received_as_one c executed e ks = map-changed_at channel_of (with_entry executed e) (with_received (received_as executed e)) (λ k. refl) c ks
 
-pub settled_as : (g : Gtid) (ks : List Keyed) → map channel_of (map (keyed_settled g) ks) ≡ map (settled g) (map channel_of ks)
+pub settled_as : (g : Gtid) (ks : List Keyed) → map channel_of (map (keyed_settled g) ks) ≡ map (settle_channel g) (map channel_of ks)
 settled_as g [] = refl
-settled_as g (k ∷ ks) = ap (λ cs. settled g k.channel ∷ cs) (settled_as g ks)
+settled_as g (k ∷ ks) = ap (λ cs. settle_channel g k.channel ∷ cs) (settled_as g ks)
 
 pub pushed_as : (k : Keyed) (ks : List Keyed) → map channel_of (ks ++ k ∷ []) ≡ map channel_of ks ++ k.channel ∷ []
 pushed_as k [] = refl
@@ -56,7 +56,7 @@ named_as name (k ∷ ks) = ap (λ b. same_name k.channel.name name || b) (named_
 abbrev pub IsOf : List Table → Keyed → Type 0
 IsOf schema k = k.schema ≡ schema
 
-pub of_changed : (schema : List Table) (c : ℕ) (f : Keyed → Keyed) (ks : List Keyed) → ((k : Keyed) → (f k).schema ≡ k.schema) → AreOf schema ks → AreOf schema (changed_at c f ks)
+pub of_changed : (schema : List Table) (c : ℕ) (f : Keyed → Keyed) (ks : List Keyed) → ((k : Keyed) → (f k).schema ≡ k.schema) → AreOf schema ks → AreOf schema (change_at c f ks)
 of_changed schema c f ks same of = All-changed_at (IsOf schema) c f ks (λ k is. same k ∙ is) of
 
 pub of_settled : (schema : List Table) (g : Gtid) (ks : List Keyed) → AreOf schema ks → AreOf schema (map (keyed_settled g) ks)

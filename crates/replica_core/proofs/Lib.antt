@@ -19,3 +19,4 @@ pub mod FreeLemmas
 pub mod MoveLemmas
 pub mod DrainLemmas
 pub mod AtOnceLemmas
+pub mod MakingRoom

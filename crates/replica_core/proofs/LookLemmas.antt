@@ -32,7 +32,7 @@ set_by xs i j y x false is at =
     let below : j < length xs = omega (arith, within, length-set xs i y) in
     inr (slice_get-get_or xs j x below ∙ ap (λ z. Some z) (sym (get_or-set_other xs i j y x apart) ∙ get_or_from_slice_get (slice_set xs i y) j x x at))
 
--- what stands in a list after one element was set
+-- what is in a list after one element was set
 pub found_in_set : {X : Type 0} (xs : List X) (i j : ℕ) (y x : X) → slice_get (slice_set xs i y) j ≡ Some x → ((j ≡ i) × (x ≡ y)) ⊎ (slice_get xs j ≡ Some x)
 found_in_set xs i j y x at = set_by xs i j y x (j == i) refl at
 

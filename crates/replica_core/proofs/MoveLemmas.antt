@@ -15,14 +15,14 @@ use Rattle.rows.specs.declared.change.RowFault.{RowFault}
 use Rattle.rows.specs.declared.change.Transaction.{Transaction}
 use Rattle.rows.specs.Apply.{Rows, apply}
 use Rattle.rows.specs.WriteSet.{shares_key}
-use Rattle.apply_channel.specs.Channels.{ChannelValue, Received, settle, settled, with_stopped}
+use Rattle.apply_channel.specs.Channels.{ChannelValue, Received, settle, settle_channel, with_stopped}
 use Rattle.replica_core.specs.declared.event.Spot.{Spot}
 use Rattle.replica_core.specs.declared.event.Reply.{Reply}
 use Rattle.replica_core.specs.declared.event.Reply.TheVariants.{Taken}
 use Rattle.replica_core.specs.declared.event.Event.TheVariants.{Take, Commit}
 use Rattle.replica_core.specs.State.{Site, State, Seats, entry_at, owned_by, owner, owns, seat_numbers}
 use Rattle.replica_core.specs.Kept.{IsKept, AreKept}
-use Rattle.replica_core.specs.Machine.{Step, is_seat, is_open, is_in_the_way, blocking, open_before, step, taking, take_place, commit, commit_answer, executing, stopping, stopped_at, without_seat}
+use Rattle.replica_core.specs.Machine.{Step, is_seat, is_open, is_in_the_way, blocking, open_before, step, taking, take_place, commit, commit_answer, executing, stopping, set_stopped_at, without_seat}
 use Rattle.replica_core.proofs.KeptLemmas.{found}
 use Rattle.replica_core.proofs.TakeLemmas.{commit_is}
 use Rattle.replica_core.specs.Draining.{NothingIsOwned, IsDoneBelow, IsWaiting, IsSettledAt, Follows, SameGtids, SameChannels}
@@ -120,9 +120,9 @@ gtids_settled g rs p e at =
     let w = get_map_cases (settle g) rs p e at in
     (w.0, w.1, ap (λ (x : Received). x.gtid) (sym w.2) ∙ settle_gtid g w.0 (same_gtid w.0.gtid g) refl)
 
-channels_settled : (g : Gtid) (channels : List ChannelValue) → SameChannels channels (map (settled g) channels)
+channels_settled : (g : Gtid) (channels : List ChannelValue) → SameChannels channels (map (settle_channel g) channels)
 channels_settled g channels c after at =
-    let w = get_map_cases (settled g) channels c after at in (
+    let w = get_map_cases (settle_channel g) channels c after at in (
       w.0,
       w.1,
       (λ h. ap (λ (x : ChannelValue). x.stopped) (sym w.2) ∙ h),
@@ -137,7 +137,7 @@ stopped_by c channels x k after is at = elim (found_in_set channels c k (with_st
   | inr w ↦ (after, w, (λ h. h), same_gtids after.received)
 ]
 
-channels_stopped : (c : ℕ) (channels : List ChannelValue) (x : ChannelValue) → slice_get channels c ≡ Some x → SameChannels channels (stopped_at true c channels)
+channels_stopped : (c : ℕ) (channels : List ChannelValue) (x : ChannelValue) → slice_get channels c ≡ Some x → SameChannels channels (set_stopped_at true c channels)
 channels_stopped c channels x is =
     subst (λ (o : Option ChannelValue). SameChannels channels (option_map_or (λ y. slice_set channels c (with_stopped true y)) o channels)) (sym is)
     (λ k after at. stopped_by c channels x k after is at)
@@ -172,7 +172,7 @@ stays_in s g h at = with_one s g h (same_gtid h g) true refl at ∙ last (same_g
     last true = refl
     last false = refl
 
--- the GTID that stands at a place afterwards is the one that stood there
+-- the GTID that is at a place afterwards is the one that stood there
 gtid_there : (s : State) (c p : ℕ) (w : IsWaiting p c s) (channels : List ChannelValue) (after : ChannelValue) (e : Received) → SameChannels s.channels channels → slice_get channels c ≡ Some after → slice_get after.received p ≡ Some e → e.gtid ≡ w.entry.gtid
 gtid_there s c p w channels after e same at there =
     let b = same c after at in
@@ -186,10 +186,10 @@ after_ok s c p w t rows none = record {
   rests = at_rest s 1 (record { channel = c; place = p }) none;
   follows = record { executed = λ h at. stays_in s.executed w.entry.gtid h at; channels = channels_settled w.entry.gtid s.channels };
   done = λ after at. inr (λ e there.
-      ap (set.contains (set.insert s.executed w.entry.gtid)) (gtid_there s c p w (map (settled w.entry.gtid) s.channels) after e (channels_settled w.entry.gtid s.channels) at there) ∙ has_itself s.executed w.entry.gtid);
+      ap (set.contains (set.insert s.executed w.entry.gtid)) (gtid_there s c p w (map (settle_channel w.entry.gtid) s.channels) after e (channels_settled w.entry.gtid s.channels) at there) ∙ has_itself s.executed w.entry.gtid);
 }
 
-is_stopped : (c : ℕ) (channels : List ChannelValue) (x after : ChannelValue) → slice_get channels c ≡ Some x → slice_get (stopped_at true c channels) c ≡ Some after → after.stopped ≡ true
+is_stopped : (c : ℕ) (channels : List ChannelValue) (x after : ChannelValue) → slice_get channels c ≡ Some x → slice_get (set_stopped_at true c channels) c ≡ Some after → after.stopped ≡ true
 is_stopped c channels x after is at =
     let set_at : slice_get (slice_set channels c (with_stopped true x)) c ≡ Some after = subst (λ (o : Option ChannelValue). slice_get (option_map_or (λ y. slice_set channels c (with_stopped true y)) o channels) c ≡ Some after) is at in
     ap (λ (y : ChannelValue). y.stopped) (set_here channels c (with_stopped true x) after set_at)

@@ -13,9 +13,9 @@ use Rattle.journal.specs.Writing.{is_number}
 use Rattle.apply_channel.specs.Channels.{ChannelValue, with_received, received_as, is_full}
 use Rattle.replica_core.specs.declared.event.Reply.TheVariants as reply
 use Rattle.replica_core.specs.State.{Site, State, Seats}
-use Rattle.replica_core.specs.Machine.{Step, receive, changed_at, is_free, next_number}
+use Rattle.replica_core.specs.Machine.{Step, receive, change_at, is_free, next_number}
 use Rattle.replica_core.specs.Kept.{ChannelsValue}
-use Rattle.replica_core.specs.Keyed.{changed, len_at, full_at}
+use Rattle.replica_core.specs.Keyed.{with_channels, len_at, full_at}
 use Rattle.replica_core.specs.Seated.{AreSeated, IsUnowned}
 use Rattle.replica_core.specs.Core.{IsCore}
 use Rattle.replica_core.proofs.OwnerLemmas.{unowned_is}
@@ -26,7 +26,7 @@ use Rattle.rows.proofs.Lists.{none_if}
 
 -- ---- Receive
 
-pub received_is : (site : Site) (s : State) (c : ℕ) (e : Entry) (channel : ChannelValue) (asked : Gtids) (place : ℕ) (list : List ChannelValue) → slice_get s.channels c ≡ Some channel → channel.asked ≡ Some asked → misfit site.schema e.txn ≡ None → is_full channel ≡ false → place ≡ length channel.received → list ≡ changed_at c (with_received (received_as (set.contains s.executed e.gtid) e)) s.channels → ◌≡◌ {A = Step} (reply.Received place, record s { channels = list }) (receive site c e s)
+pub received_is : (site : Site) (s : State) (c : ℕ) (e : Entry) (channel : ChannelValue) (asked : Gtids) (place : ℕ) (list : List ChannelValue) → slice_get s.channels c ≡ Some channel → channel.asked ≡ Some asked → misfit site.schema e.txn ≡ None → is_full channel ≡ false → place ≡ length channel.received → list ≡ change_at c (with_received (received_as (set.contains s.executed e.gtid) e)) s.channels → ◌≡◌ {A = Step} (reply.Received place, record s { channels = list }) (receive site c e s)
 received_is site s c e channel asked place list at is_asked fits full is_place is_list = simp (at, is_asked, fits, full, is_place, is_list) refl
 
 -- a channel that took an entry was not full
@@ -44,7 +44,7 @@ pub was_asked : (channel : ChannelValue) → is_none channel.asked ≡ false →
 was_asked channel h = some_of channel.asked h
 
 -- what is kept, with one entry more
-pub core_received : (schema : List Table) (channels new_channels : ChannelsValue) (executed : Gtids) (seats : Seats) (c : ℕ) (e : Entry) → IsCore schema channels executed seats → Fits schema e.txn → is_number e.gtid.number ≡ true → new_channels ≡ changed (changed_at c (with_received (received_as (set.contains executed e.gtid) e)) channels.list) channels → IsCore schema new_channels executed seats
+pub core_received : (schema : List Table) (channels new_channels : ChannelsValue) (executed : Gtids) (seats : Seats) (c : ℕ) (e : Entry) → IsCore schema channels executed seats → Fits schema e.txn → is_number e.gtid.number ≡ true → new_channels ≡ with_channels (change_at c (with_received (received_as (set.contains executed e.gtid) e)) channels.list) channels → IsCore schema new_channels executed seats
 core_received schema channels new_channels executed seats c e core fits number more =
     let kept = kept_received schema executed c (received_as (set.contains executed e.gtid) e) channels.list (kept_entry schema executed e fits number) core.kept in
     let seated = seated_changed (with_received (received_as (set.contains executed e.gtid) e)) c channels.list seats (keeps_front (received_as (set.contains executed e.gtid) e)) core.seated in

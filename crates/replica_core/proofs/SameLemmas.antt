@@ -21,7 +21,7 @@ same_slots [] (y ∷ ys) long at = absurd (omega (long, arith))
 same_slots (x ∷ xs) [] long at = absurd (omega (long, arith))
 same_slots (x ∷ xs) (y ∷ ys) long at = λ i. at 0 i ∷ same_slots xs ys (omega (long, arith)) (λ n. at (suc n)) i
 
--- as many slots that stand for one map are the same
+-- as many slots that denote one map are the same
 pub seats_same : (xs ys : List (Option Spot)) → length xs ≡ length ys → seats_of xs ≡ seats_of ys → xs ≡ ys
 seats_same xs ys long same = same_slots xs ys long at
   where

@@ -11,10 +11,10 @@ use Rattle.std.proofs.lemmas.Option.{slice_get_within, slice_get-get_or, get_or_
 use Rattle.gtid_text.specs.declared.Gtid.{Gtid}
 use Rattle.gtid_text.specs.Gtids.{same_gtid}
 use Rattle.gtid_text.proofs.SameGtid.{same_is_equal}
-use Rattle.apply_channel.specs.Channels.{ChannelValue, Received, settle, settled}
+use Rattle.apply_channel.specs.Channels.{ChannelValue, Received, settle, settle_channel}
 use Rattle.replica_core.specs.declared.event.Spot.{Spot}
 use Rattle.replica_core.specs.State.{Seats}
-use Rattle.replica_core.specs.Machine.{is_seat, changed_at}
+use Rattle.replica_core.specs.Machine.{is_seat, change_at}
 use Rattle.replica_core.specs.Seated.{entry_of, txn_of, HasEntry, AreSeated, IsUnowned, freed_of}
 use Rattle.replica_core.proofs.LookLemmas.{one_value}
 use Rattle.rows.proofs.Lists.{get_append_left}
@@ -77,9 +77,9 @@ grown_by f keeps c channels spot e (Some x) (Some y) at is h =
     ]
 
 -- one channel changes, and its entries stay
-pub seated_changed : (f : ChannelValue → ChannelValue) (c : ℕ) (channels : List ChannelValue) (seats : Seats) → Keeps f → AreSeated channels seats → AreSeated (changed_at c f channels) seats
+pub seated_changed : (f : ChannelValue → ChannelValue) (c : ℕ) (channels : List ChannelValue) (seats : Seats) → Keeps f → AreSeated channels seats → AreSeated (change_at c f channels) seats
 seated_changed f c channels seats keeps s =
-    seated_grown channels (changed_at c f channels) seats
+    seated_grown channels (change_at c f channels) seats
     (λ spot e at. grown_by f keeps c channels spot e (slice_get channels c) (slice_get channels spot.channel) refl refl at) s
 
 pub keeps_front : (e : Received) (c : ChannelValue) (i : ℕ) (x : Received) → slice_get c.received i ≡ Some x → slice_get (c.received ++ e ∷ []) i ≡ Some x
@@ -87,22 +87,22 @@ keeps_front e c i x at = get_append_left c.received (e ∷ []) i x at
 
 -- ---- a GTID is executed that no seat owns any more
 
-settled_by : (g : Gtid) (place : ℕ) (o : Option ChannelValue) → option_and_then (λ (c : ChannelValue). slice_get c.received place) (option_map (settled g) o) ≡ option_map (settle g) (option_and_then (λ (c : ChannelValue). slice_get c.received place) o)
+settled_by : (g : Gtid) (place : ℕ) (o : Option ChannelValue) → option_and_then (λ (c : ChannelValue). slice_get c.received place) (option_map (settle_channel g) o) ≡ option_map (settle g) (option_and_then (λ (c : ChannelValue). slice_get c.received place) o)
 settled_by g place None = refl
 settled_by g place (Some c) = slice_get-map (settle g) c.received place
 
-entry_settled : (g : Gtid) (channels : List ChannelValue) (spot : Spot) → entry_of (map (settled g) channels) spot ≡ option_map (settle g) (entry_of channels spot)
+entry_settled : (g : Gtid) (channels : List ChannelValue) (spot : Spot) → entry_of (map (settle_channel g) channels) spot ≡ option_map (settle g) (entry_of channels spot)
 entry_settled g channels spot =
-    ap (option_and_then (λ (c : ChannelValue). slice_get c.received spot.place)) (slice_get-map (settled g) channels spot.channel)
+    ap (option_and_then (λ (c : ChannelValue). slice_get c.received spot.place)) (slice_get-map (settle_channel g) channels spot.channel)
     ∙ settled_by g spot.place (slice_get channels spot.channel)
 
 unsettled : (g : Gtid) (e : Received) (b : Bool) → same_gtid e.gtid g ≡ b → (e.gtid ≡ g → ⊥) → cond b (record e { txn = None }) e ≡ e
 unsettled g e true is other = absurd (other (same_is_equal e.gtid g is))
 unsettled g e false is other = refl
 
-pub seated_settled : (g : Gtid) (channels : List ChannelValue) (seats : Seats) → IsUnowned channels seats g → AreSeated channels seats → AreSeated (map (settled g) channels) seats
+pub seated_settled : (g : Gtid) (channels : List ChannelValue) (seats : Seats) → IsUnowned channels seats g → AreSeated channels seats → AreSeated (map (settle_channel g) channels) seats
 seated_settled g channels seats free s =
-    seated_alike channels (map (settled g) channels) seats
+    seated_alike channels (map (settle_channel g) channels) seats
     (λ seat spot at.
     let w = entry_with (entry_of channels spot) (s.busy seat spot at) in
     entry_settled g channels spot ∙ ap (option_map (settle g)) w.1

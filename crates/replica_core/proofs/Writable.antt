@@ -5,15 +5,16 @@ use Rattle.std.specs.List.{list_all, list_any}
 use Rattle.std.specs.Ordering.{nat_cmp, eq_by_cmp}
 use Rattle.std.specs.Cmp.Lexicographic.{slice_cmp}
 use Rattle.std.proofs.lemmas.Bool.Decides.{nat_tests}
-use Rattle.rows.specs.declared.value.Value.{Value}
-use Rattle.rows.specs.declared.value.Value.TheVariants.{Null, Int, Bytes}
+use Rattle.row_images.specs.declared.value.Value.{Value}
+use Rattle.row_images.specs.declared.value.Value.TheVariants.{Null, Int, Bytes}
 use Rattle.rows.specs.declared.change.Change.{Change}
 use Rattle.rows.specs.declared.change.Change.TheVariants.{Insert, Delete, Update}
 use Rattle.rows.specs.declared.change.Transaction.{Transaction}
 use Rattle.rows.specs.declared.schema.Table.{Table}
 use Rattle.rows.specs.Keys.{table_named}
 use Rattle.rows.specs.Tables.{AreTables, is_table, is_within_limits, has_column_lists, has_its_columns}
-use Rattle.rows.specs.Fits.{Fits, misfit_from, change_misfit, misfit_in, images_misfit, row_misfit, is_too_long, has_primary_null, table_of, count_misfit}
+use Rattle.rows.specs.Fits.{Fits, misfit_from, change_misfit, misfit_in, images_misfit, row_misfit, has_primary_null, table_of, count_misfit}
+use Rattle.row_images.specs.Values.{is_too_long}
 use Rattle.rows.proofs.FitLemmas.{no_cause, none_later, few_changes}
 use Rattle.journal.specs.Writing.{is_txn_writable, is_change_writable, is_image_writable, is_value_writable}
 use Rattle.std.proofs.lemmas.Bool.{and_parts, or_parts}

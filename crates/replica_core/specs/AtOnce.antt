@@ -1,7 +1,8 @@
 -- An entry that a channel receives, and that a seat takes and commits as soon as it is there.
-use Rattle.std.specs.Prelude.{◌≡◌, ◌⊎◌, ℕ, true, false, [], ◌∷◌, Some, Ok, length, slice_get, is_none}
+use Rattle.std.specs.Prelude.{◌≡◌, ◌≤◌, ◌⊎◌, ℕ, true, false, [], ◌∷◌, Some, Ok, length, slice_get, is_none}
 use Rattle.std.specs.FinSet as set
 use Rattle.gtid_set.specs.declared.fault.SetFault.{SetFault}
+use Rattle.gtid_set.specs.Sets.{source_count, most_sources}
 use Rattle.rows.specs.Apply.{Rows, apply}
 use Rattle.rows.specs.Fits.{Fits}
 use Rattle.journal.specs.declared.Entry.{Entry}
@@ -10,7 +11,7 @@ use Rattle.replica_core.specs.declared.event.Event.TheVariants.{Receive, Take, C
 use Rattle.replica_core.specs.declared.event.Reply.{Reply}
 use Rattle.replica_core.specs.State.{Site, State, Replica}
 use Rattle.replica_core.specs.Machine.{is_seat, receive, commit, after, executing}
-use Rattle.replica_core.specs.Faults.{IsFault, IsFaultIn, receiving, committing}
+use Rattle.replica_core.specs.Faults.{IsFault, IsFaultIn, HasRoomFor, receiving, committing, executing_too}
 use Rattle.replica_core.specs.Draining.{NothingIsOwned}
 
 -- a channel receives an entry, and a seat takes a place
@@ -27,7 +28,7 @@ pub record IsOnlyExecuted (site : Site) (e : Entry) (s t : State) : Type 0 where
   pub applied : apply site.schema e.txn s.rows ≡ Ok rows
   pub now : t ≡ executing s e.gtid e.txn rows
 
--- where want of memory leaves it: as it was, or received and taken, or executed without being received
+-- where a failed allocation leaves it: as it was, or received and taken, or executed without being received
 abbrev pub IsLeft : Site → ℕ → ℕ → ℕ → Entry → State → State → Type 0
 IsLeft site seat c p e s t = (t ≡ s) ⊎ ((t ≡ received_and_taken site seat c p e s) ⊎ IsOnlyExecuted site e s t)
 
@@ -36,6 +37,10 @@ abbrev pub IsFaultAtOnce : SetFault → Site → ℕ → ℕ → ℕ → Entry �
 IsFaultAtOnce f site seat c p e s =
     IsFault (IsFaultIn f (receiving c e s)) (receive site c e s)
     ⊎ IsFault (IsFaultIn f (committing seat (received_and_taken site seat c p e s))) (commit site seat (received_and_taken site seat c p e s))
+
+-- memory was refused only where the set that one of the two makes has not too many sources
+abbrev pub HasRoomAtOnce : SetFault → Site → ℕ → ℕ → ℕ → Entry → State → Type 0
+HasRoomAtOnce f site seat c p e s = HasRoomFor f (receiving c e s) ⊎ HasRoomFor f (committing seat (received_and_taken site seat c p e s))
 
 -- the reply to the first event, and the state after the last
 pub record IsAtOnce (r : Replica) (seat c p : ℕ) (e : Entry) (reply : Reply) (t : State) : Type 0 where
@@ -52,7 +57,7 @@ pub record IsNext (channel : ChannelValue) (p : ℕ) : Type 0 where
   pub last : p ≡ length channel.received
   pub settled : are_settled channel.received ≡ true
 
--- no seat has a place, the schema takes the entry, and its GTID is new
+-- no seat has a place, the schema takes the entry, and its GTID is new, and the executed set has room for it
 pub record IsReadyAtOnce (r : Replica) (seat c p : ℕ) (e : Entry) : Type 0 where
   pub channel : ChannelValue
   pub at : slice_get r.state.channels c ≡ Some channel
@@ -61,3 +66,4 @@ pub record IsReadyAtOnce (r : Replica) (seat c p : ℕ) (e : Entry) : Type 0 whe
   pub idle : NothingIsOwned r.state
   pub fits : Fits r.site.schema e.txn
   pub new : set.contains r.state.executed e.gtid ≡ false
+  pub room : source_count (executing_too r.state e.gtid) ≤ most_sources

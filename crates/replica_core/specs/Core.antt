@@ -21,17 +21,17 @@ pub record IsCore (schema : List Table) (channels : ChannelsValue) (executed : G
   pub seated : AreSeated channels.list seats
 
 -- a replica with this executed set, which is purged, these rows and nothing else
-abbrev pub opened_with : ℕ → Database → Gtids → Replica
-opened_with own rows executed = record { site = record { own = own; schema = rows.schema }; state = opening executed rows.rows }
+abbrev pub new_replica_with : ℕ → Database → Gtids → Replica
+new_replica_with own rows executed = record { site = record { own = own; schema = rows.schema }; state = opening executed rows.rows }
 
 -- a replica with these rows and nothing else
-abbrev pub opened : ℕ → Database → Replica
-opened own rows = opened_with own rows set.empty
+abbrev pub new_replica : ℕ → Database → Replica
+new_replica own rows = new_replica_with own rows set.empty
 
 abbrev pub IsNotAtCore : Replica → ℕ → Type 0
 IsNotAtCore r channel = slice_get r.state.channels channel ≡ None
 
--- a channel stands at a number, and its entries are kept
+-- a channel is at a number, and its entries are kept
 pub record IsAtCore (r : Replica) (channel : ℕ) (k : Keyed) : Type 0 where
   pub value : slice_get r.state.channels channel ≡ Some k.channel
   pub schema : k.schema ≡ r.site.schema
@@ -46,7 +46,7 @@ Takes r seat channel place g =
 abbrev pub Refuses : (State → Step) → Replica → Reply → Type 0
 Refuses event r reply = event r.state ≡ (reply, r.state)
 
--- a GTID stands at a place of a channel, with its transaction where it is not executed
+-- a GTID is at a place of a channel, with its transaction where it is not executed
 abbrev pub IsEntryAt : Replica → ℕ → ℕ → Gtid → Option Transaction → Type 0
 IsEntryAt r channel place g t = entry_at r.state (record { channel = channel; place = place }) ≡ Some (record { gtid = g; txn = t })
 

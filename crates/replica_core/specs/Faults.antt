@@ -1,11 +1,12 @@
 -- When an event is not answered, and why.
-use Rattle.std.specs.Prelude.{◌≡◌, ℕ, Bool, true, false, Option, Some, None, option_map, slice_get}
+use Rattle.std.specs.Prelude.{◌≡◌, ◌≤◌, ℕ, Bool, true, false, Option, Some, None, option_map, slice_get}
 use Rattle.std.specs.FinSet as set
 use Rattle.gtid_set.specs.declared.fault.SetFault.{SetFault}
 use Rattle.gtid_set.specs.declared.fault.SetFault.TheVariants.{Memory}
 use Rattle.gtid_text.specs.declared.Gtid.{Gtid}
-use Rattle.gtid_set.specs.Sets.{Gtids, gtid}
+use Rattle.gtid_set.specs.Sets.{Gtids, gtid, source_count, most_sources}
 use Rattle.journal.specs.declared.Entry.{Entry}
+use Rattle.journal.specs.Journals.{purged}
 use Rattle.journal.specs.Faults.{IsPurgedFault}
 use Rattle.gtid_set.specs.Full.{IsFaultOf}
 use Rattle.apply_channel.specs.Full.{gtids_with}
@@ -38,7 +39,21 @@ committing seat s = option_map (λ h. executing_too s h.gtid) (held s seat)
 abbrev pub numbering : Site → State → Option Gtids
 numbering site s = option_map (λ n. executing_too s (gtid site.own n)) (next_number site s)
 
+-- the set that an event makes, if it makes one
+abbrev pub made_by : Site → State → Event → Option Gtids
+made_by site s (event.Position c) = asking c s
+made_by site s (event.Receive c entry) = receiving c entry s
+made_by site s (event.Commit seat) = committing seat s
+made_by site s (event.Local changes) = numbering site s
+made_by site s (event.Purge k) = Some (purged k s.journal)
+made_by site s _ = None
+
 -- ---- faults
+
+-- memory was refused only where the set, if one is made, has not too many sources
+abbrev pub HasRoomFor : SetFault → Option Gtids → Type 0
+HasRoomFor Memory (Some made) = source_count made ≤ most_sources
+HasRoomFor _ _ = Unit {0}
 
 -- memory was refused, or the set, if one is made, would have too many sources or intervals
 abbrev pub IsFaultIn : SetFault → Option Gtids → Type 0
@@ -99,7 +114,12 @@ pub record IsFault (Cause : Type 0) (answer : Step) : Type 0 where
 abbrev pub IsStepFault : SetFault → Site → State → Event → Type 0
 IsStepFault f site s e = IsFault (IsCause f site s e) (step site s e)
 
--- a fault of the event that comes next, if any comes; want of memory may come before its step
+-- what is said of a failed allocation at the event that comes next, if any comes
+abbrev pub HasRoomAt : SetFault → Site → State → Option Event → Type 0
+HasRoomAt f site s None = Unit {0}
+HasRoomAt f site s (Some e) = HasRoomFor f (made_by site s e)
+
+-- a fault of the event that comes next, if any comes; a failed allocation may come before its step
 abbrev pub IsFaultAt : SetFault → Site → State → Option Event → Type 0
 IsFaultAt f site s None = Unit {0}
 IsFaultAt f site s (Some e) = IsCause f site s e

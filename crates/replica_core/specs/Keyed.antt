@@ -3,14 +3,14 @@ use Rattle.std.specs.Prelude.{◌≡◌, ℕ, Bool, List, false, Option, Some, N
 use Rattle.std.specs.Option.{option_map_or}
 use Rattle.gtid_text.specs.declared.Gtid.{Gtid}
 use Rattle.gtid_set.specs.Sets.{Gtids}
-use Rattle.apply_channel.specs.Channels.{Keyed, ChannelValue, settled, with_stopped, with_asked, is_full}
+use Rattle.apply_channel.specs.Channels.{Keyed, ChannelValue, settle_channel, with_stopped, with_asked, is_full}
 use Rattle.apply_channel.specs.declared.channel.ReceiveFault.{ReceiveFault}
 use Rattle.apply_channel.specs.Full.{gtids_with, IsReceiveFault}
 use Rattle.journal.specs.declared.Entry.{Entry}
 use Rattle.replica_core.specs.Kept.{ChannelsValue}
 
 abbrev pub keyed_settled : Gtid → Keyed → Keyed
-keyed_settled gtid k = record k { channel = settled gtid k.channel }
+keyed_settled gtid k = record k { channel = settle_channel gtid k.channel }
 
 abbrev pub keyed_stopped : Bool → Keyed → Keyed
 keyed_stopped flag k = record k { channel = with_stopped flag k.channel }
@@ -19,13 +19,13 @@ abbrev pub keyed_asked : Gtids → Keyed → Keyed
 keyed_asked asked k = record k { channel = with_asked asked k.channel }
 
 -- other channels with the same schema
-abbrev pub changed : List ChannelValue → ChannelsValue → ChannelsValue
-changed list c = record c { list = list }
+abbrev pub with_channels : List ChannelValue → ChannelsValue → ChannelsValue
+with_channels list c = record c { list = list }
 
 abbrev pub IsNotAt : ChannelsValue → ℕ → Type 0
 IsNotAt c channel = slice_get c.list channel ≡ None
 
--- a channel stands at a number
+-- a channel is at a number
 pub record IsAt (c : ChannelsValue) (channel : ℕ) (k : Keyed) : Type 0 where
   pub value : slice_get c.list channel ≡ Some k.channel
   pub schema : k.schema ≡ c.schema

@@ -1,4 +1,4 @@
--- The machine of a replica: one event, one reply and a new state. The replies stand in the order in which they are tested.
+-- The machine of a replica: one event, one reply and a new state. The replies are in the order in which they are tested.
 use Rattle.std.specs.Prelude.{◌≡◌, All, ℕ, ◌-◌, Bool, true, false, not, ◌&&◌, nat_le, nat_lt, List, [], ◌∷◌, ◌++◌, map, length, take, slice_get, slice_set, position, find, Option, None, option_map, option_and_then, is_none, Result, Ok, Err, if◌then◌else◌}
 use Rattle.std.specs.List.{list_any, list_all, range_with_len}
 use Rattle.std.specs.Option.{option_map_or}
@@ -15,8 +15,8 @@ use Rattle.rows.specs.WriteSet.{shares_key}
 use Rattle.journal.specs.declared.Entry.{Entry}
 use Rattle.journal.specs.Journals.{purged}
 use Rattle.journal.specs.Writing.{is_number}
-use Rattle.relay.specs.Own.{with_last, purged_to}
-use Rattle.apply_channel.specs.Channels.{ChannelValue, Received, with_stopped, with_asked, opened, settled, with_received, received_as, received_gtids, same_name, is_full}
+use Rattle.relay.specs.Own.{with_last, purge_to}
+use Rattle.apply_channel.specs.Channels.{ChannelValue, Received, with_stopped, with_asked, new_channel, settle_channel, with_received, received_as, received_gtids, same_name, is_full}
 use Rattle.replica_core.specs.declared.event.Spot.{Spot}
 use Rattle.replica_core.specs.declared.event.Event.{Event}
 use Rattle.replica_core.specs.declared.event.Event.TheVariants as event
@@ -55,8 +55,8 @@ abbrev pub open_before : State → ChannelValue → ℕ → Option ℕ
 open_before s channel place = position (is_open s) (take place channel.received)
 
 -- an element changed, where it is there
-abbrev pub changed_at : {X : Type 0} → ℕ → (X → X) → List X → List X
-changed_at i f xs = option_map_or (λ x. slice_set xs i (f x)) (slice_get xs i) xs
+abbrev pub change_at : {X : Type 0} → ℕ → (X → X) → List X → List X
+change_at i f xs = option_map_or (λ x. slice_set xs i (f x)) (slice_get xs i) xs
 
 abbrev pub with_channel : State → ℕ → ChannelValue → State
 with_channel s c channel = record s { channels = slice_set s.channels c channel }
@@ -67,12 +67,12 @@ without_seat s seat = record s { seats = finmap.remove s.seats seat }
 abbrev pub taking : ℕ → ℕ → ℕ → State → State
 taking seat c p s = record s { seats = finmap.insert s.seats seat (record { channel = c; place = p }) }
 
--- a GTID is executed: its transaction stands in the rows and at the end of the own journal, and in no channel
+-- a GTID is executed: its transaction is in the rows and at the end of the own journal, and in no channel
 abbrev pub executing : State → Gtid → Transaction → Rows → State
 executing s g t rows = record s {
   executed = set.insert s.executed g;
   rows = rows;
-  channels = map (settled g) s.channels;
+  channels = map (settle_channel g) s.channels;
   journal = with_last (record { gtid = g; txn = t }) s.journal;
 }
 
@@ -86,7 +86,7 @@ abbrev pub open_channel : List ℕ → Bool → State → Step
 open_channel name preserve s =
     if list_any (λ c. same_name c.name name) s.channels then (NameTaken, s) else
     if nat_le 256 (length s.channels) then (ChannelsFull, s) else
-    (Opened (length s.channels), record s { channels = s.channels ++ opened name preserve ∷ [] })
+    (Opened (length s.channels), record s { channels = s.channels ++ new_channel name preserve ∷ [] })
 
 abbrev pub at_channel : State → ℕ → (ChannelValue → Step) → Step
 at_channel s c f = option_map_or f (slice_get s.channels c) (NoChannel, s)
@@ -143,11 +143,11 @@ at_seat s seat f =
     option_map_or f (held s seat) (SeatIdle, s)
 
 -- a channel is stopped, or runs again
-abbrev pub stopped_at : Bool → ℕ → List ChannelValue → List ChannelValue
-stopped_at flag c channels = changed_at c (with_stopped flag) channels
+abbrev pub set_stopped_at : Bool → ℕ → List ChannelValue → List ChannelValue
+set_stopped_at flag c channels = change_at c (with_stopped flag) channels
 
 abbrev pub stopping : ℕ → State → State
-stopping c s = record s { channels = stopped_at true c s.channels }
+stopping c s = record s { channels = set_stopped_at true c s.channels }
 
 abbrev pub commit_answer : Gtid → Transaction → ℕ → ℕ → State → Result Rows RowFault → Step
 commit_answer g t seat c s (Ok rows) = (Committed g, executing (without_seat s seat) g t rows)
@@ -187,7 +187,7 @@ local site t s =
 abbrev pub purge : ℕ → State → Step
 purge k s =
     if nat_lt (length s.journal.entries) k then (TooMany (length s.journal.entries), s) else
-    (Purged (purged k s.journal), record s { journal = purged_to k s.journal })
+    (Purged (purged k s.journal), record s { journal = purge_to k s.journal })
 
 abbrev pub look : State → Step
 look s = (Shown s.executed, s)

@@ -4,5 +4,5 @@ use Rattle.replica_core.specs.declared.event.Event.{Event}
 use Rattle.replica_core.specs.declared.event.Reply.{Reply}
 
 -- as many events as there are replies
-abbrev pub answered : List Reply → List Event → List Event
-answered replies events = take (length replies) events
+abbrev pub answered_events : List Reply → List Event → List Event
+answered_events replies events = take (length replies) events

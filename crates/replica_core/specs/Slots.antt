@@ -6,7 +6,7 @@ use Rattle.ownership.specs.Slots.{of_slots}
 use Rattle.replica_core.specs.declared.event.Spot.{Spot}
 use Rattle.replica_core.specs.State.{Seats}
 
--- the map that slots stand for, the first being seat 1
+-- the map that slots denote, the first being seat 1
 abbrev pub seats_of : List (Option Spot) → Seats
 seats_of slots = of_slots slots
 

@@ -60,6 +60,6 @@ owner s gtid = find (owns s gtid) seat_numbers
 abbrev pub with_gtid : State → ℕ → Option (ℕ × Gtid)
 with_gtid s seat = option_map (λ g. (seat, g)) (owned_by s seat)
 
--- what the seats own, seats rising
+-- what the seats own, seats ascending
 abbrev pub owned : State → List (ℕ × Gtid)
 owned s = filter_map (with_gtid s) seat_numbers

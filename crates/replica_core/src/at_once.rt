@@ -3,7 +3,7 @@ ghost use Rattle.std.specs.Prelude.{◌≡◌, true, is_none, IfOk, OnOk, OnErr,
 ghost use Rattle.std.specs.List.{list_all};
 ghost use Rattle.journal.specs.Writing.{is_number};
 ghost use Rattle.replica_core.specs.Machine.{receive};
-ghost use Rattle.replica_core.specs.AtOnce.{received_and_committed, IsLeft, IsFaultAtOnce, IsAtOnce, IsNext, IsReadyAtOnce};
+ghost use Rattle.replica_core.specs.AtOnce.{received_and_committed, IsLeft, IsFaultAtOnce, HasRoomAtOnce, IsAtOnce, IsNext, IsReadyAtOnce};
 
 use crate::event::{Reply, Spot};
 use crate::machine::{Core, is_seat};
@@ -26,7 +26,7 @@ fn is_next(channel: &Channel, place: usize) -> bool
     ensures { result ≡ true → IsNext channel.now.channel place }
 {
     channel.last_ask().is_some()
-        && !channel.stopped()
+        && !channel.is_stopped()
         && !channel.is_full()
         && place == channel.len()
         && channel.is_settled()
@@ -53,6 +53,9 @@ impl Core {
         if self.executed().contains(&entry.gtid) {
             return false;
         }
+        if !self.executed().has_room_for(&entry.gtid) {
+            return false;
+        }
         match fits(self.rows().schema(), &entry.txn) {
             Ok(()) => true,
             Err(_) => false,
@@ -75,6 +78,7 @@ impl Core {
         ensures site { self.new.site ≡ self.old.site }
         ensures err { OnErr result (IsLeft self.old.site seat channel place entry.now self.old.state self.new.state) }
         ensures fault { IfErr result (λ f. IsFaultAtOnce f self.old.site seat channel place entry.now self.old.state) }
+        ensures room { IfErr result (λ f. HasRoomAtOnce f self.old.site seat channel place entry.now self.old.state) }
     {
         self.entries_are_kept();
         if !self.is_ready_at_once(seat, channel, place, entry) {
@@ -104,6 +108,7 @@ impl Core {
         ensures site { self.new.site ≡ self.old.site }
         ensures err { OnErr result (IsLeft self.old.site seat channel place entry.now self.old.state self.new.state) }
         ensures fault { IfErr result (λ f. IsFaultAtOnce f self.old.site seat channel place entry.now self.old.state) }
+        ensures room { IfErr result (λ f. HasRoomAtOnce f self.old.site seat channel place entry.now self.old.state) }
     {
         let reply = self.receive(alloc, channel, entry)?;
         let _ = self.take(seat, channel, place);
@@ -131,6 +136,7 @@ impl Core {
         ensures site { self.new.site ≡ self.old.site }
         ensures err { OnErr result (IsLeft self.old.site seat channel place entry.now self.old.state self.new.state) }
         ensures fault { IfErr result (λ f. IsFaultAtOnce f self.old.site seat channel place entry.now self.old.state) }
+        ensures room { IfErr result (λ f. HasRoomAtOnce f self.old.site seat channel place entry.now self.old.state) }
     {
         if let Some(reply) = self.commit_at_once(alloc, seat, channel, place, entry)? {
             return Ok(reply);

@@ -1,9 +1,9 @@
 //! The channels of a replica, all with one schema.
 ghost use Rattle.std.specs.Prelude.{◌≡◌, ◌<◌, ◌↔◌, ℕ, OnOk, OnErr, IfOk, IfErr, IsOkUnless, [], ◌∷◌, ◌++◌, true, length, map, MatchOption};
 ghost use Rattle.std.specs.List.{list_all, list_any};
-ghost use Rattle.apply_channel.specs.Channels.{are_settled, opened, settled, same_name, with_stopped, with_asked, with_received, with_entry, received_as};
-ghost use Rattle.replica_core.specs.Machine.{changed_at};
-ghost use Rattle.replica_core.specs.Keyed.{keyed_settled, keyed_stopped, keyed_asked, keyed_len_at, keyed_full_at, len_at, full_at, IsKeyedRefusedAt, IsRefusedAt, changed, IsAt, IsNotAt};
+ghost use Rattle.apply_channel.specs.Channels.{are_settled, new_channel, settle_channel, same_name, with_stopped, with_asked, with_received, with_entry, received_as};
+ghost use Rattle.replica_core.specs.Machine.{change_at};
+ghost use Rattle.replica_core.specs.Keyed.{keyed_settled, keyed_stopped, keyed_asked, keyed_len_at, keyed_full_at, len_at, full_at, IsKeyedRefusedAt, IsRefusedAt, with_channels, IsAt, IsNotAt};
 ghost use Rattle.apply_channel.specs.Full.{IsFull};
 ghost use Rattle.gtid_set.specs.declared.fault.SetFault.TheVariants.{Memory};
 
@@ -52,7 +52,7 @@ fn settle_list(channels: &mut Vec<Channel>, gtid: &Gtid)
 }
 
 fn stop_one(channels: &mut Vec<Channel>, channel: usize, flag: bool)
-    ensures { channels.new.items ≡ changed_at channel (keyed_stopped flag) channels.old.items }
+    ensures { channels.new.items ≡ change_at channel (keyed_stopped flag) channels.old.items }
 {
     if channel < channels.len() {
         let one = &mut channels[channel];
@@ -61,7 +61,7 @@ fn stop_one(channels: &mut Vec<Channel>, channel: usize, flag: bool)
 }
 
 fn ask_one(channels: &mut Vec<Channel>, channel: usize, asked: GtidSet)
-    ensures { channels.new.items ≡ changed_at channel (keyed_asked asked) channels.old.items }
+    ensures { channels.new.items ≡ change_at channel (keyed_asked asked) channels.old.items }
 {
     if channel < channels.len() {
         let one = &mut channels[channel];
@@ -78,7 +78,7 @@ fn receive_one(
 ) -> Result<usize, ReceiveFault>
     requires { channel < length channels.old.items }
     ensures place { IfOk result (λ place. place ≡ keyed_len_at channel channels.old.items) }
-    ensures put { OnOk result (channels.new.items ≡ changed_at channel (with_entry executed entry.now) channels.old.items) }
+    ensures put { OnOk result (channels.new.items ≡ change_at channel (with_entry executed entry.now) channels.old.items) }
     ensures full { IsFull result ↔ (keyed_full_at channel channels.old.items ≡ true) }
     ensures fault { IfErr result (λ f. IsKeyedRefusedAt f entry.now channel channels.old.items) }
     ensures err { OnErr result (channels.new.items ≡ channels.old.items) }
@@ -143,7 +143,7 @@ impl Channels {
         name: &Name,
         preserve: bool,
     ) -> Result<(), SetFault>
-        ensures ok { OnOk result (self.new ≡ changed (self.old.list ++ opened name.now preserve ∷ []) self.old) }
+        ensures ok { OnOk result (self.new ≡ with_channels (self.old.list ++ new_channel name.now preserve ∷ []) self.old) }
         ensures err { OnErr result (self.new ≡ self.old) }
         ensures fault { IsOkUnless result Memory }
     {
@@ -156,21 +156,21 @@ impl Channels {
 
     /// A GTID is executed now.
     pub(crate) fn mark_executed(&mut self, gtid: &Gtid)
-        ensures { self.new ≡ changed (map (settled gtid.now) self.old.list) self.old }
+        ensures { self.new ≡ with_channels (map (settle_channel gtid.now) self.old.list) self.old }
     {
         settle_list(&mut self.list, gtid);
     }
 
     /// Stops a channel, or lets it run again.
     pub(crate) fn set_stopped(&mut self, channel: usize, flag: bool)
-        ensures { self.new ≡ changed (changed_at channel (with_stopped flag) self.old.list) self.old }
+        ensures { self.new ≡ with_channels (change_at channel (with_stopped flag) self.old.list) self.old }
     {
         stop_one(&mut self.list, channel, flag);
     }
 
     /// Keeps the set with which a channel asks.
     pub(crate) fn set_ask(&mut self, channel: usize, asked: GtidSet)
-        ensures { self.new ≡ changed (changed_at channel (with_asked asked) self.old.list) self.old }
+        ensures { self.new ≡ with_channels (change_at channel (with_asked asked) self.old.list) self.old }
     {
         ask_one(&mut self.list, channel, asked);
     }
@@ -185,7 +185,7 @@ impl Channels {
     ) -> Result<usize, ReceiveFault>
         requires { channel < length self.old.list }
         ensures place { IfOk result (λ place. place ≡ len_at channel self.old.list) }
-        ensures put { OnOk result (self.new ≡ changed (changed_at channel (with_received (received_as executed entry.now)) self.old.list) self.old) }
+        ensures put { OnOk result (self.new ≡ with_channels (change_at channel (with_received (received_as executed entry.now)) self.old.list) self.old) }
         ensures full { IsFull result ↔ (full_at channel self.old.list ≡ true) }
         ensures fault { IfErr result (λ f. IsRefusedAt f entry.now channel self.old.list) }
         ensures err { OnErr result (self.new ≡ self.old) }

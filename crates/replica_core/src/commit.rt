@@ -1,11 +1,11 @@
 //! The events Commit, Rollback and Local.
-ghost use Rattle.std.specs.Prelude.{◌≡◌, ◌≤◌, MatchResult, IfOk, OnErr, IfErr, option_map, if◌then◌else◌, None, All, ◌<◌, length, true};
+ghost use Rattle.std.specs.Prelude.{◌≡◌, ◌≤◌, MatchResult, IfOk, OnErr, IfErr, option_map, if◌then◌else◌, Some, None, All, ◌<◌, length, true};
 ghost use Rattle.replica_core.specs.Machine.{commit, rollback, open_before, held, commit_answer};
 ghost use Rattle.replica_core.specs.Kept.{IsKept};
 ghost use Rattle.replica_core.specs.Core.{Refuses};
 ghost use Rattle.replica_core.specs.Committing.{IsCommittable, Executes, RefusedBy};
 ghost use Rattle.gtid_set.specs.Full.{IsFaultOf};
-ghost use Rattle.replica_core.specs.Faults.{IsFault, IsFaultIn, committing, executing_too, takes_memory};
+ghost use Rattle.replica_core.specs.Faults.{IsFault, IsFaultIn, HasRoomFor, committing, executing_too};
 ghost use Rattle.replica_core.specs.Ready.{IsReady};
 
 use crate::event::{Reply, Spot};
@@ -16,7 +16,7 @@ use gtid_set::SetFault;
 use gtid_text::Gtid;
 use journal::Entry;
 use rows::{PrepareFault, RowFault, Transaction};
-use std::alloc::{AllocError, Global};
+use std::alloc::Global;
 use write_set::Patch;
 
 /// What a Commit commits, made before anything changes.
@@ -29,7 +29,7 @@ struct Ready {
 
 impl Core {
     /// The least earlier place that is not executed, where the channel preserves its order.
-    fn early(&self, channel: &Channel, place: usize) -> Option<usize>
+    fn earlier_pending(&self, channel: &Channel, place: usize) -> Option<usize>
         requires kept { All (IsKept self.now.site.schema self.now.state.executed) channel.now.channel.received }
         requires there { place < length channel.now.channel.received }
         ensures { result ≡ (if channel.now.channel.preserve then open_before self.now.state channel.now.channel place else None) }
@@ -42,9 +42,10 @@ impl Core {
     }
 
     /// What a Commit commits, or the reply that keeps it from that.
-    fn may_commit(&self, seat: u8) -> Result<Result<Ready, Reply>, AllocError>
+    fn may_commit(&self, seat: u8) -> Result<Result<Ready, Reply>, SetFault>
         ensures ok { IfOk result (λ r. MatchResult r (IsReady self.now seat) (Refuses (commit self.now.site seat) self.now)) }
-        ensures fault { OnErr result (takes_memory (commit self.now.site seat self.now.state).0 ≡ true) }
+        ensures fault { IfErr result (λ f. IsFault (IsFaultIn f (committing seat self.now.state)) (commit self.now.site seat self.now.state)) }
+        ensures room { IfErr result (λ f. HasRoomFor f (committing seat self.now.state)) }
     {
         if !is_seat(seat) {
             return Ok(Err(Reply::NoSeat));
@@ -61,8 +62,11 @@ impl Core {
         let Some(txn) = held else {
             return Ok(Err(Reply::SeatIdle));
         };
-        if let Some(earlier) = self.early(channel, spot.place) {
+        if let Some(earlier) = self.earlier_pending(channel, spot.place) {
             return Ok(Err(Reply::Early(earlier)));
+        }
+        if !self.executed().has_room_for(&gtid) {
+            return Err(SetFault::SourcesFull);
         }
         let entry = Entry {
             gtid,
@@ -87,6 +91,7 @@ impl Core {
         ensures ok { IfOk result (λ r. MatchResult r (λ done. Executes self.old freed entry self.new) (RefusedBy self.old entry self.new)) }
         ensures err { OnErr result (self.new ≡ self.old) }
         ensures fault { IfErr result (λ f. IsFaultOf f (executing_too self.old.state entry.gtid)) }
+        ensures room { IfErr result (λ f. HasRoomFor f (Some (executing_too self.old.state entry.gtid))) }
     {
         let gtid = entry.gtid;
         let _ = self.rows.schema().tables();
@@ -121,6 +126,7 @@ impl Core {
         ensures site { self.new.site ≡ self.old.site }
         ensures err { OnErr result (self.new ≡ self.old) }
         ensures fault { IfErr result (λ f. IsFault (IsFaultIn f (committing seat self.old.state)) (commit self.old.site seat self.old.state)) }
+        ensures room { IfErr result (λ f. HasRoomFor f (committing seat self.old.state)) }
     {
         let Ready { spot, entry, txn } = ready;
         let gtid = entry.gtid;
@@ -146,16 +152,17 @@ impl Core {
         ensures site { self.new.site ≡ self.old.site }
         ensures err { OnErr result (self.new ≡ self.old) }
         ensures fault { IfErr result (λ f. IsFault (IsFaultIn f (committing seat self.old.state)) (commit self.old.site seat self.old.state)) }
+        ensures room { IfErr result (λ f. HasRoomFor f (committing seat self.old.state)) }
     {
         match self.may_commit(seat) {
-            Err(_) => Err(SetFault::Memory),
+            Err(fault) => Err(fault),
             Ok(Err(reply)) => Ok(reply),
             Ok(Ok(ready)) => self.finish(alloc, seat, ready, patch),
         }
     }
 
     /// The GTID that a seat holds.
-    fn held_gtid(&self, seat: u8) -> Option<Gtid>
+    pub(crate) fn held_gtid(&self, seat: u8) -> Option<Gtid>
         requires low { 1 ≤ seat }
         requires high { seat ≤ 64 }
         ensures { result ≡ option_map (λ h. h.gtid) (held self.now.state seat) }
@@ -172,7 +179,7 @@ impl Core {
         if txn.is_some() { Some(gtid) } else { None }
     }
 
-    /// The event Rollback. Takes no memory.
+    /// The event Rollback. Does not allocate.
     pub(crate) fn rollback(&mut self, seat: u8) -> Reply
         ensures made { (result, self.new.state) ≡ rollback seat self.old.state }
         ensures site { self.new.site ≡ self.old.site }

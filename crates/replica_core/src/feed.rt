@@ -3,7 +3,7 @@ ghost use Rattle.std.specs.Prelude.{◌≡◌, IfOk, IfErr, OnErr, true, None};
 ghost use Rattle.journal.specs.Writing.{is_number};
 ghost use Rattle.rows.specs.Fits.{Fits};
 ghost use Rattle.replica_core.specs.Machine.{open_channel, position_on, receive, restart};
-ghost use Rattle.replica_core.specs.Faults.{IsFault, IsFaultIn, asking, receiving};
+ghost use Rattle.replica_core.specs.Faults.{IsFault, IsFaultIn, HasRoomFor, asking, receiving};
 
 use crate::event::Reply;
 use crate::machine::Core;
@@ -46,6 +46,7 @@ impl Core {
         ensures site { self.new.site ≡ self.old.site }
         ensures err { OnErr result (self.new ≡ self.old) }
         ensures fault { IfErr result (λ f. IsFault (IsFaultIn f (asking channel self.old.state)) (position_on channel self.old.state)) }
+        ensures room { IfErr result (λ f. HasRoomFor f (asking channel self.old.state)) }
     {
         let Some(one) = self.channels.get(channel) else {
             return Ok(Reply::NoChannel);
@@ -68,6 +69,7 @@ impl Core {
         ensures site { self.new.site ≡ self.old.site }
         ensures err { OnErr result (self.new ≡ self.old) }
         ensures fault { IfErr result (λ f. IsFault (IsFaultIn f (receiving channel entry.now self.old.state)) (receive self.old.site channel entry.now self.old.state)) }
+        ensures room { IfErr result (λ f. HasRoomFor f (receiving channel entry.now self.old.state)) }
     {
         let Some(one) = self.channels.get(channel) else {
             return Ok(Reply::NoChannel);
@@ -94,6 +96,7 @@ impl Core {
         ensures site { self.new.site ≡ self.old.site }
         ensures err { OnErr result (self.new ≡ self.old) }
         ensures fault { IfErr result (λ f. IsFault (IsFaultIn f (receiving channel entry.now self.old.state)) (receive self.old.site channel entry.now self.old.state)) }
+        ensures room { IfErr result (λ f. HasRoomFor f (receiving channel entry.now self.old.state)) }
     {
         let Some(one) = self.channels.get(channel) else {
             return Ok(Reply::NoChannel);
@@ -109,7 +112,7 @@ impl Core {
         }
     }
 
-    /// The event Restart. Takes no memory.
+    /// The event Restart. Does not allocate.
     pub(crate) fn restart(&mut self, channel: usize) -> Reply
         ensures made { (result, self.new.state) ≡ restart channel self.old.state }
         ensures site { self.new.site ≡ self.old.site }

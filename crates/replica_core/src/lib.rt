@@ -3,7 +3,8 @@
 //! What a contract sees: a `Core` is its own UUID and schema, which never change (`Site`), and its state: the executed set, the rows,
 //! which seat took which place, the channels, and its own journal (`State`). `step` of `specs/Machine` is the machine as a function, one
 //! definition for each of the ten events, with the replies in the order in which they are tested; `Core::step` refines it (`ok`), and
-//! after an error nothing has changed (`err`). An error comes only in place of a reply that allocates (`fault`).
+//! after an error nothing has changed (`err`). An error comes only in place of a reply that allocates (`fault`), and is a failed allocation only
+//! where the set that the event makes, if it makes one, has not too many sources (`room`).
 //!
 //! Kept by the type: the executed set is that of the own journal; a received entry has its transaction exactly where its GTID is not
 //! executed; each such transaction fits the schema; the place that a seat took has its transaction, and no GTID is at two seats
@@ -29,6 +30,7 @@ mod local;
 mod machine;
 mod prepared;
 mod query;
+mod room;
 mod same;
 mod step;
 mod take;

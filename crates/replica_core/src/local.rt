@@ -2,7 +2,7 @@
 ghost use Rattle.std.specs.Prelude.{◌≡◌, MatchResult, IfOk, IfErr, OnErr, Some, None};
 ghost use Rattle.rows.specs.Fits.{misfit};
 ghost use Rattle.replica_core.specs.Machine.{is_free, next_number, local};
-ghost use Rattle.replica_core.specs.Faults.{IsFault, IsFaultIn, numbering};
+ghost use Rattle.replica_core.specs.Faults.{IsFault, IsFaultIn, HasRoomFor, numbering};
 
 use crate::event::Reply;
 use crate::machine::Core;
@@ -25,7 +25,7 @@ impl Core {
     }
 
     /// The least such number: the least one that is not executed, or else the next that is free.
-    fn next_number(&self) -> Option<u64>
+    pub(crate) fn next_number(&self) -> Option<u64>
         ensures { result ≡ next_number self.now.site self.now.state }
     {
         let Some(first) = self.executed().least_unused(self.own) else {
@@ -46,6 +46,7 @@ impl Core {
         ensures site { self.new.site ≡ self.old.site }
         ensures err { OnErr result (self.new ≡ self.old) }
         ensures fault { IfErr result (λ f. IsFault (IsFaultIn f (numbering self.old.site self.old.state)) (local self.old.site txn.now self.old.state)) }
+        ensures room { IfErr result (λ f. HasRoomFor f (numbering self.old.site self.old.state)) }
     {
         if let Err(fault) = fits(self.rows().schema(), txn) {
             return Ok(Reply::NotInSchema(fault));
@@ -64,15 +65,19 @@ impl Core {
         ensures site { self.new.site ≡ self.old.site }
         ensures err { OnErr result (self.new ≡ self.old) }
         ensures fault { IfErr result (λ f. IsFault (IsFaultIn f (numbering self.old.site self.old.state)) (local self.old.site txn.now self.old.state)) }
+        ensures room { IfErr result (λ f. HasRoomFor f (numbering self.old.site self.old.state)) }
     {
+        let gtid = Gtid {
+            source: self.own,
+            number,
+        };
+        if !self.executed().has_room_for(&gtid) {
+            return Err(SetFault::SourcesFull);
+        }
         let entry = Entry {
-            gtid: Gtid {
-                source: self.own,
-                number,
-            },
+            gtid,
             txn: txn.clone()?,
         };
-        let gtid = entry.gtid;
         match self.execute(alloc, None, entry, txn, None) {
             Ok(Ok(())) => return Ok(Reply::Committed(gtid)),
             Ok(Err(fault)) => return Ok(Reply::LocalRefused(fault)),

@@ -4,7 +4,7 @@ ghost use Rattle.gtid_set.specs.declared.fault.SetFault.TheVariants.{Memory};
 ghost use Rattle.std.specs.FinMap as finmap;
 ghost use Rattle.replica_core.specs.State.{gtid_at, owned_by, owner, owns};
 ghost use Rattle.replica_core.specs.Slots.{seats_of};
-ghost use Rattle.replica_core.specs.Core.{opened, opened_with};
+ghost use Rattle.replica_core.specs.Core.{new_replica, new_replica_with};
 ghost use Rattle.replica_core.specs.Seated.{MayHave, IsFreeable, freed_of};
 ghost use Rattle.replica_core.specs.Machine.{drained, is_seat, taking, without_seat, stopping};
 
@@ -94,7 +94,7 @@ fn no_seats() -> [Option<Spot>; 64]
 impl Core {
     /// A replica with these rows, an empty executed set and no channel.
     pub fn open(alloc: Global, own: SourceId, rows: Rows) -> Result<Core, SetFault>
-        ensures ok { IfOk result (λ core. core ≡ opened own rows) }
+        ensures ok { IfOk result (λ core. core ≡ new_replica own rows) }
         ensures fault { IsOkUnless result Memory }
     {
         Core::open_snapshot(alloc, own, rows, GtidSet::empty(alloc))
@@ -109,7 +109,7 @@ impl Core {
         rows: Rows,
         executed: GtidSet,
     ) -> Result<Core, SetFault>
-        ensures ok { IfOk result (λ core. core ≡ opened_with own rows executed) }
+        ensures ok { IfOk result (λ core. core ≡ new_replica_with own rows executed) }
         ensures fault { IsOkUnless result Memory }
     {
         let schema = rows.schema().clone()?;
@@ -146,7 +146,7 @@ impl Core {
     }
 
     /// Whether every received GTID is executed.
-    pub fn drained(&self) -> bool
+    pub fn is_drained(&self) -> bool
         ensures { result ≡ drained self.now.state }
     {
         let _ = &self.own;

@@ -1,19 +1,18 @@
 //! Transactions that a worker prepares outside, and commits by their patches.
-ghost use Rattle.std.specs.Prelude.{◌≡◌, ◌≤◌, None, Ok, true, false, IfOk, IfErr, OnOk, OnErr, IfSome, MatchOption};
-ghost use Rattle.std.specs.Prelude.{option_map};
+ghost use Rattle.std.specs.Prelude.{◌≡◌, ◌≤◌, None, Ok, true, false, IfOk, IfErr, OnOk, OnErr, IfSome, MatchOption, option_map};
 ghost use Rattle.std.specs.Option.{option_copied};
 ghost use Rattle.rows.specs.Apply.{apply};
 ghost use Rattle.rows.specs.Fits.{Fits};
 ghost use Rattle.rows.specs.Patch.{SeesAll, IsAsSeen};
 ghost use Rattle.rows.specs.Refusal.{Refuses};
-ghost use Rattle.replica_core.specs.Faults.{IsFault, IsFaultIn, committing};
+ghost use Rattle.replica_core.specs.Faults.{IsFault, IsFaultIn, HasRoomFor, committing};
 ghost use Rattle.replica_core.specs.Machine.{commit};
 ghost use Rattle.replica_core.specs.Prepared.{held_txn, changes_of, IsSightOf};
 
 use crate::event::Reply;
 use crate::machine::{Core, is_seat};
 use gtid_set::SetFault;
-use rows::{Outcome, PrepareFault, Rows, Transaction};
+use rows::{InstallOutcome, PrepareFault, Rows, Transaction};
 use std::alloc::{AllocError, Global};
 use write_set::{Footprint, Patch, install, list_keys};
 
@@ -28,8 +27,8 @@ fn install_of(rows: &mut Rows, txn: &Transaction, patch: Patch) -> Result<bool, 
         return Ok(false);
     }
     match install(rows, patch) {
-        Ok(Outcome::Installed) => return Ok(true),
-        Ok(Outcome::Stale) => return Ok(false),
+        Ok(InstallOutcome::Installed) => return Ok(true),
+        Ok(InstallOutcome::Stale) => return Ok(false),
         Err(fault) => return Err(fault),
     }
 }
@@ -127,6 +126,7 @@ impl Core {
         ensures site { self.new.site ≡ self.old.site }
         ensures err { OnErr result (self.new ≡ self.old) }
         ensures fault { IfErr result (λ f. IsFault (IsFaultIn f (committing seat self.old.state)) (commit self.old.site seat self.old.state)) }
+        ensures room { IfErr result (λ f. HasRoomFor f (committing seat self.old.state)) }
     {
         self.commit(alloc, seat, Some(patch))
     }

@@ -6,7 +6,7 @@ ghost use Rattle.replica_core.specs.State.{owned};
 ghost use Rattle.replica_core.specs.Seated.{AreSeated};
 ghost use Rattle.replica_core.specs.Draining.{places};
 ghost use Rattle.replica_core.specs.Machine.{next_ready, ready_from};
-ghost use Rattle.replica_core.specs.Faults.{asking, IsFaultIn};
+ghost use Rattle.replica_core.specs.Faults.{asking, IsFaultIn, HasRoomFor};
 ghost use Rattle.replica_core.specs.Kept.{IsKept, AreKept};
 ghost use Rattle.replica_core.specs.Core.{IsAtCore, IsNotAtCore, IsEntryAt, IsNoEntry};
 
@@ -62,6 +62,7 @@ impl Core {
     pub fn ask(&self, alloc: Global, channel: usize) -> Result<Option<GtidSet>, SetFault>
         ensures ok { IfOk result (λ asked. asked ≡ asking channel self.now.state) }
         ensures fault { IfErr result (λ f. IsFaultIn f (asking channel self.now.state)) }
+        ensures room { IfErr result (λ f. HasRoomFor f (asking channel self.now.state)) }
     {
         let Some(one) = self.channels.get(channel) else {
             return Ok(None);
@@ -118,7 +119,7 @@ impl Core {
         None
     }
 
-    /// What the seats own: each busy seat with its GTID, seats rising.
+    /// What the seats own: each busy seat with its GTID, seats ascending.
     pub fn owned(&self, alloc: Global) -> Result<Vec<(u8, Gtid)>, AllocError>
         ensures { IfOk result (λ pairs. pairs.items ≡ owned self.now.state) }
     {

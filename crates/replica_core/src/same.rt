@@ -96,7 +96,7 @@ impl Channels {
 
 impl Core {
     /// The same replica. Its entries share their changes with these, and its rows their values. The
-    /// one error is want of memory.
+    /// one error is a failed allocation.
     pub fn copy(&self, alloc: Global) -> Result<Core, SetFault>
         ensures ok { IfOk result (λ copy. copy ≡ self.now) }
         ensures fault { IsOkUnless result Memory }

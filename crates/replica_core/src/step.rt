@@ -1,9 +1,10 @@
 //! One event, and events in turn.
-ghost use Rattle.std.specs.Prelude.{◌≡◌, ◌<◌, ◌∷◌, [], ◌++◌, IfOk, IfErr, IfSome, OnErr, None, true, length, vec_len, vec_capacity, slice_get};
+ghost use Rattle.std.specs.Prelude.{◌≡◌, ◌<◌, ◌∷◌, [], ◌++◌, IfOk, IfErr, IfSome, OnErr, Some, None, true, length, vec_len, vec_capacity, slice_get};
 ghost use Rattle.replica_core.specs.Machine.{purge, look, step, is_numbered, AreNumbered, replies, after};
-ghost use Rattle.replica_core.specs.Replies.{answered};
+ghost use Rattle.replica_core.specs.Replies.{answered_events};
+ghost use Rattle.journal.specs.Journals.{purged};
 ghost use Rattle.journal.specs.Faults.{IsPurgedFault};
-ghost use Rattle.replica_core.specs.Faults.{IsFault, IsFaultIn, IsFaultAt, IsStepFault};
+ghost use Rattle.replica_core.specs.Faults.{IsFault, IsFaultIn, IsFaultAt, IsStepFault, HasRoomFor, HasRoomAt, made_by};
 
 use crate::event::{Event, Reply};
 use crate::machine::Core;
@@ -18,6 +19,7 @@ impl Core {
         ensures site { self.new.site ≡ self.old.site }
         ensures err { OnErr result (self.new ≡ self.old) }
         ensures fault { IfErr result (λ f. IsFault (IsPurgedFault f count self.old.state.journal) (purge count self.old.state)) }
+        ensures room { IfErr result (λ f. HasRoomFor f (Some (purged count self.old.state.journal))) }
     {
         match self.journal.purge(alloc, count) {
             Ok(purged) => return Ok(Reply::Purged(purged)),
@@ -36,7 +38,8 @@ impl Core {
     }
 
     /// One event: its reply, and the state that it leaves. After an error nothing has changed. An
-    /// error comes only in place of a reply that takes memory: `Memory` where memory was refused, and
+    /// error comes only in place of a reply that takes memory: `Memory` where memory was refused and the
+    /// set that the event makes, if it makes one, has at most 65,536 sources (`room`), and
     /// `SourcesFull` or `PoolFull` only where the set that the event makes would have more than 65,536
     /// sources, or more than 4,294,967,294 intervals: the set to ask with, the received set with the
     /// entry's GTID, the executed set with the committed GTID, or the purged set. The purged set is made
@@ -48,6 +51,7 @@ impl Core {
         ensures site { self.new.site ≡ self.old.site }
         ensures err { OnErr result (self.new ≡ self.old) }
         ensures fault { IfErr result (λ f. IsStepFault f self.old.site self.old.state event.now) }
+        ensures room { IfErr result (λ f. HasRoomFor f (made_by self.old.site self.old.state event.now)) }
     {
         match event {
             Event::Take(seat, channel, place) => Ok(self.take(*seat, *channel, *place)),
@@ -77,20 +81,22 @@ fn put(told: &mut Vec<Reply>, reply: Reply)
 impl Core {
     /// Events in turn: the replies up to the first error, and that error. What came before it stays.
     /// Room for each reply is made before its step. The error is that of the next event's step, or
-    /// `Memory` where room for its reply was refused.
+    /// where room for its reply was refused, `SourcesFull` if the set that it makes would have more than
+    /// 65,536 sources, and else `Memory`.
     pub fn run(&mut self, alloc: Global, events: &[Event]) -> (Vec<Reply>, Option<SetFault>)
         requires { AreNumbered events.now }
-        ensures told { result.0.items ≡ replies self.old.site self.old.state (answered result.0.items events.now) }
-        ensures state { self.new.state ≡ after self.old.site self.old.state (answered result.0.items events.now) }
+        ensures told { result.0.items ≡ replies self.old.site self.old.state (answered_events result.0.items events.now) }
+        ensures state { self.new.state ≡ after self.old.site self.old.state (answered_events result.0.items events.now) }
         ensures whole { result.1 ≡ None → length result.0.items ≡ length events.now }
         ensures cut { IfSome result.1 (λ fault. length result.0.items < length events.now) }
         ensures site { self.new.site ≡ self.old.site }
         ensures fault { IfSome result.1 (λ f. IsFaultAt f self.old.site self.new.state (slice_get events.now (length result.0.items))) }
+        ensures room { IfSome result.1 (λ f. HasRoomAt f self.old.site self.new.state (slice_get events.now (length result.0.items))) }
     {
         let mut told = Vec::new(alloc);
         for event in events {
             if told.reserve(1).is_err() {
-                return (told, Some(SetFault::Memory));
+                return (told, Some(self.refusal(event)));
             }
             match self.step(alloc, event) {
                 Ok(reply) => put(&mut told, reply),

@@ -37,7 +37,7 @@ impl Core {
         let Some((gtid, _)) = from.entry(place) else {
             return Err(Reply::NoPlace);
         };
-        if from.stopped() {
+        if from.is_stopped() {
             return Err(Reply::Stopped);
         }
         if self.executed().contains(&gtid) {

@@ -1,4 +1,4 @@
--- Want of memory may come anywhere.
+-- An allocation may fail anywhere.
 use Rattle.std.proofs.Common.{refl}
 use Rattle.std.specs.Prelude.{Option, Some, None}
 use Rattle.gtid_set.specs.Sets.{Gtids}

@@ -1,10 +1,10 @@
 -- The UUIDs of a line, word by word.
 use Rattle.std.proofs.Common.{◌≡◌, ℕ, List, [], ◌∷◌, ◌++◌, Option, Some, None, refl, sym, ap, ◌∙◌, append_assoc}
 use Rattle.std.specs.Prelude.{option_map, option_and_then}
-use Rattle.journal_words.specs.Words.{first_word, others}
+use Rattle.row_images.specs.Words.{first_word, others}
 use Rattle.journal_words.specs.Gtids.{source_of_word}
-use Rattle.txn_journal.specs.Lines.{words_of}
-use Rattle.txn_journal.proofs.ValueSteps.{more_words, words_cut}
+use Rattle.row_images.specs.Images.{words_of}
+use Rattle.row_images.proofs.PartLaws.{more_words, words_cut}
 use Rattle.replica_script.specs.Declarations.{sources_of}
 
 -- what was read, and then more
@@ -15,7 +15,7 @@ behind_next : (ids : List ℕ) (own : ℕ) (o : Option (List ℕ)) → behind id
 behind_next ids own None = refl
 behind_next ids own (Some us) = ap (λ (us : List ℕ). Some us) (sym (append_assoc ids (own ∷ []) us))
 
--- one word, and the UUIDs behind it
+-- one word, and the UUIDs after it
 abbrev source_step : Option ℕ → Option (List ℕ) → Option (List ℕ)
 source_step own m = option_and_then (λ id. option_map (λ ids. id ∷ ids) (sources_of (more_words m))) own
 

@@ -1,9 +1,9 @@
 -- What a line declares. The words are our own.
 use Rattle.std.specs.Prelude.{◌≡◌, ℕ, false, List, [], ◌∷◌, Option, Some, option_map, option_and_then}
 use Rattle.journal_words.specs.Gtids.{source_of_word}
-use Rattle.txn_journal.specs.Lines.{words_of}
+use Rattle.row_images.specs.Images.{words_of}
 use Rattle.rows.specs.Database.{Database}
-use Rattle.network.specs.Nodes.{Node, opened, ids_distinct}
+use Rattle.network.specs.Nodes.{Node, new_nodes, ids_distinct}
 use Rattle.replica_script.specs.declared.answer.Stop.{Stop}
 use Rattle.replica_script.specs.declared.answer.Stop.TheVariants as stop
 
@@ -12,7 +12,7 @@ abbrev pub sources_of : List (List ℕ) → Option (List ℕ)
 sources_of [] = Some []
 sources_of (word ∷ words) = option_and_then (λ own. option_map (λ ids. own ∷ ids) (sources_of words)) (source_of_word word)
 
--- why no network is opened: memory was refused, or a UUID stands twice
+-- why no network is opened: memory was refused, or a UUID occurs twice
 abbrev pub IsStopOfIds : List ℕ → Stop → Type 0
 IsStopOfIds ids stop.Memory = Unit {0}
 IsStopOfIds ids stop.Changed = ⊥
@@ -22,4 +22,4 @@ IsStopOfIds ids stop.BadLine = ids_distinct ids ≡ false
 pub record IsOpenedAs (text : List ℕ) (start : Database) (nodes : List Node) : Type 0 where
   pub ids : List ℕ
   pub words : sources_of (words_of text) ≡ Some ids
-  pub nodes_are : nodes ≡ opened ids start.schema start.rows
+  pub nodes_are : nodes ≡ new_nodes ids start.schema start.rows

@@ -1,7 +1,7 @@
 -- What a line asks of a network. The words are our own.
 use Rattle.std.specs.Prelude.{ℕ, List, Option, Some, None, option_and_then, codes, if◌then◌else◌}
 use Rattle.std.specs.Str.{bytes_eq}
-use Rattle.journal_words.specs.Words.{first_word, others, count_of}
+use Rattle.row_images.specs.Words.{first_word, others, count_of}
 use Rattle.network.specs.declared.event.NetworkEvent.{NetworkEvent}
 use Rattle.network.specs.declared.event.NetworkEvent.TheVariants.{Act, Position, Receive}
 use Rattle.replica_script.specs.declared.question.Question.{Question}
@@ -29,7 +29,7 @@ network_with_two word node channel = if bytes_eq word (codes "receive") then Som
 abbrev pub network_with_three : List ℕ → ℕ → ℕ → ℕ → Option NetworkEvent
 network_with_three word node channel source = if bytes_eq word (codes "position") then Some (Position node channel source) else None
 
--- ... as far as the words go: the words behind the second number, those behind the first, and all behind the word
+-- ... as far as the words go: the words after the second number, those after the first, and all after the word
 abbrev pub network_behind_two : List ℕ → ℕ → Option (List ℕ) → ℕ → Option NetworkEvent
 network_behind_two word node None channel = network_with_two word node channel
 network_behind_two word node (Some rest) channel = option_and_then (network_with_three word node channel) (count_of rest)

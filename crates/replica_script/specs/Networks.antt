@@ -15,14 +15,14 @@ use Rattle.replica_script.specs.declared.answer.Stop.{Stop}
 use Rattle.replica_script.specs.declared.answer.Stop.TheVariants as stop
 use Rattle.replica_script.specs.declared.replicas.Replicas.{Replicas}
 use Rattle.replica_script.specs.declared.replicas.Replicas.TheVariants.{One, Network}
-use Rattle.replica_script.specs.Replies.{ended, network_reply_line}
+use Rattle.replica_script.specs.Replies.{with_line_feed, network_reply_line}
 use Rattle.replica_script.specs.Scripts.{Answers, IsFullLine, IsLeftBy, IsShown, IsStopAt}
 
 -- ---- a network
 
 -- an event was made: its reply's line, and the nodes after it
 pub record IsMadeIn (old : List Node) (event : NetworkEvent) (new : List Node) (text : List ℕ) : Type 0 where
-  pub line : text ≡ ended (network_reply_line (step old event).0)
+  pub line : text ≡ with_line_feed (network_reply_line (step old event).0)
   pub nodes : new ≡ (step old event).1
 
 -- an event was made; or a set that it makes would have too many sources or intervals, and nothing has changed
@@ -31,7 +31,7 @@ IsNetworkAnswer old event new text = IsMadeIn old event new text ⊎ (IsFullLine
 
 -- a query of a replica was answered, or there is no such node
 abbrev pub IsShownBy : Option Replica → Query → List ℕ → Type 0
-IsShownBy None query text = text ≡ ended (network_reply_line NoNode)
+IsShownBy None query text = text ≡ with_line_feed (network_reply_line NoNode)
 IsShownBy (Some r) query text = IsShown r query text
 
 abbrev pub IsShownAt : List Node → ℕ → Query → List ℕ → Type 0
@@ -49,7 +49,7 @@ IsNetworkStopAt q stop.Changed = ⊥
 IsNetworkStopAt (question.Event event) stop.BadLine = is_numbered event ≡ false
 IsNetworkStopAt (question.Query i query) stop.BadLine = ⊥
 
--- what a question leaves where its answer is wanting: the nodes as they were, or those after the event whose reply was not told
+-- what a question leaves where it has no answer: the nodes as they were, or those after the event whose reply was not given
 abbrev pub IsNetworkLeft : List Node → NetworkEvent → List Node → Type 0
 IsNetworkLeft old event new = (new ≡ old) ⊎ (new ≡ (step old event).1)
 

@@ -1,15 +1,15 @@
 -- What a line asks of a replica. The words are our own.
 use Rattle.std.specs.Prelude.{ℕ, min, List, Option, Some, None, option_and_then, codes, if◌then◌else◌}
 use Rattle.std.specs.Str.{bytes_eq}
-use Rattle.journal_words.specs.Words.{first_word, others, count_of}
+use Rattle.row_images.specs.Words.{first_word, others, count_of}
 use Rattle.replica_core.specs.declared.event.Event.TheVariants as event
 use Rattle.replica_script.specs.declared.question.Question.{Question}
 use Rattle.replica_script.specs.declared.question.Question.TheVariants.{Event, Query}
 use Rattle.replica_script.specs.declared.question.Query.TheVariants as query
 
 -- the question that is one word
-abbrev pub alone : List ℕ → Option Question
-alone word =
+abbrev pub question_alone : List ℕ → Option Question
+question_alone word =
     if bytes_eq word (codes "look") then Some (Event event.Look)
     else if bytes_eq word (codes "rows") then Some (Query query.Rows)
     else if bytes_eq word (codes "executed") then Some (Query query.Executed)
@@ -19,7 +19,7 @@ alone word =
     else if bytes_eq word (codes "status") then Some (Query query.Status)
     else None
 
--- a seat as an event has it: 255, which is no seat, stands for those above it
+-- a seat as an event has it: 255, which is no seat, denotes those above it
 abbrev pub seat : ℕ → ℕ
 seat number = min number 255
 
@@ -46,7 +46,7 @@ abbrev pub with_three : List ℕ → ℕ → ℕ → ℕ → Option Question
 with_three word number channel place =
     if bytes_eq word (codes "take") then Some (Event (event.Take (seat number) channel place)) else None
 
--- ... as far as the words go: the words behind the second number, those behind the first, and all behind the word
+-- ... as far as the words go: the words after the second number, those after the first, and all after the word
 abbrev pub behind_two : List ℕ → ℕ → Option (List ℕ) → ℕ → Option Question
 behind_two word first None second = with_two word first second
 behind_two word first (Some rest) second = option_and_then (with_three word first second) (count_of rest)

@@ -16,8 +16,8 @@ use Rattle.replica_core.specs.declared.event.Reply.{Reply}
 use Rattle.replica_core.specs.declared.event.Reply.TheVariants as reply
 
 -- a line with its line feed
-abbrev pub ended : List ℕ → List ℕ
-ended line = line ++ codes "\n"
+abbrev pub with_line_feed : List ℕ → List ℕ
+with_line_feed line = line ++ codes "\n"
 
 -- a name, and what it is of
 abbrev pub within : List ℕ → List ℕ → List ℕ
@@ -74,7 +74,7 @@ reply_line (reply.Shown set) = within (codes "Shown") (set_text set)
 
 -- ---- a network
 
--- what a source does not send for: GTIDs that it has purged, or those of its own that it has no record of; a want of memory is no reply, and has no text
+-- what a source does not send for: GTIDs that it has purged, or those of its own that it has no record of; a failed allocation is no reply, and has no text
 abbrev pub withheld_text : PositionFault → List ℕ
 withheld_text (PurgedRequired gtids) = codes "E19 purged " ++ set_text gtids
 withheld_text (ReplicaHasMore gtids) = codes "E20 has-more " ++ set_text gtids

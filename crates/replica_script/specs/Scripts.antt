@@ -19,11 +19,11 @@ use Rattle.replica_script.specs.declared.answer.Unanswered.TheVariants as unaske
 use Rattle.replica_script.specs.declared.answer.Stop.{Stop}
 use Rattle.replica_script.specs.declared.answer.Stop.TheVariants as stop
 use Rattle.replica_script.specs.declared.edge.Line.{Line}
-use Rattle.replica_script.specs.declared.edge.Fault.{Fault}
-use Rattle.replica_script.specs.declared.edge.Fault.TheVariants.{BadLine, CutShort, Memory, Changed, Read, Write}
+use Rattle.replica_script.specs.declared.edge.ScriptFault.{ScriptFault}
+use Rattle.replica_script.specs.declared.edge.ScriptFault.TheVariants.{BadLine, CutShort, Memory, Changed, Read, Write}
 use Rattle.replica_script.specs.declared.Command.{Command}
 use Rattle.replica_script.specs.declared.Command.TheVariants.{Run, Help}
-use Rattle.replica_script.specs.Replies.{ended, reply_line}
+use Rattle.replica_script.specs.Replies.{with_line_feed, reply_line}
 use Rattle.replica_script.specs.Texts.{query_text}
 
 -- ---- answers
@@ -34,7 +34,7 @@ IsFullLine may text = (may SourcesFull × (text ≡ codes "SourcesFull\n")) ⊎ 
 
 -- an event was made: its reply's line, and the state after it
 pub record IsMade (old : Replica) (event : Event) (new : Replica) (text : List ℕ) : Type 0 where
-  pub line : text ≡ ended (reply_line (step old.site old.state event).0)
+  pub line : text ≡ with_line_feed (reply_line (step old.site old.state event).0)
   pub state : new.state ≡ (step old.site old.state event).1
   pub site : new.site ≡ old.site
 
@@ -63,7 +63,7 @@ IsStopAt asked stop.Changed = ⊥
 IsStopAt (question.Event event) stop.BadLine = is_numbered event ≡ false
 IsStopAt (question.Query query) stop.BadLine = ⊥
 
--- what a question leaves where its answer is wanting: what it was asked of, or the state after the event whose reply was not told
+-- what a question leaves where it has no answer: what it was asked of, or the state after the event whose reply was not given
 abbrev pub IsLeft : Replica → Event → Replica → Type 0
 IsLeft old event new = (new ≡ old) ⊎ ((new.state ≡ (step old.site old.state event).1) × (new.site ≡ old.site))
 
@@ -110,19 +110,19 @@ ending None true = Err stop.BadLine
 ending None false = Ok tt
 
 -- what a stop at a line means for the program
-abbrev pub fault_at : Line → Stop → Fault
+abbrev pub fault_at : Line → Stop → ScriptFault
 fault_at line stop.BadLine = BadLine line
 fault_at line stop.Memory = Memory
 fault_at line stop.Changed = Changed
 
 -- what a stop means where no line follows
-abbrev pub fault_at_end : Stop → Fault
+abbrev pub fault_at_end : Stop → ScriptFault
 fault_at_end stop.BadLine = CutShort
 fault_at_end stop.Memory = Memory
 fault_at_end stop.Changed = Changed
 
 -- the status that the program ends with
-abbrev pub status_of : Result (Unit {0}) Fault → ℕ
+abbrev pub status_of : Result (Unit {0}) ScriptFault → ℕ
 status_of (Ok done) = 0
 status_of (Err (BadLine line)) = 2
 status_of (Err CutShort) = 2

@@ -14,7 +14,7 @@ use Rattle.replica_core.specs.State.{Replica, State, entry_at}
 use Rattle.replica_core.specs.Machine.{ask, drained, next_ready}
 use Rattle.replica_script.specs.declared.question.Query.{Query}
 use Rattle.replica_script.specs.declared.question.Query.TheVariants as query
-use Rattle.replica_script.specs.Replies.{ended}
+use Rattle.replica_script.specs.Replies.{with_line_feed}
 
 -- a set, where there is one
 abbrev pub set_or_none : Option Gtids → List ℕ
@@ -50,11 +50,11 @@ place_or_none (Some place) = decimal place
 -- the lines that answer a query
 abbrev pub query_text : Replica → Query → List ℕ
 query_text r query.Rows = flat_map row_line (rows_listed r.state.rows)
-query_text r query.Executed = ended (set_text r.state.executed)
-query_text r query.Purged = ended (set_text r.state.journal.previous)
+query_text r query.Executed = with_line_feed (set_text r.state.executed)
+query_text r query.Purged = with_line_feed (set_text r.state.journal.previous)
 query_text r query.Journal = spelling r.state.journal
-query_text r query.Drained = ended (truth (drained r.state))
+query_text r query.Drained = with_line_feed (truth (drained r.state))
 query_text r query.Status = status_text r.state
-query_text r (query.Ask channel) = ended (set_or_none (asks r.state channel))
-query_text r (query.Next channel from) = ended (place_or_none (next_ready r.site r.state channel from))
-query_text r (query.Entry channel place) = ended (entry_or_none (entry_at r.state (record { channel = channel; place = place })))
+query_text r (query.Ask channel) = with_line_feed (set_or_none (asks r.state channel))
+query_text r (query.Next channel from) = with_line_feed (place_or_none (next_ready r.site r.state channel from))
+query_text r (query.Entry channel place) = with_line_feed (entry_or_none (entry_at r.state (record { channel = channel; place = place })))

@@ -1,7 +1,7 @@
 //! Declarations: tables, rows, and the replica or the network that has them.
 ghost use Rattle.std.specs.Prelude.{◌≡◌, IfOk, IfErr, option_map};
-ghost use Rattle.txn_journal.specs.Lines.{words_of};
-ghost use Rattle.network.specs.Nodes.{ids_distinct, opened};
+ghost use Rattle.row_images.specs.Images.{words_of};
+ghost use Rattle.network.specs.Nodes.{ids_distinct, new_nodes};
 ghost use Rattle.replica_script.specs.Declarations.{sources_of, IsStopOfIds};
 ghost use Rattle.replica_script.specs.declared.answer.Stop.{Stop};
 ghost use Rattle.replica_script.specs.declared.answer.Stop.TheVariants.{Memory};
@@ -10,9 +10,10 @@ use crate::answer::Stop;
 use crate::transaction::stop_of;
 use gtid_set::{GtidSet, SetFault};
 use gtid_text::SourceId;
-use journal_words::{cut, set_word, source_word};
+use journal_words::{set_word, source_word};
 use network::Network;
 use replica_core::Core;
+use row_images::cut;
 use std::alloc::{AllocError, Global};
 use std::collections::BTreeSet;
 use txn_journal::{Bundle, BundleReader};
@@ -45,7 +46,7 @@ impl Declared {
         }
     }
 
-    /// Takes the lines before the first table. They are of the language, so that memory alone can be wanting.
+    /// Takes the lines before the first table. They are of the language, so that an allocation alone can fail.
     fn begin(&mut self, alloc: Global) -> Result<(), Stop>
         ensures { IfErr result (λ stop. stop ≡ Memory) }
     {
@@ -76,7 +77,7 @@ impl Declared {
     }
 }
 
-/// The executed set of a replica that is declared: empty where no word stands for it.
+/// The executed set of a replica that is declared: empty where no word denotes it.
 pub fn executed_word(alloc: Global, word: Option<&[u8]>) -> Result<GtidSet, Stop> {
     let Some(word) = word else {
         return Ok(GtidSet::empty(alloc));
@@ -120,7 +121,7 @@ pub fn core_on(
     }
 }
 
-/// Whether no UUID stands twice: each is new, and not one that came earlier.
+/// Whether no UUID occurs twice: each is new, and not one that came earlier.
 fn are_distinct(alloc: Global, ids: &[SourceId]) -> Result<bool, AllocError>
     ensures { IfOk result (λ are. are ≡ ids_distinct ids.now) }
 {
@@ -135,9 +136,9 @@ fn are_distinct(alloc: Global, ids: &[SourceId]) -> Result<bool, AllocError>
     Ok(true)
 }
 
-/// A network on the rows of a bundle. Where a UUID stands twice it is a bad line.
+/// A network on the rows of a bundle. Where a UUID occurs twice it is a bad line.
 pub fn network_on(alloc: Global, bundle: &Bundle, ids: &[SourceId]) -> Result<Network, Stop>
-    ensures opened { IfOk result (λ n. n ≡ opened ids.now bundle.now.start.schema bundle.now.start.rows) }
+    ensures opened { IfOk result (λ n. n ≡ new_nodes ids.now bundle.now.start.schema bundle.now.start.rows) }
     ensures stop { IfErr result (IsStopOfIds ids.now) }
 {
     if !are_distinct(alloc, ids)? {

@@ -18,7 +18,7 @@ pub struct Line {
 
 /// Why a script was not answered to its end.
 #[derive(Drop)]
-pub enum Fault {
+pub enum ScriptFault {
     /// A line that is not in the language where it stands.
     BadLine(Line),
     /// An end inside a transaction.
@@ -34,32 +34,32 @@ pub enum Fault {
 }
 
 /// What a stop at this line means.
-fn fault_at(line: Line, stop: Stop) -> Fault
+fn fault_at(line: Line, stop: Stop) -> ScriptFault
     ensures { result ≡ fault_at line stop }
 {
     match stop {
-        Stop::BadLine => Fault::BadLine(line),
-        Stop::Memory => Fault::Memory,
-        Stop::Changed => Fault::Changed,
+        Stop::BadLine => ScriptFault::BadLine(line),
+        Stop::Memory => ScriptFault::Memory,
+        Stop::Changed => ScriptFault::Changed,
     }
 }
 
 /// What a stop means where no line follows.
-fn fault_at_end(stop: Stop) -> Fault
+fn fault_at_end(stop: Stop) -> ScriptFault
     ensures { result ≡ fault_at_end stop }
 {
     match stop {
-        Stop::BadLine => Fault::CutShort,
-        Stop::Memory => Fault::Memory,
-        Stop::Changed => Fault::Changed,
+        Stop::BadLine => ScriptFault::CutShort,
+        Stop::Memory => ScriptFault::Memory,
+        Stop::Changed => ScriptFault::Changed,
     }
 }
 
 /// What a failed read means.
-fn read_fault(error: Error) -> Fault {
+fn read_fault(error: Error) -> ScriptFault {
     match error.kind() {
-        ErrorKind::OutOfMemory => Fault::Memory,
-        _ => Fault::Read,
+        ErrorKind::OutOfMemory => ScriptFault::Memory,
+        _ => ScriptFault::Read,
     }
 }
 
@@ -71,9 +71,9 @@ fn drop_feed(text: &mut Vec<u8>) {
 }
 
 /// Writes an answer, and hands it on at once.
-fn write_answer<W: Write>(text: &[u8], writer: &mut W) -> Result<(), Fault> {
+fn write_answer<W: Write>(text: &[u8], writer: &mut W) -> Result<(), ScriptFault> {
     if writer.write_all(text).is_err() || writer.flush().is_err() {
-        return Err(Fault::Write);
+        return Err(ScriptFault::Write);
     }
     Ok(())
 }
@@ -84,7 +84,7 @@ fn answer_line<W: Write>(
     script: &mut Script,
     line: Line,
     writer: &mut W,
-) -> Result<(), Fault> {
+) -> Result<(), ScriptFault> {
     match script.take_line(alloc, &line.text) {
         Ok(text) => write_answer(&text, writer),
         Err(stop) => Err(fault_at(line, stop)),
@@ -92,7 +92,7 @@ fn answer_line<W: Write>(
 }
 
 /// How a script has ended, where no line follows.
-fn ended(script: &Script) -> Result<(), Fault> {
+fn check_end(script: &Script) -> Result<(), ScriptFault> {
     match script.end() {
         Ok(()) => Ok(()),
         Err(stop) => Err(fault_at_end(stop)),
@@ -106,7 +106,7 @@ fn answer_next<R: BufRead, W: Write>(
     reader: &mut R,
     writer: &mut W,
     script: &mut Script,
-) -> Result<bool, Fault> {
+) -> Result<bool, ScriptFault> {
     let mut text = Vec::new(alloc);
     match reader.read_until(b'\n', &mut text) {
         Ok(0) => Ok(false),
@@ -125,13 +125,13 @@ fn answer_lines<R: BufRead, W: Write>(
     reader: &mut R,
     writer: &mut W,
     script: &mut Script,
-) -> Result<(), Fault> {
+) -> Result<(), ScriptFault> {
     for before in 0..u64::MAX {
         if !answer_next(alloc, before + 1, reader, writer, script)? {
-            return ended(script);
+            return check_end(script);
         }
     }
-    Err(Fault::Read)
+    Err(ScriptFault::Read)
 }
 
 /// Reads a script line by line, and writes the answers.
@@ -140,7 +140,7 @@ pub fn run_script<R: BufRead, W: Write>(
     asking: Asking,
     reader: &mut R,
     writer: &mut W,
-) -> Result<(), Fault> {
+) -> Result<(), ScriptFault> {
     let mut script = Script::start(alloc, asking);
     let ended = answer_lines(alloc, reader, writer, &mut script);
     drop(script);

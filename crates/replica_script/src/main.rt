@@ -35,7 +35,7 @@ mod script;
 mod transaction;
 
 use crate::answer::Asking;
-use crate::edge::{Fault, run_script};
+use crate::edge::{ScriptFault, run_script};
 use crate::message::{bad_line_text, fault_word};
 use std::env;
 use std::io::{self, BufReader, ErrorKind};
@@ -62,17 +62,17 @@ The language of scripts stands in docs/SCRIPTS.md.
 ";
 
 /// The status that the program ends with.
-pub fn exit_status(ended: &Result<(), Fault>) -> u8
+pub fn exit_status(ended: &Result<(), ScriptFault>) -> u8
     ensures { result ≡ status_of ended.now }
 {
     match ended {
         Ok(()) => 0,
-        Err(Fault::BadLine(_)) => 2,
-        Err(Fault::CutShort) => 2,
-        Err(Fault::Memory) => 3,
-        Err(Fault::Changed) => 5,
-        Err(Fault::Read) => 4,
-        Err(Fault::Write) => 4,
+        Err(ScriptFault::BadLine(_)) => 2,
+        Err(ScriptFault::CutShort) => 2,
+        Err(ScriptFault::Memory) => 3,
+        Err(ScriptFault::Changed) => 5,
+        Err(ScriptFault::Read) => 4,
+        Err(ScriptFault::Write) => 4,
     }
 }
 
@@ -106,8 +106,8 @@ fn complain(rt: &HostRuntime, line: &str) {
 }
 
 /// Says on standard error why a script was not answered to its end.
-fn report(rt: &HostRuntime, fault: &Fault) {
-    if let Fault::BadLine(line) = fault {
+fn report(rt: &HostRuntime, fault: &ScriptFault) {
+    if let ScriptFault::BadLine(line) = fault {
         if let Ok(text) = bad_line_text(rt.alloc(), line) {
             complain(rt, text.as_str());
             return;
@@ -117,20 +117,20 @@ fn report(rt: &HostRuntime, fault: &Fault) {
 }
 
 /// Answers the script on standard input.
-fn answer_input(rt: &HostRuntime, asking: Asking) -> Result<(), Fault> {
+fn answer_input(rt: &HostRuntime, asking: Asking) -> Result<(), ScriptFault> {
     let alloc = rt.alloc();
     let Ok(mut reader) = BufReader::new(alloc, rt.reader()) else {
-        return Err(Fault::Memory);
+        return Err(ScriptFault::Memory);
     };
     let mut writer = io::writer(rt);
     run_script(alloc, asking, &mut reader, &mut writer)
 }
 
 /// Prints how the program is called.
-fn print_help(rt: &HostRuntime) -> Result<(), Fault> {
+fn print_help(rt: &HostRuntime) -> Result<(), ScriptFault> {
     match print!(rt; "{HELP}") {
         Ok(()) => Ok(()),
-        Err(_) => Err(Fault::Write),
+        Err(_) => Err(ScriptFault::Write),
     }
 }
 
@@ -151,7 +151,7 @@ fn run(rt: &HostRuntime, words: &[String]) -> u8 {
 
 /// Says that memory was refused, with the status for it.
 fn out_of_memory(rt: &HostRuntime) -> ExitCode {
-    complain(rt, fault_word(&Fault::Memory));
+    complain(rt, fault_word(&ScriptFault::Memory));
     ExitCode::from(3)
 }
 

@@ -2,7 +2,7 @@
 ghost use Rattle.std.specs.Prelude.{◌≡◌, IfOk, string_bytes};
 ghost use Rattle.replica_script.specs.Messages.{bad_line_text, fault_word};
 
-use crate::edge::{Fault, Line};
+use crate::edge::{Line, ScriptFault};
 use gtid_report::push_number;
 use std::alloc::{AllocError, Global};
 
@@ -19,16 +19,16 @@ pub fn bad_line_text(alloc: Global, line: &Line) -> Result<String, AllocError>
     Ok(said)
 }
 
-/// What is said of a fault in a word that takes no memory, without a line feed.
-pub fn fault_word(fault: &Fault) -> &'static str
+/// The word for a fault, without an allocation and without a line feed.
+pub fn fault_word(fault: &ScriptFault) -> &'static str
     ensures { result.now ≡ fault_word fault.now }
 {
     match fault {
-        Fault::BadLine(_) => "a line is not in the language",
-        Fault::CutShort => "the input ends inside a transaction",
-        Fault::Memory => "out of memory",
-        Fault::Changed => "a call that was refused memory has changed the replica",
-        Fault::Read => "reading standard input failed",
-        Fault::Write => "writing failed",
+        ScriptFault::BadLine(_) => "a line is not in the language",
+        ScriptFault::CutShort => "the input ends inside a transaction",
+        ScriptFault::Memory => "out of memory",
+        ScriptFault::Changed => "a call that was refused memory has changed the replica",
+        ScriptFault::Read => "reading standard input failed",
+        ScriptFault::Write => "writing failed",
     }
 }

@@ -3,7 +3,7 @@ ghost use Rattle.std.specs.Prelude.{◌≡◌, ◌++◌, IfOk, IfErr, OnOk, stri
 ghost use Rattle.std.specs.Option.{option_copied};
 ghost use Rattle.txn_journal.specs.WrittenSets.{set_text};
 ghost use Rattle.replica_core.specs.Faults.{asking, IsFaultIn};
-ghost use Rattle.replica_script.specs.Replies.{ended};
+ghost use Rattle.replica_script.specs.Replies.{with_line_feed};
 ghost use Rattle.replica_script.specs.Scripts.{made_for};
 ghost use Rattle.replica_script.specs.Texts.{changes_or_gone, place_or_none, query_text, shown_entry, truth};
 
@@ -17,7 +17,7 @@ use std::alloc::{AllocError, Global};
 use txn_journal::encode;
 
 fn set_line(alloc: Global, set: &GtidSet) -> Result<String, AllocError>
-    ensures { IfOk result (λ text. string_bytes text ≡ ended (set_text set.now)) }
+    ensures { IfOk result (λ text. string_bytes text ≡ with_line_feed (set_text set.now)) }
 {
     let mut text = String::new(alloc);
     push_set(alloc, &mut text, set)?;
@@ -26,7 +26,7 @@ fn set_line(alloc: Global, set: &GtidSet) -> Result<String, AllocError>
 }
 
 fn truth_line(alloc: Global, holds: bool) -> Result<String, AllocError>
-    ensures { IfOk result (λ text. string_bytes text ≡ ended (truth holds)) }
+    ensures { IfOk result (λ text. string_bytes text ≡ with_line_feed (truth holds)) }
 {
     if holds {
         String::from_str(alloc, "true\n")
@@ -40,7 +40,7 @@ fn rows_text(alloc: Global, core: &Core) -> Result<String, AllocError>
 {
     let rows = core.rows().list_sorted(alloc)?;
     let mut text = String::new(alloc);
-    render_rows(alloc, &mut text, &rows)?;
+    render_rows(&mut text, &rows)?;
     Ok(text)
 }
 
@@ -85,7 +85,7 @@ fn push_changes(out: &mut String, txn: Option<&Transaction>) -> Result<(), Alloc
 }
 
 fn shown_line(alloc: Global, gtid: Gtid, txn: Option<&Transaction>) -> Result<String, AllocError>
-    ensures { IfOk result (λ text. string_bytes text ≡ ended (shown_entry gtid (option_copied txn.entry))) }
+    ensures { IfOk result (λ text. string_bytes text ≡ with_line_feed (shown_entry gtid (option_copied txn.entry))) }
 {
     let mut text = String::new(alloc);
     write_gtid(&mut text, gtid)?;
@@ -121,7 +121,7 @@ pub fn query_text(alloc: Global, core: &Core, query: Query) -> Result<Vec<u8>, S
         Query::Executed => Ok(set_line(alloc, core.executed())?.into_bytes()),
         Query::Purged => Ok(set_line(alloc, core.purged())?.into_bytes()),
         Query::Journal => Ok(encode(alloc, core.journal().as_journal())?),
-        Query::Drained => Ok(truth_line(alloc, core.drained())?.into_bytes()),
+        Query::Drained => Ok(truth_line(alloc, core.is_drained())?.into_bytes()),
         Query::Status => Ok(status(alloc, core)?.into_bytes()),
         Query::Ask(channel) => Ok(ask_line(alloc, core, channel)?.into_bytes()),
         Query::Next(channel, from) => Ok(next_line(alloc, core, channel, from)?.into_bytes()),

@@ -1,12 +1,12 @@
 //! What a line asks of a replica, or of a network.
 ghost use Rattle.std.specs.Prelude.{◌≡◌};
-ghost use Rattle.journal_words.specs.Words.{count_of};
-ghost use Rattle.replica_script.specs.Questions.{alone, seat, with_one, with_two, with_three, with_numbers};
+ghost use Rattle.row_images.specs.Words.{count_of};
+ghost use Rattle.replica_script.specs.Questions.{question_alone, seat, with_one, with_two, with_three, with_numbers};
 ghost use Rattle.replica_script.specs.NetworkQuestions.{asked_of, at_node, network_event_of, network_with_two, network_with_three};
 
-use journal_words::{count, cut};
 use network::NetworkEvent;
 use replica_core::Event;
+use row_images::{count, cut};
 use rows::{Name, NameFault};
 use std::alloc::{AllocError, Global};
 
@@ -59,8 +59,8 @@ pub enum Asked {
 }
 
 /// The question that is one word.
-fn alone(word: &[u8]) -> Option<Question>
-    ensures { result ≡ alone word.now }
+fn question_alone(word: &[u8]) -> Option<Question>
+    ensures { result ≡ question_alone word.now }
 {
     if word == b"look".as_slice() {
         Some(Question::Event(Event::Look))
@@ -81,7 +81,7 @@ fn alone(word: &[u8]) -> Option<Question>
     }
 }
 
-/// A seat's number: each one above 64 is no seat, so the greatest stands for those above it.
+/// A seat's number: each one above 64 is no seat, so the greatest denotes those above it.
 fn seat(number: usize) -> u8
     ensures { result ≡ seat number }
 {
@@ -172,7 +172,7 @@ fn name_in(alloc: Global, word: &[u8]) -> Result<Option<Name>, AllocError> {
     }
 }
 
-/// Whether the words behind a channel's name say that it preserves order, if they say anything that is known.
+/// Whether the words after a channel's name say that it preserves order, if they say anything that is known.
 fn preserves(more: Option<&[u8]>) -> Option<bool> {
     match more {
         None => Some(false),
@@ -197,7 +197,7 @@ fn channel(alloc: Global, rest: &[u8]) -> Result<Option<Question>, AllocError> {
 pub fn question_in(alloc: Global, line: &[u8]) -> Result<Option<Question>, AllocError> {
     let (word, rest) = cut(line);
     let Some(rest) = rest else {
-        return Ok(alone(word));
+        return Ok(question_alone(word));
     };
     if word == b"channel".as_slice() {
         return channel(alloc, rest);

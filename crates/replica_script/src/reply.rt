@@ -2,7 +2,7 @@
 ghost use Rattle.std.specs.Prelude.{◌≡◌, ◌++◌, IfOk, OnOk, codes, string_bytes, decimal};
 ghost use Rattle.gtid_text.specs.Canonical.{gtid_text};
 ghost use Rattle.txn_journal.specs.WrittenSets.{set_text};
-ghost use Rattle.replica_script.specs.Replies.{ended, within, misfit_word, not_in_schema_text, refusal_text, refused_text, reply_line, withheld_text, network_reply_line};
+ghost use Rattle.replica_script.specs.Replies.{with_line_feed, within, misfit_word, not_in_schema_text, refusal_text, refused_text, reply_line, withheld_text, network_reply_line};
 
 use auto_position::PositionFault;
 use gtid_report::{push_number, push_row_fault, push_set};
@@ -25,7 +25,7 @@ fn misfit_word(cause: Misfit) -> &'static str
     }
 }
 
-fn numbered(out: &mut String, name: &str, number: u64) -> Result<(), AllocError>
+fn push_numbered(out: &mut String, name: &str, number: u64) -> Result<(), AllocError>
     ensures { OnOk result (string_bytes out.new ≡ string_bytes out.old ++ within name.now (decimal number)) }
 {
     out.push_str(name)?;
@@ -80,7 +80,7 @@ fn with_refusal(out: &mut String, name: &str, gtid: Gtid, fault: RowFault) -> Re
     out.push_str(")")
 }
 
-fn refused(out: &mut String, fault: RowFault) -> Result<(), AllocError>
+fn push_local_refusal(out: &mut String, fault: RowFault) -> Result<(), AllocError>
     ensures { OnOk result (string_bytes out.new ≡ string_bytes out.old ++ refused_text fault) }
 {
     out.push_str("Refused(")?;
@@ -95,30 +95,30 @@ fn push_reply(alloc: Global, out: &mut String, reply: &Reply) -> Result<(), Allo
     match reply {
         Reply::NameTaken => out.push_str("NameTaken"),
         Reply::ChannelsFull => out.push_str("ChannelsFull"),
-        Reply::Opened(channel) => numbered(out, "Opened", *channel as u64),
+        Reply::Opened(channel) => push_numbered(out, "Opened", *channel as u64),
         Reply::NoChannel => out.push_str("NoChannel"),
         Reply::Ask(set) => with_set(alloc, out, "Ask", set),
         Reply::NotPositioned => out.push_str("NotPositioned"),
         Reply::NotInSchema(fault) => not_in_schema(out, *fault),
         Reply::ChannelFull => out.push_str("ChannelFull"),
-        Reply::Received(place) => numbered(out, "Received", *place as u64),
+        Reply::Received(place) => push_numbered(out, "Received", *place as u64),
         Reply::NoSeat => out.push_str("NoSeat"),
         Reply::SeatBusy(gtid) => with_gtid(out, "SeatBusy", *gtid),
         Reply::NoPlace => out.push_str("NoPlace"),
         Reply::Stopped => out.push_str("Stopped"),
         Reply::Done(gtid) => with_gtid(out, "Done", *gtid),
-        Reply::OwnedBy(seat) => numbered(out, "OwnedBy", u64::from(*seat)),
-        Reply::Blocked(place) => numbered(out, "Blocked", *place as u64),
+        Reply::OwnedBy(seat) => push_numbered(out, "OwnedBy", u64::from(*seat)),
+        Reply::Blocked(place) => push_numbered(out, "Blocked", *place as u64),
         Reply::Taken(gtid) => with_gtid(out, "Taken", *gtid),
         Reply::SeatIdle => out.push_str("SeatIdle"),
-        Reply::Early(place) => numbered(out, "Early", *place as u64),
+        Reply::Early(place) => push_numbered(out, "Early", *place as u64),
         Reply::RowRefused(gtid, fault) => with_refusal(out, "RowRefused", *gtid, *fault),
         Reply::Committed(gtid) => with_gtid(out, "Committed", *gtid),
         Reply::RolledBack(gtid) => with_gtid(out, "RolledBack", *gtid),
         Reply::Restarted => out.push_str("Restarted"),
         Reply::NumbersUsedUp => out.push_str("NumbersUsedUp"),
-        Reply::LocalRefused(fault) => refused(out, *fault),
-        Reply::TooMany(len) => numbered(out, "TooMany", *len as u64),
+        Reply::LocalRefused(fault) => push_local_refusal(out, *fault),
+        Reply::TooMany(len) => push_numbered(out, "TooMany", *len as u64),
         Reply::Purged(set) => with_set(alloc, out, "Purged", set),
         Reply::Shown(set) => with_set(alloc, out, "Shown", set),
     }
@@ -126,7 +126,7 @@ fn push_reply(alloc: Global, out: &mut String, reply: &Reply) -> Result<(), Allo
 
 /// The line of a reply.
 pub fn reply_text(alloc: Global, reply: &Reply) -> Result<String, AllocError>
-    ensures { IfOk result (λ text. string_bytes text ≡ ended (reply_line reply.now)) }
+    ensures { IfOk result (λ text. string_bytes text ≡ with_line_feed (reply_line reply.now)) }
 {
     let mut text = String::new(alloc);
     push_reply(alloc, &mut text, reply)?;
@@ -134,7 +134,12 @@ pub fn reply_text(alloc: Global, reply: &Reply) -> Result<String, AllocError>
     Ok(text)
 }
 
-fn worded(alloc: Global, out: &mut String, word: &str, set: &GtidSet) -> Result<(), AllocError>
+fn push_worded_set(
+    alloc: Global,
+    out: &mut String,
+    word: &str,
+    set: &GtidSet,
+) -> Result<(), AllocError>
     ensures { OnOk result (string_bytes out.new ≡ string_bytes out.old ++ (word.now ++ set_text set.now)) }
 {
     out.push_str(word)?;
@@ -146,14 +151,18 @@ fn push_withheld(alloc: Global, out: &mut String, fault: &PositionFault) -> Resu
     ensures { OnOk result (string_bytes out.new ≡ string_bytes out.old ++ withheld_text fault.now) }
 {
     match fault {
-        PositionFault::PurgedRequired(gtids) => worded(alloc, out, "E19 purged ", gtids),
-        PositionFault::ReplicaHasMore(gtids) => worded(alloc, out, "E20 has-more ", gtids),
+        PositionFault::PurgedRequired(gtids) => push_worded_set(alloc, out, "E19 purged ", gtids),
+        PositionFault::ReplicaHasMore(gtids) => push_worded_set(alloc, out, "E20 has-more ", gtids),
         PositionFault::Set(_) => Err(AllocError),
     }
 }
 
 /// Appends that a source does not send, and why.
-fn withheld(alloc: Global, out: &mut String, fault: &PositionFault) -> Result<(), AllocError>
+fn push_position_fault(
+    alloc: Global,
+    out: &mut String,
+    fault: &PositionFault,
+) -> Result<(), AllocError>
     ensures { OnOk result (string_bytes out.new ≡ string_bytes out.old ++ within (codes "Refused") (withheld_text fault.now)) }
 {
     out.push_str("Refused(")?;
@@ -172,7 +181,7 @@ fn push_network_reply(
     match reply {
         NetworkReply::NoNode => out.push_str("NoNode"),
         NetworkReply::NotHere => out.push_str("NotHere"),
-        NetworkReply::Refused(fault) => withheld(alloc, out, fault),
+        NetworkReply::Refused(fault) => push_position_fault(alloc, out, fault),
         NetworkReply::Nothing => out.push_str("Nothing"),
         NetworkReply::Replied(reply) => push_reply(alloc, out, reply),
     }
@@ -180,7 +189,7 @@ fn push_network_reply(
 
 /// The line of a network's reply.
 pub fn network_reply_text(alloc: Global, reply: &NetworkReply) -> Result<String, AllocError>
-    ensures { IfOk result (λ text. string_bytes text ≡ ended (network_reply_line reply.now)) }
+    ensures { IfOk result (λ text. string_bytes text ≡ with_line_feed (network_reply_line reply.now)) }
 {
     let mut text = String::new(alloc);
     push_network_reply(alloc, &mut text, reply)?;

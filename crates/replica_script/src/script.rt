@@ -9,9 +9,10 @@ use crate::declaration::{Declared, core_on, executed_word, network_on, source_wo
 use crate::question::{Asked, NetworkQuestion, asked_of, network_event_in, number, question_in};
 use crate::replicas::{Replicas, answer_asked};
 use crate::transaction::{Pending, heading_in};
-use journal_words::{cut, source_word};
+use journal_words::source_word;
 use network::Network;
 use replica_core::Core;
+use row_images::cut;
 use std::alloc::Global;
 use std::mem;
 use txn_journal::Bundle;
@@ -24,7 +25,7 @@ fn is_passed_over(line: &[u8]) -> bool {
     }
 }
 
-/// The replica that a line declares behind its first word, with the tables and rows of a bundle.
+/// The replica that a line declares after its first word, with the tables and rows of a bundle.
 fn core_in(alloc: Global, rest: &[u8], bundle: &Bundle) -> Result<Core, Stop> {
     let (source, set) = cut(rest);
     let Some(own) = source_word(alloc, source)? else {
@@ -34,7 +35,7 @@ fn core_in(alloc: Global, rest: &[u8], bundle: &Bundle) -> Result<Core, Stop> {
     core_on(alloc, bundle, own, executed)
 }
 
-/// The network that a line declares behind its first word, with the tables and rows of a bundle.
+/// The network that a line declares after its first word, with the tables and rows of a bundle.
 fn network_in(alloc: Global, rest: &[u8], bundle: &Bundle) -> Result<Network, Stop>
     ensures { IfOk result (IsOpenedAs rest.now bundle.now.start) }
 {
@@ -44,7 +45,7 @@ fn network_in(alloc: Global, rest: &[u8], bundle: &Bundle) -> Result<Network, St
     }
 }
 
-/// What a line declares behind its first word, with the tables and rows of a bundle.
+/// What a line declares after its first word, with the tables and rows of a bundle.
 fn replicas_in(
     alloc: Global,
     is_network: bool,
@@ -159,7 +160,7 @@ impl Stage {
         }
     }
 
-    /// Takes a line that asks the replica of a node, from what stands behind its first word.
+    /// Takes a line that asks the replica of a node, from what comes after its first word.
     fn take_at_node(&mut self, alloc: Global, rest: &[u8]) -> Result<Vec<u8>, Stop> {
         let (word, line) = cut(rest);
         let Some(line) = line else {

@@ -4,8 +4,8 @@ use crate::answer::Stop;
 use crate::question::{Asked, Question, asked_of, number};
 use gtid_set::SetFault;
 use journal::Entry;
-use journal_words::cut;
 use replica_core::Event;
+use row_images::cut;
 use std::alloc::Global;
 use txn_journal::{JournalFault, Reader};
 
@@ -44,8 +44,8 @@ pub struct Heading<'a> {
     gtid: &'a [u8],
 }
 
-/// The receiving of a transaction, from what stands behind its first word.
-fn receiving(rest: &[u8]) -> Option<Heading<'_>> {
+/// The receiving of a transaction, from what comes after its first word.
+fn receive_heading(rest: &[u8]) -> Option<Heading<'_>> {
     let (word, gtid) = cut(rest);
     Some(Heading {
         channel: Some(number(word)?),
@@ -68,7 +68,7 @@ pub fn heading_in(line: &[u8]) -> Result<Option<Heading<'_>>, Stop> {
     let Some(rest) = rest else {
         return Err(Stop::BadLine);
     };
-    match receiving(rest) {
+    match receive_heading(rest) {
         Some(heading) => Ok(Some(heading)),
         None => Err(Stop::BadLine),
     }

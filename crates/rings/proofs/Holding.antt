@@ -123,14 +123,14 @@ holds_make world nodes since purged sound unopened h m node at makes =
 
 -- ---- what commits here is in turn
 
--- in a list without doubles, what stands before an entry is of the list's part before it
+-- in a list without doubles, what comes before an entry is of the list's part before it
 before_of : (xs ys : List ordered.Entry) (e x : ordered.Entry) → AreDistinct (xs ++ x ∷ ys) → Precedes (xs ++ x ∷ ys) e x → ordered.IsIn e xs
 before_of [] ys e x d (inl p) = absurd (all_in (λ (y : ordered.Entry). x.0 ≢ y.0) x ys d.0 p.1 refl)
 before_of [] ys e x d (inr p) = absurd (all_in (λ (y : ordered.Entry). x.0 ≢ y.0) x ys d.0 (second_in ys e x p) refl)
 before_of (a ∷ xs) ys e x d (inl p) = inl p.0
 before_of (a ∷ xs) ys e x d (inr p) = inr (before_of xs ys e x d.1 p)
 
--- The world's order is these transactions and more, and no GTID stands twice.
+-- The world's order is these transactions and more, and no GTID occurs twice.
 pub record IsWhole (world : World) (L more : List Entry) : Type 0 where
   pub order : world.order ≡ map pair (L ++ more)
   pub once : IsOnce (L ++ more)

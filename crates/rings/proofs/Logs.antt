@@ -9,7 +9,7 @@ use Rattle.gtid_text.specs.Gtids.{gtid_cmp, same_gtid}
 use Rattle.gtid_set.specs.Sets.{Gtids}
 use Rattle.journal.specs.declared.Entry.{Entry}
 use Rattle.journal.specs.Journals.{JournalValue, AreNew}
-use Rattle.relay.specs.Own.{with_last, purged_to}
+use Rattle.relay.specs.Own.{with_last, purge_to}
 use Rattle.replica_core.specs.State.{State}
 use Rattle.ordered_history.specs.World.{World, content, is_opened, IsClosed}
 use Rattle.ordered_history.proofs.Closing.{closed_same}
@@ -98,7 +98,7 @@ log_purges world purged s s' m log =
     let es = s.journal.entries in
     let purged' : List Entry = purged ++ take m.count es in
     let is : purged' ++ drop m.count es ≡ purged ++ es = append_assoc purged (take m.count es) (drop m.count es) ∙ ap (λ ys. purged ++ ys) (take-append-drop m.count es) in
-    let next : IsLog world purged' (purged_to m.count s.journal) = record {
+    let next : IsLog world purged' (purge_to m.count s.journal) = record {
       previous = λ g. in_covered s.journal.previous (take m.count es) g
           ∙ (ap (λ b. b || is_entry (take m.count es) g) (log.previous g) ∙ sym (entries_append purged (take m.count es) g));
       faithful = subst (λ ys. IsFaithful world (unpurged ys)) (sym is) log.faithful;

@@ -26,7 +26,7 @@ use Rattle.ordered_replicas.proofs.Growing.{Known}
 use Rattle.ordered_replicas.proofs.Runs.{opening_holds, faithful_runs_merge}
 use Rattle.network.specs.declared.event.NetworkEvent.{NetworkEvent}
 use Rattle.network.specs.declared.event.NetworkReply.{NetworkReply}
-use Rattle.network.specs.Nodes.{Node, opened_node, opened, ids_distinct}
+use Rattle.network.specs.Nodes.{Node, opened_node, new_nodes, ids_distinct}
 use Rattle.network.specs.Machine.{Making, Decision, decide, Step, step, replies, after}
 use Rattle.rings.specs.Sending.{is_entry}
 use Rattle.rings.specs.Runs.{NetworkRun, AreApart, IsInTurnAt, IsInTurn, AreInTurn, local_at, local_of, locals, world_of, start, end, run_locals, run_world, run_of, extension}
@@ -67,14 +67,14 @@ one_place (x ∷ ids) d (suc i) (suc k) own e f =
     let two = and_parts (not (list_any (λ other. eqb other x) ids)) (ids_distinct ids) d in
     ap suc (one_place ids two.1 i k own e f)
 
-opened_at : (ids : List ℕ) (schema : List Table) (rows : Rows) (i : ℕ) (node : Node) → slice_get (opened ids schema rows) i ≡ Some node → (own : ℕ) × (slice_get ids i ≡ Some own) × (opened_node schema rows own ≡ node)
+opened_at : (ids : List ℕ) (schema : List Table) (rows : Rows) (i : ℕ) (node : Node) → slice_get (new_nodes ids schema rows) i ≡ Some node → (own : ℕ) × (slice_get ids i ≡ Some own) × (opened_node schema rows own ≡ node)
 opened_at ids schema rows i node e = get_map_cases (opened_node schema rows) ids i node e
 
 no_channel_known : (rows : Rows) (g : Gtid) → Known (machine.opening set.empty rows) g → is_entry [] g ≡ true
 no_channel_known rows g (inl done) = in_nothing g done
 no_channel_known rows g (inr w) = none_some w.1 w.2
 
-numbers_open : (ids : List ℕ) (schema : List Table) (rows : Rows) → ids_distinct ids ≡ true → Numbers (opened ids schema rows) []
+numbers_open : (ids : List ℕ) (schema : List Table) (rows : Rows) → ids_distinct ids ≡ true → Numbers (new_nodes ids schema rows) []
 numbers_open ids schema rows distinct = record {
   sites = λ i k a b p q same.
       let u = opened_at ids schema rows i a p in

@@ -24,7 +24,7 @@ use Rattle.ordered_history.specs.World.{World, content, Precedes}
 use Rattle.ordered_journals.proofs.Lists.{found_passes}
 use Rattle.ordered_journals.proofs.Covering.{in_insert}
 use Rattle.ordered_replicas.specs.Faithful.{Since, IsFaithfulStep}
-use Rattle.ordered_replicas.specs.Served.{accepted, committed_here}
+use Rattle.ordered_replicas.specs.Served.{accepted_entries, committed_here}
 use Rattle.ordered_replicas.proofs.Invariant.{IsIn}
 use Rattle.ordered_replicas.proofs.Growing.{Known, step_grows, gains_settled}
 use Rattle.rows.proofs.Lists.{on_option}
@@ -64,7 +64,7 @@ next_of site s n t rows e applied =
 -- ---- one event
 
 pub record Learns (site : Site) (s : State) (event : Event) (after : Step) : Type 0 where
-  pub origin : (g : Gtid) → Known after.1 g → Known s g ⊎ (is_entry (accepted event after.0) g ≡ true) ⊎ (is_entry (committed_here event after.0) g ≡ true)
+  pub origin : (g : Gtid) → Known after.1 g → Known s g ⊎ (is_entry (accepted_entries event after.0) g ≡ true) ⊎ (is_entry (committed_here event after.0) g ≡ true)
   pub kept : (g : Gtid) → set.contains s.executed g ≡ true → set.contains after.1.executed g ≡ true
   -- what is committed by Local
   pub put : (x : Entry) → IsIn x (committed_here event after.0) → set.contains after.1.executed x.gtid ≡ true

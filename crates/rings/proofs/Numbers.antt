@@ -21,7 +21,7 @@ use Rattle.replica_core.specs.Machine as machine
 use Rattle.ordered_journals.proofs.Lists.{get_set_cases}
 use Rattle.ordered_journals.proofs.Covering.{has, covered, in_insert, entries_append}
 use Rattle.ordered_journals.proofs.Keeping.{covered_push, covered_purged}
-use Rattle.ordered_replicas.specs.Served.{accepted}
+use Rattle.ordered_replicas.specs.Served.{accepted_entries}
 use Rattle.ordered_replicas.proofs.Invariant.{IsIn}
 use Rattle.ordered_replicas.proofs.Growing.{Known}
 use Rattle.rows.proofs.Patching.{not_both}
@@ -94,7 +94,7 @@ once_after L added once (inr one) new = subst (λ es. IsOnce (L ++ es)) (sym one
 
 -- a node makes an event, in which it accepts what was committed somewhere
 pub numbers_make : (nodes : List Node) (L : List Entry) → Numbers nodes L → (m : Making) (node : Node) → slice_get nodes m.node ≡ Some node
-    → ((g : Gtid) → is_entry (accepted m.event (machine.step node.replica.site node.replica.state m.event).0) g ≡ true → is_entry L g ≡ true)
+    → ((g : Gtid) → is_entry (accepted_entries m.event (machine.step node.replica.site node.replica.state m.event).0) g ≡ true → is_entry L g ≡ true)
     → Numbers (make_at nodes m node).1 (L ++ local_at m.event node)
 numbers_make nodes L n m node at accepts =
     let j = m.node in
@@ -177,7 +177,7 @@ numbers_make nodes L n m node at accepts =
 
 -- ---- what is accepted
 
-accepted_own : (e : Event) (r : Reply) (g : Gtid) → is_for_network e ≡ false → {A : Type 0} → is_entry (accepted e r) g ≡ true → A
+accepted_own : (e : Event) (r : Reply) (g : Gtid) → is_for_network e ≡ false → {A : Type 0} → is_entry (accepted_entries e r) g ≡ true → A
 accepted_own (event.OpenChannel name preserve) r g f h = cc
 accepted_own (event.Position c) r g f h = cc
 accepted_own (event.Receive c entry) r g f h = cc
@@ -189,7 +189,7 @@ accepted_own (event.Local t) r g f h = cc
 accepted_own (event.Purge k) r g f h = cc
 accepted_own event.Look r g f h = cc
 
-accepted_entry : (c : ℕ) (e : Entry) (r : Reply) (g : Gtid) → is_entry (accepted (event.Receive c e) r) g ≡ true → g ≡ e.gtid
+accepted_entry : (c : ℕ) (e : Entry) (r : Reply) (g : Gtid) → is_entry (accepted_entries (event.Receive c e) r) g ≡ true → g ≡ e.gtid
 accepted_entry c e (reply.Received p) g h = elim (or_cases (same_gtid g e.gtid) false h) [ inl same ↦ same_is_equal g e.gtid same | inr none ↦ cc ]
 accepted_entry c e r g h = cc
 
@@ -199,14 +199,14 @@ found_entry come es e p =
     ap (λ xs. is_entry xs e.gtid) p.parts
     ∙ (entries_append p.before (e ∷ p.after) e.gtid ∙ or_right (is_entry p.before e.gtid) (is_entry (e ∷ p.after) e.gtid) (or_left (same_gtid e.gtid e.gtid) (is_entry p.after e.gtid) (same_itself e.gtid)))
 
-pub accepts_known : (nodes : List Node) (L : List Entry) → Numbers nodes L → (m : Making) (node : Node) → IsAct nodes m node ⊎ IsPosition nodes m node ⊎ IsReceive nodes m node → (r : Reply) (g : Gtid) → is_entry (accepted m.event r) g ≡ true → is_entry L g ≡ true
+pub accepts_known : (nodes : List Node) (L : List Entry) → Numbers nodes L → (m : Making) (node : Node) → IsAct nodes m node ⊎ IsPosition nodes m node ⊎ IsReceive nodes m node → (r : Reply) (g : Gtid) → is_entry (accepted_entries m.event r) g ≡ true → is_entry L g ≡ true
 accepts_known nodes L n m node (inl a) r g h = accepted_own m.event r g a.own h
-accepts_known nodes L n m node (inr (inl p)) r g h = none_accepted (ap (λ e. is_entry (accepted e r) g) (sym p.event) ∙ h)
+accepts_known nodes L n m node (inr (inl p)) r g h = none_accepted (ap (λ e. is_entry (accepted_entries e r) g) (sym p.event) ∙ h)
   where
-    none_accepted : is_entry (accepted (event.Position p.c) r) g ≡ true → is_entry L g ≡ true
+    none_accepted : is_entry (accepted_entries (event.Position p.c) r) g ≡ true → is_entry L g ≡ true
     none_accepted e = cc
 accepts_known nodes L n m node (inr (inr q)) r g h =
-    let is_e : g ≡ q.entry.gtid = accepted_entry q.c q.entry r g (ap (λ e. is_entry (accepted e r) g) (sym q.event) ∙ h) in
+    let is_e : g ≡ q.entry.gtid = accepted_entry q.c q.entry r g (ap (λ e. is_entry (accepted_entries e r) g) (sym q.event) ∙ h) in
     let j = q.source.replica.state.journal in
     let there : is_entry j.entries q.entry.gtid ≡ true = found_entry (set.contains (come q.asked q.channel)) j.entries q.entry (found_parts (set.contains (come q.asked q.channel)) j.entries q.entry q.next) in
     let done : set.contains q.source.replica.state.executed q.entry.gtid ≡ true = sym (n.recorded q.k q.source q.from q.entry.gtid) ∙ or_right (set.contains j.previous q.entry.gtid) (is_entry j.entries q.entry.gtid) there in

@@ -15,7 +15,7 @@ use Rattle.ordered_history.specs.World.{World}
 use Rattle.ordered_replicas.specs.Served.{committed_here}
 use Rattle.network.specs.declared.event.NetworkEvent.{NetworkEvent}
 use Rattle.network.specs.declared.event.NetworkReply.{NetworkReply}
-use Rattle.network.specs.Nodes.{Node, opened}
+use Rattle.network.specs.Nodes.{Node, new_nodes}
 use Rattle.network.specs.Machine.{Decision, decide, step, replies, after}
 
 -- ---- what each node makes
@@ -94,7 +94,7 @@ pub record NetworkRun : Type 0 where
 
 -- the nodes before the first event
 abbrev pub start : NetworkRun → List Node
-start run = opened run.ids run.schema run.rows
+start run = new_nodes run.ids run.schema run.rows
 
 -- the nodes after the last
 abbrev pub end : NetworkRun → List Node

@@ -1,7 +1,7 @@
 //! Runs of a network, with what they leave.
 ghost use Rattle.std.specs.Prelude.{◌≡◌, ◌<◌, [], ◌∷◌, true, length, slice_get, None, IfOk, IfErr, IfSome, OnErr};
 ghost use Rattle.network.specs.Machine as machine;
-ghost use Rattle.network.specs.Machine.{is_numbered, AreNumbered, replies, after, answered};
+ghost use Rattle.network.specs.Machine.{is_numbered, AreNumbered, replies, after, answered_events};
 ghost use Rattle.network.specs.Faults.{IsEventCause, IsFaultAt};
 ghost use Rattle.rings.specs.Rings.{LeavesMerged};
 
@@ -34,9 +34,9 @@ pub fn run(
     events: &[NetworkEvent],
 ) -> (Vec<NetworkReply>, Option<SetFault>)
     requires { AreNumbered events.now }
-    ensures told { result.0.items ≡ replies network.old (answered result.0.items events.now) }
-    ensures nodes { network.new ≡ after network.old (answered result.0.items events.now) }
-    ensures merged { LeavesMerged network.old (answered result.0.items events.now) result.0.items network.new }
+    ensures told { result.0.items ≡ replies network.old (answered_events result.0.items events.now) }
+    ensures nodes { network.new ≡ after network.old (answered_events result.0.items events.now) }
+    ensures merged { LeavesMerged network.old (answered_events result.0.items events.now) result.0.items network.new }
     ensures whole { result.1 ≡ None → length result.0.items ≡ length events.now }
     ensures cut { IfSome result.1 (λ fault. length result.0.items < length events.now) }
     ensures fault { IfSome result.1 (λ f. IsFaultAt f network.new (slice_get events.now (length result.0.items))) }

@@ -3,7 +3,7 @@ use Rattle.std.proofs.Common.{arith, ◌≡◌, ℕ, ◌+◌, ◌≤◌, ◌<◌
 use Rattle.std.specs.FinMap.{get, empty, get-empty}
 use Rattle.std.specs.Option.{unwrap_or}
 use Rattle.std.proofs.lemmas.Bool.Decides.{nat_tests}
-use Rattle.rows.specs.declared.value.Value.{Value}
+use Rattle.row_images.specs.declared.value.Value.{Value}
 use Rattle.rows.specs.declared.change.Change.{Change}
 use Rattle.rows.specs.declared.change.Change.TheVariants.{Insert, Delete, Update}
 use Rattle.rows.specs.declared.change.Key.{Key}
@@ -11,14 +11,14 @@ use Rattle.rows.specs.declared.change.Misfit.{Misfit}
 use Rattle.rows.specs.declared.change.Misfit.TheVariants.{TooMany}
 use Rattle.rows.specs.declared.change.NotInSchema.{NotInSchema}
 use Rattle.rows.specs.declared.change.Transaction.{Transaction}
-use Rattle.rows.specs.declared.patch.Outcome.{Outcome}
-use Rattle.rows.specs.declared.patch.Outcome.TheVariants.{Installed, Stale}
+use Rattle.rows.specs.declared.patch.InstallOutcome.{InstallOutcome}
+use Rattle.rows.specs.declared.patch.InstallOutcome.TheVariants.{Installed, Stale}
 use Rattle.rows.specs.declared.schema.Table.{Table}
 use Rattle.rows.specs.Order.{key_cmp}
 use Rattle.rows.specs.Apply.{Rows, apply}
 use Rattle.rows.specs.Database.{AreRowsOf, NoTwoCarry}
 use Rattle.rows.specs.Fits.{row_misfit, row_misfit_in, IsRowOf, rank, first_cause, table_of, misfit_in, count_misfit, change_misfit, or_later, misfit_from, misfit, Fits}
-use Rattle.rows.specs.Keys.{table_named, keys_carried}
+use Rattle.rows.specs.Keys.{table_named, carried_keys}
 use Rattle.rows.specs.Patch.{SameTables}
 use Rattle.rows.specs.Prepared.{same_table, same_tables}
 use Rattle.rows.specs.WriteSet.{is_among, left_by_change, or_earlier, left_by_changes, left_by}
@@ -78,21 +78,21 @@ update_fits None name before after e = cc
 update_fits (Some table) name before after e = (no_cause (row_misfit table before) (row_misfit table after) e).1
 
 -- a row that carries a key is a row of its table
-at_key : (schema : List Table) (name : List ℕ) (after row : List Value) (k : Key) → is_among (keys_carried schema name after) k ≡ true → after ≡ row → IsRowOf schema name after → IsRowOf schema k.table row
+at_key : (schema : List Table) (name : List ℕ) (after row : List Value) (k : Key) → is_among (carried_keys schema name after) k ≡ true → after ≡ row → IsRowOf schema name after → IsRowOf schema k.table row
 at_key schema name after row k i e fit =
     subst (λ (r : List Value). IsRowOf schema k.table r) e (subst (λ (n : List ℕ). IsRowOf schema n after) (sym (carried_table schema name after k i)) fit)
 
 left_one : (schema : List Table) (change : Change) (k : Key) (row : List Value) → misfit_in (table_named (table_of change) schema) change ≡ None → left_by_change schema change k ≡ Some (Some row) → IsRowOf schema k.table row
 left_one schema (Insert table after) k row fit e =
-    elim (left_row (is_among (keys_carried schema table after) k) after row None e) [
+    elim (left_row (is_among (carried_keys schema table after) k) after row None e) [
       | inl here ↦ at_key schema table after row k here.0 here.1 (insert_fits (table_named table schema) table after fit)
       | inr none ↦ cc
     ]
-left_one schema (Delete table before) k row fit e = absurd (no_row (is_among (keys_carried schema table before) k) row e)
+left_one schema (Delete table before) k row fit e = absurd (no_row (is_among (carried_keys schema table before) k) row e)
 left_one schema (Update table before after) k row fit e =
-    elim (left_row (is_among (keys_carried schema table after) k) after row (cond (is_among (keys_carried schema table before) k) (Some None) None) e) [
+    elim (left_row (is_among (carried_keys schema table after) k) after row (cond (is_among (carried_keys schema table before) k) (Some None) None) e) [
       | inl here ↦ at_key schema table after row k here.0 here.1 (update_fits (table_named table schema) table before after fit)
-      | inr rest ↦ absurd (no_row (is_among (keys_carried schema table before) k) row rest)
+      | inr rest ↦ absurd (no_row (is_among (carried_keys schema table before) k) row rest)
     ]
 
 which : (later here : Option (Option (List Value))) (row : List Value) → or_earlier later here ≡ Some (Some row) → (later ≡ Some (Some row)) ⊎ (here ≡ Some (Some row))
@@ -125,7 +125,7 @@ keeps_rows schema txn rows new fit h e = record {
 pub no_rows : (schema : List Table) → AreRowsOf schema empty
 no_rows schema = record { carriers = no_carriers schema; fitting = λ k row e. none_some row (sym (get-empty key_cmp k) ∙ e) }
 
--- where each row stands under all its keys, no two rows carry one key
+-- where each row is stored under all its keys, no two rows carry one key
 pub no_two_carry : (schema : List Table) (rows : Rows) → AreRowsOf schema rows → NoTwoCarry schema rows
 no_two_carry schema rows h p q k a b there_a there_b by_a by_b =
     same_Some a b (sym (h.carriers.everywhere p k a there_a by_a) ∙ h.carriers.everywhere q k b there_b by_b)
@@ -168,7 +168,7 @@ tables_tell a b (change ∷ changes) same =
     (same_table_tells (table_named (table_of change) a) (table_named (table_of change) b) same.0) (tables_tell a b changes same.1)
 
 -- an install is done, is stale, or wants memory
-pub by_outcome : {E P : Type 0} (r : Result Outcome E) → (r ≡ Ok Installed → P) → (r ≡ Ok Stale → P) → ((e : E) → r ≡ Err e → P) → P
+pub by_outcome : {E P : Type 0} (r : Result InstallOutcome E) → (r ≡ Ok Installed → P) → (r ≡ Ok Stale → P) → ((e : E) → r ≡ Err e → P) → P
 by_outcome (Ok Installed) f g h = f (λ _. Ok Installed)
 by_outcome (Ok Stale) f g h = g (λ _. Ok Stale)
 by_outcome (Err e) f g h = h e (λ _. Err e)

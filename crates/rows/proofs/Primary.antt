@@ -3,7 +3,7 @@ use Rattle.std.proofs.Common.{◌≡◌, true, false, ◌==◌, if◌then◌else
 use Rattle.std.specs.FinMap.{entries, entries_sorted, get-entries, retain_keys, get-retain_keys}
 use Rattle.std.specs.FinMap.Entries.{where_key, same_entries, is_sorted-where_key, find-where_key}
 use Rattle.std.specs.declared.cmp.Ordering.TheVariants.{Equal}
-use Rattle.rows.specs.declared.value.Value.{Value}
+use Rattle.row_images.specs.declared.value.Value.{Value}
 use Rattle.rows.specs.declared.change.Key.{Key}
 use Rattle.rows.specs.Apply.{Rows}
 use Rattle.rows.specs.Listing.{is_primary, row_listed, rows_of, primary_rows}

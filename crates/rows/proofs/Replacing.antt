@@ -1,13 +1,13 @@
 -- A row in the place of another that carries the same keys.
 use Rattle.std.proofs.Common.{◌≡◌, ℕ, Bool, true, false, cond, List, [], ◌∷◌, Option, Some, None, Ok, Err, Result, refl, sym, ap, ◌∙◌}
 use Rattle.std.specs.FinMap.{get}
-use Rattle.rows.specs.declared.value.Value.{Value}
+use Rattle.row_images.specs.declared.value.Value.{Value}
 use Rattle.rows.specs.declared.change.Key.{Key}
 use Rattle.rows.specs.declared.change.RowFault.{RowFault}
 use Rattle.rows.specs.Order.{key_eq}
 use Rattle.rows.specs.Total.{key_eq_self}
 use Rattle.rows.specs.WriteSet.{is_among}
-use Rattle.rows.specs.Apply.{Rows, ◌>>=◌, with_row, without_keys, or_else, taken, insert_if_free, inserted, deleted}
+use Rattle.rows.specs.Apply.{Rows, ◌>>=◌, with_row, without_keys, or_else, first_taken, insert_if_free, inserted, deleted}
 use Rattle.rows.specs.Making.{updated}
 use Rattle.rows.proofs.Local.{same_rows, get-with_row, get-without_keys}
 use Rattle.rows.proofs.Patching.{Carrier}
@@ -18,14 +18,14 @@ all_among x keys = or_left (key_eq x x) (is_among keys x) (key_eq_self x)
 
 -- ---- the keys of the row that went are free
 
-taken_of_free : (keys : List Key) (rows : Rows) → ((k : Key) → is_among keys k ≡ true → get rows k ≡ None) → taken keys rows ≡ None
+taken_of_free : (keys : List Key) (rows : Rows) → ((k : Key) → is_among keys k ≡ true → get rows k ≡ None) → first_taken keys rows ≡ None
 taken_of_free [] rows h = refl
 taken_of_free (x ∷ keys) rows h =
     let later = taken_of_free keys rows (λ k e. h k (or_right (key_eq k x) (is_among keys k) e)) in
     let here = h x (all_among x keys) in
     λ i. or_else (later i) (here i) x.index
 
-free_without : (keys : List Key) (rows : Rows) → taken keys (without_keys keys rows) ≡ None
+free_without : (keys : List Key) (rows : Rows) → first_taken keys (without_keys keys rows) ≡ None
 free_without keys rows =
     taken_of_free keys (without_keys keys rows) (λ k e. get-without_keys keys rows k ∙ ap (λ (b : Bool). cond b None (get rows k)) e)
 

@@ -16,7 +16,7 @@ use Rattle.std.proofs.lemmas.Option.{same_Some}
 use Rattle.std.specs.Borrow.{Bor}
 use Rattle.std.specs.Option.{option_copied}
 use Rattle.std.specs.Prelude.{IfSome}
-use Rattle.rows.proofs.Equal.{names-Decide}
+use Rattle.row_images.proofs.Equal.{names-Decide}
 
 -- each table has at most eight unique keys
 abbrev pub HaveFewUniques : List Table → Type 0

@@ -6,12 +6,12 @@ use Rattle.rows.specs.declared.change.Change.TheVariants.{Insert}
 use Rattle.rows.specs.declared.change.Key.{Key}
 use Rattle.rows.specs.declared.change.Transaction.{Transaction}
 use Rattle.rows.specs.declared.schema.Table.{Table}
-use Rattle.rows.specs.declared.value.Value.{Value}
+use Rattle.row_images.specs.declared.value.Value.{Value}
 use Rattle.rows.specs.Apply.{Rows}
 use Rattle.rows.specs.Carriers.{AreCarriers}
 use Rattle.rows.specs.Coding.{rows_code}
 use Rattle.rows.specs.Fits.{IsRowOf}
-use Rattle.rows.specs.Keys.{keys_carried}
+use Rattle.rows.specs.Keys.{carried_keys}
 use Rattle.rows.specs.WriteSet.{is_among, left_by}
 
 pub record Database : Type 0 where
@@ -20,7 +20,7 @@ pub record Database : Type 0 where
 
 -- what the rows of a schema keep to
 pub record AreRowsOf (schema : List Table) (rows : Rows) : Type 0 where
-  -- Under each key stands a row that carries it, and each row stands under every key that it carries.
+  -- Under each key is a row that carries it, and each row is stored under every key that it carries.
   pub carriers : AreCarriers schema rows
   -- Each of them is a row of its key's table.
   pub fitting : (k : Key) (row : List Value) → get rows k ≡ Some row → IsRowOf schema k.table row
@@ -29,7 +29,7 @@ pub record AreRowsOf (schema : List Table) (rows : Rows) : Type 0 where
 abbrev pub NoTwoCarry : List Table → Rows → Type 0
 NoTwoCarry schema rows =
     (p q k : Key) (a b : List Value) → get rows p ≡ Some a → get rows q ≡ Some b
-    → is_among (keys_carried schema p.table a) k ≡ true → is_among (keys_carried schema q.table b) k ≡ true → a ≡ b
+    → is_among (carried_keys schema p.table a) k ≡ true → is_among (carried_keys schema q.table b) k ≡ true → a ≡ b
 
 -- Under each key stands the after image of the last change that touches it, if that carries the key; else no row; and where no change touches it, what stood there.
 abbrev pub LeavesImages : List Table → Transaction → Rows → Rows → Type 0

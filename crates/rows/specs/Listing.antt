@@ -3,7 +3,7 @@ use Rattle.std.specs.Prelude.{Bool, ◌==◌, if◌then◌else◌, List, [], ◌
 use Rattle.std.specs.Borrow.{Bor}
 use Rattle.std.specs.Map.Iter.{deref_pair}
 use Rattle.std.specs.FinMap.{entries}
-use Rattle.rows.specs.declared.value.Value.{Value}
+use Rattle.row_images.specs.declared.value.Value.{Value}
 use Rattle.rows.specs.declared.change.Key.{Key}
 use Rattle.rows.specs.declared.change.TableRow.{TableRow}
 use Rattle.rows.specs.Apply.{Rows}
@@ -19,7 +19,7 @@ abbrev pub rows_of : List (Key × List Value) → List TableRow
 rows_of [] = []
 rows_of (e ∷ entries) = row_listed e ∷ rows_of entries
 
--- what stands under the primary keys of these entries
+-- what is stored under the primary keys of these entries
 abbrev pub primary_rows : List (Key × List Value) → List TableRow
 primary_rows [] = []
 primary_rows (e ∷ entries) =

@@ -4,7 +4,7 @@ use Rattle.std.specs.Coded.{Coded, code_by, coded×}
 use Rattle.rows.specs.declared.patch.Seen.{Seen}
 use Rattle.rows.specs.declared.change.Key.{Key}
 use Rattle.rows.specs.declared.change.RowFault.{RowFault}
-use Rattle.rows.specs.declared.value.Value.{Value}
+use Rattle.row_images.specs.declared.value.Value.{Value}
 use Rattle.rows.specs.Apply.{Rows, ◌>>=◌, inserted, deleted}
 use Rattle.rows.specs.Coding.{rows_code}
 use Rattle.rows.specs.Patch.{put}

@@ -6,7 +6,7 @@ use Rattle.rows.specs.declared.schema.TableFault.{TableFault}
 use Rattle.rows.specs.declared.schema.TableFault.TheVariants.{Body, Limit, Schema}
 use Rattle.rows.specs.Keys.{table_named}
 
--- no column stands twice
+-- no column occurs twice
 abbrev pub are_distinct : List ℕ → Bool
 are_distinct [] = true
 are_distinct (c ∷ columns) = not (list_any (λ x. x == c) columns) && are_distinct columns
@@ -43,7 +43,7 @@ table_fault tables table =
     else if is_taken table.name tables || not (has_its_columns table) then Some Schema
     else None
 
--- no name stands twice
+-- no name occurs twice
 abbrev pub are_named_once : List Table → Bool
 are_named_once [] = true
 are_named_once (table ∷ tables) = not (is_taken table.name tables) && are_named_once tables

@@ -2,15 +2,16 @@
 
 ghost use Rattle.std.specs.Prelude.{◌≡◌, ◌≤◌, length, OnOk, IfErr, None, Some, slice_index_or};
 ghost use Rattle.std.specs.List.{list_any};
-ghost use Rattle.rows.specs.declared.value.Value.TheVariants.{Null};
-ghost use Rattle.rows.specs.Keys.{is_null, table_named};
+ghost use Rattle.row_images.specs.declared.value.Value.TheVariants.{Null};
+ghost use Rattle.row_images.specs.Values.{is_null, is_too_long};
+ghost use Rattle.rows.specs.Keys.{table_named};
 ghost use Rattle.rows.specs.Database.{opening};
-ghost use Rattle.rows.specs.Fits.{is_too_long, has_primary_null, row_misfit, rank, first_cause, images_misfit, table_of, misfit_in, change_misfit, misfit};
+ghost use Rattle.rows.specs.Fits.{has_primary_null, row_misfit, rank, first_cause, images_misfit, table_of, misfit_in, change_misfit, misfit};
 
 use crate::change::{Change, Misfit, NotInSchema, Transaction};
 use crate::name::Name;
 use crate::schema::{Schema, Table};
-use crate::value::{Row, Value};
+use row_images::Row;
 
 /// Whether a schema takes a transaction; else the first change that it does not take.
 pub fn fits(schema: &Schema, txn: &Transaction) -> Result<(), NotInSchema>
@@ -103,46 +104,21 @@ fn rank(cause: Misfit) -> u8
 fn row_misfit(table: &Table, row: &Row) -> Option<Misfit>
     ensures { result ≡ row_misfit table.now row.now }
 {
-    let values = row.values();
-    if values.len() != table.columns as usize {
+    if row.len() != table.columns as usize {
         return Some(Misfit::Columns);
     }
-    if has_null_at(table.primary.as_slice(), values) {
+    if has_null_at(table.primary.as_slice(), row) {
         return Some(Misfit::NullInPrimary);
     }
-    if has_long_value(values) {
+    if row.has_long_value() {
         return Some(Misfit::TooLong);
     }
     None
 }
 
-fn is_too_long(value: &Value) -> bool
-    ensures { result ≡ is_too_long value.now }
+/// Whether the value of a row at one of these columns is missing or null.
+pub fn has_null_at(columns: &[u32], row: &Row) -> bool
+    ensures { result ≡ list_any (λ column. is_null (slice_index_or row.now column Null)) columns.now }
 {
-    match value {
-        Value::Bytes(bytes) => bytes.as_slice().len() > 65_535,
-        _ => false,
-    }
-}
-
-fn has_long_value(values: &[Value]) -> bool
-    ensures { result ≡ list_any is_too_long values.now }
-{
-    values.iter().any(|value| is_too_long(value))
-}
-
-fn is_null_at(values: &[Value], column: u32) -> bool
-    ensures { result ≡ is_null (slice_index_or values.now column Null) }
-{
-    match values.get(column as usize) {
-        Some(value) => matches!(value, Value::Null),
-        None => true,
-    }
-}
-
-/// Whether a value at one of these columns is missing or null.
-pub fn has_null_at(columns: &[u32], values: &[Value]) -> bool
-    ensures { result ≡ list_any (λ column. is_null (slice_index_or values.now column Null)) columns.now }
-{
-    columns.iter().any(|column| is_null_at(values, *column))
+    columns.iter().any(|column| row.is_null_at(*column))
 }

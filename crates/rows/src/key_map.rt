@@ -3,21 +3,21 @@ ghost use Rattle.std.specs.Prelude.{◌≡◌, ◌≤◌, ◌<◌, ◌+◌, ◌^
 ghost use Rattle.std.specs.Bool.{Decides};
 ghost use Rattle.std.specs.Option.{option_copied};
 ghost use Rattle.std.specs.FinMap as map;
-ghost use Rattle.rows.specs.Apply.{taken, stored, with_row, without_keys, inserted, deleted, apply_change, apply_from};
-ghost use Rattle.rows.specs.Keys.{keys_carried};
+ghost use Rattle.rows.specs.Apply.{first_taken, first_row, with_row, without_keys, inserted, deleted, apply_change, apply_from};
+ghost use Rattle.rows.specs.Keys.{carried_keys};
 ghost use Rattle.rows.specs.Listing.{rows_listed};
 ghost use Rattle.rows.specs.Patch.{put_over};
 ghost use Rattle.rows.specs.Refusal.{Refuses};
 
 use crate::change::{Change, Key, PrepareFault, RowFault, TableRow};
-use crate::keys::carried;
+use crate::keys::carried_keys;
 use crate::listing::list_primary;
 use crate::making::Making;
 use crate::name::Name;
 use crate::schema::Schema;
-use crate::standing::{carrier, holds, taken};
-use crate::value::Row;
+use crate::standing::{carrier, first_taken, holds};
 use indexmap::IndexMap;
+use row_images::Row;
 use std::alloc::{AllocError, Global};
 use std::marker::Model;
 use std::mem;
@@ -90,7 +90,7 @@ impl KeyMap {
         }
     }
 
-    /// Puts a row in the place of the one under a key, if there is one. Takes no memory.
+    /// Puts a row in the place of the one under a key, if there is one. Does not allocate.
     pub(crate) fn put_over(&mut self, key: &Key, row: Row)
         ensures { self.new ≡ put_over key.now row self.old }
     {
@@ -106,18 +106,18 @@ impl KeyMap {
         ensures err { OnErr result (self.new ≡ self.old) }
     {
         let key = key.copied()?;
-        let row = row.copied()?;
+        let row = row.clone()?;
         self.put_at(key, row)
     }
 
-    /// Takes away what stands under a key.
+    /// Takes away what is stored under a key.
     pub(crate) fn take_at(&mut self, key: &Key)
         ensures { self.new ≡ map.remove self.old key.now }
     {
         self.carriers.swap_remove(key);
     }
 
-    /// Puts a row under each of these keys, the last first. After want of memory it stands under some last keys.
+    /// Puts a row under each of these keys, the last first. After a failed allocation it is stored under some last keys.
     fn place(&mut self, keys: &[Key], row: &Row) -> Result<(), AllocError>
         ensures ok { OnOk result (self.new ≡ with_row keys.now row.now self.old) }
         ensures err { OnErr result ((n : ℕ) × (self.new ≡ with_row (drop n keys.now) row.now self.old)) }
@@ -130,7 +130,7 @@ impl KeyMap {
         Ok(())
     }
 
-    /// Takes away what stands under each of these keys.
+    /// Takes away what is stored under each of these keys.
     fn clear(&mut self, keys: &[Key])
         ensures { self.new ≡ without_keys keys.now self.old }
     {
@@ -147,7 +147,7 @@ impl KeyMap {
         ensures refused { Refuses result (inserted change keys.now row.now self.old) }
         ensures err { OnErr result (self.new ≡ self.old) }
     {
-        if let Some(key) = taken(&self.carriers, keys) {
+        if let Some(key) = first_taken(&self.carriers, keys) {
             return Err(PrepareFault::Row(RowFault::DuplicateKey { change, key }));
         }
         match self.place(keys, row) {
@@ -178,17 +178,17 @@ impl KeyMap {
         table: &Name,
         row: &Row,
     ) -> Result<(), PrepareFault>
-        ensures ok { OnOk result (inserted change (keys_carried schema.now table.now row.now) row.now self.old ≡ Ok self.new) }
-        ensures refused { Refuses result (inserted change (keys_carried schema.now table.now row.now) row.now self.old) }
+        ensures ok { OnOk result (inserted change (carried_keys schema.now table.now row.now) row.now self.old ≡ Ok self.new) }
+        ensures refused { Refuses result (inserted change (carried_keys schema.now table.now row.now) row.now self.old) }
         ensures err { OnErr result (self.new ≡ self.old) }
     {
-        match carried(alloc, schema, table, row) {
+        match carried_keys(alloc, schema, table, row) {
             Ok(keys) => self.insert_row(&keys, row, change),
             Err(_) => Err(PrepareFault::Memory),
         }
     }
 
-    /// Takes away the row of a table under its keys, if it stands there.
+    /// Takes away the row of a table under its keys, if it is there.
     pub(crate) fn delete_image(
         &mut self,
         alloc: Global,
@@ -197,11 +197,11 @@ impl KeyMap {
         table: &Name,
         row: &Row,
     ) -> Result<(), PrepareFault>
-        ensures ok { OnOk result (deleted change (keys_carried schema.now table.now row.now) row.now self.old ≡ Ok self.new) }
-        ensures refused { Refuses result (deleted change (keys_carried schema.now table.now row.now) row.now self.old) }
+        ensures ok { OnOk result (deleted change (carried_keys schema.now table.now row.now) row.now self.old ≡ Ok self.new) }
+        ensures refused { Refuses result (deleted change (carried_keys schema.now table.now row.now) row.now self.old) }
         ensures err { OnErr result (self.new ≡ self.old) }
     {
-        match carried(alloc, schema, table, row) {
+        match carried_keys(alloc, schema, table, row) {
             Ok(keys) => match self.delete_row(&keys, row, change) {
                 Ok(()) => Ok(()),
                 Err(fault) => Err(PrepareFault::Row(fault)),

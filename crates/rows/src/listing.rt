@@ -5,11 +5,11 @@ ghost use Rattle.rows.specs.Listing.{key_shown, all_shown, primary_entries, rows
 ghost use Rattle.rows.specs.Order.{key_cmp};
 
 use crate::change::{Key, TableRow};
-use crate::value::Row;
 use indexmap::IndexMap;
+use row_images::Row;
 use std::alloc::{AllocError, Global};
 
-/// What stands under primary keys.
+/// What is stored under primary keys.
 fn primaries<'a>(
     alloc: Global,
     carriers: &'a IndexMap<Key, Row>,
@@ -85,13 +85,13 @@ fn sort_by_keys(list: &mut Vec<(&Key, &Row)>) -> Result<(), AllocError>
 }
 
 /// These rows with their tables.
-fn listed(alloc: Global, list: &[(&Key, &Row)]) -> Result<Vec<TableRow>, AllocError>
+fn to_table_rows(alloc: Global, list: &[(&Key, &Row)]) -> Result<Vec<TableRow>, AllocError>
     ensures { IfOk result (λ rows. rows.items ≡ rows_of (all_shown list.now)) }
 {
     let mut rows = Vec::with_capacity(alloc, list.len())?;
     for (key, row) in list {
         let table = key.table.clone()?;
-        let row = row.copied()?;
+        let row = (**row).clone()?;
         rows.push(TableRow { table, row })?;
     }
     Ok(rows)
@@ -104,9 +104,9 @@ pub(crate) fn list_primary(
 ) -> Result<Vec<TableRow>, AllocError>
     ensures { IfOk result (λ list. list.items ≡ rows_listed (map.from_entries carriers.now.entries)) }
 {
-    // `len` is called for its clause that no key stands twice, which the proof cites.
+    // `len` is called for its clause that no key occurs twice, which the proof cites.
     let _len = carriers.len();
     let mut list = primaries(alloc, carriers)?;
     sort_by_keys(&mut list)?;
-    listed(alloc, &list)
+    to_table_rows(alloc, &list)
 }

@@ -1,24 +1,24 @@
-//! Changes are made in place, with a way back that takes no memory.
+//! Changes are made in place, with a way back that does not allocate.
 ghost use Rattle.std.specs.Prelude.{◌≡◌, ◌≤◌, ◌<◌, ◌+◌, ◌++◌, ◌∷◌, [], length, Ok, OnOk, IfOk};
 ghost use Rattle.std.specs.Bool.{Decides};
 ghost use Rattle.std.specs.FinMap as map;
 ghost use Rattle.std.specs.Vec.{vec_capacity};
 ghost use Rattle.indexmap.specs.IndexMap.{spare};
 ghost use Rattle.rows.specs.Apply.{with_row, without_keys, inserted, deleted, apply_change, apply_from};
-ghost use Rattle.rows.specs.Keys.{keys_carried};
+ghost use Rattle.rows.specs.Keys.{carried_keys};
 ghost use Rattle.rows.specs.Making.{put_back, updated};
 ghost use Rattle.rows.specs.Order.{key_cmp};
 ghost use Rattle.rows.specs.Patch.{put};
 ghost use Rattle.rows.specs.Refusal.{Refuses};
 
 use crate::change::{Change, Key, PrepareFault, RowFault};
-use crate::keys::carried;
+use crate::keys::carried_keys;
 use crate::name::Name;
 use crate::patch::Seen;
 use crate::schema::Schema;
-use crate::standing::{holds, taken};
-use crate::value::Row;
+use crate::standing::{first_taken, holds};
 use indexmap::IndexMap;
+use row_images::Row;
 use std::alloc::{AllocError, Global};
 use std::marker::Model;
 
@@ -42,7 +42,7 @@ impl Model for Making {
 
     ghost view = { λ a. record { made = map.from_entries a.carriers.entries; before = put_back a.log.items (map.from_entries a.carriers.entries) } };
 
-    // Putting all back takes no memory.
+    // Putting all back does not allocate.
     ghost invariant = { λ a. length a.log.items ≤ spare a.carriers };
 }
 
@@ -71,7 +71,7 @@ fn put_in_room(carriers: &mut IndexMap<Key, Row>, key: Key, row: Row) -> Option<
     over
 }
 
-/// Takes away what stands under a key, and gives it back.
+/// Takes away what is stored under a key, and gives it back.
 fn take_out(carriers: &mut IndexMap<Key, Row>, key: &Key) -> Option<Row>
     ensures rows { map.from_entries {R = key_cmp} carriers.new.entries ≡ map.remove (map.from_entries carriers.old.entries) key.now }
     ensures over { result ≡ map.get (map.from_entries {R = key_cmp} carriers.old.entries) key.now }
@@ -131,11 +131,11 @@ fn keys_of_both(
     before: &Row,
     after: &Row,
 ) -> Result<(Vec<Key>, Vec<Key>), AllocError>
-    ensures before { IfOk result (λ keys. keys.0.items ≡ keys_carried schema.now table.now before.now) }
-    ensures after { IfOk result (λ keys. keys.1.items ≡ keys_carried schema.now table.now after.now) }
+    ensures before { IfOk result (λ keys. keys.0.items ≡ carried_keys schema.now table.now before.now) }
+    ensures after { IfOk result (λ keys. keys.1.items ≡ carried_keys schema.now table.now after.now) }
 {
-    let keys = carried(alloc, schema, table, before)?;
-    let keys_after = carried(alloc, schema, table, after)?;
+    let keys = carried_keys(alloc, schema, table, before)?;
+    let keys_after = carried_keys(alloc, schema, table, after)?;
     Ok((keys, keys_after))
 }
 
@@ -179,7 +179,7 @@ impl Making {
         Ok(())
     }
 
-    /// Takes away what stands under a key.
+    /// Takes away what is stored under a key.
     fn take(&mut self, key: Key) -> Result<(), AllocError>
         ensures ok { OnOk result (self.new.made ≡ map.remove self.old.made key) }
         ensures before { self.new.before ≡ self.old.before }
@@ -197,13 +197,13 @@ impl Making {
     {
         let mut keys = keys;
         while let Some(key) = keys.pop() {
-            let row = row.copied()?;
+            let row = row.clone()?;
             self.put(key, row)?;
         }
         Ok(())
     }
 
-    /// Takes away what stands under each of these keys, the last first.
+    /// Takes away what is stored under each of these keys, the last first.
     fn clear(&mut self, keys: Vec<Key>) -> Result<(), AllocError>
         ensures ok { OnOk result (self.new.made ≡ without_keys keys.items self.old.made) }
         ensures before { self.new.before ≡ self.old.before }
@@ -221,7 +221,7 @@ impl Making {
         ensures refused { Refuses result (inserted change keys.items row.now self.old.made) }
         ensures before { self.new.before ≡ self.old.before }
     {
-        if let Some(key) = taken(&self.carriers, &keys) {
+        if let Some(key) = first_taken(&self.carriers, &keys) {
             return Err(PrepareFault::Row(RowFault::DuplicateKey { change, key }));
         }
         match self.place(keys, row) {
@@ -230,7 +230,7 @@ impl Making {
         }
     }
 
-    /// Takes away a row under its keys, if it stands there.
+    /// Takes away a row under its keys, if it is there.
     fn delete_row(&mut self, keys: Vec<Key>, row: &Row, change: u32) -> Result<(), PrepareFault>
         ensures ok { OnOk result (deleted change keys.items row.now self.old.made ≡ Ok self.new.made) }
         ensures refused { Refuses result (deleted change keys.items row.now self.old.made) }
@@ -245,7 +245,7 @@ impl Making {
         }
     }
 
-    /// Puts a row in the place of another that carries the same keys, if that stands there.
+    /// Puts a row in the place of another that carries the same keys, if that is there.
     fn replace_row(
         &mut self,
         keys: Vec<Key>,
@@ -301,11 +301,11 @@ impl Making {
         ensures before { self.new.before ≡ self.old.before }
     {
         match change {
-            Change::Insert { table, after } => match carried(alloc, schema, table, after) {
+            Change::Insert { table, after } => match carried_keys(alloc, schema, table, after) {
                 Ok(keys) => self.insert_row(keys, after, n),
                 Err(_) => Err(PrepareFault::Memory),
             },
-            Change::Delete { table, before } => match carried(alloc, schema, table, before) {
+            Change::Delete { table, before } => match carried_keys(alloc, schema, table, before) {
                 Ok(keys) => self.delete_row(keys, before, n),
                 Err(_) => Err(PrepareFault::Memory),
             },

@@ -85,7 +85,7 @@ impl Ord for Name {
 
 impl Hash for Name {
     ghost use Rattle.std.specs.FinMap.{nat_cmp-IsAntisymmetric, slice_cmp-IsAntisymmetric};
-    ghost use Rattle.rows.specs.Hashing.{alike_by, bytes_writes};
+    ghost use Rattle.row_images.specs.Hashing.{alike_by, bytes_writes};
 
     ghost hash_input = { bytes_writes };
 
@@ -108,7 +108,7 @@ impl Clone for Name {
 }
 
 impl Name {
-    /// The name that a text spells.
+    /// The name that a text parses as.
     pub fn new(text: String) -> Result<Name, NameFault>
         ensures ok { IfOk result (λ name. name ≡ string_bytes text) }
         ensures named { OnOk result (is_name (string_bytes text) ≡ true) }

@@ -15,16 +15,15 @@ ghost use Rattle.rows.specs.Refusal.{Refuses, NamesMisfit, TellsMisfit, NamesRow
 use crate::change::{ApplyFault, Key, PrepareFault, TableRow, Transaction};
 use crate::fitting::{fits, fits_row};
 use crate::key_map::KeyMap;
-use crate::key_values::KeyValues;
 use crate::name::Name;
-use crate::patch::Outcome;
+use crate::patch::InstallOutcome;
 use crate::prepared::{Footprint, Patch, are_same_tables};
 use crate::schema::Schema;
-use crate::value::Row;
+use row_images::{KeyValues, Row};
 use std::alloc::{AllocError, Global};
 use std::marker::Model;
 
-/// The rows of a schema's tables. Each row stands under every key that it carries, and under no other.
+/// The rows of a schema's tables. Each row is stored under every key that it carries, and under no other.
 pub struct Rows {
     schema: Schema,
     carriers: KeyMap,
@@ -90,7 +89,7 @@ impl Rows {
         self.carrier(&key)
     }
 
-    /// Puts a row that stands there from the start, as a transaction of one insert would. After a refusal nothing has changed.
+    /// Puts a row that is there from the start, as a transaction of one insert would. After a refusal nothing has changed.
     pub fn put(&mut self, alloc: Global, table: &Name, row: &Row) -> Result<(), ApplyFault>
         ensures ok { OnOk result (apply self.old.schema (opening table.now row.now) self.old.rows ≡ Ok self.new.rows) }
         ensures fits { OnOk result (Fits self.old.schema (opening table.now row.now)) }
@@ -181,15 +180,15 @@ impl Rows {
     }
 
     /// Does what a patch's transaction does, unless a table or a carrier is not as it was seen.
-    pub fn install(&mut self, patch: Patch) -> Result<Outcome, AllocError>
-        ensures installed { result ≡ Ok Outcome.Installed → IsStillTrue patch self.old }
-        ensures applied { result ≡ Ok Outcome.Installed → apply self.old.schema patch.txn self.old.rows ≡ Ok self.new.rows }
+    pub fn install(&mut self, patch: Patch) -> Result<InstallOutcome, AllocError>
+        ensures installed { result ≡ Ok InstallOutcome.Installed → IsStillTrue patch self.old }
+        ensures applied { result ≡ Ok InstallOutcome.Installed → apply self.old.schema patch.txn self.old.rows ≡ Ok self.new.rows }
         ensures same { self.new.schema ≡ self.old.schema }
-        ensures stale { result ≡ Ok Outcome.Stale → (IsStillTrue patch self.old → ⊥) × (self.new ≡ self.old) }
+        ensures stale { result ≡ Ok InstallOutcome.Stale → (IsStillTrue patch self.old → ⊥) × (self.new ≡ self.old) }
         ensures err { OnErr result (self.new ≡ self.old) }
     {
         if !are_same_tables(&patch.schema, &self.schema, patch.txn.changes.as_slice()) {
-            return Ok(Outcome::Stale);
+            return Ok(InstallOutcome::Stale);
         }
         let Patch { touches, .. } = patch;
         self.carriers.install(touches)

@@ -1,12 +1,11 @@
-//! What stands under keys.
+//! What is stored under keys.
 ghost use Rattle.std.specs.Prelude.{◌≡◌, Ok, Err, OnOk, IfErr};
 ghost use Rattle.std.specs.Option.{option_copied};
 ghost use Rattle.std.specs.FinMap as map;
-ghost use Rattle.rows.specs.Apply.{taken, stored, without_keys, deleted};
+ghost use Rattle.rows.specs.Apply.{first_taken, first_row, without_keys, deleted};
 ghost use Rattle.rows.specs.Order.{key_cmp};
 
 use crate::change::{Key, RowFault};
-use crate::value::Row;
 use indexmap::IndexMap;
 
 /// The row that carries a key.
@@ -17,8 +16,8 @@ pub(crate) fn carrier<'a>(carriers: &'a IndexMap<Key, Row>, key: &Key) -> Option
 }
 
 /// The number of the first of these keys that a row carries.
-pub(crate) fn taken(carriers: &IndexMap<Key, Row>, keys: &[Key]) -> Option<u32>
-    ensures { result ≡ taken keys.now (map.from_entries carriers.now.entries) }
+pub(crate) fn first_taken(carriers: &IndexMap<Key, Row>, keys: &[Key]) -> Option<u32>
+    ensures { result ≡ first_taken keys.now (map.from_entries carriers.now.entries) }
 {
     for key in keys {
         if carrier(carriers, key).is_some() {
@@ -29,8 +28,8 @@ pub(crate) fn taken(carriers: &IndexMap<Key, Row>, keys: &[Key]) -> Option<u32>
 }
 
 /// The row under the first of these keys.
-fn stored<'a>(carriers: &'a IndexMap<Key, Row>, keys: &[Key]) -> Option<&'a Row>
-    ensures { option_copied result ≡ stored keys.now (map.from_entries carriers.now.entries) }
+fn first_row<'a>(carriers: &'a IndexMap<Key, Row>, keys: &[Key]) -> Option<&'a Row>
+    ensures { option_copied result ≡ first_row keys.now (map.from_entries carriers.now.entries) }
 {
     match keys.first() {
         Some(key) => carrier(carriers, key),
@@ -38,7 +37,7 @@ fn stored<'a>(carriers: &'a IndexMap<Key, Row>, keys: &[Key]) -> Option<&'a Row>
     }
 }
 
-/// Whether a row stands under the first of its keys.
+/// Whether a row is stored under the first of its keys.
 pub(crate) fn holds(
     carriers: &IndexMap<Key, Row>,
     keys: &[Key],
@@ -48,7 +47,7 @@ pub(crate) fn holds(
     ensures ok { OnOk result (deleted change keys.now row.now (map.from_entries carriers.now.entries) ≡ Ok (without_keys keys.now (map.from_entries carriers.now.entries))) }
     ensures refused { IfErr result (λ fault. deleted change keys.now row.now (map.from_entries carriers.now.entries) ≡ Err fault) }
 {
-    match stored(carriers, keys) {
+    match first_row(carriers, keys) {
         None => Err(RowFault::RowMissing { change, key: 0 }),
         Some(found) => {
             if *found == *row {
@@ -59,3 +58,5 @@ pub(crate) fn holds(
         }
     }
 }
+
+use row_images::Row;

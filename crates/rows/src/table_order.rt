@@ -13,7 +13,11 @@ use std::cmp::Ordering;
 const FEW: usize = 4;
 
 /// The table of a name, looked for by halves among those whose places are in order.
-pub(crate) fn by_halves<'a>(tables: &'a [Table], order: &[usize], name: &Name) -> Option<&'a Table>
+pub(crate) fn search_by_halves<'a>(
+    tables: &'a [Table],
+    order: &[usize],
+    name: &Name,
+) -> Option<&'a Table>
     requires { are_named_once tables.now ≡ true }
     ensures { IfSome result (λ table. table_named name.now tables.now ≡ Some table.now) }
 {
@@ -49,7 +53,7 @@ pub(crate) fn from_the_first<'a>(tables: &'a [Table], name: &Name) -> Option<&'a
 }
 
 /// How many of these places, in the order of their tables' names, come before a name.
-fn before(tables: &[Table], order: &[usize], name: &Name) -> usize
+fn count_before(tables: &[Table], order: &[usize], name: &Name) -> usize
     ensures { result ≤ length order.now }
 {
     let mut low = 0;
@@ -64,7 +68,7 @@ fn before(tables: &[Table], order: &[usize], name: &Name) -> usize
     low
 }
 
-/// The places of these tables and of one more behind them, in order; of few tables none.
+/// The places of these tables and of one more after them, in order; of few tables none.
 pub(crate) fn order_with(
     tables: &Vec<Table>,
     order: &Vec<usize>,
@@ -75,10 +79,10 @@ pub(crate) fn order_with(
         return Ok(places);
     }
     for place in places.len()..tables.len() {
-        let at = before(tables, &places, &tables[place].name);
+        let at = count_before(tables, &places, &tables[place].name);
         places.insert(at, place)?;
     }
-    let at = before(tables, &places, name);
+    let at = count_before(tables, &places, name);
     places.insert(at, tables.len())?;
     Ok(places)
 }

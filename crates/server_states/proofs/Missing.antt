@@ -1,7 +1,7 @@
 -- The gaps of a set, by its runs.
 use Rattle.std.proofs.Common.{◌≡◌, ℕ, ◌+◌, ◌<◌, ◌≤◌, Bool, true, false, not, ◌&&◌, ◌||◌, List, [], ◌∷◌, refl, sym, ap, subst, ◌∙◌, arith}
 use Rattle.std.specs.Prelude.{nat_le, ◌==◌, Result, Ok, Err}
-use Rattle.std.specs.List.{list_any}
+use Rattle.std.specs.List.{list_any, list_all}
 use Rattle.std.specs.FinSet as set
 use Rattle.std.proofs.lemmas.Bool.Decides.{nat_tests}
 use Rattle.gtid_text.specs.Gtids.{gtid_cmp}
@@ -10,13 +10,12 @@ use Rattle.gtid_text.specs.declared.Span.{Span}
 use Rattle.gtid_text.proofs.SameGtid.{gtid_total}
 use Rattle.gtid_set.specs.Sets.{Gtids, gtid, interval, covers}
 use Rattle.gtid_set.specs.Spans.{has, is_merged, is_before}
-use Rattle.std.specs.List.{list_all}
 use Rattle.gtid_set.specs.Runs.{runs}
 use Rattle.gtid_set.proofs.SetLemmas.{contains-interval, contains-set_of}
 use Rattle.gtid_set.proofs.RunLemmas.{runs_are_merged, set_of_runs}
 use Rattle.gtid_report.specs.SetAnswers.{◌>>=◌, small}
 use Rattle.gtid_report.specs.declared.fault.Fault.{Fault}
-use Rattle.server_states.specs.States.{whole, filled, gaps, IsGap}
+use Rattle.server_states.specs.States.{whole, fill_intervals, gaps, IsGap}
 use Rattle.server_states.proofs.Kept.{Made, made, same_ok, small_kept, whole_kept}
 
 -- one of the spans ends there or behind
@@ -31,16 +30,16 @@ or_nothing : (a : Bool) → a ≡ (a || false)
 or_nothing true = refl
 or_nothing false = refl
 
-filled_has : (rs : List Span) (before all : Gtids) (g : Gtid) → filled before rs ≡ Ok all → set.contains all g ≡ (set.contains before g || reaches rs g)
+filled_has : (rs : List Span) (before all : Gtids) (g : Gtid) → fill_intervals before rs ≡ Ok all → set.contains all g ≡ (set.contains before g || reaches rs g)
 filled_has [] before all g e = ap (λ s. set.contains s g) (sym (same_ok (Ok before) before all refl e)) ∙ or_nothing (set.contains before g)
 filled_has (r ∷ rs) before all g e =
-    let first = made (whole (set.union before (interval r.source 1 r.hi))) (λ more. filled more rs) all e in
+    let first = made (whole (set.union before (interval r.source 1 r.hi))) (λ more. fill_intervals more rs) all e in
     filled_has rs first.from all g first.then_rest
     ∙ ap (λ s. set.contains s g || reaches rs g) (sym (whole_kept _ first.from first.first))
     ∙ ap (λ x. x || reaches rs g) (set.contains-union gtid_total before (interval r.source 1 r.hi) g ∙ ap (λ x. set.contains before g || x) (contains-interval r.source 1 r.hi g))
     ∙ or_group (set.contains before g) (covers r.source 1 r.hi g) (reaches rs g)
 
--- a span that ends there or behind has its end
+-- a span that ends there or after has its end
 record Reached (rs : List Span) (g : Gtid) : Type 0 where
   last : ℕ
   above : 1 ≤ g.number
@@ -98,7 +97,7 @@ in_runs s g = ap (λ t. set.contains t g) (sym (set_of_runs s)) ∙ contains-set
 
 gap_is : (s r : Gtids) (g : Gtid) → gaps s ≡ Ok r → set.contains r g ≡ (reaches (runs s) g && not (set.contains s g))
 gap_is s r g e =
-    let all = made (filled set.empty (runs s)) (λ t. small (set.difference t s)) r e in
+    let all = made (fill_intervals set.empty (runs s)) (λ t. small (set.difference t s)) r e in
     ap (λ t. set.contains t g) (sym (small_kept _ r all.then_rest))
     ∙ set.contains-difference gtid_total all.from s g
     ∙ ap (λ x. x && not (set.contains s g)) (filled_has (runs s) set.empty all.from g all.first ∙ ap (λ x. x || reaches (runs s) g) (set.contains-empty gtid_cmp g))

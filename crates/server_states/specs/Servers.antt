@@ -19,7 +19,7 @@ pub record ServerValue : Type 0 where
   pub source : SourceId
   pub executed : Gtids
 
--- the word before the first blank, and the text behind that blank
+-- the word before the first blank, and the text after that blank
 abbrev pub cut : List ℕ → Option (List ℕ × List ℕ)
 cut text =
     if nat_lt (position_or_len (λ b. b == 32) text) (length text) then Some (before_first (λ b. b == 32) text, after_first (λ b. b == 32) text)
@@ -39,7 +39,7 @@ cut_again (Some parts) = three parts.0 (cut parts.1)
 abbrev pub words_of : List ℕ → Option (List ℕ × List ℕ × List ℕ)
 words_of line = cut_again (cut line)
 
--- the set that a word spells; a hyphen is the empty set
+-- the set that a word parses as; a hyphen is the empty set
 abbrev pub set_of_word : List ℕ → Result Gtids Fault
 set_of_word word = if bytes_eq word (codes "-") then Ok (set.empty) else set_word word
 
@@ -52,17 +52,17 @@ abbrev pub server_of : List ℕ → Result ServerValue Fault
 server_of line = server_of_words (words_of line)
 
 -- a line that names no server is refused by its number, and a set that is too large for that
-abbrev pub placed : ℕ → Fault → Fault
-placed number Memory = Memory
-placed number (Refused PoolFull) = Refused PoolFull
-placed number (Refused SourcesFull) = Refused SourcesFull
-placed number (Refused r) = Refused (Line number Body)
+abbrev pub fault_at_line : ℕ → Fault → Fault
+fault_at_line number Memory = Memory
+fault_at_line number (Refused PoolFull) = Refused PoolFull
+fault_at_line number (Refused SourcesFull) = Refused SourcesFull
+fault_at_line number (Refused r) = Refused (Line number Body)
 
 abbrev pub at_line : ℕ → Result ServerValue Fault → Result ServerValue Fault
 at_line number (Ok s) = Ok s
-at_line number (Err f) = Err (placed number f)
+at_line number (Err f) = Err (fault_at_line number f)
 
--- the servers of lines, behind those of the lines before; lines count from 1
+-- the servers of lines, after those of the lines before; lines count from 1
 abbrev pub servers_behind : List ServerValue → List (List ℕ) → Result (List ServerValue) Fault
 servers_behind before [] = Ok before
 servers_behind before (l ∷ ls) = at_line (length before + 1) (server_of l) >>= λ s. servers_behind (before ++ s ∷ []) ls

@@ -48,13 +48,13 @@ holders g (s ∷ ss) = if set.contains s.executed g then holders g ss + 1 else h
 -- ---- of one set
 
 -- all numbers from 1 to the last of each run
-abbrev pub filled : Gtids → List Span → Result Gtids Fault
-filled before [] = Ok before
-filled before (r ∷ rs) = whole (set.union before (interval r.source 1 r.hi)) >>= λ more. filled more rs
+abbrev pub fill_intervals : Gtids → List Span → Result Gtids Fault
+fill_intervals before [] = Ok before
+fill_intervals before (r ∷ rs) = whole (set.union before (interval r.source 1 r.hi)) >>= λ more. fill_intervals more rs
 
 -- what is missing below the last number of each source
 abbrev pub gaps : Gtids → Result Gtids Fault
-gaps s = filled (set.empty) (runs s) >>= λ all. small (set.difference all s)
+gaps s = fill_intervals (set.empty) (runs s) >>= λ all. small (set.difference all s)
 
 -- the set has not got it, and has a greater number of its source
 pub record IsGap (s : Gtids) (g : Gtid) : Type 0 where
@@ -77,7 +77,7 @@ server_lines t s =
     small (set.difference s.executed t.shared) >>= λ alone.
     Ok (line s.name (codes " lacks ") lacking ++ line s.name (codes " gaps ") missing ++ line s.name (codes " alone ") alone)
 
--- the lines of each server, behind a text
+-- the lines of each server, after a text
 abbrev pub lines_behind : List ℕ → TogetherValue → List ServerValue → Result (List ℕ) Fault
 lines_behind text t [] = Ok text
 lines_behind text t (s ∷ ss) = server_lines t s >>= λ more. lines_behind (text ++ more) t ss

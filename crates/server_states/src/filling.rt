@@ -2,7 +2,7 @@
 ghost use Rattle.std.specs.Prelude.{◌≡◌};
 ghost use Rattle.std.specs.FinSet as set;
 ghost use Rattle.gtid_report.specs.SetAnswers.{Answers};
-ghost use Rattle.server_states.specs.States.{whole, filled, gaps};
+ghost use Rattle.server_states.specs.States.{whole, fill_intervals, gaps};
 ghost use Rattle.gtid_set.specs.Sets.{interval};
 ghost use Rattle.gtid_text.specs.Gtids.{gtid_cmp};
 
@@ -27,8 +27,8 @@ fn fill(gtids: &mut GtidSet, source: SourceId, last: u64) -> Result<(), Fault>
 }
 
 /// All numbers from 1 to the last of each interval.
-fn filled(alloc: Global, spans: &[Span]) -> Result<GtidSet, Fault>
-    ensures { Answers (λ s. s) result (filled (set.empty) spans.now) }
+fn fill_intervals(alloc: Global, spans: &[Span]) -> Result<GtidSet, Fault>
+    ensures { Answers (λ s. s) result (fill_intervals (set.empty) spans.now) }
 {
     let mut all = GtidSet::empty(alloc);
     for span in spans {
@@ -46,6 +46,6 @@ pub fn gaps(alloc: Global, gtids: &GtidSet) -> Result<GtidSet, Fault>
     ensures { Answers (λ s. s) result (gaps gtids.now) }
 {
     let spans = gtids.spans(alloc)?;
-    let all = filled(alloc, &spans)?;
+    let all = fill_intervals(alloc, &spans)?;
     difference(alloc, &all, gtids)
 }

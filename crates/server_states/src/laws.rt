@@ -1,4 +1,4 @@
-//! What the definitions come to. Each law is the contract of a function with an empty body.
+//! What follows from the definitions. Each law is the contract of a function with an empty body.
 ghost use Rattle.std.specs.Prelude.{◌≡◌, List, true, nat_le, Ok};
 ghost use Rattle.std.specs.FinSet as set;
 ghost use Rattle.gtid_text.specs.declared.Gtid.{Gtid};

@@ -40,7 +40,7 @@ fn server_lines(alloc: Global, together: &Together, server: &Server) -> Result<S
     Ok(out)
 }
 
-/// The lines of servers, behind a text.
+/// The lines of servers, after a text.
 fn lines_behind(
     alloc: Global,
     text: String,

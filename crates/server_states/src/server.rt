@@ -2,7 +2,7 @@
 ghost use Rattle.std.specs.Prelude.{◌≡◌, ◌++◌, ◌∷◌, [], IfOk, OnOk, map, option_map};
 ghost use Rattle.std.specs.Str.Lines.{lines};
 ghost use Rattle.gtid_report.specs.SetAnswers.{Answers};
-ghost use Rattle.server_states.specs.Servers.{words_of, set_of_word, server_of, placed, at_line, servers_behind, servers_in};
+ghost use Rattle.server_states.specs.Servers.{words_of, set_of_word, server_of, fault_at_line, at_line, servers_behind, servers_in};
 
 use gtid_report::{Fault, LineCause, Refusal, read_set, read_source};
 use gtid_set::GtidSet;
@@ -94,8 +94,8 @@ fn server_of(alloc: Global, line: &str) -> Result<Server, Fault>
 }
 
 /// A fault of a line, with its number.
-fn placed(number: u64, fault: Fault) -> Fault
-    ensures { result ≡ placed number fault }
+fn fault_at_line(number: u64, fault: Fault) -> Fault
+    ensures { result ≡ fault_at_line number fault }
 {
     match fault {
         Fault::Memory => Fault::Memory,
@@ -127,7 +127,7 @@ fn server_at(alloc: Global, number: u64, line: &str) -> Result<Server, Fault>
 {
     match server_of(alloc, line) {
         Ok(server) => Ok(server),
-        Err(fault) => Err(placed(number, fault)),
+        Err(fault) => Err(fault_at_line(number, fault)),
     }
 }
 

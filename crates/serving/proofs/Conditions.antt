@@ -35,7 +35,7 @@ use Rattle.replica_core.specs.State.{State, Site, Replica}
 use Rattle.replica_core.specs.Machine.{Step, step, ask, with_channel}
 use Rattle.auto_position.specs.Sending.{sent, own_of}
 use Rattle.ordered_journals.proofs.Lists.{all_at, all_from}
-use Rattle.ordered_replicas.specs.Served.{accepted}
+use Rattle.ordered_replicas.specs.Served.{accepted_entries}
 use Rattle.ordered_replicas.proofs.Sending.{sent_cases}
 use Rattle.ordered_replicas.proofs.Wholes.{set_there}
 use Rattle.audit.specs.Contents.{in_order, as_entry}
@@ -65,7 +65,7 @@ not_below m n h = grind (arith, nat_tests)
 -- ---- one event
 
 opens : (site : Site) (s : State) (name : List ℕ) (preserve : Bool) → CanOpen name s
-    → step site s (OpenChannel name preserve) ≡ (Opened (length s.channels), record s { channels = s.channels ++ channels.opened name preserve ∷ [] })
+    → step site s (OpenChannel name preserve) ≡ (Opened (length s.channels), record s { channels = s.channels ++ channels.new_channel name preserve ∷ [] })
 opens site s name preserve can =
     let new = can.new in
     let few = not_below 256 (length s.channels) can.few in
@@ -85,8 +85,8 @@ module _ (r : Replica) (c : ℕ) (e : Entry) (es : List Entry) (can : CanReceive
       let room = can.room in
       receives r.site r.state c e can.channel A.0 can.at A.1 can.taken.0.fits (not_below most_received (length can.channel.received) (omega (arith, room)))
 
-  pub is_accepted : accepted (Receive c e) (step r.site r.state (Receive c e)).0 ≡ e ∷ []
-  is_accepted = ap (λ (x : Step). accepted (Receive c e) x.0) receives_as
+  pub is_accepted : accepted_entries (Receive c e) (step r.site r.state (Receive c e)).0 ≡ e ∷ []
+  is_accepted = ap (λ (x : Step). accepted_entries (Receive c e) x.0) receives_as
 
   room_left : CanReceive c es (run r (Receive c e ∷ []))
   room_left =
@@ -147,7 +147,7 @@ subset_more s a b more within = set.contains-is_subset gtid_total s b (λ q h. m
 
 module _ (r : Replica) (c : ℕ) (channel : Channel) (j : JournalValue) (can : CanServe c channel.name j r) where
   abbrev fresh : ChannelValue
-  fresh = channels.opened channel.name channel.preserve
+  fresh = channels.new_channel channel.name channel.preserve
 
   opened_is : step r.site r.state (OpenChannel channel.name channel.preserve) ≡ (Opened (length r.state.channels), record r.state { channels = r.state.channels ++ fresh ∷ [] })
   opened_is = opens r.site r.state channel.name channel.preserve can.opens

@@ -41,7 +41,7 @@ use Rattle.replica_core.specs.AtOnce.{IsFaultAtOnce}
 use Rattle.replica_core.specs.Faults.{asking, receiving, committing, executing_too, IsFaultIn}
 use Rattle.ordered_journals.proofs.Covering.{is_entry, in_insert, in_gtids, in_whole}
 use Rattle.ordered_journals.proofs.Lists.{all_at, all_from, all_drop}
-use Rattle.ordered_replicas.specs.Served.{accepted, received_on, local_commits, NoLocalCommits}
+use Rattle.ordered_replicas.specs.Served.{accepted_entries, received_on, local_commits, NoLocalCommits}
 use Rattle.ordered_replicas.proofs.Receiving.{among_received}
 use Rattle.ordered_replicas.proofs.Growing.{nothing}
 use Rattle.ordered_replicas.proofs.Serving.{run_grows}
@@ -344,7 +344,7 @@ or_none : (b : Bool) → (b || false) ≡ true → b ≡ true
 or_none true h = h
 or_none false h = h
 
-received_alone : (b : Bool) (c : ℕ) (e : Entry) (r : Reply) (g : Gtid) → is_entry (cond b (accepted (Receive c e) r) [] ++ []) g ≡ true → g ≡ e.gtid
+received_alone : (b : Bool) (c : ℕ) (e : Entry) (r : Reply) (g : Gtid) → is_entry (cond b (accepted_entries (Receive c e) r) [] ++ []) g ≡ true → g ≡ e.gtid
 received_alone true c e (TheReceived p) g h = same_is_equal g e.gtid (or_none (same_gtid g e.gtid) h)
 received_alone b c e r g h = nothing g h
 

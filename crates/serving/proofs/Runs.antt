@@ -17,7 +17,7 @@ use Rattle.replica_core.specs.declared.event.Reply.{Reply}
 use Rattle.replica_core.specs.State.{State, Site, Replica}
 use Rattle.replica_core.specs.Machine.{Step, step, after, drained}
 use Rattle.replica_core.specs.Draining.{AreStoppedOrDone}
-use Rattle.ordered_replicas.specs.Served.{IsDrained, IsNoLocalCommit, NoLocalCommits, received_on, accepted, on_channel, committed_here, local_commits}
+use Rattle.ordered_replicas.specs.Served.{IsDrained, IsNoLocalCommit, NoLocalCommits, received_on, accepted_entries, on_channel, committed_here, local_commits}
 use Rattle.ordered_replicas.specs.Whole.{is_position, WasServedOnce}
 use Rattle.ordered_replicas.proofs.Sharing.{after_append, received_append}
 use Rattle.ordered_replicas.proofs.Serving.{run_grows}
@@ -34,7 +34,7 @@ use Rattle.txn_journal.specs.BundleStates.{BundleValue}
 use Rattle.txn_journal.specs.declared.bundle.Channel.{Channel}
 use Rattle.serving.specs.declared.receiving.Apply.{Apply}
 use Rattle.serving.specs.declared.receiving.Apply.TheVariants.{Later, AtOnce}
-use Rattle.serving.specs.Serving.{run, IsBetween, applied_at, IsFeed, Applies, Receives, with_opened, ServesOne, ServesEach, opening, HasReceived, IsReady, IsRun}
+use Rattle.serving.specs.Serving.{run, IsBetween, apply_events_at, IsFeed, Applies, Receives, with_opened, ServesOne, ServesEach, opening, HasReceived, IsReady, IsRun}
 use Rattle.ordered_bundles.specs.Audit as in_order
 use Rattle.faithful_runs.specs.InOrder.{WorkersDecideInOrder, ServedHoldsAllInOrder}
 use Rattle.serving.specs.declared.order.Order.{Order}
@@ -60,8 +60,8 @@ IsApart d (Receive c entry) = eqb c d ≡ false
 IsApart d (Local txn) = ⊥
 IsApart d event = Unit {0}
 
-nothing_at : (d : ℕ) (e : Event) (r : Reply) → IsApart d e → on_channel d e (accepted e r) ≡ []
-nothing_at d (Receive c entry) r h = ap (λ (b : Bool). cond b (accepted (Receive c entry) r) []) h
+nothing_at : (d : ℕ) (e : Event) (r : Reply) → IsApart d e → on_channel d e (accepted_entries e r) ≡ []
+nothing_at d (Receive c entry) r h = ap (λ (b : Bool). cond b (accepted_entries (Receive c entry) r) []) h
 nothing_at d e r h = refl
 
 pub no_receipts : (d : ℕ) (site : Site) (s : State) (es : List Event) → AllByRecursion (IsApart d) es → received_on d site s es ≡ []
@@ -97,7 +97,7 @@ between_apart AtOnce d (Commit seat) h = tt
 between_apart AtOnce d (Rollback seat) h = tt
 between_apart apply d e h = absurd h
 
-pub applied_between : (apply : Apply) (c p : ℕ) → AllByRecursion (IsBetween apply) (applied_at apply c p)
+pub applied_between : (apply : Apply) (c p : ℕ) → AllByRecursion (IsBetween apply) (apply_events_at apply c p)
 applied_between AtOnce c p = (tt, (tt, tt))
 applied_between Later c p = tt
 
@@ -145,7 +145,7 @@ receives_none apply r c = record { events = []; feeds = tt; now = refl; got = re
 
 -- an entry is received, and then comes what may come
 pub receives_one : (apply : Apply) (r t : Replica) (c : ℕ) (e : Entry) (more : List Event) → AllByRecursion (IsBetween apply) more
-    → accepted (Receive c e) (step r.site r.state (Receive c e)).0 ≡ e ∷ [] → t ≡ run r (Receive c e ∷ more) → Receives apply r c (e ∷ []) t
+    → accepted_entries (Receive c e) (step r.site r.state (Receive c e)).0 ≡ e ∷ [] → t ≡ run r (Receive c e ∷ more) → Receives apply r c (e ∷ []) t
 receives_one apply r t c e more between took now = record {
   events = Receive c e ∷ more;
   feeds = (refl, all_by (IsBetween apply) (IsFeed apply c) (between_feeds apply c) more between);
@@ -375,7 +375,7 @@ pub record Laws : Type 0 where
   pub decide_in_order : WorkersDecideInOrder
   pub holds_in_order : ServedHoldsAllInOrder
 
--- a run that serves all journals has executed all of them exactly where the audit says Sound
+-- a run that serves all journals has executed all of them exactly where the audit reports Sound
 decides : (order : Order) (b : BundleValue) → Laws → AreJournals b.journals → keys_over order b ≡ Sound → (events : List Event) → ServesAll (opening b).site (opening b).state b.journals events
     → AreStoppedOrDone (after (opening b).site (opening b).state events) → IsDrained (after (opening b).site (opening b).state events) ↔ (verdict_over order b ≡ Sound)
 decides BySource b laws rules sound events serves ends = laws.decide (opening b).site b.opened b.start.rows b.journals events rules sound serves ends

@@ -12,31 +12,31 @@ use Rattle.journal.specs.declared.Entry.{Entry}
 use Rattle.journal.specs.Journals.{JournalValue, whole}
 use Rattle.auto_position.specs.Sending.{AreAt, IsPlan, IsRefusal, sent}
 use Rattle.auto_position.specs.declared.PositionFault.{PositionFault}
-use Rattle.serving.specs.Serving.{picked}
+use Rattle.serving.specs.Serving.{pick_entries}
 use Rattle.auto_position.proofs.Asked.{none_own}
 
 taken : (o : Option Entry) (e : Entry) (more : List Entry) → o ≡ Some e → option_map_or (λ x. x ∷ more) o more ≡ e ∷ more
 taken o e more at = ap (λ (x : Option Entry). option_map_or (λ y. y ∷ more) x more) at
 
--- what stands at places is what is picked
-picked_is : (entries : List Entry) (ps : List ℕ) (es : List Entry) → AreAt entries ps es → picked entries ps ≡ es
+-- what is at places is what is picked
+picked_is : (entries : List Entry) (ps : List ℕ) (es : List Entry) → AreAt entries ps es → pick_entries entries ps ≡ es
 picked_is entries [] [] h = refl
 picked_is entries [] (e ∷ es) h = absurd h
 picked_is entries (p ∷ ps) [] h = absurd h
-picked_is entries (p ∷ ps) (e ∷ es) h = taken (slice_get entries p) e (picked entries ps) h.0 ∙ ap (λ (xs : List Entry). e ∷ xs) (picked_is entries ps es h.1)
+picked_is entries (p ∷ ps) (e ∷ es) h = taken (slice_get entries p) e (pick_entries entries ps) h.0 ∙ ap (λ (xs : List Entry). e ∷ xs) (picked_is entries ps es h.1)
 
 -- one place more is picked
 pub picked_more : (entries : List Entry) (places : List ℕ) (i : ℕ) (e : Entry) (found grown : List Entry) → i < length places → slice_index_or places i 0 < length entries
-    → e ≡ get_or entries (slice_index_or places i 0) e → grown ≡ found ++ e ∷ [] → found ++ picked entries (drop i places) ≡ picked entries places
-    → grown ++ picked entries (drop (i + 1) places) ≡ picked entries places
+    → e ≡ get_or entries (slice_index_or places i 0) e → grown ≡ found ++ e ∷ [] → found ++ pick_entries entries (drop i places) ≡ pick_entries entries places
+    → grown ++ pick_entries entries (drop (i + 1) places) ≡ pick_entries entries places
 picked_more entries places i e found grown few inside at is all =
     let place = slice_index_or places i 0 in
-    let rest = picked entries (drop (suc i) places) in
+    let rest = pick_entries entries (drop (suc i) places) in
     let next : i + 1 ≡ suc i = omega arith in
     let there = slice_get_read entries (length entries) place e refl inside at in
-    (λ j. is j ++ picked entries (drop (next j) places))
+    (λ j. is j ++ pick_entries entries (drop (next j) places))
     ∙ append_assoc found (e ∷ []) rest
-    ∙ ap (λ (xs : List Entry). found ++ xs) (sym (ap (picked entries) (drop-cons places i 0 few) ∙ taken (slice_get entries place) e rest there))
+    ∙ ap (λ (xs : List Entry). found ++ xs) (sym (ap (pick_entries entries) (drop-cons places i 0 few) ∙ taken (slice_get entries place) e rest there))
     ∙ all
 
 below : (entries : List Entry) (p : ℕ) (e : Entry) → slice_get entries p ≡ Some e → nat_lt p (length entries) ≡ true
@@ -61,7 +61,7 @@ abbrev pub sent_ok : List Entry → Result (List Entry) PositionFault
 sent_ok es = Ok es
 
 -- the entries at the places of a plan are what is sent
-pub plan_sent : (entries : List Entry) (places : List ℕ) (found : List Entry) (sending : Result (List Entry) PositionFault) → IsPlan entries places sending → found ≡ picked entries places → sending ≡ sent_ok found
+pub plan_sent : (entries : List Entry) (places : List ℕ) (found : List Entry) (sending : Result (List Entry) PositionFault) → IsPlan entries places sending → found ≡ pick_entries entries places → sending ≡ sent_ok found
 plan_sent entries places found sending plan is = plan.sent_is ∙ ap sent_ok (sym (is ∙ picked_is entries places plan.sends plan.at))
 
 never_refused : (b c : Bool) (x y z : PositionFault) (all : List Entry) → c ≡ true → b ≡ true → ◌≡◌ {A = Result (List Entry) PositionFault} (cond (not b) (Err x) (cond (not c) (Err y) (Ok all))) (Err z) → ⊥

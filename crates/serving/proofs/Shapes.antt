@@ -15,7 +15,7 @@ use Rattle.rows.specs.Fits.{misfit}
 use Rattle.rows.proofs.Lists.{on_option, get_map_cases}
 use Rattle.journal.specs.declared.Entry.{Entry}
 use Rattle.journal.specs.Journals.{JournalValue}
-use Rattle.apply_channel.specs.Channels.{ChannelValue, Received, opened, same_name, is_full, settle, settled, with_asked, with_stopped}
+use Rattle.apply_channel.specs.Channels.{ChannelValue, Received, new_channel, same_name, is_full, settle, settle_channel, with_asked, with_stopped}
 use Rattle.replica_core.specs.declared.event.Event.{Event}
 use Rattle.replica_core.specs.declared.event.Event.TheVariants.{OpenChannel, Receive, Take, Commit, Rollback}
 use Rattle.replica_core.specs.declared.event.Reply.TheVariants.{NameTaken, ChannelsFull, Opened, Ask, NotInSchema, SeatBusy, OwnedBy, Blocked, Early, RolledBack}
@@ -62,7 +62,7 @@ settled_many : (g : Gtid) (es : List Received) → length (map (settle g) es) �
 settled_many g [] = refl
 settled_many g (e ∷ es) = ap suc (settled_many g es)
 
-settled_shapes : (g : Gtid) (cs : List ChannelValue) → map shape (map (settled g) cs) ≡ map shape cs
+settled_shapes : (g : Gtid) (cs : List ChannelValue) → map shape (map (settle_channel g) cs) ≡ map shape cs
 settled_shapes g [] = refl
 settled_shapes g (c ∷ cs) = λ i. (record { naming = (c.name, c.preserve); asked = c.asked; many = settled_many g c.received i }) ∷ settled_shapes g cs i
 
@@ -145,7 +145,7 @@ names_opened : (site : Site) (s : State) (name : List ℕ) (preserve : Bool) (c 
     → names_of (step site s (OpenChannel name preserve)).1.channels ≡ names_of s.channels ++ (name, preserve) ∷ []
 names_opened site s name preserve c =
     either_way Adds (list_any (λ (d : ChannelValue). same_name d.name name) s.channels) _ _ (λ h. absurd (taken_is_not_opened c h))
-    (either_way Adds (nat_le 256 (length s.channels)) _ _ (λ h. absurd (full_is_not_opened c h)) (λ h. map-append (λ (d : ChannelValue). (d.name, d.preserve)) s.channels (opened name preserve ∷ [])))
+    (either_way Adds (nat_le 256 (length s.channels)) _ _ (λ h. absurd (full_is_not_opened c h)) (λ h. map-append (λ (d : ChannelValue). (d.name, d.preserve)) s.channels (new_channel name preserve ∷ [])))
   where
     Adds : Step → Type 0
     Adds r = r.0 ≡ Opened c → names_of r.1.channels ≡ names_of s.channels ++ (name, preserve) ∷ []

@@ -3,14 +3,15 @@ use Rattle.std.proofs.Common.{◌≡◌, ℕ, ◌+◌, ◌<◌, ◌≤◌, nat_l
 use Rattle.std.specs.Prelude.{◌==◌}
 use Rattle.std.specs.List.{list_all, list_any, AllByRecursion}
 use Rattle.std.proofs.lemmas.Bool.Decides.{nat_tests}
-use Rattle.rows.specs.declared.value.Value.{Value}
-use Rattle.rows.specs.declared.value.Value.TheVariants.{Null, Int, Bytes}
+use Rattle.row_images.specs.declared.value.Value.{Value}
+use Rattle.row_images.specs.declared.value.Value.TheVariants.{Null, Int, Bytes}
 use Rattle.rows.specs.declared.change.Change.{Change}
 use Rattle.rows.specs.declared.change.Change.TheVariants.{Insert, Delete, Update}
 use Rattle.rows.specs.declared.change.Misfit.TheVariants.{Columns, NullInPrimary, TooLong, TooMany}
 use Rattle.rows.specs.declared.schema.Table.{Table}
 use Rattle.rows.specs.Keys.{table_named}
-use Rattle.rows.specs.Fits.{row_misfit, is_too_long, has_primary_null, first_cause, images_misfit, table_of, misfit_in, or_later, misfit_from, Fits}
+use Rattle.rows.specs.Fits.{row_misfit, has_primary_null, first_cause, images_misfit, table_of, misfit_in, or_later, misfit_from, Fits}
+use Rattle.row_images.specs.Values.{is_too_long}
 use Rattle.journal.specs.declared.Entry.{Entry}
 use Rattle.journal.specs.Journals.{JournalValue}
 use Rattle.journal.specs.Writing.{is_value_writable, is_image_writable, is_change_writable, is_txn_writable, is_number, is_writable}

@@ -10,7 +10,7 @@ use Rattle.replica_core.specs.declared.event.Event.TheVariants.{OpenChannel, Pos
 use Rattle.replica_core.specs.declared.event.Reply.TheVariants.{Opened, Ask}
 use Rattle.replica_core.specs.State.{Replica}
 use Rattle.replica_core.specs.Machine.{step, after}
-use Rattle.replica_core.specs.Core.{opened_with}
+use Rattle.replica_core.specs.Core.{new_replica_with}
 use Rattle.auto_position.specs.Sending.{sent}
 use Rattle.ordered_replicas.specs.Served.{received_on}
 use Rattle.world.specs.declared.verdict.Verdict.TheVariants.{Sound}
@@ -21,10 +21,10 @@ use Rattle.serving.specs.declared.receiving.Apply.{Apply}
 use Rattle.serving.specs.declared.receiving.Apply.TheVariants.{Later, AtOnce}
 use Rattle.serving.specs.Verdicts.{keys_over}
 
--- what stands at these places of a list
-abbrev pub picked : List Entry → List ℕ → List Entry
-picked entries [] = []
-picked entries (p ∷ ps) = option_map_or (λ e. e ∷ picked entries ps) (slice_get entries p) (picked entries ps)
+-- what is at these places of a list
+abbrev pub pick_entries : List Entry → List ℕ → List Entry
+pick_entries entries [] = []
+pick_entries entries (p ∷ ps) = option_map_or (λ e. e ∷ pick_entries entries ps) (slice_get entries p) (pick_entries entries ps)
 
 -- a replica after events
 abbrev pub run : Replica → List Event → Replica
@@ -38,9 +38,9 @@ IsBetween AtOnce (Rollback seat) = Unit {0}
 IsBetween _ _ = ⊥
 
 -- what is done with the entry that a channel has just received at this place
-abbrev pub applied_at : Apply → ℕ → ℕ → List Event
-applied_at AtOnce c p = Take 1 c p ∷ Commit 1 ∷ []
-applied_at Later c p = []
+abbrev pub apply_events_at : Apply → ℕ → ℕ → List Event
+apply_events_at AtOnce c p = Take 1 c p ∷ Commit 1 ∷ []
+apply_events_at Later c p = []
 
 -- an entry for this channel, or what may come between
 abbrev pub IsFeed : Apply → ℕ → Event → Type 0
@@ -86,9 +86,9 @@ ServesEach apply r c (ch ∷ channels) (j ∷ js) t = (s : Replica) × ServesOne
 
 -- the replica of a bundle, before it has a channel
 abbrev pub opening : BundleValue → Replica
-opening b = opened_with b.replica b.start b.opened
+opening b = new_replica_with b.replica b.start b.opened
 
--- the audit of keys says Sound, and the replica of the bundle has received all that its journals send
+-- the audit of keys reports Sound, and the replica of the bundle has received all that its journals send
 abbrev pub HasReceived : Order → Apply → BundleValue → Replica → Type 0
 HasReceived order apply b core = (keys_over order b ≡ Sound) × ServesEach apply (opening b) 0 b.channels b.journals core
 

@@ -1,4 +1,4 @@
--- What the audit of a bundle finds, and what its journals come to.
+-- What the audit of a bundle finds, and what its journals result in.
 use Rattle.std.specs.Prelude.{◌≡◌, ℕ, Bool, true, false, List, map, take, length, Option, None, Some}
 use Rattle.journal.specs.Journals.{JournalValue}
 use Rattle.apply_channel.specs.Channels.{ChannelValue}
@@ -71,12 +71,12 @@ pub record IsNamed (b : BundleValue) (core : Replica) : Type 0 where
   pub uuid : core.site.own ≡ b.replica
   pub names : names_of core.state.channels ≡ names_asked (take (length b.journals) b.channels)
 
--- the executed set is that of all journals together, and the rows are those that it stands for: of the sources, or in the joined order
+-- the executed set is that of all journals together, and the rows are those that it denotes: of the sources, or in the joined order
 abbrev pub HoldsAllBy : Order → BundleValue → State → Type 0
 HoldsAllBy BySource b s = HoldsAll b.start.schema b.opened b.start.rows b.journals s
 HoldsAllBy ByConflict b s = runs.HoldsAll (joined_over b) b.journals s
 
--- The audit says Sound, and all journals together are executed on the replica of the bundle, with its channels.
+-- The audit reports Sound, and all journals together are executed on the replica of the bundle, with its channels.
 pub record HasMerged (order : Order) (b : BundleValue) (core : Replica) : Type 0 where
   pub sound : verdict_over order b ≡ Sound
   pub holds : HoldsAllBy order b core.state

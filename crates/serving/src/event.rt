@@ -7,7 +7,7 @@ ghost use Rattle.replica_core.specs.declared.event.Event.TheVariants as events;
 ghost use Rattle.replica_core.specs.declared.event.Reply.TheVariants as replies;
 ghost use Rattle.serving.specs.Faults.{IsFaultWhere, Knows, KnowsWith};
 ghost use Rattle.serving.specs.Servable.{IsOpen};
-ghost use Rattle.serving.specs.Serving.{run, with_opened, applied_at};
+ghost use Rattle.serving.specs.Serving.{run, with_opened, apply_events_at};
 ghost use Rattle.serving.specs.declared.receiving.Apply.TheVariants.{AtOnce};
 
 use crate::receiving::Apply;
@@ -72,7 +72,7 @@ fn receive_and_apply(
     entry: &Entry,
 ) -> Result<(), SetFault>
     requires { is_number entry.now.gtid.number ≡ true }
-    ensures now { OnOk result (core.new ≡ run core.old (events.Receive channel entry.now ∷ applied_at AtOnce channel place)) }
+    ensures now { OnOk result (core.new ≡ run core.old (events.Receive channel entry.now ∷ apply_events_at AtOnce channel place)) }
     ensures fault { IfErr result (IsFaultWhere (KnowsWith core.old.state (entry.now ∷ []))) }
 {
     core.receive_and_commit(alloc, 1, channel, place, entry)?;
@@ -89,7 +89,7 @@ pub(crate) fn receive(
     apply: Apply,
 ) -> Result<(), SetFault>
     requires { is_number entry.now.gtid.number ≡ true }
-    ensures now { OnOk result (core.new ≡ run core.old (events.Receive channel entry.now ∷ applied_at apply channel place)) }
+    ensures now { OnOk result (core.new ≡ run core.old (events.Receive channel entry.now ∷ apply_events_at apply channel place)) }
     ensures fault { IfErr result (IsFaultWhere (KnowsWith core.old.state (entry.now ∷ []))) }
 {
     match apply {

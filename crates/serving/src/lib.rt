@@ -10,7 +10,7 @@
 //! (`written_is_servable`).
 //!
 //! `conclude` holds of every replica that was served so and beside it took, committed and rolled back in any order, until each channel is
-//! stopped or done: None only where the audit says Sound, all journals are executed, and the rows are those that their union denotes
+//! stopped or done: None only where the audit reports Sound, all journals are executed, and the rows are those that their union denotes
 //! (`HasMerged`); else exactly the verdict. The proof shows that the run serves all journals, and cites `faithful_runs`.
 //!
 //! Errors are out of memory, or a full set for the bundle as a whole (`IsBundleFault`): all GTIDs together have more than 65,536 sources,

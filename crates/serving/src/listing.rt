@@ -10,9 +10,9 @@ use gtid_set::SetFault;
 use std::alloc::Global;
 use txn_journal::Bundle;
 
-/// The verdict of `verdict_over`, and behind it each other GTID under which journals differ, each other
-/// journal that begins behind the opening set, each other missing GTID, each other shared key, each other
-/// GTID that stands in a journal without what it needs and, where a transaction does not apply by the
+/// The verdict of `verdict_over`, and after it each other GTID under which journals differ, each other
+/// journal that begins after the opening set, each other missing GTID, each other shared key, each other
+/// GTID that is in a journal without what it needs and, where a transaction does not apply by the
 /// verdict, each other source of which one does not (`audit::faults_are_all`). What is asked is as for
 /// `verdict_over`; the faults are those of `audit::audit_all`.
 pub fn faults_over(alloc: Global, bundle: &Bundle) -> Result<AllFaults, SetFault>

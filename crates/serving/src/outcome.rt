@@ -7,7 +7,6 @@ ghost use Rattle.serving.specs.Faults.{IsFaultWhere, KnowsToo, IsBundleFault, Is
 ghost use Rattle.serving.specs.Servable.{IsFitting, IsServable, CanServeEach, WrittenIsServable};
 ghost use Rattle.serving.specs.Serving.{opening, ServesEach, HasReceived, IsReady, IsRun};
 ghost use Rattle.audit.specs.Faults.{IsAuditFault};
-ghost use Rattle.audit.specs.Worlds.{IsWorldOf};
 ghost use Rattle.serving.specs.Verdicts.{is_sound, world_over, keys_by, verdict_by, keys_over, verdict_over, IsFoundInKeys, IsStateOrVerdict, HasMerged, IsConcluded};
 
 use crate::order::Order;
@@ -69,14 +68,13 @@ pub(crate) fn opening_world(alloc: Global, bundle: &Bundle) -> Result<World, All
     }
 }
 
-/// What the audit of keys that asks for an order finds first in a world of journals.
+/// What the audit of keys that asks for an order finds first in a world and journals.
 fn audit_keys_by(
     alloc: Global,
     order: Order,
     world: &World,
     journals: &[Journal],
 ) -> Result<Verdict, SetFault>
-    requires { IsWorldOf world.now journals.now }
     ensures found { IfOk result (λ found. found ≡ keys_by order world.now journals.now) }
     ensures fault { IfErr result (IsAuditFault world.now.opening_set journals.now) }
 {
@@ -86,14 +84,13 @@ fn audit_keys_by(
     }
 }
 
-/// What the audit that asks for an order finds first in a world of journals.
+/// What the audit that asks for an order finds first in a world and journals.
 fn audit_by(
     alloc: Global,
     order: Order,
     world: &World,
     journals: &[Journal],
 ) -> Result<Verdict, SetFault>
-    requires { IsWorldOf world.now journals.now }
     ensures found { IfOk result (λ found. found ≡ verdict_by order world.now journals.now) }
     ensures fault { IfErr result (IsAuditFault world.now.opening_set journals.now) }
 {
@@ -116,7 +113,7 @@ fn keys_verdict(alloc: Global, bundle: &Bundle, order: Order) -> Result<Verdict,
 }
 
 /// What the audit that asks for an order finds first in a bundle's journals over its opening rows and
-/// opening set. The tables take the transactions, as those of a bundle that was read do. The error is want of memory, or `PoolFull`
+/// opening set. The tables take the transactions, as those of a bundle that was read do. The error is a failed allocation, or `PoolFull`
 /// where the set that the verdict would name has too many intervals.
 pub fn verdict_over(alloc: Global, bundle: &Bundle, order: Order) -> Result<Verdict, SetFault>
     requires { IsFitting bundle.now }
@@ -197,7 +194,7 @@ fn receive_all(
 /// verdict is answered, which is that of the whole audit. The bundle can be served, as each that was
 /// read can.
 ///
-/// `Memory` is want of memory, `SourcesFull` comes only where the GTIDs of all journals together are of
+/// `Memory` is a failed allocation, `SourcesFull` comes only where the GTIDs of all journals together are of
 /// more than 65,536 sources, and `PoolFull` only where the intervals of the opening set and of the
 /// previous sets and the entries are together more than 4,294,967,294.
 pub fn begin(alloc: Global, bundle: &Bundle, order: Order) -> Result<StateOrVerdict<Core>, SetFault>
@@ -208,7 +205,7 @@ pub fn begin(alloc: Global, bundle: &Bundle, order: Order) -> Result<StateOrVerd
     receive_all(alloc, bundle, order, Apply::Later)
 }
 
-/// What a replica that was served all journals comes to, once each of its channels is stopped or has
+/// What a replica that was served all journals results in, once each of its channels is stopped or has
 /// executed all that it received: nothing where all is executed, or else the verdict of the audit, which
 /// isn't Sound then. The faults are those of `verdict_over`.
 pub fn conclude(
@@ -228,14 +225,14 @@ pub fn conclude(
     workers_decide_in_order();
     served_holds_all_in_order();
     keep_rules(bundle.journals());
-    if core.drained() {
+    if core.is_drained() {
         return Ok(None);
     }
     let verdict = verdict_over(alloc, bundle, order)?;
     Ok(Some(verdict))
 }
 
-/// What a replica that was served all journals comes to, once one seat has applied what is left.
+/// What a replica that was served all journals results in, once one seat has applied what is left.
 #[tactic(auto, using(crate::proofs::Runs::run_further))]
 fn finish_and_conclude(
     alloc: Global,
@@ -252,7 +249,7 @@ fn finish_and_conclude(
     Ok(conclude(alloc, bundle, order, core)?)
 }
 
-/// What the journals of a bundle come to over its opening rows and set: all of them executed together, or the
+/// What the journals of a bundle result in over its opening rows and set: all of them executed together, or the
 /// verdict of their audit, where that is not Sound. Channel by channel, one seat applies each entry as
 /// it is received, and what is left at the end. Where not everything was executed, the audit says why.
 /// What is asked, and the faults, are those of `begin`.

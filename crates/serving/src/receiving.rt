@@ -6,7 +6,7 @@ ghost use Rattle.gtid_set.specs.declared.fault.SetFault.TheVariants.{Memory};
 ghost use Rattle.auto_position.specs.Sending.{IsRefusal, IsPlanFault, sent};
 ghost use Rattle.serving.specs.Faults.{IsFaultWhere, KnowsWith, KnowsToo};
 ghost use Rattle.serving.specs.Servable.{CanReceive, CanServe, CanServeEach};
-ghost use Rattle.serving.specs.Serving.{picked, Receives, Asks, ServesOne, ServesEach};
+ghost use Rattle.serving.specs.Serving.{pick_entries, Receives, Asks, ServesOne, ServesEach};
 
 use crate::event::{open_channel, position, receive};
 use auto_position::{PositionFault, plan};
@@ -21,7 +21,7 @@ use txn_journal::Channel;
 #[tactic(auto, using(crate::proofs::Sending::picked_more))]
 fn entries_at(alloc: Global, entries: &[Entry], places: &[u64]) -> Result<Vec<Entry>, SetFault>
     requires { list_all (λ p. nat_lt p (length entries.now)) places.now ≡ true }
-    ensures found { IfOk result (λ found. found.items ≡ picked entries.now places.now) }
+    ensures found { IfOk result (λ found. found.items ≡ pick_entries entries.now places.now) }
     ensures fault { IsOkUnless result Memory }
 {
     let mut found = Vec::new(alloc);

@@ -19,7 +19,7 @@ fn is_waiting(core: &Core, channel: usize, place: usize) -> bool
     let Some(one) = core.channel(channel) else {
         return false;
     };
-    if one.stopped() {
+    if one.is_stopped() {
         return false;
     }
     match one.entry(place) {
@@ -96,7 +96,7 @@ pub(crate) fn finish(alloc: Global, core: &mut Core) -> Result<(), SetFault>
     ensures ends { OnOk result (AreStoppedOrDone core.new.state) }
     ensures fault { IfErr result (IsFaultWhere (Knows core.old.state)) }
 {
-    if core.drained() {
+    if core.is_drained() {
         return Ok(());
     }
     free_all(alloc, core)?;

@@ -1,4 +1,4 @@
--- Want of memory may come anywhere, and too many sources or intervals only where a set is made.
+-- An allocation may fail anywhere, and too many sources or intervals only where a set is made.
 use Rattle.std.proofs.Common.{◌≡◌, true, refl}
 use Rattle.std.specs.Prelude.{Option, Some, None}
 use Rattle.gtid_set.specs.Sets.{Gtids}

@@ -7,7 +7,7 @@ use Rattle.shared_replica.specs.declared.step.Receipt.{Receipt}
 use Rattle.shared_replica.specs.Passes.{PassValue}
 use Rattle.shared_replica.specs.Closing.{At, IsMerge}
 
--- of each pass, the receipts before its cursor stand at their places, which are below upto
+-- of each pass, the receipts before its cursor are at their places, which are below upto
 pub record Merged (passes : List PassValue) (steps : List Step) (upto : ℕ) (cursors : List ℕ) : Type 0 where
   pub below : (i k : ℕ) (r : Receipt) → At passes i k r → k < get_or cursors i 0 → (r.place < upto) × (slice_get steps r.place ≡ Some r.step)
   pub rises : (i j k : ℕ) (r s : Receipt) → At passes i j r → At passes i k s → j < k → k < get_or cursors i 0 → r.place < s.place

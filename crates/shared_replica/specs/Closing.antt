@@ -13,7 +13,7 @@ use Rattle.shared_replica.specs.Passes.{PassValue, SharedValue}
 abbrev pub At : List PassValue → ℕ → ℕ → Receipt → Type 0
 At passes i k r = (p : PassValue) × (slice_get passes i ≡ Some p) × (slice_get p.receipts k ≡ Some r)
 
--- each receipt's step stands at its place
+-- each receipt's step is at its place
 abbrev pub Stands : List PassValue → List Step → Type 0
 Stands passes steps = (i k : ℕ) (r : Receipt) → At passes i k r → slice_get steps r.place ≡ Some r.step
 
@@ -29,7 +29,7 @@ Apart passes = (i j k l : ℕ) (r s : Receipt) → At passes i k r → At passes
 abbrev pub Covers : List PassValue → List Step → Type 0
 Covers passes steps = (place : ℕ) → place < length steps → (i : ℕ) × (k : ℕ) × (r : Receipt) × At passes i k r × (r.place ≡ place)
 
--- the receipts are the steps: each at its place, rising in each pass, no two at one place, and one at each
+-- the receipts are the steps: each at its place, ascending in each pass, no two at one place, and one at each
 pub record IsMerge (passes : List PassValue) (steps : List Step) : Type 0 where
   pub stands : Stands passes steps
   pub rises : Rises passes

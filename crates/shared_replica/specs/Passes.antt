@@ -24,14 +24,14 @@ fresh seat = record { seat = seat; steps = 0; commits = 0; receipts = [] }
 abbrev pub receipt : ℕ → Event → Reply → Receipt
 receipt place event reply = record { place = place; step = line event reply }
 
--- the pass after a call whose step stands at this place
-abbrev pub told : ℕ → Event → Reply → PassValue → PassValue
-told place event reply p =
+-- the pass after a call whose step is at this place
+abbrev pub pass_after_call : ℕ → Event → Reply → PassValue → PassValue
+pass_after_call place event reply p =
     record { seat = p.seat; steps = p.steps + 1; commits = p.commits + one_if (is_commit reply); receipts = p.receipts ++ receipt place event reply ∷ [] }
 
 -- the pass after a call that made this event and was answered so: one step more in its share, and one receipt
 abbrev pub IsTold : PassValue → Event → Reply → PassValue → Type 0
-IsTold old event reply new = (place : ℕ) × (new ≡ told place event reply old)
+IsTold old event reply new = (place : ℕ) × (new ≡ pass_after_call place event reply old)
 
 -- a call that makes this event: the pass is told of the reply; or the pass is as it was, and the fault is one that the event may have
 abbrev pub Makes : Event → PassValue → Result Reply SetFault → PassValue → Type 0

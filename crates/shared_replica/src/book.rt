@@ -3,11 +3,11 @@ ghost use Rattle.std.specs.Prelude.{◌≡◌, true, [], ◌≤◌, IfOk, IfErr,
 ghost use Rattle.std.specs.Vec.{vec_capacity};
 ghost use Rattle.commit_ledger.specs.Tallies.{no_tally, unused, tally_of};
 ghost use Rattle.replica_core.specs.Machine.{is_numbered, next_ready, step};
-ghost use Rattle.replica_core.specs.Faults.{IsCause};
+ghost use Rattle.replica_core.specs.Faults.{IsCause, HasRoomFor, made_by};
 ghost use Rattle.shared_replica.specs.Faults.{IsFaultFor};
 ghost use Rattle.shared_replica.specs.History.{IsStep, IsBook, with_step, unwritten};
 ghost use Rattle.replica_core.specs.declared.event.Event.TheVariants.{Take};
-ghost use Rattle.shared_replica.specs.Passes.{told, IsTold};
+ghost use Rattle.shared_replica.specs.Passes.{pass_after_call, IsTold};
 ghost use Rattle.shared_replica.specs.Preparing.{MayPrepare};
 ghost use Rattle.shared_replica.specs.Closing.{sheet, IsMerge, tally_of_passes};
 
@@ -81,9 +81,10 @@ impl<N: Naming> Book<N> {
         requires { is_numbered event.now ≡ true }
         ensures step { IfOk result (λ r. IsStep self.old.now event.now r self.new.now) }
         ensures line { IfOk result (λ r. self.new ≡ with_step event.now r self.new.now self.old) }
-        ensures told { IfOk result (λ r. mine.new ≡ told (length self.old.steps) event.now r mine.old) }
+        ensures told { IfOk result (λ r. mine.new ≡ pass_after_call (length self.old.steps) event.now r mine.old) }
         ensures err { OnErr result ((self.new ≡ self.old) × (mine.new ≡ mine.old)) }
         ensures fault { IfErr result (λ f. IsCause f self.old.now.site self.old.now.state event.now) }
+        ensures room { IfErr result (λ f. HasRoomFor f (made_by self.old.now.site self.old.now.state event.now)) }
         ensures kind { IfErr result (IsFaultFor event.now) }
     {
         let drafts = drafts_of(
@@ -97,9 +98,9 @@ impl<N: Naming> Book<N> {
         let reply = step_of(&mut self.core, alloc, event, patch)?;
         let Drafts { line, receipt } = drafts;
         let place = self.steps.len() as u64;
-        let step = receipt.answered(&reply);
+        let step = receipt.with_reply(&reply);
         count(&mut self.total, &mut mine.share, is_commit(&reply));
-        add(&mut self.steps, line.answered(&reply));
+        add(&mut self.steps, line.with_reply(&reply));
         add(&mut mine.receipts, Receipt { place, step });
         Ok(reply)
     }
@@ -117,6 +118,7 @@ fn step_of(
     ensures site { core.new.site ≡ core.old.site }
     ensures err { OnErr result (core.new ≡ core.old) }
     ensures fault { IfErr result (λ f. IsCause f core.old.site core.old.state event.now) }
+    ensures room { IfErr result (λ f. HasRoomFor f (made_by core.old.site core.old.state event.now)) }
 {
     let Some(patch) = patch else {
         return core.step(alloc, event);

@@ -1,7 +1,7 @@
 //! A history that no thread shares any more.
 ghost use Rattle.std.specs.Prelude.{◌≡◌, true, ◌++◌, ◌∷◌, [], IfOk, IfErr, OnErr};
 ghost use Rattle.replica_core.specs.Machine.{is_numbered};
-ghost use Rattle.replica_core.specs.Faults.{IsCause};
+ghost use Rattle.replica_core.specs.Faults.{IsCause, HasRoomFor, made_by};
 ghost use Rattle.shared_replica.specs.History.{line, IsStep, IsReplay};
 ghost use Rattle.shared_replica.specs.Closing.{started, receipts_of};
 
@@ -103,20 +103,23 @@ impl ClosedBook {
     }
 
     /// One step more, for which there is no receipt. After an error nothing has changed; another error
-    /// than `Memory` comes only where the set that the event makes has no room. The numbers of received
+    /// than `Memory` comes only where the set that the event makes has no room, and `Memory` only where
+    /// that set has not too many sources. The numbers of received
     /// GTIDs are 1 to 9223372036854775807.
-    #[tactic(auto, using(crate::proofs::Faulty::memory_anywhere))]
     pub fn step(&mut self, alloc: Global, event: &Event) -> Result<Reply, SetFault>
         requires { is_numbered event.now ≡ true }
         ensures step { IfOk result (λ r. IsStep self.old.now event.now r self.new.now) }
         ensures line { IfOk result (λ r. self.new ≡ record self.old { steps = self.old.steps ++ line event.now r ∷ []; now = self.new.now }) }
         ensures err { OnErr result (self.new ≡ self.old) }
         ensures fault { IfErr result (λ f. IsCause f self.old.now.site self.old.now.state event.now) }
+        ensures room { IfErr result (λ f. HasRoomFor f (made_by self.old.now.site self.old.now.state event.now)) }
     {
-        self.steps.reserve(1)?;
+        if self.steps.reserve(1).is_err() {
+            return Err(self.core.refusal(event));
+        }
         let draft = Draft::of(&self.core, alloc, event)?;
         let reply = self.core.step(alloc, event)?;
-        add(&mut self.steps, draft.answered(&reply));
+        add(&mut self.steps, draft.with_reply(&reply));
         Ok(reply)
     }
 }

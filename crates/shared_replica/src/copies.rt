@@ -76,7 +76,7 @@ pub(crate) fn twin(reply: &Reply, spare: Option<GtidSet>) -> Reply
         Reply::ChannelsFull => Reply::ChannelsFull,
         Reply::Opened(number) => Reply::Opened(*number),
         Reply::NoChannel => Reply::NoChannel,
-        Reply::Ask(_) => Reply::Ask(made(spare)),
+        Reply::Ask(_) => Reply::Ask(made_set(spare)),
         Reply::NotPositioned => Reply::NotPositioned,
         Reply::NotInSchema(misfit) => Reply::NotInSchema(*misfit),
         Reply::ChannelFull => Reply::ChannelFull,
@@ -98,13 +98,13 @@ pub(crate) fn twin(reply: &Reply, spare: Option<GtidSet>) -> Reply
         Reply::NumbersUsedUp => Reply::NumbersUsedUp,
         Reply::LocalRefused(fault) => Reply::LocalRefused(*fault),
         Reply::TooMany(number) => Reply::TooMany(*number),
-        Reply::Purged(_) => Reply::Purged(made(spare)),
-        Reply::Shown(_) => Reply::Shown(made(spare)),
+        Reply::Purged(_) => Reply::Purged(made_set(spare)),
+        Reply::Shown(_) => Reply::Shown(made_set(spare)),
     }
 }
 
 /// The set that was made.
-fn made(spare: Option<GtidSet>) -> GtidSet
+fn made_set(spare: Option<GtidSet>) -> GtidSet
     requires { IsSome spare }
     ensures { Some result ≡ spare }
 {

@@ -1,7 +1,7 @@
 //! Steps whose reply is not known yet.
 ghost use Rattle.std.specs.Prelude.{◌≡◌, ◌<◌, IfOk, IfErr, OnOk, vec_len};
 ghost use Rattle.std.specs.Vec.{vec_capacity};
-ghost use Rattle.replica_core.specs.Faults.{IsCause};
+ghost use Rattle.replica_core.specs.Faults.{IsCause, HasRoomFor, made_by};
 ghost use Rattle.shared_replica.specs.Drafts.{IsDraft};
 ghost use Rattle.shared_replica.specs.History.{line};
 ghost use Rattle.shared_replica.specs.Spare.{IsSpare};
@@ -22,8 +22,21 @@ pub(crate) struct Draft {
 
 impl Draft {
     /// A draft of the step that an event will make of a core.
-    #[tactic(auto, using(crate::proofs::Faulty::memory_anywhere))]
     pub(crate) fn of(core: &Core, alloc: Global, event: &Event) -> Result<Draft, SetFault>
+        ensures ok { IfOk result (IsDraft core.now event.now) }
+        ensures fault { IfErr result (λ f. IsCause f core.now.site core.now.state event.now) }
+        ensures room { IfErr result (λ f. HasRoomFor f (made_by core.now.site core.now.state event.now)) }
+    {
+        match Draft::copied(core, alloc, event) {
+            Ok(draft) => Ok(draft),
+            Err(SetFault::Memory) => Err(core.refusal(event)),
+            Err(fault) => Err(fault),
+        }
+    }
+
+    /// The same; any fault may be a failed allocation.
+    #[tactic(auto, using(crate::proofs::Faulty::memory_anywhere))]
+    fn copied(core: &Core, alloc: Global, event: &Event) -> Result<Draft, SetFault>
         ensures ok { IfOk result (IsDraft core.now event.now) }
         ensures fault { IfErr result (λ f. IsCause f core.now.site core.now.state event.now) }
     {
@@ -32,8 +45,8 @@ impl Draft {
         Ok(Draft { event, spare })
     }
 
-    /// The step with its reply. It takes no memory.
-    pub(crate) fn answered(self, reply: &Reply) -> Step
+    /// The step with its reply. It does not allocate.
+    pub(crate) fn with_reply(self, reply: &Reply) -> Step
         requires { IsSpare reply.now self.spare }
         ensures { result ≡ line self.event reply.now }
     {
@@ -53,7 +66,6 @@ pub(crate) struct Drafts {
 }
 
 /// Room for a step's line and for its receipt, and a draft of both.
-#[tactic(auto, using(crate::proofs::Faulty::memory_anywhere))]
 pub(crate) fn drafts_of(
     core: &Core,
     alloc: Global,
@@ -67,9 +79,14 @@ pub(crate) fn drafts_of(
     ensures line { IfOk result (λ d. IsDraft core.now event.now d.line) }
     ensures receipt { IfOk result (λ d. IsDraft core.now event.now d.receipt) }
     ensures fault { IfErr result (λ f. IsCause f core.now.site core.now.state event.now) }
+    ensures memory { IfErr result (λ f. HasRoomFor f (made_by core.now.site core.now.state event.now)) }
 {
-    steps.reserve(1)?;
-    receipts.reserve(1)?;
+    if steps.reserve(1).is_err() {
+        return Err(core.refusal(event));
+    }
+    if receipts.reserve(1).is_err() {
+        return Err(core.refusal(event));
+    }
     let line = Draft::of(core, alloc, event)?;
     let receipt = Draft::of(core, alloc, event)?;
     Ok(Drafts { line, receipt })

@@ -3,7 +3,7 @@ use commit_ledger::Ledgers;
 use std::marker::{Brand, PhantomData};
 
 /// Names one shared replica: the two ledgers of its total, the number of its seats, and the core that
-/// it was opened with. A type stands for it, so that the lock and the passes agree on them, and no
+/// it was opened with. A type denotes it, so that the lock and the passes agree on them, and no
 /// copy of the opening need be kept. The call that opens it picks (`Brand`).
 pub trait Naming {
     ghost use Rattle.std.specs.Prelude.{ℕ};

@@ -57,7 +57,7 @@ impl<N: Naming> Model for SharedReplica<N> {
 
 impl<N: Naming> SharedReplica<N> {
     /// Shares a core among the seats 1 to `seats`, each with a pass of its own. After an error, which
-    /// is want of memory, the core is handed back.
+    /// is a failed allocation, the core is handed back.
     pub fn open(
         alloc: Global,
         blanks: Blanks,
@@ -95,7 +95,7 @@ impl<N: Naming> SharedReplica<N> {
     }
 
     /// Ends the sharing. It is refused where there are fewer passes than seats, or where the receipts
-    /// are not the steps: each step with the line at its place, the places of a pass rising, no place
+    /// are not the steps: each step with the line at its place, the places of a pass ascending, no place
     /// twice, and none without a receipt. All is then handed back. It waits for nothing and takes no
     /// memory.
     pub fn close(self, passes: Vec<Pass<N>>) -> Result<ClosedBook, (SharedReplica<N>, Vec<Pass<N>>)>
@@ -378,7 +378,7 @@ fn prepare<N: Naming>(alloc: Global, blanks: Blanks, seats: u8) -> Result<Ready<
     })
 }
 
-/// A pass for each share, the seats rising from 1.
+/// A pass for each share, the seats ascending from 1.
 fn passes_of<N: Naming>(
     alloc: Global,
     shares: Vec<Share<LedgersOf<N>>>,

@@ -1,4 +1,4 @@
-//! What a take comes to.
+//! What a take results in.
 use replica_core::Reply;
 use rows::{Footprint, Transaction};
 

@@ -1,5 +1,5 @@
 -- Closed sets of sources, and the union as join.
-use Rattle.std.proofs.Common.{◌≡◌, ◌||◌, inl, inr, sym, ap, ◌∙◌}
+use Rattle.std.proofs.Common.{◌≡◌, ◌||◌, inl, inr, sym, ap, ◌∙◌, Bool}
 use Rattle.std.specs.FinSet as set
 use Rattle.std.specs.FinSet.{contains-union, contains-intersection, is_subset-contains, contains-is_subset, same_set}
 use Rattle.gtid_text.specs.declared.Gtid.{Gtid}
@@ -11,7 +11,6 @@ use Rattle.source_history.proofs.Tests.{or_itself}
 use Rattle.std.proofs.lemmas.Bool.{or_cases, or_left, or_right, and_parts, and_from}
 use mathlib.Core.Bool.{or_comm, or_assoc}
 use Rattle.gtid_text.proofs.SameGtid.{gtid_total, gtid_exact}
-use Rattle.std.proofs.Common.{Bool}
 
 pub closed_under_union : ClosedUnderUnion
 closed_under_union world S U c d = record {

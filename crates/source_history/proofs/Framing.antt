@@ -1,4 +1,4 @@
--- A transaction reads and changes what stands under the keys that it touches; so two without a common key commute.
+-- A transaction reads and changes what is stored under the keys that it touches; so two without a common key commute.
 use Rattle.std.proofs.Common.{◌≡◌, List, Result, Ok, Err, refl, ap, ◌∙◌}
 use Rattle.rows.specs.declared.change.Transaction.{Transaction}
 use Rattle.rows.specs.declared.change.RowFault.{RowFault}

@@ -1,4 +1,4 @@
--- What a journal has a record of, front by front.
+-- What a journal has a record of, prefix by prefix.
 use Rattle.std.proofs.Common.{◌≡◌, ℕ, ◌≤◌, Bool, ◌||◌, List, length, take, sym, ap, ◌∙◌}
 use Rattle.std.specs.FinSet as set
 use Rattle.gtid_text.specs.declared.Gtid.{Gtid}
@@ -21,7 +21,7 @@ in_front world j k g =
     set.contains-union gtid_total world.opening_set (set.union j.previous (gtids_of (take k j.entries))) g
     ∙ ap (λ b. is_opened world g || b) (contains-whole j.previous (take k j.entries) g)
 
--- what the fronts of a journal are, entry by entry
+-- what the prefixes of a journal are, entry by entry
 abbrev pub HasClosedFronts : World → JournalValue → Type 0
 HasClosedFronts world j = (k : ℕ) → k ≤ length j.entries → IsClosed world (front world j.previous (take k j.entries))
 

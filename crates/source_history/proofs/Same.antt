@@ -33,7 +33,7 @@ use Rattle.journal.specs.declared.Entry as journal
 pub rises : (world : World) (e f : Entry) → Precedes (entries world.contents) e f → gtid_cmp e.0 f.0 ≡ Less
 rises world e f p = each_pair (λ (x y : Entry). gtid_cmp x.0 y.0 ≡ Less) (entries world.contents) (found.rising world) e f p
 
--- what stands in the order is the world's content
+-- what is in the order is the world's content
 pub stands : (world : World) (e : Entry) → IsIn e (entries world.contents) → sources.content world e.0 ≡ Some e.1
 stands world e i = all_in (λ (x : Entry). sources.content world x.0 ≡ Some x.1) e (entries world.contents) (found.found world) i
 

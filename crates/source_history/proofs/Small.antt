@@ -7,7 +7,7 @@ use Rattle.std.specs.FinMap.{entries, get-empty, get-insert, get-remove, get-fro
 use Rattle.std.specs.FinSet.{contains-empty}
 use Rattle.gtid_text.specs.declared.Gtid.{Gtid}
 use Rattle.gtid_text.specs.Gtids.{gtid_cmp, same_gtid}
-use Rattle.rows.specs.declared.value.Value.TheVariants.{Int}
+use Rattle.row_images.specs.declared.value.Value.TheVariants.{Int}
 use Rattle.rows.specs.declared.change.RowFault.{RowFault}
 use Rattle.rows.specs.declared.change.Key.{Key}
 use Rattle.rows.specs.declared.change.Transaction.{Transaction}

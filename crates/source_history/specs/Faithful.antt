@@ -11,7 +11,7 @@ use Rattle.source_history.specs.World.{World, content, is_opened, IsClosed}
 abbrev pub front : World → JournalValue → ℕ → Gtids
 front world journal k = set.union world.opening_set (set.union journal.previous (gtids_of (take k journal.entries)))
 
--- Each front is closed, each entry beyond the opening set has the content of its GTID, and no GTID stands twice or in the
+-- Each prefix is closed, each entry beyond the opening set has the content of its GTID, and no GTID occurs twice or in the
 -- previous set.
 pub record IsFaithful (world : World) (journal : JournalValue) : Type 0 where
   pub fronts : (k : ℕ) → k ≤ length journal.entries → IsClosed world (set.contains (front world journal k))

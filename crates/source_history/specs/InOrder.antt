@@ -14,7 +14,7 @@ use Rattle.source_history.specs.Commits as commits
 use Rattle.source_history.specs.LastWriter.{last_writer}
 use Rattle.source_history.specs.Faithful.{IsFaithful}
 
--- sources rising, and within a source numbers rising
+-- sources ascending, and within a source numbers ascending
 abbrev pub in_order : World → ordered.World
 in_order world = record {
   schema = world.schema;

@@ -18,7 +18,7 @@ use Rattle.source_history.specs.Join.{either, both}
 
 -- ---- two transactions
 
--- A transaction leaves what stands under the keys that it does not touch.
+-- A transaction leaves what is stored under the keys that it does not touch.
 abbrev pub UntouchedStays : Type 0
 UntouchedStays = (schema : List Table) (t : Transaction) (rows new : Rows) (k : Key)
     → apply schema t rows ≡ Ok new → touches schema t k ≡ false → get new k ≡ get rows k
@@ -69,7 +69,7 @@ EarlyCommit = (world : World) (S : Gtid → Bool) (g : Gtid) (t : Transaction) (
 
 -- ---- the rows of a set
 
--- The opening set is closed, and stands for the opening rows: the keys alone need be sound.
+-- The opening set is closed, and denotes the opening rows: the keys alone need be sound.
 abbrev pub OpeningIsClosed : Type 0
 OpeningIsClosed = (world : World) → AreKeysSound world → IsClosed world (is_opened world) × (rows_of world (is_opened world) ≡ Ok world.opening_rows)
 
@@ -82,12 +82,12 @@ abbrev pub AloneOrTogether : Type 0
 AloneOrTogether = (world : World) → AreKeysSound world
     → ((s : ℕ) → IsOk (rows_of world (of_source s))) ↔ IsOk (apply_all world.schema (entries world.contents) world.opening_rows)
 
--- Under each key stands the row that its last writer left: the keys alone need be sound.
+-- Under each key is the row that its last writer left: the keys alone need be sound.
 abbrev pub LastWriterStands : Type 0
 LastWriterStands = (world : World) (S : Gtid → Bool) (rows : Rows) → AreKeysSound world → rows_of world S ≡ Ok rows
     → (k : Key) → get rows k ≡ last_writer world S k
 
--- Each row stands under every key that it carries, and under no other; so no key has a second row.
+-- Each row is stored under every key that it carries, and under no other; so no key has a second row.
 abbrev pub RowsAreCarriers : Type 0
 RowsAreCarriers = (world : World) (S : Gtid → Bool) (rows : Rows) → AreCarriers world.schema world.opening_rows
     → rows_of world S ≡ Ok rows → AreCarriers world.schema rows

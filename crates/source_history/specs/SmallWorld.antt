@@ -4,8 +4,8 @@ use Rattle.std.specs.FinMap as map
 use Rattle.std.specs.FinSet as set
 use Rattle.gtid_text.specs.declared.Gtid.{Gtid}
 use Rattle.gtid_text.specs.Gtids.{same_gtid}
-use Rattle.rows.specs.declared.value.Value.{Value}
-use Rattle.rows.specs.declared.value.Value.TheVariants.{Int}
+use Rattle.row_images.specs.declared.value.Value.{Value}
+use Rattle.row_images.specs.declared.value.Value.TheVariants.{Int}
 use Rattle.rows.specs.declared.change.Change.TheVariants.{Insert, Update}
 use Rattle.rows.specs.declared.change.Transaction.{Transaction}
 use Rattle.rows.specs.declared.schema.Table.{Table}

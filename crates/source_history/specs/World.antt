@@ -1,4 +1,4 @@
--- What several sources committed, and the rows that a set of their transactions stands for.
+-- What several sources committed, and the rows that a set of their transactions denotes.
 use Rattle.std.specs.Prelude.{◌≡◌, ◌≢◌, ℕ, ◌<◌, ◌≤◌, ◌==◌, Bool, true, false, List, [], ◌∷◌, ◌⊎◌, Option, Some, IsSome, Result, Ok, IsOk}
 use Rattle.std.specs.FinMap.{FinMap, get, entries}
 use Rattle.std.specs.FinSet.{FinSet, contains}
@@ -29,7 +29,7 @@ Entry = Gtid × Transaction
 abbrev pub content : World → Gtid → Option Transaction
 content world g = get world.contents g
 
--- what the sources committed of a set: sources rising, and within a source numbers rising
+-- what the sources committed of a set: sources ascending, and within a source numbers ascending
 abbrev pub entries_in : World → (Gtid → Bool) → List Entry
 entries_in world S = filter (λ e. S e.0) (entries world.contents)
 
@@ -38,7 +38,7 @@ abbrev pub apply_all : List Table → List Entry → Rows → Result Rows RowFau
 apply_all schema [] rows = Ok rows
 apply_all schema (e ∷ es) rows = apply schema e.1 rows >>= apply_all schema es
 
--- the rows that a set stands for
+-- the rows that a set denotes
 abbrev pub rows_of : World → (Gtid → Bool) → Result Rows RowFault
 rows_of world S = apply_all world.schema (entries_in world S) world.opening_rows
 

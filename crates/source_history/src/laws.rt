@@ -5,7 +5,7 @@ ghost use Rattle.source_history.specs.SmallWorld.{SoundWorldsExist};
 ghost use Rattle.source_history.specs.InOrder.{SourcesAreAnOrder};
 ghost use Rattle.source_history.specs.Laws.{UntouchedStays, TouchedDecides, ApartCommute, CommitOrderIsFree, CommitOrdersAgree, LateCommit, EarlyCommit, OpeningIsClosed, ClosedSetsApply, AloneOrTogether, LastWriterStands, RowsAreCarriers, ClosedUnderUnion, ClosedUnderIntersection, ClosedSetsAreALattice};
 
-/// A transaction leaves what stands under the keys that it does not touch.
+/// A transaction leaves what is stored under the keys that it does not touch.
 pub fn untouched_stays()
     ensures { UntouchedStays }
 {}
@@ -45,7 +45,7 @@ pub fn early_commit()
     ensures { EarlyCommit }
 {}
 
-/// The opening set is closed, and stands for the opening rows. Only the keys need be sound.
+/// The opening set is closed, and denotes the opening rows. Only the keys need be sound.
 pub fn opening_is_closed()
     ensures { OpeningIsClosed }
 {}
@@ -61,12 +61,12 @@ pub fn alone_or_together()
     ensures { AloneOrTogether }
 {}
 
-/// Under each key stands the row that its last writer left. Only the keys need be sound.
+/// Under each key is the row that its last writer left. Only the keys need be sound.
 pub fn last_writer_stands()
     ensures { LastWriterStands }
 {}
 
-/// Each row stands under every key that it carries, and under no other, so no key has a second row.
+/// Each row is stored under every key that it carries, and under no other, so no key has a second row.
 pub fn rows_are_carriers()
     ensures { RowsAreCarriers }
 {}
@@ -98,8 +98,8 @@ pub fn sound_worlds_exist()
     ensures { SoundWorldsExist }
 {}
 
-/// Where the keys are sound, a world of sources is a world in one order, sources rising and within
-/// a source numbers rising: it has the same soundness, closed sets, commit orders, rows, last writers
+/// Where the keys are sound, a world of sources is a world in one order, sources ascending and within
+/// a source numbers ascending: it has the same soundness, closed sets, commit orders, rows, last writers
 /// and faithful journals.
 pub fn sources_are_an_order()
     ensures { SourcesAreAnOrder }

@@ -20,13 +20,13 @@ use Rattle.rows.specs.Listing.{rows_listed}
 use Rattle.txn_journal.specs.WrittenSets.{IsWrittenSet}
 use Rattle.txn_journal.proofs.ListedRows.{listed_opening}
 use Rattle.txn_journal.specs.Stream.{Progress, Reading, Stopped, Judge}
-use Rattle.txn_journal.specs.Lines.{◌>>=◌, takes}
+use Rattle.txn_journal.specs.Lines.{◌>>=◌, takes, keyword_of}
 use Rattle.txn_journal.specs.Machine.{Standing, empty, is_last, is_within, open_entry, judge}
 use Rattle.txn_journal.specs.Spelling.{Line, End, Close, line_text, journal_lines, IsStamp, AreStamps}
 use Rattle.txn_journal.specs.Shapes.{shape_for}
-use Rattle.txn_journal.specs.BundleStates.{BundleValue, BundleStanding, bare, no_bundle, behind_replica, is_due_in, with_opening, put_row, has_channel, joined_channel, closed_channel, after_inner, is_misstamped, unless_misstamped, judge_own, judge_inner, judge_part, judge_by, judge_bundle, is_done}
+use Rattle.txn_journal.specs.BundleStates.{BundleValue, BundleStanding, bare, no_bundle, after_replica, is_due_in, with_opening, put_row, has_channel, join_channel, close_channel, after_inner, is_misstamped, unless_misstamped, judge_own, judge_inner, judge_part, judge_by, judge_bundle, is_done}
 use Rattle.txn_journal.specs.BundleReading.{is_inside, is_entry_open, bundles, closing_bundle, IsReadAs}
-use Rattle.txn_journal.specs.BundleText.{OwnLine, BundleLine, Own, Inner, Heads, Names, Starts, Has, Puts, Opens, Done, own_text, bundle_line_text, table_lines, row_lines, channel_lines, channels_lines, opening_set_lines, tables_lines, start_lines, bundle_lines, FitsRow, AreAdded, put_all, AreNamed, IsWrittenIn, AreBrought, IsOpeningSet, bundle_text, upgrade_of, IsWrittenBundle, WritesBundleBy, IsLastStamped, AreAlmostStamped, AlmostWritesBundle}
+use Rattle.txn_journal.specs.BundleText.{OwnLine, BundleLine, Own, Inner, Heads, Names, Starts, Has, Puts, Opens, Done, own_text, bundle_line_text, table_lines, row_lines, channel_lines, channels_lines, opening_set_lines, tables_lines, start_lines, bundle_lines, FitsRow, AreAdded, put_all, AreNamed, IsWrittenIn, AreBrought, IsOpeningSet, bundle_text, upgrade_of, IsWrittenBundle, IsBundle, WritesBundleBy, IsLastStamped, AreAlmostStamped, AlmostWritesBundle}
 use Rattle.txn_journal.specs.BundleCauses.{own_word, FitsOwn, own_wording}
 use Rattle.txn_journal.specs.declared.bundle.Channel.{Channel}
 use Rattle.txn_journal.specs.declared.bundle_draft.Part.{Part}
@@ -43,8 +43,7 @@ use Rattle.txn_journal.proofs.SoundLines.{placed, Sound_at, IsSound, Taken, judg
 use Rattle.txn_journal.proofs.GtidLaws.{none_written}
 use Rattle.gtid_text.specs.Written.{IsSource}
 use Rattle.txn_journal.specs.declared.lines.Place.{Place}
-use Rattle.journal_words.specs.Words.{first_word}
-use Rattle.txn_journal.specs.Lines.{keyword_of}
+use Rattle.row_images.specs.Words.{first_word}
 use Rattle.txn_journal.proofs.JournalLaws.{at, AreRight, goes_front, closes_journal, last_entries, last_stamps, some_version, completes_at}
 use Rattle.txn_journal.proofs.ShapeLaws.{allowed, shape_fits, with_again}
 use Rattle.txn_journal.proofs.WordLaws.{judged_again}
@@ -79,7 +78,7 @@ abbrev before_tables : Option Version → Version → ℕ → Gtids → BundleSt
 before_tables due version replica opened = record { part = parts.Tables; due = due; version = version; tables = []; bundle = bare replica opened []; channel = None; draft = empty None }
 
 named_goes : (whole : Bool) (due : Option Version) (version : Version) (replica : ℕ) → takes due version ≡ true → IsSource replica → (t : BundleStanding)
-    → t ≡ record { part = behind_replica version; due = due; version = version; tables = []; bundle = bare replica set.empty []; channel = None; draft = empty None }
+    → t ≡ record { part = after_replica version; due = due; version = version; tables = []; bundle = bare replica set.empty []; channel = None; draft = empty None }
     → Leads (judge_by whole) bundle_line_text (no_bundle due) (Own (Heads version) ∷ Own (Names replica) ∷ []) t
 unfolding own_put
 named_goes whole due version replica is small t e =
@@ -154,11 +153,11 @@ module _ (whole : Bool) (due : Option Version) (version : Version) (is_due_versi
 
   inner_on : (s : BundleStanding) (d e : Standing) (line : List ℕ) → s.part ≡ parts.Journal → s.version ≡ version → judge (Some s.bundle.start.schema) d line ≡ Ok e → is_last e.place ≡ false → EndsRight s.bundle.start.schema d e → judge_by whole (inside s d) line ≡ Ok (inside s e)
   unfolding after_inner
-  inner_on s d e line part same h more right = inner_fits s d e line part same h right ∙ ap (λ (v : Bool). done (cond v (closed_channel (inside s d) e) (inside s e))) more
+  inner_on s d e line part same h more right = inner_fits s d e line part same h right ∙ ap (λ (v : Bool). done (cond v (close_channel (inside s d) e) (inside s e))) more
 
-  inner_ends : (s : BundleStanding) (d e : Standing) (line : List ℕ) → s.part ≡ parts.Journal → s.version ≡ version → judge (Some s.bundle.start.schema) d line ≡ Ok e → is_last e.place ≡ true → EndsRight s.bundle.start.schema d e → judge_by whole (inside s d) line ≡ Ok (closed_channel s e)
+  inner_ends : (s : BundleStanding) (d e : Standing) (line : List ℕ) → s.part ≡ parts.Journal → s.version ≡ version → judge (Some s.bundle.start.schema) d line ≡ Ok e → is_last e.place ≡ true → EndsRight s.bundle.start.schema d e → judge_by whole (inside s d) line ≡ Ok (close_channel s e)
   unfolding after_inner
-  inner_ends s d e line part same h last right = inner_fits s d e line part same h right ∙ ap (λ (v : Bool). done (cond v (closed_channel (inside s d) e) (inside s e))) last
+  inner_ends s d e line part same h last right = inner_fits s d e line part same h right ∙ ap (λ (v : Bool). done (cond v (close_channel (inside s d) e) (inside s e))) last
 
   inner_whole : (ls : List Line) → AllByRecursion (λ l. IsOneLine (line_text l)) ls → AllByRecursion (λ l. IsOneLine (bundle_line_text l)) (map Inner ls)
   inner_whole [] h = tt
@@ -168,7 +167,7 @@ module _ (whole : Bool) (due : Option Version) (version : Version) (is_due_versi
   abbrev FitStamps : List Table → List ℕ → JournalValue → Type 0
   FitStamps tables stamps j = AreStamps version 1 stamps j.entries × AreRight (IsRight whole version tables) [] stamps j.entries
 
-  -- the state behind whole channels
+  -- the state after whole channels
   abbrev after_channels : BundleValue → BundleStanding
   after_channels b = state parts.Channels [] b None (empty (Some version))
 
@@ -205,15 +204,15 @@ module _ (whole : Bool) (due : Option Version) (version : Version) (is_due_versi
     puts : (r : TableRow) (rows : Rows) → is_image_writable r.row ≡ true → with_opening b.start r ≡ Ok rows → own_put s (Puts r) ≡ Ok (state parts.Rows [] (with_rows b rows) None s.draft)
 
   after_tables : (replica : ℕ) (opened : Gtids) (ts : List Table) (draft : Standing) → Early (state parts.Tables ts (bare replica opened []) None draft) (bare replica opened ts)
-  unfolding own_put joined_channel put_row
+  unfolding own_put join_channel put_row
   after_tables replica opened ts draft = record { late = record { own = λ x line. refl; same_due = refl; channel = refl; done = refl; opens = λ c room new. refl; ends = refl }; row = refl; puts = λ r rows writable e. rw (writable, e) refl }
 
   after_rows : (b : BundleValue) (draft : Standing) → Early (state parts.Rows [] b None draft) b
-  unfolding own_put joined_channel put_row
+  unfolding own_put join_channel put_row
   after_rows b draft = record { late = record { own = λ x line. refl; same_due = refl; channel = refl; done = refl; opens = λ c room new. rw (lt-leb 256 (length b.channels) room, new) refl; ends = refl }; row = refl; puts = λ r rows writable e. rw (writable, e) refl }
 
   after_channel : (b : BundleValue) → Late (after_channels b) b
-  unfolding own_put joined_channel
+  unfolding own_put join_channel
   after_channel b = record { own = λ x line. refl; same_due = refl; channel = refl; done = refl; opens = λ c room new. rw (lt-leb 256 (length b.channels) room, new) refl; ends = refl }
 
   -- lines after which b has come so far
@@ -293,7 +292,7 @@ module _ (whole : Bool) (due : Option Version) (version : Version) (is_due_versi
 
 -- ---- numbers
 
--- numbers that are right may stand at their places
+-- numbers that are right may be at their places
 right_is_stamp : (version : Version) (tables : List Table) (earlier : List Entry) (e : Entry) (place : ℕ) → place ≡ length earlier + 1 → IsStamp version place (right_stamp version tables earlier e)
 right_is_stamp One tables earlier e place at = refl
 right_is_stamp Two tables earlier e place at = let few = last_committed_earlier tables earlier e in omega (arith, few, at)
@@ -322,7 +321,7 @@ right_are_right : (whole : Bool) (version : Version) (tables : List Table) (es :
 right_are_right whole One tables es = none_are_right whole tables [] es
 right_are_right whole Two tables es = each_are_right whole tables [] es
 
--- where entries are not looked at as a whole, any number is right that may stand at its place
+-- where entries are not looked at as a whole, any number is right that may be at its place
 any_are_right : (version : Version) (tables : List Table) (place : ℕ) (earlier : List Entry) (stamps : List ℕ) (es : List Entry) → AreStamps version place stamps es → AreRight (IsRight false version tables) earlier stamps es
 any_are_right version tables place earlier [] [] h = tt
 any_are_right version tables place earlier (l ∷ ls) (e ∷ es) h = (λ w. absurd cc, any_are_right version tables (place + 1) (earlier ++ e ∷ []) ls es h.1)
@@ -515,7 +514,7 @@ abbrev pub IsSoundBundle : Option Version → BundleStanding → List BundleLine
 IsSoundBundle due s ls = (s.due ≡ due) × ((rows : List TableRow) × (bundle_said rows s ≡ ls) × IsBundleSound rows s)
 
 -- a bundle that has come to its end
-ends_at : (part : Part) (rows : List TableRow) (s : BundleStanding) → SoundAt part s.due s.version s.tables rows s.bundle s.channel s.draft → is_done part ≡ true → IsDueBundle s.due s.version rows s.bundle × (bundle_said_at part rows s ≡ front s.version rows s.bundle ++ Own Done ∷ [])
+pub ends_at : (part : Part) (rows : List TableRow) (s : BundleStanding) → SoundAt part s.due s.version s.tables rows s.bundle s.channel s.draft → is_done part ≡ true → IsDueBundle s.due s.version rows s.bundle × (bundle_said_at part rows s ≡ front s.version rows s.bundle ++ Own Done ∷ [])
 ends_at parts.Ended rows s h last = (h, refl)
 ends_at part rows s h last = absurd cc
 
@@ -546,26 +545,24 @@ closing_same due (Stopped f) = refl
 
 -- ---- a bundle of version 1 as one of version 2
 
+opening_two : (version : Version) (opened : Gtids) → IsOpeningSet version opened → IsWrittenSet opened
+opening_two One opened is = subst IsWrittenSet (sym is) none_written
+opening_two Two opened is = is
+
+-- a bundle of either version may be written by version 2, with its rows in listed order
+pub relisted : (version : Version) (rows : List TableRow) (b : BundleValue) → IsWrittenBundle version rows b → IsBundle b
+relisted version rows b k = record {
+  replica = k.replica;
+  opened = opening_two version b.opened k.opened;
+  tables = k.tables;
+  opening = listed_opening b.start.schema rows b.start.rows k.opening;
+  named = k.named;
+  few = k.few;
+  brought = k.brought;
+}
+
 pub upgraded : (bytes : List ℕ) (b : BundleValue) → WritesBundleBy (Some One) bytes b → WritesBundleBy (Some Two) (upgrade_of b) b
-upgraded bytes b (One, is, w) =
-    let k = w.written in (
-      Two,
-      refl,
-      record {
-        rows = rows_listed b.start.rows;
-        written = record {
-          replica = k.replica;
-          opened = subst IsWrittenSet (sym k.opened) none_written;
-          tables = k.tables;
-          opening = listed_opening b.start.schema w.rows b.start.rows k.opening;
-          named = k.named;
-          few = k.few;
-          brought = k.brought;
-        };
-        text = refl;
-      },
-    )
-upgraded bytes b (Two, is, w) = absurd (let k = is in cc)
+upgraded bytes b w = (Two, refl, record { rows = rows_listed b.start.rows; written = relisted w.0 w.2.rows b w.2.written; text = refl })
 
 pub upgraded_read : (bytes : List ℕ) (b : BundleValue) → WritesBundleBy (Some One) bytes b → IsReadAs (upgrade_of b) b
 upgraded_read bytes b w =

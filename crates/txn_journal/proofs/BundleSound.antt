@@ -3,7 +3,7 @@ use Rattle.std.proofs.Common.{◌≡◌, ℕ, ◌<◌, inl, inr, true, false, no
 use Rattle.std.specs.List.{list_all}
 use Rattle.std.specs.FinMap as map_of
 use Rattle.std.specs.FinSet as set
-use Rattle.std.specs.Prelude.{◌&&◌}
+use Rattle.std.specs.Prelude.{◌&&◌, MatchResult}
 use Rattle.std.proofs.lemmas.Bool.{leb-true, leb-false, le-leb, eqb-true, eq-eqb, and_parts, not-true, not-false}
 use Rattle.std.proofs.lemmas.List.{append-nil, length-append, length-map, map_push}
 use Rattle.gtid_text.specs.Written.{IsSource}
@@ -26,7 +26,7 @@ use Rattle.txn_journal.specs.Machine.{Standing, empty, is_last, is_within, open_
 use Rattle.txn_journal.specs.Heard.{said}
 use Rattle.txn_journal.specs.Spelling.{Line, Header, Previous, Begin, Makes, End, Close, line_text, journal_lines, IsWritten}
 use Rattle.txn_journal.specs.Shapes.{Shape, with_table, shape_for}
-use Rattle.txn_journal.specs.BundleStates.{BundleValue, BundleStanding, bare, is_due_in, behind_tables, with_opening, put_row, has_channel, joined_channel, with_journal, closed_channel, after_inner, is_misstamped, judge_own, judge_inner, judge_part, judge_bundle}
+use Rattle.txn_journal.specs.BundleStates.{BundleValue, BundleStanding, bare, is_due_in, after_tables, with_opening, put_row, has_channel, join_channel, with_journal, close_channel, after_inner, is_misstamped, judge_own, judge_inner, judge_part, judge_bundle}
 use Rattle.txn_journal.specs.BundleText.{entry_fits, OwnLine, BundleLine, Own, Inner, Heads, Names, Starts, Has, Puts, Opens, Done, bundle_line_text, table_lines, row_lines, channel_lines, channels_lines, opening_set_lines, tables_lines, start_lines, bundle_front, IsOpeningSet, FitsRow, AreAdded, put_all, AreNamed, IsWrittenIn, AreBrought, IsWrittenBundle}
 use Rattle.txn_journal.specs.BundleHeard.{inner_said, bundle_said}
 use Rattle.txn_journal.specs.BundleCauses.{own_word, own_wording, EndsMisstamped, bundle_cause_at, HasBundleCause}
@@ -44,7 +44,6 @@ use Rattle.txn_journal.proofs.ShapeLaws.{TableErr, with_both}
 use Rattle.txn_journal.proofs.OneBundle.{put_both}
 use Rattle.txn_journal.proofs.OwnReads.{own_body, own_put, own_reads, own_laws}
 use Rattle.rows.proofs.Lists.{all_append}
-use Rattle.std.specs.Prelude.{MatchResult}
 use Rattle.std.proofs.lemmas.Result.{MatchResult-weaker}
 use Rattle.txn_journal.specs.Wordings.{Says, HasCauseBy}
 use Rattle.txn_journal.specs.Causes.{word_for}
@@ -147,7 +146,7 @@ pub record KeepsBundle (due : Option Version) (old : List BundleLine) (l : Bundl
 abbrev state : Part → Option Version → Version → List Table → BundleValue → Option Channel → Standing → BundleStanding
 state part due version tables b channel draft = record { part = part; due = due; version = version; tables = tables; bundle = b; channel = channel; draft = draft }
 
--- the lines of the bundle's whole channels and of what stands before them
+-- the lines of the bundle's whole channels and of what comes before them
 abbrev pub front : Version → List TableRow → BundleValue → List BundleLine
 front version rows b = bundle_front version rows (all_stamps version b.start.schema b.journals) b
 
@@ -225,23 +224,23 @@ done_keeps_in due version tables rows b old channel draft f = record { rows = ro
 
 -- ---- what a line of its own makes, or why it is not taken
 
-opening_cause : (s : BundleStanding) (line : List ℕ) (r : TableRow) → Says (own_wording s) line (Puts r) → is_image_writable r.row ≡ true → (c : Cause) → (with_opening (behind_tables s).bundle.start r ≡ Err c) × IsSchema c → HasCauseBy (own_wording s) line c
+opening_cause : (s : BundleStanding) (line : List ℕ) (r : TableRow) → Says (own_wording s) line (Puts r) → is_image_writable r.row ≡ true → (c : Cause) → (with_opening (after_tables s).bundle.start r ≡ Err c) × IsSchema c → HasCauseBy (own_wording s) line c
 opening_cause s line r k writable causes.Schema e = (Puts r, k, λ long. (let m = sym long ∙ writable in cc), λ rows h. (let m = sym h ∙ e.0 in cc))
 opening_cause s line r k writable c e = absurd e.1
 
 puts_both : (s : BundleStanding) (line : List ℕ) (r : TableRow) (P : BundleStanding → Type 0) → Says (own_wording s) line (Puts r)
-    → (is_image_writable r.row ≡ true → (rows : Rows) → with_opening (behind_tables s).bundle.start r ≡ Ok rows → P (with_put (behind_tables s) rows)) → MatchResult (own_put s (Puts r)) P (HasCauseBy (own_wording s) line)
+    → (is_image_writable r.row ≡ true → (rows : Rows) → with_opening (after_tables s).bundle.start r ≡ Ok rows → P (with_put (after_tables s) rows)) → MatchResult (own_put s (Puts r)) P (HasCauseBy (own_wording s) line)
 unfolding own_put put_row
 puts_both s line r P k more =
-    let put = with_opening (behind_tables s).bundle.start r in
+    let put = with_opening (after_tables s).bundle.start r in
     if_both P (HasCauseBy (own_wording s) line) (is_image_writable r.row) _ _
     (λ writable. then_both P (HasCauseBy (own_wording s) line) put _
-    (MatchResult-weaker put (known_both put _ _ (put_both (behind_tables s).bundle.start r)) (λ rows e. e.0) (opening_cause s line r k writable)) (more writable))
+    (MatchResult-weaker put (known_both put _ _ (put_both (after_tables s).bundle.start r)) (λ rows e. e.0) (opening_cause s line r k writable)) (more writable))
     (λ long. (Puts r, k, long))
 
 opens_both : (s : BundleStanding) (line : List ℕ) (c : Channel) (P : BundleStanding → Type 0) → Says (own_wording s) line (Opens c)
-    → (length s.bundle.channels < 256 → has_channel s.bundle.channels c.name ≡ false → P (record (behind_tables s) { part = parts.Journal; channel = Some c; draft = empty (Some s.version) })) → MatchResult (joined_channel s c) P (HasCauseBy (own_wording s) line)
-unfolding joined_channel
+    → (length s.bundle.channels < 256 → has_channel s.bundle.channels c.name ≡ false → P (record (after_tables s) { part = parts.Journal; channel = Some c; draft = empty (Some s.version) })) → MatchResult (join_channel s c) P (HasCauseBy (own_wording s) line)
+unfolding join_channel
 opens_both s line c P k more =
     if_both P (HasCauseBy (own_wording s) line) (leb 256 (length s.bundle.channels)) _ _ (λ full. (Opens c, k, leb-true 256 (length s.bundle.channels) full))
     (λ room. if_both P (HasCauseBy (own_wording s) line) (has_channel s.bundle.channels c.name) _ _ (λ again. (Opens c, k, λ full. (let m = sym (le-leb 256 (length s.bundle.channels) full) ∙ room in cc), again))
@@ -396,7 +395,7 @@ right_more Two tables es e = each_last_committed_more tables [] es e
 same_stamps : (version : Version) (tables : List Table) (s d : Standing) → SameEntries s d → s.stamps ≡ right_stamps version tables s.journal.entries → d.stamps ≡ right_stamps version tables d.journal.entries
 same_stamps version tables s d same e = same.stamps ∙ e ∙ ap (right_stamps version tables) (sym same.entries)
 
--- the numbers behind a line that is taken
+-- the numbers after a line that is taken
 pub stamped_still : (version : Version) (tables : List Table) (s d : Standing) (l : Line) → EntriesGo l s d → s.stamps ≡ right_stamps version tables s.journal.entries
     → (l ≡ End → s.stamp ≡ right_stamp version tables s.journal.entries (open_entry s)) → d.stamps ≡ right_stamps version tables d.journal.entries
 stamped_still version tables s d End goes e right =
@@ -448,7 +447,7 @@ keeps_inner due version tables rows b (Some c) draft line w o =
     record {
       l = Inner k.l;
       text = k.text;
-      keeps = elim (is_last d.place) as (λ v. is_last d.place ≡ v → KeepsBundle due old (Inner k.l) (cond v (closed_channel s d) (record s { draft = d }))) [
+      keeps = elim (is_last d.place) as (λ v. is_last d.place ≡ v → KeepsBundle due old (Inner k.l) (cond v (close_channel s d) (record s { draft = d }))) [
         | true ↦ λ last. closed_keeps due version tables rows b c draft d k.l w o k.keeps.says k.keeps.sound same stamped last
         | false ↦ λ more. open_still due version tables rows b c draft d k.l w o k.keeps.says k.keeps.sound same stamped more
       ] refl;

@@ -8,14 +8,15 @@ use Rattle.gtid_set.specs.Sets.{Gtids}
 use Rattle.rows.specs.declared.change.TableRow.{TableRow}
 use Rattle.rows.specs.declared.schema.Table.{Table}
 use Rattle.journal.specs.Journals.{JournalValue}
-use Rattle.txn_journal.specs.Splits.{joined_by, columns_text}
+use Rattle.row_images.specs.Parts.{joined_by}
+use Rattle.txn_journal.specs.Splits.{columns_text}
 use Rattle.txn_journal.specs.Shapes.{unique_words, shape_for}
 use Rattle.txn_journal.specs.Stamps.{right_stamps, all_stamps}
 use Rattle.txn_journal.specs.Spelling.{Line, ended_line, lines_text, journal_lines, spelling_as}
 use Rattle.txn_journal.specs.BundleStates.{BundleValue}
 use Rattle.txn_journal.specs.WrittenSets.{set_text}
 use Rattle.txn_journal.specs.BundleText.{Heads, Names, Starts, Has, Puts, Opens, Done, BundleLine, Own, Inner, preserve_text, ended_bundle_line, bundle_text, table_lines, row_lines, channel_lines, channels_lines, start_lines, bundle_spelling}
-use Rattle.txn_journal.specs.Texts.{columns_behind, uniques_text, tables_text, rows_text, brought_text, all_brought_text, head_text, start_text}
+use Rattle.txn_journal.specs.Texts.{columns_behind, uniques_text, tables_text, rows_text, channel_and_journal_text, channels_and_journals_text, head_text, start_text}
 use Rattle.txn_journal.specs.declared.bundle.Channel.{Channel}
 use Rattle.txn_journal.specs.declared.lines.Version.TheVariants.{Two}
 
@@ -27,7 +28,7 @@ replica_appended out replica = simp append_assoc
 pub opened_appended : (out : List ℕ) (s : Gtids) → ((out ++ codes "opening ") ++ set_text s) ++ codes "\n" ≡ out ++ ended_bundle_line (Own (Starts s))
 opened_appended out s = simp append_assoc
 
--- two texts behind one another, and a text behind both
+-- two texts after one another, and a text after both
 both_behind : (out a b c : List ℕ) → ((out ++ a) ++ b) ++ c ≡ out ++ (a ++ (b ++ c))
 both_behind out a b c = simp append_assoc
 
@@ -39,7 +40,7 @@ head_appended out replica s =
 
 -- ---- tables
 
--- the first of some columns, and the others behind it
+-- the first of some columns, and the others after it
 first_column : (c : ℕ) (cs : List ℕ) → columns_text (c ∷ cs) ≡ decimal c ++ columns_behind cs
 first_column c [] = sym (append-nil (decimal c))
 first_column c (d ∷ cs) = ap (λ (t : List ℕ). decimal c ++ 44 ∷ t) (first_column d cs)
@@ -53,7 +54,7 @@ columns_cut out c (d ∷ ds) some is =
     ∙ append_assoc out (decimal d) (columns_behind ds)
     ∙ ap (λ (t : List ℕ). out ++ t) (sym (first_column d ds))
 
--- a word, and unique keys behind it
+-- a word, and unique keys after it
 uniques_behind : (word : List ℕ) (us : List (List ℕ)) → joined_by 32 (word ∷ unique_words (map columns_text us)) ≡ word ++ uniques_text us
 uniques_behind word [] = sym (append-nil word)
 uniques_behind word (u ∷ us) = ap (λ (t : List ℕ). word ++ (codes " uk " ++ t)) (uniques_behind (columns_text u) us)
@@ -94,19 +95,19 @@ inner_text : (ls : List Line) → bundle_text (map Inner ls) ≡ lines_text ls
 inner_text [] = refl
 inner_text (l ∷ ls) = ap (λ (t : List ℕ). ended_line l ++ t) (inner_text ls)
 
-pub brought_appended : (out : List ℕ) (tables : List Table) (c : Channel) (j : JournalValue) → (out ++ ended_bundle_line (Own (Opens c))) ++ spelling_as Two (right_stamps Two tables j.entries) j ≡ out ++ brought_text tables c j
-unfolding brought_text
+pub brought_appended : (out : List ℕ) (tables : List Table) (c : Channel) (j : JournalValue) → (out ++ ended_bundle_line (Own (Opens c))) ++ spelling_as Two (right_stamps Two tables j.entries) j ≡ out ++ channel_and_journal_text tables c j
+unfolding channel_and_journal_text
 brought_appended out tables c j =
     append_assoc out (ended_bundle_line (Own (Opens c))) (spelling_as Two (right_stamps Two tables j.entries) j)
     ∙ ap (λ (t : List ℕ). out ++ (ended_bundle_line (Own (Opens c)) ++ t)) (sym (inner_text (journal_lines Two (right_stamps Two tables j.entries) j)))
 
-none_brought : (tables : List Table) (cs : List Channel) (js : List JournalValue) → min (length cs) (length js) ≡ 0 → all_brought_text tables cs js ≡ []
+none_brought : (tables : List Table) (cs : List Channel) (js : List JournalValue) → min (length cs) (length js) ≡ 0 → channels_and_journals_text tables cs js ≡ []
 none_brought tables [] js none = refl
 none_brought tables (c ∷ cs) [] none = refl
 none_brought tables (c ∷ cs) (j ∷ js) none = absurd (omega arith)
 
 -- no channel or no journal is left
-pub all_brought : (out whole : List ℕ) (tables : List Table) (cs : List Channel) (js : List JournalValue) (n : ℕ) → n ≡ min (length cs) (length js) → out ++ all_brought_text tables (drop n cs) (drop n js) ≡ whole → out ≡ whole
+pub all_brought : (out whole : List ℕ) (tables : List Table) (cs : List Channel) (js : List JournalValue) (n : ℕ) → n ≡ min (length cs) (length js) → out ++ channels_and_journals_text tables (drop n cs) (drop n js) ≡ whole → out ≡ whole
 all_brought out whole tables cs js n is so_far =
     let none : min (length (drop n cs)) (length (drop n js)) ≡ 0 = rw (length-drop n cs, length-drop n js) omega (arith, is) in
     sym (ap (λ (t : List ℕ). out ++ t) (none_brought tables (drop n cs) (drop n js) none) ∙ append-nil out) ∙ so_far
@@ -128,8 +129,8 @@ lines_of_rows : (rows : List TableRow) → rows_text rows ≡ bundle_text (row_l
 lines_of_rows [] = refl
 lines_of_rows (r ∷ rs) = ap (λ (u : List ℕ). ended_bundle_line (Own (Puts r)) ++ u) (lines_of_rows rs)
 
-lines_of_channels : (tables : List Table) (cs : List Channel) (js : List JournalValue) → all_brought_text tables cs js ≡ bundle_text (channels_lines Two cs (all_stamps Two tables js) js)
-unfolding brought_text
+lines_of_channels : (tables : List Table) (cs : List Channel) (js : List JournalValue) → channels_and_journals_text tables cs js ≡ bundle_text (channels_lines Two cs (all_stamps Two tables js) js)
+unfolding channel_and_journal_text
 lines_of_channels tables [] js = refl
 lines_of_channels tables (c ∷ cs) [] = refl
 lines_of_channels tables (c ∷ cs) (j ∷ js) =
@@ -146,16 +147,16 @@ lines_of_start rows b =
     ∙ ap (λ (u : List ℕ). u ++ bundle_text (row_lines rows)) (sym (both_lines head (table_lines b.start.schema)))
     ∙ sym (both_lines (head ++ table_lines b.start.schema) (row_lines rows))
 
-lines_of_bundle : (rows : List TableRow) (b : BundleValue) → (start_text b.replica b.opened b.start.schema rows ++ all_brought_text b.start.schema b.channels b.journals) ++ codes "done\n" ≡ bundle_spelling Two rows b
+lines_of_bundle : (rows : List TableRow) (b : BundleValue) → (start_text b.replica b.opened b.start.schema rows ++ channels_and_journals_text b.start.schema b.channels b.journals) ++ codes "done\n" ≡ bundle_spelling Two rows b
 lines_of_bundle rows b =
     let brought : List BundleLine = channels_lines Two b.channels (all_stamps Two b.start.schema b.journals) b.journals in
-    ap (λ (u : List ℕ). (u ++ all_brought_text b.start.schema b.channels b.journals) ++ codes "done\n") (lines_of_start rows b)
+    ap (λ (u : List ℕ). (u ++ channels_and_journals_text b.start.schema b.channels b.journals) ++ codes "done\n") (lines_of_start rows b)
     ∙ ap (λ (u : List ℕ). (bundle_text (start_lines Two rows b) ++ u) ++ codes "done\n") (lines_of_channels b.start.schema b.channels b.journals)
     ∙ ap (λ (u : List ℕ). u ++ codes "done\n") (sym (both_lines (start_lines Two rows b) brought))
     ∙ sym (both_lines (start_lines Two rows b ++ brought) (Own Done ∷ []))
 
-pub bundle_appended : (out : List ℕ) (rows : List TableRow) (b : BundleValue) → ((out ++ start_text b.replica b.opened b.start.schema rows) ++ all_brought_text b.start.schema b.channels b.journals) ++ codes "done\n" ≡ out ++ bundle_spelling Two rows b
+pub bundle_appended : (out : List ℕ) (rows : List TableRow) (b : BundleValue) → ((out ++ start_text b.replica b.opened b.start.schema rows) ++ channels_and_journals_text b.start.schema b.channels b.journals) ++ codes "done\n" ≡ out ++ bundle_spelling Two rows b
 bundle_appended out rows b =
-    ap (λ (u : List ℕ). u ++ codes "done\n") (append_assoc out (start_text b.replica b.opened b.start.schema rows) (all_brought_text b.start.schema b.channels b.journals))
-    ∙ append_assoc out (start_text b.replica b.opened b.start.schema rows ++ all_brought_text b.start.schema b.channels b.journals) (codes "done\n")
+    ap (λ (u : List ℕ). u ++ codes "done\n") (append_assoc out (start_text b.replica b.opened b.start.schema rows) (channels_and_journals_text b.start.schema b.channels b.journals))
+    ∙ append_assoc out (start_text b.replica b.opened b.start.schema rows ++ channels_and_journals_text b.start.schema b.channels b.journals) (codes "done\n")
     ∙ ap (λ (u : List ℕ). out ++ u) (lines_of_bundle rows b)

@@ -3,7 +3,7 @@ use Rattle.std.proofs.Common.{◌≡◌, ℕ, List, [], ◌∷◌, ◌++◌, Res
 use Rattle.std.specs.List.{flat_map, AllByRecursion, list_all}
 use Rattle.txn_journal.specs.Words.{IsOneLine}
 use Rattle.txn_journal.specs.Lines.{◌>>=◌}
-use Rattle.txn_journal.specs.Stream.{Judge, Progress, Reading, judged, next_number, eats, Stopped, eat, ended, at_end, IsAfter, answer, IsWhole, IsWholeOr, IsRead}
+use Rattle.txn_journal.specs.Stream.{Judge, Progress, Reading, progress_after, next_number, eats, Stopped, eat, end_of_text, at_end, IsAfter, answer, IsWhole, IsWholeOr, IsRead}
 use Rattle.txn_journal.specs.declared.fault.Cause.{Cause}
 use Rattle.txn_journal.proofs.Judged.{bind_ok, ok_is}
 use Rattle.txn_journal.proofs.Pieces.{eats_append, eats_line, stopped_stays}
@@ -13,7 +13,7 @@ use Rattle.std.proofs.lemmas.List.Concat.{flat_map-append}
 use Rattle.std.proofs.lemmas.Bool.{eqb-true, and_parts}
 use Rattle.gtid_set.specs.declared.fault.SetFault.{SetFault}
 use Rattle.rows.proofs.Lists.{all_push, all_append}
-use Rattle.txn_journal.specs.Formats.{Format, ended_line_of, text_of, AreWhole, start_of, eats_by, IsFaultBy, closing_by, whole_by, MayWrite, BeginsBy, capped, RefusesBy, SpellsBy}
+use Rattle.txn_journal.specs.Formats.{Format, ended_line_of, text_of, AreWhole, start_of, eats_by, IsFaultBy, closing_by, whole_by, MayWrite, BeginsBy, cap_line_number, RefusesBy, SpellsBy}
 use Rattle.txn_journal.specs.declared.fault.JournalFault.{JournalFault}
 use Rattle.txn_journal.specs.declared.fault.JournalFault.TheVariants as faults
 
@@ -37,7 +37,7 @@ eats_runs {S} judge text s t (l ∷ ls) n whole e =
     let more = eats_runs judge text a.0 t ls (next_number n) whole.1 a.2 in (
       more.0,
       eats_append judge (Reading s n []) (text l ++ 10 ∷ []) rest
-          ∙ ap (λ (p : Progress S). eats judge p rest) (eats_line judge s n [] (text l) whole.0 ∙ ap (λ (r : Result S Cause). judged r (next_number n)) a.1)
+          ∙ ap (λ (p : Progress S). eats judge p rest) (eats_line judge s n [] (text l) whole.0 ∙ ap (λ (r : Result S Cause). progress_after r (next_number n)) a.1)
           ∙ more.1,
     )
 
@@ -133,7 +133,7 @@ module _ (f : Format) (Sound : f.State → List f.Line → Type 0) (laws : Laws 
   reads_back bytes v w =
       let r = laws.reads bytes v w in
       let eaten = eats_runs f.judge f.line_text f.start r.last r.lines 0 r.leads.whole r.leads.run in
-      ap (whole_by f) r.parts ∙ ap (closing_by f) eaten.1 ∙ (λ i. at_end (ended (r.done i) [] eaten.0) (r.value i))
+      ap (whole_by f) r.parts ∙ ap (closing_by f) eaten.1 ∙ (λ i. at_end (end_of_text (r.done i) [] eaten.0) (r.value i))
 
   pub one_value : (bytes : List ℕ) (v w : f.Value) → f.Writes bytes v → f.Writes bytes w → v ≡ w
   one_value bytes v w a b = let k = sym (reads_back bytes v a) ∙ reads_back bytes w b in cc
@@ -158,13 +158,13 @@ module _ (f : Format) (Sound : f.State → List f.Line → Type 0) (laws : Laws 
     parts : bytes ≡ text_of f lines ++ (rest ++ left)
     whole : AreWhole f lines
     part : IsOneLine rest
-    number : n ≡ capped (length lines)
+    number : n ≡ cap_line_number (length lines)
     sound : Sound s lines
     eaten : (more : List ℕ) → eats_by f (start_of f) (text_of f lines ++ (rest ++ more)) ≡ eats_by f (Reading s n rest) more
     loosely : (more : List ℕ) → eats laws.loose (start_of f) (text_of f lines ++ (rest ++ more)) ≡ eats laws.loose (Reading s n rest) more
 
   -- the text ends here
-  ends_here : (bytes : List ℕ) (s : f.State) (n : ℕ) (rest : List ℕ) (v : Bool) → f.is_last s ≡ v → Stands bytes s n rest [] → whole_by f bytes ≡ at_end (ended v rest n) (f.value s) → SpellsBy f bytes (at_end (ended v rest n) (f.value s))
+  ends_here : (bytes : List ℕ) (s : f.State) (n : ℕ) (rest : List ℕ) (v : Bool) → f.is_last s ≡ v → Stands bytes s n rest [] → whole_by f bytes ≡ at_end (end_of_text v rest n) (f.value s) → SpellsBy f bytes (at_end (end_of_text v rest n) (f.value s))
   ends_here bytes s n rest false last h e = (
     record { before = h.lines; rest = rest; parts = h.parts ∙ ap (λ (x : List ℕ). text_of f h.lines ++ x) (append-nil rest); lines = h.whole; part = h.part; state = s; heard = laws.heard s h.lines h.sound; number = omega (arith, h.number); begins = begins s h.lines h.sound },
     λ v w. absurd (let k = sym e ∙ reads_back bytes v w in cc),
@@ -172,7 +172,7 @@ module _ (f : Format) (Sound : f.State → List f.Line → Type 0) (laws : Laws 
   ends_here bytes s n [] true last h e = subst (λ (x : List ℕ). f.Writes x (f.value s)) (sym (h.parts ∙ append-nil (text_of f h.lines))) (laws.ends s h.lines h.sound last)
   ends_here bytes s n (c ∷ cs) true last h e = inr (record { value = f.value s; before = h.lines; rest = c ∷ cs; parts = h.parts ∙ ap (λ (x : List ℕ). text_of f h.lines ++ x) (append-nil (c ∷ cs)); lines = h.whole; written = laws.ends s h.lines h.sound last; part = h.part; some = omega arith; number = omega (arith, h.number) }, refl)
 
-  -- the line that is read, with its line feed, in front of more
+  -- the line that is read, with its line feed, before more
   line_more : (ls : List f.Line) (l : f.Line) (rest more : List ℕ) → rest ≡ f.line_text l → text_of f ls ++ (rest ++ 10 ∷ more) ≡ text_of f (ls ++ l ∷ []) ++ more
   line_more ls l rest more e =
       ap (λ (x : List ℕ). text_of f ls ++ (x ++ 10 ∷ more)) e
@@ -186,13 +186,13 @@ module _ (f : Format) (Sound : f.State → List f.Line → Type 0) (laws : Laws 
   no_value bytes bs s n rest h c j false e v more w =
       let fault = faults.Line (next_number n) c in
       let front = text_of f h.lines ++ (rest ++ 10 ∷ []) in
-      let stopped : eats_by f (Reading s n rest) (10 ∷ []) ≡ Stopped fault = ap (λ (x : Result f.State Cause). eats_by f (judged x (next_number n)) []) j in
+      let stopped : eats_by f (Reading s n rest) (10 ∷ []) ≡ Stopped fault = ap (λ (x : Result f.State Cause). eats_by f (progress_after x (next_number n)) []) j in
       let at : eats_by f (start_of f) (front ++ more) ≡ Stopped fault = eats_append f.judge (start_of f) front more ∙ ap (λ (p : Progress f.State). eats_by f p more) (h.eaten (10 ∷ []) ∙ stopped) ∙ stopped_stays f.judge fault more in
       let k = sym (reads_back (front ++ more) v w) ∙ ap (closing_by f) at in cc
   no_value bytes bs s n rest h c j true e v more w =
       let fault = faults.Line (next_number n) c in
       let front = text_of f h.lines ++ (rest ++ 10 ∷ []) in
-      let stopped : eats laws.loose (Reading s n rest) (10 ∷ []) ≡ Stopped fault = ap (λ (x : Result f.State Cause). eats laws.loose (judged x (next_number n)) []) (laws.refuses s h.lines rest c h.sound j e) in
+      let stopped : eats laws.loose (Reading s n rest) (10 ∷ []) ≡ Stopped fault = ap (λ (x : Result f.State Cause). eats laws.loose (progress_after x (next_number n)) []) (laws.refuses s h.lines rest c h.sound j e) in
       let at : eats laws.loose (start_of f) (front ++ more) ≡ Stopped fault = eats_append laws.loose (start_of f) front more ∙ ap (λ (p : Progress f.State). eats laws.loose p more) (h.loosely (10 ∷ []) ∙ stopped) ∙ stopped_stays laws.loose fault more in
       let read = reads_loosely (front ++ more) v w in
       let k = sym read.2 ∙ at in cc
@@ -200,7 +200,7 @@ module _ (f : Format) (Sound : f.State → List f.Line → Type 0) (laws : Laws 
   -- a line that is taken, or the first that is not
   next_line : (bytes bs : List ℕ) (s : f.State) (n : ℕ) (rest : List ℕ) (h : Stands bytes s n rest (10 ∷ bs)) (r : Result f.State Cause) → f.judge s rest ≡ r → MatchResult r (OneMore f Sound h.lines rest) (f.HasCause s rest)
       → ((t : f.State) (m : ℕ) (new : List ℕ) → Stands bytes t m new bs → SpellsBy f bytes (closing_by f (eats_by f (Reading t m new) bs)))
-      → SpellsBy f bytes (closing_by f (eats_by f (judged r (next_number n)) bs))
+      → SpellsBy f bytes (closing_by f (eats_by f (progress_after r (next_number n)) bs))
   unfolding closing_by eat
   next_line bytes bs s n rest h (Ok t) j k more =
       more t (next_number n) [] (record {
@@ -210,8 +210,8 @@ module _ (f : Format) (Sound : f.State → List f.Line → Type 0) (laws : Laws 
         part = refl;
         number = omega (arith, h.number, length-append h.lines (k.l ∷ []));
         sound = k.sound;
-        eaten = λ m. ap (eats_by f (start_of f)) (sym (line_more h.lines k.l rest m k.text)) ∙ h.eaten (10 ∷ m) ∙ ap (λ (x : Result f.State Cause). eats_by f (judged x (next_number n)) m) j;
-        loosely = λ m. ap (eats laws.loose (start_of f)) (sym (line_more h.lines k.l rest m k.text)) ∙ h.loosely (10 ∷ m) ∙ ap (λ (x : Result f.State Cause). eats laws.loose (judged x (next_number n)) m) (laws.follows s t rest j);
+        eaten = λ m. ap (eats_by f (start_of f)) (sym (line_more h.lines k.l rest m k.text)) ∙ h.eaten (10 ∷ m) ∙ ap (λ (x : Result f.State Cause). eats_by f (progress_after x (next_number n)) m) j;
+        loosely = λ m. ap (eats laws.loose (start_of f)) (sym (line_more h.lines k.l rest m k.text)) ∙ h.loosely (10 ∷ m) ∙ ap (λ (x : Result f.State Cause). eats laws.loose (progress_after x (next_number n)) m) (laws.follows s t rest j);
       })
   next_line bytes bs s n rest h (Err c) j cause more =
       let fault = faults.Line (next_number n) c in
@@ -232,7 +232,7 @@ module _ (f : Format) (Sound : f.State → List f.Line → Type 0) (laws : Laws 
 
   next_byte : (bytes bs : List ℕ) (s : f.State) (n : ℕ) (rest : List ℕ) (b : ℕ) (v : Bool) → eqb b 10 ≡ v → Stands bytes s n rest (b ∷ bs)
       → ((t : f.State) (m : ℕ) (new : List ℕ) → Stands bytes t m new bs → SpellsBy f bytes (closing_by f (eats_by f (Reading t m new) bs)))
-      → SpellsBy f bytes (closing_by f (eats_by f (cond v (judged (f.judge s rest) (next_number n)) (Reading s n (rest ++ b ∷ []))) bs))
+      → SpellsBy f bytes (closing_by f (eats_by f (cond v (progress_after (f.judge s rest) (next_number n)) (Reading s n (rest ++ b ∷ []))) bs))
   unfolding eat
   next_byte bytes bs s n rest b true e h more =
       let k : Stands bytes s n rest (10 ∷ bs) = subst (λ (x : ℕ). Stands bytes s n rest (x ∷ bs)) (eqb-true b 10 e) h in
@@ -247,11 +247,11 @@ module _ (f : Format) (Sound : f.State → List f.Line → Type 0) (laws : Laws 
     eaten = λ m.
         ap (λ (x : List ℕ). eats_by f (start_of f) (text_of f h.lines ++ x)) (append_assoc rest (b ∷ []) m)
         ∙ h.eaten (b ∷ m)
-        ∙ ap (λ (x : Bool). eats_by f (cond x (judged (f.judge s rest) (next_number n)) (Reading s n (rest ++ b ∷ []))) m) e;
+        ∙ ap (λ (x : Bool). eats_by f (cond x (progress_after (f.judge s rest) (next_number n)) (Reading s n (rest ++ b ∷ []))) m) e;
     loosely = λ m.
         ap (λ (x : List ℕ). eats laws.loose (start_of f) (text_of f h.lines ++ x)) (append_assoc rest (b ∷ []) m)
         ∙ h.loosely (b ∷ m)
-        ∙ ap (λ (x : Bool). eats laws.loose (cond x (judged (laws.loose s rest) (next_number n)) (Reading s n (rest ++ b ∷ []))) m) e;
+        ∙ ap (λ (x : Bool). eats laws.loose (cond x (progress_after (laws.loose s rest) (next_number n)) (Reading s n (rest ++ b ∷ []))) m) e;
   })
 
   goes_on : (bytes left : List ℕ) (s : f.State) (n : ℕ) (rest : List ℕ) → Stands bytes s n rest left → SpellsBy f bytes (closing_by f (eats_by f (Reading s n rest) left))

@@ -9,7 +9,7 @@ use Rattle.gtid_set.proofs.FaultLemmas.{fault_map, full_fault}
 use Rattle.journal_words.specs.Gtids.{set_of_word, IsWordFault}
 use Rattle.txn_journal.specs.Lines.{◌>>=◌, some_or_body}
 use Rattle.txn_journal.specs.Stream.{GivesFull}
-use Rattle.txn_journal.specs.Machine.{Standing, IsFull, followed, joined}
+use Rattle.txn_journal.specs.Machine.{Standing, IsFull, previous_line, join_entry}
 use Rattle.journal.specs.declared.Entry.{Entry}
 use Rattle.txn_journal.specs.declared.fault.Cause.{Cause}
 use Rattle.txn_journal.specs.declared.lines.Place.TheVariants as places
@@ -22,11 +22,11 @@ found_full s f None h = fault_map f (λ full. absurd full) (λ full. absurd full
 found_full s f (Some previous) h = fault_map f (λ full. (refl, full)) (λ full. (refl, full)) h
 
 abbrev after_entry : Standing → Entry → Result Standing Cause
-after_entry s e = Ok (joined s e)
+after_entry s e = Ok (join_entry s e)
 
 -- the previous set
-pub previous_full : (s : Standing) (word : List ℕ) (f : SetFault) → IsWordFault f (set_of_word word) → IsMemoryOr (GivesFull (IsFull SourcesFull) (followed s (Some word))) (GivesFull (IsFull PoolFull) (followed s (Some word))) f
-unfolding followed
+pub previous_full : (s : Standing) (word : List ℕ) (f : SetFault) → IsWordFault f (set_of_word word) → IsMemoryOr (GivesFull (IsFull SourcesFull) (previous_line s (Some word))) (GivesFull (IsFull PoolFull) (previous_line s (Some word))) f
+unfolding previous_line
 previous_full s word f h = found_full s f (set_of_word word) h
 
 -- what was seen with one GTID more

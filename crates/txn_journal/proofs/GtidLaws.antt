@@ -9,7 +9,7 @@ use Rattle.std.proofs.lemmas.Bool.Decides.{nat_tests}
 use Rattle.std.proofs.lemmas.Fmt.{digits_decimal}
 use Rattle.uuid.specs.Text.{by_index, is_hex_digit, value_of, byte_of_digits, digits_of, parsed_hyphenated, parsed_simple, has_hyphens}
 use Rattle.gtid_text.specs.declared.Gtid.{Gtid}
-use Rattle.gtid_text.specs.declared.scan.Refusal.{Refusal}
+use Rattle.gtid_text.specs.declared.scan.ScanFault.{ScanFault}
 use Rattle.gtid_text.specs.Scan.{is_uuid_byte, source_of}
 use Rattle.gtid_text.specs.Reading.{gtid_in, spans_in, turn_at, element_at}
 use Rattle.gtid_text.specs.Grammar.{SpellsGtid, Number, Interval, Element, IsNumber, IsUpper, IsInterval, AreIntervals, IsElement, AreElements, Spells}
@@ -21,7 +21,7 @@ use Rattle.gtid_text.proofs.Single.{gtid_reads_back, gtid_spelled}
 use Rattle.gtid_set.proofs.SpanLemmas.{all_weaker, before_trans}
 use Rattle.journal_words.specs.Gtids.{is_ascii_byte, same_or_none, if_ascii, gtid_of_word, are_tidy_behind, some_tidy, tidy_or_none, spans_of_word, set_with, set_of_word}
 use Rattle.journal_words.proofs.SpanLaws.{with_none}
-use Rattle.journal_words.proofs.ValueLaws.{where_same-again, where_same-found}
+use Rattle.row_images.proofs.ValueLaws.{where_same-again, where_same-found}
 use Rattle.std.proofs.lemmas.Option.{same_Some}
 use Rattle.gtid_text.proofs.Tokens.{own}
 use Rattle.gtid_text.proofs.Turns.{chosen}
@@ -36,9 +36,9 @@ use Rattle.gtid_set.specs.Sets.{Gtids}
 use Rattle.gtid_set.specs.Spans.{set_of, is_before, is_merged}
 use Rattle.gtid_set.specs.Runs.{runs}
 use Rattle.gtid_set.proofs.RunLemmas.{runs_merged}
-use Rattle.journal_words.specs.Values.{where_same}
+use Rattle.row_images.specs.Values.{where_same}
 use Rattle.txn_journal.specs.WrittenSets.{spans_word, set_text, IsWrittenSet}
-use Rattle.journal_words.proofs.Counts.{lacks}
+use Rattle.row_images.proofs.Counts.{lacks}
 use Rattle.rows.proofs.Lists.{map_some}
 
 -- ---- a source is a number of 128 bits
@@ -125,7 +125,7 @@ gtid_set_bytes g u = joins is_set_byte (source_text g.source) (58 ∷ decimal g.
 
 -- ---- GTIDs
 
-pub same_found : {A : Type 0} (text : A → List ℕ) (w : List ℕ) (r : Result A Refusal) (x : A) → same_or_none text w r ≡ Some x → (w ≡ text x) × (r ≡ Ok x)
+pub same_found : {A : Type 0} (text : A → List ℕ) (w : List ℕ) (r : Result A ScanFault) (x : A) → same_or_none text w r ≡ Some x → (w ≡ text x) × (r ≡ Ok x)
 same_found text w (Ok y) x e = let f = where_same-found text w y x e in (f.0, ap Ok f.1)
 same_found text w (Err r) x e = absurd cc
 
@@ -145,7 +145,7 @@ gtid_again g u =
     let ascii : list_all is_ascii_byte (gtid_text g) ≡ true = all_weaker is_set_byte is_ascii_byte (gtid_text g) set_ascii (gtid_set_bytes g u) in
     rw (ascii, read) (where_same-again gtid_text g)
 
--- ---- what a text spells is usable
+-- ---- what a text parses as is usable
 
 usable_append : (xs ys : List Span) → AreUsable xs → AreUsable ys → AreUsable (xs ++ ys)
 usable_append [] ys a b = b
@@ -240,7 +240,7 @@ tidy_found w (u ∷ us) ss read e =
       | inr p ↦ absurd cc
     ]
 
-read_tidy : (w : List ℕ) (r : Result (List Span) Refusal) (ss : List Span) → spans_in w ≡ r → tidy_or_none w r ≡ Some ss → SpansFound w ss
+read_tidy : (w : List ℕ) (r : Result (List Span) ScanFault) (ss : List Span) → spans_in w ≡ r → tidy_or_none w r ≡ Some ss → SpansFound w ss
 read_tidy w (Ok us) ss read e = tidy_found w us ss read e
 read_tidy w (Err x) ss read e = absurd cc
 

@@ -4,39 +4,27 @@ use Rattle.std.specs.Prelude.{codes, MatchResult}
 use Rattle.std.proofs.lemmas.Bool.{false_from_ne_true}
 use Rattle.std.proofs.lemmas.List.{append-nil, length-append}
 use Rattle.std.proofs.lemmas.Slice.Eq.{bytes_eq-Decides}
-use Rattle.rows.specs.declared.value.Value.{Value}
-use Rattle.journal_words.specs.Values.{value_text, value_of, FitsValue}
-use Rattle.journal_words.proofs.Counts.{lacks}
-use Rattle.journal_words.proofs.ValueLaws.{value_of-text, value_of-found, value_lacks, blank_is_none, no_bar}
-use Rattle.txn_journal.specs.Lines.{words_of, Image, stop_at, and_value, is_bar, values_from, one_image, with_after, both_images, image_in, images_in}
-use Rattle.txn_journal.specs.Spelling.{values_text, AreValues}
+use Rattle.row_images.specs.declared.value.Value.{Value}
+use Rattle.row_images.specs.Values.{value_text, value_of, FitsValue}
+use Rattle.row_images.proofs.Counts.{lacks}
+use Rattle.row_images.proofs.ValueLaws.{value_of-text, value_of-found, value_lacks, blank_is_none, no_bar}
+use Rattle.row_images.specs.Images.{words_of, values_text, AreValues}
+use Rattle.txn_journal.specs.Lines.{Image, stop_at, and_value, is_bar, values_from, one_image, with_after, both_images, image_in, images_in}
 use Rattle.txn_journal.proofs.Judged.{IsBody, found_weaker}
-use Rattle.txn_journal.specs.Splits.{joined_by}
-use Rattle.txn_journal.proofs.SplitLaws.{AllLack, parts_joined, parts_again, parts_more}
+use Rattle.row_images.specs.Parts.{joined_by}
+use Rattle.row_images.proofs.ImageLaws.{texts, no_blank, words_texts}
+use Rattle.row_images.proofs.PartLaws.{AllLack, parts_joined, parts_again, parts_more}
 use Rattle.std.proofs.lemmas.Option.{same_Some}
 use Rattle.gtid_text.proofs.Turns.{chosen}
 
 -- ---- the words of values
 
-abbrev texts : List Value → List (List ℕ)
-texts vs = map value_text vs
-
--- values, a bar, and words behind it
+-- values, a bar, and words after it
 joined_bar : (v : Value) (vs : List Value) (x : List ℕ) (ws : List (List ℕ)) → joined_by 32 (texts (v ∷ vs) ++ (codes "|") ∷ x ∷ ws) ≡ values_text (v ∷ vs) ++ 32 ∷ (124 ∷ 32 ∷ joined_by 32 (x ∷ ws))
 joined_bar v [] x ws = refl
 joined_bar v (w ∷ vs) x ws =
     ap (λ (t : List ℕ). value_text v ++ 32 ∷ t) (joined_bar w vs x ws)
     ∙ sym (append_assoc (value_text v) (32 ∷ values_text (w ∷ vs)) (32 ∷ (124 ∷ 32 ∷ joined_by 32 (x ∷ ws))))
-
-no_blank : (v : Value) → FitsValue v → lacks 32 (value_text v) ≡ true
-no_blank v fits = value_lacks 32 v blank_is_none fits
-
-pub texts_lack : (c : ℕ) (vs : List Value) → ((v : Value) → FitsValue v → lacks c (value_text v) ≡ true) → AreValues vs → AllLack c (texts vs)
-texts_lack c [] none fits = tt
-texts_lack c (v ∷ vs) none fits = (none v fits.0, texts_lack c vs none fits.1)
-
-words_texts : (v : Value) (vs : List Value) → AreValues (v ∷ vs) → words_of (values_text (v ∷ vs)) ≡ texts (v ∷ vs)
-words_texts v vs fits = parts_again 32 (value_text v) (texts vs) (texts_lack 32 (v ∷ vs) no_blank fits)
 
 words_bar : (v : Value) (vs : List Value) (r : List ℕ) → AreValues (v ∷ vs) → words_of (values_text (v ∷ vs) ++ 32 ∷ (124 ∷ 32 ∷ r)) ≡ texts (v ∷ vs) ++ (codes "|") ∷ words_of r
 words_bar v [] r fits = parts_more 32 (value_text v) (124 ∷ 32 ∷ r) (no_blank v fits.0) ∙ ap (λ (t : List (List ℕ)). value_text v ∷ t) (parts_more 32 (codes "|") r refl)
@@ -73,7 +61,7 @@ record ValuesFound (before : List Value) (ws : List (List ℕ)) (vs : List Value
 image_is : (a b : List Value) (o p : Option (List (List ℕ))) → some_image (a, o) ≡ Some (b, p) → (a ≡ b) × (o ≡ p)
 image_is a b o p e = let k = same_Some (a, o) (b, p) e in (ap (λ (x : Image). x.0) k, ap (λ (x : Image). x.1) k)
 
-bar_word : (w : List ℕ) → is_bar w ≡ true → w ≡ codes "|"
+pub bar_word : (w : List ℕ) → is_bar w ≡ true → w ≡ codes "|"
 bar_word w e = (bytes_eq-Decides w (codes "|")).0 e
 
 stop_found : (before : List Value) (words : List (List ℕ)) (vs : List Value) (rest : Option (List (List ℕ))) → 0 < length words → stop_at before words ≡ Some (vs, rest) → (before ≡ vs) × (rest ≡ Some words) × Stands vs rest

@@ -13,12 +13,12 @@ use Rattle.logical_timestamps.specs.Writers.{Writers, writers_after}
 use Rattle.txn_journal.specs.Writers.{AreWriters}
 use Rattle.txn_journal.specs.Due.{is_due}
 use Rattle.txn_journal.specs.Lines.{◌>>=◌}
-use Rattle.txn_journal.specs.Machine.{Standing, is_last, is_within, IsFull, open_entry, joined, closed, judge}
+use Rattle.txn_journal.specs.Machine.{Standing, is_last, is_within, IsFull, open_entry, join_entry, close_entry, judge}
 use Rattle.txn_journal.specs.Reading.{has_begun}
 use Rattle.txn_journal.specs.Spelling.{Line, Header, Previous, Begin, Makes, End, Close, line_text}
 use Rattle.txn_journal.specs.Stamps.{right_stamp}
 use Rattle.txn_journal.specs.Stream.{GivesFull, TakesLine}
-use Rattle.txn_journal.specs.BundleStates.{BundleStanding, IsFullBundle, closed_channel, after_inner, is_misstamped, unless_misstamped, ended_inside, judge_inner}
+use Rattle.txn_journal.specs.BundleStates.{BundleStanding, IsFullBundle, close_channel, after_inner, is_misstamped, unless_misstamped, end_entry, judge_inner}
 use Rattle.txn_journal.specs.Wordings.{Says}
 use Rattle.txn_journal.specs.Causes.{word_for, wording, HasCause}
 use Rattle.txn_journal.specs.declared.fault.Cause.{Cause}
@@ -131,7 +131,7 @@ writers_stay version tables s t line kept none e begun h writers is = h writers 
 -- ---- a line that ends no entry
 
 abbrev ended_or_not : BundleStanding → Standing → Bool → BundleStanding
-ended_or_not s d v = cond v (closed_channel s d) (record s { draft = d })
+ended_or_not s d v = cond v (close_channel s d) (record s { draft = d })
 
 inner_again : (s : BundleStanding) (d : Standing) (v : Bool) → ended_or_not (record s { draft = d }) d v ≡ ended_or_not s d v
 inner_again s d true = refl
@@ -177,19 +177,19 @@ within_is places.Within e = refl
 within_is place e = absurd cc
 
 ended_by : (s : BundleStanding) (b : Bool) → is_within s.draft.place ≡ true → eqb s.draft.stamp (right_stamp s.version s.bundle.start.schema s.draft.journal.entries (open_entry s.draft)) ≡ b
-    → unless_misstamped true s (closed s.draft) ≡ cond b (done (record s { draft = closed s.draft })) (Err causes.Stamp)
+    → unless_misstamped true s (close_entry s.draft) ≡ cond b (done (record s { draft = close_entry s.draft })) (Err causes.Stamp)
 unfolding after_inner
-ended_by s true within e = (λ i. cond (within i && not (e i)) (Err causes.Stamp) (done (record s { draft = closed s.draft })))
-ended_by s false within e = (λ i. cond (within i && not (e i)) (Err causes.Stamp) (done (record s { draft = closed s.draft })))
+ended_by s true within e = (λ i. cond (within i && not (e i)) (Err causes.Stamp) (done (record s { draft = close_entry s.draft })))
+ended_by s false within e = (λ i. cond (within i && not (e i)) (Err causes.Stamp) (done (record s { draft = close_entry s.draft })))
 
-pub ends_is : (s : BundleStanding) (line : List ℕ) → ends s.draft.place line ≡ true → judge_inner true s line ≡ ended_inside s
-unfolding judge_inner ended_inside put
+pub ends_is : (s : BundleStanding) (line : List ℕ) → ends s.draft.place line ≡ true → judge_inner true s line ≡ end_entry s
+unfolding judge_inner end_entry put
 ends_is s line e =
     let p = and_parts (is_within s.draft.place) (bytes_eq line (codes "end")) e in
     let text : line ≡ line_text End = (bytes_eq-Decides line (codes "end")).0 p.1 in
     let due : is_due s.draft.place (word_for End) ≡ true = ap (λ (x : Place). is_due x (word_for End)) (within_is s.draft.place p.0) in
     let schema = Some s.bundle.start.schema in
-    let judged : judge schema s.draft line ≡ Ok (closed s.draft) = ap (judge schema s.draft) text ∙ spelled_judged schema s.draft (closed s.draft) End due (record { words = tt; images = tt; of_version = tt }) refl in
+    let judged : judge schema s.draft line ≡ Ok (close_entry s.draft) = ap (judge schema s.draft) text ∙ spelled_judged schema s.draft (close_entry s.draft) End due (record { words = tt; images = tt; of_version = tt }) refl in
     ap (λ (r : Result Standing Cause). r >>= unless_misstamped true s) judged ∙ ended_by s (eqb s.draft.stamp (right_stamp s.version s.bundle.start.schema s.draft.journal.entries (open_entry s.draft))) p.0 refl
 
 abbrev right_of : BundleStanding → Entry → ℕ
@@ -209,39 +209,39 @@ the_written s call t e right written h = h.is_written ∙ ap (λ (x : BundleStan
 the_right : (s call t : BundleStanding) (e : Entry) (right written : ℕ) → AtEnd s call t e right written → right ≡ right_of s (open_entry s.draft)
 the_right s call t e right written h = h.is_right ∙ (λ i. right_of (h.called i) (h.entry i))
 
-pub ends_wrong : (s call t : BundleStanding) (e : Entry) (right written : ℕ) → AtEnd s call t e right written → (written ≡ right → ⊥) → ended_inside s ≡ Err causes.Stamp
-unfolding ended_inside
+pub ends_wrong : (s call t : BundleStanding) (e : Entry) (right written : ℕ) → AtEnd s call t e right written → (written ≡ right → ⊥) → end_entry s ≡ Err causes.Stamp
+unfolding end_entry
 ends_wrong s call t e right written h differ =
-    elim (eqb s.draft.stamp (right_of s (open_entry s.draft))) as (λ b. eqb s.draft.stamp (right_of s (open_entry s.draft)) ≡ b → cond b (done (record s { draft = closed s.draft })) (Err causes.Stamp) ≡ Err causes.Stamp) [
+    elim (eqb s.draft.stamp (right_of s (open_entry s.draft))) as (λ b. eqb s.draft.stamp (right_of s (open_entry s.draft)) ≡ b → cond b (done (record s { draft = close_entry s.draft })) (Err causes.Stamp) ≡ Err causes.Stamp) [
       | true ↦ λ k. absurd (differ (the_written s call t e right written h ∙ eqb-true s.draft.stamp (right_of s (open_entry s.draft)) k ∙ sym (the_right s call t e right written h)))
       | false ↦ λ k. refl
     ] refl
 
-ends_right : (s call t : BundleStanding) (e : Entry) (right written : ℕ) → AtEnd s call t e right written → written ≡ right → ended_inside s ≡ done (record s { draft = closed s.draft })
-unfolding ended_inside
+ends_right : (s call t : BundleStanding) (e : Entry) (right written : ℕ) → AtEnd s call t e right written → written ≡ right → end_entry s ≡ done (record s { draft = close_entry s.draft })
+unfolding end_entry
 ends_right s call t e right written h same =
     let is : s.draft.stamp ≡ right_of s (open_entry s.draft) = sym (the_written s call t e right written h) ∙ same ∙ the_right s call t e right written h in
-    ap (λ (b : Bool). cond b (done (record s { draft = closed s.draft })) (Err causes.Stamp)) (eq-eqb s.draft.stamp (right_of s (open_entry s.draft)) is)
+    ap (λ (b : Bool). cond b (done (record s { draft = close_entry s.draft })) (Err causes.Stamp)) (eq-eqb s.draft.stamp (right_of s (open_entry s.draft)) is)
 
 abbrev done_draft : Standing → Result Standing Cause
 done_draft d = Ok d
 
-pub ends_well : (s call t : BundleStanding) (e : Entry) (right written : ℕ) (d : Standing) → AtEnd s call t e right written → written ≡ right → done_draft (joined t.draft e) ≡ Ok d → ended_inside s ≡ Ok (record t { draft = d })
+pub ends_well : (s call t : BundleStanding) (e : Entry) (right written : ℕ) (d : Standing) → AtEnd s call t e right written → written ≡ right → done_draft (join_entry t.draft e) ≡ Ok d → end_entry s ≡ Ok (record t { draft = d })
 ends_well s call t e right written d h same joins =
-    let is : joined t.draft e ≡ d = ok_is (joined t.draft e) d joins in
+    let is : join_entry t.draft e ≡ d = ok_is (join_entry t.draft e) d joins in
     let t_is : t ≡ record s { draft = record s.draft { changes = [] } } = h.left ∙ h.called in
     ends_right s call t e right written h same
-    ∙ (λ i. done (record (sym t_is i) { draft = joined (sym t_is i).draft (sym h.entry i) }))
+    ∙ (λ i. done (record (sym t_is i) { draft = join_entry (sym t_is i).draft (sym h.entry i) }))
     ∙ ap (λ (x : Standing). done (record t { draft = x })) is
 
-pub ends_full : (s call t : BundleStanding) (e : Entry) (right written : ℕ) (f : SetFault) → AtEnd s call t e right written → written ≡ right → IsMemoryOr (GivesFull (IsFull SourcesFull) (done_draft (joined t.draft e))) (GivesFull (IsFull PoolFull) (done_draft (joined t.draft e))) f
-    → IsMemoryOr (GivesFull (IsFullBundle SourcesFull) (ended_inside s)) (GivesFull (IsFullBundle PoolFull) (ended_inside s)) f
+pub ends_full : (s call t : BundleStanding) (e : Entry) (right written : ℕ) (f : SetFault) → AtEnd s call t e right written → written ≡ right → IsMemoryOr (GivesFull (IsFull SourcesFull) (done_draft (join_entry t.draft e))) (GivesFull (IsFull PoolFull) (done_draft (join_entry t.draft e))) f
+    → IsMemoryOr (GivesFull (IsFullBundle SourcesFull) (end_entry s)) (GivesFull (IsFullBundle PoolFull) (end_entry s)) f
 ends_full s call t e right written f h same full =
     let t_is : t ≡ record s { draft = record s.draft { changes = [] } } = h.left ∙ h.called in
-    let joined_is : joined t.draft e ≡ closed s.draft = λ i. joined (t_is i).draft (h.entry i) in
+    let joined_is : join_entry t.draft e ≡ close_entry s.draft = λ i. join_entry (t_is i).draft (h.entry i) in
     fault_map f (λ k. subst (GivesFull (IsFullBundle SourcesFull)) (sym (ends_right s call t e right written h same)) (inl (subst (IsFull SourcesFull) joined_is k)))
     (λ k. subst (GivesFull (IsFullBundle PoolFull)) (sym (ends_right s call t e right written h same)) (inl (subst (IsFull PoolFull) joined_is k))) full
 
-pub ends_failed : (s call t new : BundleStanding) (e : Entry) (right written : ℕ) (d : Standing) (fault : LineFault) → AtEnd s call t e right written → written ≡ right → TakesLine IsFull (Err fault) (done_draft (joined t.draft e)) d → TakesLine IsFullBundle (Err fault) (ended_inside s) new
+pub ends_failed : (s call t new : BundleStanding) (e : Entry) (right written : ℕ) (d : Standing) (fault : LineFault) → AtEnd s call t e right written → written ≡ right → TakesLine IsFull (Err fault) (done_draft (join_entry t.draft e)) d → TakesLine IsFullBundle (Err fault) (end_entry s) new
 ends_failed s call t new e right written d (wrong.Wrong cause) h same k = absurd cc
 ends_failed s call t new e right written d (wrong.Set f) h same k = ends_full s call t e right written f h same k

@@ -9,28 +9,29 @@ use Rattle.gtid_text.specs.Written.{IsUsable}
 use Rattle.gtid_text.specs.Canonical.{gtid_text}
 use Rattle.gtid_set.specs.Sets.{Gtids, greatest}
 use Rattle.gtid_set.proofs.SpanLemmas.{all_weaker}
-use Rattle.rows.specs.declared.value.Value.{Value}
+use Rattle.row_images.specs.declared.value.Value.{Value}
 use Rattle.rows.specs.declared.change.Change.{Change}
 use Rattle.rows.specs.declared.change.Change.TheVariants.{Insert, Delete, Update}
 use Rattle.rows.specs.declared.schema.Table.{Table}
 use Rattle.journal.specs.declared.Entry.{Entry}
 use Rattle.journal.specs.Journals.{JournalValue, AreNew}
 use Rattle.journal.specs.Writing.{is_number, is_image_writable, is_change_writable, is_txn_writable, is_writable}
-use Rattle.journal_words.specs.Values.{value_text}
-use Rattle.journal_words.proofs.Counts.{lacks, is_count_decimal, count_again}
-use Rattle.journal_words.proofs.ValueLaws.{value_lacks, feed_is_none}
+use Rattle.row_images.specs.Values.{value_text}
+use Rattle.row_images.proofs.Counts.{lacks, is_count_decimal, count_again}
+use Rattle.row_images.proofs.ValueLaws.{value_lacks, feed_is_none}
 use Rattle.txn_journal.specs.Due.{is_due}
 use Rattle.txn_journal.specs.Stamps.{no_stamps}
 use Rattle.txn_journal.specs.Lines.{Numbers, takes, stamp_in}
 use Rattle.txn_journal.specs.Stream.{Judge}
-use Rattle.txn_journal.specs.Machine.{Standing, empty, is_last, is_within, fits, open_entry, closed, add, begin, judge}
-use Rattle.txn_journal.specs.Spelling.{Line, Header, Previous, Begin, Makes, End, Close, numbers_text, values_text, change_text, line_text, lines_text, numbers_of, entry_lines, entries_lines, front_lines, journal_lines, spelling_as, AreValues, FitsChange, FitsEntry, IsWritten, IsStamp, AreStamps, WritesAs, Writes}
+use Rattle.txn_journal.specs.Machine.{Standing, empty, is_last, is_within, fits, open_entry, close_entry, add, begin, judge}
+use Rattle.txn_journal.specs.Spelling.{Line, Header, Previous, Begin, Makes, End, Close, numbers_text, change_text, line_text, lines_text, numbers_of, entry_lines, entries_lines, front_lines, journal_lines, spelling_as, FitsChange, FitsEntry, IsWritten, IsStamp, AreStamps, WritesAs, Writes}
+use Rattle.row_images.specs.Images.{values_text, AreValues}
 use Rattle.txn_journal.specs.declared.lines.Place.TheVariants as places
 use Rattle.txn_journal.specs.declared.lines.Version.{Version}
 use Rattle.txn_journal.specs.declared.lines.Version.TheVariants.{One, Two}
 use Rattle.txn_journal.proofs.NameLemmas.{name_no_feed}
 use Rattle.txn_journal.proofs.SplitLaws.{joined_lacks, count_no_feed}
-use Rattle.txn_journal.proofs.ImageLaws.{texts_lack}
+use Rattle.row_images.proofs.ImageLaws.{texts_lack}
 use Rattle.txn_journal.proofs.GtidLaws.{gtid_set_bytes, is_set_byte, set_no_feed, joins, set_no_feeds, none_written}
 use Rattle.txn_journal.specs.Reading.{journals_as, journals, WrittenJournal, as_written, IsWrittenAs, written_journals}
 use Rattle.txn_journal.proofs.FormatLaws.{Leads, leads_none, leads_one, leads_both, Laws}
@@ -42,7 +43,7 @@ use Rattle.std.proofs.lemmas.Result.{MatchResult-weaker}
 use Rattle.txn_journal.specs.Heard.{said}
 use Rattle.txn_journal.specs.declared.lines.Place.{Place}
 
--- ---- no line feed stands in a line
+-- ---- no line feed is in a line
 
 pub values_one : (vs : List Value) → AreValues vs → lacks 10 (values_text vs) ≡ true
 values_one vs fits = joined_lacks 32 10 (map value_text vs) refl (texts_lack 10 vs (λ v f. value_lacks 10 v feed_is_none f) fits)
@@ -143,7 +144,7 @@ pub closes_journal : (schema : Option (List Table)) (s : Standing) → judge sch
 unfolding put
 closes_journal schema s = spelled_judged schema (placed places.Between s) (placed places.Ended s) Close refl (record { words = tt; images = tt; of_version = tt }) refl
 
--- each entry has a number that is right, behind the earlier ones
+-- each entry has a number that is right, after the earlier ones
 abbrev pub AreRight : (List Entry → ℕ → Entry → Type 0) → List Entry → List ℕ → List Entry → Type 0
 AreRight Right earlier [] [] = Unit {0}
 AreRight Right earlier (l ∷ ls) (e ∷ es) = Right earlier l e × AreRight Right (earlier ++ e ∷ []) ls es
@@ -278,7 +279,7 @@ no_entries = record { previous = set.empty; entries = [] }
 pub no_entries_fit : IsWritten no_entries
 no_entries_fit = record { keeps = record { new = tt; writable = refl }; few = omega arith; previous = none_written; entries = tt }
 
--- the entries behind the lines so far, with the one that is open, and their numbers
+-- the entries after the lines so far, with the one that is open, and their numbers
 abbrev pub last_entries : Place → Standing → List Entry
 last_entries places.Header s = []
 last_entries places.Previous s = []
@@ -318,11 +319,11 @@ completes_at schema places.Within s o =
     let whole = whole_more schema s o in
     record {
       version = s.version;
-      journal = (closed s).journal;
+      journal = (close_entry s).journal;
       more = End ∷ Close ∷ [];
       takes_version = o.whole.due;
       entries = refl;
-      fits = whole_written schema (closed s) whole;
+      fits = whole_written schema (close_entry s) whole;
       stamps_fit = whole.stamped;
       fitting = whole.fitting;
       whole = ap (λ (ls : List Line). ls ++ Close ∷ []) (ended_entry schema s o.whole) ∙ append_assoc (said (placed places.Within s)) (End ∷ []) (Close ∷ []);

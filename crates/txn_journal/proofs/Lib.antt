@@ -2,8 +2,8 @@ pub mod Seen
 pub mod LineCuts
 pub mod Pieces
 pub mod NameLemmas
-pub mod ValueSteps
 pub mod ImageLaws
+pub mod ImageParts
 pub mod LineReads
 pub mod SoundLines
 pub mod GtidLaws
@@ -11,6 +11,7 @@ pub mod NearGtids
 pub mod JournalLaws
 pub mod TakenLines
 pub mod WriteLemmas
+pub mod WrittenLaws
 pub mod BundleWriting
 pub mod Judged
 pub mod WordLaws
@@ -22,6 +23,7 @@ pub mod TableSteps
 pub mod InnerSteps
 pub mod BundleSound
 pub mod BundleLaws
+pub mod BundleKept
 pub mod NewWords
 pub mod OneBundle
 pub mod ListedRows

@@ -9,7 +9,7 @@ use Rattle.txn_journal.specs.Words.{IsOneLine, BeginsWithLine}
 differs : (b c : ℕ) → (eqb b c ≡ true → ⊥) → not (eqb b c) ≡ true
 differs b c h = elim (eqb b c) as (λ v. (v ≡ true → ⊥) → not v ≡ true) [ true ↦ λ k. absurd (k refl) | false ↦ λ k. refl ] h
 
--- no line feed stands before the first
+-- no line feed comes before the first
 pub one_line_before : (n : ℕ) (text : List ℕ) → n ≤ length text → ((k : ℕ) → k < n → eqb (get_or text k 0) 10 ≡ true → ⊥) → IsOneLine (take n text)
 one_line_before zero text le none = refl
 one_line_before (suc n) [] le none = refl

@@ -10,17 +10,18 @@ use Rattle.gtid_text.specs.declared.Gtid.{Gtid}
 use Rattle.rows.specs.declared.change.Change.TheVariants.{Insert, Delete, Update}
 use Rattle.rows.specs.declared.schema.Table.{Table}
 use Rattle.rows.specs.Names.{is_name}
-use Rattle.journal_words.specs.Words.{is_count, first_word, others}
+use Rattle.row_images.specs.Words.{is_count, first_word, others}
 use Rattle.journal_words.specs.Gtids.{gtid_of_word, set_of_word}
 use Rattle.txn_journal.specs.WrittenSets.{set_text, IsWrittenSet}
-use Rattle.journal_words.proofs.Counts.{lacks, word_alone, word_and_more, first_word-front, others-front}
+use Rattle.row_images.proofs.Counts.{lacks, word_alone, word_and_more, first_word-front, others-front}
 use Rattle.txn_journal.proofs.GtidLaws.{is_set_byte, set_no_blank, gtid_set_bytes, gtid_found, gtid_again, set_found, set_again}
 use Rattle.txn_journal.proofs.SplitLaws.{count_no_blank}
 use Rattle.txn_journal.specs.Words.{name_of}
 use Rattle.txn_journal.specs.Due.{is_due}
-use Rattle.txn_journal.specs.Lines.{◌>>=◌, Numbers, Beginning, stamp_in, at_place, some_or_body, keyword_of, due, takes, version_named, known, version_in, numbers_in, beginning_text, beginning_in, set_in, nothing_in, image_in, images_in, table_in}
-use Rattle.txn_journal.specs.Machine.{Standing, closed, add, begin, opened, followed, begun, ended, finished, step, judge}
-use Rattle.txn_journal.specs.Spelling.{Line, Header, Previous, Begin, Makes, End, Close, version_text, numbers_text, values_text, line_text}
+use Rattle.txn_journal.specs.Lines.{◌>>=◌, Numbers, Beginning, stamp_in, at_place, some_or_body, keyword_of, due, takes, version_named, known_version, version_in, numbers_in, beginning_text, beginning_in, set_in, nothing_in, image_in, images_in, table_in}
+use Rattle.txn_journal.specs.Machine.{Standing, close_entry, add, begin, header_line, previous_line, txn_line, end_line, close_line, step, judge}
+use Rattle.txn_journal.specs.Spelling.{Line, Header, Previous, Begin, Makes, End, Close, version_text, numbers_text, line_text}
+use Rattle.row_images.specs.Images.{values_text}
 use Rattle.txn_journal.specs.Causes.{keyword_text, word_for, AreCounts, HasNumbers, FitsAt, wording}
 use Rattle.txn_journal.specs.declared.fault.Cause.{Cause}
 use Rattle.txn_journal.specs.declared.lines.Place.TheVariants as places
@@ -54,7 +55,7 @@ put schema s (Header version) = Ok (record s { place = places.Previous; version 
 put schema s (Previous previous) = Ok (record s { place = places.Between; journal = record { previous = previous; entries = [] }; seen = previous })
 put schema s (Begin g numbers) = begin s g (stamp_in (s.count + 1) numbers)
 put schema s (Makes change) = add schema s change
-put schema s End = Ok (closed s)
+put schema s End = Ok (close_entry s)
 put schema s Close = Ok (record s { place = places.Ended })
 
 txn_step : (schema : Option (List Table)) (s : Standing) (r : Result Beginning Cause) → ((r >>= λ b. Ok (at_place (s.count + 1) b)) >>= λ p. begin s p.0 p.1) ≡ ((r >>= λ b. Ok (Begin b.gtid b.numbers)) >>= put schema s)
@@ -63,7 +64,7 @@ txn_step schema s (Ok b) = refl
 txn_step schema s (Err c) = refl
 
 step_reads : (schema : Option (List Table)) (s : Standing) (k : Keyword) (rest : Option (List ℕ)) → step schema s k rest ≡ (body_of s.due s.version k rest >>= put schema s)
-unfolding step opened followed begun ended finished body_of put
+unfolding step header_line previous_line txn_line end_line close_line body_of put
 step_reads schema s keywords.Journal rest = one_step (version_in s.due rest) Header (put schema s)
 step_reads schema s keywords.Previous rest = one_step (set_in rest) Previous (put schema s)
 step_reads schema s keywords.Txn rest = txn_step schema s (beginning_in s.version rest)
@@ -84,7 +85,7 @@ every_keyword = keywords.Journal ∷ keywords.Previous ∷ keywords.Txn ∷ keyw
 
 -- ---- what the words are
 
-version_known : (due : Option Version) (w : List ℕ) (o : Option Version) → is_count w ≡ true → version_named w ≡ o → MatchResult (known due o) (λ v. (Some w ≡ Some (version_text v)) × (takes due v ≡ true)) (IsVersionFault (Some w))
+version_known : (due : Option Version) (w : List ℕ) (o : Option Version) → is_count w ≡ true → version_named w ≡ o → MatchResult (known_version due o) (λ v. (Some w ≡ Some (version_text v)) × (takes due v ≡ true)) (IsVersionFault (Some w))
 version_known due w None count e = (w, refl, count)
 version_known due w (Some v) count e = if_both _ _ (takes due v) _ _ (λ taken. (ap Some (among_found version_text (One ∷ Two ∷ []) w v e), taken)) (λ no. (w, refl, count))
 

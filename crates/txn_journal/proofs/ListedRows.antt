@@ -12,12 +12,13 @@ use Rattle.std.proofs.lemmas.Option.{same_Some}
 use Rattle.rows.specs.declared.change.Key.{Key}
 use Rattle.rows.specs.declared.change.TableRow.{TableRow}
 use Rattle.rows.specs.declared.schema.Table.{Table}
-use Rattle.rows.specs.declared.value.Value.{Value}
-use Rattle.rows.specs.Apply.{Rows, ◌>>=◌ as ◌andthen◌, with_row, or_else, taken, insert_if_free, apply_from, apply}
+use Rattle.row_images.specs.declared.value.Value.{Value}
+use Rattle.rows.specs.Apply.{Rows, ◌>>=◌ as ◌andthen◌, with_row, or_else, first_taken, insert_if_free, apply_from, apply}
 use Rattle.rows.specs.Carriers.{AreCarriers}
 use Rattle.rows.specs.Database.{Database, opening}
 use Rattle.rows.specs.Fits.{misfit}
-use Rattle.rows.specs.Keys.{values_in, is_null, unique_keys, keys_of_row, table_named, keys_in, keys_carried}
+use Rattle.rows.specs.Keys.{values_in, unique_keys, keys_of_row, table_named, keys_in, carried_keys}
+use Rattle.row_images.specs.Values.{is_null}
 use Rattle.rows.specs.Listing.{primary_rows, rows_listed}
 use Rattle.rows.specs.Order.{key_cmp, key_eq}
 use Rattle.rows.specs.Total.{key_eq_same, key_eq_self}
@@ -145,21 +146,21 @@ all_taken d (r ∷ rs) new e =
 
 -- ---- one row that is put
 
-taken_of_free : (ks : List Key) (rows : Rows) → ((k : Key) → is_among ks k ≡ true → get rows k ≡ None) → taken ks rows ≡ None
+taken_of_free : (ks : List Key) (rows : Rows) → ((k : Key) → is_among ks k ≡ true → get rows k ≡ None) → first_taken ks rows ≡ None
 taken_of_free [] rows h = refl
 taken_of_free (x ∷ ks) rows h =
-    ap (λ (o : Option (List Value)). or_else (taken ks rows) o x.index) (h x (or_left (key_eq x x) (is_among ks x) (key_eq_self x)))
+    ap (λ (o : Option (List Value)). or_else (first_taken ks rows) o x.index) (h x (or_left (key_eq x x) (is_among ks x) (key_eq_self x)))
     ∙ taken_of_free ks rows (λ k i. h k (or_right (key_eq k x) (is_among ks k) i))
 
-applied : (d : Database) (r : TableRow) → taken (keys d r) d.rows ≡ None → apply d.schema (opening r.table r.row) d.rows ≡ Ok (with_row (keys d r) r.row d.rows)
+applied : (d : Database) (r : TableRow) → first_taken (keys d r) d.rows ≡ None → apply d.schema (opening r.table r.row) d.rows ≡ Ok (with_row (keys d r) r.row d.rows)
 applied d r free = ap (λ (o : Option ℕ). insert_if_free o 0 (keys d r) r.row d.rows andthen apply_from d.schema 1 []) free
 
-put_one : (d : Database) (r : TableRow) → IsTaken d.schema r → taken (keys d r) d.rows ≡ None → with_opening d r ≡ Ok (with_row (keys d r) r.row d.rows)
+put_one : (d : Database) (r : TableRow) → IsTaken d.schema r → first_taken (keys d r) d.rows ≡ None → with_opening d r ≡ Ok (with_row (keys d r) r.row d.rows)
 unfolding with_opening
 put_one d r fits free =
     ap (λ o. if is_some o then Err causes.Schema else ok_rows (apply d.schema (opening r.table r.row) d.rows)) fits ∙ ap ok_rows (applied d r free)
 
-carriers_put : (d : Database) (r : TableRow) → AreCarriers d.schema d.rows → taken (keys d r) d.rows ≡ None → AreCarriers d.schema (with_row (keys d r) r.row d.rows)
+carriers_put : (d : Database) (r : TableRow) → AreCarriers d.schema d.rows → first_taken (keys d r) d.rows ≡ None → AreCarriers d.schema (with_row (keys d r) r.row d.rows)
 carriers_put d r h free = apply_keeps_carriers d.schema (opening r.table r.row) d.rows (with_row (keys d r) r.row d.rows) h (applied d r free)
 
 carriers_all : (d : Database) (rs : List TableRow) (new : Rows) → AreCarriers d.schema d.rows → put_all d rs ≡ Ok new → AreCarriers d.schema new
@@ -198,17 +199,17 @@ record IsEnded (schema : List Table) (rows put : Rows) (left : List (Key × List
 
 -- no key of the next row is taken
 next_free : (schema : List Table) (rows put : Rows) (e : Key × List Value) (es : List (Key × List Value)) → AreWhole schema rows → IsBegun schema rows put (e ∷ es) → e.0.index ≡ 0
-    → (k : Key) → is_among (keys_carried schema e.0.table e.1) k ≡ true → get put k ≡ None
+    → (k : Key) → is_among (carried_keys schema e.0.table e.1) k ≡ true → get put k ≡ None
 next_free schema rows put e es w b z k i =
     let at : get rows e.0 ≡ Some e.1 = b.among e.0 e.1 (head e es) in
-    let own : is_among (keys_carried schema e.0.table e.1) e.0 ≡ true = w.carriers.carried e.0 e.1 at in
+    let own : is_among (carried_keys schema e.0.table e.1) e.0 ≡ true = w.carriers.carried e.0 e.1 at in
     let t : k.table ≡ e.0.table = carried_table schema e.0.table e.1 k i in
     elim (get put k) as (λ o. get put k ≡ o → o ≡ None) [
       | None ↦ λ g. refl
       | Some x ↦ λ g.
           let same : e.1 ≡ x = same_Some e.1 x (sym (w.carriers.everywhere e.0 k e.1 at i) ∙ b.inside k x g) in
-          let carries : is_among (keys_carried schema k.table x) e.0 ≡ true =
-          ap (λ (y : List Value). is_among (keys_carried schema k.table y) e.0) (sym same) ∙ ap (λ (n : List ℕ). is_among (keys_carried schema n e.1) e.0) t ∙ own in
+          let carries : is_among (carried_keys schema k.table x) e.0 ≡ true =
+          ap (λ (y : List Value). is_among (carried_keys schema k.table y) e.0) (sym same) ∙ ap (λ (n : List ℕ). is_among (carried_keys schema n e.1) e.0) t ∙ own in
           none_some x (sym (b.ahead e.0 e.1 z (head e es)) ∙ b.carriers.everywhere k e.0 x g carries)
     ] refl
 
@@ -224,9 +225,9 @@ passed_over schema rows put e es b = record {
 
 -- the next row is put
 next_put : (schema : List Table) (rows put : Rows) (e : Key × List Value) (es : List (Key × List Value)) → AreWhole schema rows → IsBegun schema rows put (e ∷ es) → e.0.index ≡ 0
-    → taken (keys_carried schema e.0.table e.1) put ≡ None → IsBegun schema rows (with_row (keys_carried schema e.0.table e.1) e.1 put) es
+    → first_taken (carried_keys schema e.0.table e.1) put ≡ None → IsBegun schema rows (with_row (carried_keys schema e.0.table e.1) e.1 put) es
 next_put schema rows put e es w b z free =
-    let K = keys_carried schema e.0.table e.1 in
+    let K = carried_keys schema e.0.table e.1 in
     let at : get rows e.0 ≡ Some e.1 = b.among e.0 e.1 (head e es) in
     record {
       sorted = second_of _ _ b.sorted;
@@ -262,9 +263,9 @@ ended_over schema rows put e es rs other n = record {
 }
 
 ended_put : (schema : List Table) (rows put : Rows) (e : Key × List Value) (es : List (Key × List Value)) (rs : List TableRow) → AreWhole schema rows → IsBegun schema rows put (e ∷ es)
-    → taken (keys_carried schema e.0.table e.1) put ≡ None → IsEnded schema rows (with_row (keys_carried schema e.0.table e.1) e.1 put) es rs → IsEnded schema rows put (e ∷ es) (row_at e.0 e.1 ∷ rs)
+    → first_taken (carried_keys schema e.0.table e.1) put ≡ None → IsEnded schema rows (with_row (carried_keys schema e.0.table e.1) e.1 put) es rs → IsEnded schema rows put (e ∷ es) (row_at e.0 e.1 ∷ rs)
 ended_put schema rows put e es rs w b free n =
-    let K = keys_carried schema e.0.table e.1 in
+    let K = carried_keys schema e.0.table e.1 in
     let d : Database = record { schema = schema; rows = put } in
     let more : Database = record { schema = schema; rows = with_row K e.1 put } in
     let at : get rows e.0 ≡ Some e.1 = b.among e.0 e.1 (head e es) in
@@ -286,8 +287,8 @@ listed_all schema rows put (e ∷ es) w b =
     elim (e.0.index == 0) as (λ v. (e.0.index == 0) ≡ v → IsEnded schema rows put (e ∷ es) (cond v (row_at e.0 e.1 ∷ primary_rows es) (primary_rows es))) [
       | true ↦ λ v.
           let z = zero_is e.0.index v in
-          let free = taken_of_free (keys_carried schema e.0.table e.1) put (next_free schema rows put e es w b z) in
-          ended_put schema rows put e es (primary_rows es) w b free (listed_all schema rows (with_row (keys_carried schema e.0.table e.1) e.1 put) es w (next_put schema rows put e es w b z free))
+          let free = taken_of_free (carried_keys schema e.0.table e.1) put (next_free schema rows put e es w b z) in
+          ended_put schema rows put e es (primary_rows es) w b free (listed_all schema rows (with_row (carried_keys schema e.0.table e.1) e.1 put) es w (next_put schema rows put e es w b z free))
       | false ↦ λ v. ended_over schema rows put e es (primary_rows es) v (listed_all schema rows put es w (passed_over schema rows put e es b))
     ] refl
 

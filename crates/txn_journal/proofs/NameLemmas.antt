@@ -8,7 +8,7 @@ use Rattle.std.proofs.lemmas.Bool.Decides.{nat_tests}
 use Rattle.journal_words.specs.Gtids.{is_ascii_byte}
 use Rattle.journal_words.proofs.AsciiLemmas.{ascii_utf8}
 use Rattle.gtid_set.proofs.SpanLemmas.{all_weaker}
-use Rattle.journal_words.proofs.Counts.{lacks}
+use Rattle.row_images.proofs.Counts.{lacks}
 use Rattle.rows.specs.Names.{is_name, is_name_byte, begins_with_digit}
 use Rattle.txn_journal.specs.Words.{name_of}
 
@@ -26,7 +26,7 @@ name_text w e = ascii_utf8 w (all_weaker is_name_byte is_ascii_byte w name_ascii
 pub not_text : (word : List ℕ) → (IsUtf8 word → ⊥) → None ≡ name_of word
 not_text word h = ap (λ (b : Bool). cond b (Some word) None) (sym (false_from_ne_true (is_name word) (λ e. h (name_text word e))))
 
--- no blank and no line feed stands in a name
+-- no blank and no line feed is in a name
 no_blank_byte : (b : ℕ) → is_name_byte b ≡ true → not (eqb b 32) ≡ true
 no_blank_byte b e = grind (arith, nat_tests)
 

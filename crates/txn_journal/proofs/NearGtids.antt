@@ -7,8 +7,8 @@ use Rattle.gtid_text.specs.declared.Gtid.{Gtid}
 use Rattle.gtid_text.specs.Canonical.{source_text, gtid_text}
 use Rattle.gtid_text.specs.Written.{IsSource}
 use Rattle.journal_words.specs.Gtids.{gtid_of_word}
-use Rattle.journal_words.specs.Words.{count_of}
-use Rattle.journal_words.proofs.Counts.{count_found}
+use Rattle.row_images.specs.Words.{count_of}
+use Rattle.row_images.proofs.Counts.{count_found}
 use Rattle.txn_journal.proofs.GtidLaws.{gtid_again}
 
 behind : (back digits : List ℕ) (n : ℕ) → 0 < length back → get_or back 0 0 ≡ 58 → digits ≡ drop 1 back → Some n ≡ count_of digits → back ≡ 58 ∷ decimal n

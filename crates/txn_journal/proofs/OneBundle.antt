@@ -8,11 +8,11 @@ use Rattle.rows.specs.declared.change.Key.{Key}
 use Rattle.rows.specs.declared.change.TableRow.{TableRow}
 use Rattle.rows.specs.declared.change.NotInSchema.{NotInSchema}
 use Rattle.rows.specs.declared.schema.Table.{Table}
-use Rattle.rows.specs.declared.value.Value.{Value}
-use Rattle.rows.specs.Apply.{Rows, ◌>>=◌ as ◌andthen◌, with_row, taken, insert_if_free, apply_from, apply}
+use Rattle.row_images.specs.declared.value.Value.{Value}
+use Rattle.rows.specs.Apply.{Rows, ◌>>=◌ as ◌andthen◌, with_row, first_taken, insert_if_free, apply_from, apply}
 use Rattle.rows.specs.Database.{Database, opening}
 use Rattle.rows.specs.Fits.{misfit, misfit_in, first_cause, count_misfit, or_later}
-use Rattle.rows.specs.Keys.{keys_in, keys_carried, table_named, values_in}
+use Rattle.rows.specs.Keys.{keys_in, carried_keys, table_named, values_in}
 use Rattle.rows.specs.Order.{key_cmp}
 use Rattle.rows.specs.WriteSet.{is_among}
 use Rattle.rows.specs.Total.{key_eq_self}
@@ -32,14 +32,14 @@ use Rattle.gtid_text.proofs.Turns.{chosen}
 
 -- the keys of a row
 abbrev pub keys : Database → TableRow → List Key
-keys d r = keys_carried d.schema r.table r.row
+keys d r = carried_keys d.schema r.table r.row
 
 abbrev pub with_rows : Database → Rows → Database
 with_rows d rows = record d { rows = rows }
 
 pub record Put (d : Database) (r : TableRow) (new : Rows) : Type 0 where
   pub fits : misfit d.schema (opening r.table r.row) ≡ None
-  pub free : taken (keys d r) d.rows ≡ None
+  pub free : first_taken (keys d r) d.rows ≡ None
   pub after : with_row (keys d r) r.row d.rows ≡ new
 
 inserted_both : (o : Option ℕ) (ks : List Key) (row : List Value) (rows : Rows) (schema : List Table) → MatchResult (ok_rows (insert_if_free o 0 ks row rows andthen apply_from schema 1 [])) (λ new. (o ≡ None) × (with_row ks row rows ≡ new)) IsSchema
@@ -53,14 +53,14 @@ none_is (Some x) e = absurd cc
 pub put_both : (d : Database) (r : TableRow) → MatchResult (with_opening d r) (Put d r) IsSchema
 unfolding with_opening
 put_both d r = if_both _ _ (is_some (misfit d.schema (opening r.table r.row))) _ _ (λ misfits. tt) (λ fits. found_weaker (ok_rows (apply d.schema (opening r.table r.row) d.rows)) _ _ _
-    (λ new h. record { fits = none_is (misfit d.schema (opening r.table r.row)) fits; free = h.0; after = h.1 }) (inserted_both (taken (keys d r) d.rows) (keys d r) r.row d.rows d.schema))
+    (λ new h. record { fits = none_is (misfit d.schema (opening r.table r.row)) fits; free = h.0; after = h.1 }) (inserted_both (first_taken (keys d r) d.rows) (keys d r) r.row d.rows d.schema))
 
 pub put_found : (d : Database) (r : TableRow) (new : Rows) → with_opening d r ≡ Ok new → Put d r new
 put_found d r new e = MatchResult-at_ok (Put d r) IsSchema new e (put_both d r)
 
 record HasKey (schema : List Table) (r : TableRow) : Type 0 where
   key : Key
-  among : is_among (keys_carried schema r.table r.row) key ≡ true
+  among : is_among (carried_keys schema r.table r.row) key ≡ true
 
 key_in : (o : Option Table) (r : TableRow) → or_later (first_cause (misfit_in o (Insert r.table r.row)) (count_misfit 0)) 0 None ≡ None → (k : Key) × (is_among (keys_in o r.row) k ≡ true)
 key_in None r e = absurd cc
@@ -78,7 +78,7 @@ pub record IsPut (schema : List Table) (rs : List TableRow) (k : Key) (row : Lis
   pub one : TableRow
   pub among : IsOneOf rs one
   pub row_is : one.row ≡ row
-  pub carries : is_among (keys_carried schema one.table one.row) k ≡ true
+  pub carries : is_among (carried_keys schema one.table one.row) k ≡ true
 
 -- a row that stands stays
 pub stays : (d : Database) (rs : List TableRow) (new : Rows) (k : Key) (row : List Value) → put_all d rs ≡ Ok new → get d.rows k ≡ Some row → get new k ≡ Some row
@@ -93,7 +93,7 @@ stays d (r ∷ rs) new k row e g =
     ] refl in
     stays (with_rows d a.0) rs new k row a.2 there
 
--- what stands in the end stood before, or was put
+-- what is in the end stood before, or was put
 pub came : (d : Database) (rs : List TableRow) (new : Rows) (k : Key) (row : List Value) → put_all d rs ≡ Ok new → get new k ≡ Some row → (get d.rows k ≡ Some row) ⊎ IsPut d.schema rs k row
 came d [] new k row e g = inl (ap (λ (m : Rows). get m k) (ok_is d.rows new e) ∙ g)
 came d (r ∷ rs) new k row e g =
@@ -109,10 +109,10 @@ came d (r ∷ rs) new k row e g =
       | inr h ↦ inr (record { one = h.one; among = inr h.among; row_is = h.row_is; carries = h.carries })
     ]
 
--- a row that is put stands in the end, under a key of its own
+-- a row that is put is in the end, under a key of its own
 record Stands (schema : List Table) (r : TableRow) (new : Rows) : Type 0 where
   key : Key
-  among : is_among (keys_carried schema r.table r.row) key ≡ true
+  among : is_among (carried_keys schema r.table r.row) key ≡ true
   there : get new key ≡ Some r.row
 
 stands : (d : Database) (rs : List TableRow) (new : Rows) (r : TableRow) → put_all d rs ≡ Ok new → IsOneOf rs r → Stands d.schema r new
@@ -128,7 +128,7 @@ stands d (x ∷ rs) new r e (inr later) =
     stands (with_rows d a.0) rs new r a.2 later
 
 -- no row that carries a key that is taken is put
-not_again : (d : Database) (rs : List TableRow) (new : Rows) (r : TableRow) (k : Key) (row : List Value) → put_all d rs ≡ Ok new → get d.rows k ≡ Some row → is_among (keys_carried d.schema r.table r.row) k ≡ true → IsOneOf rs r → ⊥
+not_again : (d : Database) (rs : List TableRow) (new : Rows) (r : TableRow) (k : Key) (row : List Value) → put_all d rs ≡ Ok new → get d.rows k ≡ Some row → is_among (carried_keys d.schema r.table r.row) k ≡ true → IsOneOf rs r → ⊥
 not_again d [] new r k row e g i one = one
 not_again d (x ∷ rs) new r k row e g i (inl same) =
     let a = bind_ok (with_opening d x) (λ rows. put_all (with_rows d rows) rs) new e in

@@ -13,17 +13,18 @@ use Rattle.gtid_text.proofs.Shown.{source_shown, spaced_joined}
 use Rattle.gtid_text.proofs.Single.{source_reads_back, source_spelled}
 use Rattle.gtid_set.proofs.SpanLemmas.{all_weaker}
 use Rattle.rows.specs.Names.{is_name}
-use Rattle.journal_words.specs.Words.{first_word, others}
+use Rattle.row_images.specs.Words.{first_word, others}
 use Rattle.journal_words.specs.Gtids.{is_ascii_byte, same_or_none, source_of_word}
-use Rattle.journal_words.proofs.Counts.{lacks, word_alone, word_and_more, first_word-front, others-front, first_word-whole, others-whole}
-use Rattle.journal_words.proofs.ValueLaws.{where_same-again}
+use Rattle.row_images.proofs.Counts.{lacks, word_alone, word_and_more, first_word-front, others-front, first_word-whole, others-whole}
+use Rattle.row_images.proofs.ValueLaws.{where_same-again}
 use Rattle.txn_journal.specs.Words.{name_of}
 use Rattle.txn_journal.specs.Lines.{◌>>=◌, some_or_body, version_in, set_in, nothing_in, table_in, image_in, due}
 use Rattle.txn_journal.specs.Shapes.{Shape, shape_text, FitsShape, shape_in, with_table, added_table}
-use Rattle.txn_journal.specs.BundleStates.{word_of, is_due_in, replica_in, preserve_in, channel_in, BundleStanding, bare, behind_replica, behind_tables, put_row, joined_channel, headed, named, begun_with, tabled, rowed, channelled, all_done, own_step, judge_own}
+use Rattle.txn_journal.specs.BundleStates.{word_of, is_due_in, replica_in, preserve_in, channel_in, BundleStanding, bare, after_replica, after_tables, put_row, join_channel, version_line, replica_line, opening_line, add_table_line, row_line, channel_line, done_line, own_step, judge_own}
 use Rattle.txn_journal.specs.BundleText.{OwnLine, Heads, Names, Starts, Has, Puts, Opens, Done, preserve_text, own_text}
 use Rattle.txn_journal.specs.BundleCauses.{own_word_text, own_word, FitsOwn, own_wording}
-use Rattle.txn_journal.specs.Spelling.{version_text, values_text}
+use Rattle.txn_journal.specs.Spelling.{version_text}
+use Rattle.row_images.specs.Images.{values_text}
 use Rattle.txn_journal.specs.declared.bundle_draft.Word.{Word}
 use Rattle.txn_journal.specs.declared.lines.Version.{Version}
 use Rattle.txn_journal.specs.declared.lines.Version.TheVariants.{One, Two}
@@ -61,12 +62,12 @@ own_body due words.Done rest = nothing_in rest >>= λ nothing. Ok Done
 -- what a line makes of what the lines before it have made
 unfoldable pub own_put : BundleStanding → OwnLine → Result BundleStanding Cause
 own_put s (Heads version) = Ok (record s { part = parts.Replica; version = version })
-own_put s (Names replica) = Ok (record s { part = behind_replica s.version; bundle = bare replica set.empty [] })
+own_put s (Names replica) = Ok (record s { part = after_replica s.version; bundle = bare replica set.empty [] })
 own_put s (Starts opened) = Ok (record s { part = parts.Tables; bundle = bare s.bundle.replica opened [] })
 own_put s (Has shape) = with_table s.tables shape >>= λ tables. Ok (record s { tables = tables })
-own_put s (Puts r) = cond (is_image_writable r.row) (put_row (behind_tables s) r) (Err causes.Limit)
-own_put s (Opens c) = joined_channel s c
-own_put s Done = Ok (record (behind_tables s) { part = parts.Ended })
+own_put s (Puts r) = cond (is_image_writable r.row) (put_row (after_tables s) r) (Err causes.Limit)
+own_put s (Opens c) = join_channel s c
+own_put s Done = Ok (record (after_tables s) { part = parts.Ended })
 
 -- a table's line
 table_step : (s : BundleStanding) (r : Result Shape Cause) → ((r >>= λ shape. with_table s.tables shape) >>= λ tables. Ok (record s { tables = tables })) ≡ ((r >>= λ shape. Ok (Has shape)) >>= own_put s)
@@ -75,7 +76,7 @@ table_step s (Ok shape) = refl
 table_step s (Err c) = refl
 
 step_reads : (s : BundleStanding) (w : Word) (rest : Option (List ℕ)) → own_step s w rest ≡ (own_body s.due w rest >>= own_put s)
-unfolding own_step headed named begun_with tabled added_table rowed channelled all_done own_body own_put
+unfolding own_step version_line replica_line opening_line add_table_line added_table row_line channel_line done_line own_body own_put
 step_reads s words.Bundle rest = one_step (version_in s.due rest) Heads (own_put s)
 step_reads s words.Replica rest = one_step (replica_in rest) Names (own_put s)
 step_reads s words.Opening rest = one_step (set_in rest) Starts (own_put s)
@@ -166,7 +167,7 @@ own_again st Done is fits = read_at (own_wording st) (own_body st.due) (own_text
 pub own_laws : (s : BundleStanding) → RestLaws (own_wording s) (own_body s.due)
 own_laws s = record { found = λ t k e. among_found own_word_text every_word t k e; reads = rest_both s; again = own_again s }
 
--- no line feed stands in it
+-- no line feed is in it
 preserve_one : (p : Bool) → lacks 10 (preserve_text p) ≡ true
 preserve_one true = refl
 preserve_one false = refl

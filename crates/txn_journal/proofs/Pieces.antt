@@ -10,7 +10,7 @@ use Rattle.txn_journal.specs.declared.fault.Cause.{Cause}
 use Rattle.txn_journal.specs.declared.fault.JournalFault.{JournalFault}
 use Rattle.txn_journal.specs.declared.fault.JournalFault.TheVariants as faults
 use Rattle.txn_journal.specs.Words.{IsOneLine}
-use Rattle.txn_journal.specs.Stream.{Fills, Judge, Progress, Reading, Stopped, unless_stopped, next_number, judged, eat, eats, GivesFull, HasFull, IsPieceFault, IsAfter, TakesPiece, answer}
+use Rattle.txn_journal.specs.Stream.{Fills, Judge, Progress, Reading, Stopped, unless_stopped, next_number, progress_after, eat, eats, GivesFull, HasFull, IsPieceFault, IsAfter, TakesPiece, answer}
 use Rattle.std.proofs.lemmas.Bool.{and_parts, not-true}
 
 pub stopped_stays : {S : Type 0} (judge : Judge S) (f : JournalFault) (bs : List ℕ) → eats judge (Stopped f) bs ≡ Stopped f
@@ -31,7 +31,7 @@ eats_rest judge s n rest (b ∷ bs) one =
     let p = and_parts (not (eqb b 10)) (list_all (λ c. not (eqb c 10)) bs) one in
     rw (not-true (eqb b 10) p.0) (eats_rest judge s n (rest ++ b ∷ []) bs p.1 ∙ ap (Reading s n) (append_assoc rest (b ∷ []) bs))
 
-pub eats_line : {S : Type 0} (judge : Judge S) (s : S) (n : ℕ) (rest line : List ℕ) → IsOneLine line → eats judge (Reading s n rest) (line ++ 10 ∷ []) ≡ judged (judge s (rest ++ line)) (next_number n)
+pub eats_line : {S : Type 0} (judge : Judge S) (s : S) (n : ℕ) (rest line : List ℕ) → IsOneLine line → eats judge (Reading s n rest) (line ++ 10 ∷ []) ≡ progress_after (judge s (rest ++ line)) (next_number n)
 unfolding eat
 eats_line {S} judge s n rest line one =
     eats_append judge (Reading s n rest) line (10 ∷ []) ∙ ap (λ (p : Progress S). eat judge p 10) (eats_rest judge s n rest line one)
@@ -44,7 +44,7 @@ pub line_ok : {S : Type 0} (judge : Judge S) (o q : Option JournalFault) (s t : 
 line_ok {S} judge o q s t n m rest new line goes same one made none next =
     ap (λ (k : Option JournalFault). eats judge (unless_stopped k (Reading s n rest)) (line ++ 10 ∷ [])) goes
     ∙ eats_line judge s n rest line one
-    ∙ ap (λ (r : Result S Cause). judged r (next_number n)) made
+    ∙ ap (λ (r : Result S Cause). progress_after r (next_number n)) made
     ∙ sym (λ i. unless_stopped ((same ∙ goes) i) (Reading t (next i) (none i)))
 
 pub line_wrong : {S : Type 0} (judge : Judge S) (o : Option JournalFault) (s : S) (n m : ℕ) (rest line : List ℕ) (cause : Cause)
@@ -53,10 +53,10 @@ pub line_wrong : {S : Type 0} (judge : Judge S) (o : Option JournalFault) (s : S
 line_wrong {S} judge o s n m rest line cause goes one made next =
     ap (λ (k : Option JournalFault). eats judge (unless_stopped k (Reading s n rest)) (line ++ 10 ∷ [])) goes
     ∙ eats_line judge s n rest line one
-    ∙ ap (λ (r : Result S Cause). judged r (next_number n)) made
+    ∙ ap (λ (r : Result S Cause). progress_after r (next_number n)) made
     ∙ sym (λ i. Stopped (faults.Line (next i) cause))
 
--- a line in front of what is left
+-- a line before what is left
 pub line_taken : {S : Type 0} (judge : Judge S) (now then total : Progress S) (left line after : List ℕ)
     → left ≡ line ++ 10 ∷ after → eats judge now (line ++ 10 ∷ []) ≡ then → eats judge now left ≡ total → eats judge then after ≡ total
 line_taken {S} judge now then total left line after parts took so_far =
@@ -67,7 +67,7 @@ line_taken {S} judge now then total left line after parts took so_far =
 
 -- ---- faults that may be
 
-judged_full : {S : Type 0} (full : S → Type 0) (r : Result S Cause) (n : ℕ) → GivesFull full r → HasFull full (judged r n)
+judged_full : {S : Type 0} (full : S → Type 0) (r : Result S Cause) (n : ℕ) → GivesFull full r → HasFull full (progress_after r n)
 judged_full full (Ok s) n h = h
 judged_full full (Err cause) n h = absurd h
 

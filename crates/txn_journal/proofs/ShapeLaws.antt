@@ -12,11 +12,12 @@ use Rattle.rows.specs.declared.schema.Table.{Table}
 use Rattle.rows.specs.declared.schema.TableFault.{TableFault}
 use Rattle.rows.specs.declared.schema.TableFault.TheVariants as table_faults
 use Rattle.rows.specs.Tables.{are_distinct, is_column_list, has_column_lists, is_within_limits, are_below, has_its_columns, is_taken, table_fault}
-use Rattle.journal_words.specs.Words.{is_count, count_of}
-use Rattle.journal_words.proofs.Counts.{lacks, is_count_decimal, count_again, count_found}
+use Rattle.row_images.specs.Words.{is_count, count_of}
+use Rattle.row_images.proofs.Counts.{lacks, is_count_decimal, count_again, count_found}
 use Rattle.txn_journal.specs.Words.{name_of}
 use Rattle.txn_journal.specs.Lines.{some_or_body}
-use Rattle.txn_journal.specs.Splits.{parts_of, joined_by, are_new_to, are_columns, is_columns_text, column_words, columns_text}
+use Rattle.row_images.specs.Parts.{parts_of, joined_by}
+use Rattle.txn_journal.specs.Splits.{are_new_to, are_columns, is_columns_text, column_words, columns_text}
 use Rattle.txn_journal.specs.Shapes.{Shape, unique_words, shape_words, shape_text, FitsShape, uniques_from, is_head, shape_of, shape_in, few_columns, width_of, column_below, numbers_from, columns_in, keys_from, table_of, shape_for, after_fault, with_table}
 use Rattle.txn_journal.specs.declared.fault.Cause.{Cause}
 use Rattle.txn_journal.specs.declared.fault.Cause.TheVariants as causes
@@ -24,7 +25,8 @@ use Rattle.txn_journal.proofs.NameLemmas.{name_no_blank, name_no_feed}
 use Rattle.txn_journal.specs.BundleCauses.{PassesTableLimit, HasNoPlace}
 use Rattle.txn_journal.proofs.Judged.{then_both, if_both, found_weaker, IsBody, IsSchema, ok_is}
 use Rattle.txn_journal.proofs.LineReads.{name_both}
-use Rattle.txn_journal.proofs.SplitLaws.{parts_joined, parts_cut, AllLack, parts_again, joined_lacks, count_no_blank, count_no_feed, columns_no_blank, columns_no_feed, are_small, new_distinct, columns_parts, columns_written}
+use Rattle.row_images.proofs.PartLaws.{parts_joined, parts_cut, AllLack, parts_again}
+use Rattle.txn_journal.proofs.SplitLaws.{joined_lacks, count_no_blank, count_no_feed, columns_no_blank, columns_no_feed, are_small, new_distinct, columns_parts, columns_written}
 
 -- ---- what is read is spelled so
 

@@ -8,8 +8,8 @@ use Rattle.std.proofs.lemmas.Result.{MatchResult-weaker}
 use Rattle.std.proofs.lemmas.List.{append-nil, length-append, map_push}
 use Rattle.std.proofs.lemmas.Option.{same_Some}
 use Rattle.gtid_text.proofs.Turns.{chosen}
-use Rattle.journal_words.specs.Words.{count_of}
-use Rattle.journal_words.proofs.Counts.{count_found}
+use Rattle.row_images.specs.Words.{count_of}
+use Rattle.row_images.proofs.Counts.{count_found}
 use Rattle.gtid_text.specs.declared.Gtid.{Gtid}
 use Rattle.gtid_text.specs.Written.{IsUsable}
 use Rattle.gtid_set.specs.Sets.{Gtids, greatest}
@@ -22,7 +22,7 @@ use Rattle.journal.specs.Writing.{is_number, is_change_writable, is_writable}
 use Rattle.txn_journal.specs.WrittenSets.{IsWrittenSet}
 use Rattle.txn_journal.specs.Due.{is_due}
 use Rattle.txn_journal.specs.Lines.{Numbers, takes, is_place, below, stamp_in}
-use Rattle.txn_journal.specs.Machine.{Standing, fits, open_entry, closed, add, begin_stamped, begin, judge}
+use Rattle.txn_journal.specs.Machine.{Standing, fits, open_entry, close_entry, add, begin_stamped, begin, judge}
 use Rattle.txn_journal.specs.Spelling.{Line, Header, Previous, Begin, Makes, End, Close, line_text, numbers_of, entry_lines, entries_lines, opening_lines, front_lines, FitsChange, FitsEntry, IsWritten, IsStamp, AreStamps}
 use Rattle.txn_journal.specs.Heard.{said}
 use Rattle.txn_journal.specs.declared.lines.Place.{Place}
@@ -124,7 +124,7 @@ lines_more version place (l ∷ ls) [] stamp e h = absurd h
 entry_writable : (s : Standing) → is_number s.gtid.number ≡ true → length s.changes ≤ 65536 → list_all is_change_writable s.changes ≡ true → is_writable (open_entry s) ≡ true
 entry_writable s number few all = rw (number, le-leb (length s.changes) 65536 few, all) refl
 
-pub whole_more : (schema : Option (List Table)) (s : Standing) → Opened schema s → Whole schema (closed s)
+pub whole_more : (schema : Option (List Table)) (s : Standing) → Opened schema s → Whole schema (close_entry s)
 whole_more schema s o =
     let w = o.whole in
     let j = s.journal in
@@ -143,7 +143,7 @@ whole_more schema s o =
     }
 
 -- the lines with a whole entry more
-pub ended_entry : (schema : Option (List Table)) (s : Standing) → Whole schema s → said (closed s) ≡ said (placed places.Within s) ++ End ∷ []
+pub ended_entry : (schema : Option (List Table)) (s : Standing) → Whole schema s → said (close_entry s) ≡ said (placed places.Within s) ++ End ∷ []
 ended_entry schema s w =
     let j = s.journal in
     let at : 1 + length j.entries ≡ s.count + 1 = omega (arith, w.counted) in

@@ -10,11 +10,10 @@ use Rattle.rows.specs.declared.change.TableRow.{TableRow}
 use Rattle.rows.specs.declared.change.NotInSchema.{NotInSchema}
 use Rattle.rows.specs.declared.change.ApplyFault.{ApplyFault}
 use Rattle.rows.specs.declared.change.RowFault.{RowFault}
-use Rattle.txn_journal.specs.Words.{before, behind}
-use Rattle.txn_journal.specs.Splits.{parts_of}
+use Rattle.row_images.specs.Parts.{before, behind, parts_of}
 use Rattle.txn_journal.specs.BundleStates.{with_opening, ok_rows}
 use Rattle.txn_journal.specs.declared.fault.Cause.TheVariants as causes
-use Rattle.txn_journal.proofs.SplitLaws.{parts_cut, more_parts}
+use Rattle.row_images.proofs.PartLaws.{parts_cut, more_parts}
 
 -- ---- parts
 

@@ -9,8 +9,8 @@ use Rattle.journal.specs.Writing.{is_number, is_change_writable}
 use Rattle.txn_journal.specs.Due.{is_due}
 use Rattle.gtid_text.specs.declared.Gtid.{Gtid}
 use Rattle.txn_journal.specs.Lines.{◌>>=◌, stamp_in}
-use Rattle.txn_journal.specs.Machine.{Standing, is_last, closed, add, begin_stamped, begin, judge}
-use Rattle.txn_journal.specs.Stream.{Progress, Reading, Stopped, judged, next_number, eat, ended, at_end}
+use Rattle.txn_journal.specs.Machine.{Standing, is_last, close_entry, add, begin_stamped, begin, judge}
+use Rattle.txn_journal.specs.Stream.{Progress, Reading, Stopped, progress_after, next_number, eat, end_of_text, at_end}
 use Rattle.txn_journal.specs.Formats.{closing_by}
 use Rattle.txn_journal.specs.Reading.{Stamped, eats_alone, stamped_of, without_entries, closing, in_front, behind_entries, with_front, has_begun, HasBegun}
 use Rattle.txn_journal.specs.Spelling.{Line, Header, Previous, Begin, Makes, End, Close}
@@ -64,7 +64,7 @@ put_behind front s (Makes c) b e =
     behind_cond front (leb 65536 (length s.changes) || not (is_change_writable c)) causes.Limit last _ refl
 put_behind front s End b e =
     let one : Entry = record { gtid = s.gtid; txn = record { changes = s.changes } } in
-    λ i. ok_standing (record (closed s) { journal = record s.journal { entries = append_assoc front.entries s.journal.entries (one ∷ []) i }; stamps = append_assoc front.stamps s.stamps (s.stamp ∷ []) i })
+    λ i. ok_standing (record (close_entry s) { journal = record s.journal { entries = append_assoc front.entries s.journal.entries (one ∷ []) i }; stamps = append_assoc front.stamps s.stamps (s.stamp ∷ []) i })
 put_behind front s Close b e = refl
 
 then_behind : (front : Stamped) (s : Standing) (line : List ℕ) (r : Result Line Cause) → has_begun s.place ≡ true → MatchResult r (Says (wording None s) line) (HasCause None s line) → (r >>= put None (with_taken front s)) ≡ behind_ok front (r >>= put None s)
@@ -96,19 +96,19 @@ judge_begun s line b = rw (judge_reads None s line) (judged_both (wording None s
 
 -- ---- bytes
 
-judged_behind : (front : Stamped) (r : Result Standing Cause) (n : ℕ) → judged (behind_ok front r) n ≡ behind_entries front (judged r n)
+judged_behind : (front : Stamped) (r : Result Standing Cause) (n : ℕ) → progress_after (behind_ok front r) n ≡ behind_entries front (progress_after r n)
 judged_behind front (Ok s) n = refl
 judged_behind front (Err c) n = refl
 
-judged_begun : (s : Standing) (line : List ℕ) (r : Result Standing Cause) (n : ℕ) → MatchResult r StaysBegun (HasCause None s line) → HasBegun (judged r n)
+judged_begun : (s : Standing) (line : List ℕ) (r : Result Standing Cause) (n : ℕ) → MatchResult r StaysBegun (HasCause None s line) → HasBegun (progress_after r n)
 judged_begun s line (Ok t) n h = h
 judged_begun s line (Err c) n h = tt
 
 eat_behind : (front : Stamped) (p : Progress Standing) (b : ℕ) → HasBegun p → (eat (judge None) (behind_entries front p) b ≡ behind_entries front (eat (judge None) p b)) × HasBegun (eat (judge None) p b)
 unfolding eat
 eat_behind front (Reading s n rest) b h =
-    elim (eqb b 10) as (λ v. (cond v (judged (judge None (with_taken front s) rest) (next_number n)) (Reading (with_taken front s) n (rest ++ b ∷ [])) ≡ behind_entries front (cond v (judged (judge None s rest) (next_number n)) (Reading s n (rest ++ b ∷ [])))) × HasBegun (cond v (judged (judge None s rest) (next_number n)) (Reading s n (rest ++ b ∷ [])))) [
-      | true ↦ (ap (λ (r : Result Standing Cause). judged r (next_number n)) (judge_behind front s rest h) ∙ judged_behind front (judge None s rest) (next_number n), judged_begun s rest (judge None s rest) (next_number n) (judge_begun s rest h))
+    elim (eqb b 10) as (λ v. (cond v (progress_after (judge None (with_taken front s) rest) (next_number n)) (Reading (with_taken front s) n (rest ++ b ∷ [])) ≡ behind_entries front (cond v (progress_after (judge None s rest) (next_number n)) (Reading s n (rest ++ b ∷ [])))) × HasBegun (cond v (progress_after (judge None s rest) (next_number n)) (Reading s n (rest ++ b ∷ [])))) [
+      | true ↦ (ap (λ (r : Result Standing Cause). progress_after r (next_number n)) (judge_behind front s rest h) ∙ judged_behind front (judge None s rest) (next_number n), judged_begun s rest (judge None s rest) (next_number n) (judge_begun s rest h))
       | false ↦ (refl, h)
     ]
 eat_behind front (Stopped f) b h = (refl, tt)
@@ -131,5 +131,5 @@ whole_behind front (Err f) j = refl
 
 pub closing_behind : (front : Stamped) (p : Progress Standing) → closing (behind_entries front p) ≡ with_front front.entries (closing p)
 unfolding closing_by
-closing_behind front (Reading s n rest) = whole_behind front.entries (ended (is_last s.place) rest n) s.journal
+closing_behind front (Reading s n rest) = whole_behind front.entries (end_of_text (is_last s.place) rest n) s.journal
 closing_behind front (Stopped f) = refl

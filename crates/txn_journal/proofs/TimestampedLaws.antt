@@ -3,7 +3,7 @@ use Rattle.std.proofs.Common.{◌≡◌, ℕ, true, List, None, Some, Result, Er
 use Rattle.rows.specs.declared.schema.Table.{Table}
 use Rattle.journal.specs.Journals.{JournalValue}
 use Rattle.txn_journal.specs.Lines.{takes}
-use Rattle.txn_journal.specs.Machine.{Standing, opened, step, judge}
+use Rattle.txn_journal.specs.Machine.{Standing, header_line, step, judge}
 use Rattle.txn_journal.specs.Stream.{Progress, Stopped, eat, IsWhole}
 use Rattle.txn_journal.specs.Formats.{closing_by}
 use Rattle.txn_journal.specs.Reading.{WrittenJournal, eats_alone}
@@ -40,7 +40,7 @@ right_read tables j w =
 -- a text of version 1 is refused at its first line
 
 stops_at_first : eats_alone timestamped_start (codes "journal 1\n") ≡ Stopped first_line_version
-unfolding eat judge step opened
+unfolding eat judge step header_line
 stops_at_first = refl
 
 pub older_refused : (bytes : List ℕ) → BeginsAsVersionOne bytes → closing_timestamped (eats_alone timestamped_start bytes) ≡ Err first_line_version

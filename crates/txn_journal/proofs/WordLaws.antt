@@ -6,8 +6,8 @@ use Rattle.std.proofs.lemmas.Option.{same_Some}
 use Rattle.std.proofs.lemmas.Result.{MatchResult-weaker}
 use Rattle.std.proofs.lemmas.Slice.Eq.{bytes_eq-Decides}
 use Rattle.gtid_text.proofs.Turns.{chosen}
-use Rattle.journal_words.specs.Words.{is_count, first_word, others}
-use Rattle.journal_words.proofs.Counts.{word_and_more}
+use Rattle.row_images.specs.Words.{is_count, first_word, others}
+use Rattle.row_images.proofs.Counts.{word_and_more}
 use Rattle.txn_journal.specs.Lines.{◌>>=◌, due}
 use Rattle.txn_journal.specs.Wordings.{Wording, Says, SaysNothing, HasCauseBy}
 use Rattle.txn_journal.specs.declared.fault.Cause.{Cause}

@@ -6,27 +6,20 @@ use Rattle.std.proofs.lemmas.List.Concat.{flat_map-append}
 use Rattle.gtid_text.specs.declared.Gtid.{Gtid}
 use Rattle.gtid_text.specs.Canonical.{gtid_text}
 use Rattle.gtid_set.specs.Sets.{Gtids}
-use Rattle.rows.specs.declared.value.Value.{Value}
+use Rattle.row_images.specs.declared.value.Value.{Value}
 use Rattle.rows.specs.declared.change.Change.{Change}
 use Rattle.rows.specs.declared.change.Change.TheVariants.{Update}
 use Rattle.journal.specs.declared.Entry.{Entry}
 use Rattle.journal.specs.Journals.{JournalValue}
-use Rattle.journal_words.specs.Values.{value_text}
+use Rattle.row_images.specs.Values.{value_text}
 use Rattle.txn_journal.specs.WrittenSets.{set_text}
 use Rattle.txn_journal.specs.Lines.{Numbers}
 use Rattle.txn_journal.specs.Stamps.{no_stamps}
-use Rattle.txn_journal.specs.Spelling.{Line, Header, Previous, Makes, Begin, End, Close, values_behind, values_text, image_text, change_text, numbers_text, line_text, ended_line, lines_text, numbers_of, entry_lines, entries_lines, opening_lines, spelling, spelling_as}
+use Rattle.txn_journal.specs.Spelling.{Line, Header, Previous, Makes, Begin, End, Close, image_text, change_text, numbers_text, line_text, ended_line, lines_text, numbers_of, entry_lines, entries_lines, opening_lines, spelling, spelling_as}
+use Rattle.row_images.specs.Images.{values_text}
 use Rattle.txn_journal.specs.Texts.{changes_text, body_text, entries_text, stamped_text, opening_text, text_around}
 use Rattle.txn_journal.specs.declared.lines.Version.{Version}
 use Rattle.txn_journal.specs.declared.lines.Version.TheVariants.{One, Two}
-
--- the first of some values, and the others behind it
-first_value : (v : Value) (vs : List Value) → values_text (v ∷ vs) ≡ value_text v ++ values_behind vs
-first_value v [] = sym (append-nil (value_text v))
-first_value v (w ∷ vs) = ap (λ (t : List ℕ). value_text v ++ 32 ∷ t) (first_value w vs)
-
-pub values_first : (out : List ℕ) (v : Value) (vs : List Value) → (out ++ value_text v) ++ values_behind vs ≡ out ++ values_text (v ∷ vs)
-values_first out v vs = append_assoc out (value_text v) (values_behind vs) ∙ ap (λ (t : List ℕ). out ++ t) (sym (first_value v vs))
 
 pub image_appended : (out word table : List ℕ) (image : List Value) → ((((out ++ word) ++ codes " ") ++ table) ++ codes " ") ++ values_text image ≡ out ++ image_text word table image
 image_appended out word table image = simp append_assoc
@@ -42,7 +35,7 @@ changes_lines : (cs : List Change) → changes_text cs ≡ lines_text (map Makes
 changes_lines [] = refl
 changes_lines (c ∷ cs) = ap (λ (t : List ℕ). ended_line (Makes c) ++ t) (changes_lines cs)
 
--- the body of an entry, behind its first line
+-- the body of an entry, after its first line
 body_lines : (cs : List Change) → body_text cs ≡ codes "\n" ++ lines_text (map Makes cs ++ End ∷ [])
 body_lines cs = ap (λ (t : List ℕ). codes "\n" ++ t) (ap (λ (t : List ℕ). t ++ codes "end\n") (changes_lines cs) ∙ sym (flat_map-append ended_line (map Makes cs) (End ∷ [])))
 
@@ -104,11 +97,3 @@ journal_text j = ap (text_around One j.previous) (entries_unstamped 1 j.entries)
 
 pub stamped_journal_text : (out stamps : List ℕ) (j : JournalValue) → out ++ text_around Two j.previous (stamped_text 1 stamps j.entries) ≡ out ++ spelling_as Two stamps j
 stamped_journal_text out stamps j = ap (λ (t : List ℕ). out ++ t) (ap (text_around Two j.previous) (entries_stamped 1 stamps j.entries) ∙ around_lines Two j.previous (entries_lines Two 1 stamps j.entries))
-
--- values that a slice has, by its first and the others
-pub values_cut : (out : List ℕ) (v : Value) (vs : List Value) → 1 ≤ length vs → v ≡ get_or vs 0 v → (out ++ value_text v) ++ values_behind (take (length vs - 1) (drop 1 vs)) ≡ out ++ values_text vs
-values_cut out v [] some is = absurd (omega arith)
-values_cut out v (w ∷ ws) some is =
-    ap (λ (t : List Value). (out ++ value_text v) ++ values_behind t) (take_rest (w ∷ ws) 1)
-    ∙ ap (λ (x : Value). (out ++ value_text x) ++ values_behind ws) is
-    ∙ values_first out w ws

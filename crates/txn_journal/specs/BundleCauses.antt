@@ -6,11 +6,11 @@ use Rattle.rows.specs.Apply.{Rows}
 use Rattle.rows.specs.Names.{is_name}
 use Rattle.rows.specs.Tables.{table_fault}
 use Rattle.journal.specs.Writing.{is_image_writable}
-use Rattle.journal_words.specs.Words.{count_of}
+use Rattle.row_images.specs.Words.{count_of}
 use Rattle.txn_journal.specs.Wordings.{Wording, HasCauseBy}
 use Rattle.txn_journal.specs.Causes.{HasCause}
 use Rattle.txn_journal.specs.Shapes.{Shape, FitsShape, shape_for}
-use Rattle.txn_journal.specs.BundleStates.{BundleStanding, word_of, is_due_in, behind_tables, has_channel, with_opening}
+use Rattle.txn_journal.specs.BundleStates.{BundleStanding, word_of, is_due_in, after_tables, has_channel, with_opening}
 use Rattle.txn_journal.specs.BundleText.{OwnLine, Heads, Names, Starts, Has, Puts, Opens, Done, own_text, FitsRow}
 use Rattle.txn_journal.specs.declared.bundle_draft.Part.{Part}
 use Rattle.txn_journal.specs.declared.bundle_draft.Part.TheVariants as parts
@@ -80,11 +80,11 @@ PassesOwnLimit s _ = ⊥
 -- what the lines before do not allow: a table that may not come after the others, a row that may not be put, a name that a channel has
 abbrev pub Clashes : BundleStanding → OwnLine → Type 0
 Clashes s (Has shape) = HasNoPlace s.tables shape
-Clashes s (Puts r) = (rows : Rows) → with_opening (behind_tables s).bundle.start r ≡ Ok rows → ⊥
+Clashes s (Puts r) = (rows : Rows) → with_opening (after_tables s).bundle.start r ≡ Ok rows → ⊥
 Clashes s (Opens c) = has_channel s.bundle.channels c.name ≡ true
 Clashes s _ = ⊥
 
--- the lines of the bundle's own that may come next; no GTID stands in them
+-- the lines of the bundle's own that may come next; no GTID is in them
 abbrev pub own_wording : BundleStanding → Wording
 own_wording s = record {
   Word = Word;

@@ -15,7 +15,7 @@ abbrev pub inner_said : Option Channel → Standing → List BundleLine
 inner_said None draft = []
 inner_said (Some c) draft = Own (Opens c) ∷ map Inner (said draft)
 
--- the lines of the bundle's whole channels and of what stands before them, each entry with its last_committed
+-- the lines of the bundle's whole channels and of what comes before them, each entry with its last_committed
 abbrev pub front_said : List TableRow → BundleStanding → List BundleLine
 front_said rows s = bundle_front s.version rows (all_stamps s.version s.bundle.start.schema s.bundle.journals) s.bundle
 

@@ -6,7 +6,7 @@ use Rattle.txn_journal.specs.declared.fault.JournalFault.{JournalFault}
 use Rattle.txn_journal.specs.Stream.{Progress}
 use Rattle.txn_journal.specs.Formats.{Format, start_of, eats_by, IsFaultBy, closing_by}
 use Rattle.txn_journal.specs.BundleStates.{BundleValue, BundleStanding, no_bundle, is_done, judge_bundle, IsFullBundle}
-use Rattle.journal_words.specs.Words.{first_word}
+use Rattle.row_images.specs.Words.{first_word}
 use Rattle.txn_journal.specs.Lines.{keyword_of}
 use Rattle.txn_journal.specs.Machine.{is_within}
 use Rattle.txn_journal.specs.declared.lines.Keyword.{Keyword}
@@ -59,7 +59,7 @@ bundle_start due = start_of (bundles due)
 abbrev pub eats_bundle : Progress BundleStanding → List ℕ → Progress BundleStanding
 eats_bundle p bytes = eats_by (bundles None) p bytes
 
--- why bytes are not taken, though nothing is wrong with them: memory was refused, or the opening set or that of a channel's journal has too many sources or intervals behind some of them
+-- why bytes are not taken, though nothing is wrong with them: memory was refused, or the opening set or that of a channel's journal has too many sources or intervals after some of them
 abbrev pub IsFaultOfBundle : Progress BundleStanding → List ℕ → SetFault → Type 0
 IsFaultOfBundle p bytes fault = IsFaultBy (bundles None) p bytes fault
 

@@ -17,11 +17,11 @@ use Rattle.rows.specs.Fits.{misfit}
 use Rattle.rows.specs.Database.{Database, opening}
 use Rattle.journal.specs.Journals.{JournalValue}
 use Rattle.journal.specs.Writing.{is_image_writable}
-use Rattle.journal_words.specs.Words.{first_word, others}
+use Rattle.row_images.specs.Words.{first_word, others}
 use Rattle.journal_words.specs.Gtids.{source_of_word}
 use Rattle.txn_journal.specs.Words.{name_of}
 use Rattle.txn_journal.specs.Lines.{◌>>=◌, some_or_body, due, version_in, set_in, nothing_in, table_in, image_in}
-use Rattle.txn_journal.specs.Machine.{Standing, empty, is_last, is_within, open_entry, closed, IsFull, judge}
+use Rattle.txn_journal.specs.Machine.{Standing, empty, is_last, is_within, open_entry, close_entry, IsFull, judge}
 use Rattle.txn_journal.specs.Stamps.{right_stamp}
 use Rattle.txn_journal.specs.Shapes.{added_table}
 use Rattle.txn_journal.specs.declared.bundle.Channel.{Channel}
@@ -47,7 +47,7 @@ abbrev pub bare : ℕ → Gtids → List Table → BundleValue
 bare replica opened tables = record { replica = replica; opened = opened; start = record { schema = tables; rows = map.empty }; channels = []; journals = [] }
 
 -- What the lines so far have said. `due` is the version that is due, if not each known one is; the tables stand in `tables` until the first line
--- behind them.
+-- after them.
 pub record BundleStanding : Type 0 where
   pub part : Part
   pub due : Option Version
@@ -118,12 +118,12 @@ channel_in (Some text) = do
 -- ---- one line more
 
 -- the tables end here, where they have not
-abbrev pub opened_rows : Part → BundleStanding → BundleStanding
-opened_rows parts.Tables s = record s { part = parts.Rows; tables = []; bundle = bare s.bundle.replica s.bundle.opened s.tables }
-opened_rows _ s = s
+abbrev pub open_rows : Part → BundleStanding → BundleStanding
+open_rows parts.Tables s = record s { part = parts.Rows; tables = []; bundle = bare s.bundle.replica s.bundle.opened s.tables }
+open_rows _ s = s
 
-abbrev pub behind_tables : BundleStanding → BundleStanding
-behind_tables s = opened_rows s.part s
+abbrev pub after_tables : BundleStanding → BundleStanding
+after_tables s = open_rows s.part s
 
 abbrev pub ok_rows : Result Rows RowFault → Result Rows Cause
 ok_rows (Ok rows) = Ok rows
@@ -141,62 +141,62 @@ put_row s r = do
 abbrev pub has_channel : List Channel → List ℕ → Bool
 has_channel channels name = list_any (λ c. eq_by_cmp (slice_cmp nat_cmp) c.name name) channels
 
-unfoldable pub headed : BundleStanding → Option (List ℕ) → Result BundleStanding Cause
-headed s rest = do
+unfoldable pub version_line : BundleStanding → Option (List ℕ) → Result BundleStanding Cause
+version_line s rest = do
   version ← version_in s.due rest
   Ok (record s { part = parts.Replica; version = version })
 
 -- version 2 has a line of the opening set
-abbrev pub behind_replica : Version → Part
-behind_replica One = parts.Tables
-behind_replica Two = parts.Opening
+abbrev pub after_replica : Version → Part
+after_replica One = parts.Tables
+after_replica Two = parts.Opening
 
-unfoldable pub named : BundleStanding → Option (List ℕ) → Result BundleStanding Cause
-named s rest = do
+unfoldable pub replica_line : BundleStanding → Option (List ℕ) → Result BundleStanding Cause
+replica_line s rest = do
   replica ← replica_in rest
-  Ok (record s { part = behind_replica s.version; bundle = bare replica set.empty [] })
+  Ok (record s { part = after_replica s.version; bundle = bare replica set.empty [] })
 
-unfoldable pub begun_with : BundleStanding → Option (List ℕ) → Result BundleStanding Cause
-begun_with s rest = do
+unfoldable pub opening_line : BundleStanding → Option (List ℕ) → Result BundleStanding Cause
+opening_line s rest = do
   opened ← set_in rest
   Ok (record s { part = parts.Tables; bundle = bare s.bundle.replica opened [] })
 
-unfoldable pub tabled : BundleStanding → Option (List ℕ) → Result BundleStanding Cause
-tabled s None = Err causes.Body
-tabled s (Some text) = do
+unfoldable pub add_table_line : BundleStanding → Option (List ℕ) → Result BundleStanding Cause
+add_table_line s None = Err causes.Body
+add_table_line s (Some text) = do
   tables ← added_table s.tables text
   Ok (record s { tables = tables })
 
-unfoldable pub rowed : BundleStanding → Option (List ℕ) → Result BundleStanding Cause
-rowed s rest = do
+unfoldable pub row_line : BundleStanding → Option (List ℕ) → Result BundleStanding Cause
+row_line s rest = do
   table ← table_in rest
   row ← image_in table.1
-  if is_image_writable row then put_row (behind_tables s) (record { table = table.0; row = row }) else Err causes.Limit
+  if is_image_writable row then put_row (after_tables s) (record { table = table.0; row = row }) else Err causes.Limit
 
-unfoldable pub joined_channel : BundleStanding → Channel → Result BundleStanding Cause
-joined_channel s channel =
+unfoldable pub join_channel : BundleStanding → Channel → Result BundleStanding Cause
+join_channel s channel =
     if nat_le 256 (length s.bundle.channels) then Err causes.Limit
     else if has_channel s.bundle.channels channel.name then Err causes.Schema
-    else Ok (record (behind_tables s) { part = parts.Journal; channel = Some channel; draft = empty (Some s.version) })
+    else Ok (record (after_tables s) { part = parts.Journal; channel = Some channel; draft = empty (Some s.version) })
 
-unfoldable pub channelled : BundleStanding → Option (List ℕ) → Result BundleStanding Cause
-channelled s rest = do
+unfoldable pub channel_line : BundleStanding → Option (List ℕ) → Result BundleStanding Cause
+channel_line s rest = do
   channel ← channel_in rest
-  joined_channel s channel
+  join_channel s channel
 
-unfoldable pub all_done : BundleStanding → Option (List ℕ) → Result BundleStanding Cause
-all_done s rest = do
+unfoldable pub done_line : BundleStanding → Option (List ℕ) → Result BundleStanding Cause
+done_line s rest = do
   nothing ← nothing_in rest
-  Ok (record (behind_tables s) { part = parts.Ended })
+  Ok (record (after_tables s) { part = parts.Ended })
 
 unfoldable pub own_step : BundleStanding → Word → Option (List ℕ) → Result BundleStanding Cause
-own_step s words.Bundle rest = headed s rest
-own_step s words.Replica rest = named s rest
-own_step s words.Opening rest = begun_with s rest
-own_step s words.Table rest = tabled s rest
-own_step s words.Row rest = rowed s rest
-own_step s words.Channel rest = channelled s rest
-own_step s words.Done rest = all_done s rest
+own_step s words.Bundle rest = version_line s rest
+own_step s words.Replica rest = replica_line s rest
+own_step s words.Opening rest = opening_line s rest
+own_step s words.Table rest = add_table_line s rest
+own_step s words.Row rest = row_line s rest
+own_step s words.Channel rest = channel_line s rest
+own_step s words.Done rest = done_line s rest
 
 -- a line of the bundle's own
 unfoldable pub judge_own : BundleStanding → List ℕ → Result BundleStanding Cause
@@ -209,11 +209,11 @@ abbrev pub with_journal : Option Channel → BundleValue → JournalValue → Bu
 with_journal None b journal = b
 with_journal (Some channel) b journal = record b { channels = b.channels ++ channel ∷ []; journals = b.journals ++ journal ∷ [] }
 
-abbrev pub closed_channel : BundleStanding → Standing → BundleStanding
-closed_channel s draft = record s { part = parts.Channels; bundle = with_journal s.channel s.bundle draft.journal; channel = None; draft = empty (Some s.version) }
+abbrev pub close_channel : BundleStanding → Standing → BundleStanding
+close_channel s draft = record s { part = parts.Channels; bundle = with_journal s.channel s.bundle draft.journal; channel = None; draft = empty (Some s.version) }
 
 unfoldable pub after_inner : BundleStanding → Standing → BundleStanding
-after_inner s draft = if is_last draft.place then closed_channel s draft else record s { draft = draft }
+after_inner s draft = if is_last draft.place then close_channel s draft else record s { draft = draft }
 
 -- the entry that was open has ended, with another last_committed than it has to have
 abbrev pub is_misstamped : Version → List Table → Standing → Standing → Bool
@@ -224,10 +224,10 @@ abbrev pub unless_misstamped : Bool → BundleStanding → Standing → Result B
 unless_misstamped whole s draft = if whole && is_misstamped s.version s.bundle.start.schema s.draft draft then Err causes.Stamp else Ok (after_inner s draft)
 
 -- the entry that is open ends
-unfoldable pub ended_inside : BundleStanding → Result BundleStanding Cause
-ended_inside s =
+unfoldable pub end_entry : BundleStanding → Result BundleStanding Cause
+end_entry s =
     if s.draft.stamp == right_stamp s.version s.bundle.start.schema s.draft.journal.entries (open_entry s.draft)
-    then Ok (record s { draft = closed s.draft })
+    then Ok (record s { draft = close_entry s.draft })
     else Err causes.Stamp
 
 -- a line of the open channel's journal

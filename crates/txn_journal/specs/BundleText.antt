@@ -20,7 +20,8 @@ use Rattle.txn_journal.specs.Lines.{◌>>=◌, takes}
 use Rattle.txn_journal.specs.Machine.{fits}
 use Rattle.txn_journal.specs.Shapes.{Shape, shape_text, shape_for}
 use Rattle.txn_journal.specs.BundleStates.{BundleValue, has_channel, with_opening}
-use Rattle.txn_journal.specs.Spelling.{Line, version_text, image_text, line_text, journal_lines, AreValues, IsWritten, IsStamp}
+use Rattle.txn_journal.specs.Spelling.{Line, version_text, image_text, line_text, journal_lines, IsWritten, IsStamp}
+use Rattle.row_images.specs.Images.{AreValues}
 use Rattle.txn_journal.specs.Stamps.{right_stamps, all_stamps}
 use Rattle.txn_journal.specs.WrittenSets.{set_text, IsWrittenSet}
 use Rattle.txn_journal.specs.declared.bundle.Channel.{Channel}
@@ -167,6 +168,10 @@ pub record IsWrittenBundle (version : Version) (rows : List TableRow) (b : Bundl
   pub named : AreNamed [] b.channels
   pub few : length b.channels ≤ 256
   pub brought : AreBrought b.start.schema b.channels b.journals
+
+-- what every bundle keeps: it has a text by version 2, with its rows in listed order
+abbrev pub IsBundle : BundleValue → Type 0
+IsBundle b = IsWrittenBundle Two (rows_listed b.start.rows) b
 
 -- the bytes are a text of this bundle, by this version
 pub record WritesBundleAs (version : Version) (bytes : List ℕ) (b : BundleValue) : Type 0 where

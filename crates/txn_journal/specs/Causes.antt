@@ -7,7 +7,7 @@ use Rattle.rows.specs.declared.schema.Table.{Table}
 use Rattle.journal.specs.Writing.{is_change_writable}
 use Rattle.gtid_text.specs.declared.Gtid.{Gtid}
 use Rattle.txn_journal.specs.Due.{is_due}
-use Rattle.journal_words.specs.Words.{is_count}
+use Rattle.row_images.specs.Words.{is_count}
 use Rattle.txn_journal.specs.Lines.{Numbers, keyword_of, takes, stamp_in}
 use Rattle.txn_journal.specs.Machine.{Standing, fits}
 use Rattle.txn_journal.specs.Wordings.{Wording, HasCauseBy}

@@ -3,13 +3,13 @@ use Rattle.std.specs.Prelude.{◌≡◌, ◌⊎◌, ℕ, ◌+◌, ◌-◌, ◌^�
 use Rattle.std.specs.List.{flat_map, AllByRecursion}
 use Rattle.gtid_set.specs.declared.fault.SetFault.{SetFault}
 use Rattle.txn_journal.specs.Words.{IsOneLine}
-use Rattle.txn_journal.specs.Stream.{Judge, Progress, Reading, Stopped, eats, ended, at_end, IsPieceFault, Feeds}
+use Rattle.txn_journal.specs.Stream.{Judge, Progress, Reading, Stopped, eats, end_of_text, at_end, IsPieceFault, Feeds}
 use Rattle.txn_journal.specs.declared.fault.Cause.{Cause}
 use Rattle.txn_journal.specs.declared.fault.Cause.TheVariants as causes
 use Rattle.txn_journal.specs.declared.fault.JournalFault.{JournalFault}
 use Rattle.txn_journal.specs.declared.fault.JournalFault.TheVariants as faults
 
--- What a line says (Line), what whole lines have made (State), and what a text spells (Value).
+-- What a line says (Line), what whole lines have made (State), and what a text parses as (Value).
 pub record Format : Type 1 where
   pub Line : Type 0
   pub State : Type 0
@@ -72,7 +72,7 @@ FeedsBy f old piece new = Feeds f.IsFull f.judge old piece new
 
 -- the end of the text
 unfoldable pub closing_by : (f : Format) → Progress f.State → Result f.Value JournalFault
-closing_by f (Reading s n rest) = at_end (ended (f.is_last s) rest n) (f.value s)
+closing_by f (Reading s n rest) = at_end (end_of_text (f.is_last s) rest n) (f.value s)
 closing_by f (Stopped fault) = Err fault
 
 -- what all of the bytes are read as
@@ -91,8 +91,8 @@ abbrev pub BeginsBy : (f : Format) → Bool → List ℕ → Type 0
 BeginsBy f inside front = (v : f.Value) × (more : List ℕ) × MayWrite f inside (front ++ more) v
 
 -- line numbers count up to the largest that is stored
-abbrev pub capped : ℕ → ℕ
-capped n = min n (2 ^ 64 - 1)
+abbrev pub cap_line_number : ℕ → ℕ
+cap_line_number n = min n (2 ^ 64 - 1)
 
 -- The text has whole lines with which a value's may begin, and then one more with which none does. Its number counts from 1. A line that begins an
 -- entry or stands within it is no such line because of what only its whole entry shows: that is the fault of the line which ends the entry.
@@ -105,7 +105,7 @@ pub record IsFirstFaulty (f : Format) (bytes : List ℕ) (n : ℕ) (cause : Caus
   pub whole : IsOneLine line
   pub state : f.State
   pub heard : f.HasHeard state before
-  pub number : n ≡ capped (length before + 1)
+  pub number : n ≡ cap_line_number (length before + 1)
   pub begins : BeginsBy f (f.is_open state) (text_of f before)
   pub faulty : BeginsBy f (f.is_inside line) (text_of f before ++ (line ++ 10 ∷ [])) → ⊥
   pub has_cause : f.HasCause state line cause
@@ -119,7 +119,7 @@ pub record IsFront (f : Format) (bytes : List ℕ) (n : ℕ) : Type 0 where
   pub part : IsOneLine rest
   pub state : f.State
   pub heard : f.HasHeard state before
-  pub number : n ≡ capped (length before + 1)
+  pub number : n ≡ cap_line_number (length before + 1)
   pub begins : BeginsBy f (f.is_open state) (text_of f before)
 
 -- The text is that of a value in whole lines, and then bytes that are no whole line.
@@ -132,7 +132,7 @@ pub record IsTrailing (f : Format) (bytes : List ℕ) (n : ℕ) : Type 0 where
   pub written : f.Writes (text_of f before) value
   pub part : IsOneLine rest
   pub some : 0 < length rest
-  pub number : n ≡ capped (length before + 1)
+  pub number : n ≡ cap_line_number (length before + 1)
 
 -- what each fault says of the text
 abbrev pub RefusesBy : (f : Format) → JournalFault → List ℕ → Type 0
@@ -140,7 +140,7 @@ RefusesBy f (faults.Set fault) bytes = IsFaultBy f (start_of f) bytes fault
 RefusesBy f (faults.Line n cause) bytes = IsFirstFaulty f bytes n cause ⊎ (IsTrailing f bytes n × (cause ≡ causes.Keyword))
 RefusesBy f (faults.Truncated n) bytes = IsFront f bytes n × ((v : f.Value) → f.Writes bytes v → ⊥)
 
--- what the bytes spell, or why they are refused
+-- what the bytes parse as, or why they are refused
 abbrev pub SpellsBy : (f : Format) → List ℕ → Result f.Value JournalFault → Type 0
 SpellsBy f bytes (Ok v) = f.Writes bytes v
 SpellsBy f bytes (Err fault) = RefusesBy f fault bytes

@@ -1,14 +1,15 @@
 -- What the words of a line say.
-use Rattle.std.specs.Prelude.{ℕ, ◌==◌, Bool, true, false, ◌&&◌, nat_lt, List, [], ◌∷◌, ◌++◌, Option, Some, None, Result, Ok, Err, codes, if◌then◌else◌}
+use Rattle.std.specs.Prelude.{◌≡◌, not, ℕ, ◌==◌, Bool, true, false, ◌&&◌, nat_lt, List, [], ◌∷◌, ◌++◌, Option, Some, None, Result, Ok, Err, codes, if◌then◌else◌}
+use Rattle.std.specs.List.{list_all}
 use Rattle.std.specs.Str.{bytes_eq}
 use Rattle.gtid_text.specs.declared.Gtid.{Gtid}
 use Rattle.gtid_set.specs.Sets.{Gtids}
-use Rattle.rows.specs.declared.value.Value.{Value}
-use Rattle.journal_words.specs.Words.{is_count, count_of, first_word, others}
-use Rattle.journal_words.specs.Values.{value_of}
+use Rattle.row_images.specs.declared.value.Value.{Value}
+use Rattle.row_images.specs.Words.{is_count, count_of, first_word, others}
+use Rattle.row_images.specs.Values.{value_of}
 use Rattle.journal_words.specs.Gtids.{gtid_of_word, set_of_word}
 use Rattle.txn_journal.specs.Words.{name_of}
-use Rattle.txn_journal.specs.Splits.{parts_of}
+use Rattle.row_images.specs.Images.{words_of}
 use Rattle.txn_journal.specs.declared.fault.Cause.{Cause}
 use Rattle.txn_journal.specs.declared.fault.Cause.TheVariants as causes
 use Rattle.txn_journal.specs.declared.lines.Keyword.{Keyword}
@@ -61,13 +62,13 @@ version_named word =
     else if bytes_eq word (codes "2") then Some Two
     else None
 
-abbrev pub known : Option Version → Option Version → Result Version Cause
-known due None = Err causes.Version
-known due (Some version) = if takes due version then Ok version else Err causes.Version
+abbrev pub known_version : Option Version → Option Version → Result Version Cause
+known_version due None = Err causes.Version
+known_version due (Some version) = if takes due version then Ok version else Err causes.Version
 
 abbrev pub version_in : Option Version → Option (List ℕ) → Result Version Cause
 version_in due None = Err causes.Body
-version_in due (Some word) = if is_count word then known due (version_named word) else Err causes.Body
+version_in due (Some word) = if is_count word then known_version due (version_named word) else Err causes.Body
 
 -- ---- GTIDs and sets
 
@@ -118,7 +119,7 @@ abbrev pub below : ℕ → Option ℕ → Option ℕ
 below place None = None
 below place (Some number) = if nat_lt number place then Some number else None
 
--- the last_committed of the entry at a place, counted from 1: it is below the sequence number, which is the place. Version 1 writes no numbers: 0 stands for it there.
+-- the last_committed of the entry at a place, counted from 1: it is below the sequence number, which is the place. Version 1 writes no numbers: 0 denotes it there.
 abbrev pub stamp_in : ℕ → Option Numbers → Option ℕ
 stamp_in place None = Some 0
 stamp_in place (Some numbers) = if is_place place (count_of numbers.sequence_number) then below place (count_of numbers.last_committed) else None
@@ -132,11 +133,7 @@ beginning_at version place rest = beginning_in version rest >>= λ b. Ok (at_pla
 
 -- ---- images
 
--- the words between blanks
-abbrev pub words_of : List ℕ → List (List ℕ)
-words_of text = parts_of 32 text
-
--- values up to a bar or the end, and the words behind the bar
+-- values up to a bar or the end, and the words after the bar
 abbrev pub Image : Type 0
 Image = List Value × Option (List (List ℕ))
 
@@ -180,7 +177,12 @@ image_in text = one_image (values_from [] (words_of text))
 abbrev pub images_in : List ℕ → Result (List Value × List Value) Cause
 images_in text = both_images (values_from [] (words_of text))
 
--- a table's name, and the text behind it
+-- a text is these two with a bar between, and no bar is in the first
+pub record IsAroundBar (text before after : List ℕ) : Type 0 where
+  pub parts : text ≡ before ++ 32 ∷ (124 ∷ 32 ∷ after)
+  pub first : list_all (λ b. not (b == 124)) before ≡ true
+
+-- a table's name, and the text after it
 abbrev pub table_in : Option (List ℕ) → Result (List ℕ × List ℕ) Cause
 table_in None = Err causes.Body
 table_in (Some text) = do

@@ -5,7 +5,7 @@ use Rattle.gtid_text.specs.declared.Gtid.{Gtid}
 use Rattle.gtid_set.specs.declared.fault.SetFault.{SetFault}
 use Rattle.gtid_set.specs.Full.{IsFaultOf}
 use Rattle.gtid_set.specs.Sets.{Gtids}
-use Rattle.rows.specs.declared.value.Value.{Value}
+use Rattle.row_images.specs.declared.value.Value.{Value}
 use Rattle.rows.specs.declared.change.Change.{Change}
 use Rattle.rows.specs.declared.change.Change.TheVariants.{Insert, Delete, Update}
 use Rattle.rows.specs.declared.schema.Table.{Table}
@@ -14,7 +14,7 @@ use Rattle.rows.specs.Fits.{has_primary_null, table_of}
 use Rattle.journal.specs.declared.Entry.{Entry}
 use Rattle.journal.specs.Journals.{JournalValue}
 use Rattle.journal.specs.Writing.{is_number, is_change_writable}
-use Rattle.journal_words.specs.Words.{first_word, others}
+use Rattle.row_images.specs.Words.{first_word, others}
 use Rattle.txn_journal.specs.Due.{is_due}
 use Rattle.txn_journal.specs.Lines.{◌>>=◌, keyword_of, due, version_in, beginning_at, set_in, nothing_in, table_in, image_in, images_in}
 use Rattle.txn_journal.specs.declared.fault.Cause.{Cause}
@@ -72,8 +72,8 @@ abbrev pub IsFull : SetFault → Standing → Type 0
 IsFull f s = (s.place ≡ places.Between) × IsFaultOf f s.seen
 
 -- its entries were taken
-abbrev pub emptied : Standing → Standing
-emptied s = record s { journal = record s.journal { entries = [] }; stamps = [] }
+abbrev pub drop_entries : Standing → Standing
+drop_entries s = record s { journal = record s.journal { entries = [] }; stamps = [] }
 
 -- ---- what a schema takes
 
@@ -117,8 +117,8 @@ abbrev pub open_entry : Standing → Entry
 open_entry s = record { gtid = s.gtid; txn = record { changes = s.changes } }
 
 -- an entry joins the others
-abbrev pub joined : Standing → Entry → Standing
-joined s e = record s {
+abbrev pub join_entry : Standing → Entry → Standing
+join_entry s e = record s {
   place = places.Between;
   journal = record s.journal { entries = s.journal.entries ++ e ∷ [] };
   stamps = s.stamps ++ s.stamp ∷ [];
@@ -128,38 +128,38 @@ joined s e = record s {
 }
 
 -- so does the one that is open
-abbrev pub closed : Standing → Standing
-closed s = joined s (open_entry s)
+abbrev pub close_entry : Standing → Standing
+close_entry s = join_entry s (open_entry s)
 
-unfoldable pub opened : Standing → Option (List ℕ) → Result Standing Cause
-opened s rest = do
+unfoldable pub header_line : Standing → Option (List ℕ) → Result Standing Cause
+header_line s rest = do
   version ← version_in s.due rest
   Ok (record s { place = places.Previous; version = version })
 
-unfoldable pub followed : Standing → Option (List ℕ) → Result Standing Cause
-followed s rest = do
+unfoldable pub previous_line : Standing → Option (List ℕ) → Result Standing Cause
+previous_line s rest = do
   previous ← set_in rest
   Ok (record s { place = places.Between; journal = record { previous = previous; entries = [] }; seen = previous })
 
-unfoldable pub begun : Standing → Option (List ℕ) → Result Standing Cause
-begun s rest = do
+unfoldable pub txn_line : Standing → Option (List ℕ) → Result Standing Cause
+txn_line s rest = do
   beginning ← beginning_at s.version (s.count + 1) rest
   begin s beginning.0 beginning.1
 
-unfoldable pub ended : Standing → Option (List ℕ) → Result Standing Cause
-ended s rest = do
+unfoldable pub end_line : Standing → Option (List ℕ) → Result Standing Cause
+end_line s rest = do
   nothing ← nothing_in rest
-  Ok (closed s)
+  Ok (close_entry s)
 
-unfoldable pub finished : Standing → Option (List ℕ) → Result Standing Cause
-finished s rest = do
+unfoldable pub close_line : Standing → Option (List ℕ) → Result Standing Cause
+close_line s rest = do
   nothing ← nothing_in rest
   Ok (record s { place = places.Ended })
 
 unfoldable pub step : Option (List Table) → Standing → Keyword → Option (List ℕ) → Result Standing Cause
-step schema s keywords.Journal rest = opened s rest
-step schema s keywords.Previous rest = followed s rest
-step schema s keywords.Txn rest = begun s rest
+step schema s keywords.Journal rest = header_line s rest
+step schema s keywords.Previous rest = previous_line s rest
+step schema s keywords.Txn rest = txn_line s rest
 step schema s keywords.Ins rest = do
   table ← table_in rest
   after ← image_in table.1
@@ -172,8 +172,8 @@ step schema s keywords.Upd rest = do
   table ← table_in rest
   images ← images_in table.1
   add schema s (Update table.0 images.0 images.1)
-step schema s keywords.End rest = ended s rest
-step schema s keywords.Close rest = finished s rest
+step schema s keywords.End rest = end_line s rest
+step schema s keywords.Close rest = close_line s rest
 
 -- a line at the place where it stands
 unfoldable pub judge : Option (List Table) → Standing → List ℕ → Result Standing Cause

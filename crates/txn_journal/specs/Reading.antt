@@ -6,7 +6,7 @@ use Rattle.journal.specs.Journals.{JournalValue}
 use Rattle.txn_journal.specs.declared.fault.JournalFault.{JournalFault}
 use Rattle.txn_journal.specs.Stream.{Progress, Reading, Stopped}
 use Rattle.txn_journal.specs.Formats.{Format, eats_by, IsFaultBy, closing_by}
-use Rattle.txn_journal.specs.Machine.{Standing, empty, is_last, emptied, judge, IsFull}
+use Rattle.txn_journal.specs.Machine.{Standing, empty, is_last, drop_entries, judge, IsFull}
 use Rattle.txn_journal.specs.Lines.{takes}
 use Rattle.txn_journal.specs.Spelling.{Line, line_text, WritesAs, Writes}
 use Rattle.txn_journal.specs.Heard.{said}
@@ -66,7 +66,7 @@ before_first = alone_start None
 abbrev pub eats_alone : Progress Standing → List ℕ → Progress Standing
 eats_alone p bytes = eats_by journals p bytes
 
--- why bytes are not taken, though nothing is wrong with them: memory was refused, or a journal's set has too many sources or intervals behind some of them
+-- why bytes are not taken, though nothing is wrong with them: memory was refused, or a journal's set has too many sources or intervals after some of them
 abbrev pub IsFaultAlone : Progress Standing → List ℕ → SetFault → Type 0
 IsFaultAlone p bytes fault = IsFaultBy journals p bytes fault
 
@@ -85,7 +85,7 @@ stamped_of (Reading s n rest) = record { entries = s.journal.entries; stamps = s
 stamped_of (Stopped fault) = record { entries = []; stamps = [] }
 
 abbrev pub without_entries : Progress Standing → Progress Standing
-without_entries (Reading s n rest) = Reading (emptied s) n rest
+without_entries (Reading s n rest) = Reading (drop_entries s) n rest
 without_entries (Stopped fault) = Stopped fault
 
 -- the end of the text

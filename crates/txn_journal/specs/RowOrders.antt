@@ -10,7 +10,7 @@ abbrev pub IsOneOf : List TableRow → TableRow → Type 0
 IsOneOf [] r = ⊥
 IsOneOf (x ∷ xs) r = (x ≡ r) ⊎ IsOneOf xs r
 
--- no row stands twice
+-- no row occurs twice
 abbrev pub AreOnce : List TableRow → Type 0
 AreOnce [] = Unit {0}
 AreOnce (x ∷ xs) = (IsOneOf xs x → ⊥) × AreOnce xs

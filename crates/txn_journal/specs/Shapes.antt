@@ -7,10 +7,11 @@ use Rattle.rows.specs.declared.schema.Table.{Table}
 use Rattle.rows.specs.declared.schema.TableFault.{TableFault}
 use Rattle.rows.specs.declared.schema.TableFault.TheVariants as table_faults
 use Rattle.rows.specs.Tables.{table_fault}
-use Rattle.journal_words.specs.Words.{is_count, count_of}
+use Rattle.row_images.specs.Words.{is_count, count_of}
 use Rattle.txn_journal.specs.Words.{name_of}
 use Rattle.txn_journal.specs.Lines.{◌>>=◌, some_or_body}
-use Rattle.txn_journal.specs.Splits.{parts_of, joined_by, is_columns_text, columns_text}
+use Rattle.row_images.specs.Parts.{parts_of, joined_by}
+use Rattle.txn_journal.specs.Splits.{is_columns_text, columns_text}
 use Rattle.txn_journal.specs.declared.fault.Cause.{Cause}
 use Rattle.txn_journal.specs.declared.fault.Cause.TheVariants as causes
 

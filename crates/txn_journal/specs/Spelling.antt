@@ -4,16 +4,17 @@ use Rattle.std.specs.List.{flat_map, AllByRecursion}
 use Rattle.gtid_text.specs.declared.Gtid.{Gtid}
 use Rattle.gtid_text.specs.Canonical.{gtid_text}
 use Rattle.gtid_text.specs.Written.{IsSource}
+use Rattle.gtid_set.specs.Laws.{AreUsable}
 use Rattle.gtid_set.specs.Sets.{Gtids}
-use Rattle.rows.specs.declared.value.Value.{Value}
+use Rattle.row_images.specs.declared.value.Value.{Value}
 use Rattle.rows.specs.declared.change.Change.{Change}
 use Rattle.rows.specs.declared.change.Change.TheVariants.{Insert, Delete, Update}
 use Rattle.rows.specs.Names.{is_name}
 use Rattle.journal.specs.declared.Entry.{Entry}
 use Rattle.journal.specs.Journals.{JournalValue, IsJournal}
-use Rattle.journal_words.specs.Values.{value_text, FitsValue}
+use Rattle.row_images.specs.Values.{value_text, FitsValue}
 use Rattle.txn_journal.specs.WrittenSets.{set_text, IsWrittenSet}
-use Rattle.txn_journal.specs.Splits.{joined_by}
+use Rattle.row_images.specs.Images.{values_text, AreValues}
 use Rattle.txn_journal.specs.Lines.{Numbers}
 use Rattle.txn_journal.specs.Stamps.{no_stamps}
 use Rattle.txn_journal.specs.declared.lines.Version.{Version}
@@ -34,15 +35,6 @@ abbrev pub version_text : Version → List ℕ
 version_text One = codes "1"
 version_text Two = codes "2"
 
--- values with a blank between
-abbrev pub values_text : List Value → List ℕ
-values_text vs = joined_by 32 (map value_text vs)
-
--- values, each behind a blank
-abbrev pub values_behind : List Value → List ℕ
-values_behind [] = []
-values_behind (v ∷ vs) = 32 ∷ (value_text v ++ values_behind vs)
-
 -- a word, a table and an image
 abbrev pub image_text : List ℕ → List ℕ → List Value → List ℕ
 image_text word table image = word ++ 32 ∷ (table ++ 32 ∷ values_text image)
@@ -52,7 +44,7 @@ change_text (Insert table after) = image_text (codes "ins") table after
 change_text (Delete table before) = image_text (codes "del") table before
 change_text (Update table before after) = codes "upd" ++ 32 ∷ (table ++ 32 ∷ (values_text before ++ 32 ∷ (124 ∷ 32 ∷ values_text after)))
 
--- numbers, each behind a blank
+-- numbers, each after a blank
 abbrev pub numbers_text : Option Numbers → List ℕ
 numbers_text None = []
 numbers_text (Some numbers) = 32 ∷ (numbers.last_committed ++ 32 ∷ numbers.sequence_number)
@@ -108,9 +100,6 @@ spelling j = spelling_as One (no_stamps j.entries) j
 
 -- ---- what can be written
 
-abbrev pub AreValues : List Value → Type 0
-AreValues image = AllByRecursion FitsValue image
-
 -- a table's name, and values of 64 bits and bytes
 abbrev pub FitsChange : Change → Type 0
 FitsChange (Insert table after) = (is_name table ≡ true) × AreValues after
@@ -128,7 +117,12 @@ pub record IsWritten (j : JournalValue) : Type 0 where
   pub previous : IsWrittenSet j.previous
   pub entries : AllByRecursion FitsEntry j.entries
 
--- what stands for the last_committed of the entry at a place, which in version 2 is below it
+-- what a journal's type leaves open and its text asks for: no more entries than it may have, and a previous set of GTIDs that transactions may have
+pub record MayBeWritten (j : JournalValue) : Type 0 where
+  pub few : length j.entries ≤ 4294967294
+  pub previous : AreUsable j.previous
+
+-- what denotes the last_committed of the entry at a place, which in version 2 is below it
 abbrev pub IsStamp : Version → ℕ → ℕ → Type 0
 IsStamp One place stamp = stamp ≡ 0
 IsStamp Two place stamp = stamp < place

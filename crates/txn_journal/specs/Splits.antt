@@ -1,23 +1,9 @@
--- A text in parts, and lists of column numbers.
+-- Lists of column numbers.
 use Rattle.std.specs.Prelude.{ℕ, ◌==◌, Bool, true, false, not, ◌&&◌, ◌||◌, List, [], ◌∷◌, ◌++◌, if◌then◌else◌, decimal}
 use Rattle.std.specs.List.{list_all}
 use Rattle.std.specs.Str.{bytes_eq}
-use Rattle.journal_words.specs.Words.{is_count}
-
-abbrev pub cons_head : ℕ → List (List ℕ) → List (List ℕ)
-cons_head b [] = (b ∷ []) ∷ []
-cons_head b (w ∷ ws) = (b ∷ w) ∷ ws
-
--- the parts of a text between separators
-unfoldable pub parts_of : ℕ → List ℕ → List (List ℕ)
-parts_of separator [] = [] ∷ []
-parts_of separator (b ∷ bs) = if b == separator then [] ∷ parts_of separator bs else cons_head b (parts_of separator bs)
-
--- parts with a separator between
-abbrev pub joined_by : ℕ → List (List ℕ) → List ℕ
-joined_by separator [] = []
-joined_by separator (w ∷ []) = w
-joined_by separator (w ∷ x ∷ ws) = w ++ separator ∷ joined_by separator (x ∷ ws)
+use Rattle.row_images.specs.Words.{is_count}
+use Rattle.row_images.specs.Parts.{parts_of, joined_by}
 
 -- each word is new: neither among those seen nor one that came earlier
 unfoldable pub are_new_to : (List ℕ → Bool) → List (List ℕ) → Bool

@@ -7,7 +7,7 @@ use Rattle.logical_timestamps.specs.Timestamps.{last_committed, last_committed_o
 use Rattle.txn_journal.specs.declared.lines.Version.{Version}
 use Rattle.txn_journal.specs.declared.lines.Version.TheVariants.{One, Two}
 
--- 0 stands for it in version 1, which writes none
+-- 0 denotes it in version 1, which writes none
 abbrev pub no_stamps : List Entry → List ℕ
 no_stamps es = map (λ e. 0) es
 

@@ -50,13 +50,13 @@ unless_stopped (Some fault) p = Stopped fault
 abbrev pub next_number : ℕ → ℕ
 next_number n = min (n + 1) (2 ^ 64 - 1)
 
-abbrev pub judged : {S : Type 0} → Result S Cause → ℕ → Progress S
-judged (Ok s) n = Reading s n []
-judged (Err cause) n = Stopped (faults.Line n cause)
+abbrev pub progress_after : {S : Type 0} → Result S Cause → ℕ → Progress S
+progress_after (Ok s) n = Reading s n []
+progress_after (Err cause) n = Stopped (faults.Line n cause)
 
 -- a line feed ends a line
 unfoldable pub eat : {S : Type 0} → Judge S → Progress S → ℕ → Progress S
-eat judge (Reading s n rest) b = if b == 10 then judged (judge s rest) (next_number n) else Reading s n (rest ++ b ∷ [])
+eat judge (Reading s n rest) b = if b == 10 then progress_after (judge s rest) (next_number n) else Reading s n (rest ++ b ∷ [])
 eat judge (Stopped fault) b = Stopped fault
 
 abbrev pub eats : {S : Type 0} → Judge S → Progress S → List ℕ → Progress S
@@ -68,7 +68,7 @@ abbrev pub HasFull : {S : Type 0} → (S → Type 0) → Progress S → Type 0
 HasFull full (Reading s n rest) = full s
 HasFull full (Stopped fault) = ⊥
 
--- what has come is full behind some of the bytes
+-- what has come is full after some of the bytes
 pub record Fills {S : Type 0} (full : S → Type 0) (judge : Judge S) (p : Progress S) (bytes : List ℕ) : Type 0 where
   pub front : List ℕ
   pub rest : List ℕ
@@ -92,10 +92,10 @@ answer (Reading s n rest) = Ok tt
 answer (Stopped fault) = Err fault
 
 -- the end of the text, where its last line has come or has not
-abbrev pub ended : Bool → List ℕ → ℕ → Result (Unit {0}) JournalFault
-ended false rest n = Err (faults.Truncated (next_number n))
-ended true [] n = Ok tt
-ended true (b ∷ bs) n = Err (faults.Line (next_number n) causes.Keyword)
+abbrev pub end_of_text : Bool → List ℕ → ℕ → Result (Unit {0}) JournalFault
+end_of_text false rest n = Err (faults.Truncated (next_number n))
+end_of_text true [] n = Ok tt
+end_of_text true (b ∷ bs) n = Err (faults.Line (next_number n) causes.Keyword)
 
 -- What a call did with bytes is what eating them gives, unless there was a fault that may be.
 abbrev pub TakesPiece : {S : Type 0} → (SetFault → Type 0) → Result (Unit {0}) JournalFault → Progress S → Progress S → Type 0
@@ -105,7 +105,7 @@ TakesPiece may (Err (faults.Line n cause)) new after = after ≡ Stopped (faults
 TakesPiece may (Err (faults.Truncated n)) new after = ⊥
 
 abbrev pub end_of : {S : Type 0} → Bool → Progress S → Result (Unit {0}) JournalFault
-end_of is_last (Reading s n rest) = ended is_last rest n
+end_of is_last (Reading s n rest) = end_of_text is_last rest n
 end_of is_last (Stopped fault) = Err fault
 
 -- ---- the whole of a text

@@ -45,7 +45,7 @@ text_around version previous entries = opening_text version previous ++ (entries
 
 -- ---- bundles
 
--- columns, each behind a comma
+-- columns, each after a comma
 abbrev pub columns_behind : List ℕ → List ℕ
 columns_behind [] = []
 columns_behind (c ∷ cs) = 44 ∷ (decimal c ++ columns_behind cs)
@@ -64,12 +64,12 @@ rows_text [] = []
 rows_text (r ∷ rs) = ended_bundle_line (Own (Puts r)) ++ rows_text rs
 
 -- a channel, and its journal by version 2 of the format
-unfoldable pub brought_text : List Table → Channel → JournalValue → List ℕ
-brought_text tables c j = bundle_text (channel_lines Two c (right_stamps Two tables j.entries) j)
+unfoldable pub channel_and_journal_text : List Table → Channel → JournalValue → List ℕ
+channel_and_journal_text tables c j = bundle_text (channel_lines Two c (right_stamps Two tables j.entries) j)
 
-abbrev pub all_brought_text : List Table → List Channel → List JournalValue → List ℕ
-all_brought_text tables (c ∷ cs) (j ∷ js) = brought_text tables c j ++ all_brought_text tables cs js
-all_brought_text tables _ _ = []
+abbrev pub channels_and_journals_text : List Table → List Channel → List JournalValue → List ℕ
+channels_and_journals_text tables (c ∷ cs) (j ∷ js) = channel_and_journal_text tables c j ++ channels_and_journals_text tables cs js
+channels_and_journals_text tables _ _ = []
 
 -- the first three lines of a bundle
 unfoldable pub head_text : ℕ → Gtids → List ℕ

@@ -1,7 +1,7 @@
 -- Lines that begin with a word, and what is wrong with one that is not taken.
 use Rattle.std.specs.Prelude.{◌≡◌, ℕ, Bool, true, List, ◌∷◌, ◌++◌, Option, Some}
 use Rattle.gtid_text.specs.declared.Gtid.{Gtid}
-use Rattle.journal_words.specs.Words.{is_count, first_word}
+use Rattle.row_images.specs.Words.{is_count, first_word}
 use Rattle.txn_journal.specs.declared.fault.Cause.{Cause}
 use Rattle.txn_journal.specs.declared.fault.Cause.TheVariants as causes
 
@@ -34,16 +34,16 @@ pub record Says (w : Wording) (line : List ℕ) (l : w.Line) : Type 0 where
   pub fits : w.Fits l
   pub due : w.is_due (w.word l) ≡ true
 
--- it spells no line that is due there
+-- it parses as no line that is due there
 abbrev pub SaysNothing : (w : Wording) → List ℕ → Type 0
 SaysNothing w line = (l : w.Line) → Says w line l → ⊥
 
 abbrev pub HasCauseBy : (w : Wording) → List ℕ → Cause → Type 0
 -- the first word is none of those due there
 HasCauseBy w line causes.Keyword = (k : w.Word) → w.word_of (first_word line) ≡ Some k → w.is_due k ≡ true → ⊥
--- a header is due and stands there, with a count that is no version known there
+-- a header is due and is there, with a count that is no version known there
 HasCauseBy w line causes.Version = (n : List ℕ) × (line ≡ w.word_text w.header ++ 32 ∷ n) × (is_count n ≡ true) × (w.is_due w.header ≡ true) × SaysNothing w line
--- a word is due and stands first, and the line spells nothing
+-- a word is due and stands first, and the line parses as nothing
 HasCauseBy w line causes.Body = (k : w.Word) × (w.word_of (first_word line) ≡ Some k) × (w.is_due k ≡ true) × SaysNothing w line
 HasCauseBy w line causes.Limit = (l : w.Line) × Says w line l × w.PassesLimit l
 HasCauseBy w line causes.Schema = (l : w.Line) × Says w line l × (w.PassesLimit l → ⊥) × w.Clashes l

@@ -1,14 +1,12 @@
 //! Bundles: a replica's tables and opening rows, and the journals that its channels bring.
-ghost use Rattle.std.specs.Prelude.{◌≡◌, ◌∷◌, ◌++◌, [], OnOk, OnErr};
-ghost use Rattle.txn_journal.specs.Stream.{TakesPart};
-ghost use Rattle.txn_journal.specs.BundleStates.{bare, with_opening};
+ghost use Rattle.std.specs.Prelude.{◌≡◌};
+ghost use Rattle.txn_journal.specs.BundleText.{IsBundle};
 
-use crate::fault::{Cause, LineFault};
-use gtid_set::{GtidSet, SetFault};
+use crate::open_bundle::OpenBundle;
+use gtid_set::GtidSet;
 use gtid_text::SourceId;
 use journal::Journal;
-use rows::{ApplyFault, Name, Row, Rows, Schema};
-use std::alloc::{AllocError, Global};
+use rows::{Name, Rows, Schema};
 use std::marker::Model;
 
 /// A channel of a replica.
@@ -21,24 +19,15 @@ pub struct Channel {
 }
 
 /// A replica, the set of GTIDs with which it begins, its opening rows, and its channels, each with the journal that it brings.
+/// Its type keeps that it has a text by version 2 of the format (`keeps_rules`).
 pub struct Bundle {
-    replica: SourceId,
-    opened: GtidSet,
-    rows: Rows,
-    channels: Vec<Channel>,
-    journals: Vec<Journal>,
+    parts: OpenBundle,
 }
 
 impl Drop for Bundle {
     // (by hand: for a caller the end of a Bundle is one call)
     fn drop(self) {
-        let Bundle {
-            replica: _replica,
-            opened: _opened,
-            rows: _rows,
-            channels: _channels,
-            journals: _journals,
-        } = self;
+        let Bundle { parts: _parts } = self;
     }
 }
 
@@ -52,94 +41,69 @@ impl Model for Bundle {
 
     ghost coded = { Prim.hlevel (codes, gtids_code, rows_code) };
 
-    ghost view = { λ b. record { replica = b.replica; opened = b.opened; start = b.rows; channels = b.channels.items; journals = b.journals.items } };
+    ghost use Rattle.txn_journal.specs.BundleText.{IsBundle};
+
+    ghost view = { λ b. b.parts };
+
+    ghost invariant = { λ b. IsBundle b.parts };
 }
 
 impl Bundle {
-    /// A bundle without channels.
-    pub(crate) fn open(alloc: Global, replica: SourceId, opened: GtidSet, rows: Rows) -> Bundle
-        ensures { result ≡ record { replica = replica; opened = opened; start = rows; channels = []; journals = [] } }
+    /// The bundle of these parts.
+    pub(crate) fn of(parts: OpenBundle) -> Bundle
+        requires { IsBundle parts }
+        ensures { result ≡ parts }
     {
-        Bundle {
-            replica,
-            opened,
-            rows,
-            channels: Vec::new(alloc),
-            journals: Vec::new(alloc),
-        }
-    }
-
-    /// Empties the bundle, and gives it these tables.
-    pub(crate) fn open_rows(&mut self, alloc: Global, schema: Schema)
-        ensures { self.new ≡ bare self.old.replica self.old.opened schema }
-    {
-        self.rows = Rows::open(alloc, schema);
-        self.channels = Vec::new(alloc);
-        self.journals = Vec::new(alloc);
-    }
-
-    /// Adds a channel behind the others.
-    pub(crate) fn add(&mut self, channel: Channel, journal: Journal) -> Result<(), AllocError>
-        ensures ok { OnOk result (self.new ≡ record self.old { channels = self.old.channels ++ channel ∷ []; journals = self.old.journals ++ journal ∷ [] }) }
-    {
-        self.journals.reserve(1)?;
-        self.channels.push(channel)?;
-        self.journals.push(journal)?;
-        Ok(())
+        Bundle { parts }
     }
 
     /// The UUID of the replica.
     pub fn replica(&self) -> SourceId
         ensures { result ≡ self.now.replica }
     {
-        self.replica
+        self.parts.replica()
     }
 
     /// The opening set: the GTIDs that are executed from the start, and purged. Version 1 of the format has no other than the empty one.
     pub fn opened(&self) -> &GtidSet
         ensures { result.now ≡ self.now.opened }
     {
-        &self.opened
+        self.parts.opened()
     }
 
     /// The tables.
     pub fn schema(&self) -> &Schema
         ensures { result.now ≡ self.now.start.schema }
     {
-        self.rows.schema()
+        self.parts.schema()
     }
 
     /// The opening rows.
     pub fn rows(&self) -> &Rows
         ensures { result.now ≡ self.now.start }
     {
-        &self.rows
+        self.parts.rows()
     }
 
     /// The channels, in order.
     pub fn channels(&self) -> &[Channel]
         ensures { result.now ≡ self.now.channels }
     {
-        &self.channels
+        self.parts.channels()
     }
 
     /// The journal of each channel, in order.
     pub fn journals(&self) -> &[Journal]
         ensures { result.now ≡ self.now.journals }
     {
-        &self.journals
+        self.parts.journals()
     }
 
-    /// Puts an opening row, as a transaction of one insert would.
-    pub(crate) fn put(&mut self, alloc: Global, table: &Name, row: &Row) -> Result<(), LineFault>
-        ensures rows { TakesPart result (with_opening self.old.start (record { table = table.now; row = row.now })) self.new.start.rows }
-        ensures same { OnOk result (self.new ≡ record self.old { start = record self.old.start { rows = self.new.start.rows } }) }
+    /// A bundle keeps to the rules of the format: its tables, rows and channels may stand together, each journal has what the tables
+    /// take, and all of it can be spelled. It does nothing; a proof calls it for its contract.
+    pub fn keeps_rules(&self)
+        ensures { IsBundle self.now }
     {
-        match self.rows.put(alloc, table, row) {
-            Ok(()) => Ok(()),
-            Err(ApplyFault::Memory) => Err(LineFault::Set(SetFault::Memory)),
-            Err(ApplyFault::NotInSchema(_)) => Err(LineFault::Wrong(Cause::Schema)),
-            Err(ApplyFault::Row(_)) => Err(LineFault::Wrong(Cause::Schema)),
-        }
+        let _ = &self.parts;
     }
 }

@@ -4,18 +4,20 @@ ghost use Rattle.txn_journal.specs.Stream.{Finds};
 ghost use Rattle.txn_journal.specs.Writers.{AreWriters};
 ghost use Rattle.txn_journal.specs.BundleStates.{word_of, replica_in, preserve_in, channel_in, has_channel};
 
-use crate::bundle::{Bundle, Channel};
+use crate::bundle::Channel;
 use crate::draft::{Draft, version_in};
 use crate::fault::{Cause, LineFault};
 use crate::images::{image, table_at};
 use crate::lines::Version;
 use crate::names::Names;
+use crate::open_bundle::OpenBundle;
 use crate::tables::add_table;
 use gtid_set::GtidSet;
 use gtid_text::SourceId;
 use journal::Entry;
-use journal_words::{cut, set_word, source_word};
+use journal_words::{set_word, source_word};
 use logical_timestamps::LastWriters;
+use row_images::cut;
 use rows::{Name, Row, Rows, Schema};
 use std::alloc::{AllocError, Global};
 use std::mem;
@@ -98,9 +100,9 @@ pub struct BundleDraft {
     due: Option<Version>,
     version: Version,
     names: Names,
-    /// The tables, until the first line behind them.
+    /// The tables, until the first line after them.
     schema: Schema,
-    bundle: Bundle,
+    bundle: OpenBundle,
     /// The channel that is open, and its journal.
     channel: Option<Channel>,
     draft: Draft,
@@ -138,7 +140,7 @@ fn channel_in(alloc: Global, names: &mut Names, rest: Option<&[u8]>) -> Result<C
     Ok(Channel { name, preserve })
 }
 
-/// Whether the word behind a channel's name says that order is preserved.
+/// Whether the word after a channel's name says that order is preserved.
 fn preserve_in(rest: Option<&[u8]>) -> Result<bool, LineFault>
     ensures { Finds (λ b. b) result (preserve_in (option_map (λ r. r.now) rest.entry)) }
 {
@@ -167,7 +169,7 @@ impl BundleDraft {
     ghost use Rattle.txn_journal.specs.Stamps.{right_stamp};
     ghost use Rattle.txn_journal.specs.declared.lines.Place.TheVariants.{Within};
     ghost use Rattle.txn_journal.specs.Stream.{TakesLine};
-    ghost use Rattle.txn_journal.specs.BundleStates.{IsFullBundle, no_bundle, is_done, headed, named, begun_with, tabled, rowed, put_row, behind_tables, channelled, joined_channel, all_done, own_step, judge_own, after_inner, ended_inside, judge_inner, judge_bundle};
+    ghost use Rattle.txn_journal.specs.BundleStates.{IsFullBundle, no_bundle, is_done, version_line, replica_line, opening_line, add_table_line, row_line, put_row, after_tables, channel_line, join_channel, done_line, own_step, judge_own, after_inner, end_entry, judge_inner, judge_bundle};
     ghost use Rattle.txn_journal.specs.BundleDrafts.{bundle_standing};
 
     /// Before the first line.
@@ -180,7 +182,7 @@ impl BundleDraft {
             version: Version::One,
             names: Names::start(alloc),
             schema: Schema::empty(alloc),
-            bundle: Bundle::open(
+            bundle: OpenBundle::open(
                 alloc,
                 SourceId::from_bits(0),
                 GtidSet::empty(alloc),
@@ -199,8 +201,8 @@ impl BundleDraft {
         self.part == Part::Ended
     }
 
-    /// The bundle.
-    pub fn into_bundle(self) -> Bundle
+    /// What the lines have made.
+    pub fn into_parts(self) -> OpenBundle
         ensures { result ≡ (bundle_standing self).bundle }
     {
         self.bundle
@@ -222,9 +224,9 @@ impl BundleDraft {
         }
     }
 
-    #[tactic(auto, unfolding(crate::specs::BundleStates::headed))]
+    #[tactic(auto, unfolding(crate::specs::BundleStates::version_line))]
     fn read_header(&mut self, rest: Option<&[u8]>) -> Result<(), LineFault>
-        ensures { TakesLine IsFullBundle result (headed (bundle_standing self.old) (option_map (λ r. r.now) rest.entry)) (bundle_standing self.new) }
+        ensures { TakesLine IsFullBundle result (version_line (bundle_standing self.old) (option_map (λ r. r.now) rest.entry)) (bundle_standing self.new) }
     {
         match version_in(self.due, rest) {
             Ok(version) => {
@@ -236,15 +238,15 @@ impl BundleDraft {
         }
     }
 
-    #[tactic(auto, unfolding(crate::specs::BundleStates::named))]
+    #[tactic(auto, unfolding(crate::specs::BundleStates::replica_line))]
     fn name_replica(&mut self, alloc: Global, rest: Option<&[u8]>) -> Result<(), LineFault>
-        ensures { TakesLine IsFullBundle result (named (bundle_standing self.old) (option_map (λ r. r.now) rest.entry)) (bundle_standing self.new) }
+        ensures { TakesLine IsFullBundle result (replica_line (bundle_standing self.old) (option_map (λ r. r.now) rest.entry)) (bundle_standing self.new) }
     {
         match replica_in(alloc, rest) {
             Ok(replica) => {
                 self.writers = None;
                 let rows = Rows::open(alloc, Schema::empty(alloc));
-                self.bundle = Bundle::open(alloc, replica, GtidSet::empty(alloc), rows);
+                self.bundle = OpenBundle::open(alloc, replica, GtidSet::empty(alloc), rows);
                 self.part = match self.version {
                     Version::One => Part::Tables,
                     Version::Two => Part::Opening,
@@ -255,9 +257,9 @@ impl BundleDraft {
         }
     }
 
-    #[tactic(auto, unfolding(crate::specs::BundleStates::begun_with))]
+    #[tactic(auto, unfolding(crate::specs::BundleStates::opening_line))]
     fn begin_with(&mut self, alloc: Global, rest: Option<&[u8]>) -> Result<(), LineFault>
-        ensures { TakesLine IsFullBundle result (begun_with (bundle_standing self.old) (option_map (λ r. r.now) rest.entry)) (bundle_standing self.new) }
+        ensures { TakesLine IsFullBundle result (opening_line (bundle_standing self.old) (option_map (λ r. r.now) rest.entry)) (bundle_standing self.new) }
     {
         let Some(word) = rest else {
             return Err(LineFault::Wrong(Cause::Body));
@@ -268,14 +270,14 @@ impl BundleDraft {
         self.writers = None;
         let replica = self.bundle.replica();
         let rows = Rows::open(alloc, Schema::empty(alloc));
-        self.bundle = Bundle::open(alloc, replica, opened, rows);
+        self.bundle = OpenBundle::open(alloc, replica, opened, rows);
         self.part = Part::Tables;
         Ok(())
     }
 
-    #[tactic(auto, unfolding(crate::specs::BundleStates::tabled))]
+    #[tactic(auto, unfolding(crate::specs::BundleStates::add_table_line))]
     fn add_table(&mut self, alloc: Global, rest: Option<&[u8]>) -> Result<(), LineFault>
-        ensures { TakesLine IsFullBundle result (tabled (bundle_standing self.old) (option_map (λ r. r.now) rest.entry)) (bundle_standing self.new) }
+        ensures { TakesLine IsFullBundle result (add_table_line (bundle_standing self.old) (option_map (λ r. r.now) rest.entry)) (bundle_standing self.new) }
     {
         let Some(text) = rest else {
             return Err(LineFault::Wrong(Cause::Body));
@@ -285,7 +287,7 @@ impl BundleDraft {
 
     /// Opens the rows, where the tables end here.
     fn leave_tables(&mut self, alloc: Global)
-        ensures { bundle_standing self.new ≡ behind_tables (bundle_standing self.old) }
+        ensures { bundle_standing self.new ≡ after_tables (bundle_standing self.old) }
     {
         if self.part == Part::Tables {
             let schema = mem::replace(&mut self.schema, Schema::empty(alloc));
@@ -295,9 +297,9 @@ impl BundleDraft {
         }
     }
 
-    #[tactic(auto, unfolding(crate::specs::BundleStates::rowed))]
+    #[tactic(auto, unfolding(crate::specs::BundleStates::row_line))]
     fn add_row(&mut self, alloc: Global, rest: Option<&[u8]>) -> Result<(), LineFault>
-        ensures { TakesLine IsFullBundle result (rowed (bundle_standing self.old) (option_map (λ r. r.now) rest.entry)) (bundle_standing self.new) }
+        ensures { TakesLine IsFullBundle result (row_line (bundle_standing self.old) (option_map (λ r. r.now) rest.entry)) (bundle_standing self.new) }
     {
         let (table, text) = table_at(&mut self.names, alloc, rest)?;
         let row = image(alloc, text)?;
@@ -316,17 +318,17 @@ impl BundleDraft {
         self.bundle.put(alloc, table, row)
     }
 
-    #[tactic(auto, unfolding(crate::specs::BundleStates::channelled))]
+    #[tactic(auto, unfolding(crate::specs::BundleStates::channel_line))]
     fn open_channel(&mut self, alloc: Global, rest: Option<&[u8]>) -> Result<(), LineFault>
-        ensures { TakesLine IsFullBundle result (channelled (bundle_standing self.old) (option_map (λ r. r.now) rest.entry)) (bundle_standing self.new) }
+        ensures { TakesLine IsFullBundle result (channel_line (bundle_standing self.old) (option_map (λ r. r.now) rest.entry)) (bundle_standing self.new) }
     {
         let channel = channel_in(alloc, &mut self.names, rest)?;
         self.join(alloc, channel)
     }
 
-    #[tactic(auto, unfolding(crate::specs::BundleStates::joined_channel))]
+    #[tactic(auto, unfolding(crate::specs::BundleStates::join_channel))]
     fn join(&mut self, alloc: Global, channel: Channel) -> Result<(), LineFault>
-        ensures { TakesLine IsFullBundle result (joined_channel (bundle_standing self.old) channel) (bundle_standing self.new) }
+        ensures { TakesLine IsFullBundle result (join_channel (bundle_standing self.old) channel) (bundle_standing self.new) }
     {
         if self.bundle.channels().len() >= MAX_CHANNELS {
             return Err(LineFault::Wrong(Cause::Limit));
@@ -342,9 +344,9 @@ impl BundleDraft {
         Ok(())
     }
 
-    #[tactic(auto, unfolding(crate::specs::BundleStates::all_done))]
+    #[tactic(auto, unfolding(crate::specs::BundleStates::done_line))]
     fn end(&mut self, alloc: Global, rest: Option<&[u8]>) -> Result<(), LineFault>
-        ensures { TakesLine IsFullBundle result (all_done (bundle_standing self.old) (option_map (λ r. r.now) rest.entry)) (bundle_standing self.new) }
+        ensures { TakesLine IsFullBundle result (done_line (bundle_standing self.old) (option_map (λ r. r.now) rest.entry)) (bundle_standing self.new) }
     {
         if rest.is_some() {
             return Err(LineFault::Wrong(Cause::Body));
@@ -392,7 +394,7 @@ impl BundleDraft {
     /// Ends the entry that is open, where it has the last_committed that it has to have.
     fn end_entry(&mut self, alloc: Global) -> Result<(), LineFault>
         requires { (standing self.old.draft).place ≡ Within }
-        ensures { TakesLine IsFullBundle result (ended_inside (bundle_standing self.old)) (bundle_standing self.new) }
+        ensures { TakesLine IsFullBundle result (end_entry (bundle_standing self.old)) (bundle_standing self.new) }
     {
         let entry = self.draft.take_entry(alloc)?;
         let (stamp, writers) = self.next_stamp(alloc, &entry)?;
@@ -432,7 +434,7 @@ impl BundleDraft {
         match self.draft.take_line(alloc, schema, &mut self.names, line) {
             Ok(()) => {
                 self.writers = writers;
-                self.go_on(alloc)
+                self.add_open_channel(alloc)
             }
             Err(fault) => Err(fault),
         }
@@ -440,7 +442,7 @@ impl BundleDraft {
 
     /// Adds the open channel to the bundle, where its journal has ended.
     #[tactic(auto, unfolding(crate::specs::BundleStates::after_inner))]
-    fn go_on(&mut self, alloc: Global) -> Result<(), LineFault>
+    fn add_open_channel(&mut self, alloc: Global) -> Result<(), LineFault>
         ensures { TakesLine IsFullBundle result (Ok (after_inner (bundle_standing self.old) (bundle_standing self.old).draft)) (bundle_standing self.new) }
     {
         if !self.draft.is_ended() {

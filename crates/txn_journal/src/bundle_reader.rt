@@ -32,11 +32,25 @@ impl Model for Lines {
 
     ghost coded = { Prim.hlevel (codes, gtids_code, rows_code) };
 
+    ghost use Rattle.txn_journal.specs.BundleLines.{HasCome};
+
     ghost view = { λ a. bundle_standing a.draft };
+
+    ghost invariant = { λ a. HasCome (bundle_standing a.draft) };
 }
 
 impl Lines {
-    ghost use Rattle.txn_journal.specs.BundleStates.{is_done};
+    ghost use Rattle.std.specs.Prelude.{true};
+    ghost use Rattle.txn_journal.specs.BundleStates.{no_bundle, is_done};
+
+    /// Before the first line.
+    fn start(alloc: Global, due: Option<Version>) -> Lines
+        ensures { result ≡ no_bundle due }
+    {
+        Lines {
+            draft: BundleDraft::start(alloc, due),
+        }
+    }
 
     fn is_ended(&self) -> bool
         ensures { result ≡ is_done self.now.part }
@@ -44,10 +58,12 @@ impl Lines {
         self.draft.is_ended()
     }
 
+    /// The bundle, whose last line has come.
     fn into_bundle(self) -> Bundle
+        requires { is_done self.part ≡ true }
         ensures { result ≡ self.bundle }
     {
-        self.draft.into_bundle()
+        Bundle::of(self.draft.into_parts())
     }
 }
 
@@ -59,7 +75,13 @@ impl TakeLine for Lines {
     ghost full = { IsFullBundle };
 
     fn take_line(&mut self, alloc: Global, line: &[u8]) -> Result<(), LineFault> {
-        self.draft.take_line(alloc, line)
+        match self.draft.take_line(alloc, line) {
+            Ok(()) => Ok(()),
+            Err(fault) => {
+                self.draft = BundleDraft::start(alloc, None);
+                Err(fault)
+            }
+        }
     }
 }
 
@@ -86,11 +108,8 @@ impl BundleReader {
     fn start_as(alloc: Global, due: Option<Version>) -> BundleReader
         ensures { bundle_reading result ≡ bundle_start due }
     {
-        let made = Lines {
-            draft: BundleDraft::start(alloc, due),
-        };
         BundleReader {
-            feed: Feed::start(alloc, made),
+            feed: Feed::start(alloc, Lines::start(alloc, due)),
         }
     }
 
@@ -124,7 +143,7 @@ fn read_bundle(alloc: Global, due: Option<Version>, bytes: &[u8]) -> Result<Bund
     }
 }
 
-/// The bundle that the bytes spell, all of the bytes, by either version of the format.
+/// The bundle that the bytes parse as, all of the bytes, by either version of the format.
 pub fn decode_bundle(alloc: Global, bytes: &[u8]) -> Result<Bundle, JournalFault>
     // What is read is spelled so.
     ensures found { IfOk result (λ b. WritesBundle bytes.now b) }
@@ -138,7 +157,7 @@ pub fn decode_bundle(alloc: Global, bytes: &[u8]) -> Result<Bundle, JournalFault
     read_bundle(alloc, None, bytes)
 }
 
-/// The bundle that the bytes spell, all of the bytes, by version 1 of the format. What begins as a bundle of another version is refused for it.
+/// The bundle that the bytes parse as, all of the bytes, by version 1 of the format. What begins as a bundle of another version is refused for it.
 pub fn decode_bundle_v1(alloc: Global, bytes: &[u8]) -> Result<Bundle, JournalFault>
     // What is read is spelled so.
     ensures found { IfOk result (λ b. WritesBundleBy (Some One) bytes.now b) }

@@ -4,8 +4,8 @@ ghost use Rattle.std.specs.String.{string_bytes};
 ghost use Rattle.rows.specs.Listing.{rows_listed};
 ghost use Rattle.txn_journal.specs.Splits.{columns_text};
 ghost use Rattle.txn_journal.specs.Shapes.{shape_for};
-ghost use Rattle.txn_journal.specs.BundleText.{upgrade_of, Names, Starts, Has, Puts, Opens, Own, ended_bundle_line, bundle_spelling};
-ghost use Rattle.txn_journal.specs.Texts.{columns_behind, uniques_text, tables_text, rows_text, brought_text, all_brought_text, head_text, start_text};
+ghost use Rattle.txn_journal.specs.BundleText.{upgrade_of, Names, Starts, Has, Puts, Opens, Own, ended_bundle_line, bundle_spelling, WritesBundle};
+ghost use Rattle.txn_journal.specs.Texts.{columns_behind, uniques_text, tables_text, rows_text, channel_and_journal_text, channels_and_journals_text, head_text, start_text};
 ghost use Rattle.txn_journal.specs.declared.lines.Version.TheVariants.{Two};
 
 use crate::bundle::{Bundle, Channel};
@@ -51,7 +51,7 @@ fn write_head(
     write_opened(alloc, out, opened)
 }
 
-/// Appends a column behind a comma.
+/// Appends a column after a comma.
 fn write_next_column(out: &mut String, column: u32) -> Result<(), AllocError>
     ensures { OnOk result (string_bytes out.new ≡ string_bytes out.old ++ 44 ∷ decimal column) }
 {
@@ -59,7 +59,7 @@ fn write_next_column(out: &mut String, column: u32) -> Result<(), AllocError>
     write_number(out, u64::from(column))
 }
 
-/// Appends columns, each behind a comma.
+/// Appends columns, each after a comma.
 fn write_next_columns(out: &mut String, columns: &[u32]) -> Result<(), AllocError>
     ensures { OnOk result (string_bytes out.new ≡ string_bytes out.old ++ columns_behind columns.now) }
 {
@@ -126,7 +126,7 @@ fn write_tables(out: &mut String, tables: &[Table]) -> Result<(), AllocError>
 fn write_row(alloc: Global, out: &mut String, row: &TableRow) -> Result<(), AllocError>
     ensures { OnOk result (string_bytes out.new ≡ string_bytes out.old ++ ended_bundle_line (Own (Puts row.now))) }
 {
-    write_image(alloc, out, "row", &row.table, &row.row)?;
+    write_image(out, "row", &row.table, &row.row)?;
     out.push_str("\n")
 }
 
@@ -163,7 +163,7 @@ fn write_brought(
     channel: &Channel,
     journal: &Journal,
 ) -> Result<(), AllocError>
-    ensures { OnOk result (string_bytes out.new ≡ string_bytes out.old ++ brought_text schema.now channel.now journal.now) }
+    ensures { OnOk result (string_bytes out.new ≡ string_bytes out.old ++ channel_and_journal_text schema.now channel.now journal.now) }
 {
     write_channel(out, channel)?;
     write_journal_v2(alloc, out, schema, journal)
@@ -177,7 +177,7 @@ fn write_channels(
     channels: &[Channel],
     journals: &[Journal],
 ) -> Result<(), AllocError>
-    ensures { OnOk result (string_bytes out.new ≡ string_bytes out.old ++ all_brought_text schema.now channels.now journals.now) }
+    ensures { OnOk result (string_bytes out.new ≡ string_bytes out.old ++ channels_and_journals_text schema.now channels.now journals.now) }
 {
     for (channel, journal) in channels.iter().zip(journals) {
         write_brought(alloc, out, schema, channel, journal)?;
@@ -228,8 +228,11 @@ fn write_bundle(
 /// The text of a bundle by version 2 of the format: its lines, each ended by one line feed. Rows come by table name, and
 /// then by the values of their primary key; each entry has its last_committed and its sequence number.
 pub fn bundle_text_v2(alloc: Global, bundle: &Bundle) -> Result<String, AllocError>
-    ensures { IfOk result (λ text. string_bytes text ≡ upgrade_of bundle.now) }
+    ensures spelled { IfOk result (λ text. string_bytes text ≡ upgrade_of bundle.now) }
+    // It is a text by the grammar, and read back as this bundle.
+    ensures writes { IfOk result (λ text. WritesBundle (string_bytes text) bundle.now) }
 {
+    bundle.keeps_rules();
     let rows = bundle.rows().list_sorted(alloc)?;
     let mut out = String::new(alloc);
     write_bundle(alloc, &mut out, rows.as_slice(), bundle)?;
@@ -238,7 +241,8 @@ pub fn bundle_text_v2(alloc: Global, bundle: &Bundle) -> Result<String, AllocErr
 
 /// The same as bytes.
 pub fn encode_bundle_v2(alloc: Global, bundle: &Bundle) -> Result<Vec<u8>, AllocError>
-    ensures { IfOk result (λ bytes. bytes.items ≡ bundle_spelling Two (rows_listed bundle.now.start.rows) bundle.now) }
+    ensures spelled { IfOk result (λ bytes. bytes.items ≡ bundle_spelling Two (rows_listed bundle.now.start.rows) bundle.now) }
+    ensures writes { IfOk result (λ bytes. WritesBundle bytes.items bundle.now) }
 {
     let text = bundle_text_v2(alloc, bundle)?;
     Ok(text.into_bytes())

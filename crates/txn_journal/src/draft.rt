@@ -18,7 +18,8 @@ use crate::timestamped_journal::TimestampedJournal;
 use gtid_set::GtidSet;
 use gtid_text::{Gtid, SourceId};
 use journal::{Entry, Journal, is_change_writable, is_number};
-use journal_words::{cut, is_count, set_word};
+use journal_words::set_word;
+use row_images::{cut, is_count};
 use rows::{Change, Changes, Name, Row, Schema, Table, Transaction, has_null_at};
 use std::alloc::{AllocError, Global};
 use std::mem;
@@ -74,8 +75,7 @@ pub fn version_in(due: Option<Version>, rest: Option<&[u8]>) -> Result<Version, 
 fn is_row_of(table: &Table, row: &Row) -> bool
     ensures { result ≡ is_row_of table.now row.now }
 {
-    let values = row.values();
-    values.len() == table.columns as usize && !has_null_at(table.primary.as_slice(), values)
+    row.len() == table.columns as usize && !has_null_at(table.primary.as_slice(), row)
 }
 
 fn are_rows_of(table: &Table, change: &Change) -> bool
@@ -111,7 +111,7 @@ impl Draft {
     ghost use Rattle.journal.specs.Writing.{is_writable};
     ghost use Rattle.txn_journal.specs.Reading.{has_begun};
     ghost use Rattle.txn_journal.specs.Stream.{TakesLine};
-    ghost use Rattle.txn_journal.specs.Machine.{Standing, IsFull, TakesIn, empty, is_last, is_within, open_entry, joined, emptied, add, opened, followed, begun, ended, finished, step};
+    ghost use Rattle.txn_journal.specs.Machine.{Standing, IsFull, TakesIn, empty, is_last, is_within, open_entry, join_entry, drop_entries, add, header_line, previous_line, txn_line, end_line, close_line, step};
     ghost use Rattle.txn_journal.specs.Drafts.{standing};
     ghost use Rattle.txn_journal.specs.Timestamped.{timestamped_of};
 
@@ -146,7 +146,7 @@ impl Draft {
     /// The entries that were not taken yet.
     pub fn take_entries(&mut self, alloc: Global) -> Vec<Entry>
         ensures taken { result.items ≡ (standing self.old).journal.entries }
-        ensures left { standing self.new ≡ emptied (standing self.old) }
+        ensures left { standing self.new ≡ drop_entries (standing self.old) }
     {
         self.stamps = Vec::new(alloc);
         self.journal.take_entries(alloc)
@@ -230,9 +230,9 @@ impl Draft {
         }
     }
 
-    #[tactic(auto, unfolding(crate::specs::Machine::opened))]
+    #[tactic(auto, unfolding(crate::specs::Machine::header_line))]
     fn open(&mut self, rest: Option<&[u8]>) -> Result<(), LineFault>
-        ensures { TakesLine IsFull result (opened (standing self.old) (option_map (λ r. r.now) rest.entry)) (standing self.new) }
+        ensures { TakesLine IsFull result (header_line (standing self.old) (option_map (λ r. r.now) rest.entry)) (standing self.new) }
     {
         match version_in(self.due, rest) {
             Ok(version) => {
@@ -244,9 +244,9 @@ impl Draft {
         }
     }
 
-    #[tactic(auto, unfolding(crate::specs::Machine::followed))]
+    #[tactic(auto, unfolding(crate::specs::Machine::previous_line))]
     fn follow(&mut self, alloc: Global, rest: Option<&[u8]>) -> Result<(), LineFault>
-        ensures { TakesLine IsFull result (followed (standing self.old) (option_map (λ r. r.now) rest.entry)) (standing self.new) }
+        ensures { TakesLine IsFull result (previous_line (standing self.old) (option_map (λ r. r.now) rest.entry)) (standing self.new) }
     {
         let Some(word) = rest else {
             return Err(LineFault::Wrong(Cause::Body));
@@ -260,9 +260,9 @@ impl Draft {
         Ok(())
     }
 
-    #[tactic(auto, unfolding(crate::specs::Machine::begun, crate::specs::Machine::begin))]
+    #[tactic(auto, unfolding(crate::specs::Machine::txn_line, crate::specs::Machine::begin))]
     fn begin(&mut self, alloc: Global, rest: Option<&[u8]>) -> Result<(), LineFault>
-        ensures { TakesLine IsFull result (begun (standing self.old) (option_map (λ r. r.now) rest.entry)) (standing self.new) }
+        ensures { TakesLine IsFull result (txn_line (standing self.old) (option_map (λ r. r.now) rest.entry)) (standing self.new) }
     {
         let beginning = beginning_at(alloc, self.gtid.source, self.version, self.count + 1, rest)?;
         let gtid = beginning.gtid;
@@ -298,10 +298,10 @@ impl Draft {
         Ok(())
     }
 
-    #[tactic(auto, unfolding(crate::specs::Machine::ended))]
+    #[tactic(auto, unfolding(crate::specs::Machine::end_line))]
     fn end(&mut self, alloc: Global, rest: Option<&[u8]>) -> Result<(), LineFault>
         requires { self.old.place ≡ Within }
-        ensures { TakesLine IsFull result (ended (standing self.old) (option_map (λ r. r.now) rest.entry)) (standing self.new) }
+        ensures { TakesLine IsFull result (end_line (standing self.old) (option_map (λ r. r.now) rest.entry)) (standing self.new) }
     {
         if rest.is_some() {
             return Err(LineFault::Wrong(Cause::Body));
@@ -363,7 +363,7 @@ impl Draft {
         requires gtid { entry.gtid ≡ (standing self.old).gtid }
         requires writable { is_writable entry ≡ true }
         requires taken { (standing self.old).changes ≡ [] }
-        ensures { TakesLine IsFull result (Ok (joined (standing self.old) entry)) (standing self.new) }
+        ensures { TakesLine IsFull result (Ok (join_entry (standing self.old) entry)) (standing self.new) }
     {
         self.place = Place::Between;
         self.seen.add(entry.gtid)?;
@@ -373,9 +373,9 @@ impl Draft {
         Ok(())
     }
 
-    #[tactic(auto, unfolding(crate::specs::Machine::finished))]
+    #[tactic(auto, unfolding(crate::specs::Machine::close_line))]
     fn close(&mut self, rest: Option<&[u8]>) -> Result<(), LineFault>
-        ensures { TakesLine IsFull result (finished (standing self.old) (option_map (λ r. r.now) rest.entry)) (standing self.new) }
+        ensures { TakesLine IsFull result (close_line (standing self.old) (option_map (λ r. r.now) rest.entry)) (standing self.new) }
     {
         if rest.is_some() {
             return Err(LineFault::Wrong(Cause::Body));

@@ -1,81 +1,52 @@
 //! Images of rows as words.
-ghost use Rattle.std.specs.Prelude.{◌≡◌, [], option_map};
+ghost use Rattle.std.specs.Prelude.{◌≡◌, IfSome, IfNone, ℕ, List, option_map};
 ghost use Rattle.txn_journal.specs.Stream.{Finds};
-ghost use Rattle.txn_journal.specs.Lines.{words_of, is_bar, stopped, values_from, some_or_body, image_in, images_in, table_in};
+ghost use Rattle.txn_journal.specs.Lines.{IsAroundBar, image_in, images_in, table_in};
 
 use crate::fault::{Cause, LineFault};
 use crate::names::Names;
-use journal_words::{cut, value_word};
-use rows::{Name, Row, Value};
+use memchr::memchr;
+use row_images::cut;
+use rows::{Name, Row};
 use std::alloc::Global;
 
-fn is_bar(word: &[u8]) -> bool
-    ensures { result ≡ is_bar word.now }
-{
-    word == b"|".as_slice()
-}
-
-/// The image before a bar, and what follows the bar.
-fn before_bar(values: Vec<Value>, more: Option<&[u8]>) -> Result<(Row, Option<&[u8]>), LineFault>
-    ensures { Finds (λ r. (r.0, option_map (λ t. words_of t.now) r.1)) result (some_or_body (stopped values.items (option_map (λ t. words_of t.now) more.entry))) }
-{
-    match more {
-        None => Err(LineFault::Wrong(Cause::Body)),
-        Some(after) => {
-            if values.is_empty() {
-                return Err(LineFault::Wrong(Cause::Body));
-            }
-            Ok((Row::new(values)?, Some(after)))
-        }
-    }
-}
-
-/// The values up to a bar or the end of the line, and what follows the blank behind the bar.
-fn values(alloc: Global, text: &[u8]) -> Result<(Row, Option<&[u8]>), LineFault>
-    ensures { Finds (λ r. (r.0, option_map (λ t. words_of t.now) r.1)) result (some_or_body (values_from [] (words_of text.now))) }
-{
-    let mut values = Vec::new(alloc);
-    let mut left = text;
-    'words: loop {
-        let (word, more) = cut(left);
-        if is_bar(word) {
-            return before_bar(values, more);
-        }
-        match value_word(alloc, word)? {
-            Some(value) => values.push(value)?,
-            None => return Err(LineFault::Wrong(Cause::Body)),
-        }
-        match more {
-            Some(after) => left = after,
-            None => return Ok((Row::new(values)?, None)),
-        }
-    }
-}
-
-/// The image that a text spells.
+/// The image that a text has.
 pub fn image(alloc: Global, text: &[u8]) -> Result<Row, LineFault>
     ensures { Finds (λ r. r) result (image_in text.now) }
 {
-    match values(alloc, text)? {
-        (row, None) => Ok(row),
-        (_, Some(_)) => Err(LineFault::Wrong(Cause::Body)),
+    match Row::from_text(alloc, text)? {
+        Some(row) => Ok(row),
+        None => Err(LineFault::Wrong(Cause::Body)),
     }
 }
 
-/// The two images that a text spells, with a bar between.
+/// What comes before and after the first bar, where a blank stands on either side of it.
+fn around_bar(text: &[u8]) -> Option<(&[u8], &[u8])>
+    ensures some { IfSome result (λ r. IsAroundBar text.now r.0.now r.1.now) }
+    ensures none { IfNone result ((before after : List ℕ) → IsAroundBar text.now before after → ⊥) }
+{
+    let Some(at) = memchr(b'|', text) else {
+        return None;
+    };
+    if at < 1 || at + 1 >= text.len() || text[at - 1] != b' ' || text[at + 1] != b' ' {
+        return None;
+    }
+    Some((&text[..at - 1], &text[at + 2..]))
+}
+
+/// The two images that a text has, with a bar between.
 pub fn two_images(alloc: Global, text: &[u8]) -> Result<(Row, Row), LineFault>
     ensures { Finds (λ r. r) result (images_in text.now) }
 {
-    match values(alloc, text)? {
-        (before, Some(rest)) => {
-            let after = image(alloc, rest)?;
-            Ok((before, after))
-        }
-        (_, None) => Err(LineFault::Wrong(Cause::Body)),
-    }
+    let Some((before, after)) = around_bar(text) else {
+        return Err(LineFault::Wrong(Cause::Body));
+    };
+    let before = image(alloc, before)?;
+    let after = image(alloc, after)?;
+    Ok((before, after))
 }
 
-/// The table's name at the front of a line's rest, and what follows it.
+/// The table's name at the start of a line's rest, and what follows it.
 pub fn table_at<'a>(
     names: &mut Names,
     alloc: Global,

@@ -9,6 +9,10 @@
 //! (`refused`); `exact` says the same by the fold over bytes, so pieces make no difference (`any_cut`). After a fault every later call
 //! gives that fault. A text has one value (`one_spelling`, `one_bundle`).
 //!
+//! What is written is a text of its value by the grammar (`writes`). Of a bundle it always is: its type keeps what the grammar asks of its
+//! parts (`Bundle::keeps_rules`). Of a journal it is where `may_be_written` holds: a `Journal` may have more entries than a text, and a
+//! previous set of numbers that no transaction has. It holds of what was read, and of a bundle's journals (`read_may_be_written`).
+//!
 //! One theory serves journals and bundles: a record `Format` has what lines say, the judge of lines and the last line, and both formats
 //! are values of it (`specs/Formats`). Version 2 is another judge and no other theory.
 //!
@@ -23,11 +27,13 @@ mod bundle_writer;
 mod draft;
 mod fault;
 mod feed;
+mod fitting;
 mod images;
 mod laws;
 mod lines;
 mod names;
 mod numbers;
+mod open_bundle;
 mod reader;
 mod tables;
 mod timestamped_journal;
@@ -37,8 +43,10 @@ pub use bundle::{Bundle, Channel};
 pub use bundle_reader::{BundleReader, any_cut_of_bundles, decode_bundle, decode_bundle_v1};
 pub use bundle_writer::{bundle_text_v2, encode_bundle_v2};
 pub use fault::{Cause, JournalFault};
+pub use fitting::may_be_written;
 pub use laws::{
-    one_bundle, one_spelling, rows_in_listed_order, taken_in_front, timestamped_read_back, upgraded,
+    one_bundle, one_spelling, read_may_be_written, rows_in_listed_order, taken_in_front,
+    timestamped_read_back, upgraded,
 };
 pub use reader::{Reader, any_cut, decode, decode_v2};
 pub use timestamped_journal::TimestampedJournal;

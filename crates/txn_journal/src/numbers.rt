@@ -10,7 +10,8 @@ ghost use Rattle.txn_journal.specs.Numbered.{numbers_said, beginning_said};
 use crate::fault::{Cause, LineFault};
 use crate::lines::Version;
 use gtid_text::{Gtid, SourceId};
-use journal_words::{count, cut, gtid_word, is_count};
+use journal_words::gtid_word;
+use row_images::{count, cut, is_count};
 use std::alloc::Global;
 use uuid::Uuid;
 
@@ -36,7 +37,7 @@ pub struct Beginning {
 }
 
 impl Numbers<'_> {
-    /// The last_committed, where these may stand at a place, counted from 1.
+    /// The last_committed, where these may be at a place, counted from 1.
     fn stamp(&self, place: u64) -> Option<u64>
         ensures { result ≡ stamp_in place (Some (numbers_said self.now)) }
     {
@@ -62,7 +63,7 @@ fn spells_source(text: &[u8], source: SourceId) -> bool
     spelling.as_bytes() == text
 }
 
-/// The GTID of this source that the word spells, where it does.
+/// The GTID of this source that the word parses as, where it does.
 fn gtid_of_source(word: &[u8], source: SourceId) -> Option<Gtid>
     ensures { IfSome result (λ gtid. gtid_of_word word.now ≡ Some gtid) }
 {
@@ -83,7 +84,7 @@ fn gtid_of_source(word: &[u8], source: SourceId) -> Option<Gtid>
     Some(Gtid { source, number })
 }
 
-/// The GTID that the word spells. It is looked for as one of a source first, for GTIDs of one source often follow one
+/// The GTID that the word parses as. It is looked for as one of a source first, for GTIDs of one source often follow one
 /// another.
 fn gtid_in(alloc: Global, near: SourceId, word: &[u8]) -> Result<Gtid, LineFault>
     ensures { Finds (λ g. g) result (some_or_body (gtid_of_word word.now)) }

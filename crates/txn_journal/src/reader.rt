@@ -40,7 +40,7 @@ impl Model for Alone {
 }
 
 impl Alone {
-    ghost use Rattle.txn_journal.specs.Machine.{is_last, emptied};
+    ghost use Rattle.txn_journal.specs.Machine.{is_last, drop_entries};
     ghost use Rattle.txn_journal.specs.Timestamped.{timestamped_of};
 
     fn is_ended(&self) -> bool
@@ -51,7 +51,7 @@ impl Alone {
 
     fn take_entries(&mut self, alloc: Global) -> Vec<Entry>
         ensures taken { result.items ≡ self.old.journal.entries }
-        ensures left { self.new ≡ emptied self.old }
+        ensures left { self.new ≡ drop_entries self.old }
     {
         self.draft.take_entries(alloc)
     }
@@ -168,7 +168,7 @@ impl Reader {
     }
 }
 
-/// The journal that the bytes spell, all of the bytes.
+/// The journal that the bytes parse as, all of the bytes.
 pub fn decode(alloc: Global, bytes: &[u8]) -> Result<Journal, JournalFault>
     // What is read is spelled so.
     ensures found { IfOk result (λ j. Writes bytes.now j) }
@@ -182,7 +182,7 @@ pub fn decode(alloc: Global, bytes: &[u8]) -> Result<Journal, JournalFault>
     Reader::over(alloc, None, bytes).finish()
 }
 
-/// The journal that the bytes spell by version 2 of the format, all of the bytes, with the last_committed of each entry as it
+/// The journal that the bytes parse as by version 2 of the format, all of the bytes, with the last_committed of each entry as it
 /// is written. What begins as a journal of another version is refused for it. A journal that stands alone has no tables, so
 /// its numbers are held against its entries' places and not against their keys.
 pub fn decode_v2(alloc: Global, bytes: &[u8]) -> Result<TimestampedJournal, JournalFault>

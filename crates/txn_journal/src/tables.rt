@@ -3,17 +3,17 @@ ghost use Rattle.std.specs.Prelude.{◌≡◌, ◌≤◌, ◌&&◌, ◌∷◌, �
 ghost use Rattle.std.specs.Str.{bytes_eq};
 ghost use Rattle.rows.specs.Tables.{table_fault};
 ghost use Rattle.std.specs.List.{list_all};
-ghost use Rattle.journal_words.specs.Words.{is_count};
-ghost use Rattle.txn_journal.specs.Words.{before, behind};
+ghost use Rattle.row_images.specs.Words.{is_count};
+ghost use Rattle.row_images.specs.Parts.{before, behind, parts_of};
 ghost use Rattle.txn_journal.specs.Stream.{Finds, TakesPart};
-ghost use Rattle.txn_journal.specs.Splits.{parts_of, are_new_to, are_columns, is_columns_text};
+ghost use Rattle.txn_journal.specs.Splits.{are_new_to, are_columns, is_columns_text};
 ghost use Rattle.txn_journal.specs.Shapes.{uniques_from, is_head, shape_in, width_of, numbers_from, columns_in, keys_from, table_of, after_fault, with_table, added_table};
 ghost use Rattle.txn_journal.specs.Shaped.{shape};
 
 use crate::fault::{Cause, LineFault};
 use crate::names::Names;
 use gtid_set::SetFault;
-use journal_words::{count, is_count};
+use row_images::{count, is_count};
 use rows::{ColumnLists, Columns, Name, Schema, SchemaFault, Table, TableFault};
 use std::alloc::{AllocError, Global};
 use std::collections::BTreeSet;
@@ -36,7 +36,7 @@ pub struct TableWords<'a> {
     uniques: Vec<&'a [u8]>,
 }
 
-/// What stands before the first separator, and what follows it.
+/// What comes before the first separator, and what follows it.
 fn cut_at(separator: u8, text: &[u8]) -> (&[u8], Option<&[u8]>)
     ensures part { result.0.now ≡ before separator text.now }
     ensures rest { option_map (λ r. r.now) result.1 ≡ behind separator text.now }
@@ -101,7 +101,7 @@ fn is_columns(alloc: Global, text: &[u8]) -> Result<bool, AllocError>
     are_new(alloc, &words)
 }
 
-/// Whether a word is the one that stands before the columns of a unique key, and these are columns.
+/// Whether a word is the one that comes before the columns of a unique key, and these are columns.
 fn is_unique(alloc: Global, key: &[u8], columns: &[u8]) -> Result<bool, AllocError>
     ensures { IfOk result (λ is. is ≡ (bytes_eq key.now (codes "uk") && is_columns_text columns.now)) }
 {
@@ -252,7 +252,7 @@ impl TableWords<'_> {
     }
 }
 
-/// Adds a table behind the others.
+/// Adds a table after the others.
 fn push_table(schema: &mut Schema, table: Table) -> Result<(), LineFault>
     ensures { TakesPart result (after_fault (table_fault schema.old table) (schema.old ++ table ∷ [])) schema.new }
 {
@@ -265,7 +265,7 @@ fn push_table(schema: &mut Schema, table: Table) -> Result<(), LineFault>
     }
 }
 
-/// Adds the table of these words behind the others.
+/// Adds the table of these words after the others.
 #[tactic(auto, unfolding(crate::specs::Shapes::with_table))]
 fn add_words(alloc: Global, schema: &mut Schema, words: &TableWords) -> Result<(), LineFault>
     ensures { TakesPart result (with_table schema.old (shape words.now)) schema.new }
@@ -278,7 +278,7 @@ fn add_words(alloc: Global, schema: &mut Schema, words: &TableWords) -> Result<(
     push_table(schema, table)
 }
 
-/// Adds the table that a text spells behind the others.
+/// Adds the table that a text parses as after the others.
 #[tactic(auto, unfolding(crate::specs::Shapes::added_table))]
 pub fn add_table(
     alloc: Global,

@@ -1,56 +1,27 @@
 //! Journals written as text.
 ghost use Rattle.std.specs.Prelude.{◌≡◌, ◌∷◌, ◌++◌, None, IfOk, OnOk, length, decimal};
 ghost use Rattle.std.specs.String.{string_bytes};
-ghost use Rattle.journal_words.specs.Values.{value_text};
 ghost use Rattle.txn_journal.specs.WrittenSets.{set_text};
-ghost use Rattle.txn_journal.specs.Spelling.{Header, Previous, Begin, Makes, values_behind, values_text, image_text, change_text, numbers_text, line_text, ended_line, lines_text, numbers_of, entry_lines, spelling, spelling_as};
+ghost use Rattle.txn_journal.specs.Spelling.{Header, Previous, Begin, Makes, image_text, change_text, numbers_text, line_text, ended_line, lines_text, numbers_of, entry_lines, spelling, spelling_as, MayBeWritten, Writes};
+ghost use Rattle.row_images.specs.Images.{values_text};
 ghost use Rattle.txn_journal.specs.Stamps.{right_stamps};
+ghost use Rattle.txn_journal.specs.Timestamped.{WritesTimestamped, with_timestamps};
 ghost use Rattle.txn_journal.specs.Texts.{changes_text, body_text, entries_text, stamped_text, opening_text, text_around};
 ghost use Rattle.txn_journal.specs.declared.lines.Version.TheVariants.{One, Two};
 
+use crate::fitting::journal_fits;
 use crate::lines::Version;
 use gtid_set::GtidSet;
 use gtid_text::{Gtid, write_gtid};
 use itoa::Buffer;
 use journal::{Entry, Journal};
-use journal_words::write_value;
 use logical_timestamps::last_committed_of;
-use rows::{Change, Name, Row, Schema, Transaction, Value};
+use rows::{Change, Name, Row, Schema, Transaction};
 use std::alloc::{AllocError, Global};
-
-/// Appends a value behind a blank.
-fn write_after_blank(alloc: Global, out: &mut String, value: &Value) -> Result<(), AllocError>
-    ensures { OnOk result (string_bytes out.new ≡ string_bytes out.old ++ 32 ∷ value_text value.now) }
-{
-    out.push_str(" ")?;
-    write_value(alloc, out, value)
-}
-
-/// Appends values, each behind a blank.
-fn write_behind(alloc: Global, out: &mut String, values: &[Value]) -> Result<(), AllocError>
-    ensures { OnOk result (string_bytes out.new ≡ string_bytes out.old ++ values_behind values.now) }
-{
-    for value in values {
-        write_after_blank(alloc, out, value)?;
-    }
-    Ok(())
-}
-
-/// Appends values with a blank between.
-fn write_values(alloc: Global, out: &mut String, values: &[Value]) -> Result<(), AllocError>
-    ensures { OnOk result (string_bytes out.new ≡ string_bytes out.old ++ values_text values.now) }
-{
-    let [first, others @ ..] = values else {
-        return Ok(());
-    };
-    write_value(alloc, out, first)?;
-    write_behind(alloc, out, others)
-}
 
 /// Appends a word, a table and an image.
 #[tactic(auto, using(crate::proofs::WriteLemmas::image_appended))]
 pub(crate) fn write_image(
-    alloc: Global,
     out: &mut String,
     word: &str,
     table: &Name,
@@ -62,43 +33,43 @@ pub(crate) fn write_image(
     out.push_str(" ")?;
     out.push_str(table.as_str())?;
     out.push_str(" ")?;
-    write_values(alloc, out, image.values())
+    out.push_str(image.as_str())
 }
 
 /// Appends the line of a change, without its line feed.
 #[tactic(auto, using(crate::proofs::WriteLemmas::two_images_text))]
-fn write_change(alloc: Global, out: &mut String, change: &Change) -> Result<(), AllocError>
+fn write_change(out: &mut String, change: &Change) -> Result<(), AllocError>
     ensures { OnOk result (string_bytes out.new ≡ string_bytes out.old ++ change_text change.now) }
 {
     match change {
-        Change::Insert { table, after } => write_image(alloc, out, "ins", table, after),
-        Change::Delete { table, before } => write_image(alloc, out, "del", table, before),
+        Change::Insert { table, after } => write_image(out, "ins", table, after),
+        Change::Delete { table, before } => write_image(out, "del", table, before),
         Change::Update {
             table,
             before,
             after,
         } => {
-            write_image(alloc, out, "upd", table, before)?;
+            write_image(out, "upd", table, before)?;
             out.push_str(" | ")?;
-            write_values(alloc, out, after.values())
+            out.push_str(after.as_str())
         }
     }
 }
 
 /// Appends the line of a change.
-fn write_change_line(alloc: Global, out: &mut String, change: &Change) -> Result<(), AllocError>
+fn write_change_line(out: &mut String, change: &Change) -> Result<(), AllocError>
     ensures { OnOk result (string_bytes out.new ≡ string_bytes out.old ++ ended_line (Makes change.now)) }
 {
-    write_change(alloc, out, change)?;
+    write_change(out, change)?;
     out.push_str("\n")
 }
 
 /// Appends the lines of changes.
-fn write_changes(alloc: Global, out: &mut String, changes: &[Change]) -> Result<(), AllocError>
+fn write_changes(out: &mut String, changes: &[Change]) -> Result<(), AllocError>
     ensures { OnOk result (string_bytes out.new ≡ string_bytes out.old ++ changes_text changes.now) }
 {
     for change in changes {
-        write_change_line(alloc, out, change)?;
+        write_change_line(out, change)?;
     }
     Ok(())
 }
@@ -120,7 +91,7 @@ pub(crate) fn write_number(out: &mut String, number: u64) -> Result<(), AllocErr
     out.push_str(buffer.format(number))
 }
 
-/// Appends a number behind a blank.
+/// Appends a number after a blank.
 pub(crate) fn write_next_number(out: &mut String, number: u64) -> Result<(), AllocError>
     ensures { OnOk result (string_bytes out.new ≡ string_bytes out.old ++ 32 ∷ decimal number) }
 {
@@ -137,27 +108,26 @@ fn write_numbers(out: &mut String, stamp: u64, place: u64) -> Result<(), AllocEr
 }
 
 /// Appends the text of an entry from the line feed of its first line on.
-fn write_body(alloc: Global, out: &mut String, txn: &Transaction) -> Result<(), AllocError>
+fn write_body(out: &mut String, txn: &Transaction) -> Result<(), AllocError>
     ensures { OnOk result (string_bytes out.new ≡ string_bytes out.old ++ body_text txn.now.changes) }
 {
     out.push_str("\n")?;
-    write_changes(alloc, out, txn.changes.as_slice())?;
+    write_changes(out, txn.changes.as_slice())?;
     out.push_str("end\n")
 }
 
 /// Appends the lines of an entry without numbers.
 #[tactic(auto, using(crate::proofs::WriteLemmas::entry_appended))]
-fn write_entry(alloc: Global, out: &mut String, entry: &Entry) -> Result<(), AllocError>
+fn write_entry(out: &mut String, entry: &Entry) -> Result<(), AllocError>
     ensures { OnOk result (string_bytes out.new ≡ string_bytes out.old ++ lines_text (entry_lines None entry.now)) }
 {
     write_begin(out, entry.gtid)?;
-    write_body(alloc, out, &entry.txn)
+    write_body(out, &entry.txn)
 }
 
 /// Appends the lines of the entry at a place, with this last_committed.
 #[tactic(auto, using(crate::proofs::WriteLemmas::stamped_entry_appended))]
 fn write_stamped_entry(
-    alloc: Global,
     out: &mut String,
     stamp: u64,
     place: u64,
@@ -167,22 +137,21 @@ fn write_stamped_entry(
 {
     write_begin(out, entry.gtid)?;
     write_numbers(out, stamp, place)?;
-    write_body(alloc, out, &entry.txn)
+    write_body(out, &entry.txn)
 }
 
 /// Appends the lines of entries without numbers.
-fn write_entries(alloc: Global, out: &mut String, entries: &[Entry]) -> Result<(), AllocError>
+fn write_entries(out: &mut String, entries: &[Entry]) -> Result<(), AllocError>
     ensures { OnOk result (string_bytes out.new ≡ string_bytes out.old ++ entries_text entries.now) }
 {
     for entry in entries {
-        write_entry(alloc, out, entry)?;
+        write_entry(out, entry)?;
     }
     Ok(())
 }
 
 /// Appends the lines of entries, each with its last_committed.
 fn write_stamped_entries(
-    alloc: Global,
     out: &mut String,
     stamps: &[u64],
     entries: &[Entry],
@@ -191,7 +160,7 @@ fn write_stamped_entries(
     ensures { OnOk result (string_bytes out.new ≡ string_bytes out.old ++ stamped_text 1 stamps.now entries.now) }
 {
     for (i, entry) in entries.iter().enumerate() {
-        write_stamped_entry(alloc, out, stamps[i], i as u64 + 1, entry)?;
+        write_stamped_entry(out, stamps[i], i as u64 + 1, entry)?;
     }
     Ok(())
 }
@@ -252,7 +221,7 @@ fn write_parts(
     ensures { OnOk result (string_bytes out.new ≡ string_bytes out.old ++ text_around One previous.now (entries_text entries.now)) }
 {
     write_opening(alloc, out, Version::One, previous)?;
-    write_entries(alloc, out, entries)?;
+    write_entries(out, entries)?;
     out.push_str("close\n")
 }
 
@@ -269,7 +238,7 @@ fn write_stamped_parts(
     ensures { OnOk result (string_bytes out.new ≡ string_bytes out.old ++ text_around Two previous.now (stamped_text 1 stamps.now entries.now)) }
 {
     write_opening(alloc, out, Version::Two, previous)?;
-    write_stamped_entries(alloc, out, stamps, entries)?;
+    write_stamped_entries(out, stamps, entries)?;
     out.push_str("close\n")
 }
 
@@ -284,8 +253,11 @@ fn write_journal(alloc: Global, journal: &Journal) -> Result<String, AllocError>
 
 /// The one text of a journal by version 1 of the format: its lines, each ended by one line feed.
 pub fn encode(alloc: Global, journal: &Journal) -> Result<Vec<u8>, AllocError>
-    ensures { IfOk result (λ bytes. bytes.items ≡ spelling journal.now) }
+    ensures spelled { IfOk result (λ bytes. bytes.items ≡ spelling journal.now) }
+    // It is a text by the grammar, and read back as this journal.
+    ensures writes { MayBeWritten journal.now → IfOk result (λ bytes. Writes bytes.items journal.now) }
 {
+    journal_fits(journal);
     let text = write_journal(alloc, journal)?;
     Ok(text.into_bytes())
 }
@@ -321,8 +293,11 @@ pub(crate) fn write_journal_v2(
 /// The one text of a journal by version 2 of the format, whose entries change tables of this schema. Each entry has
 /// its last_committed and its sequence number.
 pub fn encode_v2(alloc: Global, schema: &Schema, journal: &Journal) -> Result<Vec<u8>, AllocError>
-    ensures { IfOk result (λ bytes. bytes.items ≡ spelling_as Two (right_stamps Two schema.now journal.now.entries) journal.now) }
+    ensures spelled { IfOk result (λ bytes. bytes.items ≡ spelling_as Two (right_stamps Two schema.now journal.now.entries) journal.now) }
+    // It is a text by the grammar, and read back as this journal with these numbers.
+    ensures writes { MayBeWritten journal.now → IfOk result (λ b. WritesTimestamped b.items (with_timestamps schema.now journal.now)) }
 {
+    journal_fits(journal);
     let mut out = String::new(alloc);
     write_journal_v2(alloc, &mut out, schema, journal)?;
     Ok(out.into_bytes())

@@ -1,28 +1,45 @@
-//! Audits over an opening set, which a bundle of version 1 does not have.
+//! Audits over an opening set, which a bundle of version 1 does not have, and over the world of other journals.
 
 use audit::{audit, world_of};
 use gtid_report::render_verdict;
 use gtid_set::GtidSet;
+use journal::Journal;
 use std::alloc::{AllocError, Global};
 use std::test::Fail;
 use txn_journal::{Bundle, decode_bundle};
 use world::Verdict;
 
-/// A bundle whose one journal has A:3 behind this previous set.
-fn text(alloc: Global, previous: &str) -> Result<String, AllocError> {
+const A1: &str = "txn aaaaaaaa-aaaa-aaaa-aaaa-aaaaaaaaaaaa:1\nins t 11\nend\n";
+
+const A1_OTHERWISE: &str = "txn aaaaaaaa-aaaa-aaaa-aaaa-aaaaaaaaaaaa:1\nins t 12\nend\n";
+
+const A3: &str = "txn aaaaaaaa-aaaa-aaaa-aaaa-aaaaaaaaaaaa:3\nins t 3\nend\n";
+
+const A1_AND_A3: &str =
+    "txn aaaaaaaa-aaaa-aaaa-aaaa-aaaaaaaaaaaa:1\nins t 11\nend\ntxn aaaaaaaa-aaaa-aaaa-aaaa-aaaaaaaaaaaa:3\nins t 3\nend\n";
+
+/// A bundle whose one journal has these entries after this previous set.
+fn text(alloc: Global, previous: &str, entries: &str) -> Result<String, AllocError> {
     let mut text = String::from_str(
         alloc,
         "bundle 1\nreplica cccccccc-cccc-cccc-cccc-cccccccccccc\ntable t 1 pk 0\nrow t 1\nchannel x\njournal 1\nprevious ",
     )?;
     text.push_str(previous)?;
-    text.push_str("\ntxn aaaaaaaa-aaaa-aaaa-aaaa-aaaaaaaaaaaa:3\nins t 3\nend\nclose\ndone\n")?;
+    text.push_str("\n")?;
+    text.push_str(entries)?;
+    text.push_str("close\ndone\n")?;
     Ok(text)
 }
 
-/// What the audit of a bundle's journals finds, where this set is executed from the start.
-fn found(alloc: Global, bundle: &Bundle, opened: &GtidSet) -> Option<Verdict> {
+/// What the audit of journals finds in the world of a bundle, where this set is executed from the start.
+fn audit_verdict(
+    alloc: Global,
+    bundle: &Bundle,
+    opened: &GtidSet,
+    journals: &[Journal],
+) -> Option<Verdict> {
     match world_of(alloc, opened, bundle.rows(), bundle.journals()) {
-        Ok(world) => audit(alloc, &world, bundle.journals()).ok(),
+        Ok(world) => audit(alloc, &world, journals).ok(),
         Err(_) => None,
     }
 }
@@ -38,7 +55,7 @@ fn is_printed(alloc: Global, verdict: &Verdict, want: &str) -> bool {
 /// Whether the audit over this opening set is printed so.
 fn says(alloc: Global, bundle: &Bundle, opened: &str, want: &str) -> bool {
     match GtidSet::from_text(alloc, opened) {
-        Ok(opened) => match found(alloc, bundle, &opened) {
+        Ok(opened) => match audit_verdict(alloc, bundle, &opened, bundle.journals()) {
             Some(verdict) => is_printed(alloc, &verdict, want),
             None => false,
         },
@@ -46,11 +63,25 @@ fn says(alloc: Global, bundle: &Bundle, opened: &str, want: &str) -> bool {
     }
 }
 
-/// A journal of A:3 behind A:1 and A:2.
+/// Whether the audit of these entries' journal, in the world of a bundle, is printed so.
+fn says_of(alloc: Global, bundle: &Bundle, entries: &str, want: &str) -> bool {
+    let Ok(text) = text(alloc, "-", entries) else {
+        return false;
+    };
+    let Ok(other) = decode_bundle(alloc, text.as_bytes()) else {
+        return false;
+    };
+    match audit_verdict(alloc, bundle, &GtidSet::empty(alloc), other.journals()) {
+        Some(verdict) => is_printed(alloc, &verdict, want),
+        None => false,
+    }
+}
+
+/// A journal of A:3 after A:1 and A:2.
 #[test]
 fn what_was_purged_may_be_executed_from_the_start(rt: HostRuntime) -> Result<(), Fail> {
     let alloc = rt.alloc();
-    let text = text(alloc, "aaaaaaaa-aaaa-aaaa-aaaa-aaaaaaaaaaaa:1-2")?;
+    let text = text(alloc, "aaaaaaaa-aaaa-aaaa-aaaa-aaaaaaaaaaaa:1-2", A3)?;
     let bundle = decode_bundle(alloc, text.as_bytes())?;
     let said = says(
         alloc,
@@ -77,11 +108,11 @@ fn what_was_purged_may_be_executed_from_the_start(rt: HostRuntime) -> Result<(),
     Ok(())
 }
 
-/// A journal of A:3 behind nothing.
+/// A journal of A:3 after nothing.
 #[test]
 fn what_is_executed_from_the_start_is_not_missing(rt: HostRuntime) -> Result<(), Fail> {
     let alloc = rt.alloc();
-    let text = text(alloc, "-")?;
+    let text = text(alloc, "-", A3)?;
     let bundle = decode_bundle(alloc, text.as_bytes())?;
     let said = says(
         alloc,
@@ -99,6 +130,36 @@ fn what_is_executed_from_the_start_is_not_missing(rt: HostRuntime) -> Result<(),
         "aaaaaaaa-aaaa-aaaa-aaaa-aaaaaaaaaaaa:1-2",
         "sound",
     );
+    assert!(rt; said);
+    Ok(())
+}
+
+/// In the world of A:1 and A:3 journals that have less, or another A:1.
+#[test]
+fn a_world_may_be_that_of_other_journals(rt: HostRuntime) -> Result<(), Fail> {
+    let alloc = rt.alloc();
+    let text = text(alloc, "-", A1_AND_A3)?;
+    let bundle = decode_bundle(alloc, text.as_bytes())?;
+    let said = says_of(alloc, &bundle, "", "sound")
+        && says_of(alloc, &bundle, A1, "sound")
+        && says_of(
+            alloc,
+            &bundle,
+            A1_OTHERWISE,
+            "unequal aaaaaaaa-aaaa-aaaa-aaaa-aaaaaaaaaaaa:1",
+        )
+        && says_of(
+            alloc,
+            &bundle,
+            A3,
+            "missing aaaaaaaa-aaaa-aaaa-aaaa-aaaaaaaaaaaa:1",
+        )
+        && says_of(
+            alloc,
+            &bundle,
+            A1_AND_A3,
+            "missing aaaaaaaa-aaaa-aaaa-aaaa-aaaaaaaaaaaa:2",
+        );
     assert!(rt; said);
     Ok(())
 }

@@ -4,9 +4,10 @@
 //! What they must answer was written down by hand before anything ran. What a program prints for an input is in tests/cases.
 //!
 //! The end of a run of numbers, and sets that grow (`gtid_set`); a row found by its key (`rows`); audits over opening sets that are not
-//! empty (`audit`); what a source without a UUID sends (`auto_position`); a reader that keeps its refusal and gives its entries once, and
-//! numbers as they are written (`txn_journal`); a ring (`rings`); and two seats of a shared replica: a write prepared without the lock,
-//! one that comes too late, two commits on threads, and `close` with a pass too few (`shared_replica`).
+//! empty, and of other journals than the world was made of (`audit`); what a source without a UUID sends (`auto_position`); a reader that
+//! keeps its refusal and gives its entries once, and numbers as they are written (`txn_journal`); a ring (`rings`); and two seats of a
+//! shared replica: a write prepared without the lock, one that comes too late, two commits on threads, and `close` with a pass too few
+//! (`shared_replica`).
 #![tactic(auto)]
 
 #[cfg(test)]

@@ -10,7 +10,7 @@ fn table(alloc: Global) -> Option<Name> {
     Name::new(name).ok()
 }
 
-/// Whether a row of `t` stands under this primary key.
+/// Whether a row of `t` is stored under this primary key.
 fn stands(alloc: Global, rows: &Rows, key: KeyValues) -> bool {
     match table(alloc) {
         Some(table) => rows.get(table, key).is_some(),
@@ -19,13 +19,13 @@ fn stands(alloc: Global, rows: &Rows, key: KeyValues) -> bool {
 }
 
 /// The key 9 as a list of one value.
-fn listed(alloc: Global) -> Result<KeyValues, AllocError> {
+fn key_of_nine(alloc: Global) -> Result<KeyValues, AllocError> {
     KeyValues::new(vec![in alloc; Value::Int(9)]?)
 }
 
-/// Whether the row 9 stands under its primary key, be that one value or a list of one, and no row 1.
+/// Whether the row 9 is stored under its primary key, be that one value or a list of one, and no row 1.
 fn are_found(alloc: Global, rows: &Rows) -> bool {
-    let is_found = match listed(alloc) {
+    let is_found = match key_of_nine(alloc) {
         Ok(key) => stands(alloc, rows, key),
         Err(_) => false,
     };

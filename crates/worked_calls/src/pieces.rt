@@ -16,7 +16,7 @@ fn takes(alloc: Global, reader: &mut Reader, piece: &str) -> bool {
     reader.feed(alloc, piece.as_bytes()).is_ok()
 }
 
-/// Whether each call behind a line that is no journal's first one is refused.
+/// Whether each call after a line that is no journal's first one is refused.
 fn refuses_all(alloc: Global, reader: &mut Reader) -> bool {
     takes(alloc, reader, "journals")
         && !takes(alloc, reader, "\n")
@@ -42,7 +42,7 @@ fn a_refusal_stays(rt: HostRuntime) -> Result<(), Fail> {
 }
 
 /// How many entries there are so far, and the number of the last one.
-fn taken(alloc: Global, reader: &mut Reader) -> Option<(usize, u64)> {
+fn last_taken(alloc: Global, reader: &mut Reader) -> Option<(usize, u64)> {
     let entries = reader.take_entries(alloc).ok()?;
     let mut last = 0;
     for entry in &entries {
@@ -55,8 +55,8 @@ fn taken(alloc: Global, reader: &mut Reader) -> Option<(usize, u64)> {
 fn are_taken_once(alloc: Global, reader: &mut Reader) -> bool {
     takes(alloc, reader, HEAD)
         && takes(alloc, reader, FIRST)
-        && taken(alloc, reader) == Some((1, 1))
-        && taken(alloc, reader) == Some((0, 0))
+        && last_taken(alloc, reader) == Some((1, 1))
+        && last_taken(alloc, reader) == Some((0, 0))
         && takes(alloc, reader, REST)
 }
 

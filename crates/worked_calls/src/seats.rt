@@ -136,7 +136,7 @@ fn commits_prepared<N: Naming, R: Wait>(
     }
 }
 
-/// Whether a patch is refused because a row stands under its primary key.
+/// Whether a patch is refused because a row is stored under its primary key.
 fn is_late<N: Naming, R: Wait>(
     rt: &R,
     alloc: Global,
@@ -261,7 +261,7 @@ fn work<N: Naming + Send + Sync, R: Threads + Wait + Sync>(
 }
 
 /// What the book of a task shows.
-fn wanted(wish: Task) -> Ending {
+fn wanted_ending(wish: Task) -> Ending {
     match wish {
         Task::Late => Ending {
             counts: Counts {
@@ -354,7 +354,7 @@ fn closes<N: Naming>(
     wish: Task,
 ) -> bool {
     match replica.close(passes) {
-        Ok(book) => shows(alloc, &book, wanted(wish)) && starts_again(alloc, &book),
+        Ok(book) => shows(alloc, &book, wanted_ending(wish)) && starts_again(alloc, &book),
         Err(_) => false,
     }
 }

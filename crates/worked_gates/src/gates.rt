@@ -4,7 +4,7 @@ ghost use Rattle.std.specs.Prelude.{◌≡◌, true};
 ghost use Rattle.replica_core.specs.Machine.{is_numbered};
 ghost use Rattle.serving.specs.Servable.{IsServable};
 
-use applier::{Gate, Hand, Ticket, drain, hands, run_workers};
+use applier::{Gate, Hand, Ticket, drain, make_hands, run_workers};
 use commands::apply_journals;
 use commit_ledger::Blanks;
 use gtid_text::{Gtid, SourceId};
@@ -40,7 +40,7 @@ fn workers_run_at_once(rt: HostRuntime) -> Result<(), Fail> {
 /// Whether all twenty transactions are committed, and nothing is left for the drain.
 pub(crate) fn shows_twenty(alloc: Global, book: &mut ClosedBook) -> Result<bool, Fail> {
     let steps = book.steps().len();
-    let is_whole = book.state().drained() && book.counts().commits == 20;
+    let is_whole = book.state().is_drained() && book.counts().commits == 20;
     drain(alloc, book)?;
     Ok(is_whole && book.steps().len() == steps)
 }
@@ -178,7 +178,7 @@ fn count_rows(alloc: Global, book: &ClosedBook) -> Option<usize> {
     }
 }
 
-/// How many rows two workers with a gate leave of a bundle, and how many commits stand in their history; None where they leave
+/// How many rows two workers with a gate leave of a bundle, and how many commits are in their history; None where they leave
 /// a verdict.
 fn rows_applied<R: Threads + Wait + Sync>(
     rt: &R,
@@ -223,7 +223,7 @@ fn two_workers_apply_at_once(rt: HostRuntime) -> Result<(), Fail> {
 /// third.
 #[test]
 fn first_in_first_out(rt: HostRuntime) -> Result<(), Fail> {
-    let mut all = hands(rt.alloc(), 2)?;
+    let mut all = make_hands(rt.alloc(), 2)?;
     let first = &mut all[0];
     for place in 0..3usize {
         assert!(rt; first.push(Ticket { channel: 0, place }).is_ok());

@@ -24,7 +24,7 @@ pub(crate) fn drain_again<R: Abort>(rt: &R, alloc: Global, book: &mut ClosedBook
 }
 
 /// What the seats own. Memory may be refused once.
-pub(crate) fn owned<R: Abort>(rt: &R, alloc: Global, book: &ClosedBook) -> Vec<(u8, Gtid)> {
+pub(crate) fn owned_gtids<R: Abort>(rt: &R, alloc: Global, book: &ClosedBook) -> Vec<(u8, Gtid)> {
     match book.state().owned(alloc) {
         Ok(owned) => owned,
         Err(_) => book.state().owned(alloc).expect(rt, "what is owned"),
@@ -61,9 +61,9 @@ pub(crate) fn shows<R: Abort>(
         "the state at the end"
     );
     assert!(rt;
-        owned(rt, alloc, book).is_empty(),
+        owned_gtids(rt, alloc, book).is_empty(),
         "nothing is owned at the end"
     );
-    assert!(rt; book.state().drained(), "all is executed at the end");
+    assert!(rt; book.state().is_drained(), "all is executed at the end");
     assert_eq!(rt; commits(book.steps()), count, "a commit for each entry");
 }

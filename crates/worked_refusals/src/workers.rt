@@ -1,7 +1,7 @@
 //! Two workers, of which one is refused memory.
 ghost use Rattle.std.specs.Prelude.{◌≡◌};
 
-use crate::ends::{drain_again, owned, shows};
+use crate::ends::{drain_again, owned_gtids, shows};
 use crate::start::{NOTHING_BEGAN, bundle, core_of, entries, tell};
 use applier::{Gate, WorkersEnd, run_workers};
 use commit_ledger::Blanks;
@@ -116,7 +116,7 @@ fn receive_all<R: Abort>(
 }
 
 /// A replica that has received what a bundle brings.
-fn received<R: Abort>(rt: &R, alloc: Global, bundle: &Bundle) -> Result<Core, SetFault> {
+fn received_core<R: Abort>(rt: &R, alloc: Global, bundle: &Bundle) -> Result<Core, SetFault> {
     let mut core = core_of(alloc, bundle)?;
     receive_all(rt, alloc, &mut core, entries(bundle))?;
     Ok(core)
@@ -126,7 +126,7 @@ fn received<R: Abort>(rt: &R, alloc: Global, bundle: &Bundle) -> Result<Core, Se
 /// else. Which case it is.
 fn left_by_one<R: Abort>(rt: &R, alloc: Global, book: &ClosedBook, marks: &Marks) -> &'static str {
     let executed = book.state().executed().count();
-    let owned = owned(rt, alloc, book);
+    let owned = owned_gtids(rt, alloc, book);
     match owned.as_slice() {
         [] if book.steps().is_empty() => "no worker began",
         [] => {
@@ -155,7 +155,7 @@ fn end<R: Abort>(
 ) -> &'static str {
     let met = match fault {
         None => {
-            assert!(rt; book.state().drained(), "the workers have done all");
+            assert!(rt; book.state().is_drained(), "the workers have done all");
             "no worker refused"
         }
         Some(fault) => {
@@ -200,7 +200,7 @@ fn the_other_worker_goes_on(rt: HostRuntime) -> Result<(), Fail> {
     let Ok(bundle) = bundle(&rt, alloc, FOUR) else {
         return tell(&rt, NOTHING_BEGAN);
     };
-    let Ok(core) = received(&rt, alloc, &bundle) else {
+    let Ok(core) = received_core(&rt, alloc, &bundle) else {
         return tell(&rt, NOTHING_BEGAN);
     };
     let marks = Marks {

@@ -129,7 +129,7 @@ shares_by schema t u k a b =
 same_gtids : (g h : Gtid) → g.source ≡ h.source → g.number ≡ h.number → g ≡ h
 same_gtids g h s n = λ i. record { source = s i; number = n i }
 
--- what stands before a place stands before a later one
+-- what comes before a place comes before a later one
 stands_later : (j : JournalValue) (q place : ℕ) (g : Gtid) → q < place → stands_before j q g ≡ true → stands_before j place g ≡ true
 stands_later j q place g l h = elim (or_cases (set.contains j.previous g) (stands_in (take q j.entries) g) h) [
   | inl p ↦ or_left (set.contains j.previous g) (stands_in (take place j.entries) g) p
@@ -143,14 +143,9 @@ stands_later j q place g l h = elim (or_cases (set.contains j.previous g) (stand
     less : (a b c : ℕ) → a < b → b < c → a < c
     less a b c x y = omega arith
 
-module _ (schema : List Table) (opened : Gtids) (rows : Rows) (journals : List JournalValue) where
-  abbrev w : World
-  w = world_of schema opened rows journals
-
+-- In any world whose contents lie beyond its opening set.
+module _ (w : World) (journals : List JournalValue) (outside : (g : Gtid) (t : Transaction) → content w g ≡ Some t → is_opened w g ≡ false) where
   module _ (equal : unequal w journals ≡ None) (none_purged : purged w journals ≡ None) where
-    outside : (g : Gtid) (t : Transaction) → content w g ≡ Some t → is_opened w g ≡ false
-    outside g t h = contents_outside opened (all_entries journals) g t h
-
     pub content_here : (i : ℕ) (j : JournalValue) (k : ℕ) (e : Entry) → slice_get journals i ≡ Some j → slice_get j.entries k ≡ Some e → is_opened w e.gtid ≡ false → content w e.gtid ≡ Some e.txn
     content_here i j k e hj he out =
         let test : is_unequal w e ≡ false = when_none (is_unequal w e) (Unequal e.gtid) (first_none _ j.entries (first_none _ journals equal i j hj) k e he) in
@@ -159,30 +154,30 @@ module _ (schema : List Table) (opened : Gtids) (rows : Rows) (journals : List J
 
     not_previous : (i : ℕ) (j : JournalValue) (g : Gtid) (t : Transaction) → slice_get journals i ≡ Some j → content w g ≡ Some t → set.contains j.previous g ≡ true → ⊥
     not_previous i j g t hj c h =
-        let test = when_none (not (set.is_subset j.previous opened)) (Purged i (set.difference j.previous opened)) (first_none _ journals none_purged i j hj) in
-        let within : set.is_subset j.previous opened ≡ true = true_from_ne_false (set.is_subset j.previous opened) (λ no. not_both (not (set.is_subset j.previous opened)) (not_from_false (set.is_subset j.previous opened) no) test) in
-        not_both (is_opened w g) (is_subset-contains gtid_total j.previous opened within g h) (outside g t c)
+        let test = when_none (not (set.is_subset j.previous w.opening_set)) (Purged i (set.difference j.previous w.opening_set)) (first_none _ journals none_purged i j hj) in
+        let within : set.is_subset j.previous w.opening_set ≡ true = true_from_ne_false (set.is_subset j.previous w.opening_set) (λ no. not_both (not (set.is_subset j.previous w.opening_set)) (not_from_false (set.is_subset j.previous w.opening_set) no) test) in
+        not_both (is_opened w g) (is_subset-contains gtid_total j.previous w.opening_set within g h) (outside g t c)
 
     module _ (i : ℕ) (j : JournalValue) (hj : slice_get journals i ≡ Some j) (place : ℕ) (e : Entry) (he : slice_get j.entries place ≡ Some e)
         (before : (q : ℕ) (x : Entry) → q < place → slice_get j.entries q ≡ Some x → least_left_out w j q x ≡ None) (shut : has_gap w j place e ≡ false) where
-      -- what precedes the last toucher of a common key stands before it, and it stands before the entry
-      stands_too : (l : ℕ) (h : history.Entry) → slice_get (finmap.entries w.contents) l ≡ Some h → is_opened w e.gtid ≡ false → h.0.source ≡ e.gtid.source → h.0.number < e.gtid.number → shares_key schema h.1 e.txn ≡ true → stands_before j place h.0 ≡ true
+      -- what precedes the last toucher of a common key comes before it, and it comes before the entry
+      stands_too : (l : ℕ) (h : history.Entry) → slice_get (finmap.entries w.contents) l ≡ Some h → is_opened w e.gtid ≡ false → h.0.source ≡ e.gtid.source → h.0.number < e.gtid.number → shares_key w.schema h.1 e.txn ≡ true → stands_before j place h.0 ≡ true
       stands_too l h hl out same less shares =
-          let k = shared_key schema h.1 e.txn shares in
-          let p : history.Entry → Bool = λ x. (x.0.source == e.gtid.source) && (nat_lt x.0.number e.gtid.number && touches schema x.1 k.0) in
-          let passes : p h ≡ true = and_from (h.0.source == e.gtid.source) _ (eq-eqb h.0.source e.gtid.source same) (and_from (nat_lt h.0.number e.gtid.number) (touches schema h.1 k.0) (below_test h.0.number e.gtid.number less) k.1) in
+          let k = shared_key w.schema h.1 e.txn shares in
+          let p : history.Entry → Bool = λ x. (x.0.source == e.gtid.source) && (nat_lt x.0.number e.gtid.number && touches w.schema x.1 k.0) in
+          let passes : p h ≡ true = and_from (h.0.source == e.gtid.source) _ (eq-eqb h.0.source e.gtid.source same) (and_from (nat_lt h.0.number e.gtid.number) (touches w.schema h.1 k.0) (below_test h.0.number e.gtid.number less) k.1) in
           let at = left_by_filter p (finmap.entries w.contents) l h hl passes in
           let last = latest_over (filter p (finmap.entries w.contents)) at.0 h at.1 in
           let f = last.0 in
           let there = latest_in (filter p (finmap.entries w.contents)) f last.1 in
           let ok = filtered p (finmap.entries w.contents) there.0 f there.1 in
           let parts = and_parts (f.0.source == e.gtid.source) _ ok.0 in
-          let rest = and_parts (nat_lt f.0.number e.gtid.number) (touches schema f.1 k.0) parts.1 in
+          let rest = and_parts (nat_lt f.0.number e.gtid.number) (touches w.schema f.1 k.0) parts.1 in
           let is_source : f.0.source ≡ h.0.source = eqb-true f.0.source e.gtid.source parts.0 ∙ sym same in
-          let closed : list_any (λ key. option_map_or (λ (x : history.Entry). not (stands_before j place x.0)) (last_toucher w e.gtid key) false) (write_set schema e.txn) ≡ false = and_false (not (is_opened w e.gtid)) _ (not_from_false (is_opened w e.gtid) out) shut in
+          let closed : list_any (λ key. option_map_or (λ (x : history.Entry). not (stands_before j place x.0)) (last_toucher w e.gtid key) false) (write_set w.schema e.txn) ≡ false = and_false (not (is_opened w e.gtid)) _ (not_from_false (is_opened w e.gtid) out) shut in
           let f_stands : stands_before j place f.0 ≡ true = true_from_ne_false (stands_before j place f.0) (λ no.
-          not_both (list_any (λ key. option_map_or (λ (x : history.Entry). not (stands_before j place x.0)) (last_toucher w e.gtid key) false) (write_set schema e.txn))
-          (any_passes_from_place (λ key. option_map_or (λ (x : history.Entry). not (stands_before j place x.0)) (last_toucher w e.gtid key) false) (write_set schema e.txn) k.2 k.0 k.3
+          not_both (list_any (λ key. option_map_or (λ (x : history.Entry). not (stands_before j place x.0)) (last_toucher w e.gtid key) false) (write_set w.schema e.txn))
+          (any_passes_from_place (λ key. option_map_or (λ (x : history.Entry). not (stands_before j place x.0)) (last_toucher w e.gtid key) false) (write_set w.schema e.txn) k.2 k.0 k.3
           (ap (λ o. option_map_or (λ (x : history.Entry). not (stands_before j place x.0)) o false) last.1 ∙ not_from_false (stands_before j place f.0) no)) closed) in
           let cf = at_content w ok.1 f ok.2 in
           elim (le_cases h.0.number f.0.number last.2) [
@@ -202,7 +197,7 @@ module _ (schema : List Table) (opened : Gtids) (rows : Rows) (journals : List J
                   (and_from (not (is_opened w a.1.gtid)) _ (not_from_false (is_opened w a.1.gtid) x_out)
                   (and_from (h.0.source == a.1.gtid.source) _ (eq-eqb h.0.source a.1.gtid.source (sym is_source ∙ ap (λ (y : Gtid). y.source) (sym a.3)))
                   (and_from (nat_lt h.0.number a.1.gtid.number) _ (below_test h.0.number a.1.gtid.number (subst (λ (y : Gtid). h.0.number < y.number) (sym a.3) lower))
-                  (and_from (shares_key schema h.1 a.1.txn) (not (stands_before j a.0 h.0)) (shares_by schema h.1 a.1.txn k.0 k.1 (ap (λ (y : Transaction). touches schema y k.0) (sym is_txn) ∙ rest.1)) (not_from_false (stands_before j a.0 h.0) no))))) test) in
+                  (and_from (shares_key w.schema h.1 a.1.txn) (not (stands_before j a.0 h.0)) (shares_by w.schema h.1 a.1.txn k.0 k.1 (ap (λ (y : Transaction). touches w.schema y k.0) (sym is_txn) ∙ rest.1)) (not_from_false (stands_before j a.0 h.0) no))))) test) in
                   stands_later j a.0 place h.0 b.1 stands
             ]
           ]
@@ -216,7 +211,7 @@ module _ (schema : List Table) (opened : Gtids) (rows : Rows) (journals : List J
           let a = and_parts (not (is_opened w e.gtid)) _ t in
           let b = and_parts (h.0.source == e.gtid.source) _ a.1 in
           let c = and_parts (nat_lt h.0.number e.gtid.number) _ b.1 in
-          let d = and_parts (shares_key schema h.1 e.txn) (not (stands_before j place h.0)) c.1 in
+          let d = and_parts (shares_key w.schema h.1 e.txn) (not (stands_before j place h.0)) c.1 in
           not_both (stands_before j place h.0)
           (stands_too l h hl (not-true (is_opened w e.gtid) a.0) (eqb-true h.0.source e.gtid.source b.0) (number_lt h.0.number e.gtid.number c.0) d.0)
           (not-true (stands_before j place h.0) d.1))))
@@ -232,4 +227,4 @@ pub one_pass_closes : OnePassCloses
 one_pass_closes schema opened rows journals equal none_purged =
     let w = world_of schema opened rows journals in
     firsts_same (λ j. first_at (least_left_out w j) j.entries) (λ j. first_at (λ place e. cond (has_gap w j place e) (least_left_out w j place e) None) j.entries) journals
-    (of_journal schema opened rows journals equal none_purged)
+    (of_journal w journals (λ g t h. contents_outside opened (all_entries journals) g t h) equal none_purged)

@@ -36,7 +36,7 @@ use Rattle.gtid_text.proofs.SameGtid.{gtid_total}
 use Rattle.rows.proofs.Patching.{not_both}
 use Rattle.rows.proofs.Lists.{none_some, map_some, get_map_cases, any_at}
 
--- ---- places of a rising list
+-- ---- places of an ascending list
 
 never_before : (a b : Gtid) → gtid_cmp a b ≡ Less → gtid_cmp b a ≡ Less → ⊥
 never_before a b p q = by (gtid_cmp a b) (gtid_cmp b a) (gtid_total.antisymm a b) p q

@@ -107,6 +107,25 @@ shares_from schema t u apart = false_from_ne_true (shares_key schema t u) (λ e.
     let r = any_at (touches schema u) (write_set schema t) e in
     not_both (touches schema u r.1) r.3 (apart r.1 (any_passes_from_place (key_eq r.1) (write_set schema t) r.0 r.1 r.2 (key_eq_self r.1))))
 
+-- where nothing is shared, transactions of two sources share no key
+module _ (w : World) (shared_none : shared w ≡ None) where
+  untouched : (g h : Gtid) (t u : Transaction) → content w g ≡ Some t → content w h ≡ Some u → g.source < h.source → AreApart w.schema u t
+  untouched g h t u eg eh less k touched =
+      let a = content_at w h u eh in
+      let b = any_at (key_eq k) (write_set w.schema u) touched in
+      let c = content_at w g t eg in
+      let is_k : k ≡ b.1 = key_eq_same k b.1 b.3 in
+      let one = first_none _ (finmap.entries w.contents) shared_none a.0 (h, u) a.1 in
+      let two = first_none _ (write_set w.schema u) one b.0 b.1 b.2 in
+      let test = when_none (nat_lt g.source h.source && touches w.schema t b.1) (Shared g h b.1) (first_none _ (finmap.entries w.contents) two c.0 (g, t) c.1) in
+      false_from_ne_true (touches w.schema t k) (λ e. not_both (nat_lt g.source h.source && touches w.schema t b.1) (and_from (nat_lt g.source h.source) (touches w.schema t b.1) (below_test g.source h.source less) (ap (touches w.schema t) (sym is_k) ∙ e)) test)
+
+  pub sources_apart : (g h : Gtid) (t u : Transaction) → content w g ≡ Some t → content w h ≡ Some u → g.source ≢ h.source → shares_key w.schema t u ≡ false
+  sources_apart g h t u eg eh other = elim (two_sides g.source h.source other) [
+    | inl less ↦ shares_from w.schema t u (apart_back w.schema u t (untouched g h t u eg eh less))
+    | inr more ↦ shares_from w.schema t u (untouched h g u t eh eg more)
+  ]
+
 module _ (schema : List Table) (opened : Gtids) (rows : Rows) (journals : List JournalValue) (are : AreJournals journals) where
   abbrev w : World
   w = world_of schema opened rows journals
@@ -181,27 +200,13 @@ module _ (schema : List Table) (opened : Gtids) (rows : Rows) (journals : List J
       | inr same ↦ inr (subst (λ (x : ℕ). IsSome (content w (record { source = g.source; number = x }))) (sym same) h)
     ]
 
-    untouched : (g h : Gtid) (t u : Transaction) → content w g ≡ Some t → content w h ≡ Some u → g.source < h.source → AreApart schema u t
-    untouched g h t u eg eh less k touched =
-        let a = content_at w h u eh in
-        let b = any_at (key_eq k) (write_set schema u) touched in
-        let c = content_at w g t eg in
-        let is_k : k ≡ b.1 = key_eq_same k b.1 b.3 in
-        let one = first_none _ (finmap.entries w.contents) n.shared_none a.0 (h, u) a.1 in
-        let two = first_none _ (write_set schema u) one b.0 b.1 b.2 in
-        let test = when_none (nat_lt g.source h.source && touches schema t b.1) (Shared g h b.1) (first_none _ (finmap.entries w.contents) two c.0 (g, t) c.1) in
-        false_from_ne_true (touches schema t k) (λ e. not_both (nat_lt g.source h.source && touches schema t b.1) (and_from (nat_lt g.source h.source) (touches schema t b.1) (below_test g.source h.source less) (ap (touches schema t) (sym is_k) ∙ e)) test)
-
     apart : (g h : Gtid) (t u : Transaction) → content w g ≡ Some t → content w h ≡ Some u → g.source ≢ h.source → shares_key schema t u ≡ false
-    apart g h t u eg eh other = elim (two_sides g.source h.source other) [
-      | inl less ↦ shares_from schema t u (apart_back schema u t (untouched g h t u eg eh less))
-      | inr more ↦ shares_from schema t u (untouched h g u t eh eg more)
-    ]
+    apart = sources_apart w n.shared_none
 
     keys_sound : AreKeysSound w
     keys_sound = record { outside = outside; from_one = from_one; without_gap = without_gap; apart = apart }
 
-    -- a front of a journal
+    -- a prefix of a journal
     earlier_too : (es : List Entry) (i k : ℕ) (g : Gtid) → i ≤ k → is_entry (take i es) g ≡ true → is_entry (take k es) g ≡ true
     earlier_too es i k g le h =
         let a = entry_at (take i es) g h in

@@ -22,7 +22,7 @@ use Rattle.source_history.specs.World as history
 use Rattle.ordered_history.proofs.Commuting.{frame}
 use Rattle.ordered_history.proofs.Placing.{all_map, chosen_applies}
 use Rattle.source_history.proofs.Entries.{IsRising, AreFound, rising, found, apart_sources}
-use Rattle.source_history.proofs.Alone.{source_closed}
+use Rattle.source_history.proofs.Alone.{source_closed, alone_or_together}
 use Rattle.world.specs.declared.verdict.Verdict.{Verdict}
 use Rattle.world.specs.declared.verdict.Verdict.TheVariants.{DoesNotApply}
 use Rattle.world.specs.Search.{or_next, first}
@@ -31,7 +31,6 @@ use Rattle.world.specs.Folds.{OnePassApplies}
 use Rattle.world.proofs.Meanings.{no_fault}
 use Rattle.world.proofs.Standing.{fails_in}
 use Rattle.world.proofs.Saying.{fault_free, applies_none}
-use Rattle.source_history.proofs.Alone.{alone_or_together}
 use Rattle.ordered_history.proofs.Closing.{is_ok_of}
 use Rattle.rows.proofs.Patching.{not_both, fits_err}
 
@@ -65,7 +64,7 @@ all_parts : (P : history.Entry → Type 0) (xs ys : List history.Entry) → AllB
 all_parts P [] ys h = (tt, h)
 all_parts P (x ∷ xs) ys h = let r = all_parts P xs ys h.1 in ((h.0, r.0), r.1)
 
--- what stands before an entry is less, and what stands behind it is greater
+-- what comes before an entry is less, and what comes after it is greater
 pub rising_parts : (xs : List history.Entry) (y : history.Entry) (ys : List history.Entry) → IsRising (xs ++ y ∷ ys) → AllByRecursion (λ (x : history.Entry). gtid_cmp x.0 y.0 ≡ Less) xs × AllByRecursion (λ (z : history.Entry). gtid_cmp y.0 z.0 ≡ Less) ys
 rising_parts [] y ys h = (tt, h.0)
 rising_parts (x ∷ xs) y ys h =
@@ -150,7 +149,7 @@ module _ (world : World) (sound : AreKeysSound world) where
     of_parts : (s : ℕ) → entries_in world (of_source s) ≡ filter (λ e. of_source s e.0) before ++ filter (λ e. of_source s e.0) ((g, t) ∷ later)
     of_parts s = ap (filter (λ e. of_source s e.0)) parts ∙ filter_parts (λ e. of_source s e.0) before ((g, t) ∷ later)
 
-    -- what stands before applies, of each source alone
+    -- what comes before applies, of each source alone
     before_applies : (s : ℕ) → (m : Rows) × (apply_all world.schema (filter (λ e. of_source s e.0) before) world.opening_rows ≡ Ok m)
     before_applies s = chosen_applies world.schema (of_source s) before world.opening_rows r (source_closed world sound s before known.0) reached
 

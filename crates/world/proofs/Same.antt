@@ -7,11 +7,11 @@ use Rattle.std.proofs.lemmas.Cmp.{nat_list_cmp_total, tied_itself}
 use Rattle.rows.specs.declared.change.Change.{Change}
 use Rattle.rows.specs.declared.change.Change.TheVariants.{Insert, Delete, Update}
 use Rattle.rows.specs.declared.change.Transaction.{Transaction}
-use Rattle.rows.specs.Total.{row_eq_same, row_eq_self}
-use Rattle.rows.specs.Order.{row_eq}
+use Rattle.row_images.specs.Total.{row_eq_same, row_eq_self}
+use Rattle.row_images.specs.Order.{row_eq}
 use Rattle.world.specs.Equal.{name_eq, change_eq, changes_eq, txn_eq}
 use Rattle.std.proofs.lemmas.Bool.{and_parts, and_from}
-use Rattle.rows.proofs.Equal.{eq_of}
+use Rattle.row_images.proofs.Equal.{eq_of}
 
 name_same : (a b : List ℕ) → name_eq a b ≡ true → a ≡ b
 name_same a b e = slice_cmp-IsAntisymmetric nat_cmp-IsAntisymmetric a b (eq_of (slice_cmp nat_cmp a b) e)

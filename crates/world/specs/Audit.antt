@@ -65,14 +65,14 @@ purged world journals =
 abbrev pub stands_in : List Entry → Gtid → Bool
 stands_in entries g = list_any (λ (e : Entry). same_gtid g e.gtid) entries
 
--- what stands in the journals beyond the opening set, in the order of GTIDs
+-- what is in the journals beyond the opening set, in the order of GTIDs
 abbrev pub present : World → List JournalValue → List history.Entry
 present world journals = finmap.entries (first_contents world.opening_set (all_entries journals))
 
 abbrev pub is_absent : World → List JournalValue → Gtid → Bool
 is_absent world journals g = not (is_opened world g) && not (stands_in (all_entries journals) g)
 
--- the lower numbers of the same source, rising
+-- the lower numbers of the same source, ascending
 abbrev pub below : Gtid → List Gtid
 below g = map (gtid g.source) (range_with_len 1 (g.number - 1))
 
@@ -83,7 +83,7 @@ missing world journals = first (λ (g : history.Entry). first (λ h. when (is_ab
 -- ---- Shared
 
 -- The least GTID that shares a key with a smaller source, the first of its keys that is so shared, and the least GTID of a
--- smaller source that touches that key. A world's transactions stand in the order of GTIDs.
+-- smaller source that touches that key. A world's transactions are in the order of GTIDs.
 abbrev pub shared : World → Option Verdict
 shared world =
     first (λ (h : history.Entry). first (λ key. first (λ (g : history.Entry).
@@ -96,7 +96,7 @@ shared world =
 abbrev pub stands_before : JournalValue → ℕ → Gtid → Bool
 stands_before journal place g = set.contains journal.previous g || stands_in (take place journal.entries) g
 
--- h has a smaller number of the same source and a common key, and does not stand before the entry
+-- h has a smaller number of the same source and a common key, and does not come before the entry
 abbrev pub is_left_out : World → JournalValue → ℕ → Entry → history.Entry → Bool
 is_left_out world journal place e h =
     not (is_opened world e.gtid) && (h.0.source == e.gtid.source && (nat_lt h.0.number e.gtid.number && (shares_key world.schema h.1 e.txn && not (stands_before journal place h.0))))
@@ -117,7 +117,7 @@ abbrev pub first_fault : List Table → List history.Entry → Rows → Option (
 first_fault schema [] rows = None
 first_fault schema (e ∷ es) rows = fault_after e (apply schema e.1 rows) (first_fault schema es)
 
--- sources rising, the first that fails in its own source's list taken alone from the opening rows
+-- sources ascending, the first that fails in its own source's list taken alone from the opening rows
 abbrev pub does_not_apply : World → Option Verdict
 does_not_apply world =
     first (λ (e : history.Entry). option_map (λ fault. DoesNotApply fault.0 fault.1) (first_fault world.schema (entries_in world (of_source e.0.source)) world.opening_rows)) (finmap.entries world.contents)

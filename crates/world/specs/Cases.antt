@@ -60,7 +60,7 @@ pub record IsShared (world : World) (g h : Gtid) (key : Key) : Type 0 where
   pub touches_first : touches world.schema t key ≡ true
   pub touches_second : touches world.schema u key ≡ true
 
--- h comes before g in its source, shares a key with it, and does not stand before it in a journal
+-- h comes before g in its source, shares a key with it, and does not come before it in a journal
 pub record IsLeftOut (world : World) (journals : List JournalValue) (g h : Gtid) : Type 0 where
   pub entry : Entry
   pub there : IsEntryOf journals entry

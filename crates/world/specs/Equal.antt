@@ -5,7 +5,7 @@ use Rattle.std.specs.Cmp.Lexicographic.{slice_cmp}
 use Rattle.rows.specs.declared.change.Change.{Change}
 use Rattle.rows.specs.declared.change.Change.TheVariants.{Insert, Delete, Update}
 use Rattle.rows.specs.declared.change.Transaction.{Transaction}
-use Rattle.rows.specs.Order.{row_eq}
+use Rattle.row_images.specs.Order.{row_eq}
 
 abbrev pub name_eq : List ℕ → List ℕ → Bool
 name_eq a b = eq_by_cmp (slice_cmp nat_cmp) a b

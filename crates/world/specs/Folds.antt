@@ -57,7 +57,7 @@ abbrev pub last_toucher : World → Gtid → Key → Option history.Entry
 last_toucher world g key =
     latest (filter (λ (h : history.Entry). h.0.source == g.source && (nat_lt h.0.number g.number && touches world.schema h.1 key)) (finmap.entries world.contents))
 
--- one of the keys of an entry was touched last by a transaction that does not stand before it
+-- one of the keys of an entry was touched last by a transaction that does not come before it
 abbrev pub has_gap : World → JournalValue → ℕ → Entry → Bool
 has_gap world journal place e =
     not (is_opened world e.gtid) && list_any (λ key. option_map_or (λ (h : history.Entry). not (stands_before journal place h.0)) (last_toucher world e.gtid key) false) (write_set world.schema e.txn)

@@ -15,7 +15,7 @@ use Rattle.world.specs.Audit.{world_of, verdict_of_keys, verdict}
 abbrev pub AreJournals : List JournalValue → Type 0
 AreJournals journals = AllByRecursion (λ (j : JournalValue). IsJournal j.previous j.entries) journals
 
--- Where the audit of a bundle says Sound, its world is sound and each journal is faithful.
+-- Where the audit of a bundle reports Sound, its world is sound and each journal is faithful.
 abbrev pub SoundMeansSound : Type 0
 SoundMeansSound = (schema : List Table) (opened : Gtids) (rows : Rows) (journals : List JournalValue) → AreJournals journals
     → verdict (world_of schema opened rows journals) journals ≡ Sound

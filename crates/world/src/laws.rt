@@ -4,7 +4,7 @@ ghost use Rattle.world.specs.Folds.{OnePassApplies, OnePassShares, OnePassCloses
 ghost use Rattle.world.specs.Least.{MissingIsLeast, SharedIsLeast, FirstSourceFails};
 ghost use Rattle.world.specs.Meaning.{SoundMeansSound, SoundIsSaid, KeysSoundMeans};
 
-/// Where the audit of journals says Sound, their world is sound and each journal is faithful.
+/// Where the audit of journals reports Sound, their world is sound and each journal is faithful.
 pub fn sound_means_sound()
     ensures { SoundMeansSound }
 {}
@@ -15,7 +15,7 @@ pub fn sound_is_said()
     ensures { SoundIsSaid }
 {}
 
-/// Where the audit of keys says Sound, the keys of the journals' world are sound, and each journal
+/// Where the audit of keys reports Sound, the keys of the journals' world are sound, and each journal
 /// is faithful.
 pub fn keys_sound_mean()
     ensures { KeysSoundMeans }

@@ -18,8 +18,8 @@ pub enum Verdict {
     /// Two GTIDs that share a key, which two journals have in different orders. Only the audit in one
     /// order answers it.
     Reordered(Gtid, Gtid, Key),
-    /// An entry that stands in a journal without an earlier one of its source that shares a key; in the
-    /// audit in one order, without one that shares a key and stands before it in another journal.
+    /// An entry that is in a journal without an earlier one of its source that shares a key; in the
+    /// audit in one order, without one that shares a key and comes before it in another journal.
     NotClosed(Gtid, Gtid),
     /// Two GTIDs that share a key, each in a journal that has not the other, where neither journal has
     /// both. Only the audit in one order answers it.

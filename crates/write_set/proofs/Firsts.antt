@@ -57,7 +57,7 @@ step false x seen keys e each =
     (filter_agree (λ k. not (is_among (seen ++ x ∷ []) k)) (λ k. not (key_eq k x) && not (is_among seen k)) (agree_new seen x) (each_once keys)
     ∙ sym (filter_twice (λ k. not (is_among seen k)) (λ k. not (key_eq k x)) (each_once keys)))
 
--- keys that are inserted one after another stand in the order of their first places
+-- keys that are inserted one after another are in the order of their first places
 pub inserted_once : (keys seen : List Key) → insert_all key_test seen keys ≡ seen ++ filter (λ k. not (is_among seen k)) (each_once keys)
 inserted_once [] seen = sym (append-nil seen)
 inserted_once (x ∷ keys) seen =
@@ -96,7 +96,7 @@ same_members (x ∷ keys) k =
     ∙ ap (λ b. not (key_eq k x) && b) (same_members keys k))
     ∙ or_not (key_eq k x) (is_among keys k)
 
--- ---- each stands once
+-- ---- each occurs once
 
 passing : (P : Key → Type 0) (b : Bool) (x : Key) (rest : List Key) → P x → AllByRecursion P rest → AllByRecursion P (cond b (x ∷ rest) rest)
 passing P true x rest h g = (h, g)

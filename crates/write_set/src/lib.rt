@@ -24,7 +24,7 @@ mod prepared;
 
 use indexmap::IndexSet;
 pub use prepared::{footprint, install};
-pub use rows::{Footprint, Outcome, Patch, prepare};
+pub use rows::{Footprint, InstallOutcome, Patch, prepare};
 use rows::{Key, Schema, Transaction, keys_touched};
 use std::alloc::{AllocError, Global};
 
@@ -42,7 +42,7 @@ pub fn keys_of(
     ensures members { IfOk result (λ set. (key : KeyValue) → is_among set.keys key ≡ touches schema.now txn.now key) }
     ensures once { IfOk result (λ set. AllPairs (λ a b. a ≢ b) set.keys) }
 {
-    hashed(alloc, keys_touched(alloc, schema, txn)?)
+    unique_by_hash(alloc, keys_touched(alloc, schema, txn)?)
 }
 
 /// The keys of `keys_of`, in the same order, as a list. A few keys are compared with one another and not hashed.
@@ -53,14 +53,14 @@ pub fn list_keys(alloc: Global, schema: &Schema, txn: &Transaction) -> Result<Ve
 {
     let touched = keys_touched(alloc, schema, txn)?;
     if touched.len() <= FEW {
-        compared(alloc, touched)
+        unique_by_comparison(alloc, touched)
     } else {
-        listed(alloc, hashed(alloc, touched)?)
+        to_list(alloc, unique_by_hash(alloc, touched)?)
     }
 }
 
 /// The members of a list, each once, in the order of their first places.
-fn hashed(alloc: Global, keys: Vec<Key>) -> Result<IndexSet<Key>, AllocError>
+fn unique_by_hash(alloc: Global, keys: Vec<Key>) -> Result<IndexSet<Key>, AllocError>
     ensures { IfOk result (λ set. set.keys ≡ each_once keys.items) }
 {
     let mut set = IndexSet::new(alloc);
@@ -89,7 +89,7 @@ fn add(list: &mut Vec<Key>, key: Key) -> Result<(), AllocError>
 }
 
 /// The members of a list, each once, in the order of their first places. Each is compared with those before it.
-fn compared(alloc: Global, keys: Vec<Key>) -> Result<Vec<Key>, AllocError>
+fn unique_by_comparison(alloc: Global, keys: Vec<Key>) -> Result<Vec<Key>, AllocError>
     ensures { IfOk result (λ list. list.items ≡ each_once keys.items) }
 {
     let mut list = Vec::with_capacity(alloc, keys.len())?;
@@ -100,7 +100,7 @@ fn compared(alloc: Global, keys: Vec<Key>) -> Result<Vec<Key>, AllocError>
 }
 
 /// The keys of a set, in its order.
-pub(crate) fn listed(alloc: Global, set: IndexSet<Key>) -> Result<Vec<Key>, AllocError>
+pub(crate) fn to_list(alloc: Global, set: IndexSet<Key>) -> Result<Vec<Key>, AllocError>
     ensures { IfOk result (λ list. list.items ≡ set.keys) }
 {
     let mut list = Vec::with_capacity(alloc, set.len())?;

@@ -6,9 +6,9 @@ ghost use Rattle.rows.specs.Patch.{seen_of_keys};
 ghost use Rattle.rows.specs.Prepared.{IsStillTrue};
 ghost use Rattle.write_set.specs.Seeing.{SeesAllOf};
 
-use crate::listed;
+use crate::to_list;
 use indexmap::IndexSet;
-use rows::{Footprint, Key, Outcome, Patch, Rows};
+use rows::{Footprint, InstallOutcome, Key, Patch, Rows};
 use std::alloc::{AllocError, Global};
 
 /// Each of these keys with the row that carries it, or none, and the tables. Of the keys of a transaction it is all
@@ -18,16 +18,16 @@ pub fn footprint(alloc: Global, rows: &Rows, keys: IndexSet<Key>) -> Result<Foot
     ensures seen { IfOk result (λ footprint. footprint.seen ≡ seen_of_keys rows.now.rows keys.keys) }
     ensures all { IfOk result (λ footprint. SeesAllOf rows.now.schema keys.keys footprint.seen) }
 {
-    rows.footprint(alloc, listed(alloc, keys)?)
+    rows.footprint(alloc, to_list(alloc, keys)?)
 }
 
 /// Does what a patch's transaction does, unless a carrier or a table of its footprint is not as it was: then it is
-/// stale, and the rows are unchanged. After want of memory they are unchanged too.
-pub fn install(rows: &mut Rows, patch: Patch) -> Result<Outcome, AllocError>
-    ensures installed { result ≡ Ok Outcome.Installed → IsStillTrue patch rows.old }
-    ensures applied { result ≡ Ok Outcome.Installed → apply rows.old.schema patch.txn rows.old.rows ≡ Ok rows.new.rows }
+/// stale, and the rows are unchanged. After a failed allocation they are unchanged too.
+pub fn install(rows: &mut Rows, patch: Patch) -> Result<InstallOutcome, AllocError>
+    ensures installed { result ≡ Ok InstallOutcome.Installed → IsStillTrue patch rows.old }
+    ensures applied { result ≡ Ok InstallOutcome.Installed → apply rows.old.schema patch.txn rows.old.rows ≡ Ok rows.new.rows }
     ensures same { rows.new.schema ≡ rows.old.schema }
-    ensures stale { result ≡ Ok Outcome.Stale → (IsStillTrue patch rows.old → ⊥) × (rows.new ≡ rows.old) }
+    ensures stale { result ≡ Ok InstallOutcome.Stale → (IsStillTrue patch rows.old → ⊥) × (rows.new ≡ rows.old) }
     ensures err { OnErr result (rows.new ≡ rows.old) }
 {
     rows.install(patch)

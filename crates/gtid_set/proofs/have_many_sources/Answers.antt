@@ -4,16 +4,16 @@ use Rattle.std.specs.Prelude.{nat_lt}
 use Rattle.std.proofs.lemmas.Bool.Decides.{nat_tests}
 use Rattle.gtid_set.specs.Sets.{source_count, most_sources}
 use Rattle.gtid_set.specs.Spans.{set_of}
-use Rattle.gtid_set.specs.Sweep.{rises, sources_in}
+use Rattle.gtid_set.specs.Sweep.{is_sorted, sources_in}
 use Rattle.gtid_set.proofs.SpanLemmas.{merged_rises}
 use Rattle.gtid_set.proofs.SetSources.{counted_both, fewer_both}
 use Rattle.gtid_set.proofs.have_many_sources.Goals as goal
 
 pub count_sources-requires-clause-left : goal.count_sources-requires-clause-left
-count_sources-requires-clause-left c = ap rises c.cursor.ensures ∙ merged_rises c.args.left.now c.is_kept.ensures.merged
+count_sources-requires-clause-left c = ap is_sorted c.cursor.ensures ∙ merged_rises c.args.left.now c.is_kept.ensures.merged
 
 pub count_sources-requires-clause-right : goal.count_sources-requires-clause-right
-count_sources-requires-clause-right c = ap rises c.cursor-then-sources-gt-MOST_SOURCES.ensures ∙ merged_rises c.args.right.now c.is_kept-2.ensures.merged
+count_sources-requires-clause-right c = ap is_sorted c.cursor-then-sources-gt-MOST_SOURCES.ensures ∙ merged_rises c.args.right.now c.is_kept-2.ensures.merged
 
 pub returns-then-sources-gt-MOST_SOURCES : goal.returns-then-sources-gt-MOST_SOURCES
 returns-then-sources-gt-MOST_SOURCES c =

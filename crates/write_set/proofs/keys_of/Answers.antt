@@ -7,8 +7,8 @@ use Rattle.rows.proofs.Lists.{if_ok}
 
 pub returns-clause-members : goal.returns-clause-members
 returns-clause-members c =
-    if_ok c.hashed.result (λ set is. once_members set.keys (write_set c.args.schema.now c.args.txn.now) (is ∙ ap each_once c.in_ok-keys_touched.ensures)) c.hashed.ensures
+    if_ok c.unique_by_hash.result (λ set is. once_members set.keys (write_set c.args.schema.now c.args.txn.now) (is ∙ ap each_once c.in_ok-keys_touched.ensures)) c.unique_by_hash.ensures
 
 pub returns-clause-once : goal.returns-clause-once
 returns-clause-once c =
-    if_ok c.hashed.result (λ set is. once_pairs set.keys (write_set c.args.schema.now c.args.txn.now) (is ∙ ap each_once c.in_ok-keys_touched.ensures)) c.hashed.ensures
+    if_ok c.unique_by_hash.result (λ set is. once_pairs set.keys (write_set c.args.schema.now c.args.txn.now) (is ∙ ap each_once c.in_ok-keys_touched.ensures)) c.unique_by_hash.ensures

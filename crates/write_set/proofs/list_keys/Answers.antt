@@ -7,16 +7,16 @@ use Rattle.rows.proofs.Lists.{if_ok}
 
 pub returns-then-len-le-FEW-clause-members : goal.returns-then-len-le-FEW-clause-members
 returns-then-len-le-FEW-clause-members c =
-    if_ok c.compared.result (λ list is. once_members list.items (write_set c.args.schema.now c.args.txn.now) (is ∙ ap each_once c.in_ok-touched.ensures)) c.compared.ensures
+    if_ok c.unique_by_comparison.result (λ list is. once_members list.items (write_set c.args.schema.now c.args.txn.now) (is ∙ ap each_once c.in_ok-touched.ensures)) c.unique_by_comparison.ensures
 
 pub returns-then-len-le-FEW-clause-once : goal.returns-then-len-le-FEW-clause-once
 returns-then-len-le-FEW-clause-once c =
-    if_ok c.compared.result (λ list is. once_pairs list.items (write_set c.args.schema.now c.args.txn.now) (is ∙ ap each_once c.in_ok-touched.ensures)) c.compared.ensures
+    if_ok c.unique_by_comparison.result (λ list is. once_pairs list.items (write_set c.args.schema.now c.args.txn.now) (is ∙ ap each_once c.in_ok-touched.ensures)) c.unique_by_comparison.ensures
 
-pub returns-in_ok-hashed-clause-members : goal.returns-in_ok-hashed-clause-members
-returns-in_ok-hashed-clause-members c =
-    if_ok c.listed.result (λ list is. once_members list.items (write_set c.args.schema.now c.args.txn.now) (is ∙ c.in_ok-hashed.ensures ∙ ap each_once c.in_ok-touched.ensures)) c.listed.ensures
+pub returns-in_ok-unique_by_hash-clause-members : goal.returns-in_ok-unique_by_hash-clause-members
+returns-in_ok-unique_by_hash-clause-members c =
+    if_ok c.to_list.result (λ list is. once_members list.items (write_set c.args.schema.now c.args.txn.now) (is ∙ c.in_ok-unique_by_hash.ensures ∙ ap each_once c.in_ok-touched.ensures)) c.to_list.ensures
 
-pub returns-in_ok-hashed-clause-once : goal.returns-in_ok-hashed-clause-once
-returns-in_ok-hashed-clause-once c =
-    if_ok c.listed.result (λ list is. once_pairs list.items (write_set c.args.schema.now c.args.txn.now) (is ∙ c.in_ok-hashed.ensures ∙ ap each_once c.in_ok-touched.ensures)) c.listed.ensures
+pub returns-in_ok-unique_by_hash-clause-once : goal.returns-in_ok-unique_by_hash-clause-once
+returns-in_ok-unique_by_hash-clause-once c =
+    if_ok c.to_list.result (λ list is. once_pairs list.items (write_set c.args.schema.now c.args.txn.now) (is ∙ c.in_ok-unique_by_hash.ensures ∙ ap each_once c.in_ok-touched.ensures)) c.to_list.ensures

@@ -12,9 +12,9 @@ returns-clause-each g c = λ i d less.
     let old = c.as_mut_slice.result.now in
     let new = c.serve_all.new.workers in
     let same : length new ≡ length old = c.serve_all.auto.workers in
-    let long : c.hired-workers.result.len ≡ length new = omega (arith, same, c.as_mut_slice.ensures.len) in
-    let rest = drop (length new) c.hired-workers.result.items in
-    let back : take c.hired-workers.result.len (new ++ rest) ≡ new = ap (λ n. take n (new ++ rest)) long ∙ take-append_seam new rest in
+    let long : c.make_workers-workers.result.len ≡ length new = omega (arith, same, c.as_mut_slice.ensures.len) in
+    let rest = drop (length new) c.make_workers-workers.result.items in
+    let back : take c.make_workers-workers.result.len (new ++ rest) ≡ new = ap (λ n. take n (new ++ rest)) long ∙ take-append_seam new rest in
     each_pass pass old new _ _ (record { pass = d; hand = reached nowhere []; me = 0; fault = None })
-    (ap (λ (l : List (Worker g.row.N.Denot)). map pass l) c.as_mut_slice.ensures.value ∙ c.hired-workers.ensures)
-    (c.dismissed.ensures ∙ ap (λ (l : List (Worker g.row.N.Denot)). map pass l) back) same c.serve_all.ensures i d less
+    (ap (λ (l : List (Worker g.row.N.Denot)). map pass l) c.as_mut_slice.ensures.value ∙ c.make_workers-workers.ensures)
+    (c.into_passes.ensures ∙ ap (λ (l : List (Worker g.row.N.Denot)). map pass l) back) same c.serve_all.ensures i d less

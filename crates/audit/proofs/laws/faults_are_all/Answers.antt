@@ -8,14 +8,14 @@ use Rattle.audit.proofs.Refusals.{others_refused}
 use Rattle.audit.proofs.laws.faults_are_all.Goals as goal
 
 pub returns : goal.returns
-returns c = λ world journals e.
+returns c = λ world journals beyond.
     let v = verdict world journals in
     record {
       verdict = refl;
       unequal = others_unequal world journals;
       purged = others_purged world journals v;
-      missing = others_missing world journals v e;
+      missing = others_missing world journals v;
       shared = others_named world v;
-      not_closed = others_gaps world journals e v;
-      does_not_apply = others_refused world journals e;
+      not_closed = others_gaps world journals beyond v;
+      does_not_apply = others_refused world journals beyond;
     }

@@ -4,7 +4,7 @@ use Rattle.gtid_set.specs.Sets.{gtid}
 use Rattle.audit.proofs.Numbers.{find_here, find_behind, find_nothing}
 use Rattle.audit.proofs.missing.next_absent.Goals as goal
 
--- behind the run the set has not got the number
+-- after the run the set has not got the number
 pub returns-then-last-below : goal.returns-then-last-below
 returns-then-last-below c =
     let p : ℕ → Bool = λ n. not (set.contains c.args.opened.now (gtid c.args.source n)) in

@@ -13,8 +13,8 @@ loop-line-preserved c =
     let after = c.in-Some.after.now in
     let log = c.cut_own.result.0.now in
     let is = line_split c.loop-line.left.now line after _ _ _ c.in-Some.ensures.found refl c.split_before.ensures in
-    let brings = subst (λ (l : List ℕ). Brings c.args.schema.now c.args.bytes log l (bundle_reading c.loop-line.reader) (bundle_reading c.bring.new.reader)) is.0 c.in-Ok.ensures.told in
-    come_more c.args.schema.now c.args.bytes c.args.head.now c.args.text.now c.loop-line.left.now line after log c.cut_own.result.1.now (bundle_reading c.loop-line.reader) (bundle_reading c.bring.new.reader)
+    let brings = subst (λ (l : List ℕ). Brings c.args.schema.now c.args.bytes log l (bundle_reading c.loop-line.reader) (bundle_reading c.take_channel.new.reader)) is.0 c.in-Ok.ensures.told in
+    come_more c.args.schema.now c.args.bytes c.args.head.now c.args.text.now c.loop-line.left.now line after log c.cut_own.result.1.now (bundle_reading c.loop-line.reader) (bundle_reading c.take_channel.new.reader)
     (sym c.is_channel.ensures ∙ c.if-not-is_channel.false) c.requires.tables c.loop-line.invariant (c.in-Some.ensures.found.parts ∙ line_ends line after) c.cut_own.ensures brings
 
 pub returns-in-Err-clause-refused : goal.returns-in-Err-clause-refused

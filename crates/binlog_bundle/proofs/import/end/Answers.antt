@@ -7,7 +7,7 @@ use Rattle.binlog_bundle.proofs.import.end.Goals as goal
 
 pub returns-in-Err-clause-refused : goal.returns-in-Err-clause-refused
 returns-in-Err-clause-refused c =
-    subst (λ (f : JournalFault). IsNoOwn c.args.bytes f c.args.text.now) (sym c.moved.ensures)
+    subst (λ (f : JournalFault). IsNoOwn c.args.bytes f c.args.text.now) (sym c.fault_at_line.ensures)
     (next_refused c.args.bytes c.args.head.now c.args.text.now c.args.left.now c.split_line.result.0.now c.split_line.result.1.now (bundle_reading c.args.reader) c.in-Err.fault c.line_at.result
     c.requires.come c.split_line.ensures c.in-Err.ensures.refused c.line_at.ensures)
 
@@ -18,6 +18,6 @@ returns-in-Ok-close-clause-found c =
 
 pub returns-in-Err-close-clause-refused : goal.returns-in-Err-close-clause-refused
 returns-in-Err-close-clause-refused c =
-    subst (λ (f : JournalFault). IsNoOwn c.args.bytes f c.args.text.now) (sym c.moved-in-Err-close.ensures)
+    subst (λ (f : JournalFault). IsNoOwn c.args.bytes f c.args.text.now) (sym c.fault_at_line-in-Err-close.ensures)
     (behind_refused c.args.bytes c.args.head.now c.args.text.now c.args.left.now c.split_line.result.0.now c.split_line.result.1.now (bundle_reading c.args.reader) (bundle_reading c.add.new.reader) c.in-Err-close.fault c.line_at-in-Err-close.result
     c.requires.come c.split_line.ensures c.in-Ok.ensures.fed c.in-Err-close.ensures.refused c.line_at-in-Err-close.ensures)

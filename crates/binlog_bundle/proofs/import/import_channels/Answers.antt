@@ -1,5 +1,4 @@
-use Rattle.std.proofs.Common.{[], refl, sym, subst, append-nil, inl}
-use Rattle.std.proofs.Common.{ℕ, List}
+use Rattle.std.proofs.Common.{[], refl, sym, subst, append-nil, inl, ℕ, List}
 use Rattle.txn_journal.specs.BundleReaders.{bundle_reading}
 use Rattle.binlog_bundle.specs.Refused.{StopsAt}
 use Rattle.binlog_bundle.proofs.Coming.{come_head, head_refused}

@@ -1,7 +1,6 @@
-use Rattle.std.proofs.Common.{refl}
+use Rattle.std.proofs.Common.{refl, sym, ◌∙◌}
 use Rattle.binlog_bundle.specs.Lines.{IsOther}
 use Rattle.binlog_bundle.proofs.Cutting.{passed_more, cut_here, cut_nowhere}
-use Rattle.std.proofs.Common.{sym, ◌∙◌}
 use Rattle.binlog_bundle.proofs.lines.cut_own.Goals as goal
 
 pub returns-then-is_own : goal.returns-then-is_own

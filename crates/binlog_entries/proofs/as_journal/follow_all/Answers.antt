@@ -1,8 +1,7 @@
-use Rattle.std.proofs.Common.{◌++◌, ◌∷◌, [], sym, ap, ◌∙◌, append_assoc, take}
+use Rattle.std.proofs.Common.{◌++◌, ◌∷◌, [], sym, ap, ◌∙◌, append_assoc, take, List}
 use Rattle.txn_journal.proofs.Seen.{seen_pushed}
 use Rattle.journal.specs.Journals.{JournalValue}
 use Rattle.journal.specs.declared.Entry.{Entry}
-use Rattle.std.proofs.Common.{List}
 use Rattle.std.specs.FinSet as set
 use Rattle.gtid_set.specs.Sets.{Gtids}
 use Rattle.binlog_entries.specs.Journals.{seen_behind}

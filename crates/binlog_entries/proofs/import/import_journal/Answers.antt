@@ -14,7 +14,7 @@ returns-in-Ok-encode_v2-clause-found c = record {
   varied = c.in-Ok.log.varied.items;
   log = subst (λ (j : JournalValue). IsLog c.args.text.now j.previous j.entries c.in-Ok.log.varied.items) (sym c.in-Ok-journal.ensures.found) c.in-Ok.ensures.found;
   keys = λ e. (λ i. place_varied (sym c.tables.ensures.value i) (sym c.deref.ensures.value i)) ∙ key_free c.args.bytes c.varied_key.result (place_varied c.tables.result.now c.deref.result.now) c.varied_key.ensures c.in_default.is e;
-  spells = c.in-Ok-encode_v2.ensures;
+  spells = c.in-Ok-encode_v2.ensures.spelled;
 }
 
 key_found : (b : Bool) (r p : Option ℕ) (k : ℕ) → r ≡ cond b None p → r ≡ Some k → p ≡ Some k

@@ -5,7 +5,7 @@ use Rattle.conflict_audit.proofs.finding.does_not_apply.Goals as goal
 
 pub first_refusal-requires : goal.first_refusal-requires
 first_refusal-requires c =
-    taken_is c.args.world.now c.args.journals.now c.in_order-fitting.result.now c.in_ok-rows.rows.schema c.opened.result.now c.in_ok-order.order.entries c.keep_rules.ensures c.requires.equal c.in_order-fitting.ensures
+    taken_is c.args.world.now c.args.journals.now c.in_order-fitting.result.now c.in_ok-rows.rows.schema c.opened.result.now c.in_ok-order.order.entries c.keep_rules.ensures c.requires c.in_order-fitting.ensures
     ((λ i. (c.in_ok-rows.ensures i).schema) ∙ c.rows.ensures.schema) c.opened.ensures c.in_ok-order.ensures
 
 pub returns : goal.returns

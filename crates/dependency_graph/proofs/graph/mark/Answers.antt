@@ -1,5 +1,5 @@
 use Rattle.std.proofs.Common.{◌≡◌, ◌+◌, refl, sym, subst, ◌∙◌}
-use Rattle.dependency_graph.specs.Ready.{Turns, goes}
+use Rattle.dependency_graph.specs.Ready.{Turns, is_unblocked}
 use Rattle.dependency_graph.proofs.Listing.{listed_marked, goes_in_at}
 use Rattle.dependency_graph.proofs.Marking.{kept_marked}
 use Rattle.dependency_graph.proofs.Settling.{marked_is}
@@ -21,7 +21,7 @@ returns-clause-listed c = λ h.
     let nodes = c.args.nodes.now.items in
     let at = c.args.at in
     let x = c.index_mut.result.now in
-    let was : c.goes.result ≡ goes x = c.goes.ensures ∙ sym (goes_in_at nodes at c.index.result.now c.index.ensures c.requires.in_range) ∙ goes_in_at nodes at x c.index_mut.ensures.value c.requires.in_range in
+    let was : c.is_unblocked.result ≡ is_unblocked x = c.is_unblocked.ensures ∙ sym (goes_in_at nodes at c.index.result.now c.index.ensures c.requires.in_range) ∙ goes_in_at nodes at x c.index_mut.ensures.value c.requires.in_range in
     c.loop-i.invariant.listed
     (listed_marked d nodes at x c.args.ready.now c.remove_if.new.self c.index_mut.ensures.value c.requires.in_range
     (λ base end p q lo hi t. c.remove_if.ensures base end p q lo hi (subst (Turns p q (d + at)) (sym was) t)) h)

@@ -1,5 +1,5 @@
 use Rattle.std.proofs.Common.{◌≡◌, ◌+◌, ◌++◌, map, drop}
-use Rattle.fault_places.specs.Places.{entries_told, places_of}
+use Rattle.fault_places.specs.Places.{report_entries, places_of}
 use Rattle.fault_places.proofs.Within.{IsWithin}
 use Rattle.fault_places.proofs.places.put_places.Given as goal
 
@@ -7,6 +7,6 @@ abbrev pub invariant-loop-i : goal.invariant-loop-i
 invariant-loop-i l = record {
   within : IsWithin l.standing l.i;
   told :
-      l.out.items ++ entries_told l.gtid l.wanted l.name l.standing (l.i + 1) (map (λ x. x.now) (drop l.i l.lines))
+      l.out.items ++ report_entries l.gtid l.wanted l.name l.standing (l.i + 1) (map (λ x. x.now) (drop l.i l.lines))
       ≡ l.fn.out.items ++ places_of l.gtid l.wanted (map (λ x. x.now) l.lines);
 }

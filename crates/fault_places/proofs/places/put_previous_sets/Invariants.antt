@@ -1,5 +1,5 @@
 use Rattle.std.proofs.Common.{◌≡◌, ◌+◌, ◌++◌, map, drop}
-use Rattle.fault_places.specs.Places.{all_previous_told, previous_sets}
+use Rattle.fault_places.specs.Places.{report_all_previous, previous_sets}
 use Rattle.fault_places.proofs.Within.{IsWithin}
 use Rattle.fault_places.proofs.places.put_previous_sets.Given as goal
 
@@ -7,6 +7,6 @@ abbrev pub invariant-loop-i : goal.invariant-loop-i
 invariant-loop-i l = record {
   within : IsWithin l.standing l.i;
   told :
-      l.out.items ++ all_previous_told l.name l.standing (l.i + 1) (map (λ x. x.now) (drop l.i l.lines))
+      l.out.items ++ report_all_previous l.name l.standing (l.i + 1) (map (λ x. x.now) (drop l.i l.lines))
       ≡ l.fn.out.items ++ previous_sets (map (λ x. x.now) l.lines);
 }

@@ -1,6 +1,6 @@
 use Rattle.std.proofs.Common.{◌≡◌, ◌++◌, ◌∷◌, take, string_bytes}
 use Rattle.std.specs.Prelude.{flat_map}
-use Rattle.journal_words.specs.Values.{value_text}
+use Rattle.row_images.specs.Values.{value_text}
 use Rattle.gtid_report.proofs.state.push_values.Given as goal
 
 abbrev pub invariant-loop-value : goal.invariant-loop-value

@@ -5,4 +5,4 @@ use Rattle.gtid_set.proofs.GtidSet.spans.Goals as goal
 
 pub returns-clause-runs : goal.returns-clause-runs
 returns-clause-runs c =
-    IfOk-weaker c.listed.result _ _ (λ v e. e ∙ c.cursor.ensures ∙ runs_held c.self.inside.spans c.args.self.now c.self.invariant.merged c.self.view_is) c.listed.ensures
+    IfOk-weaker c.collect_spans.result _ _ (λ v e. e ∙ c.cursor.ensures ∙ runs_held c.self.inside.spans c.args.self.now c.self.invariant.merged c.self.view_is) c.collect_spans.ensures

@@ -8,7 +8,7 @@ use Rattle.interval_pool.specs.Values.{spans, is_list, AddedTo}
 use Rattle.gtid_set.specs.declared.fault.SetFault.{SetFault}
 use Rattle.gtid_set.specs.Spans.{set_of}
 use Rattle.gtid_set.specs.Full.{IsFullExactly}
-use Rattle.gtid_set.specs.Kept.{listed, is_filled, flat, Grown}
+use Rattle.gtid_set.specs.Kept.{sources_at, is_filled, flat, Grown}
 use Rattle.gtid_set.proofs.KeptLemmas.{got_all}
 use Rattle.gtid_set.proofs.KeptGrowth.{grown_at, fault_at, fits_grown, with_span}
 use Rattle.gtid_set.proofs.kept.add_to.Goals as goal
@@ -16,7 +16,7 @@ use Rattle.gtid_set.proofs.kept.add_to.Goals as goal
 pub add-requires-clause-list : goal.add-requires-clause-list
 add-requires-clause-list c =
     (and_parts (is_list c.args.pool.now c.args.source.list) (nat_lt 0 (length (spans c.args.pool.now c.args.source.list)))
-    (got_all (is_filled c.args.pool.now) (listed c.args.sources.now (concat c.args.order.now)) c.requires.source.at c.args.source c.requires.kept.filled c.requires.source.got)).0
+    (got_all (is_filled c.args.pool.now) (sources_at c.args.sources.now (concat c.args.order.now)) c.requires.source.at c.args.source c.requires.kept.filled c.requires.source.got)).0
 
 grown : (c : goal.After-partition-in-Ok) → Grown c.args.pool.now c.args.sources.now (concat c.args.order.now) c.args.span.now c.add.new.self c.args.sources.now (concat c.args.order.now)
 grown c =

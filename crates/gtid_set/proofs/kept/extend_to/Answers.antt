@@ -4,7 +4,7 @@ use Rattle.std.proofs.lemmas.Bool.{and_parts}
 use Rattle.std.specs.Prelude.{nat_lt, length}
 use Rattle.interval_pool.specs.Values.{spans, is_list}
 use Rattle.gtid_set.specs.BySource.{IsTooLong}
-use Rattle.gtid_set.specs.Kept.{listed, is_filled, flat, spans_as}
+use Rattle.gtid_set.specs.Kept.{sources_at, is_filled, flat, spans_as}
 use Rattle.gtid_set.proofs.KeptLemmas.{got_all}
 use Rattle.gtid_set.proofs.KeptRuns.{run_merged, run_written, too_long}
 use Rattle.gtid_set.proofs.kept.extend_to.Goals as goal
@@ -12,7 +12,7 @@ use Rattle.gtid_set.proofs.kept.extend_to.Goals as goal
 pub extend-requires-clause-list : goal.extend-requires-clause-list
 extend-requires-clause-list c =
     (and_parts (is_list c.args.pool.now c.args.source.list) (nat_lt 0 (length (spans c.args.pool.now c.args.source.list)))
-    (got_all (is_filled c.args.pool.now) (listed c.args.sources.now (concat c.args.order.now)) c.requires.source.at c.args.source c.requires.kept.filled c.requires.source.got)).0
+    (got_all (is_filled c.args.pool.now) (sources_at c.args.sources.now (concat c.args.order.now)) c.requires.source.at c.args.source c.requires.kept.filled c.requires.source.got)).0
 
 pub extend-requires-clause-merged : goal.extend-requires-clause-merged
 extend-requires-clause-merged c =

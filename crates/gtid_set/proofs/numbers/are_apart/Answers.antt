@@ -22,12 +22,12 @@ loop-numbers-preserved c =
       still = λ q m. inv.still q (has_more left span more q parts m);
       same = λ q m. skips.same q (more_from span more q head m) ∙ inv.same q (has_more left span more q parts m);
       done = λ q a m. looked left span more q (has (all_numbered c.args.right) q ≡ false) parts m
-          (λ w. sym (inv.same q (has_first left span more q parts w)) ∙ sym (skips.same q (within_from span q w)) ∙ c.in_default-meeting.ensures.apart refl q w)
+          (λ w. sym (inv.same q (has_first left span more q parts w)) ∙ sym (skips.same q (within_from span q w)) ∙ c.in_default-first_overlapping.ensures.apart refl q w)
           (λ none. inv.done q a none);
     }
 
-pub returns-in-Some-meeting : goal.returns-in-Some-meeting
-returns-in-Some-meeting c =
+pub returns-in-Some-first_overlapping : goal.returns-in-Some-first_overlapping
+returns-in-Some-first_overlapping c =
     let span = numbered c.in-Some.numbers in
     let more = all_numbered (drop 1 c.loop-numbers.left) in
     let left = all_numbered c.loop-numbers.left in
@@ -36,8 +36,8 @@ returns-in-Some-meeting c =
     let parts = ap all_numbered c.in-Some.ensures.cases in
     let head = merged_head span more (sym (ap is_merged parts) ∙ inv.left) in
     let skips = c.skip.ensures in
-    let other = numbered c.in-Some-meeting._other in
-    let h = hole_of rest span other (all_numbered (drop 1 c.skip.new.walk)) c.in-Some-meeting.ensures.found skips.merged skips.reach in
+    let other = numbered c.in-Some-first_overlapping._other in
+    let h = hole_of rest span other (all_numbered (drop 1 c.skip.new.walk)) c.in-Some-first_overlapping.ensures.found skips.merged skips.reach in
     let g = common_gtid span other head.filled h.head.filled h.met h.reached in
     let q = gtid span.source (max span.lo other.lo) in (
       q,

@@ -1,7 +1,7 @@
 use Rattle.std.proofs.Common.{drop, ◌∷◌, ap, sym, ◌∙◌}
 use Rattle.std.specs.List.{list_all}
 use Rattle.gtid_set.specs.Numbers.{numbered, all_numbered}
-use Rattle.gtid_set.specs.Sweep.{rises, is_from, start_of}
+use Rattle.gtid_set.specs.Sweep.{is_sorted, is_from, start_of}
 use Rattle.gtid_set.proofs.SpanLemmas.{takes_left, takes_right, all_later, from_other}
 use Rattle.gtid_set.proofs.numbers.take_first.Goals as goal
 
@@ -14,7 +14,7 @@ returns-then-starts_by-clause-some c =
     let theirs = ap all_numbered c.in-Some-peek.ensures.cases in
     takes_left (all_numbered c.args.left.now) (all_numbered c.args.right.now) a (all_numbered c.advance-then-starts_by.new.self) mine c.requires.left c.requires.right
     (ap (list_all (λ t. is_from (start_of a) (start_of t))) theirs
-    ∙ all_later (start_of a) b (all_numbered (drop 1 c.args.right.now)) by (sym (ap rises theirs) ∙ c.requires.right))
+    ∙ all_later (start_of a) b (all_numbered (drop 1 c.args.right.now)) by (sym (ap is_sorted theirs) ∙ c.requires.right))
 
 pub returns-clause-some : goal.returns-clause-some
 returns-clause-some c =
@@ -25,4 +25,4 @@ returns-clause-some c =
     let theirs = ap all_numbered (c.in-Some-peek.ensures.cases ∙ sym (ap (λ is. c.in-Some-peek.other ∷ is) c.advance-2.ensures)) in
     takes_right (all_numbered c.args.left.now) (all_numbered c.args.right.now) b (all_numbered c.advance-2.new.self) theirs c.requires.left c.requires.right
     (ap (list_all (λ t. is_from (start_of b) (start_of t))) mine
-    ∙ all_later (start_of b) a (all_numbered (drop 1 c.args.left.now)) by (sym (ap rises mine) ∙ c.requires.left))
+    ∙ all_later (start_of b) a (all_numbered (drop 1 c.args.left.now)) by (sym (ap is_sorted mine) ∙ c.requires.left))

@@ -1,7 +1,7 @@
 use Rattle.std.proofs.Common.{[], ◌≡◌, ◌<◌, ap, sym, ◌∙◌, List, ℕ}
 use Rattle.std.specs.Prelude.{nat_lt, length, slice_index_or}
 use Rattle.std.proofs.lemmas.List.{get_or_default}
-use Rattle.gtid_set.specs.Kept.{listed, are_places, are_rising}
+use Rattle.gtid_set.specs.Kept.{sources_at, are_places, are_ascending}
 use Rattle.gtid_set.specs.Order.{are_below, block_at}
 use Rattle.gtid_set.proofs.BlockLemmas.{all_block, rising_block, below_next}
 use Rattle.gtid_set.proofs.sources.block_of.Goals as goal
@@ -17,7 +17,7 @@ ends_before-requires-clause-places c =
 
 pub ends_before-requires-clause-rising : goal.ends_before-requires-clause-rising
 ends_before-requires-clause-rising c =
-    ap (λ is. are_rising (listed c.args.sources.now is)) (here c.args.order.now c.loop-at.at c.index-order-at.result c.loop-at-test.true c.index-order-at.is)
+    ap (λ is. are_ascending (sources_at c.args.sources.now is)) (here c.args.order.now c.loop-at.at c.index-order-at.result c.loop-at-test.true c.index-order-at.is)
     ∙ rising_block c.args.sources.now c.args.order.now c.loop-at.at c.loop-at-test.true c.requires.rising
 
 pub loop-at-preserved : goal.loop-at-preserved

@@ -3,7 +3,7 @@ use Rattle.std.specs.Prelude.{nat_lt}
 use Rattle.std.specs.List.{concat}
 use Rattle.std.proofs.lemmas.List.{get_or_default}
 use Rattle.std.proofs.lemmas.List.Sorted.{IsPartitionPoint-from_clause}
-use Rattle.gtid_set.specs.Kept.{comes_before, listed, are_places, are_rising, IsSourcePlace}
+use Rattle.gtid_set.specs.Kept.{comes_before, sources_at, are_places, are_ascending, IsSourcePlace}
 use Rattle.gtid_set.specs.Order.{block_at, index_of}
 use Rattle.gtid_set.proofs.KeptReads.{place_there, parted_places, placed_source}
 use Rattle.gtid_set.proofs.BlockLemmas.{all_block, rising_block, seated, seat_within}
@@ -13,12 +13,12 @@ use Rattle.gtid_set.proofs.sources.seat_of.Goals.{After-partition_point-offset}
 pub returns-in-Some-clause-place : goal.returns-in-Some-clause-place
 returns-in-Some-clause-place c =
     let is = c.in-Some.ensures.some in
-    let ss = listed c.args.sources.now (concat c.args.order.now) in
+    let ss = sources_at c.args.sources.now (concat c.args.order.now) in
     let at = index_of c.args.order.now c.args.guess in
     subst (λ id. IsSourcePlace ss id at) is.same (place_there ss at c.in-Some._source c.requires.rising is.got)
 
 -- the place within its block
-within : (c : After-partition_point-offset) → IsSourcePlace (listed c.args.sources.now (block_at c.args.order.now c.block_of-block.result)) c.args.id c.partition_point-offset.result
+within : (c : After-partition_point-offset) → IsSourcePlace (sources_at c.args.sources.now (block_at c.args.order.now c.block_of-block.result)) c.args.id c.partition_point-offset.result
 within c =
     let sources = c.args.sources.now in
     let order = c.args.order.now in
@@ -27,8 +27,8 @@ within c =
     let lt = c.if-block-order.false in
     let is : block ≡ block_at order b = c.places.ensures ∙ c.index-order-block.is ∙ get_or_default order b c.index-order-block.result [] lt in
     let places : are_places sources block ≡ true = ap (are_places sources) is ∙ all_block (λ i. nat_lt i (length sources)) order b lt c.requires.places in
-    let rising : are_rising (listed sources block) ≡ true = ap (λ ps. are_rising (listed sources ps)) is ∙ rising_block sources order b lt c.requires.rising in
-    subst (λ (ps : List ℕ). IsSourcePlace (listed sources ps) c.args.id c.partition_point-offset.result) is
+    let rising : are_ascending (sources_at sources block) ≡ true = ap (λ ps. are_ascending (sources_at sources ps)) is ∙ rising_block sources order b lt c.requires.rising in
+    subst (λ (ps : List ℕ). IsSourcePlace (sources_at sources ps) c.args.id c.partition_point-offset.result) is
     (placed_source sources block c.args.id c.partition_point-offset.result places c.partition_point-offset.ensures.bound
     (IsPartitionPoint-from_clause (comes_before sources c.args.id) block c.partition_point-offset.result c.partition_point-offset.ensures.partitioned
     (parted_places sources block c.args.id places rising) (λ a r q k. search rules)))

@@ -1,6 +1,6 @@
 use Rattle.std.proofs.Common.{rules, ◌≡◌, ℕ, ◌+◌, ◌-◌, ◌≤◌, List, subst, map, arith}
 use Rattle.interval_pool.specs.declared.cells.Cell.{Cell}
-use Rattle.interval_pool.specs.Intervals.{met}
+use Rattle.interval_pool.specs.Intervals.{meet}
 use Rattle.interval_pool.specs.Pools.{interval_at, rest_of}
 use Rattle.interval_pool.specs.Places.{IsPlace}
 use Rattle.interval_pool.proofs.add.add_at.Goals as goal
@@ -13,7 +13,7 @@ returns-in_err-replace-clause-needed c =
     let n : ℕ = c.saturating_sub.result in
     let is : n ≡ c.args.numbers.lo - 1 = c.saturating_sub.ensures in
     let P : List Cell → Type 0 = λ cs. IsPlace cs heads c.args.list n c.seek-before.result in
-    let Q : List Cell → Type 0 = λ cs. c.meet-joined.result ≡ met (c.args.numbers.hi + 1) c.args.numbers 0 (map (interval_at cs) (rest_of cs heads c.args.list c.seek-before.result)) in
+    let Q : List Cell → Type 0 = λ cs. c.meet-joined.result ≡ meet (c.args.numbers.hi + 1) c.args.numbers 0 (map (interval_at cs) (rest_of cs heads c.args.list c.seek-before.result)) in
     let from : c.args.numbers.lo ≤ n + 1 = omega (is, arith) in
     let t = stands cells heads c.args.list n (c.args.numbers.hi + 1) c.seek-before.result c.args.numbers c.meet-joined.result c.requires.whole c.requires.merged c.requires.filled from (omega arith)
     (subst P c.deref.ensures.value c.seek-before.ensures) (subst Q c.deref-2.ensures.value c.meet-joined.ensures) in
@@ -27,7 +27,7 @@ returns-clause-ok c =
     let n : ℕ = c.saturating_sub.result in
     let is : n ≡ c.args.numbers.lo - 1 = c.saturating_sub.ensures in
     let P : List Cell → Type 0 = λ cs. IsPlace cs heads c.args.list n c.seek-before.result in
-    let Q : List Cell → Type 0 = λ cs. c.meet-joined.result ≡ met (c.args.numbers.hi + 1) c.args.numbers 0 (map (interval_at cs) (rest_of cs heads c.args.list c.seek-before.result)) in
+    let Q : List Cell → Type 0 = λ cs. c.meet-joined.result ≡ meet (c.args.numbers.hi + 1) c.args.numbers 0 (map (interval_at cs) (rest_of cs heads c.args.list c.seek-before.result)) in
     let from : c.args.numbers.lo ≤ n + 1 = omega (is, arith) in
     let t = stands cells heads c.args.list n (c.args.numbers.hi + 1) c.seek-before.result c.args.numbers c.meet-joined.result c.requires.whole c.requires.merged c.requires.filled from (omega arith)
     (subst P c.deref.ensures.value c.seek-before.ensures) (subst Q c.deref-2.ensures.value c.meet-joined.ensures) in

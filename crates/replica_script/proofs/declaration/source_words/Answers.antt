@@ -1,8 +1,8 @@
 use Rattle.std.proofs.Common.{◌≡◌, ℕ, Some, None, List, option_map, sym, ap, ◌∙◌}
-use Rattle.journal_words.specs.Words.{others}
+use Rattle.row_images.specs.Words.{others}
 use Rattle.journal_words.specs.Gtids.{source_of_word}
-use Rattle.journal_words.proofs.Cuts.{others-shorter}
-use Rattle.txn_journal.specs.Lines.{words_of}
+use Rattle.row_images.proofs.Cuts.{others-shorter}
+use Rattle.row_images.specs.Images.{words_of}
 use Rattle.replica_script.specs.Declarations.{sources_of}
 use Rattle.replica_script.proofs.SourceWords.{behind, no_source, last_source, next_source}
 use Rattle.replica_script.proofs.declaration.source_words.Goals as goal

@@ -1,5 +1,5 @@
 use Rattle.std.proofs.Common.{◌≡◌, length}
-use Rattle.txn_journal.specs.Lines.{words_of}
+use Rattle.row_images.specs.Images.{words_of}
 use Rattle.replica_script.specs.Declarations.{sources_of}
 use Rattle.replica_script.proofs.SourceWords.{behind}
 use Rattle.replica_script.proofs.declaration.source_words.Given as goal

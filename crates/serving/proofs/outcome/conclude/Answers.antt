@@ -5,8 +5,8 @@ use Rattle.serving.proofs.Runs.{Laws, holds_all, audit_concluded}
 use Rattle.serving.proofs.Shapes.{run_named}
 use Rattle.serving.proofs.outcome.conclude.Goals as goal
 
-pub returns-then-drained-clause-found : goal.returns-then-drained-clause-found
-returns-then-drained-clause-found c =
+pub returns-then-is_drained-clause-found : goal.returns-then-is_drained-clause-found
+returns-then-is_drained-clause-found c =
     let b = c.args.bundle.now in
     let core = c.args.core.now in
     let done : drained core.state ≡ true = search rules in

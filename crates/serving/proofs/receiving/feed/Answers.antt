@@ -2,7 +2,7 @@ use Rattle.std.proofs.Common.{rules, ◌≡◌, ◌+◌, suc, List, [], ◌∷�
 use Rattle.std.proofs.Math.Seq.{take-suc}
 use Rattle.journal.specs.declared.Entry.{Entry}
 use Rattle.serving.specs.Faults.{KnowsWith}
-use Rattle.serving.specs.Serving.{applied_at, Receives}
+use Rattle.serving.specs.Serving.{apply_events_at, Receives}
 use Rattle.serving.proofs.Conditions.{can_next, is_accepted, goes_on}
 use Rattle.serving.proofs.Knowing.{knows_so_far, weaker}
 use Rattle.serving.proofs.Runs.{applied_between, receives_one, receives_more}
@@ -28,7 +28,7 @@ loop-place-preserved c =
     let place = c.loop-place.place in
     let entry : Entry = c.index-entries-place.result in
     let rest : List Entry = drop (place + 1) entries in
-    let more = applied_at c.args.apply c.args.channel place in
+    let more = apply_events_at c.args.apply c.args.channel place in
     let between = applied_between c.args.apply c.args.channel place in
     let can = can_next core c.args.channel place entry entries c.loop-place-test.true c.index-entries-place.is c.loop-place.invariant.can in
     let one = receives_one c.args.apply core next c.args.channel entry more between (is_accepted core c.args.channel entry rest can) c.in_ok-receive.ensures.now in

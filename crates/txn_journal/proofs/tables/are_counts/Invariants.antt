@@ -1,6 +1,6 @@
 use Rattle.std.proofs.Common.{◌≡◌, map, drop}
 use Rattle.std.specs.List.{list_all}
-use Rattle.journal_words.specs.Words.{is_count}
+use Rattle.row_images.specs.Words.{is_count}
 use Rattle.txn_journal.proofs.tables.are_counts.Given as goal
 
 abbrev pub invariant-loop-word : goal.invariant-loop-word

@@ -1,5 +1,5 @@
 use Rattle.std.proofs.Common.{◌≡◌, ◌++◌, take, drop}
-use Rattle.txn_journal.specs.Words.{before, behind}
+use Rattle.row_images.specs.Parts.{before, behind}
 use Rattle.txn_journal.proofs.tables.cut_at.Given as goal
 
 abbrev pub invariant-loop-i : goal.invariant-loop-i

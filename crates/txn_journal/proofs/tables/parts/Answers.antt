@@ -1,6 +1,5 @@
 use Rattle.std.proofs.Common.{◌≡◌, ◌++◌, map, Some, List, ℕ, Bor, option_map, sym, ap, ◌∙◌}
-use Rattle.txn_journal.specs.Words.{behind}
-use Rattle.txn_journal.specs.Splits.{parts_of}
+use Rattle.row_images.specs.Parts.{behind, parts_of}
 use Rattle.txn_journal.proofs.TableSteps.{behind-shorter, last_part, next_part}
 use Rattle.txn_journal.proofs.tables.parts.Goals as goal
 use Rattle.std.proofs.lemmas.List.{map_push}

@@ -1,5 +1,5 @@
 use Rattle.std.proofs.Common.{◌≡◌, ◌++◌, length, map}
-use Rattle.txn_journal.specs.Splits.{parts_of}
+use Rattle.row_images.specs.Parts.{parts_of}
 use Rattle.txn_journal.proofs.tables.parts.Given as goal
 
 abbrev pub invariant-parts : goal.invariant-parts

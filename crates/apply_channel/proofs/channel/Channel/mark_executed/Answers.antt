@@ -1,5 +1,5 @@
 use Rattle.std.proofs.Common.{◌≡◌, List, length, sym, ap, subst, ◌∙◌}
-use Rattle.apply_channel.specs.Channels.{Keyed, ChannelValue, Received, settled}
+use Rattle.apply_channel.specs.Channels.{Keyed, ChannelValue, Received, settle_channel}
 use Rattle.apply_channel.specs.Kept.{IsLastOpen}
 use Rattle.apply_channel.proofs.LastPlaces.{settle_again, settle_nothing}
 use Rattle.apply_channel.proofs.channel.Channel.mark_executed.Goals as goal
@@ -13,7 +13,7 @@ settling-preserved c =
     record {
       last = c.settle-next.ensures.last;
       settles =
-          ap (λ (k : Keyed). settled g k.channel) c.settle-next.ensures.settled
+          ap (λ (k : Keyed). settle_channel g k.channel) c.settle-next.ensures.settled
           ∙ ap (λ (rs : List Received). let r : ChannelValue = record now { received = rs } in r) (settle_again g now.received p last.1)
           ∙ c.settling.invariant.settles;
       schema = ap (λ (k : Keyed). k.schema) c.settle-next.ensures.settled ∙ c.settling.invariant.schema;
@@ -24,6 +24,6 @@ returns c =
     let g = c.args.gtid.now in
     let now = c.settling.self.channel in
     let none = subst (λ o. IsLastOpen now.received g (length now.received) o) c.in_default.is c.settling.invariant.last in
-    let nothing : settled g now ≡ now = ap (λ (rs : List Received). let r : ChannelValue = record now { received = rs } in r) (settle_nothing g now.received none) in
+    let nothing : settle_channel g now ≡ now = ap (λ (rs : List Received). let r : ChannelValue = record now { received = rs } in r) (settle_nothing g now.received none) in
     let channel = sym nothing ∙ c.settling.invariant.settles in
     λ i. record { schema = c.settling.invariant.schema i; channel = channel i }

@@ -1,6 +1,6 @@
 use Rattle.std.proofs.Common.{rules, ◌≡◌, ◌<◌, false, List, length, sym, ap, subst, ◌∙◌}
 use Rattle.std.specs.Prelude.{Option, Some, None, if◌then◌else◌}
-use Rattle.dependency_graph.specs.Graphs.{Point, finished_at}
+use Rattle.dependency_graph.specs.Graphs.{Point, finish_at}
 use Rattle.rows.specs.declared.change.Transaction.{Transaction}
 use Rattle.apply_channel.specs.declared.slot.Slot.{Slot}
 use Rattle.apply_channel.specs.Channels.{Keyed, is_full}
@@ -32,7 +32,7 @@ invariant_of-self-then-executed c =
     let done : c.in_ok-txn.txn ≡ None = c.in_ok-txn.ensures ∙ ap (λ b. if b then None else Some c.args.entry.now.txn) c.if-executed.true in
     kept_done s.schema s.slots.items s.places.entries c.open_unless.new.places.entries s.graph s.received c.self.invariant c.open_unless.ensures.same y c.in_ok-earlier.ensures.place
     c.push.new.self.items c.in_ok-push.ensures.items c.len-place.result at c.in_ok-keys.keys.items c.put_node.new.received c.in-Ok.ensures.received
-    c.finish.new.self (c.finish.ensures ∙ ap (λ (ps : List Point). finished_at ps c.len-place.result) c.in-Ok.ensures.graph) done
+    c.finish.new.self (c.finish.ensures ∙ ap (λ (ps : List Point). finish_at ps c.len-place.result) c.in-Ok.ensures.graph) done
 
 pub invariant_of-self-2 : goal.invariant_of-self-2
 invariant_of-self-2 c =

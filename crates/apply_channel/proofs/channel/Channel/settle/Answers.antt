@@ -3,7 +3,7 @@ use Rattle.std.specs.Prelude.{Some, None, slice_get, slice_set}
 use Rattle.std.specs.FinSet as set
 use Rattle.dependency_graph.specs.Graphs.{Point}
 use Rattle.apply_channel.specs.declared.slot.Slot.{Slot}
-use Rattle.apply_channel.specs.Channels.{Keyed, Received, map_at, executed_one, settled_at}
+use Rattle.apply_channel.specs.Channels.{Keyed, Received, map_at, as_executed, settle_at}
 use Rattle.apply_channel.specs.Kept.{entries_of, place_of, IsLastOpen, AreNodesOf}
 use Rattle.apply_channel.proofs.Nodes.{nodes_length, nodes_finished}
 use Rattle.apply_channel.proofs.Slots.{entries_length, slot_at}
@@ -27,10 +27,10 @@ invariant_of-self c =
     let here = subst (λ (k : Keyed). IsLastOpen k.channel.received c.args.gtid.now (length k.channel.received) (Some p)) (sym c.self.view_is) c.requires in
     let last : IsLastOpen (entries_of slots) c.args.gtid.now (length slots) (Some p) = subst (λ n. IsLastOpen (entries_of slots) c.args.gtid.now n (Some p)) (entries_length slots) here in
     let is : slice_get slots p ≡ Some x = slot_at slots p x last.0 c.index_mut-slot.ensures.value in
-    let entries : entries_of (slice_set slots p y) ≡ map_at p executed_one (entries_of slots) = entries_settled slots p x y is refl refl in
+    let entries : entries_of (slice_set slots p y) ≡ map_at p as_executed (entries_of slots) = entries_settled slots p x y is refl refl in
     record {
       nodes = subst (λ (es : List Received). AreNodesOf s.schema c.finish.new.self es) (sym entries)
-          (subst (λ (ps : List Point). AreNodesOf s.schema ps (map_at p executed_one (entries_of slots))) (sym c.finish.ensures) (nodes_finished s.schema s.graph (entries_of slots) p c.self.invariant.nodes));
+          (subst (λ (ps : List Point). AreNodesOf s.schema ps (map_at p as_executed (entries_of slots))) (sym c.finish.ensures) (nodes_finished s.schema s.graph (entries_of slots) p c.self.invariant.nodes));
       linked = linked_settle c.args.gtid.now slots p y refl c.self.invariant.linked last;
       last = last_settle c.args.gtid.now slots p y refl c.self.invariant.linked last (place_of s.places.entries) (place_of c.take_place.new.places.entries) x is c.take_place.ensures c.self.invariant.last;
       gtids = c.self.invariant.gtids ∙ sym (ap set.from_list (ap (map (λ (e : Received). e.gtid)) entries ∙ gtids_kept (entries_of slots) p));
@@ -45,9 +45,9 @@ returns-clause-settled c =
     let y : Slot = record { gtid = x.gtid; txn = None; earlier = x.earlier } in
     let here = subst (λ (k : Keyed). IsLastOpen k.channel.received c.args.gtid.now (length k.channel.received) (Some p)) (sym c.self.view_is) c.requires in
     let last : IsLastOpen (entries_of slots) c.args.gtid.now (length slots) (Some p) = subst (λ n. IsLastOpen (entries_of slots) c.args.gtid.now n (Some p)) (entries_length slots) here in
-    let entries : entries_of (slice_set slots p y) ≡ map_at p executed_one (entries_of slots) = entries_settled slots p x y (slot_at slots p x last.0 c.index_mut-slot.ensures.value) refl refl in
+    let entries : entries_of (slice_set slots p y) ≡ map_at p as_executed (entries_of slots) = entries_settled slots p x y (slot_at slots p x last.0 c.index_mut-slot.ensures.value) refl refl in
     ap (λ (rs : List Received). let r : Keyed = record { schema = s.schema; channel = record { name = s.name; preserve = s.preserve; stopped = s.stopped; asked = s.asked; received = rs } } in r) entries
-    ∙ ap (λ (k : Keyed). let r : Keyed = record k { channel = settled_at p k.channel } in r) c.self.view_is
+    ∙ ap (λ (k : Keyed). let r : Keyed = record k { channel = settle_at p k.channel } in r) c.self.view_is
 
 pub returns-clause-last : goal.returns-clause-last
 returns-clause-last c =

@@ -11,6 +11,7 @@ use Rattle.world.specs.Audit.{first_fault}
 use Rattle.world.proofs.OnePass.{one_pass_applies}
 use Rattle.audit.specs.Contents.{as_pair}
 use Rattle.audit.proofs.Made.{pairs_of}
+use Rattle.audit.proofs.Sounding.{filled, filled_sound}
 use Rattle.audit.proofs.sources.World.does_not_apply.Goals as goal
 
 abbrev fault_of : List Table → List history.Entry → Rows → Option Verdict
@@ -24,5 +25,5 @@ returns c =
     ∙ ap (λ s. fault_of s (map as_pair c.in_order.result.now) c.rows.result.now.rows) c.rows.ensures.schema
     ∙ ap (λ r. fault_of c.args.self.now.schema (map as_pair c.in_order.result.now) r) c.rows.ensures.rows
     ∙ ap (λ es. fault_of c.args.self.now.schema es c.args.self.now.opening_rows) (pairs_of c.in_order.result.now c.args.self.now.contents c.in_order.ensures.listed)
-    ∙ sym (one_pass_applies c.args.self.now c.requires))
+    ∙ sym (one_pass_applies (filled c.args.self.now) (filled_sound c.args.self.now c.lie_beyond.ensures c.requires)))
     c.first_fault.ensures

@@ -1,13 +1,16 @@
-use Rattle.std.proofs.Common.{◌∙◌, ap, None}
-use Rattle.std.specs.FinMap as finmap
-use Rattle.audit.specs.Missing.{missing_from}
-use Rattle.audit.proofs.Made.{pairs_of}
-use Rattle.audit.proofs.Missings.{missing_passes}
+use Rattle.std.proofs.Common.{◌∙◌, sym}
+use Rattle.std.specs.Option.{unwrap_or}
+use Rattle.audit.proofs.Missings.{brought_pass}
 use Rattle.audit.proofs.sources.World.missing.Goals as goal
 
-pub returns : goal.returns
-returns c =
+pub returns-in-Some : goal.returns-in-Some
+returns-in-Some c =
     c.first_missing.ensures
-    ∙ ap (missing_from c.opened.result.now None) (pairs_of c.in_order.result.now c.args.self.now.contents c.in_order.ensures.listed)
-    ∙ ap (λ s. missing_from s None (finmap.entries c.args.self.now.contents)) c.opened.ensures
-    ∙ missing_passes c.args.self.now c.args.journals.now c.requires
+    ∙ brought_pass c.args.self.now c.args.journals.now c.opened.result.now c.in_order.result.now c.in-Some.contents c.opened.ensures c.in_order.ensures
+    ((λ i. unwrap_or (sym c.in-Some.is i) c.args.self.now.contents) ∙ c.in_ok-contents.ensures)
+
+pub returns-in-None : goal.returns-in-None
+returns-in-None c =
+    c.first_missing-in-None.ensures
+    ∙ brought_pass c.args.self.now c.args.journals.now c.opened-in-None.result.now c.in_order-in-None.result.now c.args.self.now.contents c.opened-in-None.ensures c.in_order-in-None.ensures.listed
+    ((λ i. unwrap_or (sym c.in-None.is i) c.args.self.now.contents) ∙ c.in_ok-contents.ensures)

@@ -9,5 +9,5 @@ returns c =
     IfOk-weaker c.first_gap.result _ _
     (λ found e.
     e ∙ ap (λ n. first_gap c.args.self.now n c.args.journals.now) c.requires.needs
-    ∙ closing_passes c.args.self.now c.args.journals.now c.requires.of_journals c.requires.equal c.requires.within)
+    ∙ closing_passes c.args.self.now c.args.journals.now c.lie_beyond.ensures c.requires.equal c.requires.within)
     c.first_gap.ensures

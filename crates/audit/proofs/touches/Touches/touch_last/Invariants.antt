@@ -1,7 +1,7 @@
 use Rattle.std.proofs.Common.{◌≡◌}
 use Rattle.std.specs.Vec.Iter.{into_iter_items}
-use Rattle.audit.specs.Gaps.{touched_last}
+use Rattle.audit.specs.Gaps.{touch_last}
 use Rattle.audit.proofs.touches.Touches.touch_last.Given as goal
 
 abbrev pub invariant-loop-key : goal.invariant-loop-key
-invariant-loop-key l = touched_last l.gtid (into_iter_items l.key-iterator) l.self ≡ touched_last l.gtid l.fn.keys.items l.fn.self
+invariant-loop-key l = touch_last l.gtid (into_iter_items l.key-iterator) l.self ≡ touch_last l.gtid l.fn.keys.items l.fn.self

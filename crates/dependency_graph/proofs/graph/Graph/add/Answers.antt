@@ -8,7 +8,7 @@ use Rattle.dependency_graph.specs.declared.graph.Node.{Node}
 use Rattle.std.specs.Prelude.{nat_eq}
 use Rattle.std.specs.List.{AllPairs}
 use Rattle.dependency_graph.specs.Held.{IsHeld}
-use Rattle.dependency_graph.specs.Ready.{IsListing, goes_at}
+use Rattle.dependency_graph.specs.Ready.{IsListing, is_unblocked_at}
 use Rattle.dependency_graph.proofs.Listing.{listed_pushed}
 use Rattle.dependency_graph.proofs.graph.Graph.add.Goals as goal
 
@@ -24,7 +24,7 @@ invariant_of-self-in_err-reserve-2 c =
     let nodes = c.self.inside.nodes.items in
     record {
       kept = kept_reserved d nodes c.self.inside.chains c.reserve.new.self c.reserve.ensures.same c.self.invariant.kept;
-      listed = c.reserve-2.ensures.same d (d + length nodes) (goes_at d nodes) c.self.invariant.listed;
+      listed = c.reserve-2.ensures.same d (d + length nodes) (is_unblocked_at d nodes) c.self.invariant.listed;
     }
 
 pub link-waits-requires-clause-distinct : goal.link-waits-requires-clause-distinct
@@ -41,7 +41,7 @@ invariant_of-self-in_err-push_back c =
     let nodes = c.self.inside.nodes.items in
     subst (λ ns. IsHeld d ns c.reserve.new.self c.reserve-2.new.self) (sym c.in_err-push_back.ensures.items) (record {
       kept = kept_reserved d nodes c.self.inside.chains c.reserve.new.self c.reserve.ensures.same c.self.invariant.kept;
-      listed = c.reserve-2.ensures.same d (d + length nodes) (goes_at d nodes) c.self.invariant.listed;
+      listed = c.reserve-2.ensures.same d (d + length nodes) (is_unblocked_at d nodes) c.self.invariant.listed;
     })
 
 pub invariant_of-self-2 : goal.invariant_of-self-2
@@ -66,7 +66,7 @@ invariant_of-self-2 c =
       listed =
           listed_pushed d nodes c.push_back.new.self.items node (record c.index_mut.result.now { waits = c.link-waits.result }) c.len-at.result c.reserve-2.new.self c.insert_if.new.self (nat_eq c.link-waits.result 0) at pushed
           (ap (λ (n : Node). not n.finished && nat_eq c.link-waits.result 0) read)
-          (c.in_ok-reserve-2.ensures.room d (goes_at d nodes) (omega arith) (subst (λ n. IsListing c.self.inside.ready d (d + n) (goes_at d nodes)) (sym at) c.self.invariant.listed))
+          (c.in_ok-reserve-2.ensures.room d (is_unblocked_at d nodes) (omega arith) (subst (λ n. IsListing c.self.inside.ready d (d + n) (is_unblocked_at d nodes)) (sym at) c.self.invariant.listed))
           c.insert_if.ensures;
     }
 

@@ -12,8 +12,8 @@ use Rattle.dependency_graph.proofs.graph.Graph.blocker.Goals.{in-Some+then-first
 pub returns-then-node-self : goal.returns-then-node-self
 returns-then-node-self c = sym (gone_free c.self.inside.dropped c.args.node (map point_of c.self.inside.nodes.items) c.if-node-self.true) ∙ ap (λ ps. blocker ps c.args.node) c.self.view_is
 
-pub returns-then-goes : goal.returns-then-goes
-returns-then-goes c =
+pub returns-then-is_unblocked : goal.returns-then-is_unblocked
+returns-then-is_unblocked c =
     let d = c.self.inside.dropped in
     let nodes = c.self.inside.nodes.items in
     let node = c.args.node in
@@ -21,7 +21,7 @@ returns-then-goes c =
     let same = ap length c.self.view_is in
     let below : node - d < length nodes = omega (size, same, c.requires, c.if-node-self.false, arith) in
     let sound = kept_is_sound d nodes c.self.inside.chains c.self.invariant.kept in
-    let may = may_go_kept d nodes c.self.inside.chains sound node c.index-here.result.now c.if-node-self.false below c.index-here.ensures ∙ sym c.goes.ensures ∙ c.if-goes.true in
+    let may = may_go_kept d nodes c.self.inside.chains sound node c.index-here.result.now c.if-node-self.false below c.index-here.ensures ∙ sym c.is_unblocked.ensures ∙ c.if-is_unblocked.true in
     sym (may_go_free (points d nodes) node may) ∙ ap (λ ps. blocker ps node) c.self.view_is
 
 pub loop-key-init : goal.loop-key-init

@@ -1,5 +1,5 @@
 use Rattle.std.proofs.Common.{sym, ap, ◌∙◌}
-use Rattle.dependency_graph.specs.Graphs.{dropped}
+use Rattle.dependency_graph.specs.Graphs.{drop_finished}
 use Rattle.dependency_graph.proofs.Marking.{drop_goes, drop_kept, nothing_goes}
 use Rattle.dependency_graph.proofs.Listing.{listed_dropped}
 use Rattle.dependency_graph.proofs.graph.Graph.drop_front.Goals as goal
@@ -20,4 +20,4 @@ loop-self-preserved c =
 pub returns : goal.returns
 returns c =
     nothing_goes c.loop-self.self-inside.dropped c.loop-self.self-inside.nodes.items (sym c.starts_finished.ensures ∙ c.loop-self-test.false)
-    ∙ c.loop-self.invariant.goes ∙ ap dropped c.self.view_is
+    ∙ c.loop-self.invariant.goes ∙ ap drop_finished c.self.view_is

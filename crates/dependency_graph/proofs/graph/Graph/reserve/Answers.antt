@@ -1,7 +1,7 @@
 use Rattle.std.proofs.Common.{rules, ◌≡◌, ◌+◌, ◌<◌, refl, sym, ap, subst, length, false, arith}
 use Rattle.dependency_graph.specs.Chains.{HasRoom}
 use Rattle.dependency_graph.specs.Held.{IsHeld}
-use Rattle.dependency_graph.specs.Ready.{IsListing, goes_at}
+use Rattle.dependency_graph.specs.Ready.{IsListing, is_unblocked_at}
 use Rattle.dependency_graph.proofs.Kept.{length_points}
 use Rattle.dependency_graph.proofs.Adding.{kept_reserved}
 use Rattle.dependency_graph.proofs.graph.Graph.reserve.Goals as goal
@@ -18,7 +18,7 @@ invariant_of-result-in_default-reserve c =
     let nodes = c.self.inside.nodes.items in
     record {
       kept = kept_reserved d nodes c.self.inside.chains c.reserve.new.self c.reserve.ensures.same c.self.invariant.kept;
-      listed = c.reserve-2.ensures.same d (d + length nodes) (goes_at d nodes) c.self.invariant.listed;
+      listed = c.reserve-2.ensures.same d (d + length nodes) (is_unblocked_at d nodes) c.self.invariant.listed;
     }
 
 pub invariant_of-result-in_default-push_back : goal.invariant_of-result-in_default-push_back
@@ -27,7 +27,7 @@ invariant_of-result-in_default-push_back c =
     let nodes = c.self.inside.nodes.items in
     subst (λ ns. IsHeld d ns c.reserve.new.self c.reserve-2.new.self) (sym c.in_default-push_back.ensures.items) (record {
       kept = kept_reserved d nodes c.self.inside.chains c.reserve.new.self c.reserve.ensures.same c.self.invariant.kept;
-      listed = c.reserve-2.ensures.same d (d + length nodes) (goes_at d nodes) c.self.invariant.listed;
+      listed = c.reserve-2.ensures.same d (d + length nodes) (is_unblocked_at d nodes) c.self.invariant.listed;
     })
 
 pub invariant_of-result-2 : goal.invariant_of-result-2
@@ -49,5 +49,5 @@ invariant_of-result-2 c =
         kept = kept_reserved d nodes c.self.inside.chains c.reserve.new.self c.reserve.ensures.same c.self.invariant.kept;
         room = subst (HasRoom c.reserve.new.self) c.deref.ensures.value c.in-Ok.ensures.room;
       };
-      listed = subst (λ n. IsListing c.reserve-2.new.self d (d + n + 1) (goes_at d nodes)) at (c.in-Ok-reserve.ensures.room d (goes_at d nodes) (omega arith) (subst (λ n. IsListing c.self.inside.ready d (d + n) (goes_at d nodes)) (sym at) c.self.invariant.listed));
+      listed = subst (λ n. IsListing c.reserve-2.new.self d (d + n + 1) (is_unblocked_at d nodes)) at (c.in-Ok-reserve.ensures.room d (is_unblocked_at d nodes) (omega arith) (subst (λ n. IsListing c.self.inside.ready d (d + n) (is_unblocked_at d nodes)) (sym at) c.self.invariant.listed));
     }

@@ -7,7 +7,7 @@ use Rattle.dependency_graph.proofs.Entries.{distinct_of}
 use Rattle.dependency_graph.proofs.Adding.{kept_pushed, points_pushed, read_last, awaiting_is}
 use Rattle.std.specs.Prelude.{nat_eq}
 use Rattle.std.specs.List.{AllPairs}
-use Rattle.dependency_graph.specs.Ready.{IsListing, goes_at}
+use Rattle.dependency_graph.specs.Ready.{IsListing, is_unblocked_at}
 use Rattle.dependency_graph.proofs.Listing.{listed_pushed}
 use Rattle.dependency_graph.proofs.graph.Reserved.add.Goals as goal
 
@@ -33,7 +33,7 @@ invariant_of-result c =
       listed =
           listed_pushed d held.old now held.node (record c.index_mut.result.now { waits = c.link-waits.result }) (c.len-at.result - 1) c.self.inside.ready c.insert_if.new.self (nat_eq c.link-waits.result 0) at held.is
           (ap (λ (n : Node). not n.finished && nat_eq c.link-waits.result 0) read ∙ ap (λ b. not b && nat_eq c.link-waits.result 0) held.unfinished)
-          (subst (λ n. IsListing c.self.inside.ready d (d + n + 1) (goes_at d held.old)) (sym at) listed)
+          (subst (λ n. IsListing c.self.inside.ready d (d + n + 1) (is_unblocked_at d held.old)) (sym at) listed)
           c.insert_if.ensures;
     }
 

@@ -1,7 +1,7 @@
 use Rattle.std.proofs.Common.{ap, ◌∙◌, List, map}
-use Rattle.apply_channel.specs.Channels.{settled, ChannelValue}
+use Rattle.apply_channel.specs.Channels.{settle_channel, ChannelValue}
 use Rattle.replica_core.specs.Kept.{ChannelsValue}
-use Rattle.replica_core.specs.Keyed.{changed}
+use Rattle.replica_core.specs.Keyed.{with_channels}
 use Rattle.replica_core.proofs.KeyedLemmas.{channel_of, settled_as, of_settled}
 use Rattle.replica_core.proofs.channels.Channels.mark_executed.Goals as goal
 
@@ -12,4 +12,4 @@ pub returns : goal.returns
 returns c =
     let same = ap (map channel_of) c.settle_list.ensures ∙ settled_as c.args.gtid.now c.self.inside.list.items in
     ap (λ (cs : List ChannelValue). let v : ChannelsValue = record { schema = c.self.inside.schema; list = cs } in v) same
-    ∙ ap (λ (v : ChannelsValue). changed (map (settled c.args.gtid.now) v.list) v) c.self.view_is
+    ∙ ap (λ (v : ChannelsValue). with_channels (map (settle_channel c.args.gtid.now) v.list) v) c.self.view_is

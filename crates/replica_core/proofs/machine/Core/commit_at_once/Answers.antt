@@ -1,10 +1,12 @@
 use Rattle.std.proofs.Common.{◌≡◌, inl, inr, true, rules, sym, ap, ◌∙◌, subst}
 use Rattle.journal.specs.declared.Entry.{Entry}
+use Rattle.std.specs.Prelude.{Some}
+use Rattle.gtid_set.specs.declared.fault.SetFault.TheVariants.{Memory}
 use Rattle.gtid_set.specs.Full.{IsFaultOf}
 use Rattle.replica_core.specs.State.{Replica}
-use Rattle.replica_core.specs.Faults.{IsFaultIn, executing_too}
-use Rattle.replica_core.specs.AtOnce.{IsLeft, IsFaultAtOnce}
-use Rattle.replica_core.proofs.AtOnceLemmas.{makes_executed, commit_takes, done_ahead, fault_ahead, executed_as}
+use Rattle.replica_core.specs.Faults.{IsFaultIn, HasRoomFor, executing_too}
+use Rattle.replica_core.specs.AtOnce.{IsLeft, IsFaultAtOnce, HasRoomAtOnce}
+use Rattle.replica_core.proofs.AtOnceLemmas.{makes_executed, commit_takes, done_ahead, fault_ahead, room_ahead, executed_as}
 use Rattle.replica_core.proofs.machine.Core.commit_at_once.Goals as goal
 
 pub returns-in-Err-clause-fault : goal.returns-in-Err-clause-fault
@@ -57,3 +59,38 @@ returns-clause-done c =
     let done = executed_as r c.execute.new.self e c.in_ok-copy.copy c.in_ok-copy.ensures.cases (rw c.in-Ok-Ok.field-0-is at c.in-Ok-Ok.ensures.ok) in
     done_ahead r c.args.seat c.args.channel c.args.place e may kept c.execute.new.self.state.rows c.execute.new.self.site c.execute.new.self.state c.receive_fitting.new.self.state c.in_ok-reply.reply
     done.applied done.site done.state c.in_ok-reply.ensures.ok
+
+pub returns-in_err-copy-clause-room : goal.returns-in_err-copy-clause-room
+returns-in_err-copy-clause-room c =
+    let r = c.args.self.now in
+    let e = c.args.entry.now in
+    let yes : c.is_ready_at_once.result ≡ true = search rules in
+    let may = c.is_ready_at_once.ensures yes in
+    let kept = c.entries_are_kept.ensures in
+    let h : HasRoomAtOnce Memory r.site c.args.seat c.args.channel c.args.place e r.state =
+    inr (subst (HasRoomFor Memory) (sym (makes_executed r c.args.seat c.args.channel c.args.place e may kept)) may.room) in
+    search rules
+
+pub returns-in-Err-clause-room : goal.returns-in-Err-clause-room
+returns-in-Err-clause-room c =
+    let r = c.args.self.now in
+    let e = c.args.entry.now in
+    let yes : c.is_ready_at_once.result ≡ true = search rules in
+    let may = c.is_ready_at_once.ensures yes in
+    let kept = c.entries_are_kept.ensures in
+    let f = c.in-Err.fault in
+    inr (subst (HasRoomFor f) (sym (makes_executed r c.args.seat c.args.channel c.args.place e may kept))
+    (subst (λ (x : Entry). HasRoomFor f (Some (executing_too r.state x.gtid))) c.in_ok-copy.ensures.cases c.in-Err.ensures.room))
+
+pub returns-in_err-reply-clause-room : goal.returns-in_err-reply-clause-room
+returns-in_err-reply-clause-room c =
+    let r = c.args.self.now in
+    let e = c.args.entry.now in
+    let yes : c.is_ready_at_once.result ≡ true = search rules in
+    let may = c.is_ready_at_once.ensures yes in
+    let kept = c.entries_are_kept.ensures in
+    let done = executed_as r c.execute.new.self e c.in_ok-copy.copy c.in_ok-copy.ensures.cases (rw c.in-Ok-Ok.field-0-is at c.in-Ok-Ok.ensures.ok) in
+    let f = c.in_err-reply.field-0.0 in
+    let h : HasRoomAtOnce f r.site c.args.seat c.args.channel c.args.place e r.state =
+    inl (room_ahead r c.args.seat c.args.channel c.args.place e may kept c.execute.new.self.state.rows f c.execute.new.self.state done.state c.in_err-reply.ensures.room) in
+    search rules

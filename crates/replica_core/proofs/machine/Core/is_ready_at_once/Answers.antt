@@ -26,4 +26,5 @@ returns-in-Ok c = λ yes.
       idle = idle_slots c.self.inside.seats r.state.seats (ap (λ (x : Replica). x.state.seats) c.self.view_is) idle;
       fits = subst (λ (tables : List Table). Fits tables c.args.entry.now.txn) (c.schema.ensures.value ∙ schema) c.in-Ok.ensures.ok;
       new = ap (λ (s : Gtids). set.contains s c.args.entry.now.gtid) (sym c.executed.ensures) ∙ new;
+      room = search rules;
     }

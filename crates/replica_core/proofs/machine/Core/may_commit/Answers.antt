@@ -14,7 +14,7 @@ returns-clause-ok c =
     let one : is_seat c.args.seat ≡ true = search rules in
     let has = sym c.in-Some.ensures in
     let entry = rw c.in-Some-held.is at c.in-Some-entry.ensures in
-    let none = sym c.early.ensures ∙ c.in_default-early.is in
+    let none = sym c.earlier_pending.ensures ∙ c.in_default-earlier_pending.is in
     record {
       answer = commit_is r.site r.state c.args.seat c.in-Some.spot channel g t u c.in_ok-clone.ensures.cases one has at.value entry none;
       is_one = one;

@@ -1,6 +1,6 @@
 use Rattle.std.proofs.Common.{sym, ◌∙◌}
 use Rattle.std.proofs.lemmas.Map.Lookups.{hash_map_eq-Decides}
-use Rattle.rows.proofs.Equal.{rows-Decide}
+use Rattle.row_images.proofs.Equal.{rows-Decide}
 use Rattle.rows.proofs.Hashed.{keys_equiv, hashed_same, hashed_told}
 use Rattle.rows.proofs.key_map.KeyMap.is_equal.Goals as goal
 

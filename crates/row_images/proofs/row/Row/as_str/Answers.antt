@@ -1,0 +1,12 @@
+use Rattle.std.proofs.Common.{subst, sym, ◌∙◌}
+use Rattle.std.specs.Arc.{arc_slice_items}
+use Rattle.std.specs.Str.{IsUtf8}
+use Rattle.row_images.specs.Images.{values_in}
+use Rattle.row_images.proofs.ImageLaws.{values_fit}
+use Rattle.row_images.proofs.RowLaws.{values_utf8}
+use Rattle.row_images.proofs.row.Row.as_str.Goals as goal
+
+pub unreachable-requires : goal.unreachable-requires
+unreachable-requires c =
+    let t = arc_slice_items c.self.inside.text in
+    c.in-Err.ensures.cases.0 (subst IsUtf8 (c.self.invariant ∙ sym c.as_slice.ensures.value) (values_utf8 (values_in t) (values_fit t)))

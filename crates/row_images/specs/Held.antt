@@ -1,0 +1,18 @@
+-- What is held in one of two forms, whichever it is.
+use Rattle.std.specs.Prelude.{ℕ, List, [], ◌∷◌}
+use Rattle.std.specs.Arc.{arc_slice_items}
+use Rattle.row_images.specs.declared.value.Value.{Value}
+use Rattle.row_images.specs.declared.value.Held.{Held}
+use Rattle.row_images.specs.declared.value.Held.TheVariants.{Short, Shared}
+use Rattle.row_images.specs.declared.key_values.HeldValues.{HeldValues}
+use Rattle.row_images.specs.declared.key_values.HeldValues.TheVariants.{One, Several}
+
+-- the bytes of a byte string
+abbrev pub held_bytes : Held → List ℕ
+held_bytes (Short bytes) = bytes
+held_bytes (Shared items) = arc_slice_items items
+
+-- the values of a key
+abbrev pub held_values : HeldValues → List Value
+held_values (One value) = value ∷ []
+held_values (Several items) = arc_slice_items items

@@ -1,0 +1,257 @@
+//! Images of rows, each kept as its text.
+ghost use Rattle.std.specs.Prelude.{◌≡◌, ◌==◌, ◌≤◌, ◌<◌, IfOk, None, is_some, length, option_map, slice_get, slice_index_or};
+ghost use Rattle.std.specs.List.{list_any};
+ghost use Rattle.row_images.specs.declared.value.Value.TheVariants.{Null};
+ghost use Rattle.row_images.specs.Values.{value_text, is_null, is_too_long, is_long_word};
+ghost use Rattle.row_images.specs.Images.{words_of, values_text, image_of, AreValues};
+
+use crate::packed::pack;
+use crate::value::Value;
+use crate::value_words::{all_fit, is_value, value_word, write_values};
+use crate::words::cut;
+use std::alloc::{AllocError, Global};
+use std::marker::Model;
+use std::sync::ArcSlice;
+
+/// A value for each column. It is kept as the text of them, which a clone shares.
+pub struct Row {
+    text: ArcSlice<u8>,
+}
+
+impl Drop for Row {
+    // (by hand: for a caller the end of a Row is one call)
+    fn drop(self) {
+        let Row { text: _text } = self;
+    }
+}
+
+impl Model for Row {
+    ghost use Rattle.std.specs.Prelude.{◌≡◌, List};
+    ghost use Rattle.std.specs.Arc.{arc_slice_items};
+    ghost use Rattle.row_images.specs.Images.{values_in, values_text};
+    ghost use Rattle.row_images.specs.declared.value.Value.{Value as Cell};
+
+    ghost Value = { List Cell };
+
+    ghost view = { λ a. values_in (arc_slice_items a.text) };
+
+    // The text has the values, and nothing else.
+    ghost invariant = { λ a. values_text (values_in (arc_slice_items a.text)) ≡ arc_slice_items a.text };
+}
+
+impl PartialEq for Row {
+    ghost use Rattle.std.specs.Ordering.{eq_by_cmp};
+    ghost use Rattle.std.specs.Cmp.{eq_by_cmp_equiv, partial_equiv_from_equiv};
+    ghost use Rattle.std.specs.Cmp.Lexicographic.{slice_cmp, lists_total};
+    ghost use Rattle.row_images.specs.Order.{value_cmp};
+    ghost use Rattle.row_images.specs.Total.{value_total};
+
+    ghost eq = { eq_by_cmp (slice_cmp value_cmp) };
+
+    ghost laws = { partial_equiv_from_equiv (eq_by_cmp_equiv (lists_total value_total)) };
+
+    fn eq(&self, other: &Row) -> bool {
+        self.text.as_slice() == other.text.as_slice()
+    }
+}
+
+impl Eq for Row {
+    ghost use Rattle.std.specs.Cmp.{eq_by_cmp_equiv};
+    ghost use Rattle.std.specs.Cmp.Lexicographic.{lists_total};
+    ghost use Rattle.row_images.specs.Total.{value_total};
+
+    ghost laws = { eq_by_cmp_equiv (lists_total value_total) };
+}
+
+impl Clone for Row {
+    ghost use Rattle.std.specs.Prelude.{◌≡◌};
+
+    ghost is_clone = { λ a b. b ≡ a };
+
+    fn clone(&self) -> Result<Row, AllocError> {
+        let text = self.text.clone()?;
+        Ok(Row { text })
+    }
+}
+
+/// Whether a text is that of values.
+fn is_image(text: &[u8]) -> bool
+    ensures { result ≡ is_some (image_of text.now) }
+{
+    let mut left = text;
+    'words: loop {
+        let (word, more) = cut(left);
+        if !is_value(word) {
+            return false;
+        }
+        match more {
+            Some(after) => left = after,
+            None => return true,
+        }
+    }
+}
+
+/// Whether a word has `x` and the digits of more than 65,535 bytes.
+fn is_long_word(word: &[u8]) -> bool
+    ensures { result ≡ is_long_word word.now }
+{
+    match word {
+        [b'x', digits @ ..] => digits.len() > 131_070,
+        _ => false,
+    }
+}
+
+fn has_long_word(text: &[u8]) -> bool
+    ensures { result ≡ list_any is_long_word (words_of text.now) }
+{
+    let mut left = text;
+    'words: loop {
+        let (word, more) = cut(left);
+        if is_long_word(word) {
+            return true;
+        }
+        match more {
+            Some(after) => left = after,
+            None => return false,
+        }
+    }
+}
+
+/// The word at a place of a text, counted from 0.
+fn word_in(text: &[u8], place: usize) -> Option<&[u8]>
+    ensures { option_map (λ word. word.now) result ≡ slice_get (words_of text.now) place }
+{
+    let mut left = text;
+    for _passed in 0..place {
+        match cut(left).1 {
+            Some(after) => left = after,
+            None => return None,
+        }
+    }
+    Some(cut(left).0)
+}
+
+/// How many words a text has.
+fn word_count(text: &[u8]) -> usize
+    ensures { result ≡ length (words_of text.now) }
+{
+    let mut count = 1;
+    let mut left = text;
+    'words: loop {
+        match cut(left).1 {
+            Some(after) => {
+                left = after;
+                count += 1;
+            }
+            None => return count,
+        }
+    }
+}
+
+impl Row {
+    /// These values, in the order of the columns.
+    pub fn new(values: Vec<Value>) -> Result<Row, AllocError>
+        ensures { IfOk result (λ row. row ≡ values.items) }
+    {
+        let alloc = *values.allocator();
+        all_fit(values.as_slice());
+        let mut text = String::new(alloc);
+        write_values(alloc, &mut text, values.as_slice())?;
+        let text = pack(text.into_bytes())?;
+        Ok(Row { text })
+    }
+
+    /// The values that a text has: the words of one or more values, with one blank between.
+    pub fn from_text(alloc: Global, text: &[u8]) -> Result<Option<Row>, AllocError>
+        ensures { IfOk result (λ found. found ≡ image_of text.now) }
+    {
+        if !is_image(text) {
+            return Ok(None);
+        }
+        let text = ArcSlice::from_slice(alloc, text)?;
+        Ok(Some(Row { text }))
+    }
+
+    /// The words of the values, with one blank between.
+    pub fn as_str(&self) -> &str
+        ensures { result.now ≡ values_text self.now }
+    {
+        match std::str::from_utf8(self.text.as_slice()) {
+            Ok(text) => text,
+            Err(_) => unreachable!(),
+        }
+    }
+
+    /// Each value is one that its type has. (A fact about the type, for the proofs of callers.)
+    pub fn keeps_rules(&self)
+        ensures { AreValues self.now }
+    {
+        let _text = self.text.as_slice();
+    }
+
+    /// How many values there are.
+    pub fn len(&self) -> usize
+        ensures { result ≡ length self.now }
+    {
+        let text = self.text.as_slice();
+        if text.is_empty() {
+            return 0;
+        }
+        word_count(text)
+    }
+
+    /// Whether there is no value.
+    pub fn is_empty(&self) -> bool
+        ensures { result ≡ (length self.now == 0) }
+    {
+        self.text.as_slice().is_empty()
+    }
+
+    /// The word of the value in a column.
+    fn word_at(&self, column: usize) -> Option<&[u8]>
+        ensures { option_map (λ word. word.now) result ≡ option_map value_text (slice_get self.now column) }
+    {
+        let text = self.text.as_slice();
+        if text.is_empty() {
+            return None;
+        }
+        word_in(text, column)
+    }
+
+    /// The value in a column, or null past the last.
+    pub fn value_at(&self, alloc: Global, column: u32) -> Result<Value, AllocError>
+        ensures { IfOk result (λ value. value ≡ slice_index_or self.now column Null) }
+    {
+        self.keeps_rules();
+        match self.word_at(column as usize) {
+            Some(word) => {
+                let value = value_word(alloc, word)?;
+                Ok(value.unwrap_or(Value::Null))
+            }
+            None => Ok(Value::Null),
+        }
+    }
+
+    /// Whether the value in a column is null, or there is none.
+    pub fn is_null_at(&self, column: u32) -> bool
+        ensures { result ≡ is_null (slice_index_or self.now column Null) }
+    {
+        self.keeps_rules();
+        match self.word_at(column as usize) {
+            Some(word) => word == b"null".as_slice(),
+            None => true,
+        }
+    }
+
+    /// Whether a value has more than 65,535 bytes.
+    pub fn has_long_value(&self) -> bool
+        ensures { result ≡ list_any is_too_long self.now }
+    {
+        let text = self.text.as_slice();
+        // (most texts are shorter than the word of such a value)
+        if text.len() <= 131_070 {
+            return false;
+        }
+        has_long_word(text)
+    }
+}

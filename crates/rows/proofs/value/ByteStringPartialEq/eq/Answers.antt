@@ -1,8 +1,0 @@
-use Rattle.std.proofs.Common.{◌∙◌}
-use Rattle.std.specs.Prelude.{nat_eq}
-use Rattle.std.specs.Cmp.Lexicographic.{pointwise}
-use Rattle.rows.proofs.Equal.{bytes_told}
-use Rattle.rows.proofs.value.ByteStringPartialEq.eq.Goals as goal
-
-pub returns : goal.returns
-returns c = c.eq.ensures ∙ (λ i. pointwise nat_eq (c.as_slice.ensures i) (c.as_slice-2.ensures i)) ∙ bytes_told c.args.self.now c.args.other.now

@@ -1,0 +1,6 @@
+use Rattle.std.proofs.Common.{rules}
+use Rattle.txn_journal.proofs.WrittenLaws.{spelled_written}
+use Rattle.txn_journal.proofs.writer.encode.Goals as goal
+
+pub returns-clause-writes : goal.returns-clause-writes
+returns-clause-writes c = λ may. spelled_written c.into_bytes.result.items c.args.journal.now (c.journal_fits.ensures may) (search rules)

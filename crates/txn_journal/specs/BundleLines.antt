@@ -1,0 +1,17 @@
+-- A bundle as far as some lines come.
+use Rattle.std.specs.Prelude.{◌≡◌, ℕ, List, [], ◌∷◌, Option, Result, Ok}
+use Rattle.txn_journal.specs.Lines.{◌>>=◌}
+use Rattle.txn_journal.specs.BundleStates.{BundleStanding, no_bundle, judge_bundle}
+use Rattle.txn_journal.specs.declared.fault.Cause.{Cause}
+use Rattle.txn_journal.specs.declared.lines.Version.{Version}
+
+-- what these lines make, the last of them first
+abbrev pub made_by : Option Version → List (List ℕ) → Result BundleStanding Cause
+made_by due [] = Ok (no_bundle due)
+made_by due (line ∷ earlier) = made_by due earlier >>= λ s. judge_bundle s line
+
+-- some lines have made it
+pub record HasCome (s : BundleStanding) : Type 0 where
+  pub due : Option Version
+  pub lines : List (List ℕ)
+  pub made : made_by due lines ≡ Ok s
