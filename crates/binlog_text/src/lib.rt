@@ -37,7 +37,7 @@ pub use values::read_value;
 #[cfg(test)]
 mod tests {
     use crate::{ColumnType, IntegerType, Line, read_line, read_value, type_named, unquote};
-    use journal_words::write_value;
+    use row_images::write_value;
     use std::test::Fail;
 
     /// Lines of MySQL 9.7's mysqlbinlog, each with the kind of what it says; `-` for those that say nothing.

@@ -1,11 +1,9 @@
 -- An image word by word.
-use Rattle.std.proofs.Common.{◌≡◌, ℕ, suc, zero, ◌+◌, ◌<◌, Bool, true, false, is_some, cond, eqb, List, [], ◌∷◌, length, drop, Option, Some, None, refl, sym, ap, ◌∙◌, arith}
-use Rattle.std.specs.Prelude.{◌||◌, option_map}
+use Rattle.std.proofs.Common.{◌≡◌, ℕ, suc, zero, ◌+◌, ◌<◌, true, false, is_some, List, [], ◌∷◌, length, drop, Option, Some, None, refl, sym, ap, ◌∙◌, arith}
+use Rattle.std.specs.Prelude.{◌||◌}
 use Rattle.std.specs.List.{list_any, slice_get}
 use Rattle.row_images.specs.declared.value.Value.{Value}
-use Rattle.row_images.specs.declared.value.Value.TheVariants.{Null, Int, Bytes}
 use Rattle.row_images.specs.Words.{first_word, others}
-use Rattle.row_images.specs.Parts.{cons_head, parts_of}
 use Rattle.row_images.specs.Values.{value_of, is_long_word}
 use Rattle.row_images.specs.Images.{words_of, and_others, values_of, image_of}
 use Rattle.row_images.proofs.PartLaws.{more_words, words_cut}

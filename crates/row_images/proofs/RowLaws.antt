@@ -1,14 +1,14 @@
 -- What the text of a row tells of its values.
-use Rattle.std.proofs.Common.{◌≡◌, ℕ, zero, suc, ◌+◌, ◌*◌, ◌≤◌, ◌<◌, ◌^◌, Bool, true, false, eqb, ltb, List, [], ◌∷◌, ◌++◌, length, map, get_or, Option, Some, None, refl, sym, ap, subst, ◌∙◌, arith, inl, inr, ℤ, pos, negsuc}
+use Rattle.std.proofs.Common.{◌≡◌, ℕ, zero, suc, ◌*◌, ◌≤◌, ◌<◌, Bool, true, false, eqb, ltb, List, [], ◌∷◌, length, get_or, Option, Some, None, is_some, refl, sym, ap, subst, ◌∙◌, arith, pos, negsuc}
 use Rattle.std.specs.Prelude.{◌||◌, nat_eq, codes, option_map}
 use Rattle.std.specs.Bool.{Decides}
 use Rattle.std.specs.Option.{unwrap_or}
 use Rattle.std.specs.List.{list_all, list_any, slice_get}
 use Rattle.std.specs.Char.{is_ascii_digit}
-use Rattle.std.specs.Fmt.{decimal, signed_decimal}
+use Rattle.std.specs.Fmt.{decimal}
 use Rattle.std.specs.Str.{bytes_eq, IsAscii, IsUtf8}
 use Rattle.std.specs.Cmp.Lexicographic.{pointwise}
-use Rattle.std.proofs.lemmas.Bool.{and_parts, or_parts, false_from_ne_true, ltb-true, ne_eqb}
+use Rattle.std.proofs.lemmas.Bool.{and_parts, false_from_ne_true, ltb-true, ne_eqb}
 use Rattle.std.proofs.lemmas.Bool.Decides.{nat_tests}
 use Rattle.std.proofs.lemmas.Fmt.{digits_decimal, IsAscii-decimal}
 use Rattle.std.proofs.lemmas.List.{length-map, length-append}
@@ -16,7 +16,7 @@ use Rattle.std.proofs.lemmas.Option.{same_Some, slice_get-map, unwrap_or-slice_g
 use Rattle.std.proofs.lemmas.Slice.Eq.{bytes_eq-Decides}
 use Rattle.std.proofs.lemmas.Str.{IsUtf8-from_ascii, IsAscii-append}
 use Rattle.std.proofs.lemmas.Str.Ascii.{IsAscii-nil, IsAscii-cons}
-use Rattle.hex.specs.Hex.{lower_digits, encode_lower, encode_with}
+use Rattle.hex.specs.Hex.{lower_digits, encode_lower}
 use Rattle.hex.proofs.HexLemmas.{length-encode_with}
 use Rattle.gtid_text.proofs.Tokens.{own}
 use Rattle.row_images.specs.declared.value.Value.{Value}
@@ -24,12 +24,12 @@ use Rattle.row_images.specs.declared.value.Value.TheVariants.{Null, Int, Bytes}
 use Rattle.row_images.specs.Parts.{parts_of, joined_by}
 use Rattle.row_images.specs.Order.{row_eq}
 use Rattle.row_images.specs.Values.{value_text, value_of, FitsValue, is_null, is_too_long, is_long_word}
-use Rattle.row_images.specs.Images.{words_of, values_text, AreValues, values_in}
+use Rattle.row_images.specs.Images.{words_of, values_text, AreValues, image_of, values_in}
 use Rattle.row_images.proofs.PartLaws.{parts_joined, words_cut}
 use Rattle.row_images.proofs.ValueLaws.{value_of-text, no_digit}
 use Rattle.row_images.proofs.AsciiLemmas.{ascii_word, ascii_digits}
 use Rattle.row_images.proofs.Equal.{told, columns-Decide, rows-Decide}
-use Rattle.row_images.proofs.ImageLaws.{texts, none_in_nothing, row_words, values_fit}
+use Rattle.row_images.proofs.ImageLaws.{texts, none_in_nothing, row_words, values_fit, values_found}
 
 -- ---- the text of values is ASCII
 
@@ -62,6 +62,14 @@ no_values (b ∷ bs) none = absurd (omega (arith, none))
 
 pub some_values : (t : List ℕ) → values_text (values_in t) ≡ t → 0 < length t → length (words_of t) ≡ length (values_in t)
 some_values t same some = ap (λ (ws : List (List ℕ)). length ws) (row_words t same some) ∙ length-map (values_in t) value_text
+
+counted_in : (t : List ℕ) (o : Option (List Value)) → image_of t ≡ o → is_some o ≡ true → length (words_of t) ≡ length (unwrap_or o [])
+counted_in t None e some = absurd cc
+counted_in t (Some vs) e some = ap (λ (ws : List (List ℕ)). length ws) (values_found (words_of t) vs e).0 ∙ length-map vs value_text
+
+-- a text that is read has a word for each value
+pub counted : (t : List ℕ) → is_some (image_of t) ≡ true → length (words_of t) ≡ length (values_in t)
+counted t some = counted_in t (image_of t) refl some
 
 empty_some : (t : List ℕ) (n : ℕ) → 0 < length t → 0 < n → eqb (length t) 0 ≡ eqb n 0
 empty_some [] n some e = absurd (omega arith)

@@ -1,5 +1,5 @@
 //! Images of rows, each kept as its text.
-ghost use Rattle.std.specs.Prelude.{◌≡◌, ◌==◌, ◌≤◌, ◌<◌, IfOk, None, is_some, length, option_map, slice_get, slice_index_or};
+ghost use Rattle.std.specs.Prelude.{◌≡◌, ◌==◌, ◌≤◌, ◌<◌, IfOk, IfSome, None, is_some, length, option_map, slice_get, slice_index_or};
 ghost use Rattle.std.specs.List.{list_any};
 ghost use Rattle.row_images.specs.declared.value.Value.TheVariants.{Null};
 ghost use Rattle.row_images.specs.Values.{value_text, is_null, is_too_long, is_long_word};
@@ -16,17 +16,21 @@ use std::sync::ArcSlice;
 /// A value for each column. It is kept as the text of them, which a clone shares.
 pub struct Row {
     text: ArcSlice<u8>,
+    columns: usize,
 }
 
 impl Drop for Row {
     // (by hand: for a caller the end of a Row is one call)
     fn drop(self) {
-        let Row { text: _text } = self;
+        let Row {
+            text: _text,
+            columns: _columns,
+        } = self;
     }
 }
 
 impl Model for Row {
-    ghost use Rattle.std.specs.Prelude.{◌≡◌, List};
+    ghost use Rattle.std.specs.Prelude.{◌≡◌, List, length};
     ghost use Rattle.std.specs.Arc.{arc_slice_items};
     ghost use Rattle.row_images.specs.Images.{values_in, values_text};
     ghost use Rattle.row_images.specs.declared.value.Value.{Value as Cell};
@@ -35,8 +39,8 @@ impl Model for Row {
 
     ghost view = { λ a. values_in (arc_slice_items a.text) };
 
-    // The text has the values, and nothing else.
-    ghost invariant = { λ a. values_text (values_in (arc_slice_items a.text)) ≡ arc_slice_items a.text };
+    // The text has the values, and nothing else. Each column has one.
+    ghost invariant = { λ a. (values_text (values_in (arc_slice_items a.text)) ≡ arc_slice_items a.text) × (a.columns ≡ length (values_in (arc_slice_items a.text))) };
 }
 
 impl PartialEq for Row {
@@ -70,23 +74,31 @@ impl Clone for Row {
 
     fn clone(&self) -> Result<Row, AllocError> {
         let text = self.text.clone()?;
-        Ok(Row { text })
+        Ok(Row {
+            text,
+            columns: self.columns,
+        })
     }
 }
 
-/// Whether a text is that of values.
-fn is_image(text: &[u8]) -> bool
-    ensures { result ≡ is_some (image_of text.now) }
+/// How many values a text has, if it is that of values.
+fn image_len(text: &[u8]) -> Option<usize>
+    ensures some { is_some result ≡ is_some (image_of text.now) }
+    ensures len { IfSome result (λ len. len ≡ length (words_of text.now)) }
 {
+    let mut count = 1;
     let mut left = text;
     'words: loop {
         let (word, more) = cut(left);
         if !is_value(word) {
-            return false;
+            return None;
         }
         match more {
-            Some(after) => left = after,
-            None => return true,
+            Some(after) => {
+                left = after;
+                count += 1;
+            }
+            None => return Some(count),
         }
     }
 }
@@ -131,23 +143,6 @@ fn word_in(text: &[u8], place: usize) -> Option<&[u8]>
     Some(cut(left).0)
 }
 
-/// How many words a text has.
-fn word_count(text: &[u8]) -> usize
-    ensures { result ≡ length (words_of text.now) }
-{
-    let mut count = 1;
-    let mut left = text;
-    'words: loop {
-        match cut(left).1 {
-            Some(after) => {
-                left = after;
-                count += 1;
-            }
-            None => return count,
-        }
-    }
-}
-
 impl Row {
     /// These values, in the order of the columns.
     pub fn new(values: Vec<Value>) -> Result<Row, AllocError>
@@ -157,19 +152,20 @@ impl Row {
         all_fit(values.as_slice());
         let mut text = String::new(alloc);
         write_values(alloc, &mut text, values.as_slice())?;
+        let columns = values.as_slice().len();
         let text = pack(text.into_bytes())?;
-        Ok(Row { text })
+        Ok(Row { text, columns })
     }
 
     /// The values that a text has: the words of one or more values, with one blank between.
     pub fn from_text(alloc: Global, text: &[u8]) -> Result<Option<Row>, AllocError>
         ensures { IfOk result (λ found. found ≡ image_of text.now) }
     {
-        if !is_image(text) {
+        let Some(columns) = image_len(text) else {
             return Ok(None);
-        }
+        };
         let text = ArcSlice::from_slice(alloc, text)?;
-        Ok(Some(Row { text }))
+        Ok(Some(Row { text, columns }))
     }
 
     /// The words of the values, with one blank between.
@@ -193,18 +189,14 @@ impl Row {
     pub fn len(&self) -> usize
         ensures { result ≡ length self.now }
     {
-        let text = self.text.as_slice();
-        if text.is_empty() {
-            return 0;
-        }
-        word_count(text)
+        self.columns
     }
 
     /// Whether there is no value.
     pub fn is_empty(&self) -> bool
         ensures { result ≡ (length self.now == 0) }
     {
-        self.text.as_slice().is_empty()
+        self.columns == 0
     }
 
     /// The word of the value in a column.

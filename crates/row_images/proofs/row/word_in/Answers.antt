@@ -1,4 +1,4 @@
-use Rattle.std.proofs.Common.{◌≡◌, ◌+◌, suc, drop, Some, option_map, sym, ap, ◌∙◌, arith}
+use Rattle.std.proofs.Common.{◌≡◌, ◌+◌, suc, drop, option_map, sym, ap, ◌∙◌, arith}
 use Rattle.row_images.specs.Images.{words_of}
 use Rattle.row_images.proofs.ImageSteps.{words_from, word_there, no_more}
 use Rattle.row_images.proofs.row.word_in.Goals as goal

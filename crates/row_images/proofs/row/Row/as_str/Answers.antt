@@ -9,4 +9,4 @@ use Rattle.row_images.proofs.row.Row.as_str.Goals as goal
 pub unreachable-requires : goal.unreachable-requires
 unreachable-requires c =
     let t = arc_slice_items c.self.inside.text in
-    c.in-Err.ensures.cases.0 (subst IsUtf8 (c.self.invariant ∙ sym c.as_slice.ensures.value) (values_utf8 (values_in t) (values_fit t)))
+    c.in-Err.ensures.cases.0 (subst IsUtf8 (c.self.invariant.0 ∙ sym c.as_slice.ensures.value) (values_utf8 (values_in t) (values_fit t)))

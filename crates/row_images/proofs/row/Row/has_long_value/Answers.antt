@@ -1,4 +1,4 @@
-use Rattle.std.proofs.Common.{◌≡◌, ◌≤◌, length, sym, ap, ◌∙◌, arith}
+use Rattle.std.proofs.Common.{◌≤◌, length, ap, ◌∙◌, arith}
 use Rattle.std.specs.Arc.{arc_slice_items}
 use Rattle.std.specs.List.{list_any}
 use Rattle.row_images.specs.Values.{is_too_long, is_long_word}
@@ -10,7 +10,7 @@ pub returns-then-text-le131070 : goal.returns-then-text-le131070
 returns-then-text-le131070 c =
     let t = arc_slice_items c.self.inside.text in
     let le : length t ≤ 131070 = omega (arith, c.if-text-le131070.true, c.as_slice-text.ensures.len) in
-    short_text t le ∙ any_long t c.self.invariant ∙ ap (list_any is_too_long) c.self.view_is
+    short_text t le ∙ any_long t c.self.invariant.0 ∙ ap (list_any is_too_long) c.self.view_is
 
 pub returns : goal.returns
-returns c = c.has_long_word.ensures ∙ ap (λ t. list_any is_long_word (words_of t)) c.as_slice-text.ensures.value ∙ any_long (arc_slice_items c.self.inside.text) c.self.invariant ∙ ap (list_any is_too_long) c.self.view_is
+returns c = c.has_long_word.ensures ∙ ap (λ t. list_any is_long_word (words_of t)) c.as_slice-text.ensures.value ∙ any_long (arc_slice_items c.self.inside.text) c.self.invariant.0 ∙ ap (list_any is_too_long) c.self.view_is

@@ -1,4 +1,4 @@
-use Rattle.std.proofs.Common.{◌≡◌, nat_eq, option_map, sym, ap, ◌∙◌}
+use Rattle.std.proofs.Common.{nat_eq, option_map, sym, ap, ◌∙◌}
 use Rattle.std.specs.Cmp.Lexicographic.{pointwise}
 use Rattle.row_images.specs.Values.{is_null}
 use Rattle.row_images.proofs.RowLaws.{null_there, null_past}

@@ -1,4 +1,4 @@
-use Rattle.std.proofs.Common.{subst, sym}
+use Rattle.std.proofs.Common.{subst}
 use Rattle.std.specs.Arc.{arc_slice_items}
 use Rattle.row_images.specs.Images.{AreValues}
 use Rattle.row_images.proofs.ImageLaws.{values_fit}

@@ -1,4 +1,4 @@
-use Rattle.std.proofs.Common.{◌≡◌, option_map, sym, ap, ◌∙◌}
+use Rattle.std.proofs.Common.{option_map, sym, ap, ◌∙◌}
 use Rattle.row_images.proofs.RowLaws.{value_there, null_past}
 use Rattle.row_images.proofs.row.Row.value_at.Goals as goal
 

@@ -1,4 +1,4 @@
-use Rattle.std.proofs.Common.{◌≡◌, ◌==◌, ◌<◌, length, option_map, sym, ap, ◌∙◌, arith}
+use Rattle.std.proofs.Common.{◌≡◌, ◌==◌, ◌<◌, length, option_map, sym, ap, ◌∙◌}
 use Rattle.std.specs.Arc.{arc_slice_items}
 use Rattle.std.specs.List.{slice_get}
 use Rattle.std.proofs.lemmas.Bool.{eqb-true}
@@ -16,4 +16,4 @@ pub returns : goal.returns
 returns c =
     let t = arc_slice_items c.self.inside.text in
     let some : 0 < length t = stands t (sym (ap (λ n. n == 0) c.as_slice-text.ensures.len) ∙ sym c.is_empty.ensures ∙ c.if-is_empty.false) in
-    c.word_in.ensures ∙ ap (λ x. slice_get (words_of x) c.args.column) c.as_slice-text.ensures.value ∙ word_at t c.args.column c.self.invariant some ∙ ap (λ vs. option_map value_text (slice_get vs c.args.column)) c.self.view_is
+    c.word_in.ensures ∙ ap (λ x. slice_get (words_of x) c.args.column) c.as_slice-text.ensures.value ∙ word_at t c.args.column c.self.invariant.0 some ∙ ap (λ vs. option_map value_text (slice_get vs c.args.column)) c.self.view_is

@@ -8,5 +8,5 @@ use Rattle.row_images.proofs.row.RowPartialEq.eq.Goals as goal
 pub returns : goal.returns
 returns c =
     c.eq.ensures ∙ (λ i. pointwise nat_eq (c.as_slice.ensures.value i) (c.as_slice-2.ensures.value i))
-    ∙ rows_same (arc_slice_items c.self.inside.text) (arc_slice_items c.other.inside.text) c.self.invariant c.other.invariant
+    ∙ rows_same (arc_slice_items c.self.inside.text) (arc_slice_items c.other.inside.text) c.self.invariant.0 c.other.invariant.0
     ∙ (λ i. row_eq (c.self.view_is i) (c.other.view_is i))
