@@ -1,6 +1,6 @@
 -- What intervals after all others of a list leave.
 use Rattle.std.proofs.Common.{◌≡◌, ◌≢◌, ℕ, suc, ◌+◌, ◌<◌, ◌≤◌, List, [], ◌∷◌, ◌++◌, length, take, drop, Option, Some, None, true, refl, sym, ap, subst, ◌∙◌, arith, length-append, append_assoc}
-use Rattle.std.specs.Prelude.{slice_set}
+use Rattle.std.specs.Prelude.{◌-◌, min, slice_set}
 use Rattle.std.specs.List.{AllByRecursion}
 use Rattle.std.proofs.Math.Seq.{set-append_seam}
 use Rattle.std.proofs.lemmas.List.{append-nil, length-take-le, set-set, take-append-drop}
@@ -13,7 +13,7 @@ use Rattle.interval_pool.specs.Chains.{first_or, last_or}
 use Rattle.interval_pool.specs.Intervals.{IsBefore, AreMerged}
 use Rattle.interval_pool.specs.Pools.{chain_of, AreWhole, Placed, Places}
 use Rattle.interval_pool.specs.Changes.{spans_of, free_count, next_of, run, Pushed, Replaced, Prolonged, PlacedRun, PlacesRun, PushesRun}
-use Rattle.interval_pool.specs.Values.{IsPool, Extended, value_of}
+use Rattle.interval_pool.specs.Values.{IsPool, Extended, value_of, spans}
 use Rattle.interval_pool.proofs.Linking.{length_next, head_same}
 use Rattle.interval_pool.proofs.Lists.{pushed_cell}
 use Rattle.interval_pool.proofs.Seeking.{last_append}
@@ -42,17 +42,20 @@ merged_behind (s ∷ ss) t ts merged = (here (IsBefore s) ss t ts merged.1, merg
 -- ---- none, or one part after another
 
 pub prolonged_none : (cells : List Cell) (heads : List Head) (k : ℕ) → AreWhole cells heads → length cells ≤ most_cells → Prolonged cells heads k [] cells heads
-prolonged_none cells heads k h small = record { keeps = keeps_all cells heads k h; small = small; spans = sym (append-nil (spans_of cells heads k)); total = omega arith }
+prolonged_none cells heads k h small = record { keeps = keeps_all cells heads k h; small = small; spans = sym (append-nil (spans_of cells heads k)); more = omega arith; total = omega arith }
 
 pub prolonged_both : (cells cells1 cells2 : List Cell) (heads heads1 heads2 : List Head) (k : ℕ) (ss ts : List Interval) → Prolonged cells heads k ss cells1 heads1 → Prolonged cells1 heads1 k ts cells2 heads2 → Prolonged cells heads k (ss ++ ts) cells2 heads2
 prolonged_both cells cells1 cells2 heads heads1 heads2 k ss ts one two =
     let size = length-append ss ts in
     let a = one.total in
     let b = two.total in
+    let more = one.more in
+    let most = two.more in
     record {
       keeps = keeps_both cells cells1 cells2 heads heads1 heads2 k one.keeps two.keeps;
       small = two.small;
       spans = two.spans ∙ (ap (λ us. us ++ ts) one.spans ∙ append_assoc (spans_of cells heads k) ss ts);
+      more = omega (more, most, arith);
       total = omega (size, a, b, arith);
     }
 
@@ -69,8 +72,9 @@ placed_one cells cells1 heads heads1 k last s more places h small not_free lt is
     let p : Placed cells heads k xs [] i found.1.0 s cells1 heads1 = found.1.1.1 in
     let r : Replaced cells heads k xs [] 0 (s ∷ []) cells1 heads1 = put_free cells cells1 heads heads1 k last s some places h small not_free lt is_last in
     let total = r.total in
+    let many = p.as_many in
     record {
-      made = record { keeps = r.keeps; small = r.small; spans = r.spans; total = omega (total, arith) };
+      made = record { keeps = r.keeps; small = r.small; spans = r.spans; more = omega (many, arith); total = omega (total, arith) };
       as_many = p.as_many;
       end_is = h.first 0 ∙ (ap (first_or None) found.1.1.0 ∙ sym (ap (last_or None) p.list ∙ last_append None xs i));
     }
@@ -120,7 +124,7 @@ prolonged_one : (cells cells1 : List Cell) (heads heads1 : List Head) (k : ℕ) 
 prolonged_one cells cells1 heads heads1 k s small p =
     let many = p.as_many in
     let free = ap length p.free in
-    record { keeps = p.keeps; small = omega (many, small, arith); spans = p.spans; total = omega (many, free, arith) }
+    record { keeps = p.keeps; small = omega (many, small, arith); spans = p.spans; more = omega (many, arith); total = omega (many, free, arith) }
 
 -- the cells of all after the first, and the head
 all_cells : (cells : List Cell) (k : ℕ) (last : Option ℕ) (s t : Interval) (ss : List Interval) → length (first_pushed cells k last s) ≡ length cells + 1
@@ -193,9 +197,13 @@ prolonged cells cells1 cells2 heads heads1 heads2 k n last end ss h small not_fr
 pub extended_pool : (cells cells' : List Cell) (heads heads' : List Head) (l : ℕ) (ss : List Interval) → IsPool cells heads → (head_at heads l).is_list ≡ true → AreMerged (spans_of cells heads l ++ ss) → Prolonged cells heads l ss cells' heads' → IsPool cells' heads'
 extended_pool cells cells' heads heads' l ss h is merged p = pool_with cells cells' heads heads' l h is p.keeps p.small (subst AreMerged (sym p.spans) merged)
 
+room_kept : (free free' len len' cells cells' capacity capacity' : ℕ) → free' + len' + cells ≡ free + len + cells' → cells ≤ cells' → capacity ≤ capacity'
+    → free + len + (min capacity most_cells - cells) ≤ free' + len' + (min capacity' most_cells - cells')
+room_kept free free' len len' cells cells' capacity capacity' total more le = omega (total, more, le, arith)
+
 pub extended_list : (cells cells' : List Cell) (heads heads' : List Head) (capacity capacity' l : ℕ) (ss : List Interval) → IsPool cells heads → (head_at heads l).is_list ≡ true → AreMerged (spans_of cells heads l ++ ss)
-    → Prolonged cells heads l ss cells' heads' → Extended (value_of cells heads capacity) l ss (value_of cells' heads' capacity')
-extended_list cells cells' heads heads' capacity capacity' l ss h is merged p =
+    → Prolonged cells heads l ss cells' heads' → capacity ≤ capacity' → Extended (value_of cells heads capacity) l ss (value_of cells' heads' capacity')
+extended_list cells cells' heads heads' capacity capacity' l ss h is merged p le =
     let free = is_not_free cells heads l h is in
     let before = spans_are cells heads capacity l h free in
     let after = spans_are cells' heads' capacity' l (extended_pool cells cells' heads heads' l ss h is merged p) free in
@@ -209,4 +217,5 @@ extended_list cells cells' heads heads' capacity capacity' l ss h is merged p =
       others = λ m other. slots_kept cells cells' heads heads' l m h p.keeps other;
       spans = after ∙ (p.spans ∙ ap (λ us. us ++ ss) (sym before));
       total = omega (total, a, b, more, size, arith);
+      room = room_kept (free_count cells heads) (free_count cells' heads') (length (spans (value_of cells heads capacity) l)) (length (spans (value_of cells' heads' capacity') l)) (length cells) (length cells') capacity capacity' (omega (total, a, b, more, size, arith)) p.more le;
     }

@@ -1,5 +1,5 @@
 -- What changes of a list leave.
-use Rattle.std.specs.Prelude.{◌≡◌, ◌≢◌, ℕ, ◌+◌, ◌<◌, ◌≤◌, ◌⊎◌, Bool, true, false, not, ◌&&◌, ◌||◌, List, [], ◌∷◌, ◌++◌, length, map, drop, min, Option, Some, None, option_to_list}
+use Rattle.std.specs.Prelude.{◌≡◌, ◌≢◌, ℕ, ◌+◌, ◌-◌, ◌<◌, ◌≤◌, ◌⊎◌, Bool, true, false, not, ◌&&◌, ◌||◌, List, [], ◌∷◌, ◌++◌, length, map, drop, min, Option, Some, None, option_to_list}
 use Rattle.interval_pool.specs.declared.cells.Cell.{Cell}
 use Rattle.interval_pool.specs.declared.cells.Head.{Head}
 use Rattle.interval_pool.specs.declared.interval.Interval.{Interval}
@@ -103,6 +103,7 @@ pub record Prolonged (cells : List Cell) (heads : List Head) (k : ℕ) (ss : Lis
   pub keeps : KeepsOthers cells heads k cells' heads'
   pub small : length cells' ≤ most_cells
   pub spans : spans_of cells' heads' k ≡ spans_of cells heads k ++ ss
+  pub more : length cells ≤ length cells'
   pub total : free_count cells' heads' + length ss + length cells ≡ free_count cells heads + length cells'
 
 -- they stand in free cells, the last of them in this one
@@ -155,6 +156,10 @@ pub record IsSpent (cells : List Cell) (heads : List Head) (capacity : ℕ) : Ty
 
 abbrev pub Spends : List Cell → List Head → ℕ → Type 0
 Spends cells heads capacity = AreWhole cells heads → IsSpent cells heads capacity
+
+-- the free cells, with those for which the vector has room, are fewer than these
+abbrev pub IsSpentBy : ℕ → List Cell → List Head → ℕ → Type 0
+IsSpentBy n cells heads capacity = free_count cells heads + (min capacity most_cells - length cells) < n
 
 -- ---- lists begin and end
 

@@ -123,12 +123,17 @@ pub record Extended (p : PoolValue) (l : ℕ) (ss : List Interval) (q : PoolValu
   pub lists : (m : ℕ) → is_list q m ≡ is_list p m
   pub others : (m : ℕ) → m ≢ l → slot_at q m ≡ slot_at p m
   pub total : length q.free + length (spans q l) + p.cells ≡ length p.free + length (spans p l) + q.cells
+  pub room : length p.free + length (spans p l) + p.room ≤ length q.free + length (spans q l) + q.room
   pub spans : spans q l ≡ spans p l ++ ss
 
 -- no cell is free, and there is room for none more
 pub record HasNoRoom (p : PoolValue) : Type 0 where
   pub free : p.free ≡ []
   pub room : p.room ≡ 0
+
+-- the free cells, with those for which there is room, are fewer than these
+abbrev pub HasNoRoomFor : PoolValue → ℕ → Type 0
+HasNoRoomFor p n = length p.free + p.room < n
 
 -- all cells that there may be are in lists
 abbrev pub IsFull : PoolValue → Type 0

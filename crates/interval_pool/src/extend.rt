@@ -3,7 +3,7 @@ ghost use Rattle.std.specs.Prelude.{◌≡◌, ◌↔◌, ◌≢◌, ◌<◌, �
 ghost use Rattle.interval_pool.specs.Links.{most_cells};
 ghost use Rattle.interval_pool.specs.Intervals.{AreMerged};
 ghost use Rattle.interval_pool.specs.Pools.{AreWhole};
-ghost use Rattle.interval_pool.specs.Changes.{Prolonged, free_count, spans_of};
+ghost use Rattle.interval_pool.specs.Changes.{IsSpentBy, Prolonged, free_count, spans_of};
 ghost use Rattle.interval_pool.specs.declared.fault.PoolFault.TheVariants.{Full};
 
 use crate::cells::{Cell, Head, count};
@@ -28,9 +28,11 @@ pub fn extend(
     requires there { list < length heads.old }
     requires merged { AreMerged (spans_of cells.old.items heads.old list ++ intervals.now) }
     ensures ok { OnOk result (Prolonged cells.old.items heads.old list intervals.now cells.new.items heads.new) }
+    ensures capacity { vec_capacity cells.old ≤ vec_capacity cells.new }
     ensures cells { OnErr result (cells.new.items ≡ cells.old.items) }
     ensures heads { OnErr result (heads.new ≡ heads.old) }
     ensures kept { OnErr result (vec_capacity cells.new ≡ vec_capacity cells.old) }
+    ensures spent { OnErr result (IsSpentBy (length intervals.now) cells.old.items heads.old (vec_capacity cells.old)) }
     ensures full { IfErr result (λ fault. fault ≡ Full ↔ (most_cells + free_count cells.old.items heads.old < length cells.old.items + length intervals.now)) }
 {
     let Some((first, _)) = intervals.split_first() else {

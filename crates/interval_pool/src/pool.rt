@@ -3,7 +3,7 @@ ghost use Rattle.std.specs.Prelude.{◌≡◌, ◌↔◌, ◌≢◌, ℕ, ◌<�
 ghost use Rattle.interval_pool.specs.Links.{most_cells};
 ghost use Rattle.interval_pool.specs.Intervals.{AreMerged, IsBefore, IsApart, IsSplit, covers, has};
 ghost use Rattle.std.specs.List.{AllByRecursion, Contains};
-ghost use Rattle.interval_pool.specs.Values.{empty, is_list, IsList, IsRange, cells_of, spans, first_cell, Follows, Covers, IsPartition, Opened, AddedTo, Appended, Extended, Copied, CutFrom, Released, Reserved, HasNoRoom, IsFull, IsFullWith, AreAllLists};
+ghost use Rattle.interval_pool.specs.Values.{empty, is_list, IsList, IsRange, cells_of, spans, first_cell, Follows, Covers, IsPartition, Opened, AddedTo, Appended, Extended, Copied, CutFrom, Released, Reserved, HasNoRoom, HasNoRoomFor, IsFull, IsFullWith, AreAllLists};
 ghost use Rattle.interval_pool.specs.declared.fault.PoolFault.TheVariants.{Full, Memory};
 
 use crate::add::add;
@@ -138,13 +138,15 @@ impl Pool {
     }
 
     /// Puts intervals after all others of a list, which costs a few steps for each, fewest where no cell is free. It
-    /// fails only where memory for more cells is refused (`Memory`), or so many intervals with those that are in the
-    /// pool are more than 4,294,967,294 (`Full`). An error leaves all as it was.
+    /// fails only where they are more than the free cells and those for which there is room, and memory for more is
+    /// refused (`Memory`), or so many intervals with those that are in the pool are more than 4,294,967,294 (`Full`).
+    /// An error leaves all as it was.
     pub fn extend(&mut self, list: ListId, intervals: &[Interval]) -> Result<(), PoolFault>
         requires list { IsList self.old list }
         requires merged { AreMerged (spans self.old list ++ intervals.now) }
         ensures ok { OnOk result (Extended self.old list intervals.now self.new) }
         ensures err { OnErr result (self.new ≡ self.old) }
+        ensures room { OnErr result (HasNoRoomFor self.old (length intervals.now)) }
         ensures full { IfErr result (λ fault. fault ≡ Full ↔ IsFullWith self.old (length intervals.now)) }
     {
         let list = list.number();

@@ -67,7 +67,7 @@ returns-clause-ok c =
     let S : List Head → Type 0 = λ hs. Extended (value_of cells heads capacity) l ss (value_of cells' hs capacity') in
     let T : PoolValue → Type 0 = λ p. Extended p l ss (value_of cells' heads' capacity') in
     subst T c.self.view_is (subst S (sym (seamed c.extend.new.heads heads c.self.inside.heads.len size))
-    (extended_list cells cells' heads c.extend.new.heads capacity capacity' l ss c.self.invariant is (subst R same c.requires.merged) made))
+    (extended_list cells cells' heads c.extend.new.heads capacity capacity' l ss c.self.invariant is (subst R same c.requires.merged) made c.in_ok-place.ensures.capacity))
 
 pub returns-in_err-place-clause-full : goal.returns-in_err-place-clause-full
 returns-in_err-place-clause-full c =
