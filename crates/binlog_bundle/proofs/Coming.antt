@@ -1,22 +1,24 @@
 -- Channels that come, one after another.
-use Rattle.std.proofs.Common.{◌≡◌, ◌⊎◌, ℕ, Bool, true, List, [], ◌∷◌, ◌++◌, None, refl, sym, ap, ◌∙◌, subst, append_assoc, append-nil, inl, inr}
+use Rattle.std.proofs.Common.{◌≡◌, ◌≢◌, ℕ, Bool, true, List, [], ◌∷◌, ◌++◌, codes, refl, sym, ap, ◌∙◌, subst, append_assoc, append-nil, inl, inr}
 use Rattle.std.specs.List.{flat_map}
 use Rattle.rows.specs.declared.schema.Table.{Table}
 use Rattle.txn_journal.specs.BundleStates.{BundleValue, BundleStanding}
-use Rattle.txn_journal.specs.BundleReading.{bundle_start, eats_bundle}
 use Rattle.txn_journal.specs.BundleText.{WritesBundle}
 use Rattle.txn_journal.specs.Stream.{Progress, next_number}
+use Rattle.txn_journal.specs.Words.{BeginsWithLine}
 use Rattle.txn_journal.specs.declared.fault.JournalFault.{JournalFault}
 use Rattle.txn_journal.specs.declared.fault.JournalFault.TheVariants as faults
 use Rattle.binlog_entries.specs.Imports.{Imports}
 use Rattle.binlog_entries.proofs.TransactionLaws.{flat_map_more}
 use Rattle.binlog_bundle.specs.Lines.{with_line_feed, is_channel, lines_in, HasNoOwn, BeginsOwn, Nothing, IsCut}
-use Rattle.binlog_bundle.specs.Bundles.{done_line, Brought, log_text, journal_text, HasTables, IsTold, Stands, ImportsBundle}
-use Rattle.binlog_bundle.specs.Refused.{fault_at_line, channel_fault_at, IsFed, StopsAt, IsNoHead, IsNoNext, IsNoJournal, IsNoOwn, IsNoneOf, IsNoBundle}
-use Rattle.binlog_bundle.specs.Channels.{HasCome, Brings, IsJournalFault, CantBring}
+use Rattle.binlog_bundle.specs.Bundles.{done_line, Brought, log_text, journal_text, HasTables, IsTold, Stands, ImportsBundle, BeginsLast, Nowhere, Last}
+use Rattle.binlog_bundle.specs.Refused.{fault_at_line, channel_fault_at, IsFed, StopsAt, IsRefused, IsOfLine, end_for, IsNoHead, HasTaken, IsLast, IsNoNext, HasChannel, CantFollow, HasJournalFault, IsNoOwn, IsNoneOf, IsNoBundle}
+use Rattle.binlog_bundle.specs.Tables.{HasNoOther}
+use Rattle.binlog_bundle.specs.Channels.{HasCome, Brings, IsJournalFault, CantJoin, CantBring}
 use Rattle.binlog_bundle.specs.declared.fault.ChannelFault.{ChannelFault}
 use Rattle.binlog_bundle.specs.declared.fault.ChannelFault.TheVariants as channels
-use Rattle.binlog_bundle.proofs.Cutting.{all_more}
+use Rattle.binlog_bundle.proofs.Cutting.{all_more, done_begins}
+use Rattle.binlog_bundle.proofs.Feeding.{is_taken, refused_more}
 
 -- the number of the line with which what is left begins
 abbrev pub IsLineAt : List ℕ → List ℕ → ℕ → Type 0
@@ -42,7 +44,7 @@ stands_more bytes head text written b h told = record {
 -- ---- what has come
 
 pub come_head : (bytes : Bool) (head text left : List ℕ) (p : Progress BundleStanding) → IsCut text head left → IsFed p head → HasCome bytes head text left p
-come_head bytes head text left p cut fed = record { front = head; written = head; stands = stands_none bytes head; parts = cut.parts; begins = cut.begins; fed = fed }
+come_head bytes head text left p cut fed = record { alone = cut.none; front = head; written = head; stands = stands_none bytes head; parts = cut.parts; begins = cut.begins; fed = fed }
 
 channel_parts : (line after log behind : List ℕ) → IsCut after log behind → with_line_feed line ++ after ≡ (with_line_feed line ++ log) ++ behind
 channel_parts line after log behind cut = ap (λ (xs : List ℕ). with_line_feed line ++ xs) cut.parts ∙ sym (append_assoc (with_line_feed line) log behind)
@@ -51,6 +53,7 @@ pub come_more : (tables : List Table) (bytes : Bool) (head text left line after 
 come_more tables bytes head text left line after log behind old new channel has come begins cut brings =
     let b : Brought = record { line = line; log = log; journal = brings.journal } in
     record {
+      alone = come.alone;
       front = come.front ++ log_text b;
       written = come.written ++ journal_text b;
       stands = stands_more bytes head come.front come.written b come.stands (record { tables = tables; has = has; channel = channel; alone = cut.none; imports = brings.imports });
@@ -59,119 +62,167 @@ come_more tables bytes head text left line after log behind old new channel has 
           come.parts
           ∙ ap (λ (xs : List ℕ). come.front ++ xs) (begins ∙ channel_parts line after log behind cut)
           ∙ sym (append_assoc come.front (log_text b) behind);
-      fed = brings.fed come.written come.fed ∙ ap (λ (xs : List ℕ). eats_bundle (bundle_start None) xs) (append_assoc come.written (with_line_feed line) brings.journal);
+      fed = subst (IsFed new) (append_assoc come.written (with_line_feed line) brings.journal) (brings.fed come.written come.fed);
     }
+
+taken_of : (bytes : Bool) (head text left : List ℕ) (p : Progress BundleStanding) (come : HasCome bytes head text left p) → HasTaken bytes head come.front come.written left text
+taken_of bytes head text left p come = record { alone = come.alone; stands = come.stands; parts = come.parts; begins = come.begins; taken = is_taken come.written p come.fed }
 
 -- ---- why no more has come
 
-pub own_at : (bytes : Bool) (fault : JournalFault) (n : ℕ) (text : List ℕ) → IsNoNext bytes fault n text → IsNoOwn bytes (fault_at_line fault n) text
-own_at bytes (faults.Set fault) n text h = tt
+own_at : (bytes : Bool) (fault : JournalFault) (n : ℕ) (text : List ℕ) → IsNoNext bytes fault n text → IsNoOwn bytes (fault_at_line fault n) text
+own_at bytes (faults.Set fault) n text h = inr (n, h)
 own_at bytes (faults.Line m cause) n text h = inr (m, h)
 own_at bytes (faults.Truncated m) n text h = inr (m, h)
 
-pub head_at : (bytes : Bool) (fault : JournalFault) (text : List ℕ) → IsNoHead fault text → IsNoOwn bytes fault text
-head_at bytes (faults.Set fault) text h = tt
+head_at : (bytes : Bool) (fault : JournalFault) (text : List ℕ) → IsNoHead fault text → IsNoOwn bytes fault text
+head_at bytes (faults.Set fault) text h = inl h
 head_at bytes (faults.Line n cause) text h = inl h
 head_at bytes (faults.Truncated n) text h = inl h
 
-journal_at : (bytes : Bool) (fault : JournalFault) (n : ℕ) (text : List ℕ) → IsNoJournal bytes fault n text → IsNoneOf bytes (fault_at_line fault n) text
-journal_at bytes (faults.Set fault) n text h = tt
+journal_at : (bytes : Bool) (fault : JournalFault) (n : ℕ) (text : List ℕ) → HasJournalFault bytes fault n text → IsNoneOf bytes (fault_at_line fault n) text
+journal_at bytes (faults.Set fault) n text h = (n, h)
 journal_at bytes (faults.Line m cause) n text h = (m, h)
-journal_at bytes (faults.Truncated m) n text h = (m, h)
+journal_at bytes (faults.Truncated m) n text h = absurd h.follow.stops
 
--- what comes next is refused
-pub next_refused : (bytes : Bool) (head text left next rest : List ℕ) (p : Progress BundleStanding) (fault : JournalFault) (n : ℕ) → HasCome bytes head text left p → left ≡ next ++ rest → ((before : List ℕ) → IsFed p before → StopsAt fault (before ++ next)) → IsLineAt text left n → IsNoOwn bytes (fault_at_line fault n) text
-next_refused bytes head text left next rest p fault n come parts stops at = own_at bytes fault n text (record {
+-- a line of the bundle's own is refused
+line_refused : (bytes : Bool) (head text left line after : List ℕ) (p : Progress BundleStanding) (fault : JournalFault) (n : ℕ) → HasCome bytes head text left p → BeginsWithLine left line after → ((before : List ℕ) → IsFed p before → StopsAt fault (before ++ with_line_feed line)) → IsLineAt text left n → IsNoOwn bytes (fault_at_line fault n) text
+line_refused bytes head text left line after p fault n come begins stops at = own_at bytes fault n text (inl (record {
   head = head;
   front = come.front;
   written = come.written;
-  stands = come.stands;
-  own = [];
-  next = next;
-  rest = rest;
-  parts = come.parts ∙ (λ i. sym (append-nil come.front) i ++ parts i);
-  stops = subst (λ (xs : List ℕ). StopsAt fault (xs ++ next)) (sym (append-nil come.written)) (stops come.written come.fed);
-  number = at come.front come.parts ∙ ap (λ (xs : List ℕ). next_number (lines_in xs)) (sym (append-nil come.front));
-})
+  left = left;
+  come = taken_of bytes head text left p come;
+  next = line;
+  after = after;
+  begins = begins;
+  stops = stops come.written come.fed;
+  number = at come.front come.parts;
+}))
 
--- what comes after a line of the bundle's own is refused
-pub behind_refused : (bytes : Bool) (head text left own behind : List ℕ) (p q : Progress BundleStanding) (fault : JournalFault) (n : ℕ) → HasCome bytes head text left p → left ≡ own ++ behind → ((before : List ℕ) → IsFed p before → IsFed q (before ++ own)) → ((before : List ℕ) → IsFed q before → StopsAt fault (before ++ behind)) → IsLineAt text behind n → IsNoOwn bytes (fault_at_line fault n) text
-behind_refused bytes head text left own behind p q fault n come parts fed stops at =
-    let whole : text ≡ (come.front ++ own) ++ behind =
-    come.parts ∙ ap (λ (xs : List ℕ). come.front ++ xs) parts ∙ sym (append_assoc come.front own behind) in
-    own_at bytes fault n text (record {
+-- what is in front of a text that is nothing
+front_nil : (xs ys : List ℕ) → [] ≡ xs ++ ys → (xs ≡ []) × (ys ≡ [])
+front_nil [] ys e = (refl, sym e)
+front_nil (x ∷ xs) ys e = absurd cc
+
+SplitsFirst : List ℕ → List ℕ → List ℕ → Type 0
+SplitsFirst left own behind = (line after : List ℕ) → BeginsWithLine left line after → (own ≡ with_line_feed line) × (behind ≡ after)
+
+is_last : (left own behind : List ℕ) → BeginsLast left → left ≡ own ++ behind → SplitsFirst left own behind → IsLast own behind
+is_last left own behind (Nowhere e) parts first = inr (front_nil own behind (sym e ∙ parts))
+is_last left own behind (Last after e) parts first = inl (first (codes "done") after (done_begins left after e)).0
+
+-- what comes after the last line is refused, or that there is none
+pub end_refused : (bytes : Bool) (head text left own behind : List ℕ) (p q : Progress BundleStanding) (fault : JournalFault) (n : ℕ) → BeginsLast left → HasCome bytes head text left p → left ≡ own ++ behind → SplitsFirst left own behind → ((before : List ℕ) → IsFed p before → IsFed q (before ++ own)) → ((before : List ℕ) → IsFed q before → IsRefused fault (before ++ behind)) → IsLineAt text behind n → IsNoOwn bytes (fault_at_line fault n) text
+end_refused bytes head text left own behind p q fault n last come parts first fed stops at =
+    let fed_own = fed come.written come.fed in
+    own_at bytes fault n text (inr (record {
       head = head;
       front = come.front;
       written = come.written;
-      stands = come.stands;
-      own = own;
-      next = behind;
-      rest = [];
-      parts = whole ∙ ap (λ (xs : List ℕ). (come.front ++ own) ++ xs) (sym (append-nil behind));
-      stops = stops (come.written ++ own) (fed come.written come.fed);
-      number = at (come.front ++ own) whole;
-    })
+      last = own;
+      behind = behind;
+      come = subst (λ (xs : List ℕ). HasTaken bytes head come.front come.written xs text) parts (taken_of bytes head text left p come);
+      ends = is_last left own behind last parts first;
+      taken = is_taken (come.written ++ own) q fed_own;
+      stops = subst (IsRefused fault) (append_assoc come.written own behind) (stops (come.written ++ own) fed_own);
+      number = at (come.front ++ own) (come.parts ∙ ap (λ (xs : List ℕ). come.front ++ xs) parts ∙ sym (append_assoc come.front own behind));
+    }))
+
+-- the last line is refused, or nothing is
+pub last_refused : (bytes : Bool) (head text left own behind : List ℕ) (p : Progress BundleStanding) (fault : JournalFault) (n : ℕ) → BeginsLast left → HasCome bytes head text left p → left ≡ own ++ behind → SplitsFirst left own behind → ((before : List ℕ) → IsFed p before → StopsAt fault (before ++ own)) → IsLineAt text left n → IsNoOwn bytes (fault_at_line fault n) text
+last_refused bytes head text left own behind p fault n (Last after e) come parts first stops at =
+    let begins = done_begins left after e in
+    let P : List ℕ → Type 0 = λ xs. (before : List ℕ) → IsFed p before → StopsAt fault (before ++ xs) in
+    line_refused bytes head text left (codes "done") after p fault n come begins (subst P (first (codes "done") after begins).0 stops) at
+last_refused bytes head text left own behind p fault n (Nowhere e) come parts first stops at =
+    let none = front_nil own behind (sym e ∙ parts) in
+    let nothing : left ≡ behind = parts ∙ ap (λ (xs : List ℕ). xs ++ behind) none.0 in
+    let same : (xs : List ℕ) → xs ++ own ≡ xs = λ xs. ap (λ (ys : List ℕ). xs ++ ys) none.0 ∙ append-nil xs in
+    end_refused bytes head text left own behind p p fault n (Nowhere e) come parts first
+    (λ before fed. subst (IsFed p) (sym (same before)) fed)
+    (λ before fed. refused_more fault before behind (subst (StopsAt fault) (same before) (stops before fed)))
+    (subst (λ (xs : List ℕ). IsLineAt text xs n) nothing at)
+
+-- the line of a channel that comes next
+next_channel : (left line after log behind : List ℕ) → is_channel line ≡ true → BeginsWithLine left line after → IsCut after log behind → HasChannel left line log behind
+next_channel left line after log behind channel begins cut = record {
+  begins = subst (λ (xs : List ℕ). BeginsWithLine left line xs) cut.parts begins;
+  is = channel;
+  cut = subst (λ (xs : List ℕ). IsCut xs log behind) cut.parts cut;
+}
+
+cant_follow : (tables : List Table) (bytes : Bool) (head text left line log behind : List ℕ) (p : Progress BundleStanding) (fault : JournalFault) (n : ℕ) → HasChannel left line log behind → HasTables head tables → (come : HasCome bytes head text left p)
+    → CantJoin tables bytes log (with_line_feed line) come.written fault → IsLineAt text left n → CantFollow bytes fault n text tables log
+cant_follow tables bytes head text left line log behind p fault n next has come cant at = record {
+  head = head;
+  front = come.front;
+  written = come.written;
+  left = left;
+  come = taken_of bytes head text left p come;
+  channel = line;
+  rest = behind;
+  next = next;
+  taken = cant.taken;
+  has = has;
+  journal = cant.journal;
+  imports = cant.imports;
+  stops = subst (StopsAt fault) (append_assoc come.written (with_line_feed line) cant.journal) cant.stops;
+  number = at come.front come.parts;
+}
 
 -- a channel is refused
-pub channel_refused : (tables : List Table) (bytes : Bool) (head text left line after log behind : List ℕ) (p : Progress BundleStanding) (fault : ChannelFault) (n : ℕ) → is_channel line ≡ true → HasTables head tables → HasCome bytes head text left p → left ≡ with_line_feed line ++ after → IsCut after log behind → ((before : List ℕ) → IsFed p before → CantBring tables bytes log (with_line_feed line) before fault) → IsLineAt text left n → IsNoBundle bytes (channel_fault_at fault n) text
+pub channel_refused : (tables : List Table) (bytes : Bool) (head text left line after log behind : List ℕ) (p : Progress BundleStanding) (fault : ChannelFault) (n : ℕ) → is_channel line ≡ true → HasTables head tables → HasCome bytes head text left p → BeginsWithLine left line after → IsCut after log behind → ((before : List ℕ) → IsFed p before → CantBring tables bytes log (with_line_feed line) before fault) → IsLineAt text left n → IsNoBundle bytes (channel_fault_at fault n) text
 channel_refused tables bytes head text left line after log behind p (channels.Own fault) n channel has come begins cut cant at =
-    next_refused bytes head text left (with_line_feed line) after p fault n come begins cant at
-channel_refused tables bytes head text left line after log behind p (channels.Log fault) n channel has come begins cut cant at = record {
-  head = head;
-  front = come.front;
-  written = come.written;
-  stands = come.stands;
-  channel = line;
-  log = log;
-  rest = behind;
-  parts = come.parts ∙ ap (λ (xs : List ℕ). come.front ++ xs) (begins ∙ ap (λ (xs : List ℕ). with_line_feed line ++ xs) cut.parts);
-  alone = cut.none;
-  tables = tables;
-  has = has;
-  none = cant come.written come.fed;
-  number = at come.front come.parts;
-}
-channel_refused tables bytes head text left line after log behind p (channels.Table of_log) n channel has come begins cut cant at = record {
-  head = head;
-  front = come.front;
-  written = come.written;
-  stands = come.stands;
-  channel = line;
-  log = log;
-  rest = behind;
-  parts = come.parts ∙ ap (λ (xs : List ℕ). come.front ++ xs) (begins ∙ ap (λ (xs : List ℕ). with_line_feed line ++ xs) cut.parts);
-  alone = cut.none;
-  tables = tables;
-  has = has;
-  other = cant come.written come.fed;
-  number = at come.front come.parts;
-}
+    line_refused bytes head text left line after p fault n come begins cant at
+channel_refused tables bytes head text left line after log behind p (channels.Log fault) n channel has come begins cut cant at =
+    let why = cant come.written come.fed in
+    record {
+      head = head;
+      front = come.front;
+      written = come.written;
+      left = left;
+      come = taken_of bytes head text left p come;
+      channel = line;
+      log = log;
+      rest = behind;
+      next = next_channel left line after log behind channel begins cut;
+      taken = why.0;
+      tables = tables;
+      has = has;
+      none = why.1;
+      number = at come.front come.parts;
+    }
+channel_refused tables bytes head text left line after log behind p (channels.Table of_log) n channel has come begins cut cant at =
+    let why = cant come.written come.fed in
+    record {
+      tables = tables;
+      log = log;
+      fault = why.0;
+      of_line = why.1;
+      follow = cant_follow tables bytes head text left line log behind p why.0 n (next_channel left line after log behind channel begins cut) has come why.2 at;
+      other = why.3;
+    }
 channel_refused tables bytes head text left line after log behind p (channels.Journal fault) n channel has come begins cut cant at =
     let why = cant come.written come.fed in
     journal_at bytes fault n text (record {
-      head = head;
-      front = come.front;
-      written = come.written;
-      stands = come.stands;
-      brought = record { line = line; log = log; journal = why.0 };
-      told = record { tables = tables; has = has; channel = channel; alone = cut.none; imports = why.1 };
-      rest = behind;
-      parts = come.parts ∙ ap (λ (xs : List ℕ). come.front ++ xs) (begins ∙ channel_parts line after log behind cut);
-      stops = subst (StopsAt fault) (append_assoc come.written (with_line_feed line) why.0) why.2;
-      number = at come.front come.parts;
+      tables = tables;
+      log = log;
+      follow = cant_follow tables bytes head text left line log behind p fault n (next_channel left line after log behind channel begins cut) has come why.0 at;
+      no_other = why.1;
     })
 
 -- ---- the whole
 
-pub end_found : (bytes : Bool) (head text left own behind : List ℕ) (p q : Progress BundleStanding) (b : BundleValue) → HasNoOwn head → HasCome bytes head text left p → left ≡ own ++ behind → ((before : List ℕ) → IsFed p before → IsFed q (before ++ own)) → ((before : List ℕ) → IsFed q before → WritesBundle (before ++ behind) b) → ImportsBundle bytes text b
-end_found bytes head text left own behind p q b alone come parts fed writes = record {
+pub end_found : (bytes : Bool) (head text left own behind : List ℕ) (p q : Progress BundleStanding) (b : BundleValue) → BeginsLast left → HasCome bytes head text left p → left ≡ own ++ behind → ((before : List ℕ) → IsFed p before → IsFed q (before ++ own)) → ((before : List ℕ) → IsFed q before → WritesBundle (before ++ behind) b) → ImportsBundle bytes text b
+end_found bytes head text left own behind p q b last come parts fed writes = record {
   head = head;
-  alone = alone;
+  alone = come.alone;
   front = come.front;
   written = come.written;
   stands = come.stands;
   tail = own ++ behind;
-  ends = subst BeginsOwn parts come.begins;
+  ends = subst BeginsLast parts last;
   parts = come.parts ∙ ap (λ (xs : List ℕ). come.front ++ xs) parts;
   writes = subst (λ (xs : List ℕ). WritesBundle xs b) (append_assoc come.written own behind) (writes (come.written ++ own) (fed come.written come.fed));
 }
@@ -184,20 +235,38 @@ head_found bytes text b alone writes = record {
   written = text;
   stands = stands_none bytes text;
   tail = [];
-  ends = Nothing refl;
+  ends = Nowhere refl;
   parts = sym (append-nil text);
   writes = subst (λ (xs : List ℕ). WritesBundle xs b) (sym (append-nil text)) writes;
 }
 
--- the head alone, or with the end of a bundle after it
-pub head_refused : (bytes : Bool) (fault : JournalFault) (text head rest end : List ℕ) → text ≡ head ++ rest → HasNoOwn head → (end ≡ []) ⊎ (end ≡ done_line) → StopsAt fault (head ++ end) → IsNoOwn bytes fault text
-head_refused bytes fault text head rest end parts alone ends stops =
-    head_at bytes fault text (record { head = head; rest = rest; end = end; parts = parts; alone = alone; ends = ends; stops = stops })
+-- the head alone
+pub head_refused : (bytes : Bool) (fault : JournalFault) (text : List ℕ) → HasNoOwn text → IsRefused fault text → IsNoOwn bytes fault text
+head_refused bytes fault text alone stops = head_at bytes fault text (record {
+  head = text;
+  rest = [];
+  cut = record { parts = sym (append-nil text); none = alone; begins = Nothing refl };
+  stops = subst (IsRefused fault) (sym (append-nil text)) stops;
+})
+
+end_more : (rest : List ℕ) → rest ≢ [] → end_for rest ≡ done_line
+end_more [] more = absurd (more refl)
+end_more (b ∷ bs) more = refl
+
+-- the head, with the end of a bundle after it
+pub start_refused : (bytes : Bool) (fault : JournalFault) (text head rest : List ℕ) → IsCut text head rest → rest ≢ [] → IsRefused fault (head ++ done_line) → IsNoOwn bytes fault text
+start_refused bytes fault text head rest cut more stops = head_at bytes fault text (record {
+  head = head;
+  rest = rest;
+  cut = cut;
+  stops = subst (λ (xs : List ℕ). IsRefused fault (head ++ xs)) (sym (end_more rest more)) stops;
+})
 
 -- ---- a journal
 
-pub cant_bring : (tables : List Table) (bytes : Bool) (log line before journal : List ℕ) (fault : JournalFault) (found : ChannelFault) → Imports tables bytes log journal → StopsAt fault ((before ++ line) ++ journal) → IsJournalFault tables log fault found → CantBring tables bytes log line before found
-cant_bring tables bytes log line before journal fault (channels.Own other) imports stops h = absurd h
-cant_bring tables bytes log line before journal fault (channels.Log other) imports stops h = absurd h
-cant_bring tables bytes log line before journal fault (channels.Table at) imports stops h = h
-cant_bring tables bytes log line before journal fault (channels.Journal other) imports stops h = (journal, imports, subst (λ (f : JournalFault). StopsAt f ((before ++ line) ++ journal)) (sym h) stops)
+pub cant_bring : (tables : List Table) (bytes : Bool) (log line before : List ℕ) (fault : JournalFault) (found : ChannelFault) → CantJoin tables bytes log line before fault → IsJournalFault tables log fault found → CantBring tables bytes log line before found
+cant_bring tables bytes log line before fault (channels.Own other) cant h = absurd h
+cant_bring tables bytes log line before fault (channels.Log other) cant h = absurd h
+cant_bring tables bytes log line before fault (channels.Table at) cant h = (fault, h.0, cant, h.1)
+cant_bring tables bytes log line before fault (channels.Journal other) cant h =
+    subst (λ (f : JournalFault). CantJoin tables bytes log line before f × (IsOfLine f → HasNoOther tables log)) (sym h.0) (cant, h.1)

@@ -1,14 +1,19 @@
 -- A bundle whose journals are the texts of logs.
-use Rattle.std.specs.Prelude.{◌≡◌, ℕ, Bool, true, List, ◌++◌, codes}
+use Rattle.std.specs.Prelude.{◌≡◌, ℕ, Bool, true, List, [], ◌++◌, codes}
 use Rattle.std.specs.List.{flat_map, AllByRecursion}
 use Rattle.rows.specs.declared.schema.Table.{Table}
 use Rattle.txn_journal.specs.BundleStates.{BundleValue}
 use Rattle.txn_journal.specs.BundleText.{WritesBundle}
 use Rattle.binlog_entries.specs.Imports.{Imports}
-use Rattle.binlog_bundle.specs.Lines.{with_line_feed, is_channel, HasNoOwn, BeginsOwn}
+use Rattle.binlog_bundle.specs.Lines.{with_line_feed, is_channel, HasNoOwn}
 
 abbrev pub done_line : List ℕ
 done_line = with_line_feed (codes "done")
+
+-- a text is nothing, or begins with the last line of a bundle
+pub data BeginsLast (text : List ℕ) : Type 0 where
+  Nowhere : text ≡ [] → BeginsLast text
+  Last : (after : List ℕ) → text ≡ done_line ++ after → BeginsLast text
 
 -- a channel's line, the text of its log, and that of the journal which the log describes
 pub record Brought : Type 0 where
@@ -42,8 +47,8 @@ pub record Stands (bytes : Bool) (head text written : List ℕ) : Type 0 where
   pub text_is : text ≡ head ++ flat_map log_text brought
   pub written_is : written ≡ head ++ flat_map journal_text brought
 
--- The text is a bundle's but that the log of each channel stands where its journal does. Both end in the same line. Each log is what is between two
--- lines of the bundle's own, so there is one way to read a text so.
+-- The text is a bundle's but that the log of each channel stands where its journal does. Both end in the same last line. Each log is what is between
+-- two lines of the bundle's own, so there is one way to read a text so.
 pub record ImportsBundle (bytes : Bool) (text : List ℕ) (b : BundleValue) : Type 0 where
   pub head : List ℕ
   pub alone : HasNoOwn head
@@ -51,6 +56,6 @@ pub record ImportsBundle (bytes : Bool) (text : List ℕ) (b : BundleValue) : Ty
   pub written : List ℕ
   pub stands : Stands bytes head front written
   pub tail : List ℕ
-  pub ends : BeginsOwn tail
+  pub ends : BeginsLast tail
   pub parts : text ≡ front ++ tail
   pub writes : WritesBundle (written ++ tail) b

@@ -17,12 +17,25 @@ abbrev pub maps_other : List Table → Option Said → Bool
 maps_other tables (Some (OfTable database table)) = not (has_table tables table)
 maps_other tables _ = false
 
--- A line of the log, with this number, maps a table that is none of these.
+-- a whole line that maps none but these
+abbrev pub IsPlain : List Table → List ℕ → Type 0
+IsPlain tables line = IsOneLine line × (maps_other tables (line_of line) ≡ false)
+
+-- The first line of the log that maps a table which is none of these has this number.
 pub record HasOther (tables : List Table) (n : ℕ) (log : List ℕ) : Type 0 where
   pub before : List (List ℕ)
   pub line : List ℕ
   pub rest : List ℕ
   pub parts : log ≡ flat_map with_line_feed before ++ (line ++ 10 ∷ rest)
-  pub whole : AllByRecursion IsOneLine before × IsOneLine line
+  pub plain : AllByRecursion (IsPlain tables) before
+  pub whole : IsOneLine line
   pub maps : maps_other tables (line_of line) ≡ true
   pub number : n ≡ next_number (lines_in (flat_map with_line_feed before))
+
+-- no line of the log does
+pub record HasNoOther (tables : List Table) (log : List ℕ) : Type 0 where
+  pub lines : List (List ℕ)
+  pub rest : List ℕ
+  pub parts : log ≡ flat_map with_line_feed lines ++ rest
+  pub plain : AllByRecursion (IsPlain tables) lines
+  pub part : IsOneLine rest

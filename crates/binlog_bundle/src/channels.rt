@@ -2,7 +2,7 @@
 ghost use Rattle.std.specs.Prelude.{◌≡◌, ◌++◌, ℕ, List, IfOk, IfErr, OnOk};
 ghost use Rattle.txn_journal.specs.BundleReaders.{bundle_reading};
 ghost use Rattle.binlog_bundle.specs.Lines.{with_line_feed, HasNoOwn};
-ghost use Rattle.binlog_bundle.specs.Bundles.{HasTables};
+ghost use Rattle.binlog_bundle.specs.Bundles.{HasTables, BeginsLast};
 ghost use Rattle.binlog_bundle.specs.Refused.{IsFed, IsNoBundle};
 ghost use Rattle.binlog_bundle.specs.Channels.{HasCome, Brings, IsJournalFault, CantBring};
 
@@ -66,6 +66,7 @@ pub fn take_channels<'a>(
 ) -> Result<&'a [u8], BundleFault>
     requires tables { HasTables head.now schema.now }
     requires come { HasCome bytes head.now text.now rest.now (bundle_reading reader.old) }
+    ensures last { IfOk result (λ left. BeginsLast left.now) }
     ensures come { IfOk result (λ left. HasCome bytes head.now text.now left.now (bundle_reading reader.new)) }
     ensures refused { IfErr result (λ fault. IsNoBundle bytes fault text.now) }
 {

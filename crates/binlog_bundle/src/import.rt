@@ -1,7 +1,7 @@
 //! A bundle whose journals are the texts of logs, as a bundle.
-ghost use Rattle.std.specs.Prelude.{IfOk, IfErr};
+ghost use Rattle.std.specs.Prelude.{◌≢◌, [], IfOk, IfErr};
 ghost use Rattle.txn_journal.specs.BundleReaders.{bundle_reading};
-ghost use Rattle.binlog_bundle.specs.Bundles.{HasTables, ImportsBundle};
+ghost use Rattle.binlog_bundle.specs.Bundles.{HasTables, BeginsLast, ImportsBundle};
 ghost use Rattle.binlog_bundle.specs.Lines.{HasNoOwn, IsCut};
 ghost use Rattle.binlog_bundle.specs.Refused.{IsNoBundle};
 ghost use Rattle.binlog_bundle.specs.Channels.{HasCome};
@@ -23,7 +23,7 @@ fn end(
     text: &[u8],
     left: &[u8],
 ) -> Result<Bundle, BundleFault>
-    requires alone { HasNoOwn head.now }
+    requires last { BeginsLast left.now }
     requires come { HasCome bytes head.now text.now left.now (bundle_reading reader) }
     ensures found { IfOk result (λ b. ImportsBundle bytes text.now b) }
     ensures refused { IfErr result (λ fault. IsNoBundle bytes fault text.now) }
@@ -51,6 +51,7 @@ fn import_channels(
 ) -> Result<Bundle, BundleFault>
     requires tables { HasTables head.now schema.now }
     requires cut { IsCut text.now head.now rest.now }
+    requires more { rest.now ≢ [] }
     ensures found { IfOk result (λ b. ImportsBundle bytes text.now b) }
     ensures refused { IfErr result (λ fault. IsNoBundle bytes fault text.now) }
 {

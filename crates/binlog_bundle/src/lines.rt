@@ -1,7 +1,8 @@
 //! Lines of a bundle among those of logs.
 ghost use Rattle.std.specs.Prelude.{◌≡◌, ◌++◌, ℕ, List, length};
 ghost use Rattle.txn_journal.specs.Stream.{next_number};
-ghost use Rattle.binlog_bundle.specs.Lines.{is_channel, is_own, lines_in, IsCut};
+ghost use Rattle.txn_journal.specs.Words.{BeginsWithLine};
+ghost use Rattle.binlog_bundle.specs.Lines.{with_line_feed, is_channel, is_own, lines_in, IsCut};
 
 use binlog_entries::cut_line;
 
@@ -42,7 +43,8 @@ pub fn cut_own(text: &[u8]) -> (&[u8], &[u8])
 
 /// The first line of a text, with its line feed where it has one, and what is behind it.
 pub fn split_line(text: &[u8]) -> (&[u8], &[u8])
-    ensures { text.now ≡ result.0.now ++ result.1.now }
+    ensures parts { text.now ≡ result.0.now ++ result.1.now }
+    ensures first { (line after : List ℕ) → BeginsWithLine text.now line after → (result.0.now ≡ with_line_feed line) × (result.1.now ≡ after) }
 {
     match cut_line(text) {
         Some((_, after)) => split_before(text, after.len()),

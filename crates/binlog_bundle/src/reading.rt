@@ -3,7 +3,7 @@ ghost use Rattle.std.specs.Prelude.{◌++◌, ℕ, List, IfOk, IfErr, OnOk};
 ghost use Rattle.txn_journal.specs.BundleText.{WritesBundle};
 ghost use Rattle.txn_journal.specs.BundleReaders.{bundle_reading};
 ghost use Rattle.binlog_bundle.specs.Bundles.{done_line};
-ghost use Rattle.binlog_bundle.specs.Refused.{IsFed, StopsAt};
+ghost use Rattle.binlog_bundle.specs.Refused.{IsFed, StopsAt, IsRefused};
 
 use std::alloc::Global;
 use txn_journal::{Bundle, BundleReader, JournalFault, decode_bundle};
@@ -19,7 +19,7 @@ pub fn add(alloc: Global, reader: &mut BundleReader, piece: &[u8]) -> Result<(),
 /// Takes the last piece of the bundle's text.
 pub fn close(alloc: Global, reader: BundleReader, piece: &[u8]) -> Result<Bundle, JournalFault>
     ensures found { (before : List ℕ) → IsFed (bundle_reading reader) before → IfOk result (λ b. WritesBundle (before ++ piece.now) b) }
-    ensures refused { (before : List ℕ) → IsFed (bundle_reading reader) before → IfErr result (λ fault. StopsAt fault (before ++ piece.now)) }
+    ensures refused { (before : List ℕ) → IsFed (bundle_reading reader) before → IfErr result (λ fault. IsRefused fault (before ++ piece.now)) }
 {
     let mut reader = reader;
     match add(alloc, &mut reader, piece) {
@@ -31,7 +31,7 @@ pub fn close(alloc: Global, reader: BundleReader, piece: &[u8]) -> Result<Bundle
 /// The bundle that these lines alone begin.
 pub fn read_head(alloc: Global, head: &[u8]) -> Result<Bundle, JournalFault>
     ensures found { IfOk result (λ b. WritesBundle (head.now ++ done_line) b) }
-    ensures refused { IfErr result (λ fault. StopsAt fault (head.now ++ done_line)) }
+    ensures refused { IfErr result (λ fault. IsRefused fault (head.now ++ done_line)) }
 {
     let mut text = Vec::new(alloc);
     text.extend_from_slice(head)?;

@@ -1,7 +1,7 @@
 //! Tables that a log maps.
-ghost use Rattle.std.specs.Prelude.{◌≡◌, IfSome};
+ghost use Rattle.std.specs.Prelude.{◌≡◌, IfSome, IfNone};
 ghost use Rattle.binlog_text.specs.Reading.{line_of};
-ghost use Rattle.binlog_bundle.specs.Tables.{has_table, maps_other, HasOther};
+ghost use Rattle.binlog_bundle.specs.Tables.{has_table, maps_other, HasOther, HasNoOther};
 
 use crate::lines::line_at;
 use binlog_entries::cut_line;
@@ -29,7 +29,8 @@ fn maps_other(tables: &[Table], line: &[u8]) -> bool
 
 /// The number, from 1, of the first line of a log that maps a table which is none of these.
 pub fn other_table(tables: &[Table], log: &[u8]) -> Option<u64>
-    ensures { IfSome result (λ n. HasOther tables.now n log.now) }
+    ensures found { IfSome result (λ n. HasOther tables.now n log.now) }
+    ensures none { IfNone result (HasNoOther tables.now log.now) }
 {
     let mut left = log;
     while let Some((line, after)) = cut_line(left) {

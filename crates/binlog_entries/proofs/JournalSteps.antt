@@ -1,11 +1,12 @@
 -- Entries that follow one another in a journal.
-use Rattle.std.proofs.Common.{◌≡◌, ℕ, ◌+◌, ◌<◌, List, [], ◌∷◌, ◌++◌, length, get_or, take, drop, refl, sym, ap, ◌∙◌, suc, arith}
+use Rattle.std.proofs.Common.{◌≡◌, ℕ, ◌+◌, ◌<◌, List, [], ◌∷◌, ◌++◌, length, get_or, take, drop, refl, sym, ap, subst, ◌∙◌, suc, arith}
 use Rattle.std.proofs.lemmas.List.{take_more, take-append-drop}
 use Rattle.std.proofs.Math.Seq.{drop-cons}
 use Rattle.std.specs.FinSet as set
+use Rattle.gtid_set.specs.declared.fault.SetFault.TheVariants.{Memory, PoolFull, SourcesFull}
 use Rattle.gtid_set.specs.Sets.{Gtids}
 use Rattle.journal.specs.declared.Entry.{Entry}
-use Rattle.binlog_entries.specs.Journals.{MayNotFollow, seen_behind, IsNoJournal}
+use Rattle.binlog_entries.specs.Journals.{MayFollow, MayNotFollow, AllFollow, HasUnfit, seen_behind, IsNoJournal}
 use Rattle.binlog_entries.specs.declared.as_journal.LogFault.{LogFault}
 use Rattle.binlog_entries.specs.declared.as_journal.LogFault.TheVariants as faults
 
@@ -25,19 +26,24 @@ split_at xs i e lt is =
     ∙ ap (λ (x : Entry). take i xs ++ x ∷ drop (suc i) xs) (sym is)
     ∙ ap (λ (k : ℕ). take i xs ++ e ∷ drop k xs) next
 
-pub unfit_at : (fault : LogFault) (seen now : Gtids) (xs : List Entry) (i : ℕ) (e : Entry) → i < length xs → e ≡ get_or xs i e → now ≡ seen_behind seen (take i xs) → MayNotFollow fault now e → IsNoJournal fault seen xs
-unfit_at (faults.Set fault) seen now xs i e lt is known h = tt
-unfit_at (faults.Twice gtid) seen now xs i e lt is known h = record {
+-- one entry more follows
+pub follow_more : (seen : Gtids) (xs : List Entry) (e : Entry) → AllFollow seen xs → MayFollow (seen_behind seen xs) e → AllFollow seen (xs ++ e ∷ [])
+follow_more seen [] e all h = (h, tt)
+follow_more seen (x ∷ xs) e all h = (all.0, follow_more (set.insert seen x.gtid) xs e all.1 h)
+
+unfit_here : (fault : LogFault) (seen now : Gtids) (xs : List Entry) (i : ℕ) (e : Entry) → i < length xs → e ≡ get_or xs i e → now ≡ seen_behind seen (take i xs) → AllFollow seen (take i xs) → MayNotFollow fault now e → HasUnfit fault seen xs
+unfit_here fault seen now xs i e lt is known follow h = record {
   before = take i xs;
   entry = e;
   behind = drop (i + 1) xs;
   parts = split_at xs i e lt is;
-  refused = (h.0, ap (λ (s : Gtids). set.contains s e.gtid) (sym known) ∙ h.1);
+  follow = follow;
+  refused = subst (λ (s : Gtids). MayNotFollow fault s e) known h;
 }
-unfit_at (faults.TooLarge gtid) seen now xs i e lt is known h = record {
-  before = take i xs;
-  entry = e;
-  behind = drop (i + 1) xs;
-  parts = split_at xs i e lt is;
-  refused = h;
-}
+
+pub unfit_at : (fault : LogFault) (seen now : Gtids) (xs : List Entry) (i : ℕ) (e : Entry) → i < length xs → e ≡ get_or xs i e → now ≡ seen_behind seen (take i xs) → AllFollow seen (take i xs) → MayNotFollow fault now e → IsNoJournal fault seen xs
+unfit_at (faults.Set Memory) seen now xs i e lt is known follow h = tt
+unfit_at (faults.Set PoolFull) seen now xs i e lt is known follow h = unfit_here (faults.Set PoolFull) seen now xs i e lt is known follow h
+unfit_at (faults.Set SourcesFull) seen now xs i e lt is known follow h = unfit_here (faults.Set SourcesFull) seen now xs i e lt is known follow h
+unfit_at (faults.Twice gtid) seen now xs i e lt is known follow h = unfit_here (faults.Twice gtid) seen now xs i e lt is known follow h
+unfit_at (faults.TooLarge gtid) seen now xs i e lt is known follow h = unfit_here (faults.TooLarge gtid) seen now xs i e lt is known follow h

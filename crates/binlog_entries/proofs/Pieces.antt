@@ -1,10 +1,11 @@
 -- Reading byte by byte, line by line and piece by piece.
-use Rattle.std.proofs.Common.{◌≡◌, ℕ, eqb, not, List, [], ◌∷◌, ◌++◌, Option, None, Result, Ok, Err, refl, sym, ap, ◌∙◌, append_assoc, append-nil, inr}
+use Rattle.std.proofs.Common.{◌≡◌, ℕ, eqb, not, List, [], ◌∷◌, ◌++◌, Option, None, Result, Ok, Err, ◌<◌, length, length-append, refl, sym, ap, subst, ◌∙◌, append_assoc, append-nil, inl, inr, arith}
 use Rattle.std.specs.List.{list_all}
 use Rattle.std.proofs.lemmas.Bool.{and_parts, not-true}
+use Rattle.gtid_set.specs.declared.fault.SetFault.{SetFault}
 use Rattle.txn_journal.specs.Words.{IsOneLine}
 use Rattle.binlog_entries.specs.Machine.{Standing, judge}
-use Rattle.binlog_entries.specs.Stream.{Progress, Reading, Stopped, unless_stopped, next_number, progress_after, eat, eats, answer, IsAfter, TakesPiece}
+use Rattle.binlog_entries.specs.Stream.{Progress, Reading, Stopped, unless_stopped, next_number, progress_after, eat, eats, answer, HasPart, IsEndFault, IsJoinedFault, IsAfter, TakesPiece}
 use Rattle.binlog_entries.specs.declared.fault.ReadFault.{ReadFault}
 use Rattle.binlog_entries.specs.declared.fault.ReadFault.TheVariants as faults
 use Rattle.binlog_entries.specs.declared.fault.EntryRefusal.{EntryRefusal}
@@ -60,12 +61,88 @@ line_taken now then total left line after parts took so_far =
     ∙ sym (ap (eats now) (parts ∙ sym (append_assoc line (10 ∷ []) after)))
     ∙ so_far
 
-pub line_fails : (fault : ReadFault) (now new newer total : Progress) (left line after : List ℕ)
-    → left ≡ line ++ 10 ∷ after → TakesPiece (Err fault) new (eats now (line ++ 10 ∷ [])) → eats now left ≡ total → TakesPiece (Err fault) newer total
-line_fails (faults.Set fault) now new newer total left line after parts took so_far = tt
-line_fails (faults.Line n refusal) now new newer total left line after parts took so_far =
+-- ---- faults of lines with which nothing is wrong
+
+after_judged : (r : Result Standing EntryRefusal) (n : ℕ) → HasPart (progress_after r n) → ⊥
+after_judged (Ok s) n part = omega (part, arith)
+after_judged (Err refusal) n part = part
+
+after_feed : (p : Progress) → HasPart (eat p 10) → ⊥
+unfolding eat
+after_feed (Reading s n rest) part = after_judged (judge s rest) (next_number n) part
+after_feed (Stopped fault) part = part
+
+-- behind a line feed no part of a line is kept
+no_part : (p : Progress) (line : List ℕ) → HasPart (eats p (line ++ 10 ∷ [])) → ⊥
+no_part p line part = after_feed (eats p line) (subst HasPart (eats_append p line (10 ∷ [])) part)
+
+-- a fault of a line is one of its bytes
+pub line_fault : (fault : SetFault) (o : Option ReadFault) (s : Standing) (n : ℕ) (rest line : List ℕ)
+    → o ≡ None → IsOneLine line → IsJoinedFault s rest line fault → IsEndFault (unless_stopped o (Reading s n rest)) (line ++ 10 ∷ []) fault
+line_fault fault o s n rest line goes one (inl may) = inl (record {
+  front = [];
+  line = line;
+  rest = [];
+  parts = refl;
+  whole = one;
+  state = s;
+  number = n;
+  part = rest;
+  read = ap (λ (k : Option ReadFault). unless_stopped k (Reading s n rest)) goes;
+  may = may;
+})
+line_fault fault o s n rest line goes one (inr h) = inr (h.0, subst (λ (k : Option ReadFault). HasPart (unless_stopped k (Reading s n rest))) (sym goes) h.1)
+
+-- more bytes may follow
+line_in_front : (fault : SetFault) (now : Progress) (left line after : List ℕ) → left ≡ line ++ 10 ∷ after → IsEndFault now (line ++ 10 ∷ []) fault → IsEndFault now left fault
+line_in_front fault now left line after parts (inl k) = inl (record {
+  front = k.front;
+  line = k.line;
+  rest = k.rest ++ after;
+  parts =
+      parts
+      ∙ sym (append_assoc line (10 ∷ []) after)
+      ∙ ap (λ (xs : List ℕ). xs ++ after) k.parts
+      ∙ append_assoc k.front (k.line ++ 10 ∷ k.rest) after
+      ∙ ap (λ (xs : List ℕ). k.front ++ xs) (append_assoc k.line (10 ∷ k.rest) after);
+  whole = k.whole;
+  state = k.state;
+  number = k.number;
+  part = k.part;
+  read = k.read;
+  may = k.may;
+})
+line_in_front fault now left line after parts (inr h) = inr h
+
+-- a line that was taken may come before
+pub behind_line : (fault : SetFault) (now then : Progress) (left line after : List ℕ)
+    → left ≡ line ++ 10 ∷ after → eats now (line ++ 10 ∷ []) ≡ then → IsEndFault then after fault → IsEndFault now left fault
+behind_line fault now then left line after parts took (inl k) =
+    let ended = line ++ 10 ∷ [] in inl (record {
+      front = ended ++ k.front;
+      line = k.line;
+      rest = k.rest;
+      parts =
+          parts
+          ∙ sym (append_assoc line (10 ∷ []) after)
+          ∙ ap (λ (xs : List ℕ). ended ++ xs) k.parts
+          ∙ sym (append_assoc ended k.front (k.line ++ 10 ∷ k.rest));
+      whole = k.whole;
+      state = k.state;
+      number = k.number;
+      part = k.part;
+      read = eats_append now ended k.front ∙ ap (λ (p : Progress). eats p k.front) took ∙ k.read;
+      may = k.may;
+    })
+behind_line fault now then left line after parts took (inr h) = absurd (no_part now line (subst HasPart (sym took) h.1))
+
+pub line_fails : (fault : ReadFault) (may : SetFault → Type 0) (now new newer total : Progress) (left line after : List ℕ)
+    → left ≡ line ++ 10 ∷ after → TakesPiece (IsEndFault now (line ++ 10 ∷ [])) (Err fault) new (eats now (line ++ 10 ∷ [])) → eats now left ≡ total
+    → ((f : SetFault) → IsEndFault now left f → may f) → TakesPiece may (Err fault) newer total
+line_fails (faults.Set fault) may now new newer total left line after parts took so_far wider = wider fault (line_in_front fault now left line after parts took)
+line_fails (faults.Line n refusal) may now new newer total left line after parts took so_far wider =
     sym (line_taken now _ total left line after parts took so_far) ∙ stopped_stays (faults.Line n refusal) after
-line_fails (faults.Unfinished n) now new newer total left line after parts took so_far = absurd took
+line_fails (faults.Unfinished n) may now new newer total left line after parts took so_far wider = absurd took
 
 pub rest_kept : (o : Option ReadFault) (s : Standing) (n : ℕ) (rest new left : List ℕ) (total : Progress)
     → o ≡ None → IsOneLine left → new ≡ rest ++ left → eats (unless_stopped o (Reading s n rest)) left ≡ total → total ≡ unless_stopped o (Reading s n new)
@@ -75,6 +152,15 @@ rest_kept o s n rest new left total goes one kept so_far =
     ∙ eats_rest s n rest left one
     ∙ sym (λ i. unless_stopped (goes i) (Reading s n (kept i)))
 
-pub stopped_at : (p : Progress) (f : ReadFault) (bs : List ℕ) → answer p ≡ Err f → IsAfter p (eats p bs)
-stopped_at (Reading s n rest) f bs e = absurd cc
-stopped_at (Stopped g) f bs e = inr (sym (stopped_stays g bs))
+-- bytes are left that are no whole line
+pub part_left : (o : Option ReadFault) (s : Standing) (n : ℕ) (rest left : List ℕ) (total : Progress)
+    → o ≡ None → IsOneLine left → 0 < length left → eats (unless_stopped o (Reading s n rest)) left ≡ total → HasPart total
+part_left o s n rest left total goes one some so_far =
+    let is = sym (eats_rest s n rest left one) ∙ sym (ap (λ (k : Option ReadFault). eats (unless_stopped k (Reading s n rest)) left) goes) ∙ so_far in
+    let size = length-append rest left in
+    let more : HasPart (Reading s n (rest ++ left)) = omega (size, some, arith) in
+    subst HasPart is more
+
+pub stopped_at : (may : SetFault → Type 0) (p : Progress) (f : ReadFault) (bs : List ℕ) → answer p ≡ Err f → IsAfter may p (eats p bs)
+stopped_at may (Reading s n rest) f bs e = absurd cc
+stopped_at may (Stopped g) f bs e = inr (sym (stopped_stays g bs))

@@ -4,6 +4,7 @@ use Rattle.std.specs.Prelude.{◌&&◌, IfOk, IfErr}
 use Rattle.std.specs.List.{flat_map, AllByRecursion}
 use Rattle.std.proofs.lemmas.Bool.{eqb-true}
 use Rattle.std.proofs.lemmas.List.Folds.{list_all-append}
+use Rattle.gtid_set.specs.declared.fault.SetFault.{SetFault}
 use Rattle.txn_journal.specs.Words.{IsOneLine}
 use Rattle.binlog_text.specs.Lines.{Said, IsLine}
 use Rattle.binlog_text.specs.Reading.{line_of}
@@ -11,7 +12,7 @@ use Rattle.binlog_text.proofs.LinesFound.{line_found}
 use Rattle.binlog_entries.specs.Machine.{Standing, ◌>>=◌, judge, step, step_by, runs, is_closed}
 use Rattle.binlog_entries.specs.Machine as machine
 use Rattle.binlog_entries.specs.Meaning.{meaning_of_entries}
-use Rattle.binlog_entries.specs.Stream.{Progress, Reading, Stopped, next_number, progress_after, eat, eats, start, Seen, Told, end_of_text, closing, Ends, ended_line, Say, IsLog, judges, numbered, IsRefused, IsUnfinished, Refuses}
+use Rattle.binlog_entries.specs.Stream.{Progress, Reading, Stopped, next_number, progress_after, eat, eats, start, Seen, Told, end_of_text, closing, IsPieceFault, Ends, ended_line, Say, IsLog, judges, numbered, IsRefused, IsUnfinished, Refuses}
 use Rattle.binlog_entries.specs.declared.fault.ReadFault.{ReadFault}
 use Rattle.binlog_entries.specs.declared.fault.ReadFault.TheVariants as faults
 use Rattle.binlog_entries.specs.declared.fault.EntryRefusal.{EntryRefusal}
@@ -205,7 +206,7 @@ log_of text (Reading s n rest) x e h =
       varies = sym d.4 ∙ varied_told spoken.said s spoken.run;
     }
 
-pub read_found : (text : List ℕ) (x : Told) → Ends (Ok x) (closing (eats start text)) → IsLog text x.0 x.1 x.2
+pub read_found : (text : List ℕ) (x : Told) → Ends (IsPieceFault start text) (Ok x) (closing (eats start text)) → IsLog text x.0 x.1 x.2
 read_found text x (inl h) = absurd (let bad = h.1 in cc)
 read_found text x (inr h) = log_of text (eats start text) x refl (sym h)
 
@@ -263,8 +264,28 @@ unfinished_at text (Reading s m rest) n e h =
       number = u.1 ∙ ap next_number k.number;
     }
 
-pub read_refused : (text : List ℕ) (fault : ReadFault) → Ends (Err fault) (closing (eats start text)) → Refuses fault text
-read_refused text (faults.Set fault) h = tt
+-- the fold over the bytes knows of lines and the end alone
+set_not_ended : (text : List ℕ) (fault : SetFault) (p : Progress) → eats start text ≡ p → (let x : Result Told ReadFault = Err (faults.Set fault) in x) ≡ closing p → ⊥
+set_not_ended text fault (Reading s n rest) e h = not_owed (is_closed s.body) s n rest h
+  where
+    not_owed : (b : Bool) (s : Standing) (n : ℕ) (rest : List ℕ) → (let x : Result Told ReadFault = Err (faults.Set fault) in x) ≡ end_of_text b s n rest → ⊥
+    not_owed true s n [] h = cc
+    not_owed true s n (b ∷ bs) h = cc
+    not_owed false s n rest h = cc
+set_not_ended text fault (Stopped f) e h =
+    let k = stops_back machine.start 0 [] text f refl e in
+    let bad : faults.Set fault ≡ faults.Line (next_number (numbered 0 k.before)) k.refusal = fault_same (faults.Set fault) f h ∙ k.is in
+    cc
+  where
+    fault_same : (f g : ReadFault) → (let x : Result Told ReadFault = Err f in x) ≡ Err g → f ≡ g
+    fault_same f g e = cc
+
+pub read_refused : (text : List ℕ) (fault : ReadFault) → Ends (IsPieceFault start text) (Err fault) (closing (eats start text)) → Refuses fault text
+read_refused text (faults.Set fault) (inl h) = subst (IsPieceFault start text) (set_same h.0 fault h.1) h.2
+  where
+    set_same : (f g : SetFault) → (let x : Result Told ReadFault = Err (faults.Set g) in x) ≡ Err (faults.Set f) → f ≡ g
+    set_same f g e = cc
+read_refused text (faults.Set fault) (inr h) = absurd (set_not_ended text fault (eats start text) refl h)
 read_refused text (faults.Line n refusal) (inl h) = absurd (let bad = h.1 in cc)
 read_refused text (faults.Line n refusal) (inr h) = refused_at text (eats start text) n refusal refl (sym h)
 read_refused text (faults.Unfinished n) (inl h) = absurd (let bad = h.1 in cc)
@@ -272,10 +293,10 @@ read_refused text (faults.Unfinished n) (inr h) = unfinished_at text (eats start
 
 -- ---- of what was read
 
-pub seen_found : {X : Type 0} (view : X → Told) (text : List ℕ) (r : Result X ReadFault) → Ends (Seen view r) (closing (eats start text)) → IfOk r (λ x. IsLog text (view x).0 (view x).1 (view x).2)
+pub seen_found : {X : Type 0} (view : X → Told) (text : List ℕ) (r : Result X ReadFault) → Ends (IsPieceFault start text) (Seen view r) (closing (eats start text)) → IfOk r (λ x. IsLog text (view x).0 (view x).1 (view x).2)
 seen_found view text (Ok x) h = read_found text (view x) h
 seen_found view text (Err fault) h = tt
 
-pub seen_refused : {X : Type 0} (view : X → Told) (text : List ℕ) (r : Result X ReadFault) → Ends (Seen view r) (closing (eats start text)) → IfErr r (λ fault. Refuses fault text)
+pub seen_refused : {X : Type 0} (view : X → Told) (text : List ℕ) (r : Result X ReadFault) → Ends (IsPieceFault start text) (Seen view r) (closing (eats start text)) → IfErr r (λ fault. Refuses fault text)
 seen_refused view text (Ok x) h = tt
 seen_refused view text (Err fault) h = read_refused text fault h

@@ -15,21 +15,26 @@ use Rattle.binlog_entries.specs.declared.as_journal.LogFault.{LogFault}
 use Rattle.binlog_entries.specs.declared.import.ImportFault.{ImportFault}
 use Rattle.binlog_entries.specs.declared.import.ImportFault.TheVariants as faults
 
+-- the server compares each key of these tables by its bytes, or that is not asked
+abbrev pub AreKeysTaken : List Table → Bool → List Varied → Type 0
+AreKeysTaken tables bytes varied = bytes ≡ false → place_varied tables varied ≡ None
+
 -- What is written is the text of a journal whose entries denote what the lines of the log's text mean, after what they say was executed before. The
 -- server compares each key by its bytes, unless that is not asked.
 pub record Imports (tables : List Table) (bytes : Bool) (text written : List ℕ) : Type 0 where
   pub journal : JournalValue
   pub varied : List Varied
   pub log : IsLog text journal.previous journal.entries varied
-  pub keys : bytes ≡ false → place_varied tables varied ≡ None
+  pub keys : AreKeysTaken tables bytes varied
   pub spells : written ≡ spelling_as Two (right_stamps Two tables journal.entries) journal
 
--- the text is that of a log, of which an entry may not follow those before it
-pub record IsUnfit (fault : LogFault) (text : List ℕ) : Type 0 where
+-- the text is that of a log whose keys are taken, and its first entry that does not follow those before it has this fault
+pub record IsUnfit (tables : List Table) (bytes : Bool) (fault : LogFault) (text : List ℕ) : Type 0 where
   pub previous : Gtids
   pub entries : List Entry
   pub varied : List Varied
   pub log : IsLog text previous entries varied
+  pub keys : AreKeysTaken tables bytes varied
   pub unfit : IsNoJournal fault previous entries
 
 -- the text is that of a log, and the first key that the server compares otherwise than its bytes is one of this table
@@ -40,8 +45,8 @@ pub record HasVariedKey (tables : List Table) (place : ℕ) (text : List ℕ) : 
   pub log : IsLog text previous entries varied
   pub key : place_varied tables varied ≡ Some place
 
--- memory was refused, or a line is, or a key, or an entry
-abbrev pub IsNoImport : List Table → ImportFault → List ℕ → Type 0
-IsNoImport tables (faults.Text fault) text = Refuses fault text
-IsNoImport tables (faults.Key place) text = HasVariedKey tables place text
-IsNoImport tables (faults.Log fault) text = IsUnfit fault text
+-- A line is refused, or else a key, where keys are asked about, or else an entry. That memory was refused for the journal says nothing of it.
+abbrev pub IsNoImport : List Table → Bool → ImportFault → List ℕ → Type 0
+IsNoImport tables bytes (faults.Text fault) text = Refuses fault text
+IsNoImport tables bytes (faults.Key place) text = (bytes ≡ false) × HasVariedKey tables place text
+IsNoImport tables bytes (faults.Log fault) text = IsUnfit tables bytes fault text

@@ -1,9 +1,12 @@
 -- What lines tell, one after another: tables, rows, changes, entries.
-use Rattle.std.specs.Prelude.{◌≡◌, ℕ, ◌+◌, ◌==◌, ◌&&◌, not, is_some, Bool, true, false, List, [], ◌∷◌, ◌++◌, length, Option, Some, None, Result, Ok, Err, if◌then◌else◌}
+use Rattle.std.specs.Prelude.{◌≡◌, ◌⊎◌, ℕ, ◌+◌, ◌==◌, ◌&&◌, not, is_some, Bool, true, false, List, [], ◌∷◌, ◌++◌, length, Option, Some, None, Result, Ok, Err, if◌then◌else◌}
 use Rattle.std.specs.Str.{bytes_eq}
 use Rattle.gtid_text.specs.declared.Gtid.{Gtid}
 use Rattle.journal.specs.declared.Entry.{Entry}
 use Rattle.std.specs.FinSet as set
+use Rattle.gtid_set.specs.declared.fault.SetFault.{SetFault}
+use Rattle.gtid_set.specs.declared.fault.SetFault.TheVariants.{Memory}
+use Rattle.gtid_set.specs.Full.{HasManySources, HasManyIntervals, IsMemoryOr}
 use Rattle.gtid_set.specs.Sets.{Gtids}
 use Rattle.journal_words.specs.Gtids.{gtid_of_word, set_of_word}
 use Rattle.row_images.specs.declared.value.Value.{Value}
@@ -46,17 +49,25 @@ abbrev pub or_refused : {A : Type 0} → EntryRefusal → Option A → Result A 
 or_refused refusal None = Err refusal
 or_refused refusal (Some x) = Ok x
 
--- What a call did is what judging gives, unless memory ran out or a set is full.
-abbrev pub Takes : {S : Type 0} → Result (Unit {0}) EntryFault → Result S EntryRefusal → S → Type 0
-Takes (Ok _) judged new = judged ≡ Ok new
-Takes (Err (faults.Refused refusal)) judged new = judged ≡ Err refusal
-Takes (Err (faults.Set fault)) judged new = Unit {0}
+-- What a call did is what judging gives, or there was a fault that may be, though nothing is wrong.
+abbrev pub TakesOr : {S : Type 0} → (SetFault → Type 0) → Result (Unit {0}) EntryFault → Result S EntryRefusal → S → Type 0
+TakesOr may (Ok _) judged new = judged ≡ Ok new
+TakesOr may (Err (faults.Refused refusal)) judged new = judged ≡ Err refusal
+TakesOr may (Err (faults.Set fault)) judged new = may fault
 
--- What a call found is what reading gives, unless memory ran out or a set is full.
+-- the same of a call that asks for nothing
+abbrev pub Takes : {S : Type 0} → Result (Unit {0}) EntryFault → Result S EntryRefusal → S → Type 0
+Takes result judged new = TakesOr (λ fault. ⊥) result judged new
+
+-- the same of one that asks for memory alone
+abbrev pub TakesOrMemory : {S : Type 0} → Result (Unit {0}) EntryFault → Result S EntryRefusal → S → Type 0
+TakesOrMemory result judged new = TakesOr (λ fault. fault ≡ Memory) result judged new
+
+-- What a call found is what reading gives, unless memory ran out.
 abbrev pub Finds : {X Y : Type 0} → (X → Y) → Result X EntryFault → Result Y EntryRefusal → Type 0
 Finds view (Ok x) read = read ≡ Ok (view x)
 Finds view (Err (faults.Refused refusal)) read = read ≡ Err refusal
-Finds view (Err (faults.Set fault)) read = Unit {0}
+Finds view (Err (faults.Set fault)) read = fault ≡ Memory
 
 -- how far the lines have come
 pub record Standing : Type 0 where
@@ -323,6 +334,49 @@ step_by s text (Some l) = step s l
 -- a line that says nothing is refused: a statement's text is no line of ours
 unfoldable pub judge : Standing → List ℕ → Result Standing EntryRefusal
 judge s text = step_by s text (line_of text)
+
+-- ---- faults of lines with which nothing is wrong
+
+-- it is so of the set that a word names, or of that set with what was executed before
+abbrev pub OfNamed : (Gtids → Type 0) → Gtids → Option Gtids → Type 0
+OfNamed Has before None = ⊥
+OfNamed Has before (Some gtids) = Has gtids ⊎ Has (set.union before gtids)
+
+-- memory was refused, or the set that a word names, or that set with what was executed before, has too many sources or intervals
+abbrev pub IsSourcesFault : Standing → List ℕ → SetFault → Type 0
+IsSourcesFault s word fault =
+    (s.is_fresh ≡ true) × IsMemoryOr (OfNamed HasManySources s.previous (set_of_word word)) (OfNamed HasManyIntervals s.previous (set_of_word word)) fault
+
+-- the end of an event keeps its row and its table, and that of a transaction its changes; other marks ask for nothing
+abbrev pub IsMarkFault : Mark → SetFault → Type 0
+IsMarkFault marks.Place fault = fault ≡ Memory
+IsMarkFault marks.Automatic fault = fault ≡ Memory
+IsMarkFault marks.Commit fault = fault ≡ Memory
+IsMarkFault marks.Committed fault = fault ≡ Memory
+IsMarkFault _ fault = ⊥
+
+abbrev pub IsContentFault : Standing → Said → SetFault → Type 0
+IsContentFault s (OfMark mark) fault = IsMarkFault mark fault
+IsContentFault s (OfHead event) fault = ⊥
+IsContentFault s (OfTable database table) fault = fault ≡ Memory
+IsContentFault s (OfColumn c) fault = fault ≡ Memory
+IsContentFault s (OfGtid gtid) fault = fault ≡ Memory
+IsContentFault s (OfSources sources more) fault = IsSourcesFault s sources fault
+IsContentFault s (OfRow operation database table) fault = fault ≡ Memory
+IsContentFault s (OfValue n text) fault = fault ≡ Memory
+
+-- it may stand there, and what it tells has this fault
+abbrev pub IsStepFault : Standing → Said → SetFault → Type 0
+IsStepFault s l fault = (takes s.body (kind_of l) ≡ true) × IsContentFault s l fault
+
+abbrev pub IsFaultBy : Standing → Option Said → SetFault → Type 0
+IsFaultBy s None fault = ⊥
+IsFaultBy s (Some l) fault = IsStepFault s l fault
+
+-- Why a line is not taken, though nothing is wrong with it: memory was refused for what it tells, or a set that it names is full. A line that says
+-- nothing, or may not stand there, has no such fault.
+abbrev pub IsLineFault : Standing → List ℕ → SetFault → Type 0
+IsLineFault s text fault = IsFaultBy s (line_of text) fault
 
 -- before the first line
 abbrev pub start : Standing

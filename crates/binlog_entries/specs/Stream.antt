@@ -1,13 +1,14 @@
 -- The text of a log that comes byte by byte.
-use Rattle.std.specs.Prelude.{◌≡◌, ◌⊎◌, ℕ, ◌+◌, ◌-◌, ◌^◌, min, Bool, true, false, ◌==◌, List, [], ◌∷◌, ◌++◌, Option, Some, None, Result, Ok, Err, if◌then◌else◌}
+use Rattle.std.specs.Prelude.{◌≡◌, ◌⊎◌, ℕ, ◌+◌, ◌-◌, ◌^◌, ◌<◌, min, Bool, true, false, ◌==◌, List, [], ◌∷◌, ◌++◌, length, Option, Some, None, Result, Ok, Err, if◌then◌else◌}
 use Rattle.std.specs.List.{flat_map, AllByRecursion}
 use Rattle.std.specs.FinSet as set
 use Rattle.gtid_set.specs.declared.fault.SetFault.{SetFault}
+use Rattle.gtid_set.specs.declared.fault.SetFault.TheVariants.{Memory}
 use Rattle.gtid_set.specs.Sets.{Gtids}
 use Rattle.journal.specs.declared.Entry.{Entry}
 use Rattle.txn_journal.specs.Words.{IsOneLine}
 use Rattle.binlog_text.specs.Lines.{Said, IsLine}
-use Rattle.binlog_entries.specs.Machine.{Standing, ◌>>=◌, judge, is_closed}
+use Rattle.binlog_entries.specs.Machine.{Standing, ◌>>=◌, judge, is_closed, IsLineFault}
 use Rattle.binlog_entries.specs.Machine as machine
 use Rattle.binlog_entries.specs.Meaning.{meaning, nowhere, meaning_of_entries, executed_before, varied_in}
 use Rattle.binlog_entries.specs.declared.varied.Varied.{Varied}
@@ -49,16 +50,47 @@ abbrev pub answer : Progress → Result (Unit {0}) ReadFault
 answer (Reading s n rest) = Ok tt
 answer (Stopped fault) = Err fault
 
--- it is this, or memory ran out or a set is full
-abbrev pub IsAfter : Progress → Progress → Type 0
-IsAfter new after = ((fault : SetFault) × (new ≡ Stopped (faults.Set fault))) ⊎ (new ≡ after)
+-- less than a line is kept
+abbrev pub HasPart : Progress → Type 0
+HasPart (Reading s n rest) = 0 < length rest
+HasPart (Stopped fault) = ⊥
 
--- What a call did with bytes is what eating them gives, unless memory ran out or a set is full.
-abbrev pub TakesPiece : Result (Unit {0}) ReadFault → Progress → Progress → Type 0
-TakesPiece (Ok _) new after = after ≡ new
-TakesPiece (Err (faults.Set fault)) new after = Unit {0}
-TakesPiece (Err (faults.Line n refusal)) new after = after ≡ Stopped (faults.Line n refusal)
-TakesPiece (Err (faults.Unfinished n)) new after = ⊥
+-- After some of the bytes comes the end of a line, which has this fault though nothing is wrong with it.
+pub record HasLineFault (p : Progress) (bytes : List ℕ) (fault : SetFault) : Type 0 where
+  pub front : List ℕ
+  pub line : List ℕ
+  pub rest : List ℕ
+  pub parts : bytes ≡ front ++ (line ++ 10 ∷ rest)
+  pub whole : IsOneLine line
+  pub state : Standing
+  pub number : ℕ
+  pub part : List ℕ
+  pub read : eats p front ≡ Reading state number part
+  pub may : IsLineFault state (part ++ line) fault
+
+-- Why bytes that end a line are not taken, though nothing is wrong with them: one of their lines has a fault, or memory was refused to join a line
+-- that has come in parts.
+abbrev pub IsEndFault : Progress → List ℕ → SetFault → Type 0
+IsEndFault p bytes fault = HasLineFault p bytes fault ⊎ ((fault ≡ Memory) × HasPart p)
+
+-- the same of any bytes: memory may also be refused to keep the line that has not come whole behind them
+abbrev pub IsPieceFault : Progress → List ℕ → SetFault → Type 0
+IsPieceFault p bytes fault = IsEndFault p bytes fault ⊎ ((fault ≡ Memory) × HasPart (eats p bytes))
+
+-- the same of a line, by its two parts
+abbrev pub IsJoinedFault : Standing → List ℕ → List ℕ → SetFault → Type 0
+IsJoinedFault s part line fault = IsLineFault s (part ++ line) fault ⊎ ((fault ≡ Memory) × (0 < length part))
+
+-- it is this, or it has stopped at a fault that may be
+abbrev pub IsAfter : (SetFault → Type 0) → Progress → Progress → Type 0
+IsAfter may new after = ((fault : SetFault) × (new ≡ Stopped (faults.Set fault)) × may fault) ⊎ (new ≡ after)
+
+-- What a call did with bytes is what eating them gives, or there was a fault that may be.
+abbrev pub TakesPiece : (SetFault → Type 0) → Result (Unit {0}) ReadFault → Progress → Progress → Type 0
+TakesPiece may (Ok _) new after = after ≡ new
+TakesPiece may (Err (faults.Set fault)) new after = may fault
+TakesPiece may (Err (faults.Line n refusal)) new after = after ≡ Stopped (faults.Line n refusal)
+TakesPiece may (Err (faults.Unfinished n)) new after = ⊥
 
 -- what was read, seen by view
 abbrev pub Seen : {X Y : Type 0} → (X → Y) → Result X ReadFault → Result Y ReadFault
@@ -91,9 +123,9 @@ abbrev pub closing : Progress → Result Told ReadFault
 closing (Reading s n rest) = end_of_text (is_closed s.body) s n rest
 closing (Stopped fault) = Err fault
 
--- it is this, unless memory ran out or a set is full
-abbrev pub Ends : Result Told ReadFault → Result Told ReadFault → Type 0
-Ends result whole = ((fault : SetFault) × (result ≡ Err (faults.Set fault))) ⊎ (result ≡ whole)
+-- it is this, or a fault that may be
+abbrev pub Ends : (SetFault → Type 0) → Result Told ReadFault → Result Told ReadFault → Type 0
+Ends may result whole = ((fault : SetFault) × (result ≡ Err (faults.Set fault)) × may fault) ⊎ (result ≡ whole)
 
 -- ---- the whole of a text
 
@@ -152,6 +184,6 @@ pub record IsUnfinished (text : List ℕ) (n : ℕ) : Type 0 where
   pub number : n ≡ next_number (numbered 0 before)
 
 abbrev pub Refuses : ReadFault → List ℕ → Type 0
-Refuses (faults.Set fault) text = Unit {0}
+Refuses (faults.Set fault) text = IsPieceFault start text fault
 Refuses (faults.Line n refusal) text = IsRefused text n refusal
 Refuses (faults.Unfinished n) text = IsUnfinished text n

@@ -4,7 +4,7 @@ ghost use Rattle.std.specs.FinSet as set;
 ghost use Rattle.gtid_set.specs.declared.fault.SetFault.TheVariants.{Memory};
 ghost use Rattle.journal.specs.Writing.{is_writable};
 ghost use Rattle.txn_journal.specs.Kept.{IsSeen};
-ghost use Rattle.binlog_entries.specs.Journals.{IsNoJournal, MayNotFollow};
+ghost use Rattle.binlog_entries.specs.Journals.{IsNoJournal, MayFollow, MayNotFollow};
 ghost use Rattle.binlog_entries.specs.declared.as_journal.LogFault.TheVariants as log_faults;
 
 use crate::draft::Log;
@@ -49,6 +49,7 @@ fn follow(journal: &mut Journal, seen: &mut GtidSet, entry: &Entry) -> Result<()
     requires { IsSeen journal.old seen.old }
     ensures journal { OnOk result (journal.new ≡ record journal.old { entries = journal.old.entries ++ entry.now ∷ [] }) }
     ensures seen { OnOk result (seen.new ≡ set.insert seen.old entry.now.gtid) }
+    ensures follows { OnOk result (MayFollow seen.old entry.now) }
     ensures refused { IfErr result (λ fault. MayNotFollow fault seen.old entry.now) }
 {
     let gtid = entry.gtid;

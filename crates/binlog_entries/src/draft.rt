@@ -90,7 +90,7 @@ pub struct Draft {
 impl Draft {
     ghost use Rattle.std.specs.Prelude.{[], None, Ok, Err, OnOk, if◌then◌else◌};
     ghost use Rattle.binlog_text.specs.Said.{said, column_said};
-    ghost use Rattle.binlog_entries.specs.Machine.{Takes, Standing, finish_row, open_row, known_name, begin_row, row_line, where_line, set_line, next_value, value_in, value_line, place_line, map_table, table_line, add_column, note_varied, column_line, commit_line, begin_line, gtid_line, sources_line, head_line, mark_line, take_content, step, judge, start, same_stage, is_closed};
+    ghost use Rattle.binlog_entries.specs.Machine.{Takes, TakesOr, TakesOrMemory, IsSourcesFault, IsMarkFault, IsContentFault, IsStepFault, IsLineFault, Standing, finish_row, open_row, known_name, begin_row, row_line, where_line, set_line, next_value, value_in, value_line, place_line, map_table, table_line, add_column, note_varied, column_line, commit_line, begin_line, gtid_line, sources_line, head_line, mark_line, take_content, step, judge, start, same_stage, is_closed};
     ghost use Rattle.binlog_entries.specs.declared.fault.EntryRefusal.TheVariants as refusals;
     ghost use Rattle.binlog_entries.specs.Drafts.{standing};
 
@@ -125,7 +125,7 @@ impl Draft {
     /// The row that is open joins the changes, where it is whole.
     #[tactic(auto, unfolding(crate::specs::Machine::finish_row))]
     fn finish(&mut self, alloc: Global) -> Result<(), EntryFault>
-        ensures { Takes result (finish_row (standing self.old)) (standing self.new) }
+        ensures { TakesOrMemory result (finish_row (standing self.old)) (standing self.new) }
     {
         let Some(table) = self.row.take() else {
             return Ok(());
@@ -189,7 +189,7 @@ impl Draft {
 
     #[tactic(auto, unfolding(crate::specs::Machine::value_line))]
     fn value_line(&mut self, alloc: Global, n: u64, text: &[u8]) -> Result<(), EntryFault>
-        ensures { Takes result (value_line (standing self.old) n text.now) (standing self.new) }
+        ensures { TakesOrMemory result (value_line (standing self.old) n text.now) (standing self.new) }
     {
         match self.part {
             Part::Head => Err(EntryFault::Refused(EntryRefusal::Columns)),
@@ -208,7 +208,7 @@ impl Draft {
 
     #[tactic(auto, unfolding(crate::specs::Machine::place_line))]
     fn place_line(&mut self, alloc: Global) -> Result<(), EntryFault>
-        ensures { Takes result (place_line (standing self.old)) (standing self.new) }
+        ensures { TakesOrMemory result (place_line (standing self.old)) (standing self.new) }
     {
         self.finish(alloc)?;
         if let Some(table) = self.mapping.take() {
@@ -219,7 +219,7 @@ impl Draft {
 
     #[tactic(auto, unfolding(crate::specs::Machine::commit_line))]
     fn commit_line(&mut self, alloc: Global) -> Result<(), EntryFault>
-        ensures { Takes result (commit_line (standing self.old)) (standing self.new) }
+        ensures { TakesOrMemory result (commit_line (standing self.old)) (standing self.new) }
     {
         if self.stage != Stage::Begun {
             return Err(EntryFault::Refused(EntryRefusal::Transaction));
@@ -249,7 +249,7 @@ impl Draft {
 
     #[tactic(auto, unfolding(crate::specs::Machine::gtid_line))]
     fn gtid_line(&mut self, alloc: Global, word: &[u8]) -> Result<(), EntryFault>
-        ensures { Takes result (gtid_line (standing self.old) word.now) (standing self.new) }
+        ensures { TakesOrMemory result (gtid_line (standing self.old) word.now) (standing self.new) }
     {
         if self.stage != Stage::Idle {
             return Err(EntryFault::Refused(EntryRefusal::Gtid));
@@ -265,7 +265,7 @@ impl Draft {
 
     #[tactic(auto, unfolding(crate::specs::Machine::sources_line))]
     fn sources_line(&mut self, alloc: Global, word: &[u8]) -> Result<(), EntryFault>
-        ensures { Takes result (sources_line (standing self.old) word.now) (standing self.new) }
+        ensures { TakesOr (IsSourcesFault (standing self.old) word.now) result (sources_line (standing self.old) word.now) (standing self.new) }
     {
         if !self.is_fresh {
             return Ok(());
@@ -317,7 +317,7 @@ impl Draft {
         database: &[u8],
         table: &[u8],
     ) -> Result<(), EntryFault>
-        ensures { Takes result (begin_row (standing self.old) operation database.now table.now) (standing self.new) }
+        ensures { TakesOrMemory result (begin_row (standing self.old) operation database.now table.now) (standing self.new) }
     {
         if !has_rows_of(self.body, operation) {
             return Err(EntryFault::Refused(EntryRefusal::Format));
@@ -342,7 +342,7 @@ impl Draft {
         database: &[u8],
         table: &[u8],
     ) -> Result<(), EntryFault>
-        ensures { Takes result (row_line (standing self.old) operation database.now table.now) (standing self.new) }
+        ensures { TakesOrMemory result (row_line (standing self.old) operation database.now table.now) (standing self.new) }
     {
         self.finish(alloc)?;
         self.begin_row(alloc, operation, database, table)
@@ -354,7 +354,7 @@ impl Draft {
         database: &[u8],
         table: Option<Name>,
     ) -> Result<(), EntryFault>
-        ensures { Takes result (map_table (standing self.old) database.now table) (standing self.new) }
+        ensures { TakesOrMemory result (map_table (standing self.old) database.now table) (standing self.new) }
     {
         let Some(name) = table else {
             return Err(EntryFault::Refused(EntryRefusal::Table));
@@ -372,7 +372,7 @@ impl Draft {
 
     #[tactic(auto, unfolding(crate::specs::Machine::table_line))]
     fn table_line(&mut self, alloc: Global, database: &[u8], table: &[u8]) -> Result<(), EntryFault>
-        ensures { Takes result (table_line (standing self.old) database.now table.now) (standing self.new) }
+        ensures { TakesOrMemory result (table_line (standing self.old) database.now table.now) (standing self.new) }
     {
         if self.stage != Stage::Begun {
             return Err(EntryFault::Refused(EntryRefusal::Transaction));
@@ -385,7 +385,7 @@ impl Draft {
     }
 
     fn add_column(&mut self, is_first: bool, column: ColumnType) -> Result<(), EntryFault>
-        ensures { Takes result (add_column (standing self.old) (standing self.old).mapping is_first column) (standing self.new) }
+        ensures { TakesOrMemory result (add_column (standing self.old) (standing self.old).mapping is_first column) (standing self.new) }
     {
         match &mut self.mapping {
             None => Err(EntryFault::Refused(EntryRefusal::Format)),
@@ -420,7 +420,7 @@ impl Draft {
 
     #[tactic(auto, unfolding(crate::specs::Machine::column_line))]
     fn column_line(&mut self, column: &Column<'_>) -> Result<(), EntryFault>
-        ensures { Takes result (column_line (standing self.old) (column_said column.now)) (standing self.new) }
+        ensures { TakesOrMemory result (column_line (standing self.old) (column_said column.now)) (standing self.new) }
     {
         let Some(named) = type_named(column.column_type) else {
             return Err(EntryFault::Refused(EntryRefusal::Type));
@@ -441,7 +441,7 @@ impl Draft {
     }
 
     fn mark_line(&mut self, alloc: Global, mark: Mark) -> Result<(), EntryFault>
-        ensures { Takes result (mark_line (standing self.old) mark) (standing self.new) }
+        ensures { TakesOr (IsMarkFault mark) result (mark_line (standing self.old) mark) (standing self.new) }
     {
         match mark {
             Mark::Place | Mark::Automatic => self.place_line(alloc),
@@ -457,7 +457,7 @@ impl Draft {
 
     /// What a line tells.
     fn take_content(&mut self, alloc: Global, line: &Line<'_>) -> Result<(), EntryFault>
-        ensures { Takes result (take_content (standing self.old) (said line.now)) (standing self.new) }
+        ensures { TakesOr (IsContentFault (standing self.old) (said line.now)) result (take_content (standing self.old) (said line.now)) (standing self.new) }
     {
         match line {
             Line::Mark(mark) => self.mark_line(alloc, *mark),
@@ -475,7 +475,7 @@ impl Draft {
 
     #[tactic(auto, unfolding(crate::specs::Machine::step))]
     fn step(&mut self, alloc: Global, line: &Line<'_>) -> Result<(), EntryFault>
-        ensures { Takes result (step (standing self.old) (said line.now)) (standing self.new) }
+        ensures { TakesOr (IsStepFault (standing self.old) (said line.now)) result (step (standing self.old) (said line.now)) (standing self.new) }
     {
         if !self.body.takes(kind_of(line)) {
             return Err(EntryFault::Refused(EntryRefusal::Format));
@@ -488,7 +488,7 @@ impl Draft {
     /// Takes the next line, or says what is wrong with it. After an error no more lines are to come.
     #[tactic(auto, unfolding(crate::specs::Machine::judge))]
     pub fn take_line(&mut self, alloc: Global, text: &[u8]) -> Result<(), EntryFault>
-        ensures { Takes result (judge (standing self.old) text.now) (standing self.new) }
+        ensures { TakesOr (IsLineFault (standing self.old) text.now) result (judge (standing self.old) text.now) (standing self.new) }
     {
         match read_line(text) {
             Some(line) => self.step(alloc, &line),

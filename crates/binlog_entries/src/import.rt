@@ -37,7 +37,7 @@ pub fn import_journal(
     // What the lines of the log's text mean, the journal's entries denote.
     ensures found { IfOk result (λ written. Imports schema.now bytes text.now written.items) }
     // Which line is the first that is refused, which key is the first that is not compared by bytes, or which entry may not follow those before it.
-    ensures refused { IfErr result (λ fault. IsNoImport schema.now fault text.now) }
+    ensures refused { IfErr result (λ fault. IsNoImport schema.now bytes fault text.now) }
 {
     let log = match read_log(alloc, text) {
         Ok(log) => log,

@@ -1,8 +1,8 @@
 //! A log's text that comes in pieces, cut anywhere.
-ghost use Rattle.std.specs.Prelude.{◌≡◌, ◌++◌, ◌∷◌, [], None, OnOk, IfOk, IfErr, IfSome, IfNone};
+ghost use Rattle.std.specs.Prelude.{◌≡◌, ◌<◌, ◌++◌, length, ◌∷◌, [], None, OnOk, IfOk, IfErr, IfSome, IfNone};
 ghost use Rattle.txn_journal.specs.Words.{IsOneLine, BeginsWithLine};
-ghost use Rattle.binlog_entries.specs.Stream.{Seen, answer, eats, start, IsAfter, TakesPiece, Ends, end_of, closing, IsLog, Refuses};
-ghost use Rattle.binlog_entries.specs.Machine.{Takes, judge};
+ghost use Rattle.binlog_entries.specs.Stream.{Seen, answer, eats, start, IsPieceFault, IsEndFault, IsJoinedFault, IsAfter, TakesPiece, Ends, end_of, closing, IsLog, Refuses};
+ghost use Rattle.binlog_entries.specs.Machine.{TakesOr, judge};
 ghost use Rattle.binlog_entries.specs.Drafts.{standing};
 ghost use Rattle.binlog_entries.specs.Readers.{progress, log_seen};
 
@@ -38,6 +38,9 @@ pub struct Reader {
 }
 
 impl Reader {
+    ghost use Rattle.gtid_set.specs.declared.fault.SetFault.TheVariants.{Memory};
+    ghost use Rattle.binlog_entries.specs.declared.fault.ReadFault.TheVariants.{Set};
+
     /// Before the first byte.
     pub fn start(alloc: Global) -> Reader
         ensures { progress result ≡ start }
@@ -61,7 +64,7 @@ impl Reader {
 
     /// Takes the next piece. After an error every later call answers that error.
     pub fn feed(&mut self, alloc: Global, piece: &[u8]) -> Result<(), ReadFault>
-        ensures next { IsAfter (progress self.new) (eats (progress self.old) piece.now) }
+        ensures next { IsAfter (IsPieceFault (progress self.old) piece.now) (progress self.new) (eats (progress self.old) piece.now) }
         ensures answer { result ≡ answer (progress self.new) }
     {
         if let Err(fault) = self.answer() {
@@ -75,7 +78,7 @@ impl Reader {
 
     fn take_piece(&mut self, alloc: Global, piece: &[u8]) -> Result<(), ReadFault>
         requires { self.old.stopped ≡ None }
-        ensures next { TakesPiece result (progress self.new) (eats (progress self.old) piece.now) }
+        ensures next { TakesPiece (IsPieceFault (progress self.old) piece.now) result (progress self.new) (eats (progress self.old) piece.now) }
         ensures goes { self.new.stopped ≡ None }
     {
         let mut left = piece;
@@ -85,19 +88,31 @@ impl Reader {
                     Ok(()) => left = after,
                     Err(fault) => return Err(fault),
                 },
-                None => {
-                    self.rest.extend_from_slice(left)?;
-                    return Ok(());
-                }
+                None => return self.keep(left),
             }
         }
+    }
+
+    /// Keeps the bytes of a line that has not come whole.
+    fn keep(&mut self, bytes: &[u8]) -> Result<(), ReadFault>
+        ensures rest { OnOk result (self.new.rest.items ≡ self.old.rest.items ++ bytes.now) }
+        ensures memory { IfErr result (λ fault. (fault ≡ Set Memory) × (0 < length bytes.now)) }
+        ensures draft { self.new.draft ≡ self.old.draft }
+        ensures lines { self.new.lines ≡ self.old.lines }
+        ensures stopped { self.new.stopped ≡ self.old.stopped }
+    {
+        if bytes.is_empty() {
+            return Ok(());
+        }
+        self.rest.extend_from_slice(bytes)?;
+        Ok(())
     }
 
     /// Takes the line whose last bytes are these.
     fn take_line(&mut self, alloc: Global, bytes: &[u8]) -> Result<(), ReadFault>
         requires goes { self.old.stopped ≡ None }
         requires whole { IsOneLine bytes.now }
-        ensures next { TakesPiece result (progress self.new) (eats (progress self.old) (bytes.now ++ 10 ∷ [])) }
+        ensures next { TakesPiece (IsEndFault (progress self.old) (bytes.now ++ 10 ∷ [])) result (progress self.new) (eats (progress self.old) (bytes.now ++ 10 ∷ [])) }
         ensures goes { self.new.stopped ≡ None }
     {
         self.lines = self.lines.saturating_add(1);
@@ -112,12 +127,12 @@ impl Reader {
     }
 
     fn make(&mut self, alloc: Global, bytes: &[u8]) -> Result<(), EntryFault>
-        ensures made { Takes result (judge (standing self.old.draft) (self.old.rest.items ++ bytes.now)) (standing self.new.draft) }
+        ensures made { TakesOr (IsJoinedFault (standing self.old.draft) self.old.rest.items bytes.now) result (judge (standing self.old.draft) (self.old.rest.items ++ bytes.now)) (standing self.new.draft) }
         ensures rest { OnOk result (self.new.rest.items ≡ []) }
         ensures lines { self.new.lines ≡ self.old.lines }
         ensures stopped { self.new.stopped ≡ self.old.stopped }
     {
-        if self.rest.is_empty() {
+        if self.rest.as_slice().is_empty() {
             return self.draft.take_line(alloc, bytes);
         }
         self.rest.extend_from_slice(bytes)?;
@@ -151,7 +166,7 @@ impl Reader {
 }
 
 fn read(alloc: Global, text: &[u8]) -> Result<Log, ReadFault>
-    ensures { Ends (Seen log_seen result) (closing (eats start text.now)) }
+    ensures { Ends (IsPieceFault start text.now) (Seen log_seen result) (closing (eats start text.now)) }
 {
     let mut reader = Reader::start(alloc);
     match reader.feed(alloc, text) {
@@ -167,7 +182,7 @@ pub fn read_log(alloc: Global, text: &[u8]) -> Result<Log, ReadFault>
     // Which line is the first that is refused, and what is wrong with it.
     ensures refused { IfErr result (λ fault. Refuses fault text.now) }
     // The same, by the fold over the bytes.
-    ensures exact { Ends (Seen log_seen result) (closing (eats start text.now)) }
+    ensures exact { Ends (IsPieceFault start text.now) (Seen log_seen result) (closing (eats start text.now)) }
 {
     read(alloc, text)
 }

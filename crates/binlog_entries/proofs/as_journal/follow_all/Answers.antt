@@ -1,16 +1,16 @@
-use Rattle.std.proofs.Common.{◌++◌, ◌∷◌, [], sym, ap, ◌∙◌, append_assoc, take, List}
+use Rattle.std.proofs.Common.{◌++◌, ◌∷◌, [], sym, ap, subst, ◌∙◌, append_assoc, take, List}
 use Rattle.txn_journal.proofs.Seen.{seen_pushed}
 use Rattle.journal.specs.Journals.{JournalValue}
 use Rattle.journal.specs.declared.Entry.{Entry}
 use Rattle.std.specs.FinSet as set
 use Rattle.gtid_set.specs.Sets.{Gtids}
-use Rattle.binlog_entries.specs.Journals.{seen_behind}
-use Rattle.binlog_entries.proofs.JournalSteps.{took_more, seen_behind-push, unfit_at}
+use Rattle.binlog_entries.specs.Journals.{MayFollow, AllFollow, seen_behind}
+use Rattle.binlog_entries.proofs.JournalSteps.{took_more, seen_behind-push, follow_more, unfit_at}
 use Rattle.binlog_entries.proofs.as_journal.follow_all.Goals as goal
 
 pub returns-in-Err-clause-refused : goal.returns-in-Err-clause-refused
 returns-in-Err-clause-refused c =
-    unfit_at c.in-Err.fault c.args.seen.now c.loop-entry.seen c.args.entries.now c.loop-entry.entry-index c.entry-item.result c.loop-entry-test.true c.entry-item.is c.loop-entry.invariant.known c.in-Err.ensures.refused
+    unfit_at c.in-Err.fault c.args.seen.now c.loop-entry.seen c.args.entries.now c.loop-entry.entry-index c.entry-item.result c.loop-entry-test.true c.entry-item.is c.loop-entry.invariant.known c.loop-entry.invariant.follow c.in-Err.ensures.refused
 
 pub loop-entry-preserved : goal.loop-entry-preserved
 loop-entry-preserved c =
@@ -27,4 +27,8 @@ loop-entry-preserved c =
           ∙ ap (λ (s : Gtids). set.insert s c.entry-item.result.gtid) c.loop-entry.invariant.known
           ∙ sym (seen_behind-push c.args.seen.now (take c.loop-entry.entry-index c.args.entries.now) c.entry-item.result)
           ∙ ap (seen_behind c.args.seen.now) (sym took);
+      follow =
+          subst (AllFollow c.args.seen.now) (sym took)
+          (follow_more c.args.seen.now (take c.loop-entry.entry-index c.args.entries.now) c.entry-item.result c.loop-entry.invariant.follow
+          (subst (λ (s : Gtids). MayFollow s c.entry-item.result) c.loop-entry.invariant.known c.in-Ok.ensures.follows));
     }

@@ -1,4 +1,4 @@
-use Rattle.std.proofs.Common.{◌≡◌, ℕ, Bool, true, false, cond, Option, Some, None, sym, ◌∙◌, subst}
+use Rattle.std.proofs.Common.{◌≡◌, ℕ, Bool, true, false, cond, Option, Some, None, refl, sym, ◌∙◌, subst}
 use Rattle.binlog_entries.specs.Keys.{place_varied}
 use Rattle.journal.specs.Journals.{JournalValue}
 use Rattle.binlog_entries.specs.Stream.{IsLog}
@@ -21,14 +21,18 @@ key_found : (b : Bool) (r p : Option ℕ) (k : ℕ) → r ≡ cond b None p → 
 key_found true r p k e f = absurd (let bad : None ≡ Some k = sym e ∙ f in cc)
 key_found false r p k e f = sym e ∙ f
 
+key_asked : (b : Bool) (r p : Option ℕ) (k : ℕ) → r ≡ cond b None p → r ≡ Some k → b ≡ false
+key_asked true r p k e f = absurd (let bad : None ≡ Some k = sym e ∙ f in cc)
+key_asked false r p k e f = refl
+
 pub returns-in-Some-clause-refused : goal.returns-in-Some-clause-refused
-returns-in-Some-clause-refused c = record {
+returns-in-Some-clause-refused c = (key_asked c.args.bytes c.varied_key.result (place_varied c.tables.result.now c.deref.result.now) c.in-Some.table c.varied_key.ensures c.in-Some.is, record {
   previous = c.in-Ok.log.previous;
   entries = c.in-Ok.log.entries.items;
   varied = c.in-Ok.log.varied.items;
   log = c.in-Ok.ensures.found;
   key = (λ i. place_varied (sym c.tables.ensures.value i) (sym c.deref.ensures.value i)) ∙ key_found c.args.bytes c.varied_key.result (place_varied c.tables.result.now c.deref.result.now) c.in-Some.table c.varied_key.ensures c.in-Some.is;
-}
+})
 
 pub returns-clause-refused : goal.returns-clause-refused
 returns-clause-refused c = record {
@@ -36,5 +40,6 @@ returns-clause-refused c = record {
   entries = c.in-Ok.log.entries.items;
   varied = c.in-Ok.log.varied.items;
   log = c.in-Ok.ensures.found;
+  keys = λ e. (λ i. place_varied (sym c.tables.ensures.value i) (sym c.deref.ensures.value i)) ∙ key_free c.args.bytes c.varied_key.result (place_varied c.tables.result.now c.deref.result.now) c.varied_key.ensures c.in_default.is e;
   unfit = tt;
 }

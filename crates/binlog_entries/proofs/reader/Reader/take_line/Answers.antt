@@ -1,6 +1,6 @@
 use Rattle.std.proofs.Common.{◌∙◌}
 use Rattle.binlog_entries.specs.Drafts.{standing}
-use Rattle.binlog_entries.proofs.Pieces.{line_ok, line_refused}
+use Rattle.binlog_entries.proofs.Pieces.{line_ok, line_refused, line_fault}
 use Rattle.binlog_entries.proofs.reader.Reader.take_line.Goals as goal
 
 pub returns-in-Ok-clause-next : goal.returns-in-Ok-clause-next
@@ -12,3 +12,8 @@ pub returns-in-Err-Refused-clause-next : goal.returns-in-Err-Refused-clause-next
 returns-in-Err-Refused-clause-next c =
     line_refused c.args.self.now.stopped (standing c.args.self.now.draft) c.args.self.now.lines c.make.new.self.lines c.args.self.now.rest.items c.args.bytes.now c.in-Err-Refused.refusal
     c.requires.goes c.requires.whole (rw c.in-Err-Refused.field-0-is at c.in-Err-Refused.ensures.made) (c.make.ensures.lines ∙ c.saturating_add-self.ensures)
+
+pub returns-in-Err-Set-clause-next : goal.returns-in-Err-Set-clause-next
+returns-in-Err-Set-clause-next c =
+    line_fault c.in-Err-Set.fault c.args.self.now.stopped (standing c.args.self.now.draft) c.args.self.now.lines c.args.self.now.rest.items c.args.bytes.now
+    c.requires.goes c.requires.whole (rw c.in-Err-Set.field-0-is at c.in-Err-Set.ensures.made)

@@ -1,11 +1,13 @@
 use Rattle.std.proofs.Common.{◌≡◌, None, length}
-use Rattle.binlog_entries.specs.Stream.{eats}
+use Rattle.gtid_set.specs.declared.fault.SetFault.{SetFault}
+use Rattle.binlog_entries.specs.Stream.{eats, IsEndFault}
 use Rattle.binlog_entries.specs.Readers.{progress}
 use Rattle.binlog_entries.proofs.reader.Reader.take_piece.Given as goal
 
 abbrev pub invariant-lines : goal.invariant-lines
 invariant-lines l = record {
   goes : l.self.stopped ≡ None;
+  may : (f : SetFault) → IsEndFault (progress l.self) l.left f → IsEndFault (progress l.fn.self) l.fn.piece f;
   so_far : eats (progress l.self) l.left ≡ eats (progress l.fn.self) l.fn.piece;
 }
 
