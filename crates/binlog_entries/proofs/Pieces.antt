@@ -1,11 +1,13 @@
 -- Reading byte by byte, line by line and piece by piece.
 use Rattle.std.proofs.Common.{◌≡◌, ℕ, eqb, not, List, [], ◌∷◌, ◌++◌, Option, None, Result, Ok, Err, ◌<◌, length, length-append, refl, sym, ap, subst, ◌∙◌, append_assoc, append-nil, inl, inr, arith}
+use Rattle.std.specs.Prelude.{OnOk, IfErr}
 use Rattle.std.specs.List.{list_all}
 use Rattle.std.proofs.lemmas.Bool.{and_parts, not-true}
 use Rattle.gtid_set.specs.declared.fault.SetFault.{SetFault}
+use Rattle.gtid_set.specs.declared.fault.SetFault.TheVariants.{Memory}
 use Rattle.txn_journal.specs.Words.{IsOneLine}
 use Rattle.binlog_entries.specs.Machine.{Standing, judge}
-use Rattle.binlog_entries.specs.Stream.{Progress, Reading, Stopped, unless_stopped, next_number, progress_after, eat, eats, answer, HasPart, IsEndFault, IsJoinedFault, IsAfter, TakesPiece}
+use Rattle.binlog_entries.specs.Stream.{Progress, Reading, Stopped, unless_stopped, next_number, progress_after, eat, eats, answer, HasPart, IsEndFault, IsPieceFault, IsJoinedFault, IsAfter, TakesPiece, Told, Ends, closing}
 use Rattle.binlog_entries.specs.declared.fault.ReadFault.{ReadFault}
 use Rattle.binlog_entries.specs.declared.fault.ReadFault.TheVariants as faults
 use Rattle.binlog_entries.specs.declared.fault.EntryRefusal.{EntryRefusal}
@@ -160,6 +162,35 @@ part_left o s n rest left total goes one some so_far =
     let size = length-append rest left in
     let more : HasPart (Reading s n (rest ++ left)) = omega (size, some, arith) in
     subst HasPart is more
+
+-- bytes behind the last line feed are kept, or memory was refused for them
+pub piece_kept : (r : Result (Unit {0}) ReadFault) (old : Progress) (piece : List ℕ) (o q : Option ReadFault) (s t : Standing) (n m : ℕ) (rest new left : List ℕ)
+    → o ≡ None → IsOneLine left → OnOk r (new ≡ rest ++ left) → IfErr r (λ fault. (fault ≡ faults.Set Memory) × (0 < length left)) → t ≡ s → m ≡ n → q ≡ o
+    → eats (unless_stopped o (Reading s n rest)) left ≡ eats old piece → TakesPiece (IsPieceFault old piece) r (unless_stopped q (Reading t m new)) (eats old piece)
+piece_kept (Ok u) old piece o q s t n m rest new left goes one kept memory draft lines stopped so_far =
+    rest_kept o s n rest new left (eats old piece) goes one kept so_far
+    ∙ (λ i. unless_stopped (sym stopped i) (Reading (sym draft i) (sym lines i) new))
+piece_kept (Err fault) old piece o q s t n m rest new left goes one kept memory draft lines stopped so_far =
+    let P : ReadFault → Type 0 = λ f. TakesPiece (IsPieceFault old piece) (Err f) (unless_stopped q (Reading t m new)) (eats old piece) in
+    subst P (sym memory.0) (inr (refl, part_left o s n rest left (eats old piece) goes one memory.1 so_far))
+
+has_stopped : (p : Progress) (fault : ReadFault) → (let r : Result (Unit {0}) ReadFault = Err fault in r) ≡ answer p → p ≡ Stopped fault
+has_stopped (Reading s n rest) fault e = absurd cc
+has_stopped (Stopped other) fault e = let same : fault ≡ other = cc in ap Stopped (sym same)
+
+-- what the last piece is answered by
+pub fed_ends : (may : SetFault → Type 0) (p after : Progress) (fault : ReadFault) → IsAfter may p after → (let r : Result (Unit {0}) ReadFault = Err fault in r) ≡ answer p → Ends may (Err fault) (closing after)
+fed_ends may p after fault (inl x) e =
+    let is : (let r : Result (Unit {0}) ReadFault = Err fault in r) ≡ Err (faults.Set x.0) = e ∙ ap answer x.1 in
+    let same : fault ≡ faults.Set x.0 = cc in
+    inl (x.0, ap (λ (f : ReadFault). let r : Result Told ReadFault = Err f in r) same, x.2)
+fed_ends may p after fault (inr x) e = inr (sym (ap closing (sym x ∙ has_stopped p fault e)))
+
+-- a piece at which the reading stops, or doesn't
+pub piece_stops : (may : SetFault → Type 0) (fault : ReadFault) (new after : Progress) → TakesPiece may (Err fault) new after → IsAfter may (Stopped fault) after
+piece_stops may (faults.Set fault) new after h = inl (fault, refl, h)
+piece_stops may (faults.Line n refusal) new after h = inr (sym h)
+piece_stops may (faults.Unfinished n) new after h = absurd h
 
 pub stopped_at : (may : SetFault → Type 0) (p : Progress) (f : ReadFault) (bs : List ℕ) → answer p ≡ Err f → IsAfter may p (eats p bs)
 stopped_at may (Reading s n rest) f bs e = absurd cc

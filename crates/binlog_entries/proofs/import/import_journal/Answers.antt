@@ -26,13 +26,16 @@ key_asked true r p k e f = absurd (let bad : None ≡ Some k = sym e ∙ f in cc
 key_asked false r p k e f = refl
 
 pub returns-in-Some-clause-refused : goal.returns-in-Some-clause-refused
-returns-in-Some-clause-refused c = (key_asked c.args.bytes c.varied_key.result (place_varied c.tables.result.now c.deref.result.now) c.in-Some.table c.varied_key.ensures c.in-Some.is, record {
-  previous = c.in-Ok.log.previous;
-  entries = c.in-Ok.log.entries.items;
-  varied = c.in-Ok.log.varied.items;
-  log = c.in-Ok.ensures.found;
-  key = (λ i. place_varied (sym c.tables.ensures.value i) (sym c.deref.ensures.value i)) ∙ key_found c.args.bytes c.varied_key.result (place_varied c.tables.result.now c.deref.result.now) c.in-Some.table c.varied_key.ensures c.in-Some.is;
-})
+returns-in-Some-clause-refused c = (
+  key_asked c.args.bytes c.varied_key.result (place_varied c.tables.result.now c.deref.result.now) c.in-Some.table c.varied_key.ensures c.in-Some.is,
+  record {
+    previous = c.in-Ok.log.previous;
+    entries = c.in-Ok.log.entries.items;
+    varied = c.in-Ok.log.varied.items;
+    log = c.in-Ok.ensures.found;
+    key = (λ i. place_varied (sym c.tables.ensures.value i) (sym c.deref.ensures.value i)) ∙ key_found c.args.bytes c.varied_key.result (place_varied c.tables.result.now c.deref.result.now) c.in-Some.table c.varied_key.ensures c.in-Some.is;
+  },
+)
 
 pub returns-clause-refused : goal.returns-clause-refused
 returns-clause-refused c = record {
@@ -42,4 +45,14 @@ returns-clause-refused c = record {
   log = c.in-Ok.ensures.found;
   keys = λ e. (λ i. place_varied (sym c.tables.ensures.value i) (sym c.deref.ensures.value i)) ∙ key_free c.args.bytes c.varied_key.result (place_varied c.tables.result.now c.deref.result.now) c.varied_key.ensures c.in_default.is e;
   unfit = tt;
+}
+
+pub returns-in-Err-journal-clause-refused : goal.returns-in-Err-journal-clause-refused
+returns-in-Err-journal-clause-refused c = record {
+  previous = c.in-Ok.log.previous;
+  entries = c.in-Ok.log.entries.items;
+  varied = c.in-Ok.log.varied.items;
+  log = c.in-Ok.ensures.found;
+  keys = λ e. (λ i. place_varied (sym c.tables.ensures.value i) (sym c.deref.ensures.value i)) ∙ key_free c.args.bytes c.varied_key.result (place_varied c.tables.result.now c.deref.result.now) c.varied_key.ensures c.in_default.is e;
+  unfit = c.in-Err-journal.ensures.refused;
 }
