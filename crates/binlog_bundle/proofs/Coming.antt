@@ -8,9 +8,8 @@ use Rattle.txn_journal.specs.Stream.{Progress, next_number}
 use Rattle.txn_journal.specs.Words.{BeginsWithLine}
 use Rattle.txn_journal.specs.declared.fault.JournalFault.{JournalFault}
 use Rattle.txn_journal.specs.declared.fault.JournalFault.TheVariants as faults
-use Rattle.binlog_entries.specs.Imports.{Imports}
 use Rattle.binlog_entries.proofs.TransactionLaws.{flat_map_more}
-use Rattle.binlog_bundle.specs.Lines.{with_line_feed, is_channel, lines_in, HasNoOwn, BeginsOwn, Nothing, IsCut}
+use Rattle.binlog_bundle.specs.Lines.{with_line_feed, is_channel, lines_in, HasNoOwn, Nothing, IsCut}
 use Rattle.binlog_bundle.specs.Bundles.{done_line, Brought, log_text, journal_text, HasTables, IsTold, Stands, ImportsBundle, BeginsLast, Nowhere, Last}
 use Rattle.binlog_bundle.specs.Refused.{fault_at_line, channel_fault_at, IsFed, StopsAt, IsRefused, IsOfLine, end_for, IsNoHead, HasTaken, IsLast, IsNoNext, HasChannel, CantFollow, HasJournalFault, IsNoOwn, IsNoneOf, IsNoBundle}
 use Rattle.binlog_bundle.specs.Tables.{HasNoOther}
@@ -105,7 +104,7 @@ front_nil : (xs ys : List ℕ) → [] ≡ xs ++ ys → (xs ≡ []) × (ys ≡ []
 front_nil [] ys e = (refl, sym e)
 front_nil (x ∷ xs) ys e = absurd cc
 
-SplitsFirst : List ℕ → List ℕ → List ℕ → Type 0
+abbrev pub SplitsFirst : List ℕ → List ℕ → List ℕ → Type 0
 SplitsFirst left own behind = (line after : List ℕ) → BeginsWithLine left line after → (own ≡ with_line_feed line) × (behind ≡ after)
 
 is_last : (left own behind : List ℕ) → BeginsLast left → left ≡ own ++ behind → SplitsFirst left own behind → IsLast own behind

@@ -1,11 +1,11 @@
 -- Lines before a bundle's own.
-use Rattle.core.specs.Cmp.Lexicographic.{bytes_decides}
 use Rattle.std.proofs.Common.{◌≡◌, ◌||◌, ℕ, eqb, not, Bool, true, false, List, [], ◌∷◌, ◌++◌, length, codes, refl, sym, ap, ◌∙◌, subst, append_assoc, append-nil}
 use Rattle.std.specs.List.{flat_map, list_all, AllByRecursion}
 use Rattle.std.specs.Str.{bytes_eq}
 use Rattle.std.proofs.lemmas.Bool.{and_parts}
 use Rattle.rows.specs.declared.schema.Table.{Table}
 use Rattle.txn_journal.specs.Words.{IsOneLine, BeginsWithLine}
+use Rattle.binlog_text.proofs.LinesFound.{same_text}
 use Rattle.binlog_entries.proofs.TransactionLaws.{flat_map_more}
 use Rattle.binlog_bundle.specs.Lines.{with_line_feed, is_channel, is_own, IsOther, HasNoOwn, BeginsOwn, Nothing, Begins, IsCut}
 use Rattle.binlog_bundle.specs.Bundles.{done_line, BeginsLast, Nowhere, Last}
@@ -114,7 +114,7 @@ no_first text l r one begins = absurd (has_feed l r (subst IsOneLine begins.part
 
 done_is : (b : Bool) (line : List ℕ) → b ≡ false → b || bytes_eq line (codes "done") ≡ true → line ≡ codes "done"
 done_is true line e own = absurd cc
-done_is false line e own = (bytes_decides line (codes "done")).0 own
+done_is false line e own = same_text line (codes "done") own
 
 not_nil : (text line after : List ℕ) → text ≡ [] → text ≡ line ++ 10 ∷ after → ⊥
 not_nil text [] after e f = let bad : [] ≡ 10 ∷ after = sym e ∙ f in cc

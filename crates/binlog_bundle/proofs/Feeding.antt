@@ -113,6 +113,9 @@ has_stopped : (fault : JournalFault) (p : Progress BundleStanding) → (let r : 
 has_stopped fault (Reading s n rest) e = absurd cc
 has_stopped fault (Stopped other) e = let same : fault ≡ other = cc in ap (λ (f : JournalFault). Stopped f) (sym same)
 
+pub start_fed : (p : Progress BundleStanding) → p ≡ bundle_start None → IsFed p []
+start_fed p e = (e, subst GoesOn (sym e) tt)
+
 pub is_taken : (bytes : List ℕ) (p : Progress BundleStanding) → IsFed p bytes → IsTaken bytes
 is_taken bytes p fed = subst GoesOn fed.0 fed.1
 
@@ -139,7 +142,7 @@ pub closed_refused : (bytes : List ℕ) (p : Progress BundleStanding) (r : Resul
 closed_refused bytes p (Ok b) e fed = tt
 closed_refused bytes p (Err fault) e fed = closed_is fault bytes (e ∙ ap closing_bundle fed.0)
 
-exactly : (fault : JournalFault) (bytes : List ℕ) → RefusesBundle fault bytes → IsWhole (Err fault) (closing_bundle (read bytes)) → IsRefused fault bytes
+pub exactly : (fault : JournalFault) (bytes : List ℕ) → RefusesBundle fault bytes → IsWhole (Err fault) (closing_bundle (read bytes)) → IsRefused fault bytes
 exactly (faults.Set fault) bytes h w = h
 exactly (faults.Line n cause) bytes h (inl x) = absurd (let bad = x.1 in cc)
 exactly (faults.Line n cause) bytes h (inr e) = (h, sym e)

@@ -3,7 +3,7 @@ use Rattle.txn_journal.specs.BundleReaders.{bundle_reading}
 use Rattle.binlog_bundle.specs.Refused.{IsFed, IsNoBundle}
 use Rattle.binlog_bundle.specs.Channels.{Brings, CantBring}
 use Rattle.binlog_bundle.specs.declared.fault.BundleFault.{BundleFault}
-use Rattle.binlog_bundle.proofs.Cutting.{line_ends, line_split}
+use Rattle.binlog_bundle.proofs.Cutting.{begins_last, ends_last, line_ends, line_split}
 use Rattle.binlog_bundle.proofs.Coming.{come_more, channel_refused}
 use Rattle.binlog_bundle.proofs.channels.take_channels.Goals as goal
 
@@ -26,4 +26,11 @@ returns-in-Err-clause-refused c =
     let cant = subst (λ (l : List ℕ). (before : List ℕ) → IsFed (bundle_reading c.loop-line.reader) before → CantBring c.args.schema.now c.args.bytes log l before c.in-Err.fault) is.0 c.in-Err.ensures.refused in
     subst (λ (f : BundleFault). IsNoBundle c.args.bytes f c.args.text.now) (sym c.at.ensures)
     (channel_refused c.args.schema.now c.args.bytes c.args.head.now c.args.text.now c.loop-line.left.now line after log c.cut_own.result.1.now (bundle_reading c.loop-line.reader) c.in-Err.fault c.line_at.result
-    (sym c.is_channel.ensures ∙ c.if-not-is_channel.false) c.requires.tables c.loop-line.invariant (c.in-Some.ensures.found.parts ∙ line_ends line after) c.cut_own.ensures cant c.line_at.ensures)
+    (sym c.is_channel.ensures ∙ c.if-not-is_channel.false) c.requires.tables c.loop-line.invariant c.in-Some.ensures.found c.cut_own.ensures cant c.line_at.ensures)
+
+pub returns-then-not-is_channel-clause-last : goal.returns-then-not-is_channel-clause-last
+returns-then-not-is_channel-clause-last c =
+    begins_last c.loop-line.left.now c.in-Some.line.now c.in-Some.after.now c.loop-line.invariant.begins c.in-Some.ensures.found (sym c.is_channel.ensures ∙ c.if-not-is_channel.true)
+
+pub returns-clause-last : goal.returns-clause-last
+returns-clause-last c = ends_last c.loop-line.left.now c.loop-line.invariant.begins c.in_default.ensures.none

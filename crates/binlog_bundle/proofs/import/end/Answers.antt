@@ -2,22 +2,22 @@ use Rattle.std.proofs.Common.{sym, subst}
 use Rattle.txn_journal.specs.BundleReaders.{bundle_reading}
 use Rattle.txn_journal.specs.declared.fault.JournalFault.{JournalFault}
 use Rattle.binlog_bundle.specs.Refused.{IsNoOwn}
-use Rattle.binlog_bundle.proofs.Coming.{next_refused, behind_refused, end_found}
+use Rattle.binlog_bundle.proofs.Coming.{last_refused, end_refused, end_found}
 use Rattle.binlog_bundle.proofs.import.end.Goals as goal
 
 pub returns-in-Err-clause-refused : goal.returns-in-Err-clause-refused
 returns-in-Err-clause-refused c =
     subst (λ (f : JournalFault). IsNoOwn c.args.bytes f c.args.text.now) (sym c.fault_at_line.ensures)
-    (next_refused c.args.bytes c.args.head.now c.args.text.now c.args.left.now c.split_line.result.0.now c.split_line.result.1.now (bundle_reading c.args.reader) c.in-Err.fault c.line_at.result
-    c.requires.come c.split_line.ensures c.in-Err.ensures.refused c.line_at.ensures)
+    (last_refused c.args.bytes c.args.head.now c.args.text.now c.args.left.now c.split_line.result.0.now c.split_line.result.1.now (bundle_reading c.args.reader) c.in-Err.fault c.line_at.result
+    c.requires.last c.requires.come c.split_line.ensures.parts c.split_line.ensures.first c.in-Err.ensures.refused c.line_at.ensures)
 
 pub returns-in-Ok-close-clause-found : goal.returns-in-Ok-close-clause-found
 returns-in-Ok-close-clause-found c =
     end_found c.args.bytes c.args.head.now c.args.text.now c.args.left.now c.split_line.result.0.now c.split_line.result.1.now (bundle_reading c.args.reader) (bundle_reading c.add.new.reader) c.in-Ok-close.bundle
-    c.requires.alone c.requires.come c.split_line.ensures c.in-Ok.ensures.fed c.in-Ok-close.ensures.found
+    c.requires.last c.requires.come c.split_line.ensures.parts c.in-Ok.ensures.fed c.in-Ok-close.ensures.found
 
 pub returns-in-Err-close-clause-refused : goal.returns-in-Err-close-clause-refused
 returns-in-Err-close-clause-refused c =
     subst (λ (f : JournalFault). IsNoOwn c.args.bytes f c.args.text.now) (sym c.fault_at_line-in-Err-close.ensures)
-    (behind_refused c.args.bytes c.args.head.now c.args.text.now c.args.left.now c.split_line.result.0.now c.split_line.result.1.now (bundle_reading c.args.reader) (bundle_reading c.add.new.reader) c.in-Err-close.fault c.line_at-in-Err-close.result
-    c.requires.come c.split_line.ensures c.in-Ok.ensures.fed c.in-Err-close.ensures.refused c.line_at-in-Err-close.ensures)
+    (end_refused c.args.bytes c.args.head.now c.args.text.now c.args.left.now c.split_line.result.0.now c.split_line.result.1.now (bundle_reading c.args.reader) (bundle_reading c.add.new.reader) c.in-Err-close.fault c.line_at-in-Err-close.result
+    c.requires.last c.requires.come c.split_line.ensures.parts c.split_line.ensures.first c.in-Ok.ensures.fed c.in-Err-close.ensures.refused c.line_at-in-Err-close.ensures)
