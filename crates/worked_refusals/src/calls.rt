@@ -23,7 +23,7 @@ pub(crate) enum Call {
     Commit,
     /// The seat commits what it took by a patch that is prepared without the lock.
     CommitPrepared,
-    /// The seat gives up what it took.
+    /// The seat rolls back what it took.
     Rollback,
     /// The channel goes on.
     Restart,
