@@ -29,7 +29,7 @@ abbrev pub SpellsJournal : List ℕ → Result JournalValue JournalFault → Typ
 SpellsJournal bytes (Ok j) = Writes bytes j
 SpellsJournal bytes (Err fault) = Refuses fault bytes
 
--- ---- what is answered
+-- ---- answers
 
 -- the source's own UUID and the set that is asked with
 abbrev pub Asking : Type 0

@@ -49,7 +49,7 @@ set_word text = named_set (set_in text)
 unfoldable pub source_word : List ℕ → Result SourceId Fault
 source_word text = named_source (answer (length text) (source_in text))
 
--- ---- what is answered
+-- ---- answers
 
 -- a set, where it has not too many intervals
 abbrev pub small : Gtids → Result Gtids Fault

@@ -29,7 +29,7 @@ pub enum Event {
     Commit(u8),
     /// A seat rolls back what it took.
     Rollback(u8),
-    /// A stopped channel goes on.
+    /// A stopped channel runs again.
     Restart(usize),
     /// A transaction of the server's own.
     Local(Transaction),

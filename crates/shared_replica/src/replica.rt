@@ -283,7 +283,7 @@ impl<N: Naming> SharedReplica<N> {
         self.make(rt, alloc, Event::Rollback(pass.seat()), None, pass)
     }
 
-    /// A stopped channel goes on.
+    /// A stopped channel runs again.
     pub fn restart<R: Wait>(
         &self,
         rt: &R,

@@ -25,7 +25,7 @@ pub(crate) enum Call {
     CommitPrepared,
     /// The seat rolls back what it took.
     Rollback,
-    /// The channel goes on.
+    /// The channel runs again.
     Restart,
     /// A transaction of the server's own, which changes nothing.
     Own,
