@@ -18,7 +18,7 @@ pub(crate) trait Request {
     /// What is read.
     type Value: Text;
 
-    /// What is known of the request itself.
+    /// What is required of the request.
     ghost ready: { Self → Type 0 } = { λ _. Unit {0} };
 
     /// What is printed for a value, and how the command ends.
