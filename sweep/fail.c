@@ -1,7 +1,7 @@
-// Fails one call of a program: the one whose number FAIL names, of read, write or pthread_create as FAIL_CALL says. FAIL_HOW is `error` (it
+// Fails one call of a program: the one whose number FAIL names, of read, write or pthread_create, by FAIL_CALL. FAIL_HOW is `error` (it
 // fails with EIO, and with EAGAIN where it is to make a thread), `interrupted` (it fails with EINTR), `always` (it and each later call fail),
 // `none` (a write takes 0 bytes) or `short` (it and each later call move one byte, and nothing fails). Before an error or an interruption the
-// calls move one byte each. It tells that the call came by making the file FAIL_MARK, and puts one byte into it for each later call of that kind.
+// calls move one byte each. It reports that the call came by making the file FAIL_MARK, and puts one byte into it for each later call of that kind.
 // Preloaded by sweep/failed_calls; standard input, standard output and threads alone count.
 #define _GNU_SOURCE
 #include <dlfcn.h>
@@ -52,7 +52,7 @@ static enum how how(enum kind kind) {
     return is_interrupted ? INTERRUPTED : !strcmp(way, "none") ? NONE : ERROR;
 }
 
-// Whether a call fails; errno says why.
+// Whether a call fails; errno is the reason.
 static int fails(enum how it, int error) {
     if (it == ERROR || it == INTERRUPTED)
         errno = it == ERROR ? error : EINTR;

@@ -1,5 +1,5 @@
 // Refuses one request for memory of a program: the one whose number REFUSE names, among all that it makes and that the C library makes for it
-// (as for a thread). It tells so by making the file REFUSE_MARK. Preloaded by sweep/refused_memory; frees are never refused.
+// (as for a thread). It reports that by making the file REFUSE_MARK. Preloaded by sweep/refused_memory; frees are never refused.
 #define _GNU_SOURCE
 #include <dlfcn.h>
 #include <errno.h>

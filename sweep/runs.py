@@ -30,7 +30,7 @@ def library(folder, name):
 
 
 def run(words, given, more=None, mark=""):
-    """Status, output, and what the library tells: none where the call that was to fail never came, else how many calls of its kind came later."""
+    """Status, output, and what the library reports: none where the call that was to fail never came, else how many calls of its kind came later."""
     with open(os.path.join(TOP, given) if given else os.devnull, "rb") as it:
         how = {"stdin": it, "stdout": subprocess.PIPE, "stderr": subprocess.DEVNULL, "timeout": 60, "check": False}
         ran = subprocess.run(words, env={**os.environ, **(more or {})}, **how)

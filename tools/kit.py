@@ -33,7 +33,7 @@ bodies = loaded("rt_plant_bodies", os.path.join(BIN, "rt-plant-bodies"))
 
 
 def crates():
-    """The repository's crates by name, each behind those that it stands on."""
+    """The repository's crates by name, each after those that it depends on."""
     os.chdir(TOP)
     # (its first call sets a signal's handler, which only the main thread may)
     rtlib.guarded()

@@ -88,7 +88,7 @@ fn needs(bundle: &Bundle, world: &World) -> Result<Vec<Vec<u32>>, Verdict> {
     Ok(needs)
 }
 
-/// The least GTID that comes before this one in its source, shares a key with it, and does not stand.
+/// The least GTID that comes before this one in its source, shares a key with it, and is absent.
 fn left_out(bundle: &Bundle, world: &World, entry: &Entry, stands: &[bool]) -> Option<Gtid> {
     let keys: Vec<(u32, usize, Key)> = keys_touched(bundle, entry).collect();
     let own = |g: &Gtid| g.source == entry.gtid.source && g.number < entry.gtid.number;
@@ -113,7 +113,7 @@ fn not_closed(bundle: &Bundle, world: &World, needs: &[Vec<u32>]) -> Option<Verd
     None
 }
 
-/// The world, where no verdict on keys stands against it.
+/// The world, where the audit of keys finds nothing.
 pub fn audit_keys(bundle: &Bundle) -> Result<World<'_>, Verdict> {
     let world = world(bundle)?;
     if let Some(verdict) = purged(bundle).or_else(|| missing(&world)) {

@@ -116,7 +116,7 @@ fn is_row_of(table: &Table, row: &Row) -> bool {
     row.len() == table.columns as usize && table.keys[0].iter().all(|c| row[*c as usize] != Value::Null)
 }
 
-/// The words of column numbers, where they are such and no number stands twice.
+/// The words of column numbers, where they are such and no number is there twice.
 fn column_words(text: &[u8]) -> Result<Vec<&[u8]>, Cause> {
     let words: Vec<&[u8]> = text.split(|b| *b == b',').collect();
     let distinct: HashSet<&&[u8]> = words.iter().collect();

@@ -18,7 +18,7 @@ pub const GREATEST: u64 = 9_223_372_036_854_775_807;
 pub const MOST_BYTES: usize = 65_535;
 pub const MOST_SOURCES: usize = 65_536;
 
-/// What stands before the first blank, and what follows it.
+/// What comes before the first blank, and what follows it.
 pub fn cut(text: &[u8]) -> (&[u8], Option<&[u8]>) {
     match text.iter().position(|b| *b == b' ') {
         Some(at) => (&text[..at], Some(&text[at + 1..])),

@@ -1,4 +1,4 @@
-"""Reference programs, written by another hand from docs/ alone (FORMATS.md, SCRIPTS.md) and compared with the proved programs.
+"""Reference programs, written independently from docs/ alone (FORMATS.md, SCRIPTS.md) and compared with the proved programs.
 
 Nothing here was taken from the crates or from what the programs print. `tools/compare` makes random inputs, gives them to a program
 and to its reference, and shows the first input that they answer differently. The executables `gtidrep` and `replica_script` beside

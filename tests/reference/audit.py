@@ -1,4 +1,4 @@
-"""What `audit`, `apply`, `position` and `upgrade` answer. Written by another hand from docs/FORMATS.md and compared with
+"""What `audit`, `apply`, `position` and `upgrade` answer. Written independently, from docs/FORMATS.md and compared with
 the proved programs."""
 from __future__ import annotations
 
@@ -16,14 +16,14 @@ Answer = tuple[str, int]
 
 
 class Seen:
-    """What stands in a journal so far, and up to which GTID all of a source does."""
+    """What a journal has so far, and up to which GTID it has all of a source."""
 
     def __init__(self, gtids: list[Gtid]) -> None:
         self.gtids, self.seen = gtids, set[Gtid]()
         self.places: dict[str, int] = {}
 
     def add(self, gtid: Gtid) -> None:
-        """One more stands there."""
+        """The journal has one more."""
         self.seen.add(gtid)
         place = self.first_lacking(gtid.source)
         while place < len(self.gtids) and self.gtids[place] in self.seen:
@@ -31,11 +31,11 @@ class Seen:
         self.places[gtid.source] = place
 
     def first_lacking(self, source: str) -> int:
-        """The place, among all GTIDs, up to which all of this source stand there."""
+        """The place, among all GTIDs, up to which the journal has all of this source."""
         return self.places.get(source, bisect_left(self.gtids, (source, 0)))
 
     def lacking(self, touchers: list[Gtid], gtid: Gtid) -> list[Gtid]:
-        """Which of these, ascending and all of one source, are smaller and don't stand there."""
+        """Which of these, ascending and all of one source, are smaller and not in the journal."""
         begin = self.first_lacking(gtid.source)
         first = bisect_left(touchers, self.gtids[begin]) if begin < len(self.gtids) else len(touchers)
         return [it for it in touchers[first : bisect_left(touchers, gtid)] if it not in self.seen]
@@ -99,7 +99,7 @@ class Audit:
         return None
 
     def not_closed(self) -> str | None:
-        """The first entry that stands in a journal without a smaller number of its source with a common key, and the least of those."""
+        """The first entry that is in a journal without a smaller number of its source with a common key, and the least of those."""
         journal, seen = -1, Seen(self.gtids)
         for number, entry in self.entries():
             if number != journal:
@@ -151,7 +151,7 @@ class Audit:
         return touchers[place - 1] if place else None
 
     def gaps(self) -> Iterator[tuple[Gtid, Gtid]]:
-        """Each GTID that stands somewhere without its nearest earlier one at a key, and the first such, by the order of its keys."""
+        """Each GTID that is in some journal without its nearest earlier one at a key, and the first such, by the order of its keys."""
         told = set[Gtid]()
         for channel in self.bundle.channels:
             there = set[Gtid]()
@@ -176,7 +176,7 @@ class Audit:
                     break
 
     def all_faults(self) -> list[str]:
-        """The verdict, and behind it each other fault."""
+        """The verdict, and after it each other fault."""
         verdict = self.verdict()
         kind, *names = verdict.split(" ")
         differing = [entry.gtid for _, entry in self.entries() if entry.changes != self.contents[entry.gtid]]

@@ -1,4 +1,4 @@
-"""What the program gtidrep prints for its words and its input, but for what clap says of a bad command line. Written by another hand from
+"""What the program gtidrep prints for its words and its input, but for clap's messages on a bad command line. Written independently, from
 docs/ and compared with the proved program."""
 from __future__ import annotations
 

@@ -1,4 +1,4 @@
-"""The readers and writers of journals and bundles. Written by another hand from docs/FORMATS.md and compared with the proved
+"""The readers and writers of journals and bundles. Written independently, from docs/FORMATS.md and compared with the proved
 programs."""
 from __future__ import annotations
 
@@ -46,7 +46,7 @@ class VersionFault(Exception):
 
 
 class Twice(Exception):
-    """A GTID that stood before."""
+    """A GTID that occurred before."""
 
     def __init__(self, gtid: Gtid) -> None:
         super().__init__(gtid)
@@ -92,7 +92,7 @@ class Channel:
 
 @dataclass
 class Bundle:
-    """What a bundle's text says."""
+    """The value of a bundle's text."""
 
     replica: str = ""
     opening: GtidSet = field(default_factory=GtidSet)
@@ -133,7 +133,7 @@ def ask_limits(image: Row) -> None:
 
 
 def change_in(word: str, body: str | None) -> Change:
-    """The change of a change line, by its first word and what stands behind it. Limits of images are not asked."""
+    """The change of a change line, by its first word and the rest of the line. Limits of images are not tested."""
     ask(body is not None)
     table, *words = (body or "").split(" ")
     ask(NAME_FORM.fullmatch(table))
@@ -193,7 +193,7 @@ class LastTouch:
 
 
 class JournalDraft:
-    """A journal whose lines come one by one; with a schema where it stands in a bundle."""
+    """A journal whose lines come one by one; with a schema where it is in a bundle."""
 
     def __init__(self, versions: set[str], schema: Schema | None) -> None:
         self.versions, self.schema = versions, schema

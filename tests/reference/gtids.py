@@ -1,4 +1,4 @@
-"""GTIDs, sets of GTIDs and their texts. Written by another hand from docs/FORMATS.md and compared with the proved programs."""
+"""GTIDs, sets of GTIDs and their texts. Written independently, from docs/FORMATS.md and compared with the proved programs."""
 from __future__ import annotations
 
 import re

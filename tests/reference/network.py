@@ -1,4 +1,4 @@
-"""A network of replicas that read one another's journals. Written by another hand from docs/SCRIPTS.md and compared with the proved
+"""A network of replicas that read one another's journals. Written independently, from docs/SCRIPTS.md and compared with the proved
 programs."""
 from __future__ import annotations
 

@@ -1,4 +1,4 @@
-"""What an audit of journals in one order answers, and by all orders whether there is one. Written by another hand from
+"""What an audit of journals in one order answers, and by all orders whether there is one. Written independently, from
 docs/FORMATS.md.
 
 `OrderedAudit` takes the definitions by pairs literally. `orders` knows none of them: of a few transactions it tries every order, and
@@ -121,7 +121,7 @@ def outcome(audit: OrderedAudit, order: Iterable[Gtid]) -> list[str] | None:
 
 def is_borne_out(audit: OrderedAudit, verdict: str) -> bool:
     """Whether all orders of few transactions bear a verdict out: `sound` and `does-not-apply` where there are orders, which agree on it and
-    on the rows; a verdict on a pair where there is none, and two journals show what is said of the pair."""
+    on the rows; a verdict on a pair where there is none, and two journals have the pair as the verdict reports it."""
     if len(audit.gtids) > MOST_IN_ALL_ORDERS:
         return True
     found = [outcome(audit, order) for order in orders(audit)]
@@ -138,7 +138,7 @@ def is_borne_out(audit: OrderedAudit, verdict: str) -> bool:
 
 
 def stands(audit: OrderedAudit, line: str) -> bool:
-    """Whether two journals show what a line says of a pair."""
+    """Whether two journals have a pair as a line reports it."""
     word, *names = line.split(" ")
     first, second = (next(it for it in audit.gtids if str(it) == name) for name in names[:2])
     if not set(audit.keys[first]) & set(audit.keys[second]):
@@ -225,7 +225,7 @@ class Failovers:
         return GtidSet(span for span in gtids.spans() if self.chance.randrange(2))
 
     def put(self, journal: Journal, rows: Rows, entry: Entry) -> None:
-        """An entry comes to a journal, and to the server's rows where it applies."""
+        """An entry is added to a journal, and to the server's rows where it applies."""
         journal.entries.append(entry)
         try:
             rows.apply(entry.changes)

@@ -1,4 +1,4 @@
-"""Random bundles. Written by another hand from docs/FORMATS.md: the bundles that the references are compared on.
+"""Random bundles. Written independently, from docs/FORMATS.md: the bundles that the references are compared on.
 
 A wild bundle has any changes that its tables take, under any GTIDs. A tidy one has histories that apply and share no key, and journals
 that are closed, so that most of them are sound; a change or two of a tidy one gives each of the other verdicts.
@@ -278,7 +278,7 @@ class BundleMaker:
             put_everywhere(journals, Entry(self.chance.choice(own).gtid, self.chance.choice(own).changes))
 
     def put_in_place(self, journal: Journal, at: int, entry: Entry) -> None:
-        """Puts an entry in the place of another one, where its GTID stands nowhere else."""
+        """Puts an entry in the place of another one, where its GTID is nowhere else."""
         others = Journal(journal.previous, [*journal.entries[:at], *journal.entries[at + 1 :]])
         if entry.gtid not in others.whole():
             journal.entries[at] = entry

@@ -1,4 +1,4 @@
-"""Random runs of both programs, by kind, with what the references answer. Written by another hand from docs/: what `tools/compare`
+"""Random runs of both programs, by kind, with what the references answer. Written independently, from docs/: what `tools/compare`
 compares.
 
 A case is what one turn of chance gives: a script, or an input with a few runs of it. Scripts are run together, each begun afresh by a line
@@ -26,7 +26,7 @@ SET_FUNCTIONS = ["union", "intersect", "subtract", "symmetric", "subset", "equal
 
 @dataclass(frozen=True)
 class Ended:
-    """What a run printed, its exit status, and what it said on standard error (None where that isn't fixed)."""
+    """What a run printed, its exit status, and its message on standard error (None where that isn't fixed)."""
 
     output: str
     status: int
@@ -35,7 +35,7 @@ class Ended:
 
 @dataclass(frozen=True)
 class Run:
-    """A program's name, the words behind it, and its input. Characters are bytes."""
+    """A program's name, its words, and its input. Characters are bytes."""
 
     program: str
     words: tuple[str, ...]
@@ -168,7 +168,7 @@ def position_run(text: str, own: str, ask: str) -> Run:
 
 
 def as_word(text: str) -> str:
-    """The text as a word of a command line that is no option: a blank stands before a hyphen, but for a hyphen alone."""
+    """The text as a word of a command line that is no option: a blank is put before a hyphen, but for a hyphen alone."""
     return f" {text}" if text.startswith("-") and text != "-" else text
 
 

@@ -1,4 +1,4 @@
-"""Random scripts, of one replica and of networks. Written by another hand from docs/SCRIPTS.md: the scripts that the programs are compared
+"""Random scripts, of one replica and of networks. Written independently, from docs/SCRIPTS.md: the scripts that the programs are compared
 on.
 
 A maker hands each line to the reference as it goes, and chooses the next one by the state that it finds there: most events mean something,
@@ -36,7 +36,7 @@ STRAY_LINES = [
 
 
 class EndOfScript(Exception):
-    """No line is said any more."""
+    """No further line is made."""
 
 
 @dataclass
@@ -305,7 +305,7 @@ class ScriptMaker:
         self.is_one_in, self.say = self.bundles.is_one_in, self.teller.say
 
     def finished(self, make: Callable[[], None]) -> Made:
-        """The script, once all is said or a line is bad."""
+        """The script, once all its lines are made or one is bad."""
         made = self.teller.made
         try:
             make()

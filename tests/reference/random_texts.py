@@ -1,4 +1,4 @@
-"""Random texts: sets as people write them, and texts with a fault. Written by another hand from docs/FORMATS.md: the texts that the
+"""Random texts: sets as people write them, and texts with a fault. Written independently, from docs/FORMATS.md: the texts that the
 programs are compared on.
 
 A broken text is a good one in which a byte, a word or a line is changed, dropped, doubled or moved. Its characters are bytes.
@@ -84,7 +84,7 @@ class TextBreaker:
         return [*lines[:place], *entry, *lines[place:]]
 
     def wrong_line(self, line: str, lines: list[str]) -> str:
-        """A line of the same first word that most likely can't stand there."""
+        """A line of the same first word that most likely isn't allowed there."""
         word, *words = line.split(" ")
         others = [it.split(" ")[1:] for it in lines if it.startswith(f"{word} ")]
         other = self.chance.choice(others) if others else []

@@ -1,4 +1,4 @@
-"""A replica: one event, one reply, one new state. Written by another hand from docs/SCRIPTS.md and compared with the proved programs.
+"""A replica: one event, one reply, one new state. Written independently, from docs/SCRIPTS.md and compared with the proved programs.
 
 An event that would make a set of too many sources raises SourcesFull, and has changed nothing then.
 """
@@ -167,7 +167,7 @@ class Replica:
         return reply
 
     def committed(self, entry: Entry) -> Reply:
-        """The changes of an entry are made; it is executed, and stands at the end of the own journal.
+        """The changes of an entry are made; it is executed, and is at the end of the own journal.
 
         Which comes first, a full set or the rows' refusal, docs/SCRIPTS.md leaves open: here it is the set.
         """

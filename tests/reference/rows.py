@@ -1,4 +1,4 @@
-"""Tables, rows and transactions. Written by another hand from docs/ and compared with the proved programs."""
+"""Tables, rows and transactions. Written independently, from docs/ and compared with the proved programs."""
 from __future__ import annotations
 
 from collections.abc import Iterable, Iterator, Sequence

@@ -1,4 +1,4 @@
-"""The language of scripts. Written by another hand from docs/SCRIPTS.md and compared with the proved programs."""
+"""The language of scripts. Written independently, from docs/SCRIPTS.md and compared with the proved programs."""
 from __future__ import annotations
 
 from collections.abc import Callable
@@ -16,7 +16,7 @@ Events = Callable[[Transaction], Reply]
 
 
 class BadLine(Exception):
-    """A line that is not in the language where it stands."""
+    """A line that is not in the language at its place."""
 
 
 @dataclass
@@ -233,7 +233,7 @@ def one_answer(replica: Replica, words: list[str]) -> object:
 
 
 def run(text: str) -> tuple[str, int, str]:
-    """What `replica_script` prints for a script whose characters are bytes, its exit status, and what it says on standard error."""
+    """What `replica_script` prints for a script whose characters are bytes, its exit status, and its message on standard error."""
     lines = text.split("\n")
     if not lines[-1]:
         lines.pop()

@@ -1,4 +1,4 @@
-"""The reader of set text and the set functions. Written by another hand from docs/FORMATS.md, section 1, and compared with the proved
+"""The reader of set text and the set functions. Written independently, from docs/FORMATS.md, section 1, and compared with the proved
 programs."""
 from __future__ import annotations
 
@@ -77,7 +77,7 @@ class Cursor:
         return int(digits)
 
     def colon(self) -> None:
-        """Takes the colon behind a UUID."""
+        """Takes the colon after a UUID."""
         if not self.takes(":"):
             raise TextFault(3, self.at)
 

@@ -27,7 +27,7 @@ drains_further a b c p q = record {
   counts = q.counts ∙ p.counts;
 }
 
--- what a step of the book tells, whatever it answers
+-- what a step of the book leaves, whatever its result
 pub drains_call : (a b : ClosedValue) (e : Event) (o : Result Reply SetFault) → IsApply e
     → IfOk o (λ r. b ≡ record a { steps = a.steps ++ line e r ∷ []; now = b.now }) → OnErr o (b ≡ a) → Drains a b
 drains_call a b e (Ok r) ok is same = record {

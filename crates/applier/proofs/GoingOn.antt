@@ -32,12 +32,12 @@ goes_one a b e r ok told = record {
   apply = (ok, tt);
 }
 
--- what a call of the replica tells of the pass, whatever it answers
+-- what a call of the replica leaves of the pass, whatever its result
 pub makes_on : (a b : PassValue) (e : Event) (o : Result Reply SetFault) → IsApply e → Makes e a o b → GoesOn a b
 makes_on a b e (Ok r) ok told = goes_one a b e r ok told
 makes_on a b e (Err f) ok same = subst (λ (h : PassValue). GoesOn a h) (sym same.0) (goes_self a)
 
--- what a take tells of the pass, whatever it answers
+-- what a take leaves of the pass, whatever its result
 pub takes_on : (channel place : ℕ) (a b : PassValue) (o : Result Taking SetFault) → MakesTaking channel place a o b → GoesOn a b
 takes_on channel place a b (Ok taking) told = goes_one a b (Take a.seat channel place) taking.reply tt told
 takes_on channel place a b (Err f) same = subst (λ (h : PassValue). GoesOn a h) (sym same.0) (goes_self a)

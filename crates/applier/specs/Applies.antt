@@ -23,6 +23,6 @@ pub record GoesOn (old new : PassValue) : Type 0 where
   pub receipts : new.receipts ≡ old.receipts ++ more
   pub apply : AreApply more
 
--- each pass goes on in the one at its place
+-- each pass is continued by the one at its place
 abbrev pub AllGoOn : List PassValue → List PassValue → Type 0
 AllGoOn old new = (i : ℕ) (d : PassValue) → i < length old → GoesOn (slice_index_or old i d) (slice_index_or new i d)

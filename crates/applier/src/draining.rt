@@ -13,9 +13,9 @@ use shared_replica::ClosedBook;
 use std::alloc::{AllocError, Global};
 
 /// Rolls back what is owned, and then applies with seat 1 what is left, channels ascending and places
-/// ascending. Stopped channels are left as they are. What was done before an error stands, and it may be
+/// ascending. Stopped channels are left as they are. What was done before an error is kept, and it may be
 /// called again; another error than `Memory` comes only where a Commit from the state that was left
-/// may be answered by it.
+/// may have it.
 pub fn drain(alloc: Global, book: &mut ClosedBook) -> Result<(), SetFault>
     ensures drains { Drains book.old book.new }
     ensures rests { OnOk result (NothingIsOwned book.new.now.state) }

@@ -1,7 +1,7 @@
-//! What a worker tells of its way.
+//! Calls by which a worker reports its progress.
 use gtid_text::Gtid;
 
-/// What a worker calls on its way. No call is made with the lock held.
+/// What a worker calls at each step. No call is made with the lock held.
 pub trait Gate {
     /// The seat has taken this GTID; its transaction is prepared next, and then committed.
     fn before_prepare(&self, seat: u8, gtid: Gtid);

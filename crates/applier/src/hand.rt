@@ -17,7 +17,7 @@ pub struct Ticket {
     pub place: usize,
 }
 
-/// What was put into a deque and taken from it. No value of it is made.
+/// The tickets that were put into a deque and taken from it. It is for contracts alone: no value of it is made.
 pub struct Seen {
     pub put: LinkedList<Ticket>,
     pub taken: LinkedList<Ticket>,

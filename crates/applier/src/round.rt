@@ -34,14 +34,14 @@ impl Round {
         channel < CHANNELS && self.left[channel]
     }
 
-    /// The worker serves a channel no more.
+    /// The worker leaves a channel.
     pub(crate) fn leave(&mut self, channel: usize) {
         if channel < CHANNELS {
             self.left[channel] = true;
         }
     }
 
-    /// There is a channel of this number.
+    /// The worker knows of the channel of this number.
     pub(crate) fn meet(&mut self, channel: usize) {
         if self.known <= channel {
             self.known = channel.saturating_add(1);
@@ -53,7 +53,7 @@ impl Round {
         self.known
     }
 
-    /// Its own deque had a ticket, or none.
+    /// Notes whether its own deque had a ticket.
     pub(crate) fn popped(&mut self, some: bool) {
         self.dry = !some;
     }

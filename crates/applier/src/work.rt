@@ -32,7 +32,7 @@ enum Attempt {
     Committed,
     /// Another seat has it, or it is not ready, or refused.
     Passed,
-    /// Its channel is served no more.
+    /// The worker leaves its channel.
     Left,
 }
 
@@ -135,7 +135,7 @@ fn put_channel<N: Naming, R: Wait>(
     }
 }
 
-/// Gives up what the seat owns before the work begins.
+/// Rolls back what the seat owns before the work begins.
 #[tactic(auto, using(crate::proofs::GoingOn::goes_self))]
 fn release_owned<N: Naming, R: Wait>(
     rt: &R,
@@ -180,7 +180,7 @@ fn try_place<N: Naming, G: Gate, R: Wait>(
 }
 
 /// Prepares what was taken without the lock, where there is what that needs, and commits it. A commit that is early is tried again;
-/// one that stays early is given up, with its channel.
+/// one that stays early is rolled back, and the worker leaves its channel.
 fn commit_taken<N: Naming, G: Gate, R: Wait>(
     rt: &R,
     alloc: Global,

@@ -1,4 +1,4 @@
--- Each entry has its node, and what the graph answers is what the entries say.
+-- Each entry has its node, and the graph's answers are those of the entries.
 use Rattle.std.proofs.Common.{◌≡◌, ℕ, ◌+◌, ◌<◌, ◌≤◌, suc, zero, Bool, true, false, true≢false, cond, not, ◌&&◌, ◌||◌, List, [], ◌∷◌, ◌++◌, take, length, refl, sym, ap, subst, ◌∙◌, arith}
 use Rattle.std.specs.Prelude.{Option, Some, None, position, find, option_and_then, option_map, is_some, is_none, nat_lt, nat_le, slice_get}
 use Rattle.std.specs.List.{list_any, prefix_len, range_with_len}

@@ -53,7 +53,7 @@ holds_back schema t e = option_map_or (λ u. shares_key schema u t) e.txn false
 abbrev pub blocker : List Table → List Received → ℕ → Option ℕ
 blocker schema received place = option_and_then (λ t. position (holds_back schema t) (take place received)) (txn_at received place)
 
--- a place that is not executed and that nothing holds back
+-- a place that is not executed and has no blocker
 abbrev pub is_ready : List Table → List Received → ℕ → Bool
 is_ready schema received place = is_some (txn_at received place) && is_none (blocker schema received place)
 

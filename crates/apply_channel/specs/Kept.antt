@@ -45,7 +45,7 @@ is_open_of g e = is_some e.txn && same_gtid e.gtid g
 abbrev pub is_open_at : Gtid → List Received → ℕ → Bool
 is_open_at g es place = option_map_or (is_open_of g) (slice_get es place) false
 
--- the last place below this one where a GTID stands that is not executed
+-- the last place below this one with this GTID, not executed
 abbrev pub IsLastOpen : List Received → Gtid → ℕ → Option ℕ → Type 0
 IsLastOpen es g end None = (i : ℕ) → i < end → is_open_at g es i ≡ false
 IsLastOpen es g end (Some place) = (place < end) × (is_open_at g es place ≡ true) × ((i : ℕ) → place < i → i < end → is_open_at g es i ≡ false)
@@ -66,11 +66,11 @@ HasPlace places g = IsSome (entry_of places g)
 abbrev pub IsOpened : Gtid → List (Gtid × Option ℕ) → List (Gtid × Option ℕ) → Type 0
 IsOpened gtid old new = (g : Gtid) → entry_of new g ≡ cond (same_gtid gtid g) (Some (place_of old gtid)) (entry_of old g)
 
--- each slot that is not executed knows the place before with its GTID
+-- each slot that is not executed has the place before it with its GTID
 abbrev pub AreLinked : List Slot → Type 0
 AreLinked slots = (i : ℕ) (s : Slot) → slice_get slots i ≡ Some s → is_some s.txn ≡ true → IsLastOpen (entries_of slots) s.gtid i s.earlier
 
--- the table knows the last place of each GTID that is not executed
+-- the table has the last place of each GTID that is not executed
 abbrev pub AreLast : List Slot → (Gtid → Option ℕ) → Type 0
 AreLast slots last = (g : Gtid) → IsLastOpen (entries_of slots) g (length slots) (last g)
 

@@ -187,7 +187,7 @@ impl Channel {
         MOST <= self.slots.len()
     }
 
-    /// Puts an entry at the next place, which is answered. It is said whether its GTID is executed.
+    /// Puts an entry at the next place, which is the result. The caller states whether its GTID is executed.
     pub fn receive(
         &mut self,
         alloc: Global,
@@ -246,7 +246,7 @@ impl Channel {
 }
 
 impl Channel {
-    /// Drops the transaction at the last place of a GTID that is not executed: the place of the GTID before that one.
+    /// Drops the transaction at the last place of a GTID that is not executed. The result is the place of the GTID before that one.
     fn settle(&mut self, gtid: &Gtid, place: usize) -> Option<usize>
         requires { IsLastOpen self.old.channel.received gtid.now (length self.old.channel.received) (Some place) }
         ensures settled { self.new ≡ record self.old { channel = settle_at place self.old.channel } }
@@ -292,7 +292,7 @@ impl Channel {
         }
     }
 
-    /// The least place from this number on that is not executed and that no earlier place holds back.
+    /// The least place from this number on that is not executed and that no earlier place blocks.
     pub fn next_ready(&self, from: usize) -> Option<usize>
         ensures { result ≡ next_ready self.now.schema self.now.channel.received from }
     {
@@ -321,7 +321,7 @@ impl Channel {
     }
 }
 
-/// The set that a channel asked with, once more.
+/// A copy of the set that a channel asked with.
 fn copy_asked(alloc: Global, asked: &Option<GtidSet>) -> Result<Option<GtidSet>, AllocError>
     ensures { IfOk result (λ copy. copy ≡ asked.now) }
 {

@@ -11,7 +11,7 @@
 //! place, and in each slot the one before it with the same GTID. The images of an executed place are dropped at once. All room is made
 //! before anything changes. Only `open`, `receive` and `copy` can fail or allocate.
 //!
-//! Not proved: speed. By form `receive` and `mark_executed` take a few hashed look-ups for each key and place; measured, 200,000 places
+//! Not proved: speed. By the code `receive` and `mark_executed` take a few hashed look-ups for each key and place; measured, 200,000 places
 //! with two keys each are received, asked for their blocker and executed in 0.4 s.
 #![tactic(auto)]
 

@@ -42,7 +42,7 @@ fn open_entry(
     Ok(*place)
 }
 
-/// The last place of a GTID. It has an entry then, unless none is wanted.
+/// The last place of a GTID, which then has an entry, unless the caller wants none.
 pub(crate) fn open_unless(
     unless: bool,
     places: &mut IndexMap<Gtid, Option<usize>>,
@@ -71,14 +71,14 @@ pub(crate) fn put_place(places: &mut IndexMap<Gtid, Option<usize>>, gtid: &Gtid,
     }
 }
 
-/// Lets the entry of a GTID go, which has no place then.
+/// Removes the entry of a GTID, which then has no place.
 fn drop_entry(places: &mut IndexMap<Gtid, Option<usize>>, gtid: &Gtid)
     ensures { (g : GtidValue) → place_of places.new.entries g ≡ cond (same_gtid g gtid.now) None (place_of places.old.entries g) }
 {
     places.swap_remove(gtid);
 }
 
-/// The last place of a GTID is executed: the one before takes its place in the table, or the entry goes.
+/// The last place of a GTID is executed: the one before replaces it in the table, or the entry is removed.
 pub(crate) fn take_place(
     places: &mut IndexMap<Gtid, Option<usize>>,
     gtid: &Gtid,
@@ -93,7 +93,7 @@ pub(crate) fn take_place(
     }
 }
 
-/// Adds a node with these keys to the graph and a GTID to the set, or leaves both.
+/// Adds a node with these keys to the graph and a GTID to the set, or leaves both as they are.
 pub(crate) fn put_node(
     alloc: Global,
     graph: &mut Graph,

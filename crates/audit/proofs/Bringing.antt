@@ -95,11 +95,11 @@ whole_world world journals beyond equal all =
 
 -- ---- marks
 
--- the GTIDs whose places are marked stand among these entries
+-- the GTIDs whose places are marked are those of these entries
 abbrev pub AreMarked : Contents → List Entry → List Bool → Type 0
 AreMarked contents es marks = (place : ℕ) (e : Entry) → slice_get (in_order contents) place ≡ Some e → get_or marks place false ≡ true → stands_in es e.gtid ≡ true
 
--- what stands among the first entries stands among more
+-- a GTID of the first entries is one of more entries
 later : (es : List Entry) (i : ℕ) (g : Gtid) → stands_in (take i es) g ≡ true → stands_in (take (i + 1) es) g ≡ true
 later es i g h =
     let a = entry_at (take i es) g h in
@@ -165,7 +165,7 @@ get_as_entry [] i e h = none_some e h
 get_as_entry (x ∷ es) zero e h = ap (λ y. Some (as_entry y)) (same_Some x e h)
 get_as_entry (x ∷ es) (suc i) e h = get_as_entry es i e h
 
--- where all places are marked, all stands among the entries
+-- where all places are marked, all GTIDs are those of the entries
 pub all_marked : (world : World) (contents : Contents) (es : List Entry) (marks : List Bool) → contents ≡ world.contents → length marks ≡ length (in_order contents) → AreMarked contents es marks
     → ((k : ℕ) → k < length marks → get_or marks k false ≡ true) → AreAllIn contents es
 all_marked world contents es marks is same marked all g t h =

@@ -60,7 +60,7 @@ module _ (world : World) (needs : Needs) (previous : Gtids) where
       swapped false true = refl
       swapped false false = refl
 
-  -- at each entry what stands is the previous set with the entries before
+  -- at each entry what is present is the previous set with the entries before
   journal_pass : (j : JournalValue) → j.previous ≡ previous → gap_among world needs previous set.empty j.entries ≡ first_at (λ place e. gap_at world needs (stands_before j place) e) j.entries
   journal_pass j e =
       gap_pass j.entries set.empty (λ g. false) (λ g. contains-empty gtid_cmp g)

@@ -141,7 +141,7 @@ entries_back : (es : List Entry) → map as_entry (map as_pair es) ≡ es
 entries_back [] = refl
 entries_back (e ∷ es) = ap (λ rest. e ∷ rest) (entries_back es)
 
--- entries that rise are listed as they are
+-- ascending entries are listed as they are
 pub listed : (es : List Entry) → IsRising es → es ≡ in_order (contents_of es)
 listed es up =
     sym (ap (map as_entry) (entries-stored gtid_cmp gtid_total gtid_exact (map as_pair es) (subst (IsStrictlySortedBy gtid_cmp) (sym (keys_of_pairs es)) up)) ∙ entries_back es)
@@ -176,7 +176,7 @@ none_first : (es : List Entry) (q : Gtid) → ((k : ℕ) (d : Entry) → k < len
 none_first [] q h = refl
 none_first (e ∷ es) q h = ap (λ b. cond b (Some e.txn) (first_at es q)) (h 0 e (omega arith)) ∙ none_first es q (λ k d l. h (suc k) d (omega arith))
 
--- what stands where a search ends has the transaction
+-- the entry at the place where a search ends has the transaction
 pub found_at : (es : List Entry) (q : Gtid) (k : ℕ) (d : Entry) → IsRising es → k < length es → gtid_cmp (get_or es k d).gtid q ≡ Equal → finmap.get (contents_of es) q ≡ Some (get_or es k d).txn
 found_at es q k d up within here = get-stored gtid_cmp gtid_total (map as_pair es) q ∙ found_first es q k d up within here
 

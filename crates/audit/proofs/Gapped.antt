@@ -44,7 +44,7 @@ use Rattle.audit.specs.Worlds.{LieBeyond}
 use Rattle.audit.proofs.Needing.{rises}
 use Rattle.audit.proofs.Nearest.{need_is_nearest, need_at, nearest_is_needed}
 
--- ---- what does not stand
+-- ---- what is absent
 
 find_by : (p : Gtid → Bool) (x h : Gtid) (gs : List Gtid) (b : Bool) → p x ≡ b → (find p gs ≡ Some h → (m : ℕ) × (slice_get gs m ≡ Some h) × (p h ≡ true)) → cond b (Some x) (find p gs) ≡ Some h → (m : ℕ) × (slice_get (x ∷ gs) m ≡ Some h) × (p h ≡ true)
 find_by p x h gs true t rest e = (zero, e, ap p (sym (same_Some x h e)) ∙ t)
@@ -97,7 +97,7 @@ behind_gap g None gaps m p e = (m, e)
 behind_gap g (Some h) gaps m p e = (suc m, e)
 
 module _ (needs : Needs) (previous : Gtids) where
-  -- an entry lacks something where those before it stand
+  -- an entry lacks something where those before it are present
   record GapAt (stand : Gtid → Bool) (es : List Entry) (p : Gap) : Type 0 where
     pub place : ℕ
     pub entry : Entry

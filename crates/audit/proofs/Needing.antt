@@ -38,7 +38,7 @@ rises (e ∷ es) zero (suc j) a b up x y l =
     subst (λ (z : history.Entry). gtid_cmp z.0 b.0 ≡ Less) same (all_at (λ f. gtid_cmp e.0 f.0 ≡ Less) es j b up.0 y)
 rises (e ∷ es) (suc i) (suc j) a b up x y l = rises es i j a b up.1 x y (omega arith)
 
--- between two of a source stand only its own
+-- between two of a source are only its own
 between_source : (g h e : Gtid) → gtid_cmp g h ≡ Less → gtid_cmp h e ≡ Less → g.source ≡ e.source → h.source ≡ e.source
 between_source g h e a b s = elim (source_le g h a) [
   | inr same ↦ sym same ∙ s

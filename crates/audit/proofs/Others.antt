@@ -382,7 +382,7 @@ module _ (world : World) where
     order : AllByRecursion (λ (x : history.Entry). gtid_cmp x.0 h.0 ≡ Less) before × AllByRecursion (λ (z : history.Entry). gtid_cmp h.0 z.0 ≡ Less) later
     order = rising_parts before h later (subst IsRising parts (rising world))
 
-    -- what is less stands before
+    -- what is less comes before
     stands_before : (a : Gtid) (i : ℕ) (e : history.Entry) → slice_get all i ≡ Some e → Under e.0 h.0 → (j : ℕ) × (slice_get before j ≡ Some e)
     stands_before a i e s l = elim (get_cases before h later i e (ap (λ (xs : List history.Entry). slice_get xs i) (sym parts) ∙ s)) [
       | inl old ↦ (i, old)
@@ -399,7 +399,7 @@ module _ (world : World) where
     stands_here = ap (λ (xs : List history.Entry). slice_get xs (length before)) parts ∙ get_here before h later
 
     module _ (seen named : FirstTouch) (is : IsSeen world.schema before seen) (are : AreNamed world.schema before named) where
-      -- a lesser pair stands before, where its key has its name
+      -- a lesser pair comes before, where its key has its name
       no_lesser : (a b : Gtid) (k : Key) → IsShared world a b k → Under b h.0 → has named k ≡ true
       no_lesser a b k s l =
           let p = content_at world a s.t s.first in

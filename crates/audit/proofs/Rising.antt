@@ -170,7 +170,7 @@ module _ (world : World) (journals : List JournalValue) (ordered : AreInOrder wo
       less : (a b n : ℕ) → a ≡ b → a < 1 + (n - 1) → 1 ≤ a → b < n
       less a b n e l m = omega arith
 
-  -- no case of Missing stands
+  -- no GTID is missing
   pub none_missing : (g : Gtid) → IsMissing world journals g → ⊥
   none_missing g m =
       not_both (is_opened world g || stands_in (all_entries journals) g) (none_absent m.greater g m.there (sym m.same) m.positive m.below)

@@ -73,11 +73,11 @@ needs_in world = needs_over world.schema finmap.empty finmap.empty (finmap.entri
 abbrev pub stands : Gtids → Gtids → Gtid → Bool
 stands previous standing g = set.contains previous g || set.contains standing g
 
--- something that an entry needs does not stand
+-- something that an entry needs is absent
 abbrev pub lacks : Needs → (Gtid → Bool) → Gtid → Bool
 lacks needs stand g = option_map_or (λ gs. list_any (λ h. not (stand h)) gs) (finmap.get needs g) false
 
--- h has a smaller number of the same source and a common key, and does not stand
+-- h has a smaller number of the same source and a common key, and is absent
 abbrev pub is_left_by : World → (Gtid → Bool) → Entry → history.Entry → Bool
 is_left_by world stand e h =
     not (is_opened world e.gtid) && (h.0.source == e.gtid.source && (nat_lt h.0.number e.gtid.number && (shares_key world.schema h.1 e.txn && not (stand h.0))))
@@ -90,7 +90,7 @@ least_left_by world stand e = first (λ (h : history.Entry). when (is_left_by wo
 abbrev pub gap_at : World → Needs → (Gtid → Bool) → Entry → Option Verdict
 gap_at world needs stand e = if not (is_opened world e.gtid) && lacks needs stand e.gtid then least_left_by world stand e else None
 
--- the first entry of these for which something is left out, after others that stand
+-- the first entry of these for which something is left out, after others that are present
 abbrev pub gap_among : World → Needs → Gtids → Gtids → List Entry → Option Verdict
 gap_among world needs previous standing [] = None
 gap_among world needs previous standing (e ∷ es) =

@@ -30,7 +30,8 @@ pub record IsNearest (world : World) (h g : Gtid) (key : Key) : Type 0 where
   pub smaller : h.number < g.number
   pub last : (m : Gtid) (t : Transaction) → content world m ≡ Some t → m.source ≡ g.source → h.number < m.number → m.number < g.number → touches world.schema t key ≡ false
 
--- g is in a journal without h before it, the nearest earlier transaction at one of the keys of g; these are those of what the world has under g
+-- g is in a journal without h before it, the nearest earlier transaction at one of the keys of g; the keys are those of the world's
+-- transaction under g
 pub record StandsWithout (world : World) (journals : List JournalValue) (g h : Gtid) : Type 0 where
   pub entry : Entry
   pub there : IsEntryOf journals entry
@@ -42,7 +43,7 @@ pub record StandsWithout (world : World) (journals : List JournalValue) (g h : G
   pub nearest : IsNearest world h g key
   pub left_out : stands_before there.journal there.place h ≡ false
 
--- h comes before g in its source, shares a key with it, and does not come before it in a journal; of both what the world has counts
+-- h comes before g in its source, shares a key with it, and does not come before it in a journal; the transactions of both are the world's
 pub record StandsBehind (world : World) (journals : List JournalValue) (g h : Gtid) : Type 0 where
   pub entry : Entry
   pub there : IsEntryOf journals entry
@@ -56,34 +57,34 @@ pub record StandsBehind (world : World) (journals : List JournalValue) (g h : Gt
   pub shares : shares_key world.schema u t ≡ true
   pub left_out : stands_before there.journal there.place h ≡ false
 
--- it is reported of a GTID that is present without a nearest earlier one, and names this one
+-- the verdict reports a GTID that is present without a nearest earlier one, and names that one
 abbrev pub IsGapNamed : World → List JournalValue → Verdict → Type 0
 IsGapNamed world journals (NotClosed g h) = StandsWithout world journals g h
 IsGapNamed world journals _ = ⊥
 
--- it is reported of this GTID
+-- the verdict reports this GTID
 abbrev pub is_of_gap : Gtid → Verdict → Bool
 is_of_gap g (NotClosed h before) = same_gtid g h
 is_of_gap g _ = false
 
--- something is left out by it
+-- the verdict reports that something is left out
 abbrev pub is_gap : Verdict → Bool
 is_gap (NotClosed g h) = true
 is_gap _ = false
 
--- one of these is reported of the same GTID
+-- one of these reports the same GTID
 abbrev pub is_gap_again : Verdict → List Verdict → Bool
 is_gap_again (NotClosed g h) vs = list_any (is_of_gap g) vs
 is_gap_again _ vs = false
 
--- no two of these are reported of one GTID
+-- no two of these report one GTID
 abbrev pub AreGapsOnce : List Verdict → Type 0
 AreGapsOnce [] = Unit {0}
 AreGapsOnce (v ∷ vs) = (is_gap_again v vs ≡ false) × AreGapsOnce vs
 
--- Each is reported of a GTID that is in a journal without its nearest earlier one at some key; every such GTID is that of the verdict or of one of these,
--- and of one alone. Where nothing is unequal each is a case of its verdict. Where none is reported, and no journal begins after the opening set, no
--- journal leaves anything out.
+-- Each reports a GTID that is in a journal without its nearest earlier one at some key; every such GTID is that of the verdict or of one of
+-- these, and of one alone. Where nothing is unequal each is a fault of its kind. Where none is reported, and no journal begins after the
+-- opening set, no journal leaves anything out.
 pub record AreOtherGaps (world : World) (journals : List JournalValue) (v : Verdict) (list : List Verdict) : Type 0 where
   pub named : AllByRecursion (IsGapNamed world journals) list
   pub every : (g h : Gtid) → StandsWithout world journals g h → (is_of_gap g v || list_any (is_of_gap g) list) ≡ true
@@ -93,7 +94,7 @@ pub record AreOtherGaps (world : World) (journals : List JournalValue) (v : Verd
 
 -- ---- the pass over the journals
 
--- of what a GTID needs the first that does not stand
+-- of what a GTID needs the first that is absent
 abbrev pub first_absent : Needs → (Gtid → Bool) → Gtid → Option Gtid
 first_absent needs stand g = option_map_or (λ gs. find (λ h. not (stand h)) gs) (finmap.get needs g) None
 
@@ -105,7 +106,7 @@ abbrev pub with_gap : Gtid → Option Gtid → List Gap → List Gap
 with_gap g None gaps = gaps
 with_gap g (Some h) gaps = (g, h) ∷ gaps
 
--- each of these entries that is present without something it needs, after others that stand; after them these
+-- each of these entries that is present without something it needs, after others that are present; and then `rest`
 abbrev pub gaps_among : Needs → Gtids → Gtids → List Entry → List Gap → List Gap
 gaps_among needs previous standing [] rest = rest
 gaps_among needs previous standing (e ∷ es) rest =
@@ -116,7 +117,7 @@ abbrev pub gaps_in : Needs → List JournalValue → List Gap
 gaps_in needs [] = []
 gaps_in needs (j ∷ js) = gaps_among needs j.previous set.empty j.entries (gaps_in needs js)
 
--- of these the first of each GTID, if nothing was reported of it
+-- of these the first of each GTID, unless that GTID was reported already
 abbrev pub unreported : Gtids → List Gap → List Verdict
 unreported said [] = []
 unreported said (p ∷ ps) = if set.contains said p.0 then unreported said ps else NotClosed p.0 p.1 ∷ unreported (set.insert said p.0) ps

@@ -16,38 +16,39 @@ use Rattle.world.specs.Audit.{first_fault}
 abbrev pub refused_alone : World → ℕ → Option (Gtid × RowFault)
 refused_alone world source = first_fault world.schema (entries_in world (of_source source)) world.opening_rows
 
--- it is reported of the first transaction of its source that is refused
+-- the verdict reports the first transaction of its source that is refused
 abbrev pub IsRefusalNamed : World → Verdict → Type 0
 IsRefusalNamed world (DoesNotApply g fault) = refused_alone world g.source ≡ Some (g, fault)
 IsRefusalNamed world _ = ⊥
 
--- it is reported of a transaction of this source
+-- the verdict reports a transaction of this source
 abbrev pub is_of_refusal : ℕ → Verdict → Bool
 is_of_refusal source (DoesNotApply g fault) = g.source == source
 is_of_refusal source _ = false
 
--- a transaction does not apply by it
+-- the verdict reports a transaction that does not apply
 abbrev pub is_refusal : Verdict → Bool
 is_refusal (DoesNotApply g fault) = true
 is_refusal _ = false
 
--- it is reported of a transaction of a greater source
+-- the verdict reports a transaction of a greater source
 abbrev pub is_greater_refusal : ℕ → Verdict → Bool
 is_greater_refusal source (DoesNotApply g fault) = nat_lt source g.source
 is_greater_refusal source _ = false
 
--- these are reported of greater sources than one
+-- these report transactions of greater sources than that of the verdict
 abbrev pub AreGreaterRefusals : Verdict → List Verdict → Type 0
 AreGreaterRefusals (DoesNotApply g fault) vs = AllByRecursion (λ v. is_greater_refusal g.source v ≡ true) vs
 AreGreaterRefusals _ vs = Unit {0}
 
--- each is reported of a greater source than those before
+-- each reports a transaction of a greater source than those before
 abbrev pub AreRefusalsRising : List Verdict → Type 0
 AreRefusalsRising [] = Unit {0}
 AreRefusalsRising (v ∷ vs) = AreGreaterRefusals v vs × AreRefusalsRising vs
 
--- Where a transaction does not apply by the verdict, each of these is reported of the first that is refused in its source's list taken alone; every source
--- whose list taken alone is refused is that of the verdict or of one of these, and of one alone, for sources rise. By another verdict none is reported.
+-- Where a transaction does not apply by the verdict, each of these reports the first that is refused in its source's list taken alone;
+-- every source whose list taken alone is refused is that of the verdict or of one of these, and of one alone, since sources are ascending.
+-- After another verdict there is none.
 pub record AreOtherRefusals (world : World) (v : Verdict) (list : List Verdict) : Type 0 where
   pub named : AllByRecursion (IsRefusalNamed world) list
   pub every : is_refusal v ≡ true → (source : ℕ) (fault : Gtid × RowFault) → refused_alone world source ≡ Some fault → (is_of_refusal source v || list_any (is_of_refusal source) list) ≡ true
@@ -56,12 +57,12 @@ pub record AreOtherRefusals (world : World) (v : Verdict) (list : List Verdict) 
 
 -- ---- the pass over the transactions
 
--- what is refused is reported, and what is found behind; else what is found from the rows that are left
+-- a refused transaction is reported, and after it what `behind` has; else the search goes on from the rows that are left
 abbrev pub refused_or : history.Entry → Result Rows RowFault → (Rows → List Verdict) → List Verdict → List Verdict
 refused_or e (Ok rows) more behind = more rows
 refused_or e (Err fault) more behind = DoesNotApply e.0 fault ∷ behind
 
--- of each greater source the first of these that is refused, one after another; the others of its source are passed over
+-- for each greater source the first of these that is refused, one after another; the others of its source are passed over
 abbrev pub refused_from : List Table → ℕ → List history.Entry → Rows → List Verdict
 refused_from schema passed [] rows = []
 refused_from schema passed (e ∷ es) rows =

@@ -13,33 +13,34 @@ use Rattle.world.specs.declared.verdict.Verdict.TheVariants.{Unequal}
 use Rattle.world.specs.Audit.{all_entries, is_unequal}
 use Rattle.world.specs.Cases.{DiffersAt}
 
--- it is reported of a GTID under which a journal has another transaction than the world
+-- the verdict reports a GTID under which a journal has another transaction than the world
 abbrev pub IsUnequalNamed : World → List JournalValue → Verdict → Type 0
 IsUnequalNamed world journals (Unequal g) = DiffersAt world journals g
 IsUnequalNamed world journals _ = ⊥
 
--- it is reported of this GTID
+-- the verdict reports this GTID
 abbrev pub is_of_unequal : Gtid → Verdict → Bool
 is_of_unequal g (Unequal h) = same_gtid g h
 is_of_unequal g _ = false
 
--- one of these is reported of the same GTID
+-- one of these reports the same GTID
 abbrev pub is_unequal_again : Verdict → List Verdict → Bool
 is_unequal_again (Unequal g) vs = list_any (is_of_unequal g) vs
 is_unequal_again _ vs = false
 
--- no two of these are reported of one GTID
+-- no two of these report one GTID
 abbrev pub AreUnequalOnce : List Verdict → Type 0
 AreUnequalOnce [] = Unit {0}
 AreUnequalOnce (v ∷ vs) = (is_unequal_again v vs ≡ false) × AreUnequalOnce vs
 
--- Each is reported of a GTID under which a journal has another transaction than the world; every such GTID is that of the verdict or of one of these, and of one alone.
+-- Each reports a GTID under which a journal has another transaction than the world; every such GTID is that of the verdict or of one of
+-- these, and of one alone.
 pub record AreOtherUnequal (world : World) (journals : List JournalValue) (v : Verdict) (list : List Verdict) : Type 0 where
   pub named : AllByRecursion (IsUnequalNamed world journals) list
   pub every : (g : Gtid) → DiffersAt world journals g → (is_of_unequal g v || list_any (is_of_unequal g) list) ≡ true
   pub once : AreUnequalOnce (v ∷ list)
 
--- of these entries each GTID whose transaction is not the world's, if nothing was reported of it
+-- of these entries each GTID whose transaction is not the world's, unless it was reported already
 abbrev pub unequal_from : World → Gtids → List Entry → List Verdict
 unequal_from world said [] = []
 unequal_from world said (e ∷ es) =

@@ -38,22 +38,22 @@ pub record IsLeastPair (world : World) (g h : Gtid) (key : Key) : Type 0 where
   pub second : (a b : Gtid) → IsShared world a b key → gtid_cmp b h ≢ Less
   pub first : (a b : Gtid) → IsShared world a b key → gtid_cmp a g ≢ Less
 
--- it is reported of the least pair that touches its key
+-- the verdict reports the least pair that touches its key
 abbrev pub IsPairNamed : World → Verdict → Type 0
 IsPairNamed world (Shared g h key) = IsLeastPair world g h key
 IsPairNamed world _ = ⊥
 
--- it is reported of this key
+-- the verdict reports this key
 abbrev pub is_of_key : Key → Verdict → Bool
 is_of_key k (Shared g h key) = key_eq k key
 is_of_key k _ = false
 
--- one of these is reported of the same key
+-- one of these reports the same key
 abbrev pub is_again : Verdict → List Verdict → Bool
 is_again (Shared g h key) vs = list_any (is_of_key key) vs
 is_again _ vs = false
 
--- no two of these are reported of one key
+-- no two of these report one key
 abbrev pub AreOnce : List Verdict → Type 0
 AreOnce [] = Unit {0}
 AreOnce (v ∷ vs) = (is_again v vs ≡ false) × AreOnce vs
@@ -66,7 +66,7 @@ pub record AreOtherKeys (world : World) (v : Verdict) (list : List Verdict) : Ty
 
 -- ---- the pass over the transactions
 
--- the pair that a key is reported of, if it is shared and nothing was reported of it
+-- the pair with which a key is reported, if it is shared and was not reported already
 abbrev pub pair_of_key : Gtid → FirstTouch → FirstTouch → Key → Option Verdict
 pair_of_key h seen named key = if finmap.contains_key named key then None else shares_with h key (finmap.get seen key)
 
@@ -78,7 +78,7 @@ abbrev pub with_name : Option Verdict → Gtid → Key → FirstTouch → FirstT
 with_name None h key named = named
 with_name (Some v) h key named = finmap.insert named key h
 
--- what is reported of the keys of one transaction, and the keys of which something was reported then
+-- what is reported for the keys of one transaction, and the keys that are reported then
 abbrev pub pairs_of_keys : Gtid → FirstTouch → FirstTouch → List Key → List Verdict
 pairs_of_keys h seen named [] = []
 pairs_of_keys h seen named (key ∷ keys) =
@@ -88,7 +88,7 @@ abbrev pub named_by_keys : Gtid → FirstTouch → FirstTouch → List Key → F
 named_by_keys h seen named [] = named
 named_by_keys h seen named (key ∷ keys) = named_by_keys h seen (with_name (pair_of_key h seen named key) h key named) keys
 
--- what is reported of the keys of these, after others that touched keys first
+-- what is reported for the keys of these, after others that touched keys first
 abbrev pub pairs_from : List Table → FirstTouch → FirstTouch → List history.Entry → List Verdict
 pairs_from schema seen named [] = []
 pairs_from schema seen named (h ∷ es) =
@@ -100,7 +100,7 @@ abbrev pub key_of_verdict : Verdict → FirstTouch
 key_of_verdict (Shared g h key) = finmap.insert finmap.empty key h
 key_of_verdict _ = finmap.empty
 
--- what is reported of every other key
+-- what is reported for every other key
 abbrev pub other_pairs : World → Verdict → List Verdict
 other_pairs world v = pairs_from world.schema finmap.empty (key_of_verdict v) (finmap.entries world.contents)
 
@@ -115,7 +115,7 @@ abbrev pub is_skipped : Option Gtid → List history.Entry → Gtid → Bool
 is_skipped last [] g = false
 is_skipped last (e ∷ es) g = lies_between e.0.source (number_before last e.0.source) e.0.number g || is_skipped (Some e.0) es g
 
--- it is reported of this GTID that it is missing
+-- the verdict reports this GTID as missing
 abbrev pub is_of_missing : Gtid → Verdict → Bool
 is_of_missing g (Missing h) = same_gtid g h
 is_of_missing g _ = false
@@ -160,12 +160,12 @@ IsPartFault whole f = IsMemoryOr (HasPart HasManySources whole) (HasPart HasMany
 
 -- ---- journals
 
--- it is reported of a journal that begins after the opening set, with what is missing
+-- the verdict reports a journal that begins after the opening set, with what is missing
 abbrev pub IsJournalNamed : World → List JournalValue → Verdict → Type 0
 IsJournalNamed world journals (Purged i gtids) = IsPurged world journals i gtids
 IsJournalNamed world journals _ = ⊥
 
--- it is reported of this journal
+-- the verdict reports this journal
 abbrev pub is_of_journal : ℕ → Verdict → Bool
 is_of_journal i (Purged k gtids) = k == i
 is_of_journal i _ = false
@@ -173,7 +173,7 @@ is_of_journal i _ = false
 abbrev pub other_purged_at : World → Verdict → ℕ → JournalValue → Option Verdict
 other_purged_at world v i j = when (not (set.is_subset j.previous world.opening_set) && not (is_of_journal i v)) (Purged i (set.difference j.previous world.opening_set))
 
--- what f gives of each element of which it gives something; f is told the element's place, the first of which is n
+-- what f gives for each element for which it gives something; f takes the element's place, the first of which is n, and the element
 abbrev pub each_from : (ℕ → JournalValue → Option Verdict) → ℕ → List JournalValue → List Verdict
 each_from f n [] = []
 each_from f n (x ∷ xs) = with_pair (f n x) (each_from f (n + 1) xs)
@@ -182,15 +182,15 @@ each_from f n (x ∷ xs) = with_pair (f n x) (each_from f (n + 1) xs)
 abbrev pub other_purged : World → List JournalValue → Verdict → List Verdict
 other_purged world journals v = each_from (other_purged_at world v) 0 journals
 
--- Each is reported of a journal that begins after the opening set; every such journal is that of the verdict or of one of these.
+-- Each reports a journal that begins after the opening set; every such journal is that of the verdict or of one of these.
 pub record AreOtherJournals (world : World) (journals : List JournalValue) (v : Verdict) (list : List Verdict) : Type 0 where
   pub named : AllByRecursion (IsJournalNamed world journals) list
   pub every : (i : ℕ) (gtids : Gtids) → IsPurged world journals i gtids → (is_of_journal i v || list_any (is_of_journal i) list) ≡ true
 
 -- ---- all of it
 
--- the verdict, and what else there is: GTIDs under which journals differ from the world, journals that begin after the opening set, missing GTIDs, shared keys,
--- GTIDs that are present without what they need and sources whose transactions do not apply
+-- the verdict, and all other faults: GTIDs under which journals differ from the world, journals that begin after the opening set, missing
+-- GTIDs, shared keys, GTIDs that are present without what they need and sources whose transactions do not apply
 pub record Faults : Type 0 where
   pub verdict : Verdict
   pub unequal : List Verdict
@@ -213,7 +213,7 @@ faults_of world journals =
       does_not_apply = other_refusals world v;
     }
 
--- these are held
+-- the faults that the code's record denotes
 pub record HoldsFaults (held : AllFaults) (all : Faults) : Type 0 where
   pub verdict : held.verdict ≡ all.verdict
   pub unequal : held.unequal.items ≡ all.unequal
@@ -223,8 +223,8 @@ pub record HoldsFaults (held : AllFaults) (all : Faults) : Type 0 where
   pub not_closed : held.not_closed.items ≡ all.not_closed
   pub does_not_apply : held.does_not_apply.items ≡ all.does_not_apply
 
--- After the verdict there is each other GTID under which journals differ from the world, journal that begins after the opening set, missing GTID, shared key and GTID
--- that is present without what it needs, and each other source whose transactions do not apply; and nothing else.
+-- After the verdict there is each other GTID under which journals differ from the world, journal that begins after the opening set, missing
+-- GTID, shared key and GTID that is present without what it needs, and each other source whose transactions do not apply; and nothing else.
 -- The journals may be others than those that the world was made of.
 pub record AreAll (world : World) (journals : List JournalValue) (all : Faults) : Type 0 where
   pub verdict : all.verdict ≡ verdict world journals

@@ -1,4 +1,4 @@
--- Searches that count.
+-- Searches that count places.
 use Rattle.std.specs.Prelude.{ℕ, ◌+◌, not, List, [], ◌∷◌, Option, None}
 use Rattle.std.specs.FinSet as set
 use Rattle.journal.specs.Journals.{JournalValue}
@@ -7,7 +7,7 @@ use Rattle.world.specs.declared.verdict.Verdict.{Verdict}
 use Rattle.world.specs.declared.verdict.Verdict.TheVariants.{Purged}
 use Rattle.world.specs.Search.{or_next, when}
 
--- what f gives of the first element of which it gives something; f is told the element's place, the first of which is n
+-- what f gives for the first element for which it gives something; f takes the element's place, the first of which is n, and the element
 abbrev pub first_from : {A B : Type 0} → (ℕ → A → Option B) → ℕ → List A → Option B
 first_from f n [] = None
 first_from f n (x ∷ xs) = or_next (f n x) (first_from f (n + 1) xs)

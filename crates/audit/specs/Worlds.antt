@@ -49,7 +49,7 @@ IsWorldFault schema opened journals (world.NotInSchema g fault) = IsMisfit schem
 
 -- ---- places in the order of GTIDs
 
--- at this place stands the transaction of a GTID
+-- at this place is the transaction of a GTID
 pub record IsPlaceOf (contents : Contents) (g : Gtid) (place : ℕ) : Type 0 where
   pub entry : Entry
   pub there : slice_get (in_order contents) place ≡ Some entry
@@ -65,6 +65,6 @@ IsPlaceIn contents g (Some place) = IsPlaceOf contents g place
 abbrev pub AreMarkedMore : Contents → List Entry → List Bool → List Bool → Type 0
 AreMarkedMore contents es old new = (place : ℕ) (e : Entry) → slice_get (in_order contents) place ≡ Some e → slice_index_or new place false ≡ true → (slice_index_or old place false ≡ true) ⊎ (stands_in es e.gtid ≡ true)
 
--- each transaction's GTID stands among these entries
+-- each transaction's GTID is that of one of these entries
 abbrev pub AreAllIn : Contents → List Entry → Type 0
 AreAllIn contents es = (g : Gtid) (t : Transaction) → finmap.get contents g ≡ Some t → stands_in es g ≡ true

@@ -1,4 +1,4 @@
-//! What stands in journals, where that is not all that the world has.
+//! What journals have, where that is not all that the world has.
 ghost use Rattle.std.specs.Prelude.{◌≡◌, IfOk, None, length, true};
 ghost use Rattle.std.specs.List.{list_all};
 ghost use Rattle.std.specs.Option.{unwrap_or};
@@ -18,7 +18,7 @@ fn are_all(marks: &[bool]) -> bool
 }
 
 impl World {
-    /// Marks the place of each transaction whose GTID stands among entries.
+    /// Marks the place of each transaction whose GTID is that of one of these entries.
     fn mark(&self, marks: &mut Vec<bool>, entries: &[Entry])
         ensures len { length marks.new.items ≡ length marks.old.items }
         ensures marks { AreMarkedMore self.now.contents entries.now marks.old.items marks.new.items }
@@ -34,7 +34,7 @@ impl World {
         }
     }
 
-    /// Whether each transaction's GTID is seen to be in a journal. It takes a byte for each transaction.
+    /// Whether each transaction's GTID is found in a journal. It takes a byte for each transaction.
     fn stands_whole(&self, alloc: Global, journals: &[Journal]) -> Result<bool, AllocError>
         ensures { IfOk result (λ yes. yes ≡ true → AreAllIn self.now.contents (all_entries journals.now)) }
     {
@@ -45,7 +45,7 @@ impl World {
         Ok(are_all(&marks))
     }
 
-    /// Whether the world is seen to be that of journals; they may be known to bring nothing unequal.
+    /// Whether the world is found to be that of journals; the caller may know that they bring nothing unequal.
     fn is_of(&self, alloc: Global, journals: &[Journal], equal: bool) -> Result<bool, AllocError>
         requires { equal ≡ true → unequal self.now journals.now ≡ None }
         ensures { IfOk result (λ yes. yes ≡ true → IsWorldOf self.now journals.now) }
@@ -57,7 +57,7 @@ impl World {
         self.stands_whole(alloc, journals)
     }
 
-    /// What journals bring first under each GTID beyond the opening set, where that is not seen to be what
+    /// What journals bring first under each GTID beyond the opening set, where that is not found to be what
     /// the world has.
     pub(crate) fn brought(
         &self,

@@ -15,8 +15,8 @@ use rows::Transaction;
 use std::alloc::{AllocError, Global};
 use std::marker::Model;
 
-/// For each source the place at which its next transaction is sought first. Some sources share one: it is a
-/// guess, and what is there is looked at.
+/// For each source the place at which its next transaction is looked for first. Some sources share one: it is a
+/// guess, and what is there is tested.
 pub(crate) type Guesses = [usize; 16];
 
 /// From each GTID to its transaction: the entries in the order of GTIDs, no GTID twice. The images
@@ -53,7 +53,7 @@ impl Contents {
         Ok(Contents { entries })
     }
 
-    /// The transaction of a GTID, which is sought at the guess of its source first.
+    /// The transaction of a GTID, which is looked for at the guess of its source first.
     pub(crate) fn get_near(&self, guesses: &mut Guesses, gtid: &Gtid) -> Option<&Transaction>
         ensures { option_copied result ≡ finmap.get self.now gtid.now }
     {
@@ -63,7 +63,7 @@ impl Contents {
         }
     }
 
-    /// The place of a GTID in the order of GTIDs, if it has a transaction. It is sought at the guess of its
+    /// The place of a GTID in the order of GTIDs, if it has a transaction. It is looked for at the guess of its
     /// source first.
     pub(crate) fn place_near(&self, guesses: &mut Guesses, gtid: &Gtid) -> Option<usize>
         ensures { IsPlaceIn self.now gtid.now result }
@@ -116,8 +116,8 @@ fn push_entries(
     Ok(())
 }
 
-/// Sorts entries by their GTIDs and keeps the first of each. Where they rise already, it only looks
-/// at them; else the sort takes room for as many entries.
+/// Sorts entries by their GTIDs and keeps the first of each. Where they are ascending already, it only looks
+/// at them; else the sort allocates room for as many entries.
 fn keep_firsts(list: &mut Vec<Entry>) -> Result<(), AllocError>
     ensures rising { OnOk result (IsRising list.new.items) }
     ensures firsts { OnOk result (contents_of list.new.items ≡ contents_of list.old.items) }
@@ -130,7 +130,7 @@ fn keep_firsts(list: &mut Vec<Entry>) -> Result<(), AllocError>
     Ok(())
 }
 
-/// Whether the GTIDs of entries rise, none of them twice.
+/// Whether the GTIDs of entries are ascending, none of them twice.
 fn is_ascending(entries: &[Entry]) -> bool
     ensures { result ≡ true → IsRising entries.now }
 {
@@ -144,7 +144,7 @@ fn guess_of(source: SourceId) -> usize
     (source.bits() % 16) as usize
 }
 
-/// Where a GTID stands among entries, or where it would. It is sought at the guess of its source first. The
+/// The place of a GTID among entries, or where it would be. It is looked for at the guess of its source first. The
 /// next guess is the place after it.
 fn seek(entries: &[Entry], guesses: &mut Guesses, gtid: &Gtid) -> Result<usize, usize>
     ensures within { IsSearchInRange result (length entries.now) }
@@ -158,7 +158,7 @@ fn seek(entries: &[Entry], guesses: &mut Guesses, gtid: &Gtid) -> Result<usize, 
     found
 }
 
-/// Where a GTID stands among entries, or where it would. It is sought at a guess first.
+/// The place of a GTID among entries, or where it would be. It is looked for at a guess first.
 fn place_near(entries: &[Entry], guess: usize, gtid: &Gtid) -> Result<usize, usize>
     ensures within { IsSearchInRange result (length entries.now) }
     ensures place { IsBinarySearchResult (λ e. gtid_cmp e.gtid gtid.now) entries.now result }
@@ -171,7 +171,7 @@ fn place_near(entries: &[Entry], guess: usize, gtid: &Gtid) -> Result<usize, usi
     place_of(entries, gtid)
 }
 
-/// Where a GTID stands among entries, or where it would.
+/// The place of a GTID among entries, or where it would be.
 fn place_of(entries: &[Entry], gtid: &Gtid) -> Result<usize, usize>
     ensures within { IsSearchInRange result (length entries.now) }
     ensures place { IsBinarySearchResult (λ e. gtid_cmp e.gtid gtid.now) entries.now result }

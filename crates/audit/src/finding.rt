@@ -12,7 +12,7 @@ use journal::Journal;
 use std::alloc::{AllocError, Global};
 use world::Verdict;
 
-/// Each journal keeps what a journal keeps. (A fact about the type, for the proofs of callers.)
+/// What the type `Journal` keeps holds of each journal. (For the proofs of callers.)
 pub fn keep_rules(journals: &[Journal])
     ensures { AreJournals journals.now }
 {

@@ -26,14 +26,14 @@ pub(crate) fn stands(previous: &GtidSet, standing: &Standing, gtid: &Gtid) -> bo
     previous.contains(gtid) || standing.has(gtid)
 }
 
-/// Whether one of these does not stand.
+/// Whether one of these is absent.
 fn lacks_any(previous: &GtidSet, standing: &Standing, gtids: &[Gtid]) -> bool
     ensures { result ≡ list_any (λ g. not (stands previous.now standing.now g)) gtids.now }
 {
     gtids.iter().any(|gtid| !stands(previous, standing, gtid))
 }
 
-/// Whether something that an entry needs does not stand.
+/// Whether something that an entry needs is absent.
 fn lacks(needs: &Needs, previous: &GtidSet, standing: &Standing, gtid: &Gtid) -> bool
     ensures { result ≡ lacks needs.now (stands previous.now standing.now) gtid.now }
 {
@@ -52,7 +52,7 @@ fn comes_before(a: &Gtid, b: &Gtid) -> bool
 
 impl World {
     /// Whether an earlier entry, which comes before another in its source and shares a key with it,
-    /// does not stand. The keys are those that the other touches.
+    /// is absent. The keys are those that the other touches.
     fn is_left(
         &self,
         alloc: Global,
@@ -73,7 +73,7 @@ impl World {
         Ok(shares && !stands(previous, standing, &earlier.gtid))
     }
 
-    /// The least that shares a key with an entry, comes before it in its source and does not stand.
+    /// The least that shares a key with an entry, comes before it in its source and is absent.
     fn least_left(
         &self,
         alloc: Global,
@@ -169,7 +169,7 @@ impl World {
         self.first_gap(alloc, needs, journals)
     }
 
-    /// What each transaction needs, and whether sources are seen to touch no key in common.
+    /// What each transaction needs, and whether sources are found to touch no key in common.
     pub(crate) fn needs(&self, alloc: Global) -> Result<Needed, AllocError>
         ensures needs { IfOk result (λ found. found.needs ≡ needs_in self.now) }
         ensures apart { IfOk result (λ found. found.apart ≡ true → shared self.now ≡ None) }

@@ -2,24 +2,24 @@
 //!
 //! What a contract sees: a `World` is the record of its schema, opening set, opening rows and a finite map from GTIDs to transactions.
 //! `world_of` gathers it from journals, where the first transaction of a GTID counts. `audit` gives exactly the definition `verdict`
-//! (`found`), and `audit_keys` all of it but the application. So the laws of `world` hold of what they give. The journals that are
+//! (`found`), and `audit_keys` all of it but the application. So the laws of `world` hold of their results. The journals that are
 //! audited may be others than those that the world was made of: Unequal then means that one differs from what the world has.
 //!
 //! `audit_all` gives the verdict and, after it, the other GTIDs under which journals differ from the world, the other journals that begin after the
 //! opening set, the other missing GTIDs, the other shared keys, the other GTIDs that are in a journal without the nearest earlier one at
-//! a key, and, where the verdict is that a transaction does not apply, the first that does not of each other source: `faults_are_all` says
-//! that these are all there are, and each but once.
+//! a key, and, where the verdict is that a transaction does not apply, the first that does not of each other source: `faults_are_all`
+//! states that these are all there are, and each but once.
 //!
 //! An error is out of memory, or a full set (E8) where the set that a Purged verdict would name has too many intervals (`fault`).
 //!
 //! How it is kept: transactions are in one list in the order of GTIDs, sorted only where journals do not bring them so. One pass each
-//! finds Missing, Shared and DoesNotApply, and one over each journal Unequal and NotClosed. Where journals are seen to be in order,
+//! finds Missing, Shared and DoesNotApply, and one over each journal Unequal and NotClosed. Where journals are found to be in order,
 //! nothing can be missing or left out, and no table is made for either. Else Missing goes over the world's list where each of its
-//! transactions is seen to be in a journal, for which it marks them, and over a list of what the journals bring where not.
+//! transactions is found in a journal, for which it marks them, and over a list of what the journals bring where not.
 //! DoesNotApply is one application of all sources together, which by `one_pass_applies` names the same transaction. Between two numbers
-//! of a source the opening set is asked for the end of a run, so its size costs nothing.
+//! of a source the end of a run of the opening set is looked up, so that the set's size costs nothing.
 //!
-//! Cost, by form and not by proof: n log n in entries at most; each key is looked up once. Measured: 225,000 transactions a second of
+//! Cost, from the code and not proved: n log n in entries at most; each key is looked up once. Measured: 225,000 transactions a second of
 //! 1,000,000. The hash has a fixed seed: whoever writes a journal can make an audit slow, never wrong.
 #![tactic(auto)]
 

@@ -12,7 +12,7 @@ use journal::Journal;
 use std::alloc::Global;
 use world::Verdict;
 
-/// What an audit lists: its verdict, and what else there is.
+/// What an audit lists: its verdict, and all other faults.
 #[derive(Drop)]
 pub struct AllFaults {
     /// The verdict of `audit`.
@@ -64,7 +64,7 @@ impl World {
         Ok(list)
     }
 
-    /// What else there is.
+    /// All other faults.
     fn list_behind(
         &self,
         alloc: Global,

@@ -1,4 +1,4 @@
-//! What each transaction must not come before.
+//! The transactions that must come before each transaction.
 ghost use Rattle.std.specs.Prelude.{◌≡◌, IfOk, OnOk, map, true, None};
 ghost use Rattle.std.specs.Option.{option_copied};
 ghost use Rattle.std.specs.FinMap as finmap;
@@ -88,7 +88,7 @@ pub(crate) struct Needed {
     pub(crate) apart: bool,
 }
 
-/// What each of these entries needs, and whether their sources are seen to touch no key in common.
+/// What each of these entries needs, and whether their sources are found to touch no key in common.
 pub(crate) fn needs_of(
     alloc: Global,
     schema: &Schema,

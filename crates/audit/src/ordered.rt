@@ -30,7 +30,7 @@ fn top_number(tops: &IndexMap<SourceId, u64>, opened: &GtidSet, source: SourceId
     }
 }
 
-/// From the top of one source to that of another. The table keeps the one that is left.
+/// From the last number of one source to that of another. The table keeps that of the source that is left.
 fn turn_to(
     tops: &mut IndexMap<SourceId, u64>,
     opened: &GtidSet,
@@ -49,7 +49,7 @@ fn turn_to(
     Ok(Gtid { source, number })
 }
 
-/// The top of a source once a number of it came, unless that skips one.
+/// The last number of a source once a further one came, unless that skips one.
 fn next_top(top: Gtid, number: u64) -> Option<Gtid>
     ensures { IfSome result (λ g. IsRaised top number g) }
 {
@@ -65,7 +65,7 @@ fn next_top(top: Gtid, number: u64) -> Option<Gtid>
     })
 }
 
-/// Whether a journal is seen to bring the numbers of each source one after another.
+/// Whether a journal is found to bring the numbers of each source one after another.
 fn is_in_order(alloc: Global, opened: &GtidSet, entries: &[Entry]) -> Result<bool, AllocError>
     ensures { IfOk result (λ yes. yes ≡ true → IsInOrder opened.now entries.now) }
 {
@@ -85,7 +85,7 @@ fn is_in_order(alloc: Global, opened: &GtidSet, entries: &[Entry]) -> Result<boo
 }
 
 impl World {
-    /// Whether each journal is seen to bring the numbers of each source one after another.
+    /// Whether each journal is found to bring the numbers of each source one after another.
     pub(crate) fn are_in_order(
         &self,
         alloc: Global,

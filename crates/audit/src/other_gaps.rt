@@ -15,7 +15,7 @@ use journal::Journal;
 use std::alloc::{AllocError, Global};
 use world::Verdict;
 
-/// The first of these that does not stand.
+/// The first of these that is absent.
 fn first_of(previous: &GtidSet, standing: &Standing, gtids: &[Gtid]) -> Option<Gtid>
     ensures { result ≡ find (λ h. not (stands previous.now standing.now h)) gtids.now }
 {
@@ -27,7 +27,7 @@ fn first_of(previous: &GtidSet, standing: &Standing, gtids: &[Gtid]) -> Option<G
     None
 }
 
-/// Of what a GTID needs, the first that does not stand.
+/// Of what a GTID needs, the first that is absent.
 fn first_absent(needs: &Needs, previous: &GtidSet, standing: &Standing, gtid: &Gtid) -> Option<Gtid>
     ensures { result ≡ first_absent needs.now (stands previous.now standing.now) gtid.now }
 {
@@ -37,7 +37,7 @@ fn first_absent(needs: &Needs, previous: &GtidSet, standing: &Standing, gtid: &G
     }
 }
 
-/// Says that a GTID is present without another, where nothing was reported of it.
+/// Reports that a GTID is present without another, unless that GTID was reported already.
 fn say_gap(
     found: &mut Vec<Verdict>,
     said: &mut Standing,
@@ -55,7 +55,7 @@ fn say_gap(
     Ok(())
 }
 
-/// Says of each entry of a journal what it is present without.
+/// Reports each entry of a journal that is present without another, by the first of these.
 fn say_among(
     alloc: Global,
     needs: &Needs,
@@ -75,7 +75,7 @@ fn say_among(
     Ok(())
 }
 
-/// The GTID of the verdict, of which nothing more is reported.
+/// The GTID of the verdict, which is not reported again.
 fn gap_of_verdict(alloc: Global, verdict: &Verdict) -> Result<Standing, AllocError>
     ensures { IfOk result (λ said. said ≡ gap_of_verdict verdict.now) }
 {
@@ -86,7 +86,7 @@ fn gap_of_verdict(alloc: Global, verdict: &Verdict) -> Result<Standing, AllocErr
     Ok(said)
 }
 
-/// Each GTID that is present without something it needs, but those of which something is reported.
+/// Each GTID that is present without something it needs, but that of the verdict.
 fn gaps_beside(
     alloc: Global,
     needs: &Needs,

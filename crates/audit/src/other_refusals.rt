@@ -12,7 +12,7 @@ use rows::{ApplyFault, Rows};
 use std::alloc::{AllocError, Global};
 use world::Verdict;
 
-/// Of each source greater than one the first of these that does not apply, one after another. Where one
+/// For each source greater than a given one the first of these that does not apply, one after another. Where one
 /// does not, the others of its source are passed over.
 fn refusals_among(
     alloc: Global,
@@ -43,7 +43,7 @@ fn refusals_among(
 }
 
 impl World {
-    /// Of each source greater than one the first transaction that does not apply.
+    /// For each source greater than a given one the first transaction that does not apply.
     fn refusals_after(&self, alloc: Global, source: SourceId) -> Result<Vec<Verdict>, AllocError>
         ensures { IfOk result (λ found. found.items ≡ refused_from self.now.schema source (finmap.entries self.now.contents) self.now.opening_rows) }
     {

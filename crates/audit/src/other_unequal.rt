@@ -14,7 +14,7 @@ use std::alloc::{AllocError, Global};
 use world::Verdict;
 
 impl World {
-    /// Says of an entry that it is unequal, where it is and that was not reported of its GTID.
+    /// Reports the GTID of an entry as unequal, where it is and was not reported already.
     fn say_unequal(
         &self,
         found: &mut Vec<Verdict>,
@@ -46,7 +46,7 @@ impl World {
         Ok(())
     }
 
-    /// Each GTID that is unequal, but one of which that is reported.
+    /// Each GTID that is unequal, but one that is reported already.
     fn unequal_beside(
         &self,
         alloc: Global,

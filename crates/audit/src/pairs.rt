@@ -12,7 +12,7 @@ use rows::{Key, Schema, keys_touched};
 use std::alloc::{AllocError, Global};
 use world::Verdict;
 
-/// The key of the verdict, of which nothing more is reported.
+/// The key of the verdict, which is not reported again.
 fn key_of_verdict(alloc: Global, verdict: &Verdict) -> Result<Touches, AllocError>
     ensures { IfOk result (λ named. named ≡ key_of_verdict verdict.now) }
 {
@@ -24,7 +24,7 @@ fn key_of_verdict(alloc: Global, verdict: &Verdict) -> Result<Touches, AllocErro
     Ok(named)
 }
 
-/// The pair that a key is reported of, if a smaller source touched it and it has no name yet.
+/// The pair with which a key is reported, if a smaller source touched it and it was not reported already.
 fn pair_of_key(
     seen: &Touches,
     named: &Touches,
@@ -45,7 +45,7 @@ fn pair_of_key(
     Ok(None)
 }
 
-/// The pairs of these keys that are shared and have no name yet; then they have one.
+/// Reports those of these keys that are shared and were not reported already, each with its pair.
 fn push_pairs(
     found: &mut Vec<Verdict>,
     named: &mut Touches,

@@ -32,7 +32,7 @@ fn first_shared(
     Ok(None)
 }
 
-/// Whether these entries, in turn, are seen to touch no key that another source touched before.
+/// Whether these entries, in turn, are found to touch no key that another source touched before.
 fn are_apart(alloc: Global, schema: &Schema, entries: &[Entry]) -> Result<bool, AllocError>
     ensures { IfOk result (λ yes. yes ≡ true → shared_from schema.now finmap.empty (map as_pair entries.now) ≡ None) }
 {
@@ -47,14 +47,14 @@ fn are_apart(alloc: Global, schema: &Schema, entries: &[Entry]) -> Result<bool, 
 }
 
 impl World {
-    /// Whether sources are seen to touch no key in common. It looks for each key once.
+    /// Whether sources are found to touch no key in common. It looks for each key once.
     fn are_apart(&self, alloc: Global) -> Result<bool, AllocError>
         ensures { IfOk result (λ yes. yes ≡ true → shared self.now ≡ None) }
     {
         are_apart(alloc, self.rows().schema(), self.in_order())
     }
 
-    /// What `shared` finds, soonest where it finds nothing.
+    /// What `shared` finds; it is fastest where that is nothing.
     pub(crate) fn shared_unless_apart(&self, alloc: Global) -> Result<Option<Verdict>, AllocError>
         ensures { IfOk result (λ found. found ≡ shared self.now) }
     {

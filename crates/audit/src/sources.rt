@@ -75,8 +75,8 @@ impl World {
         self.contents.in_order()
     }
 
-    /// The opening set has none of the transactions' GTIDs, and their numbers begin with 1. (A fact about
-    /// the type, for the proofs of callers.)
+    /// The opening set has none of the transactions' GTIDs, and their numbers begin with 1. (The type keeps it;
+    /// for the proofs of callers.)
     pub fn lie_beyond(&self)
         ensures { LieBeyond self.now.opening_set self.now.contents }
     {

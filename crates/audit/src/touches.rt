@@ -57,7 +57,7 @@ impl Touches {
         Ok(())
     }
 
-    /// A GTID touches a key. What touched it before comes back.
+    /// A GTID touches a key. The result is what touched it before.
     fn replace(&mut self, key: Key, gtid: &Gtid) -> Result<Option<Gtid>, AllocError>
         ensures put { OnOk result (self.new ≡ finmap.insert self.old key gtid.now) }
         ensures before { IfOk result (λ before. before ≡ finmap.get self.old key) }

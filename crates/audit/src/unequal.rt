@@ -11,7 +11,7 @@ use journal::{Entry, Journal};
 use world::Verdict;
 
 impl World {
-    /// Whether the world has this transaction under this GTID, which is sought at its source's guess first.
+    /// Whether the world has this transaction under this GTID, which is looked for at its source's guess first.
     fn has(&self, guesses: &mut Guesses, entry: &Entry) -> bool
         ensures { result ≡ is_content self.now entry.now }
     {

@@ -13,7 +13,7 @@ use Rattle.journal.specs.Edges.{HasEndsOf, HasEdgesOf}
 use Rattle.auto_position.specs.declared.PositionFault.{PositionFault}
 use Rattle.auto_position.specs.declared.PositionFault.TheVariants.{PurgedRequired, ReplicaHasMore, Set}
 
--- the GTIDs of the source's own that are asked with, where its UUID is given
+-- the source's own GTIDs that are asked with, where its UUID is given
 abbrev pub own_of : Gtids → Option ℕ → Gtids
 own_of ask None = set.empty
 own_of ask (Some own) = only ask own

@@ -6,9 +6,9 @@
 //! source does not. The order of the two refusals, and that the second names the set, are our own rules.
 //!
 //! What a contract sees: the journal, the set that is asked with, and one definition, `sent` (`specs/Sending`), by which runs and
-//! networks also say what a channel receives.
+//! networks also define what a channel receives.
 //!
-//! Not proved: speed. By form each entry is looked for once in the set, and the entries of the own UUID are sorted once.
+//! Not proved: speed. By the code each entry is looked for once in the set, and the entries of the own UUID are sorted once.
 #![tactic(auto)]
 
 ghost use Rattle.std.specs.Prelude.{◌≡◌, ◌==◌, IfOk, IfErr};
@@ -89,7 +89,7 @@ fn recorded_gtids(alloc: Global, source: SourceId, entries: &[Entry]) -> Result<
     Ok(recorded)
 }
 
-/// The GTIDs of the source's own that are asked with and that the journal has no record of.
+/// The source's own GTIDs that are asked with and that the journal has no record of.
 fn unknown_gtids(
     alloc: Global,
     own: SourceId,

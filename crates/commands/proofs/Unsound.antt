@@ -13,7 +13,7 @@ use Rattle.commands.specs.Said.{Holds}
 use Rattle.commands.specs.Bundles.{verdict_said, state_or_verdict, apply_answer, union_of_journals, rows_of_union}
 use Rattle.commands.specs.declared.answer.Answer.{Answer}
 
--- any other verdict is said as it is
+-- any other verdict is reported as it is
 verdict_is_said : (v : Verdict) (executed : Gtids) (rows : Result Rows RowFault) → (v ≡ Sound → ⊥) → state_or_verdict v executed rows ≡ verdict_said v
 verdict_is_said Sound executed rows isnt = absurd (isnt refl)
 verdict_is_said (Unequal g) executed rows isnt = refl

@@ -1,4 +1,4 @@
--- What a bundle is asked for, and what is answered.
+-- What the commands on bundles answer.
 use Rattle.std.specs.Prelude.{ℕ, List, Some, None, Result, Ok, Err}
 use Rattle.std.specs.FinSet as set
 use Rattle.rows.specs.declared.change.RowFault.{RowFault}
@@ -31,7 +31,7 @@ use Rattle.commands.specs.declared.edge.Outcome.TheVariants.{Done, Refused}
 abbrev pub bundle_in : List ℕ → Result BundleValue JournalFault
 bundle_in bytes = closing_bundle (eats_bundle (bundle_start None) bytes)
 
--- the grammar of bundles says so
+-- by the grammar of bundles the bytes are the text of this bundle, or have this first fault
 abbrev pub SpellsBundle : List ℕ → Result BundleValue JournalFault → Type 0
 SpellsBundle bytes (Ok b) = WritesBundle bytes b
 SpellsBundle bytes (Err fault) = RefusesBundle fault bytes
@@ -40,7 +40,7 @@ SpellsBundle bytes (Err fault) = RefusesBundle fault bytes
 abbrev pub old_bundle_in : List ℕ → Result BundleValue JournalFault
 old_bundle_in bytes = closing_bundle (eats_bundle (bundle_start (Some One)) bytes)
 
--- the grammar of bundles of version 1 says so
+-- the same by the grammar of version 1
 abbrev pub SpellsOldBundle : List ℕ → Result BundleValue JournalFault → Type 0
 SpellsOldBundle bytes (Ok b) = WritesBundleBy (Some One) bytes b
 SpellsOldBundle bytes (Err fault) = RefusesBundleBy (Some One) fault bytes

@@ -1,4 +1,4 @@
--- What `audit --explain` says beside the verdict.
+-- What `audit --explain` shows beside the verdict.
 use Rattle.std.specs.Prelude.{◌≡◌, ◌⊎◌, ℕ, List, Option, Some, None, Result, Ok, Err}
 use Rattle.std.specs.Io.KnownBytes.{Appends}
 use Rattle.gtid_set.specs.Sets.{Gtids}
@@ -22,13 +22,13 @@ use Rattle.commands.specs.declared.edge.RunFault.{RunFault}
 use Rattle.commands.specs.declared.edge.RunFault.TheVariants.{Memory, Read, Write}
 use Rattle.commands.specs.declared.explain_command.Explained.{Explained}
 
--- ---- what is said
+-- ---- what is shown
 
 -- the set of them has too many sources or intervals
 abbrev pub AreTooMany : BundleValue → Type 0
 AreTooMany b = IsFaultsFault b SourcesFull ⊎ IsFaultsFault b PoolFull
 
--- beside a missing GTID these are missing too, or their set is too large; beside other verdicts nothing is asked
+-- beside a missing GTID these are missing too, or their set is too large; beside other verdicts there are none
 abbrev pub AreMissingBeside : BundleValue → Verdict → Option Gtids → Type 0
 AreMissingBeside b (Missing g) (Some gtids) = gtids ≡ (faults_over b).missing
 AreMissingBeside b (Missing g) None = AreTooMany b
@@ -52,26 +52,26 @@ pub record IsRefusalExplained (bytes : List ℕ) (said : Said) (notes : List ℕ
   pub refused : said ≡ refused_with refusal
   pub explained : notes ≡ refusal_explained (lines_of bytes) refusal
 
--- It is what an audit answers to these bytes, and these lines explain that.
+-- It is the answer of an audit to these bytes, and these lines explain that.
 pub record Explains (order : Order) (bytes : List ℕ) (said : Said) (notes : List ℕ) : Type 0 where
   pub audits : Audits order bytes said
   pub explained : IsVerdictExplained order bytes said notes ⊎ IsRefusalExplained bytes said notes
 
--- ---- what is held
+-- ---- results
 
--- an answer is held, and what explains it
+-- the result holds an answer, and what explains it
 pub record HoldsExplained (order : Order) (bytes : List ℕ) (held : Explained) : Type 0 where
   pub said : Said
   pub explains : Explains order bytes said (held.notes.items)
   pub holds : Holds held.answer said
 
--- it is held, or it is the line of a refusal; or memory ran out
+-- the result holds both, or the answer is the line of this refusal; or memory was refused
 abbrev pub FindsExplained : Order → List ℕ → Result Explained Fault → Type 0
 FindsExplained order bytes (Ok held) = HoldsExplained order bytes held
 FindsExplained order bytes (Err (fault.Refused r)) = Audits order bytes (refused_with r)
 FindsExplained order bytes (Err fault.Memory) = Unit {0}
 
--- an answer stands as it is, and a refusal is its line with what explains it
+-- an answer is taken as it is, and for a refusal there is its line with what explains it
 abbrev pub SettlesExplained : List ℕ → Result Explained Fault → Explained → Type 0
 SettlesExplained bytes (Ok found) held = held ≡ found
 SettlesExplained bytes (Err (fault.Refused r)) held = Holds held.answer (refused_with r) × (held.notes.items ≡ refusal_explained (lines_of bytes) r)
@@ -79,7 +79,7 @@ SettlesExplained bytes (Err fault.Memory) held = ⊥
 
 -- ---- what is written
 
--- the lines that explain the answer were written after what stood there, and nothing else
+-- the lines that explain the answer were written after what was there, and nothing else
 abbrev pub IsToldWhole : {E : Type 0} → Order → Output E → Output E → List ℕ → Said → Type 0
 IsToldWhole order old new bytes said = (notes : List ℕ) × Explains order bytes said notes × Appends old.written new.written notes
 

@@ -29,7 +29,7 @@ use Rattle.commands.specs.declared.import_fault.ImportCause.TheVariants.{Line, U
 use Rattle.commands.specs.declared.import_fault.Refused.{Refused as Refusal}
 use Rattle.commands.specs.declared.import_fault.Refused.TheVariants.{Known, At}
 
--- the word of a refusal
+-- a cause as it is printed
 abbrev pub cause_word : ImportCause → List ℕ
 cause_word (Line refusal) = word_of refusal
 cause_word Unfinished = codes "unfinished"
@@ -96,6 +96,6 @@ pub record IsImportRefused (bytes : Bool) (text : List ℕ) (said : Said) : Type
   pub none : IsNoBundle bytes fault text
   pub says : said ≡ import_refused fault
 
--- it is what importing answers to this text
+-- it is the answer of `import` to this text
 abbrev pub TellsImport : Bool → List ℕ → Said → Type 0
 TellsImport bytes text said = IsImport bytes text said ⊎ IsImportRefused bytes text said

@@ -25,7 +25,7 @@ abbrev pub run_lines : List Span → List ℕ
 run_lines [] = []
 run_lines (s ∷ ss) = run_line s ++ run_lines ss
 
--- what is held
+-- the faults that the code's record denotes
 abbrev pub held_faults : AllFaults → Faults
 held_faults all = record {
   verdict = all.verdict;
@@ -52,6 +52,6 @@ faults_said all = record { text = faults_text all; outcome = verdict_ending all.
 abbrev pub list_answer : BundleValue → Said
 list_answer b = faults_said (faults_over b)
 
--- it is what an audit lists of these bytes
+-- it is the answer of `audit --all` to these bytes
 abbrev pub Lists : List ℕ → Said → Type 0
 Lists bytes said = Tells SpellsBundle bundle_in list_answer IsFaultsFault bytes said

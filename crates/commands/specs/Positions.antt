@@ -24,12 +24,12 @@ use Rattle.commands.specs.declared.edge.Outcome.TheVariants.{Done, Refused}
 abbrev pub journal_in : List ℕ → Result JournalValue JournalFault
 journal_in bytes = closing (eats_alone before_first bytes)
 
--- the grammar of journals says so
+-- by the grammar of journals the bytes are the text of this journal, or have this first fault
 abbrev pub SpellsJournal : List ℕ → Result JournalValue JournalFault → Type 0
 SpellsJournal bytes (Ok j) = Writes bytes j
 SpellsJournal bytes (Err fault) = Refuses fault bytes
 
--- ---- what is answered
+-- ---- answers
 
 -- the source's own UUID and the set that is asked with
 abbrev pub Asking : Type 0
@@ -39,14 +39,14 @@ Asking = SourceId × Gtids
 abbrev pub asking_in : List ℕ → List ℕ → Result Asking Fault
 asking_in own ask = source_word own >>= λ source. set_word ask >>= λ gtids. Ok (source, gtids)
 
--- what is sent, or why nothing is
+-- the answer where these entries are sent, or where nothing is
 abbrev pub sending_said : Result (List Entry) PositionFault → Said
 sending_said (Ok entries) = record { text = sending_text entries; outcome = Done }
 sending_said (Err (faults.PurgedRequired gtids)) = record { text = with_line_feed (required_line gtids); outcome = Refused }
 sending_said (Err (faults.ReplicaHasMore gtids)) = record { text = with_line_feed (more_line gtids); outcome = Refused }
 sending_said (Err (faults.Set fault)) = fault_said (set_fault fault)
 
--- what the source answers whose journal this is
+-- the answer of the source whose journal this is
 abbrev pub position_answer : Asking → JournalValue → Said
 position_answer asking j = sending_said (sent j asking.1 (Some asking.0))
 
@@ -54,7 +54,7 @@ position_answer asking j = sending_said (sent j asking.1 (Some asking.0))
 abbrev pub Positions : Asking → List ℕ → Said → Type 0
 Positions asking bytes said = Tells SpellsJournal journal_in (position_answer asking) (λ j. IsPlanFault j asking.1) bytes said
 
--- a bad word is answered with its line, and nothing is read; else what is read is
+-- where a word is bad, the answer is its line, and nothing is read; else the answer is for all that is read
 abbrev pub to_asking : Result Asking Fault → Answering
 to_asking (Ok asking) = to_all (Positions asking)
 to_asking (Err fault) = at_once (fault_said fault)

@@ -51,22 +51,22 @@ IsFullSaid may said =
     (may sets.SourcesFull × (said ≡ refused_with refusal.SourcesFull))
     ⊎ (may sets.PoolFull × (said ≡ refused_with refusal.PoolFull))
 
--- It is the answer to what the bytes are, by their fold and by their grammar; or a set has too many sources or intervals, and it is the line of
--- that.
+-- It is the answer to what the bytes parse as, by the reader's fold and by the grammar; or a set has too many sources or intervals, and it
+-- is the line of that.
 abbrev pub Tells : {V : Type 0} → (List ℕ → Result V JournalFault → Type 0) → (List ℕ → Result V JournalFault) → (V → Said) → (V → SetFault → Type 0) → List ℕ → Said → Type 0
 Tells Spells decoded says MayFail bytes said =
     (Spells bytes (decoded bytes) × (said ≡ answer_of says (decoded bytes)))
     ⊎ IsFullSaid (IsFullFor Spells decoded MayFail bytes) said
 
--- the answer that is held is this
+-- the code's answer denotes this one
 abbrev pub Holds : Answer → Said → Type 0
 Holds answer said = (string_bytes answer.text ≡ said.text) × (answer.outcome ≡ said.outcome)
 
--- the answer that is held is what these bytes are answered with
+-- the code's answer is the answer to these bytes
 abbrev pub HoldsOne : (List ℕ → Said → Type 0) → List ℕ → Answer → Type 0
 HoldsOne says bytes answer = (said : Said) × says bytes said × Holds answer said
 
--- it is what these bytes are answered with; or memory ran out
+-- the answer, or the line of the refusal, is the answer to these bytes; or memory was refused
 abbrev pub Finds : (List ℕ → Said → Type 0) → List ℕ → Result Answer Fault → Type 0
 Finds says bytes (Ok answer) = HoldsOne says bytes answer
 Finds says bytes (Err (fault.Refused r)) = says bytes (refused_with r)
@@ -77,23 +77,23 @@ abbrev pub GivesUp : (SetFault → Type 0) → Fault → Type 0
 GivesUp may fault.Memory = Unit {0}
 GivesUp may (fault.Refused r) = ((r ≡ refusal.SourcesFull) × may sets.SourcesFull) ⊎ ((r ≡ refusal.PoolFull) × may sets.PoolFull)
 
--- an answer stands as it is, and a refusal is its line
+-- an answer is taken as it is, and for a refusal there is its line
 abbrev pub Settles : Result Answer Fault → Answer → Type 0
 Settles (Ok found) answer = answer ≡ found
 Settles (Err (fault.Refused r)) answer = Holds answer (refused_with r)
 Settles (Err fault.Memory) answer = ⊥
 
--- How a command comes to its answer: by its words alone, with nothing read, or by all bytes that it reads.
+-- What a command's answer depends on: its words alone, with nothing read, or all bytes that it reads.
 pub data Answering : Type 1 where
   at_once : Said → Answering
   to_all : (List ℕ → Said → Type 0) → Answering
 
--- it is the answer, and so much was read for it
+-- it is the answer to what was read
 abbrev pub IsAnswer : {S : Type 0} → Answering → Input S → Input S → Said → Type 0
 IsAnswer (at_once answer) old new said = (new ≡ old) × (said ≡ answer)
 IsAnswer (to_all says) old new said = (bytes : List ℕ) × HasRead old.left new.left bytes × says bytes said
 
--- what is to be read can't be
+-- a read failed, where the answer needs one
 abbrev pub IsUnread : {S : Type 0} → Answering → Input S → Input S → Type 0
 IsUnread (at_once answer) old new = ⊥
 IsUnread (to_all says) old new = IsReadFault old new

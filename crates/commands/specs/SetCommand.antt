@@ -24,7 +24,7 @@ line_said (Ok line) = record { text = with_line_feed line; outcome = Done }
 line_said (Err (fault.Refused r)) = record { text = with_line_feed (refusal_line r); outcome = refusal_ending r }
 line_said (Err fault.Memory) = record { text = []; outcome = Refused }
 
--- what is said to a function's name, its first word, and its second word where one is given
+-- the answer to a function's name, its first word, and its second word where one is given
 abbrev pub set_said : List ℕ → List ℕ → Option (List ℕ) → Said
 set_said function a b = line_said (function_line function a b)
 
@@ -46,7 +46,7 @@ word_or input word = if is_input word then input else word
 abbrev pub set_said_over : List ℕ → List ℕ → Option (List ℕ) → List ℕ → Said
 set_said_over function a b input = set_said function (word_or input a) (option_map (word_or input) b)
 
--- it is what is said over all of standard input, in which what is no UTF-8 is replaced
+-- it is the answer over all of standard input, in which bytes that are no UTF-8 are replaced
 abbrev pub IsSaidOver : List ℕ → List ℕ → Option (List ℕ) → List ℕ → Said → Type 0
 IsSaidOver function a b bytes said = said ≡ set_said_over function a b (utf8_lossy bytes)
 

@@ -11,6 +11,6 @@ abbrev pub text_said : Result (List ℕ) Fault → Said
 text_said (Ok text) = record { text = text; outcome = Done }
 text_said (Err f) = fault_said f
 
--- what is said of the servers that bytes name; a sequence that is no UTF-8 is read as the character U+FFFD, which no word has
+-- it is the answer for the servers in these bytes; a sequence that is no UTF-8 is read as the character U+FFFD, which no word has
 abbrev pub StatesSaid : List ℕ → Said → Type 0
 StatesSaid bytes said = said ≡ text_said (states_in (utf8_lossy bytes))

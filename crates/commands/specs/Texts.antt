@@ -1,4 +1,4 @@
--- What bytes are read as that come in pieces.
+-- What bytes that come in pieces parse as.
 use Rattle.std.specs.Prelude.{ℕ, List, Option, None, Result, IfOk}
 use Rattle.txn_journal.specs.Stream.{IsAfter, IsWhole}
 use Rattle.txn_journal.specs.BundleReading.{bundle_start, eats_bundle, IsFaultOfBundle}
@@ -7,13 +7,13 @@ use Rattle.txn_journal.specs.declared.bundle_reader.BundleReader.{BundleReader}
 use Rattle.txn_journal.specs.declared.fault.JournalFault.{JournalFault}
 use Rattle.commands.specs.Edge.{HasRead}
 
--- the bytes are read as this: by their grammar, and by the fold over them, unless a set was not made
+-- the bytes parse as this: by their grammar, and by the fold over them, unless a set was not made
 pub record IsTextOf {V : Type 0} (Spells : List ℕ → Result V JournalFault → Type 0) (decoded : List ℕ → Result V JournalFault) (IsRead : V → Type 0) (bytes : List ℕ) (found : Result V JournalFault) : Type 0 where
   pub spelled : Spells bytes found
   pub exact : IsWhole found (decoded bytes)
   pub holds : IfOk found IsRead
 
--- some bytes were read, they were all, and they are read as this
+-- some bytes were read, they were all, and they parse as this
 pub record HasFound {V : Type 0} (Spells : List ℕ → Result V JournalFault → Type 0) (decoded : List ℕ → Result V JournalFault) (IsRead : V → Type 0) (old new : Option (List ℕ)) (found : Result V JournalFault) : Type 0 where
   pub bytes : List ℕ
   pub all : HasRead old new bytes

@@ -79,7 +79,7 @@ fn decode_whole(alloc: Global, bytes: &[u8]) -> Result<Bundle, JournalFault>
     decode_bundle(alloc, bytes)
 }
 
-/// What is found in bytes. The bundle is left to the end of the process.
+/// The answer to a bundle's bytes, with what explains it; or the fault of the bytes. The bundle is left to the end of the process.
 fn explain_found(alloc: Global, order: Order, bytes: &[u8]) -> Result<Explained, Fault>
     ensures { FindsExplained order bytes.now result }
 {
@@ -124,7 +124,7 @@ fn settle_explained(
     }
 }
 
-/// What is answered to bytes, and what explains it.
+/// The answer to bytes, and what explains it.
 fn explain_bytes(alloc: Global, order: Order, bytes: &[u8]) -> Result<Explained, RunFault>
     ensures ok { IfOk result (HoldsExplained order bytes.now) }
     ensures memory { IfErr result (λ f. f ≡ RunFault.Memory) }

@@ -29,9 +29,9 @@ pub(crate) enum ImportCause {
 /// Why a text is refused.
 #[derive(Drop)]
 pub(crate) enum Refused {
-    /// As any text is.
+    /// For a reason for which any text may be refused.
     Known(Fault),
-    /// A line of a log is, or the log after the line of a channel.
+    /// A line of a log is refused, or the log after the line of a channel.
     At(u64, ImportCause),
 }
 

@@ -4,15 +4,15 @@
 //! What a contract sees: of `Streams` the reader with the bytes that it has left and its failed calls (`Input`), and the writer with the
 //! bytes that it holds and its failed calls (`Output`), each where it is known.
 //!
-//! Each command has two clauses. `done`: so much was read as its answer is for, and what was written is the answer and nothing else.
+//! Each command has two clauses. `done`: what was read is what the answer is for, and what was written is the answer and nothing else.
 //! `failed`: where memory was refused or a read failed nothing was written; where a write failed, a prefix of the answer.
 //!
 //! The answer of `apply` and `audit` is a function of the bytes: where they are no bundle, the refusal that `decode_bundle` is proved to
 //! give; where they are one, the verdict, or, where that is Sound, the union of all journals with the rows that it denotes (`rows_of`);
-//! or E8 or E9, where a set that they ask for is full. So the merge theorem speaks of a call that the program makes.
+//! or E8 or E9, where a set that they need is full. So the merge theorem is about a call that the program makes.
 //!
 //! `apply_journals` (`applied`) has the same answer for every number of workers, every interleaving, whichever threads could be started
-//! and whichever allocations were refused. The proof rests on the history alone: it is a run of takes, commits and rollbacks, and
+//! and whichever allocations were refused. The proof uses the history alone: it is a run of takes, commits and rollbacks, and
 //! `conclude` of `serving` does the rest. Where the history cannot be closed, a replica is served anew on one thread.
 //!
 //! Not proved: that workers do anything (what they leave is drained), and speed. A call that a signal interrupts is made again, up to

@@ -86,7 +86,7 @@ fn drain_anew(
 
 /// What the journals of a bundle result in over its opening rows: all of them executed together, or the
 /// verdict of the audit that asks for this order, where that is not Sound. So many workers apply them, each on a thread of
-/// its own where one can be started; what they leave is applied when they have ended. What is answered
+/// its own where one can be started; what they leave is applied when they have ended. The answer
 /// does not depend on their number, nor on the order of their steps. The bundle can be served, as each
 /// that was read can.
 ///

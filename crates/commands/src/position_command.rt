@@ -19,7 +19,7 @@ use journal::{Entry, Journal};
 use serving::entries_sent;
 use std::alloc::{AllocError, Global};
 
-/// What a source is asked for.
+/// What a replica asks a source with.
 #[derive(Drop)]
 struct Asked {
     /// The source's own UUID.

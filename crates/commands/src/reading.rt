@@ -11,7 +11,7 @@ use txn_journal::JournalFault;
 /// A reader that has not ended after so many calls has failed (our own rule).
 pub(crate) const MOST_READS: u64 = 1_099_511_627_776;
 
-/// What all bytes are read as that a reader gives, in pieces of at most 65,536.
+/// What all bytes that a reader gives parse as. They are read in pieces of at most 65,536.
 pub(crate) fn read_text<T: Text, S: Source>(
     alloc: Global,
     reader: &mut S,

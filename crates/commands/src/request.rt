@@ -18,13 +18,13 @@ pub(crate) trait Request {
     /// What is read.
     type Value: Text;
 
-    /// It may be asked.
+    /// What is required of the request.
     ghost ready: { Self → Type 0 } = { λ _. Unit {0} };
 
     /// What is printed for a value, and how the command ends.
     ghost says: { Self → Self.Value → Said };
 
-    /// A set that the answer wants is not made, by this fault.
+    /// A set that the answer needs may fail to be made, by this fault.
     ghost may_fail: { Self → Self.Value → SetFault → Type 0 } = { λ _ _ _. ⊥ };
 
     /// The answer to a value that was read.
@@ -35,8 +35,8 @@ pub(crate) trait Request {
         ensures fault { IfErr result (GivesUp (may_fail self.now value.now)) };
 }
 
-/// The answer to what the bytes are read as. A value is left to the end of the process, which takes it
-/// back at once and not piece by piece.
+/// The answer to what the bytes parse as. A value is left to the end of the process, which frees it
+/// at once and not piece by piece.
 fn find<Q: Request>(
     alloc: Global,
     request: &Q,
@@ -56,7 +56,7 @@ fn find<Q: Request>(
     }
 }
 
-/// What is written for what the bytes are read as.
+/// What is written for what the bytes parse as.
 fn answer_decoded<Q: Request>(
     alloc: Global,
     request: &Q,

@@ -12,7 +12,7 @@ use gtid_report::Fault;
 use server_states::states;
 use std::alloc::{AllocError, Global};
 
-/// What is printed of the servers that a text names.
+/// What is printed for the servers in a text.
 fn text_answer(alloc: Global, text: &str) -> Result<Answer, AllocError>
     ensures { IfOk result (λ answer. Holds answer (text_said (states_in text.now))) }
 {
@@ -26,7 +26,7 @@ fn text_answer(alloc: Global, text: &str) -> Result<Answer, AllocError>
     }
 }
 
-/// The same of the servers that bytes name.
+/// The same for bytes.
 fn states_answer(alloc: Global, bytes: &[u8]) -> Result<Answer, AllocError>
     ensures { IfOk result (λ answer. Holds answer (text_said (states_in (utf8_lossy bytes.now)))) }
 {

@@ -1,4 +1,4 @@
-//! A reader and a writer between which a command stands.
+//! The reader and the writer of a command.
 ghost use Rattle.std.specs.Prelude.{◌≡◌, IfOk, IfErr, OnOk, OnErr, string_bytes};
 ghost use Rattle.std.specs.Io.KnownBytes.{Appends};
 ghost use Rattle.commands.specs.Edge.{input_of, output_of, one_more, Begins, HasRead, ReadFault};
@@ -55,7 +55,7 @@ impl<S: Source, W: Sink> Streams<S, W> {
         read_all(alloc, &mut self.reader)
     }
 
-    /// What all bytes are read as that the reader has left.
+    /// What all bytes that the reader has left parse as.
     pub(crate) fn read_text<T: Text>(
         &mut self,
         alloc: Global,

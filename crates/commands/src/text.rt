@@ -16,7 +16,7 @@ use std::alloc::{AllocError, Global};
 use std::marker::Model;
 use txn_journal::{Bundle, BundleReader, JournalFault, decode, decode_bundle_v1};
 
-/// What bytes are read as: a bundle or a journal.
+/// What bytes parse as: a bundle or a journal.
 pub(crate) trait Text: Drop {
     /// The grammar: these bytes are the text of this value, or have this first fault.
     ghost spells: { List ℕ → Result Self JournalFault → Type 0 };
@@ -41,11 +41,11 @@ pub(crate) trait Text: Drop {
     fn feed(alloc: Global, reader: &mut Self::Reader, piece: &[u8]) -> Result<(), AllocError>
         ensures { OnOk result ((bytes : List ℕ) → has_come reader.old bytes → has_come reader.new (bytes ++ piece.now)) };
 
-    /// What all pieces together are read as.
+    /// What all pieces together parse as.
     fn finish(alloc: Global, reader: Self::Reader) -> Result<Self, JournalFault>
         ensures { (bytes : List ℕ) → has_come reader bytes → IsTextOf spells decoded is_read bytes result };
 
-    /// A set is not made because an allocation failed, or since the grammar says that it has too many sources or intervals.
+    /// A set is not made because an allocation failed, or because by the grammar it has too many sources or intervals.
     ghost full: { (bytes : List ℕ) (f : SetFault) → spells bytes (Err (journals.Set f)) → IsMemoryOr (spells bytes (Err (journals.Set sets.SourcesFull))) (spells bytes (Err (journals.Set sets.PoolFull))) f };
 }
 

@@ -121,7 +121,7 @@ pub fn count<L: Ledgers>(total: &mut Total<L>, share: &mut Share<L>, committed: 
 }
 
 impl<L: Ledgers> Share<L> {
-    /// Takes in what another share has counted, with its seats.
+    /// Adds what another share has counted, with its seats.
     pub fn join(&mut self, other: Share<L>)
         ensures sum { self.new ≡ add_portions self.old other }
         ensures seats { self.new.seats ≤ L.seats }

@@ -47,7 +47,7 @@ impl<L: Ledgers> Ledger for CommitsOf<L> {
     ghost parts = { L.seats };
 }
 
-/// Two ledgers of this many seats, for which no type stands yet.
+/// Two ledgers of this many seats, which no type names yet.
 #[derive(Drop)]
 pub struct Blanks {
     pub steps: Blank,

@@ -255,7 +255,7 @@ module _ (schema : List Table) (hs : List History) (d : AreDistinct (order_of hs
     abbrev name : OutOfTurn → Option Verdict
     name = name_verdict hs h
 
-    -- one entry, told what was read
+    -- one entry, with what was read
     module _ (L before : List Entry) (chains : Key → KeyChain) (sofar : IsSoFar schema r L before chains) (e : Entry) (known : (x : Entry) → IsIn x before → IsIn x order) (listed : IsIn e order) (fresh : IsIn e before → ⊥)
         (more : IsFront (with_entry L e) order) where
       abbrev out : Gtid → Key → OutOfTurn

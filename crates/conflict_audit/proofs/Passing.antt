@@ -1,4 +1,4 @@
--- One pass over the journals finds what the definition finds, and the order applies as the definition says.
+-- One pass over the journals finds what the definition finds, and the order applies as it does by the definition.
 use Rattle.std.proofs.Common.{◌≡◌, ℕ, Bool, inl, inr, List, [], ◌∷◌, Option, Some, None, refl, sym, ap, ◌∙◌, subst}
 use Rattle.std.specs.Prelude.{slice_get}
 use Rattle.std.specs.FinMap as finmap

@@ -25,7 +25,7 @@ use Rattle.conflict_audit.specs.Chains.{KeyChain, no_chain, same_key, chains_of,
 
 -- ---- one chain
 
--- Those that touched the key are these, the first n of them stand in journal r, and none in a later journal.
+-- Those that touched the key are these, the first n of them are in journal r, and none in a later journal.
 pub record IsRead (r : ℕ) (c : KeyChain) (gs : List Gtid) (n : ℕ) : Type 0 where
   pub members : c.members ≡ gs
   pub read : read_by r c ≡ n

@@ -13,7 +13,7 @@ use Rattle.ordered_history.specs.World.{Entry}
 abbrev pub AllTaken : List Table → List Entry → Type 0
 AllTaken schema es = All (λ (e : Entry). Fits schema e.1) es
 
--- what is reported of a transaction, by what came of it
+-- the verdict on a transaction, by the result of its application
 abbrev pub refusal : Gtid → Result Rows RowFault → Option Verdict
 refusal g (Ok rows) = None
 refusal g (Err fault) = Some (DoesNotApply g fault)

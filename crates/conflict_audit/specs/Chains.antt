@@ -38,7 +38,7 @@ abbrev pub turn_at : Gtid → Option Gtid → Turn
 turn_at g None = AtEnd
 turn_at g (Some x) = if same_gtid x g then Next else Behind x
 
--- where g stands that journal r has next of those that touch the key
+-- where in the chain g is, which journal r has next at its key
 abbrev pub turn_of : ℕ → Gtid → KeyChain → Turn
 turn_of r g c = if was_read (read_by r c) c.members g then Again else turn_at g (slice_get c.members (read_by r c))
 
@@ -107,7 +107,7 @@ out_of_entries schema r [] chains = None
 out_of_entries schema r (e ∷ es) chains =
     or_next (out_of_keys r e.0 (write_set schema e.1) chains) (out_of_entries schema r es (visit_keys r e.0 (write_set schema e.1) chains))
 
--- what is reported of it
+-- the verdict on it
 abbrev pub name_verdict : List History → History → OutOfTurn → Option Verdict
 name_verdict hs h o = option_map (λ a. pair_fault a h o.next o.entry o.key) (bringer hs o.next)
 

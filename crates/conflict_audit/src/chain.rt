@@ -7,7 +7,7 @@ use gtid_text::Gtid;
 use std::alloc::{AllocError, Global};
 use std::marker::Model;
 
-/// Those that touch a key, in one order. Of the journal that was read last it is known how many of
+/// Those that touch a key, in one order. For the journal that was read last it is known how many of
 /// them are in it; a journal that is read for the first time has none.
 #[derive(Drop)]
 pub(crate) struct Chain {
@@ -24,7 +24,7 @@ impl Model for Chain {
     ghost view = { λ a. record { members = a.members.items; read = a.read; reader = a.reader } };
 }
 
-/// Where a transaction stands that a journal has next of those that touch a key.
+/// Where in the chain of a key the transaction is that a journal has next at this key.
 #[derive(Drop)]
 pub(crate) enum Turn {
     /// It was read just now: it touches the key twice.
@@ -37,7 +37,7 @@ pub(crate) enum Turn {
     Behind(Gtid),
 }
 
-/// Whether the last of the first so many is this GTID.
+/// Whether the last of the first `read` members is this GTID.
 fn was_read(read: usize, members: &[Gtid], gtid: &Gtid) -> bool
     ensures { result ≡ was_read read members.now gtid.now }
 {
@@ -93,7 +93,7 @@ impl Chain {
         turn_at(gtid, self.members.get(read))
     }
 
-    /// A journal has this GTID next of those that touch the key. Gives what has to come before it, if
+    /// A journal has this GTID next at the key of the chain. The result is what has to come before it, if
     /// anything.
     pub(crate) fn visit(&mut self, reader: usize, gtid: &Gtid) -> Result<Option<Gtid>, AllocError>
         ensures chain { OnOk result (self.new ≡ visit reader gtid.now self.old) }

@@ -1,4 +1,4 @@
-//! Transactions that share a key and do not stand in one order.
+//! Transactions that share a key and are not in one order.
 ghost use Rattle.std.specs.Prelude.{◌≡◌, IfOk, None};
 ghost use Rattle.world.specs.Audit.{unequal};
 ghost use Rattle.world.specs.Meaning.{AreJournals};

@@ -1,4 +1,4 @@
-//! What is reported of an entry that is out of turn.
+//! What is reported about an entry that is out of turn.
 ghost use Rattle.std.specs.Prelude.{◌≡◌};
 ghost use Rattle.world.specs.Audit.{stands_in};
 ghost use Rattle.conflict_order.specs.Histories.{has};
@@ -27,7 +27,7 @@ fn has(opened: &GtidSet, entries: &[Entry], gtid: &Gtid) -> bool
     !opened.contains(gtid) && stands_in(entries, gtid)
 }
 
-/// What is wrong between the journal that brought what has to come first and the one that was read.
+/// The fault between the first journal that has what has to come first and the one that was read.
 fn pair_fault(opened: &GtidSet, bringer: &Journal, journal: &Journal, out: OutOfTurn) -> Verdict
     ensures { result ≡ pair_fault (history_of opened.now bringer.now) (history_of opened.now journal.now) out.next out.entry out.key }
 {
@@ -45,7 +45,7 @@ fn pair_fault(opened: &GtidSet, bringer: &Journal, journal: &Journal, out: OutOf
     }
 }
 
-/// What is reported of an entry that is out of turn in a journal, and of what has to come before it.
+/// The verdict on an entry that is out of turn in a journal, and on what has to come before it.
 pub(crate) fn name_verdict(
     opened: &GtidSet,
     journals: &[Journal],

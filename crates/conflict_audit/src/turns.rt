@@ -1,4 +1,4 @@
-//! What a journal has out of turn.
+//! Entries of a journal that are out of turn.
 ghost use Rattle.std.specs.Prelude.{◌≡◌, IfOk, OnOk, None};
 ghost use Rattle.std.specs.Map.{lookup};
 ghost use Rattle.rows.specs.WriteSet.{write_set};
@@ -42,7 +42,7 @@ fn open_chain(
     Ok(next)
 }
 
-/// A journal has a GTID next of those that touch a key. Gives what has to come before it, if anything.
+/// A journal has a GTID next at a key. The result is what has to come before it, if anything.
 fn visit_entry(
     alloc: Global,
     chains: &mut IndexMap<Key, Chain>,

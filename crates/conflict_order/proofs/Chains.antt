@@ -23,7 +23,7 @@ use Rattle.conflict_order.proofs.Faults.{extended_are_consistent}
 
 -- ---- prefixes
 
--- in a list without doubles, nothing stands both in a prefix and after it; and what comes before one of the prefix comes before it in the prefix
+-- in a list without doubles, nothing is both in a prefix and after it; what comes before one of the prefix comes before it in the prefix
 pub twice : (xs zs : List Entry) (f : Entry) → AreDistinct (xs ++ zs) → IsIn f xs → IsIn f zs → ⊥
 twice [] zs f d i j = i
 twice (x ∷ xs) zs f d (inl same) j = all_in (λ (y : Entry). x.0 ≢ y.0) f (xs ++ zs) d.0 (in_back xs zs f j) (ap (λ (y : Entry). y.0) same)

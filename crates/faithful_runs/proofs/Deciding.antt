@@ -1,4 +1,4 @@
--- What a run that was served all journals of a bundle says of its audit.
+-- A run that was served all journals of a bundle, and the verdict of its audit.
 use Rattle.std.proofs.Common.{◌≡◌, List, [], ◌∷◌, Option, Some, None, refl, sym, ap, ◌∙◌}
 use Rattle.std.specs.Prelude.{IsOk, IsSome}
 use Rattle.std.specs.Option.{unwrap_or}

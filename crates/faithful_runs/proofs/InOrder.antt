@@ -1,4 +1,4 @@
--- What a run that was served all journals of a bundle says of its audit in one order.
+-- A run that was served all journals of a bundle, and the verdict of its audit in one order.
 use Rattle.std.proofs.Common.{◌≡◌, ℕ, zero, suc, true, ◌⊎◌, inl, inr, List, [], ◌∷◌, ◌++◌, Option, Some, None, Result, Ok, Err, refl, sym, ap, ◌∙◌, subst}
 use Rattle.std.specs.Prelude.{IsOk, IsSome, slice_get}
 use Rattle.std.specs.Option.{option_map, unwrap_or}

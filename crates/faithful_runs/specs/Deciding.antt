@@ -1,4 +1,4 @@
--- Runs that are served the journals of a bundle, and what they say of the audit.
+-- Runs that are served the journals of a bundle, and the audit's verdict.
 use Rattle.std.specs.Prelude.{◌≡◌, ◌↔◌, List, Ok}
 use Rattle.std.specs.FinSet as set
 use Rattle.gtid_set.specs.Sets.{Gtids}

@@ -34,7 +34,7 @@ pub record WasSent (world : World) (ask : Gtids) (entries : List Entry) : Type 0
   pub faithful : IsFaithful world journal
   pub front : sent journal ask own ≡ Ok (entries ++ rest)
 
--- What is asked of one event: what is received was sent, and what commits here is what the world has under that GTID, with
+-- What is required of one event: what is received was sent, and what commits here is what the world has under that GTID, with
 -- every smaller number of this server executed.
 abbrev pub IsFaithfulStep : World → Site → State → Since → Event → Reply → Type 0
 IsFaithfulStep world site s since (Receive c entry) (Received p) = (ask : Gtids) → asked_with s c ≡ Some ask → WasSent world ask (since c ++ entry ∷ [])

@@ -1,4 +1,4 @@
--- Runs that are served the journals of a bundle, and what they say of its audit in one order.
+-- Runs that are served the journals of a bundle, and the verdict of its audit in one order.
 use Rattle.std.specs.Prelude.{◌≡◌, ◌↔◌, List}
 use Rattle.gtid_set.specs.Sets.{Gtids}
 use Rattle.rows.specs.Apply.{Rows}

@@ -1,4 +1,4 @@
-//! What an audit says of runs. Each function's contract is a law, and its body is empty.
+//! What an audit's verdict means for runs. Each function's contract is a law, and its body is empty.
 ghost use Rattle.faithful_runs.specs.Deciding.{WorkersDecide, ServedHoldsAll};
 ghost use Rattle.faithful_runs.specs.InOrder.{WorkersDecideInOrder, ServedHoldsAllInOrder};
 

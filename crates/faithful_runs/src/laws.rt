@@ -19,7 +19,7 @@ pub fn fronts_are_faithful()
     ensures { FrontsAreFaithful }
 {}
 
-/// From the state of a faithful run on, by events that go on faithfully: what stands then is merged,
+/// From the state of a faithful run on, by further events that are faithful too: the state then is merged,
 /// and no commit of these events was refused for its rows.
 pub fn runs_go_on()
     ensures { RunsGoOn }

@@ -1,4 +1,4 @@
--- What is reported of the lines that are left, once one of them was told.
+-- What is shown of the lines that are left, once one of them was shown.
 use Rattle.std.proofs.Common.{◌≡◌, ℕ, ◌+◌, ◌<◌, List, [], ◌∷◌, ◌++◌, length, map, get_or, drop, drop-cons, add-one, append_assoc, sym, ap, ◌∙◌, Bor}
 use Rattle.fault_places.specs.declared.standing.Standing.{Standing}
 use Rattle.fault_places.specs.declared.wanted.Wanted.{Wanted}

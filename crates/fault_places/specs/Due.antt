@@ -33,6 +33,6 @@ due_behind two word =
     else if bytes_eq word (codes "done") then codes "nothing, for the bundle has ended"
     else codes "bundle 1, or bundle 2"
 
--- the lines that may stand as line n
+-- the lines that are allowed in the place of line n
 abbrev pub due_at : List (List ℕ) → ℕ → List ℕ
 due_at lines n = due_behind (is_of_version_two lines) (word_before lines n)

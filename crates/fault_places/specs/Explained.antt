@@ -33,11 +33,11 @@ is_of_key key line = is_table line && bytes_eq (second_word line) key.table
 abbrev pub columns_text : Key → ℕ → List ℕ → List ℕ
 columns_text key n line = codes "  key " ++ decimal key.index ++ codes " is columns " ++ shorten (word_at (4 + 2 * key.index) line) ++ codes ", " ++ line_text n line
 
--- that of the line of the key's table, and nothing of other lines
+-- these for the line of the key's table, and nothing for other lines
 abbrev pub report_columns : Key → ℕ → List ℕ → List ℕ
 report_columns key n line = if is_of_key key line then columns_text key n line else []
 
--- the same of line n and those after it
+-- the same for line n and those after it
 abbrev pub columns_from : Key → ℕ → List (List ℕ) → List ℕ
 columns_from key n [] = []
 columns_from key n (line ∷ lines) = report_columns key n line ++ columns_from key (n + 1) lines
@@ -80,7 +80,7 @@ verdict_explained lines journals gtids Sound = []
 
 -- ---- refusals
 
--- a line, and what may stand there
+-- the lines that are allowed in the place of line n
 abbrev pub due_text : ℕ → List (List ℕ) → List ℕ
 due_text n lines = codes "  due here: " ++ due_at lines n ++ codes "\n"
 
@@ -97,7 +97,7 @@ cause_text Stamp n lines = codes "  the sequence number is not the entry's place
 abbrev pub faulty_line : ℕ → List (List ℕ) → List ℕ
 faulty_line n lines = codes "  " ++ line_text n (line_at lines n)
 
--- what explains a refusal; other refusals than these are of no bundle
+-- what explains a refusal; a bundle has no other refusals than these
 abbrev pub refusal_explained : List (List ℕ) → Refusal → List ℕ
 refusal_explained lines (Line n cause) = faulty_line n lines ++ cause_text cause n lines
 refusal_explained lines (Truncated n) = faulty_line n lines ++ due_text n lines

@@ -6,7 +6,7 @@ use Rattle.fault_places.specs.declared.wanted.Wanted.{Wanted}
 use Rattle.fault_places.specs.declared.wanted.Wanted.TheVariants.{Every, OfTable, Numbered, Nothing}
 use Rattle.fault_places.specs.Lines.{second_word, is_channel, is_previous, is_transaction, is_change, shorten}
 
--- ---- where a line stands
+-- ---- the channel, entry and change of a line
 
 -- before the first channel
 abbrev pub at_start : Standing
@@ -28,7 +28,7 @@ after g s line =
 abbrev pub channel_after : List ℕ → List ℕ → List ℕ
 channel_after name line = if is_channel line then second_word line else name
 
--- ---- what is reported of a line
+-- ---- what is shown of a line
 
 -- the number and the name of its channel
 abbrev pub channel_text : List ℕ → Standing → List ℕ
@@ -54,14 +54,14 @@ is_wanted (OfTable table) place line = bytes_eq (second_word line) table
 is_wanted (Numbered number) place line = place == number
 is_wanted Nothing place line = false
 
--- of a transaction with this GTID its place, of its changes those that are wanted, and nothing of other lines
+-- for a transaction with this GTID its place, for its changes those that are wanted, and nothing for other lines
 abbrev pub report_entry : List ℕ → Wanted → List ℕ → Standing → ℕ → List ℕ → List ℕ
 report_entry g wanted name s n line =
     if is_named g line then entry_text g name s n
     else if s.inside && (is_change line && is_wanted wanted s.changes line) then change_text s n line
     else []
 
--- the same of line n and those after it
+-- the same for line n and those after it
 abbrev pub report_entries : List ℕ → Wanted → List ℕ → Standing → ℕ → List (List ℕ) → List ℕ
 report_entries g wanted name s n [] = []
 report_entries g wanted name s n (line ∷ lines) =

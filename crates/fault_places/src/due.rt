@@ -71,7 +71,7 @@ fn due_behind(two: bool, word: &[u8]) -> &'static str
     }
 }
 
-/// The lines that may stand as this one.
+/// The lines that are allowed in the place of this one.
 pub(crate) fn due_at(lines: &[&[u8]], number: usize) -> &'static str
     ensures { result.now ≡ due_at (map (λ x. x.now) lines.now) number }
 {

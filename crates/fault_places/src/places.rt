@@ -1,4 +1,4 @@
-//! Where the transactions of a GTID, and the previous sets of journals, stand.
+//! Where in the text the transactions of a GTID and the previous sets of journals are.
 ghost use Rattle.std.specs.Prelude.{◌≡◌, ◌++◌, OnOk, map, length, ◌<◌, ◌^◌};
 ghost use Rattle.fault_places.specs.Places.{channel_text, line_text, entry_text, change_text, report_entry, places_of, report_previous, previous_sets};
 
@@ -62,7 +62,7 @@ fn put_change(
     put_line(out, number, line)
 }
 
-/// What is reported of a line.
+/// What is shown of a line.
 fn tell_entry(
     out: &mut Vec<u8>,
     gtid: &[u8],

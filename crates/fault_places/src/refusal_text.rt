@@ -11,7 +11,7 @@ use crate::wanted::Wanted;
 use gtid_report::{LineCause, Refusal};
 use std::alloc::{AllocError, Global};
 
-/// What may stand as a line.
+/// The lines that are allowed in the place of a line.
 fn put_due(out: &mut Vec<u8>, number: usize, lines: &[&[u8]]) -> Result<(), AllocError>
     ensures { OnOk result (out.new.items ≡ out.old.items ++ due_text number (map (λ x. x.now) lines.now)) }
 {
@@ -55,7 +55,7 @@ fn put_faulty(out: &mut Vec<u8>, number: usize, lines: &[&[u8]]) -> Result<(), A
     put_line(out, number, line_at(lines, number))
 }
 
-/// A line, and what may stand there.
+/// A line, and the lines that are allowed there.
 fn put_misplaced(out: &mut Vec<u8>, number: usize, lines: &[&[u8]]) -> Result<(), AllocError>
     ensures { OnOk result (out.new.items ≡ out.old.items ++ faulty_line number (map (λ x. x.now) lines.now) ++ due_text number (map (λ x. x.now) lines.now)) }
 {
@@ -91,8 +91,8 @@ fn put_refusal(
 }
 
 /// What explains that these bytes are refused as a bundle, or that a set is full: lines, each after two blanks and ended by a line
-/// feed. Of a faulty line there is the line, and what may stand there or what is wrong with it; of a GTID that comes twice the previous
-/// set of each journal, and each place. The words are our own.
+/// feed. For a faulty line there is the line, and the lines that are allowed there or what is wrong with it; for a GTID that comes twice
+/// the previous set of each journal, and each place. The words are our own.
 pub fn explain_refusal(
     alloc: Global,
     bytes: &[u8],

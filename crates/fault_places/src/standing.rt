@@ -1,4 +1,4 @@
-//! Where the lines of a bundle stand.
+//! The channel, entry and change to which each line of a bundle belongs.
 ghost use Rattle.std.specs.Prelude.{◌≡◌, ℕ, ◌+◌, ◌^◌, ◌<◌};
 ghost use Rattle.fault_places.specs.Places.{at_start, is_named, after, channel_after};
 

@@ -159,7 +159,7 @@ fn row_fault_meaning(fault: &RowFault) -> &'static str
     }
 }
 
-/// What a row fault means, and the change that meets it.
+/// What a row fault means, and the change that has it.
 fn put_row_fault(
     alloc: Global,
     out: &mut Vec<u8>,
@@ -211,8 +211,8 @@ fn put_verdict(
 }
 
 /// What explains a verdict on the journals of a bundle, whose text these bytes are: lines, each after two blanks and ended by a line
-/// feed. Of each GTID that the verdict names there is each transaction, with its channel and its entry, counted from 0, and its line,
-/// counted from 1; after it its changes: of a shared key those in the key's table, of a row fault the one that meets it. Of other
+/// feed. For each GTID that the verdict names there is each transaction, with its channel and its entry, counted from 0, and its line,
+/// counted from 1; after it its changes: for a shared key those in the key's table, for a row fault the one that has it. For other
 /// missing GTIDs, where they are given, there is their number and their set. The words are our own.
 pub fn explain_verdict(
     alloc: Global,

@@ -1,11 +1,11 @@
-//! Which changes of a transaction are named.
+//! Which changes of a transaction are shown.
 ghost use Rattle.std.specs.Prelude.{◌≡◌};
 ghost use Rattle.fault_places.specs.Places.{is_wanted};
 
 use crate::lines::second_word;
 use rows::Name;
 
-/// Which changes of a transaction are named.
+/// Which changes of a transaction are shown.
 #[derive(Drop)]
 pub(crate) enum Wanted {
     Every,
@@ -17,7 +17,7 @@ pub(crate) enum Wanted {
 }
 
 impl Wanted {
-    /// Whether the change on a line is named, whose place in its transaction is this.
+    /// Whether the change on a line is shown, whose place in its transaction is this.
     pub(crate) fn takes(&self, place: usize, line: &[u8]) -> bool
         ensures { result ≡ is_wanted self.now place line.now }
     {

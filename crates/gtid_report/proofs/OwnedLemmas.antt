@@ -28,7 +28,7 @@ put_in_place g seat (e ∷ es) =
       | Greater ↦ ap (λ (rest : List (Gtid × ℕ)). e ∷ rest) (put_in_place g seat es)
     ]
 
--- one pair more in front
+-- one pair more at the start
 one_owner_more : (p : ℕ × Gtid) (ps : List (ℕ × Gtid)) (es : List (Gtid × ℕ)) → es ≡ entries (owners_of ps) → insert_entry gtid_cmp es p.1 p.0 ≡ entries (owners_of (p ∷ ps))
 one_owner_more p ps es e =
     put_in_place p.1 p.0 es ∙ ap (put gtid_cmp p.1 p.0) e ∙ sym (entries-insert gtid_total (owners_of ps) p.1 p.0)
@@ -44,7 +44,7 @@ none_put owned es none =
 pub all_left : (owned : List (ℕ × Gtid)) → owned ≡ take (length owned) owned
 all_left owned = sym (take_all (length owned) owned (omega arith))
 
--- what is left behind the last pair
+-- what is left after the last pair
 pub less_left : (owned left : List (ℕ × Gtid)) → left ≡ take (length left) owned → take (length left - 1) left ≡ take (length (take (length left - 1) left)) owned
 less_left owned left front =
     let lower : length left - 1 ≤ length left = omega arith in

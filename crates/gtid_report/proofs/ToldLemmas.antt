@@ -1,4 +1,4 @@
--- Each seat that owns a GTID is told.
+-- Each seat that owns a GTID is listed.
 use Rattle.std.proofs.Common.{◌≡◌, ℕ, ◌≤◌, Bool, true, false, cond, map, List, [], ◌∷◌, refl, sym, ap, ◌∙◌, arith, true≢false}
 use Rattle.std.specs.Prelude.{Option, Some, None, option_map, option_and_then, ◌==◌, ◌||◌}
 use Rattle.std.specs.List.{AllByRecursion, filter_map, cons_option, list_any}

@@ -1,4 +1,4 @@
--- The refusal that a fault of a text, a set or a journal is.
+-- The refusal for each fault of a text, a set or a journal.
 use Rattle.std.specs.Prelude.{ℕ}
 use Rattle.txn_journal.specs.declared.fault.Cause.{Cause}
 use Rattle.txn_journal.specs.declared.fault.Cause.TheVariants as causes

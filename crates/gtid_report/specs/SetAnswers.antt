@@ -49,7 +49,7 @@ set_word text = named_set (set_in text)
 unfoldable pub source_word : List ℕ → Result SourceId Fault
 source_word text = named_source (answer (length text) (source_in text))
 
--- ---- what is answered
+-- ---- answers
 
 -- a set, where it has not too many intervals
 abbrev pub small : Gtids → Result Gtids Fault
@@ -115,7 +115,7 @@ line_of (Some (Source f)) a b = source_line f a b
 unfoldable pub function_line : List ℕ → List ℕ → Option (List ℕ) → Result (List ℕ) Fault
 function_line name a b = line_of (function_named name) a b
 
--- What a function returned, seen by view, is the answer, unless memory ran out.
+-- The view of what a function returned is the answer, unless memory was refused.
 abbrev pub Answers : {X Y : Type 0} → (X → Y) → Result X Fault → Result Y Fault → Type 0
 Answers view (Ok x) want = want ≡ Ok (view x)
 Answers view (Err e) want = (e ≡ Memory) ⊎ (want ≡ Err e)

@@ -110,8 +110,8 @@ fn push_channels(alloc: Global, out: &mut String, core: &Core) -> Result<(), All
 }
 
 /// The printed lines of a replica: the executed set, the purged set, what its seats own, and each channel in the order of their
-/// numbers, with what it has received. A set is its canonical text, or `-` where it is empty. An owned GTID stands with the number of
-/// its seat after a `#`; they are in the order of GTIDs and joined by commas, or `-` where there is none.
+/// numbers, with what it has received. A set is its canonical text, or `-` where it is empty. An owned GTID has the number of its seat
+/// after a `#`; they are in the order of GTIDs and joined by commas, or `-` where there is none.
 ///
 /// The three names are those of MySQL's variables (MySQL 8.0 Reference Manual, "Global Transaction ID System Variables"); the lines
 /// are our own.

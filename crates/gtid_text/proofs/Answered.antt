@@ -1,4 +1,4 @@
--- What the reading of a set's text says.
+-- What the reading of a set's text gives.
 use Rattle.std.proofs.Common.{◌≡◌, ℕ, List, Result, Ok, Err, refl, sym, ap, ◌∙◌, inl, inr}
 use Rattle.std.specs.Prelude.{IfOk, IfErr, length}
 use Rattle.gtid_text.specs.Reading.{answer, fault_in, GivesText, source_in, gtid_in, spans_in}

@@ -161,7 +161,7 @@ colon_refused y r e =
       again = λ more same. (record { kind = kinds.NoInterval; left = length more }, colon_none more (same_starts (λ b. eqb b 58) more y same.first ∙ k.0));
     })
 
--- what stands where the end is due
+-- what is there where the end is due
 record EndErr (y : List ℕ) (r : ScanFault) : Type 0 where
   left : r.left ≡ length y
   met : IsMet r.kind y
@@ -320,7 +320,7 @@ stuck_colon text x r h k =
           no_gtid_text (front ++ more) a.0 (ap gtid_in (regroup more) ∙ gtid_colon_err whole (x.0, g ++ more) a.0 (uuid_reads f.gap f.uuid (g ++ more) x.0 f.blank f.is cut) (ap colon_at (past_same g more x.1 (gap_of x.1) same.first) ∙ a.1));
     }
 
--- a text that has come to its number
+-- a text that is read up to its number
 record Begun (text : List ℕ) (id : SourceId) (rest : List ℕ) : Type 0 where
   front : List ℕ
   text_is : text ≡ front ++ rest

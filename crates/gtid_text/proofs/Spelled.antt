@@ -67,7 +67,7 @@ starts_blank p (b ∷ bs) r w x y z e some = blank_apart p b w x y z (and_parts 
 
 -- ---- tokens
 
--- after blanks stand bytes of a run
+-- after blanks come bytes of a run
 past_blanks : (p : ℕ → Bool) (gap xs r : List ℕ) → p 32 ≡ false → p 9 ≡ false → p 13 ≡ false → p 10 ≡ false → IsGap gap → list_all p xs ≡ true → 0 < length xs → skip_while is_blank ((gap ++ xs) ++ r) ≡ xs ++ r
 past_blanks p gap xs r w x y z g e some =
     ap (skip_while is_blank) (append_assoc gap xs r) ∙ past_front is_blank gap (xs ++ r) g ∙ past_cut is_blank (xs ++ r) (starts_blank p xs r w x y z e some)

@@ -58,7 +58,7 @@ set_text [] = []
 set_text (e ∷ []) = element_text e
 set_text (e ∷ f ∷ es) = element_text e ++ 44 ∷ set_text (f ∷ es)
 
--- ---- what it says
+-- ---- what it denotes
 
 abbrev pub IsGap : List ℕ → Type 0
 IsGap gap = list_all is_blank gap ≡ true

@@ -24,12 +24,12 @@ fault_at kinds.Stray at = faults.Stray at
 abbrev pub fault_in : ℕ → ScanFault → TextFault
 fault_in len r = fault_at r.kind (len - r.left)
 
--- what a text of this length is answered
+-- the result for a text of this length
 abbrev pub answer : {A : Type 0} → ℕ → Result A ScanFault → Result A TextFault
 answer len (Ok x) = Ok x
 answer len (Err r) = Err (fault_in len r)
 
--- What a function returned, seen by view, is the answer, unless memory ran out.
+-- The view of what a function returned is this result, unless memory was refused.
 abbrev pub GivesText : {X Y : Type 0} → (X → Y) → Result X TextFault → ℕ → Result Y ScanFault → Type 0
 GivesText view (Ok x) len read = read ≡ Ok (view x)
 GivesText view (Err fault) len read = (fault ≡ faults.Memory) ⊎ (answer len read ≡ Err fault)
@@ -121,7 +121,7 @@ spans_at (suc k) inside rest = turn_at inside rest >>= λ t. go_on t (λ next le
 unfoldable pub spans_in : List ℕ → Result (List Span) ScanFault
 spans_in text = spans_at (suc (length text)) None text
 
--- What a function returned, seen by view, is what reading gives, unless memory ran out.
+-- The view of what a function returned is what reading gives, unless memory was refused.
 abbrev pub FailsScan : {Y : Type 0} → ScanError → Result Y ScanFault → Type 0
 FailsScan errors.Memory read = Unit {0}
 FailsScan (errors.Refused r) read = read ≡ Err r

@@ -18,7 +18,7 @@ token_byte kinds.Reversed = is_ascii_digit
 token_byte kinds.NoInterval = λ b. false
 token_byte kinds.Stray = λ b. false
 
--- what is due where a refusal of this kind stands: a UUID, a colon, digits, or the end
+-- what is due at the place of a refusal of this kind: a UUID, a colon, digits, or the end
 abbrev pub IsDue : Kind → List ℕ → Type 0
 IsDue kinds.BadUuid more = (id : ℕ) × (source_of (run is_uuid_byte more) ≡ Some id)
 IsDue kinds.NoInterval more = take 1 more ≡ 58 ∷ []
@@ -41,7 +41,7 @@ pub record SameToken (kind : Kind) (a b : List ℕ) : Type 0 where
   pub runs : run (token_byte kind) a ≡ run (token_byte kind) b
   pub first : take 1 a ≡ take 1 b
 
--- What comes before the refusal can be gone on with, by what is due; with the token that is there it can't.
+-- What comes before the refusal has a continuation, by what is due; with the token that is there it has none.
 pub record IsStuck (IsRead : List ℕ → Type 0) (text : List ℕ) (r : ScanFault) : Type 0 where
   pub front : List ℕ
   pub rest : List ℕ
@@ -53,7 +53,7 @@ pub record IsStuck (IsRead : List ℕ → Type 0) (text : List ℕ) (r : ScanFau
   pub viable : IsRead (front ++ more)
   pub stuck : (other : List ℕ) → SameToken r.kind other rest → IsRead (front ++ other) → ⊥
 
--- a fault says what is wrong with the text, and at which byte
+-- the fault has the kind of the refusal, and its byte
 abbrev pub Refuses : (List ℕ → Type 0) → TextFault → List ℕ → Type 0
 Refuses IsRead fault text = (r : ScanFault) × (fault ≡ fault_in (length text) r) × IsStuck IsRead text r
 

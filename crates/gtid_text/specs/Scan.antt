@@ -32,7 +32,7 @@ abbrev pub ◌>>=◌ : {A B : Type 0} → Result A ScanFault → (A → Result B
 abbrev pub refuse : {A : Type 0} → Kind → List ℕ → Result A ScanFault
 refuse kind rest = Err (record { kind = kind; left = length rest })
 
--- What a function returned, seen by view, is what reading gives.
+-- The view of what a function returned is what reading gives.
 abbrev pub Sees : {X Y : Type 0} → (X → Y) → Result X ScanFault → Result Y ScanFault → Type 0
 Sees view (Ok x) read = read ≡ Ok (view x)
 Sees view (Err e) read = read ≡ Err e

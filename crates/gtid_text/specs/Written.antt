@@ -1,4 +1,4 @@
--- What is written, token by token; its tokens may stand in either case, with blanks between them.
+-- What is written, token by token; a text may have the tokens in either case, with blanks between them.
 use Rattle.std.specs.Prelude.{◌≡◌, ℕ, ◌^◌, ◌<◌, ◌≤◌, List, [], ◌∷◌, ◌++◌, ◌==◌, if◌then◌else◌, decimal}
 use Rattle.std.specs.Str.{str_to_ascii_lowercase}
 use Rattle.gtid_text.specs.Grammar.{IsGap}

@@ -1,7 +1,7 @@
 //! GTIDs, and the text of GTID sets: the identifiers, their parsers and their writers. The base of all crates.
 //!
-//! The grammar is that of the MySQL 8.0 Reference Manual, "GTID Format and Storage"; what is our own in it stands in docs/FORMATS.md,
-//! section 1. Tagged GTIDs and other forms of a UUID than 8-4-4-4-12 are not read.
+//! The grammar is that of the MySQL 8.0 Reference Manual, "GTID Format and Storage"; docs/FORMATS.md, section 1, has what is our own in
+//! it. Tagged GTIDs and other forms of a UUID than 8-4-4-4-12 are not read.
 //!
 //! What a contract sees: a `SourceId` is a number below 2^128 (the 16 bytes of a server's UUID), a `Gtid` and a `Span` (an interval of
 //! one source) are records, a text is the list of its bytes. Three definitions are tied by proof: the grammar (`specs/Grammar`), the
@@ -10,7 +10,7 @@
 //!
 //! What a writer prints is the one text of its value, and is parsed back as it, in either case and with blanks (`laws`).
 //!
-//! Not proved: that parsing is linear (by form it is one pass). The printed text of `TextFault` is neither proved nor tested.
+//! Not proved: that parsing is linear (by the code it is one pass). The printed text of `TextFault` is neither proved nor tested.
 //!
 //! How it is kept: a writer makes room for the longest text first and appends then, so that after a refused allocation the string is as
 //! before.

@@ -228,13 +228,13 @@ fn gtid_of_text(text: &str) -> Result<Gtid, TextFault>
 
 /// The source that a text names, with blanks around it.
 pub fn parse_source(text: &str) -> Result<SourceId, TextFault>
-    // What is read is spelled so.
+    // An accepted text is a text of this value by the grammar.
     ensures found { IfOk result (λ id. SpellsSource text.now id) }
-    // What is spelled so is read.
+    // A text of a value by the grammar is accepted as this value.
     ensures only { (id : ℕ) → SpellsSource text.now id → result ≡ Ok id }
     // It is refused at the first token at which no continuation parses as a source.
     ensures refused { IfErr result (λ fault. Refuses IsSourceText fault text.now) }
-    // Which refusal it is.
+    // The result is that of the table of states, also which refusal it is.
     ensures exact { result ≡ answer (length text.now) (source_in text.now) }
 {
     source_of_text(text)
@@ -242,13 +242,13 @@ pub fn parse_source(text: &str) -> Result<SourceId, TextFault>
 
 /// The GTID that a text names, with blanks between its tokens.
 pub fn parse_gtid(text: &str) -> Result<Gtid, TextFault>
-    // What is read is spelled so.
+    // An accepted text is a text of this value by the grammar.
     ensures found { IfOk result (λ gtid. SpellsGtid text.now gtid) }
-    // What is spelled so is read.
+    // A text of a value by the grammar is accepted as this value.
     ensures only { (gtid : Gtid) → SpellsGtid text.now gtid → result ≡ Ok gtid }
     // It is refused at the first token at which no continuation parses as a GTID.
     ensures refused { IfErr result (λ fault. Refuses IsGtidText fault text.now) }
-    // Which refusal it is.
+    // The result is that of the table of states, also which refusal it is.
     ensures exact { result ≡ answer (length text.now) (gtid_in text.now) }
 {
     gtid_of_text(text)
@@ -266,13 +266,13 @@ fn spans_of(alloc: Global, text: &str) -> Result<Vec<Span>, TextFault>
 
 /// The intervals of a set, as they are written.
 pub fn parse_spans(alloc: Global, text: &str) -> Result<Vec<Span>, TextFault>
-    // What is read is spelled so.
+    // An accepted text is a text of this value by the grammar.
     ensures found { IfOk result (λ v. Spells text.now v.items) }
-    // What is spelled so is read, unless memory runs out.
+    // A text of these intervals by the grammar is accepted as them, unless memory is refused.
     ensures only { (spans : List Span) → Spells text.now spans → GivesText (λ v. v.items) result (length text.now) (Ok spans) }
     // It is refused at the first token at which no continuation parses as a set.
     ensures refused { IfErr result (λ fault. FailsText IsSetText fault text.now) }
-    // Which refusal it is.
+    // The result is that of the table of states, also which refusal it is.
     ensures exact { GivesText (λ v. v.items) result (length text.now) (spans_in text.now) }
 {
     spans_of(alloc, text)

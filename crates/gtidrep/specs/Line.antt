@@ -1,4 +1,4 @@
--- What a command line says.
+-- What a command line means.
 use Rattle.std.specs.Prelude.{◌≤◌}
 use Rattle.gtidrep.specs.declared.line.Command.{Command}
 use Rattle.gtidrep.specs.declared.line.Command.TheVariants.{Set, Position, Audit, Upgrade, Import, States, Version, Apply}

@@ -1,4 +1,4 @@
--- How the program ends: its exit status, and what standard error is told.
+-- How the program ends: its exit status, and its message on standard error.
 use Rattle.std.specs.Prelude.{ℕ, List, [], Ok, Err, codes, string_bytes}
 use Rattle.commands.specs.declared.edge.Outcome.TheVariants.{Done, Refused, Misused}
 use Rattle.commands.specs.declared.edge.RunFault.TheVariants.{Memory, Read, Write}
@@ -22,7 +22,8 @@ status_of (NoCommand (line.Line text)) = 2
 abbrev pub functions_text : List ℕ
 functions_text = codes "Functions of one set: normalize, count. Of two sets: union, intersect, subtract, symmetric,\nsubset, equal, disjoint. Of a set and a UUID: only, without.\n"
 
--- What standard error is told. A refusal is said on standard output; one of the words of `set` comes with the functions that there are.
+-- The message on standard error. A refusal is printed on standard output; where the words of `set` are refused, the message lists the
+-- functions.
 abbrev pub message_of : Ending → List ℕ
 message_of (Ran (Ok Done)) = []
 message_of (Ran (Ok Refused)) = []

@@ -1,4 +1,4 @@
-//! How the program ends: its exit status, and what it says of that on standard error.
+//! How the program ends: its exit status, and its message on standard error.
 ghost use Rattle.std.specs.Prelude.{◌≡◌};
 ghost use Rattle.gtidrep.specs.Status.{message_of, status_of};
 
@@ -31,8 +31,8 @@ pub fn exit_status(ending: &Ending) -> u8
     }
 }
 
-/// What standard error is told: whole lines, and nothing where standard output says all (our own
-/// rule). It does not allocate.
+/// The message on standard error: whole lines, and none where standard output has the whole answer (our
+/// own rule). It does not allocate.
 pub fn message(ending: &Ending) -> &str
     ensures { result.now ≡ message_of ending.now }
 {

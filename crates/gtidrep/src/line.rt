@@ -7,14 +7,14 @@ use clap::{Arg, ArgAction, ArgMatches, Error};
 use serving::Order;
 use std::alloc::{AllocError, Global};
 
-/// What an audit says beside its verdict.
+/// What an audit prints beside its verdict.
 #[derive(Clone, Copy, Debug, PartialEq, Eq, Drop)]
 pub enum Listing {
     /// The verdict alone.
     Verdict,
     /// All faults of all kinds.
     All,
-    /// On standard error what the verdict names in the input.
+    /// On standard error the places in the input of what the verdict names.
     Explained,
 }
 
@@ -27,7 +27,7 @@ pub enum Command<'a> {
         first: &'a str,
         second: Option<&'a str>,
     },
-    /// A journal from standard input is asked what its source sends.
+    /// What the source of a journal from standard input sends.
     Position {
         own: &'a str,
         ask: &'a str,
@@ -39,7 +39,7 @@ pub enum Command<'a> {
     },
     /// A bundle of version 1 from standard input is written by version 2.
     Upgrade,
-    /// Servers from standard input are set beside one another.
+    /// Servers from standard input are compared.
     States,
     /// A bundle from standard input whose journals are the texts of binary logs is written by version 2.
     Import {
@@ -60,7 +60,7 @@ pub enum CommandFault {
     Memory,
     /// A word is not UTF-8.
     NotUtf8,
-    /// The text that says so, in whole lines.
+    /// The text of `clap` that describes the fault, in whole lines.
     Line(String),
 }
 

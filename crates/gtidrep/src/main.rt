@@ -7,10 +7,10 @@
 //!     states < servers                       --version
 //!
 //! Exit status: 0 done, 1 refused, 2 the command line, 3 out of memory, 4 reading or writing failed (`exit_status`). With 3 and 4 one
-//! line on standard error says what failed; with 2 it says what is wrong with the words; with 0 and 1 it is empty (`message`, which
-//! allocates nothing), but for what `--explain` shows there.
+//! line on standard error reports what failed; with 2 standard error has what is wrong with the words; with 0 and 1 it is empty
+//! (`message`, which allocates nothing), but for what `--explain` shows there.
 //!
-//! What is written is proved of the commands. Here: which status and message belong to which end, and that a number of workers is 1 to 64
+//! What is written is proved in `commands`. Proved here: the status and message for each end, and that a number of workers is 1 to 64
 //! (`parse_line`).
 //!
 //! Not proved: which command the words name, for the kit's `clap` has no contract from which it would follow. That is tested by

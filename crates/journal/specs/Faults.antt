@@ -7,8 +7,8 @@ use Rattle.gtid_set.specs.Full.{HasManySources, HasManyIntervals, IsMemoryOr}
 use Rattle.journal.specs.declared.Entry.{Entry}
 use Rattle.journal.specs.Journals.{JournalValue, gtids_of, purged}
 
--- Memory was refused, or the set would have too many sources, or too many intervals once some of the entries are added. Memory may be refused
--- for an entry before the one whose source is too many.
+-- Memory was refused, or the set would have too many sources, or too many intervals once some of the entries are added. Memory may be
+-- refused for an entry before the one whose source is too many.
 abbrev pub IsAddingFault : SetFault → Gtids → List Entry → Type 0
 IsAddingFault f s entries = IsMemoryOr (HasManySources (set.union s (gtids_of entries))) ((n : ℕ) × HasManyIntervals (set.union s (gtids_of (take n entries)))) f
 

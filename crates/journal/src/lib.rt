@@ -1,14 +1,14 @@
 //! Journals: what a server executed, in order. A journal is a previous set and the entries after it, each a transaction with its GTID, as
 //! a binary log begins with its Previous-GTIDs event. (MySQL 8.0 Reference Manual, "GTID Life Cycle".)
 //!
-//! What a contract sees: a `Journal` is the record of its previous set and its list of entries. That a clone of an `Entry` shares its
-//! images no contract sees.
+//! What a contract sees: a `Journal` is the record of its previous set and its list of entries. No contract shows that a clone of an
+//! `Entry` shares its images.
 //!
 //! Kept by the type (`IsJournal`): no GTID is there twice or in the previous set, and each entry can be written as text: its number is 1
 //! to 2^63 - 1, it has at most 65,536 changes, images of 1 to 64 values, and values of at most 65,535 bytes.
 //!
-//! Each call is one equation. `purged` and the like are refused for out of memory, or where a set that is made on the way is full
-//! (`fault`).
+//! The contract of each call is one equation. `purged` and the like fail where memory is refused, or where a set that is made on the way
+//! is full (`fault`).
 //!
 //! Cost: `contains` looks at each entry. Readers and the own journal of a replica keep a set beside the journal instead.
 #![tactic(auto)]
@@ -249,7 +249,7 @@ impl Journal {
         mem::replace(&mut self.entries, Vec::new(alloc))
     }
 
-    /// The set executed before the entries.
+    /// The set that was executed before the entries.
     pub fn previous(&self) -> &GtidSet
         ensures { result.now ≡ self.now.previous }
     {
@@ -263,7 +263,7 @@ impl Journal {
         &self.entries
     }
 
-    /// A journal keeps to its rules: no GTID occurs twice or in the previous set, and each entry can
+    /// The type keeps the rules of a journal: no GTID occurs twice or in the previous set, and each entry can
     /// be written. It does nothing; a proof calls it for its contract.
     pub fn keeps_rules(&self)
         ensures { IsJournal self.now.previous self.now.entries }

@@ -134,7 +134,7 @@ fn is_text_of(alloc: Global, spans: &[Span], word: &[u8]) -> Result<bool, AllocE
     Ok(text.as_bytes() == word)
 }
 
-/// The spans, where they are tidy and their one text is the word.
+/// The spans, where they are in order, merged, and their one text is the word.
 fn as_spans(alloc: Global, word: &[u8], spans: Vec<Span>) -> Result<Option<Vec<Span>>, AllocError>
     ensures { IfOk result (λ found. option_map (λ v. v.items) found ≡ some_tidy word.now spans.items) }
 {

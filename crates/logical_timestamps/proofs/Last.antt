@@ -72,7 +72,7 @@ latest_is schema earlier e =
     from_0 : (n : ℕ) → max 0 n ≡ n
     from_0 n = omega arith
 
--- what the table tells of the next entry
+-- what the table gives for the next entry
 pub next_last_committed : (schema : List Table) (writers : Writers) (place : ℕ) (earlier : List Entry) (e : Entry) → IsNext writers schema place earlier
     → latest_in_turn place (write_set schema e.txn) writers 0 ≡ last_committed schema earlier e
 next_last_committed schema writers place earlier e h = (λ i. latest_in_turn (h.1 i) (write_set schema e.txn) (h.0 i) 0) ∙ latest_is schema earlier e

@@ -79,7 +79,7 @@ counted f x [] = refl
 counted f x (k ∷ keys) =
     once_more (key_eq k x) (f x) (f k) (latest (λ q. cond (key_eq q x) 0 (f q)) keys) (latest f keys) (λ e. ap f (key_eq_same k x e)) (counted f x keys)
 
--- in turn each key counts as it stood before all of them
+-- in turn each key counts as it was before all of them
 pub in_turn : (place : ℕ) (keys : List Key) (writers : Writers) (found : ℕ)
     → latest_in_turn place keys writers found ≡ max found (latest (λ k. earlier_place place (get writers k)) keys)
 in_turn place [] writers found = omega arith

@@ -4,7 +4,7 @@ use Rattle.rows.specs.declared.schema.Table.{Table}
 use Rattle.rows.specs.WriteSet.{shares_key}
 use Rattle.journal.specs.declared.Entry.{Entry}
 
--- the place of the last element that passes, the first one being at this place; else what was found before
+-- the place of the last element that passes a test, the first one being at this place; else `found`
 abbrev pub last_place : {A : Type 0} → (A → Bool) → ℕ → ℕ → List A → ℕ
 last_place p place found [] = found
 last_place p place found (x ∷ xs) = last_place p (place + 1) (if p x then place else found) xs

@@ -1,4 +1,4 @@
-//! The logical timestamps of a journal's entries, by which MySQL's binary log tells which transactions may be applied side by side.
+//! The logical timestamps of a journal's entries, by which MySQL's binary log marks which transactions may be applied side by side.
 //! (MySQL 8.0 Reference Manual, `binlog_transaction_dependency_tracking`, WRITESET.)
 //!
 //! The sequence number of an entry is its place, from 1. Its last_committed is the place of the last entry before it that shares a key

@@ -52,7 +52,7 @@ impl LastWriters {
         Ok(writers)
     }
 
-    /// An entry touches a key. What touched it last before comes back.
+    /// An entry touches a key. The result is what touched it last before.
     fn replace(&mut self, key: Key, number: u64) -> Result<Option<u64>, AllocError>
         ensures written { OnOk result (self.new ≡ finmap.insert self.old key number) }
         ensures before { IfOk result (λ before. before ≡ finmap.get self.old key) }
@@ -63,7 +63,7 @@ impl LastWriters {
         Ok(before)
     }
 
-    /// An entry touches a key. The number of the earlier entry that touched it last comes back, or 0.
+    /// An entry touches a key. The result is the number of the earlier entry that touched it last, or 0.
     fn write(&mut self, key: Key, number: u64) -> Result<u64, AllocError>
         ensures written { OnOk result (self.new ≡ finmap.insert self.old key number) }
         ensures earlier { IfOk result (λ n. n ≡ earlier_place number (finmap.get self.old key)) }
@@ -75,7 +75,7 @@ impl LastWriters {
         }
     }
 
-    /// An entry touches keys. The greatest number of what touched them before that entry comes back, or 0.
+    /// An entry touches keys. The result is the greatest number of the earlier entries that touched them last, or 0.
     fn write_all(&mut self, keys: Vec<Key>, number: u64) -> Result<u64, AllocError>
         ensures written { OnOk result (self.new ≡ record_writes number keys.items self.old) }
         ensures latest { IfOk result (λ n. n ≡ latest_in_turn number keys.items self.old 0) }
@@ -88,7 +88,7 @@ impl LastWriters {
         Ok(latest)
     }
 
-    /// The last_committed of the next entry, which now is the last writer of its keys. Its sequence
+    /// The last_committed of the next entry, which is then the last writer of its keys. Its sequence
     /// number is one more than the count of the entries before it. (MySQL 8.0 Reference Manual,
     /// binlog_transaction_dependency_tracking, WRITESET; keys themselves, not hashes, are our own
     /// rule.) After an error some of its keys may be written.

@@ -1,4 +1,4 @@
--- What has come to a channel, and that it stays come.
+-- What a channel has, and that it keeps it.
 use Rattle.std.proofs.Common.{◌≡◌, ◌≢◌, ℕ, zero, suc, true, inl, inr, List, [], ◌∷◌, ◌++◌, map, Some, sym, ap, ◌∙◌, subst}
 use Rattle.std.specs.Prelude.{slice_get}
 use Rattle.std.specs.List.{list_any}

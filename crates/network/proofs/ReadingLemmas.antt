@@ -41,7 +41,7 @@ use Rattle.network.proofs.Coming.{Grew, still_come, grew_as_before, grew_same, p
 both_true : (x y : Bool) → x ≡ true → y ≡ true → (x && y) ≡ true
 both_true x y p q = λ i. p i && q i
 
--- ---- what has come to a channel grows
+-- ---- what a channel has grows
 
 all_more : (f g : Entry → Bool) (es : List Entry) → ((e : Entry) → f e ≡ true → g e ≡ true) → list_all f es ≡ true → list_all g es ≡ true
 all_more f g [] h all = refl

@@ -1,4 +1,4 @@
--- When an event of a network is not answered, and why.
+-- When an event of a network has an error in place of a reply, and which.
 use Rattle.std.specs.Prelude.{◌≡◌, ◌⊎◌, ℕ, List, Option, Some, None, Ok, Err, MatchOption, slice_get}
 use Rattle.std.specs.FinMap as finmap
 use Rattle.std.specs.FinSet as set
@@ -17,7 +17,7 @@ use Rattle.network.specs.declared.event.NetworkEvent.TheVariants.{Act, Position,
 use Rattle.network.specs.Nodes.{Node}
 use Rattle.network.specs.Machine.{Decision, decide}
 
--- why the replica of a node does not answer an event
+-- why an event of a node's replica has an error
 abbrev pub IsCauseBy : SetFault → Event → Node → Type 0
 IsCauseBy f e node = IsCause f node.replica.site node.replica.state e
 
@@ -53,14 +53,14 @@ pub record IsReadingCause (f : SetFault) (nodes : List Node) (i c : ℕ) : Type 
   pub with : channel.asked ≡ Some asked
   pub purged : IsMemoryOr ⊥ (HasManyIntervals (set.difference source.replica.state.journal.previous asked)) f
 
--- Why an event is not answered: that of the replica's event that it makes. A Position makes the set that it asks with, whatever the source
--- answers, and then those that the source makes for its answer; a Receive looks first whether all that was purged has come.
+-- Why an event has an error: for the causes of the replica's event that it makes. A Position makes the set that it asks with, whatever the
+-- source answers, and then those that the source makes for its answer; a Receive first tests whether the channel has all that was purged.
 abbrev pub IsEventCause : SetFault → List Node → NetworkEvent → Type 0
 IsEventCause f nodes (Act i e) = IsCauseAt f nodes i e
 IsEventCause f nodes (Position i c k) = IsCauseAt f nodes i (event.Position c) ⊎ IsPlanCause f nodes i c k
 IsEventCause f nodes (Receive i c) = IsCauseOf f nodes (decide nodes (Receive i c)) ⊎ IsReadingCause f nodes i c
 
--- a fault of the event that comes next, if any comes; a failed allocation may come before its step
+-- a fault of the next event, if there is one; a failed allocation may come before its step
 abbrev pub IsFaultAt : SetFault → List Node → Option NetworkEvent → Type 0
 IsFaultAt f nodes None = Unit {0}
 IsFaultAt f nodes (Some e) = IsEventCause f nodes e

@@ -11,14 +11,14 @@ use Rattle.network.specs.Nodes.{Node}
 use Rattle.network.specs.Machine.{decide}
 use Rattle.network.specs.Reading.{IsReadFrom}
 
--- all entries have come
+-- the channel has all entries
 pub record IsAtEnd (nodes : List Node) (i c place : ℕ) : Type 0 where
   pub node : Node
   pub at : slice_get nodes i ≡ Some node
   pub nothing : decide nodes (Receive i c) ≡ Err Nothing
   pub read : (k : ℕ) → IsReadFrom nodes i c k (Some place)
 
--- this entry is received next, and those before its place have come
+-- this entry is received next, and the channel has those before its place
 pub record IsEntryNext (nodes : List Node) (i c place : ℕ) (entry : Entry) : Type 0 where
   pub node : Node
   pub at : slice_get nodes i ≡ Some node

@@ -20,7 +20,7 @@ Places = finmap.FinMap nat_cmp ℕ
 abbrev pub has_come : Gtids → Entry → Bool
 has_come came e = set.contains came e.gtid
 
--- All that a binary log has purged has come, and so have its entries before a place.
+-- The channel has all that a binary log has purged, and its entries before a place.
 pub record HasRead (came : Gtids) (journal : JournalValue) (place : ℕ) : Type 0 where
   pub purged : set.is_subset journal.previous came ≡ true
   pub short : place ≤ length journal.entries
@@ -73,7 +73,7 @@ pub record AreAllMoved (nodes : List Node) (k count : ℕ) (old new : List Place
 
 -- ---- the next entry
 
--- the place of the first entry that has not come, or the number of entries
+-- the place of the first entry that the channel has not, or the number of entries
 pub record IsNextPlace (came : Gtids) (entries : List Entry) (place : ℕ) : Type 0 where
   pub short : place ≤ length entries
   pub come : list_all (has_come came) (take place entries) ≡ true

@@ -1,4 +1,4 @@
-//! What an event of one replica makes of a network.
+//! What an event of one replica changes in a network.
 ghost use Rattle.std.specs.Prelude.{◌≡◌, ◌<◌, length, true, false, Some, IfOk, IfErr, OnOk, OnErr, slice_set};
 ghost use Rattle.std.specs.FinMap as finmap;
 ghost use Rattle.replica_core.specs.Machine as machine;
@@ -42,7 +42,7 @@ fn entries_at(nodes: &[Node], node: usize) -> usize
     }
 }
 
-/// Of one node so many entries were purged: the places of all channels that read it.
+/// So many entries of one node were purged: moves the places of all channels that read it.
 fn move_back(readers: &mut [Reader], nodes: &[Node], source: usize, count: usize)
     requires { length readers.old ≡ length nodes.now }
     ensures { AreAllMoved nodes.now source count readers.old readers.new }
@@ -78,7 +78,7 @@ pub(crate) fn act_at(
     Ok(reply)
 }
 
-/// The node at a place positions a channel at a source. What has come of the source's binary log is looked for anew.
+/// The node at a place positions a channel at a source. How far the channel has read is then no longer known.
 pub(crate) fn position_at(
     nodes: &mut Vec<Node>,
     readers: &mut [Reader],
@@ -99,7 +99,7 @@ pub(crate) fn position_at(
     one.position(alloc, channel, source)
 }
 
-/// A channel of the node at a place receives an entry, where those before this place have come.
+/// A channel of the node at a place receives an entry; it has those before this place.
 pub(crate) fn receive_at(
     nodes: &mut Vec<Node>,
     readers: &mut [Reader],

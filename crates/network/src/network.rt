@@ -65,9 +65,9 @@ impl Model for Network {
 enum Next {
     /// No entry, and this is the reply.
     Reply(NetworkReply),
-    /// No entry, since all have come: how many there are.
+    /// No entry, since the channel has all: how many there are.
     End(usize),
-    /// The first entry that has not come, and its place.
+    /// The first entry that the channel has not, and its place.
     Entry(usize, Entry),
 }
 
@@ -216,7 +216,7 @@ impl Network {
         }
     }
 
-    /// A channel of a node receives its source's first entry that has not come to it.
+    /// A channel of a node receives the first entry of its source that it has not.
     fn receive(
         &mut self,
         alloc: Global,
@@ -279,7 +279,7 @@ fn put(told: &mut Vec<NetworkReply>, reply: NetworkReply)
 }
 
 impl Network {
-    /// Events in turn: the replies up to the first error, and that error. What came before it stays.
+    /// Events in turn: the replies up to the first error, and that error. What was done before it is kept.
     /// Room for each reply is made before its step.
     pub fn run(
         &mut self,

@@ -77,7 +77,7 @@ impl Node {
         }
     }
 
-    /// The replica makes an event, and its channels read what they read.
+    /// The replica makes an event; its channels read the same nodes as before.
     pub(crate) fn make(&mut self, alloc: Global, event: &Event) -> Result<Reply, SetFault>
         requires { is_numbered event.now ≡ true }
         ensures ok { IfOk result (λ r. Makes self.old event.now self.old.sources r self.new) }

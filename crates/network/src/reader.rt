@@ -9,7 +9,7 @@ use crate::slots::{fill, free, make_slots, slot_at};
 use std::alloc::{AllocError, Global};
 use std::marker::Model;
 
-/// For each channel of a node, how many entries at the start of its source's binary log have come, where that is known.
+/// For each channel of a node, how many entries at the start of its source's binary log it has, where that is known.
 #[derive(Drop)]
 pub(crate) struct Reader {
     places: Vec<Option<usize>>,
@@ -51,7 +51,7 @@ fn move_slots(places: &mut [Option<usize>], node: &Node, source: usize, count: u
 }
 
 impl Reader {
-    /// Of no channel a place is known.
+    /// No channel's place is known.
     pub(crate) fn new(alloc: Global) -> Reader
         ensures { result ≡ finmap.empty }
     {
@@ -60,14 +60,14 @@ impl Reader {
         }
     }
 
-    /// How many entries at the start have come to a channel, where that is known.
+    /// How many entries at the start a channel has, where that is known.
     pub(crate) fn place(&self, channel: usize) -> Option<usize>
         ensures { result ≡ finmap.get self.now channel }
     {
         slot_at(&self.places, channel)
     }
 
-    /// So many entries at the start have come to a channel.
+    /// A channel has so many entries at the start.
     pub(crate) fn put(&mut self, channel: usize, place: usize) -> Result<(), AllocError>
         ensures ok { OnOk result (self.new ≡ finmap.insert self.old channel place) }
         ensures err { OnErr result (self.new ≡ self.old) }
@@ -77,14 +77,14 @@ impl Reader {
         Ok(())
     }
 
-    /// It is no longer known what has come to a channel.
+    /// It is no longer known how far a channel has read.
     pub(crate) fn forget(&mut self, channel: usize)
         ensures { self.new ≡ finmap.remove self.old channel }
     {
         free(&mut self.places, channel);
     }
 
-    /// Of one node so many entries were purged: the places of the channels that read it.
+    /// So many entries of one node were purged: moves the places of the channels that read it.
     pub(crate) fn move_back(&mut self, node: &Node, source: usize, count: usize)
         ensures { AreMoved node.now.sources source count self.old self.new }
     {

@@ -1,4 +1,4 @@
-//! What has come to a channel of its source's binary log, and what comes next.
+//! What a channel has of its source's binary log, and what it receives next.
 ghost use Rattle.std.specs.Prelude.{◌≡◌, ◌≤◌, false, true, length, take, IfOk, IfErr, MatchOption};
 ghost use Rattle.std.specs.List.{list_all};
 ghost use Rattle.std.specs.FinSet as set;
@@ -10,14 +10,14 @@ use gtid_text::Gtid;
 use journal::{Entry, Journal};
 use std::alloc::Global;
 
-/// Whether a GTID has come to a channel: by the set that it asked with, or by what it has received.
+/// Whether a channel has a GTID: in the set that it asked with, or among what it has received.
 fn has_come(asked: &GtidSet, received: &GtidSet, gtid: &Gtid) -> bool
     ensures { result ≡ set.contains (set.union asked.now received.now) gtid.now }
 {
     asked.contains(gtid) || received.contains(gtid)
 }
 
-/// Whether all of a set has come to a channel.
+/// Whether a channel has all of a set.
 fn have_come(
     alloc: Global,
     asked: &GtidSet,
@@ -34,7 +34,7 @@ fn have_come(
     Ok(others.is_subset(received))
 }
 
-/// The place of the first entry that has not come to a channel, or the number of entries. Those before a place have come.
+/// The place of the first entry that a channel has not, or the number of entries. It has those before the given place.
 pub(crate) fn next_place(
     entries: &[Entry],
     place: usize,
@@ -52,8 +52,8 @@ pub(crate) fn next_place(
     next
 }
 
-/// A place of a journal before which all entries have come to a channel, purged ones too: the one that is known, or else the first, if
-/// all that was purged has come.
+/// A place of a journal such that a channel has all entries before it, purged ones too: the one that is known, or else the first, if it
+/// has all that was purged.
 pub(crate) fn start(
     alloc: Global,
     known: Option<usize>,

@@ -16,7 +16,7 @@ pub(crate) fn slot_at(slots: &[Option<usize>], channel: usize) -> Option<usize>
     }
 }
 
-/// Makes free slots up to a channel's, and so no difference.
+/// Adds free slots up to a channel's; the map that they denote is the same.
 pub(crate) fn make_slots(slots: &mut Vec<Option<usize>>, channel: usize) -> Result<(), AllocError>
     ensures there { OnOk result (channel < length slots.new.items) }
     ensures same { sources_of slots.new.items ≡ sources_of slots.old.items }

@@ -1,4 +1,4 @@
--- What a verdict names of conflicts stands.
+-- What a verdict on a conflict names is there.
 use Rattle.std.proofs.Common.{◌≡◌, ◌≢◌, ℕ, zero, suc, ◌⊎◌, Bool, true, false, cond, not, ◌&&◌, inl, inr, List, [], ◌∷◌, ◌++◌, take, drop, Option, Some, None, Result, Ok, Err, refl, sym, ap, ◌∙◌, subst}
 use Rattle.std.specs.Prelude.{slice_get}
 use Rattle.std.specs.Option.{option_map}
@@ -123,7 +123,7 @@ before_is_in xs zs g e d p = elim (before_either xs (e ∷ zs) g e p) [
 -- ---- what is named
 
 module _ (schema : List Table) (hs : List History) (d : AreDistinct (order_of hs)) (one : HaveOneContent hs) (each : (h : History) → IsAmong h hs → AreDistinct h) where
-  -- what a pair's verdict says
+  -- what a pair's verdict means
   abbrev pub Says : Verdict → Type 0
   Says (Reordered g h key) = OfTwo (AtKey schema key (IsReordered schema)) hs g h
   Says (NotClosed g h) = OfTwo (IsLeftOut schema) hs h g

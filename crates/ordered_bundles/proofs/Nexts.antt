@@ -114,7 +114,7 @@ module _ (schema : List Table) where
 
 -- ---- entries in turn
 
--- what is found of each entry, told those before it
+-- what is found for each entry, given those before it
 abbrev pub walk : {B : Type 0} → (List Entry → Entry → Option B) → List Entry → List Entry → Option B
 walk G before [] = None
 walk G before (e ∷ es) = or_next (G before e) (walk G (before ++ e ∷ []) es)
@@ -129,7 +129,7 @@ walked G (x ∷ es) = ap (or_next (G [] x)) (walked (λ c. G (x ∷ c)) es ∙ w
 
 -- ---- what a history has out of turn
 
--- what is found of an entry of a history, told those before it
+-- what is found for an entry of a history, given those before it
 abbrev pub entry_fault : List Table → List History → History → List Entry → Entry → Option Verdict
 entry_fault schema hs h before e = first (λ key. fault_with hs h e.0 key (next_of schema (order_of hs) key before)) (write_set schema e.1)
 

@@ -1,4 +1,4 @@
--- Each verdict of an audit in one order names a case that stands.
+-- Each verdict of an audit in one order names a fault that is there.
 use Rattle.std.proofs.Common.{◌≡◌, ◌⊎◌, Bool, inl, inr, List, Option, Some, None, refl, sym, ap, subst}
 use Rattle.std.specs.Prelude.{not}
 use Rattle.std.specs.List.{AllByRecursion}

@@ -1,4 +1,4 @@
--- What an audit of journals in one order finds. Nothing is asked of sources.
+-- What an audit of journals in one order finds. Nothing is required of sources.
 use Rattle.std.specs.Prelude.{Bool, not, ◌&&◌, if◌then◌else◌, List, take, Option, Some, None}
 use Rattle.std.specs.Option.{option_map, unwrap_or}
 use Rattle.gtid_text.specs.declared.Gtid.{Gtid}

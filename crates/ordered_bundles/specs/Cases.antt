@@ -20,7 +20,7 @@ use Rattle.conflict_order.specs.Histories.{History, IsAmong, order_of, IsReorder
 use Rattle.ordered_bundles.specs.Bundles.{histories_of}
 use Rattle.ordered_bundles.specs.Audit.{verdict_in_order}
 
--- This stands of two of the histories and two entries with these GTIDs.
+-- This holds of two of the histories and two entries with these GTIDs.
 pub record OfTwo (P : History → History → Entry → Entry → Type 0) (hs : List History) (g h : Gtid) : Type 0 where
   pub first : History
   pub second : History
@@ -59,7 +59,7 @@ StandsInOrder world journals (Concurrent g h key) = OfTwo (AtKey world.schema ke
 StandsInOrder world journals (DoesNotApply g fault) = FailsInOrder world.schema world.opening_rows (order_of (histories_of world.opening_set journals)) g fault
 StandsInOrder world journals Sound = Unit {0}
 
--- Each verdict but Sound names a case that stands, in the world of the journals.
+-- Each verdict but Sound names a fault that is there, in the world of the journals.
 abbrev pub VerdictsStandInOrder : Type 0
 VerdictsStandInOrder = (schema : List Table) (opened : Gtids) (rows : Rows) (journals : List JournalValue) → AreJournals journals
     → StandsInOrder (sources.world_of schema opened rows journals) journals (verdict_in_order (sources.world_of schema opened rows journals) journals)

@@ -1,4 +1,4 @@
-//! What the histories of journals say of the journals. Each function's contract is a law, and its
+//! What follows for journals from their histories. Each function's contract is a law, and its
 //! body is empty.
 ghost use Rattle.ordered_bundles.specs.Bundles.{JournalsAreFaithful, ChainsAreEnough};
 ghost use Rattle.ordered_bundles.specs.Cases.{VerdictsStandInOrder};
@@ -27,8 +27,8 @@ pub fn keys_in_order_mean()
     ensures { KeysInOrderMean }
 {}
 
-/// Each verdict of the audit in one order but Sound names a case that stands: what it says of a pair
-/// two of the journals show.
+/// Each verdict of the audit in one order but Sound names a fault that is there; for a pair two of the journals
+/// have it so.
 pub fn verdicts_stand_in_order()
     ensures { VerdictsStandInOrder }
 {}

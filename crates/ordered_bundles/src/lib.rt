@@ -1,4 +1,4 @@
-//! What the histories of journals say of the journals, and what an audit of them in one order finds.
+//! What follows for journals from their histories, and what an audit of them in one order finds.
 #![tactic(auto)]
 
 mod laws;

@@ -1,4 +1,4 @@
--- What a run that was served all journals of a world says of it.
+-- What a run that was served all journals of a world shows about it.
 use Rattle.std.proofs.Common.{◌≡◌, ℕ, zero, suc, Bool, true, cond, not, ◌⊎◌, inl, inr, List, [], ◌∷◌, ◌++◌, Option, Some, None, refl, sym, ap, ◌∙◌, subst}
 use Rattle.std.specs.Prelude.{◌↔◌, slice_get, IsOk, IsSome}
 use Rattle.std.specs.List.{filter, AllByRecursion}

@@ -1,4 +1,4 @@
--- Runs that are served the journals of a world, and what they say of it.
+-- Runs that are served the journals of a world, and what they show about it.
 use Rattle.std.specs.Prelude.{◌≡◌, ℕ, ◌↔◌, ◌⊎◌, true, List, [], ◌∷◌, Some, Ok, IsOk, IsSome, slice_get}
 use Rattle.std.specs.List.{AllByRecursion}
 use Rattle.std.specs.FinSet as set
@@ -37,7 +37,7 @@ pub record IsRecorded (journals : List JournalValue) (g : Gtid) : Type 0 where
   pub listed : slice_get journals number ≡ Some journal
   pub recorded : set.contains (whole journal) g ≡ true
 
--- The journals tell the truth about the world, and together they have a record of all that was committed in it.
+-- The journals are faithful to the world, and together they have a record of all that was committed in it.
 pub record AreJournalsOf (world : World) (journals : List JournalValue) : Type 0 where
   pub gtids : AreGtidsSound world
   pub faithful : AllByRecursion (IsFaithful world) journals

@@ -54,7 +54,7 @@ pub record WasSent (world : World) (ask : Gtids) (entries : List Entry) : Type 0
 abbrev pub asked_with : State → ℕ → Option Gtids
 asked_with s c = option_and_then (λ (channel : ChannelValue). channel.asked) (slice_get s.channels c)
 
--- What is asked of one event: what is received was sent, and what commits here is what the world has under that GTID, with
+-- What is required of one event: what is received was sent, and what commits here is what the world has under that GTID, with
 -- all executed that comes before it in the world's order and shares a key with it.
 abbrev pub IsFaithfulStep : World → Site → State → Since → Event → Reply → Type 0
 IsFaithfulStep world site s since (Receive c entry) (Received p) = (ask : Gtids) → asked_with s c ≡ Some ask → WasSent world ask (since c ++ entry ∷ [])

@@ -1,4 +1,5 @@
-//! The merge theorem: replicas that were told the truth and show the same executed set hold the same rows, whatever happened in between.
+//! The merge theorem: replicas that were served faithful journals and show the same executed set hold the same rows, whatever happened in
+//! between.
 //!
 //! Laws (public functions with empty bodies) over runs of the state machine, for a world in which all was committed in one order
 //! (`ordered_history`): sources may touch the same keys, as long as transactions that share a key are in one order everywhere.
@@ -7,8 +8,8 @@
 //!
 //! A run is faithful (`IsFaithfulRun`) where what each channel received since its last Position is a prefix of what some faithful journal
 //! sends to the set that it asked with, and where each Local commits what the world has under that GTID, on a server that has executed
-//! what comes before it in the world's order and shares a key with it. Nothing else is asked: channels are opened, asked, left and asked
-//! again, seats take, commit and roll back as they like, and the own journal is purged at will.
+//! what comes before it in the world's order and shares a key with it. Nothing else is required: channels are opened, positioned, left and
+//! positioned again, seats take, commit and roll back as they like, and the own journal is purged at will.
 //!
 //! `faithful_runs_merge`: after such a run of a sound world the rows are those that the executed set denotes, each key has its last
 //! writer's row, no channel is stopped, no commit was refused, and the own journal is faithful. `equal_sets_equal_rows`: two such runs
@@ -17,7 +18,7 @@
 //! that is served whole joins the executed set. `served_runs_decide` and `served_runs_hold_all`: a run that serves all journals, each on
 //! some channel or on several, executes all of them exactly where the world's list applies, and then holds the rows of all.
 //!
-//! Not said: that a run goes on, that is, that some seat takes what is ready.
+//! Not stated: that a run goes on, that is, that some seat takes what is ready.
 #![tactic(auto)]
 
 mod laws;

@@ -129,7 +129,7 @@ once-insert owned seat gtid once free a b g p q =
 pub once-remove : (owned : Ownership) (seat : ℕ) → IsOwnedOnce owned → IsOwnedOnce (map.remove owned seat)
 once-remove owned seat once a b g p q = once a b g (after_remove owned seat a g p) (after_remove owned seat b g q)
 
--- a seat that owns nothing comes to own what nobody owns
+-- a seat that owns nothing takes what no seat owns
 pub attempt_free : (owned : Ownership) (gtid : Gtid) (seat : ℕ) → owned_by owned seat ≡ None → owner owned gtid ≡ None → (Owned, map.insert owned seat gtid) ≡ attempt owned gtid seat
 attempt_free owned gtid seat idle free =
     sym (ap (λ o. option_map_or (λ mine. (SeatBusy mine, owned)) o (option_map_or (λ other. (OwnedBy other, owned)) (owner owned gtid) (Owned, map.insert owned seat gtid))) idle

@@ -129,7 +129,7 @@ vacant_slots slots e = ap (λ es. map.from_entries {R = nat_cmp} es) e
 pub once-empty : IsOwnedOnce map.empty
 once-empty a b g p q = absurd (none-some g (sym (map.get-empty nat_cmp a) ∙ p))
 
--- the slot of a seat that comes to own a GTID, and of one that gives it up
+-- the slot of a seat that takes a GTID, and of one that frees it
 pub put_at_seat : (slots : List (Option Gtid)) (seat : ℕ) (gtid : Gtid) → IsSeat seat → length slots ≡ 64 → owned_of (set slots (seat - 1) (Some gtid)) ≡ map.insert (owned_of slots) seat gtid
 put_at_seat slots seat gtid is full = of_slots-put slots (seat - 1) gtid (omega (arith, is.0, is.1)) ∙ ap (λ s. map.insert (owned_of slots) s gtid) (omega (arith, is.0))
 

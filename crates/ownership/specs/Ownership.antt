@@ -48,8 +48,8 @@ IsOwnedOnce owned = (a b : ℕ) (g : Gtid) → owned_by owned a ≡ Some g → o
 abbrev pub IsOfSeats : Ownership → Type 0
 IsOfSeats owned = (seat : ℕ) (g : Gtid) → owned_by owned seat ≡ Some g → IsSeat seat
 
--- What a seat is answered that tries to own a GTID, and who owns what then:
--- a seat that owns one already keeps it; what another seat owns stays there.
+-- The reply to a seat that tries to own a GTID, and who owns what then:
+-- a seat that owns one already keeps it; what another seat owns stays with it.
 abbrev pub attempt : Ownership → Gtid → ℕ → Attempt × Ownership
 attempt owned gtid seat =
     option_map_or (λ mine. (SeatBusy mine, owned))

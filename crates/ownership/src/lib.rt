@@ -4,10 +4,10 @@
 //! What a contract sees: an `Owners` is a finite map from seats, 1 to 64, to GTIDs.
 //!
 //! `try_own` gives `SeatBusy` where the seat owns a GTID, else `OwnedBy` where another seat owns this one, else `Owned`; a second taker
-//! is answered at once and never waits (our own rule). `one_seat_each` is the law that no GTID has two seats.
+//! has its reply at once and never waits (our own rule). `one_seat_each` is the law that no GTID has two seats.
 //!
 //! The replica's state machine (`replica_core`) does not hold an `Owners`: there a seat owns the GTID at the place that it took, so
-//! ownership cannot differ from the places. It takes the lemmas on places in an array from here.
+//! ownership cannot differ from the places. It cites the lemmas on places in an array from here.
 //!
 //! How it is kept: a vector of 64 slots, made at `open`; after it only `list` allocates. The owner is searched for over all 64.
 #![tactic(auto)]
@@ -23,7 +23,7 @@ use std::marker::Model;
 /// How many seats there are, numbered from 1.
 pub const SEATS: u8 = 64;
 
-/// What a seat is answered that tries to own a GTID.
+/// The reply to a seat that tries to own a GTID.
 #[derive(Clone, Copy, Debug, PartialEq, Eq, Drop)]
 pub enum Attempt {
     /// The seat owns it now.
@@ -55,7 +55,7 @@ impl Model for Owners {
 }
 
 impl Owners {
-    /// No seat owns anything. The room for all seats is made here: no other call but `list` takes memory.
+    /// No seat owns anything. The room for all seats is made here: no other call but `list` allocates.
     pub fn open(alloc: Global) -> Result<Self, AllocError>
         ensures { IfOk result (λ owners. owners ≡ map.empty) }
     {

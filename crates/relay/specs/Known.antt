@@ -8,7 +8,7 @@ use Rattle.relay.specs.declared.Known.{Known}
 use Rattle.relay.specs.declared.Behind.{Behind}
 use Rattle.relay.specs.declared.Behind.TheVariants.{Equal, ByLast, By, Ahead}
 
--- the last step can be taken back where the spare set stands one step behind
+-- the last step can be undone where the spare set is one step behind
 abbrev pub is_undoable : Behind → Bool
 is_undoable Equal = false
 is_undoable (ByLast gtid) = true
@@ -29,7 +29,7 @@ step_back_by (ByLast gtid) known = record { executed = known.spare; spare = know
 step_back_by (By gtid) known = known
 step_back_by (Ahead gtid) known = known
 
--- the last step is taken back
+-- the last step is undone
 abbrev pub step_back : Known → Known
 step_back known = step_back_by known.behind known
 
@@ -39,7 +39,7 @@ settle_by (ByLast gtid) known = record known { behind = By gtid }
 settle_by (By gtid) known = known
 settle_by (Ahead gtid) known = known
 
--- the last step stays
+-- the last step can no longer be undone
 abbrev pub keep_step : Known → Known
 keep_step known = settle_by known.behind known
 

@@ -35,7 +35,7 @@ IsBefore (ByLast gtid) spare journal = spare ≡ whole (without_last journal)
 IsBefore (By gtid) spare journal = Unit {0}
 IsBefore (Ahead gtid) spare journal = Unit {0}
 
--- what the own journal keeps
+-- the invariant of the own journal
 pub record IsOwn (journal : JournalValue) (known : Known) : Type 0 where
   pub whole_set : known.executed ≡ whole journal
   pub near : IsNear known

@@ -7,7 +7,7 @@
 //! whose rows are refused can be undone. `purge` moves entries into the purged set (`gtid_purged`) and is refused exactly where there are
 //! fewer.
 //!
-//! How it is kept: the executed set is there twice, one copy an entry behind the other, so that an append can be taken back without
+//! How it is kept: the executed set is kept twice, one copy an entry behind the other, so that an append can be taken back without
 //! memory and no commit copies a set.
 //!
 //! Not proved: speed. Which error comes is in `fault`: out of memory, or a set that would have too many sources or intervals.
@@ -86,7 +86,7 @@ impl Known {
         Ok(())
     }
 
-    /// Takes the last step back.
+    /// Undoes the last step.
     fn step_back(&mut self)
         ensures { self.new ≡ step_back self.old }
     {
@@ -187,7 +187,7 @@ impl OwnJournal {
         &self.known.executed
     }
 
-    /// The purged set: the executed GTIDs that no entry has any more.
+    /// The purged set: the executed GTIDs that are no longer in an entry.
     pub fn purged(&self) -> &GtidSet
         ensures { result.now ≡ self.now.journal.previous }
     {
@@ -232,7 +232,7 @@ impl OwnJournal {
         }
     }
 
-    /// Takes the entry that was appended last back, as if it had never been there. Does not allocate.
+    /// Undoes the last append. Does not allocate.
     pub fn take_back(&mut self)
         requires { self.old.undoable ≡ true }
         ensures { self.new.journal ≡ without_last self.old.journal }
@@ -241,7 +241,7 @@ impl OwnJournal {
         self.journal.pop();
     }
 
-    /// Takes the first entries away, and their GTIDs into the purged set, which is handed out.
+    /// Removes the first entries and adds their GTIDs to the purged set; the result is a copy of that set.
     /// The executed set stays.
     pub fn purge(&mut self, alloc: Global, count: usize) -> Result<GtidSet, PurgeFault>
         ensures ok { IfOk result (λ s. s ≡ purged count self.old.journal) }
@@ -331,7 +331,7 @@ impl OwnJournal {
     }
 
     /// Whether both have the same purged set and the same entries in the same order. Whether the
-    /// last entry can be taken back is not asked.
+    /// last entry can be taken back makes no difference.
     pub fn is_same_journal(&self, other: &OwnJournal) -> bool
         ensures { Decides result (self.now.journal ≡ other.now.journal) }
     {

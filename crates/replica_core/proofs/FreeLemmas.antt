@@ -56,7 +56,7 @@ unowned s seat seated none = none_by (finmap.get s.seats seat) (λ spot at.
     let owns : owned_by s seat ≡ Some w.0.gtid = ap (λ (o : Option Spot). option_map (λ (e : Received). e.gtid) (option_and_then (entry_at s) o)) at ∙ ap (option_map (λ (e : Received). e.gtid)) w.1 in
     let no : ◌≡◌ {A = Option Gtid} None (Some w.0.gtid) = sym none ∙ owns in cc no)
 
--- ---- what the list of the owned tells
+-- ---- what the list of the owned shows
 
 not_owned_by : (s : State) (seat x : ℕ) (xs : List ℕ) (o : Option Gtid) → owned_by s x ≡ o → (b : Bool) → (x == seat) ≡ b
     → (list_any (λ (p : ℕ × Gtid). p.0 == seat) (filter_map (with_gtid s) xs) ≡ false → list_any (λ n. n == seat) xs ≡ true → owned_by s seat ≡ None)

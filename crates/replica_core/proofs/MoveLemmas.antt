@@ -172,7 +172,7 @@ stays_in s g h at = with_one s g h (same_gtid h g) true refl at ∙ last (same_g
     last true = refl
     last false = refl
 
--- the GTID that is at a place afterwards is the one that stood there
+-- the GTID that is at a place afterwards is the one that was there
 gtid_there : (s : State) (c p : ℕ) (w : IsWaiting p c s) (channels : List ChannelValue) (after : ChannelValue) (e : Received) → SameChannels s.channels channels → slice_get channels c ≡ Some after → slice_get after.received p ≡ Some e → e.gtid ≡ w.entry.gtid
 gtid_there s c p w channels after e same at there =
     let b = same c after at in

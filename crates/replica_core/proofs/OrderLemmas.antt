@@ -41,7 +41,7 @@ twice false h = absurd (cc h)
 closed_before : (s : State) (channel : ChannelValue) (place : ℕ) → open_before s channel place ≡ None → AreExecutedBefore s channel place
 closed_before s channel place h = λ k d l. twice _ (none_pass (is_open s) (take place channel.received) h k d l)
 
--- ---- what a Committed answer says
+-- ---- what the reply Committed shows
 
 early_by : (s : State) (g : Gtid) (o : Option ℕ) (next : Step) → (option_map_or (λ q. (Early q, s)) o next).0 ≡ Committed g → o ≡ None
 early_by s g None next h = refl

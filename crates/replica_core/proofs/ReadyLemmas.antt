@@ -59,7 +59,7 @@ all_three true true c e = refl
 all_three true false c e = absurd (cc e)
 all_three false b c e = absurd (cc e)
 
--- the test of a channel, where an entry stands
+-- the test of a channel, where there is an entry
 at_entry : (schema : List Table) (s : State) (channel : ChannelValue) (place : ℕ) (e : Received) → All (IsKept schema s.executed) channel.received → slice_get channel.received place ≡ Some e → channels.is_ready schema channel.received place ≡ (is_open s e && is_none (option_map_or (blocking schema s channel place) e.txn None))
 at_entry schema s channel place e kept at =
     let waits = (found (IsKept schema s.executed) channel.received place e kept at).waits in

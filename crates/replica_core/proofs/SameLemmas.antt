@@ -43,7 +43,7 @@ same_by schema (x ∷ xs) (y ∷ ys) p q same =
     let first : x ≡ y = λ i. record { schema = tables i; channel = head i } in
     λ i. first i ∷ same_by schema xs ys p.1 q.1 (ap (drop 1) same) i
 
--- channels of one schema are told by what they are without it
+-- channels of one schema are equal where they are equal without it
 pub of_same : (schema : List Table) (xs ys : List Keyed) → AreOf schema xs → AreOf schema ys → map channel_of xs ≡ map channel_of ys → xs ≡ ys
 of_same schema xs ys p q same = same_by schema xs ys (recursion_from_All (IsOf schema) xs p) (recursion_from_All (IsOf schema) ys q) same
 

@@ -10,11 +10,12 @@ use Rattle.replica_core.specs.State.{State, Replica}
 use Rattle.replica_core.specs.Seated.{IsUnowned, IsFreeable, freed_of}
 use Rattle.replica_core.specs.Machine.{executing}
 
--- the state in which a seat was let go, if one is named
+-- the state in which a seat was freed, if one is named
 abbrev pub freeing : Option ℕ → State → State
 freeing freed s = record s { seats = freed_of freed s.seats }
 
--- an entry that may be committed, when a seat is let go: its GTID is new, the schema takes its transaction, and no other seat has a place of that GTID
+-- an entry that may be committed, while a seat is freed: its GTID is new, the schema takes its transaction, and no other seat has a place
+-- of that GTID
 pub record IsCommittable (r : Replica) (freed : Option ℕ) (e : Entry) : Type 0 where
   pub new : set.contains r.state.executed e.gtid ≡ false
   pub fits : Fits r.site.schema e.txn

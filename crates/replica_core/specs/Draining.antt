@@ -1,4 +1,4 @@
--- What is left of a replica when its seats have done what is left to do.
+-- A replica once its seats have done what was left to do.
 use Rattle.std.specs.Prelude.{◌≡◌, ◌⊎◌, ℕ, ◌<◌, true, false, List, Option, Some, None, length, option_map, slice_get}
 use Rattle.std.specs.FinSet as set
 use Rattle.std.specs.FinMap as finmap
@@ -43,7 +43,7 @@ abbrev pub IsSettledAt : ℕ → ℕ → State → Type 0
 IsSettledAt p c s = (channel : ChannelValue) → slice_get s.channels c ≡ Some channel
     → (channel.stopped ≡ true) ⊎ ((e : Received) → slice_get channel.received p ≡ Some e → set.contains s.executed e.gtid ≡ true)
 
--- each entry after is of the GTID that stood there before
+-- each entry after is of the GTID that was there before
 abbrev pub SameGtids : List Received → List Received → Type 0
 SameGtids old new = (p : ℕ) (e : Received) → slice_get new p ≡ Some e → (f : Received) × (slice_get old p ≡ Some f) × (e.gtid ≡ f.gtid)
 

@@ -1,4 +1,4 @@
--- When an event is not answered, and why.
+-- When an event has an error in place of a reply, and which.
 use Rattle.std.specs.Prelude.{◌≡◌, ◌≤◌, ℕ, Bool, true, false, Option, Some, None, option_map, slice_get}
 use Rattle.std.specs.FinSet as set
 use Rattle.gtid_set.specs.declared.fault.SetFault.{SetFault}
@@ -60,7 +60,7 @@ abbrev pub IsFaultIn : SetFault → Option Gtids → Type 0
 IsFaultIn f None = f ≡ Memory
 IsFaultIn f (Some made) = IsFaultOf f made
 
--- a reply for which memory is taken
+-- a reply that allocates
 abbrev pub takes_memory : Reply → Bool
 takes_memory NameTaken = false
 takes_memory ChannelsFull = false
@@ -91,7 +91,7 @@ takes_memory (TooMany there) = false
 takes_memory (Purged s) = true
 takes_memory (Shown s) = true
 
--- Why an event is not answered. Besides copies and parts of sets of the old state it makes one set at most; a Purge makes its own by adding
+-- Why an event has an error. Besides copies and parts of sets of the old state it makes one set at most; a Purge makes its own by adding
 -- the GTIDs of the entries one after another.
 abbrev pub IsCause : SetFault → Site → State → Event → Type 0
 IsCause f site s (event.OpenChannel name preserve) = IsFaultIn f None
@@ -105,7 +105,7 @@ IsCause f site s (event.Local changes) = IsFaultIn f (numbering site s)
 IsCause f site s (event.Purge k) = IsPurgedFault f k s.journal
 IsCause f site s event.Look = IsFaultIn f None
 
--- a fault in place of an answer: one for which memory is taken
+-- a fault in place of a reply: of one that allocates
 pub record IsFault (Cause : Type 0) (answer : Step) : Type 0 where
   pub cause : Cause
   pub instead : takes_memory answer.0 ≡ true
@@ -114,12 +114,12 @@ pub record IsFault (Cause : Type 0) (answer : Step) : Type 0 where
 abbrev pub IsStepFault : SetFault → Site → State → Event → Type 0
 IsStepFault f site s e = IsFault (IsCause f site s e) (step site s e)
 
--- what is said of a failed allocation at the event that comes next, if any comes
+-- memory was refused only where the set that the next event makes, if there is one, has not too many sources
 abbrev pub HasRoomAt : SetFault → Site → State → Option Event → Type 0
 HasRoomAt f site s None = Unit {0}
 HasRoomAt f site s (Some e) = HasRoomFor f (made_by site s e)
 
--- a fault of the event that comes next, if any comes; a failed allocation may come before its step
+-- a fault of the next event, if there is one; a failed allocation may come before its step
 abbrev pub IsFaultAt : SetFault → Site → State → Option Event → Type 0
 IsFaultAt f site s None = Unit {0}
 IsFaultAt f site s (Some e) = IsCause f site s e

@@ -21,7 +21,7 @@ pub record HasInOrder (s : State) (seat : ℕ) (spot : Spot) (channel : ChannelV
   pub at : slice_get s.channels spot.channel ≡ Some channel
   pub preserves : channel.preserve ≡ true
 
--- the i-th event of a run is a Commit of a seat that was answered Committed
+-- the i-th event of a run is a Commit of a seat, with the reply Committed
 pub record CommitsAt (site : Site) (start : State) (events : List Event) (i seat : ℕ) (g : Gtid) : Type 0 where
   pub asked : slice_get events i ≡ Some (event.Commit seat)
   pub told : slice_get (replies site start events) i ≡ Some (Committed g)

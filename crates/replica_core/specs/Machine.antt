@@ -29,7 +29,7 @@ use Rattle.replica_core.specs.State.{Site, State, owned_by, owner}
 abbrev pub Step : Type 0
 Step = Reply × State
 
--- ---- words
+-- ---- parts
 
 abbrev pub is_seat : ℕ → Bool
 is_seat seat = nat_le 1 seat && nat_le seat 64
@@ -46,7 +46,7 @@ is_open s e = not (set.contains s.executed e.gtid)
 abbrev pub is_in_the_way : List Table → State → Transaction → Received → Bool
 is_in_the_way schema s t e = is_open s e && option_map_or (λ u. shares_key schema u t) e.txn false
 
--- the least earlier place that keeps a place from being ready
+-- the least earlier place that blocks a place
 abbrev pub blocking : List Table → State → ChannelValue → ℕ → Transaction → Option ℕ
 blocking schema s channel place t = position (is_in_the_way schema s t) (take place channel.received)
 
@@ -76,7 +76,7 @@ executing s g t rows = record s {
   journal = with_last (record { gtid = g; txn = t }) s.journal;
 }
 
--- a transaction that the schema takes goes on; else the first change that it does not take is named
+-- where the schema takes a transaction, the rest decides; else the reply names the first change that it does not take
 abbrev pub if_fits : Site → Transaction → Step → State → Step
 if_fits site t next s = option_map_or (λ fault. (NotInSchema fault, s)) (misfit site.schema t) next
 
@@ -228,7 +228,7 @@ after site s (e ∷ es) = after site (step site s e).1 es
 abbrev pub drained : State → Bool
 drained s = list_all (λ channel. list_all (λ e. set.contains s.executed e.gtid) channel.received) s.channels
 
--- a place of a channel that a seat may take: its GTID is neither executed nor owned, and no earlier place is in its way
+-- a place of a channel that a seat may take: its GTID is neither executed nor owned, and no earlier place blocks it
 abbrev pub is_free_at : List Table → State → ChannelValue → ℕ → Received → Bool
 is_free_at schema s channel place e =
     is_open s e && (is_none (option_map_or (blocking schema s channel place) e.txn None) && is_none (owner s e.gtid))
@@ -243,7 +243,7 @@ ready_from schema s channel from = find (is_ready schema s channel) (range_with_
 abbrev pub next_ready : Site → State → ℕ → ℕ → Option ℕ
 next_ready site s c from = option_and_then (λ channel. ready_from site.schema s channel from) (slice_get s.channels c)
 
--- ---- what may be handed in
+-- ---- what an event may have
 
 -- the number of a received GTID is in range
 abbrev pub is_numbered : Event → Bool

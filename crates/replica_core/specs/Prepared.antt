@@ -1,4 +1,4 @@
--- What a worker may prepare outside.
+-- What a worker may prepare without the lock.
 use Rattle.std.specs.Prelude.{◌≡◌, ℕ, length, Option, Some, None, option_map, if◌then◌else◌}
 use Rattle.rows.specs.declared.change.Transaction.{Transaction}
 use Rattle.rows.specs.Fits.{Fits}

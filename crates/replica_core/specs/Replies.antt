@@ -1,4 +1,4 @@
--- The events that were answered.
+-- The events that have replies.
 use Rattle.std.specs.Prelude.{List, length, take}
 use Rattle.replica_core.specs.declared.event.Event.{Event}
 use Rattle.replica_core.specs.declared.event.Reply.{Reply}

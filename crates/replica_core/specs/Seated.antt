@@ -37,7 +37,7 @@ pub record MayHave (channels : List ChannelValue) (seats : Seats) (spot : Spot) 
   pub waits : is_some entry.txn ≡ true
   pub free : IsUnowned channels seats entry.gtid
 
--- a seat that is let go, if any, is one of the 64
+-- a seat that is freed, if any, is one of the 64
 abbrev pub IsFreeable : Option ℕ → Type 0
 IsFreeable None = Unit {0}
 IsFreeable (Some seat) = is_seat seat ≡ true

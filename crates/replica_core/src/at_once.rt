@@ -63,7 +63,7 @@ impl Core {
     }
 
     /// Executes an entry that needs to wait for nothing and then lets its channel receive it, which keeps
-    /// neither its keys nor its transaction: the reply to its Receive. Where it has to wait, or does not
+    /// neither its keys nor its transaction: the result is the reply to its Receive. Where it has to wait, or does not
     /// apply, nothing is done.
     fn commit_at_once(
         &mut self,
@@ -117,8 +117,8 @@ impl Core {
     }
 
     /// The events Receive, Take and Commit in turn: a channel receives an entry, and a seat takes this
-    /// place of it and commits what it has. The reply to the Receive is answered. Where nothing has to be
-    /// waited for, neither keys nor the transaction are kept in the channel.
+    /// place of it and commits what it has. The result is the reply to the Receive. Where the entry waits
+    /// for nothing, neither its keys nor its transaction are kept in the channel.
     ///
     /// The error is one of the Receive or of the Commit. After it nothing has changed, or the first two
     /// events were made, or the entry is executed, and the channel has not received it.

@@ -175,7 +175,7 @@ impl Channels {
         ask_one(&mut self.list, channel, asked);
     }
 
-    /// A channel receives an entry, whose place is answered. It is said whether its GTID is executed.
+    /// A channel receives an entry; the result is its place. The caller states whether its GTID is executed.
     pub(crate) fn receive(
         &mut self,
         alloc: Global,

@@ -41,7 +41,7 @@ impl Core {
         }
     }
 
-    /// What a Commit commits, or the reply that keeps it from that.
+    /// What a Commit commits, or the reply that refuses it.
     fn may_commit(&self, seat: u8) -> Result<Result<Ready, Reply>, SetFault>
         ensures ok { IfOk result (λ r. MatchResult r (IsReady self.now seat) (Refuses (commit self.now.site seat) self.now)) }
         ensures fault { IfErr result (λ f. IsFault (IsFaultIn f (committing seat self.now.state)) (commit self.now.site seat self.now.state)) }
@@ -76,8 +76,8 @@ impl Core {
         Ok(Ok(Ready { spot, entry, txn }))
     }
 
-    /// Executes an entry and lets go of the seat that had it, or says why its transaction does not
-    /// apply; then nothing has changed.
+    /// Executes an entry and frees the seat that had it; or the result is the reason why its transaction does not
+    /// apply, and nothing has changed.
     pub(crate) fn execute(
         &mut self,
         alloc: Global,

@@ -1,4 +1,4 @@
-//! What a replica is asked, and what it answers.
+//! Events, and the replies to them.
 ghost use Rattle.std.specs.Prelude.{◌≡◌};
 ghost use Rattle.replica_core.specs.Machine.{is_numbered};
 
@@ -14,7 +14,7 @@ pub struct Spot {
     pub place: usize,
 }
 
-/// One atomic step's question. Channels and places count from 0, seats from 1 to 64.
+/// One atomic step. Channels and places count from 0, seats from 1 to 64.
 #[derive(Drop)]
 pub enum Event {
     /// Opens a channel of this name, which preserves the order of its places or not.
@@ -27,9 +27,9 @@ pub enum Event {
     Take(u8, usize, usize),
     /// A seat commits what it took.
     Commit(u8),
-    /// A seat gives up what it took.
+    /// A seat rolls back what it took.
     Rollback(u8),
-    /// A stopped channel goes on.
+    /// A stopped channel runs again.
     Restart(usize),
     /// A transaction of the server's own.
     Local(Transaction),
@@ -40,7 +40,7 @@ pub enum Event {
 }
 
 impl Event {
-    /// Whether the event may be asked of a replica: an entry to be received has a transaction's number.
+    /// Whether a replica may be given the event: the number of an entry to be received is in range.
     pub fn is_numbered(&self) -> bool
         ensures { result ≡ is_numbered self.now }
     {
@@ -59,7 +59,7 @@ impl Event {
     }
 }
 
-/// One atomic step's answer.
+/// The reply to one atomic step.
 #[derive(Drop)]
 pub enum Reply {
     /// A channel has that name.

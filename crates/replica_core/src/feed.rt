@@ -83,7 +83,7 @@ impl Core {
         self.receive_fitting(alloc, channel, entry)
     }
 
-    /// The event Receive of an entry whose transaction the schema takes. It is not asked again.
+    /// The event Receive of an entry whose transaction the schema takes, which is not tested again.
     pub(crate) fn receive_fitting(
         &mut self,
         alloc: Global,

@@ -74,7 +74,7 @@ pub(crate) fn is_seat(seat: u8) -> bool
     1 <= seat && seat <= 64
 }
 
-/// Lets go of a seat's place, where one is named.
+/// Frees a seat, where one is named.
 pub(crate) fn free(seats: &mut [Option<Spot>; 64], freed: Option<u8>)
     requires { IsFreeable freed }
     ensures { seats_of seats.new ≡ freed_of freed (seats_of seats.old) }
@@ -173,7 +173,7 @@ impl Core {
         self.seats[seat as usize - 1] = Some(spot);
     }
 
-    /// A seat gives up its place.
+    /// A seat is freed.
     pub(crate) fn clear_seat(&mut self, seat: u8)
         requires low { 1 ≤ seat }
         requires high { seat ≤ 64 }

@@ -1,4 +1,4 @@
-//! Transactions that a worker prepares outside, and commits by their patches.
+//! Transactions that a worker prepares without the lock, and commits by their patches.
 ghost use Rattle.std.specs.Prelude.{◌≡◌, ◌≤◌, None, Ok, true, false, IfOk, IfErr, OnOk, OnErr, IfSome, MatchOption, option_map};
 ghost use Rattle.std.specs.Option.{option_copied};
 ghost use Rattle.rows.specs.Apply.{apply};
@@ -16,7 +16,7 @@ use rows::{InstallOutcome, PrepareFault, Rows, Transaction};
 use std::alloc::{AllocError, Global};
 use write_set::{Footprint, Patch, install, list_keys};
 
-/// Installs a patch, where it is one of this transaction and still true, and tells whether it did.
+/// Installs a patch, where it is of this transaction and still valid; whether it did.
 fn install_of(rows: &mut Rows, txn: &Transaction, patch: Patch) -> Result<bool, AllocError>
     ensures installed { result ≡ Ok true → apply rows.old.schema txn.now rows.old.rows ≡ Ok rows.new.rows }
     ensures same { rows.new.schema ≡ rows.old.schema }
@@ -33,7 +33,7 @@ fn install_of(rows: &mut Rows, txn: &Transaction, patch: Patch) -> Result<bool, 
     }
 }
 
-/// Applies a transaction that the schema takes: by its patch where there is one, and that is of it and still true.
+/// Applies a transaction that the schema takes: by a patch, where there is one that is of it and still valid.
 pub(crate) fn apply_with(
     rows: &mut Rows,
     alloc: Global,
@@ -113,8 +113,8 @@ impl Core {
         Ok(Some((txn, seen)))
     }
 
-    /// The event Commit, by a patch that was prepared outside. The patch is spent whatever the answer.
-    /// One that is of another transaction, or not true any more, is left aside, and the transaction is
+    /// The event Commit, by a patch that was prepared without the lock. The patch is used up whatever the reply.
+    /// One that is of another transaction, or no longer valid, is ignored, and the transaction is
     /// applied as in a Commit without it: reply, state and errors are those of a Commit.
     pub fn commit_prepared(
         &mut self,

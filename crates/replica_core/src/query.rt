@@ -27,7 +27,7 @@ impl Core {
         let _ = &self.journal;
     }
 
-    /// The purged set: the executed GTIDs that no entry of the own journal has any more.
+    /// The purged set: the executed GTIDs that are no longer in an entry of the own journal.
     pub fn purged(&self) -> &GtidSet
         ensures { result.now ≡ self.now.state.journal.previous }
     {
@@ -86,7 +86,7 @@ impl Core {
 
     /// The least place of a channel from this number on that a seat may take: its GTID is neither
     /// executed nor owned, and no earlier place that is not executed shares a key. Whether the
-    /// channel is stopped is not asked.
+    /// channel is stopped makes no difference.
     pub fn next_ready(&self, channel: usize, from: usize) -> Option<usize>
         ensures { result ≡ next_ready self.now.site self.now.state channel from }
     {

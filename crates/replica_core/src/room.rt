@@ -1,4 +1,4 @@
-//! Whether there is room for the set that an event makes. Nothing here takes memory.
+//! Whether there is room for the set that an event makes. Nothing here allocates.
 ghost use Rattle.std.specs.Prelude.{◌≡◌, true, false, Some};
 ghost use Rattle.gtid_set.specs.declared.fault.SetFault.TheVariants.{Memory, SourcesFull};
 ghost use Rattle.journal.specs.Journals.{purged};

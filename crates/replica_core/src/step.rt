@@ -38,7 +38,7 @@ impl Core {
     }
 
     /// One event: its reply, and the state that it leaves. After an error nothing has changed. An
-    /// error comes only in place of a reply that takes memory: `Memory` where memory was refused and the
+    /// error comes only in place of a reply that allocates: `Memory` where memory was refused and the
     /// set that the event makes, if it makes one, has at most 65,536 sources (`room`), and
     /// `SourcesFull` or `PoolFull` only where the set that the event makes would have more than 65,536
     /// sources, or more than 4,294,967,294 intervals: the set to ask with, the received set with the

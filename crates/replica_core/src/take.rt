@@ -21,7 +21,7 @@ impl Core {
         self.channels.get(channel)
     }
 
-    /// What a Take answers: the GTID that it takes, or the reply that keeps it from that.
+    /// What a Take would do: take this GTID, or be refused with this reply.
     fn may_take(&self, seat: u8, channel: usize, place: usize) -> Result<Gtid, Reply>
         ensures { MatchResult result (Takes self.now seat channel place) (Refuses (take_place self.now.site seat channel place) self.now) }
     {

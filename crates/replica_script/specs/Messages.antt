@@ -9,7 +9,7 @@ use Rattle.replica_script.specs.declared.edge.ScriptFault.TheVariants.{BadLine, 
 abbrev pub bad_line_text : Line → List ℕ
 bad_line_text line = codes "line " ++ decimal line.number ++ codes " is not in the language: " ++ utf8_lossy line.text.items
 
--- a fault in a word of its own
+-- the message on each fault
 abbrev pub fault_word : ScriptFault → List ℕ
 fault_word (BadLine line) = codes "a line is not in the language"
 fault_word CutShort = codes "the input ends inside a transaction"

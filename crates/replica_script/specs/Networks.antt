@@ -59,7 +59,7 @@ IsNetworkLeftBy old (question.Query i query) new = new ≡ old
 
 -- ---- one replica, or a network
 
--- What is asked of the other of the two has no answer.
+-- A question to the other of the two has no answer.
 abbrev pub IsToldBy : Replicas → Asked → Replicas → List ℕ → Type 0
 IsToldBy (One old) (asked.Replica q) (One new) text = Answers old q new text
 IsToldBy (Network old) (asked.Network q) (Network new) text = NetworkAnswers old q new text

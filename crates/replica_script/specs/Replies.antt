@@ -19,7 +19,7 @@ use Rattle.replica_core.specs.declared.event.Reply.TheVariants as reply
 abbrev pub with_line_feed : List ℕ → List ℕ
 with_line_feed line = line ++ codes "\n"
 
--- a name, and what it is of
+-- a name, with its arguments
 abbrev pub within : List ℕ → List ℕ → List ℕ
 within name text = name ++ codes "(" ++ text ++ codes ")"
 
@@ -74,7 +74,8 @@ reply_line (reply.Shown set) = within (codes "Shown") (set_text set)
 
 -- ---- a network
 
--- what a source does not send for: GTIDs that it has purged, or those of its own that it has no record of; a failed allocation is no reply, and has no text
+-- the GTIDs for which a source refuses to send: those that it has purged, or those of its own that it has no record of; a failed allocation
+-- is no reply, and has no text
 abbrev pub withheld_text : PositionFault → List ℕ
 withheld_text (PurgedRequired gtids) = codes "E19 purged " ++ set_text gtids
 withheld_text (ReplicaHasMore gtids) = codes "E20 has-more " ++ set_text gtids

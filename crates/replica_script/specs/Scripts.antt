@@ -28,7 +28,7 @@ use Rattle.replica_script.specs.Texts.{query_text}
 
 -- ---- answers
 
--- A set would have too many sources or intervals, where that may be, and this is the line that says so.
+-- A set would have too many sources or intervals, where that may be, and this is the line of that.
 abbrev pub IsFullLine : (SetFault → Type 0) → List ℕ → Type 0
 IsFullLine may text = (may SourcesFull × (text ≡ codes "SourcesFull\n")) ⊎ (may PoolFull × (text ≡ codes "PoolFull\n"))
 

@@ -18,7 +18,7 @@ use std::alloc::{AllocError, Global};
 /// Why a script ends before its input does.
 #[derive(Clone, Copy, Drop)]
 pub enum Stop {
-    /// A line that is not in the language where it stands, or an end inside a transaction.
+    /// A line that is not in the language at its place, or an end inside a transaction.
     BadLine,
     /// Memory was refused.
     Memory,
@@ -34,7 +34,7 @@ impl From<AllocError> for Stop {
     }
 }
 
-/// How often a replica is asked where it is refused memory.
+/// How often a call is made that is refused memory.
 #[derive(Clone, Copy, Drop)]
 pub enum Asking {
     /// Once.
@@ -78,7 +78,8 @@ fn copy_of(alloc: Global, core: &Core) -> Result<Core, SetFault>
     }
 }
 
-/// One event. Where it was refused memory it is asked once more, if the replica is still equal to the copy that was made before, as it always is.
+/// One event. Where it was refused memory it is made once more, if the replica is still equal to the copy that was made before, as it
+/// always is.
 fn step_beside(
     alloc: Global,
     core: &mut Core,
@@ -133,7 +134,8 @@ fn step(alloc: Global, core: &mut Core, event: &Event, asking: Asking) -> Result
     }
 }
 
-/// The lines that answer a query. Where memory was refused it is asked once more, if the replica is still equal to the copy that was made before, as it always is.
+/// The lines that answer a query. Where memory was refused it is made once more, if the replica is still equal to the copy that was made
+/// before, as it always is.
 fn show_beside(
     alloc: Global,
     core: &Core,
@@ -193,7 +195,7 @@ pub fn crowded_line(alloc: Global) -> Result<Vec<u8>, AllocError>
     Vec::from_slice(alloc, b"PoolFull\n")
 }
 
-/// Asks an event of a replica. Where the set that it makes would have too many sources or intervals that is the answer, and nothing has
+/// Makes an event of a replica. Where the set that it makes would have too many sources or intervals that is the answer, and nothing has
 /// changed.
 pub fn answer_event(
     alloc: Global,

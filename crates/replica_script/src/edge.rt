@@ -19,7 +19,7 @@ pub struct Line {
 /// Why a script was not answered to its end.
 #[derive(Drop)]
 pub enum ScriptFault {
-    /// A line that is not in the language where it stands.
+    /// A line that is not in the language at its place.
     BadLine(Line),
     /// An end inside a transaction.
     CutShort,

@@ -1,5 +1,5 @@
-//! The program `replica_script`: a replica, or a network of replicas, is asked what a script says, line by line, and each answer is
-//! printed before the next line is read. docs/SCRIPTS.md has the language.
+//! The program `replica_script`: it runs a replica, or a network of replicas, by the events and queries of a script, line by line, and
+//! prints each answer before it reads the next line. docs/SCRIPTS.md has the language.
 //!
 //! What a contract sees: a question (an event or a query), the state before it, the printed text and the state after it. The line of an
 //! event is that of the reply of the machine's `step`, and the state after it is `step`'s; a query's lines are those of the state, which
@@ -15,8 +15,8 @@
 //! Exit status: 0 the whole script was answered, 2 a bad line or another command line, 3 out of memory, 4 reading or writing failed, 5 a
 //! refused call has changed the replica.
 //!
-//! Not proved: that the lines of tables, rows and changes mean what they say; `channel`, `receive` and `local`, and the node after `at`,
-//! are read without a contract of their own.
+//! Not proved: that lines of tables, rows and changes are read as what they denote; `channel`, `receive` and `local`, and the node after
+//! `at`, are read without a contract of their own.
 #![tactic(auto)]
 
 ghost use Rattle.std.specs.Prelude.{◌≡◌};
@@ -41,7 +41,7 @@ use std::env;
 use std::io::{self, BufReader, ErrorKind};
 use std::process::ExitCode;
 
-/// What the words of the command line ask for.
+/// What the command line asks for.
 #[derive(Clone, Copy, Drop)]
 pub enum Command {
     /// The answers to the script on standard input.
@@ -105,7 +105,7 @@ fn complain(rt: &HostRuntime, line: &str) {
     let _ = eprintln!(rt; "replica_script: {line}");
 }
 
-/// Says on standard error why a script was not answered to its end.
+/// Reports on standard error why a script was not answered to its end.
 fn report(rt: &HostRuntime, fault: &ScriptFault) {
     if let ScriptFault::BadLine(line) = fault {
         if let Ok(text) = bad_line_text(rt.alloc(), line) {
@@ -149,7 +149,7 @@ fn run(rt: &HostRuntime, words: &[String]) -> u8 {
     exit_status(&ended)
 }
 
-/// Says that memory was refused, with the status for it.
+/// Reports that memory was refused, with the status for it.
 fn out_of_memory(rt: &HostRuntime) -> ExitCode {
     complain(rt, fault_word(&ScriptFault::Memory));
     ExitCode::from(3)

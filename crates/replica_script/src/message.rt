@@ -6,7 +6,7 @@ use crate::edge::{Line, ScriptFault};
 use gtid_report::push_number;
 use std::alloc::{AllocError, Global};
 
-/// What is said of a line that is not in the language: its number and its text, in which each sequence of bytes that is not
+/// The message on a line that is not in the language: its number and its text, in which each sequence of bytes that is not
 /// UTF-8 is U+FFFD. Without a line feed.
 pub fn bad_line_text(alloc: Global, line: &Line) -> Result<String, AllocError>
     ensures { IfOk result (λ text. string_bytes text ≡ bad_line_text line.now) }
@@ -19,7 +19,7 @@ pub fn bad_line_text(alloc: Global, line: &Line) -> Result<String, AllocError>
     Ok(said)
 }
 
-/// The word for a fault, without an allocation and without a line feed.
+/// The message on a fault, without an allocation and without a line feed.
 pub fn fault_word(fault: &ScriptFault) -> &'static str
     ensures { result.now ≡ fault_word fault.now }
 {

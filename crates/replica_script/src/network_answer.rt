@@ -10,7 +10,7 @@ use gtid_set::SetFault;
 use network::{Network, NetworkEvent};
 use std::alloc::Global;
 
-/// Asks an event of a network, once. Where a set that it makes would have too many sources or intervals that is the answer, and nothing
+/// Makes an event of a network, once. Where a set that it makes would have too many sources or intervals that is the answer, and nothing
 /// has changed.
 pub fn answer_network_event(
     alloc: Global,

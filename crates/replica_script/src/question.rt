@@ -43,18 +43,18 @@ pub enum Question {
 /// What a network is asked.
 #[derive(Drop)]
 pub enum NetworkQuestion {
-    /// An event, of a node's replica or of the network itself.
+    /// An event of a node's replica, or of the network itself.
     Event(NetworkEvent),
-    /// A query of a node's replica: node, query.
+    /// A query to a node's replica: node, query.
     Query(usize, Query),
 }
 
-/// What is asked, and of which of the two.
+/// A question to one replica, or to a network.
 #[derive(Drop)]
 pub enum Asked {
-    /// Of the one replica.
+    /// A question to the one replica.
     Replica(Question),
-    /// Of the network.
+    /// A question to the network.
     Network(NetworkQuestion),
 }
 
@@ -81,7 +81,7 @@ fn question_alone(word: &[u8]) -> Option<Question>
     }
 }
 
-/// A seat's number: each one above 64 is no seat, so the greatest denotes those above it.
+/// A seat's number: one above 64 is no seat, so 255 denotes each number above it.
 fn seat(number: usize) -> u8
     ensures { result ≡ seat number }
 {
@@ -172,7 +172,7 @@ fn name_in(alloc: Global, word: &[u8]) -> Result<Option<Name>, AllocError> {
     }
 }
 
-/// Whether the words after a channel's name say that it preserves order, if they say anything that is known.
+/// Whether a channel preserves order, by the words after its name; none where they are not in the language.
 fn preserves(more: Option<&[u8]>) -> Option<bool> {
     match more {
         None => Some(false),

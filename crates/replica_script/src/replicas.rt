@@ -16,7 +16,7 @@ pub enum Replicas {
     Network(Network),
 }
 
-/// An answer to what is asked. What is asked of the other of the two is a bad line.
+/// An answer to a question. A question to a network is a bad line where there is one replica, and the other way round.
 pub fn answer_asked(
     alloc: Global,
     replicas: &mut Replicas,

@@ -146,7 +146,7 @@ fn push_worded_set(
     push_set(alloc, out, set)
 }
 
-/// Appends what a source does not send for: the GTIDs that it purged, or those of its own that it has no record of.
+/// Appends the GTIDs for which a source refuses to send: those that it purged, or those of its own that it has no record of.
 fn push_withheld(alloc: Global, out: &mut String, fault: &PositionFault) -> Result<(), AllocError>
     ensures { OnOk result (string_bytes out.new ≡ string_bytes out.old ++ withheld_text fault.now) }
 {
@@ -157,7 +157,7 @@ fn push_withheld(alloc: Global, out: &mut String, fault: &PositionFault) -> Resu
     }
 }
 
-/// Appends that a source does not send, and why.
+/// Appends that a source refuses to send, and why.
 fn push_position_fault(
     alloc: Global,
     out: &mut String,

@@ -17,7 +17,7 @@ use std::alloc::Global;
 use std::mem;
 use txn_journal::Bundle;
 
-/// Whether a line is passed over: an empty one, or a remark.
+/// Whether a line is passed over: an empty one, or a comment.
 fn is_passed_over(line: &[u8]) -> bool {
     match line {
         [] => true,
@@ -64,17 +64,17 @@ fn replicas_in(
     }
 }
 
-/// Puts a value in the place of another, which is let go.
+/// Puts a value in the place of another, which is dropped.
 fn put<T: Drop>(place: &mut T, value: T)
     ensures { place.new ≡ value }
 {
     *place = value;
 }
 
-/// Where a script stands.
+/// How far a script is.
 #[derive(Drop)]
 struct Stage {
-    /// How often a replica is asked.
+    /// How often a call is made that is refused memory.
     asking: Asking,
     /// What is declared, until the replicas are.
     declared: Declared,

@@ -40,7 +40,7 @@ fn begin_entry(alloc: Global, reader: &mut Reader, gtid: &[u8]) -> Result<(), St
 pub struct Heading<'a> {
     /// The channel that receives it; none for one of the replica's own.
     channel: Option<usize>,
-    /// Its GTID, as it is spelled.
+    /// The text of its GTID.
     gtid: &'a [u8],
 }
 
@@ -53,7 +53,7 @@ fn receive_heading(rest: &[u8]) -> Option<Heading<'_>> {
     })
 }
 
-/// A line as the beginning of a transaction, if it is one. The GTID of one of the replica's own is not read by anyone: the replica gives it one.
+/// A line as the beginning of a transaction, if it is one. The GTID of one of the replica's own is a placeholder: the replica assigns it.
 pub fn heading_in(line: &[u8]) -> Result<Option<Heading<'_>>, Stop> {
     if line == b"local".as_slice() {
         return Ok(Some(Heading {

@@ -58,7 +58,7 @@ same_part : (p q : ordered.Entry → Bool) (es : List ordered.Entry) → ((e : o
 same_part p q [] h = refl
 same_part p q (x ∷ es) h = part_by p x es (filter q es) (q x) (λ y. h x (inl refl) y) (same_part p q es (λ e i y. h e (inr i) y))
 
--- what stands later is none of these
+-- what comes later is none of these
 once_apart : (L more : List Entry) → IsOnce (L ++ more) → (e : Entry) → IsIn e more → is_entry L e.gtid ≡ false
 once_apart [] more once e i = refl
 once_apart (l ∷ L) more once e i = or_from (same_gtid e.gtid l.gtid) (is_entry L e.gtid) (elim (cases_Bool (same_gtid e.gtid l.gtid)) [

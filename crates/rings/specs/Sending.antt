@@ -14,8 +14,8 @@ abbrev pub is_entry : List Entry → Gtid → Bool
 is_entry entries g = list_any (λ (e : Entry). same_gtid g e.gtid) entries
 
 -- A journal's whole history is its purged entries with those that are left after them. A channel asked with a set, and has
--- received a prefix of what is sent of that history. What has come to it, by the set or by that prefix, has all purged entries.
--- Then the first entry left that has not come is the next of what is sent: the prefix with it is a prefix.
+-- received a prefix of what is sent of that history. What it has, by the set or by that prefix, has all purged entries.
+-- Then the first entry left that it has not is the next of what is sent: the prefix with it is a prefix.
 abbrev pub NextIsSent : Type 0
 NextIsSent = (asked : Gtids) (since rest purged left : List Entry) (come : Gtid → Bool) (e : Entry)
     → AreNew set.empty (purged ++ left)

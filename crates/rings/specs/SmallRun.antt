@@ -1,4 +1,4 @@
--- A small run, so that the theorem is not about nothing: each of two nodes commits a transaction of its own.
+-- A small run that meets the premises of the theorem: each of two nodes commits a transaction of its own.
 use Rattle.std.specs.Prelude.{◌≡◌, true, List, [], ◌∷◌}
 use Rattle.std.specs.FinMap as map
 use Rattle.journal.specs.declared.Entry.{Entry}

@@ -3,7 +3,7 @@ ghost use Rattle.rings.specs.Sending.{NextIsSent};
 ghost use Rattle.rings.specs.Rings.{RingsMerge, RingsGoOn, ApartIsInTurn};
 ghost use Rattle.rings.specs.SmallRun.{ApartRunsExist};
 
-/// The first entry of a journal that has not come to a channel is the next one of what the source sends.
+/// The first entry of a journal that a channel has not is the next one of what the source sends.
 pub fn next_is_sent()
     ensures { NextIsSent }
 {}

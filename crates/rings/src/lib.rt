@@ -12,9 +12,9 @@
 //! with commits at two nodes. `run` and `step` make the calls of `Network` and have this as their clause `merged`, for a network that was
 //! opened and has run before (`rings_go_on`).
 //!
-//! What it rests on: a channel receives a prefix of what its source's whole history sends, purged entries among it (`next_is_sent`).
+//! The proof uses that a channel receives a prefix of what its source's whole history sends, purged entries among it (`next_is_sent`).
 //!
-//! Not said: that a transaction goes round, or that nodes ever have equal executed sets. That depends on which events are made.
+//! Not stated: that a transaction goes round, or that nodes ever have equal executed sets. That depends on which events are made.
 #![tactic(auto)]
 
 mod laws;

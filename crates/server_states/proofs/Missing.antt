@@ -18,7 +18,7 @@ use Rattle.gtid_report.specs.declared.fault.Fault.{Fault}
 use Rattle.server_states.specs.States.{whole, fill_intervals, gaps, IsGap}
 use Rattle.server_states.proofs.Kept.{Made, made, same_ok, small_kept, whole_kept}
 
--- one of the spans ends there or behind
+-- one of the spans ends there or later
 abbrev reaches : List Span → Gtid → Bool
 reaches rs g = list_any (λ r. covers r.source 1 r.hi g) rs
 

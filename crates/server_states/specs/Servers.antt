@@ -25,7 +25,7 @@ cut text =
     if nat_lt (position_or_len (λ b. b == 32) text) (length text) then Some (before_first (λ b. b == 32) text, after_first (λ b. b == 32) text)
     else None
 
--- a name that is not empty, a word, and what is behind them
+-- a name that is not empty, a word, and what follows them
 abbrev pub three : List ℕ → Option (List ℕ × List ℕ) → Option (List ℕ × List ℕ × List ℕ)
 three [] rest = None
 three (b ∷ bs) None = None

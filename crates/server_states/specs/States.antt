@@ -1,4 +1,4 @@
--- What several servers have executed, beside one another. (MySQL 8.0 Reference Manual, "Functions Used with Global Transaction Identifiers
+-- The executed sets of several servers, compared. (MySQL 8.0 Reference Manual, "Functions Used with Global Transaction Identifiers
 -- (GTIDs)" and "GTID Life Cycle", for sets and gaps; the lines are our own.)
 use Rattle.std.specs.Prelude.{◌≡◌, ℕ, ◌+◌, ◌<◌, ◌≤◌, nat_lt, true, false, List, [], ◌∷◌, ◌++◌, codes, get_or, length, Result, Ok, Err, if◌then◌else◌}
 use Rattle.std.specs.FinSet as set
@@ -18,7 +18,7 @@ use Rattle.server_states.specs.Servers.{ServerValue, servers_in}
 abbrev pub whole : Gtids → Result Gtids Fault
 whole s = if nat_lt most_sources (source_count s) then Err (Refused SourcesFull) else small s
 
--- ---- of several sets
+-- ---- several sets
 
 -- what one at least has, and what two at least have
 pub record TogetherValue : Type 0 where
@@ -45,7 +45,7 @@ abbrev pub holders : Gtid → List ServerValue → ℕ
 holders g [] = 0
 holders g (s ∷ ss) = if set.contains s.executed g then holders g ss + 1 else holders g ss
 
--- ---- of one set
+-- ---- one set
 
 -- all numbers from 1 to the last of each run
 abbrev pub fill_intervals : Gtids → List Span → Result Gtids Fault

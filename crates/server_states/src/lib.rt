@@ -1,4 +1,4 @@
-//! What several servers have executed, beside one another.
+//! The executed sets of several servers, compared.
 //!
 //! A text has a line for each server: its name, its UUID, and the set that it has executed. The answer has the union of all sets, and for
 //! each server what it lacks of that union, its gaps (the GTIDs that it lacks below one that it has of the same source), and what it

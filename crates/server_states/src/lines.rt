@@ -1,4 +1,4 @@
-//! The lines that the program prints of servers.
+//! The lines that the program prints for servers.
 ghost use Rattle.std.specs.Prelude.{◌≡◌, ◌++◌, OnOk, string_bytes};
 ghost use Rattle.gtid_report.specs.SetAnswers.{Answers};
 ghost use Rattle.server_states.specs.States.{line, server_lines, lines_behind, states_of, states_in};
@@ -69,7 +69,7 @@ fn states_of(alloc: Global, servers: &[Server]) -> Result<String, Fault>
     lines_behind(alloc, text, &together, servers)
 }
 
-/// What the servers that a text names have executed, beside one another: `union <set>`, and for each server, in order,
+/// The executed sets of the servers in a text, compared: `union <set>`, and for each server, in order,
 /// `<name> lacks <set>`, `<name> gaps <set>` and `<name> alone <set>`, a line each. The words and their order are our own.
 pub fn states(alloc: Global, text: &str) -> Result<String, Fault>
     ensures { Answers string_bytes result (states_in text.now) }

@@ -1,4 +1,4 @@
-//! The servers that a text names.
+//! The servers in a text.
 ghost use Rattle.std.specs.Prelude.{◌≡◌, ◌++◌, ◌∷◌, [], IfOk, OnOk, map, option_map};
 ghost use Rattle.std.specs.Str.Lines.{lines};
 ghost use Rattle.gtid_report.specs.SetAnswers.{Answers};
@@ -113,7 +113,7 @@ fn lines_of(alloc: Global, text: &str) -> Result<Vec<&str>, AllocError>
 }
 
 /// The servers that the lines of a text name, in order. A line has a name, a UUID and a set, a blank between; a hyphen is the empty set.
-/// The first line that has not is refused by its number, from 1; a set with too many sources or intervals is refused for that.
+/// The first line that is none is refused by its number, from 1; a set with too many sources or intervals is refused for that.
 pub fn read_servers(alloc: Global, text: &str) -> Result<Vec<Server>, Fault>
     ensures { Answers (λ servers. servers.items) result (servers_in text.now) }
 {

@@ -235,7 +235,7 @@ journals_in opened js = all_from (HasJournal (cover_of opened js)) js (λ i j at
   entries = all_from (λ (e : Entry). HasGtid (cover_of opened js) e.gtid) j.entries (λ p e there. entry_covered opened js i j p e at there);
 })
 
--- these are all that the replica of a bundle comes to know
+-- the opening state of a bundle's replica and its journals are covered
 pub knows_opening : (b : BundleValue) → KnowsToo (opening b).state b.journals (cover_of b.opened b.journals)
 knows_opening b = (known, journals_in b.opened b.journals)
   where

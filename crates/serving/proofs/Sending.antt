@@ -46,7 +46,7 @@ below (x ∷ xs) (suc p) e h =
     let lt = ltb-true _ _ (below xs p e h) in
     lt-ltb _ _ (omega (arith, lt))
 
--- places at which something stands are there
+-- places at which something is are in the list
 pub places_below : (entries : List Entry) (ps : List ℕ) (es : List Entry) → AreAt entries ps es → list_all (λ p. nat_lt p (length entries)) ps ≡ true
 places_below entries [] es h = refl
 places_below entries (p ∷ ps) [] h = absurd h

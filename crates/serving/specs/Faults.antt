@@ -34,7 +34,7 @@ pub record HasSet (cover : Cover) (s : Gtids) : Type 0 where
   pub in_all : (g : Gtid) → set.contains s g ≡ true → set.contains cover.all g ≡ true
   pub edges : HasEdges cover.places s
 
--- a GTID stands among received entries
+-- a GTID is that of a received entry
 abbrev pub IsAmong : Gtid → List Received → Type 0
 IsAmong g received = (p : ℕ) × (e : Received) × (slice_get received p ≡ Some e) × (e.gtid ≡ g)
 

@@ -1,4 +1,4 @@
--- What a replica can be served.
+-- What can be served to a replica.
 use Rattle.std.specs.Prelude.{◌≡◌, ℕ, ◌+◌, ◌<◌, ◌≤◌, true, false, List, [], ◌∷◌, ◌++◌, length, slice_get, is_some, Some}
 use Rattle.std.specs.List.{list_any, AllByRecursion}
 use Rattle.std.specs.FinSet as set
@@ -62,7 +62,7 @@ pub record IsTaken (schema : List Table) (e : Entry) : Type 0 where
   pub fits : Fits schema e.txn
   pub number : is_number e.gtid.number ≡ true
 
--- a channel has asked, and has room for these entries, which are taken
+-- a channel has asked, and has room for these entries, which the schema takes
 pub record CanReceive (c : ℕ) (entries : List Entry) (r : Replica) : Type 0 where
   pub channel : ChannelValue
   pub at : slice_get r.state.channels c ≡ Some channel
@@ -70,7 +70,7 @@ pub record CanReceive (c : ℕ) (entries : List Entry) (r : Replica) : Type 0 wh
   pub room : length channel.received + length entries ≤ most_received
   pub taken : AllByRecursion (IsTaken r.site.schema) entries
 
--- what is purged of a journal is executed, its entries are taken, and a new channel has room for them
+-- what is purged of a journal is executed, the schema takes its entries, and a new channel has room for them
 pub record CanSend (schema : List Table) (executed : Gtids) (journal : JournalValue) : Type 0 where
   pub unpurged : set.is_subset journal.previous executed ≡ true
   pub taken : AllByRecursion (IsTaken schema) journal.entries

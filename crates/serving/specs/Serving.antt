@@ -37,7 +37,7 @@ IsBetween AtOnce (Commit seat) = Unit {0}
 IsBetween AtOnce (Rollback seat) = Unit {0}
 IsBetween _ _ = ⊥
 
--- what is done with the entry that a channel has just received at this place
+-- how the entry that a channel has just received at this place is applied
 abbrev pub apply_events_at : Apply → ℕ → ℕ → List Event
 apply_events_at AtOnce c p = Take 1 c p ∷ Commit 1 ∷ []
 apply_events_at Later c p = []

@@ -27,7 +27,7 @@ is_sound _ = false
 abbrev pub world_over : BundleValue → World
 world_over b = world_of b.start.schema b.opened b.start.rows b.journals
 
--- the world that the histories of the journals are joined to
+-- the world of the joined order of the histories of the journals
 abbrev pub joined_over : BundleValue → ordered.World
 joined_over b = joined_world b.start.schema b.opened b.start.rows b.journals
 

@@ -1,17 +1,18 @@
 //! The journals of a bundle served to its replica, each on a channel of its own, and what they result in.
 //!
 //! An audit asks for an `Order`: of sources that share no key (`audit`), or of what shares a key, whichever sources wrote it
-//! (`conflict_audit`). `begin` audits the keys by it, opens a replica and its channels, and lets each receive what `plan` of `auto_position` sends. `conclude` says
-//! what a replica to which was applied since results in. `serve` lets seat 1 commit each entry as it is received. `begin` and `serve`
-//! give a `StateOrVerdict`: a replica, or the verdict of the audit, which is not Sound.
+//! (`conflict_audit`). `begin` audits the keys by it, opens a replica and its channels, and lets each receive what `plan` of
+//! `auto_position` sends. `conclude` decides what a replica results in on which seats have worked since. `serve` lets seat 1 commit each
+//! entry as it is received. `begin` and `serve` give a `StateOrVerdict`: a replica, or the verdict of the audit, which is not Sound.
 //!
 //! What a contract sees: the bundle as its value, and the replica. A bundle must be one that can be served (`IsServable`: at most 256
 //! journals, each with a channel of its own name and transactions that the tables take), and each bundle that was read is one
 //! (`written_is_servable`).
 //!
-//! `conclude` holds of every replica that was served so and beside it took, committed and rolled back in any order, until each channel is
-//! stopped or done: None only where the audit reports Sound, all journals are executed, and the rows are those that their union denotes
-//! (`HasMerged`); else exactly the verdict. The proof shows that the run serves all journals, and cites `faithful_runs`.
+//! The contract of `conclude` holds for every replica that was served so and whose seats took, committed and rolled back in any order,
+//! until each channel is stopped or done: None only where the audit reports Sound, all journals are executed, and the rows are those that
+//! their union denotes (`HasMerged`); else exactly the verdict. The proof shows that the run serves all journals, and cites
+//! `faithful_runs`.
 //!
 //! Errors are out of memory, or a full set for the bundle as a whole (`IsBundleFault`): all GTIDs together have more than 65,536 sources,
 //! or the intervals of its sets and its entries together are more than 4,294,967,294.

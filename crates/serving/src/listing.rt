@@ -13,7 +13,7 @@ use txn_journal::Bundle;
 /// The verdict of `verdict_over`, and after it each other GTID under which journals differ, each other
 /// journal that begins after the opening set, each other missing GTID, each other shared key, each other
 /// GTID that is in a journal without what it needs and, where a transaction does not apply by the
-/// verdict, each other source of which one does not (`audit::faults_are_all`). What is asked is as for
+/// verdict, each other source of which one does not (`audit::faults_are_all`). What is required is as for
 /// `verdict_over`; the faults are those of `audit::audit_all`.
 pub fn faults_over(alloc: Global, bundle: &Bundle) -> Result<AllFaults, SetFault>
     requires { IsFitting bundle.now }

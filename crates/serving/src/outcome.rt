@@ -1,4 +1,4 @@
-//! What journals come to.
+//! What the journals of a bundle result in.
 ghost use Rattle.std.specs.Prelude.{◌≡◌, IfOk, IfErr, IsOkUnless};
 ghost use Rattle.gtid_set.specs.declared.fault.SetFault.TheVariants.{Memory};
 ghost use Rattle.world.specs.Meaning.{AreJournals};
@@ -27,7 +27,7 @@ use world::Verdict;
 /// A state, or why there is none.
 #[derive(Drop)]
 pub enum StateOrVerdict<S> {
-    /// The journals can be merged, as far as was asked: a replica, or what holds one.
+    /// The journals can be merged, by the audit that was made: a replica, or what holds one.
     State(S),
     /// The journals cannot be merged: the verdict of their audit, which is not Sound.
     Verdict(Verdict),
@@ -47,7 +47,7 @@ fn is_sound(verdict: &Verdict) -> bool
     }
 }
 
-/// Each journal keeps what a journal keeps.
+/// What the type `Journal` keeps holds of each journal.
 fn keep_rules(journals: &[Journal])
     ensures { AreJournals journals.now }
 {
@@ -190,8 +190,8 @@ fn receive_all(
 }
 
 /// Audits the keys of a bundle's journals by an order, opens its replica over the opening rows and set, opens and positions
-/// each channel, and lets it receive what its journal sends. Where the audit of keys isn't Sound, its
-/// verdict is answered, which is that of the whole audit. The bundle can be served, as each that was
+/// each channel, and lets it receive what its journal sends. Where the audit of keys isn't Sound, the
+/// result is its verdict, which is that of the whole audit. The bundle can be served, as each that was
 /// read can.
 ///
 /// `Memory` is a failed allocation, `SourcesFull` comes only where the GTIDs of all journals together are of
@@ -251,8 +251,8 @@ fn finish_and_conclude(
 
 /// What the journals of a bundle result in over its opening rows and set: all of them executed together, or the
 /// verdict of their audit, where that is not Sound. Channel by channel, one seat applies each entry as
-/// it is received, and what is left at the end. Where not everything was executed, the audit says why.
-/// What is asked, and the faults, are those of `begin`.
+/// it is received, and what is left at the end. Where not everything was executed, the audit gives the reason.
+/// What is required, and the faults, are those of `begin`.
 #[tactic(auto, using(crate::proofs::Runs::run_begun))]
 pub fn serve(alloc: Global, bundle: &Bundle, order: Order) -> Result<StateOrVerdict<Core>, SetFault>
     requires { IsServable bundle.now }

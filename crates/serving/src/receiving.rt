@@ -58,7 +58,7 @@ pub fn entries_sent(
     }
 }
 
-/// What a journal sends to a replica that asks with this set, and no source's UUID is known.
+/// What a journal sends to a replica that asks with this set, where no source's UUID is known.
 #[tactic(auto, using(crate::proofs::Sending::never_refuses))]
 fn sent_to(alloc: Global, journal: &Journal, asked: &GtidSet) -> Result<Vec<Entry>, SetFault>
     requires { set.is_subset journal.now.previous asked.now ≡ true }
@@ -76,7 +76,7 @@ fn sent_to(alloc: Global, journal: &Journal, asked: &GtidSet) -> Result<Vec<Entr
 /// When what a channel receives is applied.
 #[derive(Clone, Copy, Drop)]
 pub(crate) enum Apply {
-    /// By whoever takes it afterwards.
+    /// Later, by any seat that takes it.
     Later,
     /// By seat 1, before the next entry is received.
     AtOnce,

@@ -74,7 +74,7 @@ fn work_on_all(alloc: Global, core: &mut Core) -> Result<(), SetFault>
     Err(SetFault::Memory)
 }
 
-/// Each seat gives up what it has taken.
+/// Each seat rolls back what it has taken.
 fn free_all(alloc: Global, core: &mut Core) -> Result<(), SetFault>
     ensures applies { OnOk result (Applies AtOnce core.old core.new) }
     ensures rests { OnOk result (NothingIsOwned core.new.state) }

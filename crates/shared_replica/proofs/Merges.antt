@@ -74,7 +74,7 @@ merged_step passes steps upto cursors at new m room there place stands = record 
       (cases_eq q upto);
 }
 
--- where each cursor is at the end of its pass, that is said of all receipts
+-- where each cursor is at the end of its pass, that holds of all receipts
 pub merged_whole : (passes : List PassValue) (steps : List Step) (upto : ℕ) (cursors : List ℕ)
     → length steps ≤ upto → Merged passes steps upto cursors → ((i : ℕ) (p : PassValue) → slice_get passes i ≡ Some p → get_or cursors i 0 ≡ length p.receipts)
     → IsMerge passes steps

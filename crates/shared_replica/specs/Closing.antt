@@ -17,7 +17,7 @@ At passes i k r = (p : PassValue) × (slice_get passes i ≡ Some p) × (slice_g
 abbrev pub Stands : List PassValue → List Step → Type 0
 Stands passes steps = (i k : ℕ) (r : Receipt) → At passes i k r → slice_get steps r.place ≡ Some r.step
 
--- the places of a pass rise
+-- the places of a pass are ascending
 abbrev pub Rises : List PassValue → Type 0
 Rises passes = (i j k : ℕ) (r s : Receipt) → At passes i j r → At passes i k s → j < k → r.place < s.place
 

@@ -1,4 +1,4 @@
--- Why a call is not answered, said of its event alone: other threads may have changed the replica.
+-- Why a call has no reply, by its event alone: other threads may have changed the replica.
 use Rattle.std.specs.Prelude.{◌≡◌, Bool, true, false}
 use Rattle.gtid_set.specs.declared.fault.SetFault.{SetFault}
 use Rattle.gtid_set.specs.Full.{IsMemoryOr}

@@ -19,16 +19,16 @@ events_of steps = map (λ s. s.event) steps
 abbrev pub replies_of : List Step → List Reply
 replies_of steps = map (λ s. s.reply) steps
 
--- whether a reply tells of a commit
+-- whether a reply is Committed
 abbrev pub is_commit : Reply → Bool
 is_commit (Committed gtid) = true
 is_commit _ = false
 
--- how many of the steps were answered Committed
+-- how many of the steps have the reply Committed
 abbrev pub commits_in : List Step → ℕ
 commits_in steps = sum_by (λ s. one_if (is_commit s.reply)) steps
 
--- how many steps there are, and how many of them were answered Committed
+-- how many steps there are, and how many of them have the reply Committed
 abbrev pub tally_in : List Step → Tally
 tally_in steps = record { steps = length steps; commits = commits_in steps }
 
@@ -43,11 +43,11 @@ pub record IsReplay (opening : Replica) (steps : List Step) (now : Replica) : Ty
   pub replies : replies_of steps ≡ replies opening.site opening.state (events_of steps)
   pub state : now.state ≡ after opening.site opening.state (events_of steps)
 
--- the executed set has grown by as many GTIDs as there are steps that were answered Committed
+-- the executed set has grown by as many GTIDs as there are steps with the reply Committed
 abbrev pub HasGrown : Replica → List Step → Replica → Type 0
 HasGrown opening steps now = set.len now.state.executed ≡ set.len opening.state.executed + commits_in steps
 
--- what a book keeps: its steps are the machine's, and its total counts them
+-- the invariant of a book: its steps are the machine's, and its total counts them
 pub record IsBook (opening : Replica) (steps : List Step) (now : Replica) (total : Tally) : Type 0 where
   pub legal : IsReplay opening steps now
   pub counted : total ≡ tally_in steps

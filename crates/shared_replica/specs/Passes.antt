@@ -1,4 +1,4 @@
--- What a pass holds, and what a call tells it.
+-- What a pass holds, and how a call changes it.
 use Rattle.std.specs.Prelude.{◌≡◌, ℕ, ◌+◌, List, [], ◌∷◌, ◌++◌, Result, MatchResult}
 use Rattle.commit_ledger.specs.Tallies.{one_if}
 use Rattle.gtid_set.specs.declared.fault.SetFault.{SetFault}
@@ -29,11 +29,11 @@ abbrev pub pass_after_call : ℕ → Event → Reply → PassValue → PassValue
 pass_after_call place event reply p =
     record { seat = p.seat; steps = p.steps + 1; commits = p.commits + one_if (is_commit reply); receipts = p.receipts ++ receipt place event reply ∷ [] }
 
--- the pass after a call that made this event and was answered so: one step more in its share, and one receipt
+-- the pass after a call that made this event and had this reply: one step more in its share, and one receipt
 abbrev pub IsTold : PassValue → Event → Reply → PassValue → Type 0
 IsTold old event reply new = (place : ℕ) × (new ≡ pass_after_call place event reply old)
 
--- a call that makes this event: the pass is told of the reply; or the pass is as it was, and the fault is one that the event may have
+-- a call that makes this event: the pass has the step with its reply; or it is as before, and the fault is one that the event may have
 abbrev pub Makes : Event → PassValue → Result Reply SetFault → PassValue → Type 0
 Makes event old result new = MatchResult result (λ reply. IsTold old event reply new) (λ fault. (new ≡ old) × IsFaultFor event fault)
 

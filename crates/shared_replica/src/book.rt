@@ -28,7 +28,7 @@ use std::alloc::{AllocError, Global};
 use std::marker::Model;
 use std::snapshot::Snapshot;
 
-/// What lies under the lock: a core, and every step that was made since the opening that `N` names.
+/// What is under the lock: a core, and every step that was made since the opening that `N` names.
 /// The steps are what one thread would have done with the opening, reply for reply, and the total
 /// counts them.
 #[derive(Drop)]
@@ -249,7 +249,7 @@ impl<N: Naming> Book<N> {
     }
 }
 
-/// The receipts of the passes, whose shares are taken in.
+/// The receipts of the passes, whose shares are collected.
 fn sheets_of<N: Naming>(
     all: &mut Share<LedgersOf<N>>,
     mut sheets: Vec<Sheet>,

@@ -29,7 +29,7 @@ pub(crate) fn copy_of(event: &Event) -> Result<Event, AllocError>
     Ok(copy)
 }
 
-/// Whether a reply tells of a commit.
+/// Whether a reply is Committed.
 pub(crate) fn is_commit(reply: &Reply) -> bool
     ensures { result ≡ is_commit reply.now }
 {
@@ -66,7 +66,7 @@ fn purged_by(core: &Core, alloc: Global, count: usize) -> Result<Option<GtidSet>
     Ok(Some(journal.purged(alloc, count)?))
 }
 
-/// A copy of a reply for which no memory is taken, since its set was made beforehand.
+/// A copy of a reply, which does not allocate, since its set was made beforehand.
 pub(crate) fn twin(reply: &Reply, spare: Option<GtidSet>) -> Reply
     requires { IsSpare reply.now spare }
     ensures { result ≡ reply.now }

@@ -15,8 +15,8 @@
 //! How it is kept: all copies and all room are made before the core changes. The opening is a member of the type parameter, so it is not
 //! copied.
 //!
-//! Not proved: that a lock is got, which thread comes first, that a place that `ready_places` gives is still free, and that a footprint
-//! is of what the seat holds: a commit validates it.
+//! Not proved: that a lock is acquired, which thread comes first, that a place that `ready_places` gives is still free, and that a
+//! footprint is of what the seat holds: a commit validates it.
 #![tactic(auto)]
 
 mod book;

@@ -96,8 +96,8 @@ impl<N: Naming> SharedReplica<N> {
 
     /// Ends the sharing. It is refused where there are fewer passes than seats, or where the receipts
     /// are not the steps: each step with the line at its place, the places of a pass ascending, no place
-    /// twice, and none without a receipt. All is then handed back. It waits for nothing and takes no
-    /// memory.
+    /// twice, and none without a receipt. All is then handed back. It waits for nothing and does not
+    /// allocate.
     pub fn close(self, passes: Vec<Pass<N>>) -> Result<ClosedBook, (SharedReplica<N>, Vec<Pass<N>>)>
         ensures ok { IfOk result (λ b. IsClosed self passes.items b) }
         ensures err { IfErr result (λ r. (r.0 ≡ self) × (r.1.items ≡ passes.items)) }
@@ -159,11 +159,11 @@ impl<N: Naming> SharedReplica<N> {
     }
 }
 
-/// The ten events. Each call answers the reply that the core gave under the lock. The pass then has
+/// The ten events. Each call returns the reply that the core gave under the lock. The pass then has
 /// one step more in its share, one commit more if the reply is Committed, and a receipt of the event,
 /// with the pass's seat where the event has one, and of that reply. After an error neither the pass
-/// nor the history has changed: memory was refused, or the set that the event makes would be of more
-/// than 65,536 sources.
+/// nor the history has changed: memory was refused, or the set that the event makes would have too many
+/// sources or intervals.
 impl<N: Naming> SharedReplica<N> {
     /// Opens a channel of this name, which preserves the order of its places or not.
     pub fn open_channel<R: Wait>(
@@ -228,7 +228,7 @@ impl<N: Naming> SharedReplica<N> {
     }
 
     /// The seat takes the transaction at a place of a channel, and is given what it needs to prepare a
-    /// transaction of at least so many changes. Where that takes memory that is refused, the take is
+    /// transaction of at least so many changes. Where memory for that is refused, the take is
     /// made, and nothing is given.
     pub fn take_to_prepare<R: Wait>(
         &self,
@@ -257,8 +257,8 @@ impl<N: Naming> SharedReplica<N> {
         self.make(rt, alloc, Event::Commit(pass.seat()), None, pass)
     }
 
-    /// The seat commits what it took, by a patch that was prepared without the lock. The patch is spent
-    /// whatever the answer. One that is of another transaction, or not true any more, is left aside.
+    /// The seat commits what it took, by a patch that was prepared without the lock. The patch is used up
+    /// whatever the reply. One that is of another transaction, or no longer valid, is ignored.
     pub fn commit_prepared<R: Wait>(
         &self,
         rt: &R,
@@ -271,7 +271,7 @@ impl<N: Naming> SharedReplica<N> {
         self.make(rt, alloc, Event::Commit(pass.seat()), Some(patch), pass)
     }
 
-    /// The seat gives up what it took.
+    /// The seat rolls back what it took.
     pub fn rollback<R: Wait>(
         &self,
         rt: &R,
@@ -283,7 +283,7 @@ impl<N: Naming> SharedReplica<N> {
         self.make(rt, alloc, Event::Rollback(pass.seat()), None, pass)
     }
 
-    /// A stopped channel goes on.
+    /// A stopped channel runs again.
     pub fn restart<R: Wait>(
         &self,
         rt: &R,

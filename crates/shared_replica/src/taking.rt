@@ -2,7 +2,7 @@
 use replica_core::Reply;
 use rows::{Footprint, Transaction};
 
-/// What a take is answered, and what a worker needs to prepare the transaction without the lock: the
+/// The reply to a take, and what a worker needs to prepare the transaction without the lock: the
 /// transaction, and all keys that it touches with the rows that carried them at that moment. Nothing
 /// of that where the seat took nothing, where it took few changes, or where memory was refused.
 #[derive(Drop)]

@@ -95,7 +95,7 @@ is_in_from g t (e ∷ es) f = is_in_by g t e es (gtid_cmp g e.0) refl (is_in_fro
 pub is_in : (world : World) (g : Gtid) (t : Transaction) → content world g ≡ Some t → IsIn (g, t) (entries world.contents)
 is_in world g t f = is_in_from g t (entries world.contents) (sym (get-entries world.contents g) ∙ f)
 
--- ---- what soundness and closedness say of the list
+-- ---- what soundness and closedness mean for the list
 
 pub apart_sources : (world : World) → AreKeysSound world → (g h : Gtid) (t u : Transaction) → content world g ≡ Some t → content world h ≡ Some u → g.source ≢ h.source → AreApart world.schema t u
 apart_sources world sound g h t u f k n = apart_from_test world.schema t u (sound.apart g h t u f k n)

@@ -20,7 +20,7 @@ use Rattle.source_history.specs.InOrder.{in_order}
 use Rattle.source_history.proofs.Gtids.{number_less}
 use Rattle.source_history.proofs.Entries.{IsRising, AreFound, rising, found, apart_sources}
 
--- Those that touch the key are of one source, so their numbers rise.
+-- Those that touch the key are of one source, so their numbers are ascending.
 abbrev NumbersRise : List Table → Key → List Entry → Type 0
 NumbersRise schema k [] = Unit {0}
 NumbersRise schema k (e ∷ es) = (touches schema e.1 k ≡ true → AllByRecursion (λ f. touches schema f.1 k ≡ true → e.0.number < f.0.number) es) × NumbersRise schema k es

@@ -1,4 +1,4 @@
--- Journals that tell the truth about their sources.
+-- Journals that are faithful to their sources.
 use Rattle.std.specs.Prelude.{◌≡◌, ℕ, ◌≤◌, false, length, take, Some}
 use Rattle.std.specs.List.{AllByRecursion}
 use Rattle.std.specs.FinSet as set

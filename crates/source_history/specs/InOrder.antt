@@ -23,7 +23,8 @@ in_order world = record {
   order = entries world.contents;
 }
 
--- Where the keys are sound, a world of sources says what it says as a world in one order.
+-- Where the keys are sound, a world of sources and the same as a world in one order agree in soundness, closed sets, commit orders, rows,
+-- last writers and faithful journals.
 pub record SourcesAreAnOrder : Type 0 where
   pub contents : (world : World) (g : Gtid) → ordered.content (in_order world) g ≡ sources.content world g
   pub rows : (world : World) (S : Gtid → Bool) → ordered.rows_of (in_order world) S ≡ sources.rows_of world S

@@ -19,7 +19,7 @@ WholeIsClosed = (world : World) (journal : JournalValue) → IsFaithful world jo
 abbrev pub WholeApplies : Type 0
 WholeApplies = (world : World) (journal : JournalValue) → IsSound world → IsFaithful world journal → IsOk (rows_of world (set.contains (known_to world journal)))
 
--- A faithful journal goes on with a new transaction of the world that leaves what it has a record of closed.
+-- A faithful journal stays faithful with a new transaction of the world that leaves what it has a record of closed.
 abbrev pub FaithfulGoesOn : Type 0
 FaithfulGoesOn = (world : World) (journal : JournalValue) (entry : Entry) → IsFaithful world journal
     → content world entry.gtid ≡ Some entry.txn → set.contains (whole journal) entry.gtid ≡ false

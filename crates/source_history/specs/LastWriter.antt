@@ -1,4 +1,4 @@
--- The row under a key, told by the transactions of a set that touch it.
+-- The row under a key, by the transactions of a set that touch it.
 use Rattle.std.specs.Prelude.{Bool, if◌then◌else◌, List, [], ◌∷◌, Option, Some, None, nat_lt}
 use Rattle.std.specs.FinMap.{get}
 use Rattle.std.specs.List.{filter}

@@ -1,4 +1,4 @@
--- A small world, so that no law above speaks of nothing: one source opens an account and changes it, another opens a second.
+-- A small world that meets the premises of the laws above: one source opens an account and changes it, another opens a second.
 use Rattle.std.specs.Prelude.{◌≡◌, ℕ, pos, Bool, true, ◌||◌, List, [], ◌∷◌, Some}
 use Rattle.std.specs.FinMap as map
 use Rattle.std.specs.FinSet as set

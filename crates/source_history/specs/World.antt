@@ -50,7 +50,7 @@ of_source source g = source == g.source
 abbrev pub HasNumber : World → ℕ → ℕ → Type 0
 HasNumber world s n = let g : Gtid = record { source = s; number = n } in (is_opened world g ≡ true) ⊎ IsSome (content world g)
 
--- What is asked of the sources but for the application of what they committed: it speaks of GTIDs and of keys alone.
+-- What is required of the sources but for the application of what they committed: it is about GTIDs and keys alone.
 pub record AreKeysSound (world : World) : Type 0 where
   -- what was executed from the start has no content here
   pub outside : (g : Gtid) → IsSome (content world g) → is_opened world g ≡ false

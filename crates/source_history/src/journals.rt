@@ -11,7 +11,7 @@ pub fn whole_applies()
     ensures { WholeApplies }
 {}
 
-/// A faithful journal goes on with a new transaction of the world that leaves what it has a record
+/// A faithful journal stays faithful with a new transaction of the world that leaves what it has a record
 /// of closed.
 pub fn faithful_goes_on()
     ensures { FaithfulGoesOn }

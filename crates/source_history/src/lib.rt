@@ -1,4 +1,4 @@
-//! What several sources committed, the rows that a set of their transactions denotes, and which journals tell the truth about them.
+//! What several sources committed, the rows that a set of their transactions denotes, and which journals are faithful to them.
 //!
 //! Definitions and laws, and no code: a law is the contract of a public function with an empty body, so that other crates can cite it and
 //! the prover has checked it.
@@ -13,8 +13,8 @@
 //! the set (`commit_order_is_free`, `commit_orders_agree`); each key has what its last writer left (`last_writer_stands`); closed sets
 //! are a lattice, with the union as join. `sound_worlds_exist` shows that the premises can be met.
 //!
-//! Such a world is one of `ordered_history`, by sources and numbers (`sources_are_an_order`), and what is proved there of an order holds
-//! of sources: these laws follow.
+//! Such a world is one of `ordered_history`, by sources and numbers (`sources_are_an_order`), and what is proved there for one order holds
+//! for sources: these laws follow.
 //!
 //! A journal is faithful (`IsFaithful`) where each of its prefixes is closed and each entry is what its source committed (`journals`).
 #![tactic(auto)]

@@ -44,7 +44,7 @@ fn audit_verdict(
     }
 }
 
-/// Whether a verdict is printed so.
+/// Whether the printed line of a verdict is this.
 fn is_printed(alloc: Global, verdict: &Verdict, want: &str) -> bool {
     match render_verdict(alloc, verdict) {
         Ok(line) => line.as_str() == want,
@@ -52,7 +52,7 @@ fn is_printed(alloc: Global, verdict: &Verdict, want: &str) -> bool {
     }
 }
 
-/// Whether the audit over this opening set is printed so.
+/// Whether the printed verdict of the audit over this opening set is this.
 fn says(alloc: Global, bundle: &Bundle, opened: &str, want: &str) -> bool {
     match GtidSet::from_text(alloc, opened) {
         Ok(opened) => match audit_verdict(alloc, bundle, &opened, bundle.journals()) {
@@ -63,7 +63,7 @@ fn says(alloc: Global, bundle: &Bundle, opened: &str, want: &str) -> bool {
     }
 }
 
-/// Whether the audit of these entries' journal, in the world of a bundle, is printed so.
+/// Whether the printed verdict of the audit of these entries' journal, in the world of a bundle, is this.
 fn says_of(alloc: Global, bundle: &Bundle, entries: &str, want: &str) -> bool {
     let Ok(text) = text(alloc, "-", entries) else {
         return false;

@@ -1,4 +1,4 @@
-//! A reader between its pieces: a refusal stays, and entries are taken in front.
+//! A reader between its pieces: a refusal stays, and the entries so far can be taken.
 
 use std::alloc::Global;
 use std::test::Fail;
@@ -30,7 +30,7 @@ fn is_refused(reader: Reader) -> bool {
     matches!(reader.finish(), Err(JournalFault::Line { line: 1, .. }))
 }
 
-/// After a refusal every later call answers it again.
+/// After a refusal every later call returns it again.
 #[test]
 fn a_refusal_stays(rt: HostRuntime) -> Result<(), Fail> {
     let alloc = rt.alloc();

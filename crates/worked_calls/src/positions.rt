@@ -1,4 +1,4 @@
-//! What a source without a UUID answers a replica that asks.
+//! What a source without a UUID sends to a replica that asks.
 
 use crate::sources::bundle;
 use auto_position::plan;
@@ -7,7 +7,7 @@ use journal::Journal;
 use std::alloc::Global;
 use std::test::Fail;
 
-/// Whether a source that nobody names sends a set of A:2 and A:9 the places of A:1 and A:3.
+/// Whether a source without a UUID sends to the set of A:2 and A:9 the places of A:1 and A:3.
 fn sends_the_rest(alloc: Global, journal: &Journal) -> bool {
     match GtidSet::from_text(alloc, "aaaaaaaa-aaaa-aaaa-aaaa-aaaaaaaaaaaa:2:9") {
         Ok(ask) => match plan(alloc, None, journal, &ask) {
@@ -18,7 +18,7 @@ fn sends_the_rest(alloc: Global, journal: &Journal) -> bool {
     }
 }
 
-/// Nothing is a history of its own, so the replica never has more of it.
+/// No GTID is the source's own, so the replica never has more of them.
 #[test]
 fn a_source_that_nobody_names_sends_what_is_asked(rt: HostRuntime) -> Result<(), Fail> {
     let alloc = rt.alloc();

@@ -105,7 +105,7 @@ fn word(reply: &NetworkReply) -> &'static str {
     }
 }
 
-/// Whether each event may be asked of a network.
+/// Whether a network may be given each event.
 fn are_numbered(events: &[NetworkEvent]) -> bool
     ensures { result ≡ true → AreNumbered events.now }
 {
@@ -117,7 +117,7 @@ fn are_numbered(events: &[NetworkEvent]) -> bool
     true
 }
 
-/// Whether the events are answered so.
+/// Whether the events have these replies.
 fn goes_round(alloc: Global, network: &mut Network, events: &[NetworkEvent]) -> bool {
     if !are_numbered(events) {
         return false;

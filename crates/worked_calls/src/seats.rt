@@ -1,4 +1,4 @@
-//! Two seats of one replica, by turns and on threads of their own, and what the book shows that they close.
+//! Two seats of one replica, by turns and on threads of their own, and what the closed book shows.
 ghost use Rattle.std.specs.Prelude.{◌≡◌};
 
 use crate::sources::bundle;
@@ -30,7 +30,7 @@ enum Task {
 #[derive(Drop)]
 struct Ending {
     counts: Counts,
-    /// The places of the second seat's receipts, where they are sure.
+    /// The places of the second seat's receipts, where they don't depend on threads.
     second: Option<&'static [u64]>,
     /// The lines of the state.
     state: &'static str,
@@ -207,7 +207,7 @@ fn late<N: Naming, R: Wait>(
     )
 }
 
-/// A seat takes and commits a place; what the book shows later tells whether it did.
+/// A seat takes and commits a place; the book shows later whether it did.
 fn go<N: Naming, R: Wait>(
     rt: &R,
     alloc: Global,
@@ -292,7 +292,7 @@ fn wanted_ending(wish: Task) -> Ending {
     }
 }
 
-/// Whether the places of receipts rise.
+/// Whether the places of receipts are ascending.
 fn rise(receipts: &[Receipt]) -> bool {
     receipts.windows(2).all(|two| two[0].place < two[1].place)
 }

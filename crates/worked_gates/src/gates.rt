@@ -80,7 +80,7 @@ fn two_workers<N: Naming + Send + Sync, R: Threads + Wait + Abort + Sync>(
     Ok(())
 }
 
-/// One event. Its reply is let go.
+/// One event. Its reply is dropped.
 fn make(alloc: Global, core: &mut Core, event: &Event) -> Result<(), Fail>
     requires { is_numbered event.now ≡ true }
 {

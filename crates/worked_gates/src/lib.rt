@@ -2,8 +2,8 @@
 //! `commands`).
 //!
 //! Of two workers the second commits while the first is held before it prepares, so workers do run side by side; of four each commits
-//! something. What `apply_journals` gives back is the history of its workers. A seat that owns a transaction when the workers begin lets
-//! it go. Of three tickets the owner pops the first and the third, and the other worker steals the second.
+//! something. What `apply_journals` gives back is the history of its workers. A seat that owns a transaction when the workers begin rolls
+//! it back. Of three tickets the owner pops the first and the third, and the other worker steals the second.
 #![tactic(auto)]
 
 #[cfg(test)]

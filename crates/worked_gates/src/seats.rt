@@ -96,13 +96,13 @@ fn take_first<N: Naming, R: Wait>(
     matches!(replica.take(rt, alloc, pass, 0, 0), Ok(Reply::Taken(_)))
 }
 
-/// Whether it is a seat's rollback that let its transaction go.
+/// Whether it is a rollback of a seat's transaction.
 fn is_rollback(step: &Step, seat: u8) -> bool {
     matches!(&step.event, Event::Rollback(who) if *who == seat)
         && matches!(&step.reply, Reply::RolledBack(_))
 }
 
-/// How often a seat let its transaction go.
+/// How often a seat rolled its transaction back.
 fn count_rollbacks(book: &ClosedBook, seat: u8) -> usize {
     book.steps()
         .iter()
@@ -110,7 +110,7 @@ fn count_rollbacks(book: &ClosedBook, seat: u8) -> usize {
         .count()
 }
 
-/// How often the first seat, which owns a transaction when the workers begin, let it go; None where
+/// How often the first seat, which owns a transaction when the workers begin, rolled it back; None where
 /// the workers did not end with all twenty commits.
 fn rollbacks_of_first<N: Naming + Send + Sync, R: Threads + Wait + Abort + Sync>(
     rt: &R,
@@ -140,7 +140,7 @@ fn rollbacks_of_first<N: Naming + Send + Sync, R: Threads + Wait + Abort + Sync>
     Ok(shows_twenty(alloc, &mut book)?.then_some(count))
 }
 
-/// A seat that owns a transaction when the workers begin lets it go, once, and it is committed all the
+/// A seat that owns a transaction when the workers begin rolls it back, once, and it is committed all the
 /// same.
 #[test]
 fn a_seat_that_owns_lets_go(rt: HostRuntime) -> Result<(), Fail> {
@@ -152,7 +152,7 @@ fn a_seat_that_owns_lets_go(rt: HostRuntime) -> Result<(), Fail> {
 }
 
 /// Whether a take that prepares so many changes at least gives what it takes to prepare the first
-/// transaction, which is let go again; None where it isn't taken.
+/// transaction, which is then rolled back; None where it isn't taken.
 fn is_prepared<N: Naming, R: Wait>(
     rt: &R,
     alloc: Global,

@@ -23,9 +23,9 @@ pub(crate) enum Call {
     Commit,
     /// The seat commits what it took by a patch that is prepared without the lock.
     CommitPrepared,
-    /// The seat gives up what it took.
+    /// The seat rolls back what it took.
     Rollback,
-    /// The channel goes on.
+    /// The channel runs again.
     Restart,
     /// A transaction of the server's own, which changes nothing.
     Own,

@@ -1,4 +1,4 @@
-//! What is drained, and what is there then.
+//! The drain, and the state after it.
 use applier::drain;
 use gtid_report::render_state;
 use gtid_set::SetFault;
@@ -47,7 +47,7 @@ fn commits(steps: &[Step]) -> usize {
         .count()
 }
 
-/// The state is what is wanted, nothing is owned, and each of so many GTIDs was committed once.
+/// The state is the expected one, nothing is owned, and each of so many GTIDs was committed once.
 pub(crate) fn shows<R: Abort>(
     rt: &R,
     alloc: Global,

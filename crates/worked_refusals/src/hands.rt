@@ -85,7 +85,7 @@ fn work_alone<N: Naming + Send + Sync, R: Threads + Wait + Abort + Sync>(
     fault.is_some()
 }
 
-/// What the worker left, and what the drain makes of it; which case was met.
+/// What the worker left, and the state after the drain; which case was met.
 fn end<R: Abort>(rt: &R, alloc: Global, book: &mut ClosedBook, stopped: bool) -> &'static str {
     let counts = book.counts();
     if !stopped {

@@ -1,10 +1,10 @@
 //! Tests whose allocations are refused, one in each run (sweep/refused_memory); with nothing refused they pass as well. Whatever is
-//! refused, each ends well: what must hold after a refusal is asserted, and a line on standard output that begins with `met: ` tells
-//! which case it was.
+//! refused, each ends well: what must hold after a refusal is asserted, and a line on standard output that begins with `met: ` names
+//! the case.
 //!
-//! Two seats by turns make all calls of a shared replica: a refused call leaves no receipt and executes nothing, and asked again it is
-//! answered. A worker that is refused memory leaves at most its own GTID, and the drain does the rest. A drain that was refused memory
-//! ends at its second call where the first would have ended.
+//! Two seats by turns make all calls of a shared replica: a refused call leaves no receipt and executes nothing, and made again it has its
+//! reply. A worker that is refused memory leaves at most its own GTID, and the drain does the rest. A drain that was refused memory ends
+//! at its second call where the first would have ended.
 #![tactic(auto)]
 
 #[cfg(test)]

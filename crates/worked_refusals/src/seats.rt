@@ -18,7 +18,7 @@ const A: u128 = 0xaaaa_aaaa_aaaa_aaaa_aaaa_aaaa_aaaa_aaaa;
 
 const C: u128 = 0xcccc_cccc_cccc_cccc_cccc_cccc_cccc_cccc;
 
-/// What a call is answered. Numbers of GTIDs are those of A.
+/// The reply to a call. Numbers of GTIDs are those of A.
 #[derive(Clone, Copy)]
 enum Said {
     Opened,
@@ -39,10 +39,10 @@ enum Said {
     Shown(u128),
 }
 
-/// A call of one of two seats, its answer, and how many GTIDs are executed then.
+/// A call of one of two seats, its reply, and how many GTIDs are executed then.
 type Turn = (u8, Call, Said, u128);
 
-/// The turns, with the answers that the rules of seats and places give.
+/// The turns, with the replies that the rules of seats and places give.
 const TURNS: [Turn; 20] = [
     (1, Call::Open, Said::Opened, 0),
     (2, Call::Position, Said::Asked, 0),
@@ -70,7 +70,7 @@ fn is_gtid(gtid: &Gtid, source: u128, number: u64) -> bool {
     gtid.source == SourceId::from_bits(source) && gtid.number == number
 }
 
-/// Whether a reply is this answer.
+/// Whether a reply is this one.
 fn is_said(reply: &Reply, said: Said) -> bool {
     match said {
         Said::Opened => matches!(reply, Reply::Opened(0)),
@@ -147,7 +147,7 @@ fn are_turns(steps: &[Step]) -> bool {
     next == TURNS.len()
 }
 
-/// Makes a call until it is answered, and returns whether it was refused memory. Then a look shows, before it
+/// Makes a call until it has a reply, and returns whether it was refused memory. Then a look shows, before it
 /// is made again, that no more and no less is executed than before.
 fn take_turn<N: Naming, R: Abort + Wait>(
     rt: &R,
@@ -252,7 +252,7 @@ fn two_seats<N: Naming, R: Abort + Wait + Print>(
     tell(rt, met)
 }
 
-/// A call that was refused memory has changed nothing, and is answered when it is made again.
+/// A call that was refused memory has changed nothing, and has its reply when it is made again.
 #[test]
 fn two_seats_by_turns(rt: HostRuntime) -> Result<(), Fail> {
     let alloc = rt.alloc();

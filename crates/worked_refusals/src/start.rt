@@ -1,4 +1,4 @@
-//! What a test begins with, and how it tells what it met.
+//! What a test begins with, and how it reports the case that it met.
 use gtid_set::SetFault;
 use journal::Entry;
 use replica_core::Core;
@@ -54,7 +54,7 @@ pub(crate) fn entries(bundle: &Bundle) -> &[Entry] {
     }
 }
 
-/// Tells which case a test met.
+/// Reports which case a test met.
 pub(crate) fn tell<R: Print>(rt: &R, met: &str) -> Result<(), Fail> {
     println!(rt; "met: {met}")?;
     Ok(())

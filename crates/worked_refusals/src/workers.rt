@@ -145,7 +145,7 @@ fn left_by_one<R: Abort>(rt: &R, alloc: Global, book: &ClosedBook, marks: &Marks
     }
 }
 
-/// What the workers left, which the drain ends; which case was met.
+/// What the workers left, and the state after the drain; which case was met.
 fn end<R: Abort>(
     rt: &R,
     alloc: Global,

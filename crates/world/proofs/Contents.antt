@@ -51,7 +51,7 @@ in_at c [] h = absurd h
 in_at c (e ∷ es) (inl same) = (zero, ap Some same)
 in_at c (e ∷ es) (inr later) = let r = in_at c es later in (suc r.0, r.1)
 
--- a content stands among the world's entries
+-- a content is among the world's entries
 pub content_at : (world : World) (g : Gtid) (t : Transaction) → content world g ≡ Some t → (i : ℕ) × (slice_get (finmap.entries world.contents) i ≡ Some (g, t))
 content_at world g t e = in_at (g, t) (finmap.entries world.contents) (is_in world g t e)
 

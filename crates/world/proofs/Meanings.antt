@@ -71,7 +71,7 @@ applies_not world = first_not _ (finmap.entries world.contents) (λ i e p.
     let r = map_some (λ (fault : Gtid × RowFault). DoesNotApply fault.0 fault.1) (first_fault world.schema (entries_in world (of_source e.0.source)) world.opening_rows) Sound p in
     cc)
 
--- ---- what is not found does not stand
+-- ---- what is not found is not there
 
 pub content_is_by : (t : Transaction) (o : Option Transaction) → option_map_or (txn_eq t) o false ≡ true → o ≡ Some t
 content_is_by t None e = cc

@@ -153,7 +153,7 @@ module _ (world : World) (sound : AreKeysSound world) where
     before_applies : (s : ℕ) → (m : Rows) × (apply_all world.schema (filter (λ e. of_source s e.0) before) world.opening_rows ≡ Ok m)
     before_applies s = chosen_applies world.schema (of_source s) before world.opening_rows r (source_closed world sound s before known.0) reached
 
-    -- a smaller source has nothing behind, so nothing of it fails
+    -- a smaller source has nothing later, so nothing of it fails
     smaller_none : (s : ℕ) → s < g.source → first_fault world.schema (entries_in world (of_source s)) world.opening_rows ≡ None
     smaller_none s l =
         let behind : filter (λ e. of_source s e.0) ((g, t) ∷ later) ≡ [] = none_passes (λ e. of_source s e.0) ((g, t) ∷ later)

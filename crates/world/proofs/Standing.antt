@@ -1,4 +1,4 @@
--- Each verdict names a case that stands.
+-- Each verdict names a fault that is there.
 use Rattle.std.proofs.Common.{◌≡◌, ℕ, ◌-◌, false, not, ◌&&◌, inl, inr, List, [], ◌∷◌, ◌++◌, take, Option, Some, None, Result, Ok, Err, refl, ap, ◌∙◌, subst, arith}
 use Rattle.std.specs.Prelude.{nat_lt, ◌==◌}
 use Rattle.std.specs.List.{range_with_len}

@@ -95,6 +95,6 @@ Stands world journals (Concurrent g h key) = ⊥
 Stands world journals (DoesNotApply g fault) = Fails world g fault
 Stands world journals Sound = Unit {0}
 
--- Each verdict but Sound names a case that stands, in every world.
+-- Each verdict but Sound names a fault that is there, in every world.
 abbrev pub VerdictsStand : Type 0
 VerdictsStand = (world : World) (journals : List JournalValue) → Stands world journals (verdict world journals)

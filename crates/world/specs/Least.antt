@@ -1,4 +1,4 @@
--- What the verdicts name is the least, or the first, that stands.
+-- What the verdicts name is the least, or the first, of its kind.
 use Rattle.std.specs.Prelude.{◌≡◌, ◌≢◌, ℕ, ◌<◌, List, Some, IsOk, slice_get}
 use Rattle.std.specs.declared.cmp.Ordering.TheVariants.{Less}
 use Rattle.gtid_text.specs.declared.Gtid.{Gtid}

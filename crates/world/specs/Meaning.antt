@@ -11,7 +11,7 @@ use Rattle.source_history.specs.Faithful.{IsFaithful}
 use Rattle.world.specs.declared.verdict.Verdict.TheVariants.{Sound}
 use Rattle.world.specs.Audit.{world_of, verdict_of_keys, verdict}
 
--- each keeps what a journal keeps
+-- what the type of journals keeps holds of each
 abbrev pub AreJournals : List JournalValue → Type 0
 AreJournals journals = AllByRecursion (λ (j : JournalValue). IsJournal j.previous j.entries) journals
 

@@ -10,7 +10,7 @@ pub fn sound_means_sound()
 {}
 
 /// The other way, where each journal's previous set lies within the opening set. Without that the
-/// converse is false: a journal that begins where another ends is faithful, and is said Purged.
+/// converse is false: a journal that begins where another ends is faithful, and is reported as Purged.
 pub fn sound_is_said()
     ensures { SoundIsSaid }
 {}
@@ -21,7 +21,7 @@ pub fn keys_sound_mean()
     ensures { KeysSoundMeans }
 {}
 
-/// Each verdict but Sound names a case that stands.
+/// Each verdict but Sound names a fault that is there.
 pub fn verdicts_stand()
     ensures { VerdictsStand }
 {}
@@ -43,18 +43,18 @@ pub fn one_pass_closes()
     ensures { OnePassCloses }
 {}
 
-/// No GTID less than the one that is said Missing is missing.
+/// No GTID less than the one that is reported as Missing is missing.
 pub fn missing_is_least()
     ensures { MissingIsLeast }
 {}
 
-/// Of what is said Shared the greater GTID is the least that shares a key with a smaller source, the
+/// Of what is reported as Shared the greater GTID is the least that shares a key with a smaller source, the
 /// key is its first that is so shared, and the lesser GTID is the least that touches it.
 pub fn shared_is_least()
     ensures { SharedIsLeast }
 {}
 
-/// What each source smaller than that of the GTID which is said not to apply committed applies
+/// Where a GTID is reported as DoesNotApply, what each smaller source than its own committed applies
 /// alone.
 pub fn first_source_fails()
     ensures { FirstSourceFails }

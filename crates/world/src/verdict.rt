@@ -1,4 +1,4 @@
-//! What an audit answers.
+//! The verdict of an audit.
 use gtid_set::GtidSet;
 use gtid_text::Gtid;
 use rows::{Key, RowFault};
@@ -16,13 +16,13 @@ pub enum Verdict {
     /// Two GTIDs of different sources that share a key, the greater one second.
     Shared(Gtid, Gtid, Key),
     /// Two GTIDs that share a key, which two journals have in different orders. Only the audit in one
-    /// order answers it.
+    /// order reports it.
     Reordered(Gtid, Gtid, Key),
     /// An entry that is in a journal without an earlier one of its source that shares a key; in the
     /// audit in one order, without one that shares a key and comes before it in another journal.
     NotClosed(Gtid, Gtid),
     /// Two GTIDs that share a key, each in a journal that has not the other, where neither journal has
-    /// both. Only the audit in one order answers it.
+    /// both. Only the audit in one order reports it.
     Concurrent(Gtid, Gtid, Key),
     /// A transaction that does not apply after the earlier ones of its source.
     DoesNotApply(Gtid, RowFault),

@@ -129,7 +129,7 @@ unfolding IsDistinct
 distinct_once [] = tt
 distinct_once (x ∷ keys) = (all_others x (each_once keys), apart_passing (λ k. not (key_eq k x)) (each_once keys) (distinct_once keys))
 
--- ---- what each_once tells of a list
+-- ---- what each_once gives for a list
 
 pub once_members : (list keys : List Key) → list ≡ each_once keys → (k : Key) → is_among list k ≡ is_among keys k
 once_members list keys is k = ap (λ ks. is_among ks k) is ∙ same_members keys k

@@ -1,4 +1,4 @@
-//! Footprints of write sets, and patches that are installed where what they saw is still true.
+//! Footprints of write sets, and patches that are installed where they are still valid.
 
 ghost use Rattle.std.specs.Prelude.{◌≡◌, IfOk, Ok, OnErr};
 ghost use Rattle.rows.specs.Apply.{apply};
@@ -11,8 +11,8 @@ use indexmap::IndexSet;
 use rows::{Footprint, InstallOutcome, Key, Patch, Rows};
 use std::alloc::{AllocError, Global};
 
-/// Each of these keys with the row that carries it, or none, and the tables. Of the keys of a transaction it is all
-/// that `prepare` asks for. The images are shared.
+/// Each of these keys with the row that carries it, or none, and the tables. For the keys of a transaction it is all
+/// that `prepare` needs. The images are shared.
 pub fn footprint(alloc: Global, rows: &Rows, keys: IndexSet<Key>) -> Result<Footprint, AllocError>
     ensures schema { IfOk result (λ footprint. footprint.schema ≡ rows.now.schema) }
     ensures seen { IfOk result (λ footprint. footprint.seen ≡ seen_of_keys rows.now.rows keys.keys) }
@@ -21,7 +21,7 @@ pub fn footprint(alloc: Global, rows: &Rows, keys: IndexSet<Key>) -> Result<Foot
     rows.footprint(alloc, to_list(alloc, keys)?)
 }
 
-/// Does what a patch's transaction does, unless a carrier or a table of its footprint is not as it was: then it is
+/// Does what a patch's transaction does, unless a row or a table of its footprint is not as it was: then it is
 /// stale, and the rows are unchanged. After a failed allocation they are unchanged too.
 pub fn install(rows: &mut Rows, patch: Patch) -> Result<InstallOutcome, AllocError>
     ensures installed { result ≡ Ok InstallOutcome.Installed → IsStillTrue patch rows.old }
