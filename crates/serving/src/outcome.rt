@@ -218,7 +218,7 @@ pub fn conclude(
     requires run { IsRun order bundle.now core.now }
     requires ends { AreStoppedOrDone core.now.state }
     ensures found { IfOk result (IsConcluded order bundle.now core.now) }
-    ensures fault { IfErr result (IsBundleFault bundle.now) }
+    ensures fault { IfErr result (IsVerdictFault bundle.now) }
 {
     workers_decide();
     served_holds_all();
