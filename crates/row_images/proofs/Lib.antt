@@ -9,3 +9,4 @@ pub mod ImageLaws
 pub mod ImageSteps
 pub mod RowLaws
 pub mod Equal
+mod FewDigits

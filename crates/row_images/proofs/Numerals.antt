@@ -30,7 +30,7 @@ pub utf8_in : (word : List ℕ) → is_count word ≡ true → IsUtf8 word
 utf8_in word e = IsUtf8-from_ascii word (IsAscii-from_digits word (own.to word (digits_in word e).1))
 
 -- what a number is that is small enough, and of one that is not
-count_small : (word : List ℕ) → is_count word ≡ true → digits_value 10 word < 2 ^ 64 → count_of word ≡ Some (digits_value 10 word)
+pub count_small : (word : List ℕ) → is_count word ≡ true → digits_value 10 word < 2 ^ 64 → count_of word ≡ Some (digits_value 10 word)
 count_small word e lt = rw (e, lt-ltb _ _ lt) refl
 
 count_large : (word : List ℕ) → 2 ^ 64 ≤ digits_value 10 word → count_of word ≡ None

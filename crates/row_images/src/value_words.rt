@@ -8,7 +8,7 @@ ghost use Rattle.row_images.specs.Values.{value_text, below_zero, int_of, is_low
 ghost use Rattle.row_images.specs.Images.{values_text, values_behind, AreValues};
 
 use crate::value::{ByteString, Value};
-use crate::words::count;
+use crate::words::{count, is_count};
 use itoa::Buffer;
 use std::alloc::{AllocError, Global};
 
@@ -52,6 +52,30 @@ fn int_from_zero(word: &[u8]) -> Option<i64>
         return None;
     }
     Some(number as i64)
+}
+
+/// So many digits are those of a number below 2^63.
+const FEW_DECIMAL_DIGITS: usize = 18;
+
+/// Whether a word without a minus parses as a number. The number of few digits is not asked for.
+fn is_int_from_zero(word: &[u8]) -> bool
+    requires { starts_with_minus word.now ≡ false }
+    ensures { result ≡ is_some (int_of word.now) }
+{
+    if word.len() <= FEW_DECIMAL_DIGITS {
+        return is_count(word);
+    }
+    int_from_zero(word).is_some()
+}
+
+/// Whether a word parses as a number.
+fn is_int(word: &[u8]) -> bool
+    ensures { result ≡ is_some (int_of word.now) }
+{
+    match word {
+        [b'-', digits @ ..] => int_below_zero(digits).is_some(),
+        _ => is_int_from_zero(word),
+    }
 }
 
 /// The value of each digit that lower case writes, and 16 for any other byte.
@@ -306,12 +330,10 @@ fn are_digits_of_bytes(digits: &[u8]) -> bool
 pub(crate) fn is_value(word: &[u8]) -> bool
     ensures { result ≡ is_some (value_of word.now) }
 {
-    if word == b"null".as_slice() {
-        return true;
-    }
     match word {
         [b'x', digits @ ..] => are_digits_of_bytes(digits),
-        _ => int_at(word).is_some(),
+        b"null" => true,
+        _ => is_int(word),
     }
 }
 

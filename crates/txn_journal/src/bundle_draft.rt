@@ -161,15 +161,16 @@ fn has_channel(channels: &[Channel], name: &Name) -> bool
 }
 
 impl BundleDraft {
-    ghost use Rattle.std.specs.Prelude.{option_map, Ok, IfOk, true, false, [], ◌∷◌, ◌++◌, ◌&&◌, codes};
+    ghost use Rattle.std.specs.Prelude.{option_map, None, Ok, IfOk, true, false, [], ◌∷◌, ◌++◌, ◌&&◌, codes};
     ghost use Rattle.std.specs.Str.{bytes_eq};
     ghost use Rattle.logical_timestamps.specs.Writers.{writers_after};
     ghost use Rattle.txn_journal.specs.Machine.{is_within};
     ghost use Rattle.txn_journal.specs.Drafts.{standing};
     ghost use Rattle.txn_journal.specs.Stamps.{right_stamp};
     ghost use Rattle.txn_journal.specs.declared.lines.Place.TheVariants.{Within};
+    ghost use Rattle.txn_journal.specs.declared.lines.Version.TheVariants.{Two};
     ghost use Rattle.txn_journal.specs.Stream.{TakesLine};
-    ghost use Rattle.txn_journal.specs.BundleStates.{IsFullBundle, no_bundle, is_done, version_line, replica_line, opening_line, add_table_line, row_line, put_row, after_tables, channel_line, join_channel, done_line, own_step, judge_own, after_inner, end_entry, judge_inner, judge_bundle};
+    ghost use Rattle.txn_journal.specs.BundleStates.{IsFullBundle, no_bundle, is_done, version_line, replica_line, opening_line, add_table_line, row_line, put_row, after_tables, channel_line, join_channel, done_line, own_step, judge_own, after_inner, end_entry, close_channel, judge_inner, judge_bundle};
     ghost use Rattle.txn_journal.specs.BundleDrafts.{bundle_standing};
 
     /// Before the first line.
@@ -192,6 +193,15 @@ impl BundleDraft {
             draft: Draft::start(alloc, None),
             writers: None,
         }
+    }
+
+    /// Before the first line again, of either version.
+    #[cold]
+    #[inline(never)]
+    pub fn start_again(&mut self, alloc: Global)
+        ensures { bundle_standing self.new ≡ no_bundle None }
+    {
+        *self = BundleDraft::start(alloc, None);
     }
 
     /// Whether the last line has come.
@@ -357,6 +367,7 @@ impl BundleDraft {
     }
 
     /// The last writers of the keys of the open journal. They are no longer in the draft.
+    #[inline(never)]
     fn take_writers(&mut self, alloc: Global) -> Result<LastWriters, AllocError>
         ensures writers { IfOk result (λ w. w ≡ writers_after self.old.bundle.start.schema self.old.draft.journal.entries) }
         ensures left { bundle_standing self.new ≡ bundle_standing self.old }
@@ -382,16 +393,30 @@ impl BundleDraft {
                 self.writers = None;
                 Ok((0, None))
             }
-            Version::Two => {
-                let mut writers = self.take_writers(alloc)?;
-                let number = self.draft.entries().len() as u64 + 1;
-                let stamp = writers.next(alloc, self.bundle.schema(), number, entry)?;
-                Ok((stamp, Some(writers)))
-            }
+            Version::Two => self.next_written(alloc, entry),
         }
     }
 
+    /// The last_committed of an entry behind the others by the last writers of its keys, and the last writers with it.
+    #[inline(never)]
+    fn next_written(
+        &mut self,
+        alloc: Global,
+        entry: &Entry,
+    ) -> Result<(u64, Option<LastWriters>), AllocError>
+        requires { self.old.version ≡ Two }
+        ensures stamp { IfOk result (λ r. r.0 ≡ right_stamp self.old.version self.old.bundle.start.schema self.old.draft.journal.entries entry.now) }
+        ensures writers { IfOk result (λ r. AreWriters self.old.bundle.start.schema (self.old.draft.journal.entries ++ entry.now ∷ []) r.1) }
+        ensures left { bundle_standing self.new ≡ bundle_standing self.old }
+    {
+        let mut writers = self.take_writers(alloc)?;
+        let number = self.draft.entries().len() as u64 + 1;
+        let stamp = writers.next(alloc, self.bundle.schema(), number, entry)?;
+        Ok((stamp, Some(writers)))
+    }
+
     /// Ends the entry that is open, where it has the last_committed that it has to have.
+    #[inline(never)]
     fn end_entry(&mut self, alloc: Global) -> Result<(), LineFault>
         requires { (standing self.old.draft).place ≡ Within }
         ensures { TakesLine IsFullBundle result (end_entry (bundle_standing self.old)) (bundle_standing self.new) }
@@ -448,6 +473,15 @@ impl BundleDraft {
         if !self.draft.is_ended() {
             return Ok(());
         }
+        self.close_channel(alloc)
+    }
+
+    /// Adds the open channel to the bundle, whose journal has ended.
+    #[cold]
+    #[inline(never)]
+    fn close_channel(&mut self, alloc: Global) -> Result<(), LineFault>
+        ensures { TakesLine IsFullBundle result (Ok (close_channel (bundle_standing self.old) (bundle_standing self.old).draft)) (bundle_standing self.new) }
+    {
         self.writers = None;
         let draft = mem::replace(&mut self.draft, Draft::start(alloc, Some(self.version)));
         let channel = self.channel.take();
@@ -459,6 +493,7 @@ impl BundleDraft {
     }
 
     #[tactic(auto, unfolding(crate::specs::BundleStates::judge_own))]
+    #[inline(never)]
     fn take_own(&mut self, alloc: Global, line: &[u8]) -> Result<(), LineFault>
         ensures { TakesLine IsFullBundle result (judge_own (bundle_standing self.old) line.now) (bundle_standing self.new) }
     {

@@ -78,7 +78,7 @@ impl TakeLine for Lines {
         match self.draft.take_line(alloc, line) {
             Ok(()) => Ok(()),
             Err(fault) => {
-                self.draft = BundleDraft::start(alloc, None);
+                self.draft.start_again(alloc);
                 Err(fault)
             }
         }

@@ -168,6 +168,7 @@ impl Draft {
 
     #[tactic(auto, unfolding(crate::specs::Machine::judge))]
     /// Takes the next line, or says the first thing that is wrong with it.
+    #[inline(never)]
     pub fn take_line(
         &mut self,
         alloc: Global,
@@ -231,6 +232,7 @@ impl Draft {
     }
 
     #[tactic(auto, unfolding(crate::specs::Machine::header_line))]
+    #[inline(never)]
     fn open(&mut self, rest: Option<&[u8]>) -> Result<(), LineFault>
         ensures { TakesLine IsFull result (header_line (standing self.old) (option_map (λ r. r.now) rest.entry)) (standing self.new) }
     {
@@ -245,6 +247,7 @@ impl Draft {
     }
 
     #[tactic(auto, unfolding(crate::specs::Machine::previous_line))]
+    #[inline(never)]
     fn follow(&mut self, alloc: Global, rest: Option<&[u8]>) -> Result<(), LineFault>
         ensures { TakesLine IsFull result (previous_line (standing self.old) (option_map (λ r. r.now) rest.entry)) (standing self.new) }
     {
@@ -261,6 +264,7 @@ impl Draft {
     }
 
     #[tactic(auto, unfolding(crate::specs::Machine::txn_line, crate::specs::Machine::begin))]
+    #[inline(never)]
     fn begin(&mut self, alloc: Global, rest: Option<&[u8]>) -> Result<(), LineFault>
         ensures { TakesLine IsFull result (txn_line (standing self.old) (option_map (λ r. r.now) rest.entry)) (standing self.new) }
     {
@@ -299,6 +303,7 @@ impl Draft {
     }
 
     #[tactic(auto, unfolding(crate::specs::Machine::end_line))]
+    #[inline(never)]
     fn end(&mut self, alloc: Global, rest: Option<&[u8]>) -> Result<(), LineFault>
         requires { self.old.place ≡ Within }
         ensures { TakesLine IsFull result (end_line (standing self.old) (option_map (λ r. r.now) rest.entry)) (standing self.new) }
@@ -341,6 +346,22 @@ impl Draft {
         self.stamp
     }
 
+    /// The changes of the entry that is open. They are no longer in the draft; where there is one, their room stays for those of the
+    /// next entry.
+    fn take_changes(&mut self, alloc: Global) -> Result<Changes, AllocError>
+        ensures changes { IfOk result (λ changes. changes ≡ self.old.changes.items) }
+        ensures left { standing self.new ≡ record (standing self.old) { changes = [] } }
+        ensures gtid { self.new.gtid ≡ self.old.gtid }
+    {
+        if self.changes.len() == 1 {
+            if let Some(change) = self.changes.pop() {
+                return Changes::single(alloc, change);
+            }
+        }
+        let changes = mem::replace(&mut self.changes, Vec::new(alloc));
+        Changes::new(changes)
+    }
+
     /// The entry that is open. Its changes are no longer in the draft.
     pub fn take_entry(&mut self, alloc: Global) -> Result<Entry, AllocError>
         requires { (standing self.old).place ≡ Within }
@@ -348,12 +369,10 @@ impl Draft {
         ensures writable { IfOk result (λ entry. is_writable entry ≡ true) }
         ensures left { standing self.new ≡ record (standing self.old) { changes = [] } }
     {
-        let changes = mem::replace(&mut self.changes, Vec::new(alloc));
+        let changes = self.take_changes(alloc)?;
         Ok(Entry {
             gtid: self.gtid,
-            txn: Transaction {
-                changes: Changes::new(changes)?,
-            },
+            txn: Transaction { changes },
         })
     }
 
@@ -374,6 +393,7 @@ impl Draft {
     }
 
     #[tactic(auto, unfolding(crate::specs::Machine::close_line))]
+    #[inline(never)]
     fn close(&mut self, rest: Option<&[u8]>) -> Result<(), LineFault>
         ensures { TakesLine IsFull result (close_line (standing self.old) (option_map (λ r. r.now) rest.entry)) (standing self.new) }
     {

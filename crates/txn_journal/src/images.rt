@@ -11,6 +11,7 @@ use rows::{Name, Row};
 use std::alloc::Global;
 
 /// The image that a text has.
+#[inline(never)]
 pub fn image(alloc: Global, text: &[u8]) -> Result<Row, LineFault>
     ensures { Finds (λ r. r) result (image_in text.now) }
 {
@@ -35,6 +36,7 @@ fn around_bar(text: &[u8]) -> Option<(&[u8], &[u8])>
 }
 
 /// The two images that a text has, with a bar between.
+#[inline(never)]
 pub fn two_images(alloc: Global, text: &[u8]) -> Result<(Row, Row), LineFault>
     ensures { Finds (λ r. r) result (images_in text.now) }
 {
@@ -47,6 +49,7 @@ pub fn two_images(alloc: Global, text: &[u8]) -> Result<(Row, Row), LineFault>
 }
 
 /// The table's name at the start of a line's rest, and what follows it.
+#[inline(never)]
 pub fn table_at<'a>(
     names: &mut Names,
     alloc: Global,

@@ -8,4 +8,4 @@ pub invariant_of-self : goal.invariant_of-self
 invariant_of-self c = come_more (bundle_standing c.self.inside.draft) (bundle_standing c.take_line.new.self) c.args.line.now c.self.invariant c.in-Ok.ensures
 
 pub invariant_of-self-in-Err : goal.invariant_of-self-in-Err
-invariant_of-self-in-Err c = subst HasCome (sym c.start.ensures) (come_start None)
+invariant_of-self-in-Err c = subst HasCome (sym c.start_again.ensures) (come_start None)
