@@ -1,4 +1,4 @@
--- What is wrong with a line of a bundle, said of its words and not of the way in which it is read.
+-- The faults of a line of a bundle, by its words and not by the way in which it is read.
 use Rattle.std.specs.Prelude.{◌≡◌, ◌⊎◌, ℕ, ◌<◌, ◌≤◌, true, false, List, length, Option, Some, None, Ok, codes}
 use Rattle.gtid_text.specs.Written.{IsSource}
 use Rattle.rows.specs.declared.schema.Table.{Table}
@@ -45,7 +45,7 @@ own_word (Puts r) = words.Row
 own_word (Opens c) = words.Channel
 own_word Done = words.Done
 
--- its version is due, and its words have a source, a set, a name, numbers and values that can be spelled
+-- its version is due, and its words are those of a source, a set, a name, numbers and values
 abbrev pub FitsOwn : Option Version → OwnLine → Type 0
 FitsOwn due (Heads version) = takes due version ≡ true
 FitsOwn due (Names replica) = IsSource replica

@@ -1,4 +1,4 @@
--- The lines of a bundle that have come, by what they have said.
+-- The lines of a bundle that have come, from what they have made.
 use Rattle.std.specs.Prelude.{List, [], ◌∷◌, ◌++◌, map, Option, Some, None}
 use Rattle.rows.specs.declared.change.TableRow.{TableRow}
 use Rattle.txn_journal.specs.BundleStates.{BundleStanding}

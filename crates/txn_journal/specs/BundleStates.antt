@@ -46,8 +46,8 @@ pub record BundleValue : Type 0 where
 abbrev pub bare : ℕ → Gtids → List Table → BundleValue
 bare replica opened tables = record { replica = replica; opened = opened; start = record { schema = tables; rows = map.empty }; channels = []; journals = [] }
 
--- What the lines so far have said. `due` is the version that is due, if not each known one is; the tables stand in `tables` until the first line
--- after them.
+-- What the lines so far have made. `due` is the version that is due, if not each known one is; the tables are in `tables` until the first
+-- line after them.
 pub record BundleStanding : Type 0 where
   pub part : Part
   pub due : Option Version
@@ -219,7 +219,7 @@ after_inner s draft = if is_last draft.place then close_channel s draft else rec
 abbrev pub is_misstamped : Version → List Table → Standing → Standing → Bool
 is_misstamped version tables s draft = is_within s.place && (not (is_within draft.place) && not (s.stamp == right_stamp version tables s.journal.entries (open_entry s)))
 
--- what is taken, where entries are looked at as a whole or are not
+-- what is taken, where entries are tested as a whole or are not
 abbrev pub unless_misstamped : Bool → BundleStanding → Standing → Result BundleStanding Cause
 unless_misstamped whole s draft = if whole && is_misstamped s.version s.bundle.start.schema s.draft draft then Err causes.Stamp else Ok (after_inner s draft)
 
@@ -243,6 +243,6 @@ judge_part _ whole s line = judge_own s line
 abbrev pub judge_by : Bool → BundleStanding → List ℕ → Result BundleStanding Cause
 judge_by whole s line = judge_part s.part whole s line
 
--- a line at the place where it stands
+-- a line at its place
 unfoldable pub judge_bundle : BundleStanding → List ℕ → Result BundleStanding Cause
 judge_bundle s line = judge_by true s line

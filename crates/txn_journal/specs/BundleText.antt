@@ -31,7 +31,7 @@ use Rattle.txn_journal.specs.declared.lines.Version.TheVariants.{One, Two}
 
 -- ---- lines
 
--- what a line of the bundle's own says
+-- the content of a line of the bundle's own
 pub data OwnLine : Type 0 where
   Heads : Version → OwnLine
   Names : ℕ → OwnLine
@@ -191,7 +191,7 @@ WritesBundle bytes b = WritesBundleBy None bytes b
 abbrev pub upgrade_of : BundleValue → List ℕ
 upgrade_of b = bundle_spelling Two (rows_listed b.start.rows) b
 
--- ---- bundles whose last entry has not been looked at as a whole
+-- ---- bundles whose last entry has not been tested as a whole
 
 -- the last entry has some last_committed below its place, and each before it has its own
 pub record IsLastStamped (version : Version) (tables : List Table) (stamps : List ℕ) (es : List Entry) : Type 0 where

@@ -1,4 +1,4 @@
--- What is wrong with a line, said of its words and not of the way in which it is read.
+-- The faults of a line, by its words and not by the way in which it is read.
 use Rattle.std.specs.Prelude.{◌≡◌, ◌⊎◌, ℕ, ◌+◌, ◌<◌, ◌≤◌, true, false, List, length, Option, Some, None, codes}
 use Rattle.std.specs.FinSet as set
 use Rattle.gtid_text.specs.Written.{IsUsable}
@@ -45,7 +45,7 @@ abbrev pub AreCounts : Option Numbers → Type 0
 AreCounts None = Unit {0}
 AreCounts (Some numbers) = (is_count numbers.last_committed ≡ true) × (is_count numbers.sequence_number ≡ true)
 
--- its words have a set, a GTID, numbers, a name and values that can be spelled
+-- its words are those of a set, a GTID, numbers, a name and values
 abbrev pub FitsLine : Line → Type 0
 FitsLine (Header version) = Unit {0}
 FitsLine (Previous s) = IsWrittenSet s
@@ -73,7 +73,7 @@ IsOfVersion due version (Header v) = takes due v ≡ true
 IsOfVersion due version (Begin g numbers) = HasNumbers version numbers
 IsOfVersion due version _ = Unit {0}
 
--- its words can be spelled, and may stand there
+-- its words are those of such a line, and may be there
 pub record FitsAt (due : Option Version) (version : Version) (l : Line) : Type 0 where
   pub words : FitsLine l
   pub images : HasImages l
@@ -95,7 +95,7 @@ abbrev pub IsMisnumbered : Standing → Line → Type 0
 IsMisnumbered s (Begin g numbers) = stamp_in (s.count + 1) numbers ≡ None
 IsMisnumbered s _ = ⊥
 
--- the GTID is in the previous set, or stood before
+-- the GTID is in the previous set, or came before
 abbrev pub IsTwice : Standing → Line → Gtid → Type 0
 IsTwice s (Begin h numbers) g = (h ≡ g) × (set.contains s.seen g ≡ true)
 IsTwice s _ g = ⊥

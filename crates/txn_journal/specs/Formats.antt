@@ -1,4 +1,4 @@
--- Formats of texts in lines, whatever the lines say.
+-- Formats of texts in lines, whatever the content of the lines.
 use Rattle.std.specs.Prelude.{◌≡◌, ◌⊎◌, ℕ, ◌+◌, ◌-◌, ◌^◌, ◌<◌, min, Bool, true, false, List, [], ◌∷◌, ◌++◌, length, Result, Ok, Err}
 use Rattle.std.specs.List.{flat_map, AllByRecursion}
 use Rattle.gtid_set.specs.declared.fault.SetFault.{SetFault}
@@ -9,7 +9,7 @@ use Rattle.txn_journal.specs.declared.fault.Cause.TheVariants as causes
 use Rattle.txn_journal.specs.declared.fault.JournalFault.{JournalFault}
 use Rattle.txn_journal.specs.declared.fault.JournalFault.TheVariants as faults
 
--- What a line says (Line), what whole lines have made (State), and what a text parses as (Value).
+-- The content of a line (Line), what whole lines have made (State), and what a text parses as (Value).
 pub record Format : Type 1 where
   pub Line : Type 0
   pub State : Type 0
@@ -20,7 +20,7 @@ pub record Format : Type 1 where
   pub judge : Judge State
   -- the last line has come
   pub is_last : State → Bool
-  -- what the lines have spelled, once the last has come
+  -- the value of the lines, once the last has come
   pub value : State → Value
   -- a set that they have made has too many sources, or too many intervals: by this fault
   pub IsFull : SetFault → State → Type 0
@@ -28,11 +28,11 @@ pub record Format : Type 1 where
   pub line_text : Line → List ℕ
   -- the bytes are a text of this value
   pub Writes : List ℕ → Value → Type 0
-  -- the same, but that its last entry has not been looked at as a whole
+  -- the same, but that its last entry has not been tested as a whole
   pub AlmostWrites : List ℕ → Value → Type 0
   -- an entry is open
   pub is_open : State → Bool
-  -- the line begins an entry, or stands within one
+  -- the line begins an entry, or is within one
   pub is_inside : List ℕ → Bool
   -- the lines that have made this, in order
   pub HasHeard : State → List Line → Type 0
@@ -48,7 +48,7 @@ ended_line_of f l = f.line_text l ++ 10 ∷ []
 abbrev pub text_of : (f : Format) → List f.Line → List ℕ
 text_of f ls = flat_map (ended_line_of f) ls
 
--- no line feed stands within one
+-- no line feed is within one
 abbrev pub AreWhole : (f : Format) → List f.Line → Type 0
 AreWhole f ls = AllByRecursion (λ l. IsOneLine (f.line_text l)) ls
 
@@ -94,8 +94,9 @@ BeginsBy f inside front = (v : f.Value) × (more : List ℕ) × MayWrite f insid
 abbrev pub cap_line_number : ℕ → ℕ
 cap_line_number n = min n (2 ^ 64 - 1)
 
--- The text has whole lines with which a value's may begin, and then one more with which none does. Its number counts from 1. A line that begins an
--- entry or stands within it is no such line because of what only its whole entry shows: that is the fault of the line which ends the entry.
+-- The text has whole lines with which a value's may begin, and then one more with which none does. Its number counts from 1. A line that
+-- begins an entry or is within it is no such line because of what only its whole entry shows: that is the fault of the line which ends the
+-- entry.
 pub record IsFirstFaulty (f : Format) (bytes : List ℕ) (n : ℕ) (cause : Cause) : Type 0 where
   pub before : List f.Line
   pub line : List ℕ
@@ -134,7 +135,7 @@ pub record IsTrailing (f : Format) (bytes : List ℕ) (n : ℕ) : Type 0 where
   pub some : 0 < length rest
   pub number : n ≡ cap_line_number (length before + 1)
 
--- what each fault says of the text
+-- what each fault means for the text
 abbrev pub RefusesBy : (f : Format) → JournalFault → List ℕ → Type 0
 RefusesBy f (faults.Set fault) bytes = IsFaultBy f (start_of f) bytes fault
 RefusesBy f (faults.Line n cause) bytes = IsFirstFaulty f bytes n cause ⊎ (IsTrailing f bytes n × (cause ≡ causes.Keyword))

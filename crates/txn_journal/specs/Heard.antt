@@ -1,4 +1,4 @@
--- The lines that have come, by what they have said.
+-- The lines that have come, from what they have made.
 use Rattle.std.specs.Prelude.{◌+◌, List, [], ◌∷◌, ◌++◌, map}
 use Rattle.txn_journal.specs.Spelling.{Line, Header, Begin, Makes, Close, numbers_of, front_lines}
 use Rattle.txn_journal.specs.Machine.{Standing}

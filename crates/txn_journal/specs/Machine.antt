@@ -28,8 +28,9 @@ use Rattle.txn_journal.specs.declared.lines.Keyword.TheVariants as keywords
 use Rattle.txn_journal.specs.declared.lines.Version.{Version}
 use Rattle.txn_journal.specs.declared.lines.Version.TheVariants.{One}
 
--- What the lines so far have said. `due` is the version that is due, if not each known one is; `seen` has the GTIDs of the previous set and of all
--- `count` entries, those that were taken too. `stamps` has the last_committed of each entry of the journal, `stamp` that of the entry that is open.
+-- What the lines so far have made. `due` is the version that is due, if not each known one is; `seen` has the GTIDs of the previous set and
+-- of all `count` entries, those that were taken too. `stamps` has the last_committed of each entry of the journal, `stamp` that of the
+-- entry that is open.
 pub record Standing : Type 0 where
   pub place : Place
   pub due : Option Version
@@ -175,7 +176,7 @@ step schema s keywords.Upd rest = do
 step schema s keywords.End rest = end_line s rest
 step schema s keywords.Close rest = close_line s rest
 
--- a line at the place where it stands
+-- a line at its place
 unfoldable pub judge : Option (List Table) → Standing → List ℕ → Result Standing Cause
 judge schema s line = do
   word ← due (is_due s.place) (keyword_of (first_word line))

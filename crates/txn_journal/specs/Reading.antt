@@ -92,7 +92,7 @@ without_entries (Stopped fault) = Stopped fault
 abbrev pub closing : Progress Standing → Result JournalValue JournalFault
 closing p = closing_by journals p
 
--- the same reading with these entries in front
+-- the same reading with these entries before its own
 abbrev pub in_front : List Entry → JournalValue → JournalValue
 in_front front journal = record journal { entries = front ++ journal.entries }
 
@@ -114,6 +114,6 @@ abbrev pub HasBegun : Progress Standing → Type 0
 HasBegun (Reading s n rest) = has_begun s.place ≡ true
 HasBegun (Stopped fault) = Unit {0}
 
--- entries in front make no difference to what bytes do
+-- earlier entries make no difference to what bytes do
 abbrev pub EatsBehind : Stamped → Progress Standing → List ℕ → Type 0
 EatsBehind front p bytes = eats_alone (behind_entries front p) bytes ≡ behind_entries front (eats_alone p bytes)

@@ -22,7 +22,7 @@ use Rattle.txn_journal.specs.declared.lines.Version.TheVariants.{One, Two}
 
 -- ---- lines
 
--- what a line says
+-- the content of a line
 pub data Line : Type 0 where
   Header : Version → Line
   Previous : Gtids → Line

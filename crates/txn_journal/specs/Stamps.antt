@@ -11,7 +11,7 @@ use Rattle.txn_journal.specs.declared.lines.Version.TheVariants.{One, Two}
 abbrev pub no_stamps : List Entry → List ℕ
 no_stamps es = map (λ e. 0) es
 
--- of an entry behind others
+-- of an entry after others
 abbrev pub right_stamp : Version → List Table → List Entry → Entry → ℕ
 right_stamp One tables earlier e = 0
 right_stamp Two tables earlier e = last_committed tables earlier e

@@ -19,7 +19,8 @@ abbrev pub GivesFull : {S : Type 0} → (S → Type 0) → Result S Cause → Ty
 GivesFull full (Ok s) = full s
 GivesFull full (Err cause) = ⊥
 
--- What a call did with a line is what judging it gives, unless memory ran out or what it makes is full; `full` says of which of the two faults.
+-- What a call did with a line is what judging it gives, unless memory was refused or what it makes is full; `full` has which of the two
+-- faults.
 abbrev pub TakesLine : {S : Type 0} → (SetFault → S → Type 0) → Result (Unit {0}) LineFault → Result S Cause → S → Type 0
 TakesLine full (Ok _) judged new = judged ≡ Ok new
 TakesLine full (Err (wrong.Wrong cause)) judged new = judged ≡ Err cause
@@ -31,7 +32,7 @@ TakesPart (Ok _) judged new = judged ≡ Ok new
 TakesPart (Err (wrong.Wrong cause)) judged new = judged ≡ Err cause
 TakesPart (Err (wrong.Set fault)) judged new = fault ≡ Memory
 
--- What a call found in a part of a line, seen by view, is what reading it gives, unless memory ran out.
+-- The view of what a call found in a part of a line is what reading it gives, unless memory was refused.
 abbrev pub Finds : {X Y : Type 0} → (X → Y) → Result X LineFault → Result Y Cause → Type 0
 Finds view (Ok x) read = read ≡ Ok (view x)
 Finds view (Err (wrong.Wrong cause)) read = read ≡ Err cause

@@ -37,7 +37,7 @@ timestamped_start = alone_start (Some Two)
 abbrev pub closing_timestamped : Progress Standing → Result TimestampedValue JournalFault
 closing_timestamped p = closing_by timestamped_journals p
 
--- what each fault says of the text
+-- what each fault means for the text
 abbrev pub RefusesTimestamped : JournalFault → List ℕ → Type 0
 RefusesTimestamped fault bytes = RefusesBy timestamped_journals fault bytes
 

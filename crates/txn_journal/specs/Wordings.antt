@@ -18,7 +18,7 @@ pub record Wording : Type 1 where
   pub line_text : Line → List ℕ
   -- the first word of a line
   pub word : Line → Word
-  -- its other words can be spelled, and may stand there
+  -- its other words are those of such a line, and may be there
   pub Fits : Line → Type 0
   pub PassesLimit : Line → Type 0
   -- the lines before, or the schema, do not allow it
@@ -28,7 +28,7 @@ pub record Wording : Type 1 where
   -- it has this GTID, which came before
   pub IsTwice : Line → Gtid → Type 0
 
--- the line is the spelling of l, which is due there
+-- the line is the text of l, which is due there
 pub record Says (w : Wording) (line : List ℕ) (l : w.Line) : Type 0 where
   pub text : line ≡ w.line_text l
   pub fits : w.Fits l
@@ -43,7 +43,7 @@ abbrev pub HasCauseBy : (w : Wording) → List ℕ → Cause → Type 0
 HasCauseBy w line causes.Keyword = (k : w.Word) → w.word_of (first_word line) ≡ Some k → w.is_due k ≡ true → ⊥
 -- a header is due and is there, with a count that is no version known there
 HasCauseBy w line causes.Version = (n : List ℕ) × (line ≡ w.word_text w.header ++ 32 ∷ n) × (is_count n ≡ true) × (w.is_due w.header ≡ true) × SaysNothing w line
--- a word is due and stands first, and the line parses as nothing
+-- a word is due and comes first, and the line parses as nothing
 HasCauseBy w line causes.Body = (k : w.Word) × (w.word_of (first_word line) ≡ Some k) × (w.is_due k ≡ true) × SaysNothing w line
 HasCauseBy w line causes.Limit = (l : w.Line) × Says w line l × w.PassesLimit l
 HasCauseBy w line causes.Schema = (l : w.Line) × Says w line l × (w.PassesLimit l → ⊥) × w.Clashes l

@@ -99,8 +99,8 @@ impl Bundle {
         self.parts.journals()
     }
 
-    /// A bundle keeps to the rules of the format: its tables, rows and channels may stand together, each journal has what the tables
-    /// take, and all of it can be spelled. It does nothing; a proof calls it for its contract.
+    /// The type keeps the rules of the format: tables, rows and channels fit together, the tables take what each journal has, and all of
+    /// it has a text. It does nothing; a proof calls it for its contract.
     pub fn keeps_rules(&self)
         ensures { IsBundle self.now }
     {

@@ -25,7 +25,7 @@ use std::mem;
 /// The greatest number of channels.
 const MAX_CHANNELS: usize = 256;
 
-/// Where in a bundle the next line stands.
+/// Where in a bundle the next line is.
 #[derive(Clone, Copy, Debug, PartialEq, Eq)]
 pub enum Part {
     Header,
@@ -75,7 +75,7 @@ fn word_at(word: &[u8]) -> Option<Word>
 impl Part {
     ghost use Rattle.txn_journal.specs.BundleStates.{is_due_in};
 
-    /// Whether a line of this word may stand here.
+    /// Whether a line with this first word is allowed here.
     fn takes(self, word: Word) -> bool
         ensures { result ≡ is_due_in self word }
     {
@@ -140,7 +140,7 @@ fn channel_in(alloc: Global, names: &mut Names, rest: Option<&[u8]>) -> Result<C
     Ok(Channel { name, preserve })
 }
 
-/// Whether the word after a channel's name says that order is preserved.
+/// Whether order is preserved, by the word after a channel's name.
 fn preserve_in(rest: Option<&[u8]>) -> Result<bool, LineFault>
     ensures { Finds (λ b. b) result (preserve_in (option_map (λ r. r.now) rest.entry)) }
 {
@@ -378,7 +378,7 @@ impl BundleDraft {
         }
     }
 
-    /// The last_committed that an entry behind the others has to have, and the last writers with it.
+    /// The last_committed that an entry after the others has to have, and the last writers with it.
     fn next_stamp(
         &mut self,
         alloc: Global,
@@ -397,7 +397,7 @@ impl BundleDraft {
         }
     }
 
-    /// The last_committed of an entry behind the others by the last writers of its keys, and the last writers with it.
+    /// The last_committed of an entry after the others by the last writers of its keys, and the last writers with it.
     #[inline(never)]
     fn next_written(
         &mut self,
@@ -505,7 +505,7 @@ impl BundleDraft {
     }
 
     #[tactic(auto, unfolding(crate::specs::BundleStates::judge_bundle))]
-    /// Takes the next line, or says the first thing that is wrong with it.
+    /// Takes the next line, or returns its first fault.
     pub fn take_line(&mut self, alloc: Global, line: &[u8]) -> Result<(), LineFault>
         ensures { TakesLine IsFullBundle result (judge_bundle (bundle_standing self.old) line.now) (bundle_standing self.new) }
     {

@@ -113,7 +113,7 @@ impl BundleReader {
         }
     }
 
-    /// Takes the next piece. After an error every later call answers that error.
+    /// Takes the next piece. After an error every later call returns that error.
     pub fn feed(&mut self, alloc: Global, piece: &[u8]) -> Result<(), JournalFault>
         ensures next { FeedsBy (bundles None) (bundle_reading self.old) piece.now (bundle_reading self.new) }
         ensures answer { result ≡ answer (bundle_reading self.new) }
@@ -145,11 +145,11 @@ fn read_bundle(alloc: Global, due: Option<Version>, bytes: &[u8]) -> Result<Bund
 
 /// The bundle that the bytes parse as, all of the bytes, by either version of the format.
 pub fn decode_bundle(alloc: Global, bytes: &[u8]) -> Result<Bundle, JournalFault>
-    // What is read is spelled so.
+    // Accepted bytes are a text of this value by the grammar.
     ensures found { IfOk result (λ b. WritesBundle bytes.now b) }
-    // What is spelled so is read, if memory and the sources of a set allow.
+    // A text of a value by the grammar is accepted as it, if memory and the sources of a set allow.
     ensures only { (b : BundleValue) → WritesBundle bytes.now b → IsRead result b }
-    // Which line is the first that is faulty, and what is wrong with it.
+    // A refusal names the first faulty line, and what is wrong with it.
     ensures refused { IfErr result (λ fault. RefusesBundle fault bytes.now) }
     // The same, by the fold over the bytes.
     ensures exact { IsWhole result (closing_bundle (eats_bundle (bundle_start None) bytes.now)) }
@@ -159,11 +159,11 @@ pub fn decode_bundle(alloc: Global, bytes: &[u8]) -> Result<Bundle, JournalFault
 
 /// The bundle that the bytes parse as, all of the bytes, by version 1 of the format. What begins as a bundle of another version is refused for it.
 pub fn decode_bundle_v1(alloc: Global, bytes: &[u8]) -> Result<Bundle, JournalFault>
-    // What is read is spelled so.
+    // Accepted bytes are a text of this value by the grammar.
     ensures found { IfOk result (λ b. WritesBundleBy (Some One) bytes.now b) }
-    // What is spelled so is read, if memory and the sources of a set allow.
+    // A text of a value by the grammar is accepted as it, if memory and the sources of a set allow.
     ensures only { (b : BundleValue) → WritesBundleBy (Some One) bytes.now b → IsRead result b }
-    // Which line is the first that is faulty, and what is wrong with it.
+    // A refusal names the first faulty line, and what is wrong with it.
     ensures refused { IfErr result (λ fault. RefusesBundleBy (Some One) fault bytes.now) }
     // The same, by the fold over the bytes.
     ensures exact { IsWhole result (closing_bundle (eats_bundle (bundle_start (Some One)) bytes.now)) }

@@ -167,7 +167,7 @@ impl Draft {
     }
 
     #[tactic(auto, unfolding(crate::specs::Machine::judge))]
-    /// Takes the next line, or says the first thing that is wrong with it.
+    /// Takes the next line, or returns its first fault.
     #[inline(never)]
     pub fn take_line(
         &mut self,

@@ -24,7 +24,7 @@ pub enum Cause {
     Schema,
     /// The sequence number of an entry is not its place, or its last_committed is not that which it has to have.
     Stamp,
-    /// The GTID is in the previous set, or stood before in the same journal.
+    /// The GTID is in the previous set, or came before in the same journal.
     Twice(Gtid),
 }
 

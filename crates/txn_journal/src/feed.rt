@@ -27,10 +27,10 @@ pub fn cut_line(text: &[u8]) -> Option<(&[u8], &[u8])>
 pub trait TakeLine {
     ghost judge: { Judge Self };
 
-    // What takes more room than a set has.
+    // A set of what the lines have made has too many sources or intervals: by this fault.
     ghost full: { SetFault → Self → Type 0 };
 
-    /// Takes the next line, or says the first thing that is wrong with it.
+    /// Takes the next line, or returns its first fault.
     fn take_line(&mut self, alloc: Global, line: &[u8]) -> Result<(), LineFault>
         ensures { TakesLine full result (judge self.old line.now) self.new };
 }
@@ -64,7 +64,7 @@ impl<T> Feed<T> {
         }
     }
 
-    /// The error that the reading stopped at, if it did.
+    /// The error at which the reading stopped, if it did.
     pub fn answer(&self) -> Result<(), JournalFault>
         ensures { result ≡ answer (progress self.now) }
     {
@@ -98,7 +98,7 @@ impl<T: TakeLine> Feed<T> {
     ghost use Rattle.txn_journal.specs.Stream.{eats, IsPieceFault, Feeds, TakesPiece, answer};
     ghost use Rattle.txn_journal.specs.Feeds.{progress};
 
-    /// Takes the next piece. After an error every later call answers that error.
+    /// Takes the next piece. After an error every later call returns that error.
     pub fn feed(&mut self, alloc: Global, piece: &[u8]) -> Result<(), JournalFault>
         ensures next { Feeds T.full T.judge (progress self.old) piece.now (progress self.new) }
         ensures answer { result ≡ answer (progress self.new) }

@@ -1,4 +1,4 @@
-//! What the types of a journal's parts keep: its names, numbers and bytes are those of the grammar. What they leave open is asked.
+//! What the types of a journal's parts keep: its names, numbers and bytes are those of the grammar. What they leave open is tested.
 //!
 //! The functions without a result do nothing; a proof calls them for their contracts.
 ghost use Rattle.std.specs.Prelude.{◌≡◌, ◌↔◌, ◌&&◌, nat_le, IsTrue, IfOk};
@@ -63,7 +63,7 @@ fn entries_fit(entries: &[Entry])
     }
 }
 
-/// What a journal's type leaves open is all that its text asks for.
+/// What a journal's type leaves open is all that its text needs besides.
 #[tactic(auto, using(crate::proofs::WrittenLaws::may_be_written))]
 pub(crate) fn journal_fits(journal: &Journal)
     ensures { MayBeWritten journal.now → IsWritten journal.now }

@@ -21,7 +21,7 @@ pub fn image(alloc: Global, text: &[u8]) -> Result<Row, LineFault>
     }
 }
 
-/// What comes before and after the first bar, where a blank stands on either side of it.
+/// What comes before and after the first bar, where there is a blank on either side of it.
 fn around_bar(text: &[u8]) -> Option<(&[u8], &[u8])>
     ensures some { IfSome result (λ r. IsAroundBar text.now r.0.now r.1.now) }
     ensures none { IfNone result ((before after : List ℕ) → IsAroundBar text.now before after → ⊥) }

@@ -25,7 +25,7 @@ pub fn one_spelling()
     ensures whole { (bytes : List ℕ) (v w : WrittenJournal) → IsWrittenAs None bytes v → IsWrittenAs None bytes w → v ≡ w }
 {}
 
-/// Entries that were taken are those that would have come in front.
+/// Entries that were taken are those that would have come first.
 pub fn taken_in_front()
     ensures taken { (p : Progress Standing) → behind_entries (stamped_of p) (without_entries p) ≡ p }
     ensures eats { (front : Stamped) (p : Progress Standing) (bytes : List ℕ) → HasBegun p → EatsBehind front p bytes }

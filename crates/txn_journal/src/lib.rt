@@ -4,19 +4,19 @@
 //! of the format are read, and written by `encode` (version 1), `encode_v2` and `encode_bundle_v2`.
 //!
 //! What a contract sees: a `Journal` is a previous set and a list of entries; a `Reader` is how far a text has come, what its whole lines
-//! have made, or the fault at which it stopped. A grammar says which lines write a value (`Writes`, `WritesBundle`). A text is read
+//! have made, or the fault at which it stopped. A grammar defines which lines write a value (`Writes`, `WritesBundle`). A text is read
 //! exactly where it writes one (`found`, `only`), and a refusal names the first line with which no text begins, and its cause
-//! (`refused`); `exact` says the same by the fold over bytes, so pieces make no difference (`any_cut`). After a fault every later call
+//! (`refused`); `exact` states the same by the fold over bytes, so pieces make no difference (`any_cut`). After a fault every later call
 //! gives that fault. A text has one value (`one_spelling`, `one_bundle`).
 //!
-//! What is written is a text of its value by the grammar (`writes`). Of a bundle it always is: its type keeps what the grammar asks of its
-//! parts (`Bundle::keeps_rules`). Of a journal it is where `may_be_written` holds: a `Journal` may have more entries than a text, and a
-//! previous set of numbers that no transaction has. It holds of what was read, and of a bundle's journals (`read_may_be_written`).
+//! What is written is a text of its value by the grammar (`writes`). For a bundle this always holds: its type keeps what the grammar
+//! requires (`Bundle::keeps_rules`). For a journal it holds where `may_be_written` does: a `Journal` may have more entries than a text, and
+//! a previous set of numbers that no transaction has. It holds for what was read, and for a bundle's journals (`read_may_be_written`).
 //!
-//! One theory serves journals and bundles: a record `Format` has what lines say, the judge of lines and the last line, and both formats
-//! are values of it (`specs/Formats`). Version 2 is another judge and no other theory.
+//! One theory serves journals and bundles: a record `Format` has the content of lines, the judge of lines and the last line, and both
+//! formats are values of it (`specs/Formats`). Version 2 is another judge and no other theory.
 //!
-//! Not proved: speed. Measured, 24 million words are cut and read in 0.21 s. A reader is linear in its text by form: a line is copied
+//! Not proved: speed. Measured, 24 million words are cut and read in 0.21 s. By the code a reader is linear in its text: a line is copied
 //! only where it comes in more than one piece.
 #![tactic(auto)]
 

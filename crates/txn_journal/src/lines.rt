@@ -9,7 +9,7 @@ pub enum Version {
     Two,
 }
 
-/// Where in a journal the next line stands.
+/// Where in a journal the next line is.
 #[derive(Clone, Copy, Debug, PartialEq, Eq)]
 pub enum Place {
     Header,
@@ -60,7 +60,7 @@ pub fn keyword_at(word: &[u8]) -> Option<Keyword>
 impl Place {
     ghost use Rattle.txn_journal.specs.Due.{is_due};
 
-    /// Whether a line of this keyword may stand here.
+    /// Whether a line of this keyword is allowed here.
     pub fn takes(self, keyword: Keyword) -> bool
         ensures { result ≡ is_due self keyword }
     {

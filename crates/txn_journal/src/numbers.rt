@@ -28,11 +28,11 @@ struct Numbers<'a> {
     sequence_number: &'a [u8],
 }
 
-/// What the line that begins an entry says.
+/// The content of the line that begins an entry.
 #[derive(Clone, Copy, Debug)]
 pub struct Beginning {
     pub gtid: Gtid,
-    /// The last_committed, where its numbers may stand there; 0 in version 1, which writes none.
+    /// The last_committed, where its numbers are allowed there; 0 in version 1, which writes none.
     pub stamp: Option<u64>,
 }
 
@@ -144,8 +144,8 @@ fn beginning_text(
     }
 }
 
-/// What the rest of the line says that begins the entry at a place, counted from 1. Any source may be given as the one that
-/// its GTID may be of.
+/// The content of the line that begins the entry at a place, counted from 1, from the rest of the line. Any source may be given as a
+/// guess of the GTID's source.
 pub fn beginning_at(
     alloc: Global,
     near: SourceId,

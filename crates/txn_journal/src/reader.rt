@@ -116,7 +116,7 @@ impl Reader {
         }
     }
 
-    /// Takes the next piece. After an error every later call answers that error.
+    /// Takes the next piece. After an error every later call returns that error.
     pub fn feed(&mut self, alloc: Global, piece: &[u8]) -> Result<(), JournalFault>
         ensures next { FeedsBy journals (reading self.old) piece.now (reading self.new) }
         ensures answer { result ≡ answer (reading self.new) }
@@ -158,7 +158,7 @@ impl Reader {
         }
     }
 
-    /// The reader of all of these bytes. It keeps a fault, and its end answers it.
+    /// The reader of all of these bytes. It keeps a fault, which its end returns.
     fn over(alloc: Global, due: Option<Version>, bytes: &[u8]) -> Reader
         ensures { IsAfter (IsFaultAlone (alone_start due) bytes.now) (reading result) (eats_alone (alone_start due) bytes.now) }
     {
@@ -170,11 +170,11 @@ impl Reader {
 
 /// The journal that the bytes parse as, all of the bytes.
 pub fn decode(alloc: Global, bytes: &[u8]) -> Result<Journal, JournalFault>
-    // What is read is spelled so.
+    // Accepted bytes are a text of this value by the grammar.
     ensures found { IfOk result (λ j. Writes bytes.now j) }
-    // What is spelled so is read, if memory and the sources of a set allow.
+    // A text of a value by the grammar is accepted as it, if memory and the sources of a set allow.
     ensures only { (j : JournalValue) → Writes bytes.now j → IsRead result j }
-    // Which line is the first that is faulty, and what is wrong with it.
+    // A refusal names the first faulty line, and what is wrong with it.
     ensures refused { IfErr result (λ fault. Refuses fault bytes.now) }
     // The same, by the fold over the bytes.
     ensures exact { IsWhole result (closing (eats_alone before_first bytes.now)) }
@@ -184,13 +184,13 @@ pub fn decode(alloc: Global, bytes: &[u8]) -> Result<Journal, JournalFault>
 
 /// The journal that the bytes parse as by version 2 of the format, all of the bytes, with the last_committed of each entry as it
 /// is written. What begins as a journal of another version is refused for it. A journal that stands alone has no tables, so
-/// its numbers are held against its entries' places and not against their keys.
+/// its numbers are tested against its entries' places and not against their keys.
 pub fn decode_v2(alloc: Global, bytes: &[u8]) -> Result<TimestampedJournal, JournalFault>
-    // What is read is spelled so, with these numbers.
+    // Accepted bytes are a text of this value by the grammar, with these numbers.
     ensures found { IfOk result (λ j. WritesTimestamped bytes.now j) }
-    // What is spelled so is read, if memory and the sources of a set allow.
+    // A text of a value by the grammar is accepted as it, if memory and the sources of a set allow.
     ensures only { (j : TimestampedValue) → WritesTimestamped bytes.now j → IsRead result j }
-    // Which line is the first that is faulty, and what is wrong with it.
+    // A refusal names the first faulty line, and what is wrong with it.
     ensures refused { IfErr result (λ fault. RefusesTimestamped fault bytes.now) }
     // The same, by the fold over the bytes.
     ensures exact { IsWhole result (closing_timestamped (eats_alone timestamped_start bytes.now)) }

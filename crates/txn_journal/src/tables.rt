@@ -27,7 +27,7 @@ const MAX_UNIQUES: usize = 8;
 /// The greatest number of tables.
 const MAX_TABLES: usize = 256;
 
-/// What a table's line says, before its numbers are read.
+/// The content of a table's line, before its numbers are read.
 #[derive(Drop)]
 pub struct TableWords<'a> {
     pub name: Name,
@@ -143,7 +143,7 @@ fn is_head(alloc: Global, columns: &[u8], key: &[u8], primary: &[u8]) -> Result<
     is_columns(alloc, primary)
 }
 
-/// What a table's line says.
+/// The content of a table's line.
 #[tactic(auto, unfolding(crate::specs::Shapes::shape_in, crate::specs::Shapes::shape_of))]
 fn table_words<'a>(
     alloc: Global,

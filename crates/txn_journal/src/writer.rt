@@ -74,7 +74,7 @@ fn write_changes(out: &mut String, changes: &[Change]) -> Result<(), AllocError>
     Ok(())
 }
 
-/// Appends what the line that begins an entry says first.
+/// Appends the first words of the line that begins an entry.
 #[tactic(auto, using(crate::proofs::WriteLemmas::begin_appended))]
 fn write_begin(out: &mut String, gtid: Gtid) -> Result<(), AllocError>
     ensures { OnOk result (string_bytes out.new ≡ string_bytes out.old ++ line_text (Begin gtid None)) }
