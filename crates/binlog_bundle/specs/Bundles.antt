@@ -39,16 +39,16 @@ pub record IsTold (bytes : Bool) (head : List ℕ) (b : Brought) : Type 0 where
   pub alone : HasNoOwn b.log
   pub imports : Imports tables bytes b.log b.journal
 
--- The two texts have the same head and the same lines of channels, and the log of each channel is in the one where the journal that it tells
--- is in the other.
+-- The two texts have the same head and the same lines of channels, and the log of each channel is in the one where the journal that it
+-- describes is in the other.
 pub record Stands (bytes : Bool) (head text written : List ℕ) : Type 0 where
   pub brought : List Brought
   pub told : AllByRecursion (IsTold bytes head) brought
   pub text_is : text ≡ head ++ flat_map log_text brought
   pub written_is : written ≡ head ++ flat_map journal_text brought
 
--- The text is a bundle's but that the log of each channel stands where its journal does. Both end in the same last line. Each log is what is between
--- two lines of the bundle's own, so there is one way to read a text so.
+-- The text is a bundle's but that the log of each channel is in the place of its journal. Both end in the same last line. Each log is what
+-- is between two lines of the bundle's own, so there is one way to read a text so.
 pub record ImportsBundle (bytes : Bool) (text : List ℕ) (b : BundleValue) : Type 0 where
   pub head : List ℕ
   pub alone : HasNoOwn head

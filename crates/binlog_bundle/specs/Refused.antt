@@ -106,7 +106,8 @@ pub record IsNoLine (bytes : Bool) (fault : JournalFault) (line : ℕ) (text : L
 abbrev pub IsLast : List ℕ → List ℕ → Type 0
 IsLast last behind = (last ≡ done_line) ⊎ ((last ≡ []) × (behind ≡ []))
 
--- No channel comes any more, and what is behind the last line, or that there is none, makes the whole no bundle; this is the number of the line after it.
+-- No further channel comes, and what is after the last line, or that there is none, makes the whole no bundle; this is the number of the
+-- line after it.
 pub record IsNoEnd (bytes : Bool) (fault : JournalFault) (line : ℕ) (text : List ℕ) : Type 0 where
   pub head : List ℕ
   pub front : List ℕ
@@ -175,7 +176,7 @@ pub record HasJournalFault (bytes : Bool) (fault : JournalFault) (line : ℕ) (t
   pub follow : CantFollow bytes fault line text tables log
   pub no_other : IsOfLine fault → HasNoOther tables log
 
--- ---- the fault that is told
+-- ---- the fault that is reported
 
 abbrev pub IsNoNext : Bool → JournalFault → ℕ → List ℕ → Type 0
 IsNoNext bytes fault line text = IsNoLine bytes fault line text ⊎ IsNoEnd bytes fault line text
@@ -192,7 +193,7 @@ IsNoneOf bytes (faults.Set fault) text = (n : ℕ) × HasJournalFault bytes (fau
 IsNoneOf bytes (faults.Line n cause) text = (m : ℕ) × HasJournalFault bytes (faults.Line m cause) n text
 IsNoneOf bytes (faults.Truncated n) text = ⊥
 
--- Why a text is no bundle of logs. No fault is told but that which the first wrong line, or the log of the first wrong channel, has.
+-- Why a text is no bundle of logs. Only the fault is reported that the first wrong line, or the log of the first wrong channel, has.
 abbrev pub IsNoBundle : Bool → BundleFault → List ℕ → Type 0
 IsNoBundle bytes (bundles.Own fault) text = IsNoOwn bytes fault text
 IsNoBundle bytes (bundles.Log line fault) text = IsNoLog bytes fault line text

@@ -12,7 +12,7 @@ use Rattle.binlog_bundle.specs.Lines.{with_line_feed, lines_in}
 abbrev pub has_table : List Table → List ℕ → Bool
 has_table tables name = list_any (λ t. bytes_eq t.name name) tables
 
--- what a line says maps a table that is none of these
+-- the content of a line maps a table that is none of these
 abbrev pub maps_other : List Table → Option Said → Bool
 maps_other tables (Some (OfTable database table)) = not (has_table tables table)
 maps_other tables _ = false

@@ -54,7 +54,7 @@ fn take_channel(
     }
 }
 
-/// Takes the channels with which what is left of a text begins, and answers what is left behind them.
+/// Takes the channels with which what is left of a text begins, and returns what is left after them.
 pub fn take_channels<'a>(
     alloc: Global,
     bytes: bool,

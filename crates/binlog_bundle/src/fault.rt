@@ -18,7 +18,8 @@ pub enum BundleFault {
     /// A line of the log after the line of a channel maps a table that the bundle has not; it counts from the next one.
     #[error("line {at} of the log behind line {line} maps another table")]
     Table { line: u64, at: u64 },
-    /// What the log after the line of a channel tells, the bundle's tables or the limits of its format do not allow. The fault names that line.
+    /// The bundle's tables or the limits of its format do not allow what the log after the line of a channel describes. The fault names
+    /// that line.
     #[error("the journal behind that line: {0}")]
     Journal(JournalFault),
 }

@@ -66,7 +66,7 @@ fn import_channels(
     }
 }
 
-/// The bundle that a text without channels tells.
+/// The bundle that a text without channels describes.
 fn import_head(alloc: Global, bytes: bool, head: &[u8]) -> Result<Bundle, BundleFault>
     requires { HasNoOwn head.now }
     ensures found { IfOk result (λ b. ImportsBundle bytes head.now b) }

@@ -4,12 +4,12 @@
 //! own (`channel ..`, `done`), which no line of a log is (`logs_are_not_cut`). Each log is read by `binlog_entries::import_journal`, and
 //! the reader of bundles is fed with the lines of the bundle's own and with the text of each journal in the place of its log.
 //!
-//! What a contract sees: a text and the bundle that it tells (`ImportsBundle`): both have the same head and lines of channels, and each log
-//! stands where the journal does which it tells. A refusal is one of a log, of a line of the bundle's own, or of a key, with its line
-//! (`IsNoBundle`).
+//! What a contract sees: a text and the bundle that it describes (`ImportsBundle`): both have the same head and lines of channels, and each
+//! log is in the place of the journal that it describes. A refusal is one of a log, of a line of the bundle's own, or of a key, with its
+//! line (`IsNoBundle`).
 //!
-//! Not proved: that mysqlbinlog tells the truth, and that each text which means a bundle is accepted: lines that stand elsewhere than
-//! mysqlbinlog puts them are refused. Cost, by form: one pass over the input; an opening row is read twice.
+//! Not proved: that what mysqlbinlog prints is what the server logged, and that each text which means a bundle is accepted: lines elsewhere
+//! than mysqlbinlog puts them are refused. Cost, from the code: one pass over the input; an opening row is read twice.
 #![tactic(auto)]
 
 mod channels;

@@ -41,7 +41,7 @@ pub fn cut_own(text: &[u8]) -> (&[u8], &[u8])
     split_before(text, 0)
 }
 
-/// The first line of a text, with its line feed where it has one, and what is behind it.
+/// The first line of a text, with its line feed where it has one, and what follows it.
 pub fn split_line(text: &[u8]) -> (&[u8], &[u8])
     ensures parts { text.now ≡ result.0.now ++ result.1.now }
     ensures first { (line after : List ℕ) → BeginsWithLine text.now line after → (result.0.now ≡ with_line_feed line) × (result.1.now ≡ after) }

@@ -1,4 +1,4 @@
--- Which lines stand where in the text of a binary log.
+-- Which lines are allowed where in the text of a binary log.
 use Rattle.std.specs.Prelude.{Bool, true, false}
 use Rattle.binlog_text.specs.declared.lines.Event.{Event}
 use Rattle.binlog_text.specs.declared.lines.Event.TheVariants as events

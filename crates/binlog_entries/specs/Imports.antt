@@ -15,12 +15,12 @@ use Rattle.binlog_entries.specs.declared.as_journal.LogFault.{LogFault}
 use Rattle.binlog_entries.specs.declared.import.ImportFault.{ImportFault}
 use Rattle.binlog_entries.specs.declared.import.ImportFault.TheVariants as faults
 
--- the server compares each key of these tables by its bytes, or that is not asked
+-- the server compares each key of these tables by its bytes, or that is not required
 abbrev pub AreKeysTaken : List Table → Bool → List Varied → Type 0
 AreKeysTaken tables bytes varied = bytes ≡ false → place_varied tables varied ≡ None
 
--- What is written is the text of a journal whose entries denote what the lines of the log's text mean, after what they say was executed before. The
--- server compares each key by its bytes, unless that is not asked.
+-- What is written is the text of a journal whose entries denote what the lines of the log's text mean, after what was executed before by
+-- these lines. The server compares each key by its bytes, unless that is not required.
 pub record Imports (tables : List Table) (bytes : Bool) (text written : List ℕ) : Type 0 where
   pub journal : JournalValue
   pub varied : List Varied
@@ -45,7 +45,8 @@ pub record HasVariedKey (tables : List Table) (place : ℕ) (text : List ℕ) : 
   pub log : IsLog text previous entries varied
   pub key : place_varied tables varied ≡ Some place
 
--- A line is refused, or else a key, where keys are asked about, or else an entry. That memory was refused for the journal says nothing of it.
+-- A line is refused, or else a key, where keys are tested, or else an entry. Where memory was refused for the journal, nothing is
+-- claimed of it.
 abbrev pub IsNoImport : List Table → Bool → ImportFault → List ℕ → Type 0
 IsNoImport tables bytes (faults.Text fault) text = Refuses fault text
 IsNoImport tables bytes (faults.Key place) text = (bytes ≡ false) × HasVariedKey tables place text

@@ -38,7 +38,7 @@ pub record HasUnfit (fault : LogFault) (previous : Gtids) (entries : List Entry)
   pub follow : AllFollow previous before
   pub refused : MayNotFollow fault (seen_behind previous before) entry
 
--- that memory was refused says nothing of them
+-- where memory was refused, nothing is claimed of them
 abbrev pub IsNoJournal : LogFault → Gtids → List Entry → Type 0
 IsNoJournal (faults.Set fault) previous entries = IsMemoryOr (HasUnfit (faults.Set SourcesFull) previous entries) (HasUnfit (faults.Set PoolFull) previous entries) fault
 IsNoJournal (faults.Twice gtid) previous entries = HasUnfit (faults.Twice gtid) previous entries

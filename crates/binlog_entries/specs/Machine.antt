@@ -1,4 +1,4 @@
--- What lines tell, one after another: tables, rows, changes, entries.
+-- What lines make, one after another: tables, rows, changes, entries.
 use Rattle.std.specs.Prelude.{◌≡◌, ◌⊎◌, ℕ, ◌+◌, ◌==◌, ◌&&◌, not, is_some, Bool, true, false, List, [], ◌∷◌, ◌++◌, length, Option, Some, None, Result, Ok, Err, if◌then◌else◌}
 use Rattle.std.specs.Str.{bytes_eq}
 use Rattle.gtid_text.specs.declared.Gtid.{Gtid}
@@ -75,7 +75,7 @@ pub record Standing : Type 0 where
   pub stage : Stage
   -- of the transaction that is open
   pub gtid : Gtid
-  -- no GTID has come, and what the files say was executed before
+  -- whether no GTID has come, and what was executed before, by the files
   pub is_fresh : Bool
   pub previous : Gtids
   -- rows of the statement have come, so that the next table is another statement's
@@ -280,7 +280,7 @@ gtid_line s word =
       gtid ← or_refused refusals.Gtid (gtid_of_word word)
       Ok (record s { stage = stages.Named; gtid = gtid; is_fresh = false }))
 
--- what was executed before the first GTID; later files say again what has come
+-- what was executed before the first GTID; later files repeat what has come
 unfoldable pub sources_line : Standing → List ℕ → Result Standing EntryRefusal
 sources_line s word =
     if s.is_fresh then (do
@@ -331,7 +331,7 @@ abbrev pub step_by : Standing → List ℕ → Option Said → Result Standing E
 step_by s text None = Err (refusal_of s.body text)
 step_by s text (Some l) = step s l
 
--- a line that says nothing is refused: a statement's text is no line of ours
+-- a line without content is refused: a statement's text is no line of ours
 unfoldable pub judge : Standing → List ℕ → Result Standing EntryRefusal
 judge s text = step_by s text (line_of text)
 
@@ -365,7 +365,7 @@ IsContentFault s (OfSources sources more) fault = IsSourcesFault s sources fault
 IsContentFault s (OfRow operation database table) fault = fault ≡ Memory
 IsContentFault s (OfValue n text) fault = fault ≡ Memory
 
--- it may stand there, and what it tells has this fault
+-- it may be there, and its content has this fault
 abbrev pub IsStepFault : Standing → Said → SetFault → Type 0
 IsStepFault s l fault = (takes s.body (kind_of l) ≡ true) × IsContentFault s l fault
 
@@ -373,8 +373,8 @@ abbrev pub IsFaultBy : Standing → Option Said → SetFault → Type 0
 IsFaultBy s None fault = ⊥
 IsFaultBy s (Some l) fault = IsStepFault s l fault
 
--- Why a line is not taken, though nothing is wrong with it: memory was refused for what it tells, or a set that it names is full. A line that says
--- nothing, or may not stand there, has no such fault.
+-- Why a line is not taken, though nothing is wrong with it: memory was refused for its content, or a set that it names is full. A line
+-- without content, or that may not be there, has no such fault.
 abbrev pub IsLineFault : Standing → List ℕ → SetFault → Type 0
 IsLineFault s text fault = IsFaultBy s (line_of text) fault
 

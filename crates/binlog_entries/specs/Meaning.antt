@@ -34,7 +34,7 @@ pub data Meaning : Type 0 where
 
 -- ---- of lines
 
--- The tables that the statement maps, and the table of the row. They tell the types of the values that follow.
+-- The tables that the statement maps, and the table of the row. They determine the types of the values that follow.
 pub record Context : Type 0 where
   pub is_over : Bool
   pub mapping : Option Table
@@ -142,12 +142,12 @@ abbrev pub varied_in : Context → List Varied → List Said → List Varied
 varied_in c vs [] = vs
 varied_in c vs (l ∷ ls) = varied_in (context_behind c l) (varied_by c vs l) ls
 
--- what was executed before, after a line that says so
+-- what was executed before, after a line of the previous set
 abbrev pub with_sources : Gtids → Option Gtids → Gtids
 with_sources before None = before
 with_sources before (Some more) = set.union before more
 
--- What lines say was executed before: the sets that come before the first GTID, together.
+-- What was executed before, by these lines: the sets that come before the first GTID, together.
 abbrev pub executed_before : Gtids → List Said → Gtids
 executed_before before [] = before
 executed_before before (OfGtid gtid ∷ ls) = before

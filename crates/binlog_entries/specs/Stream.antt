@@ -92,7 +92,7 @@ TakesPiece may (Err (faults.Set fault)) new after = may fault
 TakesPiece may (Err (faults.Line n refusal)) new after = after ≡ Stopped (faults.Line n refusal)
 TakesPiece may (Err (faults.Unfinished n)) new after = ⊥
 
--- what was read, seen by view
+-- the view of what was read
 abbrev pub Seen : {X Y : Type 0} → (X → Y) → Result X ReadFault → Result Y ReadFault
 Seen view (Ok x) = Ok (view x)
 Seen view (Err fault) = Err fault
@@ -132,13 +132,13 @@ Ends may result whole = ((fault : SetFault) × (result ≡ Err (faults.Set fault
 abbrev pub ended_line : List ℕ → List ℕ
 ended_line line = line ++ 10 ∷ []
 
--- each line says this
+-- each line has this content
 abbrev pub Say : List (List ℕ) → List Said → Type 0
 Say [] [] = Unit {0}
 Say (line ∷ lines) (l ∷ ls) = IsLine l line × Say lines ls
 Say _ _ = ⊥
 
--- The text is lines that say something each, and what they mean is what the entries denote, in order. This was executed before, and these are the
+-- The text is lines with content, and what they mean is what the entries denote, in order. This was executed before, and these are the
 -- columns that the server compares otherwise than their bytes.
 pub record IsLog (text : List ℕ) (previous : Gtids) (entries : List Entry) (varied : List Varied) : Type 0 where
   pub lines : List (List ℕ)

@@ -1,4 +1,4 @@
--- What a line that says nothing is refused for, and the words of refusals.
+-- The faults of lines without content, and the words of refusals.
 use Rattle.std.specs.Prelude.{ℕ, ◌||◌, List, Option, Some, None, codes, nat_eq, if◌then◌else◌}
 use Rattle.std.specs.List.{starts_with}
 use Rattle.binlog_text.specs.Tokens.{cut_at}

@@ -20,7 +20,7 @@ pub enum LogFault {
     /// Memory was refused, or a set is full.
     #[error("{0}")]
     Set(SetFault),
-    /// The GTID of an entry was executed before, or stood before.
+    /// The GTID of an entry was executed before, or is that of an earlier entry.
     #[error("a GTID stands twice")]
     Twice(Gtid),
     /// The entry of this GTID has more changes, columns or bytes than an entry may have.
@@ -44,7 +44,7 @@ impl From<SetFault> for LogFault {
     }
 }
 
-/// Puts an entry behind those of a journal whose GTIDs were seen.
+/// Puts an entry after those of a journal whose GTIDs were seen.
 fn follow(journal: &mut Journal, seen: &mut GtidSet, entry: &Entry) -> Result<(), LogFault>
     requires { IsSeen journal.old seen.old }
     ensures journal { OnOk result (journal.new ≡ record journal.old { entries = journal.old.entries ++ entry.now ∷ [] }) }

@@ -1,4 +1,4 @@
-//! Which lines stand where.
+//! Which lines are allowed where.
 ghost use Rattle.std.specs.Prelude.{◌≡◌};
 ghost use Rattle.binlog_text.specs.Said.{said};
 ghost use Rattle.binlog_entries.specs.Bodies.{kind_of_mark, kind_of, body_of, may_end, has_comments, takes, behind, next_body};
@@ -31,7 +31,7 @@ pub enum Body {
     Closed,
 }
 
-/// The kinds of lines, as far as they say where a line may stand.
+/// The kinds of lines, as far as they determine where a line is allowed.
 #[derive(Clone, Copy, Debug, PartialEq, Eq)]
 pub enum Kind {
     Place,
@@ -125,7 +125,7 @@ impl Body {
         }
     }
 
-    /// Whether a comment may stand here.
+    /// Whether a comment is allowed here.
     fn has_comments(self) -> bool
         ensures { result ≡ has_comments self }
     {
@@ -135,7 +135,7 @@ impl Body {
         )
     }
 
-    /// Whether a line of this kind may stand here.
+    /// Whether a line of this kind is allowed here.
     pub fn takes(self, kind: Kind) -> bool
         ensures { result ≡ takes self kind }
     {

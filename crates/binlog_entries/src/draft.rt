@@ -46,7 +46,7 @@ pub enum Part {
 /// What a binary log describes.
 #[derive(Drop)]
 pub struct Log {
-    /// What its first file says was executed before.
+    /// The set that was executed before, by its first file.
     pub previous: GtidSet,
     /// Its entries, in order.
     pub entries: Vec<Entry>,
@@ -63,7 +63,7 @@ pub struct Draft {
     gtid: Gtid,
     /// No GTID has come.
     is_fresh: bool,
-    /// What the files say was executed before.
+    /// The set that was executed before, by the files.
     previous: GtidSet,
     /// Rows of the statement have come: the next table is another statement's.
     is_over: bool,
@@ -455,7 +455,7 @@ impl Draft {
         }
     }
 
-    /// What a line tells.
+    /// Takes the content of a line.
     fn take_content(&mut self, alloc: Global, line: &Line<'_>) -> Result<(), EntryFault>
         ensures { TakesOr (IsContentFault (standing self.old) (said line.now)) result (take_content (standing self.old) (said line.now)) (standing self.new) }
     {
@@ -485,7 +485,7 @@ impl Draft {
         Ok(())
     }
 
-    /// Takes the next line, or says what is wrong with it. After an error no more lines are to come.
+    /// Takes the next line, or returns its fault. After an error no more lines are to come.
     #[tactic(auto, unfolding(crate::specs::Machine::judge))]
     pub fn take_line(&mut self, alloc: Global, text: &[u8]) -> Result<(), EntryFault>
         ensures { TakesOr (IsLineFault (standing self.old) text.now) result (judge (standing self.old) text.now) (standing self.new) }
@@ -503,7 +503,7 @@ impl Draft {
         self.body == Body::Closed
     }
 
-    /// What the files say was executed before, and the entries in order.
+    /// The set that was executed before, by the files, and the entries in order.
     pub fn into_log(self) -> Log
         ensures previous { result.previous ≡ (standing self).previous }
         ensures entries { result.entries.items ≡ (standing self).entries }

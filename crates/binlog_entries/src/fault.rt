@@ -10,7 +10,7 @@ use thiserror::Error;
 /// What is wrong with a line.
 #[derive(Clone, Copy, Debug, PartialEq, Eq)]
 pub enum EntryRefusal {
-    /// It is none of mysqlbinlog's lines, or stands where none of its kind does.
+    /// It is none of mysqlbinlog's lines, or is where none of its kind may be.
     Format,
     /// A statement other than the beginning, the end and a savepoint of a transaction.
     Statement,

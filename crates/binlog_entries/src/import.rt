@@ -21,7 +21,7 @@ pub enum ImportFault {
     /// A key of a table of the schema, counted from 0, whose values the server compares otherwise than their bytes.
     #[error("a key of table {0} is not compared by bytes")]
     Key(usize),
-    /// What it tells is no journal.
+    /// What it describes is no journal.
     #[error("{0}")]
     Log(LogFault),
 }

@@ -1,19 +1,20 @@
 //! The text of MySQL's binary logs as entries: a state machine over the lines of `binlog_text`.
 //!
-//! `Reader` takes the text in pieces (`start`, `feed`, `finish`), and `read_log` is one `feed` and `finish`. A `Log` is what the first
-//! file says was executed before, and the entries in order. `import_journal` writes it as a journal's text, by version 2 of the format.
+//! `Reader` takes the text in pieces (`start`, `feed`, `finish`), and `read_log` is one `feed` and `finish`. A `Log` is the set that was
+//! executed before, by the first file, and the entries in order. `import_journal` writes it as a journal's text, by version 2 of the
+//! format.
 //!
-//! What a contract sees: `takes` says which kinds of lines may be in the body of which event, `take_content` what each adds, and `IsLog` that
-//! what the lines mean is what the entries say: GTIDs, rows with their operation, table and images, and commits. Nothing is dropped,
-//! doubled or moved (`entries_are_told`), and it makes no difference where a text is cut (`cut_anywhere`). A refusal names the first line
-//! that is refused.
+//! What a contract sees: `takes` defines which kinds of lines are allowed in the body of which event, `take_content` what each adds, and
+//! `IsLog` that what the lines mean is what the entries denote: GTIDs, rows with their operation, table and images, and commits. Nothing is
+//! dropped, doubled or moved (`entries_are_told`), and it makes no difference where a text is cut (`cut_anywhere`). A refusal names the
+//! first line that is refused.
 //!
 //! Rows are taken in the bodies of rows events alone, so what a statement's text prints is never taken for rows
 //! (`statements_hold_no_rows`). Statements, DDL, XA and partial row images are refused. A log is of one database. Columns that the server
 //! compares otherwise than by bytes are known from the log, and a key with such a column is refused unless the caller asks for bytes.
 //!
-//! Not proved: that mysqlbinlog tells the truth, and what was executed before the first file. Run by hand: 27 MB of two servers of MySQL
-//! 9.7 with 5,735 random transactions gave the rows that the servers have, at 120 MB/s.
+//! Not proved: that what mysqlbinlog prints is what the server logged, and what was executed before the first file. Run by hand: 27 MB of
+//! two servers of MySQL 9.7 with 5,735 random transactions gave the rows that the servers have, at 120 MB/s.
 #![tactic(auto)]
 
 mod as_journal;

@@ -62,7 +62,7 @@ impl Reader {
         }
     }
 
-    /// Takes the next piece. After an error every later call answers that error.
+    /// Takes the next piece. After an error every later call returns that error.
     pub fn feed(&mut self, alloc: Global, piece: &[u8]) -> Result<(), ReadFault>
         ensures next { IsAfter (IsPieceFault (progress self.old) piece.now) (progress self.new) (eats (progress self.old) piece.now) }
         ensures answer { result ≡ answer (progress self.new) }
@@ -179,7 +179,7 @@ fn read(alloc: Global, text: &[u8]) -> Result<Log, ReadFault>
 pub fn read_log(alloc: Global, text: &[u8]) -> Result<Log, ReadFault>
     // What the lines of the text mean, the entries denote.
     ensures found { IfOk result (λ log. IsLog text.now log.previous log.entries.items log.varied.items) }
-    // Which line is the first that is refused, and what is wrong with it.
+    // A refusal names the first line that is refused, and what is wrong with it.
     ensures refused { IfErr result (λ fault. Refuses fault text.now) }
     // The same, by the fold over the bytes.
     ensures exact { Ends (IsPieceFault start text.now) (Seen log_seen result) (closing (eats start text.now)) }

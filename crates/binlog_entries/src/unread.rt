@@ -1,4 +1,4 @@
-//! What a line that says nothing is refused for.
+//! The faults of lines without content.
 ghost use Rattle.std.specs.Prelude.{◌≡◌};
 ghost use Rattle.binlog_text.specs.Tokens.{cut_at};
 ghost use Rattle.binlog_entries.specs.Unread.{refusal_of_head, refusal_in, refusal_of};
@@ -48,7 +48,7 @@ fn refusal_in(body: Body, text: &[u8]) -> EntryRefusal
     }
 }
 
-/// What a line that says nothing is refused for, where it stands.
+/// The fault of a line without content, in the body where it is.
 pub fn refusal_of(body: Body, text: &[u8]) -> EntryRefusal
     ensures { result ≡ refusal_of body text.now }
 {

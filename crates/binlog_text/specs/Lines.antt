@@ -12,7 +12,7 @@ use Rattle.binlog_text.specs.declared.lines.Event.TheVariants as events
 use Rattle.binlog_text.specs.declared.lines.Mark.{Mark}
 use Rattle.binlog_text.specs.declared.lines.Mark.TheVariants as marks
 
--- ---- what a line says
+-- ---- the content of a line
 
 pub record Column : Type 0 where
   pub is_first : Bool
@@ -45,7 +45,7 @@ operation_text operations.Insert = codes "INSERT INTO "
 operation_text operations.Update = codes "UPDATE "
 operation_text operations.Delete = codes "DELETE FROM "
 
--- what the head of an event tells after its time and place, as far as its kind is told
+-- what the head of an event has after its time and place, as far as it determines the kind
 abbrev pub event_text : Event → List ℕ
 event_text events.Start = codes "Start: binlog v 4, "
 event_text events.PreviousGtids = codes "Previous-GTIDs"
@@ -180,7 +180,7 @@ IsMark marks.Comment line = (rest : List ℕ) × (line ≡ codes "# " ++ rest) �
 IsMark marks.Setting line = is_setting line ≡ true
 IsMark marks.Frame line = is_frame line ≡ true
 
--- the line says this
+-- this is the content of the line
 abbrev pub IsLine : Said → List ℕ → Type 0
 IsLine (OfMark mark) line = IsMark mark line
 IsLine (OfHead event) line = (stamp : List ℕ) × (rest : List ℕ) × (line ≡ 35 ∷ (stamp ++ 9 ∷ (event_text event ++ rest))) × IsStamp stamp

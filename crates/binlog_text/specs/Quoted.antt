@@ -99,7 +99,7 @@ abbrev pub go_on : Option (Mode × Option ℕ) → (Mode → Option (List ℕ)) 
 go_on None f = None
 go_on (Some t) f = with_byte t.1 (f t.0)
 
--- the bytes of which the rest of a string tells
+-- the bytes that the rest of a string shows
 abbrev pub read_quoted : Mode → List ℕ → Option (List ℕ)
 read_quoted mode [] = whole mode
 read_quoted mode (b ∷ bs) = go_on (next mode b) (λ m. read_quoted m bs)

@@ -146,7 +146,7 @@ plain_line text =
     else if is_frame text then Some (OfMark marks.Frame)
     else None)
 
--- what a line says
+-- the content of a line
 abbrev pub line_of : List ℕ → Option Said
 line_of text =
     branch (after_prefix (codes "### ") text) row_line (

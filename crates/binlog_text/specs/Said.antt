@@ -1,4 +1,4 @@
--- What a line that was read says.
+-- The content of a line that was read.
 use Rattle.std.specs.Prelude.{option_map}
 use Rattle.binlog_text.specs.Lines.{Said, OfMark, OfHead, OfTable, OfColumn, OfGtid, OfSources, OfRow, OfValue}
 use Rattle.binlog_text.specs.Lines as lines

@@ -1,18 +1,18 @@
 //! The text of MySQL's binary logs, a line at a time, as `mysqlbinlog -v --base64-output=decode-rows --print-table-metadata` of MySQL 9.7
 //! prints it.
 //!
-//! `read_line` says what a line says; `type_named` gives the type that the text of a column names; `read_value` reads a value of such a
+//! `read_line` gives the content of a line; `type_named` the type that the text of a column names; `read_value` reads a value of such a
 //! column.
 //!
 //! What a contract sees: `IsLine` is the grammar of lines, by the bytes of each kind. A line is read exactly where the grammar has it
-//! (`found`, `only`), so no line says two things, and a line that is none says nothing. A value is read exactly where its text is what
+//! (`found`, `only`), so a line has one content, and a line that is none has no content. A value is read exactly where its text is what
 //! mysqlbinlog prints of it (`shown_value`): whole numbers by both readings, which must agree; DECIMAL and TIMESTAMP by their digits; BIT
 //! and SET by their bits; strings and times by the bytes between the quotes, which have one spelling (`unquote`).
 //!
 //! Not read: FLOAT, DOUBLE, JSON, GEOMETRY and VECTOR, whose values are not printed whole; numbers from 2^63; names with a backquote or
 //! line feed.
 //!
-//! `compares_bytes` says whether the server takes two values of a column for equal exactly where their bytes are.
+//! `compares_bytes` decides whether the server takes two values of a column for equal exactly where their bytes are.
 //!
 //! Not proved: which lines may follow which (that is `binlog_entries`: a statement's text is printed raw and may hold any line), and that
 //! these are the lines of a server. That is tested by lines of MySQL 9.7.
@@ -40,7 +40,7 @@ mod tests {
     use row_images::write_value;
     use std::test::Fail;
 
-    /// Lines of MySQL 9.7's mysqlbinlog, each with the kind of what it says; `-` for those that say nothing.
+    /// Lines of MySQL 9.7's mysqlbinlog, each with the kind of its content; `-` for those without content.
     const LINES: &[(&[u8], u8)] = &[
         (b"# at 1461", b'm'),
         (
@@ -110,7 +110,7 @@ mod tests {
         }
     }
 
-    /// Types and values of the same text, and the word of what each is read as; `-` where it is none.
+    /// Types and values of the same text, and what each is read as, written as a word; `-` where it is none.
     const VALUES: &[(&[u8], &[u8], &str)] = &[
         (b"TINYINT", b"-1 (255)", "-1"),
         (b"SMALLINT UNSIGNED", b"-1 (65535)", "65535"),

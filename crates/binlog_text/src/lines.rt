@@ -1,4 +1,4 @@
-//! What a line says.
+//! The content of a line.
 
 /// What a row event does to its rows.
 #[derive(Clone, Copy, Debug, PartialEq, Eq)]
@@ -81,7 +81,7 @@ pub struct Column<'a> {
     pub is_first: bool,
     /// Its name, where the log has it.
     pub name: Option<&'a [u8]>,
-    /// Its type, with all that is said of it.
+    /// Its type, with all that the line has of it.
     pub column_type: &'a [u8],
     pub is_last: bool,
 }

@@ -238,7 +238,7 @@ fn table_map(text: &[u8]) -> Option<Line<'_>>
     Some(Line::TableMap(database, table))
 }
 
-/// The kind of an event, by what its head tells.
+/// The kind of an event, by its head.
 fn event(text: &[u8]) -> Option<Event>
     ensures { result ≡ event_of text.now }
 {
@@ -419,12 +419,12 @@ fn line_of(text: &[u8]) -> Option<Line<'_>>
     plain_line(text)
 }
 
-/// What a line says. A line that is none of mysqlbinlog's, or of which nothing is known, says nothing.
+/// The content of a line. A line that is none of mysqlbinlog's, or that is not known here, has none.
 pub fn read_line(text: &[u8]) -> Option<Line<'_>>
     ensures exact { option_map said result ≡ line_of text.now }
-    // What is read is what the line says.
+    // The result is the content that the grammar gives the line.
     ensures found { IfSome result (λ l. IsLine (said l) text.now) }
-    // What a line says is read.
+    // The content that the grammar gives a line is the result.
     ensures only { (l : Said) → IsLine l text.now → option_map said result ≡ Some l }
 {
     line_of(text)

@@ -1,4 +1,4 @@
-//! The types of columns, as far as they say how values are printed.
+//! The types of columns, as far as they determine how values are printed.
 
 /// A type of whole numbers.
 #[derive(Clone, Copy, Debug, PartialEq, Eq)]

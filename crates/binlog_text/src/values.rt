@@ -236,9 +236,9 @@ pub fn read_value(
     text: &[u8],
 ) -> Result<Option<Value>, AllocError>
     ensures exact { IfOk result (λ found. found ≡ value_at column text.now) }
-    // What is read is printed so.
+    // The text is what mysqlbinlog prints for the value.
     ensures found { IfOk result (λ found. IfSome found (λ v. shown_value column v ≡ Some text.now)) }
-    // What is printed so is read.
+    // What mysqlbinlog prints for a value is read as it.
     ensures only { IfOk result (λ found. (v : Value) → shown_value column v ≡ Some text.now → found ≡ Some v) }
 {
     value_at(alloc, column, text)
