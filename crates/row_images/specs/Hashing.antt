@@ -29,6 +29,6 @@ key_writes [] = row_writes []
 key_writes (value ∷ []) = value_writes value
 key_writes (value ∷ other ∷ values) = row_writes (value ∷ other ∷ values)
 
--- What an exact order ties is fed alike.
+-- Values that an exact order finds equal feed a hasher alike.
 pub alike_by : {A : Type 0} (f : A → HashWrites) {R : A → A → Ordering} → IsAntisymmetric R → (x y : A) → IsTrue (eq_by_cmp R x y) → f x ≡ f y
 alike_by f {R} exact x y e = ap f (exact x y (eq_of_test (R x y) e))

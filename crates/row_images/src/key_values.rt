@@ -11,7 +11,7 @@ use std::marker::Model;
 use std::slice;
 use std::sync::ArcSlice;
 
-/// The values of a key's columns, in the key's order. One value stands in place; a clone shares several.
+/// The values of a key's columns, in the key's order. One value is held in place; a clone shares several.
 pub struct KeyValues {
     held: HeldValues,
 }

@@ -178,7 +178,7 @@ impl Row {
         }
     }
 
-    /// Each value is one that its type has. (A fact about the type, for the proofs of callers.)
+    /// Each value is one that its type has. (For the proofs of callers.)
     pub fn keeps_rules(&self)
         ensures { AreValues self.now }
     {

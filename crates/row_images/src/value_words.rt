@@ -100,7 +100,7 @@ fn digit_of(byte: u8) -> u8
     DIGIT_VALUES[byte as usize]
 }
 
-/// Writes the bytes that lower-case digits parse as into the room, and says whether they parse as any.
+/// Writes the bytes that lower-case digits parse as into the room; whether they parse as any.
 fn pairs_into(digits: &[u8], room: &mut [u8]) -> bool
     requires { length digits.now ≡ 2 * length room.old }
     ensures lower { result ≡ list_all is_lower_digit digits.now }
@@ -116,7 +116,7 @@ fn pairs_into(digits: &[u8], room: &mut [u8]) -> bool
     lower
 }
 
-/// Writes the bytes that lower-case digits parse as into the room, and says whether they parse as any.
+/// Writes the bytes that lower-case digits parse as into the room; whether they parse as any.
 fn digits_into(digits: &[u8], room: &mut [u8]) -> bool
     requires { length room.old ≡ length digits.now / 2 }
     ensures { bytes_of digits.now ≡ (if result then Some room.new else None) }

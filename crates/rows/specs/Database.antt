@@ -18,7 +18,7 @@ pub record Database : Type 0 where
   pub schema : List Table
   pub rows : Rows
 
--- what the rows of a schema keep to
+-- the invariant of the rows of a schema
 pub record AreRowsOf (schema : List Table) (rows : Rows) : Type 0 where
   -- Under each key is a row that carries it, and each row is stored under every key that it carries.
   pub carriers : AreCarriers schema rows
@@ -31,7 +31,8 @@ NoTwoCarry schema rows =
     (p q k : Key) (a b : List Value) → get rows p ≡ Some a → get rows q ≡ Some b
     → is_among (carried_keys schema p.table a) k ≡ true → is_among (carried_keys schema q.table b) k ≡ true → a ≡ b
 
--- Under each key stands the after image of the last change that touches it, if that carries the key; else no row; and where no change touches it, what stood there.
+-- Under each key is the after image of the last change that touches it, if that carries the key; else no row; and where no change touches
+-- it, what was there.
 abbrev pub LeavesImages : List Table → Transaction → Rows → Rows → Type 0
 LeavesImages schema txn old new = (k : Key) → get new k ≡ unwrap_or (left_by schema txn k) (get old k)
 

@@ -9,12 +9,12 @@ use Rattle.rows.specs.Apply.{Rows, ◌>>=◌, inserted, deleted}
 use Rattle.rows.specs.Coding.{rows_code}
 use Rattle.rows.specs.Patch.{put}
 
--- what stood under each of these keys, put back, the last first
+-- what was under each of these keys, put back, the last first
 abbrev pub put_back : List Seen → Rows → Rows
 put_back [] rows = rows
 put_back (s ∷ log) rows = put s.key s.row (put_back log rows)
 
--- the rows that were made so far, and those that stood before
+-- the rows that were made so far, and those from before
 pub record Course : Type 0 where
   pub made : Rows
   pub before : Rows

@@ -34,7 +34,7 @@ pub record IsStillTrue (plan : Plan) (now : Database) : Type 0 where
 abbrev pub Applies : Sight → Transaction → Type 0
 Applies sight txn = (rows : Rows) → IsAsSeen sight.seen rows → IsOk (apply sight.schema txn rows)
 
--- what a patch keeps to
+-- the invariant of a patch
 pub record IsPrepared (schema : List Table) (txn : Transaction) (touches : List Touch) : Type 0 where
   pub fits : Fits schema txn
   pub patch : IsPatchOf schema txn touches

@@ -1,4 +1,4 @@
--- Which tables stand together in a schema.
+-- Which tables may be together in a schema.
 use Rattle.std.specs.Prelude.{◌≡◌, ◌≤◌, ℕ, Bool, true, not, ◌&&◌, ◌||◌, ◌==◌, nat_le, nat_lt, if◌then◌else◌, List, [], ◌∷◌, length, Option, Some, None, is_some}
 use Rattle.std.specs.List.{list_any, list_all}
 use Rattle.rows.specs.declared.schema.Table.{Table}
@@ -35,7 +35,7 @@ is_table table = has_column_lists table && is_within_limits table && has_its_col
 abbrev pub is_taken : List ℕ → List Table → Bool
 is_taken name tables = is_some (table_named name tables)
 
--- Why a table can't come after these: its lists of columns are asked first, then the limits, and then what it names.
+-- Why a table can't come after these: its lists of columns are tested first, then the limits, and then what it names.
 abbrev pub table_fault : List Table → Table → Option TableFault
 table_fault tables table =
     if not (has_column_lists table) then Some Body
@@ -48,7 +48,7 @@ abbrev pub are_named_once : List Table → Bool
 are_named_once [] = true
 are_named_once (table ∷ tables) = not (is_taken table.name tables) && are_named_once tables
 
--- what the tables of a schema keep to
+-- the invariant of the tables of a schema
 pub record AreTables (tables : List Table) : Type 0 where
   pub count : length tables ≤ 256
   pub each : list_all is_table tables ≡ true

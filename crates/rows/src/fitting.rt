@@ -76,7 +76,7 @@ fn images_misfit(table: &Table, change: &Change) -> Option<Misfit>
     }
 }
 
-/// The cause that is asked first.
+/// The cause that is tested first.
 fn first_cause(a: Option<Misfit>, b: Option<Misfit>) -> Option<Misfit>
     ensures { result ≡ first_cause a b }
 {
@@ -87,7 +87,7 @@ fn first_cause(a: Option<Misfit>, b: Option<Misfit>) -> Option<Misfit>
     }
 }
 
-/// The place of a cause in the order in which they are asked.
+/// The place of a cause in the order in which they are tested.
 fn rank(cause: Misfit) -> u8
     ensures { result ≡ rank cause }
 {

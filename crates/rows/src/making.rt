@@ -26,7 +26,7 @@ use std::marker::Model;
 #[derive(Drop)]
 pub(crate) struct Making {
     carriers: IndexMap<Key, Row>,
-    /// Each key that was written, in order, with what stood there.
+    /// Each key that was written, in order, with what was there.
     log: Vec<Seen>,
 }
 
@@ -58,7 +58,7 @@ fn make_room(carriers: &mut IndexMap<Key, Row>, log: &mut Vec<Seen>) -> Result<(
     carriers.reserve(log.as_slice().len() + 2)
 }
 
-/// Puts a row under a key. What stood there is given back.
+/// Puts a row under a key. The result is what was there.
 fn put_in_room(carriers: &mut IndexMap<Key, Row>, key: Key, row: Row) -> Option<Row>
     requires { 0 < spare carriers.old }
     ensures rows { map.from_entries {R = key_cmp} carriers.new.entries ≡ map.insert (map.from_entries carriers.old.entries) key row }
@@ -80,7 +80,7 @@ fn take_out(carriers: &mut IndexMap<Key, Row>, key: &Key) -> Option<Row>
     carriers.swap_remove(key)
 }
 
-/// Puts back what stood under a key.
+/// Puts back what was under a key.
 fn restore(carriers: &mut IndexMap<Key, Row>, seen: Seen)
     requires { 0 < spare carriers.old }
     ensures rows { map.from_entries {R = key_cmp} carriers.new.entries ≡ put seen.key seen.row (map.from_entries carriers.old.entries) }
@@ -97,7 +97,7 @@ fn restore(carriers: &mut IndexMap<Key, Row>, seen: Seen)
     }
 }
 
-/// Puts back what stood under each of these keys, the last first.
+/// Puts back what was under each of these keys, the last first.
 fn restore_all(carriers: &mut IndexMap<Key, Row>, log: Vec<Seen>)
     requires { length log.items ≤ spare carriers.old }
     ensures { map.from_entries {R = key_cmp} carriers.new.entries ≡ put_back log.items (map.from_entries carriers.old.entries) }
@@ -108,7 +108,7 @@ fn restore_all(carriers: &mut IndexMap<Key, Row>, log: Vec<Seen>)
     }
 }
 
-/// Notes what stood under a key.
+/// Notes what was under a key.
 fn note(log: &mut Vec<Seen>, seen: Seen)
     requires { length log.old.items < vec_capacity log.old }
     ensures { log.new.items ≡ log.old.items ++ seen ∷ [] }
@@ -157,7 +157,7 @@ impl Making {
         carriers
     }
 
-    /// The rows that stood before.
+    /// The rows as they were before.
     pub(crate) fn undo(self) -> IndexMap<Key, Row>
         ensures { map.from_entries {R = key_cmp} result.entries ≡ self.before }
     {
@@ -320,7 +320,7 @@ impl Making {
         }
     }
 
-    /// Makes changes in order. After a refusal some of them stand.
+    /// Makes changes in order. After a refusal some of them are made.
     pub(crate) fn make_all(
         &mut self,
         alloc: Global,

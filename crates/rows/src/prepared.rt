@@ -1,4 +1,4 @@
-//! Transactions that are prepared beside the rows, and installed where what they saw is still true.
+//! Transactions that are prepared beside the rows, and installed where the rows that they saw are unchanged.
 
 ghost use Rattle.std.specs.Prelude.{◌≡◌, IfOk};
 ghost use Rattle.rows.specs.Apply.{apply};
@@ -31,7 +31,7 @@ impl Model for Footprint {
     ghost view = { λ f. record { schema = f.schema; seen = f.seen.items } };
 }
 
-/// A transaction, what it saw, and the rows that stand afterwards.
+/// A transaction, the rows that it saw, and those that it leaves.
 #[derive(Drop)]
 pub struct Patch {
     pub(crate) schema: Schema,

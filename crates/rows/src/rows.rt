@@ -134,7 +134,7 @@ impl Rows {
         self.schema.is_equal(&other.schema) && self.carriers.is_equal(&other.carriers)
     }
 
-    /// Applies a transaction that the schema takes, wholly or not at all. The schema is not asked again.
+    /// Applies a transaction that the schema takes, wholly or not at all. This is not tested again.
     pub fn apply_fitting(&mut self, alloc: Global, txn: &Transaction) -> Result<(), PrepareFault>
         requires { Fits self.old.schema txn.now }
         ensures ok { OnOk result (apply self.old.schema txn.now self.old.rows ≡ Ok self.new.rows) }
@@ -179,7 +179,7 @@ impl Rows {
         Ok(Footprint { schema, seen })
     }
 
-    /// Does what a patch's transaction does, unless a table or a carrier is not as it was seen.
+    /// Does what a patch's transaction does, unless a table or a row is not as it was seen.
     pub fn install(&mut self, patch: Patch) -> Result<InstallOutcome, AllocError>
         ensures installed { result ≡ Ok InstallOutcome.Installed → IsStillTrue patch self.old }
         ensures applied { result ≡ Ok InstallOutcome.Installed → apply self.old.schema patch.txn self.old.rows ≡ Ok self.new.rows }

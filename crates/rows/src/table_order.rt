@@ -12,7 +12,7 @@ use std::cmp::Ordering;
 /// So many tables are looked at one by one; more are kept in order. Our own rule.
 const FEW: usize = 4;
 
-/// The table of a name, looked for by halves among those whose places are in order.
+/// The table of a name, found by binary search among those whose places are in order.
 pub(crate) fn search_by_halves<'a>(
     tables: &'a [Table],
     order: &[usize],
