@@ -44,7 +44,7 @@ abbrev pub IsRising : List ℕ → Type 0
 IsRising [] = ⊤
 IsRising (n ∷ ns) = AllByRecursion (λ m. n < m) ns × IsRising ns
 
--- the test by which the table tells keys apart
+-- the test by which the table compares keys
 abbrev pub same_key : Key → Key → Bool
 same_key a b = eq_by_cmp (slice_cmp nat_cmp) a.table b.table && (a.index == b.index && row_eq a.values b.values)
 

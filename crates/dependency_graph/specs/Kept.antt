@@ -13,7 +13,7 @@ use Rattle.dependency_graph.specs.declared.chains.Chains.{Chains}
 abbrev pub point_of : Node → Point
 point_of n = record { finished = n.finished; keys = n.keys.items }
 
--- the nodes, those that were dropped in front
+-- the nodes, those that were dropped first
 abbrev pub points : ℕ → List Node → List Point
 points before nodes = replicate before gone ++ map point_of nodes
 
@@ -84,11 +84,11 @@ pub record LowersAt (before : ℕ) (old new : List Node) (n : ℕ) : Type 0 wher
   pub at : node ≡ slice_index_or old (n - before) node
   pub is : new ≡ slice_set old (n - before) (record node { waits = node.waits - 1 })
 
--- an unfinished node that comes to the head of a chain counts that key
+-- an unfinished node that becomes the head of a chain counts that key
 abbrev pub CanRelease : ℕ → List Node → Option ℕ → Type 0
 CanRelease before nodes first = (n : ℕ) (x : Node) → first ≡ Some n → is_finished_at (points before nodes) n ≡ false → x ≡ slice_index_or nodes (n - before) x → 1 ≤ x.waits
 
--- an unfinished node that comes to the head of a chain counts one key less
+-- an unfinished node that becomes the head of a chain counts one key less
 pub record Releases (before : ℕ) (old new : List Node) (first : Option ℕ) : Type 0 where
   pub unfinished : (n : ℕ) → first ≡ Some n → is_finished_at (points before old) n ≡ false → LowersAt before old new n
   pub others : ((n : ℕ) → first ≡ Some n → is_finished_at (points before old) n ≡ true) → new ≡ old

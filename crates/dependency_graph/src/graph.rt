@@ -61,7 +61,7 @@ fn starts_finished(nodes: &VecDeque<Node>) -> bool
     }
 }
 
-/// The node is finished. So is each number where no node stands.
+/// The node is finished. A number without a node counts as finished.
 fn is_finished(dropped: usize, nodes: &VecDeque<Node>, node: usize) -> bool
     ensures { result ≡ is_finished_at (points dropped nodes.now.items) node }
 {
@@ -74,7 +74,7 @@ fn is_finished(dropped: usize, nodes: &VecDeque<Node>, node: usize) -> bool
     }
 }
 
-/// An unfinished node that comes to the head of a chain waits for one key less.
+/// An unfinished node that becomes the head of a chain waits for one key less.
 fn release(dropped: usize, nodes: &mut VecDeque<Node>, ready: &mut Ready, first: Option<usize>)
     requires { CanRelease dropped nodes.old.items first }
     ensures releases { Releases dropped nodes.old.items nodes.new.items first }

@@ -27,7 +27,7 @@ are_above id ss = list_all (λ s. nat_lt id s.source) ss
 abbrev pub are_below : ℕ → List Span → Bool
 are_below id ss = list_all (λ s. nat_lt s.source id) ss
 
--- sources rise, and each has a list with intervals
+-- sources are ascending, and each has a list with intervals
 pub record AreLists (p : PoolValue) (sources : List Source) (order : List ℕ) : Type 0 where
   pub places : are_places sources order ≡ true
   pub rising : are_ascending (sources_at sources order) ≡ true

@@ -61,7 +61,7 @@ have_own (s ∷ ss) = list_all (λ t. not (t.list == s.list)) ss && have_own ss
 abbrev pub lists_of : List Source → List ℕ
 lists_of ss = map (λ s. s.list) ss
 
--- Sources rise, and each has a list of its own, with intervals; the pool has no other lists.
+-- Sources are ascending, and each has a list of its own, with intervals; the pool has no other lists.
 pub record IsKeptIn (p : PoolValue) (sources : List Source) (order : List ℕ) : Type 0 where
   pub places : are_places sources order ≡ true
   pub as_many : length order ≡ length sources

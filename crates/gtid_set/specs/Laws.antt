@@ -66,7 +66,7 @@ SpellsOne = (text : List ℕ) (s t : Gtids) → SpellsSet text s → SpellsSet t
 abbrev pub CanonicalSpells : Type 0
 CanonicalSpells = (s : Gtids) → AreUsable s → SpellsSet (canonical s) s
 
--- what is spelled can be spelled canonically
+-- a set that has a text has a canonical text
 abbrev pub SpelledAgain : Type 0
 SpelledAgain = (text : List ℕ) (s : Gtids) → HaveSources s → SpellsSet text s → SpellsSet (canonical s) s
 
@@ -78,7 +78,7 @@ CanonicalTells = (s t : Gtids) → AreUsable s → AreUsable t → canonical s �
 abbrev pub AnswersSpelled : Type 0
 AnswersSpelled = (text : List ℕ) (s : Gtids) → set_in text ≡ Ok s → SpellsSet text s × ((source_count s ≤ most_sources) × (interval_count s ≤ most_intervals))
 
--- a text that parses as a set is answered that set, or that it has too many sources, or else too many intervals
+-- the answer to a text that parses as a set is that set, or that it has too many sources, or else too many intervals
 abbrev pub SpelledIsAnswered : Type 0
 SpelledIsAnswered = (text : List ℕ) (s : Gtids) → SpellsSet text s → source_count s ≤ most_sources → interval_count s ≤ most_intervals → set_in text ≡ Ok s
 

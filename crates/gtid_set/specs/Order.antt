@@ -40,7 +40,7 @@ pub record BeginsBelow (sources : List Source) (places : List ℕ) (id : ℕ) : 
   pub got : slice_get (sources_at sources places) 0 ≡ Some source
   pub below : nat_lt source.id id ≡ true
 
--- the block in which a source's seat is: all before are less, and not all of its own; or it is behind all blocks
+-- the block in which a source's seat is: all before are less, and not all of its own; or it is after all blocks
 pub record IsBlockOf (sources : List Source) (blocks : List (List ℕ)) (id b : ℕ) : Type 0 where
   pub before : are_below sources id (concat (take b blocks)) ≡ true
   pub ends : b < length blocks → HasFrom sources (block_at blocks b) id

@@ -11,7 +11,7 @@ use Rattle.gtid_set.specs.Sets.{Gtids}
 abbrev pub is_less : Gtid → Gtid → Bool
 is_less g h = nat_lt g.source h.source || ((g.source == h.source) && nat_lt g.number h.number)
 
--- a GTID at its place in a list that rises
+-- a GTID at its place in an ascending list
 abbrev pub place : Gtid → List Gtid → List Gtid
 place g [] = g ∷ []
 place g (h ∷ hs) = if is_less g h then g ∷ h ∷ hs else (if same_gtid g h then h ∷ hs else h ∷ place g hs)
@@ -28,7 +28,7 @@ run_before g (s ∷ ss) =
     if (s.source == g.source) && (s.lo == g.number + 1) then record { source = s.source; lo = g.number; hi = s.hi } ∷ ss
     else record { source = g.source; lo = g.number; hi = g.number } ∷ s ∷ ss
 
--- the runs of GTIDs that rise
+-- the runs of ascending GTIDs
 abbrev pub runs_of : List Gtid → List Span
 runs_of [] = []
 runs_of (g ∷ gs) = run_before g (runs_of gs)

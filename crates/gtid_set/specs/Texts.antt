@@ -17,7 +17,7 @@ use Rattle.gtid_set.specs.Full.{IsFullExactly, interval_count, most_intervals}
 abbrev pub SpellsSet : List ℕ → Gtids → Type 0
 SpellsSet text s = (spans : List Span) × Spells text spans × (set_of spans ≡ s)
 
--- a growth of memory was refused
+-- memory was refused
 abbrev pub WantsMemory : SetTextFault → Type 0
 WantsMemory (Text f) = f ≡ faults.Memory
 WantsMemory (Set f) = f ≡ Memory
@@ -46,7 +46,7 @@ set_from (Err fault) = Err (Text fault)
 unfoldable pub set_in : List ℕ → Result Gtids SetTextFault
 set_in text = set_from (answer (length text) (spans_in text))
 
--- what a function returned is the answer, unless memory ran out
+-- what a function returned is the answer, unless memory was refused
 abbrev pub GivesSet : Result Gtids SetTextFault → Result Gtids SetTextFault → Type 0
 GivesSet (Ok s) read = read ≡ Ok s
 GivesSet (Err f) read = WantsMemory f ⊎ (read ≡ Err f)

@@ -25,7 +25,7 @@ struct Place {
 pub struct Cursor<'a> {
     pool: &'a Pool,
     sources: &'a [Source],
-    // the places of the sources behind
+    // the places of the sources that follow
     behind: Places<'a>,
     at: Option<Place>,
 }

@@ -30,7 +30,7 @@ pub fn intersect_distributes()
     ensures of_difference { BothOfLess }
 {}
 
-/// A text parses as one set at most. The canonical text of a set parses as it, and tells it from every other.
+/// A text parses as one set at most. The canonical text of a set parses as it, and no two sets have the same.
 pub fn text_reads_back()
     ensures one { SpellsOne }
     ensures spells { CanonicalSpells }

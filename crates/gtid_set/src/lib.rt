@@ -6,14 +6,14 @@
 //! A set has at most 65,536 sources and 4,294,967,294 intervals; a call is refused for that exactly where its result would have more
 //! (`full`), and because an allocation failed only where the sources are not too many: `has_room_for` and `has_room_for_all` ask that without memory.
 //! Intervals are bounded by the edges of a set, the places where membership changes: what is made of two sets has no edge that neither of
-//! them has (`laws::intervals_add_up`), so the crates above say by edges where a set may be full.
+//! them has (`laws::intervals_add_up`), so the crates above state by edges where a set may be full.
 //!
-//! How it is kept: the intervals are in one pool (`interval_pool`), a list of merged intervals for each source; the sources stand as they
-//! came, and their places in order in blocks (`order`). A pass over two sets goes source by source, compares numbers alone, and writes the
-//! numbers of each source at once; its proof speaks of merged lists of spans. Where a source was last added to is a guess that is tested
+//! How it is kept: the intervals are in one pool (`interval_pool`), a list of merged intervals for each source; the sources are kept as
+//! they came, and their places in order in blocks (`order`). A pass over two sets goes source by source, compares numbers alone, and writes
+//! the numbers of each source at once; its proof is about merged lists of spans. Where a source was last added to is a guess that is tested
 //! where it is used. A text is parsed, its spans are sorted once, and the set is built once.
 //!
-//! Cost, by form and not by proof: `add`, `contains` and `run_end` take as many steps as the number of intervals has binary digits, a
+//! Cost, from the code and not proved: `add`, `contains` and `run_end` take as many steps as the number of intervals has binary digits, a
 //! source's next number a few; union, difference, intersection and the tests are one pass over both; a new source moves some hundred
 //! places of its block, two bytes each.
 #![tactic(auto)]
@@ -361,13 +361,13 @@ impl GtidSet {
 
     /// Reads the text of a set, whatever the order of its intervals.
     pub fn from_text(alloc: Global, text: &str) -> Result<GtidSet, SetTextFault>
-        // What is read is spelled so.
+        // An accepted text is a text of this set by the grammar.
         ensures found { IfOk result (λ s. SpellsSet text.now s) }
-        // What is spelled so is read, if memory and its sources allow.
+        // A text of a set by the grammar is accepted as it, if memory and its sources allow.
         ensures only { (s : Gtids) → SpellsSet text.now s → IsReadAs result s }
         // It is refused where the text parses as no set, or one with too many sources.
         ensures refused { IfErr result (λ fault. RefusesSet fault text.now) }
-        // Which refusal it is.
+        // The result is the defined one, also which refusal it is.
         ensures exact { GivesSet result (set_in text.now) }
     {
         let mut spans = match parse_spans(alloc, text) {

@@ -6,7 +6,7 @@ ghost use Rattle.gtid_set.specs.Order.{IsSeat, IsSettled, index_of};
 use std::alloc::{AllocError, Global};
 use std::marker::Model;
 
-/// A block of more places is cut in halves where one is put between them.
+/// A block of more places is split in two where one is put between them.
 const LONG: usize = 512;
 
 /// Some places, one after another in the order.
@@ -96,7 +96,7 @@ pub fn last_place(order: &[Block]) -> Option<u16>
     None
 }
 
-/// Cuts a block in halves, if there is memory.
+/// Splits a block in two, if there is memory.
 fn split_block(order: &mut Vec<Block>, at: usize)
     requires { at < length order.old.items }
     ensures { concat order.new.items ≡ concat order.old.items }

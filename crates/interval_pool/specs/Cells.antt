@@ -3,7 +3,7 @@ use Rattle.std.specs.Prelude.{ℕ, max, Bool, List, Option, Some, None, slice_se
 use Rattle.interval_pool.specs.declared.cells.Cell.{Cell}
 use Rattle.interval_pool.specs.declared.cells.Head.{Head}
 
--- what stands beyond the last cell, and the last chain
+-- what is beyond the last cell, and the last chain
 abbrev pub no_cell : Cell
 no_cell = record { lo = 0; hi = 0; next = None; owner = 0 }
 

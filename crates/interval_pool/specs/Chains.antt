@@ -1,4 +1,4 @@
--- Which cells stand in which chain.
+-- Which cells are in which chain.
 use Rattle.std.specs.Prelude.{◌≡◌, ◌≢◌, ℕ, ◌<◌, ◌⊎◌, ⊤, List, [], ◌∷◌, length, Option, Some, None, cond, ◌==◌}
 use Rattle.std.specs.List.{AllByRecursion}
 use Rattle.interval_pool.specs.declared.cells.Cell.{Cell}

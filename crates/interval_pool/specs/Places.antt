@@ -1,4 +1,4 @@
--- Where a number stands among the cells of a list.
+-- The place of a number among the cells of a list.
 use Rattle.std.specs.Prelude.{◌≡◌, ℕ, ◌+◌, ◌<◌, ◌≤◌, ⊤, List, [], ◌∷◌, ◌++◌, length, map, Option, Some, None}
 use Rattle.std.specs.List.{AllByRecursion}
 use Rattle.interval_pool.specs.declared.cells.Cell.{Cell}
@@ -56,7 +56,7 @@ abbrev pub TouchesEnd : List Cell → List Head → ℕ → Interval → Option 
 TouchesEnd cells heads k s None = ⊥
 TouchesEnd cells heads k s (Some i) = IsEnd cells heads k (Some i) × (((cell_at cells i).lo ≤ s.lo) × (s.lo ≤ (cell_at cells i).hi + 1))
 
--- they begin further behind it, or the list is empty
+-- they begin further after it, or the list is empty
 abbrev pub IsBehind : List Cell → List Head → ℕ → Interval → Option ℕ → Type 0
 IsBehind cells heads k s None = IsEnd cells heads k None
 IsBehind cells heads k s (Some i) = IsEnd cells heads k (Some i) × ((cell_at cells i).hi + 1 < s.lo)

@@ -66,7 +66,7 @@ fn touches_end(cells: &[Cell], list: u32, numbers: Interval, end: Link) -> bool
         && numbers.lo.saturating_sub(1) <= cells[at].hi
 }
 
-/// Whether numbers begin further behind the last cell of a list, or it is empty.
+/// Whether numbers begin further after the last cell of a list, or it is empty.
 fn is_behind(cells: &[Cell], heads: &[Head], list: u32, numbers: Interval, end: Link) -> bool
     ensures { IsTrue result → IsBehind cells.now heads.now list numbers end }
 {

@@ -332,7 +332,7 @@ impl Hints {
         }
     }
 
-    /// Whether the index is to be told of a change after a place: not where the cells lie one after another, and not where it is made anew.
+    /// Whether the index has to follow a change after a place: not where the cells lie one after another, and not where it is made anew.
     fn keeps_index(&mut self, cells: &[Cell], heads: &[Head], list: u32, place: Link) -> bool {
         let hints = self.of(list);
         let is_one = count(heads, list as usize) <= 1;

@@ -68,7 +68,7 @@ impl Link {
         self.code == 0
     }
 
-    /// The place right behind.
+    /// The next place.
     pub fn behind(self) -> Link
         ensures { (place : ℕ) → self ≡ Some place → place < most_cells → result ≡ Some (place + 1) }
     {

@@ -7,7 +7,7 @@ use crate::cells::{Cell, Head, after, cell_at, count};
 use crate::interval::{Interval, Joined, hull};
 use crate::link::Link;
 
-/// Whether a number stands further behind another than so many numbers.
+/// Whether a number is further after another than so many numbers.
 fn is_beyond(number: u64, hi: u64, reach: u64) -> bool
     ensures { result ≡ nat_lt (hi + reach) number }
 {

@@ -1,4 +1,4 @@
-//! Where a number stands among the cells of a list.
+//! The place of a number among the cells of a list.
 ghost use Rattle.std.specs.Prelude.{◌≡◌, ℕ, true, false, IfSome, IfNone, IsTrue, None};
 ghost use Rattle.std.specs.List.{Contains};
 ghost use Rattle.interval_pool.specs.Pools.{AreWhole, chain_of};

@@ -87,7 +87,7 @@ impl<'a> Walk<'a> {
         }
     }
 
-    /// Goes after the first interval, if there is one. Where the cell after it lies right behind, no link is followed.
+    /// Goes after the first interval, if there is one. Where the next cell is at the next place, no link is followed.
     #[inline(always)]
     pub fn advance(&mut self)
         ensures { self.new ≡ drop 1 self.old }
