@@ -8,6 +8,9 @@ pub trait Gate {
 
     /// The seat has committed this GTID.
     fn after_commit(&self, seat: u8, gtid: Gtid);
+
+    /// The seat has taken a ticket of another worker; it tries that place next.
+    fn after_steal(&self, seat: u8);
 }
 
 /// The gate that does nothing.
@@ -18,4 +21,6 @@ impl Gate for NoGate {
     fn before_prepare(&self, _seat: u8, _gtid: Gtid) {}
 
     fn after_commit(&self, _seat: u8, _gtid: Gtid) {}
+
+    fn after_steal(&self, _seat: u8) {}
 }

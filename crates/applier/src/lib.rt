@@ -14,7 +14,7 @@
 //! whether a ticket's place is still free.
 //!
 //! Not proved: that the workers get anything done, how many threads there are, and which of their faults is reported. That they run side
-//! by side is tested in `worked_gates`.
+//! by side, and steal one another's tickets, is tested in `worked_gates`.
 #![tactic(auto)]
 
 mod draining;

@@ -51,7 +51,8 @@ pub(crate) fn work<N: Naming, G: Gate, R: Wait>(
     let mut round = Round::new();
     release_owned(rt, alloc, replica, pass)?;
     for _ in rt.forever() {
-        let Some(ticket) = next_place(rt, replica, hand, me, &mut round) else {
+        let seat = pass.seat();
+        let Some(ticket) = next_place(rt, replica, gate, seat, hand, me, &mut round) else {
             return Ok(());
         };
         match try_place(rt, alloc, replica, gate, pass, &round, ticket) {
@@ -68,9 +69,11 @@ pub(crate) fn work<N: Naming, G: Gate, R: Wait>(
 }
 
 /// A ticket of its own, or else one of another worker, or else a place that is ready.
-fn next_place<N: Naming, R: Wait>(
+fn next_place<N: Naming, G: Gate, R: Wait>(
     rt: &R,
     replica: &SharedReplica<N>,
+    gate: &G,
+    seat: u8,
     hand: &mut Hand,
     me: usize,
     round: &mut Round,
@@ -80,7 +83,10 @@ fn next_place<N: Naming, R: Wait>(
     let ticket = match own {
         Some(ticket) => ticket,
         None => match steal_ticket(hand, me) {
-            Some(ticket) => ticket,
+            Some(ticket) => {
+                gate.after_steal(seat);
+                ticket
+            }
             None => round.look(rt, replica)?,
         },
     };

@@ -32,7 +32,7 @@ fn workers_run_at_once(rt: HostRuntime) -> Result<(), Fail> {
         committed: AtomicU64::new(0),
         met: AtomicU64::new(0),
     };
-    two_workers::<Brand, _>(&rt, alloc, Blanks::new(2), core, &gate)?;
+    two_workers::<Brand, _, _>(&rt, alloc, Blanks::new(2), core, &gate)?;
     assert_eq!(rt; gate.met.load(Ordering::SeqCst), 1);
     Ok(())
 }
@@ -57,13 +57,12 @@ pub(crate) fn closes_with_twenty<N: Naming>(
     }
 }
 
-fn two_workers<N: Naming + Send + Sync, R: Threads + Wait + Abort + Sync>(
-    rt: &R,
-    alloc: Global,
-    blanks: Blanks,
-    core: Core,
-    gate: &Meeting,
-) -> Result<(), Fail>
+/// Two workers commit the twenty, with this gate.
+pub(crate) fn two_workers<
+    N: Naming + Send + Sync,
+    G: Gate + Sync,
+    R: Threads + Wait + Abort + Sync,
+>(rt: &R, alloc: Global, blanks: Blanks, core: Core, gate: &G) -> Result<(), Fail>
     requires steps { (blanks.steps.name ≡ N.steps_name) × (blanks.steps.parts ≡ N.seats) }
     requires commits { (blanks.commits.name ≡ N.commits_name) × (blanks.commits.parts ≡ N.seats) }
     requires opening { core ≡ N.opening }
@@ -151,6 +150,8 @@ impl Gate for Meeting {
     fn after_commit(&self, _seat: u8, _gtid: Gtid) {
         self.committed.fetch_add(1, Ordering::SeqCst);
     }
+
+    fn after_steal(&self, _seat: u8) {}
 }
 
 /// A bundle of one channel that brings two transactions without a common key.

@@ -47,6 +47,8 @@ impl Gate for Assembly {
     fn after_commit(&self, seat: u8, _gtid: Gtid) {
         self.committed.fetch_or(mark_of(seat), Ordering::SeqCst);
     }
+
+    fn after_steal(&self, _seat: u8) {}
 }
 
 fn four_workers<N: Naming + Send + Sync, R: Threads + Wait + Abort + Sync>(

@@ -93,6 +93,8 @@ impl Gate for Marks {
     fn after_commit(&self, seat: u8, _gtid: Gtid) {
         self.of(seat).committed.fetch_add(1, Ordering::SeqCst);
     }
+
+    fn after_steal(&self, _seat: u8) {}
 }
 
 /// A channel is opened and positioned, and receives entries.
