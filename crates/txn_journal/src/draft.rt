@@ -13,7 +13,7 @@ use crate::fault::{Cause, LineFault};
 use crate::images::{image, table_at, two_images};
 use crate::lines::{Keyword, Place, Version, keyword_at};
 use crate::names::Names;
-use crate::numbers::beginning_at;
+use crate::numbers::{SpelledSource, beginning_at};
 use crate::timestamped_journal::TimestampedJournal;
 use gtid_set::GtidSet;
 use gtid_text::{Gtid, SourceId};
@@ -44,6 +44,8 @@ pub struct Draft {
     seen: GtidSet,
     /// How many entries have come, those that were taken too.
     count: u64,
+    /// The source of the last GTID.
+    near: SpelledSource,
     /// The entry that is open.
     gtid: Gtid,
     stamp: u64,
@@ -127,6 +129,7 @@ impl Draft {
             stamps: Vec::new(alloc),
             seen: GtidSet::empty(alloc),
             count: 0,
+            near: SpelledSource::zero(),
             gtid: Gtid {
                 source: SourceId::from_bits(0),
                 number: 0,
@@ -268,7 +271,8 @@ impl Draft {
     fn begin(&mut self, alloc: Global, rest: Option<&[u8]>) -> Result<(), LineFault>
         ensures { TakesLine IsFull result (txn_line (standing self.old) (option_map (λ r. r.now) rest.entry)) (standing self.new) }
     {
-        let beginning = beginning_at(alloc, self.gtid.source, self.version, self.count + 1, rest)?;
+        let place = self.count + 1;
+        let beginning = beginning_at(alloc, &mut self.near, self.version, place, rest)?;
         let gtid = beginning.gtid;
         if !is_number(gtid.number) {
             return Err(LineFault::Wrong(Cause::Body));

@@ -13,7 +13,6 @@ use gtid_text::{Gtid, SourceId};
 use journal_words::gtid_word;
 use row_images::{count, cut, is_count};
 use std::alloc::Global;
-use uuid::Uuid;
 
 /// The bytes of a source's text.
 const SOURCE_LEN: usize = 36;
@@ -51,51 +50,80 @@ impl Numbers<'_> {
     }
 }
 
-/// Whether a text is the one spelling of a source.
-fn spells_source(text: &[u8], source: SourceId) -> bool
-    ensures small { IsSource source }
-    ensures spelled { result ≡ true → text.now ≡ source_text source }
-{
-    let mut buffer = Uuid::encode_buffer();
-    let spelling = Uuid::from_u128(source.bits())
-        .hyphenated()
-        .encode_lower(&mut buffer);
-    spelling.as_bytes() == text
+/// A source, and its text.
+#[derive(Drop)]
+pub struct SpelledSource {
+    source: SourceId,
+    text: [u8; SOURCE_LEN],
+    ghost small: { IsSource source },
+    ghost spelled: { text ≡ source_text source },
 }
 
-/// The GTID of this source that the word parses as, where it does.
-fn gtid_of_source(word: &[u8], source: SourceId) -> Option<Gtid>
-    ensures { IfSome result (λ gtid. gtid_of_word word.now ≡ Some gtid) }
-{
-    if word.len() <= SOURCE_LEN {
-        return None;
+impl SpelledSource {
+    /// The source whose bits are all 0.
+    pub fn zero() -> SpelledSource {
+        SpelledSource {
+            source: SourceId::from_bits(0),
+            text: *b"00000000-0000-0000-0000-000000000000",
+        }
     }
-    let (front, back) = word.split_at(SOURCE_LEN);
-    if back[0] != b':' {
-        return None;
+
+    /// The source of a GTID, with its text in the word of the GTID.
+    fn of_word(gtid: &Gtid, word: &[u8]) -> Option<SpelledSource>
+        requires { gtid_of_word word.now ≡ Some gtid.now }
+    {
+        if word.len() <= SOURCE_LEN {
+            return None;
+        }
+        let (front, _back) = word.split_at(SOURCE_LEN);
+        let mut text = [0; SOURCE_LEN];
+        text.copy_from_slice(front);
+        Some(SpelledSource {
+            source: gtid.source,
+            text,
+        })
     }
-    if !spells_source(front, source) {
-        return None;
+
+    /// The GTID of this source that the word parses as, where it does.
+    fn gtid_in(&self, word: &[u8]) -> Option<Gtid>
+        ensures { IfSome result (λ gtid. gtid_of_word word.now ≡ Some gtid) }
+    {
+        if word.len() <= SOURCE_LEN {
+            return None;
+        }
+        let (front, back) = word.split_at(SOURCE_LEN);
+        if back[0] != b':' {
+            return None;
+        }
+        if front != self.text.as_slice() {
+            return None;
+        }
+        let number = count(&back[1..])?;
+        if number < 1 || number > MAX_NUMBER {
+            return None;
+        }
+        Some(Gtid {
+            source: self.source,
+            number,
+        })
     }
-    let number = count(&back[1..])?;
-    if number < 1 || number > MAX_NUMBER {
-        return None;
-    }
-    Some(Gtid { source, number })
 }
 
-/// The GTID that the word parses as. It is looked for as one of a source first, for GTIDs of one source often follow one
-/// another.
-fn gtid_in(alloc: Global, near: SourceId, word: &[u8]) -> Result<Gtid, LineFault>
+/// The GTID that the word parses as. It is looked for as one of the source that is near first, for GTIDs of one source often follow one
+/// another; its own source is near then.
+fn gtid_in(alloc: Global, near: &mut SpelledSource, word: &[u8]) -> Result<Gtid, LineFault>
     ensures { Finds (λ g. g) result (some_or_body (gtid_of_word word.now)) }
 {
-    if let Some(gtid) = gtid_of_source(word, near) {
+    if let Some(gtid) = near.gtid_in(word) {
         return Ok(gtid);
     }
-    match gtid_word(alloc, word)? {
-        Some(gtid) => Ok(gtid),
-        None => Err(LineFault::Wrong(Cause::Body)),
+    let Some(gtid) = gtid_word(alloc, word)? else {
+        return Err(LineFault::Wrong(Cause::Body));
+    };
+    if let Some(source) = SpelledSource::of_word(&gtid, word) {
+        *near = source;
     }
+    Ok(gtid)
 }
 
 fn numbers_in(rest: Option<&[u8]>) -> Result<Numbers<'_>, LineFault>
@@ -119,7 +147,7 @@ fn numbers_in(rest: Option<&[u8]>) -> Result<Numbers<'_>, LineFault>
 
 fn beginning_text(
     alloc: Global,
-    near: SourceId,
+    near: &mut SpelledSource,
     version: Version,
     place: u64,
     text: &[u8],
@@ -148,7 +176,7 @@ fn beginning_text(
 /// guess of the GTID's source.
 pub fn beginning_at(
     alloc: Global,
-    near: SourceId,
+    near: &mut SpelledSource,
     version: Version,
     place: u64,
     rest: Option<&[u8]>,
