@@ -5,7 +5,7 @@ ghost use Rattle.replica_core.specs.Machine as machine;
 ghost use Rattle.replica_core.specs.declared.event.Event.TheVariants as event;
 ghost use Rattle.network.specs.Machine.{is_for_network};
 ghost use Rattle.network.specs.Made.{MakesAt};
-ghost use Rattle.network.specs.Faults.{IsCauseAt};
+ghost use Rattle.network.specs.Faults.{IsCauseAt, HasRoomAt};
 ghost use Rattle.network.specs.Reading.{AreRead, AreAllMoved, IsReadFrom, entries_at};
 
 use crate::node::Node;
@@ -27,9 +27,21 @@ fn make_at(
     ensures ok { IfOk result (λ r. MakesAt nodes.old.items node event.now (λ n. n.sources) r nodes.new.items) }
     ensures err { OnErr result (nodes.new.items ≡ nodes.old.items) }
     ensures fault { IfErr result (λ f. IsCauseAt f nodes.old.items node event.now) }
+    ensures room { IfErr result (λ f. HasRoomAt f nodes.old.items node event.now) }
 {
     let one = &mut nodes[node];
     one.make(alloc, event)
+}
+
+/// The fault of an event of the node at a place where memory is refused before it.
+pub(crate) fn refusal_at(nodes: &[Node], node: usize, event: &Event) -> SetFault
+    ensures cause { IsCauseAt result nodes.now node event.now }
+    ensures room { HasRoomAt result nodes.now node event.now }
+{
+    match nodes.get(node) {
+        Some(one) => one.refusal(event),
+        None => SetFault::Memory,
+    }
 }
 
 /// How many entries the binary log of a node has.
@@ -67,6 +79,7 @@ pub(crate) fn act_at(
     ensures ok { IfOk result (λ r. MakesAt nodes.old.items node event.now (λ n. n.sources) r nodes.new.items) }
     ensures err { OnErr result (nodes.new.items ≡ nodes.old.items) }
     ensures fault { IfErr result (λ f. IsCauseAt f nodes.old.items node event.now) }
+    ensures room { IfErr result (λ f. HasRoomAt f nodes.old.items node event.now) }
     ensures read { AreRead nodes.new.items readers.new }
 {
     let before = entries_at(nodes, node);
@@ -92,6 +105,7 @@ pub(crate) fn position_at(
     ensures ok { IfOk result (λ r. MakesAt nodes.old.items node (event.Position channel) (λ n. finmap.insert n.sources channel source) r nodes.new.items) }
     ensures err { OnErr result (nodes.new.items ≡ nodes.old.items) }
     ensures fault { IfErr result (λ f. IsCauseAt f nodes.old.items node (event.Position channel)) }
+    ensures room { IfErr result (λ f. HasRoomAt f nodes.old.items node (event.Position channel)) }
     ensures read { AreRead nodes.new.items readers.new }
 {
     readers[node].forget(channel);
@@ -116,8 +130,12 @@ pub(crate) fn receive_at(
     ensures ok { IfOk result (λ r. MakesAt nodes.old.items node (event.Receive channel entry) (λ n. n.sources) r nodes.new.items) }
     ensures err { OnErr result (nodes.new.items ≡ nodes.old.items) }
     ensures fault { IfErr result (λ f. IsCauseAt f nodes.old.items node (event.Receive channel entry)) }
+    ensures room { IfErr result (λ f. HasRoomAt f nodes.old.items node (event.Receive channel entry)) }
     ensures read { AreRead nodes.new.items readers.new }
 {
-    readers[node].put(channel, place)?;
-    make_at(nodes, alloc, node, &Event::Receive(channel, entry))
+    let event = Event::Receive(channel, entry);
+    let Ok(()) = readers[node].put(channel, place) else {
+        return Err(refusal_at(nodes, node, &event));
+    };
+    make_at(nodes, alloc, node, &event)
 }

@@ -2,19 +2,18 @@
 ghost use Rattle.std.specs.Prelude.{◌≡◌, ◌<◌, ◌∷◌, [], ◌++◌, length, true, slice_get, IfOk, IfErr, IfSome, OnErr, IsOkUnless, None, vec_len, vec_capacity};
 ghost use Rattle.std.specs.Option.{option_copied, option_map};
 ghost use Rattle.gtid_set.specs.declared.fault.SetFault.TheVariants.{Memory};
-ghost use Rattle.gtid_set.specs.Full.{IsMemoryOr};
 ghost use Rattle.replica_core.specs.Machine as machine;
 ghost use Rattle.network.specs.Nodes.{new_nodes, ids_distinct};
 ghost use Rattle.network.specs.Machine.{step, is_numbered, AreNumbered, replies, after, answered_events};
-ghost use Rattle.network.specs.Faults.{IsEventCause, IsReadingCause, IsFaultAt};
+ghost use Rattle.network.specs.Faults.{IsEventCause, IsFaultAt, HasRoomIn, HasRoomNext};
 ghost use Rattle.network.specs.Next.{IsNext};
 ghost use Rattle.network.specs.declared.event.NetworkEvent.TheVariants.{Act, Position, Receive};
 
 use crate::event::{NetworkEvent, NetworkReply, is_for_network};
-use crate::making::{act_at, position_at, receive_at};
+use crate::making::{act_at, position_at, receive_at, refusal_at};
 use crate::node::Node;
 use crate::reader::Reader;
-use crate::reading::{next_place, start};
+use crate::reading::{next_place, refusal_to_receive, start};
 use auto_position::{PositionFault, plan};
 use gtid_set::SetFault;
 use gtid_text::SourceId;
@@ -124,6 +123,7 @@ impl Network {
         ensures ok { IfOk result (λ r. (r, self.new) ≡ step self.old (Act node event.now)) }
         ensures err { OnErr result (self.new ≡ self.old) }
         ensures fault { IfErr result (λ f. IsEventCause f self.old (Act node event.now)) }
+        ensures room { IfErr result (λ f. HasRoomIn f self.old (Act node event.now)) }
     {
         if node >= self.nodes.len() {
             return Ok(NetworkReply::NoNode);
@@ -146,6 +146,7 @@ impl Network {
         ensures ok { IfOk result (λ r. (r, self.new) ≡ step self.old (Position node channel source)) }
         ensures err { OnErr result (self.new ≡ self.old) }
         ensures fault { IfErr result (λ f. IsEventCause f self.old (Position node channel source)) }
+        ensures room { IfErr result (λ f. HasRoomIn f self.old (Position node channel source)) }
     {
         let Some(one) = self.nodes.get(node) else {
             return Ok(NetworkReply::NoNode);
@@ -156,6 +157,7 @@ impl Network {
         let Some(ask) = one.replica().ask(alloc, channel)? else {
             return Ok(NetworkReply::Replied(Reply::NoChannel));
         };
+        ask.keeps_limits();
         let own = from.replica().own();
         match plan(
             alloc,
@@ -186,7 +188,8 @@ impl Network {
     /// What a channel of a node has to receive.
     fn next(&self, alloc: Global, node: usize, channel: usize) -> Result<Next, SetFault>
         ensures ok { IfOk result (IsNext self.now node channel) }
-        ensures fault { IfErr result (λ f. IsMemoryOr ⊥ (IsReadingCause f self.now node channel) f) }
+        ensures fault { IfErr result (λ f. IsEventCause f self.now (Receive node channel)) }
+        ensures room { IfErr result (λ f. HasRoomIn f self.now (Receive node channel)) }
     {
         let Some(one) = self.nodes.get(node) else {
             return Ok(Next::Reply(NetworkReply::NoNode));
@@ -211,7 +214,10 @@ impl Network {
         journal.keeps_rules();
         let next = next_place(journal.entries(), place, asked, into.received());
         match journal.entries().get(next) {
-            Some(entry) => Ok(Next::Entry(next, entry.clone()?)),
+            Some(entry) => match entry.clone() {
+                Ok(copy) => Ok(Next::Entry(next, copy)),
+                Err(_) => Err(refusal_to_receive(into, entry)),
+            },
             None => Ok(Next::End(next)),
         }
     }
@@ -226,6 +232,7 @@ impl Network {
         ensures ok { IfOk result (λ r. (r, self.new) ≡ step self.old (Receive node channel)) }
         ensures err { OnErr result (self.new ≡ self.old) }
         ensures fault { IfErr result (λ f. IsEventCause f self.old (Receive node channel)) }
+        ensures room { IfErr result (λ f. HasRoomIn f self.old (Receive node channel)) }
     {
         match self.next(alloc, node, channel)? {
             Next::Reply(reply) => Ok(reply),
@@ -249,12 +256,14 @@ impl Network {
     }
 
     /// One event: its reply, and the nodes that it leaves. After an error nothing has changed. `SourcesFull` and `PoolFull` come only where
-    /// a set that the event makes would have more than 65,536 sources, or its operands together more than 4,294,967,294 intervals.
+    /// a set that the event makes would have more than 65,536 sources, or its operands together more than 4,294,967,294 intervals. `Memory`
+    /// comes only where that set has not too many sources (`room`), unless a Receive needs memory to find out what it receives.
     pub fn step(&mut self, alloc: Global, event: &NetworkEvent) -> Result<NetworkReply, SetFault>
         requires { is_numbered event.now ≡ true }
         ensures ok { IfOk result (λ r. (r, self.new) ≡ step self.old event.now) }
         ensures err { OnErr result (self.new ≡ self.old) }
         ensures fault { IfErr result (λ f. IsEventCause f self.old event.now) }
+        ensures room { IfErr result (λ f. HasRoomIn f self.old event.now) }
     {
         match event {
             NetworkEvent::Act { node, event } => self.act(alloc, *node, event),
@@ -264,6 +273,44 @@ impl Network {
                 source,
             } => self.position(alloc, *node, *channel, *source),
             NetworkEvent::Receive { node, channel } => self.receive(alloc, *node, *channel),
+        }
+    }
+
+    /// The fault of a Receive where memory is refused before it.
+    fn refusal_to_receive(&self, alloc: Global, node: usize, channel: usize) -> SetFault
+        ensures fault { IsEventCause result self.now (Receive node channel) }
+        ensures room { HasRoomIn result self.now (Receive node channel) }
+    {
+        match self.next(alloc, node, channel) {
+            Ok(Next::Entry(_, entry)) => {
+                refusal_at(&self.nodes, node, &Event::Receive(channel, entry))
+            }
+            Ok(Next::Reply(_)) => SetFault::Memory,
+            Ok(Next::End(_)) => SetFault::Memory,
+            Err(fault) => fault,
+        }
+    }
+
+    /// The fault of an event where memory is refused before it.
+    fn refusal(&self, alloc: Global, event: &NetworkEvent) -> SetFault
+        ensures fault { IsEventCause result self.now event.now }
+        ensures room { HasRoomIn result self.now event.now }
+    {
+        match event {
+            NetworkEvent::Act { node, event } => {
+                if is_for_network(event) {
+                    return SetFault::Memory;
+                }
+                refusal_at(&self.nodes, *node, event)
+            }
+            NetworkEvent::Position {
+                node,
+                channel,
+                source: _,
+            } => refusal_at(&self.nodes, *node, &Event::Position(*channel)),
+            NetworkEvent::Receive { node, channel } => {
+                self.refusal_to_receive(alloc, *node, *channel)
+            }
         }
     }
 }
@@ -292,11 +339,12 @@ impl Network {
         ensures whole { result.1 ≡ None → length result.0.items ≡ length events.now }
         ensures cut { IfSome result.1 (λ fault. length result.0.items < length events.now) }
         ensures fault { IfSome result.1 (λ f. IsFaultAt f self.new (slice_get events.now (length result.0.items))) }
+        ensures room { IfSome result.1 (λ f. HasRoomNext f self.new (slice_get events.now (length result.0.items))) }
     {
         let mut told = Vec::new(alloc);
         for event in events {
             if told.reserve(1).is_err() {
-                return (told, Some(SetFault::Memory));
+                return (told, Some(self.refusal(alloc, event)));
             }
             match self.step(alloc, event) {
                 Ok(reply) => put(&mut told, reply),

@@ -7,6 +7,7 @@ ghost use Rattle.replica_core.specs.declared.event.Event.TheVariants as event;
 ghost use Rattle.replica_core.specs.Faults.{IsCause};
 ghost use Rattle.network.specs.Nodes.{opened_node};
 ghost use Rattle.network.specs.Made.{Makes};
+ghost use Rattle.network.specs.Faults.{IsCauseBy, HasRoomBy};
 ghost use Rattle.network.specs.Reading.{reads};
 
 use crate::slots::{fill, make_slots, slot_at};
@@ -77,12 +78,21 @@ impl Node {
         }
     }
 
+    /// The fault of an event of the replica where memory is refused before it.
+    pub(crate) fn refusal(&self, event: &Event) -> SetFault
+        ensures cause { IsCauseBy result event.now self.now }
+        ensures room { HasRoomBy result event.now self.now }
+    {
+        self.core.refusal(event)
+    }
+
     /// The replica makes an event; its channels read the same nodes as before.
     pub(crate) fn make(&mut self, alloc: Global, event: &Event) -> Result<Reply, SetFault>
         requires { is_numbered event.now ≡ true }
         ensures ok { IfOk result (λ r. Makes self.old event.now self.old.sources r self.new) }
         ensures err { OnErr result (self.new ≡ self.old) }
         ensures fault { IfErr result (λ f. IsCause f self.old.replica.site self.old.replica.state event.now) }
+        ensures room { IfErr result (λ f. HasRoomBy f event.now self.old) }
     {
         self.core.step(alloc, event)
     }
@@ -97,8 +107,11 @@ impl Node {
         ensures ok { IfOk result (λ r. Makes self.old (event.Position channel) (finmap.insert self.old.sources channel source) r self.new) }
         ensures err { OnErr result (self.new ≡ self.old) }
         ensures fault { IfErr result (λ f. IsCause f self.old.replica.site self.old.replica.state (event.Position channel)) }
+        ensures room { IfErr result (λ f. HasRoomBy f (event.Position channel) self.old) }
     {
-        make_slots(&mut self.sources, channel)?;
+        let Ok(()) = make_slots(&mut self.sources, channel) else {
+            return Err(self.refusal(&Event::Position(channel)));
+        };
         let reply = self.core.step(alloc, &Event::Position(channel))?;
         fill(&mut self.sources, channel, source);
         Ok(reply)

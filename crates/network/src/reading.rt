@@ -1,10 +1,13 @@
 //! What a channel has of its source's binary log, and what it receives next.
-ghost use Rattle.std.specs.Prelude.{◌≡◌, ◌≤◌, false, true, length, take, IfOk, IfErr, MatchOption};
+ghost use Rattle.std.specs.Prelude.{◌≡◌, ◌≤◌, false, true, Some, length, take, IfOk, IfErr, MatchOption};
 ghost use Rattle.std.specs.List.{list_all};
 ghost use Rattle.std.specs.FinSet as set;
 ghost use Rattle.gtid_set.specs.Full.{HasManyIntervals, IsMemoryOr};
+ghost use Rattle.apply_channel.specs.Full.{gtids_with};
+ghost use Rattle.replica_core.specs.Faults.{IsFaultIn, HasRoomFor};
 ghost use Rattle.network.specs.Reading.{HasRead, IsNextPlace, IsRead, has_come};
 
+use apply_channel::Channel;
 use gtid_set::{GtidSet, SetFault};
 use gtid_text::Gtid;
 use journal::{Entry, Journal};
@@ -26,6 +29,7 @@ fn have_come(
 ) -> Result<bool, SetFault>
     ensures ok { IfOk result (λ b. b ≡ set.is_subset gtids.now (set.union asked.now received.now)) }
     ensures fault { IfErr result (IsMemoryOr ⊥ (HasManyIntervals (set.difference gtids.now asked.now))) }
+    ensures anew { IfErr result (λ f. set.is_subset gtids.now asked.now ≡ false) }
 {
     if gtids.is_subset(asked) {
         return Ok(true);
@@ -52,6 +56,18 @@ pub(crate) fn next_place(
     next
 }
 
+/// The fault of a Receive of an entry where memory is refused before it.
+pub(crate) fn refusal_to_receive(into: &Channel, entry: &Entry) -> SetFault
+    ensures cause { IsFaultIn result (Some (gtids_with entry.now into.now.channel)) }
+    ensures room { HasRoomFor result (Some (gtids_with entry.now into.now.channel)) }
+{
+    if into.received().has_room_for(&entry.gtid) {
+        SetFault::Memory
+    } else {
+        SetFault::SourcesFull
+    }
+}
+
 /// A place of a journal such that a channel has all entries before it, purged ones too: the one that is known, or else the first, if it
 /// has all that was purged.
 pub(crate) fn start(
@@ -64,6 +80,7 @@ pub(crate) fn start(
     requires { IsRead (set.union asked.now received.now) journal.now known }
     ensures ok { IfOk result (λ start. MatchOption start (set.is_subset journal.now.previous (set.union asked.now received.now) ≡ false) (HasRead (set.union asked.now received.now) journal.now)) }
     ensures fault { IfErr result (IsMemoryOr ⊥ (HasManyIntervals (set.difference journal.now.previous asked.now))) }
+    ensures anew { IfErr result (λ f. set.is_subset journal.now.previous asked.now ≡ false) }
 {
     if known.is_some() {
         return Ok(known);

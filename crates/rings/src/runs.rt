@@ -2,7 +2,7 @@
 ghost use Rattle.std.specs.Prelude.{◌≡◌, ◌<◌, [], ◌∷◌, true, length, slice_get, None, IfOk, IfErr, IfSome, OnErr};
 ghost use Rattle.network.specs.Machine as machine;
 ghost use Rattle.network.specs.Machine.{is_numbered, AreNumbered, replies, after, answered_events};
-ghost use Rattle.network.specs.Faults.{IsEventCause, IsFaultAt};
+ghost use Rattle.network.specs.Faults.{IsEventCause, IsFaultAt, HasRoomIn, HasRoomNext};
 ghost use Rattle.rings.specs.Rings.{LeavesMerged};
 
 use gtid_set::SetFault;
@@ -21,6 +21,7 @@ pub fn step(
     ensures merged { IfOk result (λ r. LeavesMerged network.old (event.now ∷ []) (r ∷ []) network.new) }
     ensures err { OnErr result (network.new ≡ network.old) }
     ensures fault { IfErr result (λ f. IsEventCause f network.old event.now) }
+    ensures room { IfErr result (λ f. HasRoomIn f network.old event.now) }
 {
     network.step(alloc, event)
 }
@@ -40,6 +41,7 @@ pub fn run(
     ensures whole { result.1 ≡ None → length result.0.items ≡ length events.now }
     ensures cut { IfSome result.1 (λ fault. length result.0.items < length events.now) }
     ensures fault { IfSome result.1 (λ f. IsFaultAt f network.new (slice_get events.now (length result.0.items))) }
+    ensures room { IfSome result.1 (λ f. HasRoomNext f network.new (slice_get events.now (length result.0.items))) }
 {
     network.run(alloc, events)
 }

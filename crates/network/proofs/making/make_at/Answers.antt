@@ -1,5 +1,5 @@
 use Rattle.rows.proofs.Lists.{if_ok}
-use Rattle.network.proofs.NetworkLemmas.{makes_at, faults_at}
+use Rattle.network.proofs.NetworkLemmas.{makes_at, faults_at, rooms_at}
 use Rattle.network.proofs.making.make_at.Goals as goal
 
 pub returns-clause-ok : goal.returns-clause-ok
@@ -9,3 +9,6 @@ returns-clause-ok c =
 
 pub returns-clause-fault : goal.returns-clause-fault
 returns-clause-fault c = faults_at c.args.nodes.now.items c.args.node c.index_mut-one.result.now c.args.event.now c.make.result c.requires.there c.index_mut-one.ensures.value c.make.ensures.fault
+
+pub returns-clause-room : goal.returns-clause-room
+returns-clause-room c = rooms_at c.args.nodes.now.items c.args.node c.index_mut-one.result.now c.args.event.now c.make.result c.requires.there c.index_mut-one.ensures.value c.make.ensures.room

@@ -5,7 +5,7 @@ use Rattle.network.specs.Reading.{AreRead}
 use Rattle.std.specs.FinMap as finmap
 use Rattle.replica_core.specs.declared.event.Event.TheVariants as event
 use Rattle.rows.proofs.Lists.{if_ok}
-use Rattle.network.proofs.NetworkLemmas.{makes_at, faults_at}
+use Rattle.network.proofs.NetworkLemmas.{makes_at, faults_at, rooms_at}
 use Rattle.network.proofs.ReadingLemmas.{position_keeps}
 use Rattle.network.proofs.making.position_at.Goals as goal
 
@@ -29,3 +29,6 @@ returns-clause-read c =
     subst (λ q. AreRead (slice_set N i c.position.new.self) (slice_set R i q)) (sym c.forget.ensures)
     (position_keeps N R i c.args.channel c.args.source x c.position.new.self p c.position.result
     (slice_get_read N (length N) i x refl c.requires.there c.index_mut-one.ensures.value) at c.position.ensures.ok c.position.ensures.err c.requires.read)
+
+pub returns-clause-room : goal.returns-clause-room
+returns-clause-room c = rooms_at c.args.nodes.now.items c.args.node c.index_mut-one.result.now (event.Position c.args.channel) c.position.result c.requires.there c.index_mut-one.ensures.value c.position.ensures.room
