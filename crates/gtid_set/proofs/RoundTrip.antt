@@ -23,7 +23,7 @@ use Rattle.gtid_set.specs.Sweep.{within}
 use Rattle.gtid_set.specs.Runs.{runs, canonical}
 use Rattle.gtid_set.specs.Full.{interval_count, most_intervals, HasManySources, HasManyIntervals}
 use Rattle.gtid_set.specs.Texts.{SpellsSet, check_size, set_from, set_in}
-use Rattle.gtid_set.specs.Laws.{AreUsable, HaveSources}
+use Rattle.gtid_set.specs.Laws.{AreUsable, HaveSources, HaveNumbers}
 use Rattle.gtid_set.proofs.SetLemmas.{contains-set_of}
 use Rattle.gtid_set.proofs.SpanLemmas.{merged_head}
 use Rattle.gtid_set.proofs.RunLemmas.{runs_are_merged, set_of_runs}
@@ -31,10 +31,10 @@ use Rattle.gtid_set.proofs.TextLemmas.{ReadSpans, same_read, given_set, given_fu
 use Rattle.std.proofs.lemmas.Bool.{or_left, or_right}
 
 -- a filled span has its first number and its last
-has_low : (s : Span) → s.lo ≤ s.hi → within s (gtid s.source s.lo) ≡ true
+pub has_low : (s : Span) → s.lo ≤ s.hi → within s (gtid s.source s.lo) ≡ true
 has_low s f = grind (arith, nat_tests)
 
-has_high : (s : Span) → s.lo ≤ s.hi → within s (gtid s.source s.hi) ≡ true
+pub has_high : (s : Span) → s.lo ≤ s.hi → within s (gtid s.source s.hi) ≡ true
 has_high s f = grind (arith, nat_tests)
 
 -- the spans of usable GTIDs are usable
@@ -112,7 +112,7 @@ between s q low high e = (above low.0, below high.1)
     below : s.hi ≤ 9223372036854775807 → q.number ≤ 9223372036854775807
     below a = grind (arith, nat_tests)
 
-member_numbered : (ss : List Span) (q : Gtid) → AreNumbered ss → has ss q ≡ true → IsNumbered q.number
+pub member_numbered : (ss : List Span) (q : Gtid) → AreNumbered ss → has ss q ≡ true → IsNumbered q.number
 member_numbered [] q n e = absurd cc
 member_numbered (s ∷ ss) q n e = split (within s q) refl (member_numbered ss q n.2)
   where
@@ -120,12 +120,13 @@ member_numbered (s ∷ ss) q n e = split (within s q) refl (member_numbered ss q
     split true w later = between s q n.0 n.1 w
     split false w later = later (sym (ap (λ b. b || has ss q) w) ∙ e)
 
+pub spelled_in_range : (text : List ℕ) (s : Gtids) → SpellsSet text s → HaveNumbers s
+spelled_in_range text s h g e =
+    member_numbered h.0 g (elements_numbered h.1.elements h.0 h.1.says) (sym (contains-set_of h.0 g) ∙ ap (λ t. set.contains t g) h.2 ∙ e)
+
 pub spelled_again : (text : List ℕ) (s : Gtids) → HaveSources s → SpellsSet text s → SpellsSet (canonical s) s
 spelled_again text s sources h =
-    canonical_spells s (λ g e. record {
-      source = sources g e;
-      number = member_numbered h.0 g (elements_numbered h.1.elements h.0 h.1.says) (sym (contains-set_of h.0 g) ∙ ap (λ t. set.contains t g) h.2 ∙ e);
-    })
+    canonical_spells s (λ g e. record { source = sources g e; number = spelled_in_range text s h g e })
 
 -- ---- the answer to a text
 

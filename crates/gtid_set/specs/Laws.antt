@@ -2,7 +2,7 @@
 use Rattle.std.specs.Prelude.{◌≡◌, ℕ, ◌≤◌, true, List, Ok, Err}
 use Rattle.std.specs.FinSet as set
 use Rattle.gtid_text.specs.declared.Gtid.{Gtid}
-use Rattle.gtid_text.specs.Written.{IsSource, IsUsable}
+use Rattle.gtid_text.specs.Written.{IsSource, IsNumbered, IsUsable}
 use Rattle.gtid_set.specs.declared.fault.SetFault.TheVariants.{PoolFull, SourcesFull}
 use Rattle.gtid_set.specs.declared.fault.SetTextFault.TheVariants.{Set}
 use Rattle.gtid_set.specs.Sets.{Gtids, source_count, most_sources}
@@ -58,6 +58,10 @@ AreUsable s = (g : Gtid) → set.contains s g ≡ true → IsUsable g
 abbrev pub HaveSources : Gtids → Type 0
 HaveSources s = (g : Gtid) → set.contains s g ≡ true → IsSource g.source
 
+-- each member's number is in range, 1 to 2^63 - 1, whatever its source
+abbrev pub HaveNumbers : Gtids → Type 0
+HaveNumbers s = (g : Gtid) → set.contains s g ≡ true → IsNumbered g.number
+
 -- a text parses as one set at most
 abbrev pub SpellsOne : Type 0
 SpellsOne = (text : List ℕ) (s t : Gtids) → SpellsSet text s → SpellsSet text t → s ≡ t
@@ -69,6 +73,10 @@ CanonicalSpells = (s : Gtids) → AreUsable s → SpellsSet (canonical s) s
 -- a set that has a text has a canonical text
 abbrev pub SpelledAgain : Type 0
 SpelledAgain = (text : List ℕ) (s : Gtids) → HaveSources s → SpellsSet text s → SpellsSet (canonical s) s
+
+-- a set that has a text has numbers in range
+abbrev pub SpelledInRange : Type 0
+SpelledInRange = (text : List ℕ) (s : Gtids) → SpellsSet text s → HaveNumbers s
 
 -- sets with one canonical text are one
 abbrev pub CanonicalTells : Type 0

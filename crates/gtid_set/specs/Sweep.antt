@@ -5,6 +5,7 @@ use Rattle.std.specs.FinSet as set
 use Rattle.std.specs.Ordering.{nat_cmp}
 use Rattle.gtid_text.specs.declared.Gtid.{Gtid}
 use Rattle.gtid_text.specs.declared.Span.{Span}
+use Rattle.gtid_text.specs.Written.{IsSource}
 use Rattle.gtid_set.specs.Sets.{gtid, covers}
 use Rattle.gtid_set.specs.Spans.{ends_before, is_before, is_merged, has}
 
@@ -147,3 +148,11 @@ is_kept source wanted other = if other == source then wanted else not wanted
 -- how many numbers a span has
 abbrev pub size_of : Span → ℕ
 size_of s = s.hi + 1 - s.lo
+
+-- the numbers of a span are in range, where it has one
+abbrev pub is_in_range : Span → Bool
+is_in_range s = nat_le 1 s.lo && nat_le s.hi 9223372036854775807
+
+-- the source of a span has 128 bits
+abbrev pub HasSource : Span → Type 0
+HasSource s = IsSource s.source

@@ -1,7 +1,7 @@
 //! Laws of sets of GTIDs and of their text.
 //!
 //! Each law is the contract of a function that does nothing.
-ghost use Rattle.gtid_set.specs.Laws.{UnionCommutes, UnionAssociates, UnionRepeats, UnionIsUpper, UnionIsLeast, UnionLess, LessUnion, LessBoth, BothOfUnion, BothOfLess, SpellsOne, CanonicalSpells, SpelledAgain, CanonicalTells, AnswersSpelled, SpelledIsAnswered, SpelledIsFull, SpelledIsCrowded};
+ghost use Rattle.gtid_set.specs.Laws.{UnionCommutes, UnionAssociates, UnionRepeats, UnionIsUpper, UnionIsLeast, UnionLess, LessUnion, LessBoth, BothOfUnion, BothOfLess, SpellsOne, CanonicalSpells, SpelledAgain, SpelledInRange, CanonicalTells, AnswersSpelled, SpelledIsAnswered, SpelledIsFull, SpelledIsCrowded};
 ghost use Rattle.gtid_set.specs.Edges.{EdgesAreChanges, EdgesAreTwice, EdgesOfUnion, EdgesOfDifference, EdgesOfIntersection, IntervalsOfUnion, IntervalsOfDifference, IntervalsOfIntersection, IntervalsOfInsert};
 
 /// Union depends neither on the order of the sets nor on how often one is named.
@@ -30,11 +30,12 @@ pub fn intersect_distributes()
     ensures of_difference { BothOfLess }
 {}
 
-/// A text parses as one set at most. The canonical text of a set parses as it, and no two sets have the same.
+/// A text parses as one set at most, whose numbers are in range. The canonical text of a set parses as it, and no two sets have the same.
 pub fn text_reads_back()
     ensures one { SpellsOne }
     ensures spells { CanonicalSpells }
     ensures again { SpelledAgain }
+    ensures numbers { SpelledInRange }
     ensures tells { CanonicalTells }
 {}
 

@@ -25,6 +25,7 @@ ghost use Rattle.gtid_set.specs.declared.fault.SetFault.TheVariants.{Memory, Sou
 ghost use Rattle.gtid_set.specs.Sets.{Gtids, IsRunEnd, gtid, interval, only, without, kept_sources, least_unused, most_sources, source_count};
 ghost use Rattle.gtid_set.specs.Spans.{set_of, is_merged, has};
 ghost use Rattle.gtid_set.specs.Runs.{runs, canonical};
+ghost use Rattle.gtid_set.specs.Laws.{HaveSources, HaveNumbers};
 ghost use Rattle.gtid_set.specs.Texts.{SpellsSet, RefusesSet, IsReadAs, GivesSet, set_in};
 ghost use Rattle.gtid_set.specs.Sweep.{is_sorted};
 ghost use Rattle.gtid_set.specs.BySource.{combination};
@@ -230,6 +231,21 @@ impl GtidSet {
         ensures intervals { interval_count self.now ≤ most_intervals }
     {
         self.spans.is_kept();
+    }
+
+    /// A law, which does nothing: the sources have 128 bits.
+    pub fn keeps_sources(&self)
+        ensures { HaveSources self.now }
+    {
+        single::sources_fit(self.spans.cursor());
+    }
+
+    /// Whether transactions may have the numbers of all GTIDs: 1 to 2^63 - 1. It does not allocate: one pass over the intervals.
+    pub fn are_numbers_in_range(&self) -> bool
+        ensures { IsTrue result ↔ HaveNumbers self.now }
+    {
+        self.spans.is_kept();
+        single::are_in_range(self.spans.cursor())
     }
 
     /// Whether the set has not too many sources once it has a GTID more. It does not allocate, and no more than the search for a source.

@@ -1,8 +1,10 @@
 //! One pass over one merged list of spans.
 ghost use Rattle.std.specs.Prelude.{if◌then◌else◌, ◌≡◌, true, ◌&&◌, OnOk, IfOk, ◌+◌, ◌-◌, ◌∷◌, ◌++◌, [], ◌<◌, ◌≤◌, length, sum_by};
 ghost use Rattle.gtid_set.specs.Spans.{is_merged, has};
-ghost use Rattle.gtid_set.specs.Sweep.{IsListOf, is_kept, size_of};
+ghost use Rattle.std.specs.List.{list_all, AllByRecursion};
+ghost use Rattle.gtid_set.specs.Sweep.{IsListOf, is_kept, size_of, is_in_range, HasSource};
 
+use crate::GREATEST;
 use crate::cursor::Cursor;
 use gtid_text::{SourceId, Span};
 use std::alloc::{AllocError, Global};
@@ -71,4 +73,43 @@ pub fn collect_spans(alloc: Global, spans: Cursor<'_>) -> Result<Vec<Span>, Allo
         rest.advance();
     }
     Ok(list)
+}
+
+/// Whether the numbers of a span are in range.
+fn is_in_range(span: &Span) -> bool
+    ensures { result ≡ is_in_range span.now }
+{
+    1 <= span.lo && span.hi <= GREATEST
+}
+
+/// Whether the numbers of all spans are in range.
+pub fn are_in_range(spans: Cursor<'_>) -> bool
+    ensures { result ≡ list_all is_in_range spans.entry }
+{
+    let mut rest = spans;
+    while let Some(span) = rest.peek() {
+        if !is_in_range(&span) {
+            return false;
+        }
+        rest.advance();
+    }
+    true
+}
+
+/// A law, which does nothing: the source of a span has 128 bits.
+fn source_fits(span: &Span)
+    ensures { HasSource span.now }
+{
+    let _bits = span.source.bits();
+}
+
+/// A law, which does nothing: the sources of spans have 128 bits.
+pub fn sources_fit(spans: Cursor<'_>)
+    ensures { AllByRecursion HasSource spans.entry }
+{
+    let mut rest = spans;
+    while let Some(span) = rest.peek() {
+        source_fits(&span);
+        rest.advance();
+    }
 }

@@ -1,5 +1,5 @@
-use Rattle.gtid_set.proofs.RoundTrip.{spells_one, canonical_spells, spelled_again, canonical_tells}
+use Rattle.gtid_set.proofs.RoundTrip.{spells_one, canonical_spells, spelled_again, spelled_in_range, canonical_tells}
 use Rattle.gtid_set.proofs.laws.text_reads_back.Goals as goal
 
 pub returns : goal.returns
-returns c = record { one = spells_one; spells = canonical_spells; again = spelled_again; tells = canonical_tells }
+returns c = record { one = spells_one; spells = canonical_spells; again = spelled_again; numbers = spelled_in_range; tells = canonical_tells }
