@@ -2,6 +2,7 @@
 use Rattle.std.specs.Prelude.{◌≡◌, true, false, List, [], ◌∷◌, map, ℕ, take}
 use Rattle.std.specs.List.{list_all}
 use Rattle.std.specs.FinSet as set
+use Rattle.gtid_set.specs.Laws.{HaveNumbers}
 use Rattle.gtid_set.specs.Sets.{Gtids}
 use Rattle.journal.specs.declared.Entry.{Entry}
 use Rattle.journal.specs.Writing.{is_writable}
@@ -27,7 +28,8 @@ abbrev pub AreNew : Gtids → List Entry → Type 0
 AreNew seen [] = Unit {0}
 AreNew seen (entry ∷ entries) = (set.contains seen entry.gtid ≡ false) × AreNew (set.insert seen entry.gtid) entries
 
--- what a journal keeps: no GTID occurs twice or in the previous set, and each entry can be written
+-- what a journal keeps: transactions may have the numbers of its previous set, no GTID occurs twice or in that set, and each entry can be written
 pub record IsJournal (previous : Gtids) (entries : List Entry) : Type 0 where
+  pub numbers : HaveNumbers previous
   pub new : AreNew previous entries
   pub writable : list_all is_writable entries ≡ true

@@ -5,7 +5,8 @@
 //! `Entry` shares its images.
 //!
 //! Kept by the type (`IsJournal`): no GTID is there twice or in the previous set, and each entry can be written as text: its number is 1
-//! to 2^63 - 1, it has at most 65,536 changes, images of 1 to 64 values, and values of at most 65,535 bytes.
+//! to 2^63 - 1, it has at most 65,536 changes, images of 1 to 64 values, and values of at most 65,535 bytes. The numbers of the previous
+//! set are 1 to 2^63 - 1 too.
 //!
 //! The contract of each call is one equation. `purged` and the like fail where memory is refused, or where a set that is made on the way
 //! is full (`fault`).
@@ -17,6 +18,7 @@ ghost use Rattle.std.specs.Prelude.{◌≡◌, ◌-◌, [], ◌∷◌, ◌++◌,
 ghost use Rattle.std.specs.List.{list_all, list_any};
 ghost use Rattle.gtid_text.specs.Gtids.{same_gtid};
 ghost use Rattle.std.specs.FinSet as set;
+ghost use Rattle.gtid_set.specs.Laws.{HaveNumbers};
 ghost use Rattle.journal.specs.Journals.{gtids_of, purged, whole, IsJournal};
 ghost use Rattle.journal.specs.Faults.{IsAddingFault, IsPurgedFault};
 ghost use Rattle.journal.specs.Writing.{is_value_writable, is_image_writable, is_change_writable, is_txn_writable, is_writable, is_number};
@@ -150,7 +152,7 @@ fn drop_front(entries: &mut Vec<Entry>, count: usize)
 }
 
 /// What was executed before, and the entries after it in order. No GTID occurs twice or in the
-/// previous set, and each entry can be written.
+/// previous set, transactions may have the numbers of that set, and each entry can be written.
 pub struct Journal {
     previous: GtidSet,
     entries: Vec<Entry>,
@@ -183,8 +185,9 @@ impl Model for Journal {
 }
 
 impl Journal {
-    /// A journal without entries after this set.
+    /// A journal without entries after this set, whose numbers are 1 to 2^63 - 1 (`GtidSet::are_numbers_in_range`).
     pub fn start(alloc: Global, previous: GtidSet) -> Journal
+        requires { HaveNumbers previous }
         ensures { result ≡ record { previous = previous; entries = [] } }
     {
         Journal {
@@ -263,8 +266,8 @@ impl Journal {
         &self.entries
     }
 
-    /// The type keeps the rules of a journal: no GTID occurs twice or in the previous set, and each entry can
-    /// be written. It does nothing; a proof calls it for its contract.
+    /// The type keeps the rules of a journal: no GTID occurs twice or in the previous set, transactions may have the numbers of
+    /// that set, and each entry can be written. It does nothing; a proof calls it for its contract.
     pub fn keeps_rules(&self)
         ensures { IsJournal self.now.previous self.now.entries }
     {

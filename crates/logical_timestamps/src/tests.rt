@@ -112,6 +112,7 @@ fn push_all(alloc: Global, journal: &mut Journal) -> Option<()> {
     Some(())
 }
 
+#[tactic(auto, using(journal::proofs::EntryLemmas::no_numbers))]
 fn numbers(alloc: Global) -> Option<Vec<u64>> {
     let schema = schema(alloc)?;
     let mut journal = Journal::start(alloc, GtidSet::empty(alloc));

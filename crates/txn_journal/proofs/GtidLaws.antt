@@ -25,7 +25,7 @@ use Rattle.row_images.proofs.ValueLaws.{where_same-again, where_same-found}
 use Rattle.std.proofs.lemmas.Option.{same_Some}
 use Rattle.gtid_text.proofs.Tokens.{own}
 use Rattle.gtid_text.proofs.Turns.{chosen}
-use Rattle.gtid_set.proofs.RoundTrip.{numbered}
+use Rattle.gtid_set.proofs.RoundTrip.{numbered, AreNumbered, member_numbered}
 use Rattle.std.specs.FinSet as set
 use Rattle.std.specs.Str.{bytes_eq}
 use Rattle.std.proofs.lemmas.Slice.Eq.{bytes_eq-Decides}
@@ -33,6 +33,8 @@ use Rattle.gtid_text.specs.declared.Span.{Span}
 use Rattle.gtid_text.proofs.Found.{read_spells}
 use Rattle.gtid_text.proofs.Spelled.{spells_read}
 use Rattle.gtid_set.specs.Sets.{Gtids}
+use Rattle.gtid_set.specs.Laws.{HaveNumbers}
+use Rattle.gtid_set.proofs.SetLemmas.{contains-set_of}
 use Rattle.gtid_set.specs.Spans.{set_of, is_before, is_merged}
 use Rattle.gtid_set.specs.Runs.{runs}
 use Rattle.gtid_set.proofs.RunLemmas.{runs_merged}
@@ -294,6 +296,14 @@ spans_word_lacks c (s ∷ ss) h dash u = all_weaker is_set_byte (λ b. not (eqb 
 
 pub set_no_feeds : (s : Gtids) → IsWrittenSet s → lacks 10 (set_text s) ≡ true
 set_no_feeds s h = spans_word_lacks 10 (runs s) set_no_feed refl h.usable
+
+-- a set that is written has numbers in range
+numbered_spans : (ss : List Span) → AreUsable ss → AreNumbered ss
+numbered_spans [] u = tt
+numbered_spans (s ∷ ss) u = (u.0.low, u.0.high, numbered_spans ss u.1)
+
+pub written_numbers : (s : Gtids) → IsWrittenSet s → HaveNumbers s
+written_numbers s w g e = member_numbered (runs s) g (numbered_spans (runs s) w.usable) (sym (contains-set_of (runs s) g) ∙ ap (λ (t : Gtids). set.contains t g) w.whole ∙ e)
 
 -- the empty set
 pub none_written : IsWrittenSet set.empty

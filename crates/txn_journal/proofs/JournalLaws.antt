@@ -15,6 +15,7 @@ use Rattle.rows.specs.declared.change.Change.TheVariants.{Insert, Delete, Update
 use Rattle.rows.specs.declared.schema.Table.{Table}
 use Rattle.journal.specs.declared.Entry.{Entry}
 use Rattle.journal.specs.Journals.{JournalValue, AreNew}
+use Rattle.journal.proofs.EntryLemmas.{no_numbers}
 use Rattle.journal.specs.Writing.{is_number, is_image_writable, is_change_writable, is_txn_writable, is_writable}
 use Rattle.row_images.specs.Values.{value_text}
 use Rattle.row_images.proofs.Counts.{lacks, is_count_decimal, count_again}
@@ -277,7 +278,7 @@ abbrev pub no_entries : JournalValue
 no_entries = record { previous = set.empty; entries = [] }
 
 pub no_entries_fit : IsWritten no_entries
-no_entries_fit = record { keeps = record { new = tt; writable = refl }; few = omega arith; previous = none_written; entries = tt }
+no_entries_fit = record { keeps = record { numbers = no_numbers; new = tt; writable = refl }; few = omega arith; previous = none_written; entries = tt }
 
 -- the entries after the lines so far, with the one that is open, and their numbers
 abbrev pub last_entries : Place → Standing → List Entry

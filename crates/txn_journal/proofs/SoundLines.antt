@@ -31,6 +31,7 @@ use Rattle.txn_journal.specs.declared.lines.Version.{Version}
 use Rattle.txn_journal.specs.declared.lines.Version.TheVariants.{One, Two}
 use Rattle.txn_journal.specs.Wordings.{Says}
 use Rattle.txn_journal.specs.Causes.{word_for, HasNumbers, PassesLimit, wording, HasCause}
+use Rattle.txn_journal.proofs.GtidLaws.{written_numbers}
 use Rattle.txn_journal.proofs.Judged.{if_both}
 use Rattle.txn_journal.proofs.WordLaws.{judged_both}
 use Rattle.txn_journal.proofs.LineReads.{body_of, put, judge_reads, rest_laws}
@@ -334,4 +335,4 @@ judged_line schema s line h =
     (λ l k. MatchResult-weaker (put schema s l) (keeps_at schema s.place s line l h k.due k) (λ t m. record { l = l; text = k.text; due = k.due; keeps = m }) (λ c m. m)))
 
 pub whole_written : (schema : Option (List Table)) (s : Standing) → Whole schema s → IsWritten s.journal
-whole_written schema s w = record { keeps = record { new = w.new; writable = w.writable }; few = omega (arith, w.few, w.counted); previous = w.previous; entries = w.fits }
+whole_written schema s w = record { keeps = record { numbers = written_numbers s.journal.previous w.previous; new = w.new; writable = w.writable }; few = omega (arith, w.few, w.counted); previous = w.previous; entries = w.fits }

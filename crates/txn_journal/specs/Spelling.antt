@@ -4,7 +4,6 @@ use Rattle.std.specs.List.{flat_map, AllByRecursion}
 use Rattle.gtid_text.specs.declared.Gtid.{Gtid}
 use Rattle.gtid_text.specs.Canonical.{gtid_text}
 use Rattle.gtid_text.specs.Written.{IsSource}
-use Rattle.gtid_set.specs.Laws.{AreUsable}
 use Rattle.gtid_set.specs.Sets.{Gtids}
 use Rattle.row_images.specs.declared.value.Value.{Value}
 use Rattle.rows.specs.declared.change.Change.{Change}
@@ -12,7 +11,6 @@ use Rattle.rows.specs.declared.change.Change.TheVariants.{Insert, Delete, Update
 use Rattle.rows.specs.Names.{is_name}
 use Rattle.journal.specs.declared.Entry.{Entry}
 use Rattle.journal.specs.Journals.{JournalValue, IsJournal}
-use Rattle.row_images.specs.Values.{value_text, FitsValue}
 use Rattle.txn_journal.specs.WrittenSets.{set_text, IsWrittenSet}
 use Rattle.row_images.specs.Images.{values_text, AreValues}
 use Rattle.txn_journal.specs.Lines.{Numbers}
@@ -117,10 +115,9 @@ pub record IsWritten (j : JournalValue) : Type 0 where
   pub previous : IsWrittenSet j.previous
   pub entries : AllByRecursion FitsEntry j.entries
 
--- what a journal's type leaves open and its text asks for: no more entries than it may have, and a previous set of GTIDs that transactions may have
-pub record MayBeWritten (j : JournalValue) : Type 0 where
-  pub few : length j.entries ≤ 4294967294
-  pub previous : AreUsable j.previous
+-- what a journal's type leaves open and its text asks for: no more entries than a text may have
+abbrev pub HasFewEntries : JournalValue → Type 0
+HasFewEntries j = length j.entries ≤ 4294967294
 
 -- what denotes the last_committed of the entry at a place, which in version 2 is below it
 abbrev pub IsStamp : Version → ℕ → ℕ → Type 0

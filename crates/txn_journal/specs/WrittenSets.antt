@@ -1,8 +1,8 @@
 -- The one word of a set.
-use Rattle.std.specs.Prelude.{◌≡◌, ℕ, Bool, true, ◌&&◌, nat_le, List, [], ◌∷◌, codes}
+use Rattle.std.specs.Prelude.{◌≡◌, ℕ, true, List, [], ◌∷◌, codes}
 use Rattle.gtid_text.specs.declared.Span.{Span}
 use Rattle.gtid_text.specs.Canonical.{spans_text}
-use Rattle.gtid_text.specs.Written.{IsSource, AreUsable}
+use Rattle.gtid_text.specs.Written.{AreUsable}
 use Rattle.gtid_set.specs.Sets.{Gtids}
 use Rattle.gtid_set.specs.Spans.{set_of, is_merged}
 use Rattle.gtid_set.specs.Runs.{runs}
@@ -21,10 +21,3 @@ pub record IsWrittenSet (s : Gtids) : Type 0 where
   pub merged : is_merged (runs s) ≡ true
   pub usable : AreUsable (runs s)
   pub whole : set_of (runs s) ≡ s
-
--- an interval of numbers that transactions may have
-abbrev pub is_usable_span : Span → Bool
-is_usable_span s = nat_le 1 s.lo && (nat_le s.lo s.hi && nat_le s.hi 9223372036854775807)
-
-abbrev pub HasSource : Span → Type 0
-HasSource s = IsSource s.source

@@ -27,8 +27,8 @@ use std::mem;
 /// The greatest number of changes of a transaction.
 const MAX_CHANGES: usize = 65_536;
 
-/// The greatest number of entries of a journal.
-const MAX_ENTRIES: u64 = 4_294_967_294;
+/// The greatest number of entries of a journal's text. Our own limit.
+pub const MAX_ENTRIES: u64 = 4_294_967_294;
 
 /// A journal as far as its lines have come.
 #[derive(Drop)]

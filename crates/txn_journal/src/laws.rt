@@ -8,7 +8,7 @@ ghost use Rattle.journal.specs.Journals.{JournalValue};
 ghost use Rattle.txn_journal.specs.Machine.{Standing};
 ghost use Rattle.txn_journal.specs.Stream.{Progress};
 ghost use Rattle.txn_journal.specs.Reading.{Stamped, stamped_of, without_entries, behind_entries, closing, WrittenJournal, IsWrittenAs, with_front, HasBegun, EatsBehind};
-ghost use Rattle.txn_journal.specs.Spelling.{IsWritten, MayBeWritten, WritesAs, Writes};
+ghost use Rattle.txn_journal.specs.Spelling.{IsWritten, WritesAs, Writes};
 ghost use Rattle.txn_journal.specs.Timestamped.{with_timestamps, HasText, IsReadBack};
 ghost use Rattle.txn_journal.specs.declared.lines.Version.{Version};
 ghost use Rattle.txn_journal.specs.declared.lines.Version.TheVariants.{One, Two};
@@ -54,10 +54,4 @@ pub fn upgraded()
 pub fn timestamped_read_back()
     ensures text { (tables : List Table) (j : JournalValue) → IsWritten j → HasText (with_timestamps tables j) }
     ensures read { (tables : List Table) (j : JournalValue) → IsWritten j → IsReadBack (with_timestamps tables j) }
-{}
-
-/// A journal that was read may be written, and so may each journal that can be in a text.
-pub fn read_may_be_written()
-    ensures read { (bytes : List ℕ) (j : JournalValue) → Writes bytes j → MayBeWritten j }
-    ensures written { (j : JournalValue) → IsWritten j → MayBeWritten j }
 {}

@@ -10,8 +10,8 @@
 //! gives that fault. A text has one value (`one_spelling`, `one_bundle`).
 //!
 //! What is written is a text of its value by the grammar (`writes`). For a bundle this always holds: its type keeps what the grammar
-//! requires (`Bundle::keeps_rules`). For a journal it holds where `may_be_written` does: a `Journal` may have more entries than a text, and
-//! a previous set of numbers that no transaction has. It holds for what was read, and for a bundle's journals (`read_may_be_written`).
+//! requires (`Bundle::keeps_rules`). For a journal it holds where it has at most `MAX_ENTRIES` entries, the one limit of a text that the
+//! type `Journal` doesn't keep. What was read has no more, nor have a bundle's journals (`IsWritten`).
 //!
 //! One theory serves journals and bundles: a record `Format` has the content of lines, the judge of lines and the last line, and both
 //! formats are values of it (`specs/Formats`). Version 2 is another judge and no other theory.
@@ -42,11 +42,10 @@ mod writer;
 pub use bundle::{Bundle, Channel};
 pub use bundle_reader::{BundleReader, any_cut_of_bundles, decode_bundle, decode_bundle_v1};
 pub use bundle_writer::{bundle_text_v2, encode_bundle_v2};
+pub use draft::MAX_ENTRIES;
 pub use fault::{Cause, JournalFault};
-pub use fitting::may_be_written;
 pub use laws::{
-    one_bundle, one_spelling, read_may_be_written, rows_in_listed_order, taken_in_front,
-    timestamped_read_back, upgraded,
+    one_bundle, one_spelling, rows_in_listed_order, taken_in_front, timestamped_read_back, upgraded,
 };
 pub use reader::{Reader, any_cut, decode, decode_v2};
 pub use timestamped_journal::TimestampedJournal;

@@ -1,4 +1,6 @@
-use Rattle.std.proofs.Common.{refl, sym, ap, arith, ◌∙◌}
+use Rattle.std.proofs.Common.{refl, sym, ap, subst, arith, ◌∙◌}
+use Rattle.gtid_set.specs.Laws.{HaveNumbers}
+use Rattle.journal.proofs.EntryLemmas.{no_numbers}
 use Rattle.txn_journal.proofs.Seen.{seen_start, of_set}
 use Rattle.txn_journal.proofs.draft.Draft.start.Goals as goal
 
@@ -9,3 +11,6 @@ invariant_of-result c = record {
   writable = rw c.new-2.ensures.items refl;
   few = omega arith;
 }
+
+pub start-requires : goal.start-requires
+start-requires c = subst HaveNumbers (sym c.empty.ensures) no_numbers
