@@ -19,6 +19,7 @@ ghost use Rattle.std.specs.Option.{option_copied};
 ghost use Rattle.std.specs.FinSet as set;
 ghost use Rattle.journal.specs.Journals.{purged, whole};
 ghost use Rattle.gtid_set.specs.Full.{IsFullExactly};
+ghost use Rattle.gtid_set.specs.Laws.{HaveNumbers};
 ghost use Rattle.gtid_set.specs.declared.fault.SetFault.TheVariants.{Memory};
 ghost use Rattle.journal.specs.Writing.{is_writable};
 ghost use Rattle.relay.specs.Own.{without_last, with_last, purge_to, IsTooMany, IsPurgeFault};
@@ -163,8 +164,9 @@ impl Model for OwnJournal {
 }
 
 impl OwnJournal {
-    /// An own journal without entries, after this purged set.
+    /// An own journal without entries, after this purged set, whose numbers are 1 to 2^63 - 1 (`GtidSet::are_numbers_in_range`).
     pub fn start(alloc: Global, purged: GtidSet) -> Result<OwnJournal, SetFault>
+        requires { HaveNumbers purged }
         ensures ok { IfOk result (λ o. o.journal ≡ record { previous = purged; entries = [] }) }
         ensures fault { IsOkUnless result Memory }
     {
@@ -299,9 +301,9 @@ fn copy_journal(alloc: Global, journal: &Journal) -> Result<Journal, SetFault>
     ensures ok { IfOk result (λ copy. copy ≡ journal.now) }
     ensures fault { IsOkUnless result Memory }
 {
+    journal.keeps_rules();
     let previous = journal.previous().copy(alloc)?;
     let mut copy = Journal::start(alloc, previous);
-    journal.keeps_rules();
     for entry in journal.entries() {
         let entry = entry.clone()?;
         copy.push(entry)?;
