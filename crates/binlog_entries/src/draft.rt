@@ -1,5 +1,6 @@
 //! Entries as far as the lines have come.
 ghost use Rattle.std.specs.Prelude.{◌≡◌, length, IfOk, option_map};
+ghost use Rattle.gtid_set.specs.Laws.{HaveNumbers};
 ghost use Rattle.binlog_entries.specs.Machine.{Finds};
 
 use crate::bodies::{Body, kind_of, next_body};
@@ -46,12 +47,13 @@ pub enum Part {
 /// What a binary log describes.
 #[derive(Drop)]
 pub struct Log {
-    /// The set that was executed before, by its first file.
+    /// The set that was executed before, by its first file. Its numbers are 1 to 2^63 - 1.
     pub previous: GtidSet,
     /// Its entries, in order.
     pub entries: Vec<Entry>,
     /// The columns whose values the server compares otherwise than their bytes.
     pub varied: Vec<Varied>,
+    ghost numbers: { HaveNumbers previous },
 }
 
 /// The entries of a binary log, as far as its lines have come.
@@ -85,6 +87,7 @@ pub struct Draft {
     entries: Vec<Entry>,
     /// Columns whose values the server compares otherwise than their bytes.
     varied: Vec<Varied>,
+    ghost numbers: { HaveNumbers previous },
 }
 
 impl Draft {
@@ -95,6 +98,7 @@ impl Draft {
     ghost use Rattle.binlog_entries.specs.Drafts.{standing};
 
     /// Before the first line.
+    #[tactic(auto, using(journal::proofs::EntryLemmas::no_numbers))]
     pub fn start(alloc: Global) -> Draft
         ensures { standing result ≡ start }
     {

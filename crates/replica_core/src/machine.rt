@@ -1,5 +1,6 @@
 //! A replica.
 ghost use Rattle.std.specs.Prelude.{◌≡◌, ◌≤◌, IfOk, IsOkUnless};
+ghost use Rattle.gtid_set.specs.Laws.{HaveNumbers};
 ghost use Rattle.gtid_set.specs.declared.fault.SetFault.TheVariants.{Memory};
 ghost use Rattle.std.specs.FinMap as finmap;
 ghost use Rattle.replica_core.specs.State.{gtid_at, owned_by, owner, owns};
@@ -93,6 +94,7 @@ fn no_seats() -> [Option<Spot>; 64]
 
 impl Core {
     /// A replica with these rows, an empty executed set and no channel.
+    #[tactic(auto, using(journal::proofs::EntryLemmas::no_numbers))]
     pub fn open(alloc: Global, own: SourceId, rows: Rows) -> Result<Core, SetFault>
         ensures ok { IfOk result (λ core. core ≡ new_replica own rows) }
         ensures fault { IsOkUnless result Memory }
@@ -101,14 +103,15 @@ impl Core {
     }
 
     /// A replica that begins with a snapshot: these rows, and the set of the GTIDs whose transactions they hold, which are executed
-    /// and purged. It has no channel. (`gtid_purged` of a restored dump, MySQL 8.0 Reference Manual, "Replication Options and Variables":
-    /// the GTIDs are in `gtid_executed`, and in no binary log.)
+    /// and purged; their numbers are 1 to 2^63 - 1 (`GtidSet::are_numbers_in_range`). It has no channel. (`gtid_purged` of a restored
+    /// dump, MySQL 8.0 Reference Manual, "Replication Options and Variables": the GTIDs are in `gtid_executed`, and in no binary log.)
     pub fn open_snapshot(
         alloc: Global,
         own: SourceId,
         rows: Rows,
         executed: GtidSet,
     ) -> Result<Core, SetFault>
+        requires { HaveNumbers executed }
         ensures ok { IfOk result (λ core. core ≡ new_replica_with own rows executed) }
         ensures fault { IsOkUnless result Memory }
     {
