@@ -403,7 +403,8 @@ impl Draft {
         requires gtid { entry.gtid ≡ (standing self.old).gtid }
         requires writable { is_writable entry ≡ true }
         requires taken { (standing self.old).changes ≡ [] }
-        ensures { TakesLine IsFull result (Ok (join_entry (standing self.old) entry)) (standing self.new) }
+        ensures line { TakesLine IsFull result (Ok (join_entry (standing self.old) entry)) (standing self.new) }
+        ensures room { IsRefusedWhereFull IsFull result (Ok (join_entry (standing self.old) entry)) }
     {
         self.place = Place::Between;
         self.seen.add(entry.gtid)?;
