@@ -70,7 +70,7 @@ judged_makes schema s line =
     (λ l k. MatchResult-weaker (put schema s l) (put_makes schema s line l k) (λ t m. record { l = l; text = k.text; due = k.due; makes = m }) (λ c m. m)))
 
 -- the line that ends an entry, where one is open
-abbrev ends : Place → List ℕ → Bool
+abbrev pub ends : Place → List ℕ → Bool
 ends place line = is_within place && bytes_eq line (codes "end")
 
 no_end : (place : Place) (line : List ℕ) → line ≡ line_text End → is_due place (word_for End) ≡ true → ends place line ≡ true
@@ -130,17 +130,17 @@ writers_stay version tables s t line kept none e begun h writers is = h writers 
 
 -- ---- a line that ends no entry
 
-abbrev ended_or_not : BundleStanding → Standing → Bool → BundleStanding
+abbrev pub ended_or_not : BundleStanding → Standing → Bool → BundleStanding
 ended_or_not s d v = cond v (close_channel s d) (record s { draft = d })
 
 inner_again : (s : BundleStanding) (d : Standing) (v : Bool) → ended_or_not (record s { draft = d }) d v ≡ ended_or_not s d v
 inner_again s d true = refl
 inner_again s d false = refl
 
-abbrev go_on : BundleStanding → Standing → Result BundleStanding Cause
+abbrev pub go_on : BundleStanding → Standing → Result BundleStanding Cause
 go_on s d = done (after_inner s d)
 
-judged_on : (s : BundleStanding) (d : Standing) (line : List ℕ) → ends s.draft.place line ≡ false → judge (Some s.bundle.start.schema) s.draft line ≡ Ok d → judge_inner true s line ≡ go_on s d
+pub judged_on : (s : BundleStanding) (d : Standing) (line : List ℕ) → ends s.draft.place line ≡ false → judge (Some s.bundle.start.schema) s.draft line ≡ Ok d → judge_inner true s line ≡ go_on s d
 unfolding judge_inner
 judged_on s d line none e =
     ap (λ (r : Result Standing Cause). r >>= unless_misstamped true s) e

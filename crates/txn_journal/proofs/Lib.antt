@@ -28,4 +28,6 @@ pub mod NewWords
 pub mod OneBundle
 pub mod ListedRows
 pub mod FullSets
+pub mod CountedEnds
+pub mod FirstLines
 pub mod TimestampedLaws

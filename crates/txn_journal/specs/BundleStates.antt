@@ -1,5 +1,5 @@
 -- A bundle as far as its lines have come.
-use Rattle.std.specs.Prelude.{◌⊎◌, ℕ, Bool, true, false, not, ◌&&◌, ◌==◌, nat_le, List, [], ◌∷◌, ◌++◌, length, Option, Some, None, is_some, Result, Ok, Err, codes, if◌then◌else◌}
+use Rattle.std.specs.Prelude.{◌≡◌, ◌⊎◌, ℕ, Bool, true, false, not, ◌&&◌, ◌==◌, nat_le, List, [], ◌∷◌, ◌++◌, length, Option, Some, None, is_some, Result, Ok, Err, codes, if◌then◌else◌}
 use Rattle.std.specs.List.{list_any}
 use Rattle.std.specs.FinMap as map
 use Rattle.std.specs.Str.{bytes_eq}
@@ -21,7 +21,7 @@ use Rattle.row_images.specs.Words.{first_word, others}
 use Rattle.journal_words.specs.Gtids.{source_of_word}
 use Rattle.txn_journal.specs.Words.{name_of}
 use Rattle.txn_journal.specs.Lines.{◌>>=◌, some_or_body, due, version_in, set_in, nothing_in, table_in, image_in}
-use Rattle.txn_journal.specs.Machine.{Standing, empty, is_last, is_within, open_entry, close_entry, IsFull, judge}
+use Rattle.txn_journal.specs.Machine.{Standing, empty, is_last, is_within, open_entry, close_entry, IsFull, IsInEntry, judge}
 use Rattle.txn_journal.specs.Stamps.{right_stamp}
 use Rattle.txn_journal.specs.Shapes.{added_table}
 use Rattle.txn_journal.specs.declared.bundle.Channel.{Channel}
@@ -64,6 +64,13 @@ no_bundle due = record { part = parts.Header; due = due; version = One; tables =
 -- the opening set has too many sources or intervals, or the journal of the channel that is open has seen too many
 abbrev pub IsFullBundle : SetFault → BundleStanding → Type 0
 IsFullBundle f s = IsFull f s.draft ⊎ IsFaultOf f s.bundle.opened
+
+-- The next line is within an entry, in version 1. Where it ends the entry, the sources are counted before memory is asked for; in version 2
+-- the entry's last_committed is computed first, which takes memory.
+pub record IsInFirstVersion (s : BundleStanding) : Type 0 where
+  pub part : s.part ≡ parts.Journal
+  pub version : s.version ≡ One
+  pub entry : IsInEntry s.draft
 
 abbrev pub is_done : Part → Bool
 is_done parts.Ended = true

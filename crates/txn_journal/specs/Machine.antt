@@ -72,6 +72,10 @@ is_within _ = false
 abbrev pub IsFull : SetFault → Standing → Type 0
 IsFull f s = (s.place ≡ places.Between) × IsFaultOf f s.seen
 
+-- The next line is within an entry. Where it ends the entry, the sources are counted before memory is asked for.
+abbrev pub IsInEntry : Standing → Type 0
+IsInEntry s = s.place ≡ places.Within
+
 -- its entries were taken
 abbrev pub drop_entries : Standing → Standing
 drop_entries s = record s { journal = record s.journal { entries = [] }; stamps = [] }

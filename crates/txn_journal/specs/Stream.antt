@@ -3,6 +3,7 @@ use Rattle.std.specs.Prelude.{◌≡◌, ◌⊎◌, ℕ, ◌+◌, ◌-◌, ◌^�
 use Rattle.gtid_set.specs.declared.fault.SetFault.{SetFault}
 use Rattle.gtid_set.specs.declared.fault.SetFault.TheVariants.{Memory, PoolFull, SourcesFull}
 use Rattle.gtid_set.specs.Full.{IsMemoryOr}
+use Rattle.txn_journal.specs.Words.{BeginsWithLine}
 use Rattle.txn_journal.specs.declared.fault.Cause.{Cause}
 use Rattle.txn_journal.specs.declared.fault.Cause.TheVariants as causes
 use Rattle.txn_journal.specs.declared.fault.LineFault.{LineFault}
@@ -25,6 +26,10 @@ abbrev pub TakesLine : {S : Type 0} → (SetFault → S → Type 0) → Result (
 TakesLine full (Ok _) judged new = judged ≡ Ok new
 TakesLine full (Err (wrong.Wrong cause)) judged new = judged ≡ Err cause
 TakesLine full (Err (wrong.Set fault)) judged new = IsMemoryOr (GivesFull (full SourcesFull) judged) (GivesFull (full PoolFull) judged) fault
+
+-- A line that makes what is full of sources is refused for them.
+abbrev pub IsRefusedWhereFull : {S : Type 0} → (SetFault → S → Type 0) → Result (Unit {0}) LineFault → Result S Cause → Type 0
+IsRefusedWhereFull full result judged = GivesFull (full SourcesFull) judged → result ≡ Err (wrong.Set SourcesFull)
 
 -- What a call did with a part of a line is what judging it gives, unless memory ran out.
 abbrev pub TakesPart : {S : Type 0} → Result (Unit {0}) LineFault → Result S Cause → S → Type 0
@@ -104,6 +109,11 @@ TakesPiece may (Ok _) new after = after ≡ new
 TakesPiece may (Err (faults.Set fault)) new after = may fault
 TakesPiece may (Err (faults.Line n cause)) new after = after ≡ Stopped (faults.Line n cause)
 TakesPiece may (Err (faults.Truncated n)) new after = ⊥
+
+-- The first line of a piece, of which no byte came before, is refused for its sources where it makes what is full of them.
+abbrev pub NamesSources : {S : Type 0} → (S → Type 0) → (SetFault → S → Type 0) → Judge S → Progress S → List ℕ → Result (Unit {0}) JournalFault → Type 0
+NamesSources {S} Counts full judge old piece result =
+    (s : S) → (n : ℕ) → (line after : List ℕ) → old ≡ Reading s n [] → Counts s → BeginsWithLine piece line after → GivesFull (full SourcesFull) (judge s line) → result ≡ Err (faults.Set SourcesFull)
 
 abbrev pub end_of : {S : Type 0} → Bool → Progress S → Result (Unit {0}) JournalFault
 end_of is_last (Reading s n rest) = end_of_text is_last rest n

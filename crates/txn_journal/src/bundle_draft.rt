@@ -12,7 +12,7 @@ use crate::lines::Version;
 use crate::names::Names;
 use crate::open_bundle::OpenBundle;
 use crate::tables::add_table;
-use gtid_set::GtidSet;
+use gtid_set::{GtidSet, SetFault};
 use gtid_text::SourceId;
 use journal::Entry;
 use journal_words::{set_word, source_word};
@@ -164,13 +164,14 @@ impl BundleDraft {
     ghost use Rattle.std.specs.Prelude.{option_map, None, Ok, IfOk, true, false, [], ◌∷◌, ◌++◌, ◌&&◌, codes};
     ghost use Rattle.std.specs.Str.{bytes_eq};
     ghost use Rattle.logical_timestamps.specs.Writers.{writers_after};
-    ghost use Rattle.txn_journal.specs.Machine.{is_within};
+    ghost use Rattle.gtid_set.specs.declared.fault.SetFault.TheVariants.{SourcesFull};
+    ghost use Rattle.txn_journal.specs.Machine.{is_within, IsInEntry};
     ghost use Rattle.txn_journal.specs.Drafts.{standing};
     ghost use Rattle.txn_journal.specs.Stamps.{right_stamp};
     ghost use Rattle.txn_journal.specs.declared.lines.Place.TheVariants.{Within};
-    ghost use Rattle.txn_journal.specs.declared.lines.Version.TheVariants.{Two};
-    ghost use Rattle.txn_journal.specs.Stream.{TakesLine};
-    ghost use Rattle.txn_journal.specs.BundleStates.{IsFullBundle, no_bundle, is_done, version_line, replica_line, opening_line, add_table_line, row_line, put_row, after_tables, channel_line, join_channel, done_line, own_step, judge_own, after_inner, end_entry, close_channel, judge_inner, judge_bundle};
+    ghost use Rattle.txn_journal.specs.declared.lines.Version.TheVariants.{One, Two};
+    ghost use Rattle.txn_journal.specs.Stream.{TakesLine, GivesFull, IsRefusedWhereFull};
+    ghost use Rattle.txn_journal.specs.BundleStates.{IsFullBundle, IsInFirstVersion, no_bundle, is_done, version_line, replica_line, opening_line, add_table_line, row_line, put_row, after_tables, channel_line, join_channel, done_line, own_step, judge_own, after_inner, end_entry, close_channel, judge_inner, judge_bundle};
     ghost use Rattle.txn_journal.specs.BundleDrafts.{bundle_standing};
 
     /// Before the first line.
@@ -415,6 +416,31 @@ impl BundleDraft {
         Ok((stamp, Some(writers)))
     }
 
+    #[tactic(auto, using(crate::proofs::CountedEnds::first_full, crate::proofs::CountedEnds::first_fits))]
+    /// Whether the end of the entry that is open is refused for too many sources, as far as that is known without memory: in version 1, which writes no numbers.
+    fn is_refused(&self) -> bool
+        ensures full { result ≡ true → GivesFull (IsFullBundle SourcesFull) (end_entry (bundle_standing self.now)) }
+        ensures room { result ≡ false → self.now.version ≡ One → GivesFull (IsFullBundle SourcesFull) (end_entry (bundle_standing self.now)) → ⊥ }
+    {
+        self.bundle.opened().keeps_limits();
+        match self.version {
+            Version::One => self.draft.stamp() == 0 && !self.draft.has_room(),
+            Version::Two => false,
+        }
+    }
+
+    /// Ends the entry that is open. In version 1 sources are counted before memory is asked for.
+    fn end_counted(&mut self, alloc: Global) -> Result<(), LineFault>
+        requires { (standing self.old.draft).place ≡ Within }
+        ensures line { TakesLine IsFullBundle result (end_entry (bundle_standing self.old)) (bundle_standing self.new) }
+        ensures room { self.old.version ≡ One → IsRefusedWhereFull IsFullBundle result (end_entry (bundle_standing self.old)) }
+    {
+        if self.is_refused() {
+            return Err(LineFault::Set(SetFault::SourcesFull));
+        }
+        self.end_entry(alloc)
+    }
+
     /// Ends the entry that is open, where it has the last_committed that it has to have.
     #[inline(never)]
     fn end_entry(&mut self, alloc: Global) -> Result<(), LineFault>
@@ -435,10 +461,11 @@ impl BundleDraft {
     #[tactic(auto, unfolding(crate::specs::BundleStates::judge_inner))]
     /// Takes a line of the open channel's journal.
     fn take_inside(&mut self, alloc: Global, line: &[u8]) -> Result<(), LineFault>
-        ensures { TakesLine IsFullBundle result (judge_inner true (bundle_standing self.old) line.now) (bundle_standing self.new) }
+        ensures line { TakesLine IsFullBundle result (judge_inner true (bundle_standing self.old) line.now) (bundle_standing self.new) }
+        ensures room { self.old.version ≡ One → IsInEntry (standing self.old.draft) → IsRefusedWhereFull IsFullBundle result (judge_inner true (bundle_standing self.old) line.now) }
     {
         if self.draft.ends_entry(line) {
-            return self.end_entry(alloc);
+            return self.end_counted(alloc);
         }
         self.take_within(alloc, line)
     }
@@ -447,7 +474,8 @@ impl BundleDraft {
     /// Takes a line of the open channel's journal that ends no entry.
     fn take_within(&mut self, alloc: Global, line: &[u8]) -> Result<(), LineFault>
         requires { (is_within (standing self.old.draft).place && bytes_eq line.now (codes "end")) ≡ false }
-        ensures { TakesLine IsFullBundle result (judge_inner true (bundle_standing self.old) line.now) (bundle_standing self.new) }
+        ensures line { TakesLine IsFullBundle result (judge_inner true (bundle_standing self.old) line.now) (bundle_standing self.new) }
+        ensures room { IsInEntry (standing self.old.draft) → IsRefusedWhereFull IsFullBundle result (judge_inner true (bundle_standing self.old) line.now) }
     {
         let writers = if self.draft.has_begun() {
             self.writers.take()
@@ -455,6 +483,7 @@ impl BundleDraft {
             None
         };
         self.writers = None;
+        self.bundle.opened().keeps_limits();
         let schema = Some(self.bundle.schema());
         match self.draft.take_line(alloc, schema, &mut self.names, line) {
             Ok(()) => {
@@ -507,7 +536,8 @@ impl BundleDraft {
     #[tactic(auto, unfolding(crate::specs::BundleStates::judge_bundle))]
     /// Takes the next line, or returns its first fault.
     pub fn take_line(&mut self, alloc: Global, line: &[u8]) -> Result<(), LineFault>
-        ensures { TakesLine IsFullBundle result (judge_bundle (bundle_standing self.old) line.now) (bundle_standing self.new) }
+        ensures line { TakesLine IsFullBundle result (judge_bundle (bundle_standing self.old) line.now) (bundle_standing self.new) }
+        ensures room { IsInFirstVersion (bundle_standing self.old) → IsRefusedWhereFull IsFullBundle result (judge_bundle (bundle_standing self.old) line.now) }
     {
         if self.part == Part::Journal {
             return self.take_inside(alloc, line);

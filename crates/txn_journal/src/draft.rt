@@ -15,7 +15,7 @@ use crate::lines::{Keyword, Place, Version, keyword_at};
 use crate::names::Names;
 use crate::numbers::{SpelledSource, beginning_at};
 use crate::timestamped_journal::TimestampedJournal;
-use gtid_set::GtidSet;
+use gtid_set::{GtidSet, SetFault};
 use gtid_text::{Gtid, SourceId};
 use journal::{Entry, Journal, is_change_writable, is_number};
 use journal_words::set_word;
@@ -108,12 +108,15 @@ fn fits(schema: Option<&Schema>, change: &Change) -> bool
 }
 
 impl Draft {
-    ghost use Rattle.std.specs.Prelude.{option_map, [], Ok, IfOk, ◌&&◌, codes};
+    ghost use Rattle.std.specs.Prelude.{option_map, [], Ok, IfOk, false, ◌&&◌, codes};
     ghost use Rattle.std.specs.Str.{bytes_eq};
     ghost use Rattle.journal.specs.Writing.{is_writable};
     ghost use Rattle.txn_journal.specs.Reading.{has_begun};
-    ghost use Rattle.txn_journal.specs.Stream.{TakesLine};
-    ghost use Rattle.txn_journal.specs.Machine.{Standing, IsFull, TakesIn, empty, is_last, is_within, open_entry, join_entry, drop_entries, add, header_line, previous_line, txn_line, end_line, close_line, step};
+    ghost use Rattle.std.specs.FinSet as set;
+    ghost use Rattle.gtid_set.specs.Sets.{source_count, most_sources};
+    ghost use Rattle.gtid_set.specs.Full.{HasManySources};
+    ghost use Rattle.txn_journal.specs.Stream.{TakesLine, IsRefusedWhereFull};
+    ghost use Rattle.txn_journal.specs.Machine.{Standing, IsFull, IsInEntry, TakesIn, judge, empty, is_last, is_within, open_entry, join_entry, drop_entries, add, header_line, previous_line, txn_line, end_line, close_line, step};
     ghost use Rattle.txn_journal.specs.Drafts.{standing};
     ghost use Rattle.txn_journal.specs.Timestamped.{timestamped_of};
 
@@ -179,7 +182,8 @@ impl Draft {
         names: &mut Names,
         line: &[u8],
     ) -> Result<(), LineFault>
-        ensures { TakesIn (option_map (λ tables. tables.now) schema.entry) (standing self.old) line.now result (standing self.new) }
+        ensures line { TakesIn (option_map (λ tables. tables.now) schema.entry) (standing self.old) line.now result (standing self.new) }
+        ensures room { IsInEntry (standing self.old) → IsRefusedWhereFull IsFull result (judge (option_map (λ tables. tables.now) schema.entry) (standing self.old) line.now) }
     {
         let (word, rest) = cut(line);
         match keyword_at(word) {
@@ -190,7 +194,7 @@ impl Draft {
         }
     }
 
-    #[tactic(auto, unfolding(crate::specs::Machine::step))]
+    #[tactic(auto, unfolding(crate::specs::Machine::step), using(crate::proofs::FullSets::open_not_full))]
     /// Takes the line of a keyword that is due.
     fn take(
         &mut self,
@@ -201,7 +205,8 @@ impl Draft {
         rest: Option<&[u8]>,
     ) -> Result<(), LineFault>
         requires { is_due self.old.place keyword ≡ true }
-        ensures { TakesLine IsFull result (step (option_map (λ tables. tables.now) schema.entry) (standing self.old) keyword (option_map (λ r. r.now) rest.entry)) (standing self.new) }
+        ensures line { TakesLine IsFull result (step (option_map (λ tables. tables.now) schema.entry) (standing self.old) keyword (option_map (λ r. r.now) rest.entry)) (standing self.new) }
+        ensures room { IsInEntry (standing self.old) → IsRefusedWhereFull IsFull result (step (option_map (λ tables. tables.now) schema.entry) (standing self.old) keyword (option_map (λ r. r.now) rest.entry)) }
     {
         match keyword {
             Keyword::Journal => self.open(rest),
@@ -310,10 +315,14 @@ impl Draft {
     #[inline(never)]
     fn end(&mut self, alloc: Global, rest: Option<&[u8]>) -> Result<(), LineFault>
         requires { self.old.place ≡ Within }
-        ensures { TakesLine IsFull result (end_line (standing self.old) (option_map (λ r. r.now) rest.entry)) (standing self.new) }
+        ensures line { TakesLine IsFull result (end_line (standing self.old) (option_map (λ r. r.now) rest.entry)) (standing self.new) }
+        ensures room { IsRefusedWhereFull IsFull result (end_line (standing self.old) (option_map (λ r. r.now) rest.entry)) }
     {
         if rest.is_some() {
             return Err(LineFault::Wrong(Cause::Body));
+        }
+        if !self.has_room() {
+            return Err(LineFault::Set(SetFault::SourcesFull));
         }
         let entry = self.take_entry(alloc)?;
         self.join(entry)
@@ -366,6 +375,14 @@ impl Draft {
         Changes::new(changes)
     }
 
+    /// Whether what was seen has not too many sources once the entry that is open ends. It does not allocate.
+    pub fn has_room(&self) -> bool
+        ensures room { result ≡ true → source_count (set.insert (standing self.now).seen (standing self.now).gtid) ≤ most_sources }
+        ensures full { result ≡ false → HasManySources (set.insert (standing self.now).seen (standing self.now).gtid) }
+    {
+        self.seen.has_room_for(&self.gtid)
+    }
+
     /// The entry that is open. Its changes are no longer in the draft.
     pub fn take_entry(&mut self, alloc: Global) -> Result<Entry, AllocError>
         requires { (standing self.old).place ≡ Within }
@@ -386,7 +403,8 @@ impl Draft {
         requires gtid { entry.gtid ≡ (standing self.old).gtid }
         requires writable { is_writable entry ≡ true }
         requires taken { (standing self.old).changes ≡ [] }
-        ensures { TakesLine IsFull result (Ok (join_entry (standing self.old) entry)) (standing self.new) }
+        ensures line { TakesLine IsFull result (Ok (join_entry (standing self.old) entry)) (standing self.new) }
+        ensures room { IsRefusedWhereFull IsFull result (Ok (join_entry (standing self.old) entry)) }
     {
         self.place = Place::Between;
         self.seen.add(entry.gtid)?;

@@ -2,7 +2,7 @@
 ghost use Rattle.std.specs.Prelude.{◌≡◌, IfSome, IfNone};
 ghost use Rattle.gtid_set.specs.declared.fault.SetFault.{SetFault};
 ghost use Rattle.txn_journal.specs.Words.{IsOneLine, BeginsWithLine};
-ghost use Rattle.txn_journal.specs.Stream.{Judge, TakesLine};
+ghost use Rattle.txn_journal.specs.Stream.{Judge, TakesLine, IsRefusedWhereFull};
 
 use crate::fault::{Cause, JournalFault, LineFault};
 use memchr::memchr;
@@ -30,9 +30,13 @@ pub trait TakeLine {
     // A set of what the lines have made has too many sources or intervals: by this fault.
     ghost full: { SetFault → Self → Type 0 };
 
+    // At this point sources are counted before memory is asked for.
+    ghost counts: { Self → Type 0 };
+
     /// Takes the next line, or returns its first fault.
     fn take_line(&mut self, alloc: Global, line: &[u8]) -> Result<(), LineFault>
-        ensures { TakesLine full result (judge self.old line.now) self.new };
+        ensures line { TakesLine full result (judge self.old line.now) self.new }
+        ensures room { counts self.old → IsRefusedWhereFull full result (judge self.old line.now) };
 }
 
 /// A text that comes in pieces, as far as it has come.
@@ -94,14 +98,17 @@ impl<T> Feed<T> {
 }
 
 impl<T: TakeLine> Feed<T> {
-    ghost use Rattle.std.specs.Prelude.{[], ◌∷◌, ◌++◌, None, OnOk};
-    ghost use Rattle.txn_journal.specs.Stream.{eats, IsPieceFault, Feeds, TakesPiece, answer};
+    ghost use Rattle.std.specs.Prelude.{[], ◌∷◌, ◌++◌, None, Err, OnOk};
+    ghost use Rattle.gtid_set.specs.declared.fault.SetFault.TheVariants.{SourcesFull};
+    ghost use Rattle.txn_journal.specs.declared.fault.JournalFault.TheVariants.{Set};
+    ghost use Rattle.txn_journal.specs.Stream.{eats, IsPieceFault, Feeds, TakesPiece, GivesFull, NamesSources, answer};
     ghost use Rattle.txn_journal.specs.Feeds.{progress};
 
     /// Takes the next piece. After an error every later call returns that error.
     pub fn feed(&mut self, alloc: Global, piece: &[u8]) -> Result<(), JournalFault>
         ensures next { Feeds T.full T.judge (progress self.old) piece.now (progress self.new) }
         ensures answer { result ≡ answer (progress self.new) }
+        ensures room { NamesSources T.counts T.full T.judge (progress self.old) piece.now result }
     {
         if let Err(fault) = self.answer() {
             return Err(fault);
@@ -116,6 +123,7 @@ impl<T: TakeLine> Feed<T> {
         requires { self.old.stopped ≡ None }
         ensures next { TakesPiece (IsPieceFault T.full T.judge (progress self.old) piece.now) result (progress self.new) (eats T.judge (progress self.old) piece.now) }
         ensures goes { self.new.stopped ≡ None }
+        ensures room { NamesSources T.counts T.full T.judge (progress self.old) piece.now result }
     {
         let mut left = piece;
         'lines: loop {
@@ -138,6 +146,7 @@ impl<T: TakeLine> Feed<T> {
         requires whole { IsOneLine bytes.now }
         ensures next { TakesPiece (IsPieceFault T.full T.judge (progress self.old) (bytes.now ++ 10 ∷ [])) result (progress self.new) (eats T.judge (progress self.old) (bytes.now ++ 10 ∷ [])) }
         ensures goes { self.new.stopped ≡ None }
+        ensures room { T.counts self.old.made → GivesFull (T.full SourcesFull) (T.judge self.old.made bytes.now) → self.old.rest.items ≡ [] → result ≡ Err (Set SourcesFull) }
     {
         self.lines = self.lines.saturating_add(1);
         match self.make(alloc, bytes) {
@@ -155,6 +164,7 @@ impl<T: TakeLine> Feed<T> {
         ensures rest { OnOk result (self.new.rest.items ≡ []) }
         ensures lines { self.new.lines ≡ self.old.lines }
         ensures stopped { self.new.stopped ≡ self.old.stopped }
+        ensures room { T.counts self.old.made → self.old.rest.items ≡ [] → IsRefusedWhereFull T.full result (T.judge self.old.made bytes.now) }
     {
         if self.rest.is_empty() {
             return self.made.take_line(alloc, bytes);

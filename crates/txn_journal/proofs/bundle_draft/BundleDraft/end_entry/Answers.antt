@@ -33,7 +33,7 @@ returns-in_err-join c =
       is_written = c.stamp.ensures;
     } in
     let p = err_from_is_err_and c.from_residual-in_err-join.result c.from_residual-in_err-join.ensures.1 in
-    rw (p.1, p.2) (ends_failed s called t _ c.in_ok-entry.entry c.in_ok-stamp.stamp c.stamp.result (standing c.join.new.self) c.in_err-join.field-0.0 at c.if-stamp.false c.in_err-join.ensures)
+    rw (p.1, p.2) (ends_failed s called t _ c.in_ok-entry.entry c.in_ok-stamp.stamp c.stamp.result (standing c.join.new.self) c.in_err-join.field-0.0 at c.if-stamp.false c.in_err-join.ensures.line)
 
 pub returns : goal.returns
 returns c =
@@ -47,4 +47,4 @@ returns c =
       is_right = c.in_ok-stamp.ensures.stamp;
       is_written = c.stamp.ensures;
     } in
-    ends_well s called t c.in_ok-entry.entry c.in_ok-stamp.stamp c.stamp.result (standing c.join.new.self) at c.if-stamp.false c.in_ok-join.ensures
+    ends_well s called t c.in_ok-entry.entry c.in_ok-stamp.stamp c.stamp.result (standing c.join.new.self) at c.if-stamp.false c.in_ok-join.ensures.line

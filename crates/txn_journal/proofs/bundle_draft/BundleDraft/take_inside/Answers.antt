@@ -1,13 +1,18 @@
 use Rattle.std.proofs.Common.{sym, subst, ◌∙◌}
 use Rattle.std.specs.Prelude.{Result}
 use Rattle.txn_journal.specs.declared.fault.Cause.{Cause}
-use Rattle.txn_journal.specs.Stream.{TakesLine}
+use Rattle.txn_journal.specs.Stream.{TakesLine, IsRefusedWhereFull}
 use Rattle.txn_journal.specs.BundleStates.{BundleStanding, IsFullBundle}
 use Rattle.txn_journal.specs.BundleDrafts.{bundle_standing}
 use Rattle.txn_journal.proofs.InnerSteps.{ends_is}
 use Rattle.txn_journal.proofs.bundle_draft.BundleDraft.take_inside.Goals as goal
 
-pub returns-then-ends_entry : goal.returns-then-ends_entry
-returns-then-ends_entry c =
+pub returns-then-ends_entry-clause-line : goal.returns-then-ends_entry-clause-line
+returns-then-ends_entry-clause-line c =
     let is = ends_is (bundle_standing c.args.self.now) c.args.line.now (sym c.ends_entry.ensures ∙ c.if-ends_entry.true) in
-    subst (λ (x : Result BundleStanding Cause). TakesLine IsFullBundle c.end_entry.result x (bundle_standing c.end_entry.new.self)) (sym is) c.end_entry.ensures
+    subst (λ (x : Result BundleStanding Cause). TakesLine IsFullBundle c.end_counted.result x (bundle_standing c.end_counted.new.self)) (sym is) c.end_counted.ensures.line
+
+pub returns-then-ends_entry-clause-room : goal.returns-then-ends_entry-clause-room
+returns-then-ends_entry-clause-room c one inside =
+    let is = ends_is (bundle_standing c.args.self.now) c.args.line.now (sym c.ends_entry.ensures ∙ c.if-ends_entry.true) in
+    subst (λ (x : Result BundleStanding Cause). IsRefusedWhereFull IsFullBundle c.end_counted.result x) (sym is) (c.end_counted.ensures.room one)

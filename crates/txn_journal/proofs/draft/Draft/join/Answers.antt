@@ -29,7 +29,7 @@ invariant_of-self-2 c = record {
   few = omega (arith, (c.args.self.now.open_new c.requires.place).room);
 }
 
-pub returns-in_err-add : goal.returns-in_err-add
-returns-in_err-add c =
+pub returns-in_err-add-clause-line : goal.returns-in_err-add-clause-line
+returns-in_err-add-clause-line c =
     let p = err_from_is_err_and c.from_residual.result c.from_residual.ensures.1 in
     rw (p.1, p.2) (seen_full (standing c.args.self.now) c.in_err-add.field-0.0 c.args.entry c.in_err-add.ensures.full)

@@ -1,0 +1,65 @@
+-- Where a bundle's line makes too many sources.
+use Rattle.std.proofs.Common.{◌≡◌, ℕ, ◌≤◌, inl, inr, Bool, true, false, cond, eqb, List, Option, Some, None, Result, Ok, Err, refl, sym, ap, subst, ◌∙◌, arith}
+use Rattle.std.specs.FinSet as set
+use Rattle.gtid_set.specs.declared.fault.SetFault.TheVariants.{SourcesFull}
+use Rattle.gtid_set.specs.Sets.{source_count, most_sources}
+use Rattle.gtid_set.specs.Full.{HasManySources}
+use Rattle.rows.specs.declared.schema.Table.{Table}
+use Rattle.journal.specs.Journals.{JournalValue}
+use Rattle.txn_journal.specs.Lines.{◌>>=◌}
+use Rattle.txn_journal.specs.Machine.{Standing, IsFull, is_last, open_entry, close_entry, judge}
+use Rattle.txn_journal.specs.Stamps.{right_stamp}
+use Rattle.txn_journal.specs.Stream.{GivesFull}
+use Rattle.txn_journal.specs.BundleStates.{BundleStanding, BundleValue, IsFullBundle, with_journal, after_inner, unless_misstamped, end_entry, judge_inner}
+use Rattle.txn_journal.specs.declared.bundle.Channel.{Channel}
+use Rattle.txn_journal.specs.declared.fault.Cause.{Cause}
+use Rattle.txn_journal.specs.declared.fault.Cause.TheVariants as causes
+use Rattle.txn_journal.specs.declared.lines.Version.{Version}
+use Rattle.txn_journal.specs.declared.lines.Version.TheVariants.{One}
+use Rattle.txn_journal.proofs.Judged.{done}
+use Rattle.txn_journal.proofs.InnerSteps.{ends, ended_or_not, judged_on}
+
+-- ---- a line that ends no entry
+
+same_opened : (c : Option Channel) (b : BundleValue) (j : JournalValue) → (with_journal c b j).opened ≡ b.opened
+same_opened None b j = refl
+same_opened (Some c) b j = refl
+
+full_inside : (s : BundleStanding) (d : Standing) (v : Bool) → (HasManySources s.bundle.opened → ⊥) → IsFullBundle SourcesFull (ended_or_not s d v) → IsFull SourcesFull d
+full_inside s d true few (inl h) = absurd (let k = h.0 in cc)
+full_inside s d true few (inr h) = absurd (few (subst HasManySources (same_opened s.channel s.bundle d.journal) h))
+full_inside s d false few (inl h) = h
+full_inside s d false few (inr h) = absurd (few h)
+
+full_after : (s : BundleStanding) (line : List ℕ) (r : Result Standing Cause) → judge (Some s.bundle.start.schema) s.draft line ≡ r → ends s.draft.place line ≡ false → (HasManySources s.bundle.opened → ⊥)
+    → GivesFull (IsFullBundle SourcesFull) (judge_inner true s line) → GivesFull (IsFull SourcesFull) r
+unfolding judge_inner after_inner
+full_after s line (Ok d) e none few h = full_inside s d (is_last d.place) few (subst (GivesFull (IsFullBundle SourcesFull)) (judged_on s d line none e) h)
+full_after s line (Err x) e none few h = subst (λ (q : Result Standing Cause). GivesFull (IsFullBundle SourcesFull) (q >>= unless_misstamped true s)) e h
+
+-- what is too much for the bundle is too much for its open journal
+pub inner_full_of : (s : BundleStanding) (tables : List Table) (line : List ℕ) → ends s.draft.place line ≡ false → tables ≡ s.bundle.start.schema → source_count s.bundle.opened ≤ most_sources
+    → GivesFull (IsFullBundle SourcesFull) (judge_inner true s line) → GivesFull (IsFull SourcesFull) (judge (Some tables) s.draft line)
+inner_full_of s tables line none same few h =
+    subst (λ (t : List Table). GivesFull (IsFull SourcesFull) (judge (Some t) s.draft line)) (sym same)
+    (full_after s line (judge (Some s.bundle.start.schema) s.draft line) refl none (λ many. let m = many in omega (arith, m, few)) h)
+
+-- ---- a line that ends an entry, in version 1
+
+abbrev ended_by : BundleStanding → Bool → Result BundleStanding Cause
+ended_by s b = cond b (done (record s { draft = close_entry s.draft })) (Err causes.Stamp)
+
+ended_first : (s : BundleStanding) → s.version ≡ One → end_entry s ≡ ended_by s (eqb s.draft.stamp 0)
+unfolding end_entry
+ended_first s one = ap (λ (v : Version). ended_by s (eqb s.draft.stamp (right_stamp v s.bundle.start.schema s.draft.journal.entries (open_entry s.draft)))) one
+
+pub first_full : (s : BundleStanding) → s.version ≡ One → eqb s.draft.stamp 0 ≡ true → HasManySources (set.insert s.draft.seen s.draft.gtid) → GivesFull (IsFullBundle SourcesFull) (end_entry s)
+first_full s one zero many = subst (GivesFull (IsFullBundle SourcesFull)) (sym (ended_first s one ∙ ap (ended_by s) zero)) (inl (refl, many))
+
+full_ended : (s : BundleStanding) (b : Bool) → (b ≡ true → source_count (set.insert s.draft.seen s.draft.gtid) ≤ most_sources) → source_count s.bundle.opened ≤ most_sources → GivesFull (IsFullBundle SourcesFull) (ended_by s b) → ⊥
+full_ended s true room few (inl h) = let m = h.1 in let r = room refl in omega (arith, m, r)
+full_ended s true room few (inr h) = let m = h in omega (arith, m, few)
+full_ended s false room few h = h
+
+pub first_fits : (s : BundleStanding) → s.version ≡ One → (eqb s.draft.stamp 0 ≡ true → source_count (set.insert s.draft.seen s.draft.gtid) ≤ most_sources) → source_count s.bundle.opened ≤ most_sources → GivesFull (IsFullBundle SourcesFull) (end_entry s) → ⊥
+first_fits s one room few h = full_ended s (eqb s.draft.stamp 0) room few (subst (GivesFull (IsFullBundle SourcesFull)) (ended_first s one) h)
