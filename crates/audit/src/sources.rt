@@ -108,7 +108,9 @@ fn enclose(
     ensures of_journals { IfOk result (λ world. IsWorldOf world journals.now) }
 {
     keep_rules(journals);
-    let opened = opened.copy(alloc)?;
+    let Ok(opened) = opened.copy(alloc) else {
+        return Err(AllocError);
+    };
     let rows = rows.copy()?;
     Ok(World {
         opened,
