@@ -59,7 +59,7 @@ fn make_room(carriers: &mut IndexMap<Key, Row>, log: &mut Vec<Seen>) -> Result<(
 }
 
 /// Puts a row under a key. The result is what was there.
-fn put_in_room(carriers: &mut IndexMap<Key, Row>, key: Key, row: Row) -> Option<Row>
+pub(crate) fn put_in_room(carriers: &mut IndexMap<Key, Row>, key: Key, row: Row) -> Option<Row>
     requires { 0 < spare carriers.old }
     ensures rows { map.from_entries {R = key_cmp} carriers.new.entries ≡ map.insert (map.from_entries carriers.old.entries) key row }
     ensures over { result ≡ map.get (map.from_entries {R = key_cmp} carriers.old.entries) key }
