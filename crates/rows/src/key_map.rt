@@ -1,5 +1,5 @@
 //! From each key to the row that carries it.
-ghost use Rattle.std.specs.Prelude.{◌≡◌, ◌≤◌, ◌<◌, ◌+◌, ◌^◌, ℕ, ◌∷◌, [], OnOk, OnErr, IfOk, IfErr, Ok, Err, None, length};
+ghost use Rattle.std.specs.Prelude.{◌≡◌, ◌≤◌, ◌<◌, ◌+◌, ◌^◌, ℕ, ◌∷◌, [], true, false, OnOk, OnErr, IfOk, IfErr, Ok, Err, None, length};
 ghost use Rattle.std.specs.Bool.{Decides};
 ghost use Rattle.std.specs.Option.{option_copied};
 ghost use Rattle.std.specs.FinMap as map;
@@ -7,7 +7,7 @@ ghost use Rattle.rows.specs.Apply.{first_taken, first_row, with_row, without_key
 ghost use Rattle.rows.specs.declared.change.Change.TheVariants.{Update};
 ghost use Rattle.rows.specs.Keys.{carried_keys};
 ghost use Rattle.rows.specs.Listing.{rows_listed};
-ghost use Rattle.rows.specs.Making.{updated};
+ghost use Rattle.rows.specs.Making.{IsPut, updated};
 ghost use Rattle.rows.specs.Patch.{put_over};
 ghost use Rattle.rows.specs.Refusal.{Refuses};
 
@@ -16,6 +16,7 @@ use crate::keys::{carried_keys, keeps_keys};
 use crate::listing::list_primary;
 use crate::making::Making;
 use crate::name::Name;
+use crate::placing::put_if_free;
 use crate::replacement::put_under_all;
 use crate::schema::Schema;
 use crate::standing::{carrier, first_taken, holds};
@@ -179,8 +180,10 @@ impl KeyMap {
         Ok(())
     }
 
-    /// Puts a row of a table under its keys, if each of them is free.
-    pub(crate) fn insert_image(
+    /// Puts a row of a table under its keys, if each of them is free; all keys are made first.
+    #[cold]
+    #[inline(never)]
+    fn insert_by_list(
         &mut self,
         alloc: Global,
         schema: &Schema,
@@ -196,6 +199,33 @@ impl KeyMap {
             Ok(keys) => self.insert_row(keys, row, change),
             Err(_) => Err(PrepareFault::Memory),
         }
+    }
+
+    /// Puts a row under the keys that it carries, if each of them is free; else nothing changes.
+    fn put_if_free(&mut self, alloc: Global, schema: &Schema, table: &Name, row: &Row) -> bool
+        ensures put { result ≡ true → IsPut (carried_keys schema.now table.now row.now) row.now self.old self.new }
+        ensures kept { result ≡ false → self.new ≡ self.old }
+    {
+        put_if_free(alloc, &mut self.carriers, schema, table, row)
+    }
+
+    /// Puts a row of a table under its keys, if each of them is free. The key that is taken is looked for only where one is.
+    pub(crate) fn insert_image(
+        &mut self,
+        alloc: Global,
+        schema: &Schema,
+        change: u32,
+        table: &Name,
+        row: &Row,
+    ) -> Result<(), PrepareFault>
+        ensures ok { OnOk result (inserted change (carried_keys schema.now table.now row.now) row.now self.old ≡ Ok self.new) }
+        ensures refused { Refuses result (inserted change (carried_keys schema.now table.now row.now) row.now self.old) }
+        ensures err { OnErr result (self.new ≡ self.old) }
+    {
+        if self.put_if_free(alloc, schema, table, row) {
+            return Ok(());
+        }
+        self.insert_by_list(alloc, schema, change, table, row)
     }
 
     /// Takes away the row of a table under its keys, if it is there.
