@@ -137,6 +137,7 @@ fn few_bytes(alloc: Global, digits: &[u8]) -> Result<Option<ByteString>, AllocEr
 }
 
 /// The bytes that many digits parse as.
+#[inline(never)]
 fn many_bytes(alloc: Global, digits: &[u8]) -> Result<Option<ByteString>, AllocError>
     ensures { IfOk result (λ found. found ≡ bytes_of digits.now) }
 {
