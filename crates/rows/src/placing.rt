@@ -7,7 +7,7 @@ ghost use Rattle.rows.specs.Making.{IsPut, Extends};
 ghost use Rattle.rows.specs.Order.{key_cmp};
 
 use crate::change::Key;
-use crate::keys::{has_null, key_values};
+use crate::keys::key_values;
 use crate::name::Name;
 use crate::schema::{Columns, Schema, Table};
 use indexmap::IndexMap;
