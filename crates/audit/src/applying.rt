@@ -8,7 +8,7 @@ ghost use Rattle.audit.specs.Worlds.{AllFit};
 
 use crate::sources::World;
 use journal::Entry;
-use rows::{ApplyFault, Rows};
+use rows::{PrepareFault, Rows};
 use std::alloc::{AllocError, Global};
 use world::Verdict;
 
@@ -22,13 +22,12 @@ fn first_fault(
     ensures { IfOk result (λ found. found ≡ option_map (λ fault. DoesNotApply fault.0 fault.1) (first_fault rows.old.schema (map as_pair entries.now) rows.old.rows)) }
 {
     for entry in entries {
-        match rows.apply(alloc, &entry.txn) {
+        match rows.apply_fitting(alloc, &entry.txn) {
             Ok(()) => {}
-            Err(ApplyFault::Row(fault)) => {
+            Err(PrepareFault::Row(fault)) => {
                 return Ok(Some(Verdict::DoesNotApply(entry.gtid, fault)));
             }
-            Err(ApplyFault::Memory) => return Err(AllocError),
-            Err(ApplyFault::NotInSchema(_)) => unreachable!(),
+            Err(PrepareFault::Memory) => return Err(AllocError),
         }
     }
     Ok(None)

@@ -49,4 +49,4 @@ mod unequal;
 pub use finding::{audit, audit_gtids, audit_keys, keep_rules};
 pub use laws::faults_are_all;
 pub use listing::{AllFaults, audit_all};
-pub use sources::{World, WorldFault, world_of};
+pub use sources::{World, WorldFault, world_of, world_of_fitting};

@@ -1,6 +1,7 @@
 //! What sources committed, as their journals bring it.
 ghost use Rattle.std.specs.Prelude.{◌≡◌, IfOk, IfErr, OnOk};
-ghost use Rattle.world.specs.Audit.{world_of};
+ghost use Rattle.world.specs.Audit.{all_entries, first_contents, world_of};
+ghost use Rattle.audit.specs.Contents.{in_order};
 ghost use Rattle.audit.specs.Worlds.{AllFit, IsKept, IsMisfit, IsWorldFault, IsWorldOf, LieBeyond};
 
 use crate::contents::Contents;
@@ -9,7 +10,7 @@ use gtid_set::GtidSet;
 use gtid_text::Gtid;
 use journal::{Entry, Journal};
 use rows::{NotInSchema, Rows, Schema, fits};
-use std::alloc::Global;
+use std::alloc::{AllocError, Global};
 use std::marker::Model;
 
 /// The opening set and rows of a replica, and for each GTID beyond that set the first transaction
@@ -93,6 +94,31 @@ pub enum WorldFault {
     NotInSchema(Gtid, NotInSchema),
 }
 
+/// The world of an opening set, rows, and transactions that journals bring beyond that set.
+fn enclose(
+    alloc: Global,
+    opened: &GtidSet,
+    rows: &Rows,
+    contents: Contents,
+    journals: &[Journal],
+) -> Result<World, AllocError>
+    requires brought { contents ≡ first_contents opened.now (all_entries journals.now) }
+    requires fitting { AllFit rows.now.schema (in_order contents) }
+    ensures ok { IfOk result (λ world. world ≡ world_of rows.now.schema opened.now rows.now.rows journals.now) }
+    ensures of_journals { IfOk result (λ world. IsWorldOf world journals.now) }
+{
+    keep_rules(journals);
+    let Ok(opened) = opened.copy(alloc) else {
+        return Err(AllocError);
+    };
+    let rows = rows.copy()?;
+    Ok(World {
+        opened,
+        rows,
+        contents,
+    })
+}
+
 /// The world of journals over an opening set and rows: for each GTID beyond that set the first
 /// transaction, in order of journals and entries.
 pub fn world_of(
@@ -108,21 +134,28 @@ pub fn world_of(
     let Ok(contents) = Contents::of_journals(alloc, opened, journals) else {
         return Err(WorldFault::Memory);
     };
-    keep_rules(journals);
     if let Err((gtid, fault)) = all_fit(rows.schema(), contents.in_order()) {
         return Err(WorldFault::NotInSchema(gtid, fault));
     }
-    let Ok(opened) = opened.copy(alloc) else {
-        return Err(WorldFault::Memory);
-    };
-    let Ok(rows) = rows.copy() else {
-        return Err(WorldFault::Memory);
-    };
-    Ok(World {
-        opened,
-        rows,
-        contents,
-    })
+    match enclose(alloc, opened, rows, contents, journals) {
+        Ok(world) => Ok(world),
+        Err(_) => Err(WorldFault::Memory),
+    }
+}
+
+/// The world of journals over an opening set and rows whose schema takes each transaction beyond that set. This is not tested again.
+pub fn world_of_fitting(
+    alloc: Global,
+    opened: &GtidSet,
+    rows: &Rows,
+    journals: &[Journal],
+) -> Result<World, AllocError>
+    requires { AllFit rows.now.schema (in_order (first_contents opened.now (all_entries journals.now))) }
+    ensures ok { IfOk result (λ world. world ≡ world_of rows.now.schema opened.now rows.now.rows journals.now) }
+    ensures of_journals { IfOk result (λ world. IsWorldOf world journals.now) }
+{
+    let contents = Contents::of_journals(alloc, opened, journals)?;
+    enclose(alloc, opened, rows, contents, journals)
 }
 
 /// Whether a schema takes each transaction; else the first that it does not take, and why.

@@ -38,7 +38,8 @@ fn push_key(alloc: Global, line: &mut String, key: &Key) -> Result<(), AllocErro
     line.push_str(key.table.as_str())?;
     line.push_str(" ")?;
     push_number(line, u64::from(key.index))?;
-    push_values(alloc, line, key.values.as_slice())
+    let values = key.values.to_values(alloc)?;
+    push_values(alloc, line, &values)
 }
 
 /// A word, two GTIDs and a key that both touch.

@@ -22,25 +22,48 @@ mod scan;
 mod set_text;
 mod write;
 
-ghost use Rattle.std.specs.Prelude.{◌≡◌, ℕ};
+ghost use Rattle.std.specs.Prelude.{◌≡◌, ◌==◌, ℕ};
+ghost use Rattle.std.specs.Ordering.{nat_cmp, as_partial_cmp};
+ghost use Rattle.std.specs.Cmp.{partial_order_from_own_ties};
+ghost use Rattle.std.specs.Cmp.Rules.{comparing, hashing};
+ghost use Rattle.std.specs.Hash as fed;
+ghost use Rattle.std.proofs.Common.{rules};
 
 pub use fault::TextFault;
 pub use set_text::{parse_gtid, parse_source, parse_spans};
+use std::cmp::Ordering;
+use std::hash::{Hash, Hasher};
 use std::marker::Model;
 pub use write::{write_gtid, write_next_span, write_source, write_span};
 
+/// The number of values of a half of a UUID.
+const HALF: u128 = 18_446_744_073_709_551_616;
+
 /// The UUID of a server, which contracts see as a number below 2^128.
-#[derive(Clone, Copy, Debug, PartialEq, Eq, PartialOrd, Ord, Hash, Drop)]
+///
+/// It is kept in halves, so that what holds it needs the alignment of a word alone: a `Gtid` takes three words.
+#[derive(Clone, Copy, Debug, Drop)]
 pub struct SourceId {
-    bits: u128,
+    high: u64,
+    low: u64,
 }
 
 impl Model for SourceId {
+    ghost use Rattle.std.specs.Prelude.{ℕ, ◌+◌, ◌*◌, ◌/◌, ◌%◌, ◌<◌};
+    ghost use Rattle.std.proofs.lemmas.Nat.{div-mul-add, mod-mul-add};
+
     ghost Value = { ℕ };
 
-    ghost view = { λ s. s.bits };
+    ghost view = { λ s. s.high * 18446744073709551616 + s.low };
 
-    ghost inverse = { λ n. record { bits = n } };
+    ghost invariant = { λ s. s.low < 18446744073709551616 };
+
+    ghost inverse = { λ n. record { high = n / 18446744073709551616; low = n % 18446744073709551616 } };
+
+    ghost inverse_ok = { λ s small i. record {
+      high = div-mul-add s.high 18446744073709551616 s.low small i;
+      low = mod-mul-add s.high 18446744073709551616 s.low small i;
+    } };
 }
 
 impl SourceId {
@@ -48,14 +71,65 @@ impl SourceId {
     pub fn from_bits(bits: u128) -> Self
         ensures { result ≡ bits }
     {
-        SourceId { bits }
+        SourceId {
+            high: (bits / HALF) as u64,
+            low: (bits % HALF) as u64,
+        }
     }
 
     /// The 16 bytes of the UUID as one number, high byte first.
     pub fn bits(self) -> u128
         ensures { result ≡ self }
     {
-        self.bits
+        self.high as u128 * HALF + self.low as u128
+    }
+}
+
+impl PartialEq for SourceId {
+    ghost eq = { ◌==◌ };
+
+    ghost laws = { Prim.search (comparing, rules) };
+
+    fn eq(&self, other: &SourceId) -> bool {
+        self.bits() == other.bits()
+    }
+}
+
+impl Eq for SourceId {
+    ghost laws = { Prim.search (comparing, rules) };
+}
+
+impl PartialOrd for SourceId {
+    ghost partial_cmp = { as_partial_cmp nat_cmp };
+
+    ghost laws = { partial_order_from_own_ties (Prim.search (comparing, rules)) (Prim.search (comparing, rules)) };
+
+    fn partial_cmp(&self, other: &SourceId) -> Option<Ordering> {
+        Some(self.cmp(other))
+    }
+}
+
+impl Ord for SourceId {
+    ghost cmp = { nat_cmp };
+
+    ghost total = { Prim.search (comparing, rules) };
+
+    ghost matches_partial_cmp = { Prim.search (comparing, rules) };
+
+    ghost matches_eq = { Prim.search (comparing, rules) };
+
+    fn cmp(&self, other: &SourceId) -> Ordering {
+        self.bits().cmp(&other.bits())
+    }
+}
+
+impl Hash for SourceId {
+    ghost hash_input = { fed.u128 };
+
+    ghost respects_eq = { Prim.search (hashing, rules) };
+
+    fn hash<H: Hasher>(&self, state: &mut H) {
+        self.bits().hash(state);
     }
 }
 

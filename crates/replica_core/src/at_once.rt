@@ -2,6 +2,7 @@
 ghost use Rattle.std.specs.Prelude.{◌≡◌, true, is_none, IfOk, OnOk, OnErr, IfErr, MatchOption};
 ghost use Rattle.std.specs.List.{list_all};
 ghost use Rattle.journal.specs.Writing.{is_number};
+ghost use Rattle.rows.specs.Fits.{Fits};
 ghost use Rattle.replica_core.specs.Machine.{receive};
 ghost use Rattle.replica_core.specs.AtOnce.{received_and_committed, IsLeft, IsFaultAtOnce, HasRoomAtOnce, IsAtOnce, IsNext, IsReadyAtOnce};
 
@@ -10,7 +11,6 @@ use crate::machine::{Core, is_seat};
 use apply_channel::Channel;
 use gtid_set::SetFault;
 use journal::Entry;
-use rows::fits;
 use std::alloc::Global;
 
 /// Whether no seat has a place.
@@ -36,6 +36,7 @@ impl Core {
     /// Whether an entry that a channel receives at this place needs to wait for nothing: then a seat can
     /// take and commit it at once, unless its transaction does not apply.
     fn is_ready_at_once(&self, seat: u8, channel: usize, place: usize, entry: &Entry) -> bool
+        requires { Fits self.now.site.schema entry.now.txn }
         ensures { result ≡ true → IsReadyAtOnce self.now seat channel place entry.now }
     {
         if !is_seat(seat) {
@@ -53,13 +54,7 @@ impl Core {
         if self.executed().contains(&entry.gtid) {
             return false;
         }
-        if !self.executed().has_room_for(&entry.gtid) {
-            return false;
-        }
-        match fits(self.rows().schema(), &entry.txn) {
-            Ok(()) => true,
-            Err(_) => false,
-        }
+        self.executed().has_room_for(&entry.gtid)
     }
 
     /// Executes an entry that needs to wait for nothing and then lets its channel receive it, which keeps
@@ -73,7 +68,8 @@ impl Core {
         place: usize,
         entry: &Entry,
     ) -> Result<Option<Reply>, SetFault>
-        requires { is_number entry.now.gtid.number ≡ true }
+        requires number { is_number entry.now.gtid.number ≡ true }
+        requires fits { Fits self.old.site.schema entry.now.txn }
         ensures done { IfOk result (λ r. MatchOption r (self.new ≡ self.old) (λ reply. IsAtOnce self.old seat channel place entry.now reply self.new.state)) }
         ensures site { self.new.site ≡ self.old.site }
         ensures err { OnErr result (IsLeft self.old.site seat channel place entry.now self.old.state self.new.state) }
@@ -117,7 +113,7 @@ impl Core {
     }
 
     /// The events Receive, Take and Commit in turn: a channel receives an entry, and a seat takes this
-    /// place of it and commits what it has. The result is the reply to the Receive. Where the entry waits
+    /// place of it and commits what it has. The schema takes the transaction, which is not tested again. The result is the reply to the Receive. Where the entry waits
     /// for nothing, neither its keys nor its transaction are kept in the channel.
     ///
     /// The error is one of the Receive or of the Commit. After it nothing has changed, or the first two
@@ -130,7 +126,8 @@ impl Core {
         place: usize,
         entry: &Entry,
     ) -> Result<Reply, SetFault>
-        requires { is_number entry.now.gtid.number ≡ true }
+        requires number { is_number entry.now.gtid.number ≡ true }
+        requires fits { Fits self.old.site.schema entry.now.txn }
         ensures told { IfOk result (λ reply. reply ≡ (receive self.old.site channel entry.now self.old.state).0) }
         ensures state { OnOk result (self.new.state ≡ received_and_committed self.old.site seat channel place entry.now self.old.state) }
         ensures site { self.new.site ≡ self.old.site }

@@ -10,3 +10,4 @@ pub mod ImageSteps
 pub mod RowLaws
 pub mod Equal
 mod FewDigits
+mod Ranks

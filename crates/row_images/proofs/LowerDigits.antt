@@ -100,8 +100,34 @@ lower_even ds s e =
 
 -- ---- two digits at a time
 
-pub digit_small : (b : ℕ) → ltb (digit_of b) 16 ≡ is_lower_digit b
-digit_small b = grind (arith, nat_tests)
+-- the test of a byte: the value of a lower-case digit, by its halves
+abbrev is_by_halves : ℕ → Bool
+is_by_halves b = not (is_lower_digit b) || eqb (b % 16 + b / 64 * 9) (digit_of b)
+
+abbrev all_by_halves : ℕ → Bool
+all_by_halves zero = true
+all_by_halves (suc n) = is_by_halves n && all_by_halves n
+
+by_halves_at : (n b : ℕ) → all_by_halves n ≡ true → b < n → is_by_halves b ≡ true
+by_halves_at zero b h lt = absurd (omega arith)
+by_halves_at (suc n) b h lt =
+    let parts = and_parts (is_by_halves n) (all_by_halves n) h in
+    elim (cases_lt b n) [
+      | inl below ↦ by_halves_at n b parts.1 below
+      | inr top ↦
+          let e : b ≡ n = omega arith in
+          rw e parts.0
+    ]
+
+pub value_by_halves : (b : ℕ) → is_lower_digit b ≡ true → b % 16 + b / 64 * 9 ≡ digit_of b
+value_by_halves b lower =
+    let test = by_halves_at 103 b refl (below_103 b lower) in
+    eqb-true (b % 16 + b / 64 * 9) (digit_of b) (sym (ap (λ v. not v || eqb (b % 16 + b / 64 * 9) (digit_of b)) lower) ∙ test)
+
+pub lower_there : (ds : List ℕ) (i : ℕ) → i < length ds → list_all is_lower_digit ds ≡ true → is_lower_digit (get_or ds i 0) ≡ true
+lower_there [] i lt all = absurd (omega (arith, lt))
+lower_there (d ∷ ds) zero lt all = (and_parts (is_lower_digit d) (list_all is_lower_digit ds) all).0
+lower_there (d ∷ ds) (suc i) lt all = lower_there ds i (omega (arith, lt)) (and_parts (is_lower_digit d) (list_all is_lower_digit ds) all).1
 
 drop_two : (ds : List ℕ) (n i : ℕ) → length ds ≡ 2 * n → i < n → drop (2 * i) ds ≡ get_or ds (2 * i) 0 ∷ get_or ds (2 * i + 1) 0 ∷ drop (2 * (i + 1)) ds
 drop_two ds n i len lt =
@@ -111,23 +137,10 @@ drop_two ds n i len lt =
     ∙ ap (λ k. get_or ds (2 * i) 0 ∷ drop k ds) one
     ∙ ap (λ t. get_or ds (2 * i) 0 ∷ t) (drop-cons ds (2 * i + 1) 0 (omega (arith, len, lt)) ∙ ap (λ k. get_or ds (2 * i + 1) 0 ∷ drop k ds) two)
 
-pub all_three : (a b c : Bool) → ((a && b) && c) ≡ (a && (b && c))
-all_three true b c = refl
-all_three false b c = refl
-
 pub two_more : (ds : List ℕ) (n i x y : ℕ) → length ds ≡ 2 * n → i < n → x ≡ digit_of (get_or ds (2 * i) 0) → y ≡ digit_of (get_or ds (2 * i + 1) 0)
-    → ((x % 16 * 16 + y % 16) ∷ pairs_of (drop (2 * (i + 1)) ds) ≡ pairs_of (drop (2 * i) ds))
-    × (((ltb x 16 && ltb y 16) && list_all is_lower_digit (drop (2 * (i + 1)) ds)) ≡ list_all is_lower_digit (drop (2 * i) ds))
+    → (x % 16 * 16 + y % 16) ∷ pairs_of (drop (2 * (i + 1)) ds) ≡ pairs_of (drop (2 * i) ds)
 two_more ds n i x y len lt ex ey =
-    let h = get_or ds (2 * i) 0 in
-    let l = get_or ds (2 * i + 1) 0 in
-    let rest = drop (2 * (i + 1)) ds in
-    let e = drop_two ds n i len lt in (
-      (λ k. (ex k % 16 * 16 + ey k % 16) ∷ pairs_of rest) ∙ sym (ap pairs_of e),
-      (λ k. ((ap (λ v. ltb v 16) ex ∙ digit_small h) k && (ap (λ v. ltb v 16) ey ∙ digit_small l) k) && list_all is_lower_digit rest)
-          ∙ all_three (is_lower_digit h) (is_lower_digit l) (list_all is_lower_digit rest)
-          ∙ sym (ap (list_all is_lower_digit) e),
-    )
+    (λ k. (ex k % 16 * 16 + ey k % 16) ∷ pairs_of (drop (2 * (i + 1)) ds)) ∙ sym (ap pairs_of (drop_two ds n i len lt))
 
 -- ---- other bytes
 

@@ -2,6 +2,7 @@
 use Rattle.std.proofs.Common.{◌≡◌, ℕ, zero, suc, ◌*◌, ◌≤◌, ◌<◌, Bool, true, false, eqb, ltb, List, [], ◌∷◌, length, get_or, Option, Some, None, is_some, refl, sym, ap, subst, ◌∙◌, arith, pos, negsuc}
 use Rattle.std.specs.Prelude.{◌||◌, nat_eq, codes, option_map}
 use Rattle.std.specs.Bool.{Decides}
+use Rattle.std.specs.Ordering.{eq_by_cmp}
 use Rattle.std.specs.Option.{unwrap_or}
 use Rattle.std.specs.List.{list_all, list_any, slice_get}
 use Rattle.std.specs.Char.{is_ascii_digit}
@@ -22,13 +23,13 @@ use Rattle.gtid_text.proofs.Tokens.{own}
 use Rattle.row_images.specs.declared.value.Value.{Value}
 use Rattle.row_images.specs.declared.value.Value.TheVariants.{Null, Int, Bytes}
 use Rattle.row_images.specs.Parts.{parts_of, joined_by}
-use Rattle.row_images.specs.Order.{row_eq}
+use Rattle.row_images.specs.Order.{row_eq, value_cmp}
 use Rattle.row_images.specs.Values.{value_text, value_of, FitsValue, is_null, is_too_long, is_long_word}
 use Rattle.row_images.specs.Images.{words_of, values_text, AreValues, image_of, values_in}
 use Rattle.row_images.proofs.PartLaws.{parts_joined, words_cut}
 use Rattle.row_images.proofs.ValueLaws.{value_of-text, no_digit}
 use Rattle.row_images.proofs.AsciiLemmas.{ascii_word, ascii_digits}
-use Rattle.row_images.proofs.Equal.{told, columns-Decide, rows-Decide}
+use Rattle.row_images.proofs.Equal.{told, columns-Decide, rows-Decide, values-Decide}
 use Rattle.row_images.proofs.ImageLaws.{texts, none_in_nothing, row_words, values_fit, values_found}
 
 -- ---- the text of values is ASCII
@@ -184,3 +185,23 @@ rows_same s t here there =
       λ e. (columns-Decide s t).1 (sym here ∙ ap values_text e ∙ there),
     ) in
     told (pointwise nat_eq s t) (row_eq (values_in s) (values_in t)) d (rows-Decide (values_in s) (values_in t))
+
+-- ---- values are equal where their words are
+
+pub word_is : (vs : List Value) (k : ℕ) (w : List ℕ) → Some w ≡ option_map value_text (slice_get vs k) → w ≡ value_text (get_or vs k Null)
+word_is [] k w e = absurd cc
+word_is (v ∷ vs) zero w e = same_Some w (value_text v) e
+word_is (v ∷ vs) (suc k) w e = word_is vs k w e
+
+pub fits_at : (vs : List Value) (k : ℕ) → AreValues vs → FitsValue (get_or vs k Null)
+fits_at [] k fits = tt
+fits_at (v ∷ vs) zero fits = fits.0
+fits_at (v ∷ vs) (suc k) fits = fits_at vs k fits.1
+
+pub words_same : (v w : Value) → FitsValue v → FitsValue w → pointwise nat_eq (value_text v) (value_text w) ≡ eq_by_cmp value_cmp v w
+words_same v w here there =
+    let d : Decides (pointwise nat_eq (value_text v) (value_text w)) (v ≡ w) = (
+      λ e. same_Some v w (sym (value_of-text v here) ∙ ap value_of ((columns-Decide (value_text v) (value_text w)).0 e) ∙ value_of-text w there),
+      λ e. (columns-Decide (value_text v) (value_text w)).1 (ap value_text e),
+    ) in
+    told (pointwise nat_eq (value_text v) (value_text w)) (eq_by_cmp value_cmp v w) d (values-Decide v w)

@@ -5,7 +5,7 @@ use Rattle.row_images.specs.declared.value.Value.{Value}
 use Rattle.row_images.specs.declared.value.Held.{Held}
 use Rattle.row_images.specs.declared.value.Held.TheVariants.{Short, Shared}
 use Rattle.row_images.specs.declared.key_values.HeldValues.{HeldValues}
-use Rattle.row_images.specs.declared.key_values.HeldValues.TheVariants.{One, Several}
+use Rattle.row_images.specs.declared.key_values.HeldValues.TheVariants as hold
 
 -- the bytes of a byte string
 abbrev pub held_bytes : Held → List ℕ
@@ -14,5 +14,8 @@ held_bytes (Shared items) = arc_slice_items items
 
 -- the values of a key
 abbrev pub held_values : HeldValues → List Value
-held_values (One value) = value ∷ []
-held_values (Several items) = arc_slice_items items
+held_values hold.Null = Value.Null ∷ []
+held_values (hold.Int n) = Value.Int n ∷ []
+held_values (hold.Short bytes) = Value.Bytes bytes ∷ []
+held_values (hold.Shared items) = Value.Bytes (arc_slice_items items) ∷ []
+held_values (hold.Several items) = arc_slice_items items

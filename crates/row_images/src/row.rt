@@ -1,6 +1,8 @@
 //! Images of rows, each kept as its text.
 ghost use Rattle.std.specs.Prelude.{◌≡◌, ◌==◌, ◌≤◌, ◌<◌, IfOk, IfSome, None, is_some, length, option_map, slice_get, slice_index_or};
 ghost use Rattle.std.specs.List.{list_any};
+ghost use Rattle.std.specs.Ordering.{eq_by_cmp};
+ghost use Rattle.row_images.specs.Order.{value_cmp};
 ghost use Rattle.row_images.specs.declared.value.Value.TheVariants.{Null};
 ghost use Rattle.row_images.specs.Values.{value_text, is_null, is_too_long, is_long_word};
 ghost use Rattle.row_images.specs.Images.{words_of, values_text, image_of, AreValues};
@@ -208,6 +210,25 @@ impl Row {
             return None;
         }
         word_in(text, column)
+    }
+
+    /// The word of the value in a column, or that of null past the last.
+    fn word_or_null_at(&self, column: u32) -> &[u8]
+        ensures { result.now ≡ value_text (slice_index_or self.now column Null) }
+    {
+        match self.word_at(column as usize) {
+            Some(word) => word,
+            None => b"null".as_slice(),
+        }
+    }
+
+    /// Whether both rows have the same value in a column; it is null past the last. Only the words are compared.
+    pub fn has_same_value_at(&self, other: &Row, column: u32) -> bool
+        ensures { result ≡ eq_by_cmp value_cmp (slice_index_or self.now column Null) (slice_index_or other.now column Null) }
+    {
+        self.keeps_rules();
+        other.keeps_rules();
+        *self.word_or_null_at(column) == *other.word_or_null_at(column)
     }
 
     /// The value in a column, or null past the last.

@@ -1,6 +1,7 @@
 //! Values.
 
 ghost use Rattle.std.specs.Prelude.{◌≡◌, IfOk};
+ghost use Rattle.row_images.specs.Held.{held_bytes};
 
 use crate::packed::pack;
 use crate::short_bytes::ShortBytes;
@@ -24,7 +25,7 @@ impl Drop for ByteString {
 
 /// Where the bytes are held.
 #[derive(Drop)]
-enum Held {
+pub(crate) enum Held {
     Short(ShortBytes),
     Shared(ArcSlice<u8>),
 }
@@ -224,6 +225,14 @@ impl ByteString {
             None => Held::Shared(ArcSlice::from_slice(alloc, bytes)?),
         };
         Ok(ByteString { held })
+    }
+
+    /// The bytes, as they are held.
+    pub(crate) fn into_held(self) -> Held
+        ensures { held_bytes result ≡ self }
+    {
+        let ByteString { held } = self;
+        held
     }
 
     /// The bytes.

@@ -27,6 +27,8 @@ pub fn is_count(word: &[u8]) -> bool
 }
 
 /// The number below 2^64 that a long word is the one decimal spelling of.
+#[cold]
+#[inline(never)]
 fn long_count(word: &[u8]) -> Option<u64>
     ensures { result ≡ count_of word.now }
 {

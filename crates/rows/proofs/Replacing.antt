@@ -18,7 +18,7 @@ all_among x keys = or_left (key_eq x x) (is_among keys x) (key_eq_self x)
 
 -- ---- the keys of the row that went are free
 
-taken_of_free : (keys : List Key) (rows : Rows) → ((k : Key) → is_among keys k ≡ true → get rows k ≡ None) → first_taken keys rows ≡ None
+pub taken_of_free : (keys : List Key) (rows : Rows) → ((k : Key) → is_among keys k ≡ true → get rows k ≡ None) → first_taken keys rows ≡ None
 taken_of_free [] rows h = refl
 taken_of_free (x ∷ keys) rows h =
     let later = taken_of_free keys rows (λ k e. h k (or_right (key_eq k x) (is_among keys k) e)) in

@@ -1,19 +1,23 @@
 //! From each key to the row that carries it.
-ghost use Rattle.std.specs.Prelude.{◌≡◌, ◌≤◌, ◌<◌, ◌+◌, ◌^◌, ℕ, drop, OnOk, OnErr, IfOk, IfErr, Ok, Err, None, length};
+ghost use Rattle.std.specs.Prelude.{◌≡◌, ◌≤◌, ◌<◌, ◌+◌, ◌^◌, ℕ, ◌∷◌, [], true, false, OnOk, OnErr, IfOk, IfErr, Ok, Err, None, length};
 ghost use Rattle.std.specs.Bool.{Decides};
 ghost use Rattle.std.specs.Option.{option_copied};
 ghost use Rattle.std.specs.FinMap as map;
 ghost use Rattle.rows.specs.Apply.{first_taken, first_row, with_row, without_keys, inserted, deleted, apply_change, apply_from};
+ghost use Rattle.rows.specs.declared.change.Change.TheVariants.{Update};
 ghost use Rattle.rows.specs.Keys.{carried_keys};
 ghost use Rattle.rows.specs.Listing.{rows_listed};
+ghost use Rattle.rows.specs.Making.{IsPut, updated};
 ghost use Rattle.rows.specs.Patch.{put_over};
 ghost use Rattle.rows.specs.Refusal.{Refuses};
 
 use crate::change::{Change, Key, PrepareFault, RowFault, TableRow};
-use crate::keys::carried_keys;
+use crate::keys::{carried_keys, keeps_keys};
 use crate::listing::list_primary;
 use crate::making::Making;
 use crate::name::Name;
+use crate::placing::put_if_free;
+use crate::replacement::put_under_all;
 use crate::schema::Schema;
 use crate::standing::{carrier, first_taken, holds};
 use indexmap::IndexMap;
@@ -117,17 +121,12 @@ impl KeyMap {
         self.carriers.swap_remove(key);
     }
 
-    /// Puts a row under each of these keys, the last first. After a failed allocation it is stored under some last keys.
-    fn place(&mut self, keys: &[Key], row: &Row) -> Result<(), AllocError>
-        ensures ok { OnOk result (self.new ≡ with_row keys.now row.now self.old) }
-        ensures err { OnErr result ((n : ℕ) × (self.new ≡ with_row (drop n keys.now) row.now self.old)) }
+    /// Puts a row under each of these keys, or under none.
+    fn place(&mut self, keys: Vec<Key>, row: &Row) -> Result<(), AllocError>
+        ensures ok { OnOk result (self.new ≡ with_row keys.items row.now self.old) }
+        ensures err { OnErr result (self.new ≡ self.old) }
     {
-        let mut left = keys.len();
-        while left > 0 {
-            left -= 1;
-            self.put_copy(&keys[left], row)?;
-        }
-        Ok(())
+        put_under_all(&mut self.carriers, keys, row)
     }
 
     /// Takes away what is stored under each of these keys.
@@ -142,20 +141,32 @@ impl KeyMap {
     }
 
     /// Puts a row under its keys, if each of them is free.
-    fn insert_row(&mut self, keys: &[Key], row: &Row, change: u32) -> Result<(), PrepareFault>
-        ensures ok { OnOk result (inserted change keys.now row.now self.old ≡ Ok self.new) }
-        ensures refused { Refuses result (inserted change keys.now row.now self.old) }
+    fn insert_row(&mut self, keys: Vec<Key>, row: &Row, change: u32) -> Result<(), PrepareFault>
+        ensures ok { OnOk result (inserted change keys.items row.now self.old ≡ Ok self.new) }
+        ensures refused { Refuses result (inserted change keys.items row.now self.old) }
         ensures err { OnErr result (self.new ≡ self.old) }
     {
-        if let Some(key) = first_taken(&self.carriers, keys) {
+        if let Some(key) = first_taken(&self.carriers, &keys) {
             return Err(PrepareFault::Row(RowFault::DuplicateKey { change, key }));
         }
         match self.place(keys, row) {
             Ok(()) => Ok(()),
-            Err(_) => {
-                self.clear(keys);
-                Err(PrepareFault::Memory)
-            }
+            Err(_) => Err(PrepareFault::Memory),
+        }
+    }
+
+    /// Puts a row in the place of another that carries the same keys, if that is there.
+    fn replace_row(&mut self, keys: Vec<Key>, before: &Row, after: &Row) -> Result<(), PrepareFault>
+        ensures ok { OnOk result (updated 0 keys.items before.now keys.items after.now self.old ≡ Ok self.new) }
+        ensures refused { Refuses result (updated 0 keys.items before.now keys.items after.now self.old) }
+        ensures err { OnErr result (self.new ≡ self.old) }
+    {
+        if let Err(fault) = holds(&self.carriers, &keys, before, 0) {
+            return Err(PrepareFault::Row(fault));
+        }
+        match self.place(keys, after) {
+            Ok(()) => Ok(()),
+            Err(_) => Err(PrepareFault::Memory),
         }
     }
 
@@ -169,8 +180,10 @@ impl KeyMap {
         Ok(())
     }
 
-    /// Puts a row of a table under its keys, if each of them is free.
-    pub(crate) fn insert_image(
+    /// Puts a row of a table under its keys, if each of them is free; all keys are made first.
+    #[cold]
+    #[inline(never)]
+    fn insert_by_list(
         &mut self,
         alloc: Global,
         schema: &Schema,
@@ -183,9 +196,36 @@ impl KeyMap {
         ensures err { OnErr result (self.new ≡ self.old) }
     {
         match carried_keys(alloc, schema, table, row) {
-            Ok(keys) => self.insert_row(&keys, row, change),
+            Ok(keys) => self.insert_row(keys, row, change),
             Err(_) => Err(PrepareFault::Memory),
         }
+    }
+
+    /// Puts a row under the keys that it carries, if each of them is free; else nothing changes.
+    fn put_if_free(&mut self, alloc: Global, schema: &Schema, table: &Name, row: &Row) -> bool
+        ensures put { result ≡ true → IsPut (carried_keys schema.now table.now row.now) row.now self.old self.new }
+        ensures kept { result ≡ false → self.new ≡ self.old }
+    {
+        put_if_free(alloc, &mut self.carriers, schema, table, row)
+    }
+
+    /// Puts a row of a table under its keys, if each of them is free. The key that is taken is looked for only where one is.
+    pub(crate) fn insert_image(
+        &mut self,
+        alloc: Global,
+        schema: &Schema,
+        change: u32,
+        table: &Name,
+        row: &Row,
+    ) -> Result<(), PrepareFault>
+        ensures ok { OnOk result (inserted change (carried_keys schema.now table.now row.now) row.now self.old ≡ Ok self.new) }
+        ensures refused { Refuses result (inserted change (carried_keys schema.now table.now row.now) row.now self.old) }
+        ensures err { OnErr result (self.new ≡ self.old) }
+    {
+        if self.put_if_free(alloc, schema, table, row) {
+            return Ok(());
+        }
+        self.insert_by_list(alloc, schema, change, table, row)
     }
 
     /// Takes away the row of a table under its keys, if it is there.
@@ -207,6 +247,47 @@ impl KeyMap {
                 Err(fault) => Err(PrepareFault::Row(fault)),
             },
             Err(_) => Err(PrepareFault::Memory),
+        }
+    }
+
+    /// Puts a row of a table in the place of another that carries the same keys, if that is there.
+    fn replace_image(
+        &mut self,
+        alloc: Global,
+        schema: &Schema,
+        table: &Name,
+        before: &Row,
+        after: &Row,
+    ) -> Result<(), PrepareFault>
+        ensures ok { OnOk result (updated 0 (carried_keys schema.now table.now before.now) before.now (carried_keys schema.now table.now before.now) after.now self.old ≡ Ok self.new) }
+        ensures refused { Refuses result (updated 0 (carried_keys schema.now table.now before.now) before.now (carried_keys schema.now table.now before.now) after.now self.old) }
+        ensures err { OnErr result (self.new ≡ self.old) }
+    {
+        match carried_keys(alloc, schema, table, before) {
+            Ok(keys) => self.replace_row(keys, before, after),
+            Err(_) => Err(PrepareFault::Memory),
+        }
+    }
+
+    /// Makes an update alone, or not at all. Where its keys stay, the after image is put over the row.
+    pub(crate) fn update_image(
+        &mut self,
+        alloc: Global,
+        schema: &Schema,
+        table: &Name,
+        before: &Row,
+        after: &Row,
+        alone: &[Change],
+    ) -> Result<(), PrepareFault>
+        requires { alone.now ≡ Update table.now before.now after.now ∷ [] }
+        ensures ok { OnOk result (apply_from schema.now 0 alone.now self.old ≡ Ok self.new) }
+        ensures refused { Refuses result (apply_from schema.now 0 alone.now self.old) }
+        ensures err { OnErr result (self.new ≡ self.old) }
+    {
+        if keeps_keys(schema, table, before, after) {
+            self.replace_image(alloc, schema, table, before, after)
+        } else {
+            self.make_all(alloc, schema, alone)
         }
     }
 

@@ -4,6 +4,7 @@ ghost use Rattle.std.specs.Bool.{Decides};
 ghost use Rattle.std.specs.FinMap as map;
 ghost use Rattle.std.specs.Vec.{vec_capacity};
 ghost use Rattle.indexmap.specs.IndexMap.{spare};
+ghost use Rattle.rows.specs.declared.change.Change.TheVariants.{Update};
 ghost use Rattle.rows.specs.Apply.{with_row, without_keys, inserted, deleted, apply_change, apply_from};
 ghost use Rattle.rows.specs.Keys.{carried_keys};
 ghost use Rattle.rows.specs.Making.{put_back, updated};
@@ -12,7 +13,7 @@ ghost use Rattle.rows.specs.Patch.{put};
 ghost use Rattle.rows.specs.Refusal.{Refuses};
 
 use crate::change::{Change, Key, PrepareFault, RowFault};
-use crate::keys::carried_keys;
+use crate::keys::{carried_keys, keeps_keys};
 use crate::name::Name;
 use crate::patch::Seen;
 use crate::schema::Schema;
@@ -59,7 +60,7 @@ fn make_room(carriers: &mut IndexMap<Key, Row>, log: &mut Vec<Seen>) -> Result<(
 }
 
 /// Puts a row under a key. The result is what was there.
-fn put_in_room(carriers: &mut IndexMap<Key, Row>, key: Key, row: Row) -> Option<Row>
+pub(crate) fn put_in_room(carriers: &mut IndexMap<Key, Row>, key: Key, row: Row) -> Option<Row>
     requires { 0 < spare carriers.old }
     ensures rows { map.from_entries {R = key_cmp} carriers.new.entries ≡ map.insert (map.from_entries carriers.old.entries) key row }
     ensures over { result ≡ map.get (map.from_entries {R = key_cmp} carriers.old.entries) key }
@@ -288,6 +289,49 @@ impl Making {
         }
     }
 
+    /// Puts a row of a table in the place of another that carries the same keys, if that is there.
+    fn replace_image(
+        &mut self,
+        alloc: Global,
+        schema: &Schema,
+        n: u32,
+        table: &Name,
+        before: &Row,
+        after: &Row,
+    ) -> Result<(), PrepareFault>
+        ensures ok { OnOk result (updated n (carried_keys schema.now table.now before.now) before.now (carried_keys schema.now table.now before.now) after.now self.old.made ≡ Ok self.new.made) }
+        ensures refused { Refuses result (updated n (carried_keys schema.now table.now before.now) before.now (carried_keys schema.now table.now before.now) after.now self.old.made) }
+        ensures before { self.new.before ≡ self.old.before }
+    {
+        match carried_keys(alloc, schema, table, before) {
+            Ok(keys) => self.replace_row(keys, before, after, n),
+            Err(_) => Err(PrepareFault::Memory),
+        }
+    }
+
+    /// Puts a row of a table in the place of another. Where the keys stay, they are made once.
+    fn update_image(
+        &mut self,
+        alloc: Global,
+        schema: &Schema,
+        n: u32,
+        table: &Name,
+        before: &Row,
+        after: &Row,
+    ) -> Result<(), PrepareFault>
+        ensures ok { OnOk result (apply_change schema.now n (Update table.now before.now after.now) self.old.made ≡ Ok self.new.made) }
+        ensures refused { Refuses result (apply_change schema.now n (Update table.now before.now after.now) self.old.made) }
+        ensures before { self.new.before ≡ self.old.before }
+    {
+        if keeps_keys(schema, table, before, after) {
+            return self.replace_image(alloc, schema, n, table, before, after);
+        }
+        match keys_of_both(alloc, schema, table, before, after) {
+            Ok((keys, keys_after)) => self.update_row(keys, before, keys_after, after, n),
+            Err(_) => Err(PrepareFault::Memory),
+        }
+    }
+
     /// Makes one change.
     fn make(
         &mut self,
@@ -313,10 +357,7 @@ impl Making {
                 table,
                 before,
                 after,
-            } => match keys_of_both(alloc, schema, table, before, after) {
-                Ok((keys, keys_after)) => self.update_row(keys, before, keys_after, after, n),
-                Err(_) => Err(PrepareFault::Memory),
-            },
+            } => self.update_image(alloc, schema, n, table, before, after),
         }
     }
 

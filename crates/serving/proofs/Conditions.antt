@@ -3,6 +3,7 @@ use Rattle.std.proofs.Common.{◌≡◌, ℕ, ◌+◌, ◌≤◌, ◌<◌, ◌||
 use Rattle.std.proofs.lemmas.Bool.Decides.{nat_tests}
 use Rattle.std.proofs.lemmas.Bool.{and_parts, not-false, or_left}
 use Rattle.std.proofs.lemmas.List.{map-append, length-map}
+use Rattle.std.proofs.lemmas.List.Elements.{All-from_recursion}
 use Rattle.std.proofs.lemmas.List.Filters.{length-filter_both}
 use Rattle.std.specs.Prelude.{slice_get, nat_le}
 use Rattle.std.specs.List.{filter, list_any, AllByRecursion}
@@ -16,7 +17,6 @@ use Rattle.gtid_text.specs.Gtids.{gtid_cmp}
 use Rattle.gtid_text.proofs.SameGtid.{gtid_total}
 use Rattle.gtid_set.specs.Sets.{Gtids}
 use Rattle.rows.specs.declared.schema.Table.{Table}
-use Rattle.rows.specs.declared.change.NotInSchema.{NotInSchema}
 use Rattle.rows.specs.declared.change.Transaction.{Transaction}
 use Rattle.rows.specs.Database.{Database}
 use Rattle.rows.specs.Fits.{misfit, Fits}
@@ -39,7 +39,7 @@ use Rattle.ordered_replicas.specs.Served.{accepted_entries}
 use Rattle.ordered_replicas.proofs.Sending.{sent_cases}
 use Rattle.ordered_replicas.proofs.Wholes.{set_there}
 use Rattle.audit.specs.Contents.{in_order, as_entry}
-use Rattle.audit.specs.Worlds.{IsMisfit}
+use Rattle.audit.specs.Worlds.{AllFit as AllWorldFits}
 use Rattle.world.specs.Audit.{all_entries, first_contents, found_in_keys, purged, unequal}
 use Rattle.world.specs.Meaning.{AreJournals}
 use Rattle.world.specs.declared.verdict.Verdict.TheVariants.{Sound, Purged}
@@ -314,18 +314,20 @@ all_fit : (schema : List Table) (js : List JournalValue) → AllByRecursion (Fit
 all_fit schema [] fits = tt
 all_fit schema (j ∷ js) fits = all_append (λ (e : Entry). Fits schema e.txn) j.entries (all_entries js) fits.0 (all_fit schema js fits.1)
 
--- no transaction is refused by the tables
-no_misfit : (b : BundleValue) (g : Gtid) (why : NotInSchema) → IsFitting b → IsMisfit b.start.schema (in_order (first_contents b.opened (all_entries b.journals))) g why → ⊥
-no_misfit b g why fits it =
+-- the tables take each transaction of the world
+world_fits : (b : BundleValue) → IsFitting b → AllWorldFits b.start.schema (in_order (first_contents b.opened (all_entries b.journals)))
+world_fits b fits =
     let schema : List Table = b.start.schema in
-    let at = get_map_cases as_entry (finmap.entries (first_contents b.opened (all_entries b.journals))) it.place it.entry it.there in
-    let taken : Fits schema at.0.1 = contents_fit schema b.opened (all_entries b.journals) at.0.0 at.0.1 (all_fit schema b.journals fits) (at_content (world_over b) it.place at.0 at.1) in
-    none_some why (sym taken ∙ ap (λ (e : Entry). misfit schema e.txn) at.2 ∙ it.unfit)
+    let es : List Entry = in_order (first_contents b.opened (all_entries b.journals)) in
+    let one : (i : ℕ) (e : Entry) → slice_get es i ≡ Some e → Fits schema e.txn =
+        λ i e there.
+            let at = get_map_cases as_entry (finmap.entries (first_contents b.opened (all_entries b.journals))) i e there in
+            subst (λ (x : Entry). Fits schema x.txn) at.2 (contents_fit schema b.opened (all_entries b.journals) at.0.0 at.0.1 (all_fit schema b.journals fits) (at_content (world_over b) i at.0 at.1)) in
+    All-from_recursion (λ (e : Entry). Fits schema e.txn) es (all_from (λ (e : Entry). Fits schema e.txn) es one)
 
-pub none_refused : (b : BundleValue) (d : Database) (opened : Gtids) (js : List JournalValue) (g : Gtid) (why : NotInSchema) → d ≡ b.start → opened ≡ b.opened → js ≡ b.journals → IsFitting b
-    → IsMisfit d.schema (in_order (first_contents opened (all_entries js))) g why → ⊥
-none_refused b d opened js g why same none all fits it =
-    no_misfit b g why fits
-    (subst (λ (x : Database). IsMisfit x.schema (in_order (first_contents b.opened (all_entries b.journals))) g why) same
-    (subst (λ (x : Gtids). IsMisfit d.schema (in_order (first_contents x (all_entries b.journals))) g why) none
-    (subst (λ (x : List JournalValue). IsMisfit d.schema (in_order (first_contents opened (all_entries x))) g why) all it)))
+pub all_taken : (b : BundleValue) (d : Database) (opened : Gtids) (js : List JournalValue) → d ≡ b.start → opened ≡ b.opened → js ≡ b.journals → IsFitting b
+    → AllWorldFits d.schema (in_order (first_contents opened (all_entries js)))
+all_taken b d opened js same none all fits =
+    subst (λ (x : Database). AllWorldFits x.schema (in_order (first_contents opened (all_entries js)))) (sym same)
+    (subst (λ (x : Gtids). AllWorldFits b.start.schema (in_order (first_contents x (all_entries js)))) (sym none)
+    (subst (λ (x : List JournalValue). AllWorldFits b.start.schema (in_order (first_contents b.opened (all_entries x)))) (sym all) (world_fits b fits)))

@@ -12,7 +12,7 @@ ghost use Rattle.serving.specs.Verdicts.{is_sound, world_over, keys_by, verdict_
 use crate::order::Order;
 use crate::receiving::{Apply, serve_journals};
 use crate::working::finish;
-use audit::{World, WorldFault, audit, audit_keys, world_of};
+use audit::{World, audit, audit_keys, world_of_fitting};
 use conflict_audit::{audit_in_order, audit_keys_in_order};
 use faithful_runs::{
     served_holds_all, served_holds_all_in_order, workers_decide, workers_decide_in_order,
@@ -61,11 +61,7 @@ pub(crate) fn opening_world(alloc: Global, bundle: &Bundle) -> Result<World, All
     requires { IsFitting bundle.now }
     ensures { IfOk result (λ world. world ≡ world_over bundle.now) }
 {
-    match world_of(alloc, bundle.opened(), bundle.rows(), bundle.journals()) {
-        Ok(world) => Ok(world),
-        Err(WorldFault::Memory) => Err(AllocError),
-        Err(WorldFault::NotInSchema(_, _)) => unreachable!(),
-    }
+    world_of_fitting(alloc, bundle.opened(), bundle.rows(), bundle.journals())
 }
 
 /// What the audit of keys that asks for an order finds first in a world and journals.

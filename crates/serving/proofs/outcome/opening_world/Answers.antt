@@ -1,10 +1,6 @@
-use Rattle.std.proofs.Common.{subst}
-use Rattle.audit.specs.Worlds.{IsWorldFault}
-use Rattle.serving.proofs.Conditions.{none_refused}
+use Rattle.serving.proofs.Conditions.{all_taken}
 use Rattle.serving.proofs.outcome.opening_world.Goals as goal
 
-pub unreachable-requires : goal.unreachable-requires
-unreachable-requires c =
-    none_refused c.args.bundle.now c.rows.result.now c.opened.result.now c.journals.result.now c.in-Err-NotInSchema.field-0-0 c.in-Err-NotInSchema.field-0-1
-    c.rows.ensures c.opened.ensures c.journals.ensures c.requires
-    (subst (IsWorldFault c.rows.result.now.schema c.opened.result.now c.journals.result.now) c.in-Err-NotInSchema.field-0-is c.in-Err-NotInSchema.ensures.unfit)
+pub world_of_fitting-requires : goal.world_of_fitting-requires
+world_of_fitting-requires c =
+    all_taken c.args.bundle.now c.rows.result.now c.opened.result.now c.journals.result.now c.rows.ensures c.opened.ensures c.journals.ensures c.requires
