@@ -71,7 +71,7 @@ impl World {
         if self.is_of(alloc, journals, equal)? {
             return Ok(None);
         }
-        let contents = Contents::of_journals(alloc, self.opened(), journals)?;
+        let contents = Contents::of_journals(alloc, self.opening_set(), journals)?;
         Ok(Some(contents))
     }
 }

@@ -105,7 +105,7 @@ impl World {
     ) -> Result<Option<Verdict>, AllocError>
         ensures { IfOk result (λ found. found ≡ gap_at self.now needs.now (stands previous.now standing.now) entry.now) }
     {
-        if self.opened().contains(&entry.gtid) {
+        if self.opening_set().contains(&entry.gtid) {
             return Ok(None);
         }
         if lacks(needs, previous, standing, &entry.gtid) {

@@ -94,8 +94,8 @@ impl World {
         ensures { IfOk result (λ found. found ≡ missing self.now journals.now) }
     {
         match self.brought(alloc, journals, true)? {
-            Some(contents) => Ok(first_missing(self.opened(), contents.in_order())),
-            None => Ok(first_missing(self.opened(), self.in_order())),
+            Some(contents) => Ok(first_missing(self.opening_set(), contents.in_order())),
+            None => Ok(first_missing(self.opening_set(), self.in_order())),
         }
     }
 }

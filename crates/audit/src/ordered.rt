@@ -94,7 +94,7 @@ impl World {
         ensures { IfOk result (λ yes. yes ≡ true → AreInOrder self.now.opening_set journals.now) }
     {
         for journal in journals {
-            if !is_in_order(alloc, self.opened(), journal.entries())? {
+            if !is_in_order(alloc, self.opening_set(), journal.entries())? {
                 return Ok(false);
             }
         }

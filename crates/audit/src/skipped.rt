@@ -111,7 +111,7 @@ impl World {
             return Ok(GtidSet::empty(alloc));
         }
         let skipped = self.skipped(alloc, journals)?;
-        skipped.subtract(alloc, self.opened())
+        skipped.subtract(alloc, self.opening_set())
     }
 
     /// The missing GTIDs but for that of the verdict.

@@ -24,7 +24,7 @@ impl World {
     pub(crate) fn is_unequal(&self, guesses: &mut Guesses, entry: &Entry) -> bool
         ensures { result ≡ is_unequal self.now entry.now }
     {
-        !self.opened().contains(&entry.gtid) && !self.has(guesses, entry)
+        !self.opening_set().contains(&entry.gtid) && !self.has(guesses, entry)
     }
 
     fn unequal_among(&self, entries: &[Entry]) -> Option<Verdict>

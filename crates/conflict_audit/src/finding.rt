@@ -41,7 +41,7 @@ fn does_not_apply(
 {
     keep_rules(journals);
     let _fitting = world.in_order();
-    let order = join_journals(alloc, world.opened(), journals)?;
+    let order = join_journals(alloc, world.opening_set(), journals)?;
     let mut rows = world.rows().copy()?;
     first_refusal(alloc, &mut rows, &order)
 }

@@ -6,7 +6,7 @@ use Rattle.gtid_set.specs.declared.fault.SetFault.TheVariants.{Memory}
 use Rattle.gtid_text.specs.declared.Gtid.{Gtid}
 use Rattle.gtid_set.specs.Sets.{Gtids, gtid, source_count, most_sources}
 use Rattle.journal.specs.declared.Entry.{Entry}
-use Rattle.journal.specs.Journals.{purged}
+use Rattle.journal.specs.Journals.{previous_after_purge}
 use Rattle.journal.specs.Faults.{IsPurgedFault}
 use Rattle.gtid_set.specs.Full.{IsFaultOf}
 use Rattle.apply_channel.specs.Full.{gtids_with}
@@ -45,7 +45,7 @@ made_by site s (event.Position c) = asking c s
 made_by site s (event.Receive c entry) = receiving c entry s
 made_by site s (event.Commit seat) = committing seat s
 made_by site s (event.Local changes) = numbering site s
-made_by site s (event.Purge k) = Some (purged k s.journal)
+made_by site s (event.Purge k) = Some (previous_after_purge k s.journal)
 made_by site s _ = None
 
 -- ---- faults

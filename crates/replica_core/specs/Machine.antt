@@ -13,7 +13,7 @@ use Rattle.rows.specs.Apply.{Rows, apply}
 use Rattle.rows.specs.Fits.{misfit}
 use Rattle.rows.specs.WriteSet.{shares_key}
 use Rattle.journal.specs.declared.Entry.{Entry}
-use Rattle.journal.specs.Journals.{purged}
+use Rattle.journal.specs.Journals.{previous_after_purge}
 use Rattle.journal.specs.Writing.{is_number}
 use Rattle.relay.specs.Own.{with_last, purge_to}
 use Rattle.apply_channel.specs.Channels.{ChannelValue, Received, with_stopped, with_asked, new_channel, settle_channel, with_received, received_as, received_gtids, same_name, is_full}
@@ -187,7 +187,7 @@ local site t s =
 abbrev pub purge : ℕ → State → Step
 purge k s =
     if nat_lt (length s.journal.entries) k then (TooMany (length s.journal.entries), s) else
-    (Purged (purged k s.journal), record s { journal = purge_to k s.journal })
+    (Purged (previous_after_purge k s.journal), record s { journal = purge_to k s.journal })
 
 abbrev pub look : State → Step
 look s = (Shown s.executed, s)

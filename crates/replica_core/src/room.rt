@@ -1,7 +1,7 @@
 //! Whether there is room for the set that an event makes. Nothing here allocates.
 ghost use Rattle.std.specs.Prelude.{◌≡◌, true, false, Some};
 ghost use Rattle.gtid_set.specs.declared.fault.SetFault.TheVariants.{Memory, SourcesFull};
-ghost use Rattle.journal.specs.Journals.{purged};
+ghost use Rattle.journal.specs.Journals.{previous_after_purge};
 ghost use Rattle.replica_core.specs.Faults.{IsCause, IsFaultIn, HasRoomFor, made_by, asking, receiving, committing, numbering};
 
 use crate::event::Event;
@@ -65,7 +65,7 @@ impl Core {
 
     /// A law, which does nothing: the purged set is a part of the executed set, and has not too many sources.
     fn purged_has_room(&self, count: usize)
-        ensures { HasRoomFor Memory (Some (purged count self.now.state.journal)) }
+        ensures { HasRoomFor Memory (Some (previous_after_purge count self.now.state.journal)) }
     {
         self.executed_is_recorded();
         self.executed().keeps_limits();

@@ -2,7 +2,7 @@
 ghost use Rattle.std.specs.Prelude.{◌≡◌, ◌<◌, ◌∷◌, [], ◌++◌, IfOk, IfErr, IfSome, OnErr, Some, None, true, length, vec_len, vec_capacity, slice_get};
 ghost use Rattle.replica_core.specs.Machine.{purge, look, step, is_numbered, AreNumbered, replies, after};
 ghost use Rattle.replica_core.specs.Replies.{answered_events};
-ghost use Rattle.journal.specs.Journals.{purged};
+ghost use Rattle.journal.specs.Journals.{previous_after_purge};
 ghost use Rattle.journal.specs.Faults.{IsPurgedFault};
 ghost use Rattle.replica_core.specs.Faults.{IsFault, IsFaultIn, IsFaultAt, IsStepFault, HasRoomFor, HasRoomAt, made_by};
 
@@ -19,7 +19,7 @@ impl Core {
         ensures site { self.new.site ≡ self.old.site }
         ensures err { OnErr result (self.new ≡ self.old) }
         ensures fault { IfErr result (λ f. IsFault (IsPurgedFault f count self.old.state.journal) (purge count self.old.state)) }
-        ensures room { IfErr result (λ f. HasRoomFor f (Some (purged count self.old.state.journal))) }
+        ensures room { IfErr result (λ f. HasRoomFor f (Some (previous_after_purge count self.old.state.journal))) }
     {
         match self.journal.purge(alloc, count) {
             Ok(purged) => return Ok(Reply::Purged(purged)),

@@ -61,7 +61,7 @@ pub(crate) fn opening_world(alloc: Global, bundle: &Bundle) -> Result<World, All
     requires { IsFitting bundle.now }
     ensures { IfOk result (λ world. world ≡ world_over bundle.now) }
 {
-    match world_of(alloc, bundle.opened(), bundle.rows(), bundle.journals()) {
+    match world_of(alloc, bundle.opening_set(), bundle.rows(), bundle.journals()) {
         Ok(world) => Ok(world),
         Err(WorldFault::Memory) => Err(AllocError),
         Err(WorldFault::NotInSchema(_, _)) => unreachable!(),
@@ -147,7 +147,7 @@ fn open_replica(alloc: Global, bundle: &Bundle) -> Result<Core, SetFault>
     ensures fault { IsOkUnless result Memory }
 {
     let rows = bundle.rows().copy()?;
-    let executed = bundle.opened().copy(alloc)?;
+    let executed = bundle.opening_set().copy(alloc)?;
     Core::open_snapshot(alloc, bundle.replica(), rows, executed)
 }
 

@@ -63,7 +63,7 @@ fn purged_by(core: &Core, alloc: Global, count: usize) -> Result<Option<GtidSet>
     if journal.len() < count {
         return Ok(None);
     }
-    Ok(Some(journal.purged(alloc, count)?))
+    Ok(Some(journal.previous_after_purge(alloc, count)?))
 }
 
 /// A copy of a reply, which does not allocate, since its set was made beforehand.

@@ -65,10 +65,10 @@ impl Bundle {
     }
 
     /// The opening set: the GTIDs that are executed from the start, and purged. Version 1 of the format has no other than the empty one.
-    pub fn opened(&self) -> &GtidSet
+    pub fn opening_set(&self) -> &GtidSet
         ensures { result.now ≡ self.now.opened }
     {
-        self.parts.opened()
+        self.parts.opening_set()
     }
 
     /// The tables.

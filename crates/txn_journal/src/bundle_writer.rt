@@ -217,7 +217,7 @@ fn write_bundle(
         alloc,
         out,
         bundle.replica(),
-        bundle.opened(),
+        bundle.opening_set(),
         schema.tables(),
         rows,
     )?;

@@ -101,7 +101,7 @@ impl OpenBundle {
     }
 
     /// The opening set.
-    pub fn opened(&self) -> &GtidSet
+    pub fn opening_set(&self) -> &GtidSet
         ensures { result.now ≡ self.now.opened }
     {
         &self.opened

@@ -5,6 +5,6 @@ use Rattle.serving.proofs.outcome.opening_world.Goals as goal
 
 pub unreachable-requires : goal.unreachable-requires
 unreachable-requires c =
-    none_refused c.args.bundle.now c.rows.result.now c.opened.result.now c.journals.result.now c.in-Err-NotInSchema.field-0-0 c.in-Err-NotInSchema.field-0-1
-    c.rows.ensures c.opened.ensures c.journals.ensures c.requires
-    (subst (IsWorldFault c.rows.result.now.schema c.opened.result.now c.journals.result.now) c.in-Err-NotInSchema.field-0-is c.in-Err-NotInSchema.ensures.unfit)
+    none_refused c.args.bundle.now c.rows.result.now c.opening_set.result.now c.journals.result.now c.in-Err-NotInSchema.field-0-0 c.in-Err-NotInSchema.field-0-1
+    c.rows.ensures c.opening_set.ensures c.journals.ensures c.requires
+    (subst (IsWorldFault c.rows.result.now.schema c.opening_set.result.now c.journals.result.now) c.in-Err-NotInSchema.field-0-is c.in-Err-NotInSchema.ensures.unfit)

@@ -2,7 +2,7 @@ use Rattle.std.proofs.Common.{rules, take, ap, ◌∙◌}
 use Rattle.journal.specs.Journals.{JournalValue}
 use Rattle.journal.specs.Faults.{IsPurgedFault}
 use Rattle.journal.proofs.FaultLemmas.{purged_fault}
-use Rattle.journal.proofs.Journal.purged.Goals as goal
+use Rattle.journal.proofs.Journal.previous_after_purge.Goals as goal
 
 pub returns-in_err-add_gtids-clause-fault : goal.returns-in_err-add_gtids-clause-fault
 returns-in_err-add_gtids-clause-fault c =
