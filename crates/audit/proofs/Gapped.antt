@@ -208,7 +208,7 @@ of_gaps needs (z ∷ js) (suc i) j k e h x y a =
 -- ---- what is reported
 
 abbrev told : Gtids → Gap → List Gap → Bool → List Verdict
-told said q ps b = cond b (unreported said ps) (NotClosed q.0 q.1 ∷ unreported (set.insert said q.0) ps)
+told reported q ps b = cond b (unreported reported ps) (NotClosed q.0 q.1 ∷ unreported (set.insert reported q.0) ps)
 
 swapped : (a b c : Bool) → ((a || b) || c) ≡ true → (b || (a || c)) ≡ true
 swapped true true c e = refl
@@ -216,55 +216,55 @@ swapped true false c e = refl
 swapped false true c e = refl
 swapped false false c e = e
 
-said_all : (said : Gtids) (ps : List Gap) (m : ℕ) (p : Gap) → slice_get ps m ≡ Some p → (set.contains said p.0 || list_any (is_of_gap p.0) (unreported said ps)) ≡ true
-said_all said [] m p x = none_some p x
-said_all said (q ∷ ps) zero p x =
-    subst (λ (y : Gap). (set.contains said y.0 || list_any (is_of_gap y.0) (told said q ps (set.contains said q.0))) ≡ true) (same_Some q p x) (now (set.contains said q.0) refl)
+said_all : (reported : Gtids) (ps : List Gap) (m : ℕ) (p : Gap) → slice_get ps m ≡ Some p → (set.contains reported p.0 || list_any (is_of_gap p.0) (unreported reported ps)) ≡ true
+said_all reported [] m p x = none_some p x
+said_all reported (q ∷ ps) zero p x =
+    subst (λ (y : Gap). (set.contains reported y.0 || list_any (is_of_gap y.0) (told reported q ps (set.contains reported q.0))) ≡ true) (same_Some q p x) (now (set.contains reported q.0) refl)
   where
-    now : (b : Bool) → set.contains said q.0 ≡ b → (set.contains said q.0 || list_any (is_of_gap q.0) (told said q ps b)) ≡ true
-    now true s = or_left (set.contains said q.0) (list_any (is_of_gap q.0) (told said q ps true)) s
+    now : (b : Bool) → set.contains reported q.0 ≡ b → (set.contains reported q.0 || list_any (is_of_gap q.0) (told reported q ps b)) ≡ true
+    now true s = or_left (set.contains reported q.0) (list_any (is_of_gap q.0) (told reported q ps true)) s
     now false s =
-        or_right (set.contains said q.0) (list_any (is_of_gap q.0) (told said q ps false))
-        (or_left (same_gtid q.0 q.0) (list_any (is_of_gap q.0) (unreported (set.insert said q.0) ps)) (same_itself q.0))
-said_all said (q ∷ ps) (suc m) p x = by (set.contains said q.0) (said_all said ps m p x) (said_all (set.insert said q.0) ps m p x)
+        or_right (set.contains reported q.0) (list_any (is_of_gap q.0) (told reported q ps false))
+        (or_left (same_gtid q.0 q.0) (list_any (is_of_gap q.0) (unreported (set.insert reported q.0) ps)) (same_itself q.0))
+said_all reported (q ∷ ps) (suc m) p x = by (set.contains reported q.0) (said_all reported ps m p x) (said_all (set.insert reported q.0) ps m p x)
   where
-    by : (b : Bool) → (set.contains said p.0 || list_any (is_of_gap p.0) (unreported said ps)) ≡ true
-        → (set.contains (set.insert said q.0) p.0 || list_any (is_of_gap p.0) (unreported (set.insert said q.0) ps)) ≡ true
-        → (set.contains said p.0 || list_any (is_of_gap p.0) (told said q ps b)) ≡ true
+    by : (b : Bool) → (set.contains reported p.0 || list_any (is_of_gap p.0) (unreported reported ps)) ≡ true
+        → (set.contains (set.insert reported q.0) p.0 || list_any (is_of_gap p.0) (unreported (set.insert reported q.0) ps)) ≡ true
+        → (set.contains reported p.0 || list_any (is_of_gap p.0) (told reported q ps b)) ≡ true
     by true old more = old
     by false old more =
-        swapped (same_gtid p.0 q.0) (set.contains said p.0) (list_any (is_of_gap p.0) (unreported (set.insert said q.0) ps))
-        (ap (λ b. b || list_any (is_of_gap p.0) (unreported (set.insert said q.0) ps)) (sym (in_insert said q.0 p.0)) ∙ more)
+        swapped (same_gtid p.0 q.0) (set.contains reported p.0) (list_any (is_of_gap p.0) (unreported (set.insert reported q.0) ps))
+        (ap (λ b. b || list_any (is_of_gap p.0) (unreported (set.insert reported q.0) ps)) (sym (in_insert reported q.0 p.0)) ∙ more)
 
 -- what was reported is not reported again
-not_again : (said : Gtids) (ps : List Gap) (g : Gtid) → set.contains said g ≡ true → list_any (is_of_gap g) (unreported said ps) ≡ false
-not_again said [] g h = refl
-not_again said (q ∷ ps) g h =
-    by (set.contains said q.0) refl (not_again said ps g h) (not_again (set.insert said q.0) ps g (in_insert said q.0 g ∙ or_right (same_gtid g q.0) (set.contains said g) h))
+not_again : (reported : Gtids) (ps : List Gap) (g : Gtid) → set.contains reported g ≡ true → list_any (is_of_gap g) (unreported reported ps) ≡ false
+not_again reported [] g h = refl
+not_again reported (q ∷ ps) g h =
+    by (set.contains reported q.0) refl (not_again reported ps g h) (not_again (set.insert reported q.0) ps g (in_insert reported q.0 g ∙ or_right (same_gtid g q.0) (set.contains reported g) h))
   where
-    by : (b : Bool) → set.contains said q.0 ≡ b → list_any (is_of_gap g) (unreported said ps) ≡ false → list_any (is_of_gap g) (unreported (set.insert said q.0) ps) ≡ false
-        → list_any (is_of_gap g) (told said q ps b) ≡ false
+    by : (b : Bool) → set.contains reported q.0 ≡ b → list_any (is_of_gap g) (unreported reported ps) ≡ false → list_any (is_of_gap g) (unreported (set.insert reported q.0) ps) ≡ false
+        → list_any (is_of_gap g) (told reported q ps b) ≡ false
     by true s old more = old
     by false s old more =
-        let other : same_gtid g q.0 ≡ false = false_from_ne_true (same_gtid g q.0) (λ is. not_both (set.contains said q.0) (ap (set.contains said) (sym (same_is_equal g q.0 is)) ∙ h) s) in
-        ap (λ b. b || list_any (is_of_gap g) (unreported (set.insert said q.0) ps)) other ∙ more
+        let other : same_gtid g q.0 ≡ false = false_from_ne_true (same_gtid g q.0) (λ is. not_both (set.contains reported q.0) (ap (set.contains reported) (sym (same_is_equal g q.0 is)) ∙ h) s) in
+        ap (λ b. b || list_any (is_of_gap g) (unreported (set.insert reported q.0) ps)) other ∙ more
 
-once_from : (said : Gtids) (ps : List Gap) → AreGapsOnce (unreported said ps)
-once_from said [] = tt
-once_from said (q ∷ ps) = by (set.contains said q.0) (once_from said ps) (once_from (set.insert said q.0) ps)
+once_from : (reported : Gtids) (ps : List Gap) → AreGapsOnce (unreported reported ps)
+once_from reported [] = tt
+once_from reported (q ∷ ps) = by (set.contains reported q.0) (once_from reported ps) (once_from (set.insert reported q.0) ps)
   where
-    by : (b : Bool) → AreGapsOnce (unreported said ps) → AreGapsOnce (unreported (set.insert said q.0) ps) → AreGapsOnce (told said q ps b)
+    by : (b : Bool) → AreGapsOnce (unreported reported ps) → AreGapsOnce (unreported (set.insert reported q.0) ps) → AreGapsOnce (told reported q ps b)
     by true old more = old
     by false old more =
-        (not_again (set.insert said q.0) ps q.0 (in_insert said q.0 q.0 ∙ or_left (same_gtid q.0 q.0) (set.contains said q.0) (same_itself q.0)), more)
+        (not_again (set.insert reported q.0) ps q.0 (in_insert reported q.0 q.0 ∙ or_left (same_gtid q.0 q.0) (set.contains reported q.0) (same_itself q.0)), more)
 
 -- what holds of each holds of what is reported
-all_told : (Q : Verdict → Type 0) (said : Gtids) (ps : List Gap) → ((m : ℕ) (p : Gap) → slice_get ps m ≡ Some p → Q (NotClosed p.0 p.1)) → AllByRecursion Q (unreported said ps)
-all_told Q said [] each = tt
-all_told Q said (q ∷ ps) each =
-    by (set.contains said q.0) (all_told Q said ps (λ m p x. each (suc m) p x)) (all_told Q (set.insert said q.0) ps (λ m p x. each (suc m) p x))
+all_told : (Q : Verdict → Type 0) (reported : Gtids) (ps : List Gap) → ((m : ℕ) (p : Gap) → slice_get ps m ≡ Some p → Q (NotClosed p.0 p.1)) → AllByRecursion Q (unreported reported ps)
+all_told Q reported [] each = tt
+all_told Q reported (q ∷ ps) each =
+    by (set.contains reported q.0) (all_told Q reported ps (λ m p x. each (suc m) p x)) (all_told Q (set.insert reported q.0) ps (λ m p x. each (suc m) p x))
   where
-    by : (b : Bool) → AllByRecursion Q (unreported said ps) → AllByRecursion Q (unreported (set.insert said q.0) ps) → AllByRecursion Q (told said q ps b)
+    by : (b : Bool) → AllByRecursion Q (unreported reported ps) → AllByRecursion Q (unreported (set.insert reported q.0) ps) → AllByRecursion Q (told reported q ps b)
     by true old more = old
     by false old more = (each zero q refl, more)
 

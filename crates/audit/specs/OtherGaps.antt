@@ -119,8 +119,8 @@ gaps_in needs (j ∷ js) = gaps_among needs j.previous set.empty j.entries (gaps
 
 -- of these the first of each GTID, unless that GTID was reported already
 abbrev pub unreported : Gtids → List Gap → List Verdict
-unreported said [] = []
-unreported said (p ∷ ps) = if set.contains said p.0 then unreported said ps else NotClosed p.0 p.1 ∷ unreported (set.insert said p.0) ps
+unreported reported [] = []
+unreported reported (p ∷ ps) = if set.contains reported p.0 then unreported reported ps else NotClosed p.0 p.1 ∷ unreported (set.insert reported p.0) ps
 
 -- the GTID of the verdict
 abbrev pub gap_of_verdict : Verdict → Gtids

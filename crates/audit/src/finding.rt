@@ -40,11 +40,11 @@ fn find_shared_or_left_out(
     }
     let needed = world.needs(alloc)?;
     if !needed.apart {
-        if let Some(verdict) = world.shared(alloc)? {
+        if let Some(verdict) = world.find_shared(alloc)? {
             return Ok(Some(verdict));
         }
     }
-    world.not_closed(alloc, &needed.needs, journals)
+    world.find_not_closed(alloc, &needed.needs, journals)
 }
 
 /// What is found without looking at a key. Where journals are in order nothing is missing, and nothing is
@@ -59,16 +59,16 @@ fn found_in_gtids(
     ensures found { IfOk result (λ found. found ≡ found_in_gtids world.now journals.now) }
     ensures fault { IfErr result (IsAuditFault world.now.opening_set journals.now) }
 {
-    if let Some(verdict) = world.unequal(journals) {
+    if let Some(verdict) = world.find_unequal(journals) {
         return Ok(Some(verdict));
     }
-    if let Some(verdict) = world.purged(alloc, journals)? {
+    if let Some(verdict) = world.find_purged(alloc, journals)? {
         return Ok(Some(verdict));
     }
     if ordered {
         return Ok(None);
     }
-    Ok(world.missing(alloc, journals)?)
+    Ok(world.find_missing(alloc, journals)?)
 }
 
 /// What an audit finds first without looking at a key: Unequal, Purged or Missing. The faults are those

@@ -154,7 +154,7 @@ impl World {
     }
 
     /// The first entry for which something is left out, and the least such.
-    pub(crate) fn not_closed(
+    pub(crate) fn find_not_closed(
         &self,
         alloc: Global,
         needs: &Needs,

@@ -85,7 +85,7 @@ fn first_missing(opened: &GtidSet, entries: &[Entry]) -> Option<Verdict>
 
 impl World {
     /// The least GTID that is in no journal though a greater number of its source is.
-    pub(crate) fn missing(
+    pub(crate) fn find_missing(
         &self,
         alloc: Global,
         journals: &[Journal],

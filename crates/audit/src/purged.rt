@@ -12,7 +12,7 @@ use world::Verdict;
 
 impl World {
     /// The first journal whose previous set is not within the opening set, with what is missing.
-    pub(crate) fn purged(
+    pub(crate) fn find_purged(
         &self,
         alloc: Global,
         journals: &[Journal],

@@ -89,7 +89,7 @@ impl World {
         ensures ok { IfOk result (λ skipped. skipped ≡ skipped_in self.now journals.now) }
         ensures fault { IfErr result (IsPartFault (skipped_in self.now journals.now)) }
     {
-        let equal = self.unequal(journals).is_none();
+        let equal = self.find_unequal(journals).is_none();
         match self.brought(alloc, journals, equal)? {
             Some(contents) => skipped_before(alloc, contents.in_order()),
             None => skipped_before(alloc, self.in_order()),

@@ -5,7 +5,7 @@ use Rattle.world.specs.Folds.{shared_from}
 use Rattle.world.proofs.Touching.{one_pass_shares}
 use Rattle.audit.specs.Contents.{as_pair}
 use Rattle.audit.proofs.Made.{pairs_of}
-use Rattle.audit.proofs.sources.World.shared.Goals as goal
+use Rattle.audit.proofs.sources.World.find_shared.Goals as goal
 
 pub returns : goal.returns
 returns c =

@@ -1,7 +1,7 @@
 use Rattle.std.proofs.Common.{◌∙◌, sym}
 use Rattle.std.specs.Option.{unwrap_or}
 use Rattle.audit.proofs.Missings.{brought_pass}
-use Rattle.audit.proofs.sources.World.missing.Goals as goal
+use Rattle.audit.proofs.sources.World.find_missing.Goals as goal
 
 pub returns-in-Some : goal.returns-in-Some
 returns-in-Some c =

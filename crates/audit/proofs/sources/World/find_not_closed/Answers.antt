@@ -2,7 +2,7 @@ use Rattle.std.proofs.Common.{◌∙◌, ap}
 use Rattle.std.proofs.lemmas.Result.{IfOk-weaker}
 use Rattle.audit.specs.Gaps.{first_gap}
 use Rattle.audit.proofs.Closings.{closing_passes}
-use Rattle.audit.proofs.sources.World.not_closed.Goals as goal
+use Rattle.audit.proofs.sources.World.find_not_closed.Goals as goal
 
 pub returns : goal.returns
 returns c =
