@@ -33,13 +33,13 @@ use Rattle.source_history.proofs.Entries.{rising}
 use Rattle.world.specs.declared.verdict.Verdict.{Verdict}
 use Rattle.world.specs.declared.verdict.Verdict.TheVariants.{Unequal, Purged, NotClosed}
 use Rattle.world.specs.Audit.{is_content, is_unequal, unequal, purged, stands_in, stands_before}
-use Rattle.world.specs.Cases.{IsEntryOf, IsLeftOut, Stands}
+use Rattle.world.specs.Cases.{IsEntryOf, IsLeftOut, NamesFault}
 use Rattle.world.proofs.Finding.{when_none, first_none, taken}
 use Rattle.world.proofs.Contents.{content_at, at_content, entry_at, entry_from}
 use Rattle.world.proofs.Meanings.{content_is_by, le_cases}
 use Rattle.audit.specs.Ordered.{is_there, AreInOrder, IsInOrder}
 use Rattle.audit.specs.Gaps.{Needs, needs_in, stands}
-use Rattle.audit.specs.OtherGaps.{StandsWithout, IsGapNamed, is_of_gap, is_gap, is_gap_again, AreGapsOnce, AreOtherGaps, Gap, first_absent, with_gap, gaps_among, gaps_in, unreported, gap_of_verdict, other_gaps}
+use Rattle.audit.specs.OtherGaps.{HasGap, IsGapNamed, is_of_gap, is_gap, is_gap_again, AreGapsOnce, AreOtherGaps, Gap, first_absent, with_gap, gaps_among, gaps_in, unreported, gap_of_verdict, other_gaps}
 use Rattle.audit.specs.Worlds.{LieBeyond}
 use Rattle.audit.proofs.Needing.{rises}
 use Rattle.audit.proofs.Nearest.{need_is_nearest, need_at, nearest_is_needed}
@@ -316,14 +316,14 @@ module _ (world : World) (journals : List JournalValue) where
   gaps = gaps_in (needs_in world) journals
 
   -- each that is found is present without its nearest earlier one
-  without : (p : Gap) → GapIn (needs_in world) journals p → StandsWithout world journals p.0 p.1
+  without : (p : Gap) → GapIn (needs_in world) journals p → HasGap world journals p.0 p.1
   without p gap =
       let a = absent_from (stands_before gap.there.journal gap.there.place) (finmap.get (needs_in world) p.0) p.1 gap.lacks in
       let n = need_is_nearest world p.0 p.1 a.0 a.2 a.1 a.3 in
       record { entry = gap.entry; there = gap.there; named = gap.named; t = n.t; first = n.first; key = n.key; touched = n.touched; nearest = n.nearest; left_out = a.4 }
 
   -- each that is present without its nearest earlier one is found
-  is_found : (g h : Gtid) → StandsWithout world journals g h → (m : ℕ) × (x : Gtid) × (slice_get gaps m ≡ Some (g, x))
+  is_found : (g h : Gtid) → HasGap world journals g h → (m : ℕ) × (x : Gtid) × (slice_get gaps m ≡ Some (g, x))
   is_found g h w =
       let n = nearest_is_needed world g h w.t w.key w.first w.touched w.nearest in
       let a = absent_any (stands_before w.there.journal w.there.place) (finmap.get (needs_in world) g) n.0 h n.1 n.2 w.left_out in
@@ -332,7 +332,7 @@ module _ (world : World) (journals : List JournalValue) where
       (r.0, a.0, r.1 ∙ ap (λ (y : Gtid). Some (y, a.0)) w.named)
 
   -- where nothing is unequal it is the case of a verdict
-  left_out : unequal world journals ≡ None → (g h : Gtid) → is_opened world g ≡ false → StandsWithout world journals g h → IsLeftOut world journals g h
+  left_out : unequal world journals ≡ None → (g h : Gtid) → is_opened world g ≡ false → HasGap world journals g h → IsLeftOut world journals g h
   left_out equal g h new w =
       let x = w.entry in
       let test : is_unequal world x ≡ false = when_none (is_unequal world x) (Unequal x.gtid) (first_none _ w.there.journal.entries (first_none _ journals equal w.there.number w.there.journal w.there.listed) w.there.place x w.there.there) in
@@ -398,7 +398,7 @@ module _ (world : World) (journals : List JournalValue) where
 
     module _ (ordered : AreInOrder world.opening_set journals) where
       -- in a journal that is in order nothing is present without what it needs
-      none_without : (g h : Gtid) → StandsWithout world journals g h → ⊥
+      none_without : (g h : Gtid) → HasGap world journals g h → ⊥
       none_without g h w =
           let j = w.there.journal in
           let before : List Entry = take w.there.place j.entries in
@@ -429,7 +429,7 @@ module _ (world : World) (journals : List JournalValue) where
           let r = is_found g h w in
           ap (λ b. b || list_any (is_of_gap g) (other_gaps world journals v)) (sym (said_is v g)) ∙ said_all (gap_of_verdict v) gaps r.0 (g, r.1) r.2;
       once = (first_once v gaps, once_from (gap_of_verdict v) gaps);
-      cases = λ equal. all_told (Stands world journals) (gap_of_verdict v) gaps (λ m p x.
+      cases = λ equal. all_told (NamesFault world journals) (gap_of_verdict v) gaps (λ m p x.
           let w = without p (in_gaps (needs_in world) journals m p x) in
           left_out equal p.0 p.1 (outside p.0 w.t w.first) w);
       closed = λ other empty within g h b.

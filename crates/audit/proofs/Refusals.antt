@@ -33,7 +33,7 @@ use Rattle.world.proofs.Gaps.{number_lt}
 use Rattle.world.proofs.Leasts.{first_source_fails}
 use Rattle.world.proofs.OnePass.{agree_after, rising_parts, source_le}
 use Rattle.world.proofs.Saying.{fault_free}
-use Rattle.audit.specs.OtherRefusals.{refused_alone, IsRefusalNamed, is_of_refusal, is_refusal, is_greater_refusal, AreRefusalsRising, AreOtherRefusals, refused_or, refused_from, other_refusals}
+use Rattle.audit.specs.OtherRefusals.{refused_alone, IsRefusalNamed, is_of_refusal, is_refusal, is_greater_refusal, AreRefusalsAscending, AreOtherRefusals, refused_or, refused_from, other_refusals}
 use Rattle.audit.specs.Worlds.{LieBeyond}
 use Rattle.audit.proofs.Sounding.{filled, filled_sound}
 
@@ -209,7 +209,7 @@ module _ (world : World) (sound : AreKeysSound world) where
     pub named : AllByRecursion (IsRefusalNamed world) list
     pub every : (s : ℕ) (fault : Gtid × RowFault) → passed < s → refused_alone world s ≡ Some fault → list_any (is_of_refusal s) list ≡ true
     pub greater : AllByRecursion (λ v. is_greater_refusal passed v ≡ true) list
-    pub rising : AreRefusalsRising list
+    pub rising : AreRefusalsAscending list
 
   module _ (before rest : List history.Entry) (e : history.Entry) (passed : ℕ) (rows : Rows) (parts : es0 ≡ before ++ e ∷ rest) (a : Applied before passed rows)
       (more : (q : ℕ) (new : Rows) → Applied (before ++ e ∷ []) q new → AreRefused q (refused_from world.schema q rest new)) where

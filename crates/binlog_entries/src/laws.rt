@@ -12,7 +12,7 @@ ghost use Rattle.binlog_entries.specs.Stream.{Progress, eats};
 ghost use Rattle.binlog_entries.specs.Meaning.{meaning, nowhere, meaning_of_entries};
 
 /// Where the lines of a whole log are taken, they mean what the entries denote, in order: nothing is dropped, doubled or moved.
-pub fn entries_are_told()
+pub fn lines_mean_entries()
     ensures { (lines : List Said) (s : Standing) → runs start lines ≡ Ok s → is_closed s.body ≡ true → meaning nowhere lines ≡ meaning_of_entries s.entries }
 {}
 

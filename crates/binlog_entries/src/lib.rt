@@ -34,7 +34,7 @@ pub use as_journal::LogFault;
 pub use draft::{Draft, Log};
 pub use fault::{EntryFault, EntryRefusal, ReadFault};
 pub use import::{ImportFault, import_journal};
-pub use laws::{cut_anywhere, entries_are_told, statements_hold_no_rows};
+pub use laws::{cut_anywhere, lines_mean_entries, statements_hold_no_rows};
 pub use reader::{Reader, cut_line, read_log};
 pub use varied::Varied;
 

@@ -71,8 +71,8 @@ abbrev pub SpelledAgain : Type 0
 SpelledAgain = (text : List ℕ) (s : Gtids) → HaveSources s → SpellsSet text s → SpellsSet (canonical s) s
 
 -- sets with one canonical text are one
-abbrev pub CanonicalTells : Type 0
-CanonicalTells = (s t : Gtids) → AreUsable s → AreUsable t → canonical s ≡ canonical t → s ≡ t
+abbrev pub CanonicalIsInjective : Type 0
+CanonicalIsInjective = (s t : Gtids) → AreUsable s → AreUsable t → canonical s ≡ canonical t → s ≡ t
 
 -- the answer to a text is a set that it parses as
 abbrev pub AnswersSpelled : Type 0

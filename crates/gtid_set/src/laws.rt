@@ -1,7 +1,7 @@
 //! Laws of sets of GTIDs and of their text.
 //!
 //! Each law is the contract of a function that does nothing.
-ghost use Rattle.gtid_set.specs.Laws.{UnionCommutes, UnionAssociates, UnionRepeats, UnionIsUpper, UnionIsLeast, UnionLess, LessUnion, LessBoth, BothOfUnion, BothOfLess, SpellsOne, CanonicalSpells, SpelledAgain, CanonicalTells, AnswersSpelled, SpelledIsAnswered, SpelledIsFull, SpelledIsCrowded};
+ghost use Rattle.gtid_set.specs.Laws.{UnionCommutes, UnionAssociates, UnionRepeats, UnionIsUpper, UnionIsLeast, UnionLess, LessUnion, LessBoth, BothOfUnion, BothOfLess, SpellsOne, CanonicalSpells, SpelledAgain, CanonicalIsInjective, AnswersSpelled, SpelledIsAnswered, SpelledIsFull, SpelledIsCrowded};
 ghost use Rattle.gtid_set.specs.Edges.{EdgesAreChanges, EdgesAreTwice, EdgesOfUnion, EdgesOfDifference, EdgesOfIntersection, IntervalsOfUnion, IntervalsOfDifference, IntervalsOfIntersection, IntervalsOfInsert};
 
 /// Union depends neither on the order of the sets nor on how often one is named.
@@ -35,11 +35,11 @@ pub fn text_reads_back()
     ensures one { SpellsOne }
     ensures spells { CanonicalSpells }
     ensures again { SpelledAgain }
-    ensures tells { CanonicalTells }
+    ensures injective { CanonicalIsInjective }
 {}
 
 /// The one answer to a text is the set that it parses as, where that has not too many sources or intervals, and is a set for no other text.
-pub fn text_is_answered()
+pub fn text_parses_exactly()
     ensures found { AnswersSpelled }
     ensures only { SpelledIsAnswered }
     ensures full { SpelledIsFull }

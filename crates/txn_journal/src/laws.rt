@@ -44,7 +44,7 @@ pub fn rows_in_listed_order()
 {}
 
 /// A bundle of version 1 has a text by version 2, which is read as the same bundle.
-pub fn upgraded()
+pub fn upgrade_keeps_bundle()
     ensures text { (bytes : List ℕ) (b : BundleValue) → WritesBundleBy (Some One) bytes b → WritesBundleBy (Some Two) (upgrade_of b) b }
     ensures read { (bytes : List ℕ) (b : BundleValue) → WritesBundleBy (Some One) bytes b → IsReadAs (upgrade_of b) b }
 {}

@@ -46,7 +46,7 @@ pub use fault::{Cause, JournalFault};
 pub use fitting::may_be_written;
 pub use laws::{
     one_bundle, one_spelling, read_may_be_written, rows_in_listed_order, taken_in_front,
-    timestamped_read_back, upgraded,
+    timestamped_read_back, upgrade_keeps_bundle,
 };
 pub use reader::{Reader, any_cut, decode, decode_v2};
 pub use timestamped_journal::TimestampedJournal;

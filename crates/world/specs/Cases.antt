@@ -84,17 +84,17 @@ pub record Fails (world : World) (g : Gtid) (fault : RowFault) : Type 0 where
   pub refused : apply world.schema t rows ≡ Err fault
 
 -- Two of the verdicts are those of the audit in one order, and never of this one.
-abbrev pub Stands : World → List JournalValue → Verdict → Type 0
-Stands world journals (Unequal g) = DiffersAt world journals g
-Stands world journals (Purged i gtids) = IsPurged world journals i gtids
-Stands world journals (Missing g) = IsMissing world journals g
-Stands world journals (Shared g h key) = IsShared world g h key
-Stands world journals (Reordered g h key) = ⊥
-Stands world journals (NotClosed g h) = IsLeftOut world journals g h
-Stands world journals (Concurrent g h key) = ⊥
-Stands world journals (DoesNotApply g fault) = Fails world g fault
-Stands world journals Sound = Unit {0}
+abbrev pub NamesFault : World → List JournalValue → Verdict → Type 0
+NamesFault world journals (Unequal g) = DiffersAt world journals g
+NamesFault world journals (Purged i gtids) = IsPurged world journals i gtids
+NamesFault world journals (Missing g) = IsMissing world journals g
+NamesFault world journals (Shared g h key) = IsShared world g h key
+NamesFault world journals (Reordered g h key) = ⊥
+NamesFault world journals (NotClosed g h) = IsLeftOut world journals g h
+NamesFault world journals (Concurrent g h key) = ⊥
+NamesFault world journals (DoesNotApply g fault) = Fails world g fault
+NamesFault world journals Sound = Unit {0}
 
 -- Each verdict but Sound names a fault that is there, in every world.
-abbrev pub VerdictsStand : Type 0
-VerdictsStand = (world : World) (journals : List JournalValue) → Stands world journals (verdict world journals)
+abbrev pub VerdictsNameFaults : Type 0
+VerdictsNameFaults = (world : World) (journals : List JournalValue) → NamesFault world journals (verdict world journals)

@@ -19,6 +19,6 @@ mod verdict;
 
 pub use laws::{
     first_source_fails, keys_sound_mean, missing_is_least, one_pass_applies, one_pass_closes,
-    one_pass_shares, shared_is_least, sound_is_said, sound_means_sound, verdicts_stand,
+    one_pass_shares, shared_is_least, faithful_is_sound, sound_means_sound, verdicts_name_faults,
 };
 pub use verdict::Verdict;
