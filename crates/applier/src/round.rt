@@ -54,7 +54,7 @@ impl Round {
     }
 
     /// Notes whether its own deque had a ticket.
-    pub(crate) fn popped(&mut self, some: bool) {
+    pub(crate) fn note_pop(&mut self, some: bool) {
         self.dry = !some;
     }
 

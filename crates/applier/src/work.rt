@@ -79,7 +79,7 @@ fn next_place<N: Naming, G: Gate, R: Wait>(
     round: &mut Round,
 ) -> Option<Ticket> {
     let own = hand.pop();
-    round.popped(own.is_some());
+    round.note_pop(own.is_some());
     let ticket = match own {
         Some(ticket) => ticket,
         None => match steal_ticket(hand, me) {

@@ -3,14 +3,14 @@ use Rattle.std.proofs.Common.{◌≡◌, ℕ, Bool, true, false, cond, List, [],
 use Rattle.std.specs.FinSet as set
 use Rattle.journal_words.specs.Gtids.{set_of_word, gtid_of_word}
 use Rattle.txn_journal.specs.Words.{name_of}
-use Rattle.binlog_text.specs.Types.{type_named}
+use Rattle.binlog_text.specs.Types.{parse_type}
 use Rattle.binlog_text.specs.declared.lines.Event.{Event}
 use Rattle.binlog_text.specs.declared.lines.Event.TheVariants as events
 use Rattle.binlog_text.specs.declared.lines.Mark.{Mark}
 use Rattle.binlog_text.specs.declared.lines.Mark.TheVariants as marks
 use Rattle.binlog_text.specs.declared.lines.Operation.{Operation}
 use Rattle.binlog_text.specs.Lines.{Column, Said, OfMark, OfHead, OfTable, OfColumn, OfGtid, OfSources, OfRow, OfValue}
-use Rattle.binlog_entries.specs.Tables.{Table, table_named}
+use Rattle.binlog_entries.specs.Tables.{Table, find_table}
 use Rattle.binlog_entries.specs.Bodies.{kind_of, takes}
 use Rattle.binlog_entries.specs.Meaning.{nowhere, with_sources, executed_before, varied_by, varied_in}
 use Rattle.binlog_entries.specs.declared.draft.Stage.TheVariants as stages
@@ -45,7 +45,7 @@ by_test b s x t e same h = subst (Stay s) (if_ok b x e t h).1 same
 
 finish_stays : (s u : Standing) (r : Option (List ℕ)) → finish_by s r ≡ Ok u → Stay s u
 finish_stays s u None h = by_ok s s u refl h
-finish_stays s u (Some table) h = named (table_named table s.tables) h
+finish_stays s u (Some table) h = named (find_table table s.tables) h
   where
     named : (o : Option Table) → finish_in s table o ≡ Ok u → Stay s u
     named None e = absurd cc
@@ -125,7 +125,7 @@ table_stays s t database table h =
 column_varies : (s t : Standing) (c : Column) → column_line s c ≡ Ok t → kept t ≡ (varied_behind s.varied s.mapping c.column_type, (s.previous, s.is_fresh))
 unfolding column_line
 column_varies s t c h =
-    let a = bind_ok (or_refused refusals.Type (type_named c.column_type)) _ t h in
+    let a = bind_ok (or_refused refusals.Type (parse_type c.column_type)) _ t h in
     let m = added_is (note_varied s c.column_type) t s.mapping c.is_first a.0 a.2 in
     subst (λ (u : Standing). kept u ≡ (varied_behind s.varied s.mapping c.column_type, (s.previous, s.is_fresh))) m.2 refl
 

@@ -17,7 +17,7 @@ use Rattle.binlog_text.specs.declared.lines.Mark.TheVariants as marks
 use Rattle.binlog_text.specs.declared.lines.Operation.{Operation}
 use Rattle.binlog_text.specs.declared.lines.Operation.TheVariants as operations
 use Rattle.binlog_text.specs.Lines.{OfMark, OfRow, OfValue}
-use Rattle.binlog_entries.specs.Tables.{Table, table_named, type_at}
+use Rattle.binlog_entries.specs.Tables.{Table, find_table, type_at}
 use Rattle.binlog_entries.specs.Machine.{Standing, or_refused, is_begun, finish_row, is_database, has_rows_of, open_row, known_name, begin_row, row_line, before_due, after_due, where_line, set_line, parse_value, next_value, value_in, value_line, is_closed}
 use Rattle.binlog_entries.specs.Meaning.{Meaning, Names, Row, Before, After, Holds, shown_in, meaning_of_values, meaning_of_change, meaning_of_entries}
 use Rattle.binlog_entries.specs.declared.bodies.Body.{Body}
@@ -192,7 +192,7 @@ named_is true word name e = same_Some _ _ e
 named_is false word name e = absurd cc
 
 pub known_is : (table : List ℕ) (tables : List Table) (name : List ℕ) → known_name table tables ≡ Some name → table ≡ name
-known_is table tables name e = elim (chosen (is_some (table_named table tables)) (name_of table) None (Some name) e) [
+known_is table tables name e = elim (chosen (is_some (find_table table tables)) (name_of table) None (Some name) e) [
   | inl p ↦ named_is (is_name table) table name p.1
   | inr p ↦ absurd cc
 ]

@@ -6,7 +6,7 @@ use Rattle.journal_words.specs.Gtids.{set_of_word}
 use Rattle.rows.specs.Names.{is_name}
 use Rattle.txn_journal.specs.Words.{name_of}
 use Rattle.binlog_text.specs.declared.types.ColumnType.{ColumnType}
-use Rattle.binlog_text.specs.Types.{type_named}
+use Rattle.binlog_text.specs.Types.{parse_type}
 use Rattle.binlog_text.specs.declared.lines.Event.{Event}
 use Rattle.binlog_text.specs.declared.lines.Event.TheVariants as events
 use Rattle.binlog_text.specs.declared.lines.Mark.{Mark}
@@ -96,8 +96,8 @@ refused_is e (Some y) x h = ap Some (same_ok y x h)
 column_law : (s t : Standing) (c : Column) → Sound s → takes s.body kinds.Column ≡ true → column_line s c ≡ Ok t → Tells s (OfColumn c) t
 unfolding column_line
 column_law s t c sound at h =
-    let a = bind_ok (or_refused refusals.Type (type_named c.column_type)) _ t h in
-    let type = refused_is refusals.Type (type_named c.column_type) a.0 a.1 in
+    let a = bind_ok (or_refused refusals.Type (parse_type c.column_type)) _ t h in
+    let type = refused_is refusals.Type (parse_type c.column_type) a.0 a.1 in
     let m = added_is (note_varied s c.column_type) t s.mapping c.is_first a.0 a.2 in
     let q = column_quiet s.body at in
     subst (λ (u : Standing). Tells s (OfColumn c) u) m.2 (record {

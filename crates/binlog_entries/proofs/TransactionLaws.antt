@@ -12,7 +12,7 @@ use Rattle.binlog_text.specs.declared.lines.Mark.TheVariants as marks
 use Rattle.binlog_text.specs.declared.lines.Operation.{Operation}
 use Rattle.binlog_text.specs.declared.lines.Operation.TheVariants as operations
 use Rattle.binlog_text.specs.Lines.{Said, OfMark, OfGtid}
-use Rattle.binlog_entries.specs.Tables.{Table, table_named, with_mapping}
+use Rattle.binlog_entries.specs.Tables.{Table, find_table, with_mapping}
 use Rattle.binlog_entries.specs.Bodies.{takes, behind}
 use Rattle.binlog_entries.specs.Machine.{Standing, ◌>>=◌, or_refused, is_idle, is_named, is_begun, is_whole, change_of, with_change, finish_in, finish_by, finish_row, place_line, open_entry, commit_line, begin_line, gtid_line, is_closed}
 use Rattle.binlog_entries.specs.Meaning.{Meaning, Names, Row, Before, After, Commits, Context, means, behind_place, context_behind, meaning_of_values, meaning_of_change, meaning_of_entry, meaning_of_entries}
@@ -171,7 +171,7 @@ finish_named s u table (Some t) sound e h =
 
 pub finish_either : (s u : Standing) (r : Option (List ℕ)) → Sound s → s.row ≡ r → finish_by s r ≡ Ok u → Finishes s u
 finish_either s u None sound e h = subst (Finishes s) (same_ok s u h) (finish_none s sound e)
-finish_either s u (Some table) sound e h = finish_named s u table (table_named table s.tables) sound e h
+finish_either s u (Some table) sound e h = finish_named s u table (find_table table s.tables) sound e h
 
 pub finish_law : (s u : Standing) → Sound s → finish_row s ≡ Ok u → Finishes s u
 unfolding finish_row

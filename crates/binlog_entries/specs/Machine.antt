@@ -14,7 +14,7 @@ use Rattle.rows.specs.declared.change.Change.{Change}
 use Rattle.rows.specs.declared.change.Change.TheVariants as changes
 use Rattle.txn_journal.specs.Words.{name_of}
 use Rattle.binlog_text.specs.declared.types.ColumnType.{ColumnType}
-use Rattle.binlog_text.specs.Types.{type_named}
+use Rattle.binlog_text.specs.Types.{parse_type}
 use Rattle.binlog_text.specs.Values.{value_at}
 use Rattle.binlog_text.specs.declared.lines.Event.{Event}
 use Rattle.binlog_text.specs.declared.lines.Event.TheVariants as events
@@ -24,7 +24,7 @@ use Rattle.binlog_text.specs.declared.lines.Operation.{Operation}
 use Rattle.binlog_text.specs.declared.lines.Operation.TheVariants as operations
 use Rattle.binlog_text.specs.Lines.{Column, Said, OfMark, OfHead, OfTable, OfColumn, OfGtid, OfSources, OfRow, OfValue}
 use Rattle.binlog_text.specs.Reading.{line_of}
-use Rattle.binlog_entries.specs.Tables.{Table, table_named, with_mapping, type_at}
+use Rattle.binlog_entries.specs.Tables.{Table, find_table, with_mapping, type_at}
 use Rattle.binlog_entries.specs.Bodies.{kind_of, takes, next_body}
 use Rattle.binlog_entries.specs.Unread.{refusal_of}
 use Rattle.binlog_entries.specs.Varied.{varied_behind}
@@ -140,7 +140,7 @@ finish_in s table (Some t) =
 
 abbrev pub finish_by : Standing → Option (List ℕ) → Result Standing EntryRefusal
 finish_by s None = Ok s
-finish_by s (Some table) = finish_in s table (table_named table s.tables)
+finish_by s (Some table) = finish_in s table (find_table table s.tables)
 
 unfoldable pub finish_row : Standing → Result Standing EntryRefusal
 finish_row s = finish_by s s.row
@@ -170,7 +170,7 @@ open_row s operation None = Err refusals.Table
 open_row s operation (Some table) = Ok (record s { row = Some table; operation = operation; part = parts.Head })
 
 abbrev pub known_name : List ℕ → List Table → Option (List ℕ)
-known_name table tables = if is_some (table_named table tables) then name_of table else None
+known_name table tables = if is_some (find_table table tables) then name_of table else None
 
 abbrev pub begin_row : Standing → Operation → List ℕ → List ℕ → Result Standing EntryRefusal
 begin_row s operation database table =
@@ -257,7 +257,7 @@ note_varied s text = record s { varied = varied_behind s.varied s.mapping text }
 
 unfoldable pub column_line : Standing → Column → Result Standing EntryRefusal
 column_line s c = do
-  type ← or_refused refusals.Type (type_named c.column_type)
+  type ← or_refused refusals.Type (parse_type c.column_type)
   add_column (note_varied s c.column_type) s.mapping c.is_first type
 
 -- ---- transactions

@@ -10,7 +10,7 @@ use Rattle.row_images.specs.declared.value.Value.{Value}
 use Rattle.rows.specs.declared.change.Change.{Change}
 use Rattle.rows.specs.declared.change.Change.TheVariants as changes
 use Rattle.binlog_text.specs.declared.types.ColumnType.{ColumnType}
-use Rattle.binlog_text.specs.Types.{type_named}
+use Rattle.binlog_text.specs.Types.{parse_type}
 use Rattle.binlog_text.specs.Values.{value_at}
 use Rattle.binlog_text.specs.declared.lines.Event.{Event}
 use Rattle.binlog_text.specs.declared.lines.Event.TheVariants as events
@@ -116,7 +116,7 @@ abbrev pub context_behind : Context → Said → Context
 context_behind c (OfMark mark) = behind_mark c mark
 context_behind c (OfHead event) = behind_head c event
 context_behind c (OfTable database table) = record { is_over = false; mapping = Some (record { name = table; columns = [] }); tables = if c.is_over then [] else c.tables; row = c.row }
-context_behind c (OfColumn column) = record { is_over = c.is_over; mapping = with_column c.mapping (type_named column.column_type); tables = c.tables; row = c.row }
+context_behind c (OfColumn column) = record { is_over = c.is_over; mapping = with_column c.mapping (parse_type column.column_type); tables = c.tables; row = c.row }
 context_behind c (OfGtid gtid) = c
 context_behind c (OfSources sources more) = c
 context_behind c (OfRow operation database table) = record { is_over = c.is_over; mapping = c.mapping; tables = c.tables; row = Some table }

@@ -8,11 +8,11 @@ use crate::parts::{
     after_due, before_due, change_of, has_rows_of, is_database, is_whole, may_be_database,
     parse_value, type_at,
 };
-use crate::tables::{Mapped, name_of, table_named};
+use crate::tables::{Mapped, name_of, find_table};
 use crate::unread::refusal_of;
 use crate::varied::{Varied, has_varied};
 use binlog_text::{
-    Column, ColumnType, Event, Line, Mark, Operation, compares_bytes, read_line, type_named,
+    Column, ColumnType, Event, Line, Mark, Operation, compares_bytes, read_line, parse_type,
 };
 use gtid_set::GtidSet;
 use gtid_text::{Gtid, SourceId};
@@ -130,7 +130,7 @@ impl Draft {
         let Some(table) = self.row.take() else {
             return Ok(());
         };
-        let Some(mapped) = table_named(table.as_str().as_bytes(), &self.tables) else {
+        let Some(mapped) = find_table(table.as_str().as_bytes(), &self.tables) else {
             return Err(EntryFault::Refused(EntryRefusal::Table));
         };
         if !is_whole(
@@ -304,7 +304,7 @@ impl Draft {
     fn known_name(&self, alloc: Global, table: &[u8]) -> Result<Option<Name>, AllocError>
         ensures { IfOk result (λ found. found ≡ known_name table.now (standing self.now).tables) }
     {
-        if table_named(table, &self.tables).is_none() {
+        if find_table(table, &self.tables).is_none() {
             return Ok(None);
         }
         name_of(alloc, table)
@@ -422,7 +422,7 @@ impl Draft {
     fn column_line(&mut self, column: &Column<'_>) -> Result<(), EntryFault>
         ensures { TakesOrMemory result (column_line (standing self.old) (column_said column.now)) (standing self.new) }
     {
-        let Some(named) = type_named(column.column_type) else {
+        let Some(named) = parse_type(column.column_type) else {
             return Err(EntryFault::Refused(EntryRefusal::Type));
         };
         self.note(column.column_type)?;

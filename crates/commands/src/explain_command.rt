@@ -133,7 +133,7 @@ fn explain_bytes(alloc: Global, order: Order, bytes: &[u8]) -> Result<Explained,
 }
 
 /// Writes what explains an answer.
-fn tell<E: Sink>(errors: &mut E, notes: &[u8]) -> Result<(), RunFault>
+fn report<E: Sink>(errors: &mut E, notes: &[u8]) -> Result<(), RunFault>
     ensures done { OnOk result (Appends (E.written errors.old) (E.written errors.new) notes.now) }
     ensures write { IfErr result (λ f. f ≡ RunFault.Write) }
     ensures begins { OnErr result (Begins (E.written errors.old) (E.written errors.new) notes.now) }
@@ -160,6 +160,6 @@ pub fn run_explain<S: Source, W: Sink, E: Sink>(
     let bytes = streams.read_all(alloc)?;
     let held = explain_bytes(alloc, order, &bytes)?;
     let outcome = streams.send(&held.answer)?;
-    tell(errors, &held.notes)?;
+    report(errors, &held.notes)?;
     Ok(outcome)
 }

@@ -105,7 +105,7 @@ impl KeyMap {
         ensures ok { OnOk result (self.new ≡ map.insert self.old key.now row.now) }
         ensures err { OnErr result (self.new ≡ self.old) }
     {
-        let key = key.copied()?;
+        let key = key.copy()?;
         let row = row.clone()?;
         self.put_at(key, row)
     }

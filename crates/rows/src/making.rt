@@ -172,7 +172,7 @@ impl Making {
         ensures ok { OnOk result (self.new.made ≡ map.insert self.old.made key row) }
         ensures before { self.new.before ≡ self.old.before }
     {
-        let own = key.copied()?;
+        let own = key.copy()?;
         make_room(&mut self.carriers, &mut self.log)?;
         let row = put_in_room(&mut self.carriers, own, row);
         note(&mut self.log, Seen { key, row });

@@ -9,7 +9,7 @@ use Rattle.rows.specs.declared.change.Change.{Change}
 use Rattle.rows.specs.declared.change.Change.TheVariants.{Insert, Delete, Update}
 use Rattle.rows.specs.declared.change.Misfit.TheVariants.{Columns, NullInPrimary, TooLong, TooMany}
 use Rattle.rows.specs.declared.schema.Table.{Table}
-use Rattle.rows.specs.Keys.{table_named}
+use Rattle.rows.specs.Keys.{find_table}
 use Rattle.rows.specs.Fits.{row_misfit, has_primary_null, first_cause, images_misfit, table_of, misfit_in, or_later, misfit_from, Fits}
 use Rattle.row_images.specs.Values.{is_too_long}
 use Rattle.journal.specs.declared.Entry.{Entry}
@@ -77,7 +77,7 @@ changes_fit tables n [] fit writable few = refl
 changes_fit tables n (c ∷ cs) fit writable few =
     let each = and_parts (fits (Some tables) c) (list_all (fits (Some tables)) cs) fit in
     let can = and_parts (is_change_writable c) (list_all is_change_writable cs) writable in
-    let one = change_fits (table_named (table_of c) tables) c each.0 can.0 in
+    let one = change_fits (find_table (table_of c) tables) c each.0 can.0 in
     let room = not_yet n (omega (arith, few)) in
     let rest = changes_fit tables (n + 1) cs each.1 can.1 (omega (arith, few)) in
     λ i. or_later (first_cause (one i) (cond (room i) (Some TooMany) None)) n (rest i)

@@ -27,7 +27,7 @@ impl Draft {
         ensures fault { IfErr result (λ f. IsCause f core.now.site core.now.state event.now) }
         ensures room { IfErr result (λ f. HasRoomFor f (made_by core.now.site core.now.state event.now)) }
     {
-        match Draft::copied(core, alloc, event) {
+        match Draft::copy(core, alloc, event) {
             Ok(draft) => Ok(draft),
             Err(SetFault::Memory) => Err(core.refusal(event)),
             Err(fault) => Err(fault),
@@ -36,7 +36,7 @@ impl Draft {
 
     /// The same; any fault may be a failed allocation.
     #[tactic(auto, using(crate::proofs::Faulty::memory_anywhere))]
-    fn copied(core: &Core, alloc: Global, event: &Event) -> Result<Draft, SetFault>
+    fn copy(core: &Core, alloc: Global, event: &Event) -> Result<Draft, SetFault>
         ensures ok { IfOk result (IsDraft core.now event.now) }
         ensures fault { IfErr result (λ f. IsCause f core.now.site core.now.state event.now) }
     {
