@@ -12,7 +12,7 @@ use Rattle.binlog_entries.specs.Imports.{Imports, IsNoImport}
 use Rattle.binlog_entries.specs.declared.import.ImportFault.{ImportFault}
 use Rattle.binlog_bundle.specs.Lines.{with_line_feed, is_channel, lines_in, HasNoOwn, BeginsOwn, IsCut}
 use Rattle.binlog_bundle.specs.Tables.{HasOther, HasNoOther}
-use Rattle.binlog_bundle.specs.Bundles.{done_line, HasTables, Stands}
+use Rattle.binlog_bundle.specs.Bundles.{done_line, HasTables, Corresponds}
 use Rattle.binlog_bundle.specs.declared.fault.BundleFault.{BundleFault}
 use Rattle.binlog_bundle.specs.declared.fault.BundleFault.TheVariants as bundles
 use Rattle.binlog_bundle.specs.declared.fault.ChannelFault.{ChannelFault}
@@ -84,7 +84,7 @@ pub record IsNoHead (fault : JournalFault) (text : List ℕ) : Type 0 where
 -- All but what is left of the text has come: the head and whole channels, and nothing is wrong with them where the journals are in the place of the logs.
 pub record HasTaken (bytes : Bool) (head front written left text : List ℕ) : Type 0 where
   pub alone : HasNoOwn head
-  pub stands : Stands bytes head front written
+  pub corresponds : Corresponds bytes head front written
   pub parts : text ≡ front ++ left
   pub begins : BeginsOwn left
   pub taken : IsTaken written

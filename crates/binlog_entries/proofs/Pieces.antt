@@ -7,7 +7,7 @@ use Rattle.gtid_set.specs.declared.fault.SetFault.{SetFault}
 use Rattle.gtid_set.specs.declared.fault.SetFault.TheVariants.{Memory}
 use Rattle.txn_journal.specs.Words.{IsOneLine}
 use Rattle.binlog_entries.specs.Machine.{Standing, judge}
-use Rattle.binlog_entries.specs.Stream.{Progress, Reading, Stopped, unless_stopped, next_number, progress_after, eat, eats, answer, HasPart, IsEndFault, IsPieceFault, IsJoinedFault, IsAfter, TakesPiece, Told, Ends, closing}
+use Rattle.binlog_entries.specs.Stream.{Progress, Reading, Stopped, unless_stopped, next_number, progress_after, eat, eats, answer, HasPart, IsEndFault, IsPieceFault, IsJoinedFault, IsAfter, TakesPiece, LogValue, Ends, closing}
 use Rattle.binlog_entries.specs.declared.fault.ReadFault.{ReadFault}
 use Rattle.binlog_entries.specs.declared.fault.ReadFault.TheVariants as faults
 use Rattle.binlog_entries.specs.declared.fault.EntryRefusal.{EntryRefusal}
@@ -183,7 +183,7 @@ pub fed_ends : (may : SetFault → Type 0) (p after : Progress) (fault : ReadFau
 fed_ends may p after fault (inl x) e =
     let is : (let r : Result (Unit {0}) ReadFault = Err fault in r) ≡ Err (faults.Set x.0) = e ∙ ap answer x.1 in
     let same : fault ≡ faults.Set x.0 = cc in
-    inl (x.0, ap (λ (f : ReadFault). let r : Result Told ReadFault = Err f in r) same, x.2)
+    inl (x.0, ap (λ (f : ReadFault). let r : Result LogValue ReadFault = Err f in r) same, x.2)
 fed_ends may p after fault (inr x) e = inr (sym (ap closing (sym x ∙ has_stopped p fault e)))
 
 -- a piece at which the reading stops, or doesn't

@@ -11,7 +11,7 @@ use Rattle.binlog_text.specs.declared.lines.Mark.{Mark}
 use Rattle.binlog_text.specs.declared.lines.Mark.TheVariants as marks
 use Rattle.binlog_text.specs.declared.lines.Operation.{Operation}
 use Rattle.binlog_text.specs.declared.lines.Operation.TheVariants as operations
-use Rattle.binlog_text.specs.Lines.{Said, OfMark, OfGtid}
+use Rattle.binlog_text.specs.Lines.{Content, OfMark, OfGtid}
 use Rattle.binlog_entries.specs.Tables.{Table, find_table, with_mapping}
 use Rattle.binlog_entries.specs.Bodies.{takes, behind}
 use Rattle.binlog_entries.specs.Machine.{Standing, ◌>>=◌, or_refused, is_idle, is_named, is_begun, is_whole, change_of, with_change, finish_in, finish_by, finish_row, place_line, open_entry, commit_line, begin_line, gtid_line, is_closed}
@@ -91,7 +91,7 @@ pub record Sound (s : Standing) : Type 0 where
   pub fits : RowFits s.row s.part s.before s.after
 
 -- the line was taken
-pub record Tells (s : Standing) (l : Said) (t : Standing) : Type 0 where
+pub record Tells (s : Standing) (l : Content) (t : Standing) : Type 0 where
   pub spells : spelled_state t ≡ spelled_state s ++ means (context_of s) l
   pub context : context_of t ≡ context_behind (context_of s) l
   pub sound : Sound t
@@ -193,7 +193,7 @@ sound_rests s cs body quiet rows closed = record {
   fits = (refl, refl);
 }
 
-pub rest_law : (s t : Standing) (body : Body) (l : Said) → Sound s → place_line s ≡ Ok t → is_rows body ≡ false → is_closed body ≡ false → means (context_of s) l ≡ [] → context_behind (context_of s) l ≡ behind_place (context_of s) → Tells s l (record t { body = body })
+pub rest_law : (s t : Standing) (body : Body) (l : Content) → Sound s → place_line s ≡ Ok t → is_rows body ≡ false → is_closed body ≡ false → means (context_of s) l ≡ [] → context_behind (context_of s) l ≡ behind_place (context_of s) → Tells s l (record t { body = body })
 unfolding place_line
 rest_law s t body l sound h rows closed nothing behind_is =
     let a = bind_ok (finish_row s) _ t h in
@@ -215,7 +215,7 @@ automatic_law s t sound h = rest_law s t bodies.FileEnd (OfMark marks.Automatic)
 -- ---- lines that change no row
 
 -- only where the line stands and the stage change
-pub still : (s : Standing) (l : Said) (body : Body) → Sound s → is_rows s.body ≡ false → is_rows body ≡ false → (is_closed body ≡ true → is_idle s.stage ≡ true) → means (context_of s) l ≡ [] → context_behind (context_of s) l ≡ context_of s → Tells s l (record s { body = body })
+pub still : (s : Standing) (l : Content) (body : Body) → Sound s → is_rows s.body ≡ false → is_rows body ≡ false → (is_closed body ≡ true → is_idle s.stage ≡ true) → means (context_of s) l ≡ [] → context_behind (context_of s) l ≡ context_of s → Tells s l (record s { body = body })
 still s l body sound outside rows closed nothing same = record {
   spells = sym (append-nil (spelled_state s)) ∙ ap (λ (xs : List Meaning). spelled_state s ++ xs) (sym nothing);
   context = sym same;
@@ -296,7 +296,7 @@ rows_only _ e = absurd cc
 -- ---- lines that change nothing
 
 -- a line that means nothing, and changes nothing but where the next one stands
-pub neutral : (s : Standing) (l : Said) (kind : Kind) → Sound s → IsQuiet s.body (behind s.body kind) → means (context_of s) l ≡ [] → context_behind (context_of s) l ≡ context_of s → Tells s l (record s { body = behind s.body kind })
+pub neutral : (s : Standing) (l : Content) (kind : Kind) → Sound s → IsQuiet s.body (behind s.body kind) → means (context_of s) l ≡ [] → context_behind (context_of s) l ≡ context_of s → Tells s l (record s { body = behind s.body kind })
 neutral s l kind sound q nothing same = still s l (behind s.body kind) sound q.0 q.1 (λ c. sound.closed (q.2 c)) nothing same
 
 pub closed_law : (s : Standing) → Sound s → takes s.body kinds.Closed ≡ true → is_idle s.stage ≡ true → Tells s (OfMark marks.Closed) (record s { body = bodies.Closed })

@@ -6,18 +6,18 @@ use Rattle.std.proofs.lemmas.Bool.{eqb-true}
 use Rattle.std.proofs.lemmas.List.Folds.{list_all-append}
 use Rattle.gtid_set.specs.declared.fault.SetFault.{SetFault}
 use Rattle.txn_journal.specs.Words.{IsOneLine}
-use Rattle.binlog_text.specs.Lines.{Said, IsLine}
+use Rattle.binlog_text.specs.Lines.{Content, IsLine}
 use Rattle.binlog_text.specs.Reading.{line_of}
 use Rattle.binlog_text.proofs.LinesFound.{line_found}
 use Rattle.binlog_entries.specs.Machine.{Standing, ◌>>=◌, judge, step, step_by, runs, is_closed}
 use Rattle.binlog_entries.specs.Machine as machine
 use Rattle.binlog_entries.specs.Meaning.{meaning_of_entries}
-use Rattle.binlog_entries.specs.Stream.{Progress, Reading, Stopped, next_number, progress_after, eat, eats, start, Seen, Told, end_of_text, closing, IsPieceFault, Ends, ended_line, Say, IsLog, judges, numbered, IsRefused, IsUnfinished, Refuses}
+use Rattle.binlog_entries.specs.Stream.{Progress, Reading, Stopped, next_number, progress_after, eat, eats, start, Seen, LogValue, end_of_text, closing, IsPieceFault, Ends, ended_line, HaveContents, IsLog, judges, numbered, IsRefused, IsUnfinished, Refuses}
 use Rattle.binlog_entries.specs.declared.fault.ReadFault.{ReadFault}
 use Rattle.binlog_entries.specs.declared.fault.ReadFault.TheVariants as faults
 use Rattle.binlog_entries.specs.declared.fault.EntryRefusal.{EntryRefusal}
 use Rattle.binlog_entries.proofs.TransactionLaws.{bind_ok}
-use Rattle.binlog_entries.proofs.Told.{entries_told}
+use Rattle.binlog_entries.proofs.Meanings.{entries_told}
 use Rattle.binlog_entries.proofs.KeptLaws.{before_told, varied_told}
 use Rattle.binlog_entries.proofs.Pieces.{stopped_stays}
 
@@ -155,41 +155,41 @@ stops_back s n rest (b ∷ bs) f one e = stop_eaten s n b rest bs (eqb b 10) f o
 -- ---- what lines say
 
 pub record Speak (s : Standing) (lines : List (List ℕ)) (t : Standing) : Type 0 where
-  pub said : List Said
-  pub say : Say lines said
-  pub run : runs s said ≡ Ok t
+  pub contents : List Content
+  pub content : HaveContents lines contents
+  pub run : runs s contents ≡ Ok t
 
-line_said : (s : Standing) (line : List ℕ) (o : Option Said) (t : Standing) → line_of line ≡ o → step_by s line o ≡ Ok t → (l : Said) × IsLine l line × (step s l ≡ Ok t)
+line_said : (s : Standing) (line : List ℕ) (o : Option Content) (t : Standing) → line_of line ≡ o → step_by s line o ≡ Ok t → (l : Content) × IsLine l line × (step s l ≡ Ok t)
 line_said s line None t e h = absurd cc
 line_said s line (Some l) t e h = (l, line_found line l e, h)
 
-judge_said : (s : Standing) (line : List ℕ) (t : Standing) → judge s line ≡ Ok t → (l : Said) × IsLine l line × (step s l ≡ Ok t)
+judge_said : (s : Standing) (line : List ℕ) (t : Standing) → judge s line ≡ Ok t → (l : Content) × IsLine l line × (step s l ≡ Ok t)
 unfolding judge
 judge_said s line t h = line_said s line (line_of line) t refl h
 
 speak : (s : Standing) (lines : List (List ℕ)) (t : Standing) → judges s lines ≡ Ok t → Speak s lines t
-speak s [] t h = record { said = []; say = tt; run = h }
+speak s [] t h = record { contents = []; content = tt; run = h }
 speak s (line ∷ lines) t h =
     let a = bind_ok (judge s line) _ t h in
     let first = judge_said s line a.0 a.1 in
     let rest = speak a.0 lines t a.2 in
     record {
-      said = first.0 ∷ rest.said;
-      say = (first.1, rest.say);
-      run = ap (λ (r : Result Standing EntryRefusal). r >>= λ u. runs u rest.said) first.2 ∙ rest.run;
+      contents = first.0 ∷ rest.contents;
+      content = (first.1, rest.content);
+      run = ap (λ (r : Result Standing EntryRefusal). r >>= λ u. runs u rest.contents) first.2 ∙ rest.run;
     }
 
 -- ---- the whole
 
-ended_is : (b : Bool) (s : Standing) (n : ℕ) (rest : List ℕ) (x : Told) → end_of_text b s n rest ≡ Ok x → (b ≡ true) × (rest ≡ []) × (s.previous ≡ x.0) × (s.entries ≡ x.1) × (s.varied ≡ x.2)
-ended_is true s n [] x e = let same : (s.previous, s.entries, s.varied) ≡ x = told_same _ x e in (refl, refl, ap (λ (y : Told). y.0) same, ap (λ (y : Told). y.1) same, ap (λ (y : Told). y.2) same)
+ended_is : (b : Bool) (s : Standing) (n : ℕ) (rest : List ℕ) (x : LogValue) → end_of_text b s n rest ≡ Ok x → (b ≡ true) × (rest ≡ []) × (s.previous ≡ x.0) × (s.entries ≡ x.1) × (s.varied ≡ x.2)
+ended_is true s n [] x e = let same : (s.previous, s.entries, s.varied) ≡ x = told_same _ x e in (refl, refl, ap (λ (y : LogValue). y.0) same, ap (λ (y : LogValue). y.1) same, ap (λ (y : LogValue). y.2) same)
   where
-    told_same : (x y : Told) → (let r : Result Told ReadFault = Ok x in r) ≡ Ok y → x ≡ y
+    told_same : (x y : LogValue) → (let r : Result LogValue ReadFault = Ok x in r) ≡ Ok y → x ≡ y
     told_same x y e = cc
 ended_is true s n (b ∷ bs) x e = absurd cc
 ended_is false s n rest x e = absurd cc
 
-log_of : (text : List ℕ) (p : Progress) (x : Told) → eats start text ≡ p → closing p ≡ Ok x → IsLog text x.0 x.1 x.2
+log_of : (text : List ℕ) (p : Progress) (x : LogValue) → eats start text ≡ p → closing p ≡ Ok x → IsLog text x.0 x.1 x.2
 log_of text (Stopped fault) x e h = absurd cc
 log_of text (Reading s n rest) x e h =
     let d = ended_is (is_closed s.body) s n rest x h in
@@ -199,14 +199,14 @@ log_of text (Reading s n rest) x e h =
       lines = k.lines;
       parts = k.parts ∙ ap (λ (xs : List ℕ). flat_map ended_line k.lines ++ xs) d.1 ∙ append-nil (flat_map ended_line k.lines);
       whole = k.whole;
-      said = spoken.said;
-      say = spoken.say;
-      means = entries_told spoken.said s spoken.run d.0 ∙ ap meaning_of_entries d.3;
-      before = sym d.2 ∙ before_told spoken.said s spoken.run;
-      varies = sym d.4 ∙ varied_told spoken.said s spoken.run;
+      contents = spoken.contents;
+      content = spoken.content;
+      means = entries_told spoken.contents s spoken.run d.0 ∙ ap meaning_of_entries d.3;
+      before = sym d.2 ∙ before_told spoken.contents s spoken.run;
+      varies = sym d.4 ∙ varied_told spoken.contents s spoken.run;
     }
 
-pub read_found : (text : List ℕ) (x : Told) → Ends (IsPieceFault start text) (Ok x) (closing (eats start text)) → IsLog text x.0 x.1 x.2
+pub read_found : (text : List ℕ) (x : LogValue) → Ends (IsPieceFault start text) (Ok x) (closing (eats start text)) → IsLog text x.0 x.1 x.2
 read_found text x (inl h) = absurd (let bad = h.1 in cc)
 read_found text x (inr h) = log_of text (eats start text) x refl (sym h)
 
@@ -237,7 +237,7 @@ refused_at text (Stopped f) n refusal e h =
       number = sym (line_same _ n k.refusal refusal same).0;
     }
   where
-    fault_same : (f g : ReadFault) → (let x : Result Told ReadFault = Err f in x) ≡ Err g → f ≡ g
+    fault_same : (f g : ReadFault) → (let x : Result LogValue ReadFault = Err f in x) ≡ Err g → f ≡ g
     fault_same f g e = cc
 
     line_same : (n m : ℕ) (r q : EntryRefusal) → faults.Line n r ≡ faults.Line m q → (n ≡ m) × (r ≡ q)
@@ -248,7 +248,7 @@ unfinished_at text (Stopped f) n e h =
     let k = stops_back machine.start 0 [] text f refl e in
     absurd (let bad : faults.Line (next_number (numbered 0 k.before)) k.refusal ≡ faults.Unfinished n = sym k.is ∙ fault_same f (faults.Unfinished n) h in cc)
   where
-    fault_same : (f g : ReadFault) → (let x : Result Told ReadFault = Err f in x) ≡ Err g → f ≡ g
+    fault_same : (f g : ReadFault) → (let x : Result LogValue ReadFault = Err f in x) ≡ Err g → f ≡ g
     fault_same f g e = cc
 unfinished_at text (Reading s m rest) n e h =
     let k = reads_back machine.start 0 [] text s m rest refl e in
@@ -265,10 +265,10 @@ unfinished_at text (Reading s m rest) n e h =
     }
 
 -- the fold over the bytes knows of lines and the end alone
-set_not_ended : (text : List ℕ) (fault : SetFault) (p : Progress) → eats start text ≡ p → (let x : Result Told ReadFault = Err (faults.Set fault) in x) ≡ closing p → ⊥
+set_not_ended : (text : List ℕ) (fault : SetFault) (p : Progress) → eats start text ≡ p → (let x : Result LogValue ReadFault = Err (faults.Set fault) in x) ≡ closing p → ⊥
 set_not_ended text fault (Reading s n rest) e h = not_owed (is_closed s.body) s n rest h
   where
-    not_owed : (b : Bool) (s : Standing) (n : ℕ) (rest : List ℕ) → (let x : Result Told ReadFault = Err (faults.Set fault) in x) ≡ end_of_text b s n rest → ⊥
+    not_owed : (b : Bool) (s : Standing) (n : ℕ) (rest : List ℕ) → (let x : Result LogValue ReadFault = Err (faults.Set fault) in x) ≡ end_of_text b s n rest → ⊥
     not_owed true s n [] h = cc
     not_owed true s n (b ∷ bs) h = cc
     not_owed false s n rest h = cc
@@ -277,13 +277,13 @@ set_not_ended text fault (Stopped f) e h =
     let bad : faults.Set fault ≡ faults.Line (next_number (numbered 0 k.before)) k.refusal = fault_same (faults.Set fault) f h ∙ k.is in
     cc
   where
-    fault_same : (f g : ReadFault) → (let x : Result Told ReadFault = Err f in x) ≡ Err g → f ≡ g
+    fault_same : (f g : ReadFault) → (let x : Result LogValue ReadFault = Err f in x) ≡ Err g → f ≡ g
     fault_same f g e = cc
 
 pub read_refused : (text : List ℕ) (fault : ReadFault) → Ends (IsPieceFault start text) (Err fault) (closing (eats start text)) → Refuses fault text
 read_refused text (faults.Set fault) (inl h) = subst (IsPieceFault start text) (set_same h.0 fault h.1) h.2
   where
-    set_same : (f g : SetFault) → (let x : Result Told ReadFault = Err (faults.Set g) in x) ≡ Err (faults.Set f) → f ≡ g
+    set_same : (f g : SetFault) → (let x : Result LogValue ReadFault = Err (faults.Set g) in x) ≡ Err (faults.Set f) → f ≡ g
     set_same f g e = cc
 read_refused text (faults.Set fault) (inr h) = absurd (set_not_ended text fault (eats start text) refl h)
 read_refused text (faults.Line n refusal) (inl h) = absurd (let bad = h.1 in cc)
@@ -293,10 +293,10 @@ read_refused text (faults.Unfinished n) (inr h) = unfinished_at text (eats start
 
 -- ---- of what was read
 
-pub seen_found : {X : Type 0} (view : X → Told) (text : List ℕ) (r : Result X ReadFault) → Ends (IsPieceFault start text) (Seen view r) (closing (eats start text)) → IfOk r (λ x. IsLog text (view x).0 (view x).1 (view x).2)
+pub seen_found : {X : Type 0} (view : X → LogValue) (text : List ℕ) (r : Result X ReadFault) → Ends (IsPieceFault start text) (Seen view r) (closing (eats start text)) → IfOk r (λ x. IsLog text (view x).0 (view x).1 (view x).2)
 seen_found view text (Ok x) h = read_found text (view x) h
 seen_found view text (Err fault) h = tt
 
-pub seen_refused : {X : Type 0} (view : X → Told) (text : List ℕ) (r : Result X ReadFault) → Ends (IsPieceFault start text) (Seen view r) (closing (eats start text)) → IfErr r (λ fault. Refuses fault text)
+pub seen_refused : {X : Type 0} (view : X → LogValue) (text : List ℕ) (r : Result X ReadFault) → Ends (IsPieceFault start text) (Seen view r) (closing (eats start text)) → IfErr r (λ fault. Refuses fault text)
 seen_refused view text (Ok x) h = tt
 seen_refused view text (Err fault) h = read_refused text fault h

@@ -22,7 +22,7 @@ use Rattle.binlog_text.specs.declared.lines.Mark.{Mark}
 use Rattle.binlog_text.specs.declared.lines.Mark.TheVariants as marks
 use Rattle.binlog_text.specs.declared.lines.Operation.{Operation}
 use Rattle.binlog_text.specs.declared.lines.Operation.TheVariants as operations
-use Rattle.binlog_text.specs.Lines.{Column, Said, OfMark, OfHead, OfTable, OfColumn, OfGtid, OfSources, OfRow, OfValue}
+use Rattle.binlog_text.specs.Lines.{Column, Content, OfMark, OfHead, OfTable, OfColumn, OfGtid, OfSources, OfRow, OfValue}
 use Rattle.binlog_text.specs.Reading.{line_of}
 use Rattle.binlog_entries.specs.Tables.{Table, find_table, with_mapping, type_at}
 use Rattle.binlog_entries.specs.Bodies.{kind_of, takes, next_body}
@@ -310,7 +310,7 @@ mark_line s marks.Comment = Ok s
 mark_line s marks.Setting = Ok s
 mark_line s marks.Frame = Ok s
 
-abbrev pub take_content : Standing → Said → Result Standing EntryRefusal
+abbrev pub take_content : Standing → Content → Result Standing EntryRefusal
 take_content s (OfMark mark) = mark_line s mark
 take_content s (OfHead event) = head_line s event
 take_content s (OfTable database table) = table_line s database table
@@ -320,14 +320,14 @@ take_content s (OfSources sources more) = sources_line s sources
 take_content s (OfRow operation database table) = row_line s operation database table
 take_content s (OfValue n text) = value_line s n text
 
-unfoldable pub step : Standing → Said → Result Standing EntryRefusal
+unfoldable pub step : Standing → Content → Result Standing EntryRefusal
 step s l =
     if takes s.body (kind_of l) then (do
       t ← take_content s l
       Ok (record t { body = next_body t.body l }))
     else Err refusals.Format
 
-abbrev pub step_by : Standing → List ℕ → Option Said → Result Standing EntryRefusal
+abbrev pub step_by : Standing → List ℕ → Option Content → Result Standing EntryRefusal
 step_by s text None = Err (refusal_of s.body text)
 step_by s text (Some l) = step s l
 
@@ -355,7 +355,7 @@ IsMarkFault marks.Commit fault = fault ≡ Memory
 IsMarkFault marks.Committed fault = fault ≡ Memory
 IsMarkFault _ fault = ⊥
 
-abbrev pub IsContentFault : Standing → Said → SetFault → Type 0
+abbrev pub IsContentFault : Standing → Content → SetFault → Type 0
 IsContentFault s (OfMark mark) fault = IsMarkFault mark fault
 IsContentFault s (OfHead event) fault = ⊥
 IsContentFault s (OfTable database table) fault = fault ≡ Memory
@@ -366,10 +366,10 @@ IsContentFault s (OfRow operation database table) fault = fault ≡ Memory
 IsContentFault s (OfValue n text) fault = fault ≡ Memory
 
 -- it may be there, and its content has this fault
-abbrev pub IsStepFault : Standing → Said → SetFault → Type 0
+abbrev pub IsStepFault : Standing → Content → SetFault → Type 0
 IsStepFault s l fault = (takes s.body (kind_of l) ≡ true) × IsContentFault s l fault
 
-abbrev pub IsFaultBy : Standing → Option Said → SetFault → Type 0
+abbrev pub IsFaultBy : Standing → Option Content → SetFault → Type 0
 IsFaultBy s None fault = ⊥
 IsFaultBy s (Some l) fault = IsStepFault s l fault
 
@@ -406,6 +406,6 @@ is_closed bodies.Closed = true
 is_closed _ = false
 
 -- what lines make, one after another
-abbrev pub runs : Standing → List Said → Result Standing EntryRefusal
+abbrev pub runs : Standing → List Content → Result Standing EntryRefusal
 runs s [] = Ok s
 runs s (l ∷ ls) = step s l >>= λ t. runs t ls

@@ -89,7 +89,7 @@ pub struct Draft {
 
 impl Draft {
     ghost use Rattle.std.specs.Prelude.{[], None, Ok, Err, OnOk, if◌then◌else◌};
-    ghost use Rattle.binlog_text.specs.Said.{said, column_said};
+    ghost use Rattle.binlog_text.specs.Contents.{content_of, column_content};
     ghost use Rattle.binlog_entries.specs.Machine.{Takes, TakesOr, TakesOrMemory, IsSourcesFault, IsMarkFault, IsContentFault, IsStepFault, IsLineFault, Standing, finish_row, open_row, known_name, begin_row, row_line, where_line, set_line, next_value, value_in, value_line, place_line, map_table, table_line, add_column, note_varied, column_line, commit_line, begin_line, gtid_line, sources_line, head_line, mark_line, take_content, step, judge, start, same_stage, is_closed};
     ghost use Rattle.binlog_entries.specs.declared.fault.EntryRefusal.TheVariants as refusals;
     ghost use Rattle.binlog_entries.specs.Drafts.{standing};
@@ -420,7 +420,7 @@ impl Draft {
 
     #[tactic(auto, unfolding(crate::specs::Machine::column_line))]
     fn column_line(&mut self, column: &Column<'_>) -> Result<(), EntryFault>
-        ensures { TakesOrMemory result (column_line (standing self.old) (column_said column.now)) (standing self.new) }
+        ensures { TakesOrMemory result (column_line (standing self.old) (column_content column.now)) (standing self.new) }
     {
         let Some(named) = parse_type(column.column_type) else {
             return Err(EntryFault::Refused(EntryRefusal::Type));
@@ -457,7 +457,7 @@ impl Draft {
 
     /// Takes the content of a line.
     fn take_content(&mut self, alloc: Global, line: &Line<'_>) -> Result<(), EntryFault>
-        ensures { TakesOr (IsContentFault (standing self.old) (said line.now)) result (take_content (standing self.old) (said line.now)) (standing self.new) }
+        ensures { TakesOr (IsContentFault (standing self.old) (content_of line.now)) result (take_content (standing self.old) (content_of line.now)) (standing self.new) }
     {
         match line {
             Line::Mark(mark) => self.mark_line(alloc, *mark),
@@ -475,7 +475,7 @@ impl Draft {
 
     #[tactic(auto, unfolding(crate::specs::Machine::step))]
     fn step(&mut self, alloc: Global, line: &Line<'_>) -> Result<(), EntryFault>
-        ensures { TakesOr (IsStepFault (standing self.old) (said line.now)) result (step (standing self.old) (said line.now)) (standing self.new) }
+        ensures { TakesOr (IsStepFault (standing self.old) (content_of line.now)) result (step (standing self.old) (content_of line.now)) (standing self.new) }
     {
         if !self.body.takes(kind_of(line)) {
             return Err(EntryFault::Refused(EntryRefusal::Format));

@@ -1,6 +1,6 @@
 //! What lines mean is what their entries denote. Each law is the contract of a function that does nothing.
 ghost use Rattle.std.specs.Prelude.{◌≡◌, ◌⊎◌, ◌++◌, ℕ, List, Ok, true};
-ghost use Rattle.binlog_text.specs.Lines.{Said};
+ghost use Rattle.binlog_text.specs.Lines.{Content};
 ghost use Rattle.binlog_entries.specs.Machine.{Standing, runs, start, is_closed};
 ghost use Rattle.binlog_text.specs.declared.lines.Operation.{Operation};
 ghost use Rattle.binlog_entries.specs.Bodies.{takes};
@@ -13,7 +13,7 @@ ghost use Rattle.binlog_entries.specs.Meaning.{meaning, nowhere, meaning_of_entr
 
 /// Where the lines of a whole log are taken, they mean what the entries denote, in order: nothing is dropped, doubled or moved.
 pub fn lines_mean_entries()
-    ensures { (lines : List Said) (s : Standing) → runs start lines ≡ Ok s → is_closed s.body ≡ true → meaning nowhere lines ≡ meaning_of_entries s.entries }
+    ensures { (lines : List Content) (s : Standing) → runs start lines ≡ Ok s → is_closed s.body ≡ true → meaning nowhere lines ≡ meaning_of_entries s.entries }
 {}
 
 /// Rows are in the bodies of rows events alone, and a statement holds what the session is set to and one of the words of transactions.

@@ -12,7 +12,7 @@ use Rattle.binlog_text.specs.declared.lines.Event.TheVariants as events
 use Rattle.binlog_text.specs.declared.lines.Mark.{Mark}
 use Rattle.binlog_text.specs.declared.lines.Mark.TheVariants as marks
 use Rattle.binlog_text.specs.declared.lines.Operation.{Operation}
-use Rattle.binlog_text.specs.Lines.{Column, Said, OfMark, OfHead, OfTable, OfColumn, OfGtid, OfSources, OfRow, OfValue}
+use Rattle.binlog_text.specs.Lines.{Column, Content, OfMark, OfHead, OfTable, OfColumn, OfGtid, OfSources, OfRow, OfValue}
 use Rattle.binlog_entries.specs.Tables.{Table}
 use Rattle.binlog_entries.specs.Bodies.{kind_of, takes, body_of, behind, next_body}
 use Rattle.binlog_entries.specs.Machine.{Standing, ◌>>=◌, or_refused, is_idle, is_begun, same_stage, may_be_database, map_table, table_line, add_column, note_varied, column_line, sources_line, head_line, mark_line, take_content, step, runs, start, is_closed}
@@ -115,7 +115,7 @@ column_law s t c sound at h =
 -- ---- each line
 
 -- a line that changes nothing
-unchanged : (s t : Standing) (l : Said) (kind : Kind) → Sound s → IsQuiet s.body (behind s.body kind) → means (context_of s) l ≡ [] → context_behind (context_of s) l ≡ context_of s → done s ≡ Ok t → Tells s l (record t { body = behind t.body kind })
+unchanged : (s t : Standing) (l : Content) (kind : Kind) → Sound s → IsQuiet s.body (behind s.body kind) → means (context_of s) l ≡ [] → context_behind (context_of s) l ≡ context_of s → done s ≡ Ok t → Tells s l (record t { body = behind t.body kind })
 unchanged s t l kind sound q nothing same h = subst (λ (u : Standing). Tells s l (record u { body = behind u.body kind })) (same_ok s t h) (neutral s l kind sound q nothing same)
 
 savepoint_law : (s t : Standing) → Sound s → takes s.body kinds.Statement ≡ true → cond (same_stage s.stage stages.Begun) (Ok s) (Err refusals.Transaction) ≡ Ok t → Tells s (OfMark marks.Savepoint) (record t { body = bodies.Statement })
@@ -163,7 +163,7 @@ mark_law s t marks.Comment sound at h = unchanged s t (OfMark marks.Comment) kin
 mark_law s t marks.Setting sound at h = unchanged s t (OfMark marks.Setting) kinds.Setting sound (setting_quiet s.body at) refl refl h
 mark_law s t marks.Frame sound at h = unchanged s t (OfMark marks.Frame) kinds.Frame sound (frame_quiet s.body at) refl refl h
 
-told_law : (s t : Standing) (l : Said) → Sound s → takes s.body (kind_of l) ≡ true → take_content s l ≡ Ok t → Tells s l (record t { body = next_body t.body l })
+told_law : (s t : Standing) (l : Content) → Sound s → takes s.body (kind_of l) ≡ true → take_content s l ≡ Ok t → Tells s l (record t { body = next_body t.body l })
 told_law s t (OfMark mark) sound at h = mark_law s t mark sound at h
 told_law s t (OfHead event) sound at h = head_law s t event sound at h
 told_law s t (OfTable database table) sound at h = table_law s t database table sound at h
@@ -177,7 +177,7 @@ pub test_ok : {A : Type 0} (b : Bool) (r : Result A EntryRefusal) (e : EntryRefu
 test_ok true r e x h = (refl, h)
 test_ok false r e x h = absurd cc
 
-pub step_law : (s t : Standing) (l : Said) → Sound s → step s l ≡ Ok t → Tells s l t
+pub step_law : (s t : Standing) (l : Content) → Sound s → step s l ≡ Ok t → Tells s l t
 unfolding step
 step_law s t l sound h =
     let p = test_ok (takes s.body (kind_of l)) _ refusals.Format t h in
@@ -186,11 +186,11 @@ step_law s t l sound h =
 
 -- ---- all lines
 
-pub record AllTold (s : Standing) (ls : List Said) (t : Standing) : Type 0 where
+pub record AllTold (s : Standing) (ls : List Content) (t : Standing) : Type 0 where
   pub spells : spelled_state t ≡ spelled_state s ++ meaning (context_of s) ls
   pub sound : Sound t
 
-runs_law : (s : Standing) (ls : List Said) (t : Standing) → Sound s → runs s ls ≡ Ok t → AllTold s ls t
+runs_law : (s : Standing) (ls : List Content) (t : Standing) → Sound s → runs s ls ≡ Ok t → AllTold s ls t
 runs_law s [] t sound h = subst (AllTold s []) (same_ok s t h) (record { spells = sym (append-nil (spelled_state s)); sound = sound })
 runs_law s (l ∷ ls) t sound h =
     let a = bind_ok (step s l) _ t h in
@@ -214,7 +214,7 @@ sound_start = record {
 }
 
 -- what the lines of a whole log mean is what its entries denote
-pub entries_told : (ls : List Said) (s : Standing) → runs start ls ≡ Ok s → is_closed s.body ≡ true → meaning nowhere ls ≡ meaning_of_entries s.entries
+pub entries_told : (ls : List Content) (s : Standing) → runs start ls ≡ Ok s → is_closed s.body ≡ true → meaning nowhere ls ≡ meaning_of_entries s.entries
 entries_told ls s h closed =
     let all = runs_law start ls s sound_start h in
     sym all.spells ∙ idle_spelled s.stage (all.sound.closed closed)
