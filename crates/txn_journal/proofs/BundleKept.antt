@@ -4,7 +4,7 @@ use Rattle.std.specs.Prelude.{MatchResult}
 use Rattle.rows.specs.declared.change.TableRow.{TableRow}
 use Rattle.txn_journal.specs.Lines.{◌>>=◌}
 use Rattle.txn_journal.specs.BundleStates.{BundleStanding, no_bundle, is_done, judge_bundle}
-use Rattle.txn_journal.specs.BundleHeard.{bundle_said}
+use Rattle.txn_journal.specs.BundleLinesSoFar.{bundle_lines_so_far}
 use Rattle.txn_journal.specs.BundleLines.{made_by, HasCome}
 use Rattle.txn_journal.specs.BundleText.{IsBundle}
 use Rattle.txn_journal.specs.BundleCauses.{HasBundleCause}
@@ -26,7 +26,7 @@ come_sound due [] s e = ([], subst (IsBundleSound []) (ok_is (no_bundle due) s e
 come_sound due (line ∷ earlier) s e =
     let a = bind_ok (made_by due earlier) (λ x. judge_bundle x line) s e in
     let h = come_sound due earlier a.0 a.1 in
-    let k = subst (λ (r : Result BundleStanding Cause). MatchResult r (InnerTaken a.0.due (bundle_said h.0 a.0) line) (HasBundleCause a.0 line)) a.2 (bundle_taken h.0 a.0 line h.1) in
+    let k = subst (λ (r : Result BundleStanding Cause). MatchResult r (InnerTaken a.0.due (bundle_lines_so_far h.0 a.0) line) (HasBundleCause a.0 line)) a.2 (bundle_taken h.0 a.0 line h.1) in
     (k.keeps.rows, k.keeps.sound)
 
 pub come_kept : (s : BundleStanding) → HasCome s → is_done s.part ≡ true → IsBundle s.bundle

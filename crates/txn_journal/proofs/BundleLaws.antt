@@ -50,8 +50,8 @@ use Rattle.txn_journal.proofs.WordLaws.{judged_again}
 use Rattle.txn_journal.proofs.OwnReads.{own_body, own_put, own_reads, own_laws, own_one}
 use Rattle.std.proofs.lemmas.Result.{MatchResult-weaker}
 use Rattle.std.specs.FinSet as set
-use Rattle.txn_journal.specs.Heard.{said}
-use Rattle.txn_journal.specs.BundleHeard.{inner_said, bundle_said_at, bundle_said}
+use Rattle.txn_journal.specs.LinesSoFar.{lines_so_far}
+use Rattle.txn_journal.specs.BundleLinesSoFar.{inner_lines_so_far, bundle_lines_so_far_at, bundle_lines_so_far}
 use Rattle.txn_journal.specs.declared.lines.Version.{Version}
 use Rattle.txn_journal.proofs.BundleSound.{front, IsOpen, OpenChannel, IsDueBundle, SoundAt, IsBundleSound, tables_written, tables_front, channel_written, channel_front, right_front, none_right, version_is, ends_entry, bundle_taken}
 
@@ -458,18 +458,18 @@ last_at version tables places.Within d within h due e =
     }
 last_at version tables place d within h due e = absurd cc
 
-begins_inside : (due : Option Version) (version : Version) (rows : List TableRow) (b : BundleValue) (c : Channel) (draft : Standing) → IsDueBundle due version rows b → IsOpen version b c draft → CanGoOn (bundles due) (is_within draft.place) (front version rows b ++ (Own (Opens c) ∷ map Inner (said draft)))
+begins_inside : (due : Option Version) (version : Version) (rows : List TableRow) (b : BundleValue) (c : Channel) (draft : Standing) → IsDueBundle due version rows b → IsOpen version b c draft → CanGoOn (bundles due) (is_within draft.place) (front version rows b ++ (Own (Opens c) ∷ map Inner (lines_so_far draft)))
 begins_inside due version rows b c draft w o =
     let tables = b.start.schema in
     let k = completes_at (Some tables) draft.place draft o.sound in
     let is : k.version ≡ version = version_is version k.version (subst (λ (x : Option Version). takes x k.version ≡ true) o.same_version k.takes_version) in
     let stamps = last_stamps draft.place draft in
-    let inside = Own (Opens c) ∷ map Inner (said draft) in
+    let inside = Own (Opens c) ∷ map Inner (lines_so_far draft) in
     let before = front version rows b in
     let more = map Inner k.more ++ Own Done ∷ [] in
     let d = with_channel b c k.journal in
-    let whole : journal_lines version stamps k.journal ≡ said draft ++ k.more = ap (λ (v : Version). journal_lines v stamps k.journal) (sym is) ∙ k.whole in
-    let channel : channel_lines version c stamps k.journal ≡ inside ++ map Inner k.more = ap (λ (ls : List Line). Own (Opens c) ∷ map Inner ls) whole ∙ ap (λ (ls : List BundleLine). Own (Opens c) ∷ ls) (map-append Inner (said draft) k.more) in
+    let whole : journal_lines version stamps k.journal ≡ lines_so_far draft ++ k.more = ap (λ (v : Version). journal_lines v stamps k.journal) (sym is) ∙ k.whole in
+    let channel : channel_lines version c stamps k.journal ≡ inside ++ map Inner k.more = ap (λ (ls : List Line). Own (Opens c) ∷ map Inner ls) whole ∙ ap (λ (ls : List BundleLine). Own (Opens c) ∷ ls) (map-append Inner (lines_so_far draft) k.more) in
     let written = channel_written version rows b c draft k.journal w.written o k.fits k.fitting in
     let lines : (fs : List BundleLine) → fs ≡ before ++ channel_lines version c stamps k.journal → fs ++ Own Done ∷ [] ≡ (before ++ inside) ++ more = λ fs e.
     ap (λ (ls : List BundleLine). ls ++ Own Done ∷ []) (e ∙ ap (λ (ls : List BundleLine). before ++ ls) channel ∙ sym (append_assoc before inside (map Inner k.more))) ∙ append_assoc (before ++ inside) (map Inner k.more) (Own Done ∷ []) in
@@ -484,7 +484,7 @@ begins_inside due version rows b c draft w o =
           goes_on due version (before ++ inside) more rows d w.due_version written (lines _ (right_front version rows b c stamps k.journal w.written.brought right))
     ] refl
 
-bundle_begins_at : (part : Part) (rows : List TableRow) (s : BundleStanding) → SoundAt part s.due s.version s.tables rows s.bundle s.channel s.draft → CanGoOn (bundles s.due) (is_entry_open part s.draft.place) (bundle_said_at part rows s)
+bundle_begins_at : (part : Part) (rows : List TableRow) (s : BundleStanding) → SoundAt part s.due s.version s.tables rows s.bundle s.channel s.draft → CanGoOn (bundles s.due) (is_entry_open part s.draft.place) (bundle_lines_so_far_at part rows s)
 bundle_begins_at parts.Header rows s h =
     let v = some_version s.due in
     goes_on s.due v.0 [] (bundle_lines v.0 [] [] (bare 0 set.empty [])) [] (bare 0 set.empty []) v.1 (no_rows_written v.0) refl
@@ -501,7 +501,7 @@ bundle_begins_at parts.Rows rows s h = goes_on s.due s.version (front s.version 
 bundle_begins_at parts.Channels rows s h = goes_on s.due s.version (front s.version rows s.bundle) (Own Done ∷ []) rows s.bundle h.due_version h.written refl
 bundle_begins_at parts.Journal rows s h = open_begins s.channel h.1
   where
-    open_begins : (o : Option Channel) → OpenChannel s.version s.bundle o s.draft → CanGoOn (bundles s.due) (is_within s.draft.place) (front s.version rows s.bundle ++ inner_said o s.draft)
+    open_begins : (o : Option Channel) → OpenChannel s.version s.bundle o s.draft → CanGoOn (bundles s.due) (is_within s.draft.place) (front s.version rows s.bundle ++ inner_lines_so_far o s.draft)
     open_begins None k = absurd k
     open_begins (Some c) k = begins_inside s.due s.version rows s.bundle c s.draft h.0 k
 bundle_begins_at parts.Ended rows s h =
@@ -511,17 +511,17 @@ bundle_begins_at parts.Ended rows s h =
 -- ---- bundles
 
 abbrev pub IsSoundBundle : Option Version → BundleStanding → List BundleLine → Type 0
-IsSoundBundle due s ls = (s.due ≡ due) × ((rows : List TableRow) × (bundle_said rows s ≡ ls) × IsBundleSound rows s)
+IsSoundBundle due s ls = (s.due ≡ due) × ((rows : List TableRow) × (bundle_lines_so_far rows s ≡ ls) × IsBundleSound rows s)
 
 -- a bundle that has come to its end
-pub ends_at : (part : Part) (rows : List TableRow) (s : BundleStanding) → SoundAt part s.due s.version s.tables rows s.bundle s.channel s.draft → is_done part ≡ true → IsDueBundle s.due s.version rows s.bundle × (bundle_said_at part rows s ≡ front s.version rows s.bundle ++ Own Done ∷ [])
+pub ends_at : (part : Part) (rows : List TableRow) (s : BundleStanding) → SoundAt part s.due s.version s.tables rows s.bundle s.channel s.draft → is_done part ≡ true → IsDueBundle s.due s.version rows s.bundle × (bundle_lines_so_far_at part rows s ≡ front s.version rows s.bundle ++ Own Done ∷ [])
 ends_at parts.Ended rows s h last = (h, refl)
 ends_at part rows s h last = absurd cc
 
 pub bundle_laws : (due : Option Version) → Laws (bundles due) (IsSoundBundle due)
 bundle_laws due = record {
   starts = (refl, ([], refl, refl));
-  heard = λ s ls h. (h.1.0, h.1.1);
+  has_lines = λ s ls h. (h.1.0, h.1.1);
   begins = λ s ls h. subst (λ (x : Option Version). CanGoOn (bundles x) (is_entry_open s.part s.draft.place) ls) h.0 (subst (λ (x : List BundleLine). CanGoOn (bundles s.due) (is_entry_open s.part s.draft.place) x) h.1.1 (bundle_begins_at s.part h.1.0 s h.1.2));
   judges = λ s ls line h. MatchResult-weaker (judge_bundle s line) (bundle_taken h.1.0 s line h.1.2)
       (λ t k. record { l = k.l; text = k.text; sound = (k.keeps.same_due ∙ h.0, (k.keeps.rows, k.keeps.says ∙ ap (λ (x : List BundleLine). x ++ k.l ∷ []) h.1.1, k.keeps.sound)) })

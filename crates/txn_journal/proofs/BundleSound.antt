@@ -23,12 +23,12 @@ use Rattle.txn_journal.specs.Due.{is_due}
 use Rattle.txn_journal.specs.Lines.{◌>>=◌, takes}
 use Rattle.txn_journal.specs.Stamps.{right_stamp, right_stamps, all_stamps}
 use Rattle.txn_journal.specs.Machine.{Standing, empty, is_last, is_within, open_entry, judge}
-use Rattle.txn_journal.specs.Heard.{said}
+use Rattle.txn_journal.specs.LinesSoFar.{lines_so_far}
 use Rattle.txn_journal.specs.Spelling.{Line, Header, Previous, Begin, Makes, End, Close, line_text, journal_lines, IsWritten}
 use Rattle.txn_journal.specs.Shapes.{Shape, with_table, shape_for}
 use Rattle.txn_journal.specs.BundleStates.{BundleValue, BundleStanding, bare, is_due_in, after_tables, with_opening, put_row, has_channel, join_channel, with_journal, close_channel, after_inner, is_misstamped, judge_own, judge_inner, judge_part, judge_bundle}
 use Rattle.txn_journal.specs.BundleText.{entry_fits, OwnLine, BundleLine, Own, Inner, Heads, Names, Starts, Has, Puts, Opens, Done, bundle_line_text, table_lines, row_lines, channel_lines, channels_lines, opening_set_lines, tables_lines, start_lines, bundle_front, IsOpeningSet, FitsRow, AreAdded, put_all, AreNamed, IsWrittenIn, AreBrought, IsWrittenBundle}
-use Rattle.txn_journal.specs.BundleHeard.{inner_said, bundle_said}
+use Rattle.txn_journal.specs.BundleLinesSoFar.{inner_lines_so_far, bundle_lines_so_far}
 use Rattle.txn_journal.specs.BundleCauses.{own_word, own_wording, EndsMisstamped, bundle_cause_at, HasBundleCause}
 use Rattle.txn_journal.specs.declared.bundle.Channel.{Channel}
 use Rattle.txn_journal.specs.declared.bundle_draft.Part.{Part}
@@ -45,7 +45,7 @@ use Rattle.txn_journal.proofs.OneBundle.{put_both}
 use Rattle.txn_journal.proofs.OwnReads.{own_body, own_put, own_reads, own_laws}
 use Rattle.rows.proofs.Lists.{all_append}
 use Rattle.std.proofs.lemmas.Result.{MatchResult-weaker}
-use Rattle.txn_journal.specs.Wordings.{Says, HasCauseBy}
+use Rattle.txn_journal.specs.Wordings.{ParsesAs, HasCauseBy}
 use Rattle.txn_journal.specs.Causes.{word_for}
 use Rattle.txn_journal.proofs.Judged.{then_both, if_both, known_both, IsSchema, bind_ok, ok_is}
 use Rattle.txn_journal.proofs.WordLaws.{judged_both}
@@ -140,7 +140,7 @@ put_more d (x ∷ rs) r rows new e f =
 pub record KeepsBundle (due : Option Version) (old : List BundleLine) (l : BundleLine) (t : BundleStanding) : Type 0 where
   pub rows : List TableRow
   pub same_due : t.due ≡ due
-  pub says : bundle_said rows t ≡ old ++ l ∷ []
+  pub says : bundle_lines_so_far rows t ≡ old ++ l ∷ []
   pub sound : IsBundleSound rows t
 
 abbrev state : Part → Option Version → Version → List Table → BundleValue → Option Channel → Standing → BundleStanding
@@ -224,11 +224,11 @@ done_keeps_in due version tables rows b old channel draft f = record { rows = ro
 
 -- ---- what a line of its own makes, or why it is not taken
 
-opening_cause : (s : BundleStanding) (line : List ℕ) (r : TableRow) → Says (own_wording s) line (Puts r) → is_image_writable r.row ≡ true → (c : Cause) → (with_opening (after_tables s).bundle.start r ≡ Err c) × IsSchema c → HasCauseBy (own_wording s) line c
+opening_cause : (s : BundleStanding) (line : List ℕ) (r : TableRow) → ParsesAs (own_wording s) line (Puts r) → is_image_writable r.row ≡ true → (c : Cause) → (with_opening (after_tables s).bundle.start r ≡ Err c) × IsSchema c → HasCauseBy (own_wording s) line c
 opening_cause s line r k writable causes.Schema e = (Puts r, k, λ long. (let m = sym long ∙ writable in cc), λ rows h. (let m = sym h ∙ e.0 in cc))
 opening_cause s line r k writable c e = absurd e.1
 
-puts_both : (s : BundleStanding) (line : List ℕ) (r : TableRow) (P : BundleStanding → Type 0) → Says (own_wording s) line (Puts r)
+puts_both : (s : BundleStanding) (line : List ℕ) (r : TableRow) (P : BundleStanding → Type 0) → ParsesAs (own_wording s) line (Puts r)
     → (is_image_writable r.row ≡ true → (rows : Rows) → with_opening (after_tables s).bundle.start r ≡ Ok rows → P (with_put (after_tables s) rows)) → MatchResult (own_put s (Puts r)) P (HasCauseBy (own_wording s) line)
 unfolding own_put put_row
 puts_both s line r P k more =
@@ -238,7 +238,7 @@ puts_both s line r P k more =
     (MatchResult-weaker put (known_both put _ _ (put_both (after_tables s).bundle.start r)) (λ rows e. e.0) (opening_cause s line r k writable)) (more writable))
     (λ long. (Puts r, k, long))
 
-opens_both : (s : BundleStanding) (line : List ℕ) (c : Channel) (P : BundleStanding → Type 0) → Says (own_wording s) line (Opens c)
+opens_both : (s : BundleStanding) (line : List ℕ) (c : Channel) (P : BundleStanding → Type 0) → ParsesAs (own_wording s) line (Opens c)
     → (length s.bundle.channels < 256 → has_channel s.bundle.channels c.name ≡ false → P (record (after_tables s) { part = parts.Journal; channel = Some c; draft = empty (Some s.version) })) → MatchResult (join_channel s c) P (HasCauseBy (own_wording s) line)
 unfolding join_channel
 opens_both s line c P k more =
@@ -246,7 +246,7 @@ opens_both s line c P k more =
     (λ room. if_both P (HasCauseBy (own_wording s) line) (has_channel s.bundle.channels c.name) _ _ (λ again. (Opens c, k, λ full. (let m = sym (le-leb 256 (length s.bundle.channels) full) ∙ room in cc), again))
     (λ new. more (leb-false 256 (length s.bundle.channels) room) new))
 
-table_cause : (s : BundleStanding) (line : List ℕ) (shape : Shape) → Says (own_wording s) line (Has shape) → (c : Cause) → TableErr s.tables shape c → HasCauseBy (own_wording s) line c
+table_cause : (s : BundleStanding) (line : List ℕ) (shape : Shape) → ParsesAs (own_wording s) line (Has shape) → (c : Cause) → TableErr s.tables shape c → HasCauseBy (own_wording s) line c
 unfolding TableErr
 table_cause s line shape k causes.Limit h = (Has shape, k, h)
 table_cause s line shape k causes.Schema h = (Has shape, k, h.0, h.1)
@@ -254,8 +254,8 @@ table_cause s line shape k c h = absurd h
 
 -- a line of its own, at the place where it stands
 keeps_own : (part : Part) (due : Option Version) (version : Version) (tables : List Table) (rows : List TableRow) (b : BundleValue) (channel : Option Channel) (draft : Standing) (line : List ℕ) (l : OwnLine)
-    → SoundAt part due version tables rows b channel draft → is_due_in part (own_word l) ≡ true → Says (own_wording (state part due version tables b channel draft)) line l
-    → MatchResult (own_put (state part due version tables b channel draft) l) (KeepsBundle due (bundle_said rows (state part due version tables b channel draft)) (Own l)) (HasCauseBy (own_wording (state part due version tables b channel draft)) line)
+    → SoundAt part due version tables rows b channel draft → is_due_in part (own_word l) ≡ true → ParsesAs (own_wording (state part due version tables b channel draft)) line l
+    → MatchResult (own_put (state part due version tables b channel draft) l) (KeepsBundle due (bundle_lines_so_far rows (state part due version tables b channel draft)) (Own l)) (HasCauseBy (own_wording (state part due version tables b channel draft)) line)
 unfolding own_put
 keeps_own parts.Header due version tables rows b channel draft line (Heads v) h is k = record { rows = []; same_due = refl; says = refl; sound = record { due_version = k.fits; none = h } }
 keeps_own parts.Replica due One tables rows b channel draft line (Names id) h is k = record {
@@ -346,29 +346,29 @@ version_is Two Two e = refl
 version_is One Two e = absurd cc
 version_is Two One e = absurd cc
 
-closed_keeps : (due : Option Version) (version : Version) (tables : List Table) (rows : List TableRow) (b : BundleValue) (c : Channel) (old d : Standing) (l : Line) → IsDueBundle due version rows b → IsOpen version b c old → said d ≡ said old ++ l ∷ [] → IsSound (Some b.start.schema) d → d.due ≡ Some version
+closed_keeps : (due : Option Version) (version : Version) (tables : List Table) (rows : List TableRow) (b : BundleValue) (c : Channel) (old d : Standing) (l : Line) → IsDueBundle due version rows b → IsOpen version b c old → lines_so_far d ≡ lines_so_far old ++ l ∷ [] → IsSound (Some b.start.schema) d → d.due ≡ Some version
     → d.stamps ≡ right_stamps version b.start.schema d.journal.entries → is_last d.place ≡ true
-    → KeepsBundle due (front version rows b ++ (Own (Opens c) ∷ map Inner (said old))) (Inner l) (state parts.Channels due version tables (with_journal (Some c) b d.journal) None (empty (Some version)))
+    → KeepsBundle due (front version rows b ++ (Own (Opens c) ∷ map Inner (lines_so_far old))) (Inner l) (state parts.Channels due version tables (with_journal (Some c) b d.journal) None (empty (Some version)))
 closed_keeps due version tables rows b c old d l w o says sound same stamped last =
     let e = ended (Some b.start.schema) d sound last in
     let is : d.version ≡ version = version_is version d.version (subst (λ (x : Option Version). takes x d.version ≡ true) same e.whole.due) in
-    let lines : said d ≡ journal_lines version d.stamps d.journal = e.lines ∙ ap (λ (v : Version). journal_lines v d.stamps d.journal) is in
+    let lines : lines_so_far d ≡ journal_lines version d.stamps d.journal = e.lines ∙ ap (λ (v : Version). journal_lines v d.stamps d.journal) is in
     record {
       rows = rows;
       same_due = refl;
       says = right_front version rows b c d.stamps d.journal w.written.brought stamped
           ∙ ap (λ (ls : List Line). front version rows b ++ (Own (Opens c) ∷ map Inner ls)) (sym lines)
-          ∙ inner_more c (front version rows b) (said old) (said d) l says;
+          ∙ inner_more c (front version rows b) (lines_so_far old) (lines_so_far d) l says;
       sound = record { due_version = w.due_version; written = channel_written version rows b c old d.journal w.written o e.written e.whole.fitting };
     }
 
-open_still : (due : Option Version) (version : Version) (tables : List Table) (rows : List TableRow) (b : BundleValue) (c : Channel) (old d : Standing) (l : Line) → IsDueBundle due version rows b → IsOpen version b c old → said d ≡ said old ++ l ∷ [] → IsSound (Some b.start.schema) d → d.due ≡ Some version
+open_still : (due : Option Version) (version : Version) (tables : List Table) (rows : List TableRow) (b : BundleValue) (c : Channel) (old d : Standing) (l : Line) → IsDueBundle due version rows b → IsOpen version b c old → lines_so_far d ≡ lines_so_far old ++ l ∷ [] → IsSound (Some b.start.schema) d → d.due ≡ Some version
     → d.stamps ≡ right_stamps version b.start.schema d.journal.entries → is_last d.place ≡ false
-    → KeepsBundle due (front version rows b ++ (Own (Opens c) ∷ map Inner (said old))) (Inner l) (state parts.Journal due version tables b (Some c) d)
+    → KeepsBundle due (front version rows b ++ (Own (Opens c) ∷ map Inner (lines_so_far old))) (Inner l) (state parts.Journal due version tables b (Some c) d)
 open_still due version tables rows b c old d l w o says sound same stamped more = record {
   rows = rows;
   same_due = refl;
-  says = inner_more c (front version rows b) (said old) (said d) l says;
+  says = inner_more c (front version rows b) (lines_so_far old) (lines_so_far d) l says;
   sound = (w, record { name = o.name; new = o.new; room = o.room; same_version = same; sound = sound; stamped = stamped; goes_on = more });
 }
 
@@ -430,13 +430,13 @@ misstamped_cause version tables s d line l text due goes e =
     (text ∙ ap line_text end, within_is s.place p.0, λ same. (let k = sym (eq-eqb s.stamp right same) ∙ not-true (eqb s.stamp right) q.1 in cc))
 
 keeps_inner : (due : Option Version) (version : Version) (tables : List Table) (rows : List TableRow) (b : BundleValue) (channel : Option Channel) (draft : Standing) (line : List ℕ) → IsDueBundle due version rows b → OpenChannel version b channel draft
-    → MatchResult (judge_inner true (state parts.Journal due version tables b channel draft) line) (InnerTaken due (front version rows b ++ inner_said channel draft) line) (bundle_cause_at parts.Journal (state parts.Journal due version tables b channel draft) line)
+    → MatchResult (judge_inner true (state parts.Journal due version tables b channel draft) line) (InnerTaken due (front version rows b ++ inner_lines_so_far channel draft) line) (bundle_cause_at parts.Journal (state parts.Journal due version tables b channel draft) line)
 unfolding judge_inner after_inner
 keeps_inner due version tables rows b None draft line w o = absurd o
 keeps_inner due version tables rows b (Some c) draft line w o =
     let s = state parts.Journal due version tables b (Some c) draft in
     let schema = b.start.schema in
-    let old = front version rows b ++ (Own (Opens c) ∷ map Inner (said draft)) in
+    let old = front version rows b ++ (Own (Opens c) ∷ map Inner (lines_so_far draft)) in
     let Taken = InnerTaken due old line in
     let Caused = bundle_cause_at parts.Journal s line in
     then_both Taken Caused (judge (Some schema) draft line) _ (MatchResult-weaker (judge (Some schema) draft line) (judged_line (Some schema) draft line o.sound) (λ d k. k) (λ x k. inl k)) (λ d k.
@@ -454,18 +454,18 @@ keeps_inner due version tables rows b (Some c) draft line w o =
     }))
 
 own_taken : (part : Part) (due : Option Version) (version : Version) (tables : List Table) (rows : List TableRow) (b : BundleValue) (channel : Option Channel) (draft : Standing) (line : List ℕ) → SoundAt part due version tables rows b channel draft
-    → MatchResult (judge_own (state part due version tables b channel draft) line) (InnerTaken due (bundle_said rows (state part due version tables b channel draft)) line) (HasCauseBy (own_wording (state part due version tables b channel draft)) line)
+    → MatchResult (judge_own (state part due version tables b channel draft) line) (InnerTaken due (bundle_lines_so_far rows (state part due version tables b channel draft)) line) (HasCauseBy (own_wording (state part due version tables b channel draft)) line)
 own_taken part due version tables rows b channel draft line h =
     let s = state part due version tables b channel draft in
-    rw (own_reads s line) (judged_both (own_wording s) (own_body s.due) (own_laws s) (InnerTaken due (bundle_said rows s) line) (own_put s) line
+    rw (own_reads s line) (judged_both (own_wording s) (own_body s.due) (own_laws s) (InnerTaken due (bundle_lines_so_far rows s) line) (own_put s) line
     (λ l k. MatchResult-weaker (own_put s l) (keeps_own part due version tables rows b channel draft line l h k.due k) (λ t m. record { l = Own l; text = k.text; keeps = m }) (λ c m. m)))
 
 taken_at : (part : Part) (due : Option Version) (version : Version) (tables : List Table) (rows : List TableRow) (b : BundleValue) (channel : Option Channel) (draft : Standing) (line : List ℕ) → SoundAt part due version tables rows b channel draft
-    → MatchResult (judge_part part true (state part due version tables b channel draft) line) (InnerTaken due (bundle_said rows (state part due version tables b channel draft)) line) (bundle_cause_at part (state part due version tables b channel draft) line)
+    → MatchResult (judge_part part true (state part due version tables b channel draft) line) (InnerTaken due (bundle_lines_so_far rows (state part due version tables b channel draft)) line) (bundle_cause_at part (state part due version tables b channel draft) line)
 taken_at parts.Journal due version tables rows b channel draft line h = keeps_inner due version tables rows b channel draft line h.0 h.1
 taken_at part due version tables rows b channel draft line h = own_taken part due version tables rows b channel draft line h
 
 -- a line that is taken is the spelling of one more line
-pub bundle_taken : (rows : List TableRow) (s : BundleStanding) (line : List ℕ) → IsBundleSound rows s → MatchResult (judge_bundle s line) (InnerTaken s.due (bundle_said rows s) line) (HasBundleCause s line)
+pub bundle_taken : (rows : List TableRow) (s : BundleStanding) (line : List ℕ) → IsBundleSound rows s → MatchResult (judge_bundle s line) (InnerTaken s.due (bundle_lines_so_far rows s) line) (HasBundleCause s line)
 unfolding judge_bundle
 bundle_taken rows s line h = taken_at s.part s.due s.version s.tables rows s.bundle s.channel s.draft line h

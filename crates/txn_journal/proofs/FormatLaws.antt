@@ -85,7 +85,7 @@ pub record CanGoOn (f : Format) (inside : Bool) (ls : List f.Line) : Type 0 wher
 -- Sound is what is known of lines and of what they have made. Judging loosely takes more: it doesn't look at entries as a whole.
 pub record Laws (f : Format) (Sound : f.State → List f.Line → Type 0) : Type 0 where
   pub starts : Sound f.start []
-  pub heard : (s : f.State) (ls : List f.Line) → Sound s ls → f.HasHeard s ls
+  pub has_lines : (s : f.State) (ls : List f.Line) → Sound s ls → f.HasLines s ls
   pub begins : (s : f.State) (ls : List f.Line) → Sound s ls → CanGoOn f (f.is_open s) ls
   pub judges : (s : f.State) (ls : List f.Line) (line : List ℕ) → Sound s ls → MatchResult (f.judge s line) (OneMore f Sound ls line) (f.HasCause s line)
   pub ends : (s : f.State) (ls : List f.Line) → Sound s ls → f.is_last s ≡ true → f.Writes (text_of f ls) (f.value s)
@@ -166,7 +166,7 @@ module _ (f : Format) (Sound : f.State → List f.Line → Type 0) (laws : Laws 
   -- the text ends here
   ends_here : (bytes : List ℕ) (s : f.State) (n : ℕ) (rest : List ℕ) (v : Bool) → f.is_last s ≡ v → Stands bytes s n rest [] → whole_by f bytes ≡ at_end (end_of_text v rest n) (f.value s) → SpellsBy f bytes (at_end (end_of_text v rest n) (f.value s))
   ends_here bytes s n rest false last h e = (
-    record { before = h.lines; rest = rest; parts = h.parts ∙ ap (λ (x : List ℕ). text_of f h.lines ++ x) (append-nil rest); lines = h.whole; part = h.part; state = s; heard = laws.heard s h.lines h.sound; number = omega (arith, h.number); begins = begins s h.lines h.sound },
+    record { before = h.lines; rest = rest; parts = h.parts ∙ ap (λ (x : List ℕ). text_of f h.lines ++ x) (append-nil rest); lines = h.whole; part = h.part; state = s; has_lines = laws.has_lines s h.lines h.sound; number = omega (arith, h.number); begins = begins s h.lines h.sound },
     λ v w. absurd (let k = sym e ∙ reads_back bytes v w in cc),
   )
   ends_here bytes s n [] true last h e = subst (λ (x : List ℕ). f.Writes x (f.value s)) (sym (h.parts ∙ append-nil (text_of f h.lines))) (laws.ends s h.lines h.sound last)
@@ -224,7 +224,7 @@ module _ (f : Format) (Sound : f.State → List f.Line → Type 0) (laws : Laws 
         whole = h.part;
         number = omega (arith, h.number);
         state = s;
-        heard = laws.heard s h.lines h.sound;
+        has_lines = laws.has_lines s h.lines h.sound;
         begins = begins s h.lines h.sound;
         faulty = λ b. no_value bytes bs s n rest h c j (f.is_inside rest) refl b.0 b.1 b.2;
         has_cause = cause;

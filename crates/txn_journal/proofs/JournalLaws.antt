@@ -40,7 +40,7 @@ use Rattle.txn_journal.proofs.LineReads.{body_of, put, judge_reads, rest_laws}
 use Rattle.txn_journal.proofs.WordLaws.{judged_again}
 use Rattle.txn_journal.proofs.SoundLines.{placed, fits_in, seen_after, Whole, Sound_at, IsSound, whole_more, ended_entry, whole_written, judged_line}
 use Rattle.std.proofs.lemmas.Result.{MatchResult-weaker}
-use Rattle.txn_journal.specs.Heard.{said}
+use Rattle.txn_journal.specs.LinesSoFar.{lines_so_far}
 use Rattle.txn_journal.specs.declared.lines.Place.{Place}
 
 -- ---- no line feed is in a line
@@ -302,7 +302,7 @@ pub record Completes (schema : Option (List Table)) (due : Option Version) (plac
   pub fits : IsWritten journal
   pub stamps_fit : AreStamps version 1 (last_stamps place s) journal.entries
   pub fitting : list_all (fits_in schema) journal.entries ≡ true
-  pub whole : journal_lines version (last_stamps place s) journal ≡ said (placed place s) ++ more
+  pub whole : journal_lines version (last_stamps place s) journal ≡ lines_so_far (placed place s) ++ more
 
 pub some_version : (due : Option Version) → (version : Version) × (takes due version ≡ true)
 some_version None = (One, refl)
@@ -326,17 +326,17 @@ completes_at schema places.Within s o =
       fits = whole_written schema (close_entry s) whole;
       stamps_fit = whole.stamped;
       fitting = whole.fitting;
-      whole = ap (λ (ls : List Line). ls ++ Close ∷ []) (ended_entry schema s o.whole) ∙ append_assoc (said (placed places.Within s)) (End ∷ []) (Close ∷ []);
+      whole = ap (λ (ls : List Line). ls ++ Close ∷ []) (ended_entry schema s o.whole) ∙ append_assoc (lines_so_far (placed places.Within s)) (End ∷ []) (Close ∷ []);
     }
 completes_at schema places.Ended s h = record { version = s.version; journal = s.journal; more = []; takes_version = h.0.due; entries = refl; fits = whole_written schema s h.0; stamps_fit = h.0.stamped; fitting = h.0.fitting; whole = sym (append-nil (journal_lines s.version s.stamps s.journal)) }
 
 -- a journal that has come to its end
 pub record Ended (schema : Option (List Table)) (s : Standing) : Type 0 where
   pub whole : Whole schema s
-  pub lines : said s ≡ journal_lines s.version s.stamps s.journal
+  pub lines : lines_so_far s ≡ journal_lines s.version s.stamps s.journal
   pub written : IsWritten s.journal
 
-ended_at : (schema : Option (List Table)) (place : Place) (s : Standing) → Sound_at schema place s → is_last place ≡ true → (Whole schema s) × (said (placed place s) ≡ journal_lines s.version s.stamps s.journal)
+ended_at : (schema : Option (List Table)) (place : Place) (s : Standing) → Sound_at schema place s → is_last place ≡ true → (Whole schema s) × (lines_so_far (placed place s) ≡ journal_lines s.version s.stamps s.journal)
 ended_at schema places.Ended s h last = (h.0, refl)
 ended_at schema place s h last = absurd cc
 
@@ -346,7 +346,7 @@ ended schema s h last = let e = ended_at schema s.place s h last in record { who
 -- ---- journals that stand alone
 
 abbrev pub IsSoundAlone : Option Version → Standing → List Line → Type 0
-IsSoundAlone due s ls = (s.due ≡ due) × (said s ≡ ls) × IsSound None s
+IsSoundAlone due s ls = (s.due ≡ due) × (lines_so_far s ≡ ls) × IsSound None s
 
 -- of whatever is looked at in the end: where it is spelled it is read, and the other way round
 pub record Seen {V : Type 0} (due : Option Version) (value : Standing → V) (Spelled : List ℕ → V → Type 0) : Type 0 where
@@ -358,7 +358,7 @@ laws_as {V} due value Spelled seen =
     let f = journals_as due value Spelled in
     record {
       starts = (refl, refl, record { none_stamped = refl; none_counted = refl; none_open = refl });
-      heard = λ s ls h. h.1;
+      has_lines = λ s ls h. h.1;
       begins = λ s ls h.
           let k = completes_at None s.place s h.2 in
           let is : takes due k.version ≡ true = subst (λ (d : Option Version). takes d k.version ≡ true) h.0 k.takes_version in

@@ -16,7 +16,7 @@ use Rattle.txn_journal.specs.declared.lines.Place.{Place}
 use Rattle.txn_journal.specs.declared.bundle_draft.Part.{Part}
 use Rattle.txn_journal.specs.declared.bundle_draft.Part.TheVariants as parts
 use Rattle.txn_journal.specs.BundleText.{BundleLine, bundle_line_text, WritesBundleBy, AlmostWritesBundle}
-use Rattle.txn_journal.specs.BundleHeard.{bundle_said}
+use Rattle.txn_journal.specs.BundleLinesSoFar.{bundle_lines_so_far}
 use Rattle.txn_journal.specs.BundleCauses.{HasBundleCause}
 
 abbrev pub is_inside : Option Keyword → Bool
@@ -47,7 +47,7 @@ bundles due = record {
   AlmostWrites = AlmostWritesBundle due;
   is_open = λ s. is_entry_open s.part s.draft.place;
   is_inside = λ line. is_inside (keyword_of (first_word line));
-  HasHeard = λ s ls. (rows : List TableRow) × (bundle_said rows s ≡ ls);
+  HasLines = λ s ls. (rows : List TableRow) × (bundle_lines_so_far rows s ≡ ls);
   HasCause = HasBundleCause;
 }
 

@@ -35,7 +35,7 @@ pub record Format : Type 1 where
   -- the line begins an entry, or is within one
   pub is_inside : List ℕ → Bool
   -- the lines that have made this, in order
-  pub HasHeard : State → List Line → Type 0
+  pub HasLines : State → List Line → Type 0
   -- what is wrong with a line after those that have made this
   pub HasCause : State → List ℕ → Cause → Type 0
 
@@ -105,7 +105,7 @@ pub record IsFirstFaulty (f : Format) (bytes : List ℕ) (n : ℕ) (cause : Caus
   pub lines : AreWhole f before
   pub whole : IsOneLine line
   pub state : f.State
-  pub heard : f.HasHeard state before
+  pub has_lines : f.HasLines state before
   pub number : n ≡ cap_line_number (length before + 1)
   pub begins : BeginsBy f (f.is_open state) (text_of f before)
   pub faulty : BeginsBy f (f.is_inside line) (text_of f before ++ (line ++ 10 ∷ [])) → ⊥
@@ -119,7 +119,7 @@ pub record IsFront (f : Format) (bytes : List ℕ) (n : ℕ) : Type 0 where
   pub lines : AreWhole f before
   pub part : IsOneLine rest
   pub state : f.State
-  pub heard : f.HasHeard state before
+  pub has_lines : f.HasLines state before
   pub number : n ≡ cap_line_number (length before + 1)
   pub begins : BeginsBy f (f.is_open state) (text_of f before)
 

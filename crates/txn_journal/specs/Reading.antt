@@ -9,7 +9,7 @@ use Rattle.txn_journal.specs.Formats.{Format, eats_by, IsFaultBy, closing_by}
 use Rattle.txn_journal.specs.Machine.{Standing, empty, is_last, drop_entries, judge, IsFull}
 use Rattle.txn_journal.specs.Lines.{takes}
 use Rattle.txn_journal.specs.Spelling.{Line, line_text, WritesAs, Writes}
-use Rattle.txn_journal.specs.Heard.{said}
+use Rattle.txn_journal.specs.LinesSoFar.{lines_so_far}
 use Rattle.txn_journal.specs.Causes.{HasCause}
 use Rattle.txn_journal.specs.declared.lines.Version.{Version}
 use Rattle.txn_journal.specs.declared.lines.Place.{Place}
@@ -31,7 +31,7 @@ journals_as {V} due value Writes = record {
   AlmostWrites = Writes;
   is_open = λ s. false;
   is_inside = λ line. false;
-  HasHeard = λ s ls. said s ≡ ls;
+  HasLines = λ s ls. lines_so_far s ≡ ls;
   HasCause = HasCause None;
 }
 

@@ -5,7 +5,7 @@ ghost use Rattle.gtid_text.specs.Written.{IsSource};
 ghost use Rattle.journal_words.specs.Gtids.{gtid_of_word};
 ghost use Rattle.txn_journal.specs.Stream.{Finds};
 ghost use Rattle.txn_journal.specs.Lines.{some_or_body, numbers_in, stamp_in, beginning_at};
-ghost use Rattle.txn_journal.specs.Numbered.{numbers_said, beginning_said};
+ghost use Rattle.txn_journal.specs.Numbered.{numbers_value, beginning_value};
 
 use crate::fault::{Cause, LineFault};
 use crate::lines::Version;
@@ -38,7 +38,7 @@ pub struct Beginning {
 impl Numbers<'_> {
     /// The last_committed, where these may be at a place, counted from 1.
     fn stamp(&self, place: u64) -> Option<u64>
-        ensures { result ≡ stamp_in place (Some (numbers_said self.now)) }
+        ensures { result ≡ stamp_in place (Some (numbers_value self.now)) }
     {
         if count(self.sequence_number) != Some(place) {
             return None;
@@ -127,7 +127,7 @@ fn gtid_in(alloc: Global, near: &mut SpelledSource, word: &[u8]) -> Result<Gtid,
 }
 
 fn numbers_in(rest: Option<&[u8]>) -> Result<Numbers<'_>, LineFault>
-    ensures { Finds numbers_said result (numbers_in (option_map (λ r. r.now) rest.entry)) }
+    ensures { Finds numbers_value result (numbers_in (option_map (λ r. r.now) rest.entry)) }
 {
     let Some(text) = rest else {
         return Err(LineFault::Wrong(Cause::Body));
@@ -152,7 +152,7 @@ fn beginning_text(
     place: u64,
     text: &[u8],
 ) -> Result<Beginning, LineFault>
-    ensures { Finds beginning_said result (beginning_at version place (Some text.now)) }
+    ensures { Finds beginning_value result (beginning_at version place (Some text.now)) }
 {
     match version {
         Version::One => {
@@ -181,7 +181,7 @@ pub fn beginning_at(
     place: u64,
     rest: Option<&[u8]>,
 ) -> Result<Beginning, LineFault>
-    ensures { Finds beginning_said result (beginning_at version place (option_map (λ r. r.now) rest.entry)) }
+    ensures { Finds beginning_value result (beginning_at version place (option_map (λ r. r.now) rest.entry)) }
 {
     match rest {
         Some(text) => beginning_text(alloc, near, version, place, text),
