@@ -11,7 +11,7 @@ use Rattle.gtid_report.specs.declared.refusal.Refusal.{Refusal}
 use Rattle.serving.specs.Faults.{IsVerdictFault}
 use Rattle.serving.specs.Servable.{IsServable}
 use Rattle.serving.specs.declared.order.Order.{Order}
-use Rattle.commands.specs.Said.{Holds, Finds, GivesUp, answer_of, refused_with}
+use Rattle.commands.specs.Printed.{Holds, Finds, GivesUp, answer_of, refused_with}
 use Rattle.commands.specs.Bundles.{Audits, SpellsBundle, audit_answer, bundle_in}
 use Rattle.commands.specs.Texts.{IsTextOf}
 use Rattle.commands.specs.Explaining.{ExplainsBundle, HoldsExplained, FindsExplained, SettlesExplained}
@@ -35,7 +35,7 @@ pub bundle_found : (order : Order) (bytes : List ℕ) (b : BundleValue) (found :
 bundle_found order bytes b (Ok held) text holds notes none =
     let e = read_as b (bundle_in bytes) text.exact in
     record {
-      said = audit_answer order b;
+      printed = audit_answer order b;
       explains = record { audits = inl (subst (SpellsBundle bytes) (sym e) text.spelled, ap (answer_of (audit_answer order)) (sym e)); explained = inl (record { bundle = b; spelled = e; verdict = refl; explained = notes }) };
       holds = holds;
     }
@@ -54,5 +54,5 @@ fault_found order bytes f text = refused_so order bytes (journal_fault f) (fault
 pub settled : (order : Order) (bytes : List ℕ) (found : Result Explained Fault) (settled : Result Explained RunFault) → FindsExplained order bytes found → IfOk settled (SettlesExplained bytes found) → IfOk settled (HoldsExplained order bytes)
 settled order bytes found (Err e) f s = tt
 settled order bytes (Ok held) (Ok h) f s = subst (HoldsExplained order bytes) (sym s) f
-settled order bytes (Err (fault.Refused r)) (Ok h) f s = record { said = refused_with r; explains = record { audits = f; explained = inr (record { refusal = r; refused = refl; explained = s.1 }) }; holds = s.0 }
+settled order bytes (Err (fault.Refused r)) (Ok h) f s = record { printed = refused_with r; explains = record { audits = f; explained = inr (record { refusal = r; refused = refl; explained = s.1 }) }; holds = s.0 }
 settled order bytes (Err fault.Memory) (Ok h) f s = absurd s

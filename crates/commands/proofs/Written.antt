@@ -15,7 +15,7 @@ use Rattle.txn_journal.specs.declared.fault.JournalFault.{JournalFault}
 use Rattle.gtid_report.specs.Faults.{set_fault}
 use Rattle.serving.specs.Faults.{IsBundleFault, IsVerdictFault}
 use Rattle.serving.specs.Servable.{IsServable, WrittenIsServable}
-use Rattle.commands.specs.Said.{GivesUp}
+use Rattle.commands.specs.Printed.{GivesUp}
 use Rattle.commands.specs.Bundles.{SpellsBundle}
 use Rattle.commands.specs.Positions.{SpellsJournal}
 

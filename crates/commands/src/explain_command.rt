@@ -6,10 +6,10 @@ ghost use Rattle.serving.specs.Servable.{IsServable};
 ghost use Rattle.fault_places.specs.Lines.{lines_of};
 ghost use Rattle.fault_places.specs.Explained.{refusal_explained};
 ghost use Rattle.commands.specs.Edge.{output_of, one_more, Begins};
-ghost use Rattle.commands.specs.Said.{Holds, GivesUp, refused_with, to_all, IsDone};
+ghost use Rattle.commands.specs.Printed.{Holds, GivesUp, refused_with, to_all, IsDone};
 ghost use Rattle.commands.specs.Bundles.{SpellsBundle, audit_answer, bundle_in};
 ghost use Rattle.commands.specs.Texts.{IsTextOf};
-ghost use Rattle.commands.specs.Explaining.{AreMissingBeside, ExplainsBundle, HoldsExplained, FindsExplained, SettlesExplained, IsToldWhole, HasNotExplained};
+ghost use Rattle.commands.specs.Explaining.{AreMissingBeside, ExplainsBundle, HoldsExplained, FindsExplained, SettlesExplained, IsExplained, HasNotExplained};
 
 use crate::answer::{Answer, refusal_answer};
 use crate::audit_command::verdict_answer;
@@ -154,8 +154,8 @@ pub fn run_explain<S: Source, W: Sink, E: Sink>(
     streams: &mut Streams<S, W>,
     errors: &mut E,
 ) -> Result<Outcome, RunFault>
-    ensures done { let told = output_of E.written E.failed errors.old in let new = output_of E.written E.failed errors.new in IfOk result (IsDone (to_all (IsToldWhole order told new)) streams.old streams.new) }
-    ensures failed { let told = output_of E.written E.failed errors.old in let new = output_of E.written E.failed errors.new in IfErr result (HasNotExplained order told new streams.old streams.new) }
+    ensures done { let old = output_of E.written E.failed errors.old in let new = output_of E.written E.failed errors.new in IfOk result (IsDone (to_all (IsExplained order old new)) streams.old streams.new) }
+    ensures failed { let old = output_of E.written E.failed errors.old in let new = output_of E.written E.failed errors.new in IfErr result (HasNotExplained order old new streams.old streams.new) }
 {
     let bytes = streams.read_all(alloc)?;
     let held = explain_bytes(alloc, order, &bytes)?;

@@ -20,25 +20,25 @@ use Rattle.commands.specs.declared.edge.RunFault.{RunFault}
 use Rattle.commands.specs.declared.edge.RunFault.TheVariants.{Memory, Read, Write}
 
 -- what is printed, and how the command ends
-pub record Said : Type 0 where
+pub record Printed : Type 0 where
   pub text : List ℕ
   pub outcome : Outcome
 
 abbrev pub with_line_feed : List ℕ → List ℕ
 with_line_feed line = line ++ 10 ∷ []
 
-abbrev pub refused_with : Refusal → Said
+abbrev pub refused_with : Refusal → Printed
 refused_with r = record { text = with_line_feed (refusal_line r); outcome = Refused }
 
 -- the line of a fault; out of memory has none
-abbrev pub fault_said : Fault → Said
-fault_said (fault.Refused r) = refused_with r
-fault_said fault.Memory = record { text = []; outcome = Refused }
+abbrev pub printed_fault : Fault → Printed
+printed_fault (fault.Refused r) = refused_with r
+printed_fault fault.Memory = record { text = []; outcome = Refused }
 
 -- the answer to what was decoded, or the line of the refusal
-abbrev pub answer_of : {V : Type 0} → (V → Said) → Result V JournalFault → Said
-answer_of says (Ok value) = says value
-answer_of says (Err f) = fault_said (journal_fault f)
+abbrev pub answer_of : {V : Type 0} → (V → Printed) → Result V JournalFault → Printed
+answer_of answers (Ok value) = answers value
+answer_of answers (Err f) = printed_fault (journal_fault f)
 
 -- A set is not made by this fault: one that reading the bytes makes, or one for the answer to what they parse as.
 abbrev pub IsFullFor : {V : Type 0} → (List ℕ → Result V JournalFault → Type 0) → (List ℕ → Result V JournalFault) → (V → SetFault → Type 0) → List ℕ → SetFault → Type 0
@@ -46,31 +46,31 @@ IsFullFor {V} Spells decoded MayFail bytes f =
     Spells bytes (Err (journals.Set f)) ⊎ ((value : V) × Spells bytes (Ok value) × (decoded bytes ≡ Ok value) × MayFail value f)
 
 -- a set has too many sources, or too many intervals, and it is the line of that
-abbrev pub IsFullSaid : (SetFault → Type 0) → Said → Type 0
-IsFullSaid may said =
-    (may sets.SourcesFull × (said ≡ refused_with refusal.SourcesFull))
-    ⊎ (may sets.PoolFull × (said ≡ refused_with refusal.PoolFull))
+abbrev pub IsFullAnswer : (SetFault → Type 0) → Printed → Type 0
+IsFullAnswer may printed =
+    (may sets.SourcesFull × (printed ≡ refused_with refusal.SourcesFull))
+    ⊎ (may sets.PoolFull × (printed ≡ refused_with refusal.PoolFull))
 
 -- It is the answer to what the bytes parse as, by the reader's fold and by the grammar; or a set has too many sources or intervals, and it
 -- is the line of that.
-abbrev pub Tells : {V : Type 0} → (List ℕ → Result V JournalFault → Type 0) → (List ℕ → Result V JournalFault) → (V → Said) → (V → SetFault → Type 0) → List ℕ → Said → Type 0
-Tells Spells decoded says MayFail bytes said =
-    (Spells bytes (decoded bytes) × (said ≡ answer_of says (decoded bytes)))
-    ⊎ IsFullSaid (IsFullFor Spells decoded MayFail bytes) said
+abbrev pub IsAnswerTo : {V : Type 0} → (List ℕ → Result V JournalFault → Type 0) → (List ℕ → Result V JournalFault) → (V → Printed) → (V → SetFault → Type 0) → List ℕ → Printed → Type 0
+IsAnswerTo Spells decoded answers MayFail bytes printed =
+    (Spells bytes (decoded bytes) × (printed ≡ answer_of answers (decoded bytes)))
+    ⊎ IsFullAnswer (IsFullFor Spells decoded MayFail bytes) printed
 
 -- the code's answer denotes this one
-abbrev pub Holds : Answer → Said → Type 0
-Holds answer said = (string_bytes answer.text ≡ said.text) × (answer.outcome ≡ said.outcome)
+abbrev pub Holds : Answer → Printed → Type 0
+Holds answer printed = (string_bytes answer.text ≡ printed.text) × (answer.outcome ≡ printed.outcome)
 
 -- the code's answer is the answer to these bytes
-abbrev pub HoldsOne : (List ℕ → Said → Type 0) → List ℕ → Answer → Type 0
-HoldsOne says bytes answer = (said : Said) × says bytes said × Holds answer said
+abbrev pub HoldsOne : (List ℕ → Printed → Type 0) → List ℕ → Answer → Type 0
+HoldsOne answers bytes answer = (printed : Printed) × answers bytes printed × Holds answer printed
 
 -- the answer, or the line of the refusal, is the answer to these bytes; or memory was refused
-abbrev pub Finds : (List ℕ → Said → Type 0) → List ℕ → Result Answer Fault → Type 0
-Finds says bytes (Ok answer) = HoldsOne says bytes answer
-Finds says bytes (Err (fault.Refused r)) = says bytes (refused_with r)
-Finds says bytes (Err fault.Memory) = Unit {0}
+abbrev pub Finds : (List ℕ → Printed → Type 0) → List ℕ → Result Answer Fault → Type 0
+Finds answers bytes (Ok answer) = HoldsOne answers bytes answer
+Finds answers bytes (Err (fault.Refused r)) = answers bytes (refused_with r)
+Finds answers bytes (Err fault.Memory) = Unit {0}
 
 -- there is no answer: memory was refused, or a set for it has too many sources or intervals, where that may be
 abbrev pub GivesUp : (SetFault → Type 0) → Fault → Type 0
@@ -85,31 +85,31 @@ Settles (Err fault.Memory) answer = ⊥
 
 -- What a command's answer depends on: its words alone, with nothing read, or all bytes that it reads.
 pub data Answering : Type 1 where
-  at_once : Said → Answering
-  to_all : (List ℕ → Said → Type 0) → Answering
+  at_once : Printed → Answering
+  to_all : (List ℕ → Printed → Type 0) → Answering
 
 -- it is the answer to what was read
-abbrev pub IsAnswer : {S : Type 0} → Answering → Input S → Input S → Said → Type 0
-IsAnswer (at_once answer) old new said = (new ≡ old) × (said ≡ answer)
-IsAnswer (to_all says) old new said = (bytes : List ℕ) × HasRead old.left new.left bytes × says bytes said
+abbrev pub IsAnswer : {S : Type 0} → Answering → Input S → Input S → Printed → Type 0
+IsAnswer (at_once answer) old new printed = (new ≡ old) × (printed ≡ answer)
+IsAnswer (to_all answers) old new printed = (bytes : List ℕ) × HasRead old.left new.left bytes × answers bytes printed
 
 -- a read failed, where the answer needs one
 abbrev pub IsUnread : {S : Type 0} → Answering → Input S → Input S → Type 0
 IsUnread (at_once answer) old new = ⊥
-IsUnread (to_all says) old new = IsReadFault old new
+IsUnread (to_all answers) old new = IsReadFault old new
 
 -- The answer was written, and nothing else.
 pub record IsDone {S W : Type 0} (answering : Answering) (old new : StreamsValue S W) (outcome : Outcome) : Type 0 where
-  pub said : Said
-  pub answer : IsAnswer answering old.input new.input said
-  pub wrote : Appends old.output.written new.output.written said.text
-  pub ends : outcome ≡ said.outcome
+  pub printed : Printed
+  pub answer : IsAnswer answering old.input new.input printed
+  pub wrote : Appends old.output.written new.output.written printed.text
+  pub ends : outcome ≡ printed.outcome
 
 -- The writer failed once more, and a prefix of the answer was written.
 pub record IsCutOff {S W : Type 0} (answering : Answering) (old new : StreamsValue S W) : Type 0 where
-  pub said : Said
-  pub answer : IsAnswer answering old.input new.input said
-  pub wrote : Begins old.output.written new.output.written said.text
+  pub printed : Printed
+  pub answer : IsAnswer answering old.input new.input printed
+  pub wrote : Begins old.output.written new.output.written printed.text
   pub counted : new.output.failed ≡ one_more old.output.failed
 
 -- Memory was refused, or reading failed, and nothing was written; or writing failed.
