@@ -44,7 +44,7 @@ HasRoomAtOnce f site seat c p e s = HasRoomFor f (receiving c e s) ⊎ HasRoomFo
 
 -- the reply to the first event, and the state after the last
 pub record IsAtOnce (r : Replica) (seat c p : ℕ) (e : Entry) (reply : Reply) (t : State) : Type 0 where
-  pub told : reply ≡ (receive r.site c e r.state).0
+  pub replied : reply ≡ (receive r.site c e r.state).0
   pub state : t ≡ received_and_committed r.site seat c p e r.state
 
 -- ---- when it needs no waiting

@@ -81,7 +81,7 @@ impl<N: Naming> Book<N> {
         requires { is_numbered event.now ≡ true }
         ensures step { IfOk result (λ r. IsStep self.old.now event.now r self.new.now) }
         ensures line { IfOk result (λ r. self.new ≡ with_step event.now r self.new.now self.old) }
-        ensures told { IfOk result (λ r. mine.new ≡ pass_after_call (length self.old.steps) event.now r mine.old) }
+        ensures pass { IfOk result (λ r. mine.new ≡ pass_after_call (length self.old.steps) event.now r mine.old) }
         ensures err { OnErr result ((self.new ≡ self.old) × (mine.new ≡ mine.old)) }
         ensures fault { IfErr result (λ f. IsCause f self.old.now.site self.old.now.state event.now) }
         ensures room { IfErr result (λ f. HasRoomFor f (made_by self.old.now.site self.old.now.state event.now)) }
