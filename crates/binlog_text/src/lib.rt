@@ -36,7 +36,7 @@ pub use values::read_value;
 
 #[cfg(test)]
 mod tests {
-    use crate::{ColumnType, IntegerType, Line, read_line, read_value, parse_type, unquote};
+    use crate::{ColumnType, IntegerType, Line, parse_type, read_line, read_value, unquote};
     use row_images::write_value;
     use std::test::Fail;
 

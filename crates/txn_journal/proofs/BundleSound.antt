@@ -45,7 +45,7 @@ use Rattle.txn_journal.proofs.OneBundle.{put_both}
 use Rattle.txn_journal.proofs.OwnReads.{own_body, own_put, own_reads, own_laws}
 use Rattle.rows.proofs.Lists.{all_append}
 use Rattle.std.proofs.lemmas.Result.{MatchResult-weaker}
-use Rattle.txn_journal.specs.Wordings.{ParsesAs, HasCauseBy}
+use Rattle.txn_journal.specs.Wordings.{ParsesAsLine, HasCauseBy}
 use Rattle.txn_journal.specs.Causes.{word_for}
 use Rattle.txn_journal.proofs.Judged.{then_both, if_both, known_both, IsSchema, bind_ok, ok_is}
 use Rattle.txn_journal.proofs.WordLaws.{judged_both}
@@ -224,11 +224,11 @@ done_keeps_in due version tables rows b old channel draft f = record { rows = ro
 
 -- ---- what a line of its own makes, or why it is not taken
 
-opening_cause : (s : BundleStanding) (line : List ℕ) (r : TableRow) → ParsesAs (own_wording s) line (Puts r) → is_image_writable r.row ≡ true → (c : Cause) → (with_opening (after_tables s).bundle.start r ≡ Err c) × IsSchema c → HasCauseBy (own_wording s) line c
+opening_cause : (s : BundleStanding) (line : List ℕ) (r : TableRow) → ParsesAsLine (own_wording s) line (Puts r) → is_image_writable r.row ≡ true → (c : Cause) → (with_opening (after_tables s).bundle.start r ≡ Err c) × IsSchema c → HasCauseBy (own_wording s) line c
 opening_cause s line r k writable causes.Schema e = (Puts r, k, λ long. (let m = sym long ∙ writable in cc), λ rows h. (let m = sym h ∙ e.0 in cc))
 opening_cause s line r k writable c e = absurd e.1
 
-puts_both : (s : BundleStanding) (line : List ℕ) (r : TableRow) (P : BundleStanding → Type 0) → ParsesAs (own_wording s) line (Puts r)
+puts_both : (s : BundleStanding) (line : List ℕ) (r : TableRow) (P : BundleStanding → Type 0) → ParsesAsLine (own_wording s) line (Puts r)
     → (is_image_writable r.row ≡ true → (rows : Rows) → with_opening (after_tables s).bundle.start r ≡ Ok rows → P (with_put (after_tables s) rows)) → MatchResult (own_put s (Puts r)) P (HasCauseBy (own_wording s) line)
 unfolding own_put put_row
 puts_both s line r P k more =
@@ -238,7 +238,7 @@ puts_both s line r P k more =
     (MatchResult-weaker put (known_both put _ _ (put_both (after_tables s).bundle.start r)) (λ rows e. e.0) (opening_cause s line r k writable)) (more writable))
     (λ long. (Puts r, k, long))
 
-opens_both : (s : BundleStanding) (line : List ℕ) (c : Channel) (P : BundleStanding → Type 0) → ParsesAs (own_wording s) line (Opens c)
+opens_both : (s : BundleStanding) (line : List ℕ) (c : Channel) (P : BundleStanding → Type 0) → ParsesAsLine (own_wording s) line (Opens c)
     → (length s.bundle.channels < 256 → has_channel s.bundle.channels c.name ≡ false → P (record (after_tables s) { part = parts.Journal; channel = Some c; draft = empty (Some s.version) })) → MatchResult (join_channel s c) P (HasCauseBy (own_wording s) line)
 unfolding join_channel
 opens_both s line c P k more =
@@ -246,7 +246,7 @@ opens_both s line c P k more =
     (λ room. if_both P (HasCauseBy (own_wording s) line) (has_channel s.bundle.channels c.name) _ _ (λ again. (Opens c, k, λ full. (let m = sym (le-leb 256 (length s.bundle.channels) full) ∙ room in cc), again))
     (λ new. more (leb-false 256 (length s.bundle.channels) room) new))
 
-table_cause : (s : BundleStanding) (line : List ℕ) (shape : Shape) → ParsesAs (own_wording s) line (Has shape) → (c : Cause) → TableErr s.tables shape c → HasCauseBy (own_wording s) line c
+table_cause : (s : BundleStanding) (line : List ℕ) (shape : Shape) → ParsesAsLine (own_wording s) line (Has shape) → (c : Cause) → TableErr s.tables shape c → HasCauseBy (own_wording s) line c
 unfolding TableErr
 table_cause s line shape k causes.Limit h = (Has shape, k, h)
 table_cause s line shape k causes.Schema h = (Has shape, k, h.0, h.1)
@@ -254,7 +254,7 @@ table_cause s line shape k c h = absurd h
 
 -- a line of its own, at the place where it stands
 keeps_own : (part : Part) (due : Option Version) (version : Version) (tables : List Table) (rows : List TableRow) (b : BundleValue) (channel : Option Channel) (draft : Standing) (line : List ℕ) (l : OwnLine)
-    → SoundAt part due version tables rows b channel draft → is_due_in part (own_word l) ≡ true → ParsesAs (own_wording (state part due version tables b channel draft)) line l
+    → SoundAt part due version tables rows b channel draft → is_due_in part (own_word l) ≡ true → ParsesAsLine (own_wording (state part due version tables b channel draft)) line l
     → MatchResult (own_put (state part due version tables b channel draft) l) (KeepsBundle due (bundle_lines_so_far rows (state part due version tables b channel draft)) (Own l)) (HasCauseBy (own_wording (state part due version tables b channel draft)) line)
 unfolding own_put
 keeps_own parts.Header due version tables rows b channel draft line (Heads v) h is k = record { rows = []; same_due = refl; says = refl; sound = record { due_version = k.fits; none = h } }

@@ -29,7 +29,7 @@ use Rattle.txn_journal.specs.declared.lines.Place.{Place}
 use Rattle.txn_journal.specs.declared.lines.Place.TheVariants as places
 use Rattle.txn_journal.specs.declared.lines.Version.{Version}
 use Rattle.txn_journal.specs.declared.lines.Version.TheVariants.{One, Two}
-use Rattle.txn_journal.specs.Wordings.{ParsesAs}
+use Rattle.txn_journal.specs.Wordings.{ParsesAsLine}
 use Rattle.txn_journal.specs.Causes.{word_for, HasNumbers, PassesLimit, wording, HasCause}
 use Rattle.txn_journal.proofs.Judged.{if_both}
 use Rattle.txn_journal.proofs.WordLaws.{judged_both}
@@ -210,7 +210,7 @@ pub record Keeps (schema : Option (List Table)) (s : Standing) (l : Line) (t : S
   pub goes : EntriesGo l s t
   pub sound : IsSound schema t
 
-pub begin_both : (schema : Option (List Table)) (s : Standing) (line : List ℕ) (g : Gtid) (numbers : Option Numbers) (P : Standing → Type 0) → ParsesAs (wording schema s) line (Begin g numbers)
+pub begin_both : (schema : Option (List Table)) (s : Standing) (line : List ℕ) (g : Gtid) (numbers : Option Numbers) (P : Standing → Type 0) → ParsesAsLine (wording schema s) line (Begin g numbers)
     → (is_number g.number ≡ true → s.count < 4294967294 → (stamp : ℕ) → stamp_in (s.count + 1) numbers ≡ Some stamp → set.contains s.seen g ≡ false → P (record s { place = places.Within; gtid = g; stamp = stamp }))
     → MatchResult (begin s g (stamp_in (s.count + 1) numbers)) P (HasCause schema s line)
 unfolding begin greatest
@@ -226,7 +226,7 @@ begin_both schema s line g numbers P h more =
         if_both P (HasCause schema s line) (set.contains s.seen g) _ _ (λ twice. (Begin g numbers, h, λ full. (let k = le-leb 4294967294 s.count full in cc), λ wrong. (let k = sym wrong ∙ e in cc), (refl, twice)))
         (λ unseen. found stamp e unseen)
 
-pub add_both : (schema : Option (List Table)) (s : Standing) (line : List ℕ) (c : Change) (P : Standing → Type 0) → ParsesAs (wording schema s) line (Makes c)
+pub add_both : (schema : Option (List Table)) (s : Standing) (line : List ℕ) (c : Change) (P : Standing → Type 0) → ParsesAsLine (wording schema s) line (Makes c)
     → (length s.changes < 65536 → is_change_writable c ≡ true → fits schema c ≡ true → P (record s { changes = s.changes ++ c ∷ [] })) → MatchResult (add schema s c) P (HasCause schema s line)
 unfolding add
 add_both schema s line c P h more =
@@ -252,7 +252,7 @@ no_change place c e = grind arith
 again : (schema : Option (List Table)) (s : Standing) (place : Place) (g : Gtid) (stamp : ℕ) (cs : List Change) → Whole schema s → Whole schema (record s { place = place; gtid = g; stamp = stamp; changes = cs })
 again schema s place g stamp cs w = record { due = w.due; new = w.new; writable = w.writable; previous = w.previous; fits = w.fits; fitting = w.fitting; stamped = w.stamped; all_seen = w.all_seen; counted = w.counted; few = w.few }
 
-keeps_at : (schema : Option (List Table)) (place : Place) (s : Standing) (line : List ℕ) (l : Line) → Sound_at schema place s → is_due place (word_for l) ≡ true → ParsesAs (wording schema (placed place s)) line l
+keeps_at : (schema : Option (List Table)) (place : Place) (s : Standing) (line : List ℕ) (l : Line) → Sound_at schema place s → is_due place (word_for l) ≡ true → ParsesAsLine (wording schema (placed place s)) line l
     → MatchResult (put schema (placed place s) l) (Keeps schema (placed place s) l) (HasCause schema (placed place s) line)
 unfolding put
 keeps_at schema places.Header s line (Header v) h is k = record { same_due = refl; says = refl; goes = record { stamps = refl; entries = refl }; sound = (record { none_stamped = h.none_stamped; none_counted = h.none_counted; none_open = h.none_open }, k.fits.of_version) }

@@ -14,7 +14,7 @@ use Rattle.txn_journal.specs.Stream.{Progress, Reading, Stopped, progress_after,
 use Rattle.txn_journal.specs.Formats.{closing_by}
 use Rattle.txn_journal.specs.Reading.{Stamped, eats_alone, stamped_of, without_entries, closing, in_front, behind_entries, with_front, has_begun, HasBegun}
 use Rattle.txn_journal.specs.Spelling.{Line, Header, Previous, Begin, Makes, End, Close}
-use Rattle.txn_journal.specs.Wordings.{ParsesAs}
+use Rattle.txn_journal.specs.Wordings.{ParsesAsLine}
 use Rattle.txn_journal.specs.Causes.{word_for, wording, HasCause}
 use Rattle.txn_journal.specs.declared.fault.Cause.{Cause}
 use Rattle.txn_journal.specs.declared.fault.Cause.TheVariants as causes
@@ -67,7 +67,7 @@ put_behind front s End b e =
     λ i. ok_standing (record (close_entry s) { journal = record s.journal { entries = append_assoc front.entries s.journal.entries (one ∷ []) i }; stamps = append_assoc front.stamps s.stamps (s.stamp ∷ []) i })
 put_behind front s Close b e = refl
 
-then_behind : (front : Stamped) (s : Standing) (line : List ℕ) (r : Result Line Cause) → has_begun s.place ≡ true → MatchResult r (ParsesAs (wording None s) line) (HasCause None s line) → (r >>= put None (with_taken front s)) ≡ behind_ok front (r >>= put None s)
+then_behind : (front : Stamped) (s : Standing) (line : List ℕ) (r : Result Line Cause) → has_begun s.place ≡ true → MatchResult r (ParsesAsLine (wording None s) line) (HasCause None s line) → (r >>= put None (with_taken front s)) ≡ behind_ok front (r >>= put None s)
 then_behind front s line (Ok l) b h = put_behind front s l b h.due
 then_behind front s line (Err c) b h = refl
 
@@ -82,7 +82,7 @@ judge_behind front s line b =
 abbrev StaysBegun : Standing → Type 0
 StaysBegun t = has_begun t.place ≡ true
 
-put_begun : (s : Standing) (line : List ℕ) (l : Line) → has_begun s.place ≡ true → is_due s.place (word_for l) ≡ true → ParsesAs (wording None s) line l → MatchResult (put None s l) StaysBegun (HasCause None s line)
+put_begun : (s : Standing) (line : List ℕ) (l : Line) → has_begun s.place ≡ true → is_due s.place (word_for l) ≡ true → ParsesAsLine (wording None s) line l → MatchResult (put None s l) StaysBegun (HasCause None s line)
 unfolding put
 put_begun s line (Header v) b due h = absurd (no_header s.place b due)
 put_begun s line (Previous p) b due h = absurd (no_previous s.place b due)
