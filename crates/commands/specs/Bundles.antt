@@ -32,18 +32,18 @@ abbrev pub bundle_in : List ℕ → Result BundleValue JournalFault
 bundle_in bytes = closing_bundle (eats_bundle (bundle_start None) bytes)
 
 -- by the grammar of bundles the bytes are the text of this bundle, or have this first fault
-abbrev pub SpellsBundle : List ℕ → Result BundleValue JournalFault → Type 0
-SpellsBundle bytes (Ok b) = WritesBundle bytes b
-SpellsBundle bytes (Err fault) = RefusesBundle fault bytes
+abbrev pub ParsesAsBundle : List ℕ → Result BundleValue JournalFault → Type 0
+ParsesAsBundle bytes (Ok b) = WritesBundle bytes b
+ParsesAsBundle bytes (Err fault) = RefusesBundle fault bytes
 
 -- the bundle that the bytes parse as by version 1, or the first fault
 abbrev pub old_bundle_in : List ℕ → Result BundleValue JournalFault
 old_bundle_in bytes = closing_bundle (eats_bundle (bundle_start (Some One)) bytes)
 
 -- the same by the grammar of version 1
-abbrev pub SpellsOldBundle : List ℕ → Result BundleValue JournalFault → Type 0
-SpellsOldBundle bytes (Ok b) = WritesBundleBy (Some One) bytes b
-SpellsOldBundle bytes (Err fault) = RefusesBundleBy (Some One) fault bytes
+abbrev pub ParsesAsOldBundle : List ℕ → Result BundleValue JournalFault → Type 0
+ParsesAsOldBundle bytes (Ok b) = WritesBundleBy (Some One) bytes b
+ParsesAsOldBundle bytes (Err fault) = RefusesBundleBy (Some One) fault bytes
 
 -- ---- the audit
 
@@ -60,7 +60,7 @@ audit_answer order b = printed_verdict (verdict_over order b)
 
 -- it is the answer of that audit to these bytes
 abbrev pub Audits : Order → List ℕ → Printed → Type 0
-Audits order bytes printed = IsAnswerTo SpellsBundle bundle_in (audit_answer order) IsVerdictFault bytes printed
+Audits order bytes printed = IsAnswerTo ParsesAsBundle bundle_in (audit_answer order) IsVerdictFault bytes printed
 
 -- ---- the bundle by version 2
 
@@ -70,7 +70,7 @@ upgrade_answer b = record { text = upgrade_of b; outcome = Done }
 
 -- it is what upgrading answers to these bytes
 abbrev pub Upgrades : List ℕ → Printed → Type 0
-Upgrades bytes printed = IsAnswerTo SpellsOldBundle old_bundle_in upgrade_answer (λ b f. ⊥) bytes printed
+Upgrades bytes printed = IsAnswerTo ParsesAsOldBundle old_bundle_in upgrade_answer (λ b f. ⊥) bytes printed
 
 -- ---- the state
 
@@ -97,4 +97,4 @@ apply_answer order b = state_or_verdict (verdict_over order b) (union_of_journal
 
 -- it is what applying answers to these bytes
 abbrev pub Applies : Order → List ℕ → Printed → Type 0
-Applies order bytes printed = IsAnswerTo SpellsBundle bundle_in (apply_answer order) IsBundleFault bytes printed
+Applies order bytes printed = IsAnswerTo ParsesAsBundle bundle_in (apply_answer order) IsBundleFault bytes printed

@@ -42,7 +42,7 @@ ExplainsBundle order bytes b notes =
 -- it is the verdict on the bundle that the bytes parse as, and these lines explain it
 pub record IsVerdictExplained (order : Order) (bytes : List ℕ) (printed : Printed) (notes : List ℕ) : Type 0 where
   pub bundle : BundleValue
-  pub spelled : bundle_in bytes ≡ Ok bundle
+  pub parsed : bundle_in bytes ≡ Ok bundle
   pub verdict : printed ≡ audit_answer order bundle
   pub explained : ExplainsBundle order bytes bundle notes
 

@@ -10,7 +10,7 @@ use Rattle.audit.specs.declared.listing.AllFaults.{AllFaults}
 use Rattle.audit.specs.Others.{Faults}
 use Rattle.serving.specs.Listing.{faults_over, IsFaultsFault}
 use Rattle.commands.specs.Printed.{Printed, with_line_feed, IsAnswerTo}
-use Rattle.commands.specs.Bundles.{SpellsBundle, bundle_in, verdict_ending}
+use Rattle.commands.specs.Bundles.{ParsesAsBundle, bundle_in, verdict_ending}
 
 -- the lines of verdicts
 abbrev pub verdict_lines : List Verdict → List ℕ
@@ -54,4 +54,4 @@ list_answer b = printed_faults (faults_over b)
 
 -- it is the answer of `audit --all` to these bytes
 abbrev pub Lists : List ℕ → Printed → Type 0
-Lists bytes printed = IsAnswerTo SpellsBundle bundle_in list_answer IsFaultsFault bytes printed
+Lists bytes printed = IsAnswerTo ParsesAsBundle bundle_in list_answer IsFaultsFault bytes printed

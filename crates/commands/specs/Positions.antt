@@ -25,9 +25,9 @@ abbrev pub journal_in : List ℕ → Result JournalValue JournalFault
 journal_in bytes = closing (eats_alone before_first bytes)
 
 -- by the grammar of journals the bytes are the text of this journal, or have this first fault
-abbrev pub SpellsJournal : List ℕ → Result JournalValue JournalFault → Type 0
-SpellsJournal bytes (Ok j) = Writes bytes j
-SpellsJournal bytes (Err fault) = Refuses fault bytes
+abbrev pub ParsesAsJournal : List ℕ → Result JournalValue JournalFault → Type 0
+ParsesAsJournal bytes (Ok j) = Writes bytes j
+ParsesAsJournal bytes (Err fault) = Refuses fault bytes
 
 -- ---- answers
 
@@ -52,7 +52,7 @@ position_answer asking j = printed_sending (sent j asking.1 (Some asking.0))
 
 -- it is the answer to a journal's bytes
 abbrev pub Positions : Asking → List ℕ → Printed → Type 0
-Positions asking bytes printed = IsAnswerTo SpellsJournal journal_in (position_answer asking) (λ j. IsPlanFault j asking.1) bytes printed
+Positions asking bytes printed = IsAnswerTo ParsesAsJournal journal_in (position_answer asking) (λ j. IsPlanFault j asking.1) bytes printed
 
 -- where a word is bad, the answer is its line, and nothing is read; else the answer is for all that is read
 abbrev pub to_asking : Result Asking Fault → Answering

@@ -42,8 +42,8 @@ answer_of answers (Err f) = printed_fault (journal_fault f)
 
 -- A set is not made by this fault: one that reading the bytes makes, or one for the answer to what they parse as.
 abbrev pub IsFullFor : {V : Type 0} → (List ℕ → Result V JournalFault → Type 0) → (List ℕ → Result V JournalFault) → (V → SetFault → Type 0) → List ℕ → SetFault → Type 0
-IsFullFor {V} Spells decoded MayFail bytes f =
-    Spells bytes (Err (journals.Set f)) ⊎ ((value : V) × Spells bytes (Ok value) × (decoded bytes ≡ Ok value) × MayFail value f)
+IsFullFor {V} Parses decoded MayFail bytes f =
+    Parses bytes (Err (journals.Set f)) ⊎ ((value : V) × Parses bytes (Ok value) × (decoded bytes ≡ Ok value) × MayFail value f)
 
 -- a set has too many sources, or too many intervals, and it is the line of that
 abbrev pub IsFullAnswer : (SetFault → Type 0) → Printed → Type 0
@@ -54,9 +54,9 @@ IsFullAnswer may printed =
 -- It is the answer to what the bytes parse as, by the reader's fold and by the grammar; or a set has too many sources or intervals, and it
 -- is the line of that.
 abbrev pub IsAnswerTo : {V : Type 0} → (List ℕ → Result V JournalFault → Type 0) → (List ℕ → Result V JournalFault) → (V → Printed) → (V → SetFault → Type 0) → List ℕ → Printed → Type 0
-IsAnswerTo Spells decoded answers MayFail bytes printed =
-    (Spells bytes (decoded bytes) × (printed ≡ answer_of answers (decoded bytes)))
-    ⊎ IsFullAnswer (IsFullFor Spells decoded MayFail bytes) printed
+IsAnswerTo Parses decoded answers MayFail bytes printed =
+    (Parses bytes (decoded bytes) × (printed ≡ answer_of answers (decoded bytes)))
+    ⊎ IsFullAnswer (IsFullFor Parses decoded MayFail bytes) printed
 
 -- the code's answer denotes this one
 abbrev pub Holds : Answer → Printed → Type 0

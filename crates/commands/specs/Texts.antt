@@ -8,16 +8,16 @@ use Rattle.txn_journal.specs.declared.fault.JournalFault.{JournalFault}
 use Rattle.commands.specs.Edge.{HasRead}
 
 -- the bytes parse as this: by their grammar, and by the fold over them, unless a set was not made
-pub record IsTextOf {V : Type 0} (Spells : List ℕ → Result V JournalFault → Type 0) (decoded : List ℕ → Result V JournalFault) (IsRead : V → Type 0) (bytes : List ℕ) (found : Result V JournalFault) : Type 0 where
-  pub spelled : Spells bytes found
+pub record IsTextOf {V : Type 0} (Parses : List ℕ → Result V JournalFault → Type 0) (decoded : List ℕ → Result V JournalFault) (IsRead : V → Type 0) (bytes : List ℕ) (found : Result V JournalFault) : Type 0 where
+  pub parsed : Parses bytes found
   pub exact : IsWhole found (decoded bytes)
   pub holds : IfOk found IsRead
 
 -- some bytes were read, they were all, and they parse as this
-pub record HasFound {V : Type 0} (Spells : List ℕ → Result V JournalFault → Type 0) (decoded : List ℕ → Result V JournalFault) (IsRead : V → Type 0) (old new : Option (List ℕ)) (found : Result V JournalFault) : Type 0 where
+pub record HasFound {V : Type 0} (Parses : List ℕ → Result V JournalFault → Type 0) (decoded : List ℕ → Result V JournalFault) (IsRead : V → Type 0) (old new : Option (List ℕ)) (found : Result V JournalFault) : Type 0 where
   pub bytes : List ℕ
   pub all : HasRead old new bytes
-  pub text : IsTextOf Spells decoded IsRead bytes found
+  pub text : IsTextOf Parses decoded IsRead bytes found
 
 -- a reader of bundles is after these bytes, or has stopped at a fault of a set that may be
 abbrev pub HasCome : BundleReader → List ℕ → Type 0

@@ -7,7 +7,7 @@ ghost use Rattle.fault_places.specs.Lines.{lines_of};
 ghost use Rattle.fault_places.specs.Explained.{refusal_explained};
 ghost use Rattle.commands.specs.Edge.{output_of, one_more, Begins};
 ghost use Rattle.commands.specs.Printed.{Holds, GivesUp, refused_with, to_all, IsDone};
-ghost use Rattle.commands.specs.Bundles.{SpellsBundle, audit_answer, bundle_in};
+ghost use Rattle.commands.specs.Bundles.{ParsesAsBundle, audit_answer, bundle_in};
 ghost use Rattle.commands.specs.Texts.{IsTextOf};
 ghost use Rattle.commands.specs.Explaining.{AreMissingBeside, ExplainsBundle, HoldsExplained, FindsExplained, SettlesExplained, IsExplained, HasNotExplained};
 
@@ -73,7 +73,7 @@ fn explain_bundle(
 
 /// The bundle that bytes parse as, all of the bytes.
 fn decode_whole(alloc: Global, bytes: &[u8]) -> Result<Bundle, JournalFault>
-    ensures { IsTextOf SpellsBundle bundle_in IsServable bytes.now result }
+    ensures { IsTextOf ParsesAsBundle bundle_in IsServable bytes.now result }
 {
     written_is_servable();
     decode_bundle(alloc, bytes)

@@ -44,7 +44,7 @@ fn find<Q: Request>(
 ) -> Result<Answer, Fault>
     requires ready { Q.ready request.now }
     requires read { IfOk decoded Q.Value.is_read }
-    ensures { (bytes : List ℕ) → IsTextOf Q.Value.spells Q.Value.decoded Q.Value.is_read bytes decoded → Finds (IsAnswerTo Q.Value.spells Q.Value.decoded (Q.answers request.now) (Q.may_fail request.now)) bytes result }
+    ensures { (bytes : List ℕ) → IsTextOf Q.Value.parses Q.Value.decoded Q.Value.is_read bytes decoded → Finds (IsAnswerTo Q.Value.parses Q.Value.decoded (Q.answers request.now) (Q.may_fail request.now)) bytes result }
 {
     match decoded {
         Ok(value) => {
@@ -64,7 +64,7 @@ fn answer_decoded<Q: Request>(
 ) -> Result<Answer, RunFault>
     requires ready { Q.ready request.now }
     requires read { IfOk decoded Q.Value.is_read }
-    ensures ok { (bytes : List ℕ) → IsTextOf Q.Value.spells Q.Value.decoded Q.Value.is_read bytes decoded → IfOk result (HoldsOne (IsAnswerTo Q.Value.spells Q.Value.decoded (Q.answers request.now) (Q.may_fail request.now)) bytes) }
+    ensures ok { (bytes : List ℕ) → IsTextOf Q.Value.parses Q.Value.decoded Q.Value.is_read bytes decoded → IfOk result (HoldsOne (IsAnswerTo Q.Value.parses Q.Value.decoded (Q.answers request.now) (Q.may_fail request.now)) bytes) }
     ensures memory { IfErr result (λ f. f ≡ RunFault.Memory) }
 {
     settle(alloc, find(alloc, request, decoded))
@@ -77,8 +77,8 @@ pub(crate) fn run<Q: Request, S: Source, W: Sink>(
     streams: &mut Streams<S, W>,
 ) -> Result<Outcome, RunFault>
     requires { Q.ready request.now }
-    ensures done { let answers = IsAnswerTo Q.Value.spells Q.Value.decoded (Q.answers request.now) (Q.may_fail request.now) in IfOk result (IsDone (to_all answers) streams.old streams.new) }
-    ensures failed { let answers = IsAnswerTo Q.Value.spells Q.Value.decoded (Q.answers request.now) (Q.may_fail request.now) in IfErr result (HasFailed (to_all answers) streams.old streams.new) }
+    ensures done { let answers = IsAnswerTo Q.Value.parses Q.Value.decoded (Q.answers request.now) (Q.may_fail request.now) in IfOk result (IsDone (to_all answers) streams.old streams.new) }
+    ensures failed { let answers = IsAnswerTo Q.Value.parses Q.Value.decoded (Q.answers request.now) (Q.may_fail request.now) in IfErr result (HasFailed (to_all answers) streams.old streams.new) }
 {
     let decoded: Result<Q::Value, JournalFault> = streams.read_text(alloc)?;
     let answer = answer_decoded(alloc, request, decoded)?;

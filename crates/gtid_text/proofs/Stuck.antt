@@ -119,13 +119,13 @@ single_bare : (id : SourceId) (i : Interval) (s : Span) → IsInterval i id s �
 single_bare id i s h = ap (left_of (Some id)) (sym (append-nil (interval_text i))) ∙ single id i s [] h refl
 
 pub one_is : (gap : List ℕ) → IsGap gap → IsNumber (record { gap = gap; digits = codes "1" }) 1
-one_is gap g = record { gap = g; digits = refl; some = omega arith; spells = refl }
+one_is gap g = record { gap = g; digits = refl; some = omega arith; parses = refl }
 
 abbrev greatest : ℕ
 greatest = 9223372036854775807
 
 greatest_is : (gap : List ℕ) → IsGap gap → IsNumber (record { gap = gap; digits = codes "9223372036854775807" }) greatest
-greatest_is gap g = record { gap = g; digits = refl; some = omega arith; spells = refl }
+greatest_is gap g = record { gap = g; digits = refl; some = omega arith; parses = refl }
 
 number_bound : (digits : List ℕ) (n : ℕ) → number_of digits ≡ Some n → n ≤ greatest
 number_bound digits n e =
@@ -229,7 +229,7 @@ refusing_upper id rest lo r e h =
     let regroup : (more : List ℕ) → front ++ more ≡ number_text f.n ++ (g2 ++ 45 ∷ (g3 ++ more)) = λ more. append_assoc (number_text f.n) (g2 ++ 45 ∷ g3) more ∙ ap (λ (z : List ℕ). number_text f.n ++ z) (append_assoc g2 (45 ∷ g3) more) in
     let last : Number = record { gap = g3; digits = codes "9223372036854775807" } in
     let i : Interval = record { lo = f.n; upper = Some (g2, last) } in
-    let says : IsInterval i id (span id lo.0 greatest) = record { source = refl; lo = f.says; upper = (gap_of lo.1, greatest_is g3 (gap_of u.bs), number_bound f.n.digits lo.0 f.says.spells) } in
+    let says : IsInterval i id (span id lo.0 greatest) = record { source = refl; lo = f.says; upper = (gap_of lo.1, greatest_is g3 (gap_of u.bs), number_bound f.n.digits lo.0 f.says.parses) } in
     record {
       front = front;
       bad = y;

@@ -13,7 +13,7 @@ use Rattle.std.proofs.lemmas.List.Concat.{flat_map-append}
 use Rattle.std.proofs.lemmas.Bool.{eqb-true, and_parts}
 use Rattle.gtid_set.specs.declared.fault.SetFault.{SetFault}
 use Rattle.rows.proofs.Lists.{all_push, all_append}
-use Rattle.txn_journal.specs.Formats.{Format, ended_line_of, text_of, AreWhole, start_of, eats_by, IsFaultBy, closing_by, whole_by, MayWrite, BeginsBy, cap_line_number, RefusesBy, SpellsBy}
+use Rattle.txn_journal.specs.Formats.{Format, ended_line_of, text_of, AreWhole, start_of, eats_by, IsFaultBy, closing_by, whole_by, MayWrite, BeginsBy, cap_line_number, RefusesBy, ParsesBy}
 use Rattle.txn_journal.specs.declared.fault.JournalFault.{JournalFault}
 use Rattle.txn_journal.specs.declared.fault.JournalFault.TheVariants as faults
 
@@ -164,7 +164,7 @@ module _ (f : Format) (Sound : f.State → List f.Line → Type 0) (laws : Laws 
     loosely : (more : List ℕ) → eats laws.loose (start_of f) (text_of f lines ++ (rest ++ more)) ≡ eats laws.loose (Reading s n rest) more
 
   -- the text ends here
-  ends_here : (bytes : List ℕ) (s : f.State) (n : ℕ) (rest : List ℕ) (v : Bool) → f.is_last s ≡ v → Stands bytes s n rest [] → whole_by f bytes ≡ at_end (end_of_text v rest n) (f.value s) → SpellsBy f bytes (at_end (end_of_text v rest n) (f.value s))
+  ends_here : (bytes : List ℕ) (s : f.State) (n : ℕ) (rest : List ℕ) (v : Bool) → f.is_last s ≡ v → Stands bytes s n rest [] → whole_by f bytes ≡ at_end (end_of_text v rest n) (f.value s) → ParsesBy f bytes (at_end (end_of_text v rest n) (f.value s))
   ends_here bytes s n rest false last h e = (
     record { before = h.lines; rest = rest; parts = h.parts ∙ ap (λ (x : List ℕ). text_of f h.lines ++ x) (append-nil rest); lines = h.whole; part = h.part; state = s; has_lines = laws.has_lines s h.lines h.sound; number = omega (arith, h.number); begins = begins s h.lines h.sound },
     λ v w. absurd (let k = sym e ∙ reads_back bytes v w in cc),
@@ -199,8 +199,8 @@ module _ (f : Format) (Sound : f.State → List f.Line → Type 0) (laws : Laws 
 
   -- a line that is taken, or the first that is not
   next_line : (bytes bs : List ℕ) (s : f.State) (n : ℕ) (rest : List ℕ) (h : Stands bytes s n rest (10 ∷ bs)) (r : Result f.State Cause) → f.judge s rest ≡ r → MatchResult r (OneMore f Sound h.lines rest) (f.HasCause s rest)
-      → ((t : f.State) (m : ℕ) (new : List ℕ) → Stands bytes t m new bs → SpellsBy f bytes (closing_by f (eats_by f (Reading t m new) bs)))
-      → SpellsBy f bytes (closing_by f (eats_by f (progress_after r (next_number n)) bs))
+      → ((t : f.State) (m : ℕ) (new : List ℕ) → Stands bytes t m new bs → ParsesBy f bytes (closing_by f (eats_by f (Reading t m new) bs)))
+      → ParsesBy f bytes (closing_by f (eats_by f (progress_after r (next_number n)) bs))
   unfolding closing_by eat
   next_line bytes bs s n rest h (Ok t) j k more =
       more t (next_number n) [] (record {
@@ -215,7 +215,7 @@ module _ (f : Format) (Sound : f.State → List f.Line → Type 0) (laws : Laws 
       })
   next_line bytes bs s n rest h (Err c) j cause more =
       let fault = faults.Line (next_number n) c in
-      subst (λ (p : Progress f.State). SpellsBy f bytes (closing_by f p)) (sym (stopped_stays f.judge fault bs)) (inl (record {
+      subst (λ (p : Progress f.State). ParsesBy f bytes (closing_by f p)) (sym (stopped_stays f.judge fault bs)) (inl (record {
         before = h.lines;
         line = rest;
         rest = bs;
@@ -231,8 +231,8 @@ module _ (f : Format) (Sound : f.State → List f.Line → Type 0) (laws : Laws 
       }))
 
   next_byte : (bytes bs : List ℕ) (s : f.State) (n : ℕ) (rest : List ℕ) (b : ℕ) (v : Bool) → eqb b 10 ≡ v → Stands bytes s n rest (b ∷ bs)
-      → ((t : f.State) (m : ℕ) (new : List ℕ) → Stands bytes t m new bs → SpellsBy f bytes (closing_by f (eats_by f (Reading t m new) bs)))
-      → SpellsBy f bytes (closing_by f (eats_by f (cond v (progress_after (f.judge s rest) (next_number n)) (Reading s n (rest ++ b ∷ []))) bs))
+      → ((t : f.State) (m : ℕ) (new : List ℕ) → Stands bytes t m new bs → ParsesBy f bytes (closing_by f (eats_by f (Reading t m new) bs)))
+      → ParsesBy f bytes (closing_by f (eats_by f (cond v (progress_after (f.judge s rest) (next_number n)) (Reading s n (rest ++ b ∷ []))) bs))
   unfolding eat
   next_byte bytes bs s n rest b true e h more =
       let k : Stands bytes s n rest (10 ∷ bs) = subst (λ (x : ℕ). Stands bytes s n rest (x ∷ bs)) (eqb-true b 10 e) h in
@@ -254,16 +254,16 @@ module _ (f : Format) (Sound : f.State → List f.Line → Type 0) (laws : Laws 
         ∙ ap (λ (x : Bool). eats laws.loose (cond x (progress_after (laws.loose s rest) (next_number n)) (Reading s n (rest ++ b ∷ []))) m) e;
   })
 
-  goes_on : (bytes left : List ℕ) (s : f.State) (n : ℕ) (rest : List ℕ) → Stands bytes s n rest left → SpellsBy f bytes (closing_by f (eats_by f (Reading s n rest) left))
+  goes_on : (bytes left : List ℕ) (s : f.State) (n : ℕ) (rest : List ℕ) → Stands bytes s n rest left → ParsesBy f bytes (closing_by f (eats_by f (Reading s n rest) left))
   unfolding closing_by eat
   goes_on bytes [] s n rest h = ends_here bytes s n rest (f.is_last s) refl h (ap (whole_by f) h.parts ∙ ap (closing_by f) (h.eaten []))
   goes_on bytes (b ∷ bs) s n rest h = next_byte bytes bs s n rest b (eqb b 10) refl h (λ t m new k. goes_on bytes bs t m new k)
 
   -- ---- what the calls answer
 
-  spells : (r : Result f.Value JournalFault) (bytes : List ℕ) → IsWholeOr (IsFaultBy f (start_of f) bytes) r (whole_by f bytes) → SpellsBy f bytes r
-  spells r bytes (inl e) = subst (SpellsBy f bytes) (sym e.1) e.2
-  spells r bytes (inr e) = subst (SpellsBy f bytes) (sym e) (goes_on bytes bytes f.start 0 [] (record { lines = []; parts = refl; whole = tt; part = refl; number = omega arith; sound = laws.starts; eaten = λ m. refl; loosely = λ m. refl }))
+  spells : (r : Result f.Value JournalFault) (bytes : List ℕ) → IsWholeOr (IsFaultBy f (start_of f) bytes) r (whole_by f bytes) → ParsesBy f bytes r
+  spells r bytes (inl e) = subst (ParsesBy f bytes) (sym e.1) e.2
+  spells r bytes (inr e) = subst (ParsesBy f bytes) (sym e) (goes_on bytes bytes f.start 0 [] (record { lines = []; parts = refl; whole = tt; part = refl; number = omega arith; sound = laws.starts; eaten = λ m. refl; loosely = λ m. refl }))
 
   pub is_found : (r : Result f.Value JournalFault) (bytes : List ℕ) → IsWholeOr (IsFaultBy f (start_of f) bytes) r (whole_by f bytes) → IfOk r (λ v. f.Writes bytes v)
   is_found (Ok v) bytes h = spells (Ok v) bytes h

@@ -39,7 +39,7 @@ IsRestFault w k rest causes.Version = (k ≡ w.header) × IsVersionFault rest ca
 IsRestFault w k rest _ = ⊥
 
 -- what a word and the rest of its line say
-pub record Spells (w : Wording) (k : w.Word) (line : List ℕ) (l : w.Line) : Type 0 where
+pub record ParsesAs (w : Wording) (k : w.Word) (line : List ℕ) (l : w.Line) : Type 0 where
   pub text : line ≡ w.line_text l
   pub fits : w.Fits l
   pub word : w.word l ≡ k
@@ -56,7 +56,7 @@ read_at w rest line k r first more word is = rw (first, more, word, is) refl
 
 pub record RestLaws (w : Wording) (rest : Rests w) : Type 0 where
   pub found : (t : List ℕ) (k : w.Word) → w.word_of t ≡ Some k → t ≡ w.word_text k
-  pub reads : (k : w.Word) (line : List ℕ) → first_word line ≡ w.word_text k → MatchResult (rest k (others line)) (Spells w k line) (IsRestFault w k (others line))
+  pub reads : (k : w.Word) (line : List ℕ) → first_word line ≡ w.word_text k → MatchResult (rest k (others line)) (ParsesAs w k line) (IsRestFault w k (others line))
   pub again : (l : w.Line) → w.is_due (w.word l) ≡ true → w.Fits l → read_by w rest (w.line_text l) ≡ Ok l
 
 -- a word whose rest has no version

@@ -142,6 +142,6 @@ RefusesBy f (faults.Line n cause) bytes = IsFirstFaulty f bytes n cause ⊎ (IsT
 RefusesBy f (faults.Truncated n) bytes = IsFront f bytes n × ((v : f.Value) → f.Writes bytes v → ⊥)
 
 -- what the bytes parse as, or why they are refused
-abbrev pub SpellsBy : (f : Format) → List ℕ → Result f.Value JournalFault → Type 0
-SpellsBy f bytes (Ok v) = f.Writes bytes v
-SpellsBy f bytes (Err fault) = RefusesBy f fault bytes
+abbrev pub ParsesBy : (f : Format) → List ℕ → Result f.Value JournalFault → Type 0
+ParsesBy f bytes (Ok v) = f.Writes bytes v
+ParsesBy f bytes (Err fault) = RefusesBy f fault bytes

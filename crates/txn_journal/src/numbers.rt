@@ -52,24 +52,24 @@ impl Numbers<'_> {
 
 /// A source, and its text.
 #[derive(Drop)]
-pub struct SpelledSource {
+pub struct SourceText {
     source: SourceId,
     text: [u8; SOURCE_LEN],
     ghost small: { IsSource source },
     ghost spelled: { text ≡ source_text source },
 }
 
-impl SpelledSource {
+impl SourceText {
     /// The source whose bits are all 0.
-    pub fn zero() -> SpelledSource {
-        SpelledSource {
+    pub fn zero() -> SourceText {
+        SourceText {
             source: SourceId::from_bits(0),
             text: *b"00000000-0000-0000-0000-000000000000",
         }
     }
 
     /// The source of a GTID, with its text in the word of the GTID.
-    fn of_word(gtid: &Gtid, word: &[u8]) -> Option<SpelledSource>
+    fn of_word(gtid: &Gtid, word: &[u8]) -> Option<SourceText>
         requires { gtid_of_word word.now ≡ Some gtid.now }
     {
         if word.len() <= SOURCE_LEN {
@@ -78,7 +78,7 @@ impl SpelledSource {
         let (front, _back) = word.split_at(SOURCE_LEN);
         let mut text = [0; SOURCE_LEN];
         text.copy_from_slice(front);
-        Some(SpelledSource {
+        Some(SourceText {
             source: gtid.source,
             text,
         })
@@ -111,7 +111,7 @@ impl SpelledSource {
 
 /// The GTID that the word parses as. It is looked for as one of the source that is near first, for GTIDs of one source often follow one
 /// another; its own source is near then.
-fn gtid_in(alloc: Global, near: &mut SpelledSource, word: &[u8]) -> Result<Gtid, LineFault>
+fn gtid_in(alloc: Global, near: &mut SourceText, word: &[u8]) -> Result<Gtid, LineFault>
     ensures { Finds (λ g. g) result (some_or_body (gtid_of_word word.now)) }
 {
     if let Some(gtid) = near.gtid_in(word) {
@@ -120,7 +120,7 @@ fn gtid_in(alloc: Global, near: &mut SpelledSource, word: &[u8]) -> Result<Gtid,
     let Some(gtid) = gtid_word(alloc, word)? else {
         return Err(LineFault::Wrong(Cause::Body));
     };
-    if let Some(source) = SpelledSource::of_word(&gtid, word) {
+    if let Some(source) = SourceText::of_word(&gtid, word) {
         *near = source;
     }
     Ok(gtid)
@@ -147,7 +147,7 @@ fn numbers_in(rest: Option<&[u8]>) -> Result<Numbers<'_>, LineFault>
 
 fn beginning_text(
     alloc: Global,
-    near: &mut SpelledSource,
+    near: &mut SourceText,
     version: Version,
     place: u64,
     text: &[u8],
@@ -176,7 +176,7 @@ fn beginning_text(
 /// guess of the GTID's source.
 pub fn beginning_at(
     alloc: Global,
-    near: &mut SpelledSource,
+    near: &mut SourceText,
     version: Version,
     place: u64,
     rest: Option<&[u8]>,

@@ -2,7 +2,7 @@ use Rattle.std.proofs.Common.{◌≡◌, Bool, true, false, not, refl, sym, ◌�
 use Rattle.std.proofs.lemmas.List.{take_rest}
 use Rattle.std.proofs.lemmas.Slice.Eq.{bytes_eq-Decides}
 use Rattle.txn_journal.proofs.NearGtids.{near_spelled}
-use Rattle.txn_journal.proofs.numbers.SpelledSource.gtid_in.Goals as goal
+use Rattle.txn_journal.proofs.numbers.SourceText.gtid_in.Goals as goal
 
 same : (b : Bool) → not b ≡ false → b ≡ true
 same true e = refl

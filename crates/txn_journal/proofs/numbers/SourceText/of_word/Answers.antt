@@ -1,6 +1,6 @@
 use Rattle.std.proofs.Common.{◌∙◌}
 use Rattle.txn_journal.proofs.NearGtids.{source_in_gtid, source_is_small}
-use Rattle.txn_journal.proofs.numbers.SpelledSource.of_word.Goals as goal
+use Rattle.txn_journal.proofs.numbers.SourceText.of_word.Goals as goal
 
 pub invariant_of-result : goal.invariant_of-result
 invariant_of-result c = record {
