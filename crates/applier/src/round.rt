@@ -59,7 +59,7 @@ impl Round {
     }
 
     /// Whether its own deque had no ticket when it last asked.
-    pub(crate) fn is_dry(&self) -> bool {
+    pub(crate) fn found_no_ticket(&self) -> bool {
         self.dry
     }
 

@@ -114,7 +114,7 @@ fn put_ready<N: Naming, R: Wait>(
     hand: &mut Hand,
     round: &Round,
 ) {
-    if !round.is_dry() {
+    if !round.found_no_ticket() {
         return;
     }
     for channel in 0..round.known_channels() {

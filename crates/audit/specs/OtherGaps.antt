@@ -15,9 +15,9 @@ use Rattle.journal.specs.Journals.{JournalValue}
 use Rattle.source_history.specs.World.{World, content}
 use Rattle.world.specs.declared.verdict.Verdict.{Verdict}
 use Rattle.world.specs.declared.verdict.Verdict.TheVariants.{NotClosed}
-use Rattle.world.specs.Audit.{stands_before, unequal, purged}
+use Rattle.world.specs.Audit.{is_recorded_before, unequal, purged}
 use Rattle.world.specs.Cases.{IsEntryOf, NamesFault}
-use Rattle.audit.specs.Gaps.{Needs, needs_in, stands}
+use Rattle.audit.specs.Gaps.{Needs, needs_in, is_recorded}
 
 -- ---- the nearest earlier transaction at a key
 
@@ -41,7 +41,7 @@ pub record HasGap (world : World) (journals : List JournalValue) (g h : Gtid) : 
   pub key : Key
   pub touched : touches world.schema t key ≡ true
   pub nearest : IsNearest world h g key
-  pub left_out : stands_before there.journal there.place h ≡ false
+  pub left_out : is_recorded_before there.journal there.place h ≡ false
 
 -- h comes before g in its source, shares a key with it, and does not come before it in a journal; the transactions of both are the world's
 pub record LeavesOut (world : World) (journals : List JournalValue) (g h : Gtid) : Type 0 where
@@ -55,7 +55,7 @@ pub record LeavesOut (world : World) (journals : List JournalValue) (g h : Gtid)
   pub source : h.source ≡ g.source
   pub smaller : h.number < g.number
   pub shares : shares_key world.schema u t ≡ true
-  pub left_out : stands_before there.journal there.place h ≡ false
+  pub left_out : is_recorded_before there.journal there.place h ≡ false
 
 -- the verdict reports a GTID that is present without a nearest earlier one, and names that one
 abbrev pub IsGapNamed : World → List JournalValue → Verdict → Type 0
@@ -110,7 +110,7 @@ with_gap g (Some h) gaps = (g, h) ∷ gaps
 abbrev pub gaps_among : Needs → Gtids → Gtids → List Entry → List Gap → List Gap
 gaps_among needs previous standing [] rest = rest
 gaps_among needs previous standing (e ∷ es) rest =
-    with_gap e.gtid (first_absent needs (stands previous standing) e.gtid) (gaps_among needs previous (set.insert standing e.gtid) es rest)
+    with_gap e.gtid (first_absent needs (is_recorded previous standing) e.gtid) (gaps_among needs previous (set.insert standing e.gtid) es rest)
 
 -- in order of journals and entries
 abbrev pub gaps_in : Needs → List JournalValue → List Gap

@@ -93,7 +93,7 @@ impl World {
         requires { unequal self.now journals.now ≡ None }
         ensures { IfOk result (λ found. found ≡ missing self.now journals.now) }
     {
-        match self.brought(alloc, journals, true)? {
+        match self.first_contents(alloc, journals, true)? {
             Some(contents) => Ok(first_missing(self.opening_set(), contents.in_order())),
             None => Ok(first_missing(self.opening_set(), self.in_order())),
         }

@@ -1,7 +1,7 @@
 //! Each GTID that is in a journal without the nearest earlier one at some key of it.
 ghost use Rattle.std.specs.Prelude.{◌≡◌, List, ◌∷◌, ◌++◌, IfOk, OnOk, find, not, true};
 ghost use Rattle.std.specs.FinSet as set;
-ghost use Rattle.audit.specs.Gaps.{needs_in, stands};
+ghost use Rattle.audit.specs.Gaps.{needs_in, is_recorded};
 ghost use Rattle.audit.specs.OtherGaps.{Gap, first_absent, gap_of_verdict, gaps_among, gaps_in, other_gaps, unreported, with_gap};
 ghost use Rattle.audit.specs.Ordered.{AreInOrder};
 
@@ -17,10 +17,10 @@ use world::Verdict;
 
 /// The first of these that is absent.
 fn first_of(previous: &GtidSet, standing: &Standing, gtids: &[Gtid]) -> Option<Gtid>
-    ensures { result ≡ find (λ h. not (stands previous.now standing.now h)) gtids.now }
+    ensures { result ≡ find (λ h. not (is_recorded previous.now standing.now h)) gtids.now }
 {
     for gtid in gtids {
-        if !stands(previous, standing, gtid) {
+        if !is_recorded(previous, standing, gtid) {
             return Some(*gtid);
         }
     }
@@ -29,7 +29,7 @@ fn first_of(previous: &GtidSet, standing: &Standing, gtids: &[Gtid]) -> Option<G
 
 /// Of what a GTID needs, the first that is absent.
 fn first_absent(needs: &Needs, previous: &GtidSet, standing: &Standing, gtid: &Gtid) -> Option<Gtid>
-    ensures { result ≡ first_absent needs.now (stands previous.now standing.now) gtid.now }
+    ensures { result ≡ first_absent needs.now (is_recorded previous.now standing.now) gtid.now }
 {
     match needs.get(gtid) {
         Some(gtids) => first_of(previous, standing, gtids.as_slice()),

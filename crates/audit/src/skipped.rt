@@ -90,7 +90,7 @@ impl World {
         ensures fault { IfErr result (IsPartFault (skipped_in self.now journals.now)) }
     {
         let equal = self.find_unequal(journals).is_none();
-        match self.brought(alloc, journals, equal)? {
+        match self.first_contents(alloc, journals, equal)? {
             Some(contents) => skipped_before(alloc, contents.in_order()),
             None => skipped_before(alloc, self.in_order()),
         }

@@ -34,13 +34,13 @@ progress_after (Ok s) n = Reading s n []
 progress_after (Err refusal) n = Stopped (faults.Line n refusal)
 
 -- a line feed ends a line
-unfoldable pub eat : Progress → ℕ → Progress
-eat (Reading s n rest) b = if b == 10 then progress_after (judge s rest) (next_number n) else Reading s n (rest ++ b ∷ [])
-eat (Stopped fault) b = Stopped fault
+unfoldable pub feed_byte : Progress → ℕ → Progress
+feed_byte (Reading s n rest) b = if b == 10 then progress_after (judge s rest) (next_number n) else Reading s n (rest ++ b ∷ [])
+feed_byte (Stopped fault) b = Stopped fault
 
-abbrev pub eats : Progress → List ℕ → Progress
-eats p [] = p
-eats p (b ∷ bs) = eats (eat p b) bs
+abbrev pub feed_bytes : Progress → List ℕ → Progress
+feed_bytes p [] = p
+feed_bytes p (b ∷ bs) = feed_bytes (feed_byte p b) bs
 
 -- before the first byte
 abbrev pub start : Progress
@@ -65,7 +65,7 @@ pub record HasLineFault (p : Progress) (bytes : List ℕ) (fault : SetFault) : T
   pub state : Standing
   pub number : ℕ
   pub part : List ℕ
-  pub read : eats p front ≡ Reading state number part
+  pub read : feed_bytes p front ≡ Reading state number part
   pub may : IsLineFault state (part ++ line) fault
 
 -- Why bytes that end a line are not taken, though nothing is wrong with them: one of their lines has a fault, or memory was refused to join a line
@@ -75,7 +75,7 @@ IsEndFault p bytes fault = HasLineFault p bytes fault ⊎ ((fault ≡ Memory) ×
 
 -- the same of any bytes: memory may also be refused to keep the line that has not come whole behind them
 abbrev pub IsPieceFault : Progress → List ℕ → SetFault → Type 0
-IsPieceFault p bytes fault = IsEndFault p bytes fault ⊎ ((fault ≡ Memory) × HasPart (eats p bytes))
+IsPieceFault p bytes fault = IsEndFault p bytes fault ⊎ ((fault ≡ Memory) × HasPart (feed_bytes p bytes))
 
 -- the same of a line, by its two parts
 abbrev pub IsJoinedFault : Standing → List ℕ → List ℕ → SetFault → Type 0

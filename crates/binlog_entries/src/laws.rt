@@ -8,7 +8,7 @@ ghost use Rattle.binlog_entries.specs.declared.bodies.Body.{Body};
 ghost use Rattle.binlog_entries.specs.declared.bodies.Body.TheVariants as bodies;
 ghost use Rattle.binlog_entries.specs.declared.bodies.Kind.{Kind};
 ghost use Rattle.binlog_entries.specs.declared.bodies.Kind.TheVariants as kinds;
-ghost use Rattle.binlog_entries.specs.Stream.{Progress, eats};
+ghost use Rattle.binlog_entries.specs.Stream.{Progress, feed_bytes};
 ghost use Rattle.binlog_entries.specs.Meaning.{meaning, nowhere, meaning_of_entries};
 
 /// Where the lines of a whole log are taken, they mean what the entries denote, in order: nothing is dropped, doubled or moved.
@@ -24,5 +24,5 @@ pub fn statements_hold_no_rows()
 
 /// It makes no difference where a text is cut.
 pub fn cut_anywhere()
-    ensures { (p : Progress) (xs ys : List ℕ) → eats p (xs ++ ys) ≡ eats (eats p xs) ys }
+    ensures { (p : Progress) (xs ys : List ℕ) → feed_bytes p (xs ++ ys) ≡ feed_bytes (feed_bytes p xs) ys }
 {}

@@ -9,7 +9,7 @@ use Rattle.source_history.specs.World.{rows_of}
 use Rattle.gtid_set.specs.Sets.{Gtids}
 use Rattle.ordered_replicas.specs.Deciding.{all_of}
 use Rattle.txn_journal.specs.BundleStates.{BundleValue}
-use Rattle.txn_journal.specs.BundleReading.{bundle_start, eats_bundle, closing_bundle}
+use Rattle.txn_journal.specs.BundleReading.{bundle_start, feed_bundle_bytes, closing_bundle}
 use Rattle.txn_journal.specs.BundleText.{WritesBundleBy, WritesBundle, upgrade_of}
 use Rattle.txn_journal.specs.BundleRefused.{RefusesBundleBy, RefusesBundle}
 use Rattle.txn_journal.specs.declared.lines.Version.TheVariants.{One}
@@ -29,7 +29,7 @@ use Rattle.commands.specs.declared.edge.Outcome.TheVariants.{Done, Refused}
 
 -- the bundle that the bytes parse as, or the first fault
 abbrev pub bundle_in : List ℕ → Result BundleValue JournalFault
-bundle_in bytes = closing_bundle (eats_bundle (bundle_start None) bytes)
+bundle_in bytes = closing_bundle (feed_bundle_bytes (bundle_start None) bytes)
 
 -- by the grammar of bundles the bytes are the text of this bundle, or have this first fault
 abbrev pub ParsesAsBundle : List ℕ → Result BundleValue JournalFault → Type 0
@@ -38,7 +38,7 @@ ParsesAsBundle bytes (Err fault) = RefusesBundle fault bytes
 
 -- the bundle that the bytes parse as by version 1, or the first fault
 abbrev pub old_bundle_in : List ℕ → Result BundleValue JournalFault
-old_bundle_in bytes = closing_bundle (eats_bundle (bundle_start (Some One)) bytes)
+old_bundle_in bytes = closing_bundle (feed_bundle_bytes (bundle_start (Some One)) bytes)
 
 -- the same by the grammar of version 1
 abbrev pub ParsesAsOldBundle : List ℕ → Result BundleValue JournalFault → Type 0

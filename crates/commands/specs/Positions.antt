@@ -7,7 +7,7 @@ use Rattle.journal.specs.Journals.{JournalValue}
 use Rattle.auto_position.specs.Sending.{sent, IsPlanFault}
 use Rattle.auto_position.specs.declared.PositionFault.{PositionFault}
 use Rattle.auto_position.specs.declared.PositionFault.TheVariants as faults
-use Rattle.txn_journal.specs.Reading.{before_first, eats_alone, closing}
+use Rattle.txn_journal.specs.Reading.{before_first, feed_journal_bytes, closing}
 use Rattle.txn_journal.specs.Spelling.{Writes}
 use Rattle.txn_journal.specs.Refused.{Refuses}
 use Rattle.txn_journal.specs.declared.fault.JournalFault.{JournalFault}
@@ -22,7 +22,7 @@ use Rattle.commands.specs.declared.edge.Outcome.TheVariants.{Done, Refused}
 
 -- the journal that the bytes parse as, or the first fault
 abbrev pub journal_in : List ℕ → Result JournalValue JournalFault
-journal_in bytes = closing (eats_alone before_first bytes)
+journal_in bytes = closing (feed_journal_bytes before_first bytes)
 
 -- by the grammar of journals the bytes are the text of this journal, or have this first fault
 abbrev pub ParsesAsJournal : List ℕ → Result JournalValue JournalFault → Type 0

@@ -18,9 +18,9 @@ abbrev pub ParsesAsSet : List ℕ → Gtids → Type 0
 ParsesAsSet text s = (spans : List Span) × ParsesAs text spans × (set_of spans ≡ s)
 
 -- memory was refused
-abbrev pub WantsMemory : SetTextFault → Type 0
-WantsMemory (Text f) = f ≡ faults.Memory
-WantsMemory (Set f) = f ≡ Memory
+abbrev pub IsOutOfMemory : SetTextFault → Type 0
+IsOutOfMemory (Text f) = f ≡ faults.Memory
+IsOutOfMemory (Set f) = f ≡ Memory
 
 -- no memory, a refusal of the text, or a set with too many sources or intervals
 abbrev pub RefusesSet : SetTextFault → List ℕ → Type 0
@@ -49,4 +49,4 @@ set_in text = set_from (answer (length text) (spans_in text))
 -- what a function returned is the answer, unless memory was refused
 abbrev pub GivesSet : Result Gtids SetTextFault → Result Gtids SetTextFault → Type 0
 GivesSet (Ok s) read = read ≡ Ok s
-GivesSet (Err f) read = WantsMemory f ⊎ (read ≡ Err f)
+GivesSet (Err f) read = IsOutOfMemory f ⊎ (read ≡ Err f)

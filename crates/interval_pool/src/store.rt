@@ -86,7 +86,7 @@ pub fn place(cells: &mut [Cell], heads: &mut [Head], list: u32, before: Link, lo
 }
 
 /// Lets the last cell of a list go on with another, or the list begin with it.
-fn lead_on(cells: &mut [Cell], heads: &mut [Head], list: u32, last: Link, next: Link)
+fn link_last(cells: &mut [Cell], heads: &mut [Head], list: u32, last: Link, next: Link)
     requires there { list < length heads.old }
     requires below { IfSome last (λ i. i < length cells.old) }
     ensures cells { cells.new ≡ with_next cells.old last next }
@@ -126,7 +126,7 @@ fn push(
 {
     let at = cells.as_slice().len();
     cells.reserve(1)?;
-    lead_on(cells, heads, list, last, Link::to(at));
+    link_last(cells, heads, list, last, Link::to(at));
     let _ = cells.push(Cell {
         lo: numbers.lo,
         hi: numbers.hi,

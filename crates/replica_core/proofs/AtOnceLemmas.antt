@@ -32,7 +32,7 @@ use Rattle.replica_core.specs.Kept.{IsKept, AreKept}
 use Rattle.replica_core.specs.Seated.{IsUnowned}
 use Rattle.replica_core.specs.Committing.{IsCommittable, Executes}
 use Rattle.replica_core.specs.Draining.{NothingIsOwned, IsWaiting}
-use Rattle.replica_core.specs.Faults.{IsFaultIn, IsFault, HasRoomFor, takes_memory, receiving, committing, executing_too}
+use Rattle.replica_core.specs.Faults.{IsFaultIn, IsFault, HasRoomFor, allocates, receiving, committing, executing_too}
 use Rattle.replica_core.specs.Machine.{Step, Held, held, change_at, receive, take_place, taking, commit, commit_answer, executing, without_seat, open_before}
 use Rattle.replica_core.specs.AtOnce.{received_and_taken, received_and_committed, IsAtOnce, IsReadyAtOnce}
 use Rattle.replica_core.proofs.KeptLemmas.{found, gone_by}
@@ -153,13 +153,13 @@ module _ (r : Replica) (seat c p : ℕ) (e : Entry) (may : IsReadyAtOnce r seat 
   pub makes_executed : committing seat (received_and_taken r.site seat c p e r.state) ≡ Some (executing_too r.state e.gtid)
   makes_executed = ap (committing seat) both_taken ∙ ap (option_map (λ (h : Held). executing_too r.state h.gtid)) is_held
 
-  answer_takes : (s : State) (o : Result Rows RowFault) → takes_memory (commit_answer e.gtid e.txn seat c s o).0 ≡ true
+  answer_takes : (s : State) (o : Result Rows RowFault) → allocates (commit_answer e.gtid e.txn seat c s o).0 ≡ true
   answer_takes s (Ok rows) = refl
   answer_takes s (Err fault) = refl
 
-  pub commit_takes : takes_memory (commit r.site seat (received_and_taken r.site seat c p e r.state)).0 ≡ true
+  pub commit_takes : allocates (commit r.site seat (received_and_taken r.site seat c p e r.state)).0 ≡ true
   commit_takes =
-      ap (λ (s : State). takes_memory (commit r.site seat s).0) both_taken ∙ ap (λ (x : Step). takes_memory x.0) is_answered
+      ap (λ (s : State). allocates (commit r.site seat s).0) both_taken ∙ ap (λ (x : Step). allocates x.0) is_answered
       ∙ answer_takes (taking seat c p got) (apply r.site.schema e.txn r.state.rows)
 
   -- ---- it is executed first
@@ -228,7 +228,7 @@ module _ (r : Replica) (seat c p : ℕ) (e : Entry) (may : IsReadyAtOnce r seat 
     pub fault_ahead : (f : SetFault) (site : Site) (s : State) → site ≡ r.site → s ≡ ahead → IsFault (IsFaultIn f (receiving c e s)) (receive site c e s) → IsFault (IsFaultIn f (receiving c e r.state)) (receive r.site c e r.state)
     fault_ahead f site s one now h = record {
       cause = subst (IsFaultIn f) (ap (receiving c e) now ∙ makes_received) h.cause;
-      instead = ap (λ (answer : Reply). takes_memory answer) (told_same ∙ sym (ap (λ (x : Step). x.0) (same_received site s one now))) ∙ h.instead;
+      instead = ap (λ (answer : Reply). allocates answer) (told_same ∙ sym (ap (λ (x : Step). x.0) (same_received site s one now))) ∙ h.instead;
     }
 
     -- ... has room for the same set

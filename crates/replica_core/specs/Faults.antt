@@ -61,35 +61,35 @@ IsFaultIn f None = f ≡ Memory
 IsFaultIn f (Some made) = IsFaultOf f made
 
 -- a reply that allocates
-abbrev pub takes_memory : Reply → Bool
-takes_memory NameTaken = false
-takes_memory ChannelsFull = false
-takes_memory (Opened c) = true
-takes_memory NoChannel = false
-takes_memory (Ask s) = true
-takes_memory NotPositioned = false
-takes_memory (NotInSchema fault) = false
-takes_memory ChannelFull = false
-takes_memory (Received place) = true
-takes_memory NoSeat = false
-takes_memory (SeatBusy g) = false
-takes_memory NoPlace = false
-takes_memory Stopped = false
-takes_memory (Done g) = false
-takes_memory (OwnedBy seat) = false
-takes_memory (Blocked place) = false
-takes_memory (Taken g) = false
-takes_memory SeatIdle = false
-takes_memory (Early place) = false
-takes_memory (RowRefused g fault) = true
-takes_memory (Committed g) = true
-takes_memory (RolledBack g) = false
-takes_memory Restarted = false
-takes_memory NumbersUsedUp = false
-takes_memory (LocalRefused fault) = true
-takes_memory (TooMany there) = false
-takes_memory (Purged s) = true
-takes_memory (Shown s) = true
+abbrev pub allocates : Reply → Bool
+allocates NameTaken = false
+allocates ChannelsFull = false
+allocates (Opened c) = true
+allocates NoChannel = false
+allocates (Ask s) = true
+allocates NotPositioned = false
+allocates (NotInSchema fault) = false
+allocates ChannelFull = false
+allocates (Received place) = true
+allocates NoSeat = false
+allocates (SeatBusy g) = false
+allocates NoPlace = false
+allocates Stopped = false
+allocates (Done g) = false
+allocates (OwnedBy seat) = false
+allocates (Blocked place) = false
+allocates (Taken g) = false
+allocates SeatIdle = false
+allocates (Early place) = false
+allocates (RowRefused g fault) = true
+allocates (Committed g) = true
+allocates (RolledBack g) = false
+allocates Restarted = false
+allocates NumbersUsedUp = false
+allocates (LocalRefused fault) = true
+allocates (TooMany there) = false
+allocates (Purged s) = true
+allocates (Shown s) = true
 
 -- Why an event has an error. Besides copies and parts of sets of the old state it makes one set at most; a Purge makes its own by adding
 -- the GTIDs of the entries one after another.
@@ -108,7 +108,7 @@ IsCause f site s event.Look = IsFaultIn f None
 -- a fault in place of a reply: of one that allocates
 pub record IsFault (Cause : Type 0) (answer : Step) : Type 0 where
   pub cause : Cause
-  pub instead : takes_memory answer.0 ≡ true
+  pub instead : allocates answer.0 ≡ true
 
 -- a fault in place of this step
 abbrev pub IsStepFault : SetFault → Site → State → Event → Type 0

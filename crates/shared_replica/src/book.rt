@@ -7,7 +7,7 @@ ghost use Rattle.replica_core.specs.Faults.{IsCause, HasRoomFor, made_by};
 ghost use Rattle.shared_replica.specs.Faults.{IsFaultFor};
 ghost use Rattle.shared_replica.specs.History.{IsStep, IsBook, with_step, unwritten};
 ghost use Rattle.replica_core.specs.declared.event.Event.TheVariants.{Take};
-ghost use Rattle.shared_replica.specs.Passes.{pass_after_call, IsTold};
+ghost use Rattle.shared_replica.specs.Passes.{pass_after_call, HasReceipt};
 ghost use Rattle.shared_replica.specs.Preparing.{MayPrepare};
 ghost use Rattle.shared_replica.specs.Closing.{sheet, IsMerge, tally_of_passes};
 
@@ -171,7 +171,7 @@ impl<N: Naming> Book<N> {
         least: usize,
         mine: &mut Pass<N>,
     ) -> Result<Taking, SetFault>
-        ensures taken { IfOk result (λ taking. IsTold mine.old (Take mine.old.seat channel place) taking.reply mine.new) }
+        ensures taken { IfOk result (λ taking. HasReceipt mine.old (Take mine.old.seat channel place) taking.reply mine.new) }
         ensures seen { IfOk result (λ taking. IfSome taking.footprint (λ p. MayPrepare N.opening.site.schema p.0 p.1)) }
         ensures err { OnErr result (mine.new ≡ mine.old) }
         ensures kind { IfErr result (IsFaultFor (Take mine.old.seat channel place)) }

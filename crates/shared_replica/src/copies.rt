@@ -38,7 +38,7 @@ pub(crate) fn is_commit(reply: &Reply) -> bool
 
 /// The set that the reply to an event will show, if it shows one.
 #[tactic(auto, using(crate::proofs::Spares::position_asks, crate::proofs::Spares::plain_step, crate::proofs::Faulty::memory_anywhere))]
-pub(crate) fn foresee(
+pub(crate) fn set_of_reply(
     core: &Core,
     alloc: Global,
     event: &Event,

@@ -6,7 +6,7 @@ ghost use Rattle.shared_replica.specs.Drafts.{IsDraft};
 ghost use Rattle.shared_replica.specs.History.{line};
 ghost use Rattle.shared_replica.specs.Spare.{IsSpare};
 
-use crate::copies::{copy_of, foresee, twin};
+use crate::copies::{copy_of, set_of_reply, twin};
 use crate::step::{Receipt, Step};
 use gtid_set::{GtidSet, SetFault};
 use replica_core::{Core, Event, Reply};
@@ -40,7 +40,7 @@ impl Draft {
         ensures ok { IfOk result (IsDraft core.now event.now) }
         ensures fault { IfErr result (λ f. IsCause f core.now.site core.now.state event.now) }
     {
-        let spare = foresee(core, alloc, event)?;
+        let spare = set_of_reply(core, alloc, event)?;
         let event = copy_of(event)?;
         Ok(Draft { event, spare })
     }

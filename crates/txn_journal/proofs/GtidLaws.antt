@@ -136,7 +136,7 @@ pub gtid_found : (w : List ℕ) (g : Gtid) → gtid_of_word w ≡ Some g → (w 
 gtid_found w g e =
     let f = same_found gtid_text w (gtid_in w) g (ascii_found w (same_or_none gtid_text w (gtid_in w)) g e) in
     let s : ParsesAsGtid w g = gtid_spelled w g f.1 in
-    (f.0, record { source = source_small s.uuid g.source s.is_uuid.names; number = numbered s.number.digits g.number s.is_number.spells })
+    (f.0, record { source = source_small s.uuid g.source s.is_uuid.names; number = numbered s.number.digits g.number s.is_number.parses })
 
 pub gtid_again : (g : Gtid) → IsUsable g → gtid_of_word (gtid_text g) ≡ Some g
 gtid_again g u =
@@ -152,7 +152,7 @@ usable_append [] ys a b = b
 usable_append (x ∷ xs) ys a b = (a.0, usable_append xs ys a.1 b)
 
 number_is : (n : Number) (value : ℕ) → IsNumber n value → IsNumbered value
-number_is n value h = numbered n.digits value h.spells
+number_is n value h = numbered n.digits value h.parses
 
 upper_is : (u : Option (List ℕ × Number)) (s : Span) → IsUpper u s → IsNumbered s.lo → IsNumbered s.hi × (s.lo ≤ s.hi)
 upper_is None s h low = (subst IsNumbered (sym h) low, omega (arith, h))

@@ -4,7 +4,7 @@ use Rattle.gtid_set.specs.declared.fault.SetFault.{SetFault}
 use Rattle.rows.specs.declared.change.TableRow.{TableRow}
 use Rattle.txn_journal.specs.declared.fault.JournalFault.{JournalFault}
 use Rattle.txn_journal.specs.Stream.{Progress}
-use Rattle.txn_journal.specs.Formats.{Format, start_of, eats_by, IsFaultBy, closing_by}
+use Rattle.txn_journal.specs.Formats.{Format, start_of, feed_bytes_by, IsFaultBy, closing_by}
 use Rattle.txn_journal.specs.BundleStates.{BundleValue, BundleStanding, no_bundle, is_done, judge_bundle, IsFullBundle}
 use Rattle.row_images.specs.Words.{first_word}
 use Rattle.txn_journal.specs.Lines.{keyword_of}
@@ -56,8 +56,8 @@ abbrev pub bundle_start : Option Version → Progress BundleStanding
 bundle_start due = start_of (bundles due)
 
 -- a bundle, byte by byte
-abbrev pub eats_bundle : Progress BundleStanding → List ℕ → Progress BundleStanding
-eats_bundle p bytes = eats_by (bundles None) p bytes
+abbrev pub feed_bundle_bytes : Progress BundleStanding → List ℕ → Progress BundleStanding
+feed_bundle_bytes p bytes = feed_bytes_by (bundles None) p bytes
 
 -- why bytes are not taken, though nothing is wrong with them: memory was refused, or the opening set or that of a channel's journal has too many sources or intervals after some of them
 abbrev pub IsFaultOfBundle : Progress BundleStanding → List ℕ → SetFault → Type 0
@@ -69,4 +69,4 @@ closing_bundle p = closing_by (bundles None) p
 
 -- the bytes are read as this bundle, by the fold over them
 abbrev pub IsReadAs : List ℕ → BundleValue → Type 0
-IsReadAs bytes b = closing_bundle (eats_bundle (bundle_start None) bytes) ≡ Ok b
+IsReadAs bytes b = closing_bundle (feed_bundle_bytes (bundle_start None) bytes) ≡ Ok b

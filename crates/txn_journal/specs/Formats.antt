@@ -3,7 +3,7 @@ use Rattle.std.specs.Prelude.{◌≡◌, ◌⊎◌, ℕ, ◌+◌, ◌-◌, ◌^�
 use Rattle.std.specs.List.{flat_map, AllByRecursion}
 use Rattle.gtid_set.specs.declared.fault.SetFault.{SetFault}
 use Rattle.txn_journal.specs.Words.{IsOneLine}
-use Rattle.txn_journal.specs.Stream.{Judge, Progress, Reading, Stopped, eats, end_of_text, at_end, IsPieceFault, Feeds}
+use Rattle.txn_journal.specs.Stream.{Judge, Progress, Reading, Stopped, feed_bytes, end_of_text, at_end, IsPieceFault, Feeds}
 use Rattle.txn_journal.specs.declared.fault.Cause.{Cause}
 use Rattle.txn_journal.specs.declared.fault.Cause.TheVariants as causes
 use Rattle.txn_journal.specs.declared.fault.JournalFault.{JournalFault}
@@ -59,8 +59,8 @@ abbrev pub start_of : (f : Format) → Progress f.State
 start_of f = Reading f.start 0 []
 
 -- byte by byte
-abbrev pub eats_by : (f : Format) → Progress f.State → List ℕ → Progress f.State
-eats_by f p bytes = eats f.judge p bytes
+abbrev pub feed_bytes_by : (f : Format) → Progress f.State → List ℕ → Progress f.State
+feed_bytes_by f p bytes = feed_bytes f.judge p bytes
 
 -- why bytes are not taken, though nothing is wrong with them: memory was refused, or a set has too many sources or intervals after some of them
 abbrev pub IsFaultBy : (f : Format) → Progress f.State → List ℕ → SetFault → Type 0
@@ -77,7 +77,7 @@ closing_by f (Stopped fault) = Err fault
 
 -- what all of the bytes are read as
 abbrev pub whole_by : (f : Format) → List ℕ → Result f.Value JournalFault
-whole_by f bytes = closing_by f (eats_by f (start_of f) bytes)
+whole_by f bytes = closing_by f (feed_bytes_by f (start_of f) bytes)
 
 -- ---- texts that are refused
 

@@ -28,7 +28,7 @@ fn write_replica(out: &mut String, replica: SourceId) -> Result<(), AllocError>
 
 /// Appends the line of an opening set.
 #[tactic(auto, using(crate::proofs::BundleWriting::opened_appended))]
-fn write_opened(alloc: Global, out: &mut String, opened: &GtidSet) -> Result<(), AllocError>
+fn write_opening_set(alloc: Global, out: &mut String, opened: &GtidSet) -> Result<(), AllocError>
     ensures { OnOk result (string_bytes out.new ≡ string_bytes out.old ++ ended_bundle_line (Own (Starts opened.now))) }
 {
     out.push_str("opening ")?;
@@ -48,7 +48,7 @@ fn write_head(
 {
     out.push_str("bundle 2\n")?;
     write_replica(out, replica)?;
-    write_opened(alloc, out, opened)
+    write_opening_set(alloc, out, opened)
 }
 
 /// Appends a column after a comma.
@@ -156,7 +156,7 @@ fn write_channel(out: &mut String, channel: &Channel) -> Result<(), AllocError>
 
 /// Appends the lines of a channel and its journal.
 #[tactic(auto, using(crate::proofs::BundleWriting::brought_appended))]
-fn write_brought(
+fn write_channel_and_journal(
     alloc: Global,
     out: &mut String,
     schema: &Schema,
@@ -180,7 +180,7 @@ fn write_channels(
     ensures { OnOk result (string_bytes out.new ≡ string_bytes out.old ++ channels_and_journals_text schema.now channels.now journals.now) }
 {
     for (channel, journal) in channels.iter().zip(journals) {
-        write_brought(alloc, out, schema, channel, journal)?;
+        write_channel_and_journal(alloc, out, schema, channel, journal)?;
     }
     Ok(())
 }

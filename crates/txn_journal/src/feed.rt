@@ -95,7 +95,7 @@ impl<T> Feed<T> {
 
 impl<T: TakeLine> Feed<T> {
     ghost use Rattle.std.specs.Prelude.{[], ◌∷◌, ◌++◌, None, OnOk};
-    ghost use Rattle.txn_journal.specs.Stream.{eats, IsPieceFault, Feeds, TakesPiece, answer};
+    ghost use Rattle.txn_journal.specs.Stream.{feed_bytes, IsPieceFault, Feeds, TakesPiece, answer};
     ghost use Rattle.txn_journal.specs.Feeds.{progress};
 
     /// Takes the next piece. After an error every later call returns that error.
@@ -114,7 +114,7 @@ impl<T: TakeLine> Feed<T> {
 
     fn take_piece(&mut self, alloc: Global, piece: &[u8]) -> Result<(), JournalFault>
         requires { self.old.stopped ≡ None }
-        ensures next { TakesPiece (IsPieceFault T.full T.judge (progress self.old) piece.now) result (progress self.new) (eats T.judge (progress self.old) piece.now) }
+        ensures next { TakesPiece (IsPieceFault T.full T.judge (progress self.old) piece.now) result (progress self.new) (feed_bytes T.judge (progress self.old) piece.now) }
         ensures goes { self.new.stopped ≡ None }
     {
         let mut left = piece;
@@ -136,7 +136,7 @@ impl<T: TakeLine> Feed<T> {
     fn take_line(&mut self, alloc: Global, bytes: &[u8]) -> Result<(), JournalFault>
         requires goes { self.old.stopped ≡ None }
         requires whole { IsOneLine bytes.now }
-        ensures next { TakesPiece (IsPieceFault T.full T.judge (progress self.old) (bytes.now ++ 10 ∷ [])) result (progress self.new) (eats T.judge (progress self.old) (bytes.now ++ 10 ∷ [])) }
+        ensures next { TakesPiece (IsPieceFault T.full T.judge (progress self.old) (bytes.now ++ 10 ∷ [])) result (progress self.new) (feed_bytes T.judge (progress self.old) (bytes.now ++ 10 ∷ [])) }
         ensures goes { self.new.stopped ≡ None }
     {
         self.lines = self.lines.saturating_add(1);

@@ -7,7 +7,7 @@ ghost use Rattle.rows.specs.declared.schema.Table.{Table};
 ghost use Rattle.journal.specs.Journals.{JournalValue};
 ghost use Rattle.txn_journal.specs.Machine.{Standing};
 ghost use Rattle.txn_journal.specs.Stream.{Progress};
-ghost use Rattle.txn_journal.specs.Reading.{Stamped, stamped_of, without_entries, behind_entries, closing, WrittenJournal, IsWrittenAs, with_front, HasBegun, EatsBehind};
+ghost use Rattle.txn_journal.specs.Reading.{Stamped, stamped_of, without_entries, behind_entries, closing, WrittenJournal, IsWrittenAs, with_front, HasBegun, FeedsBehind};
 ghost use Rattle.txn_journal.specs.Spelling.{IsWritten, MayBeWritten, WritesAs, Writes};
 ghost use Rattle.txn_journal.specs.Timestamped.{with_timestamps, HasText, IsReadBack};
 ghost use Rattle.txn_journal.specs.declared.lines.Version.{Version};
@@ -28,7 +28,7 @@ pub fn one_spelling()
 /// Entries that were taken are those that would have come first.
 pub fn taken_in_front()
     ensures taken { (p : Progress Standing) → behind_entries (stamped_of p) (without_entries p) ≡ p }
-    ensures eats { (front : Stamped) (p : Progress Standing) (bytes : List ℕ) → HasBegun p → EatsBehind front p bytes }
+    ensures feed_bytes { (front : Stamped) (p : Progress Standing) (bytes : List ℕ) → HasBegun p → FeedsBehind front p bytes }
     ensures closing { (front : Stamped) (p : Progress Standing) → closing (behind_entries front p) ≡ with_front front.entries (closing p) }
 {}
 

@@ -293,7 +293,7 @@ fn wanted_ending(wish: Task) -> Ending {
 }
 
 /// Whether the places of receipts are ascending.
-fn rise(receipts: &[Receipt]) -> bool {
+fn are_ascending(receipts: &[Receipt]) -> bool {
     receipts.windows(2).all(|two| two[0].place < two[1].place)
 }
 
@@ -314,9 +314,9 @@ fn has_receipts(book: &ClosedBook, second: Option<&'static [u64]>) -> bool {
     let receipts = book.receipts(2);
     let are_wanted = match second {
         Some(places) => are_at(receipts, places),
-        None => receipts.len() == 2 && rise(receipts),
+        None => receipts.len() == 2 && are_ascending(receipts),
     };
-    are_wanted && rise(book.receipts(1))
+    are_wanted && are_ascending(book.receipts(1))
 }
 
 fn shows(alloc: Global, book: &ClosedBook, want: Ending) -> bool {

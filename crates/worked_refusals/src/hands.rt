@@ -1,7 +1,7 @@
 //! One seat holds a place by hand, the other's worker works alone, and the drain does what is left.
 ghost use Rattle.std.specs.Prelude.{◌≡◌};
 
-use crate::calls::{Call, insist};
+use crate::calls::{Call, retry};
 use crate::ends::{drain_again, shows};
 use crate::start::{NOTHING_BEGAN, THREE, bundle, core_of, entries, report};
 use applier::{NoGate, WorkersEnd, run_workers};
@@ -45,7 +45,7 @@ fn take_by_hand<N: Naming, R: Abort + Wait>(
         panic!(rt; "no second pass");
     };
     for call in BY_HAND {
-        let _reply = insist(rt, alloc, replica, pass, entries, call);
+        let _reply = retry(rt, alloc, replica, pass, entries, call);
     }
     match pass.receipts().last() {
         Some(receipt) => {

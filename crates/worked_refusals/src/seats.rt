@@ -1,7 +1,7 @@
 //! Two seats of one replica by turns on one thread.
 ghost use Rattle.std.specs.Prelude.{◌≡◌};
 
-use crate::calls::{Call, answer, insist};
+use crate::calls::{Call, answer, retry};
 use crate::start::{NOTHING_BEGAN, THREE, bundle, core_of, entries, report};
 use commit_ledger::{Blanks, Counts};
 use gtid_text::{Gtid, SourceId};
@@ -163,12 +163,12 @@ fn take_turn<N: Naming, R: Abort + Wait>(
         assert!(rt; is_reply(&reply, said), "the answer to a call");
         return false;
     }
-    let shown = insist(rt, alloc, replica, pass, entries, Call::Look);
+    let shown = retry(rt, alloc, replica, pass, entries, Call::Look);
     assert!(rt;
         is_reply(&shown, Said::Shown(executed)),
         "a refused call executes nothing"
     );
-    let reply = insist(rt, alloc, replica, pass, entries, call);
+    let reply = retry(rt, alloc, replica, pass, entries, call);
     assert!(rt;
         is_reply(&reply, said),
         "the answer to a call that was refused before"

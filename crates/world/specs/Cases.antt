@@ -14,7 +14,7 @@ use Rattle.source_history.specs.World.{World, content, is_opened, of_source, ent
 use Rattle.source_history.specs.World as history
 use Rattle.world.specs.declared.verdict.Verdict.{Verdict}
 use Rattle.world.specs.declared.verdict.Verdict.TheVariants.{Unequal, Purged, Missing, Shared, Reordered, NotClosed, Concurrent, DoesNotApply, Sound}
-use Rattle.world.specs.Audit.{all_entries, stands_in, stands_before, verdict}
+use Rattle.world.specs.Audit.{all_entries, is_recorded_in, is_recorded_before, verdict}
 
 -- an entry of a journal
 pub record IsEntryOf (journals : List JournalValue) (e : Entry) : Type 0 where
@@ -42,11 +42,11 @@ pub record IsPurged (world : World) (journals : List JournalValue) (i : ℕ) (gt
 -- no journal has this GTID, and one has a greater number of its source
 pub record IsMissing (world : World) (journals : List JournalValue) (g : Gtid) : Type 0 where
   pub new : is_opened world g ≡ false
-  pub absent : stands_in (all_entries journals) g ≡ false
+  pub absent : is_recorded_in (all_entries journals) g ≡ false
   pub positive : 0 < g.number
   pub greater : Gtid
   pub beyond : is_opened world greater ≡ false
-  pub there : stands_in (all_entries journals) greater ≡ true
+  pub there : is_recorded_in (all_entries journals) greater ≡ true
   pub same : greater.source ≡ g.source
   pub below : g.number < greater.number
 
@@ -70,7 +70,7 @@ pub record IsLeftOut (world : World) (journals : List JournalValue) (g h : Gtid)
   pub source : h.source ≡ g.source
   pub smaller : h.number < g.number
   pub shares : shares_key world.schema u entry.txn ≡ true
-  pub left_out : stands_before there.journal there.place h ≡ false
+  pub left_out : is_recorded_before there.journal there.place h ≡ false
 
 -- after the earlier transactions of its source, taken alone, this one is refused
 pub record Fails (world : World) (g : Gtid) (fault : RowFault) : Type 0 where

@@ -3,7 +3,7 @@ use Rattle.std.specs.List.{list_all}
 use Rattle.journal.specs.Journals.{JournalValue}
 use Rattle.world.specs.Audit.{all_entries}
 use Rattle.audit.proofs.Bringing.{AreMarked, all_marked, all_true, taken_all}
-use Rattle.audit.proofs.sources.World.stands_whole.Goals as goal
+use Rattle.audit.proofs.sources.World.are_all_recorded.Goals as goal
 
 pub returns : goal.returns
 returns c = λ yes.

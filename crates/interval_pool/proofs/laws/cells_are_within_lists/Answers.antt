@@ -1,4 +1,4 @@
-use Rattle.interval_pool.proofs.laws.standing_within.Goals as goal
+use Rattle.interval_pool.proofs.laws.cells_are_within_lists.Goals as goal
 use Rattle.interval_pool.proofs.Within.{stand_within}
 
 pub returns : goal.returns

@@ -1,4 +1,4 @@
-use Rattle.interval_pool.proofs.laws.distinct_stand.Goals as goal
+use Rattle.interval_pool.proofs.laws.distinct_lists_fit.Goals as goal
 use Rattle.interval_pool.proofs.Within as within
 
 pub returns : goal.returns
