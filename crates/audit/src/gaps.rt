@@ -30,7 +30,9 @@ pub(crate) fn is_recorded(previous: &GtidSet, standing: &Standing, gtid: &Gtid) 
 fn lacks_any(previous: &GtidSet, standing: &Standing, gtids: &[Gtid]) -> bool
     ensures { result ≡ list_any (λ g. not (is_recorded previous.now standing.now g)) gtids.now }
 {
-    gtids.iter().any(|gtid| !is_recorded(previous, standing, gtid))
+    gtids
+        .iter()
+        .any(|gtid| !is_recorded(previous, standing, gtid))
 }
 
 /// Whether something that an entry needs is absent.

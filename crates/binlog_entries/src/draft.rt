@@ -8,11 +8,11 @@ use crate::parts::{
     after_due, before_due, change_of, has_rows_of, is_database, is_whole, may_be_database,
     parse_value, type_at,
 };
-use crate::tables::{Mapped, name_of, find_table};
+use crate::tables::{Mapped, find_table, name_of};
 use crate::unread::refusal_of;
 use crate::varied::{Varied, has_varied};
 use binlog_text::{
-    Column, ColumnType, Event, Line, Mark, Operation, compares_bytes, read_line, parse_type,
+    Column, ColumnType, Event, Line, Mark, Operation, compares_bytes, parse_type, read_line,
 };
 use gtid_set::GtidSet;
 use gtid_text::{Gtid, SourceId};

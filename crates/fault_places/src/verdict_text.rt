@@ -61,7 +61,12 @@ fn put_columns_of(
 }
 
 /// The columns of a key, on the line of its table.
-fn report_columns(out: &mut Vec<u8>, key: &Key, number: usize, line: &[u8]) -> Result<(), AllocError>
+fn report_columns(
+    out: &mut Vec<u8>,
+    key: &Key,
+    number: usize,
+    line: &[u8],
+) -> Result<(), AllocError>
     ensures { OnOk result (out.new.items ≡ out.old.items ++ report_columns key.now number line.now) }
 {
     if is_of_key(key, line) {

@@ -61,7 +61,12 @@ pub(crate) fn opening_world(alloc: Global, bundle: &Bundle) -> Result<World, All
     requires { IsFitting bundle.now }
     ensures { IfOk result (λ world. world ≡ world_over bundle.now) }
 {
-    match world_of(alloc, bundle.opening_set(), bundle.rows(), bundle.journals()) {
+    match world_of(
+        alloc,
+        bundle.opening_set(),
+        bundle.rows(),
+        bundle.journals(),
+    ) {
         Ok(world) => Ok(world),
         Err(WorldFault::Memory) => Err(AllocError),
         Err(WorldFault::NotInSchema(_, _)) => unreachable!(),

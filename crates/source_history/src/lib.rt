@@ -26,6 +26,6 @@ pub use journals::{faithful_goes_on, purged_is_faithful, whole_applies, whole_is
 pub use laws::{
     alone_or_together, apart_commute, closed_sets_apply, closed_sets_are_a_lattice,
     closed_under_intersection, closed_under_union, commit_order_is_free, commit_orders_agree,
-    early_commit, join_laws, row_is_of_last_writer, late_commit, opening_is_closed, rows_are_carriers,
-    sound_worlds_exist, sources_are_an_order, touched_decides, untouched_stays,
+    early_commit, join_laws, late_commit, opening_is_closed, row_is_of_last_writer,
+    rows_are_carriers, sound_worlds_exist, sources_are_an_order, touched_decides, untouched_stays,
 };

@@ -18,7 +18,7 @@ mod laws;
 mod verdict;
 
 pub use laws::{
-    first_source_fails, keys_sound_mean, missing_is_least, one_pass_applies, one_pass_closes,
-    one_pass_shares, shared_is_least, faithful_is_sound, sound_means_sound, verdicts_name_faults,
+    faithful_is_sound, first_source_fails, keys_sound_mean, missing_is_least, one_pass_applies,
+    one_pass_closes, one_pass_shares, shared_is_least, sound_means_sound, verdicts_name_faults,
 };
 pub use verdict::Verdict;
