@@ -6,7 +6,7 @@
 //!
 //! What a contract sees: `takes` defines which kinds of lines are allowed in the body of which event, `take_content` what each adds, and
 //! `IsLog` that what the lines mean is what the entries denote: GTIDs, rows with their operation, table and images, and commits. Nothing is
-//! dropped, doubled or moved (`entries_are_told`), and it makes no difference where a text is cut (`cut_anywhere`). A refusal names the
+//! dropped, doubled or moved (`lines_mean_entries`), and it makes no difference where a text is cut (`cut_anywhere`). A refusal names the
 //! first line that is refused.
 //!
 //! Rows are taken in the bodies of rows events alone, so what a statement's text prints is never taken for rows

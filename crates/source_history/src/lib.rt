@@ -10,7 +10,7 @@
 //! commits is in it.
 //!
 //! The laws: in whatever order transactions are committed, each after those that it depends on, none is refused and the rows are those of
-//! the set (`commit_order_is_free`, `commit_orders_agree`); each key has what its last writer left (`last_writer_stands`); closed sets
+//! the set (`commit_order_is_free`, `commit_orders_agree`); each key has what its last writer left (`row_is_of_last_writer`); closed sets
 //! are a lattice, with the union as join. `sound_worlds_exist` shows that the premises can be met.
 //!
 //! Such a world is one of `ordered_history`, by sources and numbers (`sources_are_an_order`), and what is proved there for one order holds
