@@ -194,7 +194,7 @@ varied_told ls s h = runs_vary start ls s sound_start h
 
 -- ---- what was executed before
 
--- by what lines say, where their sets are read
+-- by the contents of lines, where their sets are read
 abbrev before_in : Gtids × Bool → List Content → Gtids
 before_in b ls = cond b.1 (executed_before b.0 ls) b.0
 

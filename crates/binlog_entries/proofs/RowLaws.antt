@@ -32,7 +32,7 @@ use Rattle.binlog_entries.proofs.TransactionLaws.{bind_ok, same_ok, if_ok, spell
 
 -- ---- rows
 
--- what a row of the transaction that has begun is spelled by more
+-- what a row of the transaction that has begun means more
 pub grown : (es : List Meaning) (stage : Stage) (gtid : Gtid) (cs : List Change) (old new m : List Meaning) → is_begun stage ≡ true → new ≡ old ++ m → es ++ spelled_open stage gtid cs new ≡ (es ++ spelled_open stage gtid cs old) ++ m
 grown es stages.Idle gtid cs old new m b e = absurd cc
 grown es stages.Named gtid cs old new m b e = absurd cc
@@ -102,7 +102,7 @@ value_found (Some type) text v e = taken (value_at type text) v e
     taken None v e = absurd cc
     taken (Some w) v e = ap Some (same_ok w v e)
 
--- what a value's line tells
+-- the content of a value's line
 pub record Values (s : Standing) (place n : ℕ) (text : List ℕ) (v : Value) : Type 0 where
   pub number : n ≡ place + 1
   pub shown : shown_in (type_at s.row s.tables (n - 1)) text ≡ Some v

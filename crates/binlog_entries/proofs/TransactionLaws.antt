@@ -118,7 +118,7 @@ pub flat_map_more : {A B : Type 0} (f : A → List B) (xs : List A) (x : A) → 
 flat_map_more f [] x = append-nil (f x)
 flat_map_more f (y ∷ ys) x = ap (λ zs. f y ++ zs) (flat_map_more f ys x) ∙ sym (append_assoc (f y) (flat_map f ys) (f x))
 
--- a whole row that joins the changes is spelled as before
+-- a whole row that joins the changes means what it meant before
 pub joined_spelled : (stage : Stage) (gtid : Gtid) (cs : List Change) (c : Change) (row : List Meaning) → is_begun stage ≡ true → row ≡ meaning_of_change c → spelled_open stage gtid (cs ++ c ∷ []) [] ≡ spelled_open stage gtid cs row
 joined_spelled stages.Idle gtid cs c row b e = absurd cc
 joined_spelled stages.Named gtid cs c row b e = absurd cc
@@ -214,7 +214,7 @@ automatic_law s t sound h = rest_law s t bodies.FileEnd (OfMark marks.Automatic)
 
 -- ---- lines that change no row
 
--- only where the line stands and the stage change
+-- only the place of the line and the stage change
 pub still : (s : Standing) (l : Content) (body : Body) → Sound s → is_rows s.body ≡ false → is_rows body ≡ false → (is_closed body ≡ true → is_idle s.stage ≡ true) → means (context_of s) l ≡ [] → context_behind (context_of s) l ≡ context_of s → Tells s l (record s { body = body })
 still s l body sound outside rows closed nothing same = record {
   spells = sym (append-nil (spelled_state s)) ∙ ap (λ (xs : List Meaning). spelled_state s ++ xs) (sym nothing);
@@ -295,7 +295,7 @@ rows_only _ e = absurd cc
 
 -- ---- lines that change nothing
 
--- a line that means nothing, and changes nothing but where the next one stands
+-- a line that means nothing, and changes nothing but the place of the next one
 pub neutral : (s : Standing) (l : Content) (kind : Kind) → Sound s → IsQuiet s.body (behind s.body kind) → means (context_of s) l ≡ [] → context_behind (context_of s) l ≡ context_of s → Tells s l (record s { body = behind s.body kind })
 neutral s l kind sound q nothing same = still s l (behind s.body kind) sound q.0 q.1 (λ c. sound.closed (q.2 c)) nothing same
 

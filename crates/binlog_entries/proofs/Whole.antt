@@ -152,7 +152,7 @@ unfolding feed_byte
 stops_back s n rest [] f one e = absurd cc
 stops_back s n rest (b ∷ bs) f one e = stop_eaten s n b rest bs (eqb b 10) f one refl (λ u k rest one h. stops_back u k rest bs f one h) e
 
--- ---- what lines say
+-- ---- the contents of lines
 
 pub record Speak (s : Standing) (lines : List (List ℕ)) (t : Standing) : Type 0 where
   pub contents : List Content

@@ -1,4 +1,4 @@
--- What a line says is read.
+-- Reading a line is complete: the content of a line is read.
 use Rattle.std.proofs.Common.{◌≡◌, ℕ, ◌^◌, ◌<◌, Bool, true, false, cond, eqb, List, [], ◌∷◌, ◌++◌, Option, Some, None, refl, sym, ap, ◌∙◌, subst, append-nil, arith, inl, inr, ◌⊎◌}
 use Rattle.std.specs.Prelude.{◌&&◌, ◌||◌, codes, decimal, is_some, length}
 use Rattle.std.specs.Str.{bytes_eq}
@@ -316,7 +316,7 @@ gtid_line_again gtid free =
     let cut : cut_at 39 (gtid ++ codes "'/*!*/;") ≡ Some (gtid, codes "/*!*/;") = cut_again 39 gtid (codes "/*!*/;") free in
     rw cut refl
 
--- what a line says is read
+-- the content of a line is read
 pub line_again : (l : Content) (text : List ℕ) → IsLine l text → line_of text ≡ Some l
 line_again (OfMark mark) text is = mark_again mark text is
 line_again (OfHead event) text is = ap line_of is.2 ∙ head_of is.0 (event_text event ++ is.1) is.3 ∙ event_again event is.1

@@ -1,4 +1,4 @@
--- What is read of a line is what the line says.
+-- Reading a line is sound: a line has the content that is read of it.
 use Rattle.std.proofs.Common.{◌≡◌, ℕ, Bool, true, false, eqb, List, [], ◌∷◌, ◌++◌, Option, Some, None, refl, sym, ap, ◌∙◌, subst, append_assoc, append-nil, inl, inr, ◌⊎◌, eq-eqb}
 use Rattle.std.specs.Prelude.{IfSome, option_map, codes, decimal, is_some}
 use Rattle.std.specs.Str.{bytes_eq}
@@ -314,7 +314,7 @@ plain_line_found text l e = elim (branch_found (codes "SET @@SESSION.GTID_NEXT= 
   ]
 ]
 
--- what is read is what the line says
+-- a line has the content that is read of it
 pub line_found : (text : List ℕ) (l : Content) → line_of text ≡ Some l → IsLine l text
 line_found text l e = elim (branch_found (codes "### ") text row_line _ l e) [
   | inl p ↦ subst (IsLine l) (sym p.1) (row_line_found p.0 l p.2)

@@ -1,4 +1,4 @@
--- What the chains say of the unfinished nodes.
+-- What the chains show of the unfinished nodes.
 use Rattle.std.proofs.Common.{◌≡◌, ℕ, zero, suc, ◌+◌, ◌<◌, ◌⊎◌, Bool, true, false, cond, List, [], ◌∷◌, length, Option, Some, None, refl, sym, ap, subst, ◌∙◌, ⊎_elim, inl, inr, arith, nat_eq}
 use Rattle.std.proofs.lemmas.Bool.{eqb-true, both_ways, or_cases}
 use Rattle.std.specs.List.{AllByRecursion, list_any}

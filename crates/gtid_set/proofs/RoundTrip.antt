@@ -62,7 +62,7 @@ canonical_tells s t u v e =
     let P : List ℕ → Type 0 = λ text. ParsesAsSet text t in
     spells_one (canonical s) s t (canonical_spells s u) (subst P (sym e) (canonical_spells t v))
 
--- ---- what is spelled has numbers that transactions may have
+-- ---- what a text parses as has numbers that transactions may have
 
 numbered_by : (v value : ℕ) (b : Bool) → (nat_le 1 v && nat_le v 9223372036854775807) ≡ b → cond b (Some v) None ≡ Some value → IsNumbered value
 numbered_by v value true e h =

@@ -1,4 +1,4 @@
--- What is read is spelled so.
+-- Reading is sound: a text parses as what is read of it.
 use Rattle.std.proofs.Common.{◌≡◌, ℕ, zero, suc, ◌<◌, ◌⊎◌, Bool, true, false, cond, eqb, List, [], ◌∷◌, ◌++◌, length, Option, Some, None, Result, Ok, Err, refl, sym, ap, subst, ◌∙◌, append_assoc, arith, inl, inr}
 use Rattle.std.specs.List.{flat_map}
 use Rattle.std.specs.Char.{is_ascii_digit}
@@ -146,7 +146,7 @@ some_element : (text : List ℕ) (spans : List Span) (es : List Element) → tex
 some_element text spans [] t h = record { e = (None, []); es = []; text_is = t; says = ([], [], h, (refl, refl), refl) }
 some_element text spans (e ∷ es) t h = record { e = e; es = es; text_is = t; says = h }
 
--- an element and a comma before what is spelled
+-- an element and a comma before what parses
 comma_first : (e : Element) (front : List Span) (rest : List ℕ) (back : List Span) → IsElement e front → ParsesAs rest back → ParsesAs (element_text e ++ 44 ∷ rest) (front ++ back)
 comma_first e front rest back h r =
     let t = some_element rest back r.elements r.text_is r.says in

@@ -1,4 +1,4 @@
--- A text of one source, and a text of one GTID: what is spelled is read, what is read is spelled, and where it is refused.
+-- A text of one source, and a text of one GTID: reading is sound and complete, and where it is refused.
 use Rattle.std.proofs.Common.{◌≡◌, ℕ, ◌<◌, Bool, false, eqb, List, [], ◌∷◌, ◌++◌, length, Some, Ok, Err, refl, sym, ap, subst, ◌∙◌, append_assoc, arith, inl, inr}
 use Rattle.std.specs.Prelude.{codes}
 use Rattle.std.specs.Char.{is_ascii_digit}
@@ -19,7 +19,7 @@ use Rattle.gtid_text.proofs.Found.{past_starts, gap_of, gap_alone, split, number
 use Rattle.gtid_text.proofs.Stuck.{bind_err, number_err, found_source_err, colon_err, colon_none, same_starts, starts_behind, past_same, same_some, one_is}
 use Rattle.gtid_text.proofs.RoundTrip.{source_bytes, source_again}
 
--- ---- what is spelled is read
+-- ---- reading is complete
 
 uuid_reads : (gap uuid r : List ℕ) (id : SourceId) → IsGap gap → IsUuid uuid id → starts is_uuid_byte r ≡ false → source_at (skip_while is_blank (gap ++ (uuid ++ r))) ≡ Ok (id, r)
 uuid_reads gap uuid r id g u cut =
@@ -59,7 +59,7 @@ gtid_reads_back text gtid s =
     (number_reads s.number gtid.number s.after s.is_number (gap_cut is_ascii_digit s.after refl refl refl refl s.gaps.2))
     (end_reads s.after s.gaps.2)
 
--- ---- what is read is spelled
+-- ---- reading is sound
 
 record FoundSource (rest : List ℕ) (x : SourceId × List ℕ) : Type 0 where
   gap : List ℕ
@@ -198,7 +198,7 @@ source_last_err : (text : List ℕ) (x : SourceId × List ℕ) (e : ScanFault) �
 unfolding source_in
 source_last_err text x e h k = rw (h, k) refl
 
--- what is refused is not spelled
+-- what is refused parses as nothing
 no_source_text : (text : List ℕ) (e : ScanFault) → source_in text ≡ Err e → IsSourceText text → ⊥
 no_source_text text e h s = let k = sym h ∙ source_reads_back text s.0 s.1 in absurd cc
 
@@ -269,7 +269,7 @@ gtid_end_err : (text : List ℕ) (x : SourceId × List ℕ) (rest : List ℕ) (n
 unfolding gtid_in
 gtid_end_err text x rest n e h k l m = rw (h, k, l, m) refl
 
--- what is refused is not spelled
+-- what is refused parses as nothing
 no_gtid_text : (text : List ℕ) (e : ScanFault) → gtid_in text ≡ Err e → IsGtidText text → ⊥
 no_gtid_text text e h s = let k = sym h ∙ gtid_reads_back text s.0 s.1 in absurd cc
 

@@ -203,7 +203,7 @@ abbrev pub last_of : PoolValue → List PoolValue → PoolValue
 last_of p [] = p
 last_of p (q ∷ qs) = last_of q qs
 
--- a walk along a list has seen these intervals, and comes to this cell
+-- a walk along a list has seen these intervals, and has reached this cell
 pub record IsAlong (p : PoolValue) (l : ℕ) (seen : List Interval) (next : Option ℕ) : Type 0 where
   pub before : List Held
   pub behind : List Held

@@ -154,7 +154,7 @@ same_table_tells None (Some b) e = cc
 same_table_tells (Some a) None e = cc
 same_table_tells (Some a) (Some b) e = (tables-Decide a b).1 (same_Some a b e)
 
--- the test of tables tells that they are the same, and it fails only where they are not
+-- the test of tables shows that they are the same, and it fails only where they are not
 pub tables_told : (a b : List Table) (changes : List Change) → same_tables a b changes ≡ true → SameTables a b changes
 tables_told a b [] e = tt
 tables_told a b (change ∷ changes) e =
@@ -167,7 +167,7 @@ tables_tell a b (change ∷ changes) same =
     and_from (same_table (find_table (table_of change) a) (find_table (table_of change) b)) (same_tables a b changes)
     (same_table_tells (find_table (table_of change) a) (find_table (table_of change) b) same.0) (tables_tell a b changes same.1)
 
--- an install is done, is stale, or wants memory
+-- an install is done, is stale, or out of memory
 pub by_outcome : {E P : Type 0} (r : Result InstallOutcome E) → (r ≡ Ok Installed → P) → (r ≡ Ok Stale → P) → ((e : E) → r ≡ Err e → P) → P
 by_outcome (Ok Installed) f g h = f (λ _. Ok Installed)
 by_outcome (Ok Stale) f g h = g (λ _. Ok Stale)

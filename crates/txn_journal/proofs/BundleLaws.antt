@@ -1,4 +1,4 @@
--- Bundles obey the laws of formats: what is spelled is read to its end, and what has been read can be gone on with.
+-- Bundles obey the laws of formats: a text is read to its end, and what has been read can be gone on with.
 use Rattle.std.proofs.Common.{◌≡◌, ℕ, ◌+◌, ◌<◌, ◌≤◌, Bool, true, false, cond, not, eqb, List, [], ◌∷◌, ◌++◌, length, map, Option, Some, None, Result, Ok, Err, refl, sym, ap, subst, ◌∙◌, append_assoc, arith}
 use Rattle.std.specs.List.{list_all, AllByRecursion}
 use Rattle.std.specs.Prelude.{◌&&◌, MatchResult}
@@ -350,7 +350,7 @@ almost_fit due version is tables all js h =
     (subst (λ (x : List JournalValue). AllFitStamps false due version is tables (all_stamps version tables h.earlier ++ h.last_stamps ∷ []) x) (sym h.journals)
     (almost_fit_at due version is tables h.earlier h.last h.last_stamps (last_are_stamps version tables h.last_stamps h.last.entries h.almost)))
 
--- ---- what is spelled is read
+-- ---- reading is complete
 
 judge_is : judge_bundle ≡ judge_by true
 unfolding judge_bundle

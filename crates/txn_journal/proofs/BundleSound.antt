@@ -1,4 +1,4 @@
--- What the lines of a bundle have said is kept by one line more.
+-- One line more keeps the invariant of the lines of a bundle.
 use Rattle.std.proofs.Common.{◌≡◌, ℕ, ◌<◌, inl, inr, true, false, not, cond, eqb, leb, List, [], ◌∷◌, ◌++◌, length, map, Option, Some, None, Result, Ok, Err, refl, sym, ap, subst, ◌∙◌, append_assoc, arith}
 use Rattle.std.specs.List.{list_all}
 use Rattle.std.specs.FinMap as map_of
@@ -252,7 +252,7 @@ table_cause s line shape k causes.Limit h = (Has shape, k, h)
 table_cause s line shape k causes.Schema h = (Has shape, k, h.0, h.1)
 table_cause s line shape k c h = absurd h
 
--- a line of its own, at the place where it stands
+-- a line of its own, at its place
 keeps_own : (part : Part) (due : Option Version) (version : Version) (tables : List Table) (rows : List TableRow) (b : BundleValue) (channel : Option Channel) (draft : Standing) (line : List ℕ) (l : OwnLine)
     → SoundAt part due version tables rows b channel draft → is_due_in part (own_word l) ≡ true → ParsesAsLine (own_wording (state part due version tables b channel draft)) line l
     → MatchResult (own_put (state part due version tables b channel draft) l) (KeepsBundle due (bundle_lines_so_far rows (state part due version tables b channel draft)) (Own l)) (HasCauseBy (own_wording (state part due version tables b channel draft)) line)

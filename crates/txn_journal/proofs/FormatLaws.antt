@@ -126,7 +126,7 @@ whole_of may r w (inl x) = inl (x.0, x.1)
 whole_of may r w (inr x) = inr x
 
 module _ (f : Format) (Sound : f.State → List f.Line → Type 0) (laws : Laws f Sound) where
-  -- ---- what is spelled is read
+  -- ---- reading is complete
 
   pub reads_back : (bytes : List ℕ) (v : f.Value) → f.Writes bytes v → whole_by f bytes ≡ Ok v
   unfolding closing_by
@@ -138,7 +138,7 @@ module _ (f : Format) (Sound : f.State → List f.Line → Type 0) (laws : Laws 
   pub one_value : (bytes : List ℕ) (v w : f.Value) → f.Writes bytes v → f.Writes bytes w → v ≡ w
   one_value bytes v w a b = let k = sym (reads_back bytes v a) ∙ reads_back bytes w b in cc
 
-  -- what is almost spelled is read loosely
+  -- what is almost a text is read loosely
   reads_loosely : (bytes : List ℕ) (v : f.Value) → f.AlmostWrites bytes v → (t : f.State) × (n : ℕ) × (feed_bytes laws.loose (start_of f) bytes ≡ Reading t n [])
   reads_loosely bytes v w =
       let r = laws.reads_open bytes v w in
@@ -150,7 +150,7 @@ module _ (f : Format) (Sound : f.State → List f.Line → Type 0) (laws : Laws 
       let k = laws.begins s ls h in
       (k.value, text_of f k.more, subst (λ (x : List ℕ). MayWrite f (f.is_open s) x k.value) (flat_map-append (ended_line_of f) ls k.more) k.writes)
 
-  -- ---- what is read is spelled
+  -- ---- reading is sound
 
   -- so much of the text was read, and this is left
   record Stands (bytes : List ℕ) (s : f.State) (n : ℕ) (rest left : List ℕ) : Type 0 where

@@ -1,4 +1,4 @@
--- Sources, GTIDs and sets as words: what is read is spelled so, and what is spelled so is read.
+-- Sources, GTIDs and sets as words: reading is sound and complete.
 use Rattle.std.proofs.Common.{◌≡◌, ℕ, zero, suc, ◌+◌, ◌*◌, ◌^◌, ◌<◌, Bool, true, false, cond, eqb, not, List, [], ◌∷◌, ◌++◌, length, get_or, Option, Some, None, Result, Ok, Err, refl, ap, subst, arith, inl, inr, ◌≤◌, leb, sym, ◌∙◌}
 use Rattle.std.specs.Prelude.{◌&&◌, ◌||◌, decimal, option_map, codes}
 use Rattle.std.specs.List.{list_all}

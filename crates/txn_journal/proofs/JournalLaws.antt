@@ -1,4 +1,4 @@
--- Journals obey the laws of formats: what is spelled is read to its end, and what has been read can be gone on with.
+-- Journals obey the laws of formats: a text is read to its end, and what has been read can be gone on with.
 use Rattle.std.proofs.Common.{◌≡◌, ℕ, ◌+◌, ◌^◌, ◌<◌, ◌≤◌, Bool, true, false, not, eqb, leb, List, [], ◌∷◌, ◌++◌, length, map, Option, Some, None, Ok, refl, sym, ap, subst, ◌∙◌, append_assoc, arith}
 use Rattle.std.specs.List.{list_all, AllByRecursion}
 use Rattle.std.specs.FinSet as set
@@ -135,7 +135,7 @@ with_entries j es = record j { entries = j.entries ++ es }
 abbrev pub at : Place → Option Version → Version → JournalValue → List ℕ → Gtids → ℕ → Gtid → ℕ → List Change → Standing
 at place due version j stamps seen count g stamp cs = record { place = place; due = due; version = version; journal = j; stamps = stamps; seen = seen; count = count; gtid = g; stamp = stamp; changes = cs }
 
--- a line that is spelled is read, and then it acts
+-- the text of a line is read, and then it acts
 pub spelled_judged : (schema : Option (List Table)) (s t : Standing) (l : Line) → is_due s.place (word_for l) ≡ true → FitsAt s.due s.version l → put schema s l ≡ Ok t → judge schema s (line_text l) ≡ Ok t
 spelled_judged schema s t l is fit step = judge_reads schema s (line_text l) ∙ judged_again (wording schema s) (body_of s.due s.version) (rest_laws schema s) (put schema s) l is fit ∙ step
 
@@ -348,7 +348,7 @@ ended schema s h last = let e = ended_at schema s.place s h last in record { who
 abbrev pub IsSoundAlone : Option Version → Standing → List Line → Type 0
 IsSoundAlone due s ls = (s.due ≡ due) × (lines_so_far s ≡ ls) × IsSound None s
 
--- of whatever is looked at in the end: where it is spelled it is read, and the other way round
+-- of whatever is looked at in the end: where there is a text of it, it is read, and the other way round
 pub record Seen {V : Type 0} (due : Option Version) (value : Standing → V) (Spelled : List ℕ → V → Type 0) : Type 0 where
   pub spelled : (bytes : List ℕ) (s : Standing) → IsWrittenAs due bytes (as_written s) → Spelled bytes (value s)
   pub written : (bytes : List ℕ) (v : V) → Spelled bytes v → (w : WrittenJournal) × IsWrittenAs due bytes w × ((s : Standing) → as_written s ≡ w → value s ≡ v)

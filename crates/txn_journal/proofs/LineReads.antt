@@ -1,4 +1,4 @@
--- Lines: what is read is spelled so, and what is spelled so is read.
+-- Lines: reading is sound and complete.
 use Rattle.std.proofs.Common.{◌≡◌, ℕ, inl, inr, true, List, [], ◌∷◌, ◌++◌, Option, Some, None, Result, Ok, Err, refl, sym, ap, ◌∙◌, ◌+◌, not, eqb}
 use Rattle.std.specs.Prelude.{codes, MatchResult, ◌&&◌}
 use Rattle.std.proofs.lemmas.Bool.{and_parts}
@@ -38,7 +38,7 @@ use Rattle.gtid_text.proofs.Turns.{chosen}
 
 -- ---- a line is read, and then it acts
 
--- what the rest of a line says
+-- what the rest of a line parses as
 unfoldable pub body_of : Option Version → Version → Keyword → Option (List ℕ) → Result Line Cause
 body_of due version keywords.Journal rest = version_in due rest >>= λ v. Ok (Header v)
 body_of due version keywords.Previous rest = set_in rest >>= λ s. Ok (Previous s)
@@ -185,7 +185,7 @@ rest_both schema s keywords.End line first =
 rest_both schema s keywords.Close line first =
     of_body (wording schema s) keywords.Close (others line) (ParsesAs (wording schema s) keywords.Close line) _ (then_both _ _ (nothing_in (others line)) _ (nothing_both (others line)) (λ u none. record { text = with_none line (codes "close") first none; fits = record { words = tt; images = tt; of_version = tt }; word = refl }))
 
--- ---- what is spelled is read
+-- ---- reading is complete
 
 pub table_again : (name text : List ℕ) → is_name name ≡ true → table_in (Some (name ++ 32 ∷ text)) ≡ Ok (name, text)
 table_again name text e = rw (others-front name text (name_no_blank name e), first_word-front name text (name_no_blank name e), e) refl

@@ -80,7 +80,7 @@ pub record IsPut (schema : List Table) (rs : List TableRow) (k : Key) (row : Lis
   pub row_is : one.row ≡ row
   pub carries : is_among (carried_keys schema one.table one.row) k ≡ true
 
--- a row that stands stays
+-- a row that is there stays
 pub stays : (d : Database) (rs : List TableRow) (new : Rows) (k : Key) (row : List Value) → put_all d rs ≡ Ok new → get d.rows k ≡ Some row → get new k ≡ Some row
 stays d [] new k row e g = ap (λ (m : Rows). get m k) (sym (ok_is d.rows new e)) ∙ g
 stays d (r ∷ rs) new k row e g =

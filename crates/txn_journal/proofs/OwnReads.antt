@@ -1,4 +1,4 @@
--- A bundle's own lines: what is read is spelled so, what is spelled so is read, and then it acts.
+-- A bundle's own lines: reading is sound and complete, and then the line acts.
 use Rattle.std.proofs.Common.{◌≡◌, ℕ, Bool, true, false, not, cond, eqb, List, [], ◌∷◌, ◌++◌, Option, Some, None, Ok, Err, refl, sym, ap, subst, ◌∙◌, Result}
 use Rattle.std.specs.Prelude.{codes, MatchResult}
 use Rattle.std.specs.List.{list_all}
@@ -44,12 +44,12 @@ use Rattle.txn_journal.proofs.ImageLaws.{image_both, image_again}
 use Rattle.txn_journal.proofs.LineReads.{version_both, set_both, nothing_both, name_both, table_both, table_again, with_more, with_none, with_table as table_line}
 use Rattle.txn_journal.proofs.ShapeLaws.{shape_both, shape_again, shape_one}
 
--- what the rest of a table's line says
+-- what the rest of a table's line parses as
 abbrev pub shape_behind : Option (List ℕ) → Result Shape Cause
 shape_behind None = Err causes.Body
 shape_behind (Some text) = shape_in text
 
--- what the rest of a line says
+-- what the rest of a line parses as
 unfoldable pub own_body : Option Version → Word → Option (List ℕ) → Result OwnLine Cause
 own_body due words.Bundle rest = version_in due rest >>= λ version. Ok (Heads version)
 own_body due words.Replica rest = replica_in rest >>= λ replica. Ok (Names replica)
@@ -108,7 +108,7 @@ source_word_again id small =
     let ascii : list_all is_ascii_byte (source_text id) ≡ true = all_weaker is_set_byte is_ascii_byte (source_text id) set_ascii (source_set id) in
     rw (ascii, read) (where_same-again source_text id)
 
--- ---- what is read is spelled so
+-- ---- reading is sound
 
 replica_both : (rest : Option (List ℕ)) → MatchResult (replica_in rest) (λ id. (rest ≡ Some (source_text id)) × IsSource id) IsBody
 replica_both None = tt
@@ -146,7 +146,7 @@ rest_both s words.Channel line first =
 rest_both s words.Done line first =
     of_body (own_wording s) words.Done (others line) (ParsesAs (own_wording s) words.Done line) _ (then_both _ _ (nothing_in (others line)) _ (nothing_both (others line)) (λ u none. record { text = with_none line (codes "done") first none; fits = tt; word = refl }))
 
--- ---- what is spelled is read
+-- ---- reading is complete
 
 channel_again : (name : List ℕ) (p : Bool) → is_name name ≡ true → channel_in (Some (name ++ preserve_text p)) ≡ Ok (record { name = name; preserve = p })
 unfolding channel_in

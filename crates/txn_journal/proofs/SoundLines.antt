@@ -1,4 +1,4 @@
--- What the lines so far have said is kept by one line more.
+-- One line more keeps the invariant of the lines so far.
 use Rattle.std.proofs.Common.{◌≡◌, ℕ, ◌+◌, ◌<◌, ◌≤◌, inl, inr, Bool, true, false, not, leb, List, [], ◌∷◌, ◌++◌, length, map, Option, Some, None, refl, sym, ap, subst, ◌∙◌, append_assoc, arith}
 use Rattle.std.specs.Prelude.{◌||◌, MatchResult, nat_lt}
 use Rattle.std.specs.List.{list_all, AllByRecursion}

@@ -1,4 +1,4 @@
--- Lines that begin with a word: what is read is spelled so, and the cause of what is not taken.
+-- Lines that begin with a word: reading is sound, and the cause of what is not taken.
 use Rattle.std.proofs.Common.{◌≡◌, ℕ, Bool, true, false, cond, List, [], ◌∷◌, ◌++◌, Option, Some, None, Result, Ok, Err, refl, sym, ap, ◌∙◌, inl, inr}
 use Rattle.std.specs.Prelude.{MatchResult}
 use Rattle.std.specs.Str.{bytes_eq}
@@ -32,13 +32,13 @@ IsVersionFault rest causes.Body = Unit {0}
 IsVersionFault rest causes.Version = (n : List ℕ) × (rest ≡ Some n) × (is_count n ≡ true)
 IsVersionFault rest _ = ⊥
 
--- why the rest of a line says nothing
+-- why the rest of a line parses as nothing
 abbrev pub IsRestFault : (w : Wording) → w.Word → Option (List ℕ) → Cause → Type 0
 IsRestFault w k rest causes.Body = Unit {0}
 IsRestFault w k rest causes.Version = (k ≡ w.header) × IsVersionFault rest causes.Version
 IsRestFault w k rest _ = ⊥
 
--- what a word and the rest of its line say
+-- what a word and the rest of its line parse as
 pub record ParsesAs (w : Wording) (k : w.Word) (line : List ℕ) (l : w.Line) : Type 0 where
   pub text : line ≡ w.line_text l
   pub fits : w.Fits l
@@ -47,7 +47,7 @@ pub record ParsesAs (w : Wording) (k : w.Word) (line : List ℕ) (l : w.Line) : 
 abbrev pub Rests : Wording → Type 0
 Rests w = w.Word → Option (List ℕ) → Result w.Line Cause
 
--- what a line says, by the rest that follows its word
+-- what a line parses as, by the rest that follows its word
 abbrev pub read_by : (w : Wording) → Rests w → List ℕ → Result w.Line Cause
 read_by w rest line = due w.is_due (w.word_of (first_word line)) >>= λ k. rest k (others line)
 
@@ -72,7 +72,7 @@ of_header w o P (Err causes.Version) h = (refl, h)
 of_header w o P (Err c) h = absurd h
 
 module _ (w : Wording) (rest : Rests w) (laws : RestLaws w rest) where
-  -- the cause, where the line says nothing
+  -- the cause, where the line parses as nothing
   rest_cause : (line : List ℕ) (k : w.Word) → w.word_of (first_word line) ≡ Some k → w.is_due k ≡ true → (c : Cause) → IsRestFault w k (others line) c → ParsesAsNoLine w line → HasCauseBy w line c
   rest_cause line k word is causes.Body h none = (k, word, is, none)
   rest_cause line k word is causes.Version h none =
