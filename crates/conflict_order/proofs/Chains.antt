@@ -13,7 +13,7 @@ use Rattle.ordered_history.specs.World.{World, Entry, IsIn, Precedes, AreDistinc
 use Rattle.ordered_history.proofs.Placing.{all_in}
 use Rattle.ordered_history.proofs.Ordering.{first_in, second_in}
 use Rattle.conflict_order.specs.Extension.{IsLinearExtension}
-use Rattle.conflict_order.specs.Histories.{History, AreConsistent, IsAmong, has, beyond, joined, order_of, world_of}
+use Rattle.conflict_order.specs.Histories.{History, AreConsistent, IsAmong, has, beyond, join_histories, order_of, world_of}
 use Rattle.conflict_order.specs.Laws.{AreNew}
 use Rattle.conflict_order.specs.Chains.{chain, IsFront, ChainsDecide, HaveOneContent, ChainsAreExact}
 use Rattle.conflict_order.proofs.Sharing.{shared_key, shares_by}
@@ -96,13 +96,13 @@ chains_decide world h c d known = (λ ext k. fronts_of world h c ext k, λ front
 
 -- ---- several histories
 
-pub joined_distinct : (L : List Entry) (hs : List History) → AreDistinct L → ((h : History) → IsAmong h hs → AreDistinct h) → AreDistinct (joined L hs)
+pub joined_distinct : (L : List Entry) (hs : List History) → AreDistinct L → ((h : History) → IsAmong h hs → AreDistinct h) → AreDistinct (join_histories L hs)
 joined_distinct L [] d each = d
 joined_distinct L (h ∷ hs) d each = joined_distinct (L ++ beyond L h) hs
     (distinct_both L (beyond L h) d (part_distinct (λ x. not (has L x.0)) h (each h (inl refl))) (λ e f i j t. not_both (has L f.0) (ap (has L) (sym t) ∙ has_of L e i) (in_beyond L h f j).1))
     (λ x i. each x (inr i))
 
-joined_from : (L : List Entry) (hs : List History) (e : Entry) → IsIn e (joined L hs) → IsIn e L ⊎ ((h : History) × IsAmong h hs × IsIn e h)
+joined_from : (L : List Entry) (hs : List History) (e : Entry) → IsIn e (join_histories L hs) → IsIn e L ⊎ ((h : History) × IsAmong h hs × IsIn e h)
 joined_from L [] e i = inl i
 joined_from L (h ∷ hs) e i = elim (joined_from (L ++ beyond L h) hs e i) [
   | inl j ↦ elim (in_either L (beyond L h) e j) [ inl k ↦ inl k | inr k ↦ inr (h, inl refl, (in_beyond L h e k).0) ]

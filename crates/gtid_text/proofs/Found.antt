@@ -5,7 +5,7 @@ use Rattle.std.specs.Char.{is_ascii_digit}
 use Rattle.std.proofs.lemmas.Bool.{eqb-true, eqb-false, ltb-false}
 use Rattle.std.proofs.lemmas.List.{append-nil, nil_from_length}
 use Rattle.gtid_text.specs.Scan.{is_blank, is_uuid_byte, run, skip_while, ◌>>=◌, refuse, source_of, source_at, number_at, colon_at}
-use Rattle.gtid_text.specs.Reading.{span, ordered, upper_at, interval_at, separator_at, element_at, Turn, turn_at, with_front, go_on, spans_at, spans_in}
+use Rattle.gtid_text.specs.Reading.{span, check_order, upper_at, interval_at, separator_at, element_at, Turn, turn_at, with_front, go_on, spans_at, spans_in}
 use Rattle.gtid_text.specs.Grammar.{Number, Interval, Named, Element, number_text, upper_text, interval_text, behind_colon, named_text, element_text, set_text, IsGap, IsNumber, IsUpper, IsInterval, AreIntervals, IsNamed, IsElement, AreElements, ParsesAs}
 use Rattle.gtid_text.specs.declared.SourceId.{SourceId}
 use Rattle.gtid_text.specs.declared.Span.{Span}
@@ -64,10 +64,10 @@ alone id lo r y x cut d e h =
 upper_found_at : (id : SourceId) (lo : ℕ) (r y : List ℕ) (x : Span × List ℕ) → starts is_ascii_digit r ≡ false → skip_while is_blank r ≡ y → upper_at id lo y ≡ Ok x → FoundUpper id lo r x
 upper_found_at id lo r [] x cut e h = alone id lo r [] x cut refl e (ok_is (span id lo lo, []) x h)
 upper_found_at id lo r (b ∷ bs) x cut e h =
-    elim (chosen (eqb b 45) (number_at (skip_while is_blank bs) >>= λ hi. ordered id lo hi.0 (skip_while is_blank bs) (skip_while is_blank hi.1)) (Ok (span id lo lo, b ∷ bs)) (Ok x) h) [
+    elim (chosen (eqb b 45) (number_at (skip_while is_blank bs) >>= λ hi. check_order id lo hi.0 (skip_while is_blank bs) (skip_while is_blank hi.1)) (Ok (span id lo lo, b ∷ bs)) (Ok x) h) [
       | inr p ↦ alone id lo r (b ∷ bs) x cut p.0 e (ok_is (span id lo lo, b ∷ bs) x p.1)
       | inl p ↦
-          let q = bind_ok (number_at (skip_while is_blank bs)) (λ hi. ordered id lo hi.0 (skip_while is_blank bs) (skip_while is_blank hi.1)) x p.1 in
+          let q = bind_ok (number_at (skip_while is_blank bs)) (λ hi. check_order id lo hi.0 (skip_while is_blank bs) (skip_while is_blank hi.1)) x p.1 in
           let o = ordered_ok id lo q.0.0 (skip_while is_blank bs) (skip_while is_blank q.0.1) x q.2 in
           let f = number_found bs q.0 q.1 in
           let dash : b ≡ 45 = eqb-true b 45 p.0 in

@@ -6,7 +6,7 @@ use Rattle.std.specs.Str.Parse.{digits_value}
 use Rattle.std.proofs.lemmas.Bool.{eqb-true, eqb-false, ne_eqb, leb-true, and_parts}
 use Rattle.std.proofs.lemmas.List.{append-nil, length-append}
 use Rattle.gtid_text.specs.Scan.{is_blank, is_uuid_byte, run, skip_while, ◌>>=◌, refuse, source_of, found_source, source_at, number_of, found_number, number_at, colon_at}
-use Rattle.gtid_text.specs.Reading.{span, ordered, upper_at, interval_at, separator_at, element_at, turn_at, with_front}
+use Rattle.gtid_text.specs.Reading.{span, check_order, upper_at, interval_at, separator_at, element_at, turn_at, with_front}
 use Rattle.gtid_text.specs.Grammar.{Number, Interval, Named, number_text, interval_text, named_text, IsGap, IsNumber, IsInterval, IsNamed}
 use Rattle.gtid_text.specs.Refused.{IsDue, IsMet, SameToken}
 use Rattle.gtid_text.specs.declared.SourceId.{SourceId}
@@ -172,7 +172,7 @@ upper_number_err id lo bs e h = rw h refl
 upper_ordered_err : (id : SourceId) (lo : ℕ) (bs : List ℕ) (hi : ℕ × List ℕ) → number_at (skip_while is_blank bs) ≡ Ok hi → ltb hi.0 lo ≡ true → (e : ScanFault) × (upper_at id lo (45 ∷ bs) ≡ Err e)
 upper_ordered_err id lo bs hi h k = (record { kind = kinds.Reversed; left = length (skip_while is_blank bs) }, rw (h, k) refl)
 
-ordered_err : (id : SourceId) (lo hi : ℕ) (digits after : List ℕ) (r : ScanFault) → ordered id lo hi digits after ≡ Err r → (ltb hi lo ≡ true) × ((record { kind = kinds.Reversed; left = length digits }) ≡ r)
+ordered_err : (id : SourceId) (lo hi : ℕ) (digits after : List ℕ) (r : ScanFault) → check_order id lo hi digits after ≡ Err r → (ltb hi lo ≡ true) × ((record { kind = kinds.Reversed; left = length digits }) ≡ r)
 ordered_err id lo hi digits after r e =
     elim (chosen (ltb hi lo) (refuse kinds.Reversed digits) (Ok (span id lo hi, after)) (Err r) e) [
       | inl p ↦ (p.0, cc)
@@ -189,12 +189,12 @@ number_again y more x e same =
 upper_err : (id : SourceId) (lo : ℕ) (y : List ℕ) (r : ScanFault) → upper_at id lo y ≡ Err r → UpperErr id lo y r
 upper_err id lo [] r e = absurd cc
 upper_err id lo (b ∷ bs) r e =
-    elim (chosen (eqb b 45) (number_at (skip_while is_blank bs) >>= λ hi. ordered id lo hi.0 (skip_while is_blank bs) (skip_while is_blank hi.1)) (Ok (span id lo lo, b ∷ bs)) (Err r) e) [
+    elim (chosen (eqb b 45) (number_at (skip_while is_blank bs) >>= λ hi. check_order id lo hi.0 (skip_while is_blank bs) (skip_while is_blank hi.1)) (Ok (span id lo lo, b ∷ bs)) (Err r) e) [
       | inr p ↦ absurd cc
       | inl p ↦
           let c : b ≡ 45 = eqb-true b 45 p.0 in
           let y = skip_while is_blank bs in
-          elim (bind_err (number_at y) (λ hi. ordered id lo hi.0 y (skip_while is_blank hi.1)) r p.1) [
+          elim (bind_err (number_at y) (λ hi. check_order id lo hi.0 y (skip_while is_blank hi.1)) r p.1) [
             | inl q ↦
                 let n = number_err y r q in
                 record {

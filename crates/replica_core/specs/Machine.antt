@@ -64,12 +64,12 @@ with_channel s c channel = record s { channels = slice_set s.channels c channel 
 abbrev pub without_seat : State → ℕ → State
 without_seat s seat = record s { seats = finmap.remove s.seats seat }
 
-abbrev pub taking : ℕ → ℕ → ℕ → State → State
-taking seat c p s = record s { seats = finmap.insert s.seats seat (record { channel = c; place = p }) }
+abbrev pub take_seat : ℕ → ℕ → ℕ → State → State
+take_seat seat c p s = record s { seats = finmap.insert s.seats seat (record { channel = c; place = p }) }
 
 -- a GTID is executed: its transaction is in the rows and at the end of the own journal, and in no channel
-abbrev pub executing : State → Gtid → Transaction → Rows → State
-executing s g t rows = record s {
+abbrev pub execute : State → Gtid → Transaction → Rows → State
+execute s g t rows = record s {
   executed = set.insert s.executed g;
   rows = rows;
   channels = map (settle_channel g) s.channels;
@@ -111,7 +111,7 @@ take_entry site seat c p channel e s =
     if set.contains s.executed e.gtid then (Done e.gtid, s) else
     option_map_or (λ other. (OwnedBy other, s)) (owner s e.gtid) (
     option_map_or (λ q. (Blocked q, s)) (option_map_or (blocking site.schema s channel p) e.txn None) (
-    (Taken e.gtid, taking seat c p s)))
+    (Taken e.gtid, take_seat seat c p s)))
 
 abbrev pub take_place : Site → ℕ → ℕ → ℕ → State → Step
 take_place site seat c p s =
@@ -150,7 +150,7 @@ abbrev pub stopping : ℕ → State → State
 stopping c s = record s { channels = set_stopped_at true c s.channels }
 
 abbrev pub commit_answer : Gtid → Transaction → ℕ → ℕ → State → Result Rows RowFault → Step
-commit_answer g t seat c s (Ok rows) = (Committed g, executing (without_seat s seat) g t rows)
+commit_answer g t seat c s (Ok rows) = (Committed g, execute (without_seat s seat) g t rows)
 commit_answer g t seat c s (Err fault) = (RowRefused g fault, stopping c (without_seat s seat))
 
 abbrev pub commit_held : Site → ℕ → State → Held → Step
@@ -176,7 +176,7 @@ abbrev pub next_number : Site → State → Option ℕ
 next_number site s = least_number (is_free site s)
 
 abbrev pub local_answer : Gtid → Transaction → State → Result Rows RowFault → Step
-local_answer g t s (Ok rows) = (Committed g, executing s g t rows)
+local_answer g t s (Ok rows) = (Committed g, execute s g t rows)
 local_answer g t s (Err fault) = (LocalRefused fault, s)
 
 abbrev pub local : Site → Transaction → State → Step

@@ -4,7 +4,7 @@ ghost use Rattle.replica_core.specs.Machine.{purge, look, step, is_numbered, Are
 ghost use Rattle.replica_core.specs.Replies.{answered_events};
 ghost use Rattle.journal.specs.Journals.{previous_after_purge};
 ghost use Rattle.journal.specs.Faults.{IsPurgedFault};
-ghost use Rattle.replica_core.specs.Faults.{IsFault, IsFaultIn, IsFaultAt, IsStepFault, HasRoomFor, HasRoomAt, made_by};
+ghost use Rattle.replica_core.specs.Faults.{IsFault, IsFaultIn, IsFaultAt, IsStepFault, HasRoomFor, HasRoomAt, set_made_by};
 
 use crate::event::{Event, Reply};
 use crate::machine::Core;
@@ -51,7 +51,7 @@ impl Core {
         ensures site { self.new.site ≡ self.old.site }
         ensures err { OnErr result (self.new ≡ self.old) }
         ensures fault { IfErr result (λ f. IsStepFault f self.old.site self.old.state event.now) }
-        ensures room { IfErr result (λ f. HasRoomFor f (made_by self.old.site self.old.state event.now)) }
+        ensures room { IfErr result (λ f. HasRoomFor f (set_made_by self.old.site self.old.state event.now)) }
     {
         match event {
             Event::Take(seat, channel, place) => Ok(self.take(*seat, *channel, *place)),

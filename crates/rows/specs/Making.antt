@@ -5,7 +5,7 @@ use Rattle.rows.specs.declared.patch.Seen.{Seen}
 use Rattle.rows.specs.declared.change.Key.{Key}
 use Rattle.rows.specs.declared.change.RowFault.{RowFault}
 use Rattle.row_images.specs.declared.value.Value.{Value}
-use Rattle.rows.specs.Apply.{Rows, ◌>>=◌, inserted, deleted}
+use Rattle.rows.specs.Apply.{Rows, ◌>>=◌, insert_row, delete_row}
 use Rattle.rows.specs.Coding.{rows_code}
 use Rattle.rows.specs.Patch.{put}
 
@@ -23,5 +23,5 @@ abbrev pub course_code : Coded Course
 course_code = code_by (Rows × Rows) (coded× rows_code rows_code) (λ c. (c.made, c.before)) (λ p. record { made = p.0; before = p.1 }) (λ _. refl)
 
 -- an update by the keys of both images
-abbrev pub updated : ℕ → List Key → List Value → List Key → List Value → Rows → Result Rows RowFault
-updated n keys before keys_after after rows = deleted n keys before rows >>= inserted n keys_after after
+abbrev pub update_row : ℕ → List Key → List Value → List Key → List Value → Rows → Result Rows RowFault
+update_row n keys before keys_after after rows = delete_row n keys before rows >>= insert_row n keys_after after

@@ -3,7 +3,7 @@ ghost use Rattle.std.specs.Prelude.{◌≡◌, ◌≤◌, ◌<◌, ◌+◌, ◌^
 ghost use Rattle.std.specs.Bool.{Decides};
 ghost use Rattle.std.specs.Option.{option_copied};
 ghost use Rattle.std.specs.FinMap as map;
-ghost use Rattle.rows.specs.Apply.{first_taken, first_row, with_row, without_keys, inserted, deleted, apply_change, apply_from};
+ghost use Rattle.rows.specs.Apply.{first_taken, first_row, with_row, without_keys, insert_row, delete_row, apply_change, apply_from};
 ghost use Rattle.rows.specs.Keys.{carried_keys};
 ghost use Rattle.rows.specs.Listing.{rows_listed};
 ghost use Rattle.rows.specs.Patch.{put_over};
@@ -143,8 +143,8 @@ impl KeyMap {
 
     /// Puts a row under its keys, if each of them is free.
     fn insert_row(&mut self, keys: &[Key], row: &Row, change: u32) -> Result<(), PrepareFault>
-        ensures ok { OnOk result (inserted change keys.now row.now self.old ≡ Ok self.new) }
-        ensures refused { Refuses result (inserted change keys.now row.now self.old) }
+        ensures ok { OnOk result (insert_row change keys.now row.now self.old ≡ Ok self.new) }
+        ensures refused { Refuses result (insert_row change keys.now row.now self.old) }
         ensures err { OnErr result (self.new ≡ self.old) }
     {
         if let Some(key) = first_taken(&self.carriers, keys) {
@@ -160,8 +160,8 @@ impl KeyMap {
     }
 
     fn delete_row(&mut self, keys: &[Key], row: &Row, change: u32) -> Result<(), RowFault>
-        ensures ok { OnOk result (deleted change keys.now row.now self.old ≡ Ok self.new) }
-        ensures refused { IfErr result (λ fault. deleted change keys.now row.now self.old ≡ Err fault) }
+        ensures ok { OnOk result (delete_row change keys.now row.now self.old ≡ Ok self.new) }
+        ensures refused { IfErr result (λ fault. delete_row change keys.now row.now self.old ≡ Err fault) }
         ensures err { OnErr result (self.new ≡ self.old) }
     {
         holds(&self.carriers, keys, row, change)?;
@@ -178,8 +178,8 @@ impl KeyMap {
         table: &Name,
         row: &Row,
     ) -> Result<(), PrepareFault>
-        ensures ok { OnOk result (inserted change (carried_keys schema.now table.now row.now) row.now self.old ≡ Ok self.new) }
-        ensures refused { Refuses result (inserted change (carried_keys schema.now table.now row.now) row.now self.old) }
+        ensures ok { OnOk result (insert_row change (carried_keys schema.now table.now row.now) row.now self.old ≡ Ok self.new) }
+        ensures refused { Refuses result (insert_row change (carried_keys schema.now table.now row.now) row.now self.old) }
         ensures err { OnErr result (self.new ≡ self.old) }
     {
         match carried_keys(alloc, schema, table, row) {
@@ -197,8 +197,8 @@ impl KeyMap {
         table: &Name,
         row: &Row,
     ) -> Result<(), PrepareFault>
-        ensures ok { OnOk result (deleted change (carried_keys schema.now table.now row.now) row.now self.old ≡ Ok self.new) }
-        ensures refused { Refuses result (deleted change (carried_keys schema.now table.now row.now) row.now self.old) }
+        ensures ok { OnOk result (delete_row change (carried_keys schema.now table.now row.now) row.now self.old ≡ Ok self.new) }
+        ensures refused { Refuses result (delete_row change (carried_keys schema.now table.now row.now) row.now self.old) }
         ensures err { OnErr result (self.new ≡ self.old) }
     {
         match carried_keys(alloc, schema, table, row) {

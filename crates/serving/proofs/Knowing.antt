@@ -38,7 +38,7 @@ use Rattle.replica_core.specs.declared.event.Reply.TheVariants.{Received as TheR
 use Rattle.replica_core.specs.State.{State, Replica}
 use Rattle.replica_core.specs.Machine.{step, ask, Held, held_of, held_at, held}
 use Rattle.replica_core.specs.AtOnce.{IsFaultAtOnce}
-use Rattle.replica_core.specs.Faults.{asking, receiving, committing, executing_too, IsFaultIn}
+use Rattle.replica_core.specs.Faults.{ask_set, received_set, committed_set, executed_with, IsFaultIn}
 use Rattle.ordered_journals.proofs.Covering.{is_entry, in_insert, in_gtids, in_whole}
 use Rattle.ordered_journals.proofs.Lists.{all_at, all_from, all_drop}
 use Rattle.ordered_replicas.specs.Served.{accepted_entries, received_on, local_commits, NoLocalCommits}
@@ -325,19 +325,19 @@ option_fault : (f : SetFault) (Covers : Cover → Type 0) (o : Option Gtids) →
 option_fault f Covers None part h = memory_fault _ _ f h
 option_fault f Covers (Some made) part h = set_fault f Covers made (λ cover a. part cover a made refl) h
 
-pub position_fault : (f : SetFault) (s : State) (c : ℕ) → IsFaultIn f (asking c s) → IsFaultWhere (Knows s) f
-position_fault f s c h = option_fault f (Knows s) (asking c s) (λ cover within made is.
+pub position_fault : (f : SetFault) (s : State) (c : ℕ) → IsFaultIn f (ask_set c s) → IsFaultWhere (Knows s) f
+position_fault f s c h = option_fault f (Knows s) (ask_set c s) (λ cover within made is.
     let r = map_some (ask s) (slice_get s.channels c) made is in
     subst (HasSet cover) r.2 (has_ask cover s c r.0 within r.1)) h
 
-pub receive_fault : (f : SetFault) (s : State) (c : ℕ) (e : Entry) → IsFaultIn f (receiving c e s) → IsFaultWhere (KnowsWith s (e ∷ [])) f
-receive_fault f s c e h = option_fault f (KnowsWith s (e ∷ [])) (receiving c e s) (λ cover has made is.
+pub receive_fault : (f : SetFault) (s : State) (c : ℕ) (e : Entry) → IsFaultIn f (received_set c e s) → IsFaultWhere (KnowsWith s (e ∷ [])) f
+receive_fault f s c e h = option_fault f (KnowsWith s (e ∷ [])) (received_set c e s) (λ cover has made is.
     let r = map_some (gtids_with e) (slice_get s.channels c) made is in
     subst (HasSet cover) r.2 (has_insert cover (received_gtids r.0.received) e.gtid (has_received cover s c r.0 has.0 r.1) has.1.0)) h
 
-pub commit_fault : (f : SetFault) (s : State) (seat : ℕ) → IsFaultIn f (committing seat s) → IsFaultWhere (Knows s) f
-commit_fault f s seat h = option_fault f (Knows s) (committing seat s) (λ cover within made is.
-    let r = map_some (λ (x : Held). executing_too s x.gtid) (held s seat) made is in
+pub commit_fault : (f : SetFault) (s : State) (seat : ℕ) → IsFaultIn f (committed_set seat s) → IsFaultWhere (Knows s) f
+commit_fault f s seat h = option_fault f (Knows s) (committed_set seat s) (λ cover within made is.
+    let r = map_some (λ (x : Held). executed_with s x.gtid) (held s seat) made is in
     subst (HasSet cover) r.2 (has_insert cover s.executed r.0.gtid within.executed (within.received r.0.gtid (held_there s seat r.0 r.1)))) h
 
 or_none : (b : Bool) → (b || false) ≡ true → b ≡ true
@@ -412,7 +412,7 @@ pub run_fault : (f : SetFault) (order : Order) (b : BundleValue) (core : Replica
 run_fault f order b core r h = bundle_fault f b (Knows core.state) (knows_all order b core r) h
 
 -- ... by which a commit of some seat is answered
-pub seat_fault : (f : SetFault) (order : Order) (b : BundleValue) (core : Replica) (seat : ℕ) → IsRun order b core → IsFaultIn f (committing seat core.state) → IsBundleFault b f
+pub seat_fault : (f : SetFault) (order : Order) (b : BundleValue) (core : Replica) (seat : ℕ) → IsRun order b core → IsFaultIn f (committed_set seat core.state) → IsBundleFault b f
 seat_fault f order b core seat r h = run_fault f order b core r (commit_fault f core.state seat h)
 
 -- a fault of the first journal, and one of the others

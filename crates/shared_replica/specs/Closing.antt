@@ -57,8 +57,8 @@ pub record ClosedValue : Type 0 where
   pub counts : Tally
 
 -- a book of its own, before any step
-abbrev pub started : Replica → ClosedValue
-started opening = record { opening = opening; steps = []; now = opening; sheets = []; counts = no_tally }
+abbrev pub closed_at_start : Replica → ClosedValue
+closed_at_start opening = record { opening = opening; steps = []; now = opening; sheets = []; counts = no_tally }
 
 -- what the closed book of a shared replica and its passes is
 pub record IsClosed (shared : SharedValue) (passes : List PassValue) (b : ClosedValue) : Type 0 where

@@ -1,7 +1,7 @@
 //! Steps whose reply is not known yet.
 ghost use Rattle.std.specs.Prelude.{◌≡◌, ◌<◌, IfOk, IfErr, OnOk, vec_len};
 ghost use Rattle.std.specs.Vec.{vec_capacity};
-ghost use Rattle.replica_core.specs.Faults.{IsCause, HasRoomFor, made_by};
+ghost use Rattle.replica_core.specs.Faults.{IsCause, HasRoomFor, set_made_by};
 ghost use Rattle.shared_replica.specs.Drafts.{IsDraft};
 ghost use Rattle.shared_replica.specs.History.{line};
 ghost use Rattle.shared_replica.specs.Spare.{IsSpare};
@@ -25,7 +25,7 @@ impl Draft {
     pub(crate) fn of(core: &Core, alloc: Global, event: &Event) -> Result<Draft, SetFault>
         ensures ok { IfOk result (IsDraft core.now event.now) }
         ensures fault { IfErr result (λ f. IsCause f core.now.site core.now.state event.now) }
-        ensures room { IfErr result (λ f. HasRoomFor f (made_by core.now.site core.now.state event.now)) }
+        ensures room { IfErr result (λ f. HasRoomFor f (set_made_by core.now.site core.now.state event.now)) }
     {
         match Draft::copy(core, alloc, event) {
             Ok(draft) => Ok(draft),
@@ -79,7 +79,7 @@ pub(crate) fn drafts_of(
     ensures line { IfOk result (λ d. IsDraft core.now event.now d.line) }
     ensures receipt { IfOk result (λ d. IsDraft core.now event.now d.receipt) }
     ensures fault { IfErr result (λ f. IsCause f core.now.site core.now.state event.now) }
-    ensures memory { IfErr result (λ f. HasRoomFor f (made_by core.now.site core.now.state event.now)) }
+    ensures memory { IfErr result (λ f. HasRoomFor f (set_made_by core.now.site core.now.state event.now)) }
 {
     if steps.reserve(1).is_err() {
         return Err(core.refusal(event));

@@ -1,6 +1,6 @@
 use Rattle.std.proofs.Common.{◌∙◌, sym}
 use Rattle.audit.proofs.Rising.{none_in_gtids}
-use Rattle.audit.proofs.finding.found_in_gtids.Goals as goal
+use Rattle.audit.proofs.finding.find_in_gtids.Goals as goal
 
 pub returns-then-ordered-clause-found : goal.returns-then-ordered-clause-found
 returns-then-ordered-clause-found c =
