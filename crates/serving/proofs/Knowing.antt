@@ -49,7 +49,7 @@ use Rattle.ordered_replicas.proofs.Sharing.{Moves, Brought, run_moves}
 use Rattle.world.proofs.Contents.{entry_at, entry_from}
 use Rattle.ordered_replicas.specs.Deciding.{all_of}
 use Rattle.txn_journal.specs.BundleStates.{BundleValue}
-use Rattle.txn_journal.specs.declared.bundle.Channel.{Channel}
+use Rattle.txn_journal.specs.declared.bundle.BundleChannel.{BundleChannel}
 use Rattle.serving.specs.declared.receiving.Apply.{Apply}
 use Rattle.serving.specs.declared.receiving.Apply.TheVariants.{AtOnce}
 use Rattle.serving.specs.Faults.{Cover, IsFaultWhere, HasGtid, HasSet, IsReceived, Knows, HasEntries, KnowsWith, HasJournal, KnowsToo, intervals_of, IsBundleFault, IsVerdictFault}
@@ -116,21 +116,21 @@ knows_received cover apply r t c entries v h within =
       | inr other ↦ nothing g (ap (λ es. is_entry es g) (sym (no_receipts d r.site r.state v.events (off d other))) ∙ k)
     ]) within)
 
-pub knows_opened : (cover : Cover) (r : Replica) (channel : Channel) → Knows r.state cover → Knows (with_opened r channel).state cover
+pub knows_opened : (cover : Cover) (r : Replica) (channel : BundleChannel) → Knows r.state cover → Knows (with_opened r channel).state cover
 knows_opened cover r channel within = knows_run cover r (OpenChannel channel.name channel.preserve ∷ []) (tt, tt) refl (λ c g h. nothing g h) within
 
-pub knows_asking : (cover : Cover) (r t : Replica) (c : ℕ) (channel : Channel) (j : JournalValue) (es : List Entry) → Asks r c channel j es t → Knows r.state cover → Knows t.state cover
+pub knows_asking : (cover : Cover) (r t : Replica) (c : ℕ) (channel : BundleChannel) (j : JournalValue) (es : List Entry) → Asks r c channel j es t → Knows r.state cover → Knows t.state cover
 knows_asking cover r t c channel j es asks within =
     subst (λ (x : Replica). Knows x.state cover) (sym asks.now) (knows_run cover (with_opened r channel) (Position c ∷ []) (tt, tt) refl (λ d g h. nothing g h) (knows_opened cover r channel within))
 
-pub sends_known : (cover : Cover) (r t : Replica) (c : ℕ) (channel : Channel) (j : JournalValue) (es : List Entry) → Asks r c channel j es t → HasEntries cover j.entries → HasEntries cover es
+pub sends_known : (cover : Cover) (r t : Replica) (c : ℕ) (channel : BundleChannel) (j : JournalValue) (es : List Entry) → Asks r c channel j es t → HasEntries cover j.entries → HasEntries cover es
 sends_known cover r t c channel j es asks h = sent_all (λ (e : Entry). HasGtid cover e.gtid) j asks.ask es asks.all_sent h
 
-pub knows_one : (cover : Cover) (apply : Apply) (r t : Replica) (c : ℕ) (channel : Channel) (j : JournalValue) → ServesOne apply r c channel j t → HasEntries cover j.entries → Knows r.state cover → Knows t.state cover
+pub knows_one : (cover : Cover) (apply : Apply) (r t : Replica) (c : ℕ) (channel : BundleChannel) (j : JournalValue) → ServesOne apply r c channel j t → HasEntries cover j.entries → Knows r.state cover → Knows t.state cover
 knows_one cover apply r t c channel j one h within =
     knows_received cover apply one.asking t c one.all one.received (sends_known cover r one.asking c channel j one.all one.asks h) (knows_asking cover r one.asking c channel j one.all one.asks within)
 
-knows_each : (cover : Cover) (apply : Apply) (r : Replica) (c : ℕ) (channels : List Channel) (js : List JournalValue) (t : Replica) → ServesEach apply r c channels js t
+knows_each : (cover : Cover) (apply : Apply) (r : Replica) (c : ℕ) (channels : List BundleChannel) (js : List JournalValue) (t : Replica) → ServesEach apply r c channels js t
     → AllByRecursion (HasJournal cover) js → Knows r.state cover → Knows t.state cover
 knows_each cover apply r c channels [] t x h within = subst (λ (y : Replica). Knows y.state cover) (sym x) within
 knows_each cover apply r c [] (j ∷ js) t x h within = absurd x
@@ -420,13 +420,13 @@ pub first_fault : (f : SetFault) (s : State) (j : JournalValue) (js journals : L
 first_fault f s j js journals is h =
     subst (λ (xs : List JournalValue). IsFaultWhere (KnowsToo s xs) f) (sym is) (weaker f (KnowsToo s (j ∷ [])) (KnowsToo s (j ∷ js)) (λ cover has. (has.0, (has.1.0, tt))) h)
 
-pub rest_fault : (f : SetFault) (apply : Apply) (r t : Replica) (c : ℕ) (channel : Channel) (j : JournalValue) (js journals : List JournalValue) → journals ≡ j ∷ js → ServesOne apply r c channel j t
+pub rest_fault : (f : SetFault) (apply : Apply) (r t : Replica) (c : ℕ) (channel : BundleChannel) (j : JournalValue) (js journals : List JournalValue) → journals ≡ j ∷ js → ServesOne apply r c channel j t
     → IsFaultWhere (KnowsToo t.state js) f → IsFaultWhere (KnowsToo r.state journals) f
 rest_fault f apply r t c channel j js journals is one h =
     subst (λ (xs : List JournalValue). IsFaultWhere (KnowsToo r.state xs) f) (sym is)
     (weaker f (KnowsToo t.state js) (KnowsToo r.state (j ∷ js)) (λ cover has. (knows_one cover apply r t c channel j one has.1.0.entries has.0, has.1.1)) h)
 
 -- a fault of entries that a journal sends
-pub sent_fault : (f : SetFault) (r t : Replica) (c : ℕ) (channel : Channel) (j : JournalValue) (es : List Entry) → Asks r c channel j es t → IsFaultWhere (KnowsWith t.state es) f → IsFaultWhere (KnowsToo r.state (j ∷ [])) f
+pub sent_fault : (f : SetFault) (r t : Replica) (c : ℕ) (channel : BundleChannel) (j : JournalValue) (es : List Entry) → Asks r c channel j es t → IsFaultWhere (KnowsWith t.state es) f → IsFaultWhere (KnowsToo r.state (j ∷ [])) f
 sent_fault f r t c channel j es asks h =
     weaker f (KnowsWith t.state es) (KnowsToo r.state (j ∷ [])) (λ cover has. (knows_asking cover r t c channel j es asks has.0, sends_known cover r t c channel j es asks has.1.0.entries)) h

@@ -19,7 +19,7 @@ use Rattle.apply_channel.specs.Channels.{most_received}
 use Rattle.serving.specs.Servable.{HaveChannels, FitsJournal, HasRoom, WrittenIsServable}
 use Rattle.txn_journal.specs.Machine.{is_row_of, are_rows_of, takes_change, fits}
 use Rattle.txn_journal.specs.BundleText.{AreNamed, AreBrought, entry_fits}
-use Rattle.txn_journal.specs.declared.bundle.Channel.{Channel}
+use Rattle.txn_journal.specs.declared.bundle.BundleChannel.{BundleChannel}
 use Rattle.std.proofs.lemmas.Bool.{and_parts}
 
 -- ---- a row
@@ -101,7 +101,7 @@ has_room : (n : ℕ) → n ≤ 4294967294 → n ≤ most_received
 unfolding most_received
 has_room n h = h
 
-all_fit : (tables : List Table) (cs : List Channel) (js : List JournalValue) → AreBrought tables cs js → AllByRecursion (FitsJournal tables) js × AllByRecursion HasRoom js
+all_fit : (tables : List Table) (cs : List BundleChannel) (js : List JournalValue) → AreBrought tables cs js → AllByRecursion (FitsJournal tables) js × AllByRecursion HasRoom js
 all_fit tables [] [] h = (tt, tt)
 all_fit tables (c ∷ cs) [] h = absurd h
 all_fit tables [] (j ∷ js) h = absurd h
@@ -109,13 +109,13 @@ all_fit tables (c ∷ cs) (j ∷ js) h =
     let rest = all_fit tables cs js h.1 in
     ((entries_taken tables j.entries h.0.fitting h.0.written.keeps.writable, rest.0), (has_room (length j.entries) h.0.written.few, rest.1))
 
-have_channels : (tables : List Table) (before cs : List Channel) (js : List JournalValue) → AreNamed before cs → AreBrought tables cs js → HaveChannels before cs js
+have_channels : (tables : List Table) (before cs : List BundleChannel) (js : List JournalValue) → AreNamed before cs → AreBrought tables cs js → HaveChannels before cs js
 have_channels tables before [] [] named h = tt
 have_channels tables before (c ∷ cs) [] named h = absurd h
 have_channels tables before [] (j ∷ js) named h = absurd h
 have_channels tables before (c ∷ cs) (j ∷ js) named h = (named.1, have_channels tables (before ++ c ∷ []) cs js named.2 h.1)
 
-as_many : (tables : List Table) (cs : List Channel) (js : List JournalValue) → AreBrought tables cs js → length js ≤ length cs
+as_many : (tables : List Table) (cs : List BundleChannel) (js : List JournalValue) → AreBrought tables cs js → length js ≤ length cs
 as_many tables [] [] h = omega arith
 as_many tables (c ∷ cs) [] h = absurd h
 as_many tables [] (j ∷ js) h = absurd h

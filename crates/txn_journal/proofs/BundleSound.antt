@@ -30,7 +30,7 @@ use Rattle.txn_journal.specs.BundleStates.{BundleValue, BundleStanding, bare, is
 use Rattle.txn_journal.specs.BundleText.{entry_fits, OwnLine, BundleLine, Own, Inner, Heads, Names, Starts, Has, Puts, Opens, Done, bundle_line_text, table_lines, row_lines, channel_lines, channels_lines, opening_set_lines, tables_lines, start_lines, bundle_front, IsOpeningSet, FitsRow, AreAdded, put_all, AreNamed, IsWrittenIn, AreBrought, IsWrittenBundle}
 use Rattle.txn_journal.specs.BundleLinesSoFar.{inner_lines_so_far, bundle_lines_so_far}
 use Rattle.txn_journal.specs.BundleCauses.{own_word, own_wording, EndsMisstamped, bundle_cause_at, HasBundleCause}
-use Rattle.txn_journal.specs.declared.bundle.Channel.{Channel}
+use Rattle.txn_journal.specs.declared.bundle.BundleChannel.{BundleChannel}
 use Rattle.txn_journal.specs.declared.bundle_draft.Part.{Part}
 use Rattle.txn_journal.specs.declared.bundle_draft.Part.TheVariants as parts
 use Rattle.txn_journal.specs.declared.fault.Cause.{Cause}
@@ -59,7 +59,7 @@ pub record NoChannel (b : BundleValue) : Type 0 where
   pub journals : b.journals ≡ []
 
 -- a channel is open
-pub record IsOpen (version : Version) (b : BundleValue) (c : Channel) (draft : Standing) : Type 0 where
+pub record IsOpen (version : Version) (b : BundleValue) (c : BundleChannel) (draft : Standing) : Type 0 where
   pub name : is_name c.name ≡ true
   pub new : has_channel b.channels c.name ≡ false
   pub room : length b.channels < 256
@@ -68,7 +68,7 @@ pub record IsOpen (version : Version) (b : BundleValue) (c : Channel) (draft : S
   pub stamped : draft.stamps ≡ right_stamps version b.start.schema draft.journal.entries
   pub goes_on : is_last draft.place ≡ false
 
-abbrev pub OpenChannel : Version → BundleValue → Option Channel → Standing → Type 0
+abbrev pub OpenChannel : Version → BundleValue → Option BundleChannel → Standing → Type 0
 OpenChannel version b None draft = ⊥
 OpenChannel version b (Some c) draft = IsOpen version b c draft
 
@@ -87,7 +87,7 @@ pub record HasTables (due : Option Version) (version : Version) (tables : List T
   pub opened : IsOpeningSet version b.opened
   pub added : AreAdded [] tables
 
-abbrev pub SoundAt : Part → Option Version → Version → List Table → List TableRow → BundleValue → Option Channel → Standing → Type 0
+abbrev pub SoundAt : Part → Option Version → Version → List Table → List TableRow → BundleValue → Option BundleChannel → Standing → Type 0
 SoundAt parts.Header due version tables rows b channel draft = tables ≡ []
 SoundAt parts.Replica due version tables rows b channel draft = IsBegun due version tables
 SoundAt parts.Opening due version tables rows b channel draft = IsBegun due version tables × (version ≡ Two) × IsSource b.replica
@@ -106,16 +106,16 @@ added_more : (before ts : List Table) (t : Table) → AreAdded before ts → is_
 added_more before [] t h name free = (name, subst (λ (x : List Table). table_fault x t ≡ None) (append-nil before) free, tt)
 added_more before (u ∷ ts) t h name free = (h.0, h.1, added_more (before ++ u ∷ []) ts t h.2 name (subst (λ (x : List Table). table_fault x t ≡ None) (sym (append_assoc before (u ∷ []) ts)) free))
 
-named_more : (before cs : List Channel) (c : Channel) → AreNamed before cs → is_name c.name ≡ true → has_channel (before ++ cs) c.name ≡ false → AreNamed before (cs ++ c ∷ [])
-named_more before [] c h name new = (name, subst (λ (x : List Channel). has_channel x c.name ≡ false) (append-nil before) new, tt)
-named_more before (d ∷ cs) c h name new = (h.0, h.1, named_more (before ++ d ∷ []) cs c h.2 name (subst (λ (x : List Channel). has_channel x c.name ≡ false) (sym (append_assoc before (d ∷ []) cs)) new))
+named_more : (before cs : List BundleChannel) (c : BundleChannel) → AreNamed before cs → is_name c.name ≡ true → has_channel (before ++ cs) c.name ≡ false → AreNamed before (cs ++ c ∷ [])
+named_more before [] c h name new = (name, subst (λ (x : List BundleChannel). has_channel x c.name ≡ false) (append-nil before) new, tt)
+named_more before (d ∷ cs) c h name new = (h.0, h.1, named_more (before ++ d ∷ []) cs c h.2 name (subst (λ (x : List BundleChannel). has_channel x c.name ≡ false) (sym (append_assoc before (d ∷ []) cs)) new))
 
-brought_more : (tables : List Table) (cs : List Channel) (js : List JournalValue) (c : Channel) (j : JournalValue) → AreBrought tables cs js → IsWrittenIn tables j → AreBrought tables (cs ++ c ∷ []) (js ++ j ∷ [])
+brought_more : (tables : List Table) (cs : List BundleChannel) (js : List JournalValue) (c : BundleChannel) (j : JournalValue) → AreBrought tables cs js → IsWrittenIn tables j → AreBrought tables (cs ++ c ∷ []) (js ++ j ∷ [])
 brought_more tables [] [] c j h w = (w, tt)
 brought_more tables (d ∷ cs) (k ∷ js) c j h w = (h.0, brought_more tables cs js c j h.1 w)
 brought_more tables cs js c j h w = absurd h
 
-channels_more : (version : Version) (tables : List Table) (cs : List Channel) (all : List (List ℕ)) (js : List JournalValue) (c : Channel) (stamps : List ℕ) (j : JournalValue) → AreBrought tables cs js → length all ≡ length js
+channels_more : (version : Version) (tables : List Table) (cs : List BundleChannel) (all : List (List ℕ)) (js : List JournalValue) (c : BundleChannel) (stamps : List ℕ) (j : JournalValue) → AreBrought tables cs js → length all ≡ length js
     → channels_lines version (cs ++ c ∷ []) (all ++ stamps ∷ []) (js ++ j ∷ []) ≡ channels_lines version cs all js ++ channel_lines version c stamps j
 channels_more version tables [] [] [] c stamps j h e = append-nil (channel_lines version c stamps j)
 channels_more version tables (d ∷ cs) (ks ∷ all) (k ∷ js) c stamps j h e =
@@ -143,7 +143,7 @@ pub record KeepsBundle (due : Option Version) (old : List BundleLine) (l : Bundl
   pub says : bundle_lines_so_far rows t ≡ old ++ l ∷ []
   pub sound : IsBundleSound rows t
 
-abbrev state : Part → Option Version → Version → List Table → BundleValue → Option Channel → Standing → BundleStanding
+abbrev state : Part → Option Version → Version → List Table → BundleValue → Option BundleChannel → Standing → BundleStanding
 state part due version tables b channel draft = record { part = part; due = due; version = version; tables = tables; bundle = b; channel = channel; draft = draft }
 
 -- the lines of the bundle's whole channels and of what comes before them
@@ -171,7 +171,7 @@ abbrev with_put : BundleStanding → Rows → BundleStanding
 with_put s rows = record s { bundle = record s.bundle { start = with_rows s.bundle.start rows } }
 
 -- one row more
-row_keeps_in : (due : Option Version) (version : Version) (tables : List Table) (rows : List TableRow) (b : BundleValue) (r : TableRow) (channel : Option Channel) (draft : Standing) (old : List BundleLine) (new : Rows) → Front due version rows b old → NoChannel b → FitsRow r → is_image_writable r.row ≡ true → with_opening b.start r ≡ Ok new
+row_keeps_in : (due : Option Version) (version : Version) (tables : List Table) (rows : List TableRow) (b : BundleValue) (r : TableRow) (channel : Option BundleChannel) (draft : Standing) (old : List BundleLine) (new : Rows) → Front due version rows b old → NoChannel b → FitsRow r → is_image_writable r.row ≡ true → with_opening b.start r ≡ Ok new
     → KeepsBundle due old (Own (Puts r)) (with_put (state parts.Rows due version tables b channel draft) new)
 row_keeps_in due version tables rows b r channel draft old new f none fit writable put =
     let c : BundleValue = record b { start = with_rows b.start new } in
@@ -210,7 +210,7 @@ pub none_right : (version : Version) (tables : List Table) → right_stamps vers
 none_right One tables = refl
 none_right Two tables = refl
 
-open_keeps_in : (due : Option Version) (version : Version) (tables : List Table) (rows : List TableRow) (b : BundleValue) (c : Channel) (old : List BundleLine) → Front due version rows b old → is_name c.name ≡ true → length b.channels < 256 → has_channel b.channels c.name ≡ false
+open_keeps_in : (due : Option Version) (version : Version) (tables : List Table) (rows : List TableRow) (b : BundleValue) (c : BundleChannel) (old : List BundleLine) → Front due version rows b old → is_name c.name ≡ true → length b.channels < 256 → has_channel b.channels c.name ≡ false
     → KeepsBundle due old (Own (Opens c)) (state parts.Journal due version tables b (Some c) (empty (Some version)))
 open_keeps_in due version tables rows b c old f name room new = record {
   rows = rows;
@@ -219,7 +219,7 @@ open_keeps_in due version tables rows b c old f name room new = record {
   sound = (f.whole, record { name = name; new = new; room = room; same_version = refl; sound = record { none_stamped = refl; none_counted = refl; none_open = refl }; stamped = sym (none_right version b.start.schema); goes_on = refl });
 }
 
-done_keeps_in : (due : Option Version) (version : Version) (tables : List Table) (rows : List TableRow) (b : BundleValue) (old : List BundleLine) (channel : Option Channel) (draft : Standing) → Front due version rows b old → KeepsBundle due old (Own Done) (state parts.Ended due version tables b channel draft)
+done_keeps_in : (due : Option Version) (version : Version) (tables : List Table) (rows : List TableRow) (b : BundleValue) (old : List BundleLine) (channel : Option BundleChannel) (draft : Standing) → Front due version rows b old → KeepsBundle due old (Own Done) (state parts.Ended due version tables b channel draft)
 done_keeps_in due version tables rows b old channel draft f = record { rows = rows; same_due = refl; says = ap (λ (ls : List BundleLine). ls ++ Own Done ∷ []) (sym f.lines); sound = f.whole }
 
 -- ---- what a line of its own makes, or why it is not taken
@@ -238,7 +238,7 @@ puts_both s line r P k more =
     (MatchResult-weaker put (known_both put _ _ (put_both (after_tables s).bundle.start r)) (λ rows e. e.0) (opening_cause s line r k writable)) (more writable))
     (λ long. (Puts r, k, long))
 
-opens_both : (s : BundleStanding) (line : List ℕ) (c : Channel) (P : BundleStanding → Type 0) → ParsesAsLine (own_wording s) line (Opens c)
+opens_both : (s : BundleStanding) (line : List ℕ) (c : BundleChannel) (P : BundleStanding → Type 0) → ParsesAsLine (own_wording s) line (Opens c)
     → (length s.bundle.channels < 256 → has_channel s.bundle.channels c.name ≡ false → P (record (after_tables s) { part = parts.Journal; channel = Some c; draft = empty (Some s.version) })) → MatchResult (join_channel s c) P (HasCauseBy (own_wording s) line)
 unfolding join_channel
 opens_both s line c P k more =
@@ -253,7 +253,7 @@ table_cause s line shape k causes.Schema h = (Has shape, k, h.0, h.1)
 table_cause s line shape k c h = absurd h
 
 -- a line of its own, at its place
-keeps_own : (part : Part) (due : Option Version) (version : Version) (tables : List Table) (rows : List TableRow) (b : BundleValue) (channel : Option Channel) (draft : Standing) (line : List ℕ) (l : OwnLine)
+keeps_own : (part : Part) (due : Option Version) (version : Version) (tables : List Table) (rows : List TableRow) (b : BundleValue) (channel : Option BundleChannel) (draft : Standing) (line : List ℕ) (l : OwnLine)
     → SoundAt part due version tables rows b channel draft → is_due_in part (own_word l) ≡ true → ParsesAsLine (own_wording (state part due version tables b channel draft)) line l
     → MatchResult (own_put (state part due version tables b channel draft) l) (KeepsBundle due (bundle_lines_so_far rows (state part due version tables b channel draft)) (Own l)) (HasCauseBy (own_wording (state part due version tables b channel draft)) line)
 unfolding own_put
@@ -299,7 +299,7 @@ keeps_own part due version tables rows b channel draft line l h is k = absurd cc
 
 -- ---- a line of the open journal
 
-inner_more : (c : Channel) (before : List BundleLine) (old new : List Line) (l : Line) → new ≡ old ++ l ∷ [] → before ++ (Own (Opens c) ∷ map Inner new) ≡ (before ++ (Own (Opens c) ∷ map Inner old)) ++ Inner l ∷ []
+inner_more : (c : BundleChannel) (before : List BundleLine) (old new : List Line) (l : Line) → new ≡ old ++ l ∷ [] → before ++ (Own (Opens c) ∷ map Inner new) ≡ (before ++ (Own (Opens c) ∷ map Inner old)) ++ Inner l ∷ []
 inner_more c before old new l e =
     ap (λ (ls : List Line). before ++ (Own (Opens c) ∷ map Inner ls)) e
     ∙ ap (λ (ls : List BundleLine). before ++ (Own (Opens c) ∷ ls)) (map_push Inner old l)
@@ -311,7 +311,7 @@ pub record InnerTaken (due : Option Version) (old : List BundleLine) (line : Lis
   pub keeps : KeepsBundle due old l t
 
 -- a bundle with one channel more
-pub channel_written : (version : Version) (rows : List TableRow) (b : BundleValue) (c : Channel) (draft : Standing) (j : JournalValue) → IsWrittenBundle version rows b → IsOpen version b c draft → IsWritten j → list_all (entry_fits b.start.schema) j.entries ≡ true → IsWrittenBundle version rows (with_journal (Some c) b j)
+pub channel_written : (version : Version) (rows : List TableRow) (b : BundleValue) (c : BundleChannel) (draft : Standing) (j : JournalValue) → IsWrittenBundle version rows b → IsOpen version b c draft → IsWritten j → list_all (entry_fits b.start.schema) j.entries ≡ true → IsWrittenBundle version rows (with_journal (Some c) b j)
 channel_written version rows b c draft j w o written fitting = record {
   replica = w.replica;
   opened = w.opened;
@@ -323,7 +323,7 @@ channel_written version rows b c draft j w o written fitting = record {
 }
 
 -- its lines, with any numbers of the last journal
-pub channel_front : (version : Version) (rows : List TableRow) (b : BundleValue) (c : Channel) (stamps : List ℕ) (j : JournalValue) → AreBrought b.start.schema b.channels b.journals
+pub channel_front : (version : Version) (rows : List TableRow) (b : BundleValue) (c : BundleChannel) (stamps : List ℕ) (j : JournalValue) → AreBrought b.start.schema b.channels b.journals
     → bundle_front version rows (all_stamps version b.start.schema b.journals ++ stamps ∷ []) (with_journal (Some c) b j) ≡ front version rows b ++ channel_lines version c stamps j
 channel_front version rows b c stamps j h =
     let start = start_lines version rows b in
@@ -332,7 +332,7 @@ channel_front version rows b c stamps j h =
     ∙ sym (append_assoc start (channels_lines version b.channels all b.journals) (channel_lines version c stamps j))
 
 -- with the numbers that it has to have
-pub right_front : (version : Version) (rows : List TableRow) (b : BundleValue) (c : Channel) (stamps : List ℕ) (j : JournalValue) → AreBrought b.start.schema b.channels b.journals → stamps ≡ right_stamps version b.start.schema j.entries
+pub right_front : (version : Version) (rows : List TableRow) (b : BundleValue) (c : BundleChannel) (stamps : List ℕ) (j : JournalValue) → AreBrought b.start.schema b.channels b.journals → stamps ≡ right_stamps version b.start.schema j.entries
     → front version rows (with_journal (Some c) b j) ≡ front version rows b ++ channel_lines version c stamps j
 right_front version rows b c stamps j h e =
     (λ i. bundle_front version rows (map_push (λ k. right_stamps version b.start.schema k.entries) b.journals j i) (with_journal (Some c) b j))
@@ -346,7 +346,7 @@ version_is Two Two e = refl
 version_is One Two e = absurd cc
 version_is Two One e = absurd cc
 
-closed_keeps : (due : Option Version) (version : Version) (tables : List Table) (rows : List TableRow) (b : BundleValue) (c : Channel) (old d : Standing) (l : Line) → IsDueBundle due version rows b → IsOpen version b c old → lines_so_far d ≡ lines_so_far old ++ l ∷ [] → IsSound (Some b.start.schema) d → d.due ≡ Some version
+closed_keeps : (due : Option Version) (version : Version) (tables : List Table) (rows : List TableRow) (b : BundleValue) (c : BundleChannel) (old d : Standing) (l : Line) → IsDueBundle due version rows b → IsOpen version b c old → lines_so_far d ≡ lines_so_far old ++ l ∷ [] → IsSound (Some b.start.schema) d → d.due ≡ Some version
     → d.stamps ≡ right_stamps version b.start.schema d.journal.entries → is_last d.place ≡ true
     → KeepsBundle due (front version rows b ++ (Own (Opens c) ∷ map Inner (lines_so_far old))) (Inner l) (state parts.Channels due version tables (with_journal (Some c) b d.journal) None (empty (Some version)))
 closed_keeps due version tables rows b c old d l w o says sound same stamped last =
@@ -362,7 +362,7 @@ closed_keeps due version tables rows b c old d l w o says sound same stamped las
       sound = record { due_version = w.due_version; written = channel_written version rows b c old d.journal w.written o e.written e.whole.fitting };
     }
 
-open_still : (due : Option Version) (version : Version) (tables : List Table) (rows : List TableRow) (b : BundleValue) (c : Channel) (old d : Standing) (l : Line) → IsDueBundle due version rows b → IsOpen version b c old → lines_so_far d ≡ lines_so_far old ++ l ∷ [] → IsSound (Some b.start.schema) d → d.due ≡ Some version
+open_still : (due : Option Version) (version : Version) (tables : List Table) (rows : List TableRow) (b : BundleValue) (c : BundleChannel) (old d : Standing) (l : Line) → IsDueBundle due version rows b → IsOpen version b c old → lines_so_far d ≡ lines_so_far old ++ l ∷ [] → IsSound (Some b.start.schema) d → d.due ≡ Some version
     → d.stamps ≡ right_stamps version b.start.schema d.journal.entries → is_last d.place ≡ false
     → KeepsBundle due (front version rows b ++ (Own (Opens c) ∷ map Inner (lines_so_far old))) (Inner l) (state parts.Journal due version tables b (Some c) d)
 open_still due version tables rows b c old d l w o says sound same stamped more = record {
@@ -429,7 +429,7 @@ misstamped_cause version tables s d line l text due goes e =
     let end = ends_entry s d l due goes p.0 (not-true (is_within d.place) q.0) in
     (text ∙ ap line_text end, within_is s.place p.0, λ same. (let k = sym (eq-eqb s.stamp right same) ∙ not-true (eqb s.stamp right) q.1 in cc))
 
-keeps_inner : (due : Option Version) (version : Version) (tables : List Table) (rows : List TableRow) (b : BundleValue) (channel : Option Channel) (draft : Standing) (line : List ℕ) → IsDueBundle due version rows b → OpenChannel version b channel draft
+keeps_inner : (due : Option Version) (version : Version) (tables : List Table) (rows : List TableRow) (b : BundleValue) (channel : Option BundleChannel) (draft : Standing) (line : List ℕ) → IsDueBundle due version rows b → OpenChannel version b channel draft
     → MatchResult (judge_inner true (state parts.Journal due version tables b channel draft) line) (InnerTaken due (front version rows b ++ inner_lines_so_far channel draft) line) (bundle_cause_at parts.Journal (state parts.Journal due version tables b channel draft) line)
 unfolding judge_inner after_inner
 keeps_inner due version tables rows b None draft line w o = absurd o
@@ -453,14 +453,14 @@ keeps_inner due version tables rows b (Some c) draft line w o =
       ] refl;
     }))
 
-own_taken : (part : Part) (due : Option Version) (version : Version) (tables : List Table) (rows : List TableRow) (b : BundleValue) (channel : Option Channel) (draft : Standing) (line : List ℕ) → SoundAt part due version tables rows b channel draft
+own_taken : (part : Part) (due : Option Version) (version : Version) (tables : List Table) (rows : List TableRow) (b : BundleValue) (channel : Option BundleChannel) (draft : Standing) (line : List ℕ) → SoundAt part due version tables rows b channel draft
     → MatchResult (judge_own (state part due version tables b channel draft) line) (InnerTaken due (bundle_lines_so_far rows (state part due version tables b channel draft)) line) (HasCauseBy (own_wording (state part due version tables b channel draft)) line)
 own_taken part due version tables rows b channel draft line h =
     let s = state part due version tables b channel draft in
     rw (own_reads s line) (judged_both (own_wording s) (own_body s.due) (own_laws s) (InnerTaken due (bundle_lines_so_far rows s) line) (own_put s) line
     (λ l k. MatchResult-weaker (own_put s l) (keeps_own part due version tables rows b channel draft line l h k.due k) (λ t m. record { l = Own l; text = k.text; keeps = m }) (λ c m. m)))
 
-taken_at : (part : Part) (due : Option Version) (version : Version) (tables : List Table) (rows : List TableRow) (b : BundleValue) (channel : Option Channel) (draft : Standing) (line : List ℕ) → SoundAt part due version tables rows b channel draft
+taken_at : (part : Part) (due : Option Version) (version : Version) (tables : List Table) (rows : List TableRow) (b : BundleValue) (channel : Option BundleChannel) (draft : Standing) (line : List ℕ) → SoundAt part due version tables rows b channel draft
     → MatchResult (judge_part part true (state part due version tables b channel draft) line) (InnerTaken due (bundle_lines_so_far rows (state part due version tables b channel draft)) line) (bundle_cause_at part (state part due version tables b channel draft) line)
 taken_at parts.Journal due version tables rows b channel draft line h = keeps_inner due version tables rows b channel draft line h.0 h.1
 taken_at part due version tables rows b channel draft line h = own_taken part due version tables rows b channel draft line h

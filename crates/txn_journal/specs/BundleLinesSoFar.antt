@@ -6,12 +6,12 @@ use Rattle.txn_journal.specs.BundleText.{BundleLine, Own, Inner, Heads, Names, O
 use Rattle.txn_journal.specs.Stamps.{all_stamps}
 use Rattle.txn_journal.specs.LinesSoFar.{lines_so_far}
 use Rattle.txn_journal.specs.Machine.{Standing}
-use Rattle.txn_journal.specs.declared.bundle.Channel.{Channel}
+use Rattle.txn_journal.specs.declared.bundle.BundleChannel.{BundleChannel}
 use Rattle.txn_journal.specs.declared.bundle_draft.Part.{Part}
 use Rattle.txn_journal.specs.declared.bundle_draft.Part.TheVariants as parts
 
 -- the channel that is open, and the lines of its journal so far
-abbrev pub inner_lines_so_far : Option Channel → Standing → List BundleLine
+abbrev pub inner_lines_so_far : Option BundleChannel → Standing → List BundleLine
 inner_lines_so_far None draft = []
 inner_lines_so_far (Some c) draft = Own (Opens c) ∷ map Inner (lines_so_far draft)
 

@@ -11,7 +11,7 @@ use std::marker::Model;
 
 /// A channel of a replica.
 #[derive(Drop)]
-pub struct Channel {
+pub struct BundleChannel {
     /// Names it within its replica.
     pub name: Name,
     /// Whether its transactions commit in the order of their places.
@@ -86,7 +86,7 @@ impl Bundle {
     }
 
     /// The channels, in order.
-    pub fn channels(&self) -> &[Channel]
+    pub fn channels(&self) -> &[BundleChannel]
         ensures { result.now ≡ self.now.channels }
     {
         self.parts.channels()

@@ -8,7 +8,7 @@ ghost use Rattle.txn_journal.specs.BundleText.{upgrade_of, Names, Starts, Has, P
 ghost use Rattle.txn_journal.specs.Texts.{columns_behind, uniques_text, tables_text, rows_text, channel_and_journal_text, channels_and_journals_text, head_text, start_text};
 ghost use Rattle.txn_journal.specs.declared.lines.Version.TheVariants.{Two};
 
-use crate::bundle::{Bundle, Channel};
+use crate::bundle::{Bundle, BundleChannel};
 use crate::writer::{write_image, write_journal_v2, write_next_number, write_number, write_set};
 use gtid_set::GtidSet;
 use gtid_text::{SourceId, write_source};
@@ -142,7 +142,7 @@ fn write_rows(alloc: Global, out: &mut String, rows: &[TableRow]) -> Result<(), 
 
 /// Appends the line of a channel.
 #[tactic(auto, using(crate::proofs::BundleWriting::preserving_appended, crate::proofs::BundleWriting::channel_appended))]
-fn write_channel(out: &mut String, channel: &Channel) -> Result<(), AllocError>
+fn write_channel(out: &mut String, channel: &BundleChannel) -> Result<(), AllocError>
     ensures { OnOk result (string_bytes out.new ≡ string_bytes out.old ++ ended_bundle_line (Own (Opens channel.now))) }
 {
     out.push_str("channel ")?;
@@ -160,7 +160,7 @@ fn write_channel_and_journal(
     alloc: Global,
     out: &mut String,
     schema: &Schema,
-    channel: &Channel,
+    channel: &BundleChannel,
     journal: &Journal,
 ) -> Result<(), AllocError>
     ensures { OnOk result (string_bytes out.new ≡ string_bytes out.old ++ channel_and_journal_text schema.now channel.now journal.now) }
@@ -174,7 +174,7 @@ fn write_channels(
     alloc: Global,
     out: &mut String,
     schema: &Schema,
-    channels: &[Channel],
+    channels: &[BundleChannel],
     journals: &[Journal],
 ) -> Result<(), AllocError>
     ensures { OnOk result (string_bytes out.new ≡ string_bytes out.old ++ channels_and_journals_text schema.now channels.now journals.now) }
