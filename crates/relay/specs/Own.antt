@@ -20,11 +20,11 @@ pub record OwnValue : Type 0 where
 abbrev pub without_last : JournalValue → JournalValue
 without_last journal = record journal { entries = take (length journal.entries - 1) journal.entries }
 
--- ... and with one entry more
+-- a journal with one entry more
 abbrev pub with_last : Entry → JournalValue → JournalValue
 with_last entry journal = record journal { entries = journal.entries ++ entry ∷ [] }
 
--- ... and with its first entries purged
+-- a journal with its first entries purged
 abbrev pub purge_to : ℕ → JournalValue → JournalValue
 purge_to count journal = record { previous = previous_after_purge count journal; entries = drop count journal.entries }
 

@@ -18,7 +18,7 @@ use Rattle.replica_core.specs.Draining.{NothingIsOwned}
 abbrev pub received_and_taken : Site → ℕ → ℕ → ℕ → Entry → State → State
 received_and_taken site seat c p e s = after site s (Receive c e ∷ Take seat c p ∷ [])
 
--- ... and commits what it has
+-- a channel receives an entry, and a seat takes a place and commits it
 abbrev pub received_and_committed : Site → ℕ → ℕ → ℕ → Entry → State → State
 received_and_committed site seat c p e s = after site s (Receive c e ∷ Take seat c p ∷ Commit seat ∷ [])
 

@@ -35,7 +35,7 @@ received_set c entry s = option_map (gtids_with entry) (slice_get s.channels c)
 abbrev pub committed_set : ℕ → State → Option Gtids
 committed_set seat s = option_map (λ h. executed_with s h.gtid) (held s seat)
 
--- ... with the next number of the own UUID
+-- the executed set with the next GTID of the own UUID
 abbrev pub numbered_set : Site → State → Option Gtids
 numbered_set site s = option_map (λ n. executed_with s (gtid site.own n)) (next_number site s)
 

@@ -42,7 +42,7 @@ ask s channel = set.union s.executed (received_gtids channel.received)
 abbrev pub is_open : State → Received → Bool
 is_open s e = not (set.contains s.executed e.gtid)
 
--- ... and that shares a key with a transaction
+-- an earlier entry whose GTID is not executed, and that shares a key with a transaction
 abbrev pub is_in_the_way : List Table → State → Transaction → Received → Bool
 is_in_the_way schema s t e = is_open s e && option_map_or (λ u. shares_key schema u t) e.txn false
 

@@ -71,7 +71,7 @@ pub record Asks (r : Replica) (c : ℕ) (channel : BundleChannel) (journal : Jou
   pub all_sent : sent journal ask None ≡ Ok all
   pub now : t ≡ run (with_opened r channel) (Position c ∷ [])
 
--- ... and it receives all of this
+-- a channel is opened under this number and positioned, and receives all that its source sends
 pub record ServesOne (apply : Apply) (r : Replica) (c : ℕ) (channel : BundleChannel) (journal : JournalValue) (t : Replica) : Type 0 where
   pub all : List Entry
   pub asking : Replica
@@ -92,11 +92,11 @@ opening b = new_replica_with b.replica b.start b.opened
 abbrev pub HasReceived : Order → Apply → BundleValue → Replica → Type 0
 HasReceived order apply b core = (keys_over order b ≡ Sound) × ServesEach apply (opening b) 0 b.channels b.journals core
 
--- ... of which nothing is applied
+-- the replica of a bundle whose keys are sound has received all that its journals send, and has applied nothing
 abbrev pub IsReady : Order → BundleValue → Replica → Type 0
 IsReady order b core = HasReceived order Later b core
 
--- ... of which something may be applied: seats took, committed and rolled back while it came, and afterwards
+-- the replica of a bundle whose keys are sound has received all that its journals send, and may have applied some of it: seats took, committed and rolled back while it came, and afterwards
 pub record IsRun (order : Order) (b : BundleValue) (core : Replica) : Type 0 where
   pub apply : Apply
   pub served : Replica

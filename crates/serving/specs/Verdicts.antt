@@ -36,7 +36,7 @@ abbrev pub verdict_by : Order → World → List JournalValue → Verdict
 verdict_by BySource world journals = verdict world journals
 verdict_by ByConflict world journals = in_order.verdict_in_order world journals
 
--- ... and without applying a transaction
+-- the verdict of that audit without the application of transactions
 abbrev pub keys_by : Order → World → List JournalValue → Verdict
 keys_by BySource world journals = verdict_of_keys world journals
 keys_by ByConflict world journals = in_order.verdict_of_keys world journals
