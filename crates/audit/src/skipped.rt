@@ -85,7 +85,7 @@ fn without_verdict(alloc: Global, missing: GtidSet, verdict: &Verdict) -> Result
 
 impl World {
     /// The numbers that are passed over before what is in the journals.
-    fn skipped(&self, alloc: Global, journals: &[Journal]) -> Result<GtidSet, SetFault>
+    fn skipped_numbers(&self, alloc: Global, journals: &[Journal]) -> Result<GtidSet, SetFault>
         ensures ok { IfOk result (λ skipped. skipped ≡ skipped_in self.now journals.now) }
         ensures fault { IfErr result (IsPartFault (skipped_in self.now journals.now)) }
     {
@@ -110,7 +110,7 @@ impl World {
         if ordered {
             return Ok(GtidSet::empty(alloc));
         }
-        let skipped = self.skipped(alloc, journals)?;
+        let skipped = self.skipped_numbers(alloc, journals)?;
         skipped.subtract(alloc, self.opening_set())
     }
 

@@ -5,7 +5,7 @@ use Rattle.std.proofs.lemmas.Result.{IfOk-weaker}
 use Rattle.gtid_set.specs.Sets.{Gtids}
 use Rattle.audit.specs.Others.{IsPartFault}
 use Rattle.audit.proofs.Parts.{skips_brought}
-use Rattle.audit.proofs.sources.World.skipped.Goals as goal
+use Rattle.audit.proofs.sources.World.skipped_numbers.Goals as goal
 
 pub returns-in-Some-clause-ok : goal.returns-in-Some-clause-ok
 returns-in-Some-clause-ok c =
