@@ -5,7 +5,7 @@ ghost use Rattle.audit.specs.Gaps.{needs_in, is_recorded};
 ghost use Rattle.audit.specs.OtherGaps.{Gap, first_absent, gap_of_verdict, gaps_among, gaps_in, other_gaps, unreported, with_gap};
 ghost use Rattle.audit.specs.Ordered.{AreInOrder};
 
-use crate::gaps::stands;
+use crate::gaps::is_recorded;
 use crate::needs::Needs;
 use crate::sources::World;
 use crate::standing::Standing;
