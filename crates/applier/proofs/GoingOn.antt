@@ -6,7 +6,7 @@ use Rattle.gtid_set.specs.declared.fault.SetFault.{SetFault}
 use Rattle.shared_replica.specs.declared.step.Receipt.{Receipt}
 use Rattle.replica_core.specs.declared.event.Event.TheVariants.{Take}
 use Rattle.shared_replica.specs.declared.taking.Taking.{Taking}
-use Rattle.shared_replica.specs.Passes.{PassValue, IsTold, Makes, MakesTaking, receipt}
+use Rattle.shared_replica.specs.Passes.{PassValue, HasReceipt, Makes, MakesTaking, receipt}
 use Rattle.applier.specs.Applies.{IsApply, AreApply, GoesOn}
 
 pub goes_self : (p : PassValue) → GoesOn p p
@@ -24,7 +24,7 @@ goes_further a b c p q = record {
   apply = are_both p.more q.more p.apply q.apply;
 }
 
-pub goes_one : (a b : PassValue) (e : Event) (r : Reply) → IsApply e → IsTold a e r b → GoesOn a b
+pub goes_one : (a b : PassValue) (e : Event) (r : Reply) → IsApply e → HasReceipt a e r b → GoesOn a b
 goes_one a b e r ok told = record {
   seat = ap (λ (h : PassValue). h.seat) told.1;
   more = receipt told.0 e r ∷ [];

@@ -2,7 +2,7 @@
 use Rattle.std.specs.Prelude.{◌≡◌, ℕ, ⊤, List, [], ◌∷◌, ◌++◌}
 use Rattle.gtid_set.specs.declared.fault.SetFault.{SetFault}
 use Rattle.replica_core.specs.State.{State}
-use Rattle.replica_core.specs.Faults.{IsFaultIn, committing}
+use Rattle.replica_core.specs.Faults.{IsFaultIn, committed_set}
 use Rattle.shared_replica.specs.declared.step.Step.{Step}
 use Rattle.shared_replica.specs.Closing.{ClosedValue}
 use Rattle.applier.specs.Applies.{IsApply}
@@ -22,4 +22,4 @@ pub record Drains (old new : ClosedValue) : Type 0 where
 
 -- a fault that a Commit of some seat may have: memory was refused, or the executed set would have too many sources or intervals
 abbrev pub IsCommitFault : SetFault → State → Type 0
-IsCommitFault f s = (seat : ℕ) × IsFaultIn f (committing seat s)
+IsCommitFault f s = (seat : ℕ) × IsFaultIn f (committed_set seat s)

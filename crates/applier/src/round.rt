@@ -54,12 +54,12 @@ impl Round {
     }
 
     /// Notes whether its own deque had a ticket.
-    pub(crate) fn popped(&mut self, some: bool) {
+    pub(crate) fn note_pop(&mut self, some: bool) {
         self.dry = !some;
     }
 
     /// Whether its own deque had no ticket when it last asked.
-    pub(crate) fn is_dry(&self) -> bool {
+    pub(crate) fn found_no_ticket(&self) -> bool {
         self.dry
     }
 

@@ -79,7 +79,7 @@ fn next_place<N: Naming, G: Gate, R: Wait>(
     round: &mut Round,
 ) -> Option<Ticket> {
     let own = hand.pop();
-    round.popped(own.is_some());
+    round.note_pop(own.is_some());
     let ticket = match own {
         Some(ticket) => ticket,
         None => match steal_ticket(hand, me) {
@@ -114,7 +114,7 @@ fn put_ready<N: Naming, R: Wait>(
     hand: &mut Hand,
     round: &Round,
 ) {
-    if !round.is_dry() {
+    if !round.found_no_ticket() {
         return;
     }
     for channel in 0..round.known_channels() {

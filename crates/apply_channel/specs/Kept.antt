@@ -41,7 +41,7 @@ AreNodesOf schema (p ∷ ps) (e ∷ es) = IsNodeOf schema p e × AreNodesOf sche
 abbrev pub is_open_of : Gtid → Received → Bool
 is_open_of g e = is_some e.txn && same_gtid e.gtid g
 
--- ... at a place
+-- the entry at a place is one of a GTID that is not executed
 abbrev pub is_open_at : Gtid → List Received → ℕ → Bool
 is_open_at g es place = option_map_or (is_open_of g) (slice_get es place) false
 

@@ -15,7 +15,7 @@ use Rattle.journal.specs.Journals.{JournalValue}
 use Rattle.source_history.specs.World.{World, content, is_opened}
 use Rattle.source_history.specs.World as history
 use Rattle.world.specs.declared.verdict.Verdict.TheVariants.{Unequal}
-use Rattle.world.specs.Audit.{all_entries, first_contents, stands_in, is_content, is_unequal, unequal}
+use Rattle.world.specs.Audit.{all_entries, first_contents, is_recorded_in, is_content, is_unequal, unequal}
 use Rattle.world.proofs.Finding.{when_none, first_none, taken}
 use Rattle.world.proofs.Contents.{content_at, entry_at, entry_from, entry_content, in_all, of_all, some_of}
 use Rattle.ordered_journals.proofs.Lists.{get_take}
@@ -97,19 +97,19 @@ whole_world world journals beyond equal all =
 
 -- the GTIDs whose places are marked are those of these entries
 abbrev pub AreMarked : Contents → List Entry → List Bool → Type 0
-AreMarked contents es marks = (place : ℕ) (e : Entry) → slice_get (in_order contents) place ≡ Some e → get_or marks place false ≡ true → stands_in es e.gtid ≡ true
+AreMarked contents es marks = (place : ℕ) (e : Entry) → slice_get (in_order contents) place ≡ Some e → get_or marks place false ≡ true → is_recorded_in es e.gtid ≡ true
 
 -- a GTID of the first entries is one of more entries
-later : (es : List Entry) (i : ℕ) (g : Gtid) → stands_in (take i es) g ≡ true → stands_in (take (i + 1) es) g ≡ true
+later : (es : List Entry) (i : ℕ) (g : Gtid) → is_recorded_in (take i es) g ≡ true → is_recorded_in (take (i + 1) es) g ≡ true
 later es i g h =
     let a = entry_at (take i es) g h in
     let b = taken es i a.0 a.1 a.2 in
-    subst (λ (x : Gtid). stands_in (take (i + 1) es) x ≡ true) a.3 (entry_from (take (i + 1) es) a.0 a.1 (get_take es (i + 1) a.0 a.1 b.0 (less a.0 i b.1)))
+    subst (λ (x : Gtid). is_recorded_in (take (i + 1) es) x ≡ true) a.3 (entry_from (take (i + 1) es) a.0 a.1 (get_take es (i + 1) a.0 a.1 b.0 (less a.0 i b.1)))
   where
     less : (a b : ℕ) → a < b → a < b + 1
     less a b l = omega arith
 
-arrives : (es : List Entry) (i : ℕ) (x : Entry) → slice_get es i ≡ Some x → stands_in (take (i + 1) es) x.gtid ≡ true
+arrives : (es : List Entry) (i : ℕ) (x : Entry) → slice_get es i ≡ Some x → is_recorded_in (take (i + 1) es) x.gtid ≡ true
 arrives es i x h = entry_from (take (i + 1) es) i x (get_take es (i + 1) i x h (itself i))
   where
     itself : (n : ℕ) → n < n + 1
@@ -129,7 +129,7 @@ module _ (contents : Contents) (es : List Entry) (i : ℕ) (old marks : List Boo
   marked_too x place new here is_place one k e there marked = elim (one k marked) [
     | inl same ↦
         let is : is_place.entry ≡ e = same_Some is_place.entry e (sym is_place.there ∙ (ap (slice_get (in_order contents)) (sym same) ∙ there)) in
-        inr (subst (λ (g : Gtid). stands_in (take (i + 1) es) g ≡ true) (sym is_place.named ∙ ap (λ (y : Entry). y.gtid) is) (arrives es i x here))
+        inr (subst (λ (g : Gtid). is_recorded_in (take (i + 1) es) g ≡ true) (sym is_place.named ∙ ap (λ (y : Entry). y.gtid) is) (arrives es i x here))
     | inr before ↦ passed_over k e there before
   ]
 
@@ -141,7 +141,7 @@ one_set marks place k h = by (eqb k place) refl
     by false e = inr (sym (get_or-set_other marks place k true false (λ same. not_both (eqb k place) (eq-eqb k place same) e)) ∙ h)
 
 -- of journals
-later_journal : (js : List JournalValue) (i : ℕ) (g : Gtid) → stands_in (all_entries (take i js)) g ≡ true → stands_in (all_entries (take (i + 1) js)) g ≡ true
+later_journal : (js : List JournalValue) (i : ℕ) (g : Gtid) → is_recorded_in (all_entries (take i js)) g ≡ true → is_recorded_in (all_entries (take (i + 1) js)) g ≡ true
 later_journal js i g h =
     let a = in_all (take i js) g h in
     let b = taken js i a.0 a.1 a.2 in

@@ -26,12 +26,12 @@ use Rattle.source_history.proofs.Gtids.{number_less}
 use Rattle.source_history.proofs.Entries.{rising}
 use Rattle.world.specs.declared.verdict.Verdict.TheVariants.{NotClosed}
 use Rattle.world.specs.Search.{or_next, when, first_at}
-use Rattle.world.specs.Audit.{unequal, purged, stands_in, stands_before, is_left_out, not_closed}
+use Rattle.world.specs.Audit.{unequal, purged, is_recorded_in, is_recorded_before, is_left_out, not_closed}
 use Rattle.world.specs.Folds.{FirstTouch, touched_by, last_toucher, has_gap, least_left_out}
 use Rattle.world.proofs.Finding.{none_when, none_first, filtered, left_by_filter, below_test}
 use Rattle.world.proofs.Contents.{content_at}
 use Rattle.world.proofs.Gaps.{guarded, latest_in, latest_over, content_here, nothing_left_out, firsts_same}
-use Rattle.audit.specs.Gaps.{stands, lacks, gap_at, gap_among, first_gap, Needs, needs_over}
+use Rattle.audit.specs.Gaps.{is_recorded, lacks, gap_at, gap_among, first_gap, Needs, needs_over}
 use Rattle.audit.specs.Worlds.{LieBeyond}
 use Rattle.audit.proofs.Needing.{rises, needs_are}
 use mathlib.Core.Bool.{or_assoc, or-false}
@@ -46,13 +46,13 @@ use Rattle.world.proofs.Meanings.{le_cases}
 
 module _ (world : World) (needs : Needs) (previous : Gtids) where
   gap_pass : (es : List Entry) (standing : Gtids) (T : Gtid → Bool) → ((g : Gtid) → set.contains standing g ≡ T g)
-      → gap_among world needs previous standing es ≡ first_at (λ place e. gap_at world needs (λ g. set.contains previous g || (T g || stands_in (take place es) g)) e) es
+      → gap_among world needs previous standing es ≡ first_at (λ place e. gap_at world needs (λ g. set.contains previous g || (T g || is_recorded_in (take place es) g)) e) es
   gap_pass [] standing T same = refl
   gap_pass (e ∷ es) standing T same =
-      let one : (g : Gtid) → stands previous standing g ≡ (set.contains previous g || (T g || false)) = λ g i. set.contains previous g || (same g ∙ sym (or-false (T g))) i in
+      let one : (g : Gtid) → is_recorded previous standing g ≡ (set.contains previous g || (T g || false)) = λ g i. set.contains previous g || (same g ∙ sym (or-false (T g))) i in
       let rest = gap_pass es (set.insert standing e.gtid) (λ g. T g || same_gtid g e.gtid) (λ g.
       contains-insert gtid_total standing e.gtid g ∙ (λ i. gtid_tied g e.gtid i || same g i) ∙ swapped (same_gtid g e.gtid) (T g)) in
-      λ i. or_next (gap_at world needs (λ g. one g i) e) ((rest ∙ (λ k. first_at (λ place x. gap_at world needs (λ g. set.contains previous g || or_assoc (T g) (same_gtid g e.gtid) (stands_in (take place es) g) k) x) es)) i)
+      λ i. or_next (gap_at world needs (λ g. one g i) e) ((rest ∙ (λ k. first_at (λ place x. gap_at world needs (λ g. set.contains previous g || or_assoc (T g) (same_gtid g e.gtid) (is_recorded_in (take place es) g) k) x) es)) i)
     where
       swapped : (a b : Bool) → (a || b) ≡ (b || a)
       swapped true true = refl
@@ -61,10 +61,10 @@ module _ (world : World) (needs : Needs) (previous : Gtids) where
       swapped false false = refl
 
   -- at each entry what is present is the previous set with the entries before
-  journal_pass : (j : JournalValue) → j.previous ≡ previous → gap_among world needs previous set.empty j.entries ≡ first_at (λ place e. gap_at world needs (stands_before j place) e) j.entries
+  journal_pass : (j : JournalValue) → j.previous ≡ previous → gap_among world needs previous set.empty j.entries ≡ first_at (λ place e. gap_at world needs (is_recorded_before j place) e) j.entries
   journal_pass j e =
       gap_pass j.entries set.empty (λ g. false) (λ g. contains-empty gtid_cmp g)
-      ∙ ap (λ (p : Gtids). first_at (λ place x. gap_at world needs (λ g. set.contains p g || stands_in (take place j.entries) g) x) j.entries) (sym e)
+      ∙ ap (λ (p : Gtids). first_at (λ place x. gap_at world needs (λ g. set.contains p g || is_recorded_in (take place j.entries) g) x) j.entries) (sym e)
 
 and_false : (a b : Bool) → a ≡ true → (a && b) ≡ false → b ≡ false
 and_false true b x y = y
@@ -93,14 +93,14 @@ module _ (w : World) (outside : (g : Gtid) (t : Transaction) → content w g ≡
 
   module _ (equal : unequal w journals ≡ None) (none_purged : purged w journals ≡ None) (i : ℕ) (j : JournalValue) (hj : slice_get journals i ≡ Some j) where
     -- an entry that lacks nothing has no gap
-    no_gap : (place : ℕ) (e : Entry) → slice_get j.entries place ≡ Some e → is_opened w e.gtid ≡ false → lacks needed (stands_before j place) e.gtid ≡ false → has_gap w j place e ≡ false
+    no_gap : (place : ℕ) (e : Entry) → slice_get j.entries place ≡ Some e → is_opened w e.gtid ≡ false → lacks needed (is_recorded_before j place) e.gtid ≡ false → has_gap w j place e ≡ false
     no_gap place e he out full = false_from_ne_true (has_gap w j place e) (λ gap.
-        let some = and_parts (not (is_opened w e.gtid)) (list_any (λ key. option_map_or (λ (h : history.Entry). not (stands_before j place h.0)) (last_toucher w e.gtid key) false) (write_set w.schema e.txn)) gap in
-        let k = any_at (λ key. option_map_or (λ (h : history.Entry). not (stands_before j place h.0)) (last_toucher w e.gtid key) false) (write_set w.schema e.txn) some.1 in
-        let f = any_not (stands_before j place) (last_toucher w e.gtid k.1) k.3 in
+        let some = and_parts (not (is_opened w e.gtid)) (list_any (λ key. option_map_or (λ (h : history.Entry). not (is_recorded_before j place h.0)) (last_toucher w e.gtid key) false) (write_set w.schema e.txn)) gap in
+        let k = any_at (λ key. option_map_or (λ (h : history.Entry). not (is_recorded_before j place h.0)) (last_toucher w e.gtid key) false) (write_set w.schema e.txn) some.1 in
+        let f = any_not (is_recorded_before j place) (last_toucher w e.gtid k.1) k.3 in
         by k.1 (any_passes_from_place (key_eq k.1) (write_set w.schema e.txn) k.0 k.1 k.2 (key_eq_self k.1)) f.0 f.1 f.2)
       where
-        by : (key : Key) → touches w.schema e.txn key ≡ true → (f : history.Entry) → last_toucher w e.gtid key ≡ Some f → not (stands_before j place f.0) ≡ true → ⊥
+        by : (key : Key) → touches w.schema e.txn key ≡ true → (f : history.Entry) → last_toucher w e.gtid key ≡ Some f → not (is_recorded_before j place f.0) ≡ true → ⊥
         by key touching f is_last stands_not =
             let p : history.Entry → Bool = λ x. (x.0.source == e.gtid.source) && (nat_lt x.0.number e.gtid.number && touches w.schema x.1 key) in
             let at = latest_in (filter p es0) f is_last in
@@ -135,30 +135,30 @@ module _ (w : World) (outside : (g : Gtid) (t : Transaction) → content w g ≡
             ] in
             let member = any_at (same_gtid t.0) has.gtids r.needed in
             let is_gtid : member.1 ≡ f.0 = sym (same_is_equal t.0 member.1 member.3) ∙ ap (λ (x : history.Entry). x.0) is_f in
-            let lacking : list_any (λ h. not (stands_before j place h)) has.gtids ≡ true =
-            any_passes_from_place (λ h. not (stands_before j place h)) has.gtids member.0 member.1 member.2 (ap (λ h. not (stands_before j place h)) is_gtid ∙ stands_not) in
-            not_both (list_any (λ h. not (stands_before j place h)) has.gtids) lacking
-            (sym (some_list (λ h. not (stands_before j place h)) (finmap.get needed e.gtid) has.gtids has.known) ∙ full)
+            let lacking : list_any (λ h. not (is_recorded_before j place h)) has.gtids ≡ true =
+            any_passes_from_place (λ h. not (is_recorded_before j place h)) has.gtids member.0 member.1 member.2 (ap (λ h. not (is_recorded_before j place h)) is_gtid ∙ stands_not) in
+            not_both (list_any (λ h. not (is_recorded_before j place h)) has.gtids) lacking
+            (sym (some_list (λ h. not (is_recorded_before j place h)) (finmap.get needed e.gtid) has.gtids has.known) ∙ full)
           where
             below : (a b : ℕ) → nat_lt a b ≡ true → a < b
             below a b h = grind arith
 
     shut : (place : ℕ) (e : Entry) → slice_get j.entries place ≡ Some e → ((q : ℕ) (x : Entry) → q < place → slice_get j.entries q ≡ Some x → least_left_out w j q x ≡ None)
-        → (not (is_opened w e.gtid) && lacks needed (stands_before j place) e.gtid) ≡ false → least_left_out w j place e ≡ None
+        → (not (is_opened w e.gtid) && lacks needed (is_recorded_before j place) e.gtid) ≡ false → least_left_out w j place e ≡ None
     shut place e he before held = by (cases_Bool (is_opened w e.gtid))
       where
         by : ((is_opened w e.gtid ≡ true) ⊎ (is_opened w e.gtid ≡ false)) → least_left_out w j place e ≡ None
         by (inl opened_it) =
             none_first (λ l h. when (is_left_out w j place e h) (NotClosed e.gtid h.0)) es0 (λ l h hl. none_when (is_left_out w j place e h) (NotClosed e.gtid h.0)
-            (not_out (is_opened w e.gtid) ((h.0.source == e.gtid.source) && (nat_lt h.0.number e.gtid.number && (shares_key w.schema h.1 e.txn && not (stands_before j place h.0)))) opened_it))
+            (not_out (is_opened w e.gtid) ((h.0.source == e.gtid.source) && (nat_lt h.0.number e.gtid.number && (shares_key w.schema h.1 e.txn && not (is_recorded_before j place h.0)))) opened_it))
         by (inr out) =
             nothing_left_out w journals outside equal none_purged i j hj place e he before
-            (no_gap place e he out (and_false (not (is_opened w e.gtid)) (lacks needed (stands_before j place) e.gtid) (not_from_false (is_opened w e.gtid) out) held))
+            (no_gap place e he out (and_false (not (is_opened w e.gtid)) (lacks needed (is_recorded_before j place) e.gtid) (not_from_false (is_opened w e.gtid) out) held))
 
     of_journal : gap_among w needed j.previous set.empty j.entries ≡ first_at (least_left_out w j) j.entries
     of_journal =
         journal_pass w needed j.previous j refl
-        ∙ sym (guarded (least_left_out w j) (λ place e. not (is_opened w e.gtid) && lacks needed (stands_before j place) e.gtid) j.entries (λ place e he before held. shut place e he before held))
+        ∙ sym (guarded (least_left_out w j) (λ place e. not (is_opened w e.gtid) && lacks needed (is_recorded_before j place) e.gtid) j.entries (λ place e he before held. shut place e he before held))
 
   pub passed_all : unequal w journals ≡ None → purged w journals ≡ None → first_gap w needed journals ≡ not_closed w journals
   passed_all equal none_purged =

@@ -17,7 +17,7 @@ use Rattle.gtid_text.specs.Gtids.{gtid_cmp, same_gtid}
 use Rattle.gtid_set.proofs.SetLemmas.{gtid_tied}
 use Rattle.rows.specs.declared.change.Transaction.{Transaction}
 use Rattle.journal.specs.declared.Entry.{Entry}
-use Rattle.audit.specs.Contents.{IsRising, as_entry, as_pair, contents_of, in_order}
+use Rattle.audit.specs.Contents.{IsAscending, as_entry, as_pair, contents_of, in_order}
 use Rattle.audit.specs.Worlds.{IsPlaceOf}
 use Rattle.std.proofs.lemmas.Option.{slice_get-get_or}
 use Rattle.audit.proofs.Stored.{at, entries-stored, get-stored}
@@ -94,17 +94,17 @@ all_gtids : (g : Gtid) (es : List Entry) → AllByRecursion (λ (e : Entry). gti
 all_gtids g [] h = tt
 all_gtids g (e ∷ es) h = (h.0, all_gtids g es h.1)
 
-rising_gtids : (es : List Entry) → IsStrictlySortedBy (on gtid_of gtid_cmp) es → IsRising es
+rising_gtids : (es : List Entry) → IsStrictlySortedBy (on gtid_of gtid_cmp) es → IsAscending es
 unfolding IsStrictlySortedBy
 rising_gtids [] h = tt
 rising_gtids (e ∷ es) h = (all_gtids e.gtid es h.0, rising_gtids es h.1)
 
-dedup_rises : (es : List Entry) → IsSortedByKey gtid_of gtid_cmp es → IsRising (dedup has_same es)
+dedup_rises : (es : List Entry) → IsSortedByKey gtid_of gtid_cmp es → IsAscending (dedup has_same es)
 dedup_rises es up = rising_gtids (dedup has_same es) (IsStrictlySortedBy-dedup (on_total gtid_of gtid_total) (λ a b. sym (gtid_tied a.gtid b.gtid)) es up)
 
 -- what a stable sort and a dedup leave
-pub firsts_rise : (fs list : List Entry) → IsSortedByKey gtid_of gtid_cmp fs → list ≡ dedup has_same fs → IsRising list
-firsts_rise fs list up left = subst IsRising (sym left) (dedup_rises fs up)
+pub firsts_rise : (fs list : List Entry) → IsSortedByKey gtid_of gtid_cmp fs → list ≡ dedup has_same fs → IsAscending list
+firsts_rise fs list up left = subst IsAscending (sym left) (dedup_rises fs up)
 
 pub firsts_stay : (es fs list : List Entry) → IsStableByKey gtid_of gtid_cmp es fs → list ≡ dedup has_same fs → contents_of list ≡ contents_of es
 firsts_stay es fs list stable left = ap contents_of left ∙ dedup_firsts fs ∙ stable_firsts es fs stable
@@ -120,7 +120,7 @@ all_above : (g h : Gtid) (gs : List Gtid) → gtid_cmp g h ≡ Less → AllByRec
 all_above g h [] l a = tt
 all_above g h (x ∷ gs) l a = (gtid_total.trans g h x l a.0, all_above g h gs l a.1)
 
-pub adjacent_rise : (es : List Entry) → AllAdjacentBelow (λ a b. true ≡ less a b) es (length es) → IsRising es
+pub adjacent_rise : (es : List Entry) → AllAdjacentBelow (λ a b. true ≡ less a b) es (length es) → IsAscending es
 unfolding IsStrictlySortedBy
 adjacent_rise [] h = tt
 adjacent_rise (e ∷ []) h = (tt, tt)
@@ -142,13 +142,13 @@ entries_back [] = refl
 entries_back (e ∷ es) = ap (λ rest. e ∷ rest) (entries_back es)
 
 -- ascending entries are listed as they are
-pub listed : (es : List Entry) → IsRising es → es ≡ in_order (contents_of es)
+pub listed : (es : List Entry) → IsAscending es → es ≡ in_order (contents_of es)
 listed es up =
     sym (ap (map as_entry) (entries-stored gtid_cmp gtid_total gtid_exact (map as_pair es) (subst (IsStrictlySortedBy gtid_cmp) (sym (keys_of_pairs es)) up)) ∙ entries_back es)
 
 -- ---- a binary search
 
-sorted_of : (es : List Entry) → IsRising es → IsSortedByKey gtid_of gtid_cmp es
+sorted_of : (es : List Entry) → IsAscending es → IsSortedByKey gtid_of gtid_cmp es
 unfolding IsStrictlySortedBy
 sorted_of [] h k d low within = absurd (omega arith)
 sorted_of (e ∷ []) h k d low within = absurd (omega arith)
@@ -162,7 +162,7 @@ above_at g [] k d h l = absurd (omega arith)
 above_at g (e ∷ es) zero d h l = h.0
 above_at g (e ∷ es) (suc k) d h l = above_at g es k d h.1 (omega arith)
 
-found_first : (es : List Entry) (q : Gtid) (k : ℕ) (d : Entry) → IsRising es → k < length es → gtid_cmp (get_or es k d).gtid q ≡ Equal → first_at es q ≡ Some (get_or es k d).txn
+found_first : (es : List Entry) (q : Gtid) (k : ℕ) (d : Entry) → IsAscending es → k < length es → gtid_cmp (get_or es k d).gtid q ≡ Equal → first_at es q ≡ Some (get_or es k d).txn
 unfolding IsStrictlySortedBy
 found_first [] q k d h l e = absurd (omega arith)
 found_first (f ∷ es) q zero d h l e = ap (λ r. cond (is_eq r) (Some f.txn) (first_at es q)) (tied_back gtid_total f.gtid q e)
@@ -177,11 +177,11 @@ none_first [] q h = refl
 none_first (e ∷ es) q h = ap (λ b. cond b (Some e.txn) (first_at es q)) (h 0 e (omega arith)) ∙ none_first es q (λ k d l. h (suc k) d (omega arith))
 
 -- the entry at the place where a search ends has the transaction
-pub found_at : (es : List Entry) (q : Gtid) (k : ℕ) (d : Entry) → IsRising es → k < length es → gtid_cmp (get_or es k d).gtid q ≡ Equal → finmap.get (contents_of es) q ≡ Some (get_or es k d).txn
+pub found_at : (es : List Entry) (q : Gtid) (k : ℕ) (d : Entry) → IsAscending es → k < length es → gtid_cmp (get_or es k d).gtid q ≡ Equal → finmap.get (contents_of es) q ≡ Some (get_or es k d).txn
 found_at es q k d up within here = get-stored gtid_cmp gtid_total (map as_pair es) q ∙ found_first es q k d up within here
 
 -- where a search finds nothing there is none
-pub not_found : (es : List Entry) (q : Gtid) (i : ℕ) → IsRising es → IsBinarySearchResult (λ (e : Entry). gtid_cmp e.gtid q) es (Err i) → finmap.get (contents_of es) q ≡ None
+pub not_found : (es : List Entry) (q : Gtid) (i : ℕ) → IsAscending es → IsBinarySearchResult (λ (e : Entry). gtid_cmp e.gtid q) es (Err i) → finmap.get (contents_of es) q ≡ None
 not_found es q i up ends =
     let parted = ends (searchable_from_sorted gtid_total gtid_of es q (sorted_of es up)) in
     get-stored gtid_cmp gtid_total (map as_pair es) q
@@ -191,7 +191,7 @@ not_found es q i up ends =
     ])
 
 -- a place that a search finds
-pub place_is : (es : List Entry) (q : Gtid) (k : ℕ) → IsRising es → k < length es → HoldsAt (λ (x : Entry). gtid_cmp x.gtid q ≡ Equal) es k → IsPlaceOf (contents_of es) q k
+pub place_is : (es : List Entry) (q : Gtid) (k : ℕ) → IsAscending es → k < length es → HoldsAt (λ (x : Entry). gtid_cmp x.gtid q ≡ Equal) es k → IsPlaceOf (contents_of es) q k
 place_is es q k up within tied_at =
     let d : Entry = record { gtid = q; txn = record { changes = [] } } in
     let e : Entry = get_or es k d in

@@ -32,14 +32,14 @@ use Rattle.source_history.proofs.Gtids.{number_less}
 use Rattle.source_history.proofs.Entries.{rising}
 use Rattle.world.specs.declared.verdict.Verdict.{Verdict}
 use Rattle.world.specs.declared.verdict.Verdict.TheVariants.{Unequal, Purged, NotClosed}
-use Rattle.world.specs.Audit.{is_content, is_unequal, unequal, purged, stands_in, stands_before}
-use Rattle.world.specs.Cases.{IsEntryOf, IsLeftOut, Stands}
+use Rattle.world.specs.Audit.{is_content, is_unequal, unequal, purged, is_recorded_in, is_recorded_before}
+use Rattle.world.specs.Cases.{IsEntryOf, IsLeftOut, NamesFault}
 use Rattle.world.proofs.Finding.{when_none, first_none, taken}
 use Rattle.world.proofs.Contents.{content_at, at_content, entry_at, entry_from}
 use Rattle.world.proofs.Meanings.{content_is_by, le_cases}
 use Rattle.audit.specs.Ordered.{is_there, AreInOrder, IsInOrder}
-use Rattle.audit.specs.Gaps.{Needs, needs_in, stands}
-use Rattle.audit.specs.OtherGaps.{StandsWithout, IsGapNamed, is_of_gap, is_gap, is_gap_again, AreGapsOnce, AreOtherGaps, Gap, first_absent, with_gap, gaps_among, gaps_in, unreported, gap_of_verdict, other_gaps}
+use Rattle.audit.specs.Gaps.{Needs, needs_in, is_recorded}
+use Rattle.audit.specs.OtherGaps.{HasGap, IsGapNamed, is_of_gap, is_gap, is_gap_again, AreGapsOnce, AreOtherGaps, Gap, first_absent, with_gap, gaps_among, gaps_in, unreported, gap_of_verdict, other_gaps}
 use Rattle.audit.specs.Worlds.{LieBeyond}
 use Rattle.audit.proofs.Needing.{rises}
 use Rattle.audit.proofs.Nearest.{need_is_nearest, need_at, nearest_is_needed}
@@ -103,26 +103,26 @@ module _ (needs : Needs) (previous : Gtids) where
     pub entry : Entry
     pub there : slice_get es place ≡ Some entry
     pub named : entry.gtid ≡ p.0
-    pub lacks : first_absent needs (λ g. stand g || stands_in (take place es) g) p.0 ≡ Some p.1
+    pub lacks : first_absent needs (λ g. stand g || is_recorded_in (take place es) g) p.0 ≡ Some p.1
 
-  module _ (standing : Gtids) (stand : Gtid → Bool) (same : (g : Gtid) → stands previous standing g ≡ stand g) (e : Entry) where
-    here : stands previous standing ≡ (λ g. stand g || false)
+  module _ (standing : Gtids) (stand : Gtid → Bool) (same : (g : Gtid) → is_recorded previous standing g ≡ stand g) (e : Entry) where
+    here : is_recorded previous standing ≡ (λ g. stand g || false)
     here = λ i g. (same g ∙ sym (or-false (stand g))) i
 
-    next : (g : Gtid) → stands previous (set.insert standing e.gtid) g ≡ (stand g || same_gtid g e.gtid)
+    next : (g : Gtid) → is_recorded previous (set.insert standing e.gtid) g ≡ (stand g || same_gtid g e.gtid)
     next g =
         ap (λ b. set.contains previous g || b) (in_insert standing e.gtid g)
         ∙ moved (set.contains previous g) (same_gtid g e.gtid) (set.contains standing g)
         ∙ ap (λ b. b || same_gtid g e.gtid) (same g)
 
-    later : (k : ℕ) (es : List Entry) → ◌≡◌ {A = Gtid → Bool} (λ g. (stand g || same_gtid g e.gtid) || stands_in (take k es) g) (λ g. stand g || stands_in (take (suc k) (e ∷ es)) g)
-    later k es = λ i g. or_assoc (stand g) (same_gtid g e.gtid) (stands_in (take k es) g) i
+    later : (k : ℕ) (es : List Entry) → ◌≡◌ {A = Gtid → Bool} (λ g. (stand g || same_gtid g e.gtid) || is_recorded_in (take k es) g) (λ g. stand g || is_recorded_in (take (suc k) (e ∷ es)) g)
+    later k es = λ i g. or_assoc (stand g) (same_gtid g e.gtid) (is_recorded_in (take k es) g) i
 
-  found_gap : (es : List Entry) (standing : Gtids) (stand : Gtid → Bool) (same : (g : Gtid) → stands previous standing g ≡ stand g) (rest : List Gap) (m : ℕ) (p : Gap)
+  found_gap : (es : List Entry) (standing : Gtids) (stand : Gtid → Bool) (same : (g : Gtid) → is_recorded previous standing g ≡ stand g) (rest : List Gap) (m : ℕ) (p : Gap)
       → slice_get (gaps_among needs previous standing es rest) m ≡ Some p → GapAt stand es p ⊎ ((n : ℕ) × (slice_get rest n ≡ Some p))
   found_gap [] standing stand same rest m p x = inr (m, x)
   found_gap (e ∷ es) standing stand same rest m p x =
-      elim (with_cases e.gtid (first_absent needs (stands previous standing) e.gtid) (gaps_among needs previous (set.insert standing e.gtid) es rest) m p x) [
+      elim (with_cases e.gtid (first_absent needs (is_recorded previous standing) e.gtid) (gaps_among needs previous (set.insert standing e.gtid) es rest) m p x) [
         | inl now ↦ inl (subst (λ (q : Gap). GapAt stand (e ∷ es) q) now.2 (record {
           place = zero;
           entry = e;
@@ -142,12 +142,12 @@ module _ (needs : Needs) (previous : Gtids) where
         ]
       ]
 
-  listed_gap : (es : List Entry) (standing : Gtids) (stand : Gtid → Bool) (same : (g : Gtid) → stands previous standing g ≡ stand g) (rest : List Gap) (k : ℕ) (e : Entry) (h : Gtid)
-      → slice_get es k ≡ Some e → first_absent needs (λ g. stand g || stands_in (take k es) g) e.gtid ≡ Some h → (m : ℕ) × (slice_get (gaps_among needs previous standing es rest) m ≡ Some (e.gtid, h))
+  listed_gap : (es : List Entry) (standing : Gtids) (stand : Gtid → Bool) (same : (g : Gtid) → is_recorded previous standing g ≡ stand g) (rest : List Gap) (k : ℕ) (e : Entry) (h : Gtid)
+      → slice_get es k ≡ Some e → first_absent needs (λ g. stand g || is_recorded_in (take k es) g) e.gtid ≡ Some h → (m : ℕ) × (slice_get (gaps_among needs previous standing es rest) m ≡ Some (e.gtid, h))
   listed_gap [] standing stand same rest k e h x a = none_some e x
   listed_gap (y ∷ es) standing stand same rest zero e h x a =
       let is : y ≡ e = same_Some y e x in
-      let now : first_absent needs (stands previous standing) y.gtid ≡ Some h =
+      let now : first_absent needs (is_recorded previous standing) y.gtid ≡ Some h =
       ap (λ (f : Gtid → Bool). first_absent needs f y.gtid) (here standing stand same y) ∙ (ap (λ (z : Entry). first_absent needs (λ g. stand g || false) z.gtid) is ∙ a) in (
         zero,
         ap (λ o. slice_get (with_gap y.gtid o (gaps_among needs previous (set.insert standing y.gtid) es rest)) zero) now ∙ ap (λ (z : Entry). Some (z.gtid, h)) is,
@@ -155,13 +155,13 @@ module _ (needs : Needs) (previous : Gtids) where
   listed_gap (y ∷ es) standing stand same rest (suc k) e h x a =
       let r = listed_gap es (set.insert standing y.gtid) (λ g. stand g || same_gtid g y.gtid) (next standing stand same y) rest k e h x
       (ap (λ (f : Gtid → Bool). first_absent needs f e.gtid) (later standing stand same y k es) ∙ a) in
-      behind_gap y.gtid (first_absent needs (stands previous standing) y.gtid) (gaps_among needs previous (set.insert standing y.gtid) es rest) r.0 (e.gtid, h) r.1
+      behind_gap y.gtid (first_absent needs (is_recorded previous standing) y.gtid) (gaps_among needs previous (set.insert standing y.gtid) es rest) r.0 (e.gtid, h) r.1
 
   kept_rest : (es : List Entry) (standing : Gtids) (rest : List Gap) (n : ℕ) (p : Gap) → slice_get rest n ≡ Some p → (m : ℕ) × (slice_get (gaps_among needs previous standing es rest) m ≡ Some p)
   kept_rest [] standing rest n p x = (n, x)
   kept_rest (y ∷ es) standing rest n p x =
       let r = kept_rest es (set.insert standing y.gtid) rest n p x in
-      behind_gap y.gtid (first_absent needs (stands previous standing) y.gtid) (gaps_among needs previous (set.insert standing y.gtid) es rest) r.0 p r.1
+      behind_gap y.gtid (first_absent needs (is_recorded previous standing) y.gtid) (gaps_among needs previous (set.insert standing y.gtid) es rest) r.0 p r.1
 
 -- ---- the pass over journals
 
@@ -170,9 +170,9 @@ record GapIn (needs : Needs) (js : List JournalValue) (p : Gap) : Type 0 where
   pub entry : Entry
   pub there : IsEntryOf js entry
   pub named : entry.gtid ≡ p.0
-  pub lacks : first_absent needs (stands_before there.journal there.place) p.0 ≡ Some p.1
+  pub lacks : first_absent needs (is_recorded_before there.journal there.place) p.0 ≡ Some p.1
 
-at_first : (previous : Gtids) (g : Gtid) → stands previous set.empty g ≡ set.contains previous g
+at_first : (previous : Gtids) (g : Gtid) → is_recorded previous set.empty g ≡ set.contains previous g
 at_first previous g = ap (λ b. set.contains previous g || b) (contains-empty gtid_cmp g) ∙ or-false (set.contains previous g)
 
 in_gaps : (needs : Needs) (js : List JournalValue) (m : ℕ) (p : Gap) → slice_get (gaps_in needs js) m ≡ Some p → GapIn needs js p
@@ -195,12 +195,12 @@ in_gaps needs (j ∷ js) m p x = elim (found_gap needs j.previous j.entries set.
 ]
 
 of_gaps : (needs : Needs) (js : List JournalValue) (i : ℕ) (j : JournalValue) (k : ℕ) (e : Entry) (h : Gtid) → slice_get js i ≡ Some j → slice_get j.entries k ≡ Some e
-    → first_absent needs (stands_before j k) e.gtid ≡ Some h → (m : ℕ) × (slice_get (gaps_in needs js) m ≡ Some (e.gtid, h))
+    → first_absent needs (is_recorded_before j k) e.gtid ≡ Some h → (m : ℕ) × (slice_get (gaps_in needs js) m ≡ Some (e.gtid, h))
 of_gaps needs [] i j k e h x y a = none_some j x
 of_gaps needs (z ∷ js) zero j k e h x y a =
     let is : z ≡ j = same_Some z j x in
     listed_gap needs z.previous z.entries set.empty (set.contains z.previous) (at_first z.previous) (gaps_in needs js) k e h
-    (ap (λ (w : JournalValue). slice_get w.entries k) is ∙ y) (ap (λ (w : JournalValue). first_absent needs (stands_before w k) e.gtid) is ∙ a)
+    (ap (λ (w : JournalValue). slice_get w.entries k) is ∙ y) (ap (λ (w : JournalValue). first_absent needs (is_recorded_before w k) e.gtid) is ∙ a)
 of_gaps needs (z ∷ js) (suc i) j k e h x y a =
     let r = of_gaps needs js i j k e h x y a in
     kept_rest needs z.previous z.entries set.empty (gaps_in needs js) r.0 (e.gtid, h) r.1
@@ -208,7 +208,7 @@ of_gaps needs (z ∷ js) (suc i) j k e h x y a =
 -- ---- what is reported
 
 abbrev told : Gtids → Gap → List Gap → Bool → List Verdict
-told said q ps b = cond b (unreported said ps) (NotClosed q.0 q.1 ∷ unreported (set.insert said q.0) ps)
+told reported q ps b = cond b (unreported reported ps) (NotClosed q.0 q.1 ∷ unreported (set.insert reported q.0) ps)
 
 swapped : (a b c : Bool) → ((a || b) || c) ≡ true → (b || (a || c)) ≡ true
 swapped true true c e = refl
@@ -216,55 +216,55 @@ swapped true false c e = refl
 swapped false true c e = refl
 swapped false false c e = e
 
-said_all : (said : Gtids) (ps : List Gap) (m : ℕ) (p : Gap) → slice_get ps m ≡ Some p → (set.contains said p.0 || list_any (is_of_gap p.0) (unreported said ps)) ≡ true
-said_all said [] m p x = none_some p x
-said_all said (q ∷ ps) zero p x =
-    subst (λ (y : Gap). (set.contains said y.0 || list_any (is_of_gap y.0) (told said q ps (set.contains said q.0))) ≡ true) (same_Some q p x) (now (set.contains said q.0) refl)
+said_all : (reported : Gtids) (ps : List Gap) (m : ℕ) (p : Gap) → slice_get ps m ≡ Some p → (set.contains reported p.0 || list_any (is_of_gap p.0) (unreported reported ps)) ≡ true
+said_all reported [] m p x = none_some p x
+said_all reported (q ∷ ps) zero p x =
+    subst (λ (y : Gap). (set.contains reported y.0 || list_any (is_of_gap y.0) (told reported q ps (set.contains reported q.0))) ≡ true) (same_Some q p x) (now (set.contains reported q.0) refl)
   where
-    now : (b : Bool) → set.contains said q.0 ≡ b → (set.contains said q.0 || list_any (is_of_gap q.0) (told said q ps b)) ≡ true
-    now true s = or_left (set.contains said q.0) (list_any (is_of_gap q.0) (told said q ps true)) s
+    now : (b : Bool) → set.contains reported q.0 ≡ b → (set.contains reported q.0 || list_any (is_of_gap q.0) (told reported q ps b)) ≡ true
+    now true s = or_left (set.contains reported q.0) (list_any (is_of_gap q.0) (told reported q ps true)) s
     now false s =
-        or_right (set.contains said q.0) (list_any (is_of_gap q.0) (told said q ps false))
-        (or_left (same_gtid q.0 q.0) (list_any (is_of_gap q.0) (unreported (set.insert said q.0) ps)) (same_itself q.0))
-said_all said (q ∷ ps) (suc m) p x = by (set.contains said q.0) (said_all said ps m p x) (said_all (set.insert said q.0) ps m p x)
+        or_right (set.contains reported q.0) (list_any (is_of_gap q.0) (told reported q ps false))
+        (or_left (same_gtid q.0 q.0) (list_any (is_of_gap q.0) (unreported (set.insert reported q.0) ps)) (same_itself q.0))
+said_all reported (q ∷ ps) (suc m) p x = by (set.contains reported q.0) (said_all reported ps m p x) (said_all (set.insert reported q.0) ps m p x)
   where
-    by : (b : Bool) → (set.contains said p.0 || list_any (is_of_gap p.0) (unreported said ps)) ≡ true
-        → (set.contains (set.insert said q.0) p.0 || list_any (is_of_gap p.0) (unreported (set.insert said q.0) ps)) ≡ true
-        → (set.contains said p.0 || list_any (is_of_gap p.0) (told said q ps b)) ≡ true
+    by : (b : Bool) → (set.contains reported p.0 || list_any (is_of_gap p.0) (unreported reported ps)) ≡ true
+        → (set.contains (set.insert reported q.0) p.0 || list_any (is_of_gap p.0) (unreported (set.insert reported q.0) ps)) ≡ true
+        → (set.contains reported p.0 || list_any (is_of_gap p.0) (told reported q ps b)) ≡ true
     by true old more = old
     by false old more =
-        swapped (same_gtid p.0 q.0) (set.contains said p.0) (list_any (is_of_gap p.0) (unreported (set.insert said q.0) ps))
-        (ap (λ b. b || list_any (is_of_gap p.0) (unreported (set.insert said q.0) ps)) (sym (in_insert said q.0 p.0)) ∙ more)
+        swapped (same_gtid p.0 q.0) (set.contains reported p.0) (list_any (is_of_gap p.0) (unreported (set.insert reported q.0) ps))
+        (ap (λ b. b || list_any (is_of_gap p.0) (unreported (set.insert reported q.0) ps)) (sym (in_insert reported q.0 p.0)) ∙ more)
 
 -- what was reported is not reported again
-not_again : (said : Gtids) (ps : List Gap) (g : Gtid) → set.contains said g ≡ true → list_any (is_of_gap g) (unreported said ps) ≡ false
-not_again said [] g h = refl
-not_again said (q ∷ ps) g h =
-    by (set.contains said q.0) refl (not_again said ps g h) (not_again (set.insert said q.0) ps g (in_insert said q.0 g ∙ or_right (same_gtid g q.0) (set.contains said g) h))
+not_again : (reported : Gtids) (ps : List Gap) (g : Gtid) → set.contains reported g ≡ true → list_any (is_of_gap g) (unreported reported ps) ≡ false
+not_again reported [] g h = refl
+not_again reported (q ∷ ps) g h =
+    by (set.contains reported q.0) refl (not_again reported ps g h) (not_again (set.insert reported q.0) ps g (in_insert reported q.0 g ∙ or_right (same_gtid g q.0) (set.contains reported g) h))
   where
-    by : (b : Bool) → set.contains said q.0 ≡ b → list_any (is_of_gap g) (unreported said ps) ≡ false → list_any (is_of_gap g) (unreported (set.insert said q.0) ps) ≡ false
-        → list_any (is_of_gap g) (told said q ps b) ≡ false
+    by : (b : Bool) → set.contains reported q.0 ≡ b → list_any (is_of_gap g) (unreported reported ps) ≡ false → list_any (is_of_gap g) (unreported (set.insert reported q.0) ps) ≡ false
+        → list_any (is_of_gap g) (told reported q ps b) ≡ false
     by true s old more = old
     by false s old more =
-        let other : same_gtid g q.0 ≡ false = false_from_ne_true (same_gtid g q.0) (λ is. not_both (set.contains said q.0) (ap (set.contains said) (sym (same_is_equal g q.0 is)) ∙ h) s) in
-        ap (λ b. b || list_any (is_of_gap g) (unreported (set.insert said q.0) ps)) other ∙ more
+        let other : same_gtid g q.0 ≡ false = false_from_ne_true (same_gtid g q.0) (λ is. not_both (set.contains reported q.0) (ap (set.contains reported) (sym (same_is_equal g q.0 is)) ∙ h) s) in
+        ap (λ b. b || list_any (is_of_gap g) (unreported (set.insert reported q.0) ps)) other ∙ more
 
-once_from : (said : Gtids) (ps : List Gap) → AreGapsOnce (unreported said ps)
-once_from said [] = tt
-once_from said (q ∷ ps) = by (set.contains said q.0) (once_from said ps) (once_from (set.insert said q.0) ps)
+once_from : (reported : Gtids) (ps : List Gap) → AreGapsOnce (unreported reported ps)
+once_from reported [] = tt
+once_from reported (q ∷ ps) = by (set.contains reported q.0) (once_from reported ps) (once_from (set.insert reported q.0) ps)
   where
-    by : (b : Bool) → AreGapsOnce (unreported said ps) → AreGapsOnce (unreported (set.insert said q.0) ps) → AreGapsOnce (told said q ps b)
+    by : (b : Bool) → AreGapsOnce (unreported reported ps) → AreGapsOnce (unreported (set.insert reported q.0) ps) → AreGapsOnce (told reported q ps b)
     by true old more = old
     by false old more =
-        (not_again (set.insert said q.0) ps q.0 (in_insert said q.0 q.0 ∙ or_left (same_gtid q.0 q.0) (set.contains said q.0) (same_itself q.0)), more)
+        (not_again (set.insert reported q.0) ps q.0 (in_insert reported q.0 q.0 ∙ or_left (same_gtid q.0 q.0) (set.contains reported q.0) (same_itself q.0)), more)
 
 -- what holds of each holds of what is reported
-all_told : (Q : Verdict → Type 0) (said : Gtids) (ps : List Gap) → ((m : ℕ) (p : Gap) → slice_get ps m ≡ Some p → Q (NotClosed p.0 p.1)) → AllByRecursion Q (unreported said ps)
-all_told Q said [] each = tt
-all_told Q said (q ∷ ps) each =
-    by (set.contains said q.0) (all_told Q said ps (λ m p x. each (suc m) p x)) (all_told Q (set.insert said q.0) ps (λ m p x. each (suc m) p x))
+all_told : (Q : Verdict → Type 0) (reported : Gtids) (ps : List Gap) → ((m : ℕ) (p : Gap) → slice_get ps m ≡ Some p → Q (NotClosed p.0 p.1)) → AllByRecursion Q (unreported reported ps)
+all_told Q reported [] each = tt
+all_told Q reported (q ∷ ps) each =
+    by (set.contains reported q.0) (all_told Q reported ps (λ m p x. each (suc m) p x)) (all_told Q (set.insert reported q.0) ps (λ m p x. each (suc m) p x))
   where
-    by : (b : Bool) → AllByRecursion Q (unreported said ps) → AllByRecursion Q (unreported (set.insert said q.0) ps) → AllByRecursion Q (told said q ps b)
+    by : (b : Bool) → AllByRecursion Q (unreported reported ps) → AllByRecursion Q (unreported (set.insert reported q.0) ps) → AllByRecursion Q (told reported q ps b)
     by true old more = old
     by false old more = (each zero q refl, more)
 
@@ -296,14 +296,14 @@ shares_by schema t u k a b =
     any_passes_from_place (touches schema u) (write_set schema t) r.0 r.1 r.2 (ap (touches schema u) (sym same) ∙ b)
 
 -- what comes before a place comes before a later one
-stands_later : (j : JournalValue) (q place : ℕ) (g : Gtid) → q < place → stands_before j q g ≡ true → stands_before j place g ≡ true
-stands_later j q place g l h = elim (or_cases (set.contains j.previous g) (stands_in (take q j.entries) g) h) [
-  | inl p ↦ or_left (set.contains j.previous g) (stands_in (take place j.entries) g) p
+stands_later : (j : JournalValue) (q place : ℕ) (g : Gtid) → q < place → is_recorded_before j q g ≡ true → is_recorded_before j place g ≡ true
+stands_later j q place g l h = elim (or_cases (set.contains j.previous g) (is_recorded_in (take q j.entries) g) h) [
+  | inl p ↦ or_left (set.contains j.previous g) (is_recorded_in (take place j.entries) g) p
   | inr e ↦
       let a = entry_at (take q j.entries) g e in
       let b = taken j.entries q a.0 a.1 a.2 in
-      or_right (set.contains j.previous g) (stands_in (take place j.entries) g)
-      (subst (λ (x : Gtid). stands_in (take place j.entries) x ≡ true) a.3 (entry_from (take place j.entries) a.0 a.1 (get_take j.entries place a.0 a.1 b.0 (less a.0 q place b.1 l))))
+      or_right (set.contains j.previous g) (is_recorded_in (take place j.entries) g)
+      (subst (λ (x : Gtid). is_recorded_in (take place j.entries) x ≡ true) a.3 (entry_from (take place j.entries) a.0 a.1 (get_take j.entries place a.0 a.1 b.0 (less a.0 q place b.1 l))))
 ]
   where
     less : (a b c : ℕ) → a < b → b < c → a < c
@@ -316,23 +316,23 @@ module _ (world : World) (journals : List JournalValue) where
   gaps = gaps_in (needs_in world) journals
 
   -- each that is found is present without its nearest earlier one
-  without : (p : Gap) → GapIn (needs_in world) journals p → StandsWithout world journals p.0 p.1
+  without : (p : Gap) → GapIn (needs_in world) journals p → HasGap world journals p.0 p.1
   without p gap =
-      let a = absent_from (stands_before gap.there.journal gap.there.place) (finmap.get (needs_in world) p.0) p.1 gap.lacks in
+      let a = absent_from (is_recorded_before gap.there.journal gap.there.place) (finmap.get (needs_in world) p.0) p.1 gap.lacks in
       let n = need_is_nearest world p.0 p.1 a.0 a.2 a.1 a.3 in
       record { entry = gap.entry; there = gap.there; named = gap.named; t = n.t; first = n.first; key = n.key; touched = n.touched; nearest = n.nearest; left_out = a.4 }
 
   -- each that is present without its nearest earlier one is found
-  is_found : (g h : Gtid) → StandsWithout world journals g h → (m : ℕ) × (x : Gtid) × (slice_get gaps m ≡ Some (g, x))
+  is_found : (g h : Gtid) → HasGap world journals g h → (m : ℕ) × (x : Gtid) × (slice_get gaps m ≡ Some (g, x))
   is_found g h w =
       let n = nearest_is_needed world g h w.t w.key w.first w.touched w.nearest in
-      let a = absent_any (stands_before w.there.journal w.there.place) (finmap.get (needs_in world) g) n.0 h n.1 n.2 w.left_out in
+      let a = absent_any (is_recorded_before w.there.journal w.there.place) (finmap.get (needs_in world) g) n.0 h n.1 n.2 w.left_out in
       let r = of_gaps (needs_in world) journals w.there.number w.there.journal w.there.place w.entry a.0 w.there.listed w.there.there
-      (ap (first_absent (needs_in world) (stands_before w.there.journal w.there.place)) w.named ∙ a.1) in
+      (ap (first_absent (needs_in world) (is_recorded_before w.there.journal w.there.place)) w.named ∙ a.1) in
       (r.0, a.0, r.1 ∙ ap (λ (y : Gtid). Some (y, a.0)) w.named)
 
   -- where nothing is unequal it is the case of a verdict
-  left_out : unequal world journals ≡ None → (g h : Gtid) → is_opened world g ≡ false → StandsWithout world journals g h → IsLeftOut world journals g h
+  left_out : unequal world journals ≡ None → (g h : Gtid) → is_opened world g ≡ false → HasGap world journals g h → IsLeftOut world journals g h
   left_out equal g h new w =
       let x = w.entry in
       let test : is_unequal world x ≡ false = when_none (is_unequal world x) (Unequal x.gtid) (first_none _ w.there.journal.entries (first_none _ journals equal w.there.number w.there.journal w.there.listed) w.there.place x w.there.there) in
@@ -365,7 +365,7 @@ module _ (world : World) (journals : List JournalValue) where
 
       -- where every entry comes after what it needs, it comes after all that precede it and share a key with it
       stands_behind : (n k : ℕ) (e : Entry) (t : Transaction) (h : Gtid) (u : Transaction) → k < n → slice_get j.entries k ≡ Some e → content world e.gtid ≡ Some t → content world h ≡ Some u
-          → h.source ≡ e.gtid.source → h.number < e.gtid.number → shares_key world.schema u t ≡ true → stands_before j k h ≡ true
+          → h.source ≡ e.gtid.source → h.number < e.gtid.number → shares_key world.schema u t ≡ true → is_recorded_before j k h ≡ true
       stands_behind zero k e t h u l he ft fu s less shares = absurd (omega arith)
       stands_behind (suc n) k e t h u l he ft fu s less shares =
           let key = shared_key world.schema u t shares in
@@ -373,13 +373,13 @@ module _ (world : World) (journals : List JournalValue) where
           let need = need_at world e.gtid t key.0 at.0 (h, u) ft key.2 at.1 s less key.1 in
           let f = need.toucher in
           let ff : content world f.0 ≡ Some f.1 = at_content world need.later f need.there in
-          let stands_f : stands_before j k f.0 ≡ true = true_from_ne_false (stands_before j k f.0) (λ no.
-          let a = absent_any (stands_before j k) (finmap.get (needs_in world) e.gtid) need.gtids f.0 need.known need.needed no in
+          let stands_f : is_recorded_before j k f.0 ≡ true = true_from_ne_false (is_recorded_before j k f.0) (λ no.
+          let a = absent_any (is_recorded_before j k) (finmap.get (needs_in world) e.gtid) need.gtids f.0 need.known need.needed no in
           let r = of_gaps (needs_in world) journals i j k e a.0 hj he a.1 in
           none r.0 (e.gtid, a.0) r.1) in
           elim (le_cases at.0 need.later need.late) [
-            | inr same ↦ subst (λ (x : history.Entry). stands_before j k x.0 ≡ true) (same_Some f (h, u) (sym need.there ∙ (ap (slice_get (finmap.entries world.contents)) (sym same) ∙ at.1))) stands_f
-            | inl lower ↦ elim (or_cases (set.contains j.previous f.0) (stands_in (take k j.entries) f.0) stands_f) [
+            | inr same ↦ subst (λ (x : history.Entry). is_recorded_before j k x.0 ≡ true) (same_Some f (h, u) (sym need.there ∙ (ap (slice_get (finmap.entries world.contents)) (sym same) ∙ at.1))) stands_f
+            | inl lower ↦ elim (or_cases (set.contains j.previous f.0) (is_recorded_in (take k j.entries) f.0) stands_f) [
               | inl before ↦ absurd (not_previous f.0 f.1 ff before)
               | inr earlier ↦
                   let a = entry_at (take k j.entries) f.0 earlier in
@@ -398,7 +398,7 @@ module _ (world : World) (journals : List JournalValue) where
 
     module _ (ordered : AreInOrder world.opening_set journals) where
       -- in a journal that is in order nothing is present without what it needs
-      none_without : (g h : Gtid) → StandsWithout world journals g h → ⊥
+      none_without : (g h : Gtid) → HasGap world journals g h → ⊥
       none_without g h w =
           let j = w.there.journal in
           let before : List Entry = take w.there.place j.entries in
@@ -409,9 +409,9 @@ module _ (world : World) (journals : List JournalValue) where
           let source : w.entry.gtid.source ≡ h.source = ap (λ (x : Gtid). x.source) w.named ∙ sym w.nearest.source in
           let is : gtid w.entry.gtid.source h.number ≡ h = λ k. record { source = source k; number = h.number } in
           let there : is_there world.opening_set before h ≡ true = subst (λ (x : Gtid). is_there world.opening_set before x ≡ true) is (in_order w.there.place w.entry w.there.there h.number positive less) in
-          elim (or_cases (set.contains world.opening_set h) (stands_in before h) there) [
+          elim (or_cases (set.contains world.opening_set h) (is_recorded_in before h) there) [
             | inl opened ↦ not_both (is_opened world h) opened (outside h w.nearest.u at)
-            | inr stood ↦ not_both (stands_before j w.there.place h) (or_right (set.contains j.previous h) (stands_in before h) stood) w.left_out
+            | inr stood ↦ not_both (is_recorded_before j w.there.place h) (or_right (set.contains j.previous h) (is_recorded_in before h) stood) w.left_out
           ]
 
       pub none_in_order : (v : Verdict) → other_gaps world journals v ≡ []
@@ -429,14 +429,14 @@ module _ (world : World) (journals : List JournalValue) where
           let r = is_found g h w in
           ap (λ b. b || list_any (is_of_gap g) (other_gaps world journals v)) (sym (said_is v g)) ∙ said_all (gap_of_verdict v) gaps r.0 (g, r.1) r.2;
       once = (first_once v gaps, once_from (gap_of_verdict v) gaps);
-      cases = λ equal. all_told (Stands world journals) (gap_of_verdict v) gaps (λ m p x.
+      cases = λ equal. all_told (NamesFault world journals) (gap_of_verdict v) gaps (λ m p x.
           let w = without p (in_gaps (needs_in world) journals m p x) in
           left_out equal p.0 p.1 (outside p.0 w.t w.first) w);
       closed = λ other empty within g h b.
           let none : (m : ℕ) (p : Gap) → slice_get gaps m ≡ Some p → ⊥ = λ m p x.
           let told : (is_of_gap p.0 v || list_any (is_of_gap p.0) (other_gaps world journals v)) ≡ true = ap (λ b. b || list_any (is_of_gap p.0) (other_gaps world journals v)) (sym (said_is v p.0)) ∙ said_all (gap_of_verdict v) gaps m p x in
           not_both (is_of_gap p.0 v || list_any (is_of_gap p.0) (other_gaps world journals v)) told (λ i. not_of v p.0 other i || list_any (is_of_gap p.0) (empty i)) in
-          not_both (stands_before b.there.journal b.there.place h)
+          not_both (is_recorded_before b.there.journal b.there.place h)
           (stands_behind within none b.there.number b.there.journal b.there.listed (suc b.there.place) b.there.place b.entry b.t h b.u (itself b.there.place) b.there.there
           (ap (content world) b.named ∙ b.first) b.earlier (b.source ∙ ap (λ (x : Gtid). x.source) (sym b.named)) (subst (λ (x : Gtid). h.number < x.number) (sym b.named) b.smaller) b.shares)
           b.left_out;

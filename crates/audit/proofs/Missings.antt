@@ -16,12 +16,12 @@ use Rattle.journal.specs.Journals.{JournalValue}
 use Rattle.source_history.specs.World.{World, content, is_opened}
 use Rattle.source_history.specs.World as history
 use Rattle.source_history.proofs.Gtids.{number_less}
-use Rattle.source_history.proofs.Entries.{IsRising, AreFound, rising, found}
+use Rattle.source_history.proofs.Entries.{IsAscending, AreFound, rising, found}
 use Rattle.ordered_journals.proofs.Lists.{all_at}
 use Rattle.world.specs.declared.verdict.Verdict.{Verdict}
 use Rattle.world.specs.declared.verdict.Verdict.TheVariants.{Missing}
 use Rattle.world.specs.Search.{or_next, when, first}
-use Rattle.world.specs.Audit.{all_entries, first_contents, world_of, present, stands_in, is_absent, below, missing}
+use Rattle.world.specs.Audit.{all_entries, first_contents, world_of, present, is_recorded_in, is_absent, below, missing}
 use Rattle.world.proofs.Finding.{when_none, first_none, get_range}
 use Rattle.world.proofs.Contents.{contents_entry, entry_content, content_at, some_of}
 use Rattle.world.proofs.OnePass.{source_le}
@@ -147,11 +147,11 @@ module _ (schema : List Table) (opened : Gtids) (rows : Rows) (journals : List J
 
   -- what has a content is not absent
   there : (g : Gtid) (t : Transaction) → content w g ≡ Some t → is_absent w journals g ≡ false
-  there g t h = not_absent (is_opened w g) (stands_in (all_entries journals) g) (contents_entry opened (all_entries journals) g t h)
+  there g t h = not_absent (is_opened w g) (is_recorded_in (all_entries journals) g) (contents_entry opened (all_entries journals) g t h)
 
   -- what has none is absent where it was not executed from the start
   absent : (g : Gtid) → ((t : Transaction) → content w g ≡ Some t → ⊥) → is_absent w journals g ≡ not (is_opened w g)
-  absent g h = absent_if (is_opened w g) (stands_in (all_entries journals) g) true (λ out. false_from_ne_true (stands_in (all_entries journals) g) (λ stands.
+  absent g h = absent_if (is_opened w g) (is_recorded_in (all_entries journals) g) true (λ out. false_from_ne_true (is_recorded_in (all_entries journals) g) (λ stands.
       let s = some_of (content w g) (entry_content opened (all_entries journals) g stands out) in h s.0 s.1))
 
   abbrev Covered : Option Gtid → List history.Entry → Type 0
@@ -163,7 +163,7 @@ module _ (schema : List Table) (opened : Gtids) (rows : Rows) (journals : List J
   abbrev here : history.Entry → Option Verdict
   here g = first (λ h. when (is_absent w journals h) (Missing h)) (below g.0)
 
-  module _ (last : Option Gtid) (e : history.Entry) (es : List history.Entry) (up : IsRising (e ∷ es)) (before : Precedes last e.0) (covered : Covered last (e ∷ es)) (clear : Clear last) where
+  module _ (last : Option Gtid) (e : history.Entry) (es : List history.Entry) (up : IsAscending (e ∷ es)) (before : Precedes last e.0) (covered : Covered last (e ∷ es)) (clear : Clear last) where
     -- nothing is between the last and this one
     between : (m : ℕ) → number_before last e.0.source < m → m < e.0.number → (t : Transaction) → content w (gtid e.0.source m) ≡ Some t → ⊥
     between m low high t h =
@@ -232,7 +232,7 @@ module _ (schema : List Table) (opened : Gtids) (rows : Rows) (journals : List J
   all_after e [] h = tt
   all_after e (f ∷ es) h = (lies e.0 f.0 h.0, all_after e es h.1)
 
-  pass : (es : List history.Entry) (last : Option Gtid) → IsRising es → AreFound w es → AllByRecursion (λ (f : history.Entry). Precedes last f.0) es → Covered last es → Clear last → missing_from opened last es ≡ first here es
+  pass : (es : List history.Entry) (last : Option Gtid) → IsAscending es → AreFound w es → AllByRecursion (λ (f : history.Entry). Precedes last f.0) es → Covered last es → Clear last → missing_from opened last es ≡ first here es
   pass [] last up known before covered clear = refl
   pass (e ∷ es) last up known before covered clear =
       let o = one last e es up before.0 covered clear in

@@ -16,7 +16,7 @@ use Rattle.rows.specs.Total.{key_total, key_eq_same}
 use Rattle.rows.specs.WriteSet.{write_set, touches, is_among}
 use Rattle.source_history.specs.World as history
 use Rattle.source_history.proofs.Gtids.{number_less}
-use Rattle.source_history.proofs.Entries.{IsRising}
+use Rattle.source_history.proofs.Entries.{IsAscending}
 use Rattle.ordered_journals.proofs.Lists.{all_at, get_push_cases}
 use Rattle.world.specs.Folds.{FirstTouch}
 use Rattle.world.proofs.OnePass.{source_le}
@@ -29,7 +29,7 @@ use Rattle.world.proofs.Touching.{rising_front}
 
 -- ---- places in an ascending list
 
-pub rises : (es : List history.Entry) (i j : ℕ) (a b : history.Entry) → IsRising es → slice_get es i ≡ Some a → slice_get es j ≡ Some b → i < j → gtid_cmp a.0 b.0 ≡ Less
+pub rises : (es : List history.Entry) (i j : ℕ) (a b : history.Entry) → IsAscending es → slice_get es i ≡ Some a → slice_get es j ≡ Some b → i < j → gtid_cmp a.0 b.0 ≡ Less
 rises [] i j a b up x y l = none_some a x
 rises (e ∷ es) zero zero a b up x y l = absurd (omega arith)
 rises (e ∷ es) (suc i) zero a b up x y l = absurd (omega arith)
@@ -115,7 +115,7 @@ module _ (schema : List Table) where
   abbrev pub NeedsAre : List history.Entry → Needs → Type 0
   NeedsAre es needs = (i : ℕ) (e : history.Entry) → slice_get es i ≡ Some e → HasNeeds es needs i e
 
-  module _ (pre : List history.Entry) (e : history.Entry) (up : IsRising (pre ++ e ∷ [])) (last : FirstTouch) (needs : Needs) (touched : LastIs pre last) (had : NeedsAre pre needs) where
+  module _ (pre : List history.Entry) (e : history.Entry) (up : IsAscending (pre ++ e ∷ [])) (last : FirstTouch) (needs : Needs) (touched : LastIs pre last) (had : NeedsAre pre needs) where
     less : (i : ℕ) (h : history.Entry) → slice_get pre i ≡ Some h → gtid_cmp h.0 e.0 ≡ Less
     less i h x = rises (pre ++ e ∷ []) i (length pre) h e up (get_append_left pre (e ∷ []) i h x) (get_push pre e) (slice_get_within pre i h x)
 
@@ -218,7 +218,7 @@ module _ (schema : List Table) where
                   needed = last_among e.0 r.toucher.0 (write_set schema e.1) last key t r.known same;
                 }
 
-  over : (es pre : List history.Entry) (last : FirstTouch) (needs : Needs) → IsRising (pre ++ es) → LastIs pre last → NeedsAre pre needs → NeedsAre (pre ++ es) (needs_over schema last needs es)
+  over : (es pre : List history.Entry) (last : FirstTouch) (needs : Needs) → IsAscending (pre ++ es) → LastIs pre last → NeedsAre pre needs → NeedsAre (pre ++ es) (needs_over schema last needs es)
   over [] pre last needs up touched had = subst (λ (xs : List history.Entry). NeedsAre xs needs) (sym (nothing_more pre)) had
     where
       nothing_more : (xs : List history.Entry) → xs ++ [] ≡ xs
@@ -226,11 +226,11 @@ module _ (schema : List Table) where
       nothing_more (x ∷ xs) = ap (λ (zs : List history.Entry). x ∷ zs) (nothing_more xs)
   over (e ∷ es) pre last needs up touched had =
       let parts : (pre ++ e ∷ []) ++ es ≡ pre ++ e ∷ es = append_assoc pre (e ∷ []) es in
-      let up_too : IsRising ((pre ++ e ∷ []) ++ es) = subst (λ (xs : List history.Entry). IsRising xs) (sym parts) up in
+      let up_too : IsAscending ((pre ++ e ∷ []) ++ es) = subst (λ (xs : List history.Entry). IsAscending xs) (sym parts) up in
       let up_here = rising_front (pre ++ e ∷ []) es up_too in
       subst (λ (xs : List history.Entry). NeedsAre xs (needs_over schema last needs (e ∷ es))) parts
       (over es (pre ++ e ∷ []) (touch_last e.0 (write_set schema e.1) last) (finmap.insert needs e.0 (last_of_keys e.0 (write_set schema e.1) last)) up_too
       (last_on pre e up_here last needs touched had) (needs_on pre e up_here last needs touched had))
 
-  pub needs_are : (es : List history.Entry) → IsRising es → NeedsAre es (needs_over schema finmap.empty finmap.empty es)
+  pub needs_are : (es : List history.Entry) → IsAscending es → NeedsAre es (needs_over schema finmap.empty finmap.empty es)
   needs_are es up = over es [] finmap.empty finmap.empty up (λ key i h x t. none_some h x) (λ i e x. none_some e x)

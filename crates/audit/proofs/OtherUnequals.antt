@@ -77,10 +77,10 @@ module _ (world : World) where
 
   -- it is reported here
   abbrev says : Gtids → Entry → Bool
-  says said x = is_unequal world x && not (set.contains said x.gtid)
+  says reported x = is_unequal world x && not (set.contains reported x.gtid)
 
   abbrev told : Gtids → Entry → List Entry → Bool → List Verdict
-  told said x es b = cond b (Unequal x.gtid ∷ unequal_from world (set.insert said x.gtid) es) (unequal_from world said es)
+  told reported x es b = cond b (Unequal x.gtid ∷ unequal_from world (set.insert reported x.gtid) es) (unequal_from world reported es)
 
   moved : (a b c : Bool) → ((a || b) || c) ≡ true → (b || (a || c)) ≡ true
   moved true true c e = refl
@@ -88,62 +88,62 @@ module _ (world : World) where
   moved false true c e = refl
   moved false false c e = e
 
-  said_all : (said : Gtids) (es : List Entry) (m : ℕ) (e : Entry) → slice_get es m ≡ Some e → is_unequal world e ≡ true
-      → (set.contains said e.gtid || list_any (is_of_unequal e.gtid) (unequal_from world said es)) ≡ true
-  said_all said [] m e h u = none_some e h
-  said_all said (x ∷ es) zero e h u =
-      subst (λ (y : Entry). (set.contains said y.gtid || list_any (is_of_unequal y.gtid) (told said x es (says said x))) ≡ true) (same_Some x e h)
-      (here (says said x) refl (ap (is_unequal world) (same_Some x e h) ∙ u))
+  said_all : (reported : Gtids) (es : List Entry) (m : ℕ) (e : Entry) → slice_get es m ≡ Some e → is_unequal world e ≡ true
+      → (set.contains reported e.gtid || list_any (is_of_unequal e.gtid) (unequal_from world reported es)) ≡ true
+  said_all reported [] m e h u = none_some e h
+  said_all reported (x ∷ es) zero e h u =
+      subst (λ (y : Entry). (set.contains reported y.gtid || list_any (is_of_unequal y.gtid) (told reported x es (says reported x))) ≡ true) (same_Some x e h)
+      (here (says reported x) refl (ap (is_unequal world) (same_Some x e h) ∙ u))
     where
-      here : (b : Bool) → says said x ≡ b → is_unequal world x ≡ true → (set.contains said x.gtid || list_any (is_of_unequal x.gtid) (told said x es b)) ≡ true
+      here : (b : Bool) → says reported x ≡ b → is_unequal world x ≡ true → (set.contains reported x.gtid || list_any (is_of_unequal x.gtid) (told reported x es b)) ≡ true
       here true s t =
-          or_right (set.contains said x.gtid) (list_any (is_of_unequal x.gtid) (told said x es true))
-          (or_left (same_gtid x.gtid x.gtid) (list_any (is_of_unequal x.gtid) (unequal_from world (set.insert said x.gtid) es)) (same_itself x.gtid))
+          or_right (set.contains reported x.gtid) (list_any (is_of_unequal x.gtid) (told reported x es true))
+          (or_left (same_gtid x.gtid x.gtid) (list_any (is_of_unequal x.gtid) (unequal_from world (set.insert reported x.gtid) es)) (same_itself x.gtid))
       here false s t =
-          or_left (set.contains said x.gtid) (list_any (is_of_unequal x.gtid) (told said x es false))
-          (true_from_ne_false (set.contains said x.gtid) (λ n. not_both (says said x) (and_from (is_unequal world x) (not (set.contains said x.gtid)) t (not_from_false (set.contains said x.gtid) n)) s))
-  said_all said (x ∷ es) (suc m) e h u = later (says said x) (said_all (set.insert said x.gtid) es m e h u) (said_all said es m e h u)
+          or_left (set.contains reported x.gtid) (list_any (is_of_unequal x.gtid) (told reported x es false))
+          (true_from_ne_false (set.contains reported x.gtid) (λ n. not_both (says reported x) (and_from (is_unequal world x) (not (set.contains reported x.gtid)) t (not_from_false (set.contains reported x.gtid) n)) s))
+  said_all reported (x ∷ es) (suc m) e h u = later (says reported x) (said_all (set.insert reported x.gtid) es m e h u) (said_all reported es m e h u)
     where
-      later : (b : Bool) → (set.contains (set.insert said x.gtid) e.gtid || list_any (is_of_unequal e.gtid) (unequal_from world (set.insert said x.gtid) es)) ≡ true
-          → (set.contains said e.gtid || list_any (is_of_unequal e.gtid) (unequal_from world said es)) ≡ true → (set.contains said e.gtid || list_any (is_of_unequal e.gtid) (told said x es b)) ≡ true
+      later : (b : Bool) → (set.contains (set.insert reported x.gtid) e.gtid || list_any (is_of_unequal e.gtid) (unequal_from world (set.insert reported x.gtid) es)) ≡ true
+          → (set.contains reported e.gtid || list_any (is_of_unequal e.gtid) (unequal_from world reported es)) ≡ true → (set.contains reported e.gtid || list_any (is_of_unequal e.gtid) (told reported x es b)) ≡ true
       later true more same =
-          moved (same_gtid e.gtid x.gtid) (set.contains said e.gtid) (list_any (is_of_unequal e.gtid) (unequal_from world (set.insert said x.gtid) es))
-          (ap (λ b. b || list_any (is_of_unequal e.gtid) (unequal_from world (set.insert said x.gtid) es)) (sym (in_insert said x.gtid e.gtid)) ∙ more)
+          moved (same_gtid e.gtid x.gtid) (set.contains reported e.gtid) (list_any (is_of_unequal e.gtid) (unequal_from world (set.insert reported x.gtid) es))
+          (ap (λ b. b || list_any (is_of_unequal e.gtid) (unequal_from world (set.insert reported x.gtid) es)) (sym (in_insert reported x.gtid e.gtid)) ∙ more)
       later false more same = same
 
   -- what was reported is not reported again
-  not_again : (said : Gtids) (es : List Entry) (g : Gtid) → set.contains said g ≡ true → list_any (is_of_unequal g) (unequal_from world said es) ≡ false
-  not_again said [] g h = refl
-  not_again said (x ∷ es) g h =
-      by (says said x) refl (not_again (set.insert said x.gtid) es g (in_insert said x.gtid g ∙ or_right (same_gtid g x.gtid) (set.contains said g) h)) (not_again said es g h)
+  not_again : (reported : Gtids) (es : List Entry) (g : Gtid) → set.contains reported g ≡ true → list_any (is_of_unequal g) (unequal_from world reported es) ≡ false
+  not_again reported [] g h = refl
+  not_again reported (x ∷ es) g h =
+      by (says reported x) refl (not_again (set.insert reported x.gtid) es g (in_insert reported x.gtid g ∙ or_right (same_gtid g x.gtid) (set.contains reported g) h)) (not_again reported es g h)
     where
-      by : (b : Bool) → says said x ≡ b → list_any (is_of_unequal g) (unequal_from world (set.insert said x.gtid) es) ≡ false → list_any (is_of_unequal g) (unequal_from world said es) ≡ false
-          → list_any (is_of_unequal g) (told said x es b) ≡ false
+      by : (b : Bool) → says reported x ≡ b → list_any (is_of_unequal g) (unequal_from world (set.insert reported x.gtid) es) ≡ false → list_any (is_of_unequal g) (unequal_from world reported es) ≡ false
+          → list_any (is_of_unequal g) (told reported x es b) ≡ false
       by true s more same =
-          let p = and_parts (is_unequal world x) (not (set.contains said x.gtid)) s in
+          let p = and_parts (is_unequal world x) (not (set.contains reported x.gtid)) s in
           let other : same_gtid g x.gtid ≡ false = false_from_ne_true (same_gtid g x.gtid) (λ is.
-          not_both (set.contains said x.gtid) (ap (set.contains said) (sym (same_is_equal g x.gtid is)) ∙ h) (not-true (set.contains said x.gtid) p.1)) in
-          ap (λ b. b || list_any (is_of_unequal g) (unequal_from world (set.insert said x.gtid) es)) other ∙ more
+          not_both (set.contains reported x.gtid) (ap (set.contains reported) (sym (same_is_equal g x.gtid is)) ∙ h) (not-true (set.contains reported x.gtid) p.1)) in
+          ap (λ b. b || list_any (is_of_unequal g) (unequal_from world (set.insert reported x.gtid) es)) other ∙ more
       by false s more same = same
 
-  once_from : (said : Gtids) (es : List Entry) → AreUnequalOnce (unequal_from world said es)
-  once_from said [] = tt
-  once_from said (x ∷ es) = by (says said x) (once_from (set.insert said x.gtid) es) (once_from said es)
+  once_from : (reported : Gtids) (es : List Entry) → AreUnequalOnce (unequal_from world reported es)
+  once_from reported [] = tt
+  once_from reported (x ∷ es) = by (says reported x) (once_from (set.insert reported x.gtid) es) (once_from reported es)
     where
-      by : (b : Bool) → AreUnequalOnce (unequal_from world (set.insert said x.gtid) es) → AreUnequalOnce (unequal_from world said es) → AreUnequalOnce (told said x es b)
+      by : (b : Bool) → AreUnequalOnce (unequal_from world (set.insert reported x.gtid) es) → AreUnequalOnce (unequal_from world reported es) → AreUnequalOnce (told reported x es b)
       by true more same =
-          (not_again (set.insert said x.gtid) es x.gtid (in_insert said x.gtid x.gtid ∙ or_left (same_gtid x.gtid x.gtid) (set.contains said x.gtid) (same_itself x.gtid)), more)
+          (not_again (set.insert reported x.gtid) es x.gtid (in_insert reported x.gtid x.gtid ∙ or_left (same_gtid x.gtid x.gtid) (set.contains reported x.gtid) (same_itself x.gtid)), more)
       by false more same = same
 
-  named_from : (journals : List JournalValue) (said : Gtids) (es : List Entry) → ((m : ℕ) (e : Entry) → slice_get es m ≡ Some e → IsEntryOf journals e)
-      → AllByRecursion (IsUnequalNamed world journals) (unequal_from world said es)
-  named_from journals said [] there = tt
-  named_from journals said (x ∷ es) there =
-      by (says said x) refl (named_from journals (set.insert said x.gtid) es (λ m e h. there (suc m) e h)) (named_from journals said es (λ m e h. there (suc m) e h))
+  named_from : (journals : List JournalValue) (reported : Gtids) (es : List Entry) → ((m : ℕ) (e : Entry) → slice_get es m ≡ Some e → IsEntryOf journals e)
+      → AllByRecursion (IsUnequalNamed world journals) (unequal_from world reported es)
+  named_from journals reported [] there = tt
+  named_from journals reported (x ∷ es) there =
+      by (says reported x) refl (named_from journals (set.insert reported x.gtid) es (λ m e h. there (suc m) e h)) (named_from journals reported es (λ m e h. there (suc m) e h))
     where
-      by : (b : Bool) → says said x ≡ b → AllByRecursion (IsUnequalNamed world journals) (unequal_from world (set.insert said x.gtid) es) → AllByRecursion (IsUnequalNamed world journals) (unequal_from world said es)
-          → AllByRecursion (IsUnequalNamed world journals) (told said x es b)
-      by true s more same = (differs_at journals x (there zero x refl) (and_parts (is_unequal world x) (not (set.contains said x.gtid)) s).0, more)
+      by : (b : Bool) → says reported x ≡ b → AllByRecursion (IsUnequalNamed world journals) (unequal_from world (set.insert reported x.gtid) es) → AllByRecursion (IsUnequalNamed world journals) (unequal_from world reported es)
+          → AllByRecursion (IsUnequalNamed world journals) (told reported x es b)
+      by true s more same = (differs_at journals x (there zero x refl) (and_parts (is_unequal world x) (not (set.contains reported x.gtid)) s).0, more)
       by false s more same = same
 
   -- ---- the verdict
@@ -188,17 +188,17 @@ module _ (world : World) where
 
   others : (journals : List JournalValue) (v : Verdict) → v ≡ verdict world journals → AreOtherUnequal world journals v (other_unequal world journals v)
   others journals (Unequal g) e =
-      let said : Gtids = set.insert set.empty g in
+      let reported : Gtids = set.insert set.empty g in
       let all : List Entry = all_entries journals in
       record {
-        named = named_from journals said all (λ m x h. entry_of journals m x h);
+        named = named_from journals reported all (λ m x h. entry_of journals m x h);
         every = λ h d.
             let x = d.entry in
             let at = of_entry journals d.there.number d.there.journal d.there.place x d.there.listed d.there.there in
             let u = is_unequal_at x (ap (is_opened world) d.named ∙ d.new) (λ same. d.differs (ap (content world) (sym d.named) ∙ same)) in
-            first_said g h (list_any (is_of_unequal h) (unequal_from world said all))
-            (subst (λ (y : Gtid). (set.contains said y || list_any (is_of_unequal y) (unequal_from world said all)) ≡ true) d.named (said_all said all at.0 x at.1 u));
-        once = (not_again said all g (in_insert set.empty g g ∙ or_left (same_gtid g g) (set.contains set.empty g) (same_itself g)), once_from said all);
+            first_said g h (list_any (is_of_unequal h) (unequal_from world reported all))
+            (subst (λ (y : Gtid). (set.contains reported y || list_any (is_of_unequal y) (unequal_from world reported all)) ≡ true) d.named (said_all reported all at.0 x at.1 u));
+        once = (not_again reported all g (in_insert set.empty g g ∙ or_left (same_gtid g g) (set.contains set.empty g) (same_itself g)), once_from reported all);
       }
   others journals (Purged i gtids) e = no_others journals (Purged i gtids) e refl refl
   others journals (Missing g) e = no_others journals (Missing g) e refl refl

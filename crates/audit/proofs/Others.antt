@@ -19,7 +19,7 @@ use Rattle.rows.proofs.Lists.{all_append, get_append_left, none_some}
 use Rattle.source_history.specs.World.{World, content}
 use Rattle.source_history.specs.World as history
 use Rattle.source_history.proofs.Gtids.{number_less}
-use Rattle.source_history.proofs.Entries.{IsRising, rising}
+use Rattle.source_history.proofs.Entries.{IsAscending, rising}
 use Rattle.ordered_journals.proofs.Lists.{all_at, get_push_cases}
 use Rattle.world.specs.declared.verdict.Verdict.{Verdict}
 use Rattle.world.specs.declared.verdict.Verdict.TheVariants.{Shared}
@@ -380,7 +380,7 @@ module _ (world : World) where
 
   module _ (before : List history.Entry) (h : history.Entry) (later : List history.Entry) (parts : all ≡ before ++ h ∷ later) where
     order : AllByRecursion (λ (x : history.Entry). gtid_cmp x.0 h.0 ≡ Less) before × AllByRecursion (λ (z : history.Entry). gtid_cmp h.0 z.0 ≡ Less) later
-    order = rising_parts before h later (subst IsRising parts (rising world))
+    order = rising_parts before h later (subst IsAscending parts (rising world))
 
     -- what is less comes before
     stands_before : (a : Gtid) (i : ℕ) (e : history.Entry) → slice_get all i ≡ Some e → Under e.0 h.0 → (j : ℕ) × (slice_get before j ≡ Some e)

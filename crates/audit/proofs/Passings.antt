@@ -23,10 +23,10 @@ use Rattle.journal.specs.Journals.{JournalValue}
 use Rattle.source_history.specs.World.{World, content, is_opened}
 use Rattle.source_history.specs.World as history
 use Rattle.source_history.proofs.Gtids.{number_less}
-use Rattle.source_history.proofs.Entries.{IsRising, rising}
+use Rattle.source_history.proofs.Entries.{IsAscending, rising}
 use Rattle.ordered_journals.proofs.Lists.{all_at}
 use Rattle.world.specs.Search.{when}
-use Rattle.world.specs.Audit.{all_entries, world_of, present, stands_in}
+use Rattle.world.specs.Audit.{all_entries, world_of, present, is_recorded_in}
 use Rattle.world.specs.Cases.{IsMissing}
 use Rattle.world.proofs.Finding.{below_test, when_some}
 use Rattle.world.proofs.Gaps.{number_lt}
@@ -96,7 +96,7 @@ not_same m n l e = omega arith
 not_twice : (g e f : ℕ) → g < e → e < f → f ≡ g → ⊥
 not_twice g e f a b c = omega arith
 
-skipped_here : (last : Option Gtid) (e : history.Entry) (es : List history.Entry) (g : Gtid) → IsRising (e ∷ es) → IsInGap last e.0 g → IsSkipped last (e ∷ es) g
+skipped_here : (last : Option Gtid) (e : history.Entry) (es : List history.Entry) (g : Gtid) → IsAscending (e ∷ es) → IsInGap last e.0 g → IsSkipped last (e ∷ es) g
 skipped_here last e es g up h = record {
   place = zero;
   greater = e;
@@ -143,7 +143,7 @@ behind_on (Some p) e f g l m s h = λ same. by l m same
         let here : e.source ≡ g.source = between p.source e.source f.source (le_lies p e l) (le_lies e f m) (same ∙ sym s) ∙ s in
         elim l [ inl x ↦ absurd (strict p.source e.source g.source x same here) | inr x ↦ trans p.number e.number g.number x.1 (h here) ]
 
-skipped_later : (last : Option Gtid) (e : history.Entry) (es : List history.Entry) (g : Gtid) → IsRising (e ∷ es) → Precedes last e.0 → IsSkipped (Some e.0) es g → IsSkipped last (e ∷ es) g
+skipped_later : (last : Option Gtid) (e : history.Entry) (es : List history.Entry) (g : Gtid) → IsAscending (e ∷ es) → Precedes last e.0 → IsSkipped (Some e.0) es g → IsSkipped last (e ∷ es) g
 skipped_later last e es g up before h = record {
   place = suc h.place;
   greater = h.greater;
@@ -165,7 +165,7 @@ all_after : (e : history.Entry) (es : List history.Entry) → AllByRecursion (λ
 all_after e [] h = tt
 all_after e (f ∷ es) h = (lies e.0 f.0 h.0, all_after e es h.1)
 
-skipped_is : (last : Option Gtid) (es : List history.Entry) (g : Gtid) → IsRising es → AllByRecursion (λ (f : history.Entry). Precedes last f.0) es → is_skipped last es g ≡ true → IsSkipped last es g
+skipped_is : (last : Option Gtid) (es : List history.Entry) (g : Gtid) → IsAscending es → AllByRecursion (λ (f : history.Entry). Precedes last f.0) es → is_skipped last es g ≡ true → IsSkipped last es g
 skipped_is last [] g up before h = cc
 skipped_is last (e ∷ es) g up before h = elim (or_cases (lies_between e.0.source (number_before last e.0.source) e.0.number g) (is_skipped (Some e.0) es g) h) [
   | inl here ↦ skipped_here last e es g up (in_gap last e.0 g here)
@@ -243,7 +243,7 @@ module _ (world : World) (journals : List JournalValue) where
       let known = at_content w s.place s.greater s.there in
       record {
         new = new;
-        absent = false_from_ne_true (stands_in (all_entries journals) g) (λ stands.
+        absent = false_from_ne_true (is_recorded_in (all_entries journals) g) (λ stands.
             let t = some_of (content w g) (entry_content world.opening_set (all_entries journals) g stands new) in
             let at = content_at w g t.0 t.1 in
             s.absent at.0 (g, t.0) at.1 refl);
@@ -265,8 +265,8 @@ module _ (world : World) (journals : List JournalValue) where
         there = at.1;
         same = m.same;
         less = m.below;
-        absent = λ i f s same. two_ways (stands_in (all_entries journals) g)
-            (subst (λ (x : Gtid). stands_in (all_entries journals) x ≡ true) same (contents_entry world.opening_set (all_entries journals) f.0 f.1 (at_content w i f s))) m.absent;
+        absent = λ i f s same. two_ways (is_recorded_in (all_entries journals) g)
+            (subst (λ (x : Gtid). is_recorded_in (all_entries journals) x ≡ true) same (contents_entry world.opening_set (all_entries journals) f.0 f.1 (at_content w i f s))) m.absent;
         behind = tt;
         positive = m.positive;
       })

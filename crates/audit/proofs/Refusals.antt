@@ -23,7 +23,7 @@ use Rattle.ordered_history.proofs.Placing.{all_map, chosen_applies}
 use Rattle.source_history.specs.World.{World, content, of_source, entries_in, apply_all, AreKeysSound}
 use Rattle.source_history.specs.World as history
 use Rattle.source_history.proofs.Alone.{source_closed}
-use Rattle.source_history.proofs.Entries.{IsRising, AreFound, rising, found, apart_sources}
+use Rattle.source_history.proofs.Entries.{IsAscending, AreFound, rising, found, apart_sources}
 use Rattle.world.specs.declared.verdict.Verdict.{Verdict}
 use Rattle.world.specs.declared.verdict.Verdict.TheVariants.{Unequal, Purged, Missing, Shared, NotClosed, DoesNotApply, Sound}
 use Rattle.world.specs.Search.{or_next, when, first_at}
@@ -33,7 +33,7 @@ use Rattle.world.proofs.Gaps.{number_lt}
 use Rattle.world.proofs.Leasts.{first_source_fails}
 use Rattle.world.proofs.OnePass.{agree_after, rising_parts, source_le}
 use Rattle.world.proofs.Saying.{fault_free}
-use Rattle.audit.specs.OtherRefusals.{refused_alone, IsRefusalNamed, is_of_refusal, is_refusal, is_greater_refusal, AreRefusalsRising, AreOtherRefusals, refused_or, refused_from, other_refusals}
+use Rattle.audit.specs.OtherRefusals.{refused_alone, IsRefusalNamed, is_of_refusal, is_refusal, is_greater_refusal, AreRefusalsAscending, AreOtherRefusals, refused_or, refused_from, other_refusals}
 use Rattle.audit.specs.Worlds.{LieBeyond}
 use Rattle.audit.proofs.Sounding.{filled, filled_sound}
 
@@ -149,7 +149,7 @@ module _ (world : World) (sound : AreKeysSound world) where
 
   module _ (before later : List history.Entry) (e : history.Entry) (passed : ℕ) (rows : Rows) (parts : es0 ≡ before ++ e ∷ later) (a : Applied before passed rows) where
     order : AllByRecursion (λ (z : history.Entry). gtid_cmp e.0 z.0 ≡ Less) later
-    order = (rising_parts before e later (subst IsRising parts (rising world))).1
+    order = (rising_parts before e later (subst IsAscending parts (rising world))).1
 
     there : content world e.0 ≡ Some e.1
     there = (all_parts (λ x. content world x.0 ≡ Some x.1) before (e ∷ later) (subst (AreFound world) parts (found world))).1.0
@@ -209,7 +209,7 @@ module _ (world : World) (sound : AreKeysSound world) where
     pub named : AllByRecursion (IsRefusalNamed world) list
     pub every : (s : ℕ) (fault : Gtid × RowFault) → passed < s → refused_alone world s ≡ Some fault → list_any (is_of_refusal s) list ≡ true
     pub greater : AllByRecursion (λ v. is_greater_refusal passed v ≡ true) list
-    pub rising : AreRefusalsRising list
+    pub rising : AreRefusalsAscending list
 
   module _ (before rest : List history.Entry) (e : history.Entry) (passed : ℕ) (rows : Rows) (parts : es0 ≡ before ++ e ∷ rest) (a : Applied before passed rows)
       (more : (q : ℕ) (new : Rows) → Applied (before ++ e ∷ []) q new → AreRefused q (refused_from world.schema q rest new)) where

@@ -16,11 +16,11 @@ use Rattle.source_history.specs.World as history
 use Rattle.ordered_journals.proofs.Lists.{get_take, all_at}
 use Rattle.world.specs.declared.verdict.Verdict.TheVariants.{Missing, NotClosed}
 use Rattle.world.specs.Search.{or_next}
-use Rattle.world.specs.Audit.{all_entries, world_of, stands_in, stands_before, is_absent, below, present, unequal, purged, missing, found_in_gtids, is_left_out, shared, not_closed}
+use Rattle.world.specs.Audit.{all_entries, world_of, is_recorded_in, is_recorded_before, is_absent, below, present, unequal, purged, missing, found_in_gtids, is_left_out, shared, not_closed}
 use Rattle.world.specs.Cases.{IsMissing}
 use Rattle.world.proofs.Finding.{none_next, none_when, none_first, taken, range_above}
 use Rattle.world.proofs.Contents.{entry_at, entry_from, in_all, of_all, at_content, contents_entry}
-use Rattle.audit.specs.Ordered.{is_there, AreBelow, IsInOrder, AreInOrder, AreTops, IsRaised}
+use Rattle.audit.specs.Ordered.{is_there, AreBelow, IsInOrder, AreInOrder, AreTops, IsTopOrNext}
 use Rattle.audit.specs.Worlds.{LieBeyond}
 use Rattle.std.proofs.lemmas.Option.{same_Some}
 use Rattle.rows.proofs.Patching.{not_both}
@@ -39,13 +39,13 @@ lt_more a b l = omega arith
 
 module _ (opened : Gtids) (es : List Entry) (i : ℕ) where
   stays : (g : Gtid) → is_there opened (take i es) g ≡ true → is_there opened (take (i + 1) es) g ≡ true
-  stays g h = elim (or_cases (set.contains opened g) (stands_in (take i es) g) h) [
-    | inl p ↦ or_left (set.contains opened g) (stands_in (take (i + 1) es) g) p
+  stays g h = elim (or_cases (set.contains opened g) (is_recorded_in (take i es) g) h) [
+    | inl p ↦ or_left (set.contains opened g) (is_recorded_in (take (i + 1) es) g) p
     | inr e ↦
         let a = entry_at (take i es) g e in
         let b = taken es i a.0 a.1 a.2 in
-        or_right (set.contains opened g) (stands_in (take (i + 1) es) g)
-        (subst (λ (x : Gtid). stands_in (take (i + 1) es) x ≡ true) a.3 (entry_from (take (i + 1) es) a.0 a.1 (get_take es (i + 1) a.0 a.1 b.0 (lt_more a.0 i b.1))))
+        or_right (set.contains opened g) (is_recorded_in (take (i + 1) es) g)
+        (subst (λ (x : Gtid). is_recorded_in (take (i + 1) es) x ≡ true) a.3 (entry_from (take (i + 1) es) a.0 a.1 (get_take es (i + 1) a.0 a.1 b.0 (lt_more a.0 i b.1))))
   ]
 
   itself : i < i + 1
@@ -53,7 +53,7 @@ module _ (opened : Gtids) (es : List Entry) (i : ℕ) where
 
   module _ (e : Entry) (here : slice_get es i ≡ Some e) where
     arrives : is_there opened (take (i + 1) es) e.gtid ≡ true
-    arrives = or_right (set.contains opened e.gtid) (stands_in (take (i + 1) es) e.gtid) (entry_from (take (i + 1) es) i e (get_take es (i + 1) i e here itself))
+    arrives = or_right (set.contains opened e.gtid) (is_recorded_in (take (i + 1) es) e.gtid) (entry_from (take (i + 1) es) i e (get_take es (i + 1) i e here itself))
 
     below_stays : (source number : ℕ) → AreBelow opened (take i es) source number → AreBelow opened (take (i + 1) es) source number
     below_stays source number below n p l = stays (gtid source n) (below n p l)
@@ -61,7 +61,7 @@ module _ (opened : Gtids) (es : List Entry) (i : ℕ) where
     pub tops_stay : (tops : List (ℕ × ℕ)) → AreTops opened (take i es) tops → AreTops opened (take (i + 1) es) tops
     tops_stay tops are source top at = below_stays source (top + 1) (are source top at)
 
-    module _ (before next : Gtid) (source : before.source ≡ e.gtid.source) (up : IsRaised before e.gtid.number next) (below : AreBelow opened (take i es) before.source (before.number + 1)) where
+    module _ (before next : Gtid) (source : before.source ≡ e.gtid.source) (up : IsTopOrNext before e.gtid.number next) (below : AreBelow opened (take i es) before.source (before.number + 1)) where
       -- what the entry needs is there
       pub entry_below : AreBelow opened (take i es) e.gtid.source e.gtid.number
       entry_below n p l = subst (λ s. is_there opened (take i es) (gtid s n) ≡ true) source (below n p (less n e.gtid.number (before.number + 1) l up.near))
@@ -105,16 +105,16 @@ module _ (world : World) (beyond : LieBeyond world.opening_set world.contents) (
       let a = and_parts (not (is_opened world e.gtid)) _ t in
       let b = and_parts (h.0.source == e.gtid.source) _ a.1 in
       let c = and_parts (nat_lt h.0.number e.gtid.number) _ b.1 in
-      let d = and_parts (shares_key world.schema h.1 e.txn) (not (stands_before j place h.0)) c.1 in
+      let d = and_parts (shares_key world.schema h.1 e.txn) (not (is_recorded_before j place h.0)) c.1 in
       let at = at_content world l h hl in
       let there = ordered place e he h.0.number (beyond.from_one h.0 h.1 at) (number_lt h.0.number e.gtid.number c.0) in
       let is : gtid e.gtid.source h.0.number ≡ h.0 = λ k. record { source = sym (eqb-true h.0.source e.gtid.source b.0) k; number = h.0.number } in
-      stands h.0 h.1 at (subst (λ (g : Gtid). is_there world.opening_set (take place j.entries) g ≡ true) is there) (not-true (stands_before j place h.0) d.1))
+      stands h.0 h.1 at (subst (λ (g : Gtid). is_there world.opening_set (take place j.entries) g ≡ true) is there) (not-true (is_recorded_before j place h.0) d.1))
     where
-      stands : (g : Gtid) (t : Transaction) → content world g ≡ Some t → is_there world.opening_set (take place j.entries) g ≡ true → stands_before j place g ≡ false → ⊥
-      stands g t at there not_before = elim (or_cases (is_opened world g) (stands_in (take place j.entries) g) there) [
+      stands : (g : Gtid) (t : Transaction) → content world g ≡ Some t → is_there world.opening_set (take place j.entries) g ≡ true → is_recorded_before j place g ≡ false → ⊥
+      stands g t at there not_before = elim (or_cases (is_opened world g) (is_recorded_in (take place j.entries) g) there) [
         | inl p ↦ not_both (is_opened world g) p (beyond.outside g t at)
-        | inr q ↦ not_both (stands_before j place g) (or_right (set.contains j.previous g) (stands_in (take place j.entries) g) q) not_before
+        | inr q ↦ not_both (is_recorded_before j place g) (or_right (set.contains j.previous g) (is_recorded_in (take place j.entries) g) q) not_before
       ]
 
   -- where journals are in order nothing is left out of them
@@ -134,20 +134,20 @@ only_shared world journals beyond ordered = first_alone (shared world) (not_clos
 
 module _ (world : World) (journals : List JournalValue) (ordered : AreInOrder world.opening_set journals) where
   -- a lower number than that of an entry is there
-  pub none_absent : (g h : Gtid) → stands_in (all_entries journals) g ≡ true → h.source ≡ g.source → 0 < h.number → h.number < g.number → (is_opened world h || stands_in (all_entries journals) h) ≡ true
+  pub none_absent : (g h : Gtid) → is_recorded_in (all_entries journals) g ≡ true → h.source ≡ g.source → 0 < h.number → h.number < g.number → (is_opened world h || is_recorded_in (all_entries journals) h) ≡ true
   none_absent g h stands source positive less =
       let a = in_all journals g stands in
       let b = entry_at a.1.entries g a.3 in
       let in_order = all_at (λ (x : JournalValue). IsInOrder world.opening_set x.entries) journals a.0 a.1 ordered a.2 in
       let is : gtid b.1.gtid.source h.number ≡ h = λ k. record { source = (ap (λ (x : Gtid). x.source) b.3 ∙ sym source) k; number = h.number } in
       let there = in_order b.0 b.1 b.2 h.number positive (subst (λ (x : Gtid). h.number < x.number) (sym b.3) less) in
-      elim (or_cases (is_opened world h) (stands_in (take b.0 a.1.entries) h) (subst (λ (x : Gtid). is_there world.opening_set (take b.0 a.1.entries) x ≡ true) is there)) [
-        | inl p ↦ or_left (is_opened world h) (stands_in (all_entries journals) h) p
+      elim (or_cases (is_opened world h) (is_recorded_in (take b.0 a.1.entries) h) (subst (λ (x : Gtid). is_there world.opening_set (take b.0 a.1.entries) x ≡ true) is there)) [
+        | inl p ↦ or_left (is_opened world h) (is_recorded_in (all_entries journals) h) p
         | inr q ↦
             let c = entry_at (take b.0 a.1.entries) h q in
             let d = taken a.1.entries b.0 c.0 c.1 c.2 in
-            or_right (is_opened world h) (stands_in (all_entries journals) h)
-            (of_all journals a.0 a.1 h a.2 (subst (λ (x : Gtid). stands_in a.1.entries x ≡ true) c.3 (entry_from a.1.entries c.0 c.1 d.0)))
+            or_right (is_opened world h) (is_recorded_in (all_entries journals) h)
+            (of_all journals a.0 a.1 h a.2 (subst (λ (x : Gtid). is_recorded_in a.1.entries x ≡ true) c.3 (entry_from a.1.entries c.0 c.1 d.0)))
       ]
 
   not_absent : (a b : Bool) → (a || b) ≡ true → (not a && not b) ≡ false
@@ -161,7 +161,7 @@ module _ (world : World) (journals : List JournalValue) (ordered : AreInOrder wo
       let q = range_above 1 (g.0.number - 1) k r.0 r.1 in
       let n : r.0 ≡ h.number = ap (λ (x : Gtid). x.number) r.2 in
       let there = at_content (world_of world.schema world.opening_set world.opening_rows journals) i g hi in
-      none_when (is_absent world journals h) (Missing h) (not_absent (is_opened world h) (stands_in (all_entries journals) h)
+      none_when (is_absent world journals h) (Missing h) (not_absent (is_opened world h) (is_recorded_in (all_entries journals) h)
       (none_absent g.0 h (contents_entry world.opening_set (all_entries journals) g.0 g.1 there) (ap (λ (x : Gtid). x.source) (sym r.2)) (positive r.0 h.number n q.0) (less r.0 h.number g.0.number n q.1 q.0)))))
     where
       positive : (a b : ℕ) → a ≡ b → 1 ≤ a → 0 < b
@@ -173,8 +173,8 @@ module _ (world : World) (journals : List JournalValue) (ordered : AreInOrder wo
   -- no GTID is missing
   pub none_missing : (g : Gtid) → IsMissing world journals g → ⊥
   none_missing g m =
-      not_both (is_opened world g || stands_in (all_entries journals) g) (none_absent m.greater g m.there (sym m.same) m.positive m.below)
-      (ap (λ b. b || stands_in (all_entries journals) g) m.new ∙ m.absent)
+      not_both (is_opened world g || is_recorded_in (all_entries journals) g) (none_absent m.greater g m.there (sym m.same) m.positive m.below)
+      (ap (λ b. b || is_recorded_in (all_entries journals) g) m.new ∙ m.absent)
 
 -- ---- where nothing is unequal or purged either
 

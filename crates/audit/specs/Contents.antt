@@ -43,8 +43,8 @@ abbrev pub contents_of : List Entry → Contents
 contents_of entries = finmap.from_entries (map as_pair entries)
 
 -- each GTID is less than those after it
-abbrev pub IsRising : List Entry → Type 0
-IsRising entries = IsStrictlySortedBy gtid_cmp (map (λ e. e.gtid) entries)
+abbrev pub IsAscending : List Entry → Type 0
+IsAscending entries = IsStrictlySortedBy gtid_cmp (map (λ e. e.gtid) entries)
 
 -- those that were not executed from the start
 abbrev pub beyond : Gtids → List Entry → List Entry

@@ -70,8 +70,8 @@ needs_in world = needs_over world.schema finmap.empty finmap.empty (finmap.entri
 -- ---- a journal
 
 -- in the previous set, or among these
-abbrev pub stands : Gtids → Gtids → Gtid → Bool
-stands previous standing g = set.contains previous g || set.contains standing g
+abbrev pub is_recorded : Gtids → Gtids → Gtid → Bool
+is_recorded previous standing g = set.contains previous g || set.contains standing g
 
 -- something that an entry needs is absent
 abbrev pub lacks : Needs → (Gtid → Bool) → Gtid → Bool
@@ -94,7 +94,7 @@ gap_at world needs stand e = if not (is_opened world e.gtid) && lacks needs stan
 abbrev pub gap_among : World → Needs → Gtids → Gtids → List Entry → Option Verdict
 gap_among world needs previous standing [] = None
 gap_among world needs previous standing (e ∷ es) =
-    or_next (gap_at world needs (stands previous standing) e) (gap_among world needs previous (set.insert standing e.gtid) es)
+    or_next (gap_at world needs (is_recorded previous standing) e) (gap_among world needs previous (set.insert standing e.gtid) es)
 
 -- the first in order of journals
 abbrev pub first_gap : World → Needs → List JournalValue → Option Verdict

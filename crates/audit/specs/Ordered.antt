@@ -7,11 +7,11 @@ use Rattle.gtid_text.specs.declared.Gtid.{Gtid}
 use Rattle.gtid_set.specs.Sets.{Gtids, gtid}
 use Rattle.journal.specs.declared.Entry.{Entry}
 use Rattle.journal.specs.Journals.{JournalValue}
-use Rattle.world.specs.Audit.{stands_in}
+use Rattle.world.specs.Audit.{is_recorded_in}
 
 -- in the opening set, or among these entries
 abbrev pub is_there : Gtids → List Entry → Gtid → Bool
-is_there opened es g = set.contains opened g || stands_in es g
+is_there opened es g = set.contains opened g || is_recorded_in es g
 
 -- all lower numbers of the source are there
 abbrev pub AreBelow : Gtids → List Entry → ℕ → ℕ → Type 0
@@ -35,7 +35,7 @@ abbrev pub AreTops : Gtids → List Entry → List (ℕ × ℕ) → Type 0
 AreTops opened es tops = (source top : ℕ) → top_of tops source ≡ Some top → AreBelow opened es source (top + 1)
 
 -- g has the source of top, and its number, or the next one that came
-pub record IsRaised (top : Gtid) (number : ℕ) (g : Gtid) : Type 0 where
+pub record IsTopOrNext (top : Gtid) (number : ℕ) (g : Gtid) : Type 0 where
   pub source : g.source ≡ top.source
   pub near : number ≤ top.number + 1
   pub raised : (g.number ≡ top.number) ⊎ ((g.number ≡ top.number + 1) × (number ≡ top.number + 1))

@@ -15,9 +15,9 @@ use Rattle.journal.specs.Journals.{JournalValue}
 use Rattle.source_history.specs.World.{World, content}
 use Rattle.world.specs.declared.verdict.Verdict.{Verdict}
 use Rattle.world.specs.declared.verdict.Verdict.TheVariants.{NotClosed}
-use Rattle.world.specs.Audit.{stands_before, unequal, purged}
-use Rattle.world.specs.Cases.{IsEntryOf, Stands}
-use Rattle.audit.specs.Gaps.{Needs, needs_in, stands}
+use Rattle.world.specs.Audit.{is_recorded_before, unequal, purged}
+use Rattle.world.specs.Cases.{IsEntryOf, NamesFault}
+use Rattle.audit.specs.Gaps.{Needs, needs_in, is_recorded}
 
 -- ---- the nearest earlier transaction at a key
 
@@ -32,7 +32,7 @@ pub record IsNearest (world : World) (h g : Gtid) (key : Key) : Type 0 where
 
 -- g is in a journal without h before it, the nearest earlier transaction at one of the keys of g; the keys are those of the world's
 -- transaction under g
-pub record StandsWithout (world : World) (journals : List JournalValue) (g h : Gtid) : Type 0 where
+pub record HasGap (world : World) (journals : List JournalValue) (g h : Gtid) : Type 0 where
   pub entry : Entry
   pub there : IsEntryOf journals entry
   pub named : entry.gtid ≡ g
@@ -41,10 +41,10 @@ pub record StandsWithout (world : World) (journals : List JournalValue) (g h : G
   pub key : Key
   pub touched : touches world.schema t key ≡ true
   pub nearest : IsNearest world h g key
-  pub left_out : stands_before there.journal there.place h ≡ false
+  pub left_out : is_recorded_before there.journal there.place h ≡ false
 
 -- h comes before g in its source, shares a key with it, and does not come before it in a journal; the transactions of both are the world's
-pub record StandsBehind (world : World) (journals : List JournalValue) (g h : Gtid) : Type 0 where
+pub record LeavesOut (world : World) (journals : List JournalValue) (g h : Gtid) : Type 0 where
   pub entry : Entry
   pub there : IsEntryOf journals entry
   pub named : entry.gtid ≡ g
@@ -55,11 +55,11 @@ pub record StandsBehind (world : World) (journals : List JournalValue) (g h : Gt
   pub source : h.source ≡ g.source
   pub smaller : h.number < g.number
   pub shares : shares_key world.schema u t ≡ true
-  pub left_out : stands_before there.journal there.place h ≡ false
+  pub left_out : is_recorded_before there.journal there.place h ≡ false
 
 -- the verdict reports a GTID that is present without a nearest earlier one, and names that one
 abbrev pub IsGapNamed : World → List JournalValue → Verdict → Type 0
-IsGapNamed world journals (NotClosed g h) = StandsWithout world journals g h
+IsGapNamed world journals (NotClosed g h) = HasGap world journals g h
 IsGapNamed world journals _ = ⊥
 
 -- the verdict reports this GTID
@@ -87,10 +87,10 @@ AreGapsOnce (v ∷ vs) = (is_gap_again v vs ≡ false) × AreGapsOnce vs
 -- opening set, no journal leaves anything out.
 pub record AreOtherGaps (world : World) (journals : List JournalValue) (v : Verdict) (list : List Verdict) : Type 0 where
   pub named : AllByRecursion (IsGapNamed world journals) list
-  pub every : (g h : Gtid) → StandsWithout world journals g h → (is_of_gap g v || list_any (is_of_gap g) list) ≡ true
+  pub every : (g h : Gtid) → HasGap world journals g h → (is_of_gap g v || list_any (is_of_gap g) list) ≡ true
   pub once : AreGapsOnce (v ∷ list)
-  pub cases : unequal world journals ≡ None → AllByRecursion (Stands world journals) list
-  pub closed : is_gap v ≡ false → list ≡ [] → purged world journals ≡ None → (g h : Gtid) → StandsBehind world journals g h → ⊥
+  pub cases : unequal world journals ≡ None → AllByRecursion (NamesFault world journals) list
+  pub closed : is_gap v ≡ false → list ≡ [] → purged world journals ≡ None → (g h : Gtid) → LeavesOut world journals g h → ⊥
 
 -- ---- the pass over the journals
 
@@ -110,7 +110,7 @@ with_gap g (Some h) gaps = (g, h) ∷ gaps
 abbrev pub gaps_among : Needs → Gtids → Gtids → List Entry → List Gap → List Gap
 gaps_among needs previous standing [] rest = rest
 gaps_among needs previous standing (e ∷ es) rest =
-    with_gap e.gtid (first_absent needs (stands previous standing) e.gtid) (gaps_among needs previous (set.insert standing e.gtid) es rest)
+    with_gap e.gtid (first_absent needs (is_recorded previous standing) e.gtid) (gaps_among needs previous (set.insert standing e.gtid) es rest)
 
 -- in order of journals and entries
 abbrev pub gaps_in : Needs → List JournalValue → List Gap
@@ -119,8 +119,8 @@ gaps_in needs (j ∷ js) = gaps_among needs j.previous set.empty j.entries (gaps
 
 -- of these the first of each GTID, unless that GTID was reported already
 abbrev pub unreported : Gtids → List Gap → List Verdict
-unreported said [] = []
-unreported said (p ∷ ps) = if set.contains said p.0 then unreported said ps else NotClosed p.0 p.1 ∷ unreported (set.insert said p.0) ps
+unreported reported [] = []
+unreported reported (p ∷ ps) = if set.contains reported p.0 then unreported reported ps else NotClosed p.0 p.1 ∷ unreported (set.insert reported p.0) ps
 
 -- the GTID of the verdict
 abbrev pub gap_of_verdict : Verdict → Gtids

@@ -42,9 +42,9 @@ AreGreaterRefusals (DoesNotApply g fault) vs = AllByRecursion (λ v. is_greater_
 AreGreaterRefusals _ vs = Unit {0}
 
 -- each reports a transaction of a greater source than those before
-abbrev pub AreRefusalsRising : List Verdict → Type 0
-AreRefusalsRising [] = Unit {0}
-AreRefusalsRising (v ∷ vs) = AreGreaterRefusals v vs × AreRefusalsRising vs
+abbrev pub AreRefusalsAscending : List Verdict → Type 0
+AreRefusalsAscending [] = Unit {0}
+AreRefusalsAscending (v ∷ vs) = AreGreaterRefusals v vs × AreRefusalsAscending vs
 
 -- Where a transaction does not apply by the verdict, each of these reports the first that is refused in its source's list taken alone;
 -- every source whose list taken alone is refused is that of the verdict or of one of these, and of one alone, since sources are ascending.
@@ -52,7 +52,7 @@ AreRefusalsRising (v ∷ vs) = AreGreaterRefusals v vs × AreRefusalsRising vs
 pub record AreOtherRefusals (world : World) (v : Verdict) (list : List Verdict) : Type 0 where
   pub named : AllByRecursion (IsRefusalNamed world) list
   pub every : is_refusal v ≡ true → (source : ℕ) (fault : Gtid × RowFault) → refused_alone world source ≡ Some fault → (is_of_refusal source v || list_any (is_of_refusal source) list) ≡ true
-  pub rising : AreRefusalsRising (v ∷ list)
+  pub rising : AreRefusalsAscending (v ∷ list)
   pub none : is_refusal v ≡ false → list ≡ []
 
 -- ---- the pass over the transactions

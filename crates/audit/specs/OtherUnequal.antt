@@ -42,9 +42,9 @@ pub record AreOtherUnequal (world : World) (journals : List JournalValue) (v : V
 
 -- of these entries each GTID whose transaction is not the world's, unless it was reported already
 abbrev pub unequal_from : World → Gtids → List Entry → List Verdict
-unequal_from world said [] = []
-unequal_from world said (e ∷ es) =
-    if is_unequal world e && not (set.contains said e.gtid) then Unequal e.gtid ∷ unequal_from world (set.insert said e.gtid) es else unequal_from world said es
+unequal_from world reported [] = []
+unequal_from world reported (e ∷ es) =
+    if is_unequal world e && not (set.contains reported e.gtid) then Unequal e.gtid ∷ unequal_from world (set.insert reported e.gtid) es else unequal_from world reported es
 
 -- each GTID that is unequal but that of the verdict; where another verdict is found, none is
 abbrev pub other_unequal : World → List JournalValue → Verdict → List Verdict

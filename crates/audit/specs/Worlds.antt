@@ -11,7 +11,7 @@ use Rattle.journal.specs.declared.Entry.{Entry}
 use Rattle.journal.specs.Journals.{JournalValue}
 use Rattle.source_history.specs.World.{World}
 use Rattle.gtid_set.specs.Sets.{Gtids}
-use Rattle.world.specs.Audit.{all_entries, first_contents, stands_in, world_of}
+use Rattle.world.specs.Audit.{all_entries, first_contents, is_recorded_in, world_of}
 use Rattle.audit.specs.Contents.{Contents, in_order}
 use Rattle.audit.specs.declared.sources.WorldFault.{WorldFault}
 use Rattle.audit.specs.declared.sources.WorldFault.TheVariants as world
@@ -63,8 +63,8 @@ IsPlaceIn contents g (Some place) = IsPlaceOf contents g place
 
 -- of the places that were not marked before only those of these entries' GTIDs are marked
 abbrev pub AreMarkedMore : Contents → List Entry → List Bool → List Bool → Type 0
-AreMarkedMore contents es old new = (place : ℕ) (e : Entry) → slice_get (in_order contents) place ≡ Some e → slice_index_or new place false ≡ true → (slice_index_or old place false ≡ true) ⊎ (stands_in es e.gtid ≡ true)
+AreMarkedMore contents es old new = (place : ℕ) (e : Entry) → slice_get (in_order contents) place ≡ Some e → slice_index_or new place false ≡ true → (slice_index_or old place false ≡ true) ⊎ (is_recorded_in es e.gtid ≡ true)
 
 -- each transaction's GTID is that of one of these entries
 abbrev pub AreAllIn : Contents → List Entry → Type 0
-AreAllIn contents es = (g : Gtid) (t : Transaction) → finmap.get contents g ≡ Some t → stands_in es g ≡ true
+AreAllIn contents es = (g : Gtid) (t : Transaction) → finmap.get contents g ≡ Some t → is_recorded_in es g ≡ true

@@ -35,7 +35,7 @@ impl World {
     }
 
     /// Whether each transaction's GTID is found in a journal. It takes a byte for each transaction.
-    fn stands_whole(&self, alloc: Global, journals: &[Journal]) -> Result<bool, AllocError>
+    fn are_all_recorded(&self, alloc: Global, journals: &[Journal]) -> Result<bool, AllocError>
         ensures { IfOk result (λ yes. yes ≡ true → AreAllIn self.now.contents (all_entries journals.now)) }
     {
         let mut marks = vec![in alloc; false; self.in_order().len()]?;
@@ -54,12 +54,12 @@ impl World {
             return Ok(false);
         }
         self.lie_beyond();
-        self.stands_whole(alloc, journals)
+        self.are_all_recorded(alloc, journals)
     }
 
     /// What journals bring first under each GTID beyond the opening set, where that is not found to be what
     /// the world has.
-    pub(crate) fn brought(
+    pub(crate) fn first_contents(
         &self,
         alloc: Global,
         journals: &[Journal],
@@ -71,7 +71,7 @@ impl World {
         if self.is_of(alloc, journals, equal)? {
             return Ok(None);
         }
-        let contents = Contents::of_journals(alloc, self.opened(), journals)?;
+        let contents = Contents::of_journals(alloc, self.opening_set(), journals)?;
         Ok(Some(contents))
     }
 }

@@ -5,7 +5,7 @@ ghost use Rattle.std.specs.Option.{option_copied};
 ghost use Rattle.std.specs.FinMap as finmap;
 ghost use Rattle.gtid_text.specs.Gtids.{gtid_cmp};
 ghost use Rattle.world.specs.Audit.{all_entries, first_contents};
-ghost use Rattle.audit.specs.Contents.{IsRising, beyond, contents_of, in_order};
+ghost use Rattle.audit.specs.Contents.{IsAscending, beyond, contents_of, in_order};
 ghost use Rattle.audit.specs.Worlds.{IsPlaceIn};
 
 use gtid_set::GtidSet;
@@ -27,7 +27,7 @@ pub(crate) struct Contents {
 }
 
 impl Model for Contents {
-    ghost use Rattle.audit.specs.Contents.{Contents, IsRising, contents_code, contents_of};
+    ghost use Rattle.audit.specs.Contents.{Contents, IsAscending, contents_code, contents_of};
 
     ghost Value = { Contents };
 
@@ -35,7 +35,7 @@ impl Model for Contents {
 
     ghost view = { λ a. contents_of a.entries.items };
 
-    ghost invariant = { λ a. IsRising a.entries.items };
+    ghost invariant = { λ a. IsAscending a.entries.items };
 }
 
 impl Contents {
@@ -119,7 +119,7 @@ fn push_entries(
 /// Sorts entries by their GTIDs and keeps the first of each. Where they are ascending already, it only looks
 /// at them; else the sort allocates room for as many entries.
 fn keep_firsts(list: &mut Vec<Entry>) -> Result<(), AllocError>
-    ensures rising { OnOk result (IsRising list.new.items) }
+    ensures rising { OnOk result (IsAscending list.new.items) }
     ensures firsts { OnOk result (contents_of list.new.items ≡ contents_of list.old.items) }
 {
     if is_ascending(list) {
@@ -132,7 +132,7 @@ fn keep_firsts(list: &mut Vec<Entry>) -> Result<(), AllocError>
 
 /// Whether the GTIDs of entries are ascending, none of them twice.
 fn is_ascending(entries: &[Entry]) -> bool
-    ensures { result ≡ true → IsRising entries.now }
+    ensures { result ≡ true → IsAscending entries.now }
 {
     entries.is_sorted_by(|a, b| a.gtid < b.gtid)
 }

@@ -40,16 +40,16 @@ fn find_shared_or_left_out(
     }
     let needed = world.needs(alloc)?;
     if !needed.apart {
-        if let Some(verdict) = world.shared(alloc)? {
+        if let Some(verdict) = world.find_shared(alloc)? {
             return Ok(Some(verdict));
         }
     }
-    world.not_closed(alloc, &needed.needs, journals)
+    world.find_not_closed(alloc, &needed.needs, journals)
 }
 
 /// What is found without looking at a key. Where journals are in order nothing is missing, and nothing is
 /// looked for.
-fn found_in_gtids(
+fn find_in_gtids(
     alloc: Global,
     world: &World,
     journals: &[Journal],
@@ -59,16 +59,16 @@ fn found_in_gtids(
     ensures found { IfOk result (λ found. found ≡ found_in_gtids world.now journals.now) }
     ensures fault { IfErr result (IsAuditFault world.now.opening_set journals.now) }
 {
-    if let Some(verdict) = world.unequal(journals) {
+    if let Some(verdict) = world.find_unequal(journals) {
         return Ok(Some(verdict));
     }
-    if let Some(verdict) = world.purged(alloc, journals)? {
+    if let Some(verdict) = world.find_purged(alloc, journals)? {
         return Ok(Some(verdict));
     }
     if ordered {
         return Ok(None);
     }
-    Ok(world.missing(alloc, journals)?)
+    Ok(world.find_missing(alloc, journals)?)
 }
 
 /// What an audit finds first without looking at a key: Unequal, Purged or Missing. The faults are those
@@ -82,11 +82,11 @@ pub fn audit_gtids(
     ensures fault { IfErr result (IsAuditFault world.now.opening_set journals.now) }
 {
     let ordered = world.are_in_order(alloc, journals)?;
-    found_in_gtids(alloc, world, journals, ordered)
+    find_in_gtids(alloc, world, journals, ordered)
 }
 
 /// What is found without applying a transaction.
-fn found_in_keys(
+fn find_in_keys(
     alloc: Global,
     world: &World,
     journals: &[Journal],
@@ -95,7 +95,7 @@ fn found_in_keys(
     ensures fault { IfErr result (IsAuditFault world.now.opening_set journals.now) }
 {
     let ordered = world.are_in_order(alloc, journals)?;
-    if let Some(verdict) = found_in_gtids(alloc, world, journals, ordered)? {
+    if let Some(verdict) = find_in_gtids(alloc, world, journals, ordered)? {
         return Ok(Some(verdict));
     }
     Ok(find_shared_or_left_out(alloc, world, journals, ordered)?)
@@ -107,7 +107,7 @@ pub fn audit_keys(alloc: Global, world: &World, journals: &[Journal]) -> Result<
     ensures found { IfOk result (λ found. found ≡ verdict_of_keys world.now journals.now) }
     ensures fault { IfErr result (IsAuditFault world.now.opening_set journals.now) }
 {
-    let found = found_in_keys(alloc, world, journals)?;
+    let found = find_in_keys(alloc, world, journals)?;
     Ok(found.unwrap_or(Verdict::Sound))
 }
 
@@ -116,7 +116,7 @@ pub fn audit(alloc: Global, world: &World, journals: &[Journal]) -> Result<Verdi
     ensures found { IfOk result (λ found. found ≡ verdict world.now journals.now) }
     ensures fault { IfErr result (IsAuditFault world.now.opening_set journals.now) }
 {
-    match found_in_keys(alloc, world, journals)? {
+    match find_in_keys(alloc, world, journals)? {
         Some(found) => Ok(found),
         None => {
             let fault = world.does_not_apply(alloc)?;

@@ -5,7 +5,7 @@ ghost use Rattle.std.specs.FinMap as finmap;
 ghost use Rattle.std.specs.FinSet as set;
 ghost use Rattle.rows.specs.WriteSet.{write_set};
 ghost use Rattle.world.specs.Audit.{unequal, purged, shared, not_closed};
-ghost use Rattle.audit.specs.Gaps.{stands, lacks, gap_at, gap_among, first_gap, is_left_by, least_left_by, needs_in};
+ghost use Rattle.audit.specs.Gaps.{is_recorded, lacks, gap_at, gap_among, first_gap, is_left_by, least_left_by, needs_in};
 ghost use Rattle.audit.specs.Contents.{as_pair};
 ghost use Rattle.world.specs.Folds.{touched_by};
 
@@ -20,22 +20,24 @@ use rows::keys_touched;
 use std::alloc::{AllocError, Global};
 use world::Verdict;
 
-pub(crate) fn stands(previous: &GtidSet, standing: &Standing, gtid: &Gtid) -> bool
-    ensures { result ≡ stands previous.now standing.now gtid.now }
+pub(crate) fn is_recorded(previous: &GtidSet, standing: &Standing, gtid: &Gtid) -> bool
+    ensures { result ≡ is_recorded previous.now standing.now gtid.now }
 {
     previous.contains(gtid) || standing.has(gtid)
 }
 
 /// Whether one of these is absent.
 fn lacks_any(previous: &GtidSet, standing: &Standing, gtids: &[Gtid]) -> bool
-    ensures { result ≡ list_any (λ g. not (stands previous.now standing.now g)) gtids.now }
+    ensures { result ≡ list_any (λ g. not (is_recorded previous.now standing.now g)) gtids.now }
 {
-    gtids.iter().any(|gtid| !stands(previous, standing, gtid))
+    gtids
+        .iter()
+        .any(|gtid| !is_recorded(previous, standing, gtid))
 }
 
 /// Whether something that an entry needs is absent.
 fn lacks(needs: &Needs, previous: &GtidSet, standing: &Standing, gtid: &Gtid) -> bool
-    ensures { result ≡ lacks needs.now (stands previous.now standing.now) gtid.now }
+    ensures { result ≡ lacks needs.now (is_recorded previous.now standing.now) gtid.now }
 {
     match needs.get(gtid) {
         Some(gtids) => lacks_any(previous, standing, gtids.as_slice()),
@@ -64,13 +66,13 @@ impl World {
     ) -> Result<bool, AllocError>
         requires new { set.contains self.now.opening_set entry.now.gtid ≡ false }
         requires keys { keys.now ≡ touched_by entry.now.gtid (write_set self.now.schema entry.now.txn) finmap.empty }
-        ensures { IfOk result (λ left. left ≡ is_left_by self.now (stands previous.now standing.now) entry.now (as_pair earlier.now)) }
+        ensures { IfOk result (λ left. left ≡ is_left_by self.now (is_recorded previous.now standing.now) entry.now (as_pair earlier.now)) }
     {
         if !comes_before(&earlier.gtid, &entry.gtid) {
             return Ok(false);
         }
         let shares = keys.shares(alloc, self.rows().schema(), &earlier.txn)?;
-        Ok(shares && !stands(previous, standing, &earlier.gtid))
+        Ok(shares && !is_recorded(previous, standing, &earlier.gtid))
     }
 
     /// The least that shares a key with an entry, comes before it in its source and is absent.
@@ -82,7 +84,7 @@ impl World {
         entry: &Entry,
     ) -> Result<Option<Verdict>, AllocError>
         requires { set.contains self.now.opening_set entry.now.gtid ≡ false }
-        ensures { IfOk result (λ found. found ≡ least_left_by self.now (stands previous.now standing.now) entry.now) }
+        ensures { IfOk result (λ found. found ≡ least_left_by self.now (is_recorded previous.now standing.now) entry.now) }
     {
         let mut keys = Touches::new(alloc);
         let touched = keys_touched(alloc, self.rows().schema(), &entry.txn)?;
@@ -103,9 +105,9 @@ impl World {
         standing: &Standing,
         entry: &Entry,
     ) -> Result<Option<Verdict>, AllocError>
-        ensures { IfOk result (λ found. found ≡ gap_at self.now needs.now (stands previous.now standing.now) entry.now) }
+        ensures { IfOk result (λ found. found ≡ gap_at self.now needs.now (is_recorded previous.now standing.now) entry.now) }
     {
-        if self.opened().contains(&entry.gtid) {
+        if self.opening_set().contains(&entry.gtid) {
             return Ok(None);
         }
         if lacks(needs, previous, standing, &entry.gtid) {
@@ -154,7 +156,7 @@ impl World {
     }
 
     /// The first entry for which something is left out, and the least such.
-    pub(crate) fn not_closed(
+    pub(crate) fn find_not_closed(
         &self,
         alloc: Global,
         needs: &Needs,

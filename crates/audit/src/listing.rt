@@ -56,8 +56,8 @@ impl World {
     {
         let mut list = Vec::new(alloc);
         for (i, journal) in journals.iter().enumerate() {
-            if !journal.previous().is_subset(self.opened()) && !is_of_journal(i, verdict) {
-                let missing = journal.previous().subtract(alloc, self.opened())?;
+            if !journal.previous().is_subset(self.opening_set()) && !is_of_journal(i, verdict) {
+                let missing = journal.previous().subtract(alloc, self.opening_set())?;
                 list.push(Verdict::Purged(i, missing))?;
             }
         }

@@ -85,7 +85,7 @@ fn first_missing(opened: &GtidSet, entries: &[Entry]) -> Option<Verdict>
 
 impl World {
     /// The least GTID that is in no journal though a greater number of its source is.
-    pub(crate) fn missing(
+    pub(crate) fn find_missing(
         &self,
         alloc: Global,
         journals: &[Journal],
@@ -93,9 +93,9 @@ impl World {
         requires { unequal self.now journals.now ≡ None }
         ensures { IfOk result (λ found. found ≡ missing self.now journals.now) }
     {
-        match self.brought(alloc, journals, true)? {
-            Some(contents) => Ok(first_missing(self.opened(), contents.in_order())),
-            None => Ok(first_missing(self.opened(), self.in_order())),
+        match self.first_contents(alloc, journals, true)? {
+            Some(contents) => Ok(first_missing(self.opening_set(), contents.in_order())),
+            None => Ok(first_missing(self.opening_set(), self.in_order())),
         }
     }
 }

@@ -1,7 +1,7 @@
 //! Journals that bring the numbers of each source one after another: nothing is left out of them.
 ghost use Rattle.std.specs.Prelude.{◌≡◌, ◌==◌, ◌+◌, ℕ, List, Some, IfOk, IfSome, OnOk, if◌then◌else◌, true};
 ghost use Rattle.journal.specs.declared.Entry.{Entry};
-ghost use Rattle.audit.specs.Ordered.{AreBelow, AreInOrder, AreTops, IsInOrder, IsRaised, top_of};
+ghost use Rattle.audit.specs.Ordered.{AreBelow, AreInOrder, AreTops, IsInOrder, IsTopOrNext, top_of};
 
 use crate::sources::World;
 use gtid_set::GtidSet;
@@ -51,7 +51,7 @@ fn turn_to(
 
 /// The last number of a source once a further one came, unless that skips one.
 fn next_top(top: Gtid, number: u64) -> Option<Gtid>
-    ensures { IfSome result (λ g. IsRaised top number g) }
+    ensures { IfSome result (λ g. IsTopOrNext top number g) }
 {
     if number <= top.number {
         return Some(top);
@@ -94,7 +94,7 @@ impl World {
         ensures { IfOk result (λ yes. yes ≡ true → AreInOrder self.now.opening_set journals.now) }
     {
         for journal in journals {
-            if !is_in_order(alloc, self.opened(), journal.entries())? {
+            if !is_in_order(alloc, self.opening_set(), journal.entries())? {
                 return Ok(false);
             }
         }

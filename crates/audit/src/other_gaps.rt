@@ -1,11 +1,11 @@
 //! Each GTID that is in a journal without the nearest earlier one at some key of it.
 ghost use Rattle.std.specs.Prelude.{◌≡◌, List, ◌∷◌, ◌++◌, IfOk, OnOk, find, not, true};
 ghost use Rattle.std.specs.FinSet as set;
-ghost use Rattle.audit.specs.Gaps.{needs_in, stands};
+ghost use Rattle.audit.specs.Gaps.{needs_in, is_recorded};
 ghost use Rattle.audit.specs.OtherGaps.{Gap, first_absent, gap_of_verdict, gaps_among, gaps_in, other_gaps, unreported, with_gap};
 ghost use Rattle.audit.specs.Ordered.{AreInOrder};
 
-use crate::gaps::stands;
+use crate::gaps::is_recorded;
 use crate::needs::Needs;
 use crate::sources::World;
 use crate::standing::Standing;
@@ -17,10 +17,10 @@ use world::Verdict;
 
 /// The first of these that is absent.
 fn first_of(previous: &GtidSet, standing: &Standing, gtids: &[Gtid]) -> Option<Gtid>
-    ensures { result ≡ find (λ h. not (stands previous.now standing.now h)) gtids.now }
+    ensures { result ≡ find (λ h. not (is_recorded previous.now standing.now h)) gtids.now }
 {
     for gtid in gtids {
-        if !stands(previous, standing, gtid) {
+        if !is_recorded(previous, standing, gtid) {
             return Some(*gtid);
         }
     }
@@ -29,7 +29,7 @@ fn first_of(previous: &GtidSet, standing: &Standing, gtids: &[Gtid]) -> Option<G
 
 /// Of what a GTID needs, the first that is absent.
 fn first_absent(needs: &Needs, previous: &GtidSet, standing: &Standing, gtid: &Gtid) -> Option<Gtid>
-    ensures { result ≡ first_absent needs.now (stands previous.now standing.now) gtid.now }
+    ensures { result ≡ first_absent needs.now (is_recorded previous.now standing.now) gtid.now }
 {
     match needs.get(gtid) {
         Some(gtids) => first_of(previous, standing, gtids.as_slice()),
@@ -38,38 +38,38 @@ fn first_absent(needs: &Needs, previous: &GtidSet, standing: &Standing, gtid: &G
 }
 
 /// Reports that a GTID is present without another, unless that GTID was reported already.
-fn say_gap(
+fn report_gap(
     found: &mut Vec<Verdict>,
-    said: &mut Standing,
+    reported: &mut Standing,
     gtid: Gtid,
     absent: Option<Gtid>,
 ) -> Result<(), AllocError>
-    ensures { OnOk result ((rest : List Gap) → found.new.items ++ unreported said.new rest ≡ found.old.items ++ unreported said.old (with_gap gtid absent rest)) }
+    ensures { OnOk result ((rest : List Gap) → found.new.items ++ unreported reported.new rest ≡ found.old.items ++ unreported reported.old (with_gap gtid absent rest)) }
 {
     if let Some(absent) = absent {
-        if !said.has(&gtid) {
+        if !reported.has(&gtid) {
             found.push(Verdict::NotClosed(gtid, absent))?;
-            said.put(gtid)?;
+            reported.put(gtid)?;
         }
     }
     Ok(())
 }
 
 /// Reports each entry of a journal that is present without another, by the first of these.
-fn say_among(
+fn report_gaps_among(
     alloc: Global,
     needs: &Needs,
     found: &mut Vec<Verdict>,
-    said: &mut Standing,
+    reported: &mut Standing,
     journal: &Journal,
 ) -> Result<(), AllocError>
-    ensures { OnOk result ((rest : List Gap) → found.new.items ++ unreported said.new rest ≡ found.old.items ++ unreported said.old (gaps_among needs.now journal.now.previous set.empty journal.now.entries rest)) }
+    ensures { OnOk result ((rest : List Gap) → found.new.items ++ unreported reported.new rest ≡ found.old.items ++ unreported reported.old (gaps_among needs.now journal.now.previous set.empty journal.now.entries rest)) }
 {
     let previous = journal.previous();
     let mut standing = Standing::new(alloc);
     for entry in journal.entries() {
         let absent = first_absent(needs, previous, &standing, &entry.gtid);
-        say_gap(found, said, entry.gtid, absent)?;
+        report_gap(found, reported, entry.gtid, absent)?;
         standing.put(entry.gtid)?;
     }
     Ok(())
@@ -77,13 +77,13 @@ fn say_among(
 
 /// The GTID of the verdict, which is not reported again.
 fn gap_of_verdict(alloc: Global, verdict: &Verdict) -> Result<Standing, AllocError>
-    ensures { IfOk result (λ said. said ≡ gap_of_verdict verdict.now) }
+    ensures { IfOk result (λ reported. reported ≡ gap_of_verdict verdict.now) }
 {
-    let mut said = Standing::new(alloc);
+    let mut reported = Standing::new(alloc);
     if let Verdict::NotClosed(gtid, _) = verdict {
-        said.put(*gtid)?;
+        reported.put(*gtid)?;
     }
-    Ok(said)
+    Ok(reported)
 }
 
 /// Each GTID that is present without something it needs, but that of the verdict.
@@ -95,10 +95,10 @@ fn gaps_beside(
 ) -> Result<Vec<Verdict>, AllocError>
     ensures { IfOk result (λ found. found.items ≡ unreported (gap_of_verdict verdict.now) (gaps_in needs.now journals.now)) }
 {
-    let mut said = gap_of_verdict(alloc, verdict)?;
+    let mut reported = gap_of_verdict(alloc, verdict)?;
     let mut found = Vec::new(alloc);
     for journal in journals {
-        say_among(alloc, needs, &mut found, &mut said, journal)?;
+        report_gaps_among(alloc, needs, &mut found, &mut reported, journal)?;
     }
     Ok(found)
 }

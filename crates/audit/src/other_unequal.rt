@@ -15,33 +15,33 @@ use world::Verdict;
 
 impl World {
     /// Reports the GTID of an entry as unequal, where it is and was not reported already.
-    fn say_unequal(
+    fn report_unequal(
         &self,
         found: &mut Vec<Verdict>,
-        said: &mut Standing,
+        reported: &mut Standing,
         guesses: &mut Guesses,
         entry: &Entry,
     ) -> Result<(), AllocError>
-        ensures { OnOk result ((rest : List Entry) → found.new.items ++ unequal_from self.now said.new rest ≡ found.old.items ++ unequal_from self.now said.old (entry.now ∷ rest)) }
+        ensures { OnOk result ((rest : List Entry) → found.new.items ++ unequal_from self.now reported.new rest ≡ found.old.items ++ unequal_from self.now reported.old (entry.now ∷ rest)) }
     {
-        if self.is_unequal(guesses, entry) && !said.has(&entry.gtid) {
+        if self.is_unequal(guesses, entry) && !reported.has(&entry.gtid) {
             found.push(Verdict::Unequal(entry.gtid))?;
-            said.put(entry.gtid)?;
+            reported.put(entry.gtid)?;
         }
         Ok(())
     }
 
-    fn say_unequal_among(
+    fn report_unequal_among(
         &self,
         found: &mut Vec<Verdict>,
-        said: &mut Standing,
+        reported: &mut Standing,
         entries: &[Entry],
     ) -> Result<(), AllocError>
-        ensures { OnOk result ((rest : List Entry) → found.new.items ++ unequal_from self.now said.new rest ≡ found.old.items ++ unequal_from self.now said.old (entries.now ++ rest)) }
+        ensures { OnOk result ((rest : List Entry) → found.new.items ++ unequal_from self.now reported.new rest ≡ found.old.items ++ unequal_from self.now reported.old (entries.now ++ rest)) }
     {
         let mut guesses = [0; 16];
         for entry in entries {
-            self.say_unequal(found, said, &mut guesses, entry)?;
+            self.report_unequal(found, reported, &mut guesses, entry)?;
         }
         Ok(())
     }
@@ -56,10 +56,10 @@ impl World {
         ensures { IfOk result (λ found. found.items ≡ unequal_from self.now (set.insert set.empty gtid) (all_entries journals.now)) }
     {
         let mut found = Vec::new(alloc);
-        let mut said = Standing::new(alloc);
-        said.put(gtid)?;
+        let mut reported = Standing::new(alloc);
+        reported.put(gtid)?;
         for journal in journals {
-            self.say_unequal_among(&mut found, &mut said, journal.entries())?;
+            self.report_unequal_among(&mut found, &mut reported, journal.entries())?;
         }
         Ok(found)
     }

@@ -12,7 +12,7 @@ use world::Verdict;
 
 impl World {
     /// The first journal whose previous set is not within the opening set, with what is missing.
-    pub(crate) fn purged(
+    pub(crate) fn find_purged(
         &self,
         alloc: Global,
         journals: &[Journal],
@@ -28,8 +28,8 @@ impl World {
         ensures fault { IfErr result (IsAuditFault self.now.opening_set journals.now) }
     {
         for (i, journal) in journals.iter().enumerate() {
-            if !journal.previous().is_subset(self.opened()) {
-                let missing = journal.previous().subtract(alloc, self.opened())?;
+            if !journal.previous().is_subset(self.opening_set()) {
+                let missing = journal.previous().subtract(alloc, self.opening_set())?;
                 return Ok(Some(Verdict::Purged(i, missing)));
             }
         }

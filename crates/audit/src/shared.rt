@@ -54,18 +54,18 @@ impl World {
         are_apart(alloc, self.rows().schema(), self.in_order())
     }
 
-    /// What `shared` finds; it is fastest where that is nothing.
+    /// What `find_shared` finds; it is fastest where that is nothing.
     pub(crate) fn shared_unless_apart(&self, alloc: Global) -> Result<Option<Verdict>, AllocError>
         ensures { IfOk result (λ found. found ≡ shared self.now) }
     {
         if self.are_apart(alloc)? {
             return Ok(None);
         }
-        self.shared(alloc)
+        self.find_shared(alloc)
     }
 
     /// The least GTID that shares a key with a smaller source, with the least that touches it.
-    pub(crate) fn shared(&self, alloc: Global) -> Result<Option<Verdict>, AllocError>
+    pub(crate) fn find_shared(&self, alloc: Global) -> Result<Option<Verdict>, AllocError>
         ensures { IfOk result (λ found. found ≡ shared self.now) }
     {
         first_shared(alloc, self.rows().schema(), self.in_order())

@@ -85,12 +85,12 @@ fn without_verdict(alloc: Global, missing: GtidSet, verdict: &Verdict) -> Result
 
 impl World {
     /// The numbers that are passed over before what is in the journals.
-    fn skipped(&self, alloc: Global, journals: &[Journal]) -> Result<GtidSet, SetFault>
+    fn skipped_numbers(&self, alloc: Global, journals: &[Journal]) -> Result<GtidSet, SetFault>
         ensures ok { IfOk result (λ skipped. skipped ≡ skipped_in self.now journals.now) }
         ensures fault { IfErr result (IsPartFault (skipped_in self.now journals.now)) }
     {
-        let equal = self.unequal(journals).is_none();
-        match self.brought(alloc, journals, equal)? {
+        let equal = self.find_unequal(journals).is_none();
+        match self.first_contents(alloc, journals, equal)? {
             Some(contents) => skipped_before(alloc, contents.in_order()),
             None => skipped_before(alloc, self.in_order()),
         }
@@ -110,8 +110,8 @@ impl World {
         if ordered {
             return Ok(GtidSet::empty(alloc));
         }
-        let skipped = self.skipped(alloc, journals)?;
-        skipped.subtract(alloc, self.opened())
+        let skipped = self.skipped_numbers(alloc, journals)?;
+        skipped.subtract(alloc, self.opening_set())
     }
 
     /// The missing GTIDs but for that of the verdict.

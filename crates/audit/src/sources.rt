@@ -48,7 +48,7 @@ impl Model for World {
 
 impl World {
     /// The set that was executed from the start.
-    pub fn opened(&self) -> &GtidSet
+    pub fn opening_set(&self) -> &GtidSet
         ensures { result.now ≡ self.now.opening_set }
     {
         &self.opened

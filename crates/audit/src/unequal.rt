@@ -24,7 +24,7 @@ impl World {
     pub(crate) fn is_unequal(&self, guesses: &mut Guesses, entry: &Entry) -> bool
         ensures { result ≡ is_unequal self.now entry.now }
     {
-        !self.opened().contains(&entry.gtid) && !self.has(guesses, entry)
+        !self.opening_set().contains(&entry.gtid) && !self.has(guesses, entry)
     }
 
     fn unequal_among(&self, entries: &[Entry]) -> Option<Verdict>
@@ -41,7 +41,7 @@ impl World {
 
     /// The first entry, in order of journals and entries, whose transaction is not the world's. Where a
     /// journal has the transactions of a source one after another, each is found at its first guess.
-    pub(crate) fn unequal(&self, journals: &[Journal]) -> Option<Verdict>
+    pub(crate) fn find_unequal(&self, journals: &[Journal]) -> Option<Verdict>
         ensures { result ≡ unequal self.now journals.now }
     {
         for journal in journals {

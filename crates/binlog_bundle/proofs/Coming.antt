@@ -10,10 +10,10 @@ use Rattle.txn_journal.specs.declared.fault.JournalFault.{JournalFault}
 use Rattle.txn_journal.specs.declared.fault.JournalFault.TheVariants as faults
 use Rattle.binlog_entries.proofs.TransactionLaws.{flat_map_more}
 use Rattle.binlog_bundle.specs.Lines.{with_line_feed, is_channel, lines_in, HasNoOwn, Nothing, IsCut}
-use Rattle.binlog_bundle.specs.Bundles.{done_line, Brought, log_text, journal_text, HasTables, IsTold, Stands, ImportsBundle, BeginsLast, Nowhere, Last}
+use Rattle.binlog_bundle.specs.Bundles.{done_line, ImportedLog, log_text, journal_text, HasTables, IsImported, Corresponds, ImportsBundle, BeginsLast, Nowhere, Last}
 use Rattle.binlog_bundle.specs.Refused.{fault_at_line, channel_fault_at, IsFed, StopsAt, IsRefused, IsOfLine, end_for, IsNoHead, HasTaken, IsLast, IsNoNext, HasChannel, CantFollow, HasJournalFault, IsNoOwn, IsNoneOf, IsNoBundle}
 use Rattle.binlog_bundle.specs.Tables.{HasNoOther}
-use Rattle.binlog_bundle.specs.Channels.{HasCome, Brings, IsJournalFault, CantJoin, CantBring}
+use Rattle.binlog_bundle.specs.Channels.{HasCome, FeedsChannel, IsJournalFault, CantJoin, CantFeedChannel}
 use Rattle.binlog_bundle.specs.declared.fault.ChannelFault.{ChannelFault}
 use Rattle.binlog_bundle.specs.declared.fault.ChannelFault.TheVariants as channels
 use Rattle.binlog_bundle.proofs.Cutting.{all_more, done_begins}
@@ -23,39 +23,39 @@ use Rattle.binlog_bundle.proofs.Feeding.{is_taken, refused_more}
 abbrev pub IsLineAt : List ℕ → List ℕ → ℕ → Type 0
 IsLineAt text left n = (front : List ℕ) → text ≡ front ++ left → n ≡ next_number (lines_in front)
 
-stands_none : (bytes : Bool) (head : List ℕ) → Stands bytes head head head
-stands_none bytes head = record { brought = []; told = tt; text_is = sym (append-nil head); written_is = sym (append-nil head) }
+stands_none : (bytes : Bool) (head : List ℕ) → Corresponds bytes head head head
+stands_none bytes head = record { channels_of_logs = []; imported = tt; text_is = sym (append-nil head); written_is = sym (append-nil head) }
 
-part_more : (f : Brought → List ℕ) (head text : List ℕ) (bs : List Brought) (b : Brought) → text ≡ head ++ flat_map f bs → text ++ f b ≡ head ++ flat_map f (bs ++ b ∷ [])
+part_more : (f : ImportedLog → List ℕ) (head text : List ℕ) (bs : List ImportedLog) (b : ImportedLog) → text ≡ head ++ flat_map f bs → text ++ f b ≡ head ++ flat_map f (bs ++ b ∷ [])
 part_more f head text bs b e =
     ap (λ (xs : List ℕ). xs ++ f b) e
     ∙ append_assoc head (flat_map f bs) (f b)
     ∙ ap (λ (xs : List ℕ). head ++ xs) (sym (flat_map_more f bs b))
 
-stands_more : (bytes : Bool) (head text written : List ℕ) (b : Brought) → Stands bytes head text written → IsTold bytes head b → Stands bytes head (text ++ log_text b) (written ++ journal_text b)
-stands_more bytes head text written b h told = record {
-  brought = h.brought ++ b ∷ [];
-  told = all_more (IsTold bytes head) h.brought b h.told told;
-  text_is = part_more log_text head text h.brought b h.text_is;
-  written_is = part_more journal_text head written h.brought b h.written_is;
+stands_more : (bytes : Bool) (head text written : List ℕ) (b : ImportedLog) → Corresponds bytes head text written → IsImported bytes head b → Corresponds bytes head (text ++ log_text b) (written ++ journal_text b)
+stands_more bytes head text written b h imported = record {
+  channels_of_logs = h.channels_of_logs ++ b ∷ [];
+  imported = all_more (IsImported bytes head) h.channels_of_logs b h.imported imported;
+  text_is = part_more log_text head text h.channels_of_logs b h.text_is;
+  written_is = part_more journal_text head written h.channels_of_logs b h.written_is;
 }
 
 -- ---- what has come
 
 pub come_head : (bytes : Bool) (head text left : List ℕ) (p : Progress BundleStanding) → IsCut text head left → IsFed p head → HasCome bytes head text left p
-come_head bytes head text left p cut fed = record { alone = cut.none; front = head; written = head; stands = stands_none bytes head; parts = cut.parts; begins = cut.begins; fed = fed }
+come_head bytes head text left p cut fed = record { alone = cut.none; front = head; written = head; corresponds = stands_none bytes head; parts = cut.parts; begins = cut.begins; fed = fed }
 
 channel_parts : (line after log behind : List ℕ) → IsCut after log behind → with_line_feed line ++ after ≡ (with_line_feed line ++ log) ++ behind
 channel_parts line after log behind cut = ap (λ (xs : List ℕ). with_line_feed line ++ xs) cut.parts ∙ sym (append_assoc (with_line_feed line) log behind)
 
-pub come_more : (tables : List Table) (bytes : Bool) (head text left line after log behind : List ℕ) (old new : Progress BundleStanding) → is_channel line ≡ true → HasTables head tables → HasCome bytes head text left old → left ≡ with_line_feed line ++ after → IsCut after log behind → Brings tables bytes log (with_line_feed line) old new → HasCome bytes head text behind new
+pub come_more : (tables : List Table) (bytes : Bool) (head text left line after log behind : List ℕ) (old new : Progress BundleStanding) → is_channel line ≡ true → HasTables head tables → HasCome bytes head text left old → left ≡ with_line_feed line ++ after → IsCut after log behind → FeedsChannel tables bytes log (with_line_feed line) old new → HasCome bytes head text behind new
 come_more tables bytes head text left line after log behind old new channel has come begins cut brings =
-    let b : Brought = record { line = line; log = log; journal = brings.journal } in
+    let b : ImportedLog = record { line = line; log = log; journal = brings.journal } in
     record {
       alone = come.alone;
       front = come.front ++ log_text b;
       written = come.written ++ journal_text b;
-      stands = stands_more bytes head come.front come.written b come.stands (record { tables = tables; has = has; channel = channel; alone = cut.none; imports = brings.imports });
+      corresponds = stands_more bytes head come.front come.written b come.corresponds (record { tables = tables; has = has; channel = channel; alone = cut.none; imports = brings.imports });
       begins = cut.begins;
       parts =
           come.parts
@@ -65,7 +65,7 @@ come_more tables bytes head text left line after log behind old new channel has 
     }
 
 taken_of : (bytes : Bool) (head text left : List ℕ) (p : Progress BundleStanding) (come : HasCome bytes head text left p) → HasTaken bytes head come.front come.written left text
-taken_of bytes head text left p come = record { alone = come.alone; stands = come.stands; parts = come.parts; begins = come.begins; taken = is_taken come.written p come.fed }
+taken_of bytes head text left p come = record { alone = come.alone; corresponds = come.corresponds; parts = come.parts; begins = come.begins; taken = is_taken come.written p come.fed }
 
 -- ---- why no more has come
 
@@ -171,7 +171,7 @@ cant_follow tables bytes head text left line log behind p fault n next has come 
 }
 
 -- a channel is refused
-pub channel_refused : (tables : List Table) (bytes : Bool) (head text left line after log behind : List ℕ) (p : Progress BundleStanding) (fault : ChannelFault) (n : ℕ) → is_channel line ≡ true → HasTables head tables → HasCome bytes head text left p → BeginsWithLine left line after → IsCut after log behind → ((before : List ℕ) → IsFed p before → CantBring tables bytes log (with_line_feed line) before fault) → IsLineAt text left n → IsNoBundle bytes (channel_fault_at fault n) text
+pub channel_refused : (tables : List Table) (bytes : Bool) (head text left line after log behind : List ℕ) (p : Progress BundleStanding) (fault : ChannelFault) (n : ℕ) → is_channel line ≡ true → HasTables head tables → HasCome bytes head text left p → BeginsWithLine left line after → IsCut after log behind → ((before : List ℕ) → IsFed p before → CantFeedChannel tables bytes log (with_line_feed line) before fault) → IsLineAt text left n → IsNoBundle bytes (channel_fault_at fault n) text
 channel_refused tables bytes head text left line after log behind p (channels.Own fault) n channel has come begins cut cant at =
     line_refused bytes head text left line after p fault n come begins cant at
 channel_refused tables bytes head text left line after log behind p (channels.Log fault) n channel has come begins cut cant at =
@@ -219,7 +219,7 @@ end_found bytes head text left own behind p q b last come parts fed writes = rec
   alone = come.alone;
   front = come.front;
   written = come.written;
-  stands = come.stands;
+  corresponds = come.corresponds;
   tail = own ++ behind;
   ends = subst BeginsLast parts last;
   parts = come.parts ∙ ap (λ (xs : List ℕ). come.front ++ xs) parts;
@@ -232,7 +232,7 @@ head_found bytes text b alone writes = record {
   alone = alone;
   front = text;
   written = text;
-  stands = stands_none bytes text;
+  corresponds = stands_none bytes text;
   tail = [];
   ends = Nowhere refl;
   parts = sym (append-nil text);
@@ -263,7 +263,7 @@ start_refused bytes fault text head rest cut more stops = head_at bytes fault te
 
 -- ---- a journal
 
-pub cant_bring : (tables : List Table) (bytes : Bool) (log line before : List ℕ) (fault : JournalFault) (found : ChannelFault) → CantJoin tables bytes log line before fault → IsJournalFault tables log fault found → CantBring tables bytes log line before found
+pub cant_bring : (tables : List Table) (bytes : Bool) (log line before : List ℕ) (fault : JournalFault) (found : ChannelFault) → CantJoin tables bytes log line before fault → IsJournalFault tables log fault found → CantFeedChannel tables bytes log line before found
 cant_bring tables bytes log line before fault (channels.Own other) cant h = absurd h
 cant_bring tables bytes log line before fault (channels.Log other) cant h = absurd h
 cant_bring tables bytes log line before fault (channels.Table at) cant h = (fault, h.0, cant, h.1)

@@ -5,11 +5,11 @@ use Rattle.gtid_set.specs.declared.fault.SetFault.{SetFault}
 use Rattle.gtid_set.specs.declared.fault.SetFault.TheVariants.{PoolFull, SourcesFull}
 use Rattle.gtid_set.proofs.FaultLemmas.{fault_map}
 use Rattle.txn_journal.specs.BundleStates.{BundleValue, BundleStanding, judge_bundle, IsFullBundle}
-use Rattle.txn_journal.specs.BundleReading.{bundles, bundle_start, eats_bundle, closing_bundle, IsFaultOfBundle}
+use Rattle.txn_journal.specs.BundleReading.{bundles, bundle_start, feed_bundle_bytes, closing_bundle, IsFaultOfBundle}
 use Rattle.txn_journal.specs.BundleRefused.{RefusesBundle}
 use Rattle.txn_journal.specs.BundleText.{WritesBundle}
 use Rattle.txn_journal.specs.Formats.{FeedsBy, closing_by}
-use Rattle.txn_journal.specs.Stream.{Progress, Reading, Stopped, next_number, progress_after, eat, eats, answer, HasFull, Fills, IsPieceFault, IsWhole}
+use Rattle.txn_journal.specs.Stream.{Progress, Reading, Stopped, next_number, progress_after, feed_byte, feed_bytes, answer, HasFull, Fills, IsPieceFault, IsWhole}
 use Rattle.txn_journal.specs.declared.fault.Cause.{Cause}
 use Rattle.txn_journal.specs.declared.fault.JournalFault.{JournalFault}
 use Rattle.txn_journal.specs.declared.fault.JournalFault.TheVariants as faults
@@ -21,9 +21,9 @@ use Rattle.binlog_bundle.specs.Refused.{GoesOn, IsFed, IsTaken, StopsAt, IsRefus
 -- ---- the fold over the bytes
 
 abbrev read : List ℕ → Progress BundleStanding
-read bytes = eats_bundle (bundle_start None) bytes
+read bytes = feed_bundle_bytes (bundle_start None) bytes
 
-read_more : (xs ys : List ℕ) → read (xs ++ ys) ≡ eats_bundle (read xs) ys
+read_more : (xs ys : List ℕ) → read (xs ++ ys) ≡ feed_bundle_bytes (read xs) ys
 read_more xs ys = eats_append judge_bundle (bundle_start None) xs ys
 
 -- a line is refused, and not that there is none
@@ -32,14 +32,14 @@ last_byte true (Ok t) s k m n rest e = cc
 last_byte true (Err c) s k m n rest e = cc
 last_byte false r s k m n rest e = cc
 
-byte_not_short : (p : Progress BundleStanding) (b n : ℕ) → ((m : ℕ) → p ≡ Stopped (faults.Truncated m) → ⊥) → eat judge_bundle p b ≡ Stopped (faults.Truncated n) → ⊥
-unfolding eat
+byte_not_short : (p : Progress BundleStanding) (b n : ℕ) → ((m : ℕ) → p ≡ Stopped (faults.Truncated m) → ⊥) → feed_byte judge_bundle p b ≡ Stopped (faults.Truncated n) → ⊥
+unfolding feed_byte
 byte_not_short (Stopped fault) b n not e = not n e
 byte_not_short (Reading s k rest) b n not e = last_byte (eqb b 10) (judge_bundle s rest) s k (next_number k) n (rest ++ b ∷ []) e
 
-not_short : (bytes : List ℕ) (p : Progress BundleStanding) (n : ℕ) → ((m : ℕ) → p ≡ Stopped (faults.Truncated m) → ⊥) → eats judge_bundle p bytes ≡ Stopped (faults.Truncated n) → ⊥
+not_short : (bytes : List ℕ) (p : Progress BundleStanding) (n : ℕ) → ((m : ℕ) → p ≡ Stopped (faults.Truncated m) → ⊥) → feed_bytes judge_bundle p bytes ≡ Stopped (faults.Truncated n) → ⊥
 not_short [] p n not e = not n e
-not_short (b ∷ bs) p n not e = not_short bs (eat judge_bundle p b) n (λ m. byte_not_short p b m not) e
+not_short (b ∷ bs) p n not e = not_short bs (feed_byte judge_bundle p b) n (λ m. byte_not_short p b m not) e
 
 not_short_yet : (m : ℕ) → bundle_start None ≡ Stopped (faults.Truncated m) → ⊥
 not_short_yet m e = cc
@@ -59,7 +59,7 @@ fills_behind large xs ys p is k = record {
   front = xs ++ k.front;
   rest = k.rest;
   parts = ap (λ (zs : List ℕ). xs ++ zs) k.parts ∙ sym (append_assoc xs k.front k.rest);
-  is_full = subst (HasFull large) (sym (read_more xs k.front ∙ ap (λ (q : Progress BundleStanding). eats_bundle q k.front) (sym is))) k.is_full;
+  is_full = subst (HasFull large) (sym (read_more xs k.front ∙ ap (λ (q : Progress BundleStanding). feed_bundle_bytes q k.front) (sym is))) k.is_full;
 }
 
 full_more : (fault : SetFault) (xs ys : List ℕ) → IsFaultOfBundle (bundle_start None) xs fault → IsFaultOfBundle (bundle_start None) (xs ++ ys) fault
@@ -91,7 +91,7 @@ stops_at (faults.Truncated n) bytes e = not_short bytes (bundle_start None) n no
 pub refused_more : (fault : JournalFault) (xs ys : List ℕ) → StopsAt fault xs → IsRefused fault (xs ++ ys)
 refused_more (faults.Set fault) xs ys h = full_more fault xs ys h
 refused_more (faults.Line n cause) xs ys h =
-    let stays = read_more xs ys ∙ ap (λ (p : Progress BundleStanding). eats_bundle p ys) h.1 ∙ stopped_stays judge_bundle (faults.Line n cause) ys in
+    let stays = read_more xs ys ∙ ap (λ (p : Progress BundleStanding). feed_bundle_bytes p ys) h.1 ∙ stopped_stays judge_bundle (faults.Line n cause) ys in
     closed_is (faults.Line n cause) (xs ++ ys) (closing_stopped (faults.Line n cause) (read (xs ++ ys)) stays)
 refused_more (faults.Truncated n) xs ys h = absurd h
 
@@ -102,8 +102,8 @@ refused_all (faults.Truncated n) bytes h = absurd h
 
 -- ---- one piece
 
-fed_next : (before piece : List ℕ) (old : Progress BundleStanding) → old ≡ read before → eats_bundle old piece ≡ read (before ++ piece)
-fed_next before piece old fed = ap (λ (p : Progress BundleStanding). eats_bundle p piece) fed ∙ sym (read_more before piece)
+fed_next : (before piece : List ℕ) (old : Progress BundleStanding) → old ≡ read before → feed_bundle_bytes old piece ≡ read (before ++ piece)
+fed_next before piece old fed = ap (λ (p : Progress BundleStanding). feed_bundle_bytes p piece) fed ∙ sym (read_more before piece)
 
 goes_on : (u : Unit {0}) (p : Progress BundleStanding) → (let r : Result (Unit {0}) JournalFault = Ok u in r) ≡ answer p → GoesOn p
 goes_on u (Reading s n rest) e = tt

@@ -6,10 +6,10 @@ use Rattle.std.proofs.lemmas.Bool.{eqb-true}
 use Rattle.gtid_set.specs.Sets.{Gtids}
 use Rattle.journal.specs.declared.Entry.{Entry}
 use Rattle.txn_journal.specs.Words.{IsOneLine}
-use Rattle.binlog_text.specs.Lines.{Said, IsLine}
+use Rattle.binlog_text.specs.Lines.{Content, IsLine}
 use Rattle.binlog_text.specs.Reading.{line_of}
 use Rattle.binlog_text.proofs.LinesAgain.{line_again}
-use Rattle.binlog_entries.specs.Stream.{Say, IsLog}
+use Rattle.binlog_entries.specs.Stream.{HaveContents, IsLog}
 use Rattle.binlog_entries.specs.declared.varied.Varied.{Varied}
 use Rattle.binlog_bundle.specs.Lines.{is_own, IsOther, HasNoOwn}
 
@@ -27,24 +27,24 @@ own_says (b ∷ bs) e = begins (one_of (eqb 99 b) (eqb b 100) _ _ e)
     begins (inl h) = ap (λ (c : ℕ). line_of (c ∷ bs)) (sym (eqb-true 99 b h))
     begins (inr h) = ap (λ (c : ℕ). line_of (c ∷ bs)) (eqb-true b 100 h)
 
-pub line_other : (l : Said) (line : List ℕ) → IsLine l line → is_own line ≡ false
+pub line_other : (l : Content) (line : List ℕ) → IsLine l line → is_own line ≡ false
 line_other l line is = other (is_own line) refl
   where
     other : (b : Bool) → is_own line ≡ b → b ≡ false
     other false e = refl
     other true e = absurd (let bad : None ≡ Some l = sym (own_says line e) ∙ line_again l line is in cc)
 
-said_others : (lines : List (List ℕ)) (said : List Said) → Say lines said → AllByRecursion IsOneLine lines → AllByRecursion IsOther lines
-said_others [] [] say whole = tt
-said_others (line ∷ lines) (l ∷ ls) say whole = ((whole.0, line_other l line say.0), said_others lines ls say.1 whole.1)
-said_others [] (l ∷ ls) say whole = absurd say
-said_others (line ∷ lines) [] say whole = absurd say
+said_others : (lines : List (List ℕ)) (contents : List Content) → HaveContents lines contents → AllByRecursion IsOneLine lines → AllByRecursion IsOther lines
+said_others [] [] content whole = tt
+said_others (line ∷ lines) (l ∷ ls) content whole = ((whole.0, line_other l line content.0), said_others lines ls content.1 whole.1)
+said_others [] (l ∷ ls) content whole = absurd content
+said_others (line ∷ lines) [] content whole = absurd content
 
 pub log_others : (text : List ℕ) (previous : Gtids) (entries : List Entry) (varied : List Varied) → IsLog text previous entries varied → HasNoOwn text
 log_others text previous entries varied log = record {
   lines = log.lines;
   rest = [];
   parts = log.parts ∙ sym (append-nil _);
-  others = said_others log.lines log.said log.say log.whole;
+  others = said_others log.lines log.contents log.content log.whole;
   part = refl;
 }

@@ -16,15 +16,15 @@ pub data BeginsLast (text : List ℕ) : Type 0 where
   Last : (after : List ℕ) → text ≡ done_line ++ after → BeginsLast text
 
 -- a channel's line, the text of its log, and that of the journal which the log describes
-pub record Brought : Type 0 where
+pub record ImportedLog : Type 0 where
   pub line : List ℕ
   pub log : List ℕ
   pub journal : List ℕ
 
-abbrev pub log_text : Brought → List ℕ
+abbrev pub log_text : ImportedLog → List ℕ
 log_text b = with_line_feed b.line ++ b.log
 
-abbrev pub journal_text : Brought → List ℕ
+abbrev pub journal_text : ImportedLog → List ℕ
 journal_text b = with_line_feed b.line ++ b.journal
 
 -- the tables of the bundle that this head begins
@@ -32,7 +32,7 @@ abbrev pub HasTables : List ℕ → List Table → Type 0
 HasTables head tables = (start : BundleValue) × WritesBundle (head ++ done_line) start × (tables ≡ start.start.schema)
 
 -- the log describes the journal, whose entries change the tables of this head
-pub record IsTold (bytes : Bool) (head : List ℕ) (b : Brought) : Type 0 where
+pub record IsImported (bytes : Bool) (head : List ℕ) (b : ImportedLog) : Type 0 where
   pub tables : List Table
   pub has : HasTables head tables
   pub channel : is_channel b.line ≡ true
@@ -41,11 +41,11 @@ pub record IsTold (bytes : Bool) (head : List ℕ) (b : Brought) : Type 0 where
 
 -- The two texts have the same head and the same lines of channels, and the log of each channel is in the one where the journal that it
 -- describes is in the other.
-pub record Stands (bytes : Bool) (head text written : List ℕ) : Type 0 where
-  pub brought : List Brought
-  pub told : AllByRecursion (IsTold bytes head) brought
-  pub text_is : text ≡ head ++ flat_map log_text brought
-  pub written_is : written ≡ head ++ flat_map journal_text brought
+pub record Corresponds (bytes : Bool) (head text written : List ℕ) : Type 0 where
+  pub channels_of_logs : List ImportedLog
+  pub imported : AllByRecursion (IsImported bytes head) channels_of_logs
+  pub text_is : text ≡ head ++ flat_map log_text channels_of_logs
+  pub written_is : written ≡ head ++ flat_map journal_text channels_of_logs
 
 -- The text is a bundle's but that the log of each channel is in the place of its journal. Both end in the same last line. Each log is what
 -- is between two lines of the bundle's own, so there is one way to read a text so.
@@ -54,7 +54,7 @@ pub record ImportsBundle (bytes : Bool) (text : List ℕ) (b : BundleValue) : Ty
   pub alone : HasNoOwn head
   pub front : List ℕ
   pub written : List ℕ
-  pub stands : Stands bytes head front written
+  pub corresponds : Corresponds bytes head front written
   pub tail : List ℕ
   pub ends : BeginsLast tail
   pub parts : text ≡ front ++ tail

@@ -6,7 +6,7 @@ use Rattle.txn_journal.specs.Stream.{Progress}
 use Rattle.binlog_entries.specs.Imports.{Imports, IsNoImport}
 use Rattle.binlog_bundle.specs.Lines.{HasNoOwn, BeginsOwn}
 use Rattle.binlog_bundle.specs.Tables.{HasOther, HasNoOther}
-use Rattle.binlog_bundle.specs.Bundles.{Stands}
+use Rattle.binlog_bundle.specs.Bundles.{Corresponds}
 use Rattle.binlog_bundle.specs.Refused.{IsFed, IsTaken, StopsAt, IsOfLine}
 use Rattle.txn_journal.specs.declared.fault.JournalFault.{JournalFault}
 use Rattle.binlog_bundle.specs.declared.fault.ChannelFault.{ChannelFault}
@@ -17,13 +17,13 @@ pub record HasCome (bytes : Bool) (head text left : List ℕ) (p : Progress Bund
   pub alone : HasNoOwn head
   pub front : List ℕ
   pub written : List ℕ
-  pub stands : Stands bytes head front written
+  pub corresponds : Corresponds bytes head front written
   pub parts : text ≡ front ++ left
   pub begins : BeginsOwn left
   pub fed : IsFed p written
 
 -- the line of a channel has come, and the journal that its log describes
-pub record Brings (tables : List Table) (bytes : Bool) (log line : List ℕ) (old new : Progress BundleStanding) : Type 0 where
+pub record FeedsChannel (tables : List Table) (bytes : Bool) (log line : List ℕ) (old new : Progress BundleStanding) : Type 0 where
   pub journal : List ℕ
   pub imports : Imports tables bytes log journal
   pub fed : (before : List ℕ) → IsFed old before → IsFed new ((before ++ line) ++ journal)
@@ -43,8 +43,8 @@ pub record CantJoin (tables : List Table) (bytes : Bool) (log line before : List
   pub stops : StopsAt fault ((before ++ line) ++ journal)
 
 -- why they have not come, after these bytes
-abbrev pub CantBring : List Table → Bool → List ℕ → List ℕ → List ℕ → ChannelFault → Type 0
-CantBring tables bytes log line before (channels.Own fault) = StopsAt fault (before ++ line)
-CantBring tables bytes log line before (channels.Log fault) = IsTaken (before ++ line) × IsNoImport tables bytes fault log
-CantBring tables bytes log line before (channels.Table at) = (fault : JournalFault) × IsOfLine fault × CantJoin tables bytes log line before fault × HasOther tables at log
-CantBring tables bytes log line before (channels.Journal fault) = CantJoin tables bytes log line before fault × (IsOfLine fault → HasNoOther tables log)
+abbrev pub CantFeedChannel : List Table → Bool → List ℕ → List ℕ → List ℕ → ChannelFault → Type 0
+CantFeedChannel tables bytes log line before (channels.Own fault) = StopsAt fault (before ++ line)
+CantFeedChannel tables bytes log line before (channels.Log fault) = IsTaken (before ++ line) × IsNoImport tables bytes fault log
+CantFeedChannel tables bytes log line before (channels.Table at) = (fault : JournalFault) × IsOfLine fault × CantJoin tables bytes log line before fault × HasOther tables at log
+CantFeedChannel tables bytes log line before (channels.Journal fault) = CantJoin tables bytes log line before fault × (IsOfLine fault → HasNoOther tables log)

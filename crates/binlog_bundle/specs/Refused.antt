@@ -1,6 +1,6 @@
 -- What is no bundle of logs.
 use Rattle.std.specs.Prelude.{◌≡◌, ◌⊎◌, ℕ, Bool, true, List, [], ◌∷◌, ◌++◌, None, Err}
-use Rattle.txn_journal.specs.BundleReading.{bundle_start, eats_bundle, closing_bundle}
+use Rattle.txn_journal.specs.BundleReading.{bundle_start, feed_bundle_bytes, closing_bundle}
 use Rattle.txn_journal.specs.BundleRefused.{RefusesBundle}
 use Rattle.txn_journal.specs.BundleStates.{BundleStanding}
 use Rattle.txn_journal.specs.Stream.{Progress, Reading, Stopped, next_number}
@@ -12,7 +12,7 @@ use Rattle.binlog_entries.specs.Imports.{Imports, IsNoImport}
 use Rattle.binlog_entries.specs.declared.import.ImportFault.{ImportFault}
 use Rattle.binlog_bundle.specs.Lines.{with_line_feed, is_channel, lines_in, HasNoOwn, BeginsOwn, IsCut}
 use Rattle.binlog_bundle.specs.Tables.{HasOther, HasNoOther}
-use Rattle.binlog_bundle.specs.Bundles.{done_line, HasTables, Stands}
+use Rattle.binlog_bundle.specs.Bundles.{done_line, HasTables, Corresponds}
 use Rattle.binlog_bundle.specs.declared.fault.BundleFault.{BundleFault}
 use Rattle.binlog_bundle.specs.declared.fault.BundleFault.TheVariants as bundles
 use Rattle.binlog_bundle.specs.declared.fault.ChannelFault.{ChannelFault}
@@ -42,24 +42,24 @@ GoesOn (Stopped fault) = ⊥
 
 -- these bytes have come, and were taken
 abbrev pub IsFed : Progress BundleStanding → List ℕ → Type 0
-IsFed p bytes = (p ≡ eats_bundle (bundle_start None) bytes) × GoesOn p
+IsFed p bytes = (p ≡ feed_bundle_bytes (bundle_start None) bytes) × GoesOn p
 
 -- nothing is wrong with the whole lines of these bytes, as those of a bundle
 abbrev pub IsTaken : List ℕ → Type 0
-IsTaken bytes = GoesOn (eats_bundle (bundle_start None) bytes)
+IsTaken bytes = GoesOn (feed_bundle_bytes (bundle_start None) bytes)
 
 -- A whole line of these bytes is the first that is none of a bundle's, in the words of the format and by the fold over the bytes; or a set is full after
 -- some of them, or memory was refused. That they end too early is no such fault.
 abbrev pub StopsAt : JournalFault → List ℕ → Type 0
 StopsAt (faults.Set fault) bytes = RefusesBundle (faults.Set fault) bytes
-StopsAt (faults.Line n cause) bytes = RefusesBundle (faults.Line n cause) bytes × (eats_bundle (bundle_start None) bytes ≡ Stopped (faults.Line n cause))
+StopsAt (faults.Line n cause) bytes = RefusesBundle (faults.Line n cause) bytes × (feed_bundle_bytes (bundle_start None) bytes ≡ Stopped (faults.Line n cause))
 StopsAt (faults.Truncated n) bytes = ⊥
 
 -- the same of bytes that are the whole of a text
 abbrev pub IsRefused : JournalFault → List ℕ → Type 0
 IsRefused (faults.Set fault) bytes = RefusesBundle (faults.Set fault) bytes
-IsRefused (faults.Line n cause) bytes = RefusesBundle (faults.Line n cause) bytes × (closing_bundle (eats_bundle (bundle_start None) bytes) ≡ Err (faults.Line n cause))
-IsRefused (faults.Truncated n) bytes = RefusesBundle (faults.Truncated n) bytes × (closing_bundle (eats_bundle (bundle_start None) bytes) ≡ Err (faults.Truncated n))
+IsRefused (faults.Line n cause) bytes = RefusesBundle (faults.Line n cause) bytes × (closing_bundle (feed_bundle_bytes (bundle_start None) bytes) ≡ Err (faults.Line n cause))
+IsRefused (faults.Truncated n) bytes = RefusesBundle (faults.Truncated n) bytes × (closing_bundle (feed_bundle_bytes (bundle_start None) bytes) ≡ Err (faults.Truncated n))
 
 -- it names a line
 abbrev pub IsOfLine : JournalFault → Type 0
@@ -84,7 +84,7 @@ pub record IsNoHead (fault : JournalFault) (text : List ℕ) : Type 0 where
 -- All but what is left of the text has come: the head and whole channels, and nothing is wrong with them where the journals are in the place of the logs.
 pub record HasTaken (bytes : Bool) (head front written left text : List ℕ) : Type 0 where
   pub alone : HasNoOwn head
-  pub stands : Stands bytes head front written
+  pub corresponds : Corresponds bytes head front written
   pub parts : text ≡ front ++ left
   pub begins : BeginsOwn left
   pub taken : IsTaken written

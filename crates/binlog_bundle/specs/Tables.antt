@@ -5,7 +5,7 @@ use Rattle.std.specs.Str.{bytes_eq}
 use Rattle.rows.specs.declared.schema.Table.{Table}
 use Rattle.txn_journal.specs.Stream.{next_number}
 use Rattle.txn_journal.specs.Words.{IsOneLine}
-use Rattle.binlog_text.specs.Lines.{Said, OfTable}
+use Rattle.binlog_text.specs.Lines.{Content, OfTable}
 use Rattle.binlog_text.specs.Reading.{line_of}
 use Rattle.binlog_bundle.specs.Lines.{with_line_feed, lines_in}
 
@@ -13,7 +13,7 @@ abbrev pub has_table : List Table → List ℕ → Bool
 has_table tables name = list_any (λ t. bytes_eq t.name name) tables
 
 -- the content of a line maps a table that is none of these
-abbrev pub maps_other : List Table → Option Said → Bool
+abbrev pub maps_other : List Table → Option Content → Bool
 maps_other tables (Some (OfTable database table)) = not (has_table tables table)
 maps_other tables _ = false
 

@@ -4,7 +4,7 @@ ghost use Rattle.txn_journal.specs.BundleReaders.{bundle_reading};
 ghost use Rattle.binlog_bundle.specs.Lines.{with_line_feed, HasNoOwn};
 ghost use Rattle.binlog_bundle.specs.Bundles.{HasTables, BeginsLast};
 ghost use Rattle.binlog_bundle.specs.Refused.{IsFed, IsNoBundle};
-ghost use Rattle.binlog_bundle.specs.Channels.{HasCome, Brings, IsJournalFault, CantBring};
+ghost use Rattle.binlog_bundle.specs.Channels.{HasCome, FeedsChannel, IsJournalFault, CantFeedChannel};
 
 use crate::fault::{BundleFault, ChannelFault};
 use crate::lines::{cut_own, is_channel, line_at, split_before};
@@ -37,8 +37,8 @@ fn take_channel(
     line: &[u8],
     log: &[u8],
 ) -> Result<(), ChannelFault>
-    ensures told { OnOk result (Brings schema.now bytes log.now line.now (bundle_reading reader.old) (bundle_reading reader.new)) }
-    ensures refused { (before : List ℕ) → IsFed (bundle_reading reader.old) before → IfErr result (λ fault. CantBring schema.now bytes log.now line.now before fault) }
+    ensures fed { OnOk result (FeedsChannel schema.now bytes log.now line.now (bundle_reading reader.old) (bundle_reading reader.new)) }
+    ensures refused { (before : List ℕ) → IsFed (bundle_reading reader.old) before → IfErr result (λ fault. CantFeedChannel schema.now bytes log.now line.now before fault) }
 {
     match add(alloc, reader, line) {
         Ok(()) => {}

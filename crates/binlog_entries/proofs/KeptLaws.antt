@@ -3,14 +3,14 @@ use Rattle.std.proofs.Common.{◌≡◌, ℕ, Bool, true, false, cond, List, [],
 use Rattle.std.specs.FinSet as set
 use Rattle.journal_words.specs.Gtids.{set_of_word, gtid_of_word}
 use Rattle.txn_journal.specs.Words.{name_of}
-use Rattle.binlog_text.specs.Types.{type_named}
+use Rattle.binlog_text.specs.Types.{parse_type}
 use Rattle.binlog_text.specs.declared.lines.Event.{Event}
 use Rattle.binlog_text.specs.declared.lines.Event.TheVariants as events
 use Rattle.binlog_text.specs.declared.lines.Mark.{Mark}
 use Rattle.binlog_text.specs.declared.lines.Mark.TheVariants as marks
 use Rattle.binlog_text.specs.declared.lines.Operation.{Operation}
-use Rattle.binlog_text.specs.Lines.{Column, Said, OfMark, OfHead, OfTable, OfColumn, OfGtid, OfSources, OfRow, OfValue}
-use Rattle.binlog_entries.specs.Tables.{Table, table_named}
+use Rattle.binlog_text.specs.Lines.{Column, Content, OfMark, OfHead, OfTable, OfColumn, OfGtid, OfSources, OfRow, OfValue}
+use Rattle.binlog_entries.specs.Tables.{Table, find_table}
 use Rattle.binlog_entries.specs.Bodies.{kind_of, takes}
 use Rattle.binlog_entries.specs.Meaning.{nowhere, with_sources, executed_before, varied_by, varied_in}
 use Rattle.binlog_entries.specs.declared.draft.Stage.TheVariants as stages
@@ -25,7 +25,7 @@ use Rattle.binlog_entries.specs.declared.draft.Part.{Part}
 use Rattle.binlog_entries.specs.declared.draft.Part.TheVariants as parts
 use Rattle.binlog_entries.proofs.TransactionLaws.{bind_ok, same_ok, if_ok, done, context_of, Sound}
 use Rattle.binlog_entries.proofs.RowLaws.{opened_is, unless_not}
-use Rattle.binlog_entries.proofs.Told.{mapped_is, added_is, refused_is, test_ok, step_law, sound_start}
+use Rattle.binlog_entries.proofs.Meanings.{mapped_is, added_is, refused_is, test_ok, step_law, sound_start}
 
 abbrev Kept : Type 0
 Kept = List Varied × (Gtids × Bool)
@@ -45,7 +45,7 @@ by_test b s x t e same h = subst (Stay s) (if_ok b x e t h).1 same
 
 finish_stays : (s u : Standing) (r : Option (List ℕ)) → finish_by s r ≡ Ok u → Stay s u
 finish_stays s u None h = by_ok s s u refl h
-finish_stays s u (Some table) h = named (table_named table s.tables) h
+finish_stays s u (Some table) h = named (find_table table s.tables) h
   where
     named : (o : Option Table) → finish_in s table o ≡ Ok u → Stay s u
     named None e = absurd cc
@@ -125,7 +125,7 @@ table_stays s t database table h =
 column_varies : (s t : Standing) (c : Column) → column_line s c ≡ Ok t → kept t ≡ (varied_behind s.varied s.mapping c.column_type, (s.previous, s.is_fresh))
 unfolding column_line
 column_varies s t c h =
-    let a = bind_ok (or_refused refusals.Type (type_named c.column_type)) _ t h in
+    let a = bind_ok (or_refused refusals.Type (parse_type c.column_type)) _ t h in
     let m = added_is (note_varied s c.column_type) t s.mapping c.is_first a.0 a.2 in
     subst (λ (u : Standing). kept u ≡ (varied_behind s.varied s.mapping c.column_type, (s.previous, s.is_fresh))) m.2 refl
 
@@ -147,7 +147,7 @@ mark_stays s t marks.Setting h = by_ok s s t refl h
 mark_stays s t marks.Frame h = by_ok s s t refl h
 
 -- whether sets are read, and what was executed before, after a line
-abbrev before_by : Gtids × Bool → Said → Gtids × Bool
+abbrev before_by : Gtids × Bool → Content → Gtids × Bool
 before_by b (OfGtid gtid) = (b.0, false)
 before_by b (OfSources sources more) = (joined b.1 b.0 (set_of_word sources), b.1)
 before_by b (OfMark mark) = b
@@ -157,10 +157,10 @@ before_by b (OfColumn column) = b
 before_by b (OfRow operation database table) = b
 before_by b (OfValue n text) = b
 
-abbrev kept_by : Standing → Said → Kept
+abbrev kept_by : Standing → Content → Kept
 kept_by s l = (varied_by (context_of s) s.varied l, before_by (s.previous, s.is_fresh) l)
 
-told_keeps : (s t : Standing) (l : Said) → take_content s l ≡ Ok t → kept t ≡ kept_by s l
+told_keeps : (s t : Standing) (l : Content) → take_content s l ≡ Ok t → kept t ≡ kept_by s l
 told_keeps s t (OfMark mark) h = mark_stays s t mark h
 told_keeps s t (OfHead event) h = head_stays s t event h
 told_keeps s t (OfTable database table) h = table_stays s t database table h
@@ -170,7 +170,7 @@ told_keeps s t (OfSources sources more) h = sources_join s t sources h
 told_keeps s t (OfRow operation database table) h = row_stays s t operation database table h
 told_keeps s t (OfValue n text) h = value_line_stays s t n text h
 
-step_keeps : (s t : Standing) (l : Said) → step s l ≡ Ok t → kept t ≡ kept_by s l
+step_keeps : (s t : Standing) (l : Content) → step s l ≡ Ok t → kept t ≡ kept_by s l
 unfolding step
 step_keeps s t l h =
     let p = test_ok (takes s.body (kind_of l)) _ refusals.Format t h in
@@ -179,7 +179,7 @@ step_keeps s t l h =
 
 -- ---- columns
 
-runs_vary : (s : Standing) (ls : List Said) (t : Standing) → Sound s → runs s ls ≡ Ok t → t.varied ≡ varied_in (context_of s) s.varied ls
+runs_vary : (s : Standing) (ls : List Content) (t : Standing) → Sound s → runs s ls ≡ Ok t → t.varied ≡ varied_in (context_of s) s.varied ls
 runs_vary s [] t sound h = ap (λ (u : Standing). u.varied) (sym (same_ok s t h))
 runs_vary s (l ∷ ls) t sound h =
     let a = bind_ok (step s l) _ t h in
@@ -189,16 +189,16 @@ runs_vary s (l ∷ ls) t sound h =
     ∙ (λ i. varied_in (first.context i) (keeps i) ls)
 
 -- those of the lines of a log
-pub varied_told : (ls : List Said) (s : Standing) → runs start ls ≡ Ok s → s.varied ≡ varied_in nowhere [] ls
+pub varied_told : (ls : List Content) (s : Standing) → runs start ls ≡ Ok s → s.varied ≡ varied_in nowhere [] ls
 varied_told ls s h = runs_vary start ls s sound_start h
 
 -- ---- what was executed before
 
--- by what lines say, where their sets are read
-abbrev before_in : Gtids × Bool → List Said → Gtids
+-- by the contents of lines, where their sets are read
+abbrev before_in : Gtids × Bool → List Content → Gtids
 before_in b ls = cond b.1 (executed_before b.0 ls) b.0
 
-passed : (before : Gtids) (fresh : Bool) (l : Said) (ls : List Said) → before_in (before_by (before, fresh) l) ls ≡ before_in (before, fresh) (l ∷ ls)
+passed : (before : Gtids) (fresh : Bool) (l : Content) (ls : List Content) → before_in (before_by (before, fresh) l) ls ≡ before_in (before, fresh) (l ∷ ls)
 passed before true (OfGtid gtid) ls = refl
 passed before false (OfGtid gtid) ls = refl
 passed before true (OfSources sources more) ls = refl
@@ -220,7 +220,7 @@ none_left : (before : Gtids) (fresh : Bool) → before ≡ before_in (before, fr
 none_left before true = refl
 none_left before false = refl
 
-runs_before : (s : Standing) (ls : List Said) (t : Standing) → runs s ls ≡ Ok t → t.previous ≡ before_in (s.previous, s.is_fresh) ls
+runs_before : (s : Standing) (ls : List Content) (t : Standing) → runs s ls ≡ Ok t → t.previous ≡ before_in (s.previous, s.is_fresh) ls
 runs_before s [] t h = ap (λ (u : Standing). u.previous) (sym (same_ok s t h)) ∙ none_left s.previous s.is_fresh
 runs_before s (l ∷ ls) t h =
     let a = bind_ok (step s l) _ t h in
@@ -230,5 +230,5 @@ runs_before s (l ∷ ls) t h =
     ∙ passed s.previous s.is_fresh l ls
 
 -- that of the lines of a log
-pub before_told : (ls : List Said) (s : Standing) → runs start ls ≡ Ok s → s.previous ≡ executed_before set.empty ls
+pub before_told : (ls : List Content) (s : Standing) → runs start ls ≡ Ok s → s.previous ≡ executed_before set.empty ls
 before_told ls s h = runs_before start ls s h

@@ -1,6 +1,6 @@
 pub mod TransactionLaws
 pub mod RowLaws
-pub mod Told
+pub mod Meanings
 pub mod KeptLaws
 pub mod Pieces
 pub mod Whole

@@ -17,7 +17,7 @@ use Rattle.binlog_text.specs.declared.lines.Mark.TheVariants as marks
 use Rattle.binlog_text.specs.declared.lines.Operation.{Operation}
 use Rattle.binlog_text.specs.declared.lines.Operation.TheVariants as operations
 use Rattle.binlog_text.specs.Lines.{OfMark, OfRow, OfValue}
-use Rattle.binlog_entries.specs.Tables.{Table, table_named, type_at}
+use Rattle.binlog_entries.specs.Tables.{Table, find_table, type_at}
 use Rattle.binlog_entries.specs.Machine.{Standing, or_refused, is_begun, finish_row, is_database, has_rows_of, open_row, known_name, begin_row, row_line, before_due, after_due, where_line, set_line, parse_value, next_value, value_in, value_line, is_closed}
 use Rattle.binlog_entries.specs.Meaning.{Meaning, Names, Row, Before, After, Holds, shown_in, meaning_of_values, meaning_of_change, meaning_of_entries}
 use Rattle.binlog_entries.specs.declared.bodies.Body.{Body}
@@ -32,7 +32,7 @@ use Rattle.binlog_entries.proofs.TransactionLaws.{bind_ok, same_ok, if_ok, spell
 
 -- ---- rows
 
--- what a row of the transaction that has begun is spelled by more
+-- what a row of the transaction that has begun means more
 pub grown : (es : List Meaning) (stage : Stage) (gtid : Gtid) (cs : List Change) (old new m : List Meaning) → is_begun stage ≡ true → new ≡ old ++ m → es ++ spelled_open stage gtid cs new ≡ (es ++ spelled_open stage gtid cs old) ++ m
 grown es stages.Idle gtid cs old new m b e = absurd cc
 grown es stages.Named gtid cs old new m b e = absurd cc
@@ -102,7 +102,7 @@ value_found (Some type) text v e = taken (value_at type text) v e
     taken None v e = absurd cc
     taken (Some w) v e = ap Some (same_ok w v e)
 
--- what a value's line tells
+-- the content of a value's line
 pub record Values (s : Standing) (place n : ℕ) (text : List ℕ) (v : Value) : Type 0 where
   pub number : n ≡ place + 1
   pub shown : shown_in (type_at s.row s.tables (n - 1)) text ≡ Some v
@@ -192,7 +192,7 @@ named_is true word name e = same_Some _ _ e
 named_is false word name e = absurd cc
 
 pub known_is : (table : List ℕ) (tables : List Table) (name : List ℕ) → known_name table tables ≡ Some name → table ≡ name
-known_is table tables name e = elim (chosen (is_some (table_named table tables)) (name_of table) None (Some name) e) [
+known_is table tables name e = elim (chosen (is_some (find_table table tables)) (name_of table) None (Some name) e) [
   | inl p ↦ named_is (is_name table) table name p.1
   | inr p ↦ absurd cc
 ]

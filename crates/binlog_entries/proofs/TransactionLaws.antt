@@ -11,8 +11,8 @@ use Rattle.binlog_text.specs.declared.lines.Mark.{Mark}
 use Rattle.binlog_text.specs.declared.lines.Mark.TheVariants as marks
 use Rattle.binlog_text.specs.declared.lines.Operation.{Operation}
 use Rattle.binlog_text.specs.declared.lines.Operation.TheVariants as operations
-use Rattle.binlog_text.specs.Lines.{Said, OfMark, OfGtid}
-use Rattle.binlog_entries.specs.Tables.{Table, table_named, with_mapping}
+use Rattle.binlog_text.specs.Lines.{Content, OfMark, OfGtid}
+use Rattle.binlog_entries.specs.Tables.{Table, find_table, with_mapping}
 use Rattle.binlog_entries.specs.Bodies.{takes, behind}
 use Rattle.binlog_entries.specs.Machine.{Standing, ◌>>=◌, or_refused, is_idle, is_named, is_begun, is_whole, change_of, with_change, finish_in, finish_by, finish_row, place_line, open_entry, commit_line, begin_line, gtid_line, is_closed}
 use Rattle.binlog_entries.specs.Meaning.{Meaning, Names, Row, Before, After, Commits, Context, means, behind_place, context_behind, meaning_of_values, meaning_of_change, meaning_of_entry, meaning_of_entries}
@@ -91,7 +91,7 @@ pub record Sound (s : Standing) : Type 0 where
   pub fits : RowFits s.row s.part s.before s.after
 
 -- the line was taken
-pub record Tells (s : Standing) (l : Said) (t : Standing) : Type 0 where
+pub record Tells (s : Standing) (l : Content) (t : Standing) : Type 0 where
   pub spells : spelled_state t ≡ spelled_state s ++ means (context_of s) l
   pub context : context_of t ≡ context_behind (context_of s) l
   pub sound : Sound t
@@ -118,7 +118,7 @@ pub flat_map_more : {A B : Type 0} (f : A → List B) (xs : List A) (x : A) → 
 flat_map_more f [] x = append-nil (f x)
 flat_map_more f (y ∷ ys) x = ap (λ zs. f y ++ zs) (flat_map_more f ys x) ∙ sym (append_assoc (f y) (flat_map f ys) (f x))
 
--- a whole row that joins the changes is spelled as before
+-- a whole row that joins the changes means what it meant before
 pub joined_spelled : (stage : Stage) (gtid : Gtid) (cs : List Change) (c : Change) (row : List Meaning) → is_begun stage ≡ true → row ≡ meaning_of_change c → spelled_open stage gtid (cs ++ c ∷ []) [] ≡ spelled_open stage gtid cs row
 joined_spelled stages.Idle gtid cs c row b e = absurd cc
 joined_spelled stages.Named gtid cs c row b e = absurd cc
@@ -171,7 +171,7 @@ finish_named s u table (Some t) sound e h =
 
 pub finish_either : (s u : Standing) (r : Option (List ℕ)) → Sound s → s.row ≡ r → finish_by s r ≡ Ok u → Finishes s u
 finish_either s u None sound e h = subst (Finishes s) (same_ok s u h) (finish_none s sound e)
-finish_either s u (Some table) sound e h = finish_named s u table (table_named table s.tables) sound e h
+finish_either s u (Some table) sound e h = finish_named s u table (find_table table s.tables) sound e h
 
 pub finish_law : (s u : Standing) → Sound s → finish_row s ≡ Ok u → Finishes s u
 unfolding finish_row
@@ -193,7 +193,7 @@ sound_rests s cs body quiet rows closed = record {
   fits = (refl, refl);
 }
 
-pub rest_law : (s t : Standing) (body : Body) (l : Said) → Sound s → place_line s ≡ Ok t → is_rows body ≡ false → is_closed body ≡ false → means (context_of s) l ≡ [] → context_behind (context_of s) l ≡ behind_place (context_of s) → Tells s l (record t { body = body })
+pub rest_law : (s t : Standing) (body : Body) (l : Content) → Sound s → place_line s ≡ Ok t → is_rows body ≡ false → is_closed body ≡ false → means (context_of s) l ≡ [] → context_behind (context_of s) l ≡ behind_place (context_of s) → Tells s l (record t { body = body })
 unfolding place_line
 rest_law s t body l sound h rows closed nothing behind_is =
     let a = bind_ok (finish_row s) _ t h in
@@ -214,8 +214,8 @@ automatic_law s t sound h = rest_law s t bodies.FileEnd (OfMark marks.Automatic)
 
 -- ---- lines that change no row
 
--- only where the line stands and the stage change
-pub still : (s : Standing) (l : Said) (body : Body) → Sound s → is_rows s.body ≡ false → is_rows body ≡ false → (is_closed body ≡ true → is_idle s.stage ≡ true) → means (context_of s) l ≡ [] → context_behind (context_of s) l ≡ context_of s → Tells s l (record s { body = body })
+-- only the place of the line and the stage change
+pub still : (s : Standing) (l : Content) (body : Body) → Sound s → is_rows s.body ≡ false → is_rows body ≡ false → (is_closed body ≡ true → is_idle s.stage ≡ true) → means (context_of s) l ≡ [] → context_behind (context_of s) l ≡ context_of s → Tells s l (record s { body = body })
 still s l body sound outside rows closed nothing same = record {
   spells = sym (append-nil (spelled_state s)) ∙ ap (λ (xs : List Meaning). spelled_state s ++ xs) (sym nothing);
   context = sym same;
@@ -295,8 +295,8 @@ rows_only _ e = absurd cc
 
 -- ---- lines that change nothing
 
--- a line that means nothing, and changes nothing but where the next one stands
-pub neutral : (s : Standing) (l : Said) (kind : Kind) → Sound s → IsQuiet s.body (behind s.body kind) → means (context_of s) l ≡ [] → context_behind (context_of s) l ≡ context_of s → Tells s l (record s { body = behind s.body kind })
+-- a line that means nothing, and changes nothing but the place of the next one
+pub neutral : (s : Standing) (l : Content) (kind : Kind) → Sound s → IsQuiet s.body (behind s.body kind) → means (context_of s) l ≡ [] → context_behind (context_of s) l ≡ context_of s → Tells s l (record s { body = behind s.body kind })
 neutral s l kind sound q nothing same = still s l (behind s.body kind) sound q.0 q.1 (λ c. sound.closed (q.2 c)) nothing same
 
 pub closed_law : (s : Standing) → Sound s → takes s.body kinds.Closed ≡ true → is_idle s.stage ≡ true → Tells s (OfMark marks.Closed) (record s { body = bodies.Closed })

@@ -6,18 +6,18 @@ use Rattle.std.proofs.lemmas.Bool.{eqb-true}
 use Rattle.std.proofs.lemmas.List.Folds.{list_all-append}
 use Rattle.gtid_set.specs.declared.fault.SetFault.{SetFault}
 use Rattle.txn_journal.specs.Words.{IsOneLine}
-use Rattle.binlog_text.specs.Lines.{Said, IsLine}
+use Rattle.binlog_text.specs.Lines.{Content, IsLine}
 use Rattle.binlog_text.specs.Reading.{line_of}
 use Rattle.binlog_text.proofs.LinesFound.{line_found}
 use Rattle.binlog_entries.specs.Machine.{Standing, ◌>>=◌, judge, step, step_by, runs, is_closed}
 use Rattle.binlog_entries.specs.Machine as machine
 use Rattle.binlog_entries.specs.Meaning.{meaning_of_entries}
-use Rattle.binlog_entries.specs.Stream.{Progress, Reading, Stopped, next_number, progress_after, eat, eats, start, Seen, Told, end_of_text, closing, IsPieceFault, Ends, ended_line, Say, IsLog, judges, numbered, IsRefused, IsUnfinished, Refuses}
+use Rattle.binlog_entries.specs.Stream.{Progress, Reading, Stopped, next_number, progress_after, feed_byte, feed_bytes, start, Seen, LogValue, end_of_text, closing, IsPieceFault, Ends, ended_line, HaveContents, IsLog, judges, numbered, IsRefused, IsUnfinished, Refuses}
 use Rattle.binlog_entries.specs.declared.fault.ReadFault.{ReadFault}
 use Rattle.binlog_entries.specs.declared.fault.ReadFault.TheVariants as faults
 use Rattle.binlog_entries.specs.declared.fault.EntryRefusal.{EntryRefusal}
 use Rattle.binlog_entries.proofs.TransactionLaws.{bind_ok}
-use Rattle.binlog_entries.proofs.Told.{entries_told}
+use Rattle.binlog_entries.proofs.Meanings.{entries_told}
 use Rattle.binlog_entries.proofs.KeptLaws.{before_told, varied_told}
 use Rattle.binlog_entries.proofs.Pieces.{stopped_stays}
 
@@ -42,8 +42,8 @@ behind_feed rest bs lines more e =
     ∙ sym (append_assoc (rest ++ 10 ∷ []) lines more)
 
 fed : (s : Standing) (n b : ℕ) (rest bs : List ℕ) (r : Result Standing EntryRefusal) (t : Standing) (m : ℕ) (more : List ℕ) → IsOneLine rest → b ≡ 10 → judge s rest ≡ r
-    → ((u : Standing) → eats (Reading u (next_number n) []) bs ≡ Reading t m more → Reads u (next_number n) [] bs t m more)
-    → eats (progress_after r (next_number n)) bs ≡ Reading t m more → Reads s n rest (b ∷ bs) t m more
+    → ((u : Standing) → feed_bytes (Reading u (next_number n) []) bs ≡ Reading t m more → Reads u (next_number n) [] bs t m more)
+    → feed_bytes (progress_after r (next_number n)) bs ≡ Reading t m more → Reads s n rest (b ∷ bs) t m more
 fed s n b rest bs (Ok u) t m more one is j next e =
     let k = next u e in record {
       lines = rest ∷ k.lines;
@@ -56,8 +56,8 @@ fed s n b rest bs (Ok u) t m more one is j next e =
 fed s n b rest bs (Err refusal) t m more one is j next e = absurd (let bad : Stopped (faults.Line (next_number n) refusal) ≡ Reading t m more = sym (stopped_stays (faults.Line (next_number n) refusal) bs) ∙ e in cc)
 
 eaten : (s : Standing) (n b : ℕ) (rest bs : List ℕ) (test : Bool) (t : Standing) (m : ℕ) (more : List ℕ) → IsOneLine rest → eqb b 10 ≡ test
-    → ((u : Standing) (k : ℕ) (rest : List ℕ) → IsOneLine rest → eats (Reading u k rest) bs ≡ Reading t m more → Reads u k rest bs t m more)
-    → eats (cond test (progress_after (judge s rest) (next_number n)) (Reading s n (rest ++ b ∷ []))) bs ≡ Reading t m more → Reads s n rest (b ∷ bs) t m more
+    → ((u : Standing) (k : ℕ) (rest : List ℕ) → IsOneLine rest → feed_bytes (Reading u k rest) bs ≡ Reading t m more → Reads u k rest bs t m more)
+    → feed_bytes (cond test (progress_after (judge s rest) (next_number n)) (Reading s n (rest ++ b ∷ []))) bs ≡ Reading t m more → Reads s n rest (b ∷ bs) t m more
 eaten s n b rest bs true t m more one is next e = fed s n b rest bs (judge s rest) t m more one (eqb-true b 10 is) refl (λ u. next u (next_number n) [] refl) e
 eaten s n b rest bs false t m more one is next e =
     let k = next s n (rest ++ b ∷ []) (longer rest b one is) e in record {
@@ -72,8 +72,8 @@ eaten s n b rest bs false t m more one is next e =
 reading_same : (s t : Standing) (n m : ℕ) (rest more : List ℕ) → Reading s n rest ≡ Reading t m more → (s ≡ t) × (n ≡ m) × (rest ≡ more)
 reading_same s t n m rest more e = (cc, cc, cc)
 
-reads_back : (s : Standing) (n : ℕ) (rest bytes : List ℕ) (t : Standing) (m : ℕ) (more : List ℕ) → IsOneLine rest → eats (Reading s n rest) bytes ≡ Reading t m more → Reads s n rest bytes t m more
-unfolding eat
+reads_back : (s : Standing) (n : ℕ) (rest bytes : List ℕ) (t : Standing) (m : ℕ) (more : List ℕ) → IsOneLine rest → feed_bytes (Reading s n rest) bytes ≡ Reading t m more → Reads s n rest bytes t m more
+unfolding feed_byte
 reads_back s n rest [] t m more one e =
     let same = reading_same s t n m rest more e in record {
       lines = [];
@@ -100,8 +100,8 @@ pub record Stops (s : Standing) (n : ℕ) (rest bytes : List ℕ) (fault : ReadF
   pub is : fault ≡ faults.Line (next_number (numbered n before)) refusal
 
 stop_fed : (s : Standing) (n b : ℕ) (rest bs : List ℕ) (r : Result Standing EntryRefusal) (f : ReadFault) → IsOneLine rest → b ≡ 10 → judge s rest ≡ r
-    → ((u : Standing) → eats (Reading u (next_number n) []) bs ≡ Stopped f → Stops u (next_number n) [] bs f)
-    → eats (progress_after r (next_number n)) bs ≡ Stopped f → Stops s n rest (b ∷ bs) f
+    → ((u : Standing) → feed_bytes (Reading u (next_number n) []) bs ≡ Stopped f → Stops u (next_number n) [] bs f)
+    → feed_bytes (progress_after r (next_number n)) bs ≡ Stopped f → Stops s n rest (b ∷ bs) f
 stop_fed s n b rest bs (Ok u) f one is j next e =
     let k = next u e in record {
       before = rest ∷ k.before;
@@ -130,8 +130,8 @@ stop_fed s n b rest bs (Err refusal) f one is j next e =
     }
 
 stop_eaten : (s : Standing) (n b : ℕ) (rest bs : List ℕ) (test : Bool) (f : ReadFault) → IsOneLine rest → eqb b 10 ≡ test
-    → ((u : Standing) (k : ℕ) (rest : List ℕ) → IsOneLine rest → eats (Reading u k rest) bs ≡ Stopped f → Stops u k rest bs f)
-    → eats (cond test (progress_after (judge s rest) (next_number n)) (Reading s n (rest ++ b ∷ []))) bs ≡ Stopped f → Stops s n rest (b ∷ bs) f
+    → ((u : Standing) (k : ℕ) (rest : List ℕ) → IsOneLine rest → feed_bytes (Reading u k rest) bs ≡ Stopped f → Stops u k rest bs f)
+    → feed_bytes (cond test (progress_after (judge s rest) (next_number n)) (Reading s n (rest ++ b ∷ []))) bs ≡ Stopped f → Stops s n rest (b ∷ bs) f
 stop_eaten s n b rest bs true f one is next e = stop_fed s n b rest bs (judge s rest) f one (eqb-true b 10 is) refl (λ u. next u (next_number n) [] refl) e
 stop_eaten s n b rest bs false f one is next e =
     let k = next s n (rest ++ b ∷ []) (longer rest b one is) e in record {
@@ -147,49 +147,49 @@ stop_eaten s n b rest bs false f one is next e =
       is = k.is;
     }
 
-stops_back : (s : Standing) (n : ℕ) (rest bytes : List ℕ) (f : ReadFault) → IsOneLine rest → eats (Reading s n rest) bytes ≡ Stopped f → Stops s n rest bytes f
-unfolding eat
+stops_back : (s : Standing) (n : ℕ) (rest bytes : List ℕ) (f : ReadFault) → IsOneLine rest → feed_bytes (Reading s n rest) bytes ≡ Stopped f → Stops s n rest bytes f
+unfolding feed_byte
 stops_back s n rest [] f one e = absurd cc
 stops_back s n rest (b ∷ bs) f one e = stop_eaten s n b rest bs (eqb b 10) f one refl (λ u k rest one h. stops_back u k rest bs f one h) e
 
--- ---- what lines say
+-- ---- the contents of lines
 
 pub record Speak (s : Standing) (lines : List (List ℕ)) (t : Standing) : Type 0 where
-  pub said : List Said
-  pub say : Say lines said
-  pub run : runs s said ≡ Ok t
+  pub contents : List Content
+  pub content : HaveContents lines contents
+  pub run : runs s contents ≡ Ok t
 
-line_said : (s : Standing) (line : List ℕ) (o : Option Said) (t : Standing) → line_of line ≡ o → step_by s line o ≡ Ok t → (l : Said) × IsLine l line × (step s l ≡ Ok t)
+line_said : (s : Standing) (line : List ℕ) (o : Option Content) (t : Standing) → line_of line ≡ o → step_by s line o ≡ Ok t → (l : Content) × IsLine l line × (step s l ≡ Ok t)
 line_said s line None t e h = absurd cc
 line_said s line (Some l) t e h = (l, line_found line l e, h)
 
-judge_said : (s : Standing) (line : List ℕ) (t : Standing) → judge s line ≡ Ok t → (l : Said) × IsLine l line × (step s l ≡ Ok t)
+judge_said : (s : Standing) (line : List ℕ) (t : Standing) → judge s line ≡ Ok t → (l : Content) × IsLine l line × (step s l ≡ Ok t)
 unfolding judge
 judge_said s line t h = line_said s line (line_of line) t refl h
 
 speak : (s : Standing) (lines : List (List ℕ)) (t : Standing) → judges s lines ≡ Ok t → Speak s lines t
-speak s [] t h = record { said = []; say = tt; run = h }
+speak s [] t h = record { contents = []; content = tt; run = h }
 speak s (line ∷ lines) t h =
     let a = bind_ok (judge s line) _ t h in
     let first = judge_said s line a.0 a.1 in
     let rest = speak a.0 lines t a.2 in
     record {
-      said = first.0 ∷ rest.said;
-      say = (first.1, rest.say);
-      run = ap (λ (r : Result Standing EntryRefusal). r >>= λ u. runs u rest.said) first.2 ∙ rest.run;
+      contents = first.0 ∷ rest.contents;
+      content = (first.1, rest.content);
+      run = ap (λ (r : Result Standing EntryRefusal). r >>= λ u. runs u rest.contents) first.2 ∙ rest.run;
     }
 
 -- ---- the whole
 
-ended_is : (b : Bool) (s : Standing) (n : ℕ) (rest : List ℕ) (x : Told) → end_of_text b s n rest ≡ Ok x → (b ≡ true) × (rest ≡ []) × (s.previous ≡ x.0) × (s.entries ≡ x.1) × (s.varied ≡ x.2)
-ended_is true s n [] x e = let same : (s.previous, s.entries, s.varied) ≡ x = told_same _ x e in (refl, refl, ap (λ (y : Told). y.0) same, ap (λ (y : Told). y.1) same, ap (λ (y : Told). y.2) same)
+ended_is : (b : Bool) (s : Standing) (n : ℕ) (rest : List ℕ) (x : LogValue) → end_of_text b s n rest ≡ Ok x → (b ≡ true) × (rest ≡ []) × (s.previous ≡ x.0) × (s.entries ≡ x.1) × (s.varied ≡ x.2)
+ended_is true s n [] x e = let same : (s.previous, s.entries, s.varied) ≡ x = told_same _ x e in (refl, refl, ap (λ (y : LogValue). y.0) same, ap (λ (y : LogValue). y.1) same, ap (λ (y : LogValue). y.2) same)
   where
-    told_same : (x y : Told) → (let r : Result Told ReadFault = Ok x in r) ≡ Ok y → x ≡ y
+    told_same : (x y : LogValue) → (let r : Result LogValue ReadFault = Ok x in r) ≡ Ok y → x ≡ y
     told_same x y e = cc
 ended_is true s n (b ∷ bs) x e = absurd cc
 ended_is false s n rest x e = absurd cc
 
-log_of : (text : List ℕ) (p : Progress) (x : Told) → eats start text ≡ p → closing p ≡ Ok x → IsLog text x.0 x.1 x.2
+log_of : (text : List ℕ) (p : Progress) (x : LogValue) → feed_bytes start text ≡ p → closing p ≡ Ok x → IsLog text x.0 x.1 x.2
 log_of text (Stopped fault) x e h = absurd cc
 log_of text (Reading s n rest) x e h =
     let d = ended_is (is_closed s.body) s n rest x h in
@@ -199,16 +199,16 @@ log_of text (Reading s n rest) x e h =
       lines = k.lines;
       parts = k.parts ∙ ap (λ (xs : List ℕ). flat_map ended_line k.lines ++ xs) d.1 ∙ append-nil (flat_map ended_line k.lines);
       whole = k.whole;
-      said = spoken.said;
-      say = spoken.say;
-      means = entries_told spoken.said s spoken.run d.0 ∙ ap meaning_of_entries d.3;
-      before = sym d.2 ∙ before_told spoken.said s spoken.run;
-      varies = sym d.4 ∙ varied_told spoken.said s spoken.run;
+      contents = spoken.contents;
+      content = spoken.content;
+      means = entries_told spoken.contents s spoken.run d.0 ∙ ap meaning_of_entries d.3;
+      before = sym d.2 ∙ before_told spoken.contents s spoken.run;
+      varies = sym d.4 ∙ varied_told spoken.contents s spoken.run;
     }
 
-pub read_found : (text : List ℕ) (x : Told) → Ends (IsPieceFault start text) (Ok x) (closing (eats start text)) → IsLog text x.0 x.1 x.2
+pub read_found : (text : List ℕ) (x : LogValue) → Ends (IsPieceFault start text) (Ok x) (closing (feed_bytes start text)) → IsLog text x.0 x.1 x.2
 read_found text x (inl h) = absurd (let bad = h.1 in cc)
-read_found text x (inr h) = log_of text (eats start text) x refl (sym h)
+read_found text x (inr h) = log_of text (feed_bytes start text) x refl (sym h)
 
 unended : (b : Bool) (s : Standing) (n m : ℕ) (rest : List ℕ) → end_of_text b s n rest ≡ Err (faults.Unfinished m) → ((b ≡ true) × (rest ≡ []) → ⊥) × (m ≡ next_number n)
 unended true s n m [] e = absurd cc
@@ -220,7 +220,7 @@ line_not_ended true s n m [] refusal e = absurd cc
 line_not_ended true s n m (b ∷ bs) refusal e = absurd cc
 line_not_ended false s n m rest refusal e = absurd cc
 
-refused_at : (text : List ℕ) (p : Progress) (n : ℕ) (refusal : EntryRefusal) → eats start text ≡ p → closing p ≡ Err (faults.Line n refusal) → IsRefused text n refusal
+refused_at : (text : List ℕ) (p : Progress) (n : ℕ) (refusal : EntryRefusal) → feed_bytes start text ≡ p → closing p ≡ Err (faults.Line n refusal) → IsRefused text n refusal
 refused_at text (Reading s m rest) n refusal e h = absurd (line_not_ended (is_closed s.body) s m n rest refusal h)
 refused_at text (Stopped f) n refusal e h =
     let k = stops_back machine.start 0 [] text f refl e in
@@ -237,18 +237,18 @@ refused_at text (Stopped f) n refusal e h =
       number = sym (line_same _ n k.refusal refusal same).0;
     }
   where
-    fault_same : (f g : ReadFault) → (let x : Result Told ReadFault = Err f in x) ≡ Err g → f ≡ g
+    fault_same : (f g : ReadFault) → (let x : Result LogValue ReadFault = Err f in x) ≡ Err g → f ≡ g
     fault_same f g e = cc
 
     line_same : (n m : ℕ) (r q : EntryRefusal) → faults.Line n r ≡ faults.Line m q → (n ≡ m) × (r ≡ q)
     line_same n m r q e = (cc, cc)
 
-unfinished_at : (text : List ℕ) (p : Progress) (n : ℕ) → eats start text ≡ p → closing p ≡ Err (faults.Unfinished n) → IsUnfinished text n
+unfinished_at : (text : List ℕ) (p : Progress) (n : ℕ) → feed_bytes start text ≡ p → closing p ≡ Err (faults.Unfinished n) → IsUnfinished text n
 unfinished_at text (Stopped f) n e h =
     let k = stops_back machine.start 0 [] text f refl e in
     absurd (let bad : faults.Line (next_number (numbered 0 k.before)) k.refusal ≡ faults.Unfinished n = sym k.is ∙ fault_same f (faults.Unfinished n) h in cc)
   where
-    fault_same : (f g : ReadFault) → (let x : Result Told ReadFault = Err f in x) ≡ Err g → f ≡ g
+    fault_same : (f g : ReadFault) → (let x : Result LogValue ReadFault = Err f in x) ≡ Err g → f ≡ g
     fault_same f g e = cc
 unfinished_at text (Reading s m rest) n e h =
     let k = reads_back machine.start 0 [] text s m rest refl e in
@@ -265,10 +265,10 @@ unfinished_at text (Reading s m rest) n e h =
     }
 
 -- the fold over the bytes knows of lines and the end alone
-set_not_ended : (text : List ℕ) (fault : SetFault) (p : Progress) → eats start text ≡ p → (let x : Result Told ReadFault = Err (faults.Set fault) in x) ≡ closing p → ⊥
+set_not_ended : (text : List ℕ) (fault : SetFault) (p : Progress) → feed_bytes start text ≡ p → (let x : Result LogValue ReadFault = Err (faults.Set fault) in x) ≡ closing p → ⊥
 set_not_ended text fault (Reading s n rest) e h = not_owed (is_closed s.body) s n rest h
   where
-    not_owed : (b : Bool) (s : Standing) (n : ℕ) (rest : List ℕ) → (let x : Result Told ReadFault = Err (faults.Set fault) in x) ≡ end_of_text b s n rest → ⊥
+    not_owed : (b : Bool) (s : Standing) (n : ℕ) (rest : List ℕ) → (let x : Result LogValue ReadFault = Err (faults.Set fault) in x) ≡ end_of_text b s n rest → ⊥
     not_owed true s n [] h = cc
     not_owed true s n (b ∷ bs) h = cc
     not_owed false s n rest h = cc
@@ -277,26 +277,26 @@ set_not_ended text fault (Stopped f) e h =
     let bad : faults.Set fault ≡ faults.Line (next_number (numbered 0 k.before)) k.refusal = fault_same (faults.Set fault) f h ∙ k.is in
     cc
   where
-    fault_same : (f g : ReadFault) → (let x : Result Told ReadFault = Err f in x) ≡ Err g → f ≡ g
+    fault_same : (f g : ReadFault) → (let x : Result LogValue ReadFault = Err f in x) ≡ Err g → f ≡ g
     fault_same f g e = cc
 
-pub read_refused : (text : List ℕ) (fault : ReadFault) → Ends (IsPieceFault start text) (Err fault) (closing (eats start text)) → Refuses fault text
+pub read_refused : (text : List ℕ) (fault : ReadFault) → Ends (IsPieceFault start text) (Err fault) (closing (feed_bytes start text)) → Refuses fault text
 read_refused text (faults.Set fault) (inl h) = subst (IsPieceFault start text) (set_same h.0 fault h.1) h.2
   where
-    set_same : (f g : SetFault) → (let x : Result Told ReadFault = Err (faults.Set g) in x) ≡ Err (faults.Set f) → f ≡ g
+    set_same : (f g : SetFault) → (let x : Result LogValue ReadFault = Err (faults.Set g) in x) ≡ Err (faults.Set f) → f ≡ g
     set_same f g e = cc
-read_refused text (faults.Set fault) (inr h) = absurd (set_not_ended text fault (eats start text) refl h)
+read_refused text (faults.Set fault) (inr h) = absurd (set_not_ended text fault (feed_bytes start text) refl h)
 read_refused text (faults.Line n refusal) (inl h) = absurd (let bad = h.1 in cc)
-read_refused text (faults.Line n refusal) (inr h) = refused_at text (eats start text) n refusal refl (sym h)
+read_refused text (faults.Line n refusal) (inr h) = refused_at text (feed_bytes start text) n refusal refl (sym h)
 read_refused text (faults.Unfinished n) (inl h) = absurd (let bad = h.1 in cc)
-read_refused text (faults.Unfinished n) (inr h) = unfinished_at text (eats start text) n refl (sym h)
+read_refused text (faults.Unfinished n) (inr h) = unfinished_at text (feed_bytes start text) n refl (sym h)
 
 -- ---- of what was read
 
-pub seen_found : {X : Type 0} (view : X → Told) (text : List ℕ) (r : Result X ReadFault) → Ends (IsPieceFault start text) (Seen view r) (closing (eats start text)) → IfOk r (λ x. IsLog text (view x).0 (view x).1 (view x).2)
+pub seen_found : {X : Type 0} (view : X → LogValue) (text : List ℕ) (r : Result X ReadFault) → Ends (IsPieceFault start text) (Seen view r) (closing (feed_bytes start text)) → IfOk r (λ x. IsLog text (view x).0 (view x).1 (view x).2)
 seen_found view text (Ok x) h = read_found text (view x) h
 seen_found view text (Err fault) h = tt
 
-pub seen_refused : {X : Type 0} (view : X → Told) (text : List ℕ) (r : Result X ReadFault) → Ends (IsPieceFault start text) (Seen view r) (closing (eats start text)) → IfErr r (λ fault. Refuses fault text)
+pub seen_refused : {X : Type 0} (view : X → LogValue) (text : List ℕ) (r : Result X ReadFault) → Ends (IsPieceFault start text) (Seen view r) (closing (feed_bytes start text)) → IfErr r (λ fault. Refuses fault text)
 seen_refused view text (Ok x) h = tt
 seen_refused view text (Err fault) h = read_refused text fault h

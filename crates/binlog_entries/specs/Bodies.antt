@@ -4,7 +4,7 @@ use Rattle.binlog_text.specs.declared.lines.Event.{Event}
 use Rattle.binlog_text.specs.declared.lines.Event.TheVariants as events
 use Rattle.binlog_text.specs.declared.lines.Mark.{Mark}
 use Rattle.binlog_text.specs.declared.lines.Mark.TheVariants as marks
-use Rattle.binlog_text.specs.Lines.{Said, OfMark, OfHead, OfTable, OfColumn, OfGtid, OfSources, OfRow, OfValue}
+use Rattle.binlog_text.specs.Lines.{Content, OfMark, OfHead, OfTable, OfColumn, OfGtid, OfSources, OfRow, OfValue}
 use Rattle.binlog_entries.specs.declared.bodies.Body.{Body}
 use Rattle.binlog_entries.specs.declared.bodies.Body.TheVariants as bodies
 use Rattle.binlog_entries.specs.declared.bodies.Kind.{Kind}
@@ -26,7 +26,7 @@ kind_of_mark marks.Comment = kinds.Comment
 kind_of_mark marks.Setting = kinds.Setting
 kind_of_mark marks.Frame = kinds.Frame
 
-abbrev pub kind_of : Said → Kind
+abbrev pub kind_of : Content → Kind
 kind_of (OfMark mark) = kind_of_mark mark
 kind_of (OfHead event) = kinds.Head
 kind_of (OfTable database table) = kinds.TableMap
@@ -100,7 +100,7 @@ behind body kinds.Closed = bodies.Closed
 behind body _ = body
 
 -- what the line after one is a part of
-abbrev pub next_body : Body → Said → Body
+abbrev pub next_body : Body → Content → Body
 next_body body (OfHead event) = body_of event
 next_body body (OfMark mark) = behind body (kind_of (OfMark mark))
 next_body body (OfTable database table) = behind body (kind_of (OfTable database table))

@@ -14,7 +14,7 @@ use Rattle.rows.specs.declared.change.Change.{Change}
 use Rattle.rows.specs.declared.change.Change.TheVariants as changes
 use Rattle.txn_journal.specs.Words.{name_of}
 use Rattle.binlog_text.specs.declared.types.ColumnType.{ColumnType}
-use Rattle.binlog_text.specs.Types.{type_named}
+use Rattle.binlog_text.specs.Types.{parse_type}
 use Rattle.binlog_text.specs.Values.{value_at}
 use Rattle.binlog_text.specs.declared.lines.Event.{Event}
 use Rattle.binlog_text.specs.declared.lines.Event.TheVariants as events
@@ -22,9 +22,9 @@ use Rattle.binlog_text.specs.declared.lines.Mark.{Mark}
 use Rattle.binlog_text.specs.declared.lines.Mark.TheVariants as marks
 use Rattle.binlog_text.specs.declared.lines.Operation.{Operation}
 use Rattle.binlog_text.specs.declared.lines.Operation.TheVariants as operations
-use Rattle.binlog_text.specs.Lines.{Column, Said, OfMark, OfHead, OfTable, OfColumn, OfGtid, OfSources, OfRow, OfValue}
+use Rattle.binlog_text.specs.Lines.{Column, Content, OfMark, OfHead, OfTable, OfColumn, OfGtid, OfSources, OfRow, OfValue}
 use Rattle.binlog_text.specs.Reading.{line_of}
-use Rattle.binlog_entries.specs.Tables.{Table, table_named, with_mapping, type_at}
+use Rattle.binlog_entries.specs.Tables.{Table, find_table, with_mapping, type_at}
 use Rattle.binlog_entries.specs.Bodies.{kind_of, takes, next_body}
 use Rattle.binlog_entries.specs.Unread.{refusal_of}
 use Rattle.binlog_entries.specs.Varied.{varied_behind}
@@ -140,7 +140,7 @@ finish_in s table (Some t) =
 
 abbrev pub finish_by : Standing → Option (List ℕ) → Result Standing EntryRefusal
 finish_by s None = Ok s
-finish_by s (Some table) = finish_in s table (table_named table s.tables)
+finish_by s (Some table) = finish_in s table (find_table table s.tables)
 
 unfoldable pub finish_row : Standing → Result Standing EntryRefusal
 finish_row s = finish_by s s.row
@@ -170,7 +170,7 @@ open_row s operation None = Err refusals.Table
 open_row s operation (Some table) = Ok (record s { row = Some table; operation = operation; part = parts.Head })
 
 abbrev pub known_name : List ℕ → List Table → Option (List ℕ)
-known_name table tables = if is_some (table_named table tables) then name_of table else None
+known_name table tables = if is_some (find_table table tables) then name_of table else None
 
 abbrev pub begin_row : Standing → Operation → List ℕ → List ℕ → Result Standing EntryRefusal
 begin_row s operation database table =
@@ -257,7 +257,7 @@ note_varied s text = record s { varied = varied_behind s.varied s.mapping text }
 
 unfoldable pub column_line : Standing → Column → Result Standing EntryRefusal
 column_line s c = do
-  type ← or_refused refusals.Type (type_named c.column_type)
+  type ← or_refused refusals.Type (parse_type c.column_type)
   add_column (note_varied s c.column_type) s.mapping c.is_first type
 
 -- ---- transactions
@@ -310,7 +310,7 @@ mark_line s marks.Comment = Ok s
 mark_line s marks.Setting = Ok s
 mark_line s marks.Frame = Ok s
 
-abbrev pub take_content : Standing → Said → Result Standing EntryRefusal
+abbrev pub take_content : Standing → Content → Result Standing EntryRefusal
 take_content s (OfMark mark) = mark_line s mark
 take_content s (OfHead event) = head_line s event
 take_content s (OfTable database table) = table_line s database table
@@ -320,14 +320,14 @@ take_content s (OfSources sources more) = sources_line s sources
 take_content s (OfRow operation database table) = row_line s operation database table
 take_content s (OfValue n text) = value_line s n text
 
-unfoldable pub step : Standing → Said → Result Standing EntryRefusal
+unfoldable pub step : Standing → Content → Result Standing EntryRefusal
 step s l =
     if takes s.body (kind_of l) then (do
       t ← take_content s l
       Ok (record t { body = next_body t.body l }))
     else Err refusals.Format
 
-abbrev pub step_by : Standing → List ℕ → Option Said → Result Standing EntryRefusal
+abbrev pub step_by : Standing → List ℕ → Option Content → Result Standing EntryRefusal
 step_by s text None = Err (refusal_of s.body text)
 step_by s text (Some l) = step s l
 
@@ -355,7 +355,7 @@ IsMarkFault marks.Commit fault = fault ≡ Memory
 IsMarkFault marks.Committed fault = fault ≡ Memory
 IsMarkFault _ fault = ⊥
 
-abbrev pub IsContentFault : Standing → Said → SetFault → Type 0
+abbrev pub IsContentFault : Standing → Content → SetFault → Type 0
 IsContentFault s (OfMark mark) fault = IsMarkFault mark fault
 IsContentFault s (OfHead event) fault = ⊥
 IsContentFault s (OfTable database table) fault = fault ≡ Memory
@@ -366,10 +366,10 @@ IsContentFault s (OfRow operation database table) fault = fault ≡ Memory
 IsContentFault s (OfValue n text) fault = fault ≡ Memory
 
 -- it may be there, and its content has this fault
-abbrev pub IsStepFault : Standing → Said → SetFault → Type 0
+abbrev pub IsStepFault : Standing → Content → SetFault → Type 0
 IsStepFault s l fault = (takes s.body (kind_of l) ≡ true) × IsContentFault s l fault
 
-abbrev pub IsFaultBy : Standing → Option Said → SetFault → Type 0
+abbrev pub IsFaultBy : Standing → Option Content → SetFault → Type 0
 IsFaultBy s None fault = ⊥
 IsFaultBy s (Some l) fault = IsStepFault s l fault
 
@@ -406,6 +406,6 @@ is_closed bodies.Closed = true
 is_closed _ = false
 
 -- what lines make, one after another
-abbrev pub runs : Standing → List Said → Result Standing EntryRefusal
+abbrev pub runs : Standing → List Content → Result Standing EntryRefusal
 runs s [] = Ok s
 runs s (l ∷ ls) = step s l >>= λ t. runs t ls

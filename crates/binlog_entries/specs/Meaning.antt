@@ -10,7 +10,7 @@ use Rattle.row_images.specs.declared.value.Value.{Value}
 use Rattle.rows.specs.declared.change.Change.{Change}
 use Rattle.rows.specs.declared.change.Change.TheVariants as changes
 use Rattle.binlog_text.specs.declared.types.ColumnType.{ColumnType}
-use Rattle.binlog_text.specs.Types.{type_named}
+use Rattle.binlog_text.specs.Types.{parse_type}
 use Rattle.binlog_text.specs.Values.{value_at}
 use Rattle.binlog_text.specs.declared.lines.Event.{Event}
 use Rattle.binlog_text.specs.declared.lines.Event.TheVariants as events
@@ -18,7 +18,7 @@ use Rattle.binlog_text.specs.declared.lines.Mark.{Mark}
 use Rattle.binlog_text.specs.declared.lines.Mark.TheVariants as marks
 use Rattle.binlog_text.specs.declared.lines.Operation.{Operation}
 use Rattle.binlog_text.specs.declared.lines.Operation.TheVariants as operations
-use Rattle.binlog_text.specs.Lines.{Said, OfMark, OfHead, OfTable, OfColumn, OfGtid, OfSources, OfRow, OfValue}
+use Rattle.binlog_text.specs.Lines.{Content, OfMark, OfHead, OfTable, OfColumn, OfGtid, OfSources, OfRow, OfValue}
 use Rattle.binlog_entries.specs.Tables.{Table, with_mapping, type_at}
 use Rattle.binlog_entries.specs.Varied.{varied_behind}
 use Rattle.binlog_entries.specs.declared.varied.Varied.{Varied}
@@ -66,7 +66,7 @@ mark_means marks.Comment = []
 mark_means marks.Setting = []
 mark_means marks.Frame = []
 
-abbrev pub means : Context → Said → List Meaning
+abbrev pub means : Context → Content → List Meaning
 means c (OfMark mark) = mark_means mark
 means c (OfHead event) = []
 means c (OfTable database table) = []
@@ -112,23 +112,23 @@ behind_head c events.Rotate = c
 behind_head c events.Stop = c
 
 -- after rows the next table is another statement's
-abbrev pub context_behind : Context → Said → Context
+abbrev pub context_behind : Context → Content → Context
 context_behind c (OfMark mark) = behind_mark c mark
 context_behind c (OfHead event) = behind_head c event
 context_behind c (OfTable database table) = record { is_over = false; mapping = Some (record { name = table; columns = [] }); tables = if c.is_over then [] else c.tables; row = c.row }
-context_behind c (OfColumn column) = record { is_over = c.is_over; mapping = with_column c.mapping (type_named column.column_type); tables = c.tables; row = c.row }
+context_behind c (OfColumn column) = record { is_over = c.is_over; mapping = with_column c.mapping (parse_type column.column_type); tables = c.tables; row = c.row }
 context_behind c (OfGtid gtid) = c
 context_behind c (OfSources sources more) = c
 context_behind c (OfRow operation database table) = record { is_over = c.is_over; mapping = c.mapping; tables = c.tables; row = Some table }
 context_behind c (OfValue n text) = c
 
 -- what lines mean, in order
-abbrev pub meaning : Context → List Said → List Meaning
+abbrev pub meaning : Context → List Content → List Meaning
 meaning c [] = []
 meaning c (l ∷ ls) = means c l ++ meaning (context_behind c l) ls
 
 -- the columns that the server compares otherwise than their bytes, after these lines
-abbrev pub varied_by : Context → List Varied → Said → List Varied
+abbrev pub varied_by : Context → List Varied → Content → List Varied
 varied_by c vs (OfColumn column) = varied_behind vs c.mapping column.column_type
 varied_by c vs (OfMark mark) = vs
 varied_by c vs (OfHead event) = vs
@@ -138,7 +138,7 @@ varied_by c vs (OfSources sources more) = vs
 varied_by c vs (OfRow operation database table) = vs
 varied_by c vs (OfValue n text) = vs
 
-abbrev pub varied_in : Context → List Varied → List Said → List Varied
+abbrev pub varied_in : Context → List Varied → List Content → List Varied
 varied_in c vs [] = vs
 varied_in c vs (l ∷ ls) = varied_in (context_behind c l) (varied_by c vs l) ls
 
@@ -148,7 +148,7 @@ with_sources before None = before
 with_sources before (Some more) = set.union before more
 
 -- What was executed before, by these lines: the sets that come before the first GTID, together.
-abbrev pub executed_before : Gtids → List Said → Gtids
+abbrev pub executed_before : Gtids → List Content → Gtids
 executed_before before [] = before
 executed_before before (OfGtid gtid ∷ ls) = before
 executed_before before (OfSources sources more ∷ ls) = executed_before (with_sources before (set_of_word sources)) ls

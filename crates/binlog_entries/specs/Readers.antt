@@ -1,12 +1,12 @@
 -- How far a reader has come.
 use Rattle.binlog_entries.specs.declared.draft.Log.{Log}
 use Rattle.binlog_entries.specs.Drafts.{standing}
-use Rattle.binlog_entries.specs.Stream.{Told, Progress, Reading, unless_stopped}
+use Rattle.binlog_entries.specs.Stream.{LogValue, Progress, Reading, unless_stopped}
 use Rattle.binlog_entries.specs.declared.reader.Reader.{Reader}
 
 abbrev pub progress : Reader → Progress
 progress r = unless_stopped r.stopped (Reading (standing r.draft) r.lines r.rest.items)
 
 -- what a log is seen as
-abbrev pub log_seen : Log → Told
+abbrev pub log_seen : Log → LogValue
 log_seen l = (l.previous, l.entries.items, l.varied.items)

@@ -7,7 +7,7 @@ use Rattle.gtid_set.specs.declared.fault.SetFault.TheVariants.{Memory}
 use Rattle.gtid_set.specs.Sets.{Gtids}
 use Rattle.journal.specs.declared.Entry.{Entry}
 use Rattle.txn_journal.specs.Words.{IsOneLine}
-use Rattle.binlog_text.specs.Lines.{Said, IsLine}
+use Rattle.binlog_text.specs.Lines.{Content, IsLine}
 use Rattle.binlog_entries.specs.Machine.{Standing, ◌>>=◌, judge, is_closed, IsLineFault}
 use Rattle.binlog_entries.specs.Machine as machine
 use Rattle.binlog_entries.specs.Meaning.{meaning, nowhere, meaning_of_entries, executed_before, varied_in}
@@ -34,13 +34,13 @@ progress_after (Ok s) n = Reading s n []
 progress_after (Err refusal) n = Stopped (faults.Line n refusal)
 
 -- a line feed ends a line
-unfoldable pub eat : Progress → ℕ → Progress
-eat (Reading s n rest) b = if b == 10 then progress_after (judge s rest) (next_number n) else Reading s n (rest ++ b ∷ [])
-eat (Stopped fault) b = Stopped fault
+unfoldable pub feed_byte : Progress → ℕ → Progress
+feed_byte (Reading s n rest) b = if b == 10 then progress_after (judge s rest) (next_number n) else Reading s n (rest ++ b ∷ [])
+feed_byte (Stopped fault) b = Stopped fault
 
-abbrev pub eats : Progress → List ℕ → Progress
-eats p [] = p
-eats p (b ∷ bs) = eats (eat p b) bs
+abbrev pub feed_bytes : Progress → List ℕ → Progress
+feed_bytes p [] = p
+feed_bytes p (b ∷ bs) = feed_bytes (feed_byte p b) bs
 
 -- before the first byte
 abbrev pub start : Progress
@@ -65,7 +65,7 @@ pub record HasLineFault (p : Progress) (bytes : List ℕ) (fault : SetFault) : T
   pub state : Standing
   pub number : ℕ
   pub part : List ℕ
-  pub read : eats p front ≡ Reading state number part
+  pub read : feed_bytes p front ≡ Reading state number part
   pub may : IsLineFault state (part ++ line) fault
 
 -- Why bytes that end a line are not taken, though nothing is wrong with them: one of their lines has a fault, or memory was refused to join a line
@@ -75,7 +75,7 @@ IsEndFault p bytes fault = HasLineFault p bytes fault ⊎ ((fault ≡ Memory) ×
 
 -- the same of any bytes: memory may also be refused to keep the line that has not come whole behind them
 abbrev pub IsPieceFault : Progress → List ℕ → SetFault → Type 0
-IsPieceFault p bytes fault = IsEndFault p bytes fault ⊎ ((fault ≡ Memory) × HasPart (eats p bytes))
+IsPieceFault p bytes fault = IsEndFault p bytes fault ⊎ ((fault ≡ Memory) × HasPart (feed_bytes p bytes))
 
 -- the same of a line, by its two parts
 abbrev pub IsJoinedFault : Standing → List ℕ → List ℕ → SetFault → Type 0
@@ -98,8 +98,8 @@ Seen view (Ok x) = Ok (view x)
 Seen view (Err fault) = Err fault
 
 -- what was executed before, the entries, and the columns that the server compares otherwise than their bytes
-abbrev pub Told : Type 0
-Told = Gtids × List Entry × List Varied
+abbrev pub LogValue : Type 0
+LogValue = Gtids × List Entry × List Varied
 
 -- whether a text may end after so many lines and part of one more
 abbrev pub ends_at : Bool → ℕ → List ℕ → Result (Unit {0}) ReadFault
@@ -115,16 +115,16 @@ abbrev pub at_end : {V : Type 0} → Result (Unit {0}) ReadFault → V → Resul
 at_end (Ok _) value = Ok value
 at_end (Err fault) value = Err fault
 
-abbrev pub end_of_text : Bool → Standing → ℕ → List ℕ → Result Told ReadFault
+abbrev pub end_of_text : Bool → Standing → ℕ → List ℕ → Result LogValue ReadFault
 end_of_text b s n rest = at_end (ends_at b n rest) (s.previous, s.entries, s.varied)
 
 -- the end of the text
-abbrev pub closing : Progress → Result Told ReadFault
+abbrev pub closing : Progress → Result LogValue ReadFault
 closing (Reading s n rest) = end_of_text (is_closed s.body) s n rest
 closing (Stopped fault) = Err fault
 
 -- it is this, or a fault that may be
-abbrev pub Ends : (SetFault → Type 0) → Result Told ReadFault → Result Told ReadFault → Type 0
+abbrev pub Ends : (SetFault → Type 0) → Result LogValue ReadFault → Result LogValue ReadFault → Type 0
 Ends may result whole = ((fault : SetFault) × (result ≡ Err (faults.Set fault)) × may fault) ⊎ (result ≡ whole)
 
 -- ---- the whole of a text
@@ -133,10 +133,10 @@ abbrev pub ended_line : List ℕ → List ℕ
 ended_line line = line ++ 10 ∷ []
 
 -- each line has this content
-abbrev pub Say : List (List ℕ) → List Said → Type 0
-Say [] [] = Unit {0}
-Say (line ∷ lines) (l ∷ ls) = IsLine l line × Say lines ls
-Say _ _ = ⊥
+abbrev pub HaveContents : List (List ℕ) → List Content → Type 0
+HaveContents [] [] = Unit {0}
+HaveContents (line ∷ lines) (l ∷ ls) = IsLine l line × HaveContents lines ls
+HaveContents _ _ = ⊥
 
 -- The text is lines with content, and what they mean is what the entries denote, in order. This was executed before, and these are the
 -- columns that the server compares otherwise than their bytes.
@@ -144,11 +144,11 @@ pub record IsLog (text : List ℕ) (previous : Gtids) (entries : List Entry) (va
   pub lines : List (List ℕ)
   pub parts : text ≡ flat_map ended_line lines
   pub whole : AllByRecursion IsOneLine lines
-  pub said : List Said
-  pub say : Say lines said
-  pub means : meaning nowhere said ≡ meaning_of_entries entries
-  pub before : previous ≡ executed_before set.empty said
-  pub varies : varied ≡ varied_in nowhere [] said
+  pub contents : List Content
+  pub content : HaveContents lines contents
+  pub means : meaning nowhere contents ≡ meaning_of_entries entries
+  pub before : previous ≡ executed_before set.empty contents
+  pub varies : varied ≡ varied_in nowhere [] contents
 
 -- what lines make, one after another
 abbrev pub judges : Standing → List (List ℕ) → Result Standing EntryRefusal

@@ -9,9 +9,9 @@ pub record Table : Type 0 where
   pub columns : List ColumnType
 
 -- the first table of this name
-abbrev pub table_named : List ℕ → List Table → Option Table
-table_named name [] = None
-table_named name (t ∷ ts) = if bytes_eq t.name name then Some t else table_named name ts
+abbrev pub find_table : List ℕ → List Table → Option Table
+find_table name [] = None
+find_table name (t ∷ ts) = if bytes_eq t.name name then Some t else find_table name ts
 
 -- the type of a column, counted from 0
 abbrev pub type_in : Option Table → ℕ → Option ColumnType
@@ -20,7 +20,7 @@ type_in (Some t) place = slice_get t.columns place
 
 abbrev pub type_at : Option (List ℕ) → List Table → ℕ → Option ColumnType
 type_at None tables place = None
-type_at (Some table) tables place = type_in (table_named table tables) place
+type_at (Some table) tables place = type_in (find_table table tables) place
 
 -- a table that is mapped joins the others
 abbrev pub with_mapping : List Table → Option Table → List Table

@@ -1,6 +1,6 @@
 //! Which lines are allowed where.
 ghost use Rattle.std.specs.Prelude.{◌≡◌};
-ghost use Rattle.binlog_text.specs.Said.{said};
+ghost use Rattle.binlog_text.specs.Contents.{content_of};
 ghost use Rattle.binlog_entries.specs.Bodies.{kind_of_mark, kind_of, body_of, may_end, has_comments, takes, behind, next_body};
 
 use binlog_text::{Event, Line, Mark, Operation};
@@ -74,7 +74,7 @@ fn kind_of_mark(mark: Mark) -> Kind
 
 /// The kind of a line.
 pub fn kind_of(line: &Line<'_>) -> Kind
-    ensures { result ≡ kind_of (said line.now) }
+    ensures { result ≡ kind_of (content_of line.now) }
 {
     match line {
         Line::Mark(mark) => kind_of_mark(*mark),
@@ -187,7 +187,7 @@ impl Body {
 
 /// What the line after one is a part of.
 pub fn next_body(body: Body, line: &Line<'_>) -> Body
-    ensures { result ≡ next_body body (said line.now) }
+    ensures { result ≡ next_body body (content_of line.now) }
 {
     let kind = kind_of(line);
     match line {

@@ -9,11 +9,11 @@ use crate::parts::{
     after_due, before_due, change_of, has_rows_of, is_database, is_whole, may_be_database,
     parse_value, type_at,
 };
-use crate::tables::{Mapped, name_of, table_named};
+use crate::tables::{Mapped, find_table, name_of};
 use crate::unread::refusal_of;
 use crate::varied::{Varied, has_varied};
 use binlog_text::{
-    Column, ColumnType, Event, Line, Mark, Operation, compares_bytes, read_line, type_named,
+    Column, ColumnType, Event, Line, Mark, Operation, compares_bytes, parse_type, read_line,
 };
 use gtid_set::GtidSet;
 use gtid_text::{Gtid, SourceId};
@@ -92,7 +92,7 @@ pub struct Draft {
 
 impl Draft {
     ghost use Rattle.std.specs.Prelude.{[], None, Ok, Err, OnOk, if◌then◌else◌};
-    ghost use Rattle.binlog_text.specs.Said.{said, column_said};
+    ghost use Rattle.binlog_text.specs.Contents.{content_of, column_content};
     ghost use Rattle.binlog_entries.specs.Machine.{Takes, TakesOr, TakesOrMemory, IsSourcesFault, IsMarkFault, IsContentFault, IsStepFault, IsLineFault, Standing, finish_row, open_row, known_name, begin_row, row_line, where_line, set_line, next_value, value_in, value_line, place_line, map_table, table_line, add_column, note_varied, column_line, commit_line, begin_line, gtid_line, sources_line, head_line, mark_line, take_content, step, judge, start, same_stage, is_closed};
     ghost use Rattle.binlog_entries.specs.declared.fault.EntryRefusal.TheVariants as refusals;
     ghost use Rattle.binlog_entries.specs.Drafts.{standing};
@@ -134,7 +134,7 @@ impl Draft {
         let Some(table) = self.row.take() else {
             return Ok(());
         };
-        let Some(mapped) = table_named(table.as_str().as_bytes(), &self.tables) else {
+        let Some(mapped) = find_table(table.as_str().as_bytes(), &self.tables) else {
             return Err(EntryFault::Refused(EntryRefusal::Table));
         };
         if !is_whole(
@@ -308,7 +308,7 @@ impl Draft {
     fn known_name(&self, alloc: Global, table: &[u8]) -> Result<Option<Name>, AllocError>
         ensures { IfOk result (λ found. found ≡ known_name table.now (standing self.now).tables) }
     {
-        if table_named(table, &self.tables).is_none() {
+        if find_table(table, &self.tables).is_none() {
             return Ok(None);
         }
         name_of(alloc, table)
@@ -424,9 +424,9 @@ impl Draft {
 
     #[tactic(auto, unfolding(crate::specs::Machine::column_line))]
     fn column_line(&mut self, column: &Column<'_>) -> Result<(), EntryFault>
-        ensures { TakesOrMemory result (column_line (standing self.old) (column_said column.now)) (standing self.new) }
+        ensures { TakesOrMemory result (column_line (standing self.old) (column_content column.now)) (standing self.new) }
     {
-        let Some(named) = type_named(column.column_type) else {
+        let Some(named) = parse_type(column.column_type) else {
             return Err(EntryFault::Refused(EntryRefusal::Type));
         };
         self.note(column.column_type)?;
@@ -461,7 +461,7 @@ impl Draft {
 
     /// Takes the content of a line.
     fn take_content(&mut self, alloc: Global, line: &Line<'_>) -> Result<(), EntryFault>
-        ensures { TakesOr (IsContentFault (standing self.old) (said line.now)) result (take_content (standing self.old) (said line.now)) (standing self.new) }
+        ensures { TakesOr (IsContentFault (standing self.old) (content_of line.now)) result (take_content (standing self.old) (content_of line.now)) (standing self.new) }
     {
         match line {
             Line::Mark(mark) => self.mark_line(alloc, *mark),
@@ -479,7 +479,7 @@ impl Draft {
 
     #[tactic(auto, unfolding(crate::specs::Machine::step))]
     fn step(&mut self, alloc: Global, line: &Line<'_>) -> Result<(), EntryFault>
-        ensures { TakesOr (IsStepFault (standing self.old) (said line.now)) result (step (standing self.old) (said line.now)) (standing self.new) }
+        ensures { TakesOr (IsStepFault (standing self.old) (content_of line.now)) result (step (standing self.old) (content_of line.now)) (standing self.new) }
     {
         if !self.body.takes(kind_of(line)) {
             return Err(EntryFault::Refused(EntryRefusal::Format));

@@ -6,7 +6,7 @@
 //!
 //! What a contract sees: `takes` defines which kinds of lines are allowed in the body of which event, `take_content` what each adds, and
 //! `IsLog` that what the lines mean is what the entries denote: GTIDs, rows with their operation, table and images, and commits. Nothing is
-//! dropped, doubled or moved (`entries_are_told`), and it makes no difference where a text is cut (`cut_anywhere`). A refusal names the
+//! dropped, doubled or moved (`lines_mean_entries`), and it makes no difference where a text is cut (`cut_anywhere`). A refusal names the
 //! first line that is refused.
 //!
 //! Rows are taken in the bodies of rows events alone, so what a statement's text prints is never taken for rows
@@ -34,7 +34,7 @@ pub use as_journal::LogFault;
 pub use draft::{Draft, Log};
 pub use fault::{EntryFault, EntryRefusal, ReadFault};
 pub use import::{ImportFault, import_journal};
-pub use laws::{cut_anywhere, entries_are_told, statements_hold_no_rows};
+pub use laws::{cut_anywhere, lines_mean_entries, statements_hold_no_rows};
 pub use reader::{Reader, cut_line, read_log};
 pub use varied::Varied;
 

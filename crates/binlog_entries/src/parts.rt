@@ -6,7 +6,7 @@ ghost use Rattle.binlog_entries.specs.Tables.{type_at};
 use crate::bodies::Body;
 use crate::draft::Part;
 use crate::fault::{EntryFault, EntryRefusal};
-use crate::tables::{Mapped, table_named};
+use crate::tables::{Mapped, find_table};
 use binlog_text::{ColumnType, Operation, read_value};
 use rows::{Change, Name, Row, Value};
 use std::alloc::{AllocError, Global};
@@ -120,7 +120,7 @@ pub fn type_at(row: &Option<Name>, tables: &[Mapped], place: usize) -> Option<Co
     let Some(row) = row else {
         return None;
     };
-    match table_named(row.as_str().as_bytes(), tables) {
+    match find_table(row.as_str().as_bytes(), tables) {
         Some(table) => table.column(place),
         None => None,
     }

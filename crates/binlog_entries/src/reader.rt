@@ -1,7 +1,7 @@
 //! A log's text that comes in pieces, cut anywhere.
 ghost use Rattle.std.specs.Prelude.{◌≡◌, ◌<◌, ◌++◌, length, ◌∷◌, [], None, OnOk, IfOk, IfErr, IfSome, IfNone};
 ghost use Rattle.txn_journal.specs.Words.{IsOneLine, BeginsWithLine};
-ghost use Rattle.binlog_entries.specs.Stream.{Seen, answer, eats, start, IsPieceFault, IsEndFault, IsJoinedFault, IsAfter, TakesPiece, Ends, end_of, closing, IsLog, Refuses};
+ghost use Rattle.binlog_entries.specs.Stream.{Seen, answer, feed_bytes, start, IsPieceFault, IsEndFault, IsJoinedFault, IsAfter, TakesPiece, Ends, end_of, closing, IsLog, Refuses};
 ghost use Rattle.binlog_entries.specs.Machine.{TakesOr, judge};
 ghost use Rattle.binlog_entries.specs.Drafts.{standing};
 ghost use Rattle.binlog_entries.specs.Readers.{progress, log_seen};
@@ -64,7 +64,7 @@ impl Reader {
 
     /// Takes the next piece. After an error every later call returns that error.
     pub fn feed(&mut self, alloc: Global, piece: &[u8]) -> Result<(), ReadFault>
-        ensures next { IsAfter (IsPieceFault (progress self.old) piece.now) (progress self.new) (eats (progress self.old) piece.now) }
+        ensures next { IsAfter (IsPieceFault (progress self.old) piece.now) (progress self.new) (feed_bytes (progress self.old) piece.now) }
         ensures answer { result ≡ answer (progress self.new) }
     {
         if let Err(fault) = self.answer() {
@@ -78,7 +78,7 @@ impl Reader {
 
     fn take_piece(&mut self, alloc: Global, piece: &[u8]) -> Result<(), ReadFault>
         requires { self.old.stopped ≡ None }
-        ensures next { TakesPiece (IsPieceFault (progress self.old) piece.now) result (progress self.new) (eats (progress self.old) piece.now) }
+        ensures next { TakesPiece (IsPieceFault (progress self.old) piece.now) result (progress self.new) (feed_bytes (progress self.old) piece.now) }
         ensures goes { self.new.stopped ≡ None }
     {
         let mut left = piece;
@@ -112,7 +112,7 @@ impl Reader {
     fn take_line(&mut self, alloc: Global, bytes: &[u8]) -> Result<(), ReadFault>
         requires goes { self.old.stopped ≡ None }
         requires whole { IsOneLine bytes.now }
-        ensures next { TakesPiece (IsEndFault (progress self.old) (bytes.now ++ 10 ∷ [])) result (progress self.new) (eats (progress self.old) (bytes.now ++ 10 ∷ [])) }
+        ensures next { TakesPiece (IsEndFault (progress self.old) (bytes.now ++ 10 ∷ [])) result (progress self.new) (feed_bytes (progress self.old) (bytes.now ++ 10 ∷ [])) }
         ensures goes { self.new.stopped ≡ None }
     {
         self.lines = self.lines.saturating_add(1);
@@ -166,7 +166,7 @@ impl Reader {
 }
 
 fn read(alloc: Global, text: &[u8]) -> Result<Log, ReadFault>
-    ensures { Ends (IsPieceFault start text.now) (Seen log_seen result) (closing (eats start text.now)) }
+    ensures { Ends (IsPieceFault start text.now) (Seen log_seen result) (closing (feed_bytes start text.now)) }
 {
     let mut reader = Reader::start(alloc);
     match reader.feed(alloc, text) {
@@ -182,7 +182,7 @@ pub fn read_log(alloc: Global, text: &[u8]) -> Result<Log, ReadFault>
     // A refusal names the first line that is refused, and what is wrong with it.
     ensures refused { IfErr result (λ fault. Refuses fault text.now) }
     // The same, by the fold over the bytes.
-    ensures exact { Ends (IsPieceFault start text.now) (Seen log_seen result) (closing (eats start text.now)) }
+    ensures exact { Ends (IsPieceFault start text.now) (Seen log_seen result) (closing (feed_bytes start text.now)) }
 {
     read(alloc, text)
 }

@@ -2,7 +2,7 @@
 ghost use Rattle.std.specs.Prelude.{◌≡◌, ◌∷◌, ◌++◌, [], IfOk, OnOk, option_map, slice_get, length};
 ghost use Rattle.txn_journal.specs.Words.{name_of};
 ghost use Rattle.std.specs.Str.{bytes_eq};
-ghost use Rattle.binlog_entries.specs.Tables.{table_named};
+ghost use Rattle.binlog_entries.specs.Tables.{find_table};
 
 use binlog_text::ColumnType;
 use rows::{Name, NameFault};
@@ -75,8 +75,8 @@ impl Mapped {
 }
 
 /// The first table of this name.
-pub fn table_named<'a>(name: &[u8], tables: &'a [Mapped]) -> Option<&'a Mapped>
-    ensures { option_map (λ t. t.now) result ≡ table_named name.now tables.now }
+pub fn find_table<'a>(name: &[u8], tables: &'a [Mapped]) -> Option<&'a Mapped>
+    ensures { option_map (λ t. t.now) result ≡ find_table name.now tables.now }
 {
     for table in tables {
         if table.is_named(name) {

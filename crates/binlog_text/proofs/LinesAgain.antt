@@ -1,4 +1,4 @@
--- What a line says is read.
+-- Reading a line is complete: the content of a line is read.
 use Rattle.std.proofs.Common.{◌≡◌, ℕ, ◌^◌, ◌<◌, Bool, true, false, cond, eqb, List, [], ◌∷◌, ◌++◌, Option, Some, None, refl, sym, ap, ◌∙◌, subst, append-nil, arith, inl, inr, ◌⊎◌}
 use Rattle.std.specs.Prelude.{◌&&◌, ◌||◌, codes, decimal, is_some, length}
 use Rattle.std.specs.Str.{bytes_eq}
@@ -9,7 +9,7 @@ use Rattle.std.proofs.lemmas.Bool.Decides.{nat_tests}
 use Rattle.row_images.specs.Values.{is_lower_digit}
 use Rattle.row_images.proofs.Counts.{count_again, decimal_lacks}
 use Rattle.binlog_text.specs.Tokens.{after_prefix, cut_at, lacks, last_cut, ◌>>=◌}
-use Rattle.binlog_text.specs.Lines.{Column, Said, OfMark, OfHead, OfTable, OfColumn, OfGtid, OfSources, OfRow, OfValue, IsName, table_text, operation_text, event_text, IsStamp, column_front, column_end, named_text, IsNamed, is_source, is_source_front, comma, IsWhole, begins, is_comment, is_setting, begins_setting, ends_setting, quotes_then, is_savepoint, is_frame, IsMark, IsLine}
+use Rattle.binlog_text.specs.Lines.{Column, Content, OfMark, OfHead, OfTable, OfColumn, OfGtid, OfSources, OfRow, OfValue, IsName, table_text, operation_text, event_text, IsStamp, column_front, column_end, named_text, IsNamed, is_source, is_source_front, comma, IsWhole, begins, is_comment, is_setting, begins_setting, ends_setting, quotes_then, is_savepoint, is_frame, IsMark, IsLine}
 use Rattle.binlog_text.specs.Reading.{branch, table_at, row_at, is_last_at, name_at, column, column_at, sources, sources_in, comment_line, table_map_at, content_at, line_of}
 use Rattle.binlog_text.specs.declared.lines.Operation.{Operation}
 use Rattle.binlog_text.specs.declared.lines.Operation.TheVariants as operations
@@ -316,8 +316,8 @@ gtid_line_again gtid free =
     let cut : cut_at 39 (gtid ++ codes "'/*!*/;") ≡ Some (gtid, codes "/*!*/;") = cut_again 39 gtid (codes "/*!*/;") free in
     rw cut refl
 
--- what a line says is read
-pub line_again : (l : Said) (text : List ℕ) → IsLine l text → line_of text ≡ Some l
+-- the content of a line is read
+pub line_again : (l : Content) (text : List ℕ) → IsLine l text → line_of text ≡ Some l
 line_again (OfMark mark) text is = mark_again mark text is
 line_again (OfHead event) text is = ap line_of is.2 ∙ head_of is.0 (event_text event ++ is.1) is.3 ∙ event_again event is.1
 line_again (OfTable database table) text is =

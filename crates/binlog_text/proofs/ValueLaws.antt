@@ -24,7 +24,7 @@ use Rattle.binlog_text.proofs.QuotedLaws.{quoted_found, quoted_again}
 
 -- ---- two readings
 
--- what the text after a minus says
+-- what the text after a minus denotes
 pub record Readings (line : List ℕ) (r : ℕ × ℕ) : Type 0 where
   pub text : line ≡ decimal r.0 ++ 32 ∷ 40 ∷ (decimal r.1 ++ 41 ∷ [])
   pub below : r.0 < 2 ^ 64

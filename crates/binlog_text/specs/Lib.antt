@@ -3,5 +3,5 @@ pub mod Tokens
 pub mod Values
 pub mod Lines
 pub mod Reading
-pub mod Said
+pub mod Contents
 pub mod Types

@@ -20,15 +20,15 @@ pub record Column : Type 0 where
   pub column_type : List ℕ
   pub is_last : Bool
 
-pub data Said : Type 0 where
-  OfMark : Mark → Said
-  OfHead : Event → Said
-  OfTable : List ℕ → List ℕ → Said
-  OfColumn : Column → Said
-  OfGtid : List ℕ → Said
-  OfSources : List ℕ → Bool → Said
-  OfRow : Operation → List ℕ → List ℕ → Said
-  OfValue : ℕ → List ℕ → Said
+pub data Content : Type 0 where
+  OfMark : Mark → Content
+  OfHead : Event → Content
+  OfTable : List ℕ → List ℕ → Content
+  OfColumn : Column → Content
+  OfGtid : List ℕ → Content
+  OfSources : List ℕ → Bool → Content
+  OfRow : Operation → List ℕ → List ℕ → Content
+  OfValue : ℕ → List ℕ → Content
 
 -- ---- parts of lines
 
@@ -181,7 +181,7 @@ IsMark marks.Setting line = is_setting line ≡ true
 IsMark marks.Frame line = is_frame line ≡ true
 
 -- this is the content of the line
-abbrev pub IsLine : Said → List ℕ → Type 0
+abbrev pub IsLine : Content → List ℕ → Type 0
 IsLine (OfMark mark) line = IsMark mark line
 IsLine (OfHead event) line = (stamp : List ℕ) × (rest : List ℕ) × (line ≡ 35 ∷ (stamp ++ 9 ∷ (event_text event ++ rest))) × IsStamp stamp
 IsLine (OfTable database table) line =

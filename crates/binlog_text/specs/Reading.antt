@@ -3,7 +3,7 @@ use Rattle.std.specs.Prelude.{ℕ, ◌==◌, Bool, true, false, ◌∷◌, [], L
 use Rattle.std.specs.Str.{bytes_eq}
 use Rattle.row_images.specs.Words.{count_of}
 use Rattle.binlog_text.specs.Tokens.{after_prefix, cut_at, last_cut, nothing_in, ◌>>=◌}
-use Rattle.binlog_text.specs.Lines.{Said, OfMark, OfHead, OfTable, OfColumn, OfGtid, OfSources, OfRow, OfValue, event_text, operation_text, begins_with_digit, begins, is_comment, is_source, is_setting, is_savepoint, is_frame}
+use Rattle.binlog_text.specs.Lines.{Content, OfMark, OfHead, OfTable, OfColumn, OfGtid, OfSources, OfRow, OfValue, event_text, operation_text, begins_with_digit, begins, is_comment, is_source, is_setting, is_savepoint, is_frame}
 use Rattle.binlog_text.specs.declared.lines.Operation.{Operation}
 use Rattle.binlog_text.specs.declared.lines.Operation.TheVariants as operations
 use Rattle.binlog_text.specs.declared.lines.Event.{Event}
@@ -26,19 +26,19 @@ table_at text = do
   table ← cut_at 96 second
   Some (database.0, table.0, table.1)
 
-abbrev pub row_at : Operation → List ℕ → Option Said
+abbrev pub row_at : Operation → List ℕ → Option Content
 row_at operation text = do
   table ← table_at text
   _ ← nothing_in table.2
   Some (OfRow operation table.0 table.1)
 
-abbrev pub assignment_at : List ℕ → Option Said
+abbrev pub assignment_at : List ℕ → Option Content
 assignment_at text = do
   parts ← cut_at 61 text
   n ← count_of parts.0
   Some (OfValue n parts.1)
 
-abbrev pub row_line : List ℕ → Option Said
+abbrev pub row_line : List ℕ → Option Content
 row_line text =
     branch (after_prefix (codes "  @") text) assignment_at (
     branch (after_prefix (operation_text operations.Insert) text) (row_at operations.Insert) (
@@ -59,10 +59,10 @@ name_at text = do
   type ← after_prefix (32 ∷ []) name.1
   Some (name.0, type)
 
-abbrev pub column : Bool → Bool → Option (List ℕ) → List ℕ → Said
+abbrev pub column : Bool → Bool → Option (List ℕ) → List ℕ → Content
 column is_first is_last name type = OfColumn (record { is_first = is_first; name = name; column_type = type; is_last = is_last })
 
-abbrev pub column_at : Bool → List ℕ → Option Said
+abbrev pub column_at : Bool → List ℕ → Option Content
 column_at is_first text = do
   parts ← last_cut text
   is_last ← is_last_at parts.1
@@ -70,14 +70,14 @@ column_at is_first text = do
       (λ rest. name_at rest >>= λ named. Some (column is_first is_last (Some named.0) named.1))
       (Some (column is_first is_last None parts.0))
 
-abbrev pub sources : List ℕ → Bool → Option Said
+abbrev pub sources : List ℕ → Bool → Option Content
 sources text more = if is_source text then Some (OfSources text more) else None
 
-abbrev pub sources_in : List ℕ → Option (List ℕ × ℕ) → Option Said
+abbrev pub sources_in : List ℕ → Option (List ℕ × ℕ) → Option Content
 sources_in text None = None
 sources_in text (Some parts) = if parts.1 == 44 then sources parts.0 true else sources text false
 
-abbrev pub comment_line : List ℕ → Option Said
+abbrev pub comment_line : List ℕ → Option Content
 comment_line text =
     branch (after_prefix (codes "at ") text) (λ rest. Some (OfMark marks.Place)) (
     branch (after_prefix (codes "Columns(") text) (column_at true) (
@@ -89,7 +89,7 @@ comment_line text =
 
 -- ---- heads of events
 
-abbrev pub table_map_at : List ℕ → Option Said
+abbrev pub table_map_at : List ℕ → Option Content
 table_map_at text = do
   table ← table_at text
   digits ← after_prefix (codes " mapped to number ") table.2
@@ -111,30 +111,30 @@ event_of text =
     else if begins (event_text events.Stop) text then Some events.Stop
     else None
 
-abbrev pub event_at : List ℕ → Option Said
+abbrev pub event_at : List ℕ → Option Content
 event_at text = event_of text >>= λ event. Some (OfHead event)
 
-abbrev pub content_at : List ℕ → Option Said
+abbrev pub content_at : List ℕ → Option Content
 content_at text = branch (after_prefix (codes "Table_map: ") text) table_map_at (event_at text)
 
-abbrev pub head_line : List ℕ → Option Said
+abbrev pub head_line : List ℕ → Option Content
 head_line text = do
   parts ← cut_at 9 text
   if begins_with_digit parts.0 then content_at parts.1 else None
 
 -- ---- the others
 
-abbrev pub gtid_in : List ℕ → List ℕ → Option Said
+abbrev pub gtid_in : List ℕ → List ℕ → Option Content
 gtid_in gtid rest =
     if bytes_eq rest (codes "/*!*/;") then Some (OfGtid gtid)
     else if bytes_eq gtid (codes "AUTOMATIC") then
     (if bytes_eq rest (codes " /* added by mysqlbinlog */ /*!*/;") then Some (OfMark marks.Automatic) else None)
     else None
 
-abbrev pub gtid_at : List ℕ → Option Said
+abbrev pub gtid_at : List ℕ → Option Content
 gtid_at text = cut_at 39 text >>= λ parts. gtid_in parts.0 parts.1
 
-abbrev pub plain_line : List ℕ → Option Said
+abbrev pub plain_line : List ℕ → Option Content
 plain_line text =
     branch (after_prefix (codes "SET @@SESSION.GTID_NEXT= '") text) gtid_at (
     if bytes_eq text (codes "BEGIN") then Some (OfMark marks.Begin)
@@ -147,7 +147,7 @@ plain_line text =
     else None)
 
 -- the content of a line
-abbrev pub line_of : List ℕ → Option Said
+abbrev pub line_of : List ℕ → Option Content
 line_of text =
     branch (after_prefix (codes "### ") text) row_line (
     branch (after_prefix (codes "# ") text) comment_line (

@@ -60,8 +60,8 @@ integer_or_other (Some t) word rest = if begins (codes " UNSIGNED") rest then So
 integer_or_other None word rest = other_named word rest
 
 -- The type that a text names by its first word. FLOAT, DOUBLE, JSON, GEOMETRY and VECTOR name none: what is printed of their values does not determine them.
-abbrev pub type_named : List ℕ → Option ColumnType
-type_named text = integer_or_other (integer_named (run is_upper text)) (run is_upper text) (skip_while is_upper text)
+abbrev pub parse_type : List ℕ → Option ColumnType
+parse_type text = integer_or_other (integer_named (run is_upper text)) (run is_upper text) (skip_while is_upper text)
 
 -- Two values are equal for the server exactly where their bytes are: of text this holds under a binary collation that pads no text, and of CHAR,
 -- which is kept without blanks at its end, under each binary collation.

@@ -1,7 +1,7 @@
 //! The text of MySQL's binary logs, a line at a time, as `mysqlbinlog -v --base64-output=decode-rows --print-table-metadata` of MySQL 9.7
 //! prints it.
 //!
-//! `read_line` gives the content of a line; `type_named` the type that the text of a column names; `read_value` reads a value of such a
+//! `read_line` gives the content of a line; `parse_type` the type that the text of a column names; `read_value` reads a value of such a
 //! column.
 //!
 //! What a contract sees: `IsLine` is the grammar of lines, by the bytes of each kind. A line is read exactly where the grammar has it
@@ -30,13 +30,13 @@ pub use lines::{Column, Event, Line, Mark, Operation};
 pub use quoted::unquote;
 pub use reading::read_line;
 pub use tokens::cut_at;
-pub use type_text::{compares_bytes, type_named};
+pub use type_text::{compares_bytes, parse_type};
 pub use types::{ColumnType, IntegerType};
 pub use values::read_value;
 
 #[cfg(test)]
 mod tests {
-    use crate::{ColumnType, IntegerType, Line, read_line, read_value, type_named, unquote};
+    use crate::{ColumnType, IntegerType, Line, parse_type, read_line, read_value, unquote};
     use row_images::write_value;
     use std::test::Fail;
 
@@ -151,7 +151,7 @@ mod tests {
     #[test]
     fn values_of_a_server(rt: HostRuntime) -> Result<(), Fail> {
         for (named, text, want) in VALUES {
-            let column = type_named(named).ok_or("no type")?;
+            let column = parse_type(named).ok_or("no type")?;
             let mut word = String::new(rt.alloc());
             match read_value(rt.alloc(), column, text)? {
                 Some(value) => write_value(rt.alloc(), &mut word, &value)?,
@@ -171,11 +171,11 @@ mod tests {
             b"GEOMETRY".as_slice(),
             b"VECTOR(2)".as_slice(),
         ] {
-            assert_eq!(rt; type_named(named), None);
+            assert_eq!(rt; parse_type(named), None);
         }
-        assert_eq!(rt; type_named(b"YEAR"), Some(ColumnType::Number));
+        assert_eq!(rt; parse_type(b"YEAR"), Some(ColumnType::Number));
         assert_eq!(rt;
-            type_named(b"INT"),
+            parse_type(b"INT"),
             Some(ColumnType::Signed(IntegerType::Int))
         );
     }

@@ -3,9 +3,9 @@ ghost use Rattle.std.specs.Prelude.{◌≡◌, ℕ, List, Some, IfSome, option_m
 ghost use Rattle.std.specs.List.{list_all};
 ghost use Rattle.row_images.specs.Values.{is_lower_digit};
 ghost use Rattle.binlog_text.specs.Tokens.{last_cut};
-ghost use Rattle.binlog_text.specs.Lines.{Said, IsLine, is_comment, is_source, is_setting, is_savepoint, is_frame, begins_setting, quotes_then, event_text, begins_with_digit, begins};
+ghost use Rattle.binlog_text.specs.Lines.{Content, IsLine, is_comment, is_source, is_setting, is_savepoint, is_frame, begins_setting, quotes_then, event_text, begins_with_digit, begins};
 ghost use Rattle.binlog_text.specs.Reading.{table_at, row_at, assignment_at, row_line, is_last_at, name_at, column_at, sources, sources_in, comment_line, table_map_at, event_of, content_at, head_line, gtid_at, plain_line, line_of};
-ghost use Rattle.binlog_text.specs.Said.{said};
+ghost use Rattle.binlog_text.specs.Contents.{content_of};
 
 use crate::lines::{Column, Event, Line, Mark, Operation};
 use crate::tokens::{after_prefix, cut_at};
@@ -31,7 +31,7 @@ fn table(text: &[u8]) -> Option<(&[u8], &[u8], &[u8])>
 }
 
 fn row(operation: Operation, text: &[u8]) -> Option<Line<'_>>
-    ensures { option_map said result ≡ row_at operation text.now }
+    ensures { option_map content_of result ≡ row_at operation text.now }
 {
     let Some((database, table, rest)) = table(text) else {
         return None;
@@ -43,7 +43,7 @@ fn row(operation: Operation, text: &[u8]) -> Option<Line<'_>>
 }
 
 fn assignment_line(text: &[u8]) -> Option<Line<'_>>
-    ensures { option_map said result ≡ assignment_at text.now }
+    ensures { option_map content_of result ≡ assignment_at text.now }
 {
     let Some((column, value)) = cut_at(text, b'=') else {
         return None;
@@ -56,7 +56,7 @@ fn assignment_line(text: &[u8]) -> Option<Line<'_>>
 
 /// The line after `### `.
 fn row_line(text: &[u8]) -> Option<Line<'_>>
-    ensures { option_map said result ≡ row_line text.now }
+    ensures { option_map content_of result ≡ row_line text.now }
 {
     if let Some(rest) = after_prefix(text, b"  @") {
         return assignment_line(rest);
@@ -113,7 +113,7 @@ fn name(text: &[u8]) -> Option<(&[u8], &[u8])>
 }
 
 fn column(is_first: bool, text: &[u8]) -> Option<Line<'_>>
-    ensures { option_map said result ≡ column_at is_first text.now }
+    ensures { option_map content_of result ≡ column_at is_first text.now }
 {
     let Some((front, end)) = last_cut(text) else {
         return None;
@@ -156,7 +156,7 @@ fn is_source(text: &[u8]) -> bool
 }
 
 fn sources(text: &[u8], more: bool) -> Option<Line<'_>>
-    ensures { option_map said result ≡ sources text.now more }
+    ensures { option_map content_of result ≡ sources text.now more }
 {
     if is_source(text) {
         Some(Line::Sources(text, more))
@@ -166,7 +166,7 @@ fn sources(text: &[u8], more: bool) -> Option<Line<'_>>
 }
 
 fn sources_in(text: &[u8]) -> Option<Line<'_>>
-    ensures { option_map said result ≡ sources_in text.now (last_cut text.now) }
+    ensures { option_map content_of result ≡ sources_in text.now (last_cut text.now) }
 {
     match last_cut(text) {
         Some((front, b',')) => sources(front, true),
@@ -200,7 +200,7 @@ fn is_comment(text: &[u8]) -> bool
 
 /// The line after `# `.
 fn comment_line(text: &[u8]) -> Option<Line<'_>>
-    ensures { option_map said result ≡ comment_line text.now }
+    ensures { option_map content_of result ≡ comment_line text.now }
 {
     if begins(text, b"at ") {
         return Some(Line::Mark(Mark::Place));
@@ -224,7 +224,7 @@ fn comment_line(text: &[u8]) -> Option<Line<'_>>
 }
 
 fn table_map(text: &[u8]) -> Option<Line<'_>>
-    ensures { option_map said result ≡ table_map_at text.now }
+    ensures { option_map content_of result ≡ table_map_at text.now }
 {
     let Some((database, table, rest)) = table(text) else {
         return None;
@@ -270,7 +270,7 @@ fn event(text: &[u8]) -> Option<Event>
 }
 
 fn content_line(text: &[u8]) -> Option<Line<'_>>
-    ensures { option_map said result ≡ content_at text.now }
+    ensures { option_map content_of result ≡ content_at text.now }
 {
     if let Some(rest) = after_prefix(text, b"Table_map: ") {
         return table_map(rest);
@@ -292,7 +292,7 @@ fn begins_with_digit(text: &[u8]) -> bool
 
 /// The head of an event, after `#`.
 fn head_line(text: &[u8]) -> Option<Line<'_>>
-    ensures { option_map said result ≡ head_line text.now }
+    ensures { option_map content_of result ≡ head_line text.now }
 {
     let Some((stamp, rest)) = cut_at(text, b'\t') else {
         return None;
@@ -359,7 +359,7 @@ fn is_frame(text: &[u8]) -> bool
 }
 
 fn gtid(text: &[u8]) -> Option<Line<'_>>
-    ensures { option_map said result ≡ gtid_at text.now }
+    ensures { option_map content_of result ≡ gtid_at text.now }
 {
     let Some((gtid, rest)) = cut_at(text, b'\'') else {
         return None;
@@ -375,7 +375,7 @@ fn gtid(text: &[u8]) -> Option<Line<'_>>
 
 /// A line that no `#` begins.
 fn plain_line(text: &[u8]) -> Option<Line<'_>>
-    ensures { option_map said result ≡ plain_line text.now }
+    ensures { option_map content_of result ≡ plain_line text.now }
 {
     if let Some(rest) = after_prefix(text, b"SET @@SESSION.GTID_NEXT= '") {
         return gtid(rest);
@@ -405,7 +405,7 @@ fn plain_line(text: &[u8]) -> Option<Line<'_>>
 }
 
 fn line_of(text: &[u8]) -> Option<Line<'_>>
-    ensures { option_map said result ≡ line_of text.now }
+    ensures { option_map content_of result ≡ line_of text.now }
 {
     if let Some(rest) = after_prefix(text, b"### ") {
         return row_line(rest);
@@ -421,11 +421,11 @@ fn line_of(text: &[u8]) -> Option<Line<'_>>
 
 /// The content of a line. A line that is none of mysqlbinlog's, or that is not known here, has none.
 pub fn read_line(text: &[u8]) -> Option<Line<'_>>
-    ensures exact { option_map said result ≡ line_of text.now }
+    ensures exact { option_map content_of result ≡ line_of text.now }
     // The result is the content that the grammar gives the line.
-    ensures found { IfSome result (λ l. IsLine (said l) text.now) }
+    ensures found { IfSome result (λ l. IsLine (content_of l) text.now) }
     // The content that the grammar gives a line is the result.
-    ensures only { (l : Said) → IsLine l text.now → option_map said result ≡ Some l }
+    ensures only { (l : Content) → IsLine l text.now → option_map content_of result ≡ Some l }
 {
     line_of(text)
 }

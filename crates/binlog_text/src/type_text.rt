@@ -1,7 +1,7 @@
 //! Types of columns out of text.
 ghost use Rattle.std.specs.Prelude.{◌≡◌};
 ghost use Rattle.gtid_text.specs.Scan.{run, skip_while};
-ghost use Rattle.binlog_text.specs.Types.{is_upper, integer_named, is_varied_text, is_binary, is_time, is_quoted, other_named, type_named, compares_bytes};
+ghost use Rattle.binlog_text.specs.Types.{is_upper, integer_named, is_varied_text, is_binary, is_time, is_quoted, other_named, parse_type, compares_bytes};
 
 use crate::reading::begins;
 use crate::types::{ColumnType, IntegerType};
@@ -93,8 +93,8 @@ fn other_named(word: &[u8], rest: &[u8]) -> Option<ColumnType>
 }
 
 /// The type that a text names. FLOAT, DOUBLE, JSON, GEOMETRY and VECTOR name none: their values are not printed whole.
-pub fn type_named(text: &[u8]) -> Option<ColumnType>
-    ensures { result ≡ type_named text.now }
+pub fn parse_type(text: &[u8]) -> Option<ColumnType>
+    ensures { result ≡ parse_type text.now }
 {
     let (word, rest) = word(text);
     match integer_named(word) {

@@ -11,8 +11,8 @@ use Rattle.gtid_report.specs.declared.refusal.Refusal.{Refusal}
 use Rattle.serving.specs.Faults.{IsVerdictFault}
 use Rattle.serving.specs.Servable.{IsServable}
 use Rattle.serving.specs.declared.order.Order.{Order}
-use Rattle.commands.specs.Said.{Holds, Finds, GivesUp, answer_of, refused_with}
-use Rattle.commands.specs.Bundles.{Audits, SpellsBundle, audit_answer, bundle_in}
+use Rattle.commands.specs.Printed.{Holds, Finds, GivesUp, answer_of, refused_with}
+use Rattle.commands.specs.Bundles.{Audits, ParsesAsBundle, audit_answer, bundle_in}
 use Rattle.commands.specs.Texts.{IsTextOf}
 use Rattle.commands.specs.Explaining.{ExplainsBundle, HoldsExplained, FindsExplained, SettlesExplained}
 use Rattle.commands.specs.declared.edge.RunFault.{RunFault}
@@ -20,7 +20,7 @@ use Rattle.commands.specs.declared.explain_command.Explained.{Explained}
 use Rattle.commands.proofs.Finding.{found_in, fault_in}
 
 abbrev IsBundleText : List ℕ → Result BundleValue JournalFault → Type 0
-IsBundleText bytes found = IsTextOf SpellsBundle bundle_in IsServable bytes found
+IsBundleText bytes found = IsTextOf ParsesAsBundle bundle_in IsServable bytes found
 
 abbrev bundle_of : BundleValue → Result BundleValue JournalFault
 bundle_of b = Ok b
@@ -35,11 +35,11 @@ pub bundle_found : (order : Order) (bytes : List ℕ) (b : BundleValue) (found :
 bundle_found order bytes b (Ok held) text holds notes none =
     let e = read_as b (bundle_in bytes) text.exact in
     record {
-      said = audit_answer order b;
-      explains = record { audits = inl (subst (SpellsBundle bytes) (sym e) text.spelled, ap (answer_of (audit_answer order)) (sym e)); explained = inl (record { bundle = b; spelled = e; verdict = refl; explained = notes }) };
+      printed = audit_answer order b;
+      explains = record { audits = inl (subst (ParsesAsBundle bytes) (sym e) text.parsed, ap (answer_of (audit_answer order)) (sym e)); explained = inl (record { bundle = b; parsed = e; verdict = refl; explained = notes }) };
       holds = holds;
     }
-bundle_found order bytes b (Err (fault.Refused r)) text holds notes full = found_in SpellsBundle bundle_in (audit_answer order) IsVerdictFault bytes b (Err (fault.Refused r)) text.spelled text.exact tt full
+bundle_found order bytes b (Err (fault.Refused r)) text holds notes full = found_in ParsesAsBundle bundle_in (audit_answer order) IsVerdictFault bytes b (Err (fault.Refused r)) text.parsed text.exact tt full
 bundle_found order bytes b (Err fault.Memory) text holds notes full = tt
 
 refused_so : (order : Order) (bytes : List ℕ) (f : Fault) → Finds (Audits order) bytes (Err f) → FindsExplained order bytes (Err f)
@@ -48,11 +48,11 @@ refused_so order bytes fault.Memory h = tt
 
 -- the refusal of the bytes
 pub fault_found : (order : Order) (bytes : List ℕ) (f : JournalFault) → IsBundleText bytes (Err f) → FindsExplained order bytes (Err (journal_fault f))
-fault_found order bytes f text = refused_so order bytes (journal_fault f) (fault_in SpellsBundle bundle_in (audit_answer order) IsVerdictFault bytes f (λ g h. h) text.spelled text.exact)
+fault_found order bytes f text = refused_so order bytes (journal_fault f) (fault_in ParsesAsBundle bundle_in (audit_answer order) IsVerdictFault bytes f (λ g h. h) text.parsed text.exact)
 
 -- what is settled holds the answer with what explains it
 pub settled : (order : Order) (bytes : List ℕ) (found : Result Explained Fault) (settled : Result Explained RunFault) → FindsExplained order bytes found → IfOk settled (SettlesExplained bytes found) → IfOk settled (HoldsExplained order bytes)
 settled order bytes found (Err e) f s = tt
 settled order bytes (Ok held) (Ok h) f s = subst (HoldsExplained order bytes) (sym s) f
-settled order bytes (Err (fault.Refused r)) (Ok h) f s = record { said = refused_with r; explains = record { audits = f; explained = inr (record { refusal = r; refused = refl; explained = s.1 }) }; holds = s.0 }
+settled order bytes (Err (fault.Refused r)) (Ok h) f s = record { printed = refused_with r; explains = record { audits = f; explained = inr (record { refusal = r; refused = refl; explained = s.1 }) }; holds = s.0 }
 settled order bytes (Err fault.Memory) (Ok h) f s = absurd s

@@ -11,7 +11,7 @@ use Rattle.gtid_report.specs.Faults.{journal_fault}
 use Rattle.gtid_report.specs.declared.fault.Fault.{Fault}
 use Rattle.gtid_report.specs.declared.fault.Fault.TheVariants as fault
 use Rattle.gtid_report.specs.declared.refusal.Refusal.{Refusal}
-use Rattle.commands.specs.Said.{Said, Holds, HoldsOne, Finds, Settles, Tells, GivesUp, answer_of, refused_with}
+use Rattle.commands.specs.Printed.{Printed, Holds, HoldsOne, Finds, Settles, IsAnswerTo, GivesUp, answer_of, refused_with}
 use Rattle.commands.specs.declared.answer.Answer.{Answer}
 use Rattle.commands.specs.declared.edge.RunFault.{RunFault}
 
@@ -26,41 +26,41 @@ read_as v read (inl (fault, e)) = cc
 read_as v read (inr e) = e
 
 -- what was found for the value that was decoded is what is found for the bytes
-pub found_in : {V : Type 0} (Spells : List ℕ → Result V JournalFault → Type 0) (decoded : List ℕ → Result V JournalFault) (says : V → Said) (MayFail : V → SetFault → Type 0) (bytes : List ℕ) (v : V) (found : Result Answer Fault)
-    → Spells bytes (ok_of v) → IsWhole (ok_of v) (decoded bytes) → IfOk found (λ answer. Holds answer (says v)) → IfErr found (GivesUp (MayFail v)) → Finds (Tells Spells decoded says MayFail) bytes found
-found_in Spells decoded says MayFail bytes v (Ok answer) w whole held none =
+pub found_in : {V : Type 0} (Parses : List ℕ → Result V JournalFault → Type 0) (decoded : List ℕ → Result V JournalFault) (answers : V → Printed) (MayFail : V → SetFault → Type 0) (bytes : List ℕ) (v : V) (found : Result Answer Fault)
+    → Parses bytes (ok_of v) → IsWhole (ok_of v) (decoded bytes) → IfOk found (λ answer. Holds answer (answers v)) → IfErr found (GivesUp (MayFail v)) → Finds (IsAnswerTo Parses decoded answers MayFail) bytes found
+found_in Parses decoded answers MayFail bytes v (Ok answer) w whole held none =
     let e = read_as v (decoded bytes) whole in
-    (says v, inl (subst (Spells bytes) e w, ap (answer_of says) e), held)
-found_in Spells decoded says MayFail bytes v (Err (fault.Refused r)) w whole held full =
+    (answers v, inl (subst (Parses bytes) e w, ap (answer_of answers) e), held)
+found_in Parses decoded answers MayFail bytes v (Err (fault.Refused r)) w whole held full =
     refused r full
   where
-    refused : (r : Refusal) → GivesUp (MayFail v) (fault.Refused r) → Tells Spells decoded says MayFail bytes (refused_with r)
+    refused : (r : Refusal) → GivesUp (MayFail v) (fault.Refused r) → IsAnswerTo Parses decoded answers MayFail bytes (refused_with r)
     refused r (inl full) = inr (inl (inr (v, w, sym (read_as v (decoded bytes) whole), full.1), ap refused_with full.0))
     refused r (inr full) = inr (inr (inr (v, w, sym (read_as v (decoded bytes) whole), full.1), ap refused_with full.0))
-found_in Spells decoded says MayFail bytes v (Err fault.Memory) w whole held full = tt
+found_in Parses decoded answers MayFail bytes v (Err fault.Memory) w whole held full = tt
 
-faulty : {V : Type 0} (Spells : List ℕ → Result V JournalFault → Type 0) (decoded : List ℕ → Result V JournalFault) (says : V → Said) (bytes : List ℕ) (f : JournalFault)
-    → Spells bytes (error_of f) → error_of f ≡ decoded bytes → Spells bytes (decoded bytes) × (answer_of says (error_of f) ≡ answer_of says (decoded bytes))
-faulty Spells decoded says bytes f r e = (subst (Spells bytes) e r, ap (answer_of says) e)
+faulty : {V : Type 0} (Parses : List ℕ → Result V JournalFault → Type 0) (decoded : List ℕ → Result V JournalFault) (answers : V → Printed) (bytes : List ℕ) (f : JournalFault)
+    → Parses bytes (error_of f) → error_of f ≡ decoded bytes → Parses bytes (decoded bytes) × (answer_of answers (error_of f) ≡ answer_of answers (decoded bytes))
+faulty Parses decoded answers bytes f r e = (subst (Parses bytes) e r, ap (answer_of answers) e)
 
 -- the refusal of a set that was not made
-set_in : {V : Type 0} (Spells : List ℕ → Result V JournalFault → Type 0) (decoded : List ℕ → Result V JournalFault) (says : V → Said) (MayFail : V → SetFault → Type 0) (bytes : List ℕ) (f : SetFault)
-    → IsMemoryOr (Spells bytes (error_of (faults.Set sets.SourcesFull))) (Spells bytes (error_of (faults.Set sets.PoolFull))) f → Finds (Tells Spells decoded says MayFail) bytes (Err (journal_fault (faults.Set f)))
-set_in Spells decoded says MayFail bytes sets.Memory full = tt
-set_in Spells decoded says MayFail bytes sets.SourcesFull full = inr (inl (inl full, refl))
-set_in Spells decoded says MayFail bytes sets.PoolFull full = inr (inr (inl full, refl))
+set_in : {V : Type 0} (Parses : List ℕ → Result V JournalFault → Type 0) (decoded : List ℕ → Result V JournalFault) (answers : V → Printed) (MayFail : V → SetFault → Type 0) (bytes : List ℕ) (f : SetFault)
+    → IsMemoryOr (Parses bytes (error_of (faults.Set sets.SourcesFull))) (Parses bytes (error_of (faults.Set sets.PoolFull))) f → Finds (IsAnswerTo Parses decoded answers MayFail) bytes (Err (journal_fault (faults.Set f)))
+set_in Parses decoded answers MayFail bytes sets.Memory full = tt
+set_in Parses decoded answers MayFail bytes sets.SourcesFull full = inr (inl (inl full, refl))
+set_in Parses decoded answers MayFail bytes sets.PoolFull full = inr (inr (inl full, refl))
 
 -- the refusal of the bytes
-pub fault_in : {V : Type 0} (Spells : List ℕ → Result V JournalFault → Type 0) (decoded : List ℕ → Result V JournalFault) (says : V → Said) (MayFail : V → SetFault → Type 0) (bytes : List ℕ) (f : JournalFault)
-    → ((f : SetFault) → Spells bytes (error_of (faults.Set f)) → IsMemoryOr (Spells bytes (error_of (faults.Set sets.SourcesFull))) (Spells bytes (error_of (faults.Set sets.PoolFull))) f) → Spells bytes (error_of f) → IsWhole (error_of f) (decoded bytes) → Finds (Tells Spells decoded says MayFail) bytes (Err (journal_fault f))
-fault_in Spells decoded says MayFail bytes (faults.Set f) full r whole = set_in Spells decoded says MayFail bytes f (full f r)
-fault_in Spells decoded says MayFail bytes f full r (inl (fault, e)) = cc
-fault_in Spells decoded says MayFail bytes f full r (inr e) = inl (faulty Spells decoded says bytes f r e)
+pub fault_in : {V : Type 0} (Parses : List ℕ → Result V JournalFault → Type 0) (decoded : List ℕ → Result V JournalFault) (answers : V → Printed) (MayFail : V → SetFault → Type 0) (bytes : List ℕ) (f : JournalFault)
+    → ((f : SetFault) → Parses bytes (error_of (faults.Set f)) → IsMemoryOr (Parses bytes (error_of (faults.Set sets.SourcesFull))) (Parses bytes (error_of (faults.Set sets.PoolFull))) f) → Parses bytes (error_of f) → IsWhole (error_of f) (decoded bytes) → Finds (IsAnswerTo Parses decoded answers MayFail) bytes (Err (journal_fault f))
+fault_in Parses decoded answers MayFail bytes (faults.Set f) full r whole = set_in Parses decoded answers MayFail bytes f (full f r)
+fault_in Parses decoded answers MayFail bytes f full r (inl (fault, e)) = cc
+fault_in Parses decoded answers MayFail bytes f full r (inr e) = inl (faulty Parses decoded answers bytes f r e)
 
 -- what is settled holds the answer, where each refusal is one
-pub settled : (says : List ℕ → Said → Type 0) (found : Result Answer Fault) (settled : Result Answer RunFault) (bytes : List ℕ)
-    → Finds says bytes found → IfOk settled (Settles found) → IfOk settled (HoldsOne says bytes)
-settled says found (Err e) bytes f s = tt
-settled says (Ok x) (Ok a) bytes f s = subst (HoldsOne says bytes) (sym s) f
-settled says (Err (fault.Refused r)) (Ok a) bytes f s = (refused_with r, f, s)
-settled says (Err fault.Memory) (Ok a) bytes f s = absurd s
+pub settled : (answers : List ℕ → Printed → Type 0) (found : Result Answer Fault) (settled : Result Answer RunFault) (bytes : List ℕ)
+    → Finds answers bytes found → IfOk settled (Settles found) → IfOk settled (HoldsOne answers bytes)
+settled answers found (Err e) bytes f s = tt
+settled answers (Ok x) (Ok a) bytes f s = subst (HoldsOne answers bytes) (sym s) f
+settled answers (Err (fault.Refused r)) (Ok a) bytes f s = (refused_with r, f, s)
+settled answers (Err fault.Memory) (Ok a) bytes f s = absurd s

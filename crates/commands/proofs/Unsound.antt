@@ -9,12 +9,12 @@ use Rattle.world.specs.declared.verdict.Verdict.TheVariants.{Unequal, Purged, Mi
 use Rattle.txn_journal.specs.BundleStates.{BundleValue}
 use Rattle.serving.specs.declared.order.Order.{Order}
 use Rattle.serving.specs.Verdicts.{IsUnsound, verdict_over}
-use Rattle.commands.specs.Said.{Holds}
-use Rattle.commands.specs.Bundles.{verdict_said, state_or_verdict, apply_answer, union_of_journals, rows_of_union}
+use Rattle.commands.specs.Printed.{Holds}
+use Rattle.commands.specs.Bundles.{printed_verdict, state_or_verdict, apply_answer, union_of_journals, rows_of_union}
 use Rattle.commands.specs.declared.answer.Answer.{Answer}
 
 -- any other verdict is reported as it is
-verdict_is_said : (v : Verdict) (executed : Gtids) (rows : Result Rows RowFault) → (v ≡ Sound → ⊥) → state_or_verdict v executed rows ≡ verdict_said v
+verdict_is_said : (v : Verdict) (executed : Gtids) (rows : Result Rows RowFault) → (v ≡ Sound → ⊥) → state_or_verdict v executed rows ≡ printed_verdict v
 verdict_is_said Sound executed rows isnt = absurd (isnt refl)
 verdict_is_said (Unequal g) executed rows isnt = refl
 verdict_is_said (Purged i gtids) executed rows isnt = refl
@@ -26,7 +26,7 @@ verdict_is_said (NotClosed g h) executed rows isnt = refl
 verdict_is_said (DoesNotApply g fault) executed rows isnt = refl
 
 -- the line of a verdict that is not Sound is what applying is answered with
-pub verdict_applied : (order : Order) (b : BundleValue) (v : Verdict) (answer : Answer) → IsUnsound order b v → Holds answer (verdict_said v) → Holds answer (apply_answer order b)
+pub verdict_applied : (order : Order) (b : BundleValue) (v : Verdict) (answer : Answer) → IsUnsound order b v → Holds answer (printed_verdict v) → Holds answer (apply_answer order b)
 verdict_applied order b v answer unsound holds =
     subst (λ (w : Verdict). Holds answer (state_or_verdict w (union_of_journals b) (rows_of_union order b))) unsound.0
     (subst (Holds answer) (sym (verdict_is_said v (union_of_journals b) (rows_of_union order b) unsound.1)) holds)

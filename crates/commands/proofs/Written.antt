@@ -15,12 +15,12 @@ use Rattle.txn_journal.specs.declared.fault.JournalFault.{JournalFault}
 use Rattle.gtid_report.specs.Faults.{set_fault}
 use Rattle.serving.specs.Faults.{IsBundleFault, IsVerdictFault}
 use Rattle.serving.specs.Servable.{IsServable, WrittenIsServable}
-use Rattle.commands.specs.Said.{GivesUp}
-use Rattle.commands.specs.Bundles.{SpellsBundle}
-use Rattle.commands.specs.Positions.{SpellsJournal}
+use Rattle.commands.specs.Printed.{GivesUp}
+use Rattle.commands.specs.Bundles.{ParsesAsBundle}
+use Rattle.commands.specs.Positions.{ParsesAsJournal}
 
 -- a bundle that was decoded is one by its grammar, and can be served
-pub bundle_spelled : (bytes : List ℕ) (found : Result BundleValue JournalFault) → IfOk found (λ b. WritesBundle bytes b) → IfErr found (λ f. RefusesBundle f bytes) → SpellsBundle bytes found
+pub bundle_spelled : (bytes : List ℕ) (found : Result BundleValue JournalFault) → IfOk found (λ b. WritesBundle bytes b) → IfErr found (λ f. RefusesBundle f bytes) → ParsesAsBundle bytes found
 bundle_spelled bytes (Ok b) writes refused = writes
 bundle_spelled bytes (Err f) writes refused = refused
 
@@ -28,7 +28,7 @@ pub bundle_servable : (bytes : List ℕ) (found : Result BundleValue JournalFaul
 bundle_servable bytes (Ok b) law writes = law bytes b writes
 bundle_servable bytes (Err f) law writes = tt
 
-pub journal_spelled : (bytes : List ℕ) (found : Result JournalValue JournalFault) → IfOk found (λ j. Writes bytes j) → IfErr found (λ f. Refuses f bytes) → SpellsJournal bytes found
+pub journal_spelled : (bytes : List ℕ) (found : Result JournalValue JournalFault) → IfOk found (λ j. Writes bytes j) → IfErr found (λ f. Refuses f bytes) → ParsesAsJournal bytes found
 journal_spelled bytes (Ok j) writes refused = writes
 journal_spelled bytes (Err f) writes refused = refused
 

@@ -9,7 +9,7 @@ use Rattle.source_history.specs.World.{rows_of}
 use Rattle.gtid_set.specs.Sets.{Gtids}
 use Rattle.ordered_replicas.specs.Deciding.{all_of}
 use Rattle.txn_journal.specs.BundleStates.{BundleValue}
-use Rattle.txn_journal.specs.BundleReading.{bundle_start, eats_bundle, closing_bundle}
+use Rattle.txn_journal.specs.BundleReading.{bundle_start, feed_bundle_bytes, closing_bundle}
 use Rattle.txn_journal.specs.BundleText.{WritesBundleBy, WritesBundle, upgrade_of}
 use Rattle.txn_journal.specs.BundleRefused.{RefusesBundleBy, RefusesBundle}
 use Rattle.txn_journal.specs.declared.lines.Version.TheVariants.{One}
@@ -21,7 +21,7 @@ use Rattle.serving.specs.declared.order.Order.{Order}
 use Rattle.serving.specs.declared.order.Order.TheVariants.{BySource, ByConflict}
 use Rattle.serving.specs.Verdicts.{world_over, joined_over, verdict_over}
 use Rattle.serving.specs.Faults.{IsBundleFault, IsVerdictFault}
-use Rattle.commands.specs.Said.{Said, with_line_feed, Tells}
+use Rattle.commands.specs.Printed.{Printed, with_line_feed, IsAnswerTo}
 use Rattle.commands.specs.declared.edge.Outcome.{Outcome}
 use Rattle.commands.specs.declared.edge.Outcome.TheVariants.{Done, Refused}
 
@@ -29,21 +29,21 @@ use Rattle.commands.specs.declared.edge.Outcome.TheVariants.{Done, Refused}
 
 -- the bundle that the bytes parse as, or the first fault
 abbrev pub bundle_in : List ℕ → Result BundleValue JournalFault
-bundle_in bytes = closing_bundle (eats_bundle (bundle_start None) bytes)
+bundle_in bytes = closing_bundle (feed_bundle_bytes (bundle_start None) bytes)
 
 -- by the grammar of bundles the bytes are the text of this bundle, or have this first fault
-abbrev pub SpellsBundle : List ℕ → Result BundleValue JournalFault → Type 0
-SpellsBundle bytes (Ok b) = WritesBundle bytes b
-SpellsBundle bytes (Err fault) = RefusesBundle fault bytes
+abbrev pub ParsesAsBundle : List ℕ → Result BundleValue JournalFault → Type 0
+ParsesAsBundle bytes (Ok b) = WritesBundle bytes b
+ParsesAsBundle bytes (Err fault) = RefusesBundle fault bytes
 
 -- the bundle that the bytes parse as by version 1, or the first fault
 abbrev pub old_bundle_in : List ℕ → Result BundleValue JournalFault
-old_bundle_in bytes = closing_bundle (eats_bundle (bundle_start (Some One)) bytes)
+old_bundle_in bytes = closing_bundle (feed_bundle_bytes (bundle_start (Some One)) bytes)
 
 -- the same by the grammar of version 1
-abbrev pub SpellsOldBundle : List ℕ → Result BundleValue JournalFault → Type 0
-SpellsOldBundle bytes (Ok b) = WritesBundleBy (Some One) bytes b
-SpellsOldBundle bytes (Err fault) = RefusesBundleBy (Some One) fault bytes
+abbrev pub ParsesAsOldBundle : List ℕ → Result BundleValue JournalFault → Type 0
+ParsesAsOldBundle bytes (Ok b) = WritesBundleBy (Some One) bytes b
+ParsesAsOldBundle bytes (Err fault) = RefusesBundleBy (Some One) fault bytes
 
 -- ---- the audit
 
@@ -51,40 +51,40 @@ abbrev pub verdict_ending : Verdict → Outcome
 verdict_ending Sound = Done
 verdict_ending v = Refused
 
-abbrev pub verdict_said : Verdict → Said
-verdict_said v = record { text = with_line_feed (verdict_line v); outcome = verdict_ending v }
+abbrev pub printed_verdict : Verdict → Printed
+printed_verdict v = record { text = with_line_feed (verdict_line v); outcome = verdict_ending v }
 
 -- the verdict of the audit that asks for this order
-abbrev pub audit_answer : Order → BundleValue → Said
-audit_answer order b = verdict_said (verdict_over order b)
+abbrev pub audit_answer : Order → BundleValue → Printed
+audit_answer order b = printed_verdict (verdict_over order b)
 
 -- it is the answer of that audit to these bytes
-abbrev pub Audits : Order → List ℕ → Said → Type 0
-Audits order bytes said = Tells SpellsBundle bundle_in (audit_answer order) IsVerdictFault bytes said
+abbrev pub Audits : Order → List ℕ → Printed → Type 0
+Audits order bytes printed = IsAnswerTo ParsesAsBundle bundle_in (audit_answer order) IsVerdictFault bytes printed
 
 -- ---- the bundle by version 2
 
 -- its text, with its rows in listed order
-abbrev pub upgrade_answer : BundleValue → Said
+abbrev pub upgrade_answer : BundleValue → Printed
 upgrade_answer b = record { text = upgrade_of b; outcome = Done }
 
 -- it is what upgrading answers to these bytes
-abbrev pub Upgrades : List ℕ → Said → Type 0
-Upgrades bytes said = Tells SpellsOldBundle old_bundle_in upgrade_answer (λ b f. ⊥) bytes said
+abbrev pub Upgrades : List ℕ → Printed → Type 0
+Upgrades bytes printed = IsAnswerTo ParsesAsOldBundle old_bundle_in upgrade_answer (λ b f. ⊥) bytes printed
 
 -- ---- the state
 
-abbrev pub state_said : Gtids → Rows → Said
-state_said executed rows = record { text = state_text executed rows; outcome = Done }
+abbrev pub printed_state : Gtids → Rows → Printed
+printed_state executed rows = record { text = state_text executed rows; outcome = Done }
 
 -- the GTIDs of all journals together
 abbrev pub union_of_journals : BundleValue → Gtids
 union_of_journals b = all_of b.opened b.journals
 
 -- the state, where the verdict is Sound (these transactions then apply); else the verdict
-abbrev pub state_or_verdict : Verdict → Gtids → Result Rows RowFault → Said
-state_or_verdict Sound executed (Ok rows) = state_said executed rows
-state_or_verdict v executed rows = verdict_said v
+abbrev pub state_or_verdict : Verdict → Gtids → Result Rows RowFault → Printed
+state_or_verdict Sound executed (Ok rows) = printed_state executed rows
+state_or_verdict v executed rows = printed_verdict v
 
 -- the rows that the GTIDs of all journals together denote: of the sources, or in the joined order
 abbrev pub rows_of_union : Order → BundleValue → Result Rows RowFault
@@ -92,9 +92,9 @@ rows_of_union BySource b = rows_of (world_over b) (set.contains (union_of_journa
 rows_of_union ByConflict b = ordered.rows_of (joined_over b) (set.contains (union_of_journals b))
 
 -- The executed set is that of all journals together, and the rows are those that this set denotes, where the audit reports Sound; else its verdict.
-abbrev pub apply_answer : Order → BundleValue → Said
+abbrev pub apply_answer : Order → BundleValue → Printed
 apply_answer order b = state_or_verdict (verdict_over order b) (union_of_journals b) (rows_of_union order b)
 
 -- it is what applying answers to these bytes
-abbrev pub Applies : Order → List ℕ → Said → Type 0
-Applies order bytes said = Tells SpellsBundle bundle_in (apply_answer order) IsBundleFault bytes said
+abbrev pub Applies : Order → List ℕ → Printed → Type 0
+Applies order bytes printed = IsAnswerTo ParsesAsBundle bundle_in (apply_answer order) IsBundleFault bytes printed

@@ -15,7 +15,7 @@ use Rattle.serving.specs.Listing.{faults_over, IsFaultsFault}
 use Rattle.fault_places.specs.Lines.{lines_of}
 use Rattle.fault_places.specs.Explained.{verdict_explained, refusal_explained}
 use Rattle.commands.specs.Edge.{Output, StreamsValue, Begins, one_more, IsReadFault}
-use Rattle.commands.specs.Said.{Said, Holds, refused_with, to_all, IsDone, IsCutOff}
+use Rattle.commands.specs.Printed.{Printed, Holds, refused_with, to_all, IsDone, IsCutOff}
 use Rattle.commands.specs.Bundles.{Audits, audit_answer, bundle_in}
 use Rattle.commands.specs.declared.edge.Outcome.{Outcome}
 use Rattle.commands.specs.declared.edge.RunFault.{RunFault}
@@ -40,30 +40,30 @@ ExplainsBundle order bytes b notes =
     (missing : Option Gtids) × AreMissingBeside b (verdict_over order b) missing × (notes ≡ verdict_explained (lines_of bytes) b.journals missing (verdict_over order b))
 
 -- it is the verdict on the bundle that the bytes parse as, and these lines explain it
-pub record IsVerdictExplained (order : Order) (bytes : List ℕ) (said : Said) (notes : List ℕ) : Type 0 where
+pub record IsVerdictExplained (order : Order) (bytes : List ℕ) (printed : Printed) (notes : List ℕ) : Type 0 where
   pub bundle : BundleValue
-  pub spelled : bundle_in bytes ≡ Ok bundle
-  pub verdict : said ≡ audit_answer order bundle
+  pub parsed : bundle_in bytes ≡ Ok bundle
+  pub verdict : printed ≡ audit_answer order bundle
   pub explained : ExplainsBundle order bytes bundle notes
 
 -- it is a refusal, and these lines explain it
-pub record IsRefusalExplained (bytes : List ℕ) (said : Said) (notes : List ℕ) : Type 0 where
+pub record IsRefusalExplained (bytes : List ℕ) (printed : Printed) (notes : List ℕ) : Type 0 where
   pub refusal : Refusal
-  pub refused : said ≡ refused_with refusal
+  pub refused : printed ≡ refused_with refusal
   pub explained : notes ≡ refusal_explained (lines_of bytes) refusal
 
 -- It is the answer of an audit to these bytes, and these lines explain that.
-pub record Explains (order : Order) (bytes : List ℕ) (said : Said) (notes : List ℕ) : Type 0 where
-  pub audits : Audits order bytes said
-  pub explained : IsVerdictExplained order bytes said notes ⊎ IsRefusalExplained bytes said notes
+pub record Explains (order : Order) (bytes : List ℕ) (printed : Printed) (notes : List ℕ) : Type 0 where
+  pub audits : Audits order bytes printed
+  pub explained : IsVerdictExplained order bytes printed notes ⊎ IsRefusalExplained bytes printed notes
 
 -- ---- results
 
 -- the result holds an answer, and what explains it
 pub record HoldsExplained (order : Order) (bytes : List ℕ) (held : Explained) : Type 0 where
-  pub said : Said
-  pub explains : Explains order bytes said (held.notes.items)
-  pub holds : Holds held.answer said
+  pub printed : Printed
+  pub explains : Explains order bytes printed (held.notes.items)
+  pub holds : Holds held.answer printed
 
 -- the result holds both, or the answer is the line of this refusal; or memory was refused
 abbrev pub FindsExplained : Order → List ℕ → Result Explained Fault → Type 0
@@ -80,19 +80,19 @@ SettlesExplained bytes (Err fault.Memory) held = ⊥
 -- ---- what is written
 
 -- the lines that explain the answer were written after what was there, and nothing else
-abbrev pub IsToldWhole : {E : Type 0} → Order → Output E → Output E → List ℕ → Said → Type 0
-IsToldWhole order old new bytes said = (notes : List ℕ) × Explains order bytes said notes × Appends old.written new.written notes
+abbrev pub IsExplained : {E : Type 0} → Order → Output E → Output E → List ℕ → Printed → Type 0
+IsExplained order old new bytes printed = (notes : List ℕ) × Explains order bytes printed notes × Appends old.written new.written notes
 
 -- a prefix of them was written, and the writer failed once more
-abbrev pub IsToldInPart : {E : Type 0} → Order → Output E → Output E → List ℕ → Said → Type 0
-IsToldInPart order old new bytes said = (notes : List ℕ) × Explains order bytes said notes × Begins old.written new.written notes × (new.failed ≡ one_more old.failed)
+abbrev pub IsPartlyExplained : {E : Type 0} → Order → Output E → Output E → List ℕ → Printed → Type 0
+IsPartlyExplained order old new bytes printed = (notes : List ℕ) × Explains order bytes printed notes × Begins old.written new.written notes × (new.failed ≡ one_more old.failed)
 
 -- the answer was written, and what explains it only in part
-abbrev pub IsHalfTold : {S W E : Type 0} → Order → Output E → Output E → StreamsValue S W → StreamsValue S W → Type 0
-IsHalfTold order told new before after = (outcome : Outcome) × IsDone (to_all (IsToldInPart order told new)) before after outcome
+abbrev pub IsHalfExplained : {S W E : Type 0} → Order → Output E → Output E → StreamsValue S W → StreamsValue S W → Type 0
+IsHalfExplained order old new before after = (outcome : Outcome) × IsDone (to_all (IsPartlyExplained order old new)) before after outcome
 
 -- Memory was refused, or reading failed, and nothing was written; or writing failed: of the answer, and then nothing explains it, or of what explains it.
 abbrev pub HasNotExplained : {S W E : Type 0} → Order → Output E → Output E → StreamsValue S W → StreamsValue S W → RunFault → Type 0
-HasNotExplained order told new before after Memory = (after.output ≡ before.output) × (new ≡ told)
-HasNotExplained order told new before after Read = (after.output ≡ before.output) × IsReadFault before.input after.input × (new ≡ told)
-HasNotExplained order told new before after Write = (IsCutOff (to_all (Audits order)) before after × (new ≡ told)) ⊎ IsHalfTold order told new before after
+HasNotExplained order old new before after Memory = (after.output ≡ before.output) × (new ≡ old)
+HasNotExplained order old new before after Read = (after.output ≡ before.output) × IsReadFault before.input after.input × (new ≡ old)
+HasNotExplained order old new before after Write = (IsCutOff (to_all (Audits order)) before after × (new ≡ old)) ⊎ IsHalfExplained order old new before after

@@ -21,7 +21,7 @@ use Rattle.binlog_bundle.specs.Bundles.{ImportsBundle}
 use Rattle.binlog_bundle.specs.Refused.{IsNoBundle}
 use Rattle.binlog_bundle.specs.declared.fault.BundleFault.{BundleFault}
 use Rattle.binlog_bundle.specs.declared.fault.BundleFault.TheVariants as bundles
-use Rattle.commands.specs.Said.{Said, with_line_feed, fault_said}
+use Rattle.commands.specs.Printed.{Printed, with_line_feed, printed_fault}
 use Rattle.commands.specs.Bundles.{upgrade_answer}
 use Rattle.commands.specs.declared.edge.Outcome.TheVariants as outcomes
 use Rattle.commands.specs.declared.import_fault.ImportCause.{ImportCause}
@@ -76,26 +76,26 @@ bundle_refused (bundles.Journal fault) = journal_refused fault
 abbrev pub import_line : ℕ → ImportCause → List ℕ
 import_line line cause = codes "refused import line " ++ (decimal line ++ 32 ∷ cause_word cause)
 
-abbrev pub refusal_said : Refusal → Said
-refusal_said (Known fault) = fault_said fault
-refusal_said (At line cause) = record { text = with_line_feed (import_line line cause); outcome = outcomes.Refused }
+abbrev pub printed_refusal : Refusal → Printed
+printed_refusal (Known fault) = printed_fault fault
+printed_refusal (At line cause) = record { text = with_line_feed (import_line line cause); outcome = outcomes.Refused }
 
 -- what a text is refused with
-abbrev pub import_refused : BundleFault → Said
-import_refused fault = refusal_said (bundle_refused fault)
+abbrev pub import_refused : BundleFault → Printed
+import_refused fault = printed_refusal (bundle_refused fault)
 
 -- it is the bundle's text by version 2
-pub record IsImport (bytes : Bool) (text : List ℕ) (said : Said) : Type 0 where
+pub record IsImport (bytes : Bool) (text : List ℕ) (printed : Printed) : Type 0 where
   pub bundle : BundleValue
   pub imports : ImportsBundle bytes text bundle
-  pub says : said ≡ upgrade_answer bundle
+  pub answers : printed ≡ upgrade_answer bundle
 
 -- it is the line of a refusal
-pub record IsImportRefused (bytes : Bool) (text : List ℕ) (said : Said) : Type 0 where
+pub record IsImportRefused (bytes : Bool) (text : List ℕ) (printed : Printed) : Type 0 where
   pub fault : BundleFault
   pub none : IsNoBundle bytes fault text
-  pub says : said ≡ import_refused fault
+  pub answers : printed ≡ import_refused fault
 
 -- it is the answer of `import` to this text
-abbrev pub TellsImport : Bool → List ℕ → Said → Type 0
-TellsImport bytes text said = IsImport bytes text said ⊎ IsImportRefused bytes text said
+abbrev pub IsImportAnswer : Bool → List ℕ → Printed → Type 0
+IsImportAnswer bytes text printed = IsImport bytes text printed ⊎ IsImportRefused bytes text printed

@@ -1,6 +1,6 @@
 pub mod Edge
 pub mod SetCommand
-pub mod Said
+pub mod Printed
 pub mod Applying
 pub mod Bundles
 pub mod Imports

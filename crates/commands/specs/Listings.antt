@@ -9,8 +9,8 @@ use Rattle.gtid_report.specs.VerdictLines.{verdict_line}
 use Rattle.audit.specs.declared.listing.AllFaults.{AllFaults}
 use Rattle.audit.specs.Others.{Faults}
 use Rattle.serving.specs.Listing.{faults_over, IsFaultsFault}
-use Rattle.commands.specs.Said.{Said, with_line_feed, Tells}
-use Rattle.commands.specs.Bundles.{SpellsBundle, bundle_in, verdict_ending}
+use Rattle.commands.specs.Printed.{Printed, with_line_feed, IsAnswerTo}
+use Rattle.commands.specs.Bundles.{ParsesAsBundle, bundle_in, verdict_ending}
 
 -- the lines of verdicts
 abbrev pub verdict_lines : List Verdict → List ℕ
@@ -45,13 +45,13 @@ faults_text all =
     ++ verdict_lines all.not_closed)
     ++ verdict_lines all.does_not_apply
 
-abbrev pub faults_said : Faults → Said
-faults_said all = record { text = faults_text all; outcome = verdict_ending all.verdict }
+abbrev pub printed_faults : Faults → Printed
+printed_faults all = record { text = faults_text all; outcome = verdict_ending all.verdict }
 
 -- the verdict of the audit, and what else there is
-abbrev pub list_answer : BundleValue → Said
-list_answer b = faults_said (faults_over b)
+abbrev pub list_answer : BundleValue → Printed
+list_answer b = printed_faults (faults_over b)
 
 -- it is the answer of `audit --all` to these bytes
-abbrev pub Lists : List ℕ → Said → Type 0
-Lists bytes said = Tells SpellsBundle bundle_in list_answer IsFaultsFault bytes said
+abbrev pub Lists : List ℕ → Printed → Type 0
+Lists bytes printed = IsAnswerTo ParsesAsBundle bundle_in list_answer IsFaultsFault bytes printed

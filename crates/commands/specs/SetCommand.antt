@@ -9,7 +9,7 @@ use Rattle.gtid_report.specs.declared.refusal.Refusal.{Refusal}
 use Rattle.gtid_report.specs.declared.refusal.Refusal.TheVariants as refusal
 use Rattle.gtid_report.specs.Refusals.{refusal_line}
 use Rattle.gtid_report.specs.SetAnswers.{function_line}
-use Rattle.commands.specs.Said.{Said, Answering, at_once, to_all, with_line_feed}
+use Rattle.commands.specs.Printed.{Printed, Answering, at_once, to_all, with_line_feed}
 use Rattle.commands.specs.declared.edge.Outcome.{Outcome}
 use Rattle.commands.specs.declared.edge.Outcome.TheVariants.{Done, Refused, Misused}
 
@@ -19,14 +19,14 @@ refusal_ending refusal.Usage = Misused
 refusal_ending r = Refused
 
 -- the line of an answer, or that of its refusal
-abbrev pub line_said : Result (List ℕ) Fault → Said
-line_said (Ok line) = record { text = with_line_feed line; outcome = Done }
-line_said (Err (fault.Refused r)) = record { text = with_line_feed (refusal_line r); outcome = refusal_ending r }
-line_said (Err fault.Memory) = record { text = []; outcome = Refused }
+abbrev pub printed_line : Result (List ℕ) Fault → Printed
+printed_line (Ok line) = record { text = with_line_feed line; outcome = Done }
+printed_line (Err (fault.Refused r)) = record { text = with_line_feed (refusal_line r); outcome = refusal_ending r }
+printed_line (Err fault.Memory) = record { text = []; outcome = Refused }
 
 -- the answer to a function's name, its first word, and its second word where one is given
-abbrev pub set_said : List ℕ → List ℕ → Option (List ℕ) → Said
-set_said function a b = line_said (function_line function a b)
+abbrev pub printed_set : List ℕ → List ℕ → Option (List ℕ) → Printed
+printed_set function a b = printed_line (function_line function a b)
 
 -- ---- a word that is read
 
@@ -43,16 +43,16 @@ abbrev pub word_or : List ℕ → List ℕ → List ℕ
 word_or input word = if is_input word then input else word
 
 -- the same, where a word may denote this input
-abbrev pub set_said_over : List ℕ → List ℕ → Option (List ℕ) → List ℕ → Said
-set_said_over function a b input = set_said function (word_or input a) (option_map (word_or input) b)
+abbrev pub printed_set_over : List ℕ → List ℕ → Option (List ℕ) → List ℕ → Printed
+printed_set_over function a b input = printed_set function (word_or input a) (option_map (word_or input) b)
 
 -- it is the answer over all of standard input, in which bytes that are no UTF-8 are replaced
-abbrev pub IsSaidOver : List ℕ → List ℕ → Option (List ℕ) → List ℕ → Said → Type 0
-IsSaidOver function a b bytes said = said ≡ set_said_over function a b (utf8_lossy bytes)
+abbrev pub IsSetAnswer : List ℕ → List ℕ → Option (List ℕ) → List ℕ → Printed → Type 0
+IsSetAnswer function a b bytes printed = printed ≡ printed_set_over function a b (utf8_lossy bytes)
 
 abbrev pub answering_by : Bool → List ℕ → List ℕ → Option (List ℕ) → Answering
-answering_by true function a b = to_all (IsSaidOver function a b)
-answering_by false function a b = at_once (set_said function a b)
+answering_by true function a b = to_all (IsSetAnswer function a b)
+answering_by false function a b = at_once (printed_set function a b)
 
 -- Where a word denotes standard input, the answer is to all of it; else it is to the words alone.
 abbrev pub set_answering : List ℕ → List ℕ → Option (List ℕ) → Answering

@@ -1,24 +1,24 @@
 -- What bytes that come in pieces parse as.
 use Rattle.std.specs.Prelude.{ℕ, List, Option, None, Result, IfOk}
 use Rattle.txn_journal.specs.Stream.{IsAfter, IsWhole}
-use Rattle.txn_journal.specs.BundleReading.{bundle_start, eats_bundle, IsFaultOfBundle}
+use Rattle.txn_journal.specs.BundleReading.{bundle_start, feed_bundle_bytes, IsFaultOfBundle}
 use Rattle.txn_journal.specs.BundleReaders.{bundle_reading}
 use Rattle.txn_journal.specs.declared.bundle_reader.BundleReader.{BundleReader}
 use Rattle.txn_journal.specs.declared.fault.JournalFault.{JournalFault}
 use Rattle.commands.specs.Edge.{HasRead}
 
 -- the bytes parse as this: by their grammar, and by the fold over them, unless a set was not made
-pub record IsTextOf {V : Type 0} (Spells : List ℕ → Result V JournalFault → Type 0) (decoded : List ℕ → Result V JournalFault) (IsRead : V → Type 0) (bytes : List ℕ) (found : Result V JournalFault) : Type 0 where
-  pub spelled : Spells bytes found
+pub record IsTextOf {V : Type 0} (Parses : List ℕ → Result V JournalFault → Type 0) (decoded : List ℕ → Result V JournalFault) (IsRead : V → Type 0) (bytes : List ℕ) (found : Result V JournalFault) : Type 0 where
+  pub parsed : Parses bytes found
   pub exact : IsWhole found (decoded bytes)
   pub holds : IfOk found IsRead
 
 -- some bytes were read, they were all, and they parse as this
-pub record HasFound {V : Type 0} (Spells : List ℕ → Result V JournalFault → Type 0) (decoded : List ℕ → Result V JournalFault) (IsRead : V → Type 0) (old new : Option (List ℕ)) (found : Result V JournalFault) : Type 0 where
+pub record HasFound {V : Type 0} (Parses : List ℕ → Result V JournalFault → Type 0) (decoded : List ℕ → Result V JournalFault) (IsRead : V → Type 0) (old new : Option (List ℕ)) (found : Result V JournalFault) : Type 0 where
   pub bytes : List ℕ
   pub all : HasRead old new bytes
-  pub text : IsTextOf Spells decoded IsRead bytes found
+  pub text : IsTextOf Parses decoded IsRead bytes found
 
 -- a reader of bundles is after these bytes, or has stopped at a fault of a set that may be
 abbrev pub HasCome : BundleReader → List ℕ → Type 0
-HasCome reader bytes = IsAfter (IsFaultOfBundle (bundle_start None) bytes) (bundle_reading reader) (eats_bundle (bundle_start None) bytes)
+HasCome reader bytes = IsAfter (IsFaultOfBundle (bundle_start None) bytes) (bundle_reading reader) (feed_bundle_bytes (bundle_start None) bytes)

@@ -1,7 +1,7 @@
 //! An answer.
 ghost use Rattle.std.specs.Prelude.{◌≡◌, IfOk, IfErr, string_bytes};
 ghost use Rattle.gtid_report.specs.Refusals.{refusal_line};
-ghost use Rattle.commands.specs.Said.{with_line_feed, refused_with, Holds, Settles};
+ghost use Rattle.commands.specs.Printed.{with_line_feed, refused_with, Holds, Settles};
 
 use crate::edge::{Outcome, RunFault};
 use gtid_report::{Fault, Refusal, render_fault};

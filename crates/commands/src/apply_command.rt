@@ -4,8 +4,8 @@ ghost use Rattle.std.specs.Thread.{IsSync};
 ghost use Rattle.serving.specs.Faults.{IsBundleFault};
 ghost use Rattle.serving.specs.Servable.{IsServable};
 ghost use Rattle.serving.specs.Verdicts.{IsUnsound};
-ghost use Rattle.commands.specs.Said.{Holds, GivesUp, to_all, IsDone, HasFailed};
-ghost use Rattle.commands.specs.Bundles.{state_said, apply_answer, Applies};
+ghost use Rattle.commands.specs.Printed.{Holds, GivesUp, to_all, IsDone, HasFailed};
+ghost use Rattle.commands.specs.Bundles.{printed_state, apply_answer, Applies};
 
 use crate::answer::Answer;
 use crate::audit_command::verdict_answer;
@@ -26,7 +26,7 @@ use world::Verdict;
 
 /// The lines of a replica's state.
 fn state_answer(alloc: Global, core: &Core) -> Result<Answer, AllocError>
-    ensures { IfOk result (λ answer. Holds answer (state_said core.now.state.executed core.now.state.rows)) }
+    ensures { IfOk result (λ answer. Holds answer (printed_state core.now.state.executed core.now.state.rows)) }
 {
     let text = render_state(alloc, core.executed(), core.rows())?;
     Ok(Answer {
@@ -136,7 +136,7 @@ impl<'a, R: Threads + Wait + Sync> Request for Apply<'a, R> {
 
     ghost ready = { λ asked. (1 ≤ asked.workers) × (asked.workers ≤ 64) × IsSync R.row };
 
-    ghost says = { λ asked b. apply_answer asked.order b };
+    ghost answers = { λ asked b. apply_answer asked.order b };
 
     ghost may_fail = { λ _ b. IsBundleFault b };
 

@@ -1,8 +1,8 @@
 //! The command `audit`.
 ghost use Rattle.std.specs.Prelude.{◌≡◌, IfOk, IfErr};
 ghost use Rattle.serving.specs.Faults.{IsVerdictFault};
-ghost use Rattle.commands.specs.Said.{Holds, to_all, IsDone, HasFailed};
-ghost use Rattle.commands.specs.Bundles.{Audits, audit_answer, verdict_ending, verdict_said};
+ghost use Rattle.commands.specs.Printed.{Holds, to_all, IsDone, HasFailed};
+ghost use Rattle.commands.specs.Bundles.{Audits, audit_answer, verdict_ending, printed_verdict};
 
 use crate::answer::{Answer, with_line_feed};
 use crate::edge::{Outcome, RunFault, Sink, Source};
@@ -26,7 +26,7 @@ pub(crate) fn verdict_ending(verdict: &Verdict) -> Outcome
 
 /// The one line of a verdict.
 pub(crate) fn verdict_answer(alloc: Global, verdict: &Verdict) -> Result<Answer, AllocError>
-    ensures { IfOk result (λ answer. Holds answer (verdict_said verdict.now)) }
+    ensures { IfOk result (λ answer. Holds answer (printed_verdict verdict.now)) }
 {
     let line = render_verdict(alloc, verdict)?;
     Ok(Answer {
@@ -44,7 +44,7 @@ struct Audit {
 impl Request for Audit {
     type Value = Bundle;
 
-    ghost says = { λ asked b. audit_answer asked.order b };
+    ghost answers = { λ asked b. audit_answer asked.order b };
 
     ghost may_fail = { λ _ b. IsVerdictFault b };
 

@@ -6,10 +6,10 @@ ghost use Rattle.serving.specs.Servable.{IsServable};
 ghost use Rattle.fault_places.specs.Lines.{lines_of};
 ghost use Rattle.fault_places.specs.Explained.{refusal_explained};
 ghost use Rattle.commands.specs.Edge.{output_of, one_more, Begins};
-ghost use Rattle.commands.specs.Said.{Holds, GivesUp, refused_with, to_all, IsDone};
-ghost use Rattle.commands.specs.Bundles.{SpellsBundle, audit_answer, bundle_in};
+ghost use Rattle.commands.specs.Printed.{Holds, GivesUp, refused_with, to_all, IsDone};
+ghost use Rattle.commands.specs.Bundles.{ParsesAsBundle, audit_answer, bundle_in};
 ghost use Rattle.commands.specs.Texts.{IsTextOf};
-ghost use Rattle.commands.specs.Explaining.{AreMissingBeside, ExplainsBundle, HoldsExplained, FindsExplained, SettlesExplained, IsToldWhole, HasNotExplained};
+ghost use Rattle.commands.specs.Explaining.{AreMissingBeside, ExplainsBundle, HoldsExplained, FindsExplained, SettlesExplained, IsExplained, HasNotExplained};
 
 use crate::answer::{Answer, refusal_answer};
 use crate::audit_command::verdict_answer;
@@ -73,7 +73,7 @@ fn explain_bundle(
 
 /// The bundle that bytes parse as, all of the bytes.
 fn decode_whole(alloc: Global, bytes: &[u8]) -> Result<Bundle, JournalFault>
-    ensures { IsTextOf SpellsBundle bundle_in IsServable bytes.now result }
+    ensures { IsTextOf ParsesAsBundle bundle_in IsServable bytes.now result }
 {
     written_is_servable();
     decode_bundle(alloc, bytes)
@@ -133,7 +133,7 @@ fn explain_bytes(alloc: Global, order: Order, bytes: &[u8]) -> Result<Explained,
 }
 
 /// Writes what explains an answer.
-fn tell<E: Sink>(errors: &mut E, notes: &[u8]) -> Result<(), RunFault>
+fn report<E: Sink>(errors: &mut E, notes: &[u8]) -> Result<(), RunFault>
     ensures done { OnOk result (Appends (E.written errors.old) (E.written errors.new) notes.now) }
     ensures write { IfErr result (λ f. f ≡ RunFault.Write) }
     ensures begins { OnErr result (Begins (E.written errors.old) (E.written errors.new) notes.now) }
@@ -154,12 +154,12 @@ pub fn run_explain<S: Source, W: Sink, E: Sink>(
     streams: &mut Streams<S, W>,
     errors: &mut E,
 ) -> Result<Outcome, RunFault>
-    ensures done { let told = output_of E.written E.failed errors.old in let new = output_of E.written E.failed errors.new in IfOk result (IsDone (to_all (IsToldWhole order told new)) streams.old streams.new) }
-    ensures failed { let told = output_of E.written E.failed errors.old in let new = output_of E.written E.failed errors.new in IfErr result (HasNotExplained order told new streams.old streams.new) }
+    ensures done { let old = output_of E.written E.failed errors.old in let new = output_of E.written E.failed errors.new in IfOk result (IsDone (to_all (IsExplained order old new)) streams.old streams.new) }
+    ensures failed { let old = output_of E.written E.failed errors.old in let new = output_of E.written E.failed errors.new in IfErr result (HasNotExplained order old new streams.old streams.new) }
 {
     let bytes = streams.read_all(alloc)?;
     let held = explain_bytes(alloc, order, &bytes)?;
     let outcome = streams.send(&held.answer)?;
-    tell(errors, &held.notes)?;
+    report(errors, &held.notes)?;
     Ok(outcome)
 }

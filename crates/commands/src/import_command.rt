@@ -1,8 +1,8 @@
 //! The command `import`.
 ghost use Rattle.std.specs.Prelude.{◌≡◌, IfOk, IfErr};
-ghost use Rattle.commands.specs.Said.{Holds, HoldsOne, to_all, IsDone, HasFailed};
+ghost use Rattle.commands.specs.Printed.{Holds, HoldsOne, to_all, IsDone, HasFailed};
 ghost use Rattle.commands.specs.Bundles.{upgrade_answer};
-ghost use Rattle.commands.specs.Imports.{TellsImport};
+ghost use Rattle.commands.specs.Imports.{IsImportAnswer};
 
 use crate::answer::Answer;
 use crate::edge::{Outcome, RunFault, Sink, Source};
@@ -29,7 +29,7 @@ fn import_found(alloc: Global, bundle: &Bundle) -> Result<Answer, RunFault>
 
 /// What is written for a text. The bundle is left to the end of the process.
 fn import_answer(alloc: Global, bytes: bool, text: &[u8]) -> Result<Answer, RunFault>
-    ensures ok { IfOk result (HoldsOne (TellsImport bytes) text.now) }
+    ensures ok { IfOk result (HoldsOne (IsImportAnswer bytes) text.now) }
     ensures memory { IfErr result (λ f. f ≡ RunFault.Memory) }
 {
     match import_bundle(alloc, bytes, text) {
@@ -49,8 +49,8 @@ pub fn run_import<S: Source, W: Sink>(
     bytes: bool,
     streams: &mut Streams<S, W>,
 ) -> Result<Outcome, RunFault>
-    ensures done { IfOk result (IsDone (to_all (TellsImport bytes)) streams.old streams.new) }
-    ensures failed { IfErr result (HasFailed (to_all (TellsImport bytes)) streams.old streams.new) }
+    ensures done { IfOk result (IsDone (to_all (IsImportAnswer bytes)) streams.old streams.new) }
+    ensures failed { IfErr result (HasFailed (to_all (IsImportAnswer bytes)) streams.old streams.new) }
 {
     let text = streams.read_all(alloc)?;
     let answer = import_answer(alloc, bytes, &text)?;

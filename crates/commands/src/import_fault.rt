@@ -1,7 +1,7 @@
 //! The lines of refusals of `import`.
 ghost use Rattle.std.specs.Prelude.{◌≡◌, IfOk, IfErr, string_bytes};
-ghost use Rattle.commands.specs.Said.{Holds};
-ghost use Rattle.commands.specs.Imports.{cause_word, text_refused, entry_refused, log_refused, cause_refused, journal_refused, bundle_refused, import_line, refusal_said, import_refused};
+ghost use Rattle.commands.specs.Printed.{Holds};
+ghost use Rattle.commands.specs.Imports.{cause_word, text_refused, entry_refused, log_refused, cause_refused, journal_refused, bundle_refused, import_line, printed_refusal, import_refused};
 
 use crate::answer::{Answer, refusal_answer, with_line_feed};
 use crate::edge::{Outcome, RunFault};
@@ -137,7 +137,7 @@ fn import_line(alloc: Global, line: u64, cause: ImportCause) -> Result<String, A
 
 /// The answer that a refusal of a line is.
 fn line_answer(alloc: Global, line: u64, cause: ImportCause) -> Result<Answer, AllocError>
-    ensures { IfOk result (λ answer. Holds answer (refusal_said (Refused.At line cause))) }
+    ensures { IfOk result (λ answer. Holds answer (printed_refusal (Refused.At line cause))) }
 {
     let text = import_line(alloc, line, cause)?;
     Ok(Answer {
@@ -148,7 +148,7 @@ fn line_answer(alloc: Global, line: u64, cause: ImportCause) -> Result<Answer, A
 
 /// The answer that a refusal is, where memory allows.
 fn refused_answer(alloc: Global, refused: Refused) -> Result<Answer, AllocError>
-    ensures { IfOk result (λ answer. Holds answer (refusal_said refused)) }
+    ensures { IfOk result (λ answer. Holds answer (printed_refusal refused)) }
 {
     match refused {
         Refused::Known(Fault::Memory) => Err(AllocError),

@@ -2,8 +2,8 @@
 ghost use Rattle.std.specs.Prelude.{◌≡◌, ◌++◌, IfOk, IfErr, OnOk, string_bytes};
 ghost use Rattle.gtid_report.specs.VerdictLines.{verdict_line};
 ghost use Rattle.serving.specs.Listing.{IsFaultsFault};
-ghost use Rattle.commands.specs.Said.{Holds, to_all, IsDone, HasFailed, with_line_feed};
-ghost use Rattle.commands.specs.Listings.{Lists, faults_said, held_faults, list_answer, run_line, run_lines, verdict_lines};
+ghost use Rattle.commands.specs.Printed.{Holds, to_all, IsDone, HasFailed, with_line_feed};
+ghost use Rattle.commands.specs.Listings.{Lists, printed_faults, held_faults, list_answer, run_line, run_lines, verdict_lines};
 
 use crate::answer::Answer;
 use crate::audit_command::verdict_ending;
@@ -59,7 +59,7 @@ fn push_runs(text: &mut String, runs: &[Span]) -> Result<(), AllocError>
 
 /// The lines of all faults.
 fn list_answer(alloc: Global, all: &AllFaults) -> Result<Answer, AllocError>
-    ensures { IfOk result (λ answer. Holds answer (faults_said (held_faults all.now))) }
+    ensures { IfOk result (λ answer. Holds answer (printed_faults (held_faults all.now))) }
 {
     let mut text = String::new(alloc);
     push_verdict(alloc, &mut text, &all.verdict)?;
@@ -82,7 +82,7 @@ struct List;
 impl Request for List {
     type Value = Bundle;
 
-    ghost says = { λ _ b. list_answer b };
+    ghost answers = { λ _ b. list_answer b };
 
     ghost may_fail = { λ _ b. IsFaultsFault b };
 

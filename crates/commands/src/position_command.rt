@@ -2,8 +2,8 @@
 ghost use Rattle.std.specs.Prelude.{◌≡◌, IfOk, IfErr, Ok, Err};
 ghost use Rattle.auto_position.specs.Sending.{IsPlanFault};
 ghost use Rattle.gtid_report.specs.SetAnswers as words;
-ghost use Rattle.commands.specs.Said.{Holds, refused_with, at_once, IsDone, HasFailed};
-ghost use Rattle.commands.specs.Positions.{asking_in, sending_said, position_answer, to_asking};
+ghost use Rattle.commands.specs.Printed.{Holds, refused_with, at_once, IsDone, HasFailed};
+ghost use Rattle.commands.specs.Positions.{asking_in, printed_sending, position_answer, to_asking};
 
 use crate::answer::{Answer, refusal_answer, with_line_feed};
 use crate::edge::{Outcome, RunFault, Sink, Source};
@@ -43,7 +43,7 @@ fn asked_of(alloc: Global, own: &str, ask: &str) -> Result<Asked, Fault>
 
 /// The lines of what is sent.
 fn sent_answer(alloc: Global, entries: &[Entry]) -> Result<Answer, AllocError>
-    ensures { IfOk result (λ answer. Holds answer (sending_said (Ok entries.now))) }
+    ensures { IfOk result (λ answer. Holds answer (printed_sending (Ok entries.now))) }
 {
     Ok(Answer {
         outcome: Outcome::Done,
@@ -53,7 +53,7 @@ fn sent_answer(alloc: Global, entries: &[Entry]) -> Result<Answer, AllocError>
 
 /// The line of what was purged and is asked for.
 fn purged_answer(alloc: Global, gtids: &GtidSet) -> Result<Answer, AllocError>
-    ensures { IfOk result (λ answer. Holds answer (sending_said (Err (PositionFault.PurgedRequired gtids.now)))) }
+    ensures { IfOk result (λ answer. Holds answer (printed_sending (Err (PositionFault.PurgedRequired gtids.now)))) }
 {
     let line = render_required(alloc, gtids)?;
     Ok(Answer {
@@ -64,7 +64,7 @@ fn purged_answer(alloc: Global, gtids: &GtidSet) -> Result<Answer, AllocError>
 
 /// The line of what the replica has of the source's own, and the source has no record of.
 fn more_answer(alloc: Global, gtids: &GtidSet) -> Result<Answer, AllocError>
-    ensures { IfOk result (λ answer. Holds answer (sending_said (Err (PositionFault.ReplicaHasMore gtids.now)))) }
+    ensures { IfOk result (λ answer. Holds answer (printed_sending (Err (PositionFault.ReplicaHasMore gtids.now)))) }
 {
     let line = render_more(alloc, gtids)?;
     Ok(Answer {
@@ -76,7 +76,7 @@ fn more_answer(alloc: Global, gtids: &GtidSet) -> Result<Answer, AllocError>
 impl Request for Asked {
     type Value = Journal;
 
-    ghost says = { λ asked j. position_answer (asked.source, asked.gtids) j };
+    ghost answers = { λ asked j. position_answer (asked.source, asked.gtids) j };
 
     ghost may_fail = { λ asked j. IsPlanFault j asked.gtids };
 

@@ -16,7 +16,7 @@ pub(crate) fn read_text<T: Text, S: Source>(
     alloc: Global,
     reader: &mut S,
 ) -> Result<Result<T, JournalFault>, RunFault>
-    ensures read { IfOk result (HasFound T.spells T.decoded T.is_read (S.left reader.old) (S.left reader.new)) }
+    ensures read { IfOk result (HasFound T.parses T.decoded T.is_read (S.left reader.old) (S.left reader.new)) }
     ensures calm { OnOk result (S.failed reader.new ≡ S.failed reader.old) }
     ensures fault { IfErr result (ReadFault (input_of S.left S.failed reader.old) (input_of S.left S.failed reader.new)) }
 {

@@ -2,7 +2,7 @@
 ghost use Rattle.std.specs.Prelude.{◌≡◌, ℕ, List, IfOk, IfErr};
 ghost use Rattle.gtid_set.specs.declared.fault.SetFault.{SetFault};
 ghost use Rattle.commands.specs.Texts.{IsTextOf};
-ghost use Rattle.commands.specs.Said.{Said, Holds, HoldsOne, Finds, Tells, GivesUp, to_all, IsDone, HasFailed};
+ghost use Rattle.commands.specs.Printed.{Printed, Holds, HoldsOne, Finds, IsAnswerTo, GivesUp, to_all, IsDone, HasFailed};
 
 use crate::answer::{Answer, settle};
 use crate::edge::{Outcome, RunFault, Sink, Source};
@@ -22,7 +22,7 @@ pub(crate) trait Request {
     ghost ready: { Self → Type 0 } = { λ _. Unit {0} };
 
     /// What is printed for a value, and how the command ends.
-    ghost says: { Self → Self.Value → Said };
+    ghost answers: { Self → Self.Value → Printed };
 
     /// A set that the answer needs may fail to be made, by this fault.
     ghost may_fail: { Self → Self.Value → SetFault → Type 0 } = { λ _ _ _. ⊥ };
@@ -31,7 +31,7 @@ pub(crate) trait Request {
     fn answer(&self, alloc: Global, value: &Self::Value) -> Result<Answer, Fault>
         requires ready { ready self.now }
         requires read { Self.Value.is_read value.now }
-        ensures comes { IfOk result (λ answer. Holds answer (says self.now value.now)) }
+        ensures comes { IfOk result (λ answer. Holds answer (answers self.now value.now)) }
         ensures fault { IfErr result (GivesUp (may_fail self.now value.now)) };
 }
 
@@ -44,7 +44,7 @@ fn find<Q: Request>(
 ) -> Result<Answer, Fault>
     requires ready { Q.ready request.now }
     requires read { IfOk decoded Q.Value.is_read }
-    ensures { (bytes : List ℕ) → IsTextOf Q.Value.spells Q.Value.decoded Q.Value.is_read bytes decoded → Finds (Tells Q.Value.spells Q.Value.decoded (Q.says request.now) (Q.may_fail request.now)) bytes result }
+    ensures { (bytes : List ℕ) → IsTextOf Q.Value.parses Q.Value.decoded Q.Value.is_read bytes decoded → Finds (IsAnswerTo Q.Value.parses Q.Value.decoded (Q.answers request.now) (Q.may_fail request.now)) bytes result }
 {
     match decoded {
         Ok(value) => {
@@ -64,7 +64,7 @@ fn answer_decoded<Q: Request>(
 ) -> Result<Answer, RunFault>
     requires ready { Q.ready request.now }
     requires read { IfOk decoded Q.Value.is_read }
-    ensures ok { (bytes : List ℕ) → IsTextOf Q.Value.spells Q.Value.decoded Q.Value.is_read bytes decoded → IfOk result (HoldsOne (Tells Q.Value.spells Q.Value.decoded (Q.says request.now) (Q.may_fail request.now)) bytes) }
+    ensures ok { (bytes : List ℕ) → IsTextOf Q.Value.parses Q.Value.decoded Q.Value.is_read bytes decoded → IfOk result (HoldsOne (IsAnswerTo Q.Value.parses Q.Value.decoded (Q.answers request.now) (Q.may_fail request.now)) bytes) }
     ensures memory { IfErr result (λ f. f ≡ RunFault.Memory) }
 {
     settle(alloc, find(alloc, request, decoded))
@@ -77,8 +77,8 @@ pub(crate) fn run<Q: Request, S: Source, W: Sink>(
     streams: &mut Streams<S, W>,
 ) -> Result<Outcome, RunFault>
     requires { Q.ready request.now }
-    ensures done { let says = Tells Q.Value.spells Q.Value.decoded (Q.says request.now) (Q.may_fail request.now) in IfOk result (IsDone (to_all says) streams.old streams.new) }
-    ensures failed { let says = Tells Q.Value.spells Q.Value.decoded (Q.says request.now) (Q.may_fail request.now) in IfErr result (HasFailed (to_all says) streams.old streams.new) }
+    ensures done { let answers = IsAnswerTo Q.Value.parses Q.Value.decoded (Q.answers request.now) (Q.may_fail request.now) in IfOk result (IsDone (to_all answers) streams.old streams.new) }
+    ensures failed { let answers = IsAnswerTo Q.Value.parses Q.Value.decoded (Q.answers request.now) (Q.may_fail request.now) in IfErr result (HasFailed (to_all answers) streams.old streams.new) }
 {
     let decoded: Result<Q::Value, JournalFault> = streams.read_text(alloc)?;
     let answer = answer_decoded(alloc, request, decoded)?;

@@ -2,8 +2,8 @@
 ghost use Rattle.std.specs.Prelude.{◌≡◌, ◌||◌, IfOk, IfErr};
 ghost use Rattle.std.specs.Option.{option_map};
 ghost use Rattle.std.specs.Str.Lossy.{utf8_lossy};
-ghost use Rattle.commands.specs.Said.{Holds, at_once, to_all, IsDone, HasFailed};
-ghost use Rattle.commands.specs.SetCommand.{set_said, set_said_over, set_answering, IsSaidOver, is_input, names_input, word_or, refusal_ending};
+ghost use Rattle.commands.specs.Printed.{Holds, at_once, to_all, IsDone, HasFailed};
+ghost use Rattle.commands.specs.SetCommand.{printed_set, printed_set_over, set_answering, IsSetAnswer, is_input, names_input, word_or, refusal_ending};
 
 use crate::answer::{Answer, refusal_text, with_line_feed};
 use crate::edge::{Outcome, RunFault, Sink, Source};
@@ -23,7 +23,7 @@ fn refusal_ending(refusal: &Refusal) -> Outcome
 
 /// What is printed for a function of sets.
 fn set_answer(alloc: Global, function: &str, a: &str, b: Option<&str>) -> Result<Answer, AllocError>
-    ensures { IfOk result (λ answer. Holds answer (set_said function.now a.now (option_map (λ w. w.now) b.entry))) }
+    ensures { IfOk result (λ answer. Holds answer (printed_set function.now a.now (option_map (λ w. w.now) b.entry))) }
 {
     match set_function(alloc, function, a, b) {
         Ok(line) => Ok(Answer {
@@ -70,7 +70,7 @@ fn answer_over(
     b: Option<&str>,
     input: &str,
 ) -> Result<Answer, AllocError>
-    ensures { IfOk result (λ answer. Holds answer (set_said_over function.now a.now (option_map (λ w. w.now) b.entry) input.now)) }
+    ensures { IfOk result (λ answer. Holds answer (printed_set_over function.now a.now (option_map (λ w. w.now) b.entry) input.now)) }
 {
     let first = word_or(input, a);
     match b {
@@ -87,7 +87,7 @@ fn answer_to(
     b: Option<&str>,
     bytes: &[u8],
 ) -> Result<Answer, AllocError>
-    ensures { IfOk result (λ answer. Holds answer (set_said_over function.now a.now (option_map (λ w. w.now) b.entry) (utf8_lossy bytes.now))) }
+    ensures { IfOk result (λ answer. Holds answer (printed_set_over function.now a.now (option_map (λ w. w.now) b.entry) (utf8_lossy bytes.now))) }
 {
     let input = String::from_utf8_lossy(alloc, bytes)?;
     answer_over(alloc, function, a, b, &input)
@@ -101,8 +101,8 @@ fn run_over_input<S: Source, W: Sink>(
     b: Option<&str>,
     streams: &mut Streams<S, W>,
 ) -> Result<Outcome, RunFault>
-    ensures done { IfOk result (IsDone (to_all (IsSaidOver function.now a.now (option_map (λ w. w.now) b.entry))) streams.old streams.new) }
-    ensures failed { IfErr result (HasFailed (to_all (IsSaidOver function.now a.now (option_map (λ w. w.now) b.entry))) streams.old streams.new) }
+    ensures done { IfOk result (IsDone (to_all (IsSetAnswer function.now a.now (option_map (λ w. w.now) b.entry))) streams.old streams.new) }
+    ensures failed { IfErr result (HasFailed (to_all (IsSetAnswer function.now a.now (option_map (λ w. w.now) b.entry))) streams.old streams.new) }
 {
     let bytes = streams.read_all(alloc)?;
     let Ok(answer) = answer_to(alloc, function, a, b, &bytes) else {
@@ -119,8 +119,8 @@ fn run_at_once<S: Source, W: Sink>(
     b: Option<&str>,
     streams: &mut Streams<S, W>,
 ) -> Result<Outcome, RunFault>
-    ensures done { IfOk result (IsDone (at_once (set_said function.now a.now (option_map (λ w. w.now) b.entry))) streams.old streams.new) }
-    ensures failed { IfErr result (HasFailed (at_once (set_said function.now a.now (option_map (λ w. w.now) b.entry))) streams.old streams.new) }
+    ensures done { IfOk result (IsDone (at_once (printed_set function.now a.now (option_map (λ w. w.now) b.entry))) streams.old streams.new) }
+    ensures failed { IfErr result (HasFailed (at_once (printed_set function.now a.now (option_map (λ w. w.now) b.entry))) streams.old streams.new) }
 {
     let Ok(answer) = set_answer(alloc, function, a, b) else {
         return Err(RunFault::Memory);

@@ -2,8 +2,8 @@
 ghost use Rattle.std.specs.Prelude.{◌≡◌, IfOk, IfErr};
 ghost use Rattle.std.specs.Str.Lossy.{utf8_lossy};
 ghost use Rattle.server_states.specs.States.{states_in};
-ghost use Rattle.commands.specs.Said.{Holds, to_all, IsDone, HasFailed};
-ghost use Rattle.commands.specs.States.{text_said, StatesSaid};
+ghost use Rattle.commands.specs.Printed.{Holds, to_all, IsDone, HasFailed};
+ghost use Rattle.commands.specs.States.{printed_text, IsStatesAnswer};
 
 use crate::answer::{Answer, refusal_answer};
 use crate::edge::{Outcome, RunFault, Sink, Source};
@@ -14,7 +14,7 @@ use std::alloc::{AllocError, Global};
 
 /// What is printed for the servers in a text.
 fn text_answer(alloc: Global, text: &str) -> Result<Answer, AllocError>
-    ensures { IfOk result (λ answer. Holds answer (text_said (states_in text.now))) }
+    ensures { IfOk result (λ answer. Holds answer (printed_text (states_in text.now))) }
 {
     match states(alloc, text) {
         Ok(text) => Ok(Answer {
@@ -28,7 +28,7 @@ fn text_answer(alloc: Global, text: &str) -> Result<Answer, AllocError>
 
 /// The same for bytes.
 fn states_answer(alloc: Global, bytes: &[u8]) -> Result<Answer, AllocError>
-    ensures { IfOk result (λ answer. Holds answer (text_said (states_in (utf8_lossy bytes.now)))) }
+    ensures { IfOk result (λ answer. Holds answer (printed_text (states_in (utf8_lossy bytes.now)))) }
 {
     let text = String::from_utf8_lossy(alloc, bytes)?;
     text_answer(alloc, &text)
@@ -40,8 +40,8 @@ pub fn run_states<S: Source, W: Sink>(
     alloc: Global,
     streams: &mut Streams<S, W>,
 ) -> Result<Outcome, RunFault>
-    ensures done { IfOk result (IsDone (to_all StatesSaid) streams.old streams.new) }
-    ensures failed { IfErr result (HasFailed (to_all StatesSaid) streams.old streams.new) }
+    ensures done { IfOk result (IsDone (to_all IsStatesAnswer) streams.old streams.new) }
+    ensures failed { IfErr result (HasFailed (to_all IsStatesAnswer) streams.old streams.new) }
 {
     let bytes = streams.read_all(alloc)?;
     let Ok(answer) = states_answer(alloc, &bytes) else {

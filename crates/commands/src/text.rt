@@ -6,8 +6,8 @@ ghost use Rattle.gtid_set.specs.declared.fault.SetFault.TheVariants as sets;
 ghost use Rattle.txn_journal.specs.declared.fault.JournalFault.{JournalFault};
 ghost use Rattle.txn_journal.specs.declared.fault.JournalFault.TheVariants as journals;
 ghost use Rattle.serving.specs.Servable.{IsServable};
-ghost use Rattle.commands.specs.Bundles.{SpellsBundle, SpellsOldBundle, bundle_in, old_bundle_in};
-ghost use Rattle.commands.specs.Positions.{SpellsJournal, journal_in};
+ghost use Rattle.commands.specs.Bundles.{ParsesAsBundle, ParsesAsOldBundle, bundle_in, old_bundle_in};
+ghost use Rattle.commands.specs.Positions.{ParsesAsJournal, journal_in};
 ghost use Rattle.commands.specs.Texts.{IsTextOf, HasCome};
 
 use journal::Journal;
@@ -19,7 +19,7 @@ use txn_journal::{Bundle, BundleReader, JournalFault, decode, decode_bundle_v1};
 /// What bytes parse as: a bundle or a journal.
 pub(crate) trait Text: Drop {
     /// The grammar: these bytes are the text of this value, or have this first fault.
-    ghost spells: { List ℕ → Result Self JournalFault → Type 0 };
+    ghost parses: { List ℕ → Result Self JournalFault → Type 0 };
 
     /// The fold over the bytes: the value, or the first fault.
     ghost decoded: { List ℕ → Result Self JournalFault };
@@ -43,14 +43,14 @@ pub(crate) trait Text: Drop {
 
     /// What all pieces together parse as.
     fn finish(alloc: Global, reader: Self::Reader) -> Result<Self, JournalFault>
-        ensures { (bytes : List ℕ) → has_come reader bytes → IsTextOf spells decoded is_read bytes result };
+        ensures { (bytes : List ℕ) → has_come reader bytes → IsTextOf parses decoded is_read bytes result };
 
     /// A set is not made because an allocation failed, or because by the grammar it has too many sources or intervals.
-    ghost full: { (bytes : List ℕ) (f : SetFault) → spells bytes (Err (journals.Set f)) → IsMemoryOr (spells bytes (Err (journals.Set sets.SourcesFull))) (spells bytes (Err (journals.Set sets.PoolFull))) f };
+    ghost full: { (bytes : List ℕ) (f : SetFault) → parses bytes (Err (journals.Set f)) → IsMemoryOr (parses bytes (Err (journals.Set sets.SourcesFull))) (parses bytes (Err (journals.Set sets.PoolFull))) f };
 }
 
 impl Text for Bundle {
-    ghost spells = { SpellsBundle };
+    ghost parses = { ParsesAsBundle };
 
     ghost decoded = { bundle_in };
 
@@ -97,7 +97,7 @@ impl Model for OldBundle {
 }
 
 impl Text for OldBundle {
-    ghost spells = { SpellsOldBundle };
+    ghost parses = { ParsesAsOldBundle };
 
     ghost decoded = { old_bundle_in };
 
@@ -124,7 +124,7 @@ impl Text for OldBundle {
 }
 
 impl Text for Journal {
-    ghost spells = { SpellsJournal };
+    ghost parses = { ParsesAsJournal };
 
     ghost decoded = { journal_in };
 

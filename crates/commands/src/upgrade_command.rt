@@ -1,6 +1,6 @@
 //! The command `upgrade`.
 ghost use Rattle.std.specs.Prelude.{◌≡◌, IfOk, IfErr};
-ghost use Rattle.commands.specs.Said.{to_all, IsDone, HasFailed};
+ghost use Rattle.commands.specs.Printed.{to_all, IsDone, HasFailed};
 ghost use Rattle.commands.specs.Bundles.{Upgrades, upgrade_answer};
 
 use crate::answer::Answer;
@@ -18,7 +18,7 @@ struct Upgrade;
 impl Request for Upgrade {
     type Value = OldBundle;
 
-    ghost says = { λ _ b. upgrade_answer b };
+    ghost answers = { λ _ b. upgrade_answer b };
 
     fn answer(&self, alloc: Global, old: &OldBundle) -> Result<Answer, Fault> {
         Ok(Answer {

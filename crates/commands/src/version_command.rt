@@ -1,7 +1,7 @@
 //! The version of the program.
 ghost use Rattle.std.specs.Prelude.{IfOk, IfErr};
-ghost use Rattle.commands.specs.Said.{Holds, at_once, IsDone, HasFailed};
-ghost use Rattle.commands.specs.Version.{version_said};
+ghost use Rattle.commands.specs.Printed.{Holds, at_once, IsDone, HasFailed};
+ghost use Rattle.commands.specs.Version.{printed_version};
 
 use crate::answer::Answer;
 use crate::edge::{Outcome, RunFault, Sink, Source};
@@ -10,7 +10,7 @@ use std::alloc::{AllocError, Global};
 
 /// The program's name and version.
 fn version_answer(alloc: Global) -> Result<Answer, AllocError>
-    ensures { IfOk result (λ answer. Holds answer version_said) }
+    ensures { IfOk result (λ answer. Holds answer printed_version) }
 {
     Ok(Answer {
         outcome: Outcome::Done,
@@ -23,8 +23,8 @@ pub fn run_version<S: Source, W: Sink>(
     alloc: Global,
     streams: &mut Streams<S, W>,
 ) -> Result<Outcome, RunFault>
-    ensures done { IfOk result (IsDone (at_once version_said) streams.old streams.new) }
-    ensures failed { IfErr result (HasFailed (at_once version_said) streams.old streams.new) }
+    ensures done { IfOk result (IsDone (at_once printed_version) streams.old streams.new) }
+    ensures failed { IfErr result (HasFailed (at_once printed_version) streams.old streams.new) }
 {
     let Ok(answer) = version_answer(alloc) else {
         return Err(RunFault::Memory);

@@ -22,16 +22,16 @@ abbrev pub no_tally : Tally
 no_tally = record { steps = 0; commits = 0 }
 
 -- so many seats, which have counted nothing
-abbrev pub unused : ℕ → Portion
-unused seats = record { seats = seats; steps = 0; commits = 0 }
+abbrev pub empty_portion : ℕ → Portion
+empty_portion seats = record { seats = seats; steps = 0; commits = 0 }
 
 -- one step more, and one commit more if it was one
 abbrev pub one_more : Bool → Tally → Tally
 one_more committed t = record { steps = t.steps + 1; commits = t.commits + one_if committed }
 
 -- the same of a portion
-abbrev pub counted : Bool → Portion → Portion
-counted committed p = record { seats = p.seats; steps = p.steps + 1; commits = p.commits + one_if committed }
+abbrev pub count_step : Bool → Portion → Portion
+count_step committed p = record { seats = p.seats; steps = p.steps + 1; commits = p.commits + one_if committed }
 
 -- two portions together
 abbrev pub add_portions : Portion → Portion → Portion

@@ -12,7 +12,7 @@
 #![tactic(auto)]
 
 ghost use Rattle.std.specs.Prelude.{◌≡◌, ◌<◌, ◌≤◌, IfOk, length, replicate, true, false};
-ghost use Rattle.commit_ledger.specs.Tallies.{Tally, no_tally, unused, one_more, counted, add_portions, total_portion, tally_of};
+ghost use Rattle.commit_ledger.specs.Tallies.{Tally, no_tally, empty_portion, one_more, count_step, add_portions, total_portion, tally_of};
 
 mod naming;
 
@@ -77,7 +77,7 @@ pub fn open_shares<L: Ledgers>(
     requires commits { (blanks.commits.name ≡ L.commits_name) × (blanks.commits.parts ≡ L.seats) }
     requires seats { seats ≡ L.seats }
     ensures total { IfOk result (λ r. r.0 ≡ no_tally) }
-    ensures shares { IfOk result (λ r. r.1.items ≡ replicate seats (unused 1)) }
+    ensures shares { IfOk result (λ r. r.1.items ≡ replicate seats (empty_portion 1)) }
 {
     let Blanks { steps, commits } = blanks;
     let (step_book, mut step_rest) = steps.open::<StepsOf<L>>();
@@ -110,7 +110,7 @@ pub fn count<L: Ledgers>(total: &mut Total<L>, share: &mut Share<L>, committed: 
     requires room { total.old.steps < 18446744073709551615 }
     requires seat { 0 < share.old.seats }
     ensures total { total.new ≡ one_more committed total.old }
-    ensures share { share.new ≡ counted committed share.old }
+    ensures share { share.new ≡ count_step committed share.old }
 {
     total.steps.add(&mut share.steps, 1);
     total.counts.steps += 1;
@@ -144,7 +144,7 @@ impl<L: Ledgers> Total<L> {
 
     /// A share of no seat. It has counted nothing.
     pub fn no_share(&mut self) -> Share<L>
-        ensures none { result ≡ unused 0 }
+        ensures none { result ≡ empty_portion 0 }
         ensures same { self.new ≡ self.old }
     {
         Share {

@@ -25,7 +25,7 @@ use Rattle.ordered_history.specs.World.{Entry, IsIn, AreDistinct}
 use Rattle.ordered_history.proofs.Gtids.{same_gtid_other}
 use Rattle.ordered_history.proofs.Placing.{all_in}
 use Rattle.conflict_order.specs.Extension.{gtids_of}
-use Rattle.conflict_order.specs.Histories.{History, IsAmong, has, beyond, joined, order_of}
+use Rattle.conflict_order.specs.Histories.{History, IsAmong, has, beyond, join_histories, order_of}
 use Rattle.conflict_order.specs.Chains.{chain, IsFront, HaveOneContent}
 use Rattle.conflict_order.proofs.Lists.{has_of, found_at, one_entry, in_part, into_part, in_front, in_back, in_either}
 use Rattle.conflict_order.proofs.Chains.{twice, order_from, order_known}
@@ -97,7 +97,7 @@ grown_is L (e ∷ es) d = by_test (grown_is L es d.1) (grown_is (L ++ e ∷ []) 
         new ∙ ap (λ (xs : List Entry). (L ++ e ∷ []) ++ xs) (beyond_with L e es (λ f i. same_gtid_other f.0 e.0 (λ same. all_in (λ (x : Entry). e.0 ≢ x.0) f es d.0 i (sym same))))
         ∙ append_assoc L (e ∷ []) (beyond L es)
 
-pub all_grown_is : (L : List Entry) (hs : List History) → ((h : History) → IsAmong h hs → AreDistinct h) → append_all_new L hs ≡ joined L hs
+pub all_grown_is : (L : List Entry) (hs : List History) → ((h : History) → IsAmong h hs → AreDistinct h) → append_all_new L hs ≡ join_histories L hs
 all_grown_is L [] each = refl
 all_grown_is L (h ∷ hs) each = ap (λ (xs : List Entry). append_all_new xs hs) (grown_is L h (each h (inl refl))) ∙ all_grown_is (L ++ beyond L h) hs (λ x k. each x (inr k))
 

@@ -46,5 +46,5 @@ pub(crate) fn first_conflict(
     requires journals { AreJournals journals.now }
     ensures { IfOk result (λ found. found ≡ conflict world.now.schema (histories_of world.now.opening_set journals.now)) }
 {
-    first_out_of_turn(alloc, world.opened(), world.rows().schema(), journals)
+    first_out_of_turn(alloc, world.opening_set(), world.rows().schema(), journals)
 }

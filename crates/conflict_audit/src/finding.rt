@@ -15,7 +15,7 @@ use std::alloc::{AllocError, Global};
 use world::Verdict;
 
 /// What is found without applying a transaction.
-fn found_in_keys(
+fn find_in_keys(
     alloc: Global,
     world: &World,
     journals: &[Journal],
@@ -41,7 +41,7 @@ fn does_not_apply(
 {
     keep_rules(journals);
     let _fitting = world.in_order();
-    let order = join_journals(alloc, world.opened(), journals)?;
+    let order = join_journals(alloc, world.opening_set(), journals)?;
     let mut rows = world.rows().copy()?;
     first_refusal(alloc, &mut rows, &order)
 }
@@ -57,7 +57,7 @@ pub fn audit_keys_in_order(
     ensures found { IfOk result (λ found. found ≡ verdict_of_keys world.now journals.now) }
     ensures fault { IfErr result (IsAuditFault world.now.opening_set journals.now) }
 {
-    let found = found_in_keys(alloc, world, journals)?;
+    let found = find_in_keys(alloc, world, journals)?;
     Ok(found.unwrap_or(Verdict::Sound))
 }
 
@@ -71,7 +71,7 @@ pub fn audit_in_order(
     ensures found { IfOk result (λ found. found ≡ verdict_in_order world.now journals.now) }
     ensures fault { IfErr result (IsAuditFault world.now.opening_set journals.now) }
 {
-    match found_in_keys(alloc, world, journals)? {
+    match find_in_keys(alloc, world, journals)? {
         Some(found) => Ok(found),
         None => {
             let fault = does_not_apply(alloc, world, journals)?;

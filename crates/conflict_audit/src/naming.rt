@@ -1,6 +1,6 @@
 //! What is reported about an entry that is out of turn.
 ghost use Rattle.std.specs.Prelude.{◌≡◌};
-ghost use Rattle.world.specs.Audit.{stands_in};
+ghost use Rattle.world.specs.Audit.{is_recorded_in};
 ghost use Rattle.conflict_order.specs.Histories.{has};
 ghost use Rattle.ordered_bundles.specs.Audit.{pair_fault};
 ghost use Rattle.ordered_bundles.specs.Bundles.{beyond_opening, history_of, histories_of};
@@ -13,8 +13,8 @@ use journal::{Entry, Journal};
 use world::Verdict;
 
 /// Whether one of these entries has a GTID.
-fn stands_in(entries: &[Entry], gtid: &Gtid) -> bool
-    ensures { result ≡ stands_in entries.now gtid.now }
+fn has_gtid(entries: &[Entry], gtid: &Gtid) -> bool
+    ensures { result ≡ is_recorded_in entries.now gtid.now }
 {
     entries.iter().any(|entry| *gtid == entry.gtid)
 }
@@ -24,7 +24,7 @@ fn stands_in(entries: &[Entry], gtid: &Gtid) -> bool
 fn has(opened: &GtidSet, entries: &[Entry], gtid: &Gtid) -> bool
     ensures { result ≡ has (beyond_opening opened.now entries.now) gtid.now }
 {
-    !opened.contains(gtid) && stands_in(entries, gtid)
+    !opened.contains(gtid) && has_gtid(entries, gtid)
 }
 
 /// The fault between the first journal that has what has to come first and the one that was read.

@@ -35,7 +35,7 @@ fn open_chain(
 {
     let mut chain = Chain::new(alloc);
     let next = chain.visit(reader, gtid)?;
-    let key = key.copied()?;
+    let key = key.copy()?;
     let Ok(_) = chains.insert(key, chain) else {
         return Err(AllocError);
     };
@@ -87,7 +87,7 @@ fn out_of_keys(
 {
     for key in keys {
         if let Some(next) = visit_key(alloc, chains, key, reader, gtid)? {
-            let key = key.copied()?;
+            let key = key.copy()?;
             let entry = *gtid;
             return Ok(Some(OutOfTurn { next, entry, key }));
         }

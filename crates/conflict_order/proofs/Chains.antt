@@ -9,11 +9,11 @@ use Rattle.rows.specs.declared.schema.Table.{Table}
 use Rattle.rows.specs.Apply.{Rows}
 use Rattle.rows.specs.WriteSet.{touches}
 use Rattle.rows.proofs.Patching.{not_both}
-use Rattle.ordered_history.specs.World.{World, Entry, IsIn, Precedes, AreDistinct, AreGtidsSound}
+use Rattle.ordered_history.specs.World.{OrderedWorld, Entry, IsIn, Precedes, AreDistinct, AreGtidsSound}
 use Rattle.ordered_history.proofs.Placing.{all_in}
 use Rattle.ordered_history.proofs.Ordering.{first_in, second_in}
 use Rattle.conflict_order.specs.Extension.{IsLinearExtension}
-use Rattle.conflict_order.specs.Histories.{History, AreConsistent, IsAmong, has, beyond, joined, order_of, world_of}
+use Rattle.conflict_order.specs.Histories.{History, AreConsistent, IsAmong, has, beyond, join_histories, order_of, world_of}
 use Rattle.conflict_order.specs.Laws.{AreNew}
 use Rattle.conflict_order.specs.Chains.{chain, IsFront, ChainsDecide, HaveOneContent, ChainsAreExact}
 use Rattle.conflict_order.proofs.Sharing.{shared_key, shares_by}
@@ -64,7 +64,7 @@ front_of (x ∷ xs) (y ∷ ys) d c known ordered =
 
 -- ---- one history
 
-pub fronts_of : (world : World) (h : History) → AreDistinct world.order → IsLinearExtension world h → (k : Key) → IsFront (chain world.schema k h) (chain world.schema k world.order)
+pub fronts_of : (world : OrderedWorld) (h : History) → AreDistinct world.order → IsLinearExtension world h → (k : Key) → IsFront (chain world.schema k h) (chain world.schema k world.order)
 fronts_of world h c ext k =
     let p : Entry → Bool = λ e. touches world.schema e.1 k in
     front_of (filter p h) (filter p world.order) (part_distinct p h ext.distinct) (part_distinct p world.order c)
@@ -74,7 +74,7 @@ fronts_of world h c ext k =
     let t = (in_part p world.order e (first_in (filter p world.order) e f q)).1 in
     before_in_part p h e f (ext.ordered e f (before_of_part p world.order e f q) (shares_by world.schema e.1 f.1 k t r.1) r.0) t r.1)
 
-from_fronts : (world : World) (h : History) → AreDistinct world.order → AreDistinct h → ((e : Entry) → IsIn e h → IsIn e world.order)
+from_fronts : (world : OrderedWorld) (h : History) → AreDistinct world.order → AreDistinct h → ((e : Entry) → IsIn e h → IsIn e world.order)
     → ((k : Key) → IsFront (chain world.schema k h) (chain world.schema k world.order)) → IsLinearExtension world h
 from_fronts world h c d known fronts = record {
   distinct = d;
@@ -96,13 +96,13 @@ chains_decide world h c d known = (λ ext k. fronts_of world h c ext k, λ front
 
 -- ---- several histories
 
-pub joined_distinct : (L : List Entry) (hs : List History) → AreDistinct L → ((h : History) → IsAmong h hs → AreDistinct h) → AreDistinct (joined L hs)
+pub joined_distinct : (L : List Entry) (hs : List History) → AreDistinct L → ((h : History) → IsAmong h hs → AreDistinct h) → AreDistinct (join_histories L hs)
 joined_distinct L [] d each = d
 joined_distinct L (h ∷ hs) d each = joined_distinct (L ++ beyond L h) hs
     (distinct_both L (beyond L h) d (part_distinct (λ x. not (has L x.0)) h (each h (inl refl))) (λ e f i j t. not_both (has L f.0) (ap (has L) (sym t) ∙ has_of L e i) (in_beyond L h f j).1))
     (λ x i. each x (inr i))
 
-joined_from : (L : List Entry) (hs : List History) (e : Entry) → IsIn e (joined L hs) → IsIn e L ⊎ ((h : History) × IsAmong h hs × IsIn e h)
+joined_from : (L : List Entry) (hs : List History) (e : Entry) → IsIn e (join_histories L hs) → IsIn e L ⊎ ((h : History) × IsAmong h hs × IsIn e h)
 joined_from L [] e i = inl i
 joined_from L (h ∷ hs) e i = elim (joined_from (L ++ beyond L h) hs e i) [
   | inl j ↦ elim (in_either L (beyond L h) e j) [ inl k ↦ inl k | inr k ↦ inr (h, inl refl, (in_beyond L h e k).0) ]
@@ -127,7 +127,7 @@ order_gtids schema opened rows hs new = record { outside = λ g s. opened_not op
 pub order_extends : (schema : List Table) (opened : FinSet gtid_cmp) (rows : Rows) (hs : List History) → AllByRecursion (AreNew opened) hs → HaveOneContent hs
     → ((h : History) → IsAmong h hs → (k : Key) → IsFront (chain schema k h) (chain schema k (order_of hs))) → AllByRecursion (IsLinearExtension (world_of schema opened rows hs)) hs
 order_extends schema opened rows hs new one fronts =
-    let world : World = world_of schema opened rows hs in
+    let world : OrderedWorld = world_of schema opened rows hs in
     all_among (IsLinearExtension world) hs (λ h k. from_fronts world h (order_distinct opened hs new) (among_all (AreNew opened) hs new h k).0 (order_known hs one h k) (fronts h k))
 
 pub chains_are_exact : ChainsAreExact

@@ -9,7 +9,7 @@ use Rattle.rows.specs.Order.{key_eq}
 use Rattle.rows.specs.Total.{key_eq_same}
 use Rattle.rows.specs.WriteSet.{is_among}
 use Rattle.dependency_graph.specs.Graphs.{Awaiting, Point, gone, point_at, is_open_at, unfinished}
-use Rattle.dependency_graph.specs.Chains.{Holds, HasEntry, HasLast, HasRoom, KeepsRoom, Pushes, IsSame, IsRising, ends_at, with_chain, with_node, first_number}
+use Rattle.dependency_graph.specs.Chains.{Holds, HasEntry, HasLast, HasRoom, KeepsRoom, Pushes, IsSame, IsAscending, ends_at, with_chain, with_node, first_number}
 use Rattle.dependency_graph.specs.Kept.{points, point_of, is_below, waiting, is_finished_at, Has, StartsOpen, IsChained, IsKept, IsBelow, LinksAll, CountsAll, awaiting_of, keys_at}
 use Rattle.dependency_graph.specs.declared.graph.Node.{Node}
 use Rattle.dependency_graph.specs.declared.chains.Chains.{Chains}
@@ -174,7 +174,7 @@ module _ (d : ℕ) (nodes : List Node) (c new : Chains) (kept : IsKept d nodes c
   below_both k P h g true = all_push P (kept.chain k) n h g
   below_both k P h g false = h
 
-  rising_added : (k : Key) (b : Bool) → IsRising (cond b (kept.chain k ++ n ∷ []) (kept.chain k))
+  rising_added : (k : Key) (b : Bool) → IsAscending (cond b (kept.chain k ++ n ∷ []) (kept.chain k))
   rising_added k true = rising_push (kept.chain k) n (below k) (kept.chained.rising k)
   rising_added k false = kept.chained.rising k
 

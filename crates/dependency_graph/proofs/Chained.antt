@@ -1,10 +1,10 @@
--- What the chains say of the unfinished nodes.
+-- What the chains show of the unfinished nodes.
 use Rattle.std.proofs.Common.{◌≡◌, ℕ, zero, suc, ◌+◌, ◌<◌, ◌⊎◌, Bool, true, false, cond, List, [], ◌∷◌, length, Option, Some, None, refl, sym, ap, subst, ◌∙◌, ⊎_elim, inl, inr, arith, nat_eq}
 use Rattle.std.proofs.lemmas.Bool.{eqb-true, both_ways, or_cases}
 use Rattle.std.specs.List.{AllByRecursion, list_any}
 use Rattle.rows.specs.declared.change.Key.{Key}
 use Rattle.dependency_graph.specs.Graphs.{Point, point_at, least, is_open_at}
-use Rattle.dependency_graph.specs.Chains.{IsRising, first_number, first_of}
+use Rattle.dependency_graph.specs.Chains.{IsAscending, first_number, first_of}
 use Rattle.dependency_graph.specs.Kept.{points, is_below, waiting, is_finished_at, Has, StartsOpen, IsSound, IsKept}
 use Rattle.dependency_graph.specs.declared.graph.Node.{Node}
 use Rattle.dependency_graph.specs.declared.chains.Chains.{Chains}
@@ -39,7 +39,7 @@ all_has P [] m h e = absurd (both_ways false refl e)
 all_has P (n ∷ ns) m h e = ⊎_elim (λ same. subst P (sym same) h.0) (all_has P ns m h.1) (has_cases m n ns e)
 
 -- the first of a chain that starts open is the least unfinished node
-chain_front : (ps : List Point) (k : Key) (ns : List ℕ) → IsRising ns → AllByRecursion (λ n. n < length ps) ns
+chain_front : (ps : List Point) (k : Key) (ns : List ℕ) → IsAscending ns → AllByRecursion (λ n. n < length ps) ns
     → AllByRecursion (λ n. is_finished_at ps n ≡ false → is_open_at k (point_at ps n) ≡ true) ns
     → ((n : ℕ) → is_open_at k (point_at ps n) ≡ true → Has ns n) → StartsOpen ps false ns → first_number ns ≡ least (is_open_at k) 0 ps
 chain_front ps k [] rising below members found starts = sym (least_none (is_open_at k) 0 ps (λ n e. both_ways false refl (found n e)))

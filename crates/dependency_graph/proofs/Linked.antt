@@ -6,7 +6,7 @@ use Rattle.std.proofs.lemmas.List.{map-append}
 use Rattle.rows.specs.declared.change.Key.{Key}
 use Rattle.rows.specs.Order.{key_eq}
 use Rattle.rows.specs.Total.{key_eq_same, key_eq_self}
-use Rattle.dependency_graph.specs.Chains.{Link, number_of, head_of, last_of, ends_of, IsLinked, IsRising, ends_at, edge_at, Holds, with_chain, first_number, first_of, first_or, IsSame, HasLast, Pushes, Pops, PopsFirst}
+use Rattle.dependency_graph.specs.Chains.{Link, number_of, head_of, last_of, ends_of, IsLinked, IsAscending, ends_at, edge_at, Holds, with_chain, first_number, first_of, first_or, IsSame, HasLast, Pushes, Pops, PopsFirst}
 use Rattle.slab.specs.Slab as slots
 use Rattle.dependency_graph.specs.declared.chains.Chains.{Chains}
 use Rattle.dependency_graph.specs.declared.chains.Edge.{Edge}
@@ -50,7 +50,7 @@ off_later es l e n h (m ∷ ms) less linked = (
   off_later es l e n h ms less.1 linked.1,
 )
 
-apart_is : (es : ℕ → Option Edge) (ls : List Link) → IsRising (map number_of ls) → IsLinked es ls → IsApart ls
+apart_is : (es : ℕ → Option Edge) (ls : List Link) → IsAscending (map number_of ls) → IsLinked es ls → IsApart ls
 apart_is es [] rising linked = tt
 apart_is es (l ∷ ls) rising linked = (off_later es l (record { node = l.node; after = head_of ls }) refl linked.0 ls rising.0 linked.1, apart_is es ls rising.1 linked.1)
 
@@ -72,7 +72,7 @@ last_push : (l : Link) (ls : List Link) (x : Link) → last_of l (ls ++ x ∷ []
 last_push l [] x = refl
 last_push l (m ∷ ms) x = last_push m ms x
 
-pub rising_push : (ns : List ℕ) (n : ℕ) → AllByRecursion (λ m. m < n) ns → IsRising ns → IsRising (ns ++ n ∷ [])
+pub rising_push : (ns : List ℕ) (n : ℕ) → AllByRecursion (λ m. m < n) ns → IsAscending ns → IsAscending (ns ++ n ∷ [])
 rising_push [] n less h = (tt, tt)
 rising_push (m ∷ ms) n less h = (all_push (λ k. m < k) ms n h.0 less.0, rising_push ms n less.1 h.1)
 
@@ -157,10 +157,10 @@ module _ (old new : Chains) (key : Key) (node : ℕ) (nodes : Key → List ℕ) 
   numbers_now k true e = map-append number_of (h.lists key) ((record { at = p.at; node = node }) ∷ []) ∙ ap (λ ns. ns ++ node ∷ []) (h.numbers key)
   numbers_now k false e = h.numbers k
 
-  rising_now : (k : Key) (b : Bool) → key_eq k key ≡ b → IsRising (map number_of (cond b more (h.lists k)))
+  rising_now : (k : Key) (b : Bool) → key_eq k key ≡ b → IsAscending (map number_of (cond b more (h.lists k)))
   unfolding more
   rising_now k true e =
-      subst IsRising (sym (map-append number_of (h.lists key) ((record { at = p.at; node = node }) ∷ [])))
+      subst IsAscending (sym (map-append number_of (h.lists key) ((record { at = p.at; node = node }) ∷ [])))
       (rising_push (map number_of (h.lists key)) node (subst (λ ns. AllByRecursion (λ n. n < node) ns) (sym (h.numbers key)) less) (h.whole.rising key))
   rising_now k false e = h.whole.rising k
 
@@ -192,8 +192,8 @@ module _ (old new : Chains) (key : Key) (nodes : Key → List ℕ) (h : Holds ol
   whole_key : IsLinked (edge_at old) (l ∷ ls)
   whole_key = subst (IsLinked (edge_at old)) lists_is (h.whole.linked key)
 
-  rising_key : IsRising (map number_of (l ∷ ls))
-  rising_key = subst (λ xs. IsRising (map number_of xs)) lists_is (h.whole.rising key)
+  rising_key : IsAscending (map number_of (l ∷ ls))
+  rising_key = subst (λ xs. IsAscending (map number_of xs)) lists_is (h.whole.rising key)
 
   owned_key : AllByRecursion (λ (m : Link). h.owner m.at ≡ key) (l ∷ ls)
   owned_key = subst (λ xs. AllByRecursion (λ (m : Link). h.owner m.at ≡ key) xs) lists_is (h.whole.owned key)
@@ -219,7 +219,7 @@ module _ (old new : Chains) (key : Key) (nodes : Key → List ℕ) (h : Holds ol
       (h.whole.owned k) (h.whole.owned k))
       (h.whole.linked k)
 
-  rising_pop : (k : Key) (b : Bool) → IsRising (map number_of (cond b ls (h.lists k)))
+  rising_pop : (k : Key) (b : Bool) → IsAscending (map number_of (cond b ls (h.lists k)))
   rising_pop k true = rising_key.1
   rising_pop k false = h.whole.rising k
 
@@ -279,8 +279,8 @@ same_holds old new s nodes h = record {
 pub holds_alike : (c : Chains) (f g : Key → List ℕ) → ((k : Key) → f k ≡ g k) → Holds c f → Holds c g
 holds_alike c f g same h = record { lists = h.lists; owner = h.owner; whole = h.whole; numbers = λ k. h.numbers k ∙ same k }
 
-pub holds_rising : (c : Chains) (f : Key → List ℕ) → Holds c f → (k : Key) → IsRising (f k)
-holds_rising c f h k = subst IsRising (h.numbers k) (h.whole.rising k)
+pub holds_rising : (c : Chains) (f : Key → List ℕ) → Holds c f → (k : Key) → IsAscending (f k)
+holds_rising c f h k = subst IsAscending (h.numbers k) (h.whole.rising k)
 
 -- ---- the first node
 front_is : (es : ℕ → Option Edge) (o : Option Ends) (ls : List Link) → o ≡ ends_of ls → IsLinked es ls

@@ -223,7 +223,7 @@ any_read [] i lt = absurd (omega (lt, arith))
 any_read (y ∷ nodes) zero lt = (y, refl)
 any_read (y ∷ nodes) (suc i) lt = any_read nodes i (omega (lt, arith))
 
--- a node that stands here may go where it goes
+-- a node that is here may go where it goes
 pub goes_as_told : (d : ℕ) (nodes : List Node) (c : Chains) (m : ℕ) → IsSound d nodes c → d ≤ m → (m - d) < length nodes → may_go (points d nodes) m ≡ is_unblocked_at d nodes m
 goes_as_told d nodes c m sound le lt =
     let x = any_read nodes (m - d) lt in

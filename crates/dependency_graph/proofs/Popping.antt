@@ -9,7 +9,7 @@ use Rattle.rows.specs.Order.{key_eq}
 use Rattle.rows.specs.Total.{key_eq_same, key_eq_self}
 use Rattle.rows.specs.WriteSet.{is_among}
 use Rattle.dependency_graph.specs.Graphs.{Point, gone, point_at, is_open_at}
-use Rattle.dependency_graph.specs.Chains.{Holds, IsRising, first_number, with_chain}
+use Rattle.dependency_graph.specs.Chains.{Holds, IsAscending, first_number, with_chain}
 use Rattle.dependency_graph.specs.Kept.{points, point_of, is_below, waiting, is_finished_at, Has, StartsOpen, IsChained, IsKept}
 use Rattle.dependency_graph.specs.declared.graph.Node.{Node}
 use Rattle.dependency_graph.specs.declared.chains.Chains.{Chains}
@@ -89,8 +89,8 @@ module _ (ps : List Point) (chain : Key → List ℕ) (late : List Key) (chained
   at_key : after k ≡ first_number ns
   at_key = ap (λ b. first_number (cond b ns (chain k))) (key_eq_self k)
 
-  key_rising : IsRising (n ∷ ns)
-  key_rising = subst IsRising is (chained.rising k)
+  key_rising : IsAscending (n ∷ ns)
+  key_rising = subst IsAscending is (chained.rising k)
 
   key_members : AllByRecursion (λ m. is_finished_at ps m ≡ false → is_open_at k (point_at ps m) ≡ true) (n ∷ ns)
   key_members = subst (λ xs. AllByRecursion (λ m. is_finished_at ps m ≡ false → is_open_at k (point_at ps m) ≡ true) xs) is (chained.members k)
@@ -104,10 +104,10 @@ module _ (ps : List Point) (chain : Key → List ℕ) (late : List Key) (chained
   first_in P m [] e h = cc
   first_in P m (x ∷ xs) e h = subst P (same_some x m e) h.0
 
-  later_first : (m x : ℕ) (xs : List ℕ) → Has (x ∷ xs) m → IsRising (x ∷ xs) → (Some x ≡ Some m → ⊥) → x < m
+  later_first : (m x : ℕ) (xs : List ℕ) → Has (x ∷ xs) m → IsAscending (x ∷ xs) → (Some x ≡ Some m → ⊥) → x < m
   later_first m x xs h r ne = ⊎_elim (λ same. absurd (ne (ap Some (sym same)))) (all_has (λ j. x < j) xs m r.0) (has_cases m x xs h)
 
-  rest_bit : (m : ℕ) (xs : List ℕ) → Has xs m → IsRising xs → (first_number xs ≡ Some m → ⊥) → bit m (first_number xs) ≡ 1
+  rest_bit : (m : ℕ) (xs : List ℕ) → Has xs m → IsAscending xs → (first_number xs ≡ Some m → ⊥) → bit m (first_number xs) ≡ 1
   rest_bit m [] h r ne = absurd (both_ways false refl h)
   rest_bit m (x ∷ xs) h r ne = ap (λ b. cond b 1 0) (lt-ltb x m (later_first m x xs h r ne))
 
@@ -143,7 +143,7 @@ module _ (ps : List Point) (chain : Key → List ℕ) (late : List Key) (chained
     count_step = by_among (is_among ks k) refl
 
   -- ---- the chains
-  rising_popped : (b : Bool) (q : Key) → IsRising (cond b ns (chain q))
+  rising_popped : (b : Bool) (q : Key) → IsAscending (cond b ns (chain q))
   rising_popped true q = key_rising.1
   rising_popped false q = chained.rising q
 

@@ -40,9 +40,9 @@ IsLinked edges [] = ⊤
 IsLinked edges (l ∷ ls) = (edges l.at ≡ Some (record { node = l.node; after = head_of ls })) × IsLinked edges ls
 
 -- each node comes before the next
-abbrev pub IsRising : List ℕ → Type 0
-IsRising [] = ⊤
-IsRising (n ∷ ns) = AllByRecursion (λ m. n < m) ns × IsRising ns
+abbrev pub IsAscending : List ℕ → Type 0
+IsAscending [] = ⊤
+IsAscending (n ∷ ns) = AllByRecursion (λ m. n < m) ns × IsAscending ns
 
 -- the test by which the table compares keys
 abbrev pub same_key : Key → Key → Bool
@@ -67,7 +67,7 @@ edge_at c at = slots.get c.edges at
 pub record IsWhole (c : Chains) (lists : Key → List Link) (owner : ℕ → Key) : Type 0 where
   pub ends : (k : Key) → ends_at c k ≡ ends_of (lists k)
   pub linked : (k : Key) → IsLinked (edge_at c) (lists k)
-  pub rising : (k : Key) → IsRising (map number_of (lists k))
+  pub rising : (k : Key) → IsAscending (map number_of (lists k))
   pub owned : (k : Key) → AllByRecursion (λ (l : Link). owner l.at ≡ k) (lists k)
 
 -- the chains hold these nodes for each key

@@ -6,7 +6,7 @@ use Rattle.rows.specs.declared.change.Key.{Key}
 use Rattle.rows.specs.Order.{key_eq}
 use Rattle.rows.specs.WriteSet.{is_among}
 use Rattle.dependency_graph.specs.Graphs.{Awaiting, Point, gone, least, is_open_at, point_at}
-use Rattle.dependency_graph.specs.Chains.{HasRoom, Holds, IsRising, with_node, first_number, first_of}
+use Rattle.dependency_graph.specs.Chains.{HasRoom, Holds, IsAscending, with_node, first_number, first_of}
 use Rattle.dependency_graph.specs.declared.graph.Node.{Node}
 use Rattle.dependency_graph.specs.declared.chains.Chains.{Chains}
 
@@ -51,7 +51,7 @@ StartsOpen ps late (n ∷ ns) = (is_finished_at ps n ≡ false) ⊎ (late ≡ tr
 -- The chain of a key holds its unfinished nodes, and after the first of them perhaps finished ones.
 -- Only the chains of late keys may begin with a finished node.
 pub record IsChained (ps : List Point) (nodes : Key → List ℕ) (late : List Key) : Type 0 where
-  pub rising : (k : Key) → IsRising (nodes k)
+  pub rising : (k : Key) → IsAscending (nodes k)
   pub below : (k : Key) → AllByRecursion (λ n. n < length ps) (nodes k)
   pub members : (k : Key) → AllByRecursion (λ n. is_finished_at ps n ≡ false → is_open_at k (point_at ps n) ≡ true) (nodes k)
   pub found : (k : Key) (n : ℕ) → is_open_at k (point_at ps n) ≡ true → Has (nodes k) n

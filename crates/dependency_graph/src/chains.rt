@@ -100,7 +100,7 @@ impl Chains {
         ensures stays { (k : KeyValue) → HasEntry self.old k → HasEntry self.new k }
         ensures opened { OnOk result (HasEntry self.new key.now) }
     {
-        let Ok(()) = open_entry(&mut self.table, key.copied()?) else {
+        let Ok(()) = open_entry(&mut self.table, key.copy()?) else {
             return Err(AllocError);
         };
         Ok(())

@@ -17,7 +17,7 @@ use Rattle.ordered_history.proofs.Entries.{is_in_of}
 use Rattle.ordered_journals.proofs.Covering.{is_entry, in_whole}
 use Rattle.ordered_replicas.specs.Deciding.{AreJournalsOf, IsRecorded}
 use Rattle.ordered_replicas.proofs.Deciding.{served_runs_decide, served_runs_hold_all}
-use Rattle.conflict_order.specs.Histories.{History, IsAmong, order_of, joined, beyond}
+use Rattle.conflict_order.specs.Histories.{History, IsAmong, order_of, join_histories, beyond}
 use Rattle.conflict_order.proofs.Lists.{in_either}
 use Rattle.conflict_order.proofs.Joining.{in_beyond}
 use Rattle.source_history.specs.World as sources
@@ -38,7 +38,7 @@ use Rattle.faithful_runs.specs.InOrder.{WorkersDecideInOrder, ServedHoldsAllInOr
 
 -- ---- what is in the joined world is in a journal
 
-joined_from : (es : List Entry) (hs : List History) (e : Entry) → IsIn e (joined es hs) → IsIn e es ⊎ ((h : History) × IsAmong h hs × IsIn e h)
+joined_from : (es : List Entry) (hs : List History) (e : Entry) → IsIn e (join_histories es hs) → IsIn e es ⊎ ((h : History) × IsAmong h hs × IsIn e h)
 joined_from es [] e i = inl i
 joined_from es (h ∷ hs) e i = elim (joined_from (es ++ beyond es h) hs e i) [
   | inl before ↦ elim (in_either es (beyond es h) e before) [

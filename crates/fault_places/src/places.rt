@@ -63,7 +63,7 @@ fn put_change(
 }
 
 /// What is shown of a line.
-fn tell_entry(
+fn report_entry(
     out: &mut Vec<u8>,
     gtid: &[u8],
     wanted: &Wanted,
@@ -97,14 +97,14 @@ pub(crate) fn put_places(
     let mut standing = Standing::at_start();
     let mut name: &[u8] = &[];
     for (i, line) in lines.iter().enumerate() {
-        tell_entry(out, gtid, wanted, name, standing, i + 1, line)?;
+        report_entry(out, gtid, wanted, name, standing, i + 1, line)?;
         name = channel_after(name, line);
         standing = standing.after(gtid, line);
     }
     Ok(())
 }
 
-fn tell_previous(
+fn report_previous(
     out: &mut Vec<u8>,
     name: &[u8],
     standing: Standing,
@@ -130,7 +130,7 @@ pub(crate) fn put_previous_sets(out: &mut Vec<u8>, lines: &[&[u8]]) -> Result<()
     let mut standing = Standing::at_start();
     let mut name: &[u8] = &[];
     for (i, line) in lines.iter().enumerate() {
-        tell_previous(out, name, standing, i + 1, line)?;
+        report_previous(out, name, standing, i + 1, line)?;
         name = channel_after(name, line);
         standing = standing.after(&[], line);
     }

@@ -61,7 +61,12 @@ fn put_columns_of(
 }
 
 /// The columns of a key, on the line of its table.
-fn tell_columns(out: &mut Vec<u8>, key: &Key, number: usize, line: &[u8]) -> Result<(), AllocError>
+fn report_columns(
+    out: &mut Vec<u8>,
+    key: &Key,
+    number: usize,
+    line: &[u8],
+) -> Result<(), AllocError>
     ensures { OnOk result (out.new.items ≡ out.old.items ++ report_columns key.now number line.now) }
 {
     if is_of_key(key, line) {
@@ -76,7 +81,7 @@ fn put_columns(out: &mut Vec<u8>, key: &Key, lines: &[&[u8]]) -> Result<(), Allo
     ensures { OnOk result (out.new.items ≡ out.old.items ++ columns_from key.now 1 (map (λ x. x.now) lines.now)) }
 {
     for (i, line) in lines.iter().enumerate() {
-        tell_columns(out, key, i + 1, line)?;
+        report_columns(out, key, i + 1, line)?;
     }
     Ok(())
 }

@@ -16,7 +16,7 @@ use Rattle.replica_core.specs.State.{State, entry_at, owned, owned_by, with_gtid
 use Rattle.replica_core.specs.Machine.{is_seat}
 use Rattle.replica_core.specs.Seated.{AreSeated, HasEntry}
 use Rattle.replica_core.proofs.FreeLemmas.{not_listed}
-use Rattle.gtid_report.specs.Status.{EachSeatIsTold}
+use Rattle.gtid_report.specs.Status.{EachOwnerIsListed}
 
 one_gtid : (g h : Gtid) → ◌≡◌ {A = Option Gtid} (Some g) (Some h) → g ≡ h
 one_gtid g h e = cc
@@ -103,6 +103,6 @@ listed s seat g seated at = listed_by (list_any (λ (p : ℕ × Gtid). p.0 == se
         let no : ◌≡◌ {A = Option Spot} None (Some w.1.0) = sym (not_listed s seat numbers.0 numbers.1 seated is) ∙ busy in
         absurd (cc no)
 
-pub each_seat_told : (s : State) → AreSeated s.channels s.seats → EachSeatIsTold s
+pub each_seat_told : (s : State) → AreSeated s.channels s.seats → EachOwnerIsListed s
 each_seat_told s seated seat g at =
     get-from_entries gtid_total (map (λ (p : ℕ × Gtid). let r : Gtid × ℕ = (p.1, p.0) in r) (owned s)) g ∙ found g seat (owned s) (all_match s seat g seated at seat_numbers) (listed s seat g seated at)

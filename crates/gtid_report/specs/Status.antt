@@ -36,8 +36,8 @@ abbrev pub owned_line : List (Gtid × ℕ) → List ℕ
 owned_line owners = codes "gtid_owned " ++ owned_word owners ++ 10 ∷ []
 
 -- a GTID that a seat owns is there with that seat
-abbrev pub EachSeatIsTold : State → Type 0
-EachSeatIsTold s = (seat : ℕ) (g : Gtid) → owned_by s seat ≡ Some g → get (owners_of (owned s)) g ≡ Some seat
+abbrev pub EachOwnerIsListed : State → Type 0
+EachOwnerIsListed s = (seat : ℕ) (g : Gtid) → owned_by s seat ≡ Some g → get (owners_of (owned s)) g ≡ Some seat
 
 -- ---- the channels
 

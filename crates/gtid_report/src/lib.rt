@@ -9,7 +9,7 @@
 //! first bad word; else the canonical text, the number, or 1 or 0; else E9 or E8 where a set is full (`function_line`). The names beside
 //! GTID_SUBSET and GTID_SUBTRACT are ours (MySQL 8.0 Reference Manual, "Functions Used with Global Transaction Identifiers (GTIDs)").
 //!
-//! A status has an owned GTID with its seat, in the order of GTIDs, where MySQL's `gtid_owned` has the thread. `each_seat_is_told` is the
+//! A status has an owned GTID with its seat, in the order of GTIDs, where MySQL's `gtid_owned` has the thread. `each_owner_is_listed` is the
 //! law that no seat is lost by that order.
 //!
 //! Not proved: what is left of a text when an allocation fails within `push_row_fault` or `render_rows`; each caller drops the text then.
@@ -29,7 +29,7 @@ pub use fault::Fault;
 pub use functions::{Function, OfSource, OneSet, TwoSets, read_set, read_source, set_function};
 pub use position::{render_more, render_required, render_sending};
 pub use refusal::{LineCause, Refusal, push_number, render_fault};
-pub use replica_status::{each_seat_is_told, status};
+pub use replica_status::{each_owner_is_listed, status};
 pub use state::{push_set, render_rows, render_state};
 pub use verdict::{push_row_fault, render_does_not_apply};
 pub use verdict_line::render_verdict;

@@ -1,7 +1,7 @@
 //! What a replica shows of itself.
 ghost use Rattle.std.specs.Prelude.{◌≡◌, ◌++◌, ◌∷◌, IfOk, OnOk, flat_map, string_bytes};
 ghost use Rattle.std.specs.FinMap.{entries};
-ghost use Rattle.gtid_report.specs.Status.{named_set, owners_of, owner_word, owned_word, owned_line, run_word, channel_line, status_text, EachSeatIsTold};
+ghost use Rattle.gtid_report.specs.Status.{named_set, owners_of, owner_word, owned_word, owned_line, run_word, channel_line, status_text, EachOwnerIsListed};
 
 use crate::refusal::push_number;
 use crate::state::push_set;
@@ -128,8 +128,8 @@ pub fn status(alloc: Global, core: &Core) -> Result<String, AllocError>
 }
 
 /// Each GTID that a seat owns is in the list of what is owned, with that seat. It does nothing; its contract is the law.
-pub fn each_seat_is_told(core: &Core)
-    ensures { EachSeatIsTold core.now.state }
+pub fn each_owner_is_listed(core: &Core)
+    ensures { EachOwnerIsListed core.now.state }
 {
     core.one_seat_each();
 }

@@ -63,7 +63,7 @@ long_enough (h ∷ hs) (suc n) i e = let l = long_enough hs n i e in omega (arit
 
 -- ---- what a cursor sees
 
--- where it stands
+-- its place
 pub stands : (p : PoolValue) (sources : List Source) (behind : List ℕ) (now : Option Place) (at : Place) → now ≡ Some at → IsCursor p sources behind now → IsAt p sources behind at
 stands p sources behind now at e is = subst (IsCursor p sources behind) e is
 

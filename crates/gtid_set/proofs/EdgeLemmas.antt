@@ -127,7 +127,7 @@ contains-edges s g =
     ∙ edges_in (runs s) g (runs_are_merged s)
     ∙ (λ i. differ (has_runs s g i) (not (g.number == 0) && has_runs s (number_before g) i))
 
--- no end stands among those of later spans
+-- no end is among those of later spans
 fresh : (s : Span) (ss : List Span) (g : Gtid) → is_merged (s ∷ ss) ≡ true → is_near s g ≡ true → among g (ends_of ss) ≡ false
 fresh s ss g m near =
     let h = merged_head s ss m in

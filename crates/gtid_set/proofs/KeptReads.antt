@@ -110,7 +110,7 @@ place_there (t ∷ ts) (suc n) s r e =
       behind = rest.behind;
     }
 
--- what a test says of places, said of the sources there
+-- what a test shows of places, for the sources there
 all_listed : (test : Source → Bool) (sources : List Source) (is : List ℕ) → list_all test (sources_at sources is) ≡ list_all (λ i. test (source_at sources i)) is
 all_listed test sources [] = refl
 all_listed test sources (i ∷ is) = ap (λ b. test (source_at sources i) && b) (all_listed test sources is)

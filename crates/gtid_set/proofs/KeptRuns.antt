@@ -204,7 +204,7 @@ too_long p sources order id js pools.Full kept full =
     as_many [] = refl
     as_many (i ∷ is) = ap suc (as_many is)
 
--- a run after spans, said of other names of the same
+-- a run after spans, for other names of the same
 pub run_behind : (p : PoolValue) (sources sources' : List Source) (order order' : List ℕ) (id id' : ℕ) (js : List Interval) → sources' ≡ sources → order' ≡ order → id' ≡ id
     → flat p sources' order' ++ spans_as id' js ≡ flat p sources order ++ spans_as id js
 run_behind p sources sources' order order' id id' js ss is same = λ i. flat p (ss i) (is i) ++ spans_as (same i) js

@@ -5,7 +5,7 @@ use Rattle.std.specs.FinSet as set
 use Rattle.std.specs.Str.Parse.{digits_value}
 use Rattle.std.proofs.lemmas.Bool.Decides.{nat_tests}
 use Rattle.gtid_text.specs.Scan.{number_of}
-use Rattle.gtid_text.specs.Grammar.{Number, Interval, Element, IsUpper, AreIntervals, IsElement, AreElements, Spells}
+use Rattle.gtid_text.specs.Grammar.{Number, Interval, Element, IsUpper, AreIntervals, IsElement, AreElements, ParsesAs}
 use Rattle.gtid_text.specs.Written.{IsNumbered, IsUsable, spans_tokens, text_of_tokens, AreUsable as AreUsableSpans}
 use Rattle.gtid_text.specs.declared.Gtid.{Gtid}
 use Rattle.gtid_text.specs.declared.Span.{Span}
@@ -48,21 +48,21 @@ usable_spans (s ∷ ss) m u =
       usable_spans ss h.tail (λ q e. u q (or_right (within s q) (has ss q) e)),
     )
 
-pub canonical_spells : (s : Gtids) → AreUsable s → SpellsSet (canonical s) s
+pub canonical_spells : (s : Gtids) → AreUsable s → ParsesAsSet (canonical s) s
 canonical_spells s u =
-    let P : List ℕ → Type 0 = λ text. Spells text (runs s) in
+    let P : List ℕ → Type 0 = λ text. ParsesAs text (runs s) in
     let usable = usable_spans (runs s) (runs_are_merged s) (λ q e. u q (sym (ap (λ t. set.contains t q) (set_of_runs s)) ∙ contains-set_of (runs s) q ∙ e)) in
     (runs s, subst P (joined_spans (runs s)) (spans_shown (runs s) usable (text_of_tokens (spans_tokens (runs s))) (spaced_joined (spans_tokens (runs s)))), set_of_runs s)
 
-pub spells_one : (text : List ℕ) (s t : Gtids) → SpellsSet text s → SpellsSet text t → s ≡ t
+pub spells_one : (text : List ℕ) (s t : Gtids) → ParsesAsSet text s → ParsesAsSet text t → s ≡ t
 spells_one text s t h k = sym h.2 ∙ ap set_of (same_read h.0 k.0 (sym (spells_read text h.0 h.1) ∙ spells_read text k.0 k.1)) ∙ k.2
 
 pub canonical_tells : (s t : Gtids) → AreUsable s → AreUsable t → canonical s ≡ canonical t → s ≡ t
 canonical_tells s t u v e =
-    let P : List ℕ → Type 0 = λ text. SpellsSet text t in
+    let P : List ℕ → Type 0 = λ text. ParsesAsSet text t in
     spells_one (canonical s) s t (canonical_spells s u) (subst P (sym e) (canonical_spells t v))
 
--- ---- what is spelled has numbers that transactions may have
+-- ---- what a text parses as has numbers that transactions may have
 
 numbered_by : (v value : ℕ) (b : Bool) → (nat_le 1 v && nat_le v 9223372036854775807) ≡ b → cond b (Some v) None ≡ Some value → IsNumbered value
 numbered_by v value true e h =
@@ -81,14 +81,14 @@ AreNumbered (s ∷ ss) = IsNumbered s.lo × IsNumbered s.hi × AreNumbered ss
 
 upper_numbered : (u : Option (List ℕ × Number)) (s : Span) → IsNumbered s.lo → IsUpper u s → IsNumbered s.hi
 upper_numbered None s low h = subst IsNumbered (sym h) low
-upper_numbered (Some u) s low h = numbered u.1.digits s.hi h.1.spells
+upper_numbered (Some u) s low h = numbered u.1.digits s.hi h.1.parses
 
 intervals_numbered : (id : SourceId) (ps : List (List ℕ × Interval)) (ss : List Span) → AreIntervals id ps ss → AreNumbered ss
 intervals_numbered id [] [] h = tt
 intervals_numbered id [] (s ∷ ss) h = absurd h
 intervals_numbered id (p ∷ ps) [] h = tt
 intervals_numbered id (p ∷ ps) (s ∷ ss) h =
-    let low = numbered p.1.lo.digits s.lo h.1.lo.spells in
+    let low = numbered p.1.lo.digits s.lo h.1.lo.parses in
     (low, upper_numbered p.1.upper s low h.1.upper, intervals_numbered id ps ss h.2)
 
 joined_numbered : (xs ys : List Span) → AreNumbered xs → AreNumbered ys → AreNumbered (xs ++ ys)
@@ -152,21 +152,21 @@ sized_fits t s h = by_sources (nat_lt most_sources (source_count t)) refl h
     by_sources true e h = absurd cc
     by_sources false e h = by_intervals (nat_lt most_intervals (interval_count t)) refl (small most_sources (source_count t) e) h
 
-answered_by : (text : List ℕ) (s : Gtids) (r : ReadSpans) → spans_in text ≡ r → set_from (answer (length text) r) ≡ as_set s → SpellsSet text s × Fits s
+answered_by : (text : List ℕ) (s : Gtids) (r : ReadSpans) → spans_in text ≡ r → set_from (answer (length text) r) ≡ as_set s → ParsesAsSet text s × Fits s
 answered_by text s (Ok spans) e h =
     let made = sized_fits (set_of spans) s h in
     ((spans, read_spells text spans e, made.0), made.1)
 answered_by text s (Err f) e h = absurd cc
 
-pub answers_spelled : (text : List ℕ) (s : Gtids) → set_in text ≡ as_set s → SpellsSet text s × Fits s
+pub answers_spelled : (text : List ℕ) (s : Gtids) → set_in text ≡ as_set s → ParsesAsSet text s × Fits s
 unfolding set_in
 answers_spelled text s e = answered_by text s (spans_in text) refl e
 
-pub spelled_answered : (text : List ℕ) (s : Gtids) → SpellsSet text s → source_count s ≤ most_sources → interval_count s ≤ most_intervals → set_in text ≡ as_set s
+pub spelled_answered : (text : List ℕ) (s : Gtids) → ParsesAsSet text s → source_count s ≤ most_sources → interval_count s ≤ most_intervals → set_in text ≡ as_set s
 spelled_answered text s h few small = given_set text h.0 s (spells_read text h.0 h.1) few small h.2
 
-pub spelled_full : (text : List ℕ) (s : Gtids) → SpellsSet text s → HasManySources s → set_in text ≡ Err (Set SourcesFull)
+pub spelled_full : (text : List ℕ) (s : Gtids) → ParsesAsSet text s → HasManySources s → set_in text ≡ Err (Set SourcesFull)
 spelled_full text s h over = given_full text h.0 (spells_read text h.0 h.1) (subst HasManySources (sym h.2) over)
 
-pub spelled_crowded : (text : List ℕ) (s : Gtids) → SpellsSet text s → source_count s ≤ most_sources → HasManyIntervals s → set_in text ≡ Err (Set PoolFull)
+pub spelled_crowded : (text : List ℕ) (s : Gtids) → ParsesAsSet text s → source_count s ≤ most_sources → HasManyIntervals s → set_in text ≡ Err (Set PoolFull)
 spelled_crowded text s h few over = given_crowded text h.0 (spells_read text h.0 h.1) (subst (λ t. source_count t ≤ most_sources) (sym h.2) few) (subst HasManyIntervals (sym h.2) over)

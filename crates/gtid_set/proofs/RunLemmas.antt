@@ -98,7 +98,7 @@ less_none g (h ∷ hs) e c =
     further h [] e f = refl
     further h (k ∷ ks) e f = less_trans g h k e f
 
--- a member that stands first is no member of a list that begins later
+-- a member that is first is no member of a list that begins later
 not_later : (x y : Gtid) (xs ys : List Gtid) → is_less x y ≡ true → climbs (y ∷ ys) ≡ true → ((q : Gtid) → among q (x ∷ xs) ≡ among q (y ∷ ys)) → ⊥
 not_later x y xs ys e c h =
     let there : among x (x ∷ xs) ≡ true = ap (λ b. b || among x xs) (same_itself x) in

@@ -45,7 +45,7 @@ sources_taken left right x l r takes = same_numbers _ _ (λ q.
     ∙ ap (λ b. b || set.contains (sources_in (l ++ r)) q) (sym (unsigned_tied q x.source))
     ∙ sym (set.contains-insert nat_cmp_total (sources_in (l ++ r)) x.source q))
 
--- a number that stands already adds nothing besides itself
+-- a number that is there already adds nothing besides itself
 besides_again : (s : set.FinSet nat_cmp) (n : ℕ) → set.remove (set.insert s n) n ≡ set.remove s n
 besides_again s n = same_numbers _ _ (λ q.
     set.contains-remove nat_cmp_total (set.insert s n) n q

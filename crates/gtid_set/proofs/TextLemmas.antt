@@ -6,7 +6,7 @@ use Rattle.std.specs.List.Sorted.{IsPermutation}
 use Rattle.std.proofs.lemmas.Bool.Decides.{nat_tests}
 use Rattle.gtid_text.specs.declared.Span.{Span}
 use Rattle.gtid_text.specs.declared.SourceId.{SourceId}
-use Rattle.gtid_text.specs.Grammar.{Number, Interval, Element, IsUpper, AreIntervals, IsElement, AreElements, Spells}
+use Rattle.gtid_text.specs.Grammar.{Number, Interval, Element, IsUpper, AreIntervals, IsElement, AreElements, ParsesAs}
 use Rattle.gtid_text.specs.Reading.{answer, spans_in}
 use Rattle.gtid_text.specs.declared.scan.ScanFault.{ScanFault}
 use Rattle.gtid_text.specs.declared.fault.TextFault.{TextFault}
@@ -43,7 +43,7 @@ elements_filled : (es : List Element) (ss : List Span) → AreElements es ss →
 elements_filled [] ss h = ap are_filled h
 elements_filled (e ∷ es) ss h = ap are_filled h.2 ∙ all_joined (λ s. nat_le s.lo s.hi) h.0 h.1 (element_filled e h.0 h.3) (elements_filled es h.1 h.4)
 
-pub spelled_filled : (text : List ℕ) (ss : List Span) → Spells text ss → are_filled ss ≡ true
+pub spelled_filled : (text : List ℕ) (ss : List Span) → ParsesAs text ss → are_filled ss ≡ true
 spelled_filled text ss h = elements_filled h.elements ss h.says
 
 -- what reading answers

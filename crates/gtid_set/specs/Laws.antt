@@ -8,7 +8,7 @@ use Rattle.gtid_set.specs.declared.fault.SetTextFault.TheVariants.{Set}
 use Rattle.gtid_set.specs.Sets.{Gtids, source_count, most_sources}
 use Rattle.gtid_set.specs.Runs.{canonical}
 use Rattle.gtid_set.specs.Full.{interval_count, HasManySources, HasManyIntervals, most_intervals}
-use Rattle.gtid_set.specs.Texts.{SpellsSet, set_in}
+use Rattle.gtid_set.specs.Texts.{ParsesAsSet, set_in}
 
 -- ---- union
 
@@ -63,35 +63,35 @@ abbrev pub HaveNumbers : Gtids → Type 0
 HaveNumbers s = (g : Gtid) → set.contains s g ≡ true → IsNumbered g.number
 
 -- a text parses as one set at most
-abbrev pub SpellsOne : Type 0
-SpellsOne = (text : List ℕ) (s t : Gtids) → SpellsSet text s → SpellsSet text t → s ≡ t
+abbrev pub ParsesAsOneSet : Type 0
+ParsesAsOneSet = (text : List ℕ) (s t : Gtids) → ParsesAsSet text s → ParsesAsSet text t → s ≡ t
 
 -- the canonical text of a set parses as it
-abbrev pub CanonicalSpells : Type 0
-CanonicalSpells = (s : Gtids) → AreUsable s → SpellsSet (canonical s) s
+abbrev pub CanonicalParses : Type 0
+CanonicalParses = (s : Gtids) → AreUsable s → ParsesAsSet (canonical s) s
 
 -- a set that has a text has a canonical text
-abbrev pub SpelledAgain : Type 0
-SpelledAgain = (text : List ℕ) (s : Gtids) → HaveSources s → SpellsSet text s → SpellsSet (canonical s) s
+abbrev pub CanonicalParsesAgain : Type 0
+CanonicalParsesAgain = (text : List ℕ) (s : Gtids) → HaveSources s → ParsesAsSet text s → ParsesAsSet (canonical s) s
 
 -- a set that has a text has numbers in range
 abbrev pub SpelledInRange : Type 0
 SpelledInRange = (text : List ℕ) (s : Gtids) → SpellsSet text s → HaveNumbers s
 
 -- sets with one canonical text are one
-abbrev pub CanonicalTells : Type 0
-CanonicalTells = (s t : Gtids) → AreUsable s → AreUsable t → canonical s ≡ canonical t → s ≡ t
+abbrev pub CanonicalIsInjective : Type 0
+CanonicalIsInjective = (s t : Gtids) → AreUsable s → AreUsable t → canonical s ≡ canonical t → s ≡ t
 
 -- the answer to a text is a set that it parses as
-abbrev pub AnswersSpelled : Type 0
-AnswersSpelled = (text : List ℕ) (s : Gtids) → set_in text ≡ Ok s → SpellsSet text s × ((source_count s ≤ most_sources) × (interval_count s ≤ most_intervals))
+abbrev pub FoundIsSetText : Type 0
+FoundIsSetText = (text : List ℕ) (s : Gtids) → set_in text ≡ Ok s → ParsesAsSet text s × ((source_count s ≤ most_sources) × (interval_count s ≤ most_intervals))
 
 -- the answer to a text that parses as a set is that set, or that it has too many sources, or else too many intervals
-abbrev pub SpelledIsAnswered : Type 0
-SpelledIsAnswered = (text : List ℕ) (s : Gtids) → SpellsSet text s → source_count s ≤ most_sources → interval_count s ≤ most_intervals → set_in text ≡ Ok s
+abbrev pub SetTextIsFound : Type 0
+SetTextIsFound = (text : List ℕ) (s : Gtids) → ParsesAsSet text s → source_count s ≤ most_sources → interval_count s ≤ most_intervals → set_in text ≡ Ok s
 
-abbrev pub SpelledIsFull : Type 0
-SpelledIsFull = (text : List ℕ) (s : Gtids) → SpellsSet text s → HasManySources s → set_in text ≡ Err (Set SourcesFull)
+abbrev pub SetTextIsFull : Type 0
+SetTextIsFull = (text : List ℕ) (s : Gtids) → ParsesAsSet text s → HasManySources s → set_in text ≡ Err (Set SourcesFull)
 
-abbrev pub SpelledIsCrowded : Type 0
-SpelledIsCrowded = (text : List ℕ) (s : Gtids) → SpellsSet text s → source_count s ≤ most_sources → HasManyIntervals s → set_in text ≡ Err (Set PoolFull)
+abbrev pub SetTextIsCrowded : Type 0
+SetTextIsCrowded = (text : List ℕ) (s : Gtids) → ParsesAsSet text s → source_count s ≤ most_sources → HasManyIntervals s → set_in text ≡ Err (Set PoolFull)

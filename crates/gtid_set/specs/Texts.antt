@@ -3,7 +3,7 @@ use Rattle.std.specs.Prelude.{◌≡◌, ◌⊎◌, ℕ, nat_lt, List, length, R
 use Rattle.gtid_text.specs.declared.Span.{Span}
 use Rattle.gtid_text.specs.declared.fault.TextFault.{TextFault}
 use Rattle.gtid_text.specs.declared.fault.TextFault.TheVariants as faults
-use Rattle.gtid_text.specs.Grammar.{Spells, IsSetText}
+use Rattle.gtid_text.specs.Grammar.{ParsesAs, IsSetText}
 use Rattle.gtid_text.specs.Reading.{answer, spans_in}
 use Rattle.gtid_text.specs.Refused.{FailsText}
 use Rattle.gtid_set.specs.declared.fault.SetFault.TheVariants.{Memory, PoolFull, SourcesFull}
@@ -14,18 +14,18 @@ use Rattle.gtid_set.specs.Spans.{set_of}
 use Rattle.gtid_set.specs.Full.{IsFullExactly, interval_count, most_intervals}
 
 -- the set is the union of the intervals that the text parses as
-abbrev pub SpellsSet : List ℕ → Gtids → Type 0
-SpellsSet text s = (spans : List Span) × Spells text spans × (set_of spans ≡ s)
+abbrev pub ParsesAsSet : List ℕ → Gtids → Type 0
+ParsesAsSet text s = (spans : List Span) × ParsesAs text spans × (set_of spans ≡ s)
 
 -- memory was refused
-abbrev pub WantsMemory : SetTextFault → Type 0
-WantsMemory (Text f) = f ≡ faults.Memory
-WantsMemory (Set f) = f ≡ Memory
+abbrev pub IsOutOfMemory : SetTextFault → Type 0
+IsOutOfMemory (Text f) = f ≡ faults.Memory
+IsOutOfMemory (Set f) = f ≡ Memory
 
 -- no memory, a refusal of the text, or a set with too many sources or intervals
 abbrev pub RefusesSet : SetTextFault → List ℕ → Type 0
 RefusesSet (Text f) text = FailsText IsSetText f text
-RefusesSet (Set f) text = (spans : List Span) × Spells text spans × IsFullExactly {T = Unit {0}} (Err f) (set_of spans)
+RefusesSet (Set f) text = (spans : List Span) × ParsesAs text spans × IsFullExactly {T = Unit {0}} (Err f) (set_of spans)
 
 -- a text that parses as a set is read as that set, if memory, its sources and its intervals allow
 abbrev pub IsReadAs : Result Gtids SetTextFault → Gtids → Type 0
@@ -49,4 +49,4 @@ set_in text = set_from (answer (length text) (spans_in text))
 -- what a function returned is the answer, unless memory was refused
 abbrev pub GivesSet : Result Gtids SetTextFault → Result Gtids SetTextFault → Type 0
 GivesSet (Ok s) read = read ≡ Ok s
-GivesSet (Err f) read = WantsMemory f ⊎ (read ≡ Err f)
+GivesSet (Err f) read = IsOutOfMemory f ⊎ (read ≡ Err f)

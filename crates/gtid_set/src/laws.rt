@@ -40,11 +40,11 @@ pub fn text_reads_back()
 {}
 
 /// The one answer to a text is the set that it parses as, where that has not too many sources or intervals, and is a set for no other text.
-pub fn text_is_answered()
-    ensures found { AnswersSpelled }
-    ensures only { SpelledIsAnswered }
-    ensures full { SpelledIsFull }
-    ensures crowded { SpelledIsCrowded }
+pub fn text_parses_exactly()
+    ensures found { FoundIsSetText }
+    ensures only { SetTextIsFound }
+    ensures full { SetTextIsFull }
+    ensures crowded { SetTextIsCrowded }
 {}
 
 /// A set has two edges for each interval, and no edge of what is made of two sets is new: so it has no more intervals than these two

@@ -378,9 +378,9 @@ impl GtidSet {
     /// Reads the text of a set, whatever the order of its intervals.
     pub fn from_text(alloc: Global, text: &str) -> Result<GtidSet, SetTextFault>
         // An accepted text is a text of this set by the grammar.
-        ensures found { IfOk result (λ s. SpellsSet text.now s) }
+        ensures found { IfOk result (λ s. ParsesAsSet text.now s) }
         // A text of a set by the grammar is accepted as it, if memory and its sources allow.
-        ensures only { (s : Gtids) → SpellsSet text.now s → IsReadAs result s }
+        ensures only { (s : Gtids) → ParsesAsSet text.now s → IsReadAs result s }
         // It is refused where the text parses as no set, or one with too many sources.
         ensures refused { IfErr result (λ fault. RefusesSet fault text.now) }
         // The result is the defined one, also which refusal it is.

@@ -191,5 +191,5 @@ is_stuck text r e =
       more = f.on.0;
       due = f.due;
       viable = (f.on.1, read_spells (f.front ++ f.on.0) f.on.1 f.on.2);
-      stuck = λ more same spelled. let a = f.stuck more same in let k = sym a.1 ∙ spells_read (f.front ++ more) spelled.0 spelled.1 in absurd cc;
+      stuck = λ more same parsed. let a = f.stuck more same in let k = sym a.1 ∙ spells_read (f.front ++ more) parsed.0 parsed.1 in absurd cc;
     }

@@ -1,12 +1,12 @@
--- What is read is spelled so.
+-- Reading is sound: a text parses as what is read of it.
 use Rattle.std.proofs.Common.{◌≡◌, ℕ, zero, suc, ◌<◌, ◌⊎◌, Bool, true, false, cond, eqb, List, [], ◌∷◌, ◌++◌, length, Option, Some, None, Result, Ok, Err, refl, sym, ap, subst, ◌∙◌, append_assoc, arith, inl, inr}
 use Rattle.std.specs.List.{flat_map}
 use Rattle.std.specs.Char.{is_ascii_digit}
 use Rattle.std.proofs.lemmas.Bool.{eqb-true, eqb-false, ltb-false}
 use Rattle.std.proofs.lemmas.List.{append-nil, nil_from_length}
 use Rattle.gtid_text.specs.Scan.{is_blank, is_uuid_byte, run, skip_while, ◌>>=◌, refuse, source_of, source_at, number_at, colon_at}
-use Rattle.gtid_text.specs.Reading.{span, ordered, upper_at, interval_at, separator_at, element_at, Turn, turn_at, with_front, go_on, spans_at, spans_in}
-use Rattle.gtid_text.specs.Grammar.{Number, Interval, Named, Element, number_text, upper_text, interval_text, behind_colon, named_text, element_text, set_text, IsGap, IsNumber, IsUpper, IsInterval, AreIntervals, IsNamed, IsElement, AreElements, Spells}
+use Rattle.gtid_text.specs.Reading.{span, check_order, upper_at, interval_at, separator_at, element_at, Turn, turn_at, with_front, go_on, spans_at, spans_in}
+use Rattle.gtid_text.specs.Grammar.{Number, Interval, Named, Element, number_text, upper_text, interval_text, behind_colon, named_text, element_text, set_text, IsGap, IsNumber, IsUpper, IsInterval, AreIntervals, IsNamed, IsElement, AreElements, ParsesAs}
 use Rattle.gtid_text.specs.declared.SourceId.{SourceId}
 use Rattle.gtid_text.specs.declared.Span.{Span}
 use Rattle.gtid_text.specs.declared.scan.ScanFault.{ScanFault}
@@ -41,7 +41,7 @@ number_found rest x e =
     let t = number_ok y x e in
     record {
       n = record { gap = run is_blank rest; digits = run is_ascii_digit y };
-      says = record { gap = gap_of rest; digits = run_passes is_ascii_digit y; some = t.some; spells = t.number };
+      says = record { gap = gap_of rest; digits = run_passes is_ascii_digit y; some = t.some; parses = t.number };
       text = split rest ∙ ap (λ (z : List ℕ). run is_blank rest ++ z) (sym (run_past is_ascii_digit y) ∙ ap (λ (z : List ℕ). run is_ascii_digit y ++ z) t.after) ∙ sym (append_assoc (run is_blank rest) (run is_ascii_digit y) x.1);
       cut = ap (starts is_ascii_digit) (sym t.after) ∙ past_starts is_ascii_digit y;
     }
@@ -64,10 +64,10 @@ alone id lo r y x cut d e h =
 upper_found_at : (id : SourceId) (lo : ℕ) (r y : List ℕ) (x : Span × List ℕ) → starts is_ascii_digit r ≡ false → skip_while is_blank r ≡ y → upper_at id lo y ≡ Ok x → FoundUpper id lo r x
 upper_found_at id lo r [] x cut e h = alone id lo r [] x cut refl e (ok_is (span id lo lo, []) x h)
 upper_found_at id lo r (b ∷ bs) x cut e h =
-    elim (chosen (eqb b 45) (number_at (skip_while is_blank bs) >>= λ hi. ordered id lo hi.0 (skip_while is_blank bs) (skip_while is_blank hi.1)) (Ok (span id lo lo, b ∷ bs)) (Ok x) h) [
+    elim (chosen (eqb b 45) (number_at (skip_while is_blank bs) >>= λ hi. check_order id lo hi.0 (skip_while is_blank bs) (skip_while is_blank hi.1)) (Ok (span id lo lo, b ∷ bs)) (Ok x) h) [
       | inr p ↦ alone id lo r (b ∷ bs) x cut p.0 e (ok_is (span id lo lo, b ∷ bs) x p.1)
       | inl p ↦
-          let q = bind_ok (number_at (skip_while is_blank bs)) (λ hi. ordered id lo hi.0 (skip_while is_blank bs) (skip_while is_blank hi.1)) x p.1 in
+          let q = bind_ok (number_at (skip_while is_blank bs)) (λ hi. check_order id lo hi.0 (skip_while is_blank bs) (skip_while is_blank hi.1)) x p.1 in
           let o = ordered_ok id lo q.0.0 (skip_while is_blank bs) (skip_while is_blank q.0.1) x q.2 in
           let f = number_found bs q.0 q.1 in
           let dash : b ≡ 45 = eqb-true b 45 p.0 in
@@ -115,7 +115,7 @@ interval_found id rest x e =
 
 -- the end of an element: the text ends, or goes on after a comma
 abbrev EndSays : List ℕ → List Span → Type 0
-EndSays tail back = (IsGap tail × (back ≡ [])) ⊎ ((gap : List ℕ) × (rest : List ℕ) × IsGap gap × (tail ≡ gap ++ 44 ∷ rest) × Spells rest back)
+EndSays tail back = (IsGap tail × (back ≡ [])) ⊎ ((gap : List ℕ) × (rest : List ℕ) × IsGap gap × (tail ≡ gap ++ 44 ∷ rest) × ParsesAs rest back)
 
 -- the intervals after a colon, and what follows them
 record SaysInside (id : SourceId) (rest : List ℕ) (spans : List Span) : Type 0 where
@@ -132,7 +132,7 @@ record SaysInside (id : SourceId) (rest : List ℕ) (spans : List Span) : Type 0
   all : spans ≡ (s ∷ ss) ++ back
 
 abbrev SaysFrom : Option SourceId → List ℕ → List Span → Type 0
-SaysFrom None rest spans = Spells rest spans
+SaysFrom None rest spans = ParsesAs rest spans
 SaysFrom (Some id) rest spans = SaysInside id rest spans
 
 -- with a first element
@@ -146,8 +146,8 @@ some_element : (text : List ℕ) (spans : List Span) (es : List Element) → tex
 some_element text spans [] t h = record { e = (None, []); es = []; text_is = t; says = ([], [], h, (refl, refl), refl) }
 some_element text spans (e ∷ es) t h = record { e = e; es = es; text_is = t; says = h }
 
--- an element and a comma before what is spelled
-comma_first : (e : Element) (front : List Span) (rest : List ℕ) (back : List Span) → IsElement e front → Spells rest back → Spells (element_text e ++ 44 ∷ rest) (front ++ back)
+-- an element and a comma before what parses
+comma_first : (e : Element) (front : List Span) (rest : List ℕ) (back : List Span) → IsElement e front → ParsesAs rest back → ParsesAs (element_text e ++ 44 ∷ rest) (front ++ back)
 comma_first e front rest back h r =
     let t = some_element rest back r.elements r.text_is r.says in
     record {
@@ -157,14 +157,14 @@ comma_first e front rest back h r =
     }
 
 -- an element that ends
-ended : (n : Named) (front : List Span) (tail : List ℕ) (back : List Span) → IsNamed n front → EndSays tail back → Spells (named_text n ++ tail) (front ++ back)
+ended : (n : Named) (front : List Span) (tail : List ℕ) (back : List Span) → IsNamed n front → EndSays tail back → ParsesAs (named_text n ++ tail) (front ++ back)
 ended n front tail back h (inl e) = record {
   elements = (Some n, tail) ∷ [];
   text_is = refl;
   says = (front, [], ap (λ (z : List Span). front ++ z) e.1, (e.0, h), refl);
 }
 ended n front tail back h (inr e) =
-    subst (λ (z : List ℕ). Spells z (front ++ back)) (append_assoc (named_text n) e.0 (44 ∷ e.1) ∙ ap (λ (z : List ℕ). named_text n ++ z) (sym e.3))
+    subst (λ (z : List ℕ). ParsesAs z (front ++ back)) (append_assoc (named_text n) e.0 (44 ∷ e.1) ∙ ap (λ (z : List ℕ). named_text n ++ z) (sym e.3))
     (comma_first (Some n, e.0) front e.1 back (e.2, h) e.4)
 
 -- ---- turn by turn
@@ -195,7 +195,7 @@ separator_cases id (b ∷ bs) y e =
       ]
     ]
 
-nothing_spelled : (spans : List Span) → Spells [] spans → spans ≡ []
+nothing_spelled : (spans : List Span) → ParsesAs [] spans → spans ≡ []
 unfolding spans_in turn_at
 nothing_spelled spans h = let k = spells_read [] spans h in cc
 
@@ -210,7 +210,7 @@ joined : (id : SourceId) (rest : List ℕ) (x : Span × List ℕ) (y : Option So
     → FoundInterval id rest x → Separated id x.1 y → SaysFrom y.0 y.1 m → x.0 ∷ m ≡ spans → SaysInside id rest spans
 unfolding Separated
 joined id rest x y m spans f (inl c) says e =
-    let nothing : Spells [] m = subst (λ (z : List ℕ). Spells z m) (sym c.2) (subst (λ (o : Option SourceId). SaysFrom o y.1 m) (sym c.1) says) in
+    let nothing : ParsesAs [] m = subst (λ (z : List ℕ). ParsesAs z m) (sym c.2) (subst (λ (o : Option SourceId). SaysFrom o y.1 m) (sym c.1) says) in
     let none = nothing_spelled m nothing in
     record {
       i = f.i;
@@ -243,7 +243,7 @@ joined id rest x y m spans f (inr (inl c)) says e =
       all = sym e ∙ ap (λ (z : List Span). x.0 ∷ z) h.all;
     }
 joined id rest x y m spans f (inr (inr c)) says e =
-    let h : Spells y.1 m = subst (λ (o : Option SourceId). SaysFrom o y.1 m) (sym c.1) says in
+    let h : ParsesAs y.1 m = subst (λ (o : Option SourceId). SaysFrom o y.1 m) (sym c.1) says in
     record {
       i = f.i;
       s = x.0;
@@ -308,10 +308,10 @@ colon_is (b ∷ bs) y e =
       | inr p ↦ absurd cc
     ]
 
-begun : (rest : List ℕ) (y : Option SourceId × List ℕ) (m : List Span) → ((skip_while is_blank rest ≡ 44 ∷ y.1) × (None ≡ y.0)) ⊎ Begun (skip_while is_blank rest) y → SaysFrom y.0 y.1 m → Spells rest m
+begun : (rest : List ℕ) (y : Option SourceId × List ℕ) (m : List Span) → ((skip_while is_blank rest ≡ 44 ∷ y.1) × (None ≡ y.0)) ⊎ Begun (skip_while is_blank rest) y → SaysFrom y.0 y.1 m → ParsesAs rest m
 begun rest y m (inl c) says =
-    let h : Spells y.1 m = subst (λ (o : Option SourceId). SaysFrom o y.1 m) (sym c.1) says in
-    subst (λ (z : List ℕ). Spells z m) (sym (split rest ∙ ap (λ (z : List ℕ). run is_blank rest ++ z) c.0)) (comma_first (None, run is_blank rest) [] y.1 m (gap_of rest, refl) h)
+    let h : ParsesAs y.1 m = subst (λ (o : Option SourceId). SaysFrom o y.1 m) (sym c.1) says in
+    subst (λ (z : List ℕ). ParsesAs z m) (sym (split rest ∙ ap (λ (z : List ℕ). run is_blank rest ++ z) c.0)) (comma_first (None, run is_blank rest) [] y.1 m (gap_of rest, refl) h)
 begun rest y m (inr b) says =
     let h : SaysInside b.id y.1 m = subst (λ (o : Option SourceId). SaysFrom o y.1 m) (sym b.next) says in
     let xs = skip_while is_blank rest in
@@ -323,10 +323,10 @@ begun rest y m (inr b) says =
     let xs_is : xs ≡ n.uuid ++ (colons ++ h.tail) = sym (run_past is_uuid_byte xs) ∙ ap (λ (z : List ℕ). n.uuid ++ z) (s.1 ∙ after_is) in
     let rest_is : rest ≡ named_text n ++ h.tail = split rest ∙ ap (λ (z : List ℕ). n.gap ++ z) xs_is ∙ ap (λ (z : List ℕ). n.gap ++ z) (sym (append_assoc n.uuid colons h.tail)) ∙ sym (append_assoc n.gap (n.uuid ++ colons) h.tail) in
     let named : IsNamed n (h.s ∷ h.ss) = record { id = b.id; gap = gap_of rest; bytes = run_passes is_uuid_byte xs; uuid = s.0; intervals = (gap_of b.after, h.first, h.more) } in
-    subst (λ (z : List ℕ). Spells z m) (sym rest_is) (subst (Spells (named_text n ++ h.tail)) (sym h.all) (ended n (h.s ∷ h.ss) h.tail h.back named h.end))
+    subst (λ (z : List ℕ). ParsesAs z m) (sym rest_is) (subst (ParsesAs (named_text n ++ h.tail)) (sym h.all) (ended n (h.s ∷ h.ss) h.tail h.back named h.end))
 
 outside_found : (rest : List ℕ) (spans : List Span) (t : Option Turn) (go : Option SourceId → List ℕ → Result (List Span) ScanFault)
-    → Known rest go → turn_at None rest ≡ Ok t → go_on t go ≡ Ok spans → Spells rest spans
+    → Known rest go → turn_at None rest ≡ Ok t → go_on t go ≡ Ok spans → ParsesAs rest spans
 unfolding turn_at
 outside_found rest spans t go known e g =
     elim (chosen (eqb (length (skip_while is_blank rest)) 0) (Ok None) (element_at (skip_while is_blank rest) >>= λ next. Ok (Some (None, next.0, next.1))) (Ok t) e) [
@@ -343,7 +343,7 @@ outside_found rest spans t go known e g =
           let t-is : Some turned ≡ t = ok_is (Some turned) t r.2 in
           let w = with_front_ok [] (go r.0.0 r.0.1) spans (ap (λ (o : Option Turn). go_on o go) t-is ∙ g) in
           let shorter = turn_shorter None rest turned (e ∙ ap Ok (sym t-is)) in
-          subst (Spells rest) w.2 (begun rest r.0 w.0 (element_cases (skip_while is_blank rest) r.0 some r.1) (known r.0.0 r.0.1 w.0 shorter w.1))
+          subst (ParsesAs rest) w.2 (begun rest r.0 w.0 (element_cases (skip_while is_blank rest) r.0 some r.1) (known r.0.0 r.0.1 w.0 shorter w.1))
     ]
 
 found : (k : ℕ) (inside : Option SourceId) (rest : List ℕ) (spans : List Span) → length rest < k → spans_at k inside rest ≡ Ok spans → SaysFrom inside rest spans
@@ -355,6 +355,6 @@ found (suc k) None rest spans lt e =
     let a = bind_ok (turn_at None rest) (λ t. go_on t (λ next left. spans_at k next left)) spans e in
     outside_found rest spans a.0 (λ next left. spans_at k next left) (λ next left more shorter h. found k next left more (omega arith) h) a.1 a.2
 
-pub read_spells : (text : List ℕ) (spans : List Span) → spans_in text ≡ Ok spans → Spells text spans
+pub read_spells : (text : List ℕ) (spans : List Span) → spans_in text ≡ Ok spans → ParsesAs text spans
 unfolding spans_in
 read_spells text spans e = found (suc (length text)) None text spans (omega arith) e

@@ -10,7 +10,7 @@ use Rattle.std.proofs.lemmas.List.{append-nil, length-append}
 use Rattle.gtid_text.specs.Scan.{is_blank, is_uuid_byte, skip_while, colon_at}
 use Rattle.gtid_text.specs.Reading.{separator_at, element_at, with_front, spans_in}
 use Rattle.gtid_text.specs.Canonical.{source_text, gtid_text, numbers_text, text_behind, spans_text}
-use Rattle.gtid_text.specs.Grammar.{Number, Interval, number_text, interval_text, IsGap, IsNumber, IsInterval, Spells, IsUuid, SpellsSource, SpellsGtid}
+use Rattle.gtid_text.specs.Grammar.{Number, Interval, number_text, interval_text, IsGap, IsNumber, IsInterval, ParsesAs, IsUuid, ParsesAsSource, ParsesAsGtid}
 use Rattle.gtid_text.specs.Written.{IsSource, IsNumbered, IsUsable, IsUsableSpan, AreUsable, Tokens, token, source_tokens, gtid_tokens, numbers_then, tokens_behind, spans_tokens, SameButCase, IsSpaced, text_of_tokens}
 use Rattle.gtid_text.specs.declared.Gtid.{Gtid}
 use Rattle.gtid_text.specs.declared.Span.{Span}
@@ -67,7 +67,7 @@ shown_number n ts text h s =
     record {
       num = record { gap = s.0; digits = decimal n };
       more = s.2;
-      says = record { gap = s.4; digits = digits; some = decimal_nonempty n (omega (arith, h.1)); spells = number_again n h.0 h.1 };
+      says = record { gap = s.4; digits = digits; some = decimal_nonempty n (omega (arith, h.1)); parses = number_again n h.0 h.1 };
       is = s.3 ∙ ap (λ (t : List ℕ). s.0 ++ (t ++ s.2)) same ∙ sym (append_assoc s.0 (decimal n) s.2);
       spaced = s.6;
     }
@@ -95,12 +95,12 @@ shown_source id ts text fits s =
 
 -- ---- a source, a GTID
 
-pub source_shown : (id : ℕ) → IsSource id → (text : List ℕ) → IsSpaced (source_tokens id) text → SpellsSource text id
+pub source_shown : (id : ℕ) → IsSource id → (text : List ℕ) → IsSpaced (source_tokens id) text → ParsesAsSource text id
 source_shown id fits text s =
     let a = shown_source id [] text fits s in
     record { gap = a.gap; uuid = a.uuid; after = a.more; text_is = a.is; gaps = (a.blank, a.spaced); is_uuid = a.names }
 
-pub gtid_shown : (g : Gtid) → IsUsable g → (text : List ℕ) → IsSpaced (gtid_tokens g) text → SpellsGtid text g
+pub gtid_shown : (g : Gtid) → IsUsable g → (text : List ℕ) → IsSpaced (gtid_tokens g) text → ParsesAsGtid text g
 gtid_shown g fits text s =
     let a = shown_source g.source (token 58 ∷ decimal g.number ∷ []) text fits.source s in
     let b = shown_byte 58 (decimal g.number ∷ []) a.more refl a.spaced in
@@ -239,7 +239,7 @@ spans_read (s ∷ ss) all text spaced =
     let e = begun_element s.source (numbers_then s.lo s.hi (tokens_behind s.source ss)) text all.0.source spaced in
     e.reads ∙ ap (with_front []) (reads_spans s ss e.more all.0 all.1 e.spaced)
 
-pub spans_shown : (spans : List Span) → AreUsable spans → (text : List ℕ) → IsSpaced (spans_tokens spans) text → Spells text spans
+pub spans_shown : (spans : List Span) → AreUsable spans → (text : List ℕ) → IsSpaced (spans_tokens spans) text → ParsesAs text spans
 unfolding left_of spans_in
 spans_shown spans all text s = read_spells text spans (spans_read spans all text s)
 

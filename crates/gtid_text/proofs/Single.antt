@@ -1,11 +1,11 @@
--- A text of one source, and a text of one GTID: what is spelled is read, what is read is spelled, and where it is refused.
+-- A text of one source, and a text of one GTID: reading is sound and complete, and where it is refused.
 use Rattle.std.proofs.Common.{◌≡◌, ℕ, ◌<◌, Bool, false, eqb, List, [], ◌∷◌, ◌++◌, length, Some, Ok, Err, refl, sym, ap, subst, ◌∙◌, append_assoc, arith, inl, inr}
 use Rattle.std.specs.Prelude.{codes}
 use Rattle.std.specs.Char.{is_ascii_digit}
 use Rattle.std.proofs.lemmas.List.{append-nil}
 use Rattle.gtid_text.specs.Scan.{is_blank, is_uuid_byte, run, skip_while, ◌>>=◌, source_of, source_at, number_at, colon_at, end_at}
 use Rattle.gtid_text.specs.Reading.{source_in, gtid_in}
-use Rattle.gtid_text.specs.Grammar.{Number, number_text, IsGap, IsNumber, IsUuid, SpellsSource, IsSourceText, SpellsGtid, IsGtidText}
+use Rattle.gtid_text.specs.Grammar.{Number, number_text, IsGap, IsNumber, IsUuid, ParsesAsSource, IsSourceText, ParsesAsGtid, IsGtidText}
 use Rattle.gtid_text.specs.Canonical.{source_text}
 use Rattle.gtid_text.specs.Refused.{IsDue, IsMet, SameToken, IsStuck}
 use Rattle.gtid_text.specs.declared.Gtid.{Gtid}
@@ -19,7 +19,7 @@ use Rattle.gtid_text.proofs.Found.{past_starts, gap_of, gap_alone, split, number
 use Rattle.gtid_text.proofs.Stuck.{bind_err, number_err, found_source_err, colon_err, colon_none, same_starts, starts_behind, past_same, same_some, one_is}
 use Rattle.gtid_text.proofs.RoundTrip.{source_bytes, source_again}
 
--- ---- what is spelled is read
+-- ---- reading is complete
 
 uuid_reads : (gap uuid r : List ℕ) (id : SourceId) → IsGap gap → IsUuid uuid id → starts is_uuid_byte r ≡ false → source_at (skip_while is_blank (gap ++ (uuid ++ r))) ≡ Ok (id, r)
 uuid_reads gap uuid r id g u cut =
@@ -39,7 +39,7 @@ source_steps : (text : List ℕ) (x : SourceId × List ℕ) (u : Unit {0}) → s
 unfolding source_in
 source_steps text x u e f = rw (e, f) refl
 
-pub source_reads_back : (text : List ℕ) (id : SourceId) → SpellsSource text id → source_in text ≡ Ok id
+pub source_reads_back : (text : List ℕ) (id : SourceId) → ParsesAsSource text id → source_in text ≡ Ok id
 source_reads_back text id s =
     source_steps text (id, s.after) tt
     (ap (λ (t : List ℕ). source_at (skip_while is_blank t)) s.text_is ∙ uuid_reads s.gap s.uuid s.after id s.gaps.0 s.is_uuid (gap_cut is_uuid_byte s.after refl refl refl refl s.gaps.1))
@@ -49,7 +49,7 @@ gtid_steps : (text : List ℕ) (x : SourceId × List ℕ) (rest : List ℕ) (n :
 unfolding gtid_in
 gtid_steps text x rest n u e f g h = rw (e, f, g, h) refl
 
-pub gtid_reads_back : (text : List ℕ) (gtid : Gtid) → SpellsGtid text gtid → gtid_in text ≡ Ok gtid
+pub gtid_reads_back : (text : List ℕ) (gtid : Gtid) → ParsesAsGtid text gtid → gtid_in text ≡ Ok gtid
 gtid_reads_back text gtid s =
     let behind_colon = number_text s.number ++ s.after in
     let tail = s.behind ++ 58 ∷ behind_colon in
@@ -59,7 +59,7 @@ gtid_reads_back text gtid s =
     (number_reads s.number gtid.number s.after s.is_number (gap_cut is_ascii_digit s.after refl refl refl refl s.gaps.2))
     (end_reads s.after s.gaps.2)
 
--- ---- what is read is spelled
+-- ---- reading is sound
 
 record FoundSource (rest : List ℕ) (x : SourceId × List ℕ) : Type 0 where
   gap : List ℕ
@@ -87,7 +87,7 @@ end_is : (xs : List ℕ) (u : Unit {0}) → end_at xs ≡ Ok u → xs ≡ []
 end_is [] u e = refl
 end_is (b ∷ bs) u e = absurd cc
 
-pub source_spelled : (text : List ℕ) (id : SourceId) → source_in text ≡ Ok id → SpellsSource text id
+pub source_spelled : (text : List ℕ) (id : SourceId) → source_in text ≡ Ok id → ParsesAsSource text id
 unfolding source_in
 source_spelled text id e =
     let a = bind_ok (source_at (skip_while is_blank text)) (λ x. end_at (skip_while is_blank x.1) >>= λ _. Ok x.0) id e in
@@ -102,7 +102,7 @@ source_spelled text id e =
       is_uuid = subst (IsUuid f.uuid) (ok_is a.0.0 id b.2) f.is;
     }
 
-pub gtid_spelled : (text : List ℕ) (gtid : Gtid) → gtid_in text ≡ Ok gtid → SpellsGtid text gtid
+pub gtid_spelled : (text : List ℕ) (gtid : Gtid) → gtid_in text ≡ Ok gtid → ParsesAsGtid text gtid
 unfolding gtid_in
 gtid_spelled text gtid e =
     let a = bind_ok (source_at (skip_while is_blank text)) (λ x. colon_at (skip_while is_blank x.1) >>= λ rest. number_at (skip_while is_blank rest) >>= λ n. end_at (skip_while is_blank n.1) >>= λ _. Ok (record { source = x.0; number = n.0 })) gtid e in
@@ -113,7 +113,7 @@ gtid_spelled text gtid e =
     let f = source_found text a.0 a.1 in
     let n = number_found b.0 c.0 c.1 in
     let g = run is_blank a.0.1 in
-    subst (SpellsGtid text) (ok_is read gtid d.2) (record {
+    subst (ParsesAsGtid text) (ok_is read gtid d.2) (record {
       gap = f.gap;
       uuid = f.uuid;
       behind = g;
@@ -198,7 +198,7 @@ source_last_err : (text : List ℕ) (x : SourceId × List ℕ) (e : ScanFault) �
 unfolding source_in
 source_last_err text x e h k = rw (h, k) refl
 
--- what is refused is not spelled
+-- what is refused parses as nothing
 no_source_text : (text : List ℕ) (e : ScanFault) → source_in text ≡ Err e → IsSourceText text → ⊥
 no_source_text text e h s = let k = sym h ∙ source_reads_back text s.0 s.1 in absurd cc
 
@@ -269,7 +269,7 @@ gtid_end_err : (text : List ℕ) (x : SourceId × List ℕ) (rest : List ℕ) (n
 unfolding gtid_in
 gtid_end_err text x rest n e h k l m = rw (h, k, l, m) refl
 
--- what is refused is not spelled
+-- what is refused parses as nothing
 no_gtid_text : (text : List ℕ) (e : ScanFault) → gtid_in text ≡ Err e → IsGtidText text → ⊥
 no_gtid_text text e h s = let k = sym h ∙ gtid_reads_back text s.0 s.1 in absurd cc
 
@@ -325,7 +325,7 @@ record Begun (text : List ℕ) (id : SourceId) (rest : List ℕ) : Type 0 where
   front : List ℕ
   text_is : text ≡ front ++ rest
   source : (more : List ℕ) → (after : List ℕ) × (source_at (skip_while is_blank (front ++ more)) ≡ Ok (id, after)) × (colon_at (skip_while is_blank after) ≡ Ok more)
-  spelled : (more : List ℕ) (n : Number) (after : List ℕ) (value : ℕ) → more ≡ number_text n ++ after → IsNumber n value → IsGap after → IsGtidText (front ++ more)
+  parsed : (more : List ℕ) (n : Number) (after : List ℕ) (value : ℕ) → more ≡ number_text n ++ after → IsNumber n value → IsGap after → IsGtidText (front ++ more)
 
 begun : (text : List ℕ) (x : SourceId × List ℕ) (rest : List ℕ) → source_at (skip_while is_blank text) ≡ Ok x → colon_at (skip_while is_blank x.1) ≡ Ok rest → Begun text x.0 rest
 begun text x rest h k =
@@ -341,7 +341,7 @@ begun text x rest h k =
         ap (λ (t : List ℕ). source_at (skip_while is_blank t)) (regroup more) ∙ uuid_reads f.gap f.uuid (g ++ 58 ∷ more) x.0 f.blank f.is (starts_gap is_uuid_byte g (58 ∷ more) refl refl refl refl (gap_of x.1) refl),
         colon_reads g more (gap_of x.1),
       );
-      spelled = λ more n after value is says blank. (
+      parsed = λ more n after value is says blank. (
         record { source = x.0; number = value },
         record { gap = f.gap; uuid = f.uuid; behind = g; number = n; after = after; text_is = regroup more ∙ ap (λ (z : List ℕ). f.gap ++ (f.uuid ++ (g ++ 58 ∷ z))) is; gaps = (f.blank, gap_of x.1, blank); is_uuid = f.is; is_number = says },
       );
@@ -361,7 +361,7 @@ stuck_number text id rest r b h =
       met = s.met;
       more = codes "1";
       due = s.due (codes "1") (omega arith);
-      viable = subst IsGtidText (sym (append_assoc b.front g (codes "1"))) (b.spelled (g ++ codes "1") (record { gap = g; digits = codes "1" }) [] 1 (sym (append-nil (g ++ codes "1"))) (one_is g (gap_of rest)) refl);
+      viable = subst IsGtidText (sym (append_assoc b.front g (codes "1"))) (b.parsed (g ++ codes "1") (record { gap = g; digits = codes "1" }) [] 1 (sym (append-nil (g ++ codes "1"))) (one_is g (gap_of rest)) refl);
       stuck = λ more same.
           let a = s.again more same in
           let p = b.source (g ++ more) in
@@ -385,7 +385,7 @@ stuck_end text id rest n r b h k =
       met = s.met;
       more = [];
       due = s.due;
-      viable = subst IsGtidText (sym (regroup [])) (b.spelled (digits ++ (g ++ [])) f.n (g ++ []) n.0 refl f.says (subst IsGap (sym (append-nil g)) (gap_of n.1)));
+      viable = subst IsGtidText (sym (regroup [])) (b.parsed (digits ++ (g ++ [])) f.n (g ++ []) n.0 refl f.says (subst IsGap (sym (append-nil g)) (gap_of n.1)));
       stuck = λ more same.
           let a = s.again more same in
           let cut : starts is_ascii_digit (g ++ more) ≡ false = starts_behind is_ascii_digit g more y same.first ∙ ap (starts is_ascii_digit) (sym (split n.1)) ∙ f.cut in

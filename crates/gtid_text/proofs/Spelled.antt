@@ -1,4 +1,4 @@
--- What is spelled is read.
+-- Reading is complete: what a text parses as is read.
 use Rattle.std.proofs.Common.{◌≡◌, ℕ, ◌<◌, Bool, true, false, eqb, List, [], ◌∷◌, ◌++◌, length, Option, Some, None, Ok, refl, sym, ap, subst, ◌∙◌, append_assoc, arith}
 use Rattle.std.specs.List.{list_all, flat_map}
 use Rattle.std.specs.Char.{is_ascii_digit}
@@ -6,7 +6,7 @@ use Rattle.std.proofs.lemmas.Bool.{eqb-true, ne_eqb, le-ltb, and_parts}
 use Rattle.std.proofs.lemmas.List.{append-nil, length-append}
 use Rattle.gtid_text.specs.Scan.{is_blank, is_uuid_byte, run, skip_while, source_of, found_source, source_at, number_at, colon_at}
 use Rattle.gtid_text.specs.Reading.{span, upper_at, interval_at, separator_at, element_at, turn_at, with_front, spans_in}
-use Rattle.gtid_text.specs.Grammar.{Number, Interval, Named, Element, number_text, upper_text, interval_text, behind_colon, named_text, element_text, set_text, IsGap, IsNumber, IsUpper, IsInterval, AreIntervals, IsNamed, IsElement, AreElements, Spells}
+use Rattle.gtid_text.specs.Grammar.{Number, Interval, Named, Element, number_text, upper_text, interval_text, behind_colon, named_text, element_text, set_text, IsGap, IsNumber, IsUpper, IsInterval, AreIntervals, IsNamed, IsElement, AreElements, ParsesAs}
 use Rattle.gtid_text.specs.declared.SourceId.{SourceId}
 use Rattle.gtid_text.specs.declared.Span.{Span}
 use Rattle.gtid_text.proofs.Turns.{source_length, left_of, left_of-turn, left_of-end, with_front-twice, with_nothing}
@@ -76,7 +76,7 @@ pub number_reads : (n : Number) (value : ℕ) (r : List ℕ) → IsNumber n valu
 number_reads n value r h cut =
     let e = past_blanks is_ascii_digit n.gap n.digits r refl refl refl refl h.gap h.digits h.some in
     let ne : eqb (length n.digits) 0 ≡ false = ne_eqb (length n.digits) 0 (let s = h.some in omega arith) in
-    ap number_at e ∙ rw (run_front is_ascii_digit n.digits r h.digits cut, ne, h.spells, past_front is_ascii_digit n.digits r h.digits, past_cut is_ascii_digit r cut) refl
+    ap number_at e ∙ rw (run_front is_ascii_digit n.digits r h.digits cut, ne, h.parses, past_front is_ascii_digit n.digits r h.digits, past_cut is_ascii_digit r cut) refl
 
 pub source_reads : (uuid r : List ℕ) (id : SourceId) → list_all is_uuid_byte uuid ≡ true → source_of uuid ≡ Some id → starts is_uuid_byte r ≡ false → source_at (uuid ++ r) ≡ Ok (id, r)
 source_reads uuid r id e s cut =
@@ -271,6 +271,6 @@ elements_read (e ∷ []) spans h =
 elements_read (e ∷ f ∷ es) spans h =
     element_comma e h.0 (set_text (f ∷ es)) h.3 ∙ ap (with_front h.0) (elements_read (f ∷ es) h.1 h.4) ∙ ap Ok (sym h.2)
 
-pub spells_read : (text : List ℕ) (spans : List Span) → Spells text spans → spans_in text ≡ Ok spans
+pub spells_read : (text : List ℕ) (spans : List Span) → ParsesAs text spans → spans_in text ≡ Ok spans
 unfolding spans_in left_of
 spells_read text spans h = ap (λ (t : List ℕ). left_of None t) h.text_is ∙ elements_read h.elements spans h.says

@@ -6,7 +6,7 @@ use Rattle.std.specs.Str.Parse.{digits_value}
 use Rattle.std.proofs.lemmas.Bool.{eqb-true, eqb-false, ne_eqb, leb-true, and_parts}
 use Rattle.std.proofs.lemmas.List.{append-nil, length-append}
 use Rattle.gtid_text.specs.Scan.{is_blank, is_uuid_byte, run, skip_while, ◌>>=◌, refuse, source_of, found_source, source_at, number_of, found_number, number_at, colon_at}
-use Rattle.gtid_text.specs.Reading.{span, ordered, upper_at, interval_at, separator_at, element_at, turn_at, with_front}
+use Rattle.gtid_text.specs.Reading.{span, check_order, upper_at, interval_at, separator_at, element_at, turn_at, with_front}
 use Rattle.gtid_text.specs.Grammar.{Number, Interval, Named, number_text, interval_text, named_text, IsGap, IsNumber, IsInterval, IsNamed}
 use Rattle.gtid_text.specs.Refused.{IsDue, IsMet, SameToken}
 use Rattle.gtid_text.specs.declared.SourceId.{SourceId}
@@ -119,13 +119,13 @@ single_bare : (id : SourceId) (i : Interval) (s : Span) → IsInterval i id s �
 single_bare id i s h = ap (left_of (Some id)) (sym (append-nil (interval_text i))) ∙ single id i s [] h refl
 
 pub one_is : (gap : List ℕ) → IsGap gap → IsNumber (record { gap = gap; digits = codes "1" }) 1
-one_is gap g = record { gap = g; digits = refl; some = omega arith; spells = refl }
+one_is gap g = record { gap = g; digits = refl; some = omega arith; parses = refl }
 
 abbrev greatest : ℕ
 greatest = 9223372036854775807
 
 greatest_is : (gap : List ℕ) → IsGap gap → IsNumber (record { gap = gap; digits = codes "9223372036854775807" }) greatest
-greatest_is gap g = record { gap = g; digits = refl; some = omega arith; spells = refl }
+greatest_is gap g = record { gap = g; digits = refl; some = omega arith; parses = refl }
 
 number_bound : (digits : List ℕ) (n : ℕ) → number_of digits ≡ Some n → n ≤ greatest
 number_bound digits n e =
@@ -172,7 +172,7 @@ upper_number_err id lo bs e h = rw h refl
 upper_ordered_err : (id : SourceId) (lo : ℕ) (bs : List ℕ) (hi : ℕ × List ℕ) → number_at (skip_while is_blank bs) ≡ Ok hi → ltb hi.0 lo ≡ true → (e : ScanFault) × (upper_at id lo (45 ∷ bs) ≡ Err e)
 upper_ordered_err id lo bs hi h k = (record { kind = kinds.Reversed; left = length (skip_while is_blank bs) }, rw (h, k) refl)
 
-ordered_err : (id : SourceId) (lo hi : ℕ) (digits after : List ℕ) (r : ScanFault) → ordered id lo hi digits after ≡ Err r → (ltb hi lo ≡ true) × ((record { kind = kinds.Reversed; left = length digits }) ≡ r)
+ordered_err : (id : SourceId) (lo hi : ℕ) (digits after : List ℕ) (r : ScanFault) → check_order id lo hi digits after ≡ Err r → (ltb hi lo ≡ true) × ((record { kind = kinds.Reversed; left = length digits }) ≡ r)
 ordered_err id lo hi digits after r e =
     elim (chosen (ltb hi lo) (refuse kinds.Reversed digits) (Ok (span id lo hi, after)) (Err r) e) [
       | inl p ↦ (p.0, cc)
@@ -189,12 +189,12 @@ number_again y more x e same =
 upper_err : (id : SourceId) (lo : ℕ) (y : List ℕ) (r : ScanFault) → upper_at id lo y ≡ Err r → UpperErr id lo y r
 upper_err id lo [] r e = absurd cc
 upper_err id lo (b ∷ bs) r e =
-    elim (chosen (eqb b 45) (number_at (skip_while is_blank bs) >>= λ hi. ordered id lo hi.0 (skip_while is_blank bs) (skip_while is_blank hi.1)) (Ok (span id lo lo, b ∷ bs)) (Err r) e) [
+    elim (chosen (eqb b 45) (number_at (skip_while is_blank bs) >>= λ hi. check_order id lo hi.0 (skip_while is_blank bs) (skip_while is_blank hi.1)) (Ok (span id lo lo, b ∷ bs)) (Err r) e) [
       | inr p ↦ absurd cc
       | inl p ↦
           let c : b ≡ 45 = eqb-true b 45 p.0 in
           let y = skip_while is_blank bs in
-          elim (bind_err (number_at y) (λ hi. ordered id lo hi.0 y (skip_while is_blank hi.1)) r p.1) [
+          elim (bind_err (number_at y) (λ hi. check_order id lo hi.0 y (skip_while is_blank hi.1)) r p.1) [
             | inl q ↦
                 let n = number_err y r q in
                 record {
@@ -229,7 +229,7 @@ refusing_upper id rest lo r e h =
     let regroup : (more : List ℕ) → front ++ more ≡ number_text f.n ++ (g2 ++ 45 ∷ (g3 ++ more)) = λ more. append_assoc (number_text f.n) (g2 ++ 45 ∷ g3) more ∙ ap (λ (z : List ℕ). number_text f.n ++ z) (append_assoc g2 (45 ∷ g3) more) in
     let last : Number = record { gap = g3; digits = codes "9223372036854775807" } in
     let i : Interval = record { lo = f.n; upper = Some (g2, last) } in
-    let says : IsInterval i id (span id lo.0 greatest) = record { source = refl; lo = f.says; upper = (gap_of lo.1, greatest_is g3 (gap_of u.bs), number_bound f.n.digits lo.0 f.says.spells) } in
+    let says : IsInterval i id (span id lo.0 greatest) = record { source = refl; lo = f.says; upper = (gap_of lo.1, greatest_is g3 (gap_of u.bs), number_bound f.n.digits lo.0 f.says.parses) } in
     record {
       front = front;
       bad = y;

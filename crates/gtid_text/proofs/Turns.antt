@@ -5,7 +5,7 @@ use Rattle.std.specs.Char.{is_ascii_digit}
 use Rattle.std.proofs.lemmas.Bool.{eqb-true, eqb-false}
 use Rattle.std.proofs.lemmas.List.{append-nil}
 use Rattle.gtid_text.specs.Scan.{is_blank, is_uuid_byte, run, skip_while, ◌>>=◌, refuse, source_of, found_source, source_at, number_of, found_number, number_at, colon_at}
-use Rattle.gtid_text.specs.Reading.{span, ordered, upper_at, interval_at, separator_at, element_at, Turn, turn_at, with_front, go_on, spans_at, spans_in}
+use Rattle.gtid_text.specs.Reading.{span, check_order, upper_at, interval_at, separator_at, element_at, Turn, turn_at, with_front, go_on, spans_at, spans_in}
 use Rattle.gtid_text.specs.declared.SourceId.{SourceId}
 use Rattle.gtid_text.specs.declared.Span.{Span}
 use Rattle.gtid_text.specs.declared.scan.ScanFault.{ScanFault}
@@ -93,7 +93,7 @@ colon_shorter (b ∷ bs) x e =
       | inr p ↦ absurd cc
     ]
 
-pub ordered_ok : (id : SourceId) (lo hi : ℕ) (digits after : List ℕ) (x : Span × List ℕ) → ordered id lo hi digits after ≡ Ok x → (ltb hi lo ≡ false) × ((span id lo hi, after) ≡ x)
+pub ordered_ok : (id : SourceId) (lo hi : ℕ) (digits after : List ℕ) (x : Span × List ℕ) → check_order id lo hi digits after ≡ Ok x → (ltb hi lo ≡ false) × ((span id lo hi, after) ≡ x)
 ordered_ok id lo hi digits after x e =
     elim (chosen (ltb hi lo) (refuse kinds.Reversed digits) (Ok (span id lo hi, after)) (Ok x) e) [
       | inl p ↦ absurd cc
@@ -103,9 +103,9 @@ ordered_ok id lo hi digits after x e =
 upper_shorter : (id : SourceId) (lo : ℕ) (rest : List ℕ) (x : Span × List ℕ) → upper_at id lo rest ≡ Ok x → length x.1 ≤ length rest
 upper_shorter id lo [] x e = omega (arith, ap (λ (y : Span × List ℕ). length y.1) (ok_is (span id lo lo, []) x e))
 upper_shorter id lo (b ∷ bs) x e =
-    elim (chosen (eqb b 45) (number_at (skip_while is_blank bs) >>= λ hi. ordered id lo hi.0 (skip_while is_blank bs) (skip_while is_blank hi.1)) (Ok (span id lo lo, b ∷ bs)) (Ok x) e) [
+    elim (chosen (eqb b 45) (number_at (skip_while is_blank bs) >>= λ hi. check_order id lo hi.0 (skip_while is_blank bs) (skip_while is_blank hi.1)) (Ok (span id lo lo, b ∷ bs)) (Ok x) e) [
       | inl p ↦
-          let q = bind_ok (number_at (skip_while is_blank bs)) (λ hi. ordered id lo hi.0 (skip_while is_blank bs) (skip_while is_blank hi.1)) x p.1 in
+          let q = bind_ok (number_at (skip_while is_blank bs)) (λ hi. check_order id lo hi.0 (skip_while is_blank bs) (skip_while is_blank hi.1)) x p.1 in
           let o = ordered_ok id lo q.0.0 (skip_while is_blank bs) (skip_while is_blank q.0.1) x q.2 in
           omega (arith, number_shorter (skip_while is_blank bs) q.0 q.1, skip_shorter bs, skip_shorter q.0.1, ap (λ (y : Span × List ℕ). length y.1) o.1)
       | inr p ↦ omega (arith, ap (λ (y : Span × List ℕ). length y.1) (ok_is (span id lo lo, b ∷ bs) x p.1))

@@ -68,7 +68,7 @@ pub record IsNumber (n : Number) (value : ℕ) : Type 0 where
   pub gap : IsGap n.gap
   pub digits : list_all is_ascii_digit n.digits ≡ true
   pub some : 0 < length n.digits
-  pub spells : number_of n.digits ≡ Some value
+  pub parses : number_of n.digits ≡ Some value
 
 abbrev pub IsUpper : Option (List ℕ × Number) → Span → Type 0
 IsUpper None s = s.hi ≡ s.lo
@@ -102,14 +102,14 @@ AreElements [] spans = spans ≡ []
 AreElements (e ∷ es) spans = (front : List Span) × (back : List Span) × (spans ≡ front ++ back) × IsElement e front × AreElements es back
 
 -- the text parses as these intervals
-pub record Spells (text : List ℕ) (spans : List Span) : Type 0 where
+pub record ParsesAs (text : List ℕ) (spans : List Span) : Type 0 where
   pub elements : List Element
   pub text_is : text ≡ set_text elements
   pub says : AreElements elements spans
 
 -- a text that parses as some set
 abbrev pub IsSetText : List ℕ → Type 0
-IsSetText text = (spans : List Span) × Spells text spans
+IsSetText text = (spans : List Span) × ParsesAs text spans
 
 -- ---- one source, one GTID
 
@@ -119,7 +119,7 @@ pub record IsUuid (uuid : List ℕ) (id : SourceId) : Type 0 where
   pub names : source_of uuid ≡ Some id
 
 -- a UUID between blanks
-pub record SpellsSource (text : List ℕ) (id : SourceId) : Type 0 where
+pub record ParsesAsSource (text : List ℕ) (id : SourceId) : Type 0 where
   pub gap : List ℕ
   pub uuid : List ℕ
   pub after : List ℕ
@@ -128,10 +128,10 @@ pub record SpellsSource (text : List ℕ) (id : SourceId) : Type 0 where
   pub is_uuid : IsUuid uuid id
 
 abbrev pub IsSourceText : List ℕ → Type 0
-IsSourceText text = (id : SourceId) × SpellsSource text id
+IsSourceText text = (id : SourceId) × ParsesAsSource text id
 
 -- a UUID, a colon and a number, with blanks around each
-pub record SpellsGtid (text : List ℕ) (gtid : Gtid) : Type 0 where
+pub record ParsesAsGtid (text : List ℕ) (gtid : Gtid) : Type 0 where
   pub gap : List ℕ
   pub uuid : List ℕ
   pub behind : List ℕ
@@ -143,4 +143,4 @@ pub record SpellsGtid (text : List ℕ) (gtid : Gtid) : Type 0 where
   pub is_number : IsNumber number gtid.number
 
 abbrev pub IsGtidText : List ℕ → Type 0
-IsGtidText text = (gtid : Gtid) × SpellsGtid text gtid
+IsGtidText text = (gtid : Gtid) × ParsesAsGtid text gtid

@@ -54,8 +54,8 @@ abbrev pub span : SourceId → ℕ → ℕ → Span
 span id lo hi = record { source = id; lo = lo; hi = hi }
 
 -- a greater end than the start, or the same
-abbrev pub ordered : SourceId → ℕ → ℕ → List ℕ → List ℕ → Result (Span × List ℕ) ScanFault
-ordered id lo hi digits after = if nat_lt hi lo then refuse kinds.Reversed digits else Ok (span id lo hi, after)
+abbrev pub check_order : SourceId → ℕ → ℕ → List ℕ → List ℕ → Result (Span × List ℕ) ScanFault
+check_order id lo hi digits after = if nat_lt hi lo then refuse kinds.Reversed digits else Ok (span id lo hi, after)
 
 -- what follows the first number of an interval
 abbrev pub upper_at : SourceId → ℕ → List ℕ → Result (Span × List ℕ) ScanFault
@@ -63,7 +63,7 @@ upper_at id lo [] = Ok (span id lo lo, [])
 upper_at id lo (b ∷ bs) =
     if b == 45 then (do
       hi ← number_at (skip_while is_blank bs)
-      ordered id lo hi.0 (skip_while is_blank bs) (skip_while is_blank hi.1))
+      check_order id lo hi.0 (skip_while is_blank bs) (skip_while is_blank hi.1))
     else Ok (span id lo lo, b ∷ bs)
 
 unfoldable pub interval_at : SourceId → List ℕ → Result (Span × List ℕ) ScanFault

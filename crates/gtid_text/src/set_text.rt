@@ -1,6 +1,6 @@
 ghost use Rattle.std.specs.Prelude.{◌≡◌, ℕ, ◌++◌, option_map, option_to_list, length, List, Ok, OnOk, IfOk, IfErr};
 ghost use Rattle.gtid_text.specs.Scan.{Sees};
-ghost use Rattle.gtid_text.specs.Grammar.{Spells, IsSetText, SpellsSource, IsSourceText, SpellsGtid, IsGtidText};
+ghost use Rattle.gtid_text.specs.Grammar.{ParsesAs, IsSetText, ParsesAsSource, IsSourceText, ParsesAsGtid, IsGtidText};
 ghost use Rattle.gtid_text.specs.Refused.{Refuses, FailsText};
 ghost use Rattle.gtid_text.specs.declared.Gtid.{Gtid};
 ghost use Rattle.gtid_text.specs.declared.Span.{Span};
@@ -229,9 +229,9 @@ fn gtid_of_text(text: &str) -> Result<Gtid, TextFault>
 /// The source that a text names, with blanks around it.
 pub fn parse_source(text: &str) -> Result<SourceId, TextFault>
     // An accepted text is a text of this value by the grammar.
-    ensures found { IfOk result (λ id. SpellsSource text.now id) }
+    ensures found { IfOk result (λ id. ParsesAsSource text.now id) }
     // A text of a value by the grammar is accepted as this value.
-    ensures only { (id : ℕ) → SpellsSource text.now id → result ≡ Ok id }
+    ensures only { (id : ℕ) → ParsesAsSource text.now id → result ≡ Ok id }
     // It is refused at the first token at which no continuation parses as a source.
     ensures refused { IfErr result (λ fault. Refuses IsSourceText fault text.now) }
     // The result is that of the table of states, also which refusal it is.
@@ -243,9 +243,9 @@ pub fn parse_source(text: &str) -> Result<SourceId, TextFault>
 /// The GTID that a text names, with blanks between its tokens.
 pub fn parse_gtid(text: &str) -> Result<Gtid, TextFault>
     // An accepted text is a text of this value by the grammar.
-    ensures found { IfOk result (λ gtid. SpellsGtid text.now gtid) }
+    ensures found { IfOk result (λ gtid. ParsesAsGtid text.now gtid) }
     // A text of a value by the grammar is accepted as this value.
-    ensures only { (gtid : Gtid) → SpellsGtid text.now gtid → result ≡ Ok gtid }
+    ensures only { (gtid : Gtid) → ParsesAsGtid text.now gtid → result ≡ Ok gtid }
     // It is refused at the first token at which no continuation parses as a GTID.
     ensures refused { IfErr result (λ fault. Refuses IsGtidText fault text.now) }
     // The result is that of the table of states, also which refusal it is.
@@ -267,9 +267,9 @@ fn spans_of(alloc: Global, text: &str) -> Result<Vec<Span>, TextFault>
 /// The intervals of a set, as they are written.
 pub fn parse_spans(alloc: Global, text: &str) -> Result<Vec<Span>, TextFault>
     // An accepted text is a text of this value by the grammar.
-    ensures found { IfOk result (λ v. Spells text.now v.items) }
+    ensures found { IfOk result (λ v. ParsesAs text.now v.items) }
     // A text of these intervals by the grammar is accepted as them, unless memory is refused.
-    ensures only { (spans : List Span) → Spells text.now spans → GivesText (λ v. v.items) result (length text.now) (Ok spans) }
+    ensures only { (spans : List Span) → ParsesAs text.now spans → GivesText (λ v. v.items) result (length text.now) (Ok spans) }
     // It is refused at the first token at which no continuation parses as a set.
     ensures refused { IfErr result (λ fault. FailsText IsSetText fault text.now) }
     // The result is that of the table of states, also which refusal it is.

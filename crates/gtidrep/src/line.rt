@@ -90,7 +90,7 @@ Status: 0 the answer is printed, 1 an argument is refused, 2 the command line, 3
 
 const POSITION_EXAMPLE: &str =
     "Prints how many entries of the journal the source with this UUID sends to a replica that asks with this set, and
-their GTIDs, one a line; or the line that says why it sends nothing.
+their GTIDs, one a line; or the line that answers why it sends nothing.
 
 Example:
   gtidrep position --own aaaaaaaa-aaaa-aaaa-aaaa-aaaaaaaaaaaa --ask aaaaaaaa-aaaa-aaaa-aaaa-aaaaaaaaaaaa:1-3 < examples/first.journal
@@ -140,7 +140,7 @@ Example:
 Status: 0 printed, 1 refused, 2 the command line, 3 memory, 4 reading or writing failed.";
 
 const APPLY_EXAMPLE: &str =
-    "Prints the executed set and the rows, or the line that says why the bundle does not apply. One worker was the
+    "Prints the executed set and the rows, or the line that answers why the bundle does not apply. One worker was the
 fastest wherever it was measured. --ordered is as for `audit`.
 
 Example:

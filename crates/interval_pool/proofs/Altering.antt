@@ -12,7 +12,7 @@ use Rattle.interval_pool.specs.declared.interval.Pieces.{Pieces}
 use Rattle.interval_pool.specs.Links.{most_cells}
 use Rattle.interval_pool.specs.Cells.{head_at, after}
 use Rattle.interval_pool.specs.Chains.{first_or, last_or, AreLinked}
-use Rattle.interval_pool.specs.Intervals.{IsBefore, IsApart, IsSplit, AreMerged, covers, has, meet, listed, part_below, part_above}
+use Rattle.interval_pool.specs.Intervals.{IsBefore, IsApart, IsSplit, AreMerged, covers, has, meet, list_of_pieces, part_below, part_above}
 use Rattle.interval_pool.specs.Pools.{walk, chain_of, rest_of, interval_at, AreWhole}
 use Rattle.interval_pool.specs.Places.{AreBelow, Reaches, IsPlace}
 use Rattle.interval_pool.specs.Changes.{spans_of, Replaced, Replaces, Changed, Added, Cut, with_more, without}
@@ -120,16 +120,16 @@ stands cells heads k n limit before s j h merged filled from near place is_joine
 -- ---- other intervals in their place
 
 pub changed : (cells cells1 : List Cell) (heads heads1 : List Head) (k n limit : ℕ) (before : Option ℕ) (s : Interval) (j : Joined) (p : Pieces) (among : ℕ → Bool) (t : Stands cells heads k n limit before s j)
-    → AreWhole cells heads → length cells ≤ most_cells → k ≢ 0 → k < length heads → length (listed p) ≤ j.count + 1 → Replaces cells heads k before j.count p cells1 heads1
-    → AreMerged (map (interval_at cells) t.xs ++ (listed p ++ t.met.rest)) → ((m : ℕ) → (has (map (interval_at cells) t.xs) m || (has (listed p) m || has t.met.rest m)) ≡ among m) → Changed cells heads k among cells1 heads1
+    → AreWhole cells heads → length cells ≤ most_cells → k ≢ 0 → k < length heads → length (list_of_pieces p) ≤ j.count + 1 → Replaces cells heads k before j.count p cells1 heads1
+    → AreMerged (map (interval_at cells) t.xs ++ (list_of_pieces p ++ t.met.rest)) → ((m : ℕ) → (has (map (interval_at cells) t.xs) m || (has (list_of_pieces p) m || has t.met.rest m)) ≡ among m) → Changed cells heads k among cells1 heads1
 changed cells cells1 heads heads1 k n limit before s j p among t h small not_free lt more replaces good same =
     let us = map (interval_at cells) t.xs in
-    let r : Replaced cells heads k t.xs t.ys j.count (listed p) cells1 heads1 = replaces t.xs t.ys h small not_free lt t.parts t.before_is t.few more in
-    let after : spans_of cells1 heads1 k ≡ us ++ (listed p ++ t.met.rest) = r.spans ∙ ap (λ ts. us ++ (listed p ++ ts)) t.rest in
+    let r : Replaced cells heads k t.xs t.ys j.count (list_of_pieces p) cells1 heads1 = replaces t.xs t.ys h small not_free lt t.parts t.before_is t.few more in
+    let after : spans_of cells1 heads1 k ≡ us ++ (list_of_pieces p ++ t.met.rest) = r.spans ∙ ap (λ ts. us ++ (list_of_pieces p ++ ts)) t.rest in
     let e = ap length after in
     let g = ap length t.spans in
-    let l1 = length-append us (listed p ++ t.met.rest) in
-    let l2 = length-append (listed p) t.met.rest in
+    let l1 = length-append us (list_of_pieces p ++ t.met.rest) in
+    let l2 = length-append (list_of_pieces p) t.met.rest in
     let l3 = length-append us (map (interval_at cells) t.ys) in
     let l4 = ap length t.met.parts ∙ length-append t.met.front t.met.rest in
     let c = t.met.count in
@@ -138,7 +138,7 @@ changed cells cells1 heads heads1 k n limit before s j p among t h small not_fre
       keeps = r.keeps;
       small = r.small;
       merged = subst AreMerged (sym after) good;
-      numbers = λ m. ap (λ ts. has ts m) after ∙ (has_append us (listed p ++ t.met.rest) m ∙ (ap (λ b. has us m || b) (has_append (listed p) t.met.rest m) ∙ same m));
+      numbers = λ m. ap (λ ts. has ts m) after ∙ (has_append us (list_of_pieces p ++ t.met.rest) m ∙ (ap (λ b. has us m || b) (has_append (list_of_pieces p) t.met.rest m) ∙ same m));
       few = omega (e, g, l1, l2, l3, l4, c, more, arith);
       total = omega (e, g, l1, l2, l3, l4, c, total, arith);
       more = r.more;
@@ -228,7 +228,7 @@ has_above w s n = ⊎_elim
 has_parts : (a b c d n : ℕ) → a ≤ c → c ≤ d → d ≤ b → ((nat_le a n && nat_lt n c) || (nat_lt d n && nat_le n b)) ≡ ((nat_le a n && nat_le n b) && not (nat_le c n && nat_le n d))
 has_parts a b c d n le le' le'' = grind (arith, nat_tests)
 
-pub has_outside : (w s : Interval) (p : Pieces) (n : ℕ) → p.first ≡ part_below w s → p.second ≡ part_above w s → w.lo ≤ s.lo → s.lo ≤ s.hi → s.hi ≤ w.hi → has (listed p) n ≡ (covers w n && not (covers s n))
+pub has_outside : (w s : Interval) (p : Pieces) (n : ℕ) → p.first ≡ part_below w s → p.second ≡ part_above w s → w.lo ≤ s.lo → s.lo ≤ s.hi → s.hi ≤ w.hi → has (list_of_pieces p) n ≡ (covers w n && not (covers s n))
 has_outside w s p n first second lo filled hi =
     has_append (option_to_list p.first) (option_to_list p.second) n
     ∙ ((λ i. has (option_to_list (first i)) n || has (option_to_list (second i)) n)
@@ -350,7 +350,7 @@ part_met limit s spans j m filled none =
     high : (a b c d : ℕ) → d < b → a ≤ b → (nat_le a b && nat_le b b) ≡ (nat_le c b && nat_le b d) → ⊥
     high a b c d lt le e = grind (arith, nat_tests)
 
-pub parts_few : (limit : ℕ) (s : Interval) (spans : List Interval) (j : Joined) (p : Pieces) → Meets limit s 0 spans j → s.lo ≤ s.hi → p.first ≡ part_below j.numbers s → p.second ≡ part_above j.numbers s → length (listed p) ≤ j.count + 1
+pub parts_few : (limit : ℕ) (s : Interval) (spans : List Interval) (j : Joined) (p : Pieces) → Meets limit s 0 spans j → s.lo ≤ s.hi → p.first ≡ part_below j.numbers s → p.second ≡ part_above j.numbers s → length (list_of_pieces p) ≤ j.count + 1
 parts_few limit s spans j p m filled first second =
     let size = length-append (option_to_list p.first) (option_to_list p.second) in
     let a = ap (λ o. length (option_to_list o)) first in
@@ -364,7 +364,7 @@ parts_few limit s spans j p m filled first second =
     omega (size, a, b, e, f, arith))
     (omega (size, a, b, c, d, arith))
   where
-    counted : (n : ℕ) → j.count ≡ n → (j.count ≡ 0 → length (listed p) ≤ 0) → length (listed p) ≤ 2 → length (listed p) ≤ j.count + 1
+    counted : (n : ℕ) → j.count ≡ n → (j.count ≡ 0 → length (list_of_pieces p) ≤ 0) → length (list_of_pieces p) ≤ 2 → length (list_of_pieces p) ≤ j.count + 1
     counted zero e none two = let le = none e in omega (le, arith)
     counted (suc n) e none two = omega (e, two, arith)
 
@@ -374,13 +374,13 @@ cut_out cells cells1 heads heads1 k before s j p t h small not_free lt filled fi
     let us = map (interval_at cells) t.xs in
     let ss = map (interval_at cells) t.ys in
     let m = t.met in
-    let shape : listed p ++ m.rest ≡ option_to_list (part_below j.numbers s) ++ (option_to_list (part_above j.numbers s) ++ m.rest) =
+    let shape : list_of_pieces p ++ m.rest ≡ option_to_list (part_below j.numbers s) ++ (option_to_list (part_above j.numbers s) ++ m.rest) =
     (λ i. (option_to_list (first i) ++ option_to_list (second i)) ++ m.rest) ∙ append_assoc (option_to_list (part_below j.numbers s)) (option_to_list (part_above j.numbers s)) m.rest in
-    let front : (u : Interval) → u.hi < s.lo → AllByRecursion (IsBefore u) ss → AllByRecursion (IsBefore u) (listed p ++ m.rest) = λ u less all.
+    let front : (u : Interval) → u.hi < s.lo → AllByRecursion (IsBefore u) ss → AllByRecursion (IsBefore u) (list_of_pieces p ++ m.rest) = λ u less all.
     let parts = all_parts (IsBefore u) m.front m.rest (subst (AllByRecursion (IsBefore u)) m.parts all) in
     subst (AllByRecursion (IsBefore u)) (sym shape) (parts_before u j.numbers s m.rest less filled (m.lower u parts.0) parts.1) in
-    let back : AreMerged (listed p ++ m.rest) = subst AreMerged (sym shape) (parts_merged j.numbers s m.rest filled m.beyond m.merged m.later) in
-    let good = merged_with (λ u. u.hi < s.lo) us ss (listed p ++ m.rest) t.merged t.below back front in
+    let back : AreMerged (list_of_pieces p ++ m.rest) = subst AreMerged (sym shape) (parts_merged j.numbers s m.rest filled m.beyond m.merged m.later) in
+    let good = merged_with (λ u. u.hi < s.lo) us ss (list_of_pieces p ++ m.rest) t.merged t.below back front in
     changed cells cells1 heads heads1 k s.lo s.hi before s j p (without (spans_of cells heads k) s) t h small not_free lt (parts_few s.hi s ss j p m filled first second) replaces good
     (λ i.
     ap (λ b. has us i || (b || has m.rest i)) (has_outside j.numbers s p i first second m.lo filled m.hi ∙ ap (λ b. b && not (covers s i)) (m.has i))
@@ -409,7 +409,7 @@ split_back [] ss s split = split
 split_back (u ∷ us) ss s split = inr (split_back us ss s split)
 
 pub is_split : (cells : List Cell) (heads : List Head) (k : ℕ) (before : Option ℕ) (s : Interval) (j : Joined) (p : Pieces) → Stands cells heads k s.lo s.hi before s j → s.lo ≤ s.hi
-    → p.first ≡ part_below j.numbers s → p.second ≡ part_above j.numbers s → j.count < length (listed p) → IsSplit (spans_of cells heads k) s
+    → p.first ≡ part_below j.numbers s → p.second ≡ part_above j.numbers s → j.count < length (list_of_pieces p) → IsSplit (spans_of cells heads k) s
 is_split cells heads k before s j p t filled first second more =
     let m = t.met in
     let size = length-append (option_to_list p.first) (option_to_list p.second) in

@@ -94,7 +94,7 @@ module _ (cells : List Cell) (i : ℕ) (c : Cell) (lt : i < length cells) (owner
 
 -- ---- other numbers in a cell
 
--- the walk comes to the cell
+-- the walk reaches the cell
 pub renewed_at : (cells : List Cell) (heads : List Head) (k i : ℕ) (before : Option ℕ) (xs ys : List ℕ) → AreWhole cells heads → chain_of cells heads k ≡ xs ++ i ∷ ys → before ≡ last_or None xs → after cells heads k before ≡ Some i
 renewed_at cells heads k i before xs ys h parts is_before = ap (after cells heads k) is_before ∙ after_is cells heads None (chain_of cells heads) k xs (i ∷ ys) h parts
 

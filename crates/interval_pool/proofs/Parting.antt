@@ -10,7 +10,7 @@ use Rattle.interval_pool.specs.Cells.{cell_at, head_at}
 use Rattle.interval_pool.specs.Chains.{AreLinked, AreOnce, IsAmong}
 use Rattle.interval_pool.specs.Pools.{walk, chain_of}
 use Rattle.interval_pool.specs.Changes.{Spends}
-use Rattle.interval_pool.specs.Values.{Held, standing, IsPartition, IsFull, held, slot, value_of, IsPool}
+use Rattle.interval_pool.specs.Values.{Held, cells_in_lists, IsPartition, IsFull, held, slot, value_of, IsPool}
 use Rattle.interval_pool.proofs.Facts.{told, all_weaker, all_joined}
 use Rattle.interval_pool.proofs.Walking.{all_below, once_few, without}
 use Rattle.interval_pool.proofs.Valued.{held_cells}
@@ -72,12 +72,12 @@ once_both cells k (i ∷ is) js here there one two =
 
 -- ---- the cells that are in lists
 
-stands_more : (cells : List Cell) (h : Head) (slots : List (Option (List Held))) → h.is_list ≡ true → standing (slot cells h ∷ slots) ≡ walk cells h.len h.first ++ standing slots
+stands_more : (cells : List Cell) (h : Head) (slots : List (Option (List Held))) → h.is_list ≡ true → cells_in_lists (slot cells h ∷ slots) ≡ walk cells h.len h.first ++ cells_in_lists slots
 stands_more cells h slots is =
-    ap (λ b. standing ((if b then Some (map (held cells) (walk cells h.len h.first)) else None) ∷ slots)) is ∙ ap (λ is. is ++ standing slots) (held_cells cells (walk cells h.len h.first))
+    ap (λ b. cells_in_lists ((if b then Some (map (held cells) (walk cells h.len h.first)) else None) ∷ slots)) is ∙ ap (λ is. is ++ cells_in_lists slots) (held_cells cells (walk cells h.len h.first))
 
-stands_none : (cells : List Cell) (h : Head) (slots : List (Option (List Held))) → h.is_list ≡ false → standing (slot cells h ∷ slots) ≡ standing slots
-stands_none cells h slots none = ap (λ b. standing ((if b then Some (map (held cells) (walk cells h.len h.first)) else None) ∷ slots)) none
+stands_none : (cells : List Cell) (h : Head) (slots : List (Option (List Held))) → h.is_list ≡ false → cells_in_lists (slot cells h ∷ slots) ≡ cells_in_lists slots
+stands_none cells h slots none = ap (λ b. cells_in_lists ((if b then Some (map (held cells) (walk cells h.len h.first)) else None) ∷ slots)) none
 
 -- these heads are those from a place on
 abbrev AreFrom : List Head → ℕ → List Head → Type 0
@@ -89,16 +89,16 @@ from_next heads k h hs from j = from (suc j) ∙ ap (head_at heads) (let e : k +
 from_here : (heads : List Head) (k : ℕ) (h : Head) (hs : List Head) → AreFrom heads k (h ∷ hs) → h ≡ head_at heads k
 from_here heads k h hs from = from 0 ∙ ap (head_at heads) (let e : k + 0 ≡ k = omega arith in e)
 
-stand_owned : (cells : List Cell) (heads : List Head) (k : ℕ) (hs : List Head) → IsPool cells heads → AreFrom heads k hs → AllByRecursion (λ i. (k ≤ (cell_at cells i).owner) × (i < length cells)) (standing (map (slot cells) hs))
+stand_owned : (cells : List Cell) (heads : List Head) (k : ℕ) (hs : List Head) → IsPool cells heads → AreFrom heads k hs → AllByRecursion (λ i. (k ≤ (cell_at cells i).owner) × (i < length cells)) (cells_in_lists (map (slot cells) hs))
 stand_owned cells heads k [] p from = tt
 stand_owned cells heads k (h ∷ hs) p from =
     let P : ℕ → Type 0 = λ i. (k ≤ (cell_at cells i).owner) × (i < length cells) in
-    let more = all_weaker (λ i. (suc k ≤ (cell_at cells i).owner) × (i < length cells)) P (standing (map (slot cells) hs)) (λ i both. let le = both.0 in (omega (le, arith), both.1)) (stand_owned cells heads (suc k) hs p (from_next heads k h hs from)) in
+    let more = all_weaker (λ i. (suc k ≤ (cell_at cells i).owner) × (i < length cells)) P (cells_in_lists (map (slot cells) hs)) (λ i both. let le = both.0 in (omega (le, arith), both.1)) (stand_owned cells heads (suc k) hs p (from_next heads k h hs from)) in
     ⊎_elim
     (λ is.
     let chain : walk cells h.len h.first ≡ chain_of cells heads k = ap (λ (g : Head). walk cells g.len g.first) (from_here heads k h hs from) in
     let here : AllByRecursion P (chain_of cells heads k) = both k (chain_of cells heads k) (owned cells k (chain_of cells heads k) None (p.whole.linked k)) (all_below cells k (chain_of cells heads k) None (p.whole.linked k)) in
-    subst (AllByRecursion P) (sym (stands_more cells h (map (slot cells) hs) is)) (all_joined P (walk cells h.len h.first) (standing (map (slot cells) hs)) (subst (AllByRecursion P) (sym chain) here) more))
+    subst (AllByRecursion P) (sym (stands_more cells h (map (slot cells) hs) is)) (all_joined P (walk cells h.len h.first) (cells_in_lists (map (slot cells) hs)) (subst (AllByRecursion P) (sym chain) here) more))
     (λ none. subst (AllByRecursion P) (sym (stands_none cells h (map (slot cells) hs) none)) more)
     (told h.is_list)
   where
@@ -106,7 +106,7 @@ stand_owned cells heads k (h ∷ hs) p from =
     both k [] own below = tt
     both k (i ∷ is) own below = let e = own.0 in ((omega (e, arith), below.0), both k is own.1 below.1)
 
-stand_once : (cells : List Cell) (heads : List Head) (k : ℕ) (hs : List Head) → IsPool cells heads → AreFrom heads k hs → AreOnce (standing (map (slot cells) hs))
+stand_once : (cells : List Cell) (heads : List Head) (k : ℕ) (hs : List Head) → IsPool cells heads → AreFrom heads k hs → AreOnce (cells_in_lists (map (slot cells) hs))
 stand_once cells heads k [] p from = tt
 stand_once cells heads k (h ∷ hs) p from =
     let later = from_next heads k h hs from in
@@ -114,9 +114,9 @@ stand_once cells heads k (h ∷ hs) p from =
     ⊎_elim
     (λ is.
     let chain : walk cells h.len h.first ≡ chain_of cells heads k = ap (λ (g : Head). walk cells g.len g.first) (from_here heads k h hs from) in
-    let there = all_weaker (λ i. (suc k ≤ (cell_at cells i).owner) × (i < length cells)) (λ i. k < (cell_at cells i).owner) (standing (map (slot cells) hs)) (λ i both. let le = both.0 in omega (le, arith)) (stand_owned cells heads (suc k) hs p later) in
-    subst AreOnce (sym (stands_more cells h (map (slot cells) hs) is ∙ ap (λ is. is ++ standing (map (slot cells) hs)) chain))
-    (once_both cells k (chain_of cells heads k) (standing (map (slot cells) hs)) (owned cells k (chain_of cells heads k) None (p.whole.linked k)) there (p.whole.once k) more))
+    let there = all_weaker (λ i. (suc k ≤ (cell_at cells i).owner) × (i < length cells)) (λ i. k < (cell_at cells i).owner) (cells_in_lists (map (slot cells) hs)) (λ i both. let le = both.0 in omega (le, arith)) (stand_owned cells heads (suc k) hs p later) in
+    subst AreOnce (sym (stands_more cells h (map (slot cells) hs) is ∙ ap (λ is. is ++ cells_in_lists (map (slot cells) hs)) chain))
+    (once_both cells k (chain_of cells heads k) (cells_in_lists (map (slot cells) hs)) (owned cells k (chain_of cells heads k) None (p.whole.linked k)) there (p.whole.once k) more))
     (λ none. subst AreOnce (sym (stands_none cells h (map (slot cells) hs) none)) more)
     (told h.is_list)
 
@@ -127,7 +127,7 @@ among_own cells heads i p lt = ⊎_elim (λ (e : None ≡ Some i). absurd (cc)) 
 none_among : (cells : List Cell) (heads : List Head) (i m : ℕ) → IsPool cells heads → 1 ≤ m → (head_at heads m).is_list ≡ false → IsAmong i (chain_of cells heads m) → ⊥
 none_among cells heads i m p some none among = subst (IsAmong i) (p.gone m (λ e. cc) (λ (e : m ≡ 0). omega (e, some, arith))) among
 
-stand_whole : (cells : List Cell) (heads : List Head) (k : ℕ) (hs : List Head) (i j : ℕ) → IsPool cells heads → 1 ≤ k → AreFrom heads k hs → i < length cells → (cell_at cells i).owner ≡ k + j → IsAmong i (standing (map (slot cells) hs))
+stand_whole : (cells : List Cell) (heads : List Head) (k : ℕ) (hs : List Head) (i j : ℕ) → IsPool cells heads → 1 ≤ k → AreFrom heads k hs → i < length cells → (cell_at cells i).owner ≡ k + j → IsAmong i (cells_in_lists (map (slot cells) hs))
 stand_whole cells heads k [] i j p some from lt own =
     let there = subst (λ o. IsAmong i (chain_of cells heads o)) own (among_own cells heads i p lt) in
     none_among cells heads i (k + j) p (omega (some, arith)) (ap (λ (h : Head). h.is_list) (sym (from j))) there
@@ -138,20 +138,20 @@ stand_whole cells heads k (h ∷ hs) i zero p some from lt own =
     ⊎_elim
     (λ is.
     let chain : walk cells h.len h.first ≡ chain_of cells heads k = ap (λ (g : Head). walk cells g.len g.first) here in
-    subst (IsAmong i) (sym (stands_more cells h (map (slot cells) hs) is)) (among_front i (walk cells h.len h.first) (standing (map (slot cells) hs)) (subst (IsAmong i) (sym chain) there)))
+    subst (IsAmong i) (sym (stands_more cells h (map (slot cells) hs) is)) (among_front i (walk cells h.len h.first) (cells_in_lists (map (slot cells) hs)) (subst (IsAmong i) (sym chain) there)))
     (λ none. absurd (none_among cells heads i k p some (ap (λ (g : Head). g.is_list) (sym here) ∙ none) there))
     (told h.is_list)
 stand_whole cells heads k (h ∷ hs) i (suc j) p some from lt own =
     let more = stand_whole cells heads (suc k) hs i j p (omega arith) (from_next heads k h hs from) lt (own ∙ (let e : k + suc j ≡ suc k + j = omega arith in e)) in
     ⊎_elim
-    (λ is. subst (IsAmong i) (sym (stands_more cells h (map (slot cells) hs) is)) (among_back i (walk cells h.len h.first) (standing (map (slot cells) hs)) more))
+    (λ is. subst (IsAmong i) (sym (stands_more cells h (map (slot cells) hs) is)) (among_back i (walk cells h.len h.first) (cells_in_lists (map (slot cells) hs)) more))
     (λ none. subst (IsAmong i) (sym (stands_none cells h (map (slot cells) hs) none)) more)
     (told h.is_list)
 
 -- ---- all cells
 
 -- the chain of the free cells is no list
-lists_from : (cells : List Cell) (heads : List Head) → IsPool cells heads → (hs : List Head) × (AreFrom heads 1 hs × (standing (map (slot cells) heads) ≡ standing (map (slot cells) hs)))
+lists_from : (cells : List Cell) (heads : List Head) → IsPool cells heads → (hs : List Head) × (AreFrom heads 1 hs × (cells_in_lists (map (slot cells) heads) ≡ cells_in_lists (map (slot cells) hs)))
 lists_from cells [] p = ([], ((λ j. refl), refl))
 lists_from cells (h ∷ hs) p = (hs, ((λ j. ap (head_at (h ∷ hs)) (let e : suc j ≡ 1 + j = omega arith in e)), stands_none cells h (map (slot cells) hs) (⊎_elim (λ is. absurd (p.free_is_none is)) (λ e. e) (told h.is_list))))
 
@@ -163,28 +163,28 @@ partition cells heads capacity p =
     let same = split.1.1 in
     let free = chain_of cells heads 0 in
     let there = stand_owned cells heads 1 hs p from in
-    let once : AreOnce (free ++ standing (map (slot cells) heads)) = subst (λ is. AreOnce (free ++ is)) (sym same)
-    (once_both cells 0 free (standing (map (slot cells) hs)) (owned cells 0 free None (p.whole.linked 0))
-    (all_weaker (λ i. (1 ≤ (cell_at cells i).owner) × (i < length cells)) (λ i. 0 < (cell_at cells i).owner) (standing (map (slot cells) hs)) (λ i both. let le = both.0 in omega (le, arith)) there)
+    let once : AreOnce (free ++ cells_in_lists (map (slot cells) heads)) = subst (λ is. AreOnce (free ++ is)) (sym same)
+    (once_both cells 0 free (cells_in_lists (map (slot cells) hs)) (owned cells 0 free None (p.whole.linked 0))
+    (all_weaker (λ i. (1 ≤ (cell_at cells i).owner) × (i < length cells)) (λ i. 0 < (cell_at cells i).owner) (cells_in_lists (map (slot cells) hs)) (λ i both. let le = both.0 in omega (le, arith)) there)
     (p.whole.once 0) (stand_once cells heads 1 hs p from)) in
-    let below : AllByRecursion (λ i. i < length cells) (free ++ standing (map (slot cells) heads)) = subst (λ is. AllByRecursion (λ i. i < length cells) (free ++ is)) (sym same)
-    (all_joined (λ i. i < length cells) free (standing (map (slot cells) hs)) (all_below cells 0 free None (p.whole.linked 0))
-    (all_weaker (λ i. (1 ≤ (cell_at cells i).owner) × (i < length cells)) (λ i. i < length cells) (standing (map (slot cells) hs)) (λ i both. both.1) there)) in
-    let whole : (i : ℕ) → i < length cells → IsAmong i (free ++ standing (map (slot cells) heads)) = λ i lt. subst (λ is. IsAmong i (free ++ is)) (sym same) (placed i lt hs from (cell_at cells i).owner refl) in
+    let below : AllByRecursion (λ i. i < length cells) (free ++ cells_in_lists (map (slot cells) heads)) = subst (λ is. AllByRecursion (λ i. i < length cells) (free ++ is)) (sym same)
+    (all_joined (λ i. i < length cells) free (cells_in_lists (map (slot cells) hs)) (all_below cells 0 free None (p.whole.linked 0))
+    (all_weaker (λ i. (1 ≤ (cell_at cells i).owner) × (i < length cells)) (λ i. i < length cells) (cells_in_lists (map (slot cells) hs)) (λ i both. both.1) there)) in
+    let whole : (i : ℕ) → i < length cells → IsAmong i (free ++ cells_in_lists (map (slot cells) heads)) = λ i lt. subst (λ is. IsAmong i (free ++ is)) (sym same) (placed i lt hs from (cell_at cells i).owner refl) in
     record {
       once = once;
       below = below;
       whole = whole;
       count =
-          let few = once_few (length cells) (free ++ standing (map (slot cells) heads)) once below in
-          let many = all_many (length cells) (free ++ standing (map (slot cells) heads)) whole in
-          let sum = length-append free (standing (map (slot cells) heads)) in
+          let few = once_few (length cells) (free ++ cells_in_lists (map (slot cells) heads)) once below in
+          let many = all_many (length cells) (free ++ cells_in_lists (map (slot cells) heads)) whole in
+          let sum = length-append free (cells_in_lists (map (slot cells) heads)) in
           omega (few, many, sum, arith);
     }
   where
-    placed : (i : ℕ) → i < length cells → (hs : List Head) → AreFrom heads 1 hs → (o : ℕ) → (cell_at cells i).owner ≡ o → IsAmong i (chain_of cells heads 0 ++ standing (map (slot cells) hs))
-    placed i lt hs from zero own = among_front i (chain_of cells heads 0) (standing (map (slot cells) hs)) (subst (λ o. IsAmong i (chain_of cells heads o)) own (among_own cells heads i p lt))
-    placed i lt hs from (suc o) own = among_back i (chain_of cells heads 0) (standing (map (slot cells) hs)) (stand_whole cells heads 1 hs i o p (omega arith) from lt (own ∙ (let e : suc o ≡ 1 + o = omega arith in e)))
+    placed : (i : ℕ) → i < length cells → (hs : List Head) → AreFrom heads 1 hs → (o : ℕ) → (cell_at cells i).owner ≡ o → IsAmong i (chain_of cells heads 0 ++ cells_in_lists (map (slot cells) hs))
+    placed i lt hs from zero own = among_front i (chain_of cells heads 0) (cells_in_lists (map (slot cells) hs)) (subst (λ o. IsAmong i (chain_of cells heads o)) own (among_own cells heads i p lt))
+    placed i lt hs from (suc o) own = among_back i (chain_of cells heads 0) (cells_in_lists (map (slot cells) hs)) (stand_whole cells heads 1 hs i o p (omega arith) from lt (own ∙ (let e : suc o ≡ 1 + o = omega arith in e)))
 
 pub all_made : (cells : List Cell) (heads : List Head) (capacity : ℕ) → IsPool cells heads → IsFull (value_of cells heads capacity) → most_cells ≤ length cells
 all_made cells heads capacity p full = let count = (partition cells heads capacity p).count in omega (count, full, arith)

@@ -10,7 +10,7 @@ use Rattle.interval_pool.specs.Cells.{head_at}
 use Rattle.interval_pool.specs.Chains.{last_or}
 use Rattle.interval_pool.specs.Pools.{chain_of, interval_at, AreWhole, KeepsOthers, FreedSome, FreesSome, Grown, Grows, Placed, Places}
 use Rattle.interval_pool.specs.declared.interval.Pieces.{Pieces}
-use Rattle.interval_pool.specs.Intervals.{listed}
+use Rattle.interval_pool.specs.Intervals.{list_of_pieces}
 use Rattle.interval_pool.specs.Changes.{free_count, HasRoom, MakesRoom, Set, Sets, Put, Puts, Replaces}
 use Rattle.interval_pool.proofs.Facts.{all_parts}
 use Rattle.interval_pool.proofs.Lists.{same_but, same_intervals}
@@ -147,32 +147,32 @@ keeps_more cells cells1 heads heads1 k one = record {
 }
 
 put_in_room : (cells cells1 cells2 : List Cell) (heads heads1 heads2 : List Head) (k n : ℕ) (before : Option ℕ) (p : Pieces) (xs ys : List ℕ) → Puts cells1 heads1 k before n p cells2 heads2 → k ≢ 0 → k < length heads
-    → chain_of cells heads k ≡ xs ++ ys → before ≡ last_or None xs → n ≤ length ys → HasRoom cells heads n (length (listed p)) cells1 heads1 → Put cells1 heads1 k xs ys n (listed p) cells2 heads2
+    → chain_of cells heads k ≡ xs ++ ys → before ≡ last_or None xs → n ≤ length ys → HasRoom cells heads n (length (list_of_pieces p)) cells1 heads1 → Put cells1 heads1 k xs ys n (list_of_pieces p) cells2 heads2
 put_in_room cells cells1 cells2 heads heads1 heads2 k n before p xs ys puts not_free lt parts is_before few room =
     let m1 = room.keeps.as_many_chains in
     puts xs ys room.keeps.whole room.small not_free (omega (m1, lt, arith)) (room.keeps.chains k not_free not_free ∙ parts) is_before few room.enough
 
-pub put_length : (cells cells1 cells2 : List Cell) (heads heads1 heads2 : List Head) (k n : ℕ) (before : Option ℕ) (p : Pieces) → MakesRoom cells heads n (length (listed p)) cells1 heads1 → Puts cells1 heads1 k before n p cells2 heads2
-    → (xs ys : List ℕ) → AreWhole cells heads → length cells ≤ most_cells → k ≢ 0 → k < length heads → chain_of cells heads k ≡ xs ++ ys → before ≡ last_or None xs → n ≤ length ys → length (listed p) ≤ n + 1 → length cells2 ≡ length cells1
+pub put_length : (cells cells1 cells2 : List Cell) (heads heads1 heads2 : List Head) (k n : ℕ) (before : Option ℕ) (p : Pieces) → MakesRoom cells heads n (length (list_of_pieces p)) cells1 heads1 → Puts cells1 heads1 k before n p cells2 heads2
+    → (xs ys : List ℕ) → AreWhole cells heads → length cells ≤ most_cells → k ≢ 0 → k < length heads → chain_of cells heads k ≡ xs ++ ys → before ≡ last_or None xs → n ≤ length ys → length (list_of_pieces p) ≤ n + 1 → length cells2 ≡ length cells1
 put_length cells cells1 cells2 heads heads1 heads2 k n before p makes puts xs ys h small not_free lt parts is_before few more =
     (put_in_room cells cells1 cells2 heads heads1 heads2 k n before p xs ys puts not_free lt parts is_before few (makes h small (omega (lt, arith)) more)).as_many
 
-pub replaced : (cells cells1 cells2 : List Cell) (heads heads1 heads2 : List Head) (k n : ℕ) (before : Option ℕ) (p : Pieces) → MakesRoom cells heads n (length (listed p)) cells1 heads1 → Puts cells1 heads1 k before n p cells2 heads2
+pub replaced : (cells cells1 cells2 : List Cell) (heads heads1 heads2 : List Head) (k n : ℕ) (before : Option ℕ) (p : Pieces) → MakesRoom cells heads n (length (list_of_pieces p)) cells1 heads1 → Puts cells1 heads1 k before n p cells2 heads2
     → Replaces cells heads k before n p cells2 heads2
 replaced cells cells1 cells2 heads heads1 heads2 k n before p makes puts xs ys h small not_free lt parts is_before few more =
-    let room : HasRoom cells heads n (length (listed p)) cells1 heads1 = makes h small (omega (lt, arith)) more in
+    let room : HasRoom cells heads n (length (list_of_pieces p)) cells1 heads1 = makes h small (omega (lt, arith)) more in
     let same : map (interval_at cells1) (xs ++ ys) ≡ map (interval_at cells) (xs ++ ys) = subst (λ is. map (interval_at cells1) is ≡ map (interval_at cells) is) parts (room.keeps.intervals k not_free not_free) in
     let split = map_both (interval_at cells1) (interval_at cells) xs ys same in
-    let q : Put cells1 heads1 k xs ys n (listed p) cells2 heads2 = put_in_room cells cells1 cells2 heads heads1 heads2 k n before p xs ys puts not_free lt parts is_before few room in
+    let q : Put cells1 heads1 k xs ys n (list_of_pieces p) cells2 heads2 = put_in_room cells cells1 cells2 heads heads1 heads2 k n before p xs ys puts not_free lt parts is_before few room in
     let a = q.as_many in
     let t = q.total in
     let r = room.total in
     record {
       keeps = keeps_both cells cells1 cells2 heads heads1 heads2 k (keeps_more cells cells1 heads heads1 k room.keeps) q.keeps;
       small = let s = room.small in omega (a, s, arith);
-      spans = q.spans ∙ (λ i. split.0 i ++ (listed p ++ drop n (split.1 i)));
+      spans = q.spans ∙ (λ i. split.0 i ++ (list_of_pieces p ++ drop n (split.1 i)));
       total = omega (a, t, r, arith);
-      more = ⊎_elim (λ e. inl (a ∙ e)) (λ (e : (free_count cells heads ≡ 0) × (free_count cells1 heads1 + n ≡ length (listed p)) × (length cells1 ≡ length cells + 1)). let f = e.1 in inr (e.0, omega (t, f, arith), a ∙ e.2)) room.more;
+      more = ⊎_elim (λ e. inl (a ∙ e)) (λ (e : (free_count cells heads ≡ 0) × (free_count cells1 heads1 + n ≡ length (list_of_pieces p)) × (length cells1 ≡ length cells + 1)). let f = e.1 in inr (e.0, omega (t, f, arith), a ∙ e.2)) room.more;
     }
   where
     map_both : (f g : ℕ → Interval) (xs ys : List ℕ) → map f (xs ++ ys) ≡ map g (xs ++ ys) → (map f xs ≡ map g xs) × (map f ys ≡ map g ys)

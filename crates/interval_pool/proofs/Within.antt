@@ -5,7 +5,7 @@ use Rattle.std.proofs.lemmas.Bool.Decides.{eqb_tells}
 use Rattle.std.proofs.lemmas.List.{length-map}
 use Rattle.std.specs.List.{AllByRecursion}
 use Rattle.interval_pool.specs.Chains.{AreOnce, IsAmong}
-use Rattle.interval_pool.specs.Values.{Held, PoolValue, slot_at, IsList, spans, standing, AreAmong, intervals_of}
+use Rattle.interval_pool.specs.Values.{Held, PoolValue, slot_at, IsList, spans, cells_in_lists, AreAmong, intervals_of}
 use Rattle.interval_pool.proofs.Walking.{without, without_none, without_once}
 use Rattle.interval_pool.proofs.Parting.{among_without}
 
@@ -36,7 +36,7 @@ fewer_by p k (l ∷ ls) among =
     (λ (e : ((l == k) ≡ false) × (l ≢ k)). subst P (sym e.0) (⊎_elim (λ same. absurd (e.1 (sym same))) (λ more. let le = fewer_by p k ls more in omega (le, arith)) among))
     (eqb_tells l k)
 
-within : (p : PoolValue) (k : ℕ) (slots : List (Option (List Held))) (ls : List ℕ) → AreSlotsFrom p k slots → ((j : ℕ) → IsList p (k + j) → IsAmong (k + j) ls) → length (standing slots) ≤ intervals_of p ls
+within : (p : PoolValue) (k : ℕ) (slots : List (Option (List Held))) (ls : List ℕ) → AreSlotsFrom p k slots → ((j : ℕ) → IsList p (k + j) → IsAmong (k + j) ls) → length (cells_in_lists slots) ≤ intervals_of p ls
 within p k [] ls from all = omega arith
 within p k (None ∷ slots) ls from all =
     within p (suc k) slots ls (next_slots p k None slots from)
@@ -53,10 +53,10 @@ within p k (Some hs ∷ slots) ls from all =
     let count = ap (λ o. length (map (λ (h : Held). h.numbers) (unwrap_or o []))) here in
     let numbers = length-map hs (λ (h : Held). h.numbers) in
     let cells = length-map hs (λ (h : Held). h.cell) in
-    let sum = length-append (map (λ (h : Held). h.cell) hs) (standing slots) in
+    let sum = length-append (map (λ (h : Held). h.cell) hs) (cells_in_lists slots) in
     omega (rest, more, count, numbers, cells, sum, arith)
 
-pub stand_within : (p : PoolValue) (ls : List ℕ) → AreAmong p ls → length (standing p.lists) ≤ intervals_of p ls
+pub stand_within : (p : PoolValue) (ls : List ℕ) → AreAmong p ls → length (cells_in_lists p.lists) ≤ intervals_of p ls
 stand_within p ls all = within p 0 p.lists ls
     (λ j. ap (slot_at p) (let e : j ≡ 0 + j = omega arith in e))
     (λ j is. all (0 + j) is)
@@ -95,7 +95,7 @@ none_beyond p k (l ∷ ls) from all =
     let rest = none_beyond p k ls from all.1 in
     omega (count, rest, arith)
 
-beyond : (p : PoolValue) (k : ℕ) (slots : List (Option (List Held))) (ls : List ℕ) → AreSlotsFrom p k slots → AreOnce ls → AllByRecursion (λ l. k ≤ l) ls → intervals_of p ls ≤ length (standing slots)
+beyond : (p : PoolValue) (k : ℕ) (slots : List (Option (List Held))) (ls : List ℕ) → AreSlotsFrom p k slots → AreOnce ls → AllByRecursion (λ l. k ≤ l) ls → intervals_of p ls ≤ length (cells_in_lists slots)
 beyond p k [] ls from once all = none_beyond p k ls from all
 beyond p k (None ∷ slots) ls from once all =
     let here = this_slot p k None slots from in
@@ -110,10 +110,10 @@ beyond p k (Some hs ∷ slots) ls from once all =
     let most = most_by p k ls once in
     let numbers = length-map hs (λ (h : Held). h.numbers) in
     let cells = length-map hs (λ (h : Held). h.cell) in
-    let sum = length-append (map (λ (h : Held). h.cell) hs) (standing slots) in
+    let sum = length-append (map (λ (h : Held). h.cell) hs) (cells_in_lists slots) in
     omega (count, rest, most, numbers, cells, sum, arith)
 
-pub distinct_stand : (p : PoolValue) (ls : List ℕ) → AreOnce ls → intervals_of p ls ≤ length (standing p.lists)
+pub distinct_stand : (p : PoolValue) (ls : List ℕ) → AreOnce ls → intervals_of p ls ≤ length (cells_in_lists p.lists)
 distinct_stand p ls once = beyond p 0 p.lists ls (λ j. ap (slot_at p) (let e : j ≡ 0 + j = omega arith in e)) once (from_none ls)
   where
     from_none : (ls : List ℕ) → AllByRecursion (λ l. 0 ≤ l) ls

@@ -7,7 +7,7 @@ use Rattle.interval_pool.specs.declared.interval.Pieces.{Pieces}
 use Rattle.interval_pool.specs.Links.{most_cells}
 use Rattle.interval_pool.specs.Cells.{head_at}
 use Rattle.interval_pool.specs.Chains.{last_or}
-use Rattle.interval_pool.specs.Intervals.{has, covers, listed, AreMerged}
+use Rattle.interval_pool.specs.Intervals.{has, covers, list_of_pieces, AreMerged}
 use Rattle.interval_pool.specs.Pools.{chain_of, interval_at, AreWhole, KeepsOthers}
 
 -- the intervals of a chain
@@ -56,7 +56,7 @@ pub record Put (cells : List Cell) (heads : List Head) (k : ℕ) (xs ys : List �
 abbrev pub Puts : List Cell → List Head → ℕ → Option ℕ → ℕ → Pieces → List Cell → List Head → Type 0
 Puts cells heads k before n pieces cells' heads' =
     (xs ys : List ℕ) → AreWhole cells heads → length cells ≤ most_cells → k ≢ 0 → k < length heads → chain_of cells heads k ≡ xs ++ ys → before ≡ last_or None xs
-    → n ≤ length ys → length (listed pieces) ≤ free_count cells heads + n → Put cells heads k xs ys n (listed pieces) cells' heads'
+    → n ≤ length ys → length (list_of_pieces pieces) ≤ free_count cells heads + n → Put cells heads k xs ys n (list_of_pieces pieces) cells' heads'
 
 -- the same where a cell more is made, if it is needed and none is free
 pub record Replaced (cells : List Cell) (heads : List Head) (k : ℕ) (xs ys : List ℕ) (n : ℕ) (pieces : List Interval) (cells' : List Cell) (heads' : List Head) : Type 0 where
@@ -69,7 +69,7 @@ pub record Replaced (cells : List Cell) (heads : List Head) (k : ℕ) (xs ys : L
 abbrev pub Replaces : List Cell → List Head → ℕ → Option ℕ → ℕ → Pieces → List Cell → List Head → Type 0
 Replaces cells heads k before n pieces cells' heads' =
     (xs ys : List ℕ) → AreWhole cells heads → length cells ≤ most_cells → k ≢ 0 → k < length heads → chain_of cells heads k ≡ xs ++ ys → before ≡ last_or None xs
-    → n ≤ length ys → length (listed pieces) ≤ n + 1 → Replaced cells heads k xs ys n (listed pieces) cells' heads'
+    → n ≤ length ys → length (list_of_pieces pieces) ≤ n + 1 → Replaced cells heads k xs ys n (list_of_pieces pieces) cells' heads'
 
 -- a cell more comes after the last of a list, with these numbers
 pub record Pushed (cells : List Cell) (heads : List Head) (k : ℕ) (s : Interval) (cells' : List Cell) (heads' : List Head) : Type 0 where

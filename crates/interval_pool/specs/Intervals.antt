@@ -38,8 +38,8 @@ part_below whole s = if nat_lt whole.lo s.lo then Some (record { lo = whole.lo; 
 abbrev pub part_above : Interval → Interval → Option Interval
 part_above whole s = if nat_lt s.hi whole.hi then Some (record { lo = s.hi + 1; hi = whole.hi }) else None
 
-abbrev pub listed : Pieces → List Interval
-listed pieces = option_to_list pieces.first ++ option_to_list pieces.second
+abbrev pub list_of_pieces : Pieces → List Interval
+list_of_pieces pieces = option_to_list pieces.first ++ option_to_list pieces.second
 
 -- no interval of these has a number of another, or one beside it
 abbrev pub IsApart : List Interval → Interval → Type 0

@@ -63,20 +63,20 @@ abbrev pub IsRange : Interval → Type 0
 IsRange s = s.lo ≤ s.hi
 
 -- the cells that are in lists
-abbrev pub standing : List (Option (List Held)) → List ℕ
-standing [] = []
-standing (None ∷ slots) = standing slots
-standing (Some hs ∷ slots) = map (λ h. h.cell) hs ++ standing slots
+abbrev pub cells_in_lists : List (Option (List Held)) → List ℕ
+cells_in_lists [] = []
+cells_in_lists (None ∷ slots) = cells_in_lists slots
+cells_in_lists (Some hs ∷ slots) = map (λ h. h.cell) hs ++ cells_in_lists slots
 
 abbrev pub all_cells : PoolValue → List ℕ
-all_cells p = p.free ++ standing p.lists
+all_cells p = p.free ++ cells_in_lists p.lists
 
 -- Lists and the free cells share no cell, and are together all cells.
 pub record IsPartition (p : PoolValue) : Type 0 where
   pub once : AreOnce (all_cells p)
   pub below : AllByRecursion (λ i. i < p.cells) (all_cells p)
   pub whole : (i : ℕ) → i < p.cells → IsAmong i (all_cells p)
-  pub count : length p.free + length (standing p.lists) ≡ p.cells
+  pub count : length p.free + length (cells_in_lists p.lists) ≡ p.cells
 
 -- ---- changes
 
@@ -137,11 +137,11 @@ HasNoRoomFor p n = length p.free + p.room < n
 
 -- all cells that there may be are in lists
 abbrev pub IsFull : PoolValue → Type 0
-IsFull p = most_cells ≤ length (standing p.lists)
+IsFull p = most_cells ≤ length (cells_in_lists p.lists)
 
 -- so many more cells would be more than there may be
 abbrev pub IsFullWith : PoolValue → ℕ → Type 0
-IsFullWith p n = most_cells < length (standing p.lists) + n
+IsFullWith p n = most_cells < length (cells_in_lists p.lists) + n
 
 -- there are as many lists as there may be
 abbrev pub AreAllLists : PoolValue → Type 0
@@ -203,7 +203,7 @@ abbrev pub last_of : PoolValue → List PoolValue → PoolValue
 last_of p [] = p
 last_of p (q ∷ qs) = last_of q qs
 
--- a walk along a list has seen these intervals, and comes to this cell
+-- a walk along a list has seen these intervals, and has reached this cell
 pub record IsAlong (p : PoolValue) (l : ℕ) (seen : List Interval) (next : Option ℕ) : Type 0 where
   pub before : List Held
   pub behind : List Held

@@ -1,6 +1,6 @@
 //! Intervals of numbers.
 ghost use Rattle.std.specs.Prelude.{◌≡◌, ◌∷◌, [], IfSome, length};
-ghost use Rattle.interval_pool.specs.Intervals.{hull, listed, part_below, part_above};
+ghost use Rattle.interval_pool.specs.Intervals.{hull, list_of_pieces, part_below, part_above};
 
 /// The numbers from one to another, both among them.
 #[derive(Clone, Copy, Debug, Drop)]
@@ -76,7 +76,7 @@ pub fn parts_outside(whole: Interval, numbers: Interval) -> Pieces
 
 /// How many intervals these are.
 pub fn count_pieces(pieces: Pieces) -> u32
-    ensures { result ≡ length (listed pieces) }
+    ensures { result ≡ length (list_of_pieces pieces) }
 {
     match (pieces.first, pieces.second) {
         (Some(_), Some(_)) => 2,
@@ -87,7 +87,7 @@ pub fn count_pieces(pieces: Pieces) -> u32
 
 /// The only interval of these, if there is one.
 pub fn only_piece(pieces: Pieces) -> Option<Interval>
-    ensures { IfSome result (λ s. listed pieces ≡ s ∷ []) }
+    ensures { IfSome result (λ s. list_of_pieces pieces ≡ s ∷ []) }
 {
     match (pieces.first, pieces.second) {
         (Some(piece), None) | (None, Some(piece)) => Some(piece),

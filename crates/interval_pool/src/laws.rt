@@ -1,7 +1,7 @@
 //! What follows of pools, whatever made them.
 ghost use Rattle.std.specs.Prelude.{◌+◌, ◌<◌, ◌≤◌, ℕ, List, length};
 ghost use Rattle.interval_pool.specs.Chains.{AreOnce};
-ghost use Rattle.interval_pool.specs.Values.{PoolValue, HasNoRoom, AreSteps, last_of, AreAmong, standing, intervals_of};
+ghost use Rattle.interval_pool.specs.Values.{PoolValue, HasNoRoom, AreSteps, last_of, AreAmong, cells_in_lists, intervals_of};
 
 /// Where room for so many cells was reserved, none of as many calls of `add` and `cut` after it fails.
 pub fn reserved_lasts()
@@ -10,11 +10,11 @@ pub fn reserved_lasts()
 
 /// The cells that are in lists are no more than the intervals of lists among which all are. So a pool that is full
 /// has that many intervals in the lists that its caller knows.
-pub fn standing_within()
-    ensures { (p : PoolValue) (lists : List ℕ) → AreAmong p lists → length (standing p.lists) ≤ intervals_of p lists }
+pub fn cells_are_within_lists()
+    ensures { (p : PoolValue) (lists : List ℕ) → AreAmong p lists → length (cells_in_lists p.lists) ≤ intervals_of p lists }
 {}
 
 /// The intervals of distinct lists are together no more than the cells that are in lists.
-pub fn distinct_stand()
-    ensures { (p : PoolValue) (lists : List ℕ) → AreOnce lists → intervals_of p lists ≤ length (standing p.lists) }
+pub fn distinct_lists_fit()
+    ensures { (p : PoolValue) (lists : List ℕ) → AreOnce lists → intervals_of p lists ≤ length (cells_in_lists p.lists) }
 {}

@@ -37,7 +37,7 @@ mod walk;
 
 pub use fault::PoolFault;
 pub use interval::Interval;
-pub use laws::{distinct_stand, reserved_lasts, standing_within};
+pub use laws::{cells_are_within_lists, distinct_lists_fit, reserved_lasts};
 pub use pool::{ListId, Pool};
 pub use walk::Walk;
 

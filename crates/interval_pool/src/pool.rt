@@ -285,14 +285,14 @@ impl Pool {
         walk_from(&self.cells, first)
     }
 
-    /// The cell that comes after this one in its list, none after the last. Of what is no cell of a list nothing is said.
+    /// The cell that comes after this one in its list, none after the last. No clause speaks of what is no cell of a list.
     pub fn next(&self, cell: u32) -> Option<u32>
         ensures { Follows self.now cell result }
     {
         cell_at(&self.cells, cell as usize).next.number()
     }
 
-    /// The interval of a cell. Of what is no cell of a list nothing is said.
+    /// The interval of a cell. No clause speaks of what is no cell of a list.
     pub fn span(&self, cell: u32) -> Interval
         ensures { Covers self.now cell result }
     {

@@ -1,7 +1,7 @@
 //! Cells of lists, and free cells.
 ghost use Rattle.std.specs.Prelude.{◌≡◌, ◌↔◌, ◌<◌, ◌≤◌, ◌+◌, IfSome, IsFalse, IsTrue, OnOk, OnErr, IfErr, length, vec_len, vec_capacity, ◌++◌, ℕ, Some};
 ghost use Rattle.interval_pool.specs.Cells.{head_at, with_head, with_next, with_numbers};
-ghost use Rattle.interval_pool.specs.Intervals.{listed};
+ghost use Rattle.interval_pool.specs.Intervals.{list_of_pieces};
 ghost use Rattle.interval_pool.specs.Links.{most_cells};
 ghost use Rattle.interval_pool.specs.Changes.{MakesRoom, Sets, Puts, Replaces, Spends, Pushes, PutsLast, Renews, PlacesRun, PushesRun, next_of, run};
 ghost use Rattle.interval_pool.specs.declared.fault.PoolFault.TheVariants.{Full};
@@ -86,7 +86,7 @@ pub fn place(cells: &mut [Cell], heads: &mut [Head], list: u32, before: Link, lo
 }
 
 /// Lets the last cell of a list go on with another, or the list begin with it.
-fn lead_on(cells: &mut [Cell], heads: &mut [Head], list: u32, last: Link, next: Link)
+fn link_last(cells: &mut [Cell], heads: &mut [Head], list: u32, last: Link, next: Link)
     requires there { list < length heads.old }
     requires below { IfSome last (λ i. i < length cells.old) }
     ensures cells { cells.new ≡ with_next cells.old last next }
@@ -126,7 +126,7 @@ fn push(
 {
     let at = cells.as_slice().len();
     cells.reserve(1)?;
-    lead_on(cells, heads, list, last, Link::to(at));
+    link_last(cells, heads, list, last, Link::to(at));
     let _ = cells.push(Cell {
         lo: numbers.lo,
         hi: numbers.hi,
@@ -314,7 +314,7 @@ pub fn replace(
     ensures heads { OnErr result (heads.new ≡ heads.old) }
     ensures kept { OnErr result (vec_capacity cells.new ≡ vec_capacity cells.old) }
     ensures spent { OnErr result (Spends cells.old.items heads.old (vec_capacity cells.old)) }
-    ensures needed { OnErr result (count < length (listed pieces)) }
+    ensures needed { OnErr result (count < length (list_of_pieces pieces)) }
     ensures full { IfErr result (λ fault. fault ≡ Full ↔ (most_cells ≤ length cells.old.items)) }
 {
     if count == 1 {

@@ -20,8 +20,8 @@ abbrev pub whole : JournalValue → Gtids
 whole journal = set.union journal.previous (gtids_of journal.entries)
 
 -- the previous set once the first entries are purged
-abbrev pub purged : ℕ → JournalValue → Gtids
-purged count journal = set.union journal.previous (gtids_of (take count journal.entries))
+abbrev pub previous_after_purge : ℕ → JournalValue → Gtids
+previous_after_purge count journal = set.union journal.previous (gtids_of (take count journal.entries))
 
 -- each GTID is new: neither in this set nor that of an earlier entry
 abbrev pub AreNew : Gtids → List Entry → Type 0

@@ -8,7 +8,7 @@
 //! to 2^63 - 1, it has at most 65,536 changes, images of 1 to 64 values, and values of at most 65,535 bytes. The numbers of the previous
 //! set are 1 to 2^63 - 1 too.
 //!
-//! The contract of each call is one equation. `purged` and the like fail where memory is refused, or where a set that is made on the way
+//! The contract of each call is one equation. `previous_after_purge` and the like fail where memory is refused, or where a set that is made on the way
 //! is full (`fault`).
 //!
 //! Cost: `contains` looks at each entry. Readers and the own journal of a replica keep a set beside the journal instead.
@@ -224,9 +224,9 @@ impl Journal {
 
     /// The previous set once the first entries are purged. The GTIDs are added one after another: the set is also too large where it has
     /// too many intervals once some of them are added.
-    pub fn purged(&self, alloc: Global, count: usize) -> Result<GtidSet, SetFault>
+    pub fn previous_after_purge(&self, alloc: Global, count: usize) -> Result<GtidSet, SetFault>
         requires { count ≤ length self.now.entries }
-        ensures ok { IfOk result (λ s. s ≡ purged count self.now) }
+        ensures ok { IfOk result (λ s. s ≡ previous_after_purge count self.now) }
         ensures fault { IfErr result (λ f. IsPurgedFault f count self.now) }
     {
         let mut previous = self.previous.copy(alloc)?;
@@ -237,7 +237,7 @@ impl Journal {
     /// Takes the first entries away, and their GTIDs into the previous set.
     pub fn purge(&mut self, count: usize, previous: GtidSet)
         requires count { count ≤ length self.old.entries }
-        requires previous { previous ≡ purged count self.old }
+        requires previous { previous ≡ previous_after_purge count self.old }
         ensures { self.new ≡ record { previous = previous; entries = drop count self.old.entries } }
     {
         drop_front(&mut self.entries, count);

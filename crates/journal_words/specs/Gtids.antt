@@ -67,10 +67,10 @@ abbrev pub set_of_word : List ℕ → Option Gtids
 set_of_word word = option_map (set_with set.empty) (spans_of_word word)
 
 -- the set that a word parses as, if it parses as one, has this
-abbrev pub OfSpelled : (Gtids → Type 0) → Option Gtids → Type 0
-OfSpelled Has (Some s) = Has s
-OfSpelled Has None = ⊥
+abbrev pub OfParsed : (Gtids → Type 0) → Option Gtids → Type 0
+OfParsed Has (Some s) = Has s
+OfParsed Has None = ⊥
 
 -- why a set that a word parses as was not made: memory was refused, or the set has too many sources or intervals
 abbrev pub IsWordFault : SetFault → Option Gtids → Type 0
-IsWordFault f spelled = IsMemoryOr (OfSpelled HasManySources spelled) (OfSpelled HasManyIntervals spelled) f
+IsWordFault f parsed = IsMemoryOr (OfParsed HasManySources parsed) (OfParsed HasManyIntervals parsed) f

@@ -18,7 +18,7 @@ use Rattle.gtid_text.proofs.SameGtid.{gtid_total, same_is_equal}
 use Rattle.gtid_set.specs.Sets.{Gtids}
 use Rattle.rows.proofs.Lists.{none_some, on_option, lt_cases}
 use Rattle.journal.specs.declared.Entry.{Entry}
-use Rattle.journal.specs.Journals.{JournalValue, gtids_of, purged}
+use Rattle.journal.specs.Journals.{JournalValue, gtids_of, previous_after_purge}
 use Rattle.relay.specs.Own.{with_last, purge_to}
 use Rattle.apply_channel.specs.Channels.{ChannelValue, is_full}
 use Rattle.gtid_set.specs.declared.fault.SetFault.{SetFault}
@@ -108,7 +108,7 @@ purged_read came j count p r near =
     let left : length (drop count j.entries) ≡ length j.entries - count = length-drop count j.entries in
     let there : length j.entries - (length j.entries - count) ≤ p = omega (left, near, arith) in
     record {
-      purged = contains-is_subset gtid_total (purged count j) came (λ g i.
+      purged = contains-is_subset gtid_total (previous_after_purge count j) came (λ g i.
           elim (or_cases (set.contains j.previous g) (set.contains (gtids_of (take count j.entries)) g) (sym (contains-union gtid_total j.previous (gtids_of (take count j.entries)) g) ∙ i)) [
             | inl before ↦ is_subset-contains gtid_total j.previous came r.purged g before
             | inr gone ↦ all_come came (take count j.entries) g (all_front (has_come came) count p j.entries there r.entries) (sym (in_entries (take count j.entries) g) ∙ gone)

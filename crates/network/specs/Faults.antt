@@ -10,7 +10,7 @@ use Rattle.auto_position.specs.Sending.{IsPlanFault}
 use Rattle.apply_channel.specs.Channels.{ChannelValue}
 use Rattle.replica_core.specs.declared.event.Event.{Event}
 use Rattle.replica_core.specs.declared.event.Event.TheVariants as event
-use Rattle.replica_core.specs.Faults.{IsCause, HasRoomFor, made_by}
+use Rattle.replica_core.specs.Faults.{IsCause, HasRoomFor, set_made_by}
 use Rattle.replica_core.specs.Machine as machine
 use Rattle.network.specs.declared.event.NetworkEvent.{NetworkEvent}
 use Rattle.network.specs.declared.event.NetworkEvent.TheVariants.{Act, Position, Receive}
@@ -69,7 +69,7 @@ IsFaultAt f nodes (Some e) = IsEventCause f nodes e
 
 -- memory was refused only where the set that a node's replica makes by an event, if it makes one, has not too many sources
 abbrev pub HasRoomBy : SetFault → Event → Node → Type 0
-HasRoomBy f e node = HasRoomFor f (made_by node.replica.site node.replica.state e)
+HasRoomBy f e node = HasRoomFor f (set_made_by node.replica.site node.replica.state e)
 
 -- the same of the node at a place, if one is there
 abbrev pub HasRoomAt : SetFault → List Node → ℕ → Event → Type 0

@@ -316,11 +316,11 @@ impl Network {
 }
 
 /// Puts a reply at the end, where there is room.
-fn put(told: &mut Vec<NetworkReply>, reply: NetworkReply)
-    requires { vec_len told.old < vec_capacity told.old }
-    ensures { told.new.items ≡ told.old.items ++ reply ∷ [] }
+fn put(so_far: &mut Vec<NetworkReply>, reply: NetworkReply)
+    requires { vec_len so_far.old < vec_capacity so_far.old }
+    ensures { so_far.new.items ≡ so_far.old.items ++ reply ∷ [] }
 {
-    if told.push(reply).is_err() {
+    if so_far.push(reply).is_err() {
         unreachable!()
     }
 }
@@ -334,23 +334,23 @@ impl Network {
         events: &[NetworkEvent],
     ) -> (Vec<NetworkReply>, Option<SetFault>)
         requires { AreNumbered events.now }
-        ensures told { result.0.items ≡ replies self.old (answered_events result.0.items events.now) }
+        ensures replies { result.0.items ≡ replies self.old (answered_events result.0.items events.now) }
         ensures nodes { self.new ≡ after self.old (answered_events result.0.items events.now) }
         ensures whole { result.1 ≡ None → length result.0.items ≡ length events.now }
         ensures cut { IfSome result.1 (λ fault. length result.0.items < length events.now) }
         ensures fault { IfSome result.1 (λ f. IsFaultAt f self.new (slice_get events.now (length result.0.items))) }
         ensures room { IfSome result.1 (λ f. HasRoomNext f self.new (slice_get events.now (length result.0.items))) }
     {
-        let mut told = Vec::new(alloc);
+        let mut so_far = Vec::new(alloc);
         for event in events {
-            if told.reserve(1).is_err() {
-                return (told, Some(self.refusal(alloc, event)));
+            if so_far.reserve(1).is_err() {
+                return (so_far, Some(self.refusal(alloc, event)));
             }
             match self.step(alloc, event) {
-                Ok(reply) => put(&mut told, reply),
-                Err(fault) => return (told, Some(fault)),
+                Ok(reply) => put(&mut so_far, reply),
+                Err(fault) => return (so_far, Some(fault)),
             }
         }
-        (told, None)
+        (so_far, None)
     }
 }

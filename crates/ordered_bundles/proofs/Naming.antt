@@ -25,7 +25,7 @@ use Rattle.world.specs.Audit.{fault_after, first_fault}
 use Rattle.world.proofs.Finding.{first_some}
 use Rattle.ordered_history.specs.World.{Entry, IsIn, Precedes, AreDistinct, apply_all}
 use Rattle.ordered_history.proofs.Ordering.{first_in, second_in}
-use Rattle.conflict_order.specs.Histories.{History, IsAmong, has, beyond, joined, order_of, IsReordered, IsLeftOut, AreConcurrent}
+use Rattle.conflict_order.specs.Histories.{History, IsAmong, has, beyond, join_histories, order_of, IsReordered, IsLeftOut, AreConcurrent}
 use Rattle.conflict_order.specs.Laws.{IsFault}
 use Rattle.conflict_order.specs.Chains.{HaveOneContent}
 use Rattle.conflict_order.proofs.Sharing.{shares_by}
@@ -44,7 +44,7 @@ has_in_both L M g y = let f = found_at (L ++ M) g y in elim (in_either L M f.0 f
   | inr i ↦ inr (ap (has M) f.2 ∙ has_of M f.0 i)
 ]
 
-joined_front : (L : List Entry) (hs : List History) → (later : List Entry) × (joined L hs ≡ L ++ later)
+joined_front : (L : List Entry) (hs : List History) → (later : List Entry) × (join_histories L hs ≡ L ++ later)
 joined_front L [] = ([], sym (append_none L))
   where
     append_none : (xs : List Entry) → xs ++ [] ≡ xs
@@ -55,7 +55,7 @@ joined_front L (h ∷ hs) = let r = joined_front (L ++ beyond L h) hs in (beyond
 record IsPart (L : List Entry) (hs : List History) (x : History) (g : Gtid) : Type 0 where
   earlier : List Entry
   later : List Entry
-  parts : joined L hs ≡ (earlier ++ beyond earlier x) ++ later
+  parts : join_histories L hs ≡ (earlier ++ beyond earlier x) ++ later
   among : IsAmong x hs
   stands : has x g ≡ true
   fresh : has earlier g ≡ false

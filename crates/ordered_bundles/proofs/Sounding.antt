@@ -24,7 +24,7 @@ use Rattle.world.specs.Audit as sources
 use Rattle.world.specs.Meaning.{AreJournals}
 use Rattle.world.proofs.Finding.{next_none, next_some, when_some, first_some}
 use Rattle.world.proofs.Meanings.{next_not, none_of_sound}
-use Rattle.ordered_history.specs.World.{World, Entry, AreGtidsSound, IsSound, apply_all}
+use Rattle.ordered_history.specs.World.{OrderedWorld, Entry, AreGtidsSound, IsSound, apply_all}
 use Rattle.ordered_journals.specs.Faithful.{IsFaithful}
 use Rattle.conflict_order.specs.Histories.{History, IsAmong, has, order_of, world_of}
 use Rattle.conflict_order.specs.Laws as laws

@@ -48,18 +48,18 @@ pub record FailsInOrder (schema : List Table) (rows : Rows) (order : List Entry)
 
 -- Reordered g h: one history has g before h, and another h before g. NotClosed g h: one has h before g, and another g without h.
 -- Concurrent g h: one has g without h, and another h without g. Shared is a verdict of the audit of sources, and never of this one.
-abbrev pub StandsInOrder : source.World → List JournalValue → Verdict → Type 0
-StandsInOrder world journals (Unequal g) = DiffersAt world journals g
-StandsInOrder world journals (Purged i gtids) = IsPurged world journals i gtids
-StandsInOrder world journals (Missing g) = IsMissing world journals g
-StandsInOrder world journals (Shared g h key) = ⊥
-StandsInOrder world journals (Reordered g h key) = OfTwo (AtKey world.schema key (IsReordered world.schema)) (histories_of world.opening_set journals) g h
-StandsInOrder world journals (NotClosed g h) = OfTwo (IsLeftOut world.schema) (histories_of world.opening_set journals) h g
-StandsInOrder world journals (Concurrent g h key) = OfTwo (AtKey world.schema key (AreConcurrent world.schema)) (histories_of world.opening_set journals) g h
-StandsInOrder world journals (DoesNotApply g fault) = FailsInOrder world.schema world.opening_rows (order_of (histories_of world.opening_set journals)) g fault
-StandsInOrder world journals Sound = Unit {0}
+abbrev pub NamesFaultInOrder : source.World → List JournalValue → Verdict → Type 0
+NamesFaultInOrder world journals (Unequal g) = DiffersAt world journals g
+NamesFaultInOrder world journals (Purged i gtids) = IsPurged world journals i gtids
+NamesFaultInOrder world journals (Missing g) = IsMissing world journals g
+NamesFaultInOrder world journals (Shared g h key) = ⊥
+NamesFaultInOrder world journals (Reordered g h key) = OfTwo (AtKey world.schema key (IsReordered world.schema)) (histories_of world.opening_set journals) g h
+NamesFaultInOrder world journals (NotClosed g h) = OfTwo (IsLeftOut world.schema) (histories_of world.opening_set journals) h g
+NamesFaultInOrder world journals (Concurrent g h key) = OfTwo (AtKey world.schema key (AreConcurrent world.schema)) (histories_of world.opening_set journals) g h
+NamesFaultInOrder world journals (DoesNotApply g fault) = FailsInOrder world.schema world.opening_rows (order_of (histories_of world.opening_set journals)) g fault
+NamesFaultInOrder world journals Sound = Unit {0}
 
 -- Each verdict but Sound names a fault that is there, in the world of the journals.
-abbrev pub VerdictsStandInOrder : Type 0
-VerdictsStandInOrder = (schema : List Table) (opened : Gtids) (rows : Rows) (journals : List JournalValue) → AreJournals journals
-    → StandsInOrder (sources.world_of schema opened rows journals) journals (verdict_in_order (sources.world_of schema opened rows journals) journals)
+abbrev pub VerdictsNameFaultsInOrder : Type 0
+VerdictsNameFaultsInOrder = (schema : List Table) (opened : Gtids) (rows : Rows) (journals : List JournalValue) → AreJournals journals
+    → NamesFaultInOrder (sources.world_of schema opened rows journals) journals (verdict_in_order (sources.world_of schema opened rows journals) journals)

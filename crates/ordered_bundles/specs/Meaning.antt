@@ -8,14 +8,14 @@ use Rattle.journal.specs.Journals.{JournalValue}
 use Rattle.world.specs.declared.verdict.Verdict.TheVariants.{Sound}
 use Rattle.world.specs.Audit as sources
 use Rattle.world.specs.Meaning.{AreJournals}
-use Rattle.ordered_history.specs.World.{World, AreGtidsSound, IsSound}
+use Rattle.ordered_history.specs.World.{OrderedWorld, AreGtidsSound, IsSound}
 use Rattle.ordered_journals.specs.Faithful.{IsFaithful}
 use Rattle.conflict_order.specs.Histories.{world_of}
 use Rattle.ordered_bundles.specs.Bundles.{histories_of}
 use Rattle.ordered_bundles.specs.Audit.{verdict_of_keys, verdict_in_order}
 
 -- the world that the journals' histories are joined to
-abbrev pub joined_world : List Table → Gtids → Rows → List JournalValue → World
+abbrev pub joined_world : List Table → Gtids → Rows → List JournalValue → OrderedWorld
 joined_world schema opened rows journals = world_of schema opened rows (histories_of opened journals)
 
 -- Where the audit in one order reports Sound, the joined world is sound and each journal is faithful to it.

@@ -1,7 +1,7 @@
 //! What follows for journals from their histories. Each function's contract is a law, and its
 //! body is empty.
 ghost use Rattle.ordered_bundles.specs.Bundles.{JournalsAreFaithful, ChainsAreEnough};
-ghost use Rattle.ordered_bundles.specs.Cases.{VerdictsStandInOrder};
+ghost use Rattle.ordered_bundles.specs.Cases.{VerdictsNameFaultsInOrder};
 ghost use Rattle.ordered_bundles.specs.Meaning.{KeysInOrderMean, SoundInOrderMeans};
 
 /// A journal whose history is a linear extension is faithful.
@@ -29,6 +29,6 @@ pub fn keys_in_order_mean()
 
 /// Each verdict of the audit in one order but Sound names a fault that is there; for a pair two of the journals
 /// have it so.
-pub fn verdicts_stand_in_order()
-    ensures { VerdictsStandInOrder }
+pub fn verdicts_name_faults_in_order()
+    ensures { VerdictsNameFaultsInOrder }
 {}

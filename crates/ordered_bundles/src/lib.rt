@@ -5,5 +5,5 @@ mod laws;
 
 pub use laws::{
     chains_are_enough, journals_are_faithful, keys_in_order_mean, sound_in_order_means,
-    verdicts_stand_in_order,
+    verdicts_name_faults_in_order,
 };

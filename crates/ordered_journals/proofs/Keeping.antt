@@ -12,7 +12,7 @@ use Rattle.rows.specs.declared.change.Transaction.{Transaction}
 use Rattle.journal.specs.declared.Entry.{Entry}
 use Rattle.journal.specs.Journals.{JournalValue, gtids_of, whole}
 use Rattle.journal.proofs.EntryLemmas.{new_push, new_drop}
-use Rattle.ordered_history.specs.World.{World, content, is_opened, IsClosed}
+use Rattle.ordered_history.specs.World.{OrderedWorld, content, is_opened, IsClosed}
 use Rattle.ordered_history.proofs.Closing.{closed_same, closed_sets_apply}
 use Rattle.ordered_journals.specs.Faithful.{IsFaithful}
 use Rattle.ordered_journals.specs.Laws.{known_to, WholeIsClosed, WholeApplies, FaithfulGoesOn, PurgedIsFaithful}
@@ -42,7 +42,7 @@ take_all xs ys k e l =
     nothing_more (z ∷ zs) = ap (λ (t : List Entry). z ∷ t) (nothing_more zs)
 
 -- a journal goes on with one entry
-pub journal_push : (world : World) (j : JournalValue) (g : Gtid) (t : Transaction) → IsFaithful world j → content world g ≡ Some t → has j g ≡ false → IsClosed world (λ h. same_gtid h g || (is_opened world h || has j h)) → IsFaithful world (record { previous = j.previous; entries = j.entries ++ entry_of g t ∷ [] })
+pub journal_push : (world : OrderedWorld) (j : JournalValue) (g : Gtid) (t : Transaction) → IsFaithful world j → content world g ≡ Some t → has j g ≡ false → IsClosed world (λ h. same_gtid h g || (is_opened world h || has j h)) → IsFaithful world (record { previous = j.previous; entries = j.entries ++ entry_of g t ∷ [] })
 journal_push world j g t f there new closed = record {
   fronts = to_fronts world (record { previous = j.previous; entries = j.entries ++ entry_of g t ∷ [] }) (λ k l. elim (either_le k (length j.entries) (subst (λ n. k ≤ n) (length-append j.entries (entry_of g t ∷ [])) l)) [
     | inl below ↦ subst (λ es. IsClosed world (front world j.previous es)) (sym (take-append-le k j.entries (entry_of g t ∷ []) below)) (fronts_of world j f k below)
@@ -59,7 +59,7 @@ covered_purged previous xs ys h =
     ∙ sym (or_assoc (set.contains previous h) (is_entry xs h) (is_entry ys h))
     ∙ ap (λ b. set.contains previous h || b) (sym (list_any-append (λ (e : Entry). same_gtid h e.gtid) xs ys))
 
-pub journal_purge : (world : World) (j : JournalValue) (k : ℕ) → k ≤ length j.entries → IsFaithful world j → IsFaithful world (record { previous = set.union j.previous (gtids_of (take k j.entries)); entries = drop k j.entries })
+pub journal_purge : (world : OrderedWorld) (j : JournalValue) (k : ℕ) → k ≤ length j.entries → IsFaithful world j → IsFaithful world (record { previous = set.union j.previous (gtids_of (take k j.entries)); entries = drop k j.entries })
 journal_purge world j k below f = record {
   fronts = to_fronts world (record { previous = set.union j.previous (gtids_of (take k j.entries)); entries = drop k j.entries }) (λ i l. closed_same world (front world j.previous (take (k + i) j.entries)) (front world (set.union j.previous (gtids_of (take k j.entries))) (take i (drop k j.entries)))
       (λ h. ap (λ b. is_opened world h || b) (covered_purged j.previous (take k j.entries) (take i (drop k j.entries)) h ∙ ap (λ es. covered j.previous es h) (sym (take-add k i j.entries))))
@@ -74,7 +74,7 @@ pub take_whole : (es : List Entry) → take (length es) es ≡ es
 take_whole [] = refl
 take_whole (e ∷ es) = ap (λ xs. e ∷ xs) (take_whole es)
 
-pub in_known : (world : World) (j : JournalValue) (g : Gtid) → set.contains (known_to world j) g ≡ (is_opened world g || has j g)
+pub in_known : (world : OrderedWorld) (j : JournalValue) (g : Gtid) → set.contains (known_to world j) g ≡ (is_opened world g || has j g)
 in_known world j g = contains-union gtid_total world.opening_set (whole j) g ∙ ap (λ b. is_opened world g || b) (in_whole j g)
 
 pub whole_is_closed : WholeIsClosed

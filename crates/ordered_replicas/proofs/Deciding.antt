@@ -16,7 +16,7 @@ use Rattle.replica_core.specs.declared.event.Reply.TheVariants.{Committed}
 use Rattle.replica_core.specs.State.{State, Site}
 use Rattle.replica_core.specs.Machine.{step, after}
 use Rattle.replica_core.specs.Draining.{AreStoppedOrDone}
-use Rattle.ordered_history.specs.World.{World, content, apply_all, rows_of}
+use Rattle.ordered_history.specs.World.{OrderedWorld, content, apply_all, rows_of}
 use Rattle.ordered_history.specs.World as history
 use Rattle.ordered_history.proofs.Placing.{all_map}
 use Rattle.ordered_history.proofs.Entries.{some_is, all_found}
@@ -66,7 +66,7 @@ serves_by_number site s journals events no_local served nothing_else = record {
 }
 
 -- a run from the opening that was served all journals
-module _ (world : World) (own : ℕ) (journals : List JournalValue) (events : List Event) (are : AreJournalsOf world journals) where
+module _ (world : OrderedWorld) (own : ℕ) (journals : List JournalValue) (events : List Event) (are : AreJournalsOf world journals) where
   abbrev here : Site
   here = record { own = own; schema = world.schema }
 
@@ -105,7 +105,7 @@ module _ (world : World) (own : ℕ) (journals : List JournalValue) (events : Li
       | inr done ↦ done p e there
     ]
 
-on_schema : (P : Site → Type 0) (world : World) (site : Site) → site.schema ≡ world.schema → P (record { own = site.own; schema = world.schema }) → P site
+on_schema : (P : Site → Type 0) (world : OrderedWorld) (site : Site) → site.schema ≡ world.schema → P (record { own = site.own; schema = world.schema }) → P site
 on_schema P world site same h =
     let here : record { own = site.own; schema = world.schema } ≡ site = λ i. record { own = site.own; schema = (sym same) i } in
     subst P here h

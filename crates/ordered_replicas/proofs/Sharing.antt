@@ -21,7 +21,7 @@ use Rattle.replica_core.specs.declared.event.Event.TheVariants.{OpenChannel, Pos
 use Rattle.replica_core.specs.declared.event.Reply.{Reply}
 use Rattle.replica_core.specs.declared.event.Reply.TheVariants.{NotInSchema, NoChannel, Ask}
 use Rattle.replica_core.specs.State.{State, Site}
-use Rattle.replica_core.specs.Machine.{Step, ask, with_channel, executing, next_number, local_answer, local, step, after}
+use Rattle.replica_core.specs.Machine.{Step, ask, with_channel, execute, next_number, local_answer, local, step, after}
 use Rattle.ordered_history.specs.Join.{join}
 use Rattle.auto_position.specs.Sending.{own_of}
 use Rattle.ordered_replicas.specs.Served.{accepted_entries, on_channel, received_on, committed_here, local_commits, WasServed, Plan, is_planned, whole_sets, ServedAreJoined}
@@ -65,7 +65,7 @@ pub on_some : (b : Bool) (xs : List Entry) (g : Gtid) → is_entry (cond b xs []
 on_some true xs g h = h
 on_some false xs g h = nothing g h
 
-executing_moves : (s : State) (g : Gtid) (t : Transaction) (rows : Rows) (More : Gtid → Type 0) → More g → ((h : Gtid) → More h → h ≡ g) → Moves s (executing s g t rows) More
+executing_moves : (s : State) (g : Gtid) (t : Transaction) (rows : Rows) (More : Gtid → Type 0) → More g → ((h : Gtid) → More h → h ≡ g) → Moves s (execute s g t rows) More
 executing_moves s g t rows More it only =
     let gains = gains_settled s.channels g in
     record {

@@ -15,7 +15,7 @@ use Rattle.replica_core.specs.declared.event.Reply.{Reply}
 use Rattle.replica_core.specs.declared.event.Reply.TheVariants.{NotInSchema, NoChannel, Ask, Received, Committed}
 use Rattle.replica_core.specs.State.{State, Site}
 use Rattle.replica_core.specs.Machine.{Step, ask, with_channel, open_channel, position_on, receive, step, after}
-use Rattle.ordered_history.specs.World.{World}
+use Rattle.ordered_history.specs.World.{OrderedWorld}
 use Rattle.ordered_journals.specs.Faithful.{IsFaithful}
 use Rattle.ordered_journals.proofs.Lists.{on_test}
 use Rattle.auto_position.specs.Sending.{sent}
@@ -262,7 +262,7 @@ receive_sent T site s since c entry es p is phase ask asked =
         }
     by now (inr (inr h)) = not_nothing entry (received_on c site (step site s (Receive c entry)).1 es) (sym (now es) ∙ h)
 
-step_faithful : (world : World) (site : Site) (s : State) (since : Since) (e : Event) (es : List Event) → IsNoLocalCommit e (step site s e).0 → ((k : ℕ) → Phase (IsFaithful world) site s since (e ∷ es) k) → IsFaithfulStep world site s since e (step site s e).0
+step_faithful : (world : OrderedWorld) (site : Site) (s : State) (since : Since) (e : Event) (es : List Event) → IsNoLocalCommit e (step site s e).0 → ((k : ℕ) → Phase (IsFaithful world) site s since (e ∷ es) k) → IsFaithfulStep world site s since e (step site s e).0
 step_faithful world site s since (OpenChannel name preserve) es none phases = tt
 step_faithful world site s since (Position c) es none phases = tt
 step_faithful world site s since (Receive c entry) es none phases = by (step site s (Receive c entry)).0 refl
@@ -282,7 +282,7 @@ step_faithful world site s since (Local t) es none phases = by (step site s (Loc
 step_faithful world site s since (Purge n) es none phases = tt
 step_faithful world site s since Look es none phases = tt
 
-run_faithful : (world : World) (site : Site) (events : List Event) (s : State) (since : Since) → NoLocalCommits site s events → ((k : ℕ) → Phase (IsFaithful world) site s since events k) → IsFaithfulFrom world site s since events
+run_faithful : (world : OrderedWorld) (site : Site) (events : List Event) (s : State) (since : Since) → NoLocalCommits site s events → ((k : ℕ) → Phase (IsFaithful world) site s since events k) → IsFaithfulFrom world site s since events
 run_faithful world site [] s since none phases = tt
 run_faithful world site (e ∷ es) s since none phases = (
   step_faithful world site s since e es none.0 phases,

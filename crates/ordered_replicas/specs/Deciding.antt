@@ -9,7 +9,7 @@ use Rattle.replica_core.specs.declared.event.Event.{Event}
 use Rattle.replica_core.specs.State.{State, Site}
 use Rattle.replica_core.specs.Machine.{after}
 use Rattle.replica_core.specs.Draining.{AreStoppedOrDone}
-use Rattle.ordered_history.specs.World.{World, content, apply_all, rows_of, AreGtidsSound}
+use Rattle.ordered_history.specs.World.{OrderedWorld, content, apply_all, rows_of, AreGtidsSound}
 use Rattle.ordered_history.specs.Join.{join}
 use Rattle.ordered_journals.specs.Faithful.{IsFaithful}
 use Rattle.ordered_replicas.specs.Faithful.{start_with}
@@ -38,19 +38,19 @@ pub record IsRecorded (journals : List JournalValue) (g : Gtid) : Type 0 where
   pub recorded : set.contains (whole journal) g ≡ true
 
 -- The journals are faithful to the world, and together they have a record of all that was committed in it.
-pub record AreJournalsOf (world : World) (journals : List JournalValue) : Type 0 where
+pub record AreJournalsOf (world : OrderedWorld) (journals : List JournalValue) : Type 0 where
   pub gtids : AreGtidsSound world
   pub faithful : AllByRecursion (IsFaithful world) journals
   pub recorded : (g : Gtid) → IsSome (content world g) → IsRecorded journals g
 
 -- a replica on which the opening set was executed, with the opening rows
-abbrev pub start_of : World → State
+abbrev pub start_of : OrderedWorld → State
 start_of world = start_with world.opening_set world.opening_rows
 
 -- A run from the opening that was served each journal whole on some channel, and whose every channel is stopped or done, has
 -- executed all that it received exactly where all that was committed applies, in the world's order.
 abbrev pub ServedRunsDecide : Type 0
-ServedRunsDecide = (world : World) (site : Site) (journals : List JournalValue) (events : List Event)
+ServedRunsDecide = (world : OrderedWorld) (site : Site) (journals : List JournalValue) (events : List Event)
     → site.schema ≡ world.schema → AreJournalsOf world journals → ServesAll site (start_of world) journals events
     → AreStoppedOrDone (after site (start_of world) events)
     → IsDrained (after site (start_of world) events) ↔ IsOk (apply_all world.schema world.order world.opening_rows)
@@ -61,12 +61,12 @@ all_of opened [] = opened
 all_of opened (j ∷ journals) = join (whole j) (all_of opened journals)
 
 -- the executed set and the rows of a state are those of all journals together
-pub record HoldsAll (world : World) (journals : List JournalValue) (s : State) : Type 0 where
+pub record HoldsAll (world : OrderedWorld) (journals : List JournalValue) (s : State) : Type 0 where
   pub executed : s.executed ≡ all_of world.opening_set journals
   pub rows_are : rows_of world (set.contains (all_of world.opening_set journals)) ≡ Ok s.rows
 
 -- Where it has executed all that it received, it holds what all journals together denote.
 abbrev pub ServedRunsHoldAll : Type 0
-ServedRunsHoldAll = (world : World) (site : Site) (journals : List JournalValue) (events : List Event)
+ServedRunsHoldAll = (world : OrderedWorld) (site : Site) (journals : List JournalValue) (events : List Event)
     → site.schema ≡ world.schema → AreJournalsOf world journals → ServesAll site (start_of world) journals events
     → IsDrained (after site (start_of world) events) → HoldsAll world journals (after site (start_of world) events)

@@ -15,7 +15,7 @@ use Rattle.replica_core.specs.declared.event.Reply.{Reply}
 use Rattle.replica_core.specs.declared.event.Reply.TheVariants.{Opened, Received, Ask, Committed, RowRefused}
 use Rattle.replica_core.specs.State.{State, Site}
 use Rattle.replica_core.specs.Machine.{opening, step, replies, after}
-use Rattle.ordered_history.specs.World.{World, content, rows_of, Precedes, IsSound, IsClosed}
+use Rattle.ordered_history.specs.World.{OrderedWorld, content, rows_of, Precedes, IsSound, IsClosed}
 use Rattle.rows.specs.declared.change.Transaction.{Transaction}
 use Rattle.rows.specs.WriteSet.{shares_key}
 use Rattle.gtid_text.specs.declared.Gtid.{Gtid}
@@ -28,7 +28,7 @@ abbrev pub start_with : Gtids → Rows → State
 start_with = opening
 
 -- a start: a closed set, with the rows that it denotes
-pub record IsOpening (world : World) (executed : Gtids) (rows : Rows) : Type 0 where
+pub record IsOpening (world : OrderedWorld) (executed : Gtids) (rows : Rows) : Type 0 where
   pub closed : IsClosed world (set.contains executed)
   pub stands_for : rows_of world (set.contains executed) ≡ Ok rows
 
@@ -43,7 +43,7 @@ since_after (OpenChannel name preserve) (Opened c) since d = if d == c then [] e
 since_after event reply since d = since d
 
 -- These are a prefix of what some faithful journal sends to one that asks with this set.
-pub record WasSent (world : World) (ask : Gtids) (entries : List Entry) : Type 0 where
+pub record WasSent (world : OrderedWorld) (ask : Gtids) (entries : List Entry) : Type 0 where
   pub journal : JournalValue
   pub own : Option ℕ
   pub rest : List Entry
@@ -56,20 +56,20 @@ asked_with s c = option_and_then (λ (channel : ChannelValue). channel.asked) (s
 
 -- What is required of one event: what is received was sent, and what commits here is what the world has under that GTID, with
 -- all executed that comes before it in the world's order and shares a key with it.
-abbrev pub IsFaithfulStep : World → Site → State → Since → Event → Reply → Type 0
+abbrev pub IsFaithfulStep : OrderedWorld → Site → State → Since → Event → Reply → Type 0
 IsFaithfulStep world site s since (Receive c entry) (Received p) = (ask : Gtids) → asked_with s c ≡ Some ask → WasSent world ask (since c ++ entry ∷ [])
 IsFaithfulStep world site s since (Local txn) (Committed g) =
     (content world g ≡ Some txn) × ((h : Gtid) (t : Transaction) → Precedes world.order (h, t) (g, txn) → shares_key world.schema t txn ≡ true → set.contains s.executed h ≡ true)
 IsFaithfulStep world site s since event reply = Unit {0}
 
-abbrev pub IsFaithfulFrom : World → Site → State → Since → List Event → Type 0
+abbrev pub IsFaithfulFrom : OrderedWorld → Site → State → Since → List Event → Type 0
 IsFaithfulFrom world site s since [] = Unit {0}
 IsFaithfulFrom world site s since (e ∷ es) =
     IsFaithfulStep world site s since e (step site s e).0
     × IsFaithfulFrom world site (step site s e).1 (since_after e (step site s e).0 since) es
 
 -- a run from a start
-abbrev pub IsFaithfulRun : World → Site → Gtids → Rows → List Event → Type 0
+abbrev pub IsFaithfulRun : OrderedWorld → Site → Gtids → Rows → List Event → Type 0
 IsFaithfulRun world site executed rows events = IsFaithfulFrom world site (start_with executed rows) (λ c. []) events
 
 abbrev pub IsNotRefused : Reply → Type 0
@@ -77,7 +77,7 @@ IsNotRefused (RowRefused g fault) = ⊥
 IsNotRefused reply = Unit {0}
 
 -- What a replica holds is what its executed set denotes.
-pub record IsMerged (world : World) (s : State) : Type 0 where
+pub record IsMerged (world : OrderedWorld) (s : State) : Type 0 where
   pub closed : IsClosed world (set.contains s.executed)
   pub rows : rows_of world (set.contains s.executed) ≡ Ok s.rows
   pub writers : (k : Key) → map.get s.rows k ≡ last_writer world (set.contains s.executed) k
@@ -86,13 +86,13 @@ pub record IsMerged (world : World) (s : State) : Type 0 where
 
 -- What comes after a faithful run of a sound world is merged, and no commit was refused for its rows.
 abbrev pub FaithfulRunsMerge : Type 0
-FaithfulRunsMerge = (world : World) (site : Site) (executed : Gtids) (rows : Rows) (events : List Event)
+FaithfulRunsMerge = (world : OrderedWorld) (site : Site) (executed : Gtids) (rows : Rows) (events : List Event)
     → site.schema ≡ world.schema → IsSound world → IsOpening world executed rows → IsFaithfulRun world site executed rows events
     → IsMerged world (after site (start_with executed rows) events) × AllByRecursion IsNotRefused (replies site (start_with executed rows) events)
 
 -- Two such runs with equal executed sets hold equal rows.
 abbrev pub EqualSetsEqualRows : Type 0
-EqualSetsEqualRows = (world : World) (a b : Site) (A B : Gtids) (x y : Rows) (es fs : List Event)
+EqualSetsEqualRows = (world : OrderedWorld) (a b : Site) (A B : Gtids) (x y : Rows) (es fs : List Event)
     → a.schema ≡ world.schema → b.schema ≡ world.schema → IsSound world → IsOpening world A x → IsOpening world B y
     → IsFaithfulRun world a A x es → IsFaithfulRun world b B y fs
     → (after a (start_with A x) es).executed ≡ (after b (start_with B y) fs).executed
@@ -100,13 +100,13 @@ EqualSetsEqualRows = (world : World) (a b : Site) (A B : Gtids) (x y : Rows) (es
 
 -- A prefix of a faithful run is faithful.
 abbrev pub FrontsAreFaithful : Type 0
-FrontsAreFaithful = (world : World) (site : Site) (executed : Gtids) (rows : Rows) (earlier later : List Event)
+FrontsAreFaithful = (world : OrderedWorld) (site : Site) (executed : Gtids) (rows : Rows) (earlier later : List Event)
     → IsFaithfulRun world site executed rows (earlier ++ later) → IsFaithfulRun world site executed rows earlier
 
 -- A faithful run in two parts: what comes after the second part is merged, whatever call made it, and none of its commits was
 -- refused for its rows.
 abbrev pub RunsGoOn : Type 0
-RunsGoOn = (world : World) (site : Site) (executed : Gtids) (rows : Rows) (earlier events : List Event) (s : State)
+RunsGoOn = (world : OrderedWorld) (site : Site) (executed : Gtids) (rows : Rows) (earlier events : List Event) (s : State)
     → site.schema ≡ world.schema → IsSound world → IsOpening world executed rows
     → s ≡ after site (start_with executed rows) earlier → IsFaithfulRun world site executed rows (earlier ++ events)
     → IsMerged world (after site s events) × AllByRecursion IsNotRefused (replies site s events)

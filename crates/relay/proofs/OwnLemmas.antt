@@ -5,7 +5,7 @@ use Rattle.gtid_set.specs.Sets.{Gtids, source_count, most_sources}
 use Rattle.gtid_set.specs.Full.{interval_count, most_intervals}
 use Rattle.gtid_set.proofs.SetLemmas.{union_empty, union_insert}
 use Rattle.journal.specs.declared.Entry.{Entry}
-use Rattle.journal.specs.Journals.{JournalValue, gtids_of, purged, whole}
+use Rattle.journal.specs.Journals.{JournalValue, gtids_of, previous_after_purge, whole}
 use Rattle.journal.proofs.EntryLemmas.{gtids_of-push}
 use Rattle.relay.specs.declared.Behind.{Behind}
 use Rattle.relay.specs.declared.Behind.TheVariants.{Equal, ByLast, By, Ahead}
@@ -34,7 +34,7 @@ pub whole-purged_to : (n : ℕ) (j : JournalValue) → whole (purge_to n j) ≡ 
 whole-purged_to n j = joined n j.previous j.entries
 
 -- the purged set is a part of the executed set
-pub purged_fits : (n : ℕ) (j : JournalValue) (known : Known) → IsOwn j known → source_count known.executed ≤ most_sources → source_count (purged n j) ≤ most_sources
+pub purged_fits : (n : ℕ) (j : JournalValue) (known : Known) → IsOwn j known → source_count known.executed ≤ most_sources → source_count (previous_after_purge n j) ≤ most_sources
 purged_fits n j known own fits =
     let same = ap source_count own.whole_set in
     let part = fewer n j.previous j.entries in

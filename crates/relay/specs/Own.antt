@@ -2,7 +2,7 @@
 use Rattle.std.specs.Prelude.{◌≡◌, ℕ, ◌≤◌, ◌-◌, Bool, length, take, drop, [], ◌∷◌, ◌++◌, Result, Ok, Err}
 use Rattle.gtid_set.specs.Sets.{Gtids, source_count, most_sources}
 use Rattle.journal.specs.declared.Entry.{Entry}
-use Rattle.journal.specs.Journals.{JournalValue, purged, whole}
+use Rattle.journal.specs.Journals.{JournalValue, previous_after_purge, whole}
 use Rattle.journal.specs.Faults.{IsPurgedFault}
 use Rattle.relay.specs.declared.Known.{Known}
 use Rattle.relay.specs.Known.{IsNear}
@@ -20,13 +20,13 @@ pub record OwnValue : Type 0 where
 abbrev pub without_last : JournalValue → JournalValue
 without_last journal = record journal { entries = take (length journal.entries - 1) journal.entries }
 
--- ... and with one entry more
+-- a journal with one entry more
 abbrev pub with_last : Entry → JournalValue → JournalValue
 with_last entry journal = record journal { entries = journal.entries ++ entry ∷ [] }
 
--- ... and with its first entries purged
+-- a journal with its first entries purged
 abbrev pub purge_to : ℕ → JournalValue → JournalValue
-purge_to count journal = record { previous = purged count journal; entries = drop count journal.entries }
+purge_to count journal = record { previous = previous_after_purge count journal; entries = drop count journal.entries }
 
 -- one entry behind, the spare set is that of the journal without its last entry
 abbrev pub IsBefore : Behind → Gtids → JournalValue → Type 0
@@ -47,10 +47,10 @@ IsCountFault (Set fault) = ⊥
 
 -- there were not as many entries
 abbrev pub IsTooMany : Result Gtids PurgeFault → Type 0
-IsTooMany (Ok purged) = ⊥
+IsTooMany (Ok previous) = ⊥
 IsTooMany (Err fault) = IsCountFault fault
 
 -- there were as many entries, and the purged set was not made; being a part of the executed set, it has not too many sources
 abbrev pub IsPurgeFault : PurgeFault → ℕ → JournalValue → Type 0
 IsPurgeFault (TooMany n) count journal = Unit {0}
-IsPurgeFault (Set fault) count journal = IsPurgedFault fault count journal × (source_count (purged count journal) ≤ most_sources)
+IsPurgeFault (Set fault) count journal = IsPurgedFault fault count journal × (source_count (previous_after_purge count journal) ≤ most_sources)

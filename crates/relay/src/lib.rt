@@ -17,7 +17,7 @@ ghost use Rattle.std.specs.Prelude.{◌≡◌, ◌≤◌, ◌<◌, ◌↔◌, []
 ghost use Rattle.std.specs.Bool.{Decides};
 ghost use Rattle.std.specs.Option.{option_copied};
 ghost use Rattle.std.specs.FinSet as set;
-ghost use Rattle.journal.specs.Journals.{purged, whole};
+ghost use Rattle.journal.specs.Journals.{previous_after_purge, whole};
 ghost use Rattle.gtid_set.specs.Full.{IsFullExactly};
 ghost use Rattle.gtid_set.specs.Laws.{HaveNumbers};
 ghost use Rattle.gtid_set.specs.declared.fault.SetFault.TheVariants.{Memory};
@@ -246,7 +246,7 @@ impl OwnJournal {
     /// Removes the first entries and adds their GTIDs to the purged set; the result is a copy of that set.
     /// The executed set stays.
     pub fn purge(&mut self, alloc: Global, count: usize) -> Result<GtidSet, PurgeFault>
-        ensures ok { IfOk result (λ s. s ≡ purged count self.old.journal) }
+        ensures ok { IfOk result (λ s. s ≡ previous_after_purge count self.old.journal) }
         ensures rest { OnOk result (self.new.journal ≡ purge_to count self.old.journal) }
         ensures many { IsTooMany result ↔ (length self.old.journal.entries < count) }
         ensures len { (n : ℕ) → result ≡ Err (TooMany n) → n ≡ length self.old.journal.entries }
@@ -259,7 +259,7 @@ impl OwnJournal {
             return Err(PurgeFault::TooMany(there));
         }
         self.known.executed.keeps_limits();
-        let previous = self.journal.purged(alloc, count)?;
+        let previous = self.journal.previous_after_purge(alloc, count)?;
         let shown = previous.copy(alloc)?;
         self.known.settle();
         self.journal.purge(count, previous);

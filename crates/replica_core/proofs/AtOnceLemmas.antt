@@ -32,8 +32,8 @@ use Rattle.replica_core.specs.Kept.{IsKept, AreKept}
 use Rattle.replica_core.specs.Seated.{IsUnowned}
 use Rattle.replica_core.specs.Committing.{IsCommittable, Executes}
 use Rattle.replica_core.specs.Draining.{NothingIsOwned, IsWaiting}
-use Rattle.replica_core.specs.Faults.{IsFaultIn, IsFault, HasRoomFor, takes_memory, receiving, committing, executing_too}
-use Rattle.replica_core.specs.Machine.{Step, Held, held, change_at, receive, take_place, taking, commit, commit_answer, executing, without_seat, open_before}
+use Rattle.replica_core.specs.Faults.{IsFaultIn, IsFault, HasRoomFor, allocates, received_set, committed_set, executed_with}
+use Rattle.replica_core.specs.Machine.{Step, Held, held, change_at, receive, take_place, take_seat, commit, commit_answer, execute, without_seat, open_before}
 use Rattle.replica_core.specs.AtOnce.{received_and_taken, received_and_committed, IsAtOnce, IsReadyAtOnce}
 use Rattle.replica_core.proofs.KeptLemmas.{found, gone_by}
 use Rattle.replica_core.proofs.ReceiveLemmas.{received_is, was_asked}
@@ -135,39 +135,39 @@ module _ (r : Replica) (seat c p : ℕ) (e : Entry) (may : IsReadyAtOnce r seat 
   abbrev is_waiting : IsWaiting p c got
   is_waiting = record { channel = grown; entry = entry_of e; at = at_channel; runs = may.next.runs; there = at_place; waits = may.new }
 
-  is_taken : take_place r.site seat c p got ≡ (reply.Taken e.gtid, taking seat c p got)
+  is_taken : take_place r.site seat c p got ≡ (reply.Taken e.gtid, take_seat seat c p got)
   is_taken = took r.site got seat c p is_waiting may.one may.idle is_front
 
-  both_taken : received_and_taken r.site seat c p e r.state ≡ taking seat c p got
+  both_taken : received_and_taken r.site seat c p e r.state ≡ take_seat seat c p got
   both_taken = ap (λ (x : Step). (take_place r.site seat c p x.1).1) (sym is_received) ∙ ap (λ (x : Step). x.1) is_taken
 
-  is_answered : commit r.site seat (taking seat c p got) ≡ commit_answer e.gtid e.txn seat c (taking seat c p got) (apply r.site.schema e.txn r.state.rows)
+  is_answered : commit r.site seat (take_seat seat c p got) ≡ commit_answer e.gtid e.txn seat c (take_seat seat c p got) (apply r.site.schema e.txn r.state.rows)
   is_answered =
-      commit_is r.site (taking seat c p got) seat spot grown e.gtid e.txn e.txn refl may.one (put_there r.state.seats seat spot) at_channel at_place
+      commit_is r.site (take_seat seat c p got) seat spot grown e.gtid e.txn e.txn refl may.one (put_there r.state.seats seat spot) at_channel at_place
       (any_way grown.preserve (open_before got grown p) (none_before got grown p is_front))
 
-  is_held : held (taking seat c p got) seat ≡ Some (record { spot = spot; channel = grown; gtid = e.gtid; txn = e.txn })
+  is_held : held (take_seat seat c p got) seat ≡ Some (record { spot = spot; channel = grown; gtid = e.gtid; txn = e.txn })
   is_held = let put = put_there r.state.seats seat spot in simp (put, at_channel, at_place) refl
 
   -- what the commit takes
-  pub makes_executed : committing seat (received_and_taken r.site seat c p e r.state) ≡ Some (executing_too r.state e.gtid)
-  makes_executed = ap (committing seat) both_taken ∙ ap (option_map (λ (h : Held). executing_too r.state h.gtid)) is_held
+  pub makes_executed : committed_set seat (received_and_taken r.site seat c p e r.state) ≡ Some (executed_with r.state e.gtid)
+  makes_executed = ap (committed_set seat) both_taken ∙ ap (option_map (λ (h : Held). executed_with r.state h.gtid)) is_held
 
-  answer_takes : (s : State) (o : Result Rows RowFault) → takes_memory (commit_answer e.gtid e.txn seat c s o).0 ≡ true
+  answer_takes : (s : State) (o : Result Rows RowFault) → allocates (commit_answer e.gtid e.txn seat c s o).0 ≡ true
   answer_takes s (Ok rows) = refl
   answer_takes s (Err fault) = refl
 
-  pub commit_takes : takes_memory (commit r.site seat (received_and_taken r.site seat c p e r.state)).0 ≡ true
+  pub commit_takes : allocates (commit r.site seat (received_and_taken r.site seat c p e r.state)).0 ≡ true
   commit_takes =
-      ap (λ (s : State). takes_memory (commit r.site seat s).0) both_taken ∙ ap (λ (x : Step). takes_memory x.0) is_answered
-      ∙ answer_takes (taking seat c p got) (apply r.site.schema e.txn r.state.rows)
+      ap (λ (s : State). allocates (commit r.site seat s).0) both_taken ∙ ap (λ (x : Step). allocates x.0) is_answered
+      ∙ answer_takes (take_seat seat c p got) (apply r.site.schema e.txn r.state.rows)
 
   -- ---- it is executed first
 
   module _ (rows : Rows) where
     -- the state in which it is executed
     abbrev pub ahead : State
-    ahead = executing r.state e.gtid e.txn rows
+    ahead = execute r.state e.gtid e.txn rows
 
     at_settled : slice_get ahead.channels c ≡ Some (settle_channel e.gtid may.channel)
     at_settled = slice_get-map (settle_channel e.gtid) r.state.channels c ∙ ap (option_map (settle_channel e.gtid)) may.at
@@ -191,7 +191,7 @@ module _ (r : Replica) (seat c p : ℕ) (e : Entry) (may : IsReadyAtOnce r seat 
     same_seats : finmap.remove (finmap.insert r.state.seats seat spot) seat ≡ r.state.seats
     same_seats = finmap.same_map nat_cmp_total nat_cmp-IsAntisymmetric _ _ (λ q. at_rest r.state seat spot may.idle q ∙ sym (may.idle q))
 
-    same_state : executing (without_seat (taking seat c p got) seat) e.gtid e.txn rows ≡ record ahead { channels = change_at c (with_received (done_of e)) ahead.channels }
+    same_state : execute (without_seat (take_seat seat c p got) seat) e.gtid e.txn rows ≡ record ahead { channels = change_at c (with_received (done_of e)) ahead.channels }
     same_state = λ i. record ahead { seats = same_seats i; channels = same_channels i }
 
     -- its channel answers the same
@@ -199,7 +199,7 @@ module _ (r : Replica) (seat c p : ℕ) (e : Entry) (may : IsReadyAtOnce r seat 
     told_same = ap (λ (x : Step). x.0) (sym is_received) ∙ ap (λ n. reply.Received n) (sym same_len) ∙ ap (λ (x : Step). x.0) is_received_done
 
     -- and the same set is made
-    pub makes_received : receiving c e ahead ≡ receiving c e r.state
+    pub makes_received : received_set c e ahead ≡ received_set c e r.state
     makes_received =
         ap (option_map (gtids_with e)) at_settled
         ∙ ap (λ (gs : List Gtid). Some (set.insert (set.from_list gs) e.gtid)) (gtids_kept e.gtid may.channel.received)
@@ -209,7 +209,7 @@ module _ (r : Replica) (seat c p : ℕ) (e : Entry) (may : IsReadyAtOnce r seat 
     pub left_same : apply r.site.schema e.txn r.state.rows ≡ Ok rows → received_and_committed r.site seat c p e r.state ≡ (receive r.site c e ahead).1
     left_same applies =
         ap (λ (s : State). (commit r.site seat s).1) both_taken
-        ∙ ap (λ (x : Step). x.1) (is_answered ∙ ap (commit_answer e.gtid e.txn seat c (taking seat c p got)) applies)
+        ∙ ap (λ (x : Step). x.1) (is_answered ∙ ap (commit_answer e.gtid e.txn seat c (take_seat seat c p got)) applies)
         ∙ same_state
         ∙ ap (λ (x : Step). x.1) is_received_done
 
@@ -225,15 +225,15 @@ module _ (r : Replica) (seat c p : ℕ) (e : Entry) (may : IsReadyAtOnce r seat 
     }
 
     -- a fault of its channel
-    pub fault_ahead : (f : SetFault) (site : Site) (s : State) → site ≡ r.site → s ≡ ahead → IsFault (IsFaultIn f (receiving c e s)) (receive site c e s) → IsFault (IsFaultIn f (receiving c e r.state)) (receive r.site c e r.state)
+    pub fault_ahead : (f : SetFault) (site : Site) (s : State) → site ≡ r.site → s ≡ ahead → IsFault (IsFaultIn f (received_set c e s)) (receive site c e s) → IsFault (IsFaultIn f (received_set c e r.state)) (receive r.site c e r.state)
     fault_ahead f site s one now h = record {
-      cause = subst (IsFaultIn f) (ap (receiving c e) now ∙ makes_received) h.cause;
-      instead = ap (λ (answer : Reply). takes_memory answer) (told_same ∙ sym (ap (λ (x : Step). x.0) (same_received site s one now))) ∙ h.instead;
+      cause = subst (IsFaultIn f) (ap (received_set c e) now ∙ makes_received) h.cause;
+      instead = ap (λ (answer : Reply). allocates answer) (told_same ∙ sym (ap (λ (x : Step). x.0) (same_received site s one now))) ∙ h.instead;
     }
 
     -- ... has room for the same set
-    pub room_ahead : (f : SetFault) (s : State) → s ≡ ahead → HasRoomFor f (receiving c e s) → HasRoomFor f (receiving c e r.state)
-    room_ahead f s now h = subst (HasRoomFor f) (ap (receiving c e) now ∙ makes_received) h
+    pub room_ahead : (f : SetFault) (s : State) → s ≡ ahead → HasRoomFor f (received_set c e s) → HasRoomFor f (received_set c e r.state)
+    room_ahead f s now h = subst (HasRoomFor f) (ap (received_set c e) now ∙ makes_received) h
 
 -- ---- what may be executed at once
 

@@ -22,7 +22,7 @@ use Rattle.replica_core.specs.declared.event.Reply.TheVariants.{Taken}
 use Rattle.replica_core.specs.declared.event.Event.TheVariants.{Take, Commit}
 use Rattle.replica_core.specs.State.{Site, State, Seats, entry_at, owned_by, owner, owns, seat_numbers}
 use Rattle.replica_core.specs.Kept.{IsKept, AreKept}
-use Rattle.replica_core.specs.Machine.{Step, is_seat, is_open, is_in_the_way, blocking, open_before, step, taking, take_place, commit, commit_answer, executing, stopping, set_stopped_at, without_seat}
+use Rattle.replica_core.specs.Machine.{Step, is_seat, is_open, is_in_the_way, blocking, open_before, step, take_seat, take_place, commit, commit_answer, execute, stopping, set_stopped_at, without_seat}
 use Rattle.replica_core.proofs.KeptLemmas.{found}
 use Rattle.replica_core.proofs.TakeLemmas.{commit_is}
 use Rattle.replica_core.specs.Draining.{NothingIsOwned, IsDoneBelow, IsWaiting, IsSettledAt, Follows, SameGtids, SameChannels}
@@ -63,7 +63,7 @@ no_owner s g none = find_none (owns s g) seat_numbers (λ seat. ap (λ (o : Opti
 
 -- ---- the take
 
-pub took : (site : Site) (s : State) (seat c p : ℕ) (w : IsWaiting p c s) → is_seat seat ≡ true → NothingIsOwned s → IsFront s w.channel p → take_place site seat c p s ≡ (Taken w.entry.gtid, taking seat c p s)
+pub took : (site : Site) (s : State) (seat c p : ℕ) (w : IsWaiting p c s) → is_seat seat ≡ true → NothingIsOwned s → IsFront s w.channel p → take_place site seat c p s ≡ (Taken w.entry.gtid, take_seat seat c p s)
 took site s seat c p w one none front =
     let idle = nothing_owned s seat none in
     let free = no_owner s w.entry.gtid none in
@@ -86,7 +86,7 @@ put_there seats seat spot = finmap.get-insert nat_cmp_total seats seat spot seat
 -- the answer to the commit of what was taken
 pub record Answer (site : Site) (s : State) (c p : ℕ) (w : IsWaiting p c s) : Type 0 where
   pub txn : Transaction
-  pub is : commit site 1 (taking 1 c p s) ≡ commit_answer w.entry.gtid txn 1 c (taking 1 c p s) (apply site.schema txn s.rows)
+  pub is : commit site 1 (take_seat 1 c p s) ≡ commit_answer w.entry.gtid txn 1 c (take_seat 1 c p s) (apply site.schema txn s.rows)
 
 pub answered : (site : Site) (s : State) (c p : ℕ) (w : IsWaiting p c s) → AreKept site.schema s.executed s.channels → IsFront s w.channel p → Answer site s c p w
 answered site s c p w kept front =
@@ -97,7 +97,7 @@ answered site s c p w kept front =
     let there : slice_get w.channel.received p ≡ Some (record { gtid = w.entry.gtid; txn = Some t.0 }) = w.there ∙ ap (λ (o : Option Transaction). let e : Received = record { gtid = w.entry.gtid; txn = o } in Some e) t.1 in
     record {
       txn = t.0;
-      is = commit_is site (taking 1 c p s) 1 spot w.channel w.entry.gtid t.0 t.0 refl refl (put_there s.seats 1 spot) w.at there (any_way w.channel.preserve (open_before s w.channel p) (none_before s w.channel p front));
+      is = commit_is site (take_seat 1 c p s) 1 spot w.channel w.entry.gtid t.0 t.0 refl refl (put_there s.seats 1 spot) w.at there (any_way w.channel.preserve (open_before s w.channel p) (none_before s w.channel p front));
     }
 
 -- ---- what stays
@@ -181,7 +181,7 @@ gtid_there s c p w channels after e same at there =
     let entry : f.0 ≡ w.entry = one_value f.0 w.entry (sym f.1 ∙ ap (λ (x : ChannelValue). slice_get x.received p) channel ∙ w.there) in
     f.2 ∙ ap (λ (x : Received). x.gtid) entry
 
-after_ok : (s : State) (c p : ℕ) (w : IsWaiting p c s) (t : Transaction) (rows : Rows) → NothingIsOwned s → Settles s (executing (without_seat (taking 1 c p s) 1) w.entry.gtid t rows) c p
+after_ok : (s : State) (c p : ℕ) (w : IsWaiting p c s) (t : Transaction) (rows : Rows) → NothingIsOwned s → Settles s (execute (without_seat (take_seat 1 c p s) 1) w.entry.gtid t rows) c p
 after_ok s c p w t rows none = record {
   rests = at_rest s 1 (record { channel = c; place = p }) none;
   follows = record { executed = λ h at. stays_in s.executed w.entry.gtid h at; channels = channels_settled w.entry.gtid s.channels };
@@ -194,23 +194,23 @@ is_stopped c channels x after is at =
     let set_at : slice_get (slice_set channels c (with_stopped true x)) c ≡ Some after = subst (λ (o : Option ChannelValue). slice_get (option_map_or (λ y. slice_set channels c (with_stopped true y)) o channels) c ≡ Some after) is at in
     ap (λ (y : ChannelValue). y.stopped) (set_here channels c (with_stopped true x) after set_at)
 
-after_err : (s : State) (c p : ℕ) (w : IsWaiting p c s) → NothingIsOwned s → Settles s (stopping c (without_seat (taking 1 c p s) 1)) c p
+after_err : (s : State) (c p : ℕ) (w : IsWaiting p c s) → NothingIsOwned s → Settles s (stopping c (without_seat (take_seat 1 c p s) 1)) c p
 after_err s c p w none = record {
   rests = at_rest s 1 (record { channel = c; place = p }) none;
   follows = record { executed = λ h at. at; channels = channels_stopped c s.channels w.channel w.at };
   done = λ after at. inl (is_stopped c s.channels w.channel after w.at at);
 }
 
-after_answer : (s : State) (c p : ℕ) (w : IsWaiting p c s) (t : Transaction) → NothingIsOwned s → (r : Result Rows RowFault) → Settles s (commit_answer w.entry.gtid t 1 c (taking 1 c p s) r).1 c p
+after_answer : (s : State) (c p : ℕ) (w : IsWaiting p c s) (t : Transaction) → NothingIsOwned s → (r : Result Rows RowFault) → Settles s (commit_answer w.entry.gtid t 1 c (take_seat 1 c p s) r).1 c p
 after_answer s c p w t none (Ok rows) = after_ok s c p w t rows none
 after_answer s c p w t none (Err fault) = after_err s c p w none
 
 moved : (site : Site) (s t u : State) (r q : Reply) (c p : ℕ) (w : IsWaiting p c s) → NothingIsOwned s → AreKept site.schema s.executed s.channels → IsFront s w.channel p
     → ◌≡◌ {A = Step} (r, t) (take_place site 1 c p s) → ◌≡◌ {A = Step} (q, u) (commit site 1 t) → Settles s u c p
 moved site s t u r q c p w none kept front takes commits =
-    let took_it : t ≡ taking 1 c p s = ap (λ (x : Step). x.1) (takes ∙ took site s 1 c p w refl none front) in
+    let took_it : t ≡ take_seat 1 c p s = ap (λ (x : Step). x.1) (takes ∙ took site s 1 c p w refl none front) in
     let a = answered site s c p w kept front in
-    let made : u ≡ (commit_answer w.entry.gtid a.txn 1 c (taking 1 c p s) (apply site.schema a.txn s.rows)).1 = ap (λ (x : Step). x.1) (commits ∙ ap (commit site 1) took_it ∙ a.is) in
+    let made : u ≡ (commit_answer w.entry.gtid a.txn 1 c (take_seat 1 c p s) (apply site.schema a.txn s.rows)).1 = ap (λ (x : Step). x.1) (commits ∙ ap (commit site 1) took_it ∙ a.is) in
     subst (λ (x : State). Settles s x c p) (sym made) (after_answer s c p w a.txn none (apply site.schema a.txn s.rows))
 
 front_of : (s : State) (n c : ℕ) (w : IsWaiting n c s) → IsDoneBelow n c s → IsFront s w.channel n

@@ -88,4 +88,4 @@ told_at site start (x ∷ xs) (suc i) e r asked told = told_at site (step site s
 
 pub order_preserved : OrderIsPreserved
 order_preserved site start events i seat g spot channel commits has =
-    in_order site (after site start (take i events)) seat g spot channel has (told_at site start events i (event.Commit seat) (Committed g) commits.asked commits.told)
+    in_order site (after site start (take i events)) seat g spot channel has (told_at site start events i (event.Commit seat) (Committed g) commits.asked commits.replied)

@@ -11,7 +11,7 @@ use Rattle.rows.specs.declared.change.Change.{Change}
 use Rattle.rows.specs.declared.change.Change.TheVariants.{Insert, Delete, Update}
 use Rattle.rows.specs.declared.change.Transaction.{Transaction}
 use Rattle.rows.specs.declared.schema.Table.{Table}
-use Rattle.rows.specs.Keys.{table_named}
+use Rattle.rows.specs.Keys.{find_table}
 use Rattle.rows.specs.Tables.{AreTables, is_table, is_within_limits, has_column_lists, has_its_columns}
 use Rattle.rows.specs.Fits.{Fits, misfit_from, change_misfit, misfit_in, images_misfit, row_misfit, has_primary_null, table_of, count_misfit}
 use Rattle.row_images.specs.Values.{is_too_long}
@@ -55,11 +55,11 @@ row_writable table row low high h =
 same_some : (a b : Table) → ◌≡◌ {A = Option Table} (Some a) (Some b) → a ≡ b
 same_some a b e = cc
 
-named_by : (name : List ℕ) (table : Table) (tables : List Table) (b : Bool) (t : Table) → is_table table ≡ true → (table_named name tables ≡ Some t → is_table t ≡ true) → cond b (Some table) (table_named name tables) ≡ Some t → is_table t ≡ true
+named_by : (name : List ℕ) (table : Table) (tables : List Table) (b : Bool) (t : Table) → is_table table ≡ true → (find_table name tables ≡ Some t → is_table t ≡ true) → cond b (Some table) (find_table name tables) ≡ Some t → is_table t ≡ true
 named_by name table tables true t one rest at = subst (λ (x : Table). is_table x ≡ true) (same_some table t at) one
 named_by name table tables false t one rest at = rest at
 
-named : (name : List ℕ) (tables : List Table) (t : Table) → list_all is_table tables ≡ true → table_named name tables ≡ Some t → is_table t ≡ true
+named : (name : List ℕ) (tables : List Table) (t : Table) → list_all is_table tables ≡ true → find_table name tables ≡ Some t → is_table t ≡ true
 named name [] t all at = absurd (cc at)
 named name (table ∷ tables) t all at =
     let each = and_parts (is_table table) (list_all is_table tables) all in
@@ -72,7 +72,7 @@ change_writable (Update name before after) table low high h =
     let each = no_cause (row_misfit table before) (row_misfit table after) h in
     λ i. row_writable table before low high each.0 i && row_writable table after low high each.1 i
 
-change_by : (schema : List Table) (c : Change) (o : Option Table) → list_all is_table schema ≡ true → table_named (table_of c) schema ≡ o → misfit_in o c ≡ None → is_change_writable c ≡ true
+change_by : (schema : List Table) (c : Change) (o : Option Table) → list_all is_table schema ≡ true → find_table (table_of c) schema ≡ o → misfit_in o c ≡ None → is_change_writable c ≡ true
 change_by schema c None all at h = absurd (cc h)
 change_by schema c (Some table) all at h =
     let is = and_parts (has_column_lists table && is_within_limits table) (has_its_columns table) (named (table_of c) schema table all at) in
@@ -85,8 +85,8 @@ changes_writable : (schema : List Table) (n : ℕ) (cs : List Change) → list_a
 changes_writable schema n [] all h = refl
 changes_writable schema n (c ∷ cs) all h =
     let each = none_later (change_misfit schema n c) n (misfit_from schema (n + 1) cs) h in
-    let fits = no_cause (misfit_in (table_named (table_of c) schema) c) (count_misfit n) each.0 in
-    λ i. change_by schema c (table_named (table_of c) schema) all refl fits.0 i && changes_writable schema (n + 1) cs all each.1 i
+    let fits = no_cause (misfit_in (find_table (table_of c) schema) c) (count_misfit n) each.0 in
+    λ i. change_by schema c (find_table (table_of c) schema) all refl fits.0 i && changes_writable schema (n + 1) cs all each.1 i
 
 few : (n : ℕ) → n ≤ 65536 → nat_le n 65536 ≡ true
 few n h = grind (arith, nat_tests)

@@ -10,15 +10,15 @@ use Rattle.apply_channel.specs.Channels.{ChannelValue, are_settled, is_full}
 use Rattle.replica_core.specs.declared.event.Event.TheVariants.{Receive, Take, Commit}
 use Rattle.replica_core.specs.declared.event.Reply.{Reply}
 use Rattle.replica_core.specs.State.{Site, State, Replica}
-use Rattle.replica_core.specs.Machine.{is_seat, receive, commit, after, executing}
-use Rattle.replica_core.specs.Faults.{IsFault, IsFaultIn, HasRoomFor, receiving, committing, executing_too}
+use Rattle.replica_core.specs.Machine.{is_seat, receive, commit, after, execute}
+use Rattle.replica_core.specs.Faults.{IsFault, IsFaultIn, HasRoomFor, received_set, committed_set, executed_with}
 use Rattle.replica_core.specs.Draining.{NothingIsOwned}
 
 -- a channel receives an entry, and a seat takes a place
 abbrev pub received_and_taken : Site → ℕ → ℕ → ℕ → Entry → State → State
 received_and_taken site seat c p e s = after site s (Receive c e ∷ Take seat c p ∷ [])
 
--- ... and commits what it has
+-- a channel receives an entry, and a seat takes a place and commits it
 abbrev pub received_and_committed : Site → ℕ → ℕ → ℕ → Entry → State → State
 received_and_committed site seat c p e s = after site s (Receive c e ∷ Take seat c p ∷ Commit seat ∷ [])
 
@@ -26,7 +26,7 @@ received_and_committed site seat c p e s = after site s (Receive c e ∷ Take se
 pub record IsOnlyExecuted (site : Site) (e : Entry) (s t : State) : Type 0 where
   pub rows : Rows
   pub applied : apply site.schema e.txn s.rows ≡ Ok rows
-  pub now : t ≡ executing s e.gtid e.txn rows
+  pub now : t ≡ execute s e.gtid e.txn rows
 
 -- where a failed allocation leaves it: as it was, or received and taken, or executed without being received
 abbrev pub IsLeft : Site → ℕ → ℕ → ℕ → Entry → State → State → Type 0
@@ -35,16 +35,16 @@ IsLeft site seat c p e s t = (t ≡ s) ⊎ ((t ≡ received_and_taken site seat 
 -- a fault of the first event, or of the last
 abbrev pub IsFaultAtOnce : SetFault → Site → ℕ → ℕ → ℕ → Entry → State → Type 0
 IsFaultAtOnce f site seat c p e s =
-    IsFault (IsFaultIn f (receiving c e s)) (receive site c e s)
-    ⊎ IsFault (IsFaultIn f (committing seat (received_and_taken site seat c p e s))) (commit site seat (received_and_taken site seat c p e s))
+    IsFault (IsFaultIn f (received_set c e s)) (receive site c e s)
+    ⊎ IsFault (IsFaultIn f (committed_set seat (received_and_taken site seat c p e s))) (commit site seat (received_and_taken site seat c p e s))
 
 -- memory was refused only where the set that one of the two makes has not too many sources
 abbrev pub HasRoomAtOnce : SetFault → Site → ℕ → ℕ → ℕ → Entry → State → Type 0
-HasRoomAtOnce f site seat c p e s = HasRoomFor f (receiving c e s) ⊎ HasRoomFor f (committing seat (received_and_taken site seat c p e s))
+HasRoomAtOnce f site seat c p e s = HasRoomFor f (received_set c e s) ⊎ HasRoomFor f (committed_set seat (received_and_taken site seat c p e s))
 
 -- the reply to the first event, and the state after the last
 pub record IsAtOnce (r : Replica) (seat c p : ℕ) (e : Entry) (reply : Reply) (t : State) : Type 0 where
-  pub told : reply ≡ (receive r.site c e r.state).0
+  pub replied : reply ≡ (receive r.site c e r.state).0
   pub state : t ≡ received_and_committed r.site seat c p e r.state
 
 -- ---- when it needs no waiting
@@ -66,4 +66,4 @@ pub record IsReadyAtOnce (r : Replica) (seat c p : ℕ) (e : Entry) : Type 0 whe
   pub idle : NothingIsOwned r.state
   pub fits : Fits r.site.schema e.txn
   pub new : set.contains r.state.executed e.gtid ≡ false
-  pub room : source_count (executing_too r.state e.gtid) ≤ most_sources
+  pub room : source_count (executed_with r.state e.gtid) ≤ most_sources

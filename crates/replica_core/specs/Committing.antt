@@ -8,11 +8,11 @@ use Rattle.journal.specs.declared.Entry.{Entry}
 use Rattle.journal.specs.Writing.{is_number}
 use Rattle.replica_core.specs.State.{State, Replica}
 use Rattle.replica_core.specs.Seated.{IsUnowned, IsFreeable, freed_of}
-use Rattle.replica_core.specs.Machine.{executing}
+use Rattle.replica_core.specs.Machine.{execute}
 
 -- the state in which a seat was freed, if one is named
-abbrev pub freeing : Option ℕ → State → State
-freeing freed s = record s { seats = freed_of freed s.seats }
+abbrev pub free_seat : Option ℕ → State → State
+free_seat freed s = record s { seats = freed_of freed s.seats }
 
 -- an entry that may be committed, while a seat is freed: its GTID is new, the schema takes its transaction, and no other seat has a place
 -- of that GTID
@@ -26,7 +26,7 @@ pub record IsCommittable (r : Replica) (freed : Option ℕ) (e : Entry) : Type 0
 -- an entry is executed
 pub record Executes (old : Replica) (freed : Option ℕ) (e : Entry) (new : Replica) : Type 0 where
   pub applied : apply old.site.schema e.txn old.state.rows ≡ Ok new.state.rows
-  pub state : new.state ≡ executing (freeing freed old.state) e.gtid e.txn new.state.rows
+  pub state : new.state ≡ execute (free_seat freed old.state) e.gtid e.txn new.state.rows
   pub site : new.site ≡ old.site
 
 -- its transaction does not apply, and nothing has changed

@@ -8,7 +8,7 @@ use Rattle.gtid_set.specs.Sets.{Gtids}
 use Rattle.replica_core.specs.State.{State, Seats, Replica, entry_at}
 use Rattle.replica_core.specs.Seated.{AreSeated, MayHave}
 use Rattle.replica_core.specs.Kept.{ChannelsValue, IsKept, AreKept}
-use Rattle.replica_core.specs.Machine.{Step, opening, is_seat, take_place, taking}
+use Rattle.replica_core.specs.Machine.{Step, opening, is_seat, take_place, take_seat}
 use Rattle.gtid_text.specs.declared.Gtid.{Gtid}
 use Rattle.apply_channel.specs.Channels.{Keyed}
 use Rattle.replica_core.specs.declared.event.Reply.{Reply}
@@ -40,7 +40,7 @@ pub record IsAtCore (r : Replica) (channel : ℕ) (k : Keyed) : Type 0 where
 -- a Take that takes this GTID
 abbrev pub Takes : Replica → ℕ → ℕ → ℕ → Gtid → Type 0
 Takes r seat channel place g =
-    (take_place r.site seat channel place r.state ≡ (Taken g, taking seat channel place r.state)) × (is_seat seat ≡ true) × MayHave r.state.channels r.state.seats (record { channel = channel; place = place })
+    (take_place r.site seat channel place r.state ≡ (Taken g, take_seat seat channel place r.state)) × (is_seat seat ≡ true) × MayHave r.state.channels r.state.seats (record { channel = channel; place = place })
 
 -- an event that changes nothing, with this reply
 abbrev pub Refuses : (State → Step) → Replica → Reply → Type 0

@@ -6,7 +6,7 @@ use Rattle.gtid_set.specs.declared.fault.SetFault.TheVariants.{Memory}
 use Rattle.gtid_text.specs.declared.Gtid.{Gtid}
 use Rattle.gtid_set.specs.Sets.{Gtids, gtid, source_count, most_sources}
 use Rattle.journal.specs.declared.Entry.{Entry}
-use Rattle.journal.specs.Journals.{purged}
+use Rattle.journal.specs.Journals.{previous_after_purge}
 use Rattle.journal.specs.Faults.{IsPurgedFault}
 use Rattle.gtid_set.specs.Full.{IsFaultOf}
 use Rattle.apply_channel.specs.Full.{gtids_with}
@@ -20,33 +20,33 @@ use Rattle.replica_core.specs.Machine.{Step, step, ask, held, next_number}
 -- ---- the set that an event makes
 
 -- the set with which a channel would ask
-abbrev pub asking : ℕ → State → Option Gtids
-asking c s = option_map (ask s) (slice_get s.channels c)
+abbrev pub ask_set : ℕ → State → Option Gtids
+ask_set c s = option_map (ask s) (slice_get s.channels c)
 
 -- the executed set with one GTID more
-abbrev pub executing_too : State → Gtid → Gtids
-executing_too s g = set.insert s.executed g
+abbrev pub executed_with : State → Gtid → Gtids
+executed_with s g = set.insert s.executed g
 
 -- the received set of a channel with one entry more
-abbrev pub receiving : ℕ → Entry → State → Option Gtids
-receiving c entry s = option_map (gtids_with entry) (slice_get s.channels c)
+abbrev pub received_set : ℕ → Entry → State → Option Gtids
+received_set c entry s = option_map (gtids_with entry) (slice_get s.channels c)
 
 -- the executed set with the GTID that a seat holds
-abbrev pub committing : ℕ → State → Option Gtids
-committing seat s = option_map (λ h. executing_too s h.gtid) (held s seat)
+abbrev pub committed_set : ℕ → State → Option Gtids
+committed_set seat s = option_map (λ h. executed_with s h.gtid) (held s seat)
 
--- ... with the next number of the own UUID
-abbrev pub numbering : Site → State → Option Gtids
-numbering site s = option_map (λ n. executing_too s (gtid site.own n)) (next_number site s)
+-- the executed set with the next GTID of the own UUID
+abbrev pub numbered_set : Site → State → Option Gtids
+numbered_set site s = option_map (λ n. executed_with s (gtid site.own n)) (next_number site s)
 
 -- the set that an event makes, if it makes one
-abbrev pub made_by : Site → State → Event → Option Gtids
-made_by site s (event.Position c) = asking c s
-made_by site s (event.Receive c entry) = receiving c entry s
-made_by site s (event.Commit seat) = committing seat s
-made_by site s (event.Local changes) = numbering site s
-made_by site s (event.Purge k) = Some (purged k s.journal)
-made_by site s _ = None
+abbrev pub set_made_by : Site → State → Event → Option Gtids
+set_made_by site s (event.Position c) = ask_set c s
+set_made_by site s (event.Receive c entry) = received_set c entry s
+set_made_by site s (event.Commit seat) = committed_set seat s
+set_made_by site s (event.Local changes) = numbered_set site s
+set_made_by site s (event.Purge k) = Some (previous_after_purge k s.journal)
+set_made_by site s _ = None
 
 -- ---- faults
 
@@ -61,54 +61,54 @@ IsFaultIn f None = f ≡ Memory
 IsFaultIn f (Some made) = IsFaultOf f made
 
 -- a reply that allocates
-abbrev pub takes_memory : Reply → Bool
-takes_memory NameTaken = false
-takes_memory ChannelsFull = false
-takes_memory (Opened c) = true
-takes_memory NoChannel = false
-takes_memory (Ask s) = true
-takes_memory NotPositioned = false
-takes_memory (NotInSchema fault) = false
-takes_memory ChannelFull = false
-takes_memory (Received place) = true
-takes_memory NoSeat = false
-takes_memory (SeatBusy g) = false
-takes_memory NoPlace = false
-takes_memory Stopped = false
-takes_memory (Done g) = false
-takes_memory (OwnedBy seat) = false
-takes_memory (Blocked place) = false
-takes_memory (Taken g) = false
-takes_memory SeatIdle = false
-takes_memory (Early place) = false
-takes_memory (RowRefused g fault) = true
-takes_memory (Committed g) = true
-takes_memory (RolledBack g) = false
-takes_memory Restarted = false
-takes_memory NumbersUsedUp = false
-takes_memory (LocalRefused fault) = true
-takes_memory (TooMany there) = false
-takes_memory (Purged s) = true
-takes_memory (Shown s) = true
+abbrev pub allocates : Reply → Bool
+allocates NameTaken = false
+allocates ChannelsFull = false
+allocates (Opened c) = true
+allocates NoChannel = false
+allocates (Ask s) = true
+allocates NotPositioned = false
+allocates (NotInSchema fault) = false
+allocates ChannelFull = false
+allocates (Received place) = true
+allocates NoSeat = false
+allocates (SeatBusy g) = false
+allocates NoPlace = false
+allocates Stopped = false
+allocates (Done g) = false
+allocates (OwnedBy seat) = false
+allocates (Blocked place) = false
+allocates (Taken g) = false
+allocates SeatIdle = false
+allocates (Early place) = false
+allocates (RowRefused g fault) = true
+allocates (Committed g) = true
+allocates (RolledBack g) = false
+allocates Restarted = false
+allocates NumbersUsedUp = false
+allocates (LocalRefused fault) = true
+allocates (TooMany there) = false
+allocates (Purged s) = true
+allocates (Shown s) = true
 
 -- Why an event has an error. Besides copies and parts of sets of the old state it makes one set at most; a Purge makes its own by adding
 -- the GTIDs of the entries one after another.
 abbrev pub IsCause : SetFault → Site → State → Event → Type 0
 IsCause f site s (event.OpenChannel name preserve) = IsFaultIn f None
-IsCause f site s (event.Position c) = IsFaultIn f (asking c s)
-IsCause f site s (event.Receive c entry) = IsFaultIn f (receiving c entry s)
+IsCause f site s (event.Position c) = IsFaultIn f (ask_set c s)
+IsCause f site s (event.Receive c entry) = IsFaultIn f (received_set c entry s)
 IsCause f site s (event.Take seat c p) = IsFaultIn f None
-IsCause f site s (event.Commit seat) = IsFaultIn f (committing seat s)
+IsCause f site s (event.Commit seat) = IsFaultIn f (committed_set seat s)
 IsCause f site s (event.Rollback seat) = IsFaultIn f None
 IsCause f site s (event.Restart c) = IsFaultIn f None
-IsCause f site s (event.Local changes) = IsFaultIn f (numbering site s)
+IsCause f site s (event.Local changes) = IsFaultIn f (numbered_set site s)
 IsCause f site s (event.Purge k) = IsPurgedFault f k s.journal
 IsCause f site s event.Look = IsFaultIn f None
 
 -- a fault in place of a reply: of one that allocates
 pub record IsFault (Cause : Type 0) (answer : Step) : Type 0 where
   pub cause : Cause
-  pub instead : takes_memory answer.0 ≡ true
+  pub instead : allocates answer.0 ≡ true
 
 -- a fault in place of this step
 abbrev pub IsStepFault : SetFault → Site → State → Event → Type 0
@@ -117,7 +117,7 @@ IsStepFault f site s e = IsFault (IsCause f site s e) (step site s e)
 -- memory was refused only where the set that the next event makes, if there is one, has not too many sources
 abbrev pub HasRoomAt : SetFault → Site → State → Option Event → Type 0
 HasRoomAt f site s None = Unit {0}
-HasRoomAt f site s (Some e) = HasRoomFor f (made_by site s e)
+HasRoomAt f site s (Some e) = HasRoomFor f (set_made_by site s e)
 
 -- a fault of the next event, if there is one; a failed allocation may come before its step
 abbrev pub IsFaultAt : SetFault → Site → State → Option Event → Type 0

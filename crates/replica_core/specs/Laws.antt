@@ -24,7 +24,7 @@ pub record HasInOrder (s : State) (seat : ℕ) (spot : Spot) (channel : ChannelV
 -- the i-th event of a run is a Commit of a seat, with the reply Committed
 pub record CommitsAt (site : Site) (start : State) (events : List Event) (i seat : ℕ) (g : Gtid) : Type 0 where
   pub asked : slice_get events i ≡ Some (event.Commit seat)
-  pub told : slice_get (replies site start events) i ≡ Some (Committed g)
+  pub replied : slice_get (replies site start events) i ≡ Some (Committed g)
 
 -- on a channel that preserves order every Committed finds all earlier places of that channel executed
 abbrev pub OrderIsPreserved : Type 0

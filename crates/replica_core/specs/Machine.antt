@@ -13,7 +13,7 @@ use Rattle.rows.specs.Apply.{Rows, apply}
 use Rattle.rows.specs.Fits.{misfit}
 use Rattle.rows.specs.WriteSet.{shares_key}
 use Rattle.journal.specs.declared.Entry.{Entry}
-use Rattle.journal.specs.Journals.{purged}
+use Rattle.journal.specs.Journals.{previous_after_purge}
 use Rattle.journal.specs.Writing.{is_number}
 use Rattle.relay.specs.Own.{with_last, purge_to}
 use Rattle.apply_channel.specs.Channels.{ChannelValue, Received, with_stopped, with_asked, new_channel, settle_channel, with_received, received_as, received_gtids, same_name, is_full}
@@ -42,7 +42,7 @@ ask s channel = set.union s.executed (received_gtids channel.received)
 abbrev pub is_open : State → Received → Bool
 is_open s e = not (set.contains s.executed e.gtid)
 
--- ... and that shares a key with a transaction
+-- an earlier entry whose GTID is not executed, and that shares a key with a transaction
 abbrev pub is_in_the_way : List Table → State → Transaction → Received → Bool
 is_in_the_way schema s t e = is_open s e && option_map_or (λ u. shares_key schema u t) e.txn false
 
@@ -64,12 +64,12 @@ with_channel s c channel = record s { channels = slice_set s.channels c channel 
 abbrev pub without_seat : State → ℕ → State
 without_seat s seat = record s { seats = finmap.remove s.seats seat }
 
-abbrev pub taking : ℕ → ℕ → ℕ → State → State
-taking seat c p s = record s { seats = finmap.insert s.seats seat (record { channel = c; place = p }) }
+abbrev pub take_seat : ℕ → ℕ → ℕ → State → State
+take_seat seat c p s = record s { seats = finmap.insert s.seats seat (record { channel = c; place = p }) }
 
 -- a GTID is executed: its transaction is in the rows and at the end of the own journal, and in no channel
-abbrev pub executing : State → Gtid → Transaction → Rows → State
-executing s g t rows = record s {
+abbrev pub execute : State → Gtid → Transaction → Rows → State
+execute s g t rows = record s {
   executed = set.insert s.executed g;
   rows = rows;
   channels = map (settle_channel g) s.channels;
@@ -111,7 +111,7 @@ take_entry site seat c p channel e s =
     if set.contains s.executed e.gtid then (Done e.gtid, s) else
     option_map_or (λ other. (OwnedBy other, s)) (owner s e.gtid) (
     option_map_or (λ q. (Blocked q, s)) (option_map_or (blocking site.schema s channel p) e.txn None) (
-    (Taken e.gtid, taking seat c p s)))
+    (Taken e.gtid, take_seat seat c p s)))
 
 abbrev pub take_place : Site → ℕ → ℕ → ℕ → State → Step
 take_place site seat c p s =
@@ -150,7 +150,7 @@ abbrev pub stopping : ℕ → State → State
 stopping c s = record s { channels = set_stopped_at true c s.channels }
 
 abbrev pub commit_answer : Gtid → Transaction → ℕ → ℕ → State → Result Rows RowFault → Step
-commit_answer g t seat c s (Ok rows) = (Committed g, executing (without_seat s seat) g t rows)
+commit_answer g t seat c s (Ok rows) = (Committed g, execute (without_seat s seat) g t rows)
 commit_answer g t seat c s (Err fault) = (RowRefused g fault, stopping c (without_seat s seat))
 
 abbrev pub commit_held : Site → ℕ → State → Held → Step
@@ -176,7 +176,7 @@ abbrev pub next_number : Site → State → Option ℕ
 next_number site s = least_number (is_free site s)
 
 abbrev pub local_answer : Gtid → Transaction → State → Result Rows RowFault → Step
-local_answer g t s (Ok rows) = (Committed g, executing s g t rows)
+local_answer g t s (Ok rows) = (Committed g, execute s g t rows)
 local_answer g t s (Err fault) = (LocalRefused fault, s)
 
 abbrev pub local : Site → Transaction → State → Step
@@ -187,7 +187,7 @@ local site t s =
 abbrev pub purge : ℕ → State → Step
 purge k s =
     if nat_lt (length s.journal.entries) k then (TooMany (length s.journal.entries), s) else
-    (Purged (purged k s.journal), record s { journal = purge_to k s.journal })
+    (Purged (previous_after_purge k s.journal), record s { journal = purge_to k s.journal })
 
 abbrev pub look : State → Step
 look s = (Shown s.executed, s)

@@ -5,7 +5,7 @@ ghost use Rattle.replica_core.specs.Kept.{IsKept};
 ghost use Rattle.replica_core.specs.Core.{Refuses};
 ghost use Rattle.replica_core.specs.Committing.{IsCommittable, Executes, RefusedBy};
 ghost use Rattle.gtid_set.specs.Full.{IsFaultOf};
-ghost use Rattle.replica_core.specs.Faults.{IsFault, IsFaultIn, HasRoomFor, committing, executing_too};
+ghost use Rattle.replica_core.specs.Faults.{IsFault, IsFaultIn, HasRoomFor, committed_set, executed_with};
 ghost use Rattle.replica_core.specs.Ready.{IsReady};
 
 use crate::event::{Reply, Spot};
@@ -44,8 +44,8 @@ impl Core {
     /// What a Commit commits, or the reply that refuses it.
     fn may_commit(&self, seat: u8) -> Result<Result<Ready, Reply>, SetFault>
         ensures ok { IfOk result (λ r. MatchResult r (IsReady self.now seat) (Refuses (commit self.now.site seat) self.now)) }
-        ensures fault { IfErr result (λ f. IsFault (IsFaultIn f (committing seat self.now.state)) (commit self.now.site seat self.now.state)) }
-        ensures room { IfErr result (λ f. HasRoomFor f (committing seat self.now.state)) }
+        ensures fault { IfErr result (λ f. IsFault (IsFaultIn f (committed_set seat self.now.state)) (commit self.now.site seat self.now.state)) }
+        ensures room { IfErr result (λ f. HasRoomFor f (committed_set seat self.now.state)) }
     {
         if !is_seat(seat) {
             return Ok(Err(Reply::NoSeat));
@@ -90,8 +90,8 @@ impl Core {
         requires same { txn.now ≡ entry.txn }
         ensures ok { IfOk result (λ r. MatchResult r (λ done. Executes self.old freed entry self.new) (RefusedBy self.old entry self.new)) }
         ensures err { OnErr result (self.new ≡ self.old) }
-        ensures fault { IfErr result (λ f. IsFaultOf f (executing_too self.old.state entry.gtid)) }
-        ensures room { IfErr result (λ f. HasRoomFor f (Some (executing_too self.old.state entry.gtid))) }
+        ensures fault { IfErr result (λ f. IsFaultOf f (executed_with self.old.state entry.gtid)) }
+        ensures room { IfErr result (λ f. HasRoomFor f (Some (executed_with self.old.state entry.gtid))) }
     {
         let gtid = entry.gtid;
         let _ = self.rows.schema().tables();
@@ -125,8 +125,8 @@ impl Core {
         ensures ok { IfOk result (λ r. (r, self.new.state) ≡ commit self.old.site seat self.old.state) }
         ensures site { self.new.site ≡ self.old.site }
         ensures err { OnErr result (self.new ≡ self.old) }
-        ensures fault { IfErr result (λ f. IsFault (IsFaultIn f (committing seat self.old.state)) (commit self.old.site seat self.old.state)) }
-        ensures room { IfErr result (λ f. HasRoomFor f (committing seat self.old.state)) }
+        ensures fault { IfErr result (λ f. IsFault (IsFaultIn f (committed_set seat self.old.state)) (commit self.old.site seat self.old.state)) }
+        ensures room { IfErr result (λ f. HasRoomFor f (committed_set seat self.old.state)) }
     {
         let Ready { spot, entry, txn } = ready;
         let gtid = entry.gtid;
@@ -151,8 +151,8 @@ impl Core {
         ensures ok { IfOk result (λ r. (r, self.new.state) ≡ commit self.old.site seat self.old.state) }
         ensures site { self.new.site ≡ self.old.site }
         ensures err { OnErr result (self.new ≡ self.old) }
-        ensures fault { IfErr result (λ f. IsFault (IsFaultIn f (committing seat self.old.state)) (commit self.old.site seat self.old.state)) }
-        ensures room { IfErr result (λ f. HasRoomFor f (committing seat self.old.state)) }
+        ensures fault { IfErr result (λ f. IsFault (IsFaultIn f (committed_set seat self.old.state)) (commit self.old.site seat self.old.state)) }
+        ensures room { IfErr result (λ f. HasRoomFor f (committed_set seat self.old.state)) }
     {
         match self.may_commit(seat) {
             Err(fault) => Err(fault),

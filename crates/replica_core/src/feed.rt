@@ -3,7 +3,7 @@ ghost use Rattle.std.specs.Prelude.{◌≡◌, IfOk, IfErr, OnErr, true, None};
 ghost use Rattle.journal.specs.Writing.{is_number};
 ghost use Rattle.rows.specs.Fits.{Fits};
 ghost use Rattle.replica_core.specs.Machine.{open_channel, position_on, receive, restart};
-ghost use Rattle.replica_core.specs.Faults.{IsFault, IsFaultIn, HasRoomFor, asking, receiving};
+ghost use Rattle.replica_core.specs.Faults.{IsFault, IsFaultIn, HasRoomFor, ask_set, received_set};
 
 use crate::event::Reply;
 use crate::machine::Core;
@@ -45,8 +45,8 @@ impl Core {
         ensures ok { IfOk result (λ r. (r, self.new.state) ≡ position_on channel self.old.state) }
         ensures site { self.new.site ≡ self.old.site }
         ensures err { OnErr result (self.new ≡ self.old) }
-        ensures fault { IfErr result (λ f. IsFault (IsFaultIn f (asking channel self.old.state)) (position_on channel self.old.state)) }
-        ensures room { IfErr result (λ f. HasRoomFor f (asking channel self.old.state)) }
+        ensures fault { IfErr result (λ f. IsFault (IsFaultIn f (ask_set channel self.old.state)) (position_on channel self.old.state)) }
+        ensures room { IfErr result (λ f. HasRoomFor f (ask_set channel self.old.state)) }
     {
         let Some(one) = self.channels.get(channel) else {
             return Ok(Reply::NoChannel);
@@ -68,8 +68,8 @@ impl Core {
         ensures ok { IfOk result (λ r. (r, self.new.state) ≡ receive self.old.site channel entry.now self.old.state) }
         ensures site { self.new.site ≡ self.old.site }
         ensures err { OnErr result (self.new ≡ self.old) }
-        ensures fault { IfErr result (λ f. IsFault (IsFaultIn f (receiving channel entry.now self.old.state)) (receive self.old.site channel entry.now self.old.state)) }
-        ensures room { IfErr result (λ f. HasRoomFor f (receiving channel entry.now self.old.state)) }
+        ensures fault { IfErr result (λ f. IsFault (IsFaultIn f (received_set channel entry.now self.old.state)) (receive self.old.site channel entry.now self.old.state)) }
+        ensures room { IfErr result (λ f. HasRoomFor f (received_set channel entry.now self.old.state)) }
     {
         let Some(one) = self.channels.get(channel) else {
             return Ok(Reply::NoChannel);
@@ -95,8 +95,8 @@ impl Core {
         ensures ok { IfOk result (λ r. (r, self.new.state) ≡ receive self.old.site channel entry.now self.old.state) }
         ensures site { self.new.site ≡ self.old.site }
         ensures err { OnErr result (self.new ≡ self.old) }
-        ensures fault { IfErr result (λ f. IsFault (IsFaultIn f (receiving channel entry.now self.old.state)) (receive self.old.site channel entry.now self.old.state)) }
-        ensures room { IfErr result (λ f. HasRoomFor f (receiving channel entry.now self.old.state)) }
+        ensures fault { IfErr result (λ f. IsFault (IsFaultIn f (received_set channel entry.now self.old.state)) (receive self.old.site channel entry.now self.old.state)) }
+        ensures room { IfErr result (λ f. HasRoomFor f (received_set channel entry.now self.old.state)) }
     {
         let Some(one) = self.channels.get(channel) else {
             return Ok(Reply::NoChannel);

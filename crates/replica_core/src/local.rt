@@ -2,7 +2,7 @@
 ghost use Rattle.std.specs.Prelude.{◌≡◌, MatchResult, IfOk, IfErr, OnErr, Some, None};
 ghost use Rattle.rows.specs.Fits.{misfit};
 ghost use Rattle.replica_core.specs.Machine.{is_free, next_number, local};
-ghost use Rattle.replica_core.specs.Faults.{IsFault, IsFaultIn, HasRoomFor, numbering};
+ghost use Rattle.replica_core.specs.Faults.{IsFault, IsFaultIn, HasRoomFor, numbered_set};
 
 use crate::event::Reply;
 use crate::machine::Core;
@@ -45,8 +45,8 @@ impl Core {
         ensures ok { IfOk result (λ r. (r, self.new.state) ≡ local self.old.site txn.now self.old.state) }
         ensures site { self.new.site ≡ self.old.site }
         ensures err { OnErr result (self.new ≡ self.old) }
-        ensures fault { IfErr result (λ f. IsFault (IsFaultIn f (numbering self.old.site self.old.state)) (local self.old.site txn.now self.old.state)) }
-        ensures room { IfErr result (λ f. HasRoomFor f (numbering self.old.site self.old.state)) }
+        ensures fault { IfErr result (λ f. IsFault (IsFaultIn f (numbered_set self.old.site self.old.state)) (local self.old.site txn.now self.old.state)) }
+        ensures room { IfErr result (λ f. HasRoomFor f (numbered_set self.old.site self.old.state)) }
     {
         if let Err(fault) = fits(self.rows().schema(), txn) {
             return Ok(Reply::NotInSchema(fault));
@@ -64,8 +64,8 @@ impl Core {
         ensures ok { IfOk result (λ r. (r, self.new.state) ≡ local self.old.site txn.now self.old.state) }
         ensures site { self.new.site ≡ self.old.site }
         ensures err { OnErr result (self.new ≡ self.old) }
-        ensures fault { IfErr result (λ f. IsFault (IsFaultIn f (numbering self.old.site self.old.state)) (local self.old.site txn.now self.old.state)) }
-        ensures room { IfErr result (λ f. HasRoomFor f (numbering self.old.site self.old.state)) }
+        ensures fault { IfErr result (λ f. IsFault (IsFaultIn f (numbered_set self.old.site self.old.state)) (local self.old.site txn.now self.old.state)) }
+        ensures room { IfErr result (λ f. HasRoomFor f (numbered_set self.old.site self.old.state)) }
     {
         let gtid = Gtid {
             source: self.own,

@@ -7,7 +7,7 @@ ghost use Rattle.replica_core.specs.State.{gtid_at, owned_by, owner, owns};
 ghost use Rattle.replica_core.specs.Slots.{seats_of};
 ghost use Rattle.replica_core.specs.Core.{new_replica, new_replica_with};
 ghost use Rattle.replica_core.specs.Seated.{MayHave, IsFreeable, freed_of};
-ghost use Rattle.replica_core.specs.Machine.{drained, is_seat, taking, without_seat, stopping};
+ghost use Rattle.replica_core.specs.Machine.{drained, is_seat, take_seat, without_seat, stopping};
 
 use crate::channels::Channels;
 use crate::event::Spot;
@@ -170,7 +170,7 @@ impl Core {
         requires low { 1 ≤ seat }
         requires high { seat ≤ 64 }
         requires may { MayHave self.old.state.channels self.old.state.seats spot }
-        ensures state { self.new.state ≡ taking seat spot.channel spot.place self.old.state }
+        ensures state { self.new.state ≡ take_seat seat spot.channel spot.place self.old.state }
         ensures site { self.new.site ≡ self.old.site }
     {
         self.seats[seat as usize - 1] = Some(spot);

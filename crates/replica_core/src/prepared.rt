@@ -5,7 +5,7 @@ ghost use Rattle.rows.specs.Apply.{apply};
 ghost use Rattle.rows.specs.Fits.{Fits};
 ghost use Rattle.rows.specs.Patch.{SeesAll, IsAsSeen};
 ghost use Rattle.rows.specs.Refusal.{Refuses};
-ghost use Rattle.replica_core.specs.Faults.{IsFault, IsFaultIn, HasRoomFor, committing};
+ghost use Rattle.replica_core.specs.Faults.{IsFault, IsFaultIn, HasRoomFor, committed_set};
 ghost use Rattle.replica_core.specs.Machine.{commit};
 ghost use Rattle.replica_core.specs.Prepared.{held_txn, changes_of, IsSightOf};
 
@@ -125,8 +125,8 @@ impl Core {
         ensures ok { IfOk result (λ r. (r, self.new.state) ≡ commit self.old.site seat self.old.state) }
         ensures site { self.new.site ≡ self.old.site }
         ensures err { OnErr result (self.new ≡ self.old) }
-        ensures fault { IfErr result (λ f. IsFault (IsFaultIn f (committing seat self.old.state)) (commit self.old.site seat self.old.state)) }
-        ensures room { IfErr result (λ f. HasRoomFor f (committing seat self.old.state)) }
+        ensures fault { IfErr result (λ f. IsFault (IsFaultIn f (committed_set seat self.old.state)) (commit self.old.site seat self.old.state)) }
+        ensures room { IfErr result (λ f. HasRoomFor f (committed_set seat self.old.state)) }
     {
         self.commit(alloc, seat, Some(patch))
     }

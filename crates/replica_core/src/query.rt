@@ -6,7 +6,7 @@ ghost use Rattle.replica_core.specs.State.{owned};
 ghost use Rattle.replica_core.specs.Seated.{AreSeated};
 ghost use Rattle.replica_core.specs.Draining.{places};
 ghost use Rattle.replica_core.specs.Machine.{next_ready, ready_from};
-ghost use Rattle.replica_core.specs.Faults.{asking, IsFaultIn, HasRoomFor};
+ghost use Rattle.replica_core.specs.Faults.{ask_set, IsFaultIn, HasRoomFor};
 ghost use Rattle.replica_core.specs.Kept.{IsKept, AreKept};
 ghost use Rattle.replica_core.specs.Core.{IsAtCore, IsNotAtCore, IsEntryAt, IsNoEntry};
 
@@ -60,9 +60,9 @@ impl Core {
 
     /// The set that a Position of a channel would answer now, where there is that channel.
     pub fn ask(&self, alloc: Global, channel: usize) -> Result<Option<GtidSet>, SetFault>
-        ensures ok { IfOk result (λ asked. asked ≡ asking channel self.now.state) }
-        ensures fault { IfErr result (λ f. IsFaultIn f (asking channel self.now.state)) }
-        ensures room { IfErr result (λ f. HasRoomFor f (asking channel self.now.state)) }
+        ensures ok { IfOk result (λ asked. asked ≡ ask_set channel self.now.state) }
+        ensures fault { IfErr result (λ f. IsFaultIn f (ask_set channel self.now.state)) }
+        ensures room { IfErr result (λ f. HasRoomFor f (ask_set channel self.now.state)) }
     {
         let Some(one) = self.channels.get(channel) else {
             return Ok(None);

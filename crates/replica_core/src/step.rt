@@ -2,9 +2,9 @@
 ghost use Rattle.std.specs.Prelude.{◌≡◌, ◌<◌, ◌∷◌, [], ◌++◌, IfOk, IfErr, IfSome, OnErr, Some, None, true, length, vec_len, vec_capacity, slice_get};
 ghost use Rattle.replica_core.specs.Machine.{purge, look, step, is_numbered, AreNumbered, replies, after};
 ghost use Rattle.replica_core.specs.Replies.{answered_events};
-ghost use Rattle.journal.specs.Journals.{purged};
+ghost use Rattle.journal.specs.Journals.{previous_after_purge};
 ghost use Rattle.journal.specs.Faults.{IsPurgedFault};
-ghost use Rattle.replica_core.specs.Faults.{IsFault, IsFaultIn, IsFaultAt, IsStepFault, HasRoomFor, HasRoomAt, made_by};
+ghost use Rattle.replica_core.specs.Faults.{IsFault, IsFaultIn, IsFaultAt, IsStepFault, HasRoomFor, HasRoomAt, set_made_by};
 
 use crate::event::{Event, Reply};
 use crate::machine::Core;
@@ -19,7 +19,7 @@ impl Core {
         ensures site { self.new.site ≡ self.old.site }
         ensures err { OnErr result (self.new ≡ self.old) }
         ensures fault { IfErr result (λ f. IsFault (IsPurgedFault f count self.old.state.journal) (purge count self.old.state)) }
-        ensures room { IfErr result (λ f. HasRoomFor f (Some (purged count self.old.state.journal))) }
+        ensures room { IfErr result (λ f. HasRoomFor f (Some (previous_after_purge count self.old.state.journal))) }
     {
         match self.journal.purge(alloc, count) {
             Ok(purged) => return Ok(Reply::Purged(purged)),
@@ -51,7 +51,7 @@ impl Core {
         ensures site { self.new.site ≡ self.old.site }
         ensures err { OnErr result (self.new ≡ self.old) }
         ensures fault { IfErr result (λ f. IsStepFault f self.old.site self.old.state event.now) }
-        ensures room { IfErr result (λ f. HasRoomFor f (made_by self.old.site self.old.state event.now)) }
+        ensures room { IfErr result (λ f. HasRoomFor f (set_made_by self.old.site self.old.state event.now)) }
     {
         match event {
             Event::Take(seat, channel, place) => Ok(self.take(*seat, *channel, *place)),
@@ -69,11 +69,11 @@ impl Core {
 }
 
 /// Puts a reply at the end, where there is room.
-fn put(told: &mut Vec<Reply>, reply: Reply)
-    requires { vec_len told.old < vec_capacity told.old }
-    ensures { told.new.items ≡ told.old.items ++ reply ∷ [] }
+fn put(so_far: &mut Vec<Reply>, reply: Reply)
+    requires { vec_len so_far.old < vec_capacity so_far.old }
+    ensures { so_far.new.items ≡ so_far.old.items ++ reply ∷ [] }
 {
-    if told.push(reply).is_err() {
+    if so_far.push(reply).is_err() {
         unreachable!()
     }
 }
@@ -85,7 +85,7 @@ impl Core {
     /// 65,536 sources, and else `Memory`.
     pub fn run(&mut self, alloc: Global, events: &[Event]) -> (Vec<Reply>, Option<SetFault>)
         requires { AreNumbered events.now }
-        ensures told { result.0.items ≡ replies self.old.site self.old.state (answered_events result.0.items events.now) }
+        ensures replies { result.0.items ≡ replies self.old.site self.old.state (answered_events result.0.items events.now) }
         ensures state { self.new.state ≡ after self.old.site self.old.state (answered_events result.0.items events.now) }
         ensures whole { result.1 ≡ None → length result.0.items ≡ length events.now }
         ensures cut { IfSome result.1 (λ fault. length result.0.items < length events.now) }
@@ -93,16 +93,16 @@ impl Core {
         ensures fault { IfSome result.1 (λ f. IsFaultAt f self.old.site self.new.state (slice_get events.now (length result.0.items))) }
         ensures room { IfSome result.1 (λ f. HasRoomAt f self.old.site self.new.state (slice_get events.now (length result.0.items))) }
     {
-        let mut told = Vec::new(alloc);
+        let mut so_far = Vec::new(alloc);
         for event in events {
-            if told.reserve(1).is_err() {
-                return (told, Some(self.refusal(event)));
+            if so_far.reserve(1).is_err() {
+                return (so_far, Some(self.refusal(event)));
             }
             match self.step(alloc, event) {
-                Ok(reply) => put(&mut told, reply),
-                Err(fault) => return (told, Some(fault)),
+                Ok(reply) => put(&mut so_far, reply),
+                Err(fault) => return (so_far, Some(fault)),
             }
         }
-        (told, None)
+        (so_far, None)
     }
 }

@@ -1,7 +1,7 @@
 //! The event Take.
 ghost use Rattle.std.specs.Prelude.{◌≡◌, MatchResult, MatchOption, IfSome, All, true, slice_get, None};
 ghost use Rattle.replica_core.specs.declared.event.Reply.TheVariants.{Taken};
-ghost use Rattle.replica_core.specs.Machine.{is_seat, take_place, taking};
+ghost use Rattle.replica_core.specs.Machine.{is_seat, take_place, take_seat};
 ghost use Rattle.replica_core.specs.Kept.{IsKept};
 ghost use Rattle.replica_core.specs.Seated.{AreSeated};
 ghost use Rattle.replica_core.specs.Core.{IsNotAtCore, IsAtCore, Takes, Refuses};

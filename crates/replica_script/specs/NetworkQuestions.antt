@@ -25,11 +25,11 @@ asked_of (Some node) asked = Network (at_node node asked)
 abbrev pub network_with_two : List ℕ → ℕ → ℕ → Option NetworkEvent
 network_with_two word node channel = if bytes_eq word (codes "receive") then Some (Receive node channel) else None
 
--- ... and three: the node at which the channel is positioned is the last
+-- the event that is a word and three numbers: a node, its channel, and the node at which that is positioned
 abbrev pub network_with_three : List ℕ → ℕ → ℕ → ℕ → Option NetworkEvent
 network_with_three word node channel source = if bytes_eq word (codes "position") then Some (Position node channel source) else None
 
--- ... as far as the words go: the words after the second number, those after the first, and all after the word
+-- the same from the words of a line: those after the second number, those after the first, and all after the word
 abbrev pub network_behind_two : List ℕ → ℕ → Option (List ℕ) → ℕ → Option NetworkEvent
 network_behind_two word node None channel = network_with_two word node channel
 network_behind_two word node (Some rest) channel = option_and_then (network_with_three word node channel) (count_of rest)

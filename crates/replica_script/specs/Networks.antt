@@ -60,10 +60,10 @@ IsNetworkLeftBy old (question.Query i query) new = new ≡ old
 -- ---- one replica, or a network
 
 -- A question to the other of the two has no answer.
-abbrev pub IsToldBy : Replicas → Asked → Replicas → List ℕ → Type 0
-IsToldBy (One old) (asked.Replica q) (One new) text = Answers old q new text
-IsToldBy (Network old) (asked.Network q) (Network new) text = NetworkAnswers old q new text
-IsToldBy old q new text = ⊥
+abbrev pub IsAnsweredBy : Replicas → Asked → Replicas → List ℕ → Type 0
+IsAnsweredBy (One old) (asked.Replica q) (One new) text = Answers old q new text
+IsAnsweredBy (Network old) (asked.Network q) (Network new) text = NetworkAnswers old q new text
+IsAnsweredBy old q new text = ⊥
 
 -- it is a bad line
 abbrev pub IsStopOf : Replicas → Asked → Stop → Type 0

@@ -34,19 +34,19 @@ with_one word number =
     else if bytes_eq word (codes "ask") then Some (Query (query.Ask number))
     else None
 
--- ... and two numbers: a channel and a place
+-- the question that is a word and two numbers: a channel and a place
 abbrev pub with_two : List ℕ → ℕ → ℕ → Option Question
 with_two word channel place =
     if bytes_eq word (codes "entry") then Some (Query (query.Entry channel place))
     else if bytes_eq word (codes "next") then Some (Query (query.Next channel place))
     else None
 
--- ... and three: a seat, a channel and a place
+-- the question that is a word and three numbers: a seat, a channel and a place
 abbrev pub with_three : List ℕ → ℕ → ℕ → ℕ → Option Question
 with_three word number channel place =
     if bytes_eq word (codes "take") then Some (Event (event.Take (seat number) channel place)) else None
 
--- ... as far as the words go: the words after the second number, those after the first, and all after the word
+-- the same from the words of a line: those after the second number, those after the first, and all after the word
 abbrev pub behind_two : List ℕ → ℕ → Option (List ℕ) → ℕ → Option Question
 behind_two word first None second = with_two word first second
 behind_two word first (Some rest) second = option_and_then (with_three word first second) (count_of rest)

@@ -7,7 +7,7 @@ use Rattle.gtid_set.specs.declared.fault.SetFault.TheVariants as sets
 use Rattle.gtid_set.specs.declared.fault.SetFault.TheVariants.{PoolFull, SourcesFull}
 use Rattle.replica_core.specs.State.{Replica, State}
 use Rattle.replica_core.specs.Machine.{step, is_numbered}
-use Rattle.replica_core.specs.Faults.{IsFaultIn, IsCause, asking}
+use Rattle.replica_core.specs.Faults.{IsFaultIn, IsCause, ask_set}
 use Rattle.replica_core.specs.declared.event.Event.{Event}
 use Rattle.replica_script.specs.declared.question.Query.{Query}
 use Rattle.replica_script.specs.declared.question.Query.TheVariants as query
@@ -44,7 +44,7 @@ IsAnswer old event new text = IsMade old event new text ⊎ (IsFullLine (λ f. I
 
 -- the set that is made to answer a query
 abbrev pub made_for : Query → State → Option Gtids
-made_for (query.Ask channel) s = asking channel s
+made_for (query.Ask channel) s = ask_set channel s
 made_for _ s = None
 
 -- a query was answered, or the set that it needs would have too many sources or intervals

@@ -101,7 +101,7 @@ fn command_of(words: &[String]) -> Option<Command>
 }
 
 /// Writes a line on standard error.
-fn complain(rt: &HostRuntime, line: &str) {
+fn write_error(rt: &HostRuntime, line: &str) {
     let _ = eprintln!(rt; "replica_script: {line}");
 }
 
@@ -109,11 +109,11 @@ fn complain(rt: &HostRuntime, line: &str) {
 fn report(rt: &HostRuntime, fault: &ScriptFault) {
     if let ScriptFault::BadLine(line) = fault {
         if let Ok(text) = bad_line_text(rt.alloc(), line) {
-            complain(rt, text.as_str());
+            write_error(rt, text.as_str());
             return;
         }
     }
-    complain(rt, fault_word(fault));
+    write_error(rt, fault_word(fault));
 }
 
 /// Answers the script on standard input.
@@ -151,7 +151,7 @@ fn run(rt: &HostRuntime, words: &[String]) -> u8 {
 
 /// Reports that memory was refused, with the status for it.
 fn out_of_memory(rt: &HostRuntime) -> ExitCode {
-    complain(rt, fault_word(&ScriptFault::Memory));
+    write_error(rt, fault_word(&ScriptFault::Memory));
     ExitCode::from(3)
 }
 
@@ -160,7 +160,7 @@ fn main(rt: HostRuntime) -> ExitCode {
         Ok(args) => args,
         Err(error) if error.kind() == ErrorKind::OutOfMemory => return out_of_memory(&rt),
         Err(_) => {
-            complain(&rt, "reading the command line failed");
+            write_error(&rt, "reading the command line failed");
             return ExitCode::from(4);
         }
     };

@@ -2,7 +2,7 @@
 ghost use Rattle.std.specs.Prelude.{◌≡◌, ◌++◌, IfOk, IfErr, OnOk, string_bytes};
 ghost use Rattle.std.specs.Option.{option_copied};
 ghost use Rattle.txn_journal.specs.WrittenSets.{set_text};
-ghost use Rattle.replica_core.specs.Faults.{asking, IsFaultIn};
+ghost use Rattle.replica_core.specs.Faults.{ask_set, IsFaultIn};
 ghost use Rattle.replica_script.specs.Replies.{with_line_feed};
 ghost use Rattle.replica_script.specs.Scripts.{made_for};
 ghost use Rattle.replica_script.specs.Texts.{changes_or_gone, place_or_none, query_text, shown_entry, truth};
@@ -48,7 +48,7 @@ fn rows_text(alloc: Global, core: &Core) -> Result<String, AllocError>
 #[tactic(auto, using(crate::proofs::Faults::memory_anywhere))]
 fn ask_line(alloc: Global, core: &Core, channel: usize) -> Result<String, SetFault>
     ensures ok { IfOk result (λ text. string_bytes text ≡ query_text core.now (Query.Ask channel)) }
-    ensures fault { IfErr result (λ f. IsFaultIn f (asking channel core.now.state)) }
+    ensures fault { IfErr result (λ f. IsFaultIn f (ask_set channel core.now.state)) }
 {
     match core.ask(alloc, channel)? {
         Some(set) => Ok(set_line(alloc, &set)?),

@@ -1,6 +1,6 @@
 //! What a script asks: one replica, or a network.
 ghost use Rattle.std.specs.Prelude.{IfOk, IfErr};
-ghost use Rattle.replica_script.specs.Networks.{IsLeftOf, IsStopOf, IsToldBy};
+ghost use Rattle.replica_script.specs.Networks.{IsLeftOf, IsStopOf, IsAnsweredBy};
 
 use crate::answer::{Asking, Stop, answer};
 use crate::network_answer::answer_network;
@@ -23,7 +23,7 @@ pub fn answer_asked(
     asked: Asked,
     asking: Asking,
 ) -> Result<Vec<u8>, Stop>
-    ensures answer { IfOk result (λ text. IsToldBy replicas.old asked replicas.new text.items) }
+    ensures answer { IfOk result (λ text. IsAnsweredBy replicas.old asked replicas.new text.items) }
     ensures stop { IfErr result (IsStopOf replicas.old asked) }
     ensures left { IfErr result (λ stop. IsLeftOf replicas.old asked replicas.new) }
 {

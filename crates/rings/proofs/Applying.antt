@@ -15,7 +15,7 @@ use Rattle.rows.specs.WriteSet.{touches, shares_key}
 use Rattle.rows.proofs.Patching.{not_both}
 use Rattle.journal.specs.declared.Entry.{Entry}
 use Rattle.ordered_history.specs.World as ordered
-use Rattle.ordered_history.specs.World.{World, entries_in, apply_all, rows_of}
+use Rattle.ordered_history.specs.World.{OrderedWorld, entries_in, apply_all, rows_of}
 use Rattle.ordered_history.specs.LastWriter.{last, left_or_opening}
 use Rattle.ordered_history.proofs.Commuting.{applies_too, apart_from_test}
 use Rattle.ordered_history.proofs.Writing.{last_writer_stands}
@@ -67,13 +67,13 @@ once_apart (l ∷ L) more once e i = or_from (same_gtid e.gtid l.gtid) (is_entry
   | inr other ↦ other
 ]) (once_apart L more once.1 e i)
 
-opening_same : (world : World) (order : List ordered.Entry) (k : Key) (o : Option ordered.Entry) → left_or_opening world k o ≡ left_or_opening (record world { order = order }) k o
+opening_same : (world : OrderedWorld) (order : List ordered.Entry) (k : Key) (o : Option ordered.Entry) → left_or_opening world k o ≡ left_or_opening (record world { order = order }) k o
 opening_same world order k None = refl
 opening_same world order k (Some e) = refl
 
 -- These were committed so far, and a set has those of them that share a key with a transaction: where that applies after the set, it
 -- applies after them all.
-pub still_applies : (world : World) (L more : List Entry) (S : Gtid → Bool) (rows all new : Rows) (x : Entry)
+pub still_applies : (world : OrderedWorld) (L more : List Entry) (S : Gtid → Bool) (rows all new : Rows) (x : Entry)
     → world.order ≡ map pair (L ++ more) → IsOnce (L ++ more) → rows_of world S ≡ Ok rows
     → ((g : Gtid) → S g ≡ true → is_entry L g ≡ true)
     → ((e : Entry) → IsIn e L → shares_key world.schema e.txn x.txn ≡ true → S e.gtid ≡ true)
@@ -81,7 +81,7 @@ pub still_applies : (world : World) (L more : List Entry) (S : Gtid → Bool) (r
     → (next : Rows) × (apply_all world.schema (map pair (L ++ x ∷ [])) world.opening_rows ≡ Ok next)
 still_applies world L more S rows all new x whole once stands known seen before applied =
     let PL : List ordered.Entry = map pair L in
-    let so_far : World = record world { order = PL } in
+    let so_far : OrderedWorld = record world { order = PL } in
     let here : rows_of so_far (λ g. true) ≡ Ok all = ap (λ es. apply_all world.schema es world.opening_rows) (all_pass PL) ∙ before in
     let next = applies_too world.schema x.txn rows new all applied (λ k t.
     last_writer_stands world S rows stands k

@@ -17,7 +17,7 @@ use Rattle.replica_core.specs.declared.event.Event.{Event}
 use Rattle.replica_core.specs.declared.event.Event.TheVariants as event
 use Rattle.replica_core.specs.State.{State, Site}
 use Rattle.replica_core.specs.Machine as machine
-use Rattle.ordered_history.specs.World.{World, content, is_opened, apply_all, rows_of, Precedes, AreDistinct, AreGtidsSound}
+use Rattle.ordered_history.specs.World.{OrderedWorld, content, is_opened, apply_all, rows_of, Precedes, AreDistinct, AreGtidsSound}
 use Rattle.ordered_history.specs.World as ordered
 use Rattle.ordered_history.proofs.Placing.{all_in}
 use Rattle.ordered_history.proofs.Ordering.{second_in}
@@ -47,7 +47,7 @@ use Rattle.rings.proofs.Links.{Histories, Link, AreLinked, link_more, own_links,
 abbrev pub histories : List Node → (ℕ → List Entry) → Histories
 histories nodes purged k log = (source : Node) × (slice_get nodes k ≡ Some source) × (purged k ++ source.replica.state.journal.entries ≡ log)
 
-pub record Holds (world : World) (nodes : List Node) (since : ℕ → Since) (purged : ℕ → List Entry) : Type 0 where
+pub record Holds (world : OrderedWorld) (nodes : List Node) (since : ℕ → Since) (purged : ℕ → List Entry) : Type 0 where
   pub schema : (i : ℕ) (node : Node) → slice_get nodes i ≡ Some node → node.replica.site.schema ≡ world.schema
   pub invariant : (i : ℕ) (node : Node) → slice_get nodes i ≡ Some node → Invariant world node.replica.state (since i)
   pub logs : (i : ℕ) (node : Node) → slice_get nodes i ≡ Some node → IsLog world (purged i) node.replica.state.journal
@@ -56,11 +56,11 @@ pub record Holds (world : World) (nodes : List Node) (since : ℕ → Since) (pu
 -- ---- one event that a node makes
 
 -- what is asked of the event of a node
-pub record Makes (world : World) (site : Site) (s : State) (since : Since) (history : Histories) (event : Event) (sources : Sources) : Type 0 where
+pub record Makes (world : OrderedWorld) (site : Site) (s : State) (since : Since) (history : Histories) (event : Event) (sources : Sources) : Type 0 where
   pub links : AreLinked (machine.step site s event).1.channels (since_after event (machine.step site s event).0 since) sources history
   pub faithful : IsFaithfulStep world site s since event (machine.step site s event).0
 
-invariant_kept : (world : World) (site : Site) (s : State) (since : Since) (e : Event) → AreGtidsSound world → site.schema ≡ world.schema → Invariant world s since
+invariant_kept : (world : OrderedWorld) (site : Site) (s : State) (since : Since) (e : Event) → AreGtidsSound world → site.schema ≡ world.schema → Invariant world s since
     → IsFaithfulStep world site s since e (machine.step site s e).0 → Invariant world (machine.step site s e).1 (since_after e (machine.step site s e).0 since)
 invariant_kept world site s since e sound same inv f =
     let here : record { own = site.own; schema = world.schema } ≡ site = λ i. record { own = site.own; schema = (sym same) i } in
@@ -72,11 +72,11 @@ relink channels since sources old new grown linked c ch A k log i a r h =
     let g = grown k log h in
     subst (Link A (since c) ch) g.3 (link_more A (since c) ch g.0 g.1 (linked c ch A k g.0 i a r g.2))
 
-pub record HeldAfter (world : World) (nodes : List Node) (since : ℕ → Since) : Type 0 where
+pub record HeldAfter (world : OrderedWorld) (nodes : List Node) (since : ℕ → Since) : Type 0 where
   pub purged : ℕ → List Entry
   pub holds : Holds world nodes since purged
 
-pub holds_make : (world : World) (nodes : List Node) (since : ℕ → Since) (purged : ℕ → List Entry) → AreGtidsSound world → ((g : Gtid) → is_opened world g ≡ false) → Holds world nodes since purged
+pub holds_make : (world : OrderedWorld) (nodes : List Node) (since : ℕ → Since) (purged : ℕ → List Entry) → AreGtidsSound world → ((g : Gtid) → is_opened world g ≡ false) → Holds world nodes since purged
     → (m : Making) (node : Node) → slice_get nodes m.node ≡ Some node → Makes world node.replica.site node.replica.state (since m.node) (histories nodes purged) m.event m.sources
     → HeldAfter world (make_at nodes m node).1 (changed m.node (since_after m.event (machine.step node.replica.site node.replica.state m.event).0 (since m.node)) since)
 holds_make world nodes since purged sound unopened h m node at makes =
@@ -131,15 +131,15 @@ before_of (a ∷ xs) ys e x d (inl p) = inl p.0
 before_of (a ∷ xs) ys e x d (inr p) = inr (before_of xs ys e x d.1 p)
 
 -- The world's order is these transactions and more, and no GTID occurs twice.
-pub record IsWhole (world : World) (L more : List Entry) : Type 0 where
+pub record IsWhole (world : OrderedWorld) (L more : List Entry) : Type 0 where
   pub order : world.order ≡ map pair (L ++ more)
   pub once : IsOnce (L ++ more)
 
 -- these apply, in order, to the opening rows
-abbrev pub Apply : World → List Entry → Type 0
+abbrev pub Apply : OrderedWorld → List Entry → Type 0
 Apply world L = (rows : Rows) × (apply_all world.schema (map pair L) world.opening_rows ≡ Ok rows)
 
-whole_on : (world : World) (L added more : List Entry) → IsWhole world L (added ++ more) → IsWhole world (L ++ added) more
+whole_on : (world : OrderedWorld) (L added more : List Entry) → IsWhole world L (added ++ more) → IsWhole world (L ++ added) more
 whole_on world L added more w = record {
   order = w.order ∙ ap (map pair) (sym (append_assoc L added more));
   once = subst IsOnce (sym (append_assoc L added more)) w.once;
@@ -154,7 +154,7 @@ one_committed added x (inr one) i = by (subst (IsIn x) one.1 i)
     by (inr none) = absurd none
 
 -- what a node commits by Local is in turn in the world
-turn_of : (world : World) (L rest : List Entry) (m : Making) (node : Node) → IsWhole world L (local_at m.event node ++ rest) → IsInTurnAt world.schema L m.event (Some node)
+turn_of : (world : OrderedWorld) (L rest : List Entry) (m : Making) (node : Node) → IsWhole world L (local_at m.event node ++ rest) → IsInTurnAt world.schema L m.event (Some node)
     → (x : Entry) → IsIn x (local_at m.event node) → IsInOrder world node.replica.site node.replica.state x
 turn_of world L rest m node w turn x i =
     let added : List Entry = local_at m.event node in
@@ -170,7 +170,7 @@ turn_of world L rest m node w turn x i =
     )
 
 -- and with it, all that was committed applies
-applies_on : (world : World) (nodes : List Node) (L rest : List Entry) (since : ℕ → Since) (purged : ℕ → List Entry) → Numbers nodes L → Holds world nodes since purged
+applies_on : (world : OrderedWorld) (nodes : List Node) (L rest : List Entry) (since : ℕ → Since) (purged : ℕ → List Entry) → Numbers nodes L → Holds world nodes since purged
     → (m : Making) (node : Node) → slice_get nodes m.node ≡ Some node → IsWhole world L (local_at m.event node ++ rest) → IsInTurnAt world.schema L m.event (Some node) → Apply world L → Apply world (L ++ local_at m.event node)
 applies_on world nodes L rest since purged n h m node at w turn sofar = by (step_learns node.replica.site node.replica.state m.event).alone
   where
@@ -191,7 +191,7 @@ applies_on world nodes L rest since purged n h m node at w turn sofar = by (step
 
 -- ---- the events that are made
 
-made_own : (world : World) (nodes : List Node) (since : ℕ → Since) (purged : ℕ → List Entry) → Holds world nodes since purged
+made_own : (world : OrderedWorld) (nodes : List Node) (since : ℕ → Since) (purged : ℕ → List Entry) → Holds world nodes since purged
     → (m : Making) (node : Node) → slice_get nodes m.node ≡ Some node → IsAct nodes m node → ((x : Entry) → IsIn x (local_at m.event node) → IsInOrder world node.replica.site node.replica.state x)
     → Makes world node.replica.site node.replica.state (since m.node) (histories nodes purged) m.event m.sources
 made_own world nodes since purged h m node at a turn =
@@ -203,7 +203,7 @@ made_own world nodes since purged h m node at a turn =
       faithful = own_is_faithful world site s (since j) m.event a.own turn;
     })
 
-made_receive : (world : World) (nodes : List Node) (since : ℕ → Since) (purged : ℕ → List Entry) → Holds world nodes since purged
+made_receive : (world : OrderedWorld) (nodes : List Node) (since : ℕ → Since) (purged : ℕ → List Entry) → Holds world nodes since purged
     → (m : Making) (node : Node) → slice_get nodes m.node ≡ Some node → (q : IsReceive nodes m node) → Makes world node.replica.site node.replica.state (since m.node) (histories nodes purged) (event.Receive q.c q.entry) node.sources
 made_receive world nodes since purged h m node at q =
     let j = m.node in
@@ -218,7 +218,7 @@ made_receive world nodes since purged h m node at q =
     next.sent in
     record { links = r.links; faithful = r.faithful }
 
-pub made : (world : World) (nodes : List Node) (since : ℕ → Since) (purged : ℕ → List Entry) → Holds world nodes since purged
+pub made : (world : OrderedWorld) (nodes : List Node) (since : ℕ → Since) (purged : ℕ → List Entry) → Holds world nodes since purged
     → (m : Making) (node : Node) → slice_get nodes m.node ≡ Some node → IsAct nodes m node ⊎ IsPosition nodes m node ⊎ IsReceive nodes m node → ((x : Entry) → IsIn x (local_at m.event node) → IsInOrder world node.replica.site node.replica.state x)
     → Makes world node.replica.site node.replica.state (since m.node) (histories nodes purged) m.event m.sources
 made world nodes since purged h m node at (inl a) there = made_own world nodes since purged h m node at a there
@@ -234,7 +234,7 @@ made world nodes since purged h m node at (inr (inr q)) there =
 
 -- ---- runs
 
-pub record RunHolds (world : World) (nodes end : List Node) (since : ℕ → Since) (events : ℕ → List Event) : Type 0 where
+pub record RunHolds (world : OrderedWorld) (nodes end : List Node) (since : ℕ → Since) (events : ℕ → List Event) : Type 0 where
   pub faithful : (i : ℕ) (node : Node) → slice_get nodes i ≡ Some node → IsFaithfulFrom world node.replica.site node.replica.state (since i) (events i)
   pub since' : ℕ → Since
   pub purged' : ℕ → List Entry
@@ -242,12 +242,12 @@ pub record RunHolds (world : World) (nodes end : List Node) (since : ℕ → Sin
   pub applies : IsOk (apply_all world.schema world.order world.opening_rows)
 
 -- what is asked of what is committed by Local from here on
-pub record Goes (world : World) (nodes : List Node) (L : List Entry) (events : List NetworkEvent) : Type 0 where
+pub record Goes (world : OrderedWorld) (nodes : List Node) (L : List Entry) (events : List NetworkEvent) : Type 0 where
   pub whole : IsWhole world L (locals nodes events)
   pub turns : AreInTurn world.schema L nodes events
   pub sofar : Apply world L
 
-made_run : (world : World) (nodes : List Node) (L : List Entry) (since : ℕ → Since) (purged : ℕ → List Entry) → AreGtidsSound world → ((g : Gtid) → is_opened world g ≡ false) → Numbers nodes L → Holds world nodes since purged → Apply world L
+made_run : (world : OrderedWorld) (nodes : List Node) (L : List Entry) (since : ℕ → Since) (purged : ℕ → List Entry) → AreGtidsSound world → ((g : Gtid) → is_opened world g ≡ false) → Numbers nodes L → Holds world nodes since purged → Apply world L
     → (m : Making) (node : Node) → slice_get nodes m.node ≡ Some node → IsAct nodes m node ⊎ IsPosition nodes m node ⊎ IsReceive nodes m node → (es : List NetworkEvent)
     → ((nodes' : List Node) (L' : List Entry) (since' : ℕ → Since) (purged' : ℕ → List Entry) → Numbers nodes' L' → Holds world nodes' since' purged' → Goes world nodes' L' es → RunHolds world nodes' (after nodes' es) since' (λ i. events_at i nodes' es))
     → IsWhole world L (local_at m.event node ++ locals (make_at nodes m node).1 es) → IsInTurnAt world.schema L m.event (Some node) → AreInTurn world.schema (L ++ local_at m.event node) (make_at nodes m node).1 es
@@ -290,7 +290,7 @@ made_run world nodes L since purged sound unopened n h sofar m node at one es re
       applies = r.applies;
     }
 
-decided_run : (world : World) (nodes : List Node) (L : List Entry) (since : ℕ → Since) (purged : ℕ → List Entry) → AreGtidsSound world → ((g : Gtid) → is_opened world g ≡ false) → Numbers nodes L → Holds world nodes since purged → Apply world L
+decided_run : (world : OrderedWorld) (nodes : List Node) (L : List Entry) (since : ℕ → Since) (purged : ℕ → List Entry) → AreGtidsSound world → ((g : Gtid) → is_opened world g ≡ false) → Numbers nodes L → Holds world nodes since purged → Apply world L
     → (d : Decision) → ((m : Making) → d ≡ Ok m → IsMade nodes m) → (es : List NetworkEvent)
     → ((nodes' : List Node) (L' : List Entry) (since' : ℕ → Since) (purged' : ℕ → List Entry) → Numbers nodes' L' → Holds world nodes' since' purged' → Goes world nodes' L' es → RunHolds world nodes' (after nodes' es) since' (λ i. events_at i nodes' es))
     → IsWhole world L (local_of nodes d ++ locals (make nodes d).1 es) → IsInTurn world.schema L nodes d → AreInTurn world.schema (L ++ local_of nodes d) (make nodes d).1 es
@@ -304,7 +304,7 @@ decided_run world nodes L since purged sound unopened n h sofar (Ok m) is es res
     subst (λ (o : Option Node). IsWhole world L (local_by o ++ locals (make_of o) es) → IsInTurnAt world.schema L m.event o → AreInTurn world.schema (L ++ local_by o) (make_of o) es → RunHolds world nodes (after (make_of o) es) since (λ i. made_at i (Ok m) ++ events_at i (make_of o) es)) (sym made.at)
     (made_run world nodes L since purged sound unopened n h sofar m made.node made.at made.one es rest) whole turn turns
 
-pub run_holds : (world : World) → AreGtidsSound world → ((g : Gtid) → is_opened world g ≡ false) → (events : List NetworkEvent) (nodes : List Node) (L : List Entry) (since : ℕ → Since) (purged : ℕ → List Entry) → Numbers nodes L → Holds world nodes since purged
+pub run_holds : (world : OrderedWorld) → AreGtidsSound world → ((g : Gtid) → is_opened world g ≡ false) → (events : List NetworkEvent) (nodes : List Node) (L : List Entry) (since : ℕ → Since) (purged : ℕ → List Entry) → Numbers nodes L → Holds world nodes since purged
     → Goes world nodes L events → RunHolds world nodes (after nodes events) since (λ i. events_at i nodes events)
 run_holds world sound unopened [] nodes L since purged n h goes = record {
   faithful = λ i node e. tt;

@@ -27,7 +27,7 @@ use Rattle.replica_core.specs.declared.event.Event.TheVariants.{OpenChannel, Pos
 use Rattle.replica_core.specs.declared.event.Reply.TheVariants.{NotInSchema, Ask}
 use Rattle.replica_core.specs.State.{State, Site}
 use Rattle.replica_core.specs.Machine.{Step, ask, with_channel, open_channel, position_on, receive, step}
-use Rattle.ordered_history.specs.World.{World}
+use Rattle.ordered_history.specs.World.{OrderedWorld}
 use Rattle.ordered_journals.proofs.Lists.{on_test, get_push_cases, get_set_cases}
 use Rattle.ordered_journals.proofs.Covering.{entries_append}
 use Rattle.ordered_replicas.specs.Faithful.{Since, since_after, WasSent, IsFaithfulStep}
@@ -157,12 +157,12 @@ sent_whole : (log : List Entry) (A : Gtids) → sent (unpurged log) A None ≡ O
 sent_whole log A = sends_all (set.is_subset (set.empty {R = gtid_cmp}) A) (set.is_subset (own_of A None) (whole (unpurged log))) _ _ (filter (is_wanted A) log) (nothing_in A) (nothing_in (whole (unpurged log)))
 
 -- the source's first entry that has not come goes on with what was sent
-pub record Next (world : World) (A : Gtids) (since : List Entry) (entry : Entry) (log : List Entry) : Type 0 where
+pub record Next (world : OrderedWorld) (A : Gtids) (since : List Entry) (entry : Entry) (log : List Entry) : Type 0 where
   pub more : List Entry
   pub prefix : filter (is_wanted A) log ≡ (since ++ entry ∷ []) ++ more
   pub sent : WasSent world A (since ++ entry ∷ [])
 
-pub next_entry : (world : World) (s : State) (since : Since) → Invariant world s since → (c : ℕ) (ch : ChannelValue) (A : Gtids) (purged : List Entry) (j : JournalValue) (entry : Entry)
+pub next_entry : (world : OrderedWorld) (s : State) (since : Since) → Invariant world s since → (c : ℕ) (ch : ChannelValue) (A : Gtids) (purged : List Entry) (j : JournalValue) (entry : Entry)
     → slice_get s.channels c ≡ Some ch → IsLog world purged j → Link A (since c) ch (purged ++ j.entries)
     → set.is_subset j.previous (come A ch) ≡ true → next_of (come A ch) j ≡ Some entry → Next world A (since c) entry (purged ++ j.entries)
 next_entry world s since inv c ch A purged j entry here log l kept next =
@@ -186,11 +186,11 @@ next_entry world s since inv c ch A purged j entry here log l kept next =
       sent = record { journal = unpurged (purged ++ j.entries); own = None; rest = n.0; faithful = log.faithful; front = sent_whole (purged ++ j.entries) A ∙ ap Ok n.1 };
     }
 
-pub record Receives (world : World) (site : Site) (s : State) (since : Since) (sources : Sources) (history : Histories) (event : Event) (after : Step) : Type 0 where
+pub record Receives (world : OrderedWorld) (site : Site) (s : State) (since : Since) (sources : Sources) (history : Histories) (event : Event) (after : Step) : Type 0 where
   pub links : AreLinked after.1.channels (since_after event after.0 since) sources history
   pub faithful : IsFaithfulStep world site s since event after.0
 
-pub receive_links : (world : World) (site : Site) (s : State) (since : Since) (sources : Sources) (history : Histories) (c k : ℕ) (ch : ChannelValue) (A : Gtids) (entry : Entry)
+pub receive_links : (world : OrderedWorld) (site : Site) (s : State) (since : Since) (sources : Sources) (history : Histories) (c k : ℕ) (ch : ChannelValue) (A : Gtids) (entry : Entry)
     → slice_get s.channels c ≡ Some ch → ch.asked ≡ Some A → finmap.get sources c ≡ Some k → AreLinked s.channels since sources history
     → ((log : List Entry) → history k log → Next world A (since c) entry log) → WasSent world A (since c ++ entry ∷ [])
     → Receives world site s since sources history (Receive c entry) (receive site c entry s)

@@ -11,7 +11,7 @@ use Rattle.journal.specs.declared.Entry.{Entry}
 use Rattle.journal.specs.Journals.{JournalValue, AreNew}
 use Rattle.relay.specs.Own.{with_last, purge_to}
 use Rattle.replica_core.specs.State.{State}
-use Rattle.ordered_history.specs.World.{World, content, is_opened, IsClosed}
+use Rattle.ordered_history.specs.World.{OrderedWorld, content, is_opened, IsClosed}
 use Rattle.ordered_history.proofs.Closing.{closed_same}
 use Rattle.ordered_journals.specs.Faithful.{IsFaithful}
 use Rattle.ordered_journals.proofs.Covering.{has, covered, in_insert, in_covered, entries_append}
@@ -26,7 +26,7 @@ abbrev pub unpurged : List Entry → JournalValue
 unpurged entries = record { previous = set.empty; entries = entries }
 
 -- These entries were purged, and with those that are left they are a faithful journal.
-pub record IsLog (world : World) (purged : List Entry) (j : JournalValue) : Type 0 where
+pub record IsLog (world : OrderedWorld) (purged : List Entry) (j : JournalValue) : Type 0 where
   pub previous : (g : Gtid) → set.contains j.previous g ≡ is_entry purged g
   pub faithful : IsFaithful world (unpurged (purged ++ j.entries))
 
@@ -34,7 +34,7 @@ pub record IsLog (world : World) (purged : List Entry) (j : JournalValue) : Type
 has_unpurged : (entries : List Entry) (g : Gtid) → has (unpurged entries) g ≡ is_entry entries g
 has_unpurged entries g = ap (λ b. b || is_entry entries g) (set.contains-empty gtid_cmp g)
 
-pub has_log : (world : World) (purged : List Entry) (j : JournalValue) → IsLog world purged j → (g : Gtid) → has (unpurged (purged ++ j.entries)) g ≡ has j g
+pub has_log : (world : OrderedWorld) (purged : List Entry) (j : JournalValue) → IsLog world purged j → (g : Gtid) → has (unpurged (purged ++ j.entries)) g ≡ has j g
 has_log world purged j log g =
     has_unpurged (purged ++ j.entries) g
     ∙ (entries_append purged j.entries g ∙ ap (λ b. b || is_entry j.entries g) (sym (log.previous g)))
@@ -56,13 +56,13 @@ last_of P [] e h = h.0
 last_of P (x ∷ es) e h = last_of P es e h.1
 
 -- after an event of a replica: the history goes on at its end
-pub record LogGrows (world : World) (purged : List Entry) (s s' : State) : Type 0 where
+pub record LogGrows (world : OrderedWorld) (purged : List Entry) (s s' : State) : Type 0 where
   pub purged' : List Entry
   pub more : List Entry
   pub log : IsLog world purged' s'.journal
   pub grows : purged' ++ s'.journal.entries ≡ (purged ++ s.journal.entries) ++ more
 
-log_stays : (world : World) (purged : List Entry) (s s' : State) → Stays s s' → IsLog world purged s.journal → LogGrows world purged s s'
+log_stays : (world : OrderedWorld) (purged : List Entry) (s s' : State) → Stays s s' → IsLog world purged s.journal → LogGrows world purged s s'
 log_stays world purged s s' m log = record {
   purged' = purged;
   more = [];
@@ -70,7 +70,7 @@ log_stays world purged s s' m log = record {
   grows = ap (λ (j : JournalValue). purged ++ j.entries) m.journal ∙ sym (append-nil (purged ++ s.journal.entries));
 }
 
-log_appends : (world : World) (purged : List Entry) (s s' : State) (since since' : Since) → ((g : Gtid) → is_opened world g ≡ false) → Appends s s' → Invariant world s since → Invariant world s' since' → IsLog world purged s.journal → LogGrows world purged s s'
+log_appends : (world : OrderedWorld) (purged : List Entry) (s s' : State) (since since' : Since) → ((g : Gtid) → is_opened world g ≡ false) → Appends s s' → Invariant world s since → Invariant world s' since' → IsLog world purged s.journal → LogGrows world purged s s'
 log_appends world purged s s' since since' unopened m old inv log =
     let x = m.entry in
     let es = s.journal.entries in
@@ -93,7 +93,7 @@ log_appends world purged s s' since since' unopened m old inv log =
       grows = ap (λ (j : JournalValue). purged ++ j.entries) m.journal ∙ is;
     }
 
-log_purges : (world : World) (purged : List Entry) (s s' : State) → Purges s s' → IsLog world purged s.journal → LogGrows world purged s s'
+log_purges : (world : OrderedWorld) (purged : List Entry) (s s' : State) → Purges s s' → IsLog world purged s.journal → LogGrows world purged s s'
 log_purges world purged s s' m log =
     let es = s.journal.entries in
     let purged' : List Entry = purged ++ take m.count es in
@@ -110,7 +110,7 @@ log_purges world purged s s' m log =
       grows = ap (λ (j : JournalValue). purged' ++ j.entries) m.journal ∙ (is ∙ sym (append-nil (purged ++ es)));
     }
 
-pub log_grows : (world : World) (purged : List Entry) (s s' : State) (since since' : Since) → ((g : Gtid) → is_opened world g ≡ false) → Journals s s' → Invariant world s since → Invariant world s' since' → IsLog world purged s.journal → LogGrows world purged s s'
+pub log_grows : (world : OrderedWorld) (purged : List Entry) (s s' : State) (since since' : Since) → ((g : Gtid) → is_opened world g ≡ false) → Journals s s' → Invariant world s since → Invariant world s' since' → IsLog world purged s.journal → LogGrows world purged s s'
 log_grows world purged s s' since since' unopened (inl m) old inv log = log_stays world purged s s' m log
 log_grows world purged s s' since since' unopened (inr (inl m)) old inv log = log_appends world purged s s' since since' unopened m old inv log
 log_grows world purged s s' since since' unopened (inr (inr m)) old inv log = log_purges world purged s s' m log

@@ -17,7 +17,7 @@ use Rattle.rows.proofs.Lists.{none_some, get_map_cases}
 use Rattle.rows.proofs.Patching.{not_both}
 use Rattle.journal.specs.declared.Entry.{Entry}
 use Rattle.replica_core.specs.Machine as machine
-use Rattle.ordered_history.specs.World.{World, is_opened, rows_of, AreGtidsSound, IsSound}
+use Rattle.ordered_history.specs.World.{OrderedWorld, is_opened, rows_of, AreGtidsSound, IsSound}
 use Rattle.ordered_history.proofs.Committing.{opening_is_closed}
 use Rattle.ordered_journals.proofs.Lists.{get_map}
 use Rattle.ordered_replicas.specs.Faithful.{start_with, IsOpening, IsFaithfulRun, IsMerged}
@@ -100,7 +100,7 @@ place_in (y ∷ es) (suc i) x e = inr (place_in es i x e)
 
 -- what nodes committed by Local so far, as a world
 module _ (schema : List Table) (rows : Rows) (nodes : List Node) (L : List Entry) (n : Numbers nodes L) where
-  abbrev world : World
+  abbrev world : OrderedWorld
   world = world_of schema rows L
 
   pub unopened : (g : Gtid) → is_opened world g ≡ false
@@ -121,7 +121,7 @@ rings_merge run distinct turns =
     let nodes : List Node = start run in
     let last : List Node = end run in
     let L : List Entry = run_locals run in
-    let W : World = run_world run in
+    let W : OrderedWorld = run_world run in
     let first_numbers = numbers_open run.ids schema rows distinct in
     let n : Numbers last L = numbers_run run.events nodes [] first_numbers in
     let gtids : AreGtidsSound W = gtids_sound schema rows last L n in

@@ -20,7 +20,7 @@ use Rattle.replica_core.specs.declared.event.Reply.{Reply}
 use Rattle.replica_core.specs.declared.event.Reply.TheVariants.{NotInSchema}
 use Rattle.replica_core.specs.State.{State, Site, owner}
 use Rattle.replica_core.specs.Machine.{Step, is_free, next_number, local_answer, local, step}
-use Rattle.ordered_history.specs.World.{World, content, Precedes}
+use Rattle.ordered_history.specs.World.{OrderedWorld, content, Precedes}
 use Rattle.ordered_journals.proofs.Lists.{found_passes}
 use Rattle.ordered_journals.proofs.Covering.{in_insert}
 use Rattle.ordered_replicas.specs.Faithful.{Since, IsFaithfulStep}
@@ -128,17 +128,17 @@ module _ (site : Site) (s : State) where
 
 -- ---- when a local commit is faithful
 
-abbrev pub IsInOrder : World → Site → State → Entry → Type 0
+abbrev pub IsInOrder : OrderedWorld → Site → State → Entry → Type 0
 IsInOrder world site s x = (content world x.gtid ≡ Some x.txn) × ((h : Gtid) (t : Transaction) → Precedes world.order (h, t) (x.gtid, x.txn) → shares_key world.schema t x.txn ≡ true → set.contains s.executed h ≡ true)
 
-pub record IsFaithfulLocal (world : World) (site : Site) (s : State) (since : Since) (t : Transaction) (after : Step) : Type 0 where
+pub record IsFaithfulLocal (world : OrderedWorld) (site : Site) (s : State) (since : Since) (t : Transaction) (after : Step) : Type 0 where
   pub faithful : ((x : Entry) → IsIn x (committed_here (Local t) after.0) → IsInOrder world site s x) → IsFaithfulStep world site s since (Local t) after.0
 
-local_faithful_by : (world : World) (site : Site) (s : State) (since : Since) (g : Gtid) (t : Transaction) (r : Result Rows RowFault) → IsFaithfulLocal world site s since t (local_answer g t s r)
+local_faithful_by : (world : OrderedWorld) (site : Site) (s : State) (since : Since) (g : Gtid) (t : Transaction) (r : Result Rows RowFault) → IsFaithfulLocal world site s since t (local_answer g t s r)
 local_faithful_by world site s since g t (Ok rows) = record { faithful = λ h. h (record { gtid = g; txn = t }) (inl refl) }
 local_faithful_by world site s since g t (Err fault) = record { faithful = λ h. tt }
 
-local_faithful : (world : World) (site : Site) (s : State) (since : Since) (t : Transaction) → IsFaithfulLocal world site s since t (local site t s)
+local_faithful : (world : OrderedWorld) (site : Site) (s : State) (since : Since) (t : Transaction) → IsFaithfulLocal world site s since t (local site t s)
 local_faithful world site s since t =
     on_option (IsFaithfulLocal world site s since t) (λ fault. (NotInSchema fault, s)) (misfit site.schema t) _
     (λ e. on_option (IsFaithfulLocal world site s since t) _ (next_number site s) _
@@ -147,7 +147,7 @@ local_faithful world site s since t =
     (λ fault e. record { faithful = λ h. tt })
 
 -- an event of a node's own is faithful, if what it commits by Local is
-pub own_is_faithful : (world : World) (site : Site) (s : State) (since : Since) (e : Event) → is_for_network e ≡ false
+pub own_is_faithful : (world : OrderedWorld) (site : Site) (s : State) (since : Since) (e : Event) → is_for_network e ≡ false
     → ((x : Entry) → IsIn x (committed_here e (step site s e).0) → IsInOrder world site s x) → IsFaithfulStep world site s since e (step site s e).0
 own_is_faithful world site s since (OpenChannel name preserve) n h = tt
 own_is_faithful world site s since (Position c) n h = tt

@@ -35,7 +35,7 @@ pub record AreMerged (run : NetworkRun) (nodes : List Node) (replies : List Netw
   pub sound : IsSound (run_world run)
   -- the run of each node is faithful to it
   pub faithful : (i own : ℕ) → slice_get run.ids i ≡ Some own → IsFaithfulRun (run_world run) (site_of run own) set.empty run.rows (run_of run i)
-  -- ... and ends in what the node holds
+  -- the run of each node ends in what the node holds
   pub reached : (i own : ℕ) (node : Node) → slice_get run.ids i ≡ Some own → slice_get nodes i ≡ Some node
       → node.replica.state ≡ machine.after (site_of run own) (start_with set.empty run.rows) (run_of run i)
   -- what each node holds is merged, and so its own journal is faithful

@@ -11,7 +11,7 @@ use Rattle.journal.specs.declared.Entry.{Entry}
 use Rattle.replica_core.specs.declared.event.Event.{Event}
 use Rattle.replica_core.specs.Machine as machine
 use Rattle.ordered_history.specs.World as ordered
-use Rattle.ordered_history.specs.World.{World}
+use Rattle.ordered_history.specs.World.{OrderedWorld}
 use Rattle.ordered_replicas.specs.Served.{committed_here}
 use Rattle.network.specs.declared.event.NetworkEvent.{NetworkEvent}
 use Rattle.network.specs.declared.event.NetworkReply.{NetworkReply}
@@ -80,7 +80,7 @@ abbrev pub pair : Entry → ordered.Entry
 pair e = (e.gtid, e.txn)
 
 -- the world of what was committed by Local, in the order of time
-abbrev pub world_of : List Table → Rows → List Entry → World
+abbrev pub world_of : List Table → Rows → List Entry → OrderedWorld
 world_of schema rows entries = record { schema = schema; opening_set = set.empty; opening_rows = rows; order = map pair entries }
 
 -- ---- a whole run
@@ -106,7 +106,7 @@ run_replies run = replies (start run) run.events
 abbrev pub run_locals : NetworkRun → List Entry
 run_locals run = locals (start run) run.events
 
-abbrev pub run_world : NetworkRun → World
+abbrev pub run_world : NetworkRun → OrderedWorld
 run_world run = world_of run.schema run.rows (run_locals run)
 
 -- one writer a key at a time, from the opening on

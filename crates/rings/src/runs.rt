@@ -35,7 +35,7 @@ pub fn run(
     events: &[NetworkEvent],
 ) -> (Vec<NetworkReply>, Option<SetFault>)
     requires { AreNumbered events.now }
-    ensures told { result.0.items ≡ replies network.old (answered_events result.0.items events.now) }
+    ensures replies { result.0.items ≡ replies network.old (answered_events result.0.items events.now) }
     ensures nodes { network.new ≡ after network.old (answered_events result.0.items events.now) }
     ensures merged { LeavesMerged network.old (answered_events result.0.items events.now) result.0.items network.new }
     ensures whole { result.1 ≡ None → length result.0.items ≡ length events.now }

@@ -1,4 +1,4 @@
--- Lower-case digits: an even number of them is the text of the bytes that it decodes to, and no bytes are spelled with another byte.
+-- Lower-case digits: an even number of them is the text of the bytes that it decodes to, and no text of bytes has another byte.
 use Rattle.std.proofs.Common.{◌≡◌, ℕ, zero, suc, ◌+◌, ◌*◌, ◌/◌, ◌%◌, ◌<◌, Bool, true, false, eqb, is_some, ltb, not, cond, ◌&&◌, List, [], ◌∷◌, length, get_or, take, drop, set, ◌++◌, Option, Some, None, Ok, refl, sym, ap, ◌∙◌, arith, inl, inr}
 use Rattle.std.specs.Prelude.{◌||◌}
 use Rattle.std.proofs.Math.Seq.{drop-cons, take-length, drop-length}

@@ -1,4 +1,4 @@
--- What the text of a row tells of its values.
+-- What the text of a row shows of its values.
 use Rattle.std.proofs.Common.{◌≡◌, ℕ, zero, suc, ◌*◌, ◌≤◌, ◌<◌, Bool, true, false, eqb, ltb, List, [], ◌∷◌, length, get_or, Option, Some, None, is_some, refl, sym, ap, subst, ◌∙◌, arith, pos, negsuc}
 use Rattle.std.specs.Prelude.{◌||◌, nat_eq, codes, option_map}
 use Rattle.std.specs.Bool.{Decides}

@@ -1,4 +1,4 @@
--- Values: what is spelled is read, and what is read is spelled so.
+-- Values: reading is sound and complete.
 use Rattle.std.proofs.Common.{◌≡◌, ℕ, zero, suc, ◌^◌, ◌<◌, ◌≤◌, drop, true, false, cond, eqb, not, ◌/◌, ◌%◌, List, [], ◌∷◌, length, get_or, Option, Some, None, Result, Ok, Err, refl, sym, ap, subst, ◌∙◌, arith, inl, inr, ℤ, pos, negsuc}
 use Rattle.std.specs.Prelude.{codes, FitsSigned, option_map}
 use Rattle.std.specs.Int.{w64}

@@ -48,7 +48,7 @@ impl ShortBytes {
     }
 
     /// The same bytes.
-    pub(crate) fn copied(&self) -> ShortBytes
+    pub(crate) fn copy(&self) -> ShortBytes
         ensures { result ≡ self.now }
     {
         ShortBytes {

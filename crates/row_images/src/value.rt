@@ -253,7 +253,7 @@ impl Clone for ByteString {
 
     fn clone(&self) -> Result<ByteString, AllocError> {
         let held = match &self.held {
-            Held::Short(short) => Held::Short(short.copied()),
+            Held::Short(short) => Held::Short(short.copy()),
             Held::Shared(items) => Held::Shared(items.clone()?),
         };
         Ok(ByteString { held })

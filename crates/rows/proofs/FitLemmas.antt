@@ -18,7 +18,7 @@ use Rattle.rows.specs.Order.{key_cmp}
 use Rattle.rows.specs.Apply.{Rows, apply}
 use Rattle.rows.specs.Database.{AreRowsOf, NoTwoCarry}
 use Rattle.rows.specs.Fits.{row_misfit, row_misfit_in, IsRowOf, rank, first_cause, table_of, misfit_in, count_misfit, change_misfit, or_later, misfit_from, misfit, Fits}
-use Rattle.rows.specs.Keys.{table_named, carried_keys}
+use Rattle.rows.specs.Keys.{find_table, carried_keys}
 use Rattle.rows.specs.Patch.{SameTables}
 use Rattle.rows.specs.Prepared.{same_table, same_tables}
 use Rattle.rows.specs.WriteSet.{is_among, left_by_change, or_earlier, left_by_changes, left_by}
@@ -50,7 +50,7 @@ few_from : (schema : List Table) (n : ℕ) (changes : List Change) → misfit_fr
 few_from schema n [] e h = omega arith
 few_from schema n (change ∷ changes) e h =
     let parts = none_later (change_misfit schema n change) n (misfit_from schema (n + 1) changes) e in
-    let causes = no_cause (misfit_in (table_named (table_of change) schema) change) (count_misfit n) parts.0 in
+    let causes = no_cause (misfit_in (find_table (table_of change) schema) change) (count_misfit n) parts.0 in
     let test : nat_le 65536 n ≡ false = no_count (nat_le 65536 n) causes.1 in
     let below : n < 65536 = grind (arith, nat_tests, test) in
     omega (arith, few_from schema (n + 1) changes parts.1 (omega (arith, below)))
@@ -82,16 +82,16 @@ at_key : (schema : List Table) (name : List ℕ) (after row : List Value) (k : K
 at_key schema name after row k i e fit =
     subst (λ (r : List Value). IsRowOf schema k.table r) e (subst (λ (n : List ℕ). IsRowOf schema n after) (sym (carried_table schema name after k i)) fit)
 
-left_one : (schema : List Table) (change : Change) (k : Key) (row : List Value) → misfit_in (table_named (table_of change) schema) change ≡ None → left_by_change schema change k ≡ Some (Some row) → IsRowOf schema k.table row
+left_one : (schema : List Table) (change : Change) (k : Key) (row : List Value) → misfit_in (find_table (table_of change) schema) change ≡ None → left_by_change schema change k ≡ Some (Some row) → IsRowOf schema k.table row
 left_one schema (Insert table after) k row fit e =
     elim (left_row (is_among (carried_keys schema table after) k) after row None e) [
-      | inl here ↦ at_key schema table after row k here.0 here.1 (insert_fits (table_named table schema) table after fit)
+      | inl here ↦ at_key schema table after row k here.0 here.1 (insert_fits (find_table table schema) table after fit)
       | inr none ↦ cc
     ]
 left_one schema (Delete table before) k row fit e = absurd (no_row (is_among (carried_keys schema table before) k) row e)
 left_one schema (Update table before after) k row fit e =
     elim (left_row (is_among (carried_keys schema table after) k) after row (cond (is_among (carried_keys schema table before) k) (Some None) None) e) [
-      | inl here ↦ at_key schema table after row k here.0 here.1 (update_fits (table_named table schema) table before after fit)
+      | inl here ↦ at_key schema table after row k here.0 here.1 (update_fits (find_table table schema) table before after fit)
       | inr rest ↦ absurd (no_row (is_among (carried_keys schema table before) k) row rest)
     ]
 
@@ -105,7 +105,7 @@ left_fits schema n (change ∷ changes) k row fit e =
     let parts = none_later (change_misfit schema n change) n (misfit_from schema (n + 1) changes) fit in
     elim (which (left_by_changes schema changes k) (left_by_change schema change k) row e) [
       | inl later ↦ left_fits schema (n + 1) changes k row parts.1 later
-      | inr here ↦ left_one schema change k row (no_cause (misfit_in (table_named (table_of change) schema) change) (count_misfit n) parts.0).0 here
+      | inr here ↦ left_one schema change k row (no_cause (misfit_in (find_table (table_of change) schema) change) (count_misfit n) parts.0).0 here
     ]
 
 stands : (left : Option (Option (List Value))) (before : Option (List Value)) (row : List Value) → unwrap_or left before ≡ Some row → (left ≡ Some (Some row)) ⊎ (before ≡ Some row)
@@ -154,20 +154,20 @@ same_table_tells None (Some b) e = cc
 same_table_tells (Some a) None e = cc
 same_table_tells (Some a) (Some b) e = (tables-Decide a b).1 (same_Some a b e)
 
--- the test of tables tells that they are the same, and it fails only where they are not
+-- the test of tables shows that they are the same, and it fails only where they are not
 pub tables_told : (a b : List Table) (changes : List Change) → same_tables a b changes ≡ true → SameTables a b changes
 tables_told a b [] e = tt
 tables_told a b (change ∷ changes) e =
-    let parts = and_parts (same_table (table_named (table_of change) a) (table_named (table_of change) b)) (same_tables a b changes) e in
-    (same_table_told (table_named (table_of change) a) (table_named (table_of change) b) parts.0, tables_told a b changes parts.1)
+    let parts = and_parts (same_table (find_table (table_of change) a) (find_table (table_of change) b)) (same_tables a b changes) e in
+    (same_table_told (find_table (table_of change) a) (find_table (table_of change) b) parts.0, tables_told a b changes parts.1)
 
 pub tables_tell : (a b : List Table) (changes : List Change) → SameTables a b changes → same_tables a b changes ≡ true
 tables_tell a b [] same = λ _. true
 tables_tell a b (change ∷ changes) same =
-    and_from (same_table (table_named (table_of change) a) (table_named (table_of change) b)) (same_tables a b changes)
-    (same_table_tells (table_named (table_of change) a) (table_named (table_of change) b) same.0) (tables_tell a b changes same.1)
+    and_from (same_table (find_table (table_of change) a) (find_table (table_of change) b)) (same_tables a b changes)
+    (same_table_tells (find_table (table_of change) a) (find_table (table_of change) b) same.0) (tables_tell a b changes same.1)
 
--- an install is done, is stale, or wants memory
+-- an install is done, is stale, or out of memory
 pub by_outcome : {E P : Type 0} (r : Result InstallOutcome E) → (r ≡ Ok Installed → P) → (r ≡ Ok Stale → P) → ((e : E) → r ≡ Err e → P) → P
 by_outcome (Ok Installed) f g h = f (λ _. Ok Installed)
 by_outcome (Ok Stale) f g h = g (λ _. Ok Stale)

@@ -49,7 +49,7 @@ hashed_same es fs h = same_rows _ _ (λ q. get_hashed es q ∙ h q ∙ sym (get_
 pub hashed_told : (es fs : List (Key × List Value)) → from_entries {R = key_cmp} es ≡ from_entries fs → (q : Key) → lookup (key_test q) es ≡ lookup (key_test q) fs
 hashed_told es fs e q = sym (get_hashed es q) ∙ ap (λ m. get m q) e ∙ get_hashed fs q
 
--- a row takes the place of one that stands
+-- a row takes the place of one that is there
 over_one : (b : Bool) (x y : Rows) → b ≡ true → x ≡ cond b x y
 over_one true x y e = refl
 over_one false x y e = cc

@@ -1,4 +1,4 @@
--- Lists, options and tests, where std's pages of lemmas say nothing.
+-- Lists, options and tests, for which std has no lemma.
 use Rattle.std.proofs.Common.{◌≡◌, ℕ, zero, suc, ◌+◌, ◌<◌, Bool, true, false, ◌&&◌, not, ◌⊎◌, inl, inr, List, [], ◌∷◌, ◌++◌, map, length, Option, Some, None, Result, Ok, Err, refl, is_none, nat_lt, arith}
 use Rattle.std.specs.Prelude.{slice_get, IfOk}
 use Rattle.std.specs.Option.{option_map, option_and_then, option_map_or}

@@ -7,8 +7,8 @@ use Rattle.rows.specs.declared.change.RowFault.{RowFault}
 use Rattle.rows.specs.Order.{key_eq}
 use Rattle.rows.specs.Total.{key_eq_self}
 use Rattle.rows.specs.WriteSet.{is_among}
-use Rattle.rows.specs.Apply.{Rows, ◌>>=◌, with_row, without_keys, or_else, first_taken, insert_if_free, inserted, deleted}
-use Rattle.rows.specs.Making.{updated}
+use Rattle.rows.specs.Apply.{Rows, ◌>>=◌, with_row, without_keys, or_else, first_taken, insert_if_free, insert_row, delete_row}
+use Rattle.rows.specs.Making.{update_row}
 use Rattle.rows.proofs.Local.{same_rows, get-with_row, get-without_keys}
 use Rattle.rows.proofs.Patching.{Carrier}
 use Rattle.std.proofs.lemmas.Bool.{or_left, or_right}
@@ -43,15 +43,15 @@ placed_over keys row rows = same_rows _ _ (λ k.
     ∙ sym (get-with_row keys row rows k))
 
 -- Where the row before can be taken away, one that carries the same keys can take its place.
-pub replaced : (n : ℕ) (keys : List Key) (before after : List Value) (rows : Rows) → deleted n keys before rows ≡ Ok (without_keys keys rows) → updated n keys before keys after rows ≡ Ok (with_row keys after rows)
+pub replaced : (n : ℕ) (keys : List Key) (before after : List Value) (rows : Rows) → delete_row n keys before rows ≡ Ok (without_keys keys rows) → update_row n keys before keys after rows ≡ Ok (with_row keys after rows)
 replaced n keys before after rows went =
-    ap (λ (r : Result Rows RowFault). r >>= inserted n keys after) went
+    ap (λ (r : Result Rows RowFault). r >>= insert_row n keys after) went
     ∙ ap (λ (o : Option ℕ). insert_if_free o n keys after (without_keys keys rows)) (free_without keys rows)
     ∙ ap Ok (placed_over keys after rows)
 
 -- Where it can't, the update is refused for the same reason.
-pub not_replaced : (n : ℕ) (keys more : List Key) (before after : List Value) (rows : Rows) (fault : RowFault) → deleted n keys before rows ≡ Err fault → updated n keys before more after rows ≡ Err fault
-not_replaced n keys more before after rows fault e = ap (λ (r : Result Rows RowFault). r >>= inserted n more after) e
+pub not_replaced : (n : ℕ) (keys more : List Key) (before after : List Value) (rows : Rows) (fault : RowFault) → delete_row n keys before rows ≡ Err fault → update_row n keys before more after rows ≡ Err fault
+not_replaced n keys more before after rows fault e = ap (λ (r : Result Rows RowFault). r >>= insert_row n more after) e
 
-pub replaced_by : (n : ℕ) (keys more : List Key) (before after : List Value) (rows mid : Rows) → deleted n keys before rows ≡ Ok mid → updated n keys before more after rows ≡ inserted n more after mid
-replaced_by n keys more before after rows mid e = ap (λ (r : Result Rows RowFault). r >>= inserted n more after) e
+pub replaced_by : (n : ℕ) (keys more : List Key) (before after : List Value) (rows mid : Rows) → delete_row n keys before rows ≡ Ok mid → update_row n keys before more after rows ≡ insert_row n more after mid
+replaced_by n keys more before after rows mid e = ap (λ (r : Result Rows RowFault). r >>= insert_row n more after) e

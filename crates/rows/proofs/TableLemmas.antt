@@ -7,7 +7,7 @@ use Rattle.std.specs.Ordering.{nat_cmp, is_eq, eq_by_cmp}
 use Rattle.std.specs.declared.cmp.Ordering.TheVariants.{Equal}
 use Rattle.std.specs.Cmp.{eq_by_cmp_equiv}
 use Rattle.std.specs.Cmp.Lexicographic.{slice_cmp, nat_list_cmp_total}
-use Rattle.rows.specs.Keys.{table_named}
+use Rattle.rows.specs.Keys.{find_table}
 use Rattle.rows.specs.Tables.{is_table, has_column_lists, is_within_limits, has_its_columns, is_taken, table_fault, are_named_once, AreTables}
 use Rattle.rows.specs.declared.schema.TableFault.TheVariants.{Body, Limit, Schema}
 use Rattle.rows.specs.declared.schema.Table.{Table}
@@ -50,14 +50,14 @@ by_untaken false table rest e f = f
 is_taken-push : (name : List ℕ) (tables : List Table) (table : Table) → is_taken name tables ≡ false → eq_by_cmp (slice_cmp nat_cmp) name table.name ≡ false → is_taken name (tables ++ table ∷ []) ≡ false
 is_taken-push name [] table e f = by_untaken (eq_by_cmp (slice_cmp nat_cmp) name table.name) table None f (λ _. false)
 is_taken-push name (x ∷ tables) table e f =
-    let parts = untaken_by (eq_by_cmp (slice_cmp nat_cmp) name x.name) x (table_named name tables) e in
-    by_untaken (eq_by_cmp (slice_cmp nat_cmp) name x.name) x (table_named name (tables ++ table ∷ [])) parts.0 (is_taken-push name tables table parts.1 f)
+    let parts = untaken_by (eq_by_cmp (slice_cmp nat_cmp) name x.name) x (find_table name tables) e in
+    by_untaken (eq_by_cmp (slice_cmp nat_cmp) name x.name) x (find_table name (tables ++ table ∷ [])) parts.0 (is_taken-push name tables table parts.1 f)
 
 are_named_once-push : (tables : List Table) (table : Table) → are_named_once tables ≡ true → is_taken table.name tables ≡ false → are_named_once (tables ++ table ∷ []) ≡ true
 are_named_once-push [] table e f = λ _. true
 are_named_once-push (x ∷ tables) table e f =
     let parts = and_parts (not (is_taken x.name tables)) (are_named_once tables) e in
-    let other = untaken_by (eq_by_cmp (slice_cmp nat_cmp) table.name x.name) x (table_named table.name tables) f in
+    let other = untaken_by (eq_by_cmp (slice_cmp nat_cmp) table.name x.name) x (find_table table.name tables) f in
     let turned : eq_by_cmp (slice_cmp nat_cmp) x.name table.name ≡ false = (eq_by_cmp_equiv nat_list_cmp_total).symm x.name table.name ∙ other.0 in
     and_from (not (is_taken x.name (tables ++ table ∷ []))) (are_named_once (tables ++ table ∷ []))
     (not_from_false (is_taken x.name (tables ++ table ∷ [])) (is_taken-push x.name tables table (not-true (is_taken x.name tables) parts.0) turned))
@@ -83,7 +83,7 @@ table_added tables table h e =
 -- ---- a table that is found
 
 -- the table at a place has its name alone
-pub named_at : (name : List ℕ) (tables : List Table) (place : ℕ) (d : Table) → are_named_once tables ≡ true → place < length tables → eq_by_cmp (slice_cmp nat_cmp) name (get_or tables place d).name ≡ true → table_named name tables ≡ Some (get_or tables place d)
+pub named_at : (name : List ℕ) (tables : List Table) (place : ℕ) (d : Table) → are_named_once tables ≡ true → place < length tables → eq_by_cmp (slice_cmp nat_cmp) name (get_or tables place d).name ≡ true → find_table name tables ≡ Some (get_or tables place d)
 named_at name [] place d once lt same = absurd (omega arith)
 named_at name (x ∷ tables) zero d once lt same = rw same refl
 named_at name (x ∷ tables) (suc place) d once lt same =
@@ -97,20 +97,20 @@ named_at name (x ∷ tables) (suc place) d once lt same =
     rw apart later
 
 -- what is found has at most eight unique keys
-pub few_found : (name : List ℕ) (tables : List Table) (table : Table) → HaveFewUniques tables → table_named name tables ≡ Some table → length table.uniques ≤ 8
+pub few_found : (name : List ℕ) (tables : List Table) (table : Table) → HaveFewUniques tables → find_table name tables ≡ Some table → length table.uniques ≤ 8
 few_found name [] table few e = absurd cc
 few_found name (x ∷ tables) table few e =
-    elim (eq_by_cmp (slice_cmp nat_cmp) name x.name) as (λ b. cond b (Some x) (table_named name tables) ≡ Some table → length table.uniques ≤ 8) [
+    elim (eq_by_cmp (slice_cmp nat_cmp) name x.name) as (λ b. cond b (Some x) (find_table name tables) ≡ Some table → length table.uniques ≤ 8) [
       | true ↦ λ f. subst (λ (t : Table). length t.uniques ≤ 8) (same_Some x table f) few.0
       | false ↦ λ f. few_found name tables table few.1 f
     ] e
 
-pub few_shown : (name : List ℕ) (tables : List Table) (r : Option (Bor Table)) → HaveFewUniques tables → option_copied r ≡ table_named name tables → IfSome r (λ (t : Bor Table). length t.now.uniques ≤ 8)
+pub few_shown : (name : List ℕ) (tables : List Table) (r : Option (Bor Table)) → HaveFewUniques tables → option_copied r ≡ find_table name tables → IfSome r (λ (t : Bor Table). length t.now.uniques ≤ 8)
 few_shown name tables None few e = tt
 few_shown name tables (Some t) few e = few_found name tables t.now few (sym e)
 
-pub named_got : (name : List ℕ) (tables shown : List Table) (place : ℕ) (table : Table) → are_named_once tables ≡ true → shown ≡ tables → true ≡ ltb place (length shown) → table ≡ get_or shown place table → Equal ≡ slice_cmp nat_cmp name table.name → table_named name tables ≡ Some table
+pub named_got : (name : List ℕ) (tables shown : List Table) (place : ℕ) (table : Table) → are_named_once tables ≡ true → shown ≡ tables → true ≡ ltb place (length shown) → table ≡ get_or shown place table → Equal ≡ slice_cmp nat_cmp name table.name → find_table name tables ≡ Some table
 named_got name tables shown place table once same lt is equal =
     let here = ap is_eq (sym equal) in
-    subst (λ (ts : List Table). table_named name ts ≡ Some table) same
+    subst (λ (ts : List Table). find_table name ts ≡ Some table) same
     (named_at name shown place table (ap are_named_once same ∙ once) (ltb-true _ _ (sym lt)) (ap (λ (t : Table). eq_by_cmp (slice_cmp nat_cmp) name t.name) (sym is) ∙ here) ∙ ap (λ (t : Table). Some t) (sym is))

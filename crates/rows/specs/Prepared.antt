@@ -11,7 +11,7 @@ use Rattle.rows.specs.declared.schema.Table.{Table}
 use Rattle.rows.specs.Apply.{Rows, apply}
 use Rattle.rows.specs.Database.{Database}
 use Rattle.rows.specs.Fits.{table_of, Fits}
-use Rattle.rows.specs.Keys.{table_named}
+use Rattle.rows.specs.Keys.{find_table}
 use Rattle.rows.specs.Patch.{IsAsSeen, IsPatchOf, PutsAlike, SameTables}
 
 -- the tables that were seen, and keys with the rows that carried them
@@ -52,4 +52,4 @@ same_table (Some a) None = false
 same_table (Some a) (Some b) = table_eq a b
 
 abbrev pub same_tables : List Table → List Table → List Change → Bool
-same_tables a b changes = list_all (λ change. same_table (table_named (table_of change) a) (table_named (table_of change) b)) changes
+same_tables a b changes = list_all (λ change. same_table (find_table (table_of change) a) (find_table (table_of change) b)) changes

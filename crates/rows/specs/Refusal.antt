@@ -20,9 +20,9 @@ abbrev pub NamesMisfit : {A : Type 0} → Result A ApplyFault → Option NotInSc
 NamesMisfit result misfit = (cause : NotInSchema) → result ≡ Err (fault.NotInSchema cause) → misfit ≡ Some cause
 
 -- What the schema does not take is refused for that, before anything else.
-abbrev pub TellsMisfit : {A : Type 0} → Result A ApplyFault → Option NotInSchema → Type 0
-TellsMisfit result None = Unit {0}
-TellsMisfit result (Some cause) = result ≡ Err (fault.NotInSchema cause)
+abbrev pub GivesMisfit : {A : Type 0} → Result A ApplyFault → Option NotInSchema → Type 0
+GivesMisfit result None = Unit {0}
+GivesMisfit result (Some cause) = result ≡ Err (fault.NotInSchema cause)
 
 -- Where a call returns a row fault, the changes are refused with it.
 abbrev pub NamesRowFault : {A : Type 0} → Result A ApplyFault → Result Rows RowFault → Type 0

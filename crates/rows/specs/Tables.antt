@@ -4,7 +4,7 @@ use Rattle.std.specs.List.{list_any, list_all}
 use Rattle.rows.specs.declared.schema.Table.{Table}
 use Rattle.rows.specs.declared.schema.TableFault.{TableFault}
 use Rattle.rows.specs.declared.schema.TableFault.TheVariants.{Body, Limit, Schema}
-use Rattle.rows.specs.Keys.{table_named}
+use Rattle.rows.specs.Keys.{find_table}
 
 -- no column occurs twice
 abbrev pub are_distinct : List ℕ → Bool
@@ -33,7 +33,7 @@ abbrev pub is_table : Table → Bool
 is_table table = has_column_lists table && is_within_limits table && has_its_columns table
 
 abbrev pub is_taken : List ℕ → List Table → Bool
-is_taken name tables = is_some (table_named name tables)
+is_taken name tables = is_some (find_table name tables)
 
 -- Why a table can't come after these: its lists of columns are tested first, then the limits, and then what it names.
 abbrev pub table_fault : List Table → Table → Option TableFault

@@ -4,7 +4,7 @@ ghost use Rattle.std.specs.Prelude.{◌≡◌, ◌≤◌, length, OnOk, IfErr, N
 ghost use Rattle.std.specs.List.{list_any};
 ghost use Rattle.row_images.specs.declared.value.Value.TheVariants.{Null};
 ghost use Rattle.row_images.specs.Values.{is_null, is_too_long};
-ghost use Rattle.rows.specs.Keys.{table_named};
+ghost use Rattle.rows.specs.Keys.{find_table};
 ghost use Rattle.rows.specs.Database.{opening};
 ghost use Rattle.rows.specs.Fits.{has_primary_null, row_misfit, rank, first_cause, images_misfit, table_of, misfit_in, change_misfit, misfit};
 
@@ -41,7 +41,7 @@ pub(crate) fn fits_row(schema: &Schema, table: &Name, row: &Row) -> Result<(), N
 }
 
 fn insert_misfit(schema: &Schema, table: &Name, row: &Row) -> Option<Misfit>
-    ensures { result ≡ misfit_in (table_named table.now schema.now) (Change.Insert table.now row.now) }
+    ensures { result ≡ misfit_in (find_table table.now schema.now) (Change.Insert table.now row.now) }
 {
     match schema.find(table) {
         Some(table) => row_misfit(table, row),

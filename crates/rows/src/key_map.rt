@@ -109,7 +109,7 @@ impl KeyMap {
         ensures ok { OnOk result (self.new ≡ map.insert self.old key.now row.now) }
         ensures err { OnErr result (self.new ≡ self.old) }
     {
-        let key = key.copied()?;
+        let key = key.copy()?;
         let row = row.clone()?;
         self.put_at(key, row)
     }
@@ -171,8 +171,8 @@ impl KeyMap {
     }
 
     fn delete_row(&mut self, keys: &[Key], row: &Row, change: u32) -> Result<(), RowFault>
-        ensures ok { OnOk result (deleted change keys.now row.now self.old ≡ Ok self.new) }
-        ensures refused { IfErr result (λ fault. deleted change keys.now row.now self.old ≡ Err fault) }
+        ensures ok { OnOk result (delete_row change keys.now row.now self.old ≡ Ok self.new) }
+        ensures refused { IfErr result (λ fault. delete_row change keys.now row.now self.old ≡ Err fault) }
         ensures err { OnErr result (self.new ≡ self.old) }
     {
         holds(&self.carriers, keys, row, change)?;
@@ -191,8 +191,8 @@ impl KeyMap {
         table: &Name,
         row: &Row,
     ) -> Result<(), PrepareFault>
-        ensures ok { OnOk result (inserted change (carried_keys schema.now table.now row.now) row.now self.old ≡ Ok self.new) }
-        ensures refused { Refuses result (inserted change (carried_keys schema.now table.now row.now) row.now self.old) }
+        ensures ok { OnOk result (insert_row change (carried_keys schema.now table.now row.now) row.now self.old ≡ Ok self.new) }
+        ensures refused { Refuses result (insert_row change (carried_keys schema.now table.now row.now) row.now self.old) }
         ensures err { OnErr result (self.new ≡ self.old) }
     {
         match carried_keys(alloc, schema, table, row) {
@@ -237,8 +237,8 @@ impl KeyMap {
         table: &Name,
         row: &Row,
     ) -> Result<(), PrepareFault>
-        ensures ok { OnOk result (deleted change (carried_keys schema.now table.now row.now) row.now self.old ≡ Ok self.new) }
-        ensures refused { Refuses result (deleted change (carried_keys schema.now table.now row.now) row.now self.old) }
+        ensures ok { OnOk result (delete_row change (carried_keys schema.now table.now row.now) row.now self.old ≡ Ok self.new) }
+        ensures refused { Refuses result (delete_row change (carried_keys schema.now table.now row.now) row.now self.old) }
         ensures err { OnErr result (self.new ≡ self.old) }
     {
         match carried_keys(alloc, schema, table, row) {

@@ -7,7 +7,7 @@ ghost use Rattle.indexmap.specs.IndexMap.{spare};
 ghost use Rattle.rows.specs.declared.change.Change.TheVariants.{Update};
 ghost use Rattle.rows.specs.Apply.{with_row, without_keys, inserted, deleted, apply_change, apply_from};
 ghost use Rattle.rows.specs.Keys.{carried_keys};
-ghost use Rattle.rows.specs.Making.{put_back, updated};
+ghost use Rattle.rows.specs.Making.{put_back, update_row};
 ghost use Rattle.rows.specs.Order.{key_cmp};
 ghost use Rattle.rows.specs.Patch.{put};
 ghost use Rattle.rows.specs.Refusal.{Refuses};
@@ -173,7 +173,7 @@ impl Making {
         ensures ok { OnOk result (self.new.made ≡ map.insert self.old.made key row) }
         ensures before { self.new.before ≡ self.old.before }
     {
-        let own = key.copied()?;
+        let own = key.copy()?;
         make_room(&mut self.carriers, &mut self.log)?;
         let row = put_in_room(&mut self.carriers, own, row);
         note(&mut self.log, Seen { key, row });
@@ -218,8 +218,8 @@ impl Making {
 
     /// Puts a row under its keys, if each of them is free.
     fn insert_row(&mut self, keys: Vec<Key>, row: &Row, change: u32) -> Result<(), PrepareFault>
-        ensures ok { OnOk result (inserted change keys.items row.now self.old.made ≡ Ok self.new.made) }
-        ensures refused { Refuses result (inserted change keys.items row.now self.old.made) }
+        ensures ok { OnOk result (insert_row change keys.items row.now self.old.made ≡ Ok self.new.made) }
+        ensures refused { Refuses result (insert_row change keys.items row.now self.old.made) }
         ensures before { self.new.before ≡ self.old.before }
     {
         if let Some(key) = first_taken(&self.carriers, &keys) {
@@ -233,8 +233,8 @@ impl Making {
 
     /// Takes away a row under its keys, if it is there.
     fn delete_row(&mut self, keys: Vec<Key>, row: &Row, change: u32) -> Result<(), PrepareFault>
-        ensures ok { OnOk result (deleted change keys.items row.now self.old.made ≡ Ok self.new.made) }
-        ensures refused { Refuses result (deleted change keys.items row.now self.old.made) }
+        ensures ok { OnOk result (delete_row change keys.items row.now self.old.made ≡ Ok self.new.made) }
+        ensures refused { Refuses result (delete_row change keys.items row.now self.old.made) }
         ensures before { self.new.before ≡ self.old.before }
     {
         if let Err(fault) = holds(&self.carriers, &keys, row, change) {
@@ -254,8 +254,8 @@ impl Making {
         after: &Row,
         change: u32,
     ) -> Result<(), PrepareFault>
-        ensures ok { OnOk result (updated change keys.items before.now keys.items after.now self.old.made ≡ Ok self.new.made) }
-        ensures refused { Refuses result (updated change keys.items before.now keys.items after.now self.old.made) }
+        ensures ok { OnOk result (update_row change keys.items before.now keys.items after.now self.old.made ≡ Ok self.new.made) }
+        ensures refused { Refuses result (update_row change keys.items before.now keys.items after.now self.old.made) }
         ensures before { self.new.before ≡ self.old.before }
     {
         if let Err(fault) = holds(&self.carriers, &keys, before, change) {
@@ -276,8 +276,8 @@ impl Making {
         after: &Row,
         change: u32,
     ) -> Result<(), PrepareFault>
-        ensures ok { OnOk result (updated change keys.items before.now keys_after.items after.now self.old.made ≡ Ok self.new.made) }
-        ensures refused { Refuses result (updated change keys.items before.now keys_after.items after.now self.old.made) }
+        ensures ok { OnOk result (update_row change keys.items before.now keys_after.items after.now self.old.made ≡ Ok self.new.made) }
+        ensures refused { Refuses result (update_row change keys.items before.now keys_after.items after.now self.old.made) }
         ensures before { self.new.before ≡ self.old.before }
     {
         if are_same_keys(&keys, &keys_after) {

@@ -3,7 +3,7 @@
 ghost use Rattle.std.specs.Prelude.{◌≡◌, IfOk};
 ghost use Rattle.rows.specs.Apply.{apply};
 ghost use Rattle.rows.specs.Fits.{Fits, table_of};
-ghost use Rattle.rows.specs.Keys.{table_named};
+ghost use Rattle.rows.specs.Keys.{find_table};
 ghost use Rattle.rows.specs.Patch.{SeesAll, IsRefused};
 ghost use Rattle.rows.specs.Prepared.{Applies, same_table, same_tables};
 ghost use Rattle.rows.specs.declared.change.RowFault.{RowFault};
@@ -80,7 +80,7 @@ pub fn prepare(alloc: Global, txn: Transaction, footprint: Footprint) -> Result<
 
 /// Whether both schemas have the same table of a name, or none.
 fn is_same_table(a: &Schema, b: &Schema, name: &Name) -> bool
-    ensures { result ≡ same_table (table_named name.now a.now) (table_named name.now b.now) }
+    ensures { result ≡ same_table (find_table name.now a.now) (find_table name.now b.now) }
 {
     match (a.find(name), b.find(name)) {
         (None, None) => true,

@@ -10,7 +10,7 @@ ghost use Rattle.rows.specs.Listing.{rows_listed};
 ghost use Rattle.rows.specs.Patch.{seen_of_keys};
 ghost use Rattle.rows.specs.Prepared.{IsStillTrue};
 ghost use Rattle.rows.specs.Database.{opening, AreRowsOf, LeavesImages, NoTwoCarry};
-ghost use Rattle.rows.specs.Refusal.{Refuses, NamesMisfit, TellsMisfit, NamesRowFault};
+ghost use Rattle.rows.specs.Refusal.{Refuses, NamesMisfit, GivesMisfit, NamesRowFault};
 
 use crate::change::{ApplyFault, Key, PrepareFault, TableRow, Transaction};
 use crate::fitting::{fits, fits_row};
@@ -155,7 +155,7 @@ impl Rows {
         ensures no_two { NoTwoCarry self.new.schema self.new.rows }
         ensures same { self.new.schema ≡ self.old.schema }
         ensures not_in_schema { NamesMisfit result (misfit self.old.schema txn.now) }
-        ensures told { TellsMisfit result (misfit self.old.schema txn.now) }
+        ensures cause { GivesMisfit result (misfit self.old.schema txn.now) }
         ensures refused { NamesRowFault result (apply self.old.schema txn.now self.old.rows) }
         ensures err { OnErr result (self.new ≡ self.old) }
     {

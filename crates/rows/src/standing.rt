@@ -2,7 +2,7 @@
 ghost use Rattle.std.specs.Prelude.{◌≡◌, Ok, Err, OnOk, IfErr};
 ghost use Rattle.std.specs.Option.{option_copied};
 ghost use Rattle.std.specs.FinMap as map;
-ghost use Rattle.rows.specs.Apply.{first_taken, first_row, without_keys, deleted};
+ghost use Rattle.rows.specs.Apply.{first_taken, first_row, without_keys, delete_row};
 ghost use Rattle.rows.specs.Order.{key_cmp};
 
 use crate::change::{Key, RowFault};
@@ -44,8 +44,8 @@ pub(crate) fn holds(
     row: &Row,
     change: u32,
 ) -> Result<(), RowFault>
-    ensures ok { OnOk result (deleted change keys.now row.now (map.from_entries carriers.now.entries) ≡ Ok (without_keys keys.now (map.from_entries carriers.now.entries))) }
-    ensures refused { IfErr result (λ fault. deleted change keys.now row.now (map.from_entries carriers.now.entries) ≡ Err fault) }
+    ensures ok { OnOk result (delete_row change keys.now row.now (map.from_entries carriers.now.entries) ≡ Ok (without_keys keys.now (map.from_entries carriers.now.entries))) }
+    ensures refused { IfErr result (λ fault. delete_row change keys.now row.now (map.from_entries carriers.now.entries) ≡ Err fault) }
 {
     match first_row(carriers, keys) {
         None => Err(RowFault::RowMissing { change, key: 0 }),

@@ -1,7 +1,7 @@
 //! Tables that are found by their names.
 ghost use Rattle.std.specs.Prelude.{◌≡◌, ◌≤◌, length, true, Some, IfSome};
 ghost use Rattle.std.specs.Option.{option_copied};
-ghost use Rattle.rows.specs.Keys.{table_named};
+ghost use Rattle.rows.specs.Keys.{find_table};
 ghost use Rattle.rows.specs.Tables.{are_named_once};
 
 use crate::name::Name;
@@ -19,7 +19,7 @@ pub(crate) fn search_by_halves<'a>(
     name: &Name,
 ) -> Option<&'a Table>
     requires { are_named_once tables.now ≡ true }
-    ensures { IfSome result (λ table. table_named name.now tables.now ≡ Some table.now) }
+    ensures { IfSome result (λ table. find_table name.now tables.now ≡ Some table.now) }
 {
     let mut low = 0;
     let mut high = order.len();
@@ -42,7 +42,7 @@ pub(crate) fn search_by_halves<'a>(
 
 /// The table of a name. Each table is looked at.
 pub(crate) fn from_the_first<'a>(tables: &'a [Table], name: &Name) -> Option<&'a Table>
-    ensures { option_copied result ≡ table_named name.now tables.now }
+    ensures { option_copied result ≡ find_table name.now tables.now }
 {
     for table in tables {
         if *name == table.name {

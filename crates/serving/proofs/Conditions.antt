@@ -47,7 +47,7 @@ use Rattle.world.proofs.Contents.{at_content, some_of}
 use Rattle.world.proofs.Finding.{next_none, when_none, first_none}
 use Rattle.world.proofs.Meanings.{keys_not, none_of_sound}
 use Rattle.txn_journal.specs.BundleStates.{BundleValue}
-use Rattle.txn_journal.specs.declared.bundle.Channel.{Channel}
+use Rattle.txn_journal.specs.declared.bundle.BundleChannel.{BundleChannel}
 use Rattle.ordered_bundles.specs.Audit as in_order
 use Rattle.ordered_bundles.proofs.Sounding as sounding
 use Rattle.serving.specs.declared.order.Order.{Order}
@@ -145,7 +145,7 @@ asked_in reply = set.empty
 subset_more : (s a b : Gtids) → ((q : Gtid) → set.contains a q ≡ true → set.contains b q ≡ true) → set.is_subset s a ≡ true → set.is_subset s b ≡ true
 subset_more s a b more within = set.contains-is_subset gtid_total s b (λ q h. more q (set.is_subset-contains gtid_total s a within q h))
 
-module _ (r : Replica) (c : ℕ) (channel : Channel) (j : JournalValue) (can : CanServe c channel.name j r) where
+module _ (r : Replica) (c : ℕ) (channel : BundleChannel) (j : JournalValue) (can : CanServe c channel.name j r) where
   abbrev fresh : ChannelValue
   fresh = channels.new_channel channel.name channel.preserve
 
@@ -204,9 +204,9 @@ any_map : {X Y : Type 0} (p : Y → Bool) (f : X → Y) (xs : List X) → list_a
 any_map p f [] = refl
 any_map p f (x ∷ xs) = ap (λ b. p (f x) || b) (any_map p f xs)
 
-module _ (r : Replica) (c : ℕ) (channel : Channel) (chs rest : List Channel) (j : JournalValue) (js journals : List JournalValue) (of : chs ≡ channel ∷ rest) (is : journals ≡ j ∷ js) (all : CanServeEach c chs journals r) where
+module _ (r : Replica) (c : ℕ) (channel : BundleChannel) (chs rest : List BundleChannel) (j : JournalValue) (js journals : List JournalValue) (of : chs ≡ channel ∷ rest) (is : journals ≡ j ∷ js) (all : CanServeEach c chs journals r) where
   split : CanServeEach c (channel ∷ rest) (j ∷ js) r
-  split = subst (λ (xs : List JournalValue). CanServeEach c (channel ∷ rest) xs r) is (subst (λ (cs : List Channel). CanServeEach c cs journals r) of all)
+  split = subst (λ (xs : List JournalValue). CanServeEach c (channel ∷ rest) xs r) is (subst (λ (cs : List BundleChannel). CanServeEach c cs journals r) of all)
 
   pub serve_first : CanServe c channel.name j r
   serve_first =
@@ -218,7 +218,7 @@ module _ (r : Replica) (c : ℕ) (channel : Channel) (chs rest : List Channel) (
         next = can.next;
         opens = record {
           new = sym (any_map test (λ (x : ChannelValue). (x.name, x.preserve)) r.state.channels) ∙ ap (list_any test) can.named
-              ∙ any_map test (λ (x : Channel). (x.name, x.preserve)) can.before ∙ can.have.0;
+              ∙ any_map test (λ (x : BundleChannel). (x.name, x.preserve)) can.before ∙ can.have.0;
           few = omega (arith, few, next);
         };
         sends = can.send.0;
@@ -236,7 +236,7 @@ module _ (r : Replica) (c : ℕ) (channel : Channel) (chs rest : List Channel) (
       in
       record {
         before = can.before ++ channel ∷ [];
-        named = named ∙ ap (λ (ns : List Naming). ns ++ (channel.name, channel.preserve) ∷ []) can.named ∙ sym (map-append (λ (x : Channel). (x.name, x.preserve)) can.before (channel ∷ []));
+        named = named ∙ ap (λ (ns : List Naming). ns ++ (channel.name, channel.preserve) ∷ []) can.named ∙ sym (map-append (λ (x : BundleChannel). (x.name, x.preserve)) can.before (channel ∷ []));
         next = longer ∙ ap (λ (n : ℕ). n + 1) can.next;
         few = omega (arith, few);
         have = can.have.1;

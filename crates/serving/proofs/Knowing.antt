@@ -38,7 +38,7 @@ use Rattle.replica_core.specs.declared.event.Reply.TheVariants.{Received as TheR
 use Rattle.replica_core.specs.State.{State, Replica}
 use Rattle.replica_core.specs.Machine.{step, ask, Held, held_of, held_at, held}
 use Rattle.replica_core.specs.AtOnce.{IsFaultAtOnce}
-use Rattle.replica_core.specs.Faults.{asking, receiving, committing, executing_too, IsFaultIn}
+use Rattle.replica_core.specs.Faults.{ask_set, received_set, committed_set, executed_with, IsFaultIn}
 use Rattle.ordered_journals.proofs.Covering.{is_entry, in_insert, in_gtids, in_whole}
 use Rattle.ordered_journals.proofs.Lists.{all_at, all_from, all_drop}
 use Rattle.ordered_replicas.specs.Served.{accepted_entries, received_on, local_commits, NoLocalCommits}
@@ -49,7 +49,7 @@ use Rattle.ordered_replicas.proofs.Sharing.{Moves, Brought, run_moves}
 use Rattle.world.proofs.Contents.{entry_at, entry_from}
 use Rattle.ordered_replicas.specs.Deciding.{all_of}
 use Rattle.txn_journal.specs.BundleStates.{BundleValue}
-use Rattle.txn_journal.specs.declared.bundle.Channel.{Channel}
+use Rattle.txn_journal.specs.declared.bundle.BundleChannel.{BundleChannel}
 use Rattle.serving.specs.declared.receiving.Apply.{Apply}
 use Rattle.serving.specs.declared.receiving.Apply.TheVariants.{AtOnce}
 use Rattle.serving.specs.Faults.{Cover, IsFaultWhere, HasGtid, HasSet, IsReceived, Knows, HasEntries, KnowsWith, HasJournal, KnowsToo, intervals_of, IsBundleFault, IsVerdictFault}
@@ -116,21 +116,21 @@ knows_received cover apply r t c entries v h within =
       | inr other ↦ nothing g (ap (λ es. is_entry es g) (sym (no_receipts d r.site r.state v.events (off d other))) ∙ k)
     ]) within)
 
-pub knows_opened : (cover : Cover) (r : Replica) (channel : Channel) → Knows r.state cover → Knows (with_opened r channel).state cover
+pub knows_opened : (cover : Cover) (r : Replica) (channel : BundleChannel) → Knows r.state cover → Knows (with_opened r channel).state cover
 knows_opened cover r channel within = knows_run cover r (OpenChannel channel.name channel.preserve ∷ []) (tt, tt) refl (λ c g h. nothing g h) within
 
-pub knows_asking : (cover : Cover) (r t : Replica) (c : ℕ) (channel : Channel) (j : JournalValue) (es : List Entry) → Asks r c channel j es t → Knows r.state cover → Knows t.state cover
+pub knows_asking : (cover : Cover) (r t : Replica) (c : ℕ) (channel : BundleChannel) (j : JournalValue) (es : List Entry) → Asks r c channel j es t → Knows r.state cover → Knows t.state cover
 knows_asking cover r t c channel j es asks within =
     subst (λ (x : Replica). Knows x.state cover) (sym asks.now) (knows_run cover (with_opened r channel) (Position c ∷ []) (tt, tt) refl (λ d g h. nothing g h) (knows_opened cover r channel within))
 
-pub sends_known : (cover : Cover) (r t : Replica) (c : ℕ) (channel : Channel) (j : JournalValue) (es : List Entry) → Asks r c channel j es t → HasEntries cover j.entries → HasEntries cover es
+pub sends_known : (cover : Cover) (r t : Replica) (c : ℕ) (channel : BundleChannel) (j : JournalValue) (es : List Entry) → Asks r c channel j es t → HasEntries cover j.entries → HasEntries cover es
 sends_known cover r t c channel j es asks h = sent_all (λ (e : Entry). HasGtid cover e.gtid) j asks.ask es asks.all_sent h
 
-pub knows_one : (cover : Cover) (apply : Apply) (r t : Replica) (c : ℕ) (channel : Channel) (j : JournalValue) → ServesOne apply r c channel j t → HasEntries cover j.entries → Knows r.state cover → Knows t.state cover
+pub knows_one : (cover : Cover) (apply : Apply) (r t : Replica) (c : ℕ) (channel : BundleChannel) (j : JournalValue) → ServesOne apply r c channel j t → HasEntries cover j.entries → Knows r.state cover → Knows t.state cover
 knows_one cover apply r t c channel j one h within =
     knows_received cover apply one.asking t c one.all one.received (sends_known cover r one.asking c channel j one.all one.asks h) (knows_asking cover r one.asking c channel j one.all one.asks within)
 
-knows_each : (cover : Cover) (apply : Apply) (r : Replica) (c : ℕ) (channels : List Channel) (js : List JournalValue) (t : Replica) → ServesEach apply r c channels js t
+knows_each : (cover : Cover) (apply : Apply) (r : Replica) (c : ℕ) (channels : List BundleChannel) (js : List JournalValue) (t : Replica) → ServesEach apply r c channels js t
     → AllByRecursion (HasJournal cover) js → Knows r.state cover → Knows t.state cover
 knows_each cover apply r c channels [] t x h within = subst (λ (y : Replica). Knows y.state cover) (sym x) within
 knows_each cover apply r c [] (j ∷ js) t x h within = absurd x
@@ -325,19 +325,19 @@ option_fault : (f : SetFault) (Covers : Cover → Type 0) (o : Option Gtids) →
 option_fault f Covers None part h = memory_fault _ _ f h
 option_fault f Covers (Some made) part h = set_fault f Covers made (λ cover a. part cover a made refl) h
 
-pub position_fault : (f : SetFault) (s : State) (c : ℕ) → IsFaultIn f (asking c s) → IsFaultWhere (Knows s) f
-position_fault f s c h = option_fault f (Knows s) (asking c s) (λ cover within made is.
+pub position_fault : (f : SetFault) (s : State) (c : ℕ) → IsFaultIn f (ask_set c s) → IsFaultWhere (Knows s) f
+position_fault f s c h = option_fault f (Knows s) (ask_set c s) (λ cover within made is.
     let r = map_some (ask s) (slice_get s.channels c) made is in
     subst (HasSet cover) r.2 (has_ask cover s c r.0 within r.1)) h
 
-pub receive_fault : (f : SetFault) (s : State) (c : ℕ) (e : Entry) → IsFaultIn f (receiving c e s) → IsFaultWhere (KnowsWith s (e ∷ [])) f
-receive_fault f s c e h = option_fault f (KnowsWith s (e ∷ [])) (receiving c e s) (λ cover has made is.
+pub receive_fault : (f : SetFault) (s : State) (c : ℕ) (e : Entry) → IsFaultIn f (received_set c e s) → IsFaultWhere (KnowsWith s (e ∷ [])) f
+receive_fault f s c e h = option_fault f (KnowsWith s (e ∷ [])) (received_set c e s) (λ cover has made is.
     let r = map_some (gtids_with e) (slice_get s.channels c) made is in
     subst (HasSet cover) r.2 (has_insert cover (received_gtids r.0.received) e.gtid (has_received cover s c r.0 has.0 r.1) has.1.0)) h
 
-pub commit_fault : (f : SetFault) (s : State) (seat : ℕ) → IsFaultIn f (committing seat s) → IsFaultWhere (Knows s) f
-commit_fault f s seat h = option_fault f (Knows s) (committing seat s) (λ cover within made is.
-    let r = map_some (λ (x : Held). executing_too s x.gtid) (held s seat) made is in
+pub commit_fault : (f : SetFault) (s : State) (seat : ℕ) → IsFaultIn f (committed_set seat s) → IsFaultWhere (Knows s) f
+commit_fault f s seat h = option_fault f (Knows s) (committed_set seat s) (λ cover within made is.
+    let r = map_some (λ (x : Held). executed_with s x.gtid) (held s seat) made is in
     subst (HasSet cover) r.2 (has_insert cover s.executed r.0.gtid within.executed (within.received r.0.gtid (held_there s seat r.0 r.1)))) h
 
 or_none : (b : Bool) → (b || false) ≡ true → b ≡ true
@@ -412,7 +412,7 @@ pub run_fault : (f : SetFault) (order : Order) (b : BundleValue) (core : Replica
 run_fault f order b core r h = bundle_fault f b (Knows core.state) (knows_all order b core r) h
 
 -- ... by which a commit of some seat is answered
-pub seat_fault : (f : SetFault) (order : Order) (b : BundleValue) (core : Replica) (seat : ℕ) → IsRun order b core → IsFaultIn f (committing seat core.state) → IsBundleFault b f
+pub seat_fault : (f : SetFault) (order : Order) (b : BundleValue) (core : Replica) (seat : ℕ) → IsRun order b core → IsFaultIn f (committed_set seat core.state) → IsBundleFault b f
 seat_fault f order b core seat r h = run_fault f order b core r (commit_fault f core.state seat h)
 
 -- a fault of the first journal, and one of the others
@@ -420,13 +420,13 @@ pub first_fault : (f : SetFault) (s : State) (j : JournalValue) (js journals : L
 first_fault f s j js journals is h =
     subst (λ (xs : List JournalValue). IsFaultWhere (KnowsToo s xs) f) (sym is) (weaker f (KnowsToo s (j ∷ [])) (KnowsToo s (j ∷ js)) (λ cover has. (has.0, (has.1.0, tt))) h)
 
-pub rest_fault : (f : SetFault) (apply : Apply) (r t : Replica) (c : ℕ) (channel : Channel) (j : JournalValue) (js journals : List JournalValue) → journals ≡ j ∷ js → ServesOne apply r c channel j t
+pub rest_fault : (f : SetFault) (apply : Apply) (r t : Replica) (c : ℕ) (channel : BundleChannel) (j : JournalValue) (js journals : List JournalValue) → journals ≡ j ∷ js → ServesOne apply r c channel j t
     → IsFaultWhere (KnowsToo t.state js) f → IsFaultWhere (KnowsToo r.state journals) f
 rest_fault f apply r t c channel j js journals is one h =
     subst (λ (xs : List JournalValue). IsFaultWhere (KnowsToo r.state xs) f) (sym is)
     (weaker f (KnowsToo t.state js) (KnowsToo r.state (j ∷ js)) (λ cover has. (knows_one cover apply r t c channel j one has.1.0.entries has.0, has.1.1)) h)
 
 -- a fault of entries that a journal sends
-pub sent_fault : (f : SetFault) (r t : Replica) (c : ℕ) (channel : Channel) (j : JournalValue) (es : List Entry) → Asks r c channel j es t → IsFaultWhere (KnowsWith t.state es) f → IsFaultWhere (KnowsToo r.state (j ∷ [])) f
+pub sent_fault : (f : SetFault) (r t : Replica) (c : ℕ) (channel : BundleChannel) (j : JournalValue) (es : List Entry) → Asks r c channel j es t → IsFaultWhere (KnowsWith t.state es) f → IsFaultWhere (KnowsToo r.state (j ∷ [])) f
 sent_fault f r t c channel j es asks h =
     weaker f (KnowsWith t.state es) (KnowsToo r.state (j ∷ [])) (λ cover has. (knows_asking cover r t c channel j es asks has.0, sends_known cover r t c channel j es asks has.1.0.entries)) h

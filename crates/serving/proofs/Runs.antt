@@ -31,7 +31,7 @@ use Rattle.ordered_replicas.specs.Deciding.{ServesAll}
 use Rattle.ordered_replicas.proofs.Deciding.{serves_by_number}
 use Rattle.faithful_runs.specs.Deciding.{WorkersDecide, ServedHoldsAll}
 use Rattle.txn_journal.specs.BundleStates.{BundleValue}
-use Rattle.txn_journal.specs.declared.bundle.Channel.{Channel}
+use Rattle.txn_journal.specs.declared.bundle.BundleChannel.{BundleChannel}
 use Rattle.serving.specs.declared.receiving.Apply.{Apply}
 use Rattle.serving.specs.declared.receiving.Apply.TheVariants.{Later, AtOnce}
 use Rattle.serving.specs.Serving.{run, IsBetween, apply_events_at, IsFeed, Applies, Receives, with_opened, ServesOne, ServesEach, opening, HasReceived, IsReady, IsRun}
@@ -168,7 +168,7 @@ receives_more apply r s t c xs ys v w =
 
 -- ---- one journal
 
-module _ (apply : Apply) (r : Replica) (c : ℕ) (channel : Channel) (j : JournalValue) (t : Replica) (one : ServesOne apply r c channel j t) where
+module _ (apply : Apply) (r : Replica) (c : ℕ) (channel : BundleChannel) (j : JournalValue) (t : Replica) (one : ServesOne apply r c channel j t) where
   abbrev pub events_one : List Event
   events_one = OpenChannel channel.name channel.preserve ∷ Position c ∷ one.received.events
 
@@ -244,7 +244,7 @@ record Serves (r : Replica) (c : ℕ) (js : List JournalValue) (t : Replica) : T
 some_not_none : {A P : Type 0} (x : A) → Some x ≡ None → P
 some_not_none x e = cc
 
-module _ (apply : Apply) (r : Replica) (c : ℕ) (channel : Channel) (first : JournalValue) (js : List JournalValue) (s t : Replica) (one : ServesOne apply r c channel first s) (more : Serves s (c + 1) js t) where
+module _ (apply : Apply) (r : Replica) (c : ℕ) (channel : BundleChannel) (first : JournalValue) (js : List JournalValue) (s t : Replica) (one : ServesOne apply r c channel first s) (more : Serves s (c + 1) js t) where
   abbrev own : List Event
   own = events_one apply r c channel first s one
 
@@ -269,7 +269,7 @@ module _ (apply : Apply) (r : Replica) (c : ℕ) (channel : Channel) (first : Jo
       subst (λ (es : List Event). WasServedOnce r.site r.state es d j) (sym (append_assoc own more.events rest))
       (served_later r s d j own (more.events ++ rest) (one_run apply r c channel first s one) apart (more.served rest off k d j later at))
 
-serves_each : (apply : Apply) (r : Replica) (c : ℕ) (channels : List Channel) (js : List JournalValue) (t : Replica) → ServesEach apply r c channels js t → Serves r c js t
+serves_each : (apply : Apply) (r : Replica) (c : ℕ) (channels : List BundleChannel) (js : List JournalValue) (t : Replica) → ServesEach apply r c channels js t → Serves r c js t
 serves_each apply r c channels [] t x = record { events = []; now = x; apart = λ d h. tt; served = λ rest off k d j e at. none_some j at }
 serves_each apply r c [] (j ∷ js) t x = absurd x
 serves_each apply r c (channel ∷ channels) (j ∷ js) t x =
@@ -283,11 +283,11 @@ serves_each apply r c (channel ∷ channels) (j ∷ js) t x =
     }
 
 -- one journal, and then the others
-pub serves_more : (apply : Apply) (r s t : Replica) (c : ℕ) (channel : Channel) (channels rest : List Channel) (j : JournalValue) (js journals : List JournalValue)
+pub serves_more : (apply : Apply) (r s t : Replica) (c : ℕ) (channel : BundleChannel) (channels rest : List BundleChannel) (j : JournalValue) (js journals : List JournalValue)
     → channels ≡ channel ∷ rest → journals ≡ j ∷ js → ServesOne apply r c channel j s → ServesEach apply s (c + 1) rest js t → ServesEach apply r c channels journals t
 serves_more apply r s t c channel channels rest j js journals of is one more =
     subst (λ (xs : List JournalValue). ServesEach apply r c channels xs t) (sym is)
-    (subst (λ (cs : List Channel). ServesEach apply r c cs (j ∷ js) t) (sym of) (s, one, more))
+    (subst (λ (cs : List BundleChannel). ServesEach apply r c cs (j ∷ js) t) (sym of) (s, one, more))
 
 -- ---- the run
 

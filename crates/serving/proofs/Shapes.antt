@@ -23,7 +23,7 @@ use Rattle.replica_core.specs.State.{State, Site, Replica, owned_by, owner}
 use Rattle.replica_core.specs.Machine.{Step, is_seat, blocking, open_before, without_seat, take_entry, take_place, held, commit_answer, commit_held, commit, position_on, ask, with_channel, step, after}
 use Rattle.ordered_journals.proofs.Lists.{get_map}
 use Rattle.txn_journal.specs.BundleStates.{BundleValue}
-use Rattle.txn_journal.specs.declared.bundle.Channel.{Channel}
+use Rattle.txn_journal.specs.declared.bundle.BundleChannel.{BundleChannel}
 use Rattle.serving.specs.declared.receiving.Apply.{Apply}
 use Rattle.serving.specs.declared.receiving.Apply.TheVariants.{AtOnce}
 use Rattle.serving.specs.Servable.{IsTaken, CanReceive}
@@ -173,7 +173,7 @@ fed_names : (apply : Apply) (c : ℕ) (site : Site) (s : State) (es : List Event
 fed_names apply c site s [] h = refl
 fed_names apply c site s (e ∷ es) h = fed_names apply c site (step site s e).1 es h.1 ∙ feed_names apply c site s e h.0
 
-pub one_named : (apply : Apply) (r : Replica) (c : ℕ) (channel : Channel) (j : JournalValue) (t : Replica) → ServesOne apply r c channel j t
+pub one_named : (apply : Apply) (r : Replica) (c : ℕ) (channel : BundleChannel) (j : JournalValue) (t : Replica) → ServesOne apply r c channel j t
     → names_of t.state.channels ≡ names_of r.state.channels ++ (channel.name, channel.preserve) ∷ []
 one_named apply r c channel j t one =
     ap (λ (x : Replica). names_of x.state.channels) one.received.now
@@ -182,7 +182,7 @@ one_named apply r c channel j t one =
     ∙ names_positioned (with_opened r channel).state c
     ∙ names_opened r.site r.state channel.name channel.preserve c one.asks.number
 
-each_named : (apply : Apply) (r : Replica) (c : ℕ) (channels : List Channel) (js : List JournalValue) (t : Replica) → ServesEach apply r c channels js t
+each_named : (apply : Apply) (r : Replica) (c : ℕ) (channels : List BundleChannel) (js : List JournalValue) (t : Replica) → ServesEach apply r c channels js t
     → names_of t.state.channels ≡ names_of r.state.channels ++ names_asked (take (length js) channels)
 each_named apply r c channels [] t x = ap (λ (y : Replica). names_of y.state.channels) x ∙ sym (append-nil (names_of r.state.channels))
 each_named apply r c [] (j ∷ js) t x = absurd x

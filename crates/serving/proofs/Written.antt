@@ -9,7 +9,7 @@ use Rattle.rows.specs.declared.change.Change.{Change}
 use Rattle.rows.specs.declared.change.Change.TheVariants.{Insert, Delete, Update}
 use Rattle.rows.specs.declared.change.Misfit.TheVariants.{Columns, NullInPrimary, TooLong, TooMany}
 use Rattle.rows.specs.declared.schema.Table.{Table}
-use Rattle.rows.specs.Keys.{table_named}
+use Rattle.rows.specs.Keys.{find_table}
 use Rattle.rows.specs.Fits.{row_misfit, has_primary_null, first_cause, images_misfit, table_of, misfit_in, or_later, misfit_from, Fits}
 use Rattle.row_images.specs.Values.{is_too_long}
 use Rattle.journal.specs.declared.Entry.{Entry}
@@ -19,7 +19,7 @@ use Rattle.apply_channel.specs.Channels.{most_received}
 use Rattle.serving.specs.Servable.{HaveChannels, FitsJournal, HasRoom, WrittenIsServable}
 use Rattle.txn_journal.specs.Machine.{is_row_of, are_rows_of, takes_change, fits}
 use Rattle.txn_journal.specs.BundleText.{AreNamed, AreBrought, entry_fits}
-use Rattle.txn_journal.specs.declared.bundle.Channel.{Channel}
+use Rattle.txn_journal.specs.declared.bundle.BundleChannel.{BundleChannel}
 use Rattle.std.proofs.lemmas.Bool.{and_parts}
 
 -- ---- a row
@@ -77,7 +77,7 @@ changes_fit tables n [] fit writable few = refl
 changes_fit tables n (c ∷ cs) fit writable few =
     let each = and_parts (fits (Some tables) c) (list_all (fits (Some tables)) cs) fit in
     let can = and_parts (is_change_writable c) (list_all is_change_writable cs) writable in
-    let one = change_fits (table_named (table_of c) tables) c each.0 can.0 in
+    let one = change_fits (find_table (table_of c) tables) c each.0 can.0 in
     let room = not_yet n (omega (arith, few)) in
     let rest = changes_fit tables (n + 1) cs each.1 can.1 (omega (arith, few)) in
     λ i. or_later (first_cause (one i) (cond (room i) (Some TooMany) None)) n (rest i)
@@ -101,7 +101,7 @@ has_room : (n : ℕ) → n ≤ 4294967294 → n ≤ most_received
 unfolding most_received
 has_room n h = h
 
-all_fit : (tables : List Table) (cs : List Channel) (js : List JournalValue) → AreBrought tables cs js → AllByRecursion (FitsJournal tables) js × AllByRecursion HasRoom js
+all_fit : (tables : List Table) (cs : List BundleChannel) (js : List JournalValue) → AreBrought tables cs js → AllByRecursion (FitsJournal tables) js × AllByRecursion HasRoom js
 all_fit tables [] [] h = (tt, tt)
 all_fit tables (c ∷ cs) [] h = absurd h
 all_fit tables [] (j ∷ js) h = absurd h
@@ -109,13 +109,13 @@ all_fit tables (c ∷ cs) (j ∷ js) h =
     let rest = all_fit tables cs js h.1 in
     ((entries_taken tables j.entries h.0.fitting h.0.written.keeps.writable, rest.0), (has_room (length j.entries) h.0.written.few, rest.1))
 
-have_channels : (tables : List Table) (before cs : List Channel) (js : List JournalValue) → AreNamed before cs → AreBrought tables cs js → HaveChannels before cs js
+have_channels : (tables : List Table) (before cs : List BundleChannel) (js : List JournalValue) → AreNamed before cs → AreBrought tables cs js → HaveChannels before cs js
 have_channels tables before [] [] named h = tt
 have_channels tables before (c ∷ cs) [] named h = absurd h
 have_channels tables before [] (j ∷ js) named h = absurd h
 have_channels tables before (c ∷ cs) (j ∷ js) named h = (named.1, have_channels tables (before ++ c ∷ []) cs js named.2 h.1)
 
-as_many : (tables : List Table) (cs : List Channel) (js : List JournalValue) → AreBrought tables cs js → length js ≤ length cs
+as_many : (tables : List Table) (cs : List BundleChannel) (js : List JournalValue) → AreBrought tables cs js → length js ≤ length cs
 as_many tables [] [] h = omega arith
 as_many tables (c ∷ cs) [] h = absurd h
 as_many tables [] (j ∷ js) h = absurd h

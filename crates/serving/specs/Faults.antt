@@ -59,7 +59,7 @@ pub record HasJournal (cover : Cover) (journal : JournalValue) : Type 0 where
   pub previous : HasEdges cover.places journal.previous
   pub entries : HasEntries cover journal.entries
 
--- ... and so are these journals
+-- what the state has is covered, and so are these journals
 abbrev pub KnowsToo : State → List JournalValue → Cover → Type 0
 KnowsToo s journals cover = Knows s cover × AllByRecursion (HasJournal cover) journals
 

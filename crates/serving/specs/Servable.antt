@@ -12,13 +12,13 @@ use Rattle.apply_channel.specs.Channels.{ChannelValue, same_name, most_received}
 use Rattle.replica_core.specs.State.{State, Replica}
 use Rattle.txn_journal.specs.BundleStates.{BundleValue, has_channel}
 use Rattle.txn_journal.specs.BundleText.{WritesBundle}
-use Rattle.txn_journal.specs.declared.bundle.Channel.{Channel}
+use Rattle.txn_journal.specs.declared.bundle.BundleChannel.{BundleChannel}
 use Rattle.serving.specs.Verdicts.{names_of, names_asked}
 
 -- ---- a bundle
 
 -- there is a channel for each journal, with a name that none before it has
-abbrev pub HaveChannels : List Channel → List Channel → List JournalValue → Type 0
+abbrev pub HaveChannels : List BundleChannel → List BundleChannel → List JournalValue → Type 0
 HaveChannels before channels [] = Unit {0}
 HaveChannels before [] (j ∷ js) = ⊥
 HaveChannels before (c ∷ cs) (j ∷ js) = (has_channel before c.name ≡ false) × HaveChannels (before ++ c ∷ []) cs js
@@ -83,8 +83,8 @@ pub record CanServe (c : ℕ) (name : List ℕ) (journal : JournalValue) (r : Re
   pub sends : CanSend r.site.schema r.state.executed journal
 
 -- the next channels can be opened, and served these journals
-pub record CanServeEach (c : ℕ) (channels : List Channel) (journals : List JournalValue) (r : Replica) : Type 0 where
-  pub before : List Channel
+pub record CanServeEach (c : ℕ) (channels : List BundleChannel) (journals : List JournalValue) (r : Replica) : Type 0 where
+  pub before : List BundleChannel
   pub named : names_of r.state.channels ≡ names_asked before
   pub next : length r.state.channels ≡ c
   pub few : c + length journals ≤ 256

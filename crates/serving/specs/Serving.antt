@@ -15,7 +15,7 @@ use Rattle.auto_position.specs.Sending.{sent}
 use Rattle.ordered_replicas.specs.Served.{received_on}
 use Rattle.world.specs.declared.verdict.Verdict.TheVariants.{Sound}
 use Rattle.txn_journal.specs.BundleStates.{BundleValue}
-use Rattle.txn_journal.specs.declared.bundle.Channel.{Channel}
+use Rattle.txn_journal.specs.declared.bundle.BundleChannel.{BundleChannel}
 use Rattle.serving.specs.declared.order.Order.{Order}
 use Rattle.serving.specs.declared.receiving.Apply.{Apply}
 use Rattle.serving.specs.declared.receiving.Apply.TheVariants.{Later, AtOnce}
@@ -60,26 +60,26 @@ pub record Receives (apply : Apply) (r : Replica) (c : ℕ) (entries : List Entr
   pub now : t ≡ run r events
   pub got : received_on c r.site r.state events ≡ entries
 
-abbrev pub with_opened : Replica → Channel → Replica
+abbrev pub with_opened : Replica → BundleChannel → Replica
 with_opened r channel = run r (OpenChannel channel.name channel.preserve ∷ [])
 
 -- a channel is opened under this number and positioned, and this is all that its source sends
-pub record Asks (r : Replica) (c : ℕ) (channel : Channel) (journal : JournalValue) (all : List Entry) (t : Replica) : Type 0 where
+pub record Asks (r : Replica) (c : ℕ) (channel : BundleChannel) (journal : JournalValue) (all : List Entry) (t : Replica) : Type 0 where
   pub ask : Gtids
   pub number : (step r.site r.state (OpenChannel channel.name channel.preserve)).0 ≡ Opened c
   pub asked : (step r.site (with_opened r channel).state (Position c)).0 ≡ Ask ask
   pub all_sent : sent journal ask None ≡ Ok all
   pub now : t ≡ run (with_opened r channel) (Position c ∷ [])
 
--- ... and it receives all of this
-pub record ServesOne (apply : Apply) (r : Replica) (c : ℕ) (channel : Channel) (journal : JournalValue) (t : Replica) : Type 0 where
+-- a channel is opened under this number and positioned, and receives all that its source sends
+pub record ServesOne (apply : Apply) (r : Replica) (c : ℕ) (channel : BundleChannel) (journal : JournalValue) (t : Replica) : Type 0 where
   pub all : List Entry
   pub asking : Replica
   pub asks : Asks r c channel journal all asking
   pub received : Receives apply asking c all t
 
 -- each journal in turn, on a channel of its own; the first has this number
-abbrev pub ServesEach : Apply → Replica → ℕ → List Channel → List JournalValue → Replica → Type 0
+abbrev pub ServesEach : Apply → Replica → ℕ → List BundleChannel → List JournalValue → Replica → Type 0
 ServesEach apply r c channels [] t = t ≡ r
 ServesEach apply r c [] (j ∷ js) t = ⊥
 ServesEach apply r c (ch ∷ channels) (j ∷ js) t = (s : Replica) × ServesOne apply r c ch j s × ServesEach apply s (c + 1) channels js t
@@ -92,11 +92,11 @@ opening b = new_replica_with b.replica b.start b.opened
 abbrev pub HasReceived : Order → Apply → BundleValue → Replica → Type 0
 HasReceived order apply b core = (keys_over order b ≡ Sound) × ServesEach apply (opening b) 0 b.channels b.journals core
 
--- ... of which nothing is applied
+-- the replica of a bundle whose keys are sound has received all that its journals send, and has applied nothing
 abbrev pub IsReady : Order → BundleValue → Replica → Type 0
 IsReady order b core = HasReceived order Later b core
 
--- ... of which something may be applied: seats took, committed and rolled back while it came, and afterwards
+-- the replica of a bundle whose keys are sound has received all that its journals send, and may have applied some of it: seats took, committed and rolled back while it came, and afterwards
 pub record IsRun (order : Order) (b : BundleValue) (core : Replica) : Type 0 where
   pub apply : Apply
   pub served : Replica

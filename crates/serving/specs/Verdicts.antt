@@ -13,7 +13,7 @@ use Rattle.ordered_bundles.specs.Meaning.{joined_world}
 use Rattle.ordered_replicas.specs.Deciding as runs
 use Rattle.faithful_runs.specs.Deciding.{HoldsAll}
 use Rattle.txn_journal.specs.BundleStates.{BundleValue}
-use Rattle.txn_journal.specs.declared.bundle.Channel.{Channel}
+use Rattle.txn_journal.specs.declared.bundle.BundleChannel.{BundleChannel}
 use Rattle.serving.specs.declared.order.Order.{Order}
 use Rattle.serving.specs.declared.order.Order.TheVariants.{BySource, ByConflict}
 use Rattle.serving.specs.declared.outcome.StateOrVerdict.{StateOrVerdict}
@@ -28,7 +28,7 @@ abbrev pub world_over : BundleValue → World
 world_over b = world_of b.start.schema b.opened b.start.rows b.journals
 
 -- the world of the joined order of the histories of the journals
-abbrev pub joined_over : BundleValue → ordered.World
+abbrev pub joined_over : BundleValue → ordered.OrderedWorld
 joined_over b = joined_world b.start.schema b.opened b.start.rows b.journals
 
 -- the verdict of the audit that asks for this order
@@ -36,7 +36,7 @@ abbrev pub verdict_by : Order → World → List JournalValue → Verdict
 verdict_by BySource world journals = verdict world journals
 verdict_by ByConflict world journals = in_order.verdict_in_order world journals
 
--- ... and without applying a transaction
+-- the verdict of that audit without the application of transactions
 abbrev pub keys_by : Order → World → List JournalValue → Verdict
 keys_by BySource world journals = verdict_of_keys world journals
 keys_by ByConflict world journals = in_order.verdict_of_keys world journals
@@ -63,8 +63,8 @@ Naming = List ℕ × Bool
 abbrev pub names_of : List ChannelValue → List Naming
 names_of channels = map (λ (c : ChannelValue). (c.name, c.preserve)) channels
 
-abbrev pub names_asked : List Channel → List Naming
-names_asked channels = map (λ (c : Channel). (c.name, c.preserve)) channels
+abbrev pub names_asked : List BundleChannel → List Naming
+names_asked channels = map (λ (c : BundleChannel). (c.name, c.preserve)) channels
 
 -- a replica of the bundle's UUID, whose channels have the names and the order of those that bring the journals
 pub record IsNamed (b : BundleValue) (core : Replica) : Type 0 where

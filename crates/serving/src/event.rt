@@ -15,13 +15,13 @@ use gtid_set::{GtidSet, SetFault};
 use journal::Entry;
 use replica_core::{Core, Event, Reply};
 use std::alloc::Global;
-use txn_journal::Channel;
+use txn_journal::BundleChannel;
 
 /// Opens a channel, where none has its name and there is room for one more.
 pub(crate) fn open_channel(
     alloc: Global,
     core: &mut Core,
-    channel: &Channel,
+    channel: &BundleChannel,
 ) -> Result<(), SetFault>
     ensures now { OnOk result (core.new ≡ with_opened core.old channel.now) }
     ensures fault { IsOkUnless result Memory }

@@ -143,7 +143,7 @@ fn open_replica(alloc: Global, bundle: &Bundle) -> Result<Core, SetFault>
     ensures fault { IsOkUnless result Memory }
 {
     let rows = bundle.rows().copy()?;
-    let executed = bundle.opened().copy(alloc)?;
+    let executed = bundle.opening_set().copy(alloc)?;
     Core::open_snapshot(alloc, bundle.replica(), rows, executed)
 }
 

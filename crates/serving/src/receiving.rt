@@ -15,7 +15,7 @@ use gtid_text::SourceId;
 use journal::{Entry, Journal};
 use replica_core::Core;
 use std::alloc::Global;
-use txn_journal::Channel;
+use txn_journal::BundleChannel;
 
 /// The entries at these places.
 #[tactic(auto, using(crate::proofs::Sending::picked_more))]
@@ -108,7 +108,7 @@ fn ask_for(
     alloc: Global,
     core: &mut Core,
     number: usize,
-    channel: &Channel,
+    channel: &BundleChannel,
     journal: &Journal,
 ) -> Result<Vec<Entry>, SetFault>
     requires { CanServe number channel.now.name journal.now core.old }
@@ -126,7 +126,7 @@ fn serve_journal(
     alloc: Global,
     core: &mut Core,
     number: usize,
-    channel: &Channel,
+    channel: &BundleChannel,
     journal: &Journal,
     apply: Apply,
 ) -> Result<(), SetFault>
@@ -144,7 +144,7 @@ pub(crate) fn serve_journals(
     alloc: Global,
     core: &mut Core,
     number: usize,
-    channels: &[Channel],
+    channels: &[BundleChannel],
     journals: &[Journal],
     apply: Apply,
 ) -> Result<(), SetFault>

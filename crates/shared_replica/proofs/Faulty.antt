@@ -8,7 +8,7 @@ use Rattle.gtid_set.proofs.FaultLemmas.{fault_map, memory_fault}
 use Rattle.replica_core.specs.declared.event.Event.{Event}
 use Rattle.replica_core.specs.declared.event.Event.TheVariants as event
 use Rattle.replica_core.specs.State.{Site, State}
-use Rattle.replica_core.specs.Faults.{IsFaultIn, IsCause, asking, receiving, committing, numbering}
+use Rattle.replica_core.specs.Faults.{IsFaultIn, IsCause, ask_set, received_set, committed_set, numbered_set}
 use Rattle.shared_replica.specs.Faults.{makes_a_set, IsFaultFor}
 
 memory_in : (made : Option Gtids) → IsFaultIn Memory made
@@ -17,13 +17,13 @@ memory_in (Some made) = tt
 
 pub memory_anywhere : (site : Site) (s : State) (e : Event) → IsCause Memory site s e
 memory_anywhere site s (event.OpenChannel name preserve) = refl
-memory_anywhere site s (event.Position channel) = memory_in (asking channel s)
-memory_anywhere site s (event.Receive channel entry) = memory_in (receiving channel entry s)
+memory_anywhere site s (event.Position channel) = memory_in (ask_set channel s)
+memory_anywhere site s (event.Receive channel entry) = memory_in (received_set channel entry s)
 memory_anywhere site s (event.Take seat channel place) = refl
-memory_anywhere site s (event.Commit seat) = memory_in (committing seat s)
+memory_anywhere site s (event.Commit seat) = memory_in (committed_set seat s)
 memory_anywhere site s (event.Rollback seat) = refl
 memory_anywhere site s (event.Restart channel) = refl
-memory_anywhere site s (event.Local changes) = memory_in (numbering site s)
+memory_anywhere site s (event.Local changes) = memory_in (numbered_set site s)
 memory_anywhere site s (event.Purge count) = tt
 memory_anywhere site s event.Look = refl
 
@@ -37,12 +37,12 @@ set_for f e (Some made) makes is = fault_map f (λ full. makes) (λ full. makes)
 -- a fault of an event at a state is one that the event may have
 pub fault_for : (f : SetFault) (site : Site) (s : State) (e : Event) → IsCause f site s e → IsFaultFor e f
 fault_for f site s (event.OpenChannel name preserve) is = memory_for f (event.OpenChannel name preserve) is
-fault_for f site s (event.Position channel) is = set_for f (event.Position channel) (asking channel s) refl is
-fault_for f site s (event.Receive channel entry) is = set_for f (event.Receive channel entry) (receiving channel entry s) refl is
+fault_for f site s (event.Position channel) is = set_for f (event.Position channel) (ask_set channel s) refl is
+fault_for f site s (event.Receive channel entry) is = set_for f (event.Receive channel entry) (received_set channel entry s) refl is
 fault_for f site s (event.Take seat channel place) is = memory_for f (event.Take seat channel place) is
-fault_for f site s (event.Commit seat) is = set_for f (event.Commit seat) (committing seat s) refl is
+fault_for f site s (event.Commit seat) is = set_for f (event.Commit seat) (committed_set seat s) refl is
 fault_for f site s (event.Rollback seat) is = memory_for f (event.Rollback seat) is
 fault_for f site s (event.Restart channel) is = memory_for f (event.Restart channel) is
-fault_for f site s (event.Local changes) is = set_for f (event.Local changes) (numbering site s) refl is
+fault_for f site s (event.Local changes) is = set_for f (event.Local changes) (numbered_set site s) refl is
 fault_for f site s (event.Purge count) is = fault_map f (λ full. refl) (λ full. refl) is
 fault_for f site s event.Look is = memory_for f event.Look is

@@ -15,7 +15,7 @@ use Rattle.rows.specs.declared.change.RowFault.{RowFault}
 use Rattle.rows.specs.declared.change.Transaction.{Transaction}
 use Rattle.rows.specs.Apply.{Rows, apply}
 use Rattle.rows.specs.Fits.{misfit}
-use Rattle.journal.specs.Journals.{purged}
+use Rattle.journal.specs.Journals.{previous_after_purge}
 use Rattle.relay.specs.Own.{purge_to}
 use Rattle.apply_channel.specs.Channels.{ChannelValue}
 use Rattle.replica_core.specs.declared.event.Event.{Event}
@@ -113,7 +113,7 @@ local_grows site t s =
 
 -- ---- each event
 
-purge_by : (k : ℕ) (s : State) (b : Bool) → Grows s (cond b (TooMany (length s.journal.entries), s) (Purged (purged k s.journal), record s { journal = purge_to k s.journal }))
+purge_by : (k : ℕ) (s : State) (b : Bool) → Grows s (cond b (TooMany (length s.journal.entries), s) (Purged (previous_after_purge k s.journal), record s { journal = purge_to k s.journal }))
 purge_by k s true = omega arith
 purge_by k s false = omega arith
 

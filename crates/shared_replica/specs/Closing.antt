@@ -14,12 +14,12 @@ abbrev pub At : List PassValue → ℕ → ℕ → Receipt → Type 0
 At passes i k r = (p : PassValue) × (slice_get passes i ≡ Some p) × (slice_get p.receipts k ≡ Some r)
 
 -- each receipt's step is at its place
-abbrev pub Stands : List PassValue → List Step → Type 0
-Stands passes steps = (i k : ℕ) (r : Receipt) → At passes i k r → slice_get steps r.place ≡ Some r.step
+abbrev pub AreInPlace : List PassValue → List Step → Type 0
+AreInPlace passes steps = (i k : ℕ) (r : Receipt) → At passes i k r → slice_get steps r.place ≡ Some r.step
 
 -- the places of a pass are ascending
-abbrev pub Rises : List PassValue → Type 0
-Rises passes = (i j k : ℕ) (r s : Receipt) → At passes i j r → At passes i k s → j < k → r.place < s.place
+abbrev pub AreAscending : List PassValue → Type 0
+AreAscending passes = (i j k : ℕ) (r s : Receipt) → At passes i j r → At passes i k s → j < k → r.place < s.place
 
 -- no place has two receipts
 abbrev pub Apart : List PassValue → Type 0
@@ -31,8 +31,8 @@ Covers passes steps = (place : ℕ) → place < length steps → (i : ℕ) × (k
 
 -- the receipts are the steps: each at its place, ascending in each pass, no two at one place, and one at each
 pub record IsMerge (passes : List PassValue) (steps : List Step) : Type 0 where
-  pub stands : Stands passes steps
-  pub rises : Rises passes
+  pub stands : AreInPlace passes steps
+  pub rises : AreAscending passes
   pub apart : Apart passes
   pub covers : Covers passes steps
 
@@ -57,8 +57,8 @@ pub record ClosedValue : Type 0 where
   pub counts : Tally
 
 -- a book of its own, before any step
-abbrev pub started : Replica → ClosedValue
-started opening = record { opening = opening; steps = []; now = opening; sheets = []; counts = no_tally }
+abbrev pub closed_at_start : Replica → ClosedValue
+closed_at_start opening = record { opening = opening; steps = []; now = opening; sheets = []; counts = no_tally }
 
 -- what the closed book of a shared replica and its passes is
 pub record IsClosed (shared : SharedValue) (passes : List PassValue) (b : ClosedValue) : Type 0 where

@@ -60,8 +60,8 @@ pub record BookValue : Type 0 where
   pub now : Replica
 
 -- a book before any step
-abbrev pub unwritten : Replica → BookValue
-unwritten opening = record { opening = opening; steps = []; now = opening }
+abbrev pub book_at_start : Replica → BookValue
+book_at_start opening = record { opening = opening; steps = []; now = opening }
 
 -- a book with one step more
 abbrev pub with_step : Event → Reply → Replica → BookValue → BookValue

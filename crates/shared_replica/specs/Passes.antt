@@ -30,17 +30,17 @@ pass_after_call place event reply p =
     record { seat = p.seat; steps = p.steps + 1; commits = p.commits + one_if (is_commit reply); receipts = p.receipts ++ receipt place event reply ∷ [] }
 
 -- the pass after a call that made this event and had this reply: one step more in its share, and one receipt
-abbrev pub IsTold : PassValue → Event → Reply → PassValue → Type 0
-IsTold old event reply new = (place : ℕ) × (new ≡ pass_after_call place event reply old)
+abbrev pub HasReceipt : PassValue → Event → Reply → PassValue → Type 0
+HasReceipt old event reply new = (place : ℕ) × (new ≡ pass_after_call place event reply old)
 
 -- a call that makes this event: the pass has the step with its reply; or it is as before, and the fault is one that the event may have
 abbrev pub Makes : Event → PassValue → Result Reply SetFault → PassValue → Type 0
-Makes event old result new = MatchResult result (λ reply. IsTold old event reply new) (λ fault. (new ≡ old) × IsFaultFor event fault)
+Makes event old result new = MatchResult result (λ reply. HasReceipt old event reply new) (λ fault. (new ≡ old) × IsFaultFor event fault)
 
 -- a call that makes the event Take and gives what its worker needs besides
 abbrev pub MakesTaking : ℕ → ℕ → PassValue → Result Taking SetFault → PassValue → Type 0
 MakesTaking channel place old result new =
-    MatchResult result (λ taking. IsTold old (Take old.seat channel place) taking.reply new) (λ fault. (new ≡ old) × IsFaultFor (Take old.seat channel place) fault)
+    MatchResult result (λ taking. HasReceipt old (Take old.seat channel place) taking.reply new) (λ fault. (new ≡ old) × IsFaultFor (Take old.seat channel place) fault)
 
 -- the core that was handed in, and the number of seats
 pub record SharedValue : Type 0 where

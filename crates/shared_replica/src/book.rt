@@ -1,13 +1,13 @@
 //! The history of a replica.
 ghost use Rattle.std.specs.Prelude.{◌≡◌, true, [], ◌≤◌, IfOk, IfErr, OnErr, IfSome, IsTrue, length, map, vec_len};
 ghost use Rattle.std.specs.Vec.{vec_capacity};
-ghost use Rattle.commit_ledger.specs.Tallies.{no_tally, unused, tally_of};
+ghost use Rattle.commit_ledger.specs.Tallies.{no_tally, empty_portion, tally_of};
 ghost use Rattle.replica_core.specs.Machine.{is_numbered, next_ready, step};
-ghost use Rattle.replica_core.specs.Faults.{IsCause, HasRoomFor, made_by};
+ghost use Rattle.replica_core.specs.Faults.{IsCause, HasRoomFor, set_made_by};
 ghost use Rattle.shared_replica.specs.Faults.{IsFaultFor};
-ghost use Rattle.shared_replica.specs.History.{IsStep, IsBook, with_step, unwritten};
+ghost use Rattle.shared_replica.specs.History.{IsStep, IsBook, with_step, book_at_start};
 ghost use Rattle.replica_core.specs.declared.event.Event.TheVariants.{Take};
-ghost use Rattle.shared_replica.specs.Passes.{pass_after_call, IsTold};
+ghost use Rattle.shared_replica.specs.Passes.{pass_after_call, HasReceipt};
 ghost use Rattle.shared_replica.specs.Preparing.{MayPrepare};
 ghost use Rattle.shared_replica.specs.Closing.{sheet, IsMerge, tally_of_passes};
 
@@ -59,7 +59,7 @@ impl<N: Naming> Book<N> {
     pub(crate) fn new(alloc: Global, core: Core, total: Total<LedgersOf<N>>) -> Book<N>
         requires opening { core ≡ N.opening }
         requires total { total ≡ no_tally }
-        ensures { result ≡ unwritten core }
+        ensures { result ≡ book_at_start core }
     {
         Book {
             core,
@@ -81,10 +81,10 @@ impl<N: Naming> Book<N> {
         requires { is_numbered event.now ≡ true }
         ensures step { IfOk result (λ r. IsStep self.old.now event.now r self.new.now) }
         ensures line { IfOk result (λ r. self.new ≡ with_step event.now r self.new.now self.old) }
-        ensures told { IfOk result (λ r. mine.new ≡ pass_after_call (length self.old.steps) event.now r mine.old) }
+        ensures pass { IfOk result (λ r. mine.new ≡ pass_after_call (length self.old.steps) event.now r mine.old) }
         ensures err { OnErr result ((self.new ≡ self.old) × (mine.new ≡ mine.old)) }
         ensures fault { IfErr result (λ f. IsCause f self.old.now.site self.old.now.state event.now) }
-        ensures room { IfErr result (λ f. HasRoomFor f (made_by self.old.now.site self.old.now.state event.now)) }
+        ensures room { IfErr result (λ f. HasRoomFor f (set_made_by self.old.now.site self.old.now.state event.now)) }
         ensures kind { IfErr result (IsFaultFor event.now) }
     {
         let drafts = drafts_of(
@@ -118,7 +118,7 @@ fn step_of(
     ensures site { core.new.site ≡ core.old.site }
     ensures err { OnErr result (core.new ≡ core.old) }
     ensures fault { IfErr result (λ f. IsCause f core.old.site core.old.state event.now) }
-    ensures room { IfErr result (λ f. HasRoomFor f (made_by core.old.site core.old.state event.now)) }
+    ensures room { IfErr result (λ f. HasRoomFor f (set_made_by core.old.site core.old.state event.now)) }
 {
     let Some(patch) = patch else {
         return core.step(alloc, event);
@@ -171,7 +171,7 @@ impl<N: Naming> Book<N> {
         least: usize,
         mine: &mut Pass<N>,
     ) -> Result<Taking, SetFault>
-        ensures taken { IfOk result (λ taking. IsTold mine.old (Take mine.old.seat channel place) taking.reply mine.new) }
+        ensures taken { IfOk result (λ taking. HasReceipt mine.old (Take mine.old.seat channel place) taking.reply mine.new) }
         ensures seen { IfOk result (λ taking. IfSome taking.footprint (λ p. MayPrepare N.opening.site.schema p.0 p.1)) }
         ensures err { OnErr result (mine.new ≡ mine.old) }
         ensures kind { IfErr result (IsFaultFor (Take mine.old.seat channel place)) }
@@ -255,7 +255,7 @@ fn sheets_of<N: Naming>(
     mut sheets: Vec<Sheet>,
     passes: Vec<Pass<N>>,
 ) -> Vec<Sheet>
-    requires nothing { all.old ≡ unused 0 }
+    requires nothing { all.old ≡ empty_portion 0 }
     requires none { sheets.items ≡ [] }
     requires room { vec_len passes ≤ vec_capacity sheets }
     ensures sheets { result.items ≡ map sheet passes.items }

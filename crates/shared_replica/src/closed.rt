@@ -1,9 +1,9 @@
 //! A history that no thread shares any more.
 ghost use Rattle.std.specs.Prelude.{◌≡◌, true, ◌++◌, ◌∷◌, [], IfOk, IfErr, OnErr};
 ghost use Rattle.replica_core.specs.Machine.{is_numbered};
-ghost use Rattle.replica_core.specs.Faults.{IsCause, HasRoomFor, made_by};
+ghost use Rattle.replica_core.specs.Faults.{IsCause, HasRoomFor, set_made_by};
 ghost use Rattle.shared_replica.specs.History.{line, IsStep, IsReplay};
-ghost use Rattle.shared_replica.specs.Closing.{started, receipts_of};
+ghost use Rattle.shared_replica.specs.Closing.{closed_at_start, receipts_of};
 
 use crate::draft::Draft;
 use crate::room::add;
@@ -53,7 +53,7 @@ impl Model for ClosedBook {
 impl ClosedBook {
     /// A book with this opening and no step.
     pub fn start(alloc: Global, core: Core) -> ClosedBook
-        ensures { result ≡ started core }
+        ensures { result ≡ closed_at_start core }
     {
         ClosedBook {
             opening: Snapshot::of(&core),
@@ -112,7 +112,7 @@ impl ClosedBook {
         ensures line { IfOk result (λ r. self.new ≡ record self.old { steps = self.old.steps ++ line event.now r ∷ []; now = self.new.now }) }
         ensures err { OnErr result (self.new ≡ self.old) }
         ensures fault { IfErr result (λ f. IsCause f self.old.now.site self.old.now.state event.now) }
-        ensures room { IfErr result (λ f. HasRoomFor f (made_by self.old.now.site self.old.now.state event.now)) }
+        ensures room { IfErr result (λ f. HasRoomFor f (set_made_by self.old.now.site self.old.now.state event.now)) }
     {
         if self.steps.reserve(1).is_err() {
             return Err(self.core.refusal(event));

@@ -38,7 +38,7 @@ pub(crate) fn is_commit(reply: &Reply) -> bool
 
 /// The set that the reply to an event will show, if it shows one.
 #[tactic(auto, using(crate::proofs::Spares::position_asks, crate::proofs::Spares::plain_step, crate::proofs::Faulty::memory_anywhere))]
-pub(crate) fn foresee(
+pub(crate) fn set_of_reply(
     core: &Core,
     alloc: Global,
     event: &Event,
@@ -63,7 +63,7 @@ fn purged_by(core: &Core, alloc: Global, count: usize) -> Result<Option<GtidSet>
     if journal.len() < count {
         return Ok(None);
     }
-    Ok(Some(journal.purged(alloc, count)?))
+    Ok(Some(journal.previous_after_purge(alloc, count)?))
 }
 
 /// A copy of a reply, which does not allocate, since its set was made beforehand.

@@ -1,12 +1,12 @@
 //! Steps whose reply is not known yet.
 ghost use Rattle.std.specs.Prelude.{◌≡◌, ◌<◌, IfOk, IfErr, OnOk, vec_len};
 ghost use Rattle.std.specs.Vec.{vec_capacity};
-ghost use Rattle.replica_core.specs.Faults.{IsCause, HasRoomFor, made_by};
+ghost use Rattle.replica_core.specs.Faults.{IsCause, HasRoomFor, set_made_by};
 ghost use Rattle.shared_replica.specs.Drafts.{IsDraft};
 ghost use Rattle.shared_replica.specs.History.{line};
 ghost use Rattle.shared_replica.specs.Spare.{IsSpare};
 
-use crate::copies::{copy_of, foresee, twin};
+use crate::copies::{copy_of, set_of_reply, twin};
 use crate::step::{Receipt, Step};
 use gtid_set::{GtidSet, SetFault};
 use replica_core::{Core, Event, Reply};
@@ -25,9 +25,9 @@ impl Draft {
     pub(crate) fn of(core: &Core, alloc: Global, event: &Event) -> Result<Draft, SetFault>
         ensures ok { IfOk result (IsDraft core.now event.now) }
         ensures fault { IfErr result (λ f. IsCause f core.now.site core.now.state event.now) }
-        ensures room { IfErr result (λ f. HasRoomFor f (made_by core.now.site core.now.state event.now)) }
+        ensures room { IfErr result (λ f. HasRoomFor f (set_made_by core.now.site core.now.state event.now)) }
     {
-        match Draft::copied(core, alloc, event) {
+        match Draft::copy(core, alloc, event) {
             Ok(draft) => Ok(draft),
             Err(SetFault::Memory) => Err(core.refusal(event)),
             Err(fault) => Err(fault),
@@ -36,11 +36,11 @@ impl Draft {
 
     /// The same; any fault may be a failed allocation.
     #[tactic(auto, using(crate::proofs::Faulty::memory_anywhere))]
-    fn copied(core: &Core, alloc: Global, event: &Event) -> Result<Draft, SetFault>
+    fn copy(core: &Core, alloc: Global, event: &Event) -> Result<Draft, SetFault>
         ensures ok { IfOk result (IsDraft core.now event.now) }
         ensures fault { IfErr result (λ f. IsCause f core.now.site core.now.state event.now) }
     {
-        let spare = foresee(core, alloc, event)?;
+        let spare = set_of_reply(core, alloc, event)?;
         let event = copy_of(event)?;
         Ok(Draft { event, spare })
     }
@@ -79,7 +79,7 @@ pub(crate) fn drafts_of(
     ensures line { IfOk result (λ d. IsDraft core.now event.now d.line) }
     ensures receipt { IfOk result (λ d. IsDraft core.now event.now d.receipt) }
     ensures fault { IfErr result (λ f. IsCause f core.now.site core.now.state event.now) }
-    ensures memory { IfErr result (λ f. HasRoomFor f (made_by core.now.site core.now.state event.now)) }
+    ensures memory { IfErr result (λ f. HasRoomFor f (set_made_by core.now.site core.now.state event.now)) }
 {
     if steps.reserve(1).is_err() {
         return Err(core.refusal(event));

@@ -1,6 +1,6 @@
 //! What a thread needs to call a shared replica.
 ghost use Rattle.std.specs.Prelude.{◌≡◌, ◌≤◌};
-ghost use Rattle.commit_ledger.specs.Tallies.{unused};
+ghost use Rattle.commit_ledger.specs.Tallies.{empty_portion};
 ghost use Rattle.shared_replica.specs.Passes.{fresh};
 
 use crate::naming::{LedgersOf, Naming};
@@ -37,7 +37,7 @@ impl<N: Naming> Pass<N> {
     pub(crate) fn new(alloc: Global, seat: u8, share: Share<LedgersOf<N>>) -> Pass<N>
         requires low { 1 ≤ seat }
         requires high { seat ≤ 64 }
-        requires share { share ≡ unused 1 }
+        requires share { share ≡ empty_portion 1 }
         ensures { result ≡ fresh seat }
     {
         Pass {

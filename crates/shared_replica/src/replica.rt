@@ -1,7 +1,7 @@
 //! A replica that threads share.
 ghost use Rattle.std.specs.Prelude.{◌≡◌, ℕ, ◌+◌, ◌<◌, ◌≤◌, true, [], IfOk, IfErr, IfSome, vec_len, slice_index_or};
 ghost use Rattle.std.specs.Vec.{vec_capacity};
-ghost use Rattle.commit_ledger.specs.Tallies.{no_tally, unused};
+ghost use Rattle.commit_ledger.specs.Tallies.{no_tally, empty_portion};
 ghost use Rattle.journal.specs.Writing.{is_number};
 ghost use Rattle.replica_core.specs.declared.event.Event.TheVariants.{OpenChannel, Position, Receive, Take, Commit, Rollback, Restart, Local, Purge, Look};
 ghost use Rattle.replica_core.specs.Machine.{is_numbered};
@@ -384,7 +384,7 @@ fn passes_of<N: Naming>(
     shares: Vec<Share<LedgersOf<N>>>,
 ) -> Result<Vec<Pass<N>>, AllocError>
     requires few { vec_len shares ≤ 64 }
-    requires fresh { (i : ℕ) (d : _) → i < vec_len shares → slice_index_or shares.items i d ≡ unused 1 }
+    requires fresh { (i : ℕ) (d : _) → i < vec_len shares → slice_index_or shares.items i d ≡ empty_portion 1 }
     ensures count { IfOk result (λ v. vec_len v ≡ vec_len shares) }
     ensures passes { IfOk result (λ v. (i : ℕ) (d : _) → i < vec_len shares → slice_index_or v.items i d ≡ fresh (i + 1)) }
 {

@@ -17,9 +17,9 @@ use Rattle.ordered_history.proofs.Placing.{all_map}
 use Rattle.ordered_history.proofs.Entries.{all_two}
 use Rattle.gtid_text.proofs.SameGtid.{gtid_total, gtid_exact}
 
-abbrev pub IsRising : List Entry → Type 0
-IsRising [] = Unit {0}
-IsRising (e ∷ es) = AllByRecursion (λ f. gtid_cmp e.0 f.0 ≡ Less) es × IsRising es
+abbrev pub IsAscending : List Entry → Type 0
+IsAscending [] = Unit {0}
+IsAscending (e ∷ es) = AllByRecursion (λ f. gtid_cmp e.0 f.0 ≡ Less) es × IsAscending es
 
 first : (a b : Bool) → T (a && b) → T a
 first true b p = tt
@@ -38,17 +38,17 @@ all_below : (g : Gtid) (es : List Entry) → T (below_all gtid_cmp g es) → All
 all_below g [] h = tt
 all_below g (e ∷ es) h = (less _ (first (is_lt (gtid_cmp g e.0)) (below_all gtid_cmp g es) h), all_below g es (second (is_lt (gtid_cmp g e.0)) (below_all gtid_cmp g es) h))
 
-rising_from : (es : List Entry) → T (is_sorted gtid_cmp es) → IsRising es
+rising_from : (es : List Entry) → T (is_sorted gtid_cmp es) → IsAscending es
 rising_from [] h = tt
 rising_from (e ∷ es) h = (all_below e.0 es (first (below_all gtid_cmp e.0 es) (is_sorted gtid_cmp es) h), rising_from es (second (below_all gtid_cmp e.0 es) (is_sorted gtid_cmp es) h))
 
-pub rising : (world : World) → IsRising (entries world.contents)
+pub rising : (world : World) → IsAscending (entries world.contents)
 rising world = rising_from (entries world.contents) (entries_sorted world.contents)
 
 not_equal : (g h : Gtid) → gtid_cmp g h ≡ Less → g ≢ h
 not_equal g h l e = let tied : gtid_cmp g h ≡ Equal = ap (gtid_cmp g) (sym e) ∙ tied_itself gtid_total g in cc
 
-pub distinct : (es : List Entry) → IsRising es → AreDistinct es
+pub distinct : (es : List Entry) → IsAscending es → AreDistinct es
 distinct [] h = tt
 distinct (e ∷ es) h = (all_map (λ f. gtid_cmp e.0 f.0 ≡ Less) (λ f. e.0 ≢ f.0) es (λ f l. not_equal e.0 f.0 l) h.0, distinct es h.1)
 
@@ -65,7 +65,7 @@ find_later g e es l = ap (λ b. cond b (Some e.1) (find gtid_cmp g es)) (greater
 find_first : (e : Entry) (es : List Entry) → find gtid_cmp e.0 (e ∷ es) ≡ Some e.1
 find_first e es = ap (λ r. cond (is_eq r) (Some e.1) (find gtid_cmp e.0 es)) (tied_itself gtid_total e.0)
 
-all_found : (es : List Entry) → IsRising es → AllByRecursion (λ e. find gtid_cmp e.0 es ≡ Some e.1) es
+all_found : (es : List Entry) → IsAscending es → AllByRecursion (λ e. find gtid_cmp e.0 es ≡ Some e.1) es
 all_found [] h = tt
 all_found (e ∷ es) h = (
   find_first e es,

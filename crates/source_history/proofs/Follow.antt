@@ -2,7 +2,7 @@
 use Rattle.std.proofs.Common.{sym, ◌∙◌}
 use Rattle.source_history.specs.World.{is_opened}
 use Rattle.source_history.specs.Commits.{with_one}
-use Rattle.source_history.specs.Laws.{CommitOrderIsFree, CommitOrdersAgree, LateCommit, EarlyCommit, OpeningIsClosed, ClosedSetsApply, LastWriterStands, RowsAreCarriers}
+use Rattle.source_history.specs.Laws.{CommitOrderIsFree, CommitOrdersAgree, LateCommit, EarlyCommit, OpeningIsClosed, ClosedSetsApply, RowIsOfLastWriter, RowsAreCarriers}
 use Rattle.ordered_history.proofs.Committing as ordered
 use Rattle.ordered_history.proofs.Closing as closing
 use Rattle.ordered_history.proofs.Writing as writing
@@ -36,7 +36,7 @@ opening_is_closed world keys =
     let h = ordered.opening_is_closed (in_order world) (same_gtids world keys) in
     ((same_closed world (is_opened world) keys).1 h.0, h.1)
 
-pub last_writer_stands : LastWriterStands
+pub last_writer_stands : RowIsOfLastWriter
 last_writer_stands world S rows keys e k = writing.last_writer_stands (in_order world) S rows e k ∙ same_writer world S k keys
 
 pub rows_are_carriers : RowsAreCarriers

@@ -14,7 +14,7 @@ use Rattle.rows.specs.declared.change.Transaction.{Transaction}
 use Rattle.rows.specs.declared.schema.Table.{Table}
 use Rattle.rows.specs.Order.{key_cmp}
 use Rattle.rows.specs.Total.{key_total}
-use Rattle.rows.specs.Apply.{Rows, ◌>>=◌, apply, apply_from, inserted, insert_if_free, delete_if_same, or_else}
+use Rattle.rows.specs.Apply.{Rows, ◌>>=◌, apply, apply_from, insert_row, insert_if_free, delete_if_same, or_else}
 use Rattle.rows.specs.WriteSet.{shares_key}
 use Rattle.source_history.specs.World.{Entry, content, is_opened, apply_all, HasNumber, AreKeysSound, IsSound, IsClosed}
 use Rattle.source_history.specs.Commits.{with_one, IsCommitOrder}
@@ -142,7 +142,7 @@ is_free = get-remove key_total opened_first (key_of 1) (key_of 1)
 
 change_applies : apply schema changes_first opened_first ≡ Ok changed_first
 change_applies =
-    ap (λ o. delete_if_same o 0 (key_of 1 ∷ []) (account 1 10) opened_first >>= inserted 0 (key_of 1 ∷ []) (account 1 20) >>= apply_from schema 1 []) stands
+    ap (λ o. delete_if_same o 0 (key_of 1 ∷ []) (account 1 10) opened_first >>= insert_row 0 (key_of 1 ∷ []) (account 1 20) >>= apply_from schema 1 []) stands
     ∙ ap (λ o. insert_if_free (or_else None o 0) 0 (key_of 1 ∷ []) (account 1 20) taken_out >>= apply_from schema 1 []) is_free
 
 second_free : map.get changed_first (key_of 2) ≡ None

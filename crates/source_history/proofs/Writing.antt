@@ -18,7 +18,7 @@ use Rattle.source_history.specs.World.{World, Entry, content, entries_in, AreKey
 use Rattle.source_history.specs.LastWriter.{later_of, latest, left_or_opening, last_writer}
 use Rattle.source_history.specs.InOrder.{in_order}
 use Rattle.source_history.proofs.Gtids.{number_less}
-use Rattle.source_history.proofs.Entries.{IsRising, AreFound, rising, found, apart_sources}
+use Rattle.source_history.proofs.Entries.{IsAscending, AreFound, rising, found, apart_sources}
 
 -- Those that touch the key are of one source, so their numbers are ascending.
 abbrev NumbersRise : List Table → Key → List Entry → Type 0
@@ -66,7 +66,7 @@ number_rises world k sound e f p q l t u =
       | inr other ↦ not_both (touches world.schema f.1 k) u (apart_sources world sound e.0 f.0 e.1 f.1 p q (λ s. not_both (eqb e.0.source f.0.source) (eq-eqb e.0.source f.0.source s) other) k t)
     ]
 
-numbers_rise : (world : World) (k : Key) → AreKeysSound world → (es : List Entry) → IsRising es → AreFound world es → NumbersRise world.schema k es
+numbers_rise : (world : World) (k : Key) → AreKeysSound world → (es : List Entry) → IsAscending es → AreFound world es → NumbersRise world.schema k es
 numbers_rise world k sound [] r h = tt
 numbers_rise world k sound (e ∷ es) r h = (
   λ t. all_two (λ f. gtid_cmp e.0 f.0 ≡ Less) (λ f. content world f.0 ≡ Some f.1) (λ f. touches world.schema f.1 k ≡ true → e.0.number < f.0.number) es (λ f l q u. number_rises world k sound e f h.0 q l t u) r.0 h.1,
@@ -76,11 +76,11 @@ numbers_rise world k sound (e ∷ es) r h = (
 all_kept : (P : Entry → Type 0) (p : Entry → Bool) (es : List Entry) → AllByRecursion P es → AllByRecursion P (filter p es)
 all_kept P p es h = kept p P es (all_map P (λ e. p e ≡ true → P e) es (λ e x y. x) h)
 
-rise_by : (e : Entry) (es : List Entry) (b : Bool) → AllByRecursion (λ f. gtid_cmp e.0 f.0 ≡ Less) es → IsRising es → IsRising (cond b (e ∷ es) es)
+rise_by : (e : Entry) (es : List Entry) (b : Bool) → AllByRecursion (λ f. gtid_cmp e.0 f.0 ≡ Less) es → IsAscending es → IsAscending (cond b (e ∷ es) es)
 rise_by e es true h r = (h, r)
 rise_by e es false h r = r
 
-rise_kept : (p : Entry → Bool) (es : List Entry) → IsRising es → IsRising (filter p es)
+rise_kept : (p : Entry → Bool) (es : List Entry) → IsAscending es → IsAscending (filter p es)
 rise_kept p [] h = tt
 rise_kept p (e ∷ es) h = rise_by e (filter p es) (p e) (all_kept (λ f. gtid_cmp e.0 f.0 ≡ Less) p es h.0) (rise_kept p es h.1)
 

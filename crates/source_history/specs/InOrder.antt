@@ -15,7 +15,7 @@ use Rattle.source_history.specs.LastWriter.{last_writer}
 use Rattle.source_history.specs.Faithful.{IsFaithful}
 
 -- sources ascending, and within a source numbers ascending
-abbrev pub in_order : World → ordered.World
+abbrev pub in_order : World → ordered.OrderedWorld
 in_order world = record {
   schema = world.schema;
   opening_set = world.opening_set;

@@ -83,8 +83,8 @@ AloneOrTogether = (world : World) → AreKeysSound world
     → ((s : ℕ) → IsOk (rows_of world (of_source s))) ↔ IsOk (apply_all world.schema (entries world.contents) world.opening_rows)
 
 -- Under each key is the row that its last writer left: the keys alone need be sound.
-abbrev pub LastWriterStands : Type 0
-LastWriterStands = (world : World) (S : Gtid → Bool) (rows : Rows) → AreKeysSound world → rows_of world S ≡ Ok rows
+abbrev pub RowIsOfLastWriter : Type 0
+RowIsOfLastWriter = (world : World) (S : Gtid → Bool) (rows : Rows) → AreKeysSound world → rows_of world S ≡ Ok rows
     → (k : Key) → get rows k ≡ last_writer world S k
 
 -- Each row is stored under every key that it carries, and under no other; so no key has a second row.

@@ -3,7 +3,7 @@
 ghost use Rattle.source_history.specs.Join.{JoinLaws};
 ghost use Rattle.source_history.specs.SmallWorld.{SoundWorldsExist};
 ghost use Rattle.source_history.specs.InOrder.{SourcesAreAnOrder};
-ghost use Rattle.source_history.specs.Laws.{UntouchedStays, TouchedDecides, ApartCommute, CommitOrderIsFree, CommitOrdersAgree, LateCommit, EarlyCommit, OpeningIsClosed, ClosedSetsApply, AloneOrTogether, LastWriterStands, RowsAreCarriers, ClosedUnderUnion, ClosedUnderIntersection, ClosedSetsAreALattice};
+ghost use Rattle.source_history.specs.Laws.{UntouchedStays, TouchedDecides, ApartCommute, CommitOrderIsFree, CommitOrdersAgree, LateCommit, EarlyCommit, OpeningIsClosed, ClosedSetsApply, AloneOrTogether, RowIsOfLastWriter, RowsAreCarriers, ClosedUnderUnion, ClosedUnderIntersection, ClosedSetsAreALattice};
 
 /// A transaction leaves what is stored under the keys that it does not touch.
 pub fn untouched_stays()
@@ -62,8 +62,8 @@ pub fn alone_or_together()
 {}
 
 /// Under each key is the row that its last writer left. Only the keys need be sound.
-pub fn last_writer_stands()
-    ensures { LastWriterStands }
+pub fn row_is_of_last_writer()
+    ensures { RowIsOfLastWriter }
 {}
 
 /// Each row is stored under every key that it carries, and under no other, so no key has a second row.

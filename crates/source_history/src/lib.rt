@@ -10,7 +10,7 @@
 //! commits is in it.
 //!
 //! The laws: in whatever order transactions are committed, each after those that it depends on, none is refused and the rows are those of
-//! the set (`commit_order_is_free`, `commit_orders_agree`); each key has what its last writer left (`last_writer_stands`); closed sets
+//! the set (`commit_order_is_free`, `commit_orders_agree`); each key has what its last writer left (`row_is_of_last_writer`); closed sets
 //! are a lattice, with the union as join. `sound_worlds_exist` shows that the premises can be met.
 //!
 //! Such a world is one of `ordered_history`, by sources and numbers (`sources_are_an_order`), and what is proved there for one order holds
@@ -26,6 +26,6 @@ pub use journals::{faithful_goes_on, purged_is_faithful, whole_applies, whole_is
 pub use laws::{
     alone_or_together, apart_commute, closed_sets_apply, closed_sets_are_a_lattice,
     closed_under_intersection, closed_under_union, commit_order_is_free, commit_orders_agree,
-    early_commit, join_laws, last_writer_stands, late_commit, opening_is_closed, rows_are_carriers,
-    sound_worlds_exist, sources_are_an_order, touched_decides, untouched_stays,
+    early_commit, join_laws, late_commit, opening_is_closed, row_is_of_last_writer,
+    rows_are_carriers, sound_worlds_exist, sources_are_an_order, touched_decides, untouched_stays,
 };

@@ -4,8 +4,8 @@ use Rattle.std.specs.Prelude.{MatchResult}
 use Rattle.rows.specs.declared.change.TableRow.{TableRow}
 use Rattle.txn_journal.specs.Lines.{◌>>=◌}
 use Rattle.txn_journal.specs.BundleStates.{BundleStanding, no_bundle, is_done, judge_bundle}
-use Rattle.txn_journal.specs.BundleHeard.{bundle_said}
-use Rattle.txn_journal.specs.BundleLines.{made_by, HasCome}
+use Rattle.txn_journal.specs.BundleLinesSoFar.{bundle_lines_so_far}
+use Rattle.txn_journal.specs.BundleLines.{standing_after, HasCome}
 use Rattle.txn_journal.specs.BundleText.{IsBundle}
 use Rattle.txn_journal.specs.BundleCauses.{HasBundleCause}
 use Rattle.txn_journal.specs.declared.fault.Cause.{Cause}
@@ -21,12 +21,12 @@ pub come_more : (s t : BundleStanding) (line : List ℕ) → HasCome s → judge
 come_more s t line h e = record { due = h.due; lines = line ∷ h.lines; made = ap (λ (r : Result BundleStanding Cause). r >>= λ x. judge_bundle x line) h.made ∙ e }
 
 -- what lines have made is sound
-come_sound : (due : Option Version) (lines : List (List ℕ)) (s : BundleStanding) → made_by due lines ≡ Ok s → (rows : List TableRow) × IsBundleSound rows s
+come_sound : (due : Option Version) (lines : List (List ℕ)) (s : BundleStanding) → standing_after due lines ≡ Ok s → (rows : List TableRow) × IsBundleSound rows s
 come_sound due [] s e = ([], subst (IsBundleSound []) (ok_is (no_bundle due) s e) refl)
 come_sound due (line ∷ earlier) s e =
-    let a = bind_ok (made_by due earlier) (λ x. judge_bundle x line) s e in
+    let a = bind_ok (standing_after due earlier) (λ x. judge_bundle x line) s e in
     let h = come_sound due earlier a.0 a.1 in
-    let k = subst (λ (r : Result BundleStanding Cause). MatchResult r (InnerTaken a.0.due (bundle_said h.0 a.0) line) (HasBundleCause a.0 line)) a.2 (bundle_taken h.0 a.0 line h.1) in
+    let k = subst (λ (r : Result BundleStanding Cause). MatchResult r (InnerTaken a.0.due (bundle_lines_so_far h.0 a.0) line) (HasBundleCause a.0 line)) a.2 (bundle_taken h.0 a.0 line h.1) in
     (k.keeps.rows, k.keeps.sound)
 
 pub come_kept : (s : BundleStanding) → HasCome s → is_done s.part ≡ true → IsBundle s.bundle

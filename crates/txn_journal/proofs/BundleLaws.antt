@@ -1,4 +1,4 @@
--- Bundles obey the laws of formats: what is spelled is read to its end, and what has been read can be gone on with.
+-- Bundles obey the laws of formats: a text is read to its end, and what has been read can be gone on with.
 use Rattle.std.proofs.Common.{◌≡◌, ℕ, ◌+◌, ◌<◌, ◌≤◌, Bool, true, false, cond, not, eqb, List, [], ◌∷◌, ◌++◌, length, map, Option, Some, None, Result, Ok, Err, refl, sym, ap, subst, ◌∙◌, append_assoc, arith}
 use Rattle.std.specs.List.{list_all, AllByRecursion}
 use Rattle.std.specs.Prelude.{◌&&◌, MatchResult}
@@ -28,7 +28,7 @@ use Rattle.txn_journal.specs.BundleStates.{BundleValue, BundleStanding, bare, no
 use Rattle.txn_journal.specs.BundleReading.{is_inside, is_entry_open, bundles, closing_bundle, IsReadAs}
 use Rattle.txn_journal.specs.BundleText.{OwnLine, BundleLine, Own, Inner, Heads, Names, Starts, Has, Puts, Opens, Done, own_text, bundle_line_text, table_lines, row_lines, channel_lines, channels_lines, opening_set_lines, tables_lines, start_lines, bundle_lines, FitsRow, AreAdded, put_all, AreNamed, IsWrittenIn, AreBrought, IsOpeningSet, bundle_text, upgrade_of, IsWrittenBundle, IsBundle, WritesBundleBy, IsLastStamped, AreAlmostStamped, AlmostWritesBundle}
 use Rattle.txn_journal.specs.BundleCauses.{own_word, FitsOwn, own_wording}
-use Rattle.txn_journal.specs.declared.bundle.Channel.{Channel}
+use Rattle.txn_journal.specs.declared.bundle.BundleChannel.{BundleChannel}
 use Rattle.txn_journal.specs.declared.bundle_draft.Part.{Part}
 use Rattle.txn_journal.specs.declared.bundle_draft.Part.TheVariants as parts
 use Rattle.txn_journal.specs.declared.bundle_draft.Word.TheVariants as words
@@ -50,12 +50,12 @@ use Rattle.txn_journal.proofs.WordLaws.{judged_again}
 use Rattle.txn_journal.proofs.OwnReads.{own_body, own_put, own_reads, own_laws, own_one}
 use Rattle.std.proofs.lemmas.Result.{MatchResult-weaker}
 use Rattle.std.specs.FinSet as set
-use Rattle.txn_journal.specs.Heard.{said}
-use Rattle.txn_journal.specs.BundleHeard.{inner_said, bundle_said_at, bundle_said}
+use Rattle.txn_journal.specs.LinesSoFar.{lines_so_far}
+use Rattle.txn_journal.specs.BundleLinesSoFar.{inner_lines_so_far, bundle_lines_so_far_at, bundle_lines_so_far}
 use Rattle.txn_journal.specs.declared.lines.Version.{Version}
 use Rattle.txn_journal.proofs.BundleSound.{front, IsOpen, OpenChannel, IsDueBundle, SoundAt, IsBundleSound, tables_written, tables_front, channel_written, channel_front, right_front, none_right, version_is, ends_entry, bundle_taken}
 
-abbrev with_channel : BundleValue → Channel → JournalValue → BundleValue
+abbrev with_channel : BundleValue → BundleChannel → JournalValue → BundleValue
 with_channel b c j = record b { channels = b.channels ++ c ∷ []; journals = b.journals ++ j ∷ [] }
 
 abbrev with_rows : BundleValue → Rows → BundleValue
@@ -95,7 +95,7 @@ begins_lines whole due Two is b small opened =
 
 -- entries are looked at as a whole or are not
 module _ (whole : Bool) (due : Option Version) (version : Version) (is_due_version : takes due version ≡ true) where
-  abbrev state : Part → List Table → BundleValue → Option Channel → Standing → BundleStanding
+  abbrev state : Part → List Table → BundleValue → Option BundleChannel → Standing → BundleStanding
   state part tables b channel draft = record { part = part; due = due; version = version; tables = tables; bundle = b; channel = channel; draft = draft }
 
   abbrev Goes : BundleStanding → List BundleLine → BundleStanding → Type 0
@@ -175,7 +175,7 @@ module _ (whole : Bool) (due : Option Version) (version : Version) (is_due_versi
   due_itself One = refl
   due_itself Two = refl
 
-  goes_journal : (b : BundleValue) (c : Channel) (stamps : List ℕ) (j : JournalValue) → IsWrittenIn b.start.schema j → FitStamps b.start.schema stamps j
+  goes_journal : (b : BundleValue) (c : BundleChannel) (stamps : List ℕ) (j : JournalValue) → IsWrittenIn b.start.schema j → FitStamps b.start.schema stamps j
       → Goes (state parts.Journal [] b (Some c) (empty (Some version))) (map Inner (journal_lines version stamps j)) (after_channels (with_channel b c j))
   goes_journal b c stamps j w fit =
       let s = state parts.Journal [] b (Some c) (empty (Some version)) in
@@ -194,7 +194,7 @@ module _ (whole : Bool) (due : Option Version) (version : Version) (is_due_versi
     same_due : s.due ≡ due
     channel : is_due_in s.part words.Channel ≡ true
     done : is_due_in s.part words.Done ≡ true
-    opens : (c : Channel) → length b.channels < 256 → has_channel b.channels c.name ≡ false → own_put s (Opens c) ≡ Ok (state parts.Journal [] b (Some c) (empty (Some version)))
+    opens : (c : BundleChannel) → length b.channels < 256 → has_channel b.channels c.name ≡ false → own_put s (Opens c) ≡ Ok (state parts.Journal [] b (Some c) (empty (Some version)))
     ends : own_put s Done ≡ Ok (state parts.Ended [] b None s.draft)
 
   -- where a row may come too
@@ -236,10 +236,10 @@ module _ (whole : Bool) (due : Option Version) (version : Version) (is_due_versi
   AllFitStamps tables (stamps ∷ all) (j ∷ js) = FitStamps tables stamps j × AllFitStamps tables all js
   AllFitStamps tables _ _ = ⊥
 
-  abbrev with_channels : BundleValue → List Channel → List JournalValue → BundleValue
+  abbrev with_channels : BundleValue → List BundleChannel → List JournalValue → BundleValue
   with_channels b cs js = record b { channels = b.channels ++ cs; journals = b.journals ++ js }
 
-  brings_channels : (s : BundleStanding) (b : BundleValue) (cs : List Channel) (all : List (List ℕ)) (js : List JournalValue) → Late s b → AreNamed b.channels cs → length b.channels + length cs ≤ 256 → AreBrought b.start.schema cs js → AllFitStamps b.start.schema all js
+  brings_channels : (s : BundleStanding) (b : BundleValue) (cs : List BundleChannel) (all : List (List ℕ)) (js : List JournalValue) → Late s b → AreNamed b.channels cs → length b.channels + length cs ≤ 256 → AreBrought b.start.schema cs js → AllFitStamps b.start.schema all js
       → Brings s (channels_lines version cs all js) (with_channels b cs js)
   brings_channels s b [] [] [] late named few brought fit = record { last = s; late = subst (Late s) (λ i. record b { channels = sym (append-nil b.channels) i; journals = sym (append-nil b.journals) i }) late; goes = goes_none s }
   brings_channels s b (c ∷ cs) (stamps ∷ all) (j ∷ js) late named few brought fit =
@@ -350,7 +350,7 @@ almost_fit due version is tables all js h =
     (subst (λ (x : List JournalValue). AllFitStamps false due version is tables (all_stamps version tables h.earlier ++ h.last_stamps ∷ []) x) (sym h.journals)
     (almost_fit_at due version is tables h.earlier h.last h.last_stamps (last_are_stamps version tables h.last_stamps h.last.entries h.almost)))
 
--- ---- what is spelled is read
+-- ---- reading is complete
 
 judge_is : judge_bundle ≡ judge_by true
 unfolding judge_bundle
@@ -413,7 +413,7 @@ part_refuses parts.Journal rows s line c h e inside =
     let schema = Some s.bundle.start.schema in
     inner_refuses s line c (judge schema s.draft line) (MatchResult-weaker (judge schema s.draft line) (judged_line schema s.draft line (sound s.channel h.1)) (λ d k. k) (λ x k. tt)) e inside
   where
-    sound : (o : Option Channel) → OpenChannel s.version s.bundle o s.draft → IsSound (Some s.bundle.start.schema) s.draft
+    sound : (o : Option BundleChannel) → OpenChannel s.version s.bundle o s.draft → IsSound (Some s.bundle.start.schema) s.draft
     sound None k = absurd k
     sound (Some x) k = k.sound
 part_refuses p rows s line c h e inside = e
@@ -458,18 +458,18 @@ last_at version tables places.Within d within h due e =
     }
 last_at version tables place d within h due e = absurd cc
 
-begins_inside : (due : Option Version) (version : Version) (rows : List TableRow) (b : BundleValue) (c : Channel) (draft : Standing) → IsDueBundle due version rows b → IsOpen version b c draft → CanGoOn (bundles due) (is_within draft.place) (front version rows b ++ (Own (Opens c) ∷ map Inner (said draft)))
+begins_inside : (due : Option Version) (version : Version) (rows : List TableRow) (b : BundleValue) (c : BundleChannel) (draft : Standing) → IsDueBundle due version rows b → IsOpen version b c draft → CanGoOn (bundles due) (is_within draft.place) (front version rows b ++ (Own (Opens c) ∷ map Inner (lines_so_far draft)))
 begins_inside due version rows b c draft w o =
     let tables = b.start.schema in
     let k = completes_at (Some tables) draft.place draft o.sound in
     let is : k.version ≡ version = version_is version k.version (subst (λ (x : Option Version). takes x k.version ≡ true) o.same_version k.takes_version) in
     let stamps = last_stamps draft.place draft in
-    let inside = Own (Opens c) ∷ map Inner (said draft) in
+    let inside = Own (Opens c) ∷ map Inner (lines_so_far draft) in
     let before = front version rows b in
     let more = map Inner k.more ++ Own Done ∷ [] in
     let d = with_channel b c k.journal in
-    let whole : journal_lines version stamps k.journal ≡ said draft ++ k.more = ap (λ (v : Version). journal_lines v stamps k.journal) (sym is) ∙ k.whole in
-    let channel : channel_lines version c stamps k.journal ≡ inside ++ map Inner k.more = ap (λ (ls : List Line). Own (Opens c) ∷ map Inner ls) whole ∙ ap (λ (ls : List BundleLine). Own (Opens c) ∷ ls) (map-append Inner (said draft) k.more) in
+    let whole : journal_lines version stamps k.journal ≡ lines_so_far draft ++ k.more = ap (λ (v : Version). journal_lines v stamps k.journal) (sym is) ∙ k.whole in
+    let channel : channel_lines version c stamps k.journal ≡ inside ++ map Inner k.more = ap (λ (ls : List Line). Own (Opens c) ∷ map Inner ls) whole ∙ ap (λ (ls : List BundleLine). Own (Opens c) ∷ ls) (map-append Inner (lines_so_far draft) k.more) in
     let written = channel_written version rows b c draft k.journal w.written o k.fits k.fitting in
     let lines : (fs : List BundleLine) → fs ≡ before ++ channel_lines version c stamps k.journal → fs ++ Own Done ∷ [] ≡ (before ++ inside) ++ more = λ fs e.
     ap (λ (ls : List BundleLine). ls ++ Own Done ∷ []) (e ∙ ap (λ (ls : List BundleLine). before ++ ls) channel ∙ sym (append_assoc before inside (map Inner k.more))) ∙ append_assoc (before ++ inside) (map Inner k.more) (Own Done ∷ []) in
@@ -484,7 +484,7 @@ begins_inside due version rows b c draft w o =
           goes_on due version (before ++ inside) more rows d w.due_version written (lines _ (right_front version rows b c stamps k.journal w.written.brought right))
     ] refl
 
-bundle_begins_at : (part : Part) (rows : List TableRow) (s : BundleStanding) → SoundAt part s.due s.version s.tables rows s.bundle s.channel s.draft → CanGoOn (bundles s.due) (is_entry_open part s.draft.place) (bundle_said_at part rows s)
+bundle_begins_at : (part : Part) (rows : List TableRow) (s : BundleStanding) → SoundAt part s.due s.version s.tables rows s.bundle s.channel s.draft → CanGoOn (bundles s.due) (is_entry_open part s.draft.place) (bundle_lines_so_far_at part rows s)
 bundle_begins_at parts.Header rows s h =
     let v = some_version s.due in
     goes_on s.due v.0 [] (bundle_lines v.0 [] [] (bare 0 set.empty [])) [] (bare 0 set.empty []) v.1 (no_rows_written v.0) refl
@@ -501,7 +501,7 @@ bundle_begins_at parts.Rows rows s h = goes_on s.due s.version (front s.version 
 bundle_begins_at parts.Channels rows s h = goes_on s.due s.version (front s.version rows s.bundle) (Own Done ∷ []) rows s.bundle h.due_version h.written refl
 bundle_begins_at parts.Journal rows s h = open_begins s.channel h.1
   where
-    open_begins : (o : Option Channel) → OpenChannel s.version s.bundle o s.draft → CanGoOn (bundles s.due) (is_within s.draft.place) (front s.version rows s.bundle ++ inner_said o s.draft)
+    open_begins : (o : Option BundleChannel) → OpenChannel s.version s.bundle o s.draft → CanGoOn (bundles s.due) (is_within s.draft.place) (front s.version rows s.bundle ++ inner_lines_so_far o s.draft)
     open_begins None k = absurd k
     open_begins (Some c) k = begins_inside s.due s.version rows s.bundle c s.draft h.0 k
 bundle_begins_at parts.Ended rows s h =
@@ -511,17 +511,17 @@ bundle_begins_at parts.Ended rows s h =
 -- ---- bundles
 
 abbrev pub IsSoundBundle : Option Version → BundleStanding → List BundleLine → Type 0
-IsSoundBundle due s ls = (s.due ≡ due) × ((rows : List TableRow) × (bundle_said rows s ≡ ls) × IsBundleSound rows s)
+IsSoundBundle due s ls = (s.due ≡ due) × ((rows : List TableRow) × (bundle_lines_so_far rows s ≡ ls) × IsBundleSound rows s)
 
 -- a bundle that has come to its end
-pub ends_at : (part : Part) (rows : List TableRow) (s : BundleStanding) → SoundAt part s.due s.version s.tables rows s.bundle s.channel s.draft → is_done part ≡ true → IsDueBundle s.due s.version rows s.bundle × (bundle_said_at part rows s ≡ front s.version rows s.bundle ++ Own Done ∷ [])
+pub ends_at : (part : Part) (rows : List TableRow) (s : BundleStanding) → SoundAt part s.due s.version s.tables rows s.bundle s.channel s.draft → is_done part ≡ true → IsDueBundle s.due s.version rows s.bundle × (bundle_lines_so_far_at part rows s ≡ front s.version rows s.bundle ++ Own Done ∷ [])
 ends_at parts.Ended rows s h last = (h, refl)
 ends_at part rows s h last = absurd cc
 
 pub bundle_laws : (due : Option Version) → Laws (bundles due) (IsSoundBundle due)
 bundle_laws due = record {
   starts = (refl, ([], refl, refl));
-  heard = λ s ls h. (h.1.0, h.1.1);
+  has_lines = λ s ls h. (h.1.0, h.1.1);
   begins = λ s ls h. subst (λ (x : Option Version). CanGoOn (bundles x) (is_entry_open s.part s.draft.place) ls) h.0 (subst (λ (x : List BundleLine). CanGoOn (bundles s.due) (is_entry_open s.part s.draft.place) x) h.1.1 (bundle_begins_at s.part h.1.0 s h.1.2));
   judges = λ s ls line h. MatchResult-weaker (judge_bundle s line) (bundle_taken h.1.0 s line h.1.2)
       (λ t k. record { l = k.l; text = k.text; sound = (k.keeps.same_due ∙ h.0, (k.keeps.rows, k.keeps.says ∙ ap (λ (x : List BundleLine). x ++ k.l ∷ []) h.1.1, k.keeps.sound)) })

@@ -1,4 +1,4 @@
--- What the lines of a bundle have said is kept by one line more.
+-- One line more keeps the invariant of the lines of a bundle.
 use Rattle.std.proofs.Common.{◌≡◌, ℕ, ◌<◌, inl, inr, true, false, not, cond, eqb, leb, List, [], ◌∷◌, ◌++◌, length, map, Option, Some, None, Result, Ok, Err, refl, sym, ap, subst, ◌∙◌, append_assoc, arith}
 use Rattle.std.specs.List.{list_all}
 use Rattle.std.specs.FinMap as map_of
@@ -23,14 +23,14 @@ use Rattle.txn_journal.specs.Due.{is_due}
 use Rattle.txn_journal.specs.Lines.{◌>>=◌, takes}
 use Rattle.txn_journal.specs.Stamps.{right_stamp, right_stamps, all_stamps}
 use Rattle.txn_journal.specs.Machine.{Standing, empty, is_last, is_within, open_entry, judge}
-use Rattle.txn_journal.specs.Heard.{said}
+use Rattle.txn_journal.specs.LinesSoFar.{lines_so_far}
 use Rattle.txn_journal.specs.Spelling.{Line, Header, Previous, Begin, Makes, End, Close, line_text, journal_lines, IsWritten}
 use Rattle.txn_journal.specs.Shapes.{Shape, with_table, shape_for}
 use Rattle.txn_journal.specs.BundleStates.{BundleValue, BundleStanding, bare, is_due_in, after_tables, with_opening, put_row, has_channel, join_channel, with_journal, close_channel, after_inner, is_misstamped, judge_own, judge_inner, judge_part, judge_bundle}
 use Rattle.txn_journal.specs.BundleText.{entry_fits, OwnLine, BundleLine, Own, Inner, Heads, Names, Starts, Has, Puts, Opens, Done, bundle_line_text, table_lines, row_lines, channel_lines, channels_lines, opening_set_lines, tables_lines, start_lines, bundle_front, IsOpeningSet, FitsRow, AreAdded, put_all, AreNamed, IsWrittenIn, AreBrought, IsWrittenBundle}
-use Rattle.txn_journal.specs.BundleHeard.{inner_said, bundle_said}
+use Rattle.txn_journal.specs.BundleLinesSoFar.{inner_lines_so_far, bundle_lines_so_far}
 use Rattle.txn_journal.specs.BundleCauses.{own_word, own_wording, EndsMisstamped, bundle_cause_at, HasBundleCause}
-use Rattle.txn_journal.specs.declared.bundle.Channel.{Channel}
+use Rattle.txn_journal.specs.declared.bundle.BundleChannel.{BundleChannel}
 use Rattle.txn_journal.specs.declared.bundle_draft.Part.{Part}
 use Rattle.txn_journal.specs.declared.bundle_draft.Part.TheVariants as parts
 use Rattle.txn_journal.specs.declared.fault.Cause.{Cause}
@@ -45,7 +45,7 @@ use Rattle.txn_journal.proofs.OneBundle.{put_both}
 use Rattle.txn_journal.proofs.OwnReads.{own_body, own_put, own_reads, own_laws}
 use Rattle.rows.proofs.Lists.{all_append}
 use Rattle.std.proofs.lemmas.Result.{MatchResult-weaker}
-use Rattle.txn_journal.specs.Wordings.{Says, HasCauseBy}
+use Rattle.txn_journal.specs.Wordings.{ParsesAsLine, HasCauseBy}
 use Rattle.txn_journal.specs.Causes.{word_for}
 use Rattle.txn_journal.proofs.Judged.{then_both, if_both, known_both, IsSchema, bind_ok, ok_is}
 use Rattle.txn_journal.proofs.WordLaws.{judged_both}
@@ -59,7 +59,7 @@ pub record NoChannel (b : BundleValue) : Type 0 where
   pub journals : b.journals ≡ []
 
 -- a channel is open
-pub record IsOpen (version : Version) (b : BundleValue) (c : Channel) (draft : Standing) : Type 0 where
+pub record IsOpen (version : Version) (b : BundleValue) (c : BundleChannel) (draft : Standing) : Type 0 where
   pub name : is_name c.name ≡ true
   pub new : has_channel b.channels c.name ≡ false
   pub room : length b.channels < 256
@@ -68,7 +68,7 @@ pub record IsOpen (version : Version) (b : BundleValue) (c : Channel) (draft : S
   pub stamped : draft.stamps ≡ right_stamps version b.start.schema draft.journal.entries
   pub goes_on : is_last draft.place ≡ false
 
-abbrev pub OpenChannel : Version → BundleValue → Option Channel → Standing → Type 0
+abbrev pub OpenChannel : Version → BundleValue → Option BundleChannel → Standing → Type 0
 OpenChannel version b None draft = ⊥
 OpenChannel version b (Some c) draft = IsOpen version b c draft
 
@@ -87,7 +87,7 @@ pub record HasTables (due : Option Version) (version : Version) (tables : List T
   pub opened : IsOpeningSet version b.opened
   pub added : AreAdded [] tables
 
-abbrev pub SoundAt : Part → Option Version → Version → List Table → List TableRow → BundleValue → Option Channel → Standing → Type 0
+abbrev pub SoundAt : Part → Option Version → Version → List Table → List TableRow → BundleValue → Option BundleChannel → Standing → Type 0
 SoundAt parts.Header due version tables rows b channel draft = tables ≡ []
 SoundAt parts.Replica due version tables rows b channel draft = IsBegun due version tables
 SoundAt parts.Opening due version tables rows b channel draft = IsBegun due version tables × (version ≡ Two) × IsSource b.replica
@@ -106,16 +106,16 @@ added_more : (before ts : List Table) (t : Table) → AreAdded before ts → is_
 added_more before [] t h name free = (name, subst (λ (x : List Table). table_fault x t ≡ None) (append-nil before) free, tt)
 added_more before (u ∷ ts) t h name free = (h.0, h.1, added_more (before ++ u ∷ []) ts t h.2 name (subst (λ (x : List Table). table_fault x t ≡ None) (sym (append_assoc before (u ∷ []) ts)) free))
 
-named_more : (before cs : List Channel) (c : Channel) → AreNamed before cs → is_name c.name ≡ true → has_channel (before ++ cs) c.name ≡ false → AreNamed before (cs ++ c ∷ [])
-named_more before [] c h name new = (name, subst (λ (x : List Channel). has_channel x c.name ≡ false) (append-nil before) new, tt)
-named_more before (d ∷ cs) c h name new = (h.0, h.1, named_more (before ++ d ∷ []) cs c h.2 name (subst (λ (x : List Channel). has_channel x c.name ≡ false) (sym (append_assoc before (d ∷ []) cs)) new))
+named_more : (before cs : List BundleChannel) (c : BundleChannel) → AreNamed before cs → is_name c.name ≡ true → has_channel (before ++ cs) c.name ≡ false → AreNamed before (cs ++ c ∷ [])
+named_more before [] c h name new = (name, subst (λ (x : List BundleChannel). has_channel x c.name ≡ false) (append-nil before) new, tt)
+named_more before (d ∷ cs) c h name new = (h.0, h.1, named_more (before ++ d ∷ []) cs c h.2 name (subst (λ (x : List BundleChannel). has_channel x c.name ≡ false) (sym (append_assoc before (d ∷ []) cs)) new))
 
-brought_more : (tables : List Table) (cs : List Channel) (js : List JournalValue) (c : Channel) (j : JournalValue) → AreBrought tables cs js → IsWrittenIn tables j → AreBrought tables (cs ++ c ∷ []) (js ++ j ∷ [])
+brought_more : (tables : List Table) (cs : List BundleChannel) (js : List JournalValue) (c : BundleChannel) (j : JournalValue) → AreBrought tables cs js → IsWrittenIn tables j → AreBrought tables (cs ++ c ∷ []) (js ++ j ∷ [])
 brought_more tables [] [] c j h w = (w, tt)
 brought_more tables (d ∷ cs) (k ∷ js) c j h w = (h.0, brought_more tables cs js c j h.1 w)
 brought_more tables cs js c j h w = absurd h
 
-channels_more : (version : Version) (tables : List Table) (cs : List Channel) (all : List (List ℕ)) (js : List JournalValue) (c : Channel) (stamps : List ℕ) (j : JournalValue) → AreBrought tables cs js → length all ≡ length js
+channels_more : (version : Version) (tables : List Table) (cs : List BundleChannel) (all : List (List ℕ)) (js : List JournalValue) (c : BundleChannel) (stamps : List ℕ) (j : JournalValue) → AreBrought tables cs js → length all ≡ length js
     → channels_lines version (cs ++ c ∷ []) (all ++ stamps ∷ []) (js ++ j ∷ []) ≡ channels_lines version cs all js ++ channel_lines version c stamps j
 channels_more version tables [] [] [] c stamps j h e = append-nil (channel_lines version c stamps j)
 channels_more version tables (d ∷ cs) (ks ∷ all) (k ∷ js) c stamps j h e =
@@ -140,10 +140,10 @@ put_more d (x ∷ rs) r rows new e f =
 pub record KeepsBundle (due : Option Version) (old : List BundleLine) (l : BundleLine) (t : BundleStanding) : Type 0 where
   pub rows : List TableRow
   pub same_due : t.due ≡ due
-  pub says : bundle_said rows t ≡ old ++ l ∷ []
+  pub says : bundle_lines_so_far rows t ≡ old ++ l ∷ []
   pub sound : IsBundleSound rows t
 
-abbrev state : Part → Option Version → Version → List Table → BundleValue → Option Channel → Standing → BundleStanding
+abbrev state : Part → Option Version → Version → List Table → BundleValue → Option BundleChannel → Standing → BundleStanding
 state part due version tables b channel draft = record { part = part; due = due; version = version; tables = tables; bundle = b; channel = channel; draft = draft }
 
 -- the lines of the bundle's whole channels and of what comes before them
@@ -171,7 +171,7 @@ abbrev with_put : BundleStanding → Rows → BundleStanding
 with_put s rows = record s { bundle = record s.bundle { start = with_rows s.bundle.start rows } }
 
 -- one row more
-row_keeps_in : (due : Option Version) (version : Version) (tables : List Table) (rows : List TableRow) (b : BundleValue) (r : TableRow) (channel : Option Channel) (draft : Standing) (old : List BundleLine) (new : Rows) → Front due version rows b old → NoChannel b → FitsRow r → is_image_writable r.row ≡ true → with_opening b.start r ≡ Ok new
+row_keeps_in : (due : Option Version) (version : Version) (tables : List Table) (rows : List TableRow) (b : BundleValue) (r : TableRow) (channel : Option BundleChannel) (draft : Standing) (old : List BundleLine) (new : Rows) → Front due version rows b old → NoChannel b → FitsRow r → is_image_writable r.row ≡ true → with_opening b.start r ≡ Ok new
     → KeepsBundle due old (Own (Puts r)) (with_put (state parts.Rows due version tables b channel draft) new)
 row_keeps_in due version tables rows b r channel draft old new f none fit writable put =
     let c : BundleValue = record b { start = with_rows b.start new } in
@@ -210,7 +210,7 @@ pub none_right : (version : Version) (tables : List Table) → right_stamps vers
 none_right One tables = refl
 none_right Two tables = refl
 
-open_keeps_in : (due : Option Version) (version : Version) (tables : List Table) (rows : List TableRow) (b : BundleValue) (c : Channel) (old : List BundleLine) → Front due version rows b old → is_name c.name ≡ true → length b.channels < 256 → has_channel b.channels c.name ≡ false
+open_keeps_in : (due : Option Version) (version : Version) (tables : List Table) (rows : List TableRow) (b : BundleValue) (c : BundleChannel) (old : List BundleLine) → Front due version rows b old → is_name c.name ≡ true → length b.channels < 256 → has_channel b.channels c.name ≡ false
     → KeepsBundle due old (Own (Opens c)) (state parts.Journal due version tables b (Some c) (empty (Some version)))
 open_keeps_in due version tables rows b c old f name room new = record {
   rows = rows;
@@ -219,16 +219,16 @@ open_keeps_in due version tables rows b c old f name room new = record {
   sound = (f.whole, record { name = name; new = new; room = room; same_version = refl; sound = record { none_stamped = refl; none_counted = refl; none_open = refl }; stamped = sym (none_right version b.start.schema); goes_on = refl });
 }
 
-done_keeps_in : (due : Option Version) (version : Version) (tables : List Table) (rows : List TableRow) (b : BundleValue) (old : List BundleLine) (channel : Option Channel) (draft : Standing) → Front due version rows b old → KeepsBundle due old (Own Done) (state parts.Ended due version tables b channel draft)
+done_keeps_in : (due : Option Version) (version : Version) (tables : List Table) (rows : List TableRow) (b : BundleValue) (old : List BundleLine) (channel : Option BundleChannel) (draft : Standing) → Front due version rows b old → KeepsBundle due old (Own Done) (state parts.Ended due version tables b channel draft)
 done_keeps_in due version tables rows b old channel draft f = record { rows = rows; same_due = refl; says = ap (λ (ls : List BundleLine). ls ++ Own Done ∷ []) (sym f.lines); sound = f.whole }
 
 -- ---- what a line of its own makes, or why it is not taken
 
-opening_cause : (s : BundleStanding) (line : List ℕ) (r : TableRow) → Says (own_wording s) line (Puts r) → is_image_writable r.row ≡ true → (c : Cause) → (with_opening (after_tables s).bundle.start r ≡ Err c) × IsSchema c → HasCauseBy (own_wording s) line c
+opening_cause : (s : BundleStanding) (line : List ℕ) (r : TableRow) → ParsesAsLine (own_wording s) line (Puts r) → is_image_writable r.row ≡ true → (c : Cause) → (with_opening (after_tables s).bundle.start r ≡ Err c) × IsSchema c → HasCauseBy (own_wording s) line c
 opening_cause s line r k writable causes.Schema e = (Puts r, k, λ long. (let m = sym long ∙ writable in cc), λ rows h. (let m = sym h ∙ e.0 in cc))
 opening_cause s line r k writable c e = absurd e.1
 
-puts_both : (s : BundleStanding) (line : List ℕ) (r : TableRow) (P : BundleStanding → Type 0) → Says (own_wording s) line (Puts r)
+puts_both : (s : BundleStanding) (line : List ℕ) (r : TableRow) (P : BundleStanding → Type 0) → ParsesAsLine (own_wording s) line (Puts r)
     → (is_image_writable r.row ≡ true → (rows : Rows) → with_opening (after_tables s).bundle.start r ≡ Ok rows → P (with_put (after_tables s) rows)) → MatchResult (own_put s (Puts r)) P (HasCauseBy (own_wording s) line)
 unfolding own_put put_row
 puts_both s line r P k more =
@@ -238,7 +238,7 @@ puts_both s line r P k more =
     (MatchResult-weaker put (known_both put _ _ (put_both (after_tables s).bundle.start r)) (λ rows e. e.0) (opening_cause s line r k writable)) (more writable))
     (λ long. (Puts r, k, long))
 
-opens_both : (s : BundleStanding) (line : List ℕ) (c : Channel) (P : BundleStanding → Type 0) → Says (own_wording s) line (Opens c)
+opens_both : (s : BundleStanding) (line : List ℕ) (c : BundleChannel) (P : BundleStanding → Type 0) → ParsesAsLine (own_wording s) line (Opens c)
     → (length s.bundle.channels < 256 → has_channel s.bundle.channels c.name ≡ false → P (record (after_tables s) { part = parts.Journal; channel = Some c; draft = empty (Some s.version) })) → MatchResult (join_channel s c) P (HasCauseBy (own_wording s) line)
 unfolding join_channel
 opens_both s line c P k more =
@@ -246,16 +246,16 @@ opens_both s line c P k more =
     (λ room. if_both P (HasCauseBy (own_wording s) line) (has_channel s.bundle.channels c.name) _ _ (λ again. (Opens c, k, λ full. (let m = sym (le-leb 256 (length s.bundle.channels) full) ∙ room in cc), again))
     (λ new. more (leb-false 256 (length s.bundle.channels) room) new))
 
-table_cause : (s : BundleStanding) (line : List ℕ) (shape : Shape) → Says (own_wording s) line (Has shape) → (c : Cause) → TableErr s.tables shape c → HasCauseBy (own_wording s) line c
+table_cause : (s : BundleStanding) (line : List ℕ) (shape : Shape) → ParsesAsLine (own_wording s) line (Has shape) → (c : Cause) → TableErr s.tables shape c → HasCauseBy (own_wording s) line c
 unfolding TableErr
 table_cause s line shape k causes.Limit h = (Has shape, k, h)
 table_cause s line shape k causes.Schema h = (Has shape, k, h.0, h.1)
 table_cause s line shape k c h = absurd h
 
--- a line of its own, at the place where it stands
-keeps_own : (part : Part) (due : Option Version) (version : Version) (tables : List Table) (rows : List TableRow) (b : BundleValue) (channel : Option Channel) (draft : Standing) (line : List ℕ) (l : OwnLine)
-    → SoundAt part due version tables rows b channel draft → is_due_in part (own_word l) ≡ true → Says (own_wording (state part due version tables b channel draft)) line l
-    → MatchResult (own_put (state part due version tables b channel draft) l) (KeepsBundle due (bundle_said rows (state part due version tables b channel draft)) (Own l)) (HasCauseBy (own_wording (state part due version tables b channel draft)) line)
+-- a line of its own, at its place
+keeps_own : (part : Part) (due : Option Version) (version : Version) (tables : List Table) (rows : List TableRow) (b : BundleValue) (channel : Option BundleChannel) (draft : Standing) (line : List ℕ) (l : OwnLine)
+    → SoundAt part due version tables rows b channel draft → is_due_in part (own_word l) ≡ true → ParsesAsLine (own_wording (state part due version tables b channel draft)) line l
+    → MatchResult (own_put (state part due version tables b channel draft) l) (KeepsBundle due (bundle_lines_so_far rows (state part due version tables b channel draft)) (Own l)) (HasCauseBy (own_wording (state part due version tables b channel draft)) line)
 unfolding own_put
 keeps_own parts.Header due version tables rows b channel draft line (Heads v) h is k = record { rows = []; same_due = refl; says = refl; sound = record { due_version = k.fits; none = h } }
 keeps_own parts.Replica due One tables rows b channel draft line (Names id) h is k = record {
@@ -299,7 +299,7 @@ keeps_own part due version tables rows b channel draft line l h is k = absurd cc
 
 -- ---- a line of the open journal
 
-inner_more : (c : Channel) (before : List BundleLine) (old new : List Line) (l : Line) → new ≡ old ++ l ∷ [] → before ++ (Own (Opens c) ∷ map Inner new) ≡ (before ++ (Own (Opens c) ∷ map Inner old)) ++ Inner l ∷ []
+inner_more : (c : BundleChannel) (before : List BundleLine) (old new : List Line) (l : Line) → new ≡ old ++ l ∷ [] → before ++ (Own (Opens c) ∷ map Inner new) ≡ (before ++ (Own (Opens c) ∷ map Inner old)) ++ Inner l ∷ []
 inner_more c before old new l e =
     ap (λ (ls : List Line). before ++ (Own (Opens c) ∷ map Inner ls)) e
     ∙ ap (λ (ls : List BundleLine). before ++ (Own (Opens c) ∷ ls)) (map_push Inner old l)
@@ -311,7 +311,7 @@ pub record InnerTaken (due : Option Version) (old : List BundleLine) (line : Lis
   pub keeps : KeepsBundle due old l t
 
 -- a bundle with one channel more
-pub channel_written : (version : Version) (rows : List TableRow) (b : BundleValue) (c : Channel) (draft : Standing) (j : JournalValue) → IsWrittenBundle version rows b → IsOpen version b c draft → IsWritten j → list_all (entry_fits b.start.schema) j.entries ≡ true → IsWrittenBundle version rows (with_journal (Some c) b j)
+pub channel_written : (version : Version) (rows : List TableRow) (b : BundleValue) (c : BundleChannel) (draft : Standing) (j : JournalValue) → IsWrittenBundle version rows b → IsOpen version b c draft → IsWritten j → list_all (entry_fits b.start.schema) j.entries ≡ true → IsWrittenBundle version rows (with_journal (Some c) b j)
 channel_written version rows b c draft j w o written fitting = record {
   replica = w.replica;
   opened = w.opened;
@@ -323,7 +323,7 @@ channel_written version rows b c draft j w o written fitting = record {
 }
 
 -- its lines, with any numbers of the last journal
-pub channel_front : (version : Version) (rows : List TableRow) (b : BundleValue) (c : Channel) (stamps : List ℕ) (j : JournalValue) → AreBrought b.start.schema b.channels b.journals
+pub channel_front : (version : Version) (rows : List TableRow) (b : BundleValue) (c : BundleChannel) (stamps : List ℕ) (j : JournalValue) → AreBrought b.start.schema b.channels b.journals
     → bundle_front version rows (all_stamps version b.start.schema b.journals ++ stamps ∷ []) (with_journal (Some c) b j) ≡ front version rows b ++ channel_lines version c stamps j
 channel_front version rows b c stamps j h =
     let start = start_lines version rows b in
@@ -332,7 +332,7 @@ channel_front version rows b c stamps j h =
     ∙ sym (append_assoc start (channels_lines version b.channels all b.journals) (channel_lines version c stamps j))
 
 -- with the numbers that it has to have
-pub right_front : (version : Version) (rows : List TableRow) (b : BundleValue) (c : Channel) (stamps : List ℕ) (j : JournalValue) → AreBrought b.start.schema b.channels b.journals → stamps ≡ right_stamps version b.start.schema j.entries
+pub right_front : (version : Version) (rows : List TableRow) (b : BundleValue) (c : BundleChannel) (stamps : List ℕ) (j : JournalValue) → AreBrought b.start.schema b.channels b.journals → stamps ≡ right_stamps version b.start.schema j.entries
     → front version rows (with_journal (Some c) b j) ≡ front version rows b ++ channel_lines version c stamps j
 right_front version rows b c stamps j h e =
     (λ i. bundle_front version rows (map_push (λ k. right_stamps version b.start.schema k.entries) b.journals j i) (with_journal (Some c) b j))
@@ -346,29 +346,29 @@ version_is Two Two e = refl
 version_is One Two e = absurd cc
 version_is Two One e = absurd cc
 
-closed_keeps : (due : Option Version) (version : Version) (tables : List Table) (rows : List TableRow) (b : BundleValue) (c : Channel) (old d : Standing) (l : Line) → IsDueBundle due version rows b → IsOpen version b c old → said d ≡ said old ++ l ∷ [] → IsSound (Some b.start.schema) d → d.due ≡ Some version
+closed_keeps : (due : Option Version) (version : Version) (tables : List Table) (rows : List TableRow) (b : BundleValue) (c : BundleChannel) (old d : Standing) (l : Line) → IsDueBundle due version rows b → IsOpen version b c old → lines_so_far d ≡ lines_so_far old ++ l ∷ [] → IsSound (Some b.start.schema) d → d.due ≡ Some version
     → d.stamps ≡ right_stamps version b.start.schema d.journal.entries → is_last d.place ≡ true
-    → KeepsBundle due (front version rows b ++ (Own (Opens c) ∷ map Inner (said old))) (Inner l) (state parts.Channels due version tables (with_journal (Some c) b d.journal) None (empty (Some version)))
+    → KeepsBundle due (front version rows b ++ (Own (Opens c) ∷ map Inner (lines_so_far old))) (Inner l) (state parts.Channels due version tables (with_journal (Some c) b d.journal) None (empty (Some version)))
 closed_keeps due version tables rows b c old d l w o says sound same stamped last =
     let e = ended (Some b.start.schema) d sound last in
     let is : d.version ≡ version = version_is version d.version (subst (λ (x : Option Version). takes x d.version ≡ true) same e.whole.due) in
-    let lines : said d ≡ journal_lines version d.stamps d.journal = e.lines ∙ ap (λ (v : Version). journal_lines v d.stamps d.journal) is in
+    let lines : lines_so_far d ≡ journal_lines version d.stamps d.journal = e.lines ∙ ap (λ (v : Version). journal_lines v d.stamps d.journal) is in
     record {
       rows = rows;
       same_due = refl;
       says = right_front version rows b c d.stamps d.journal w.written.brought stamped
           ∙ ap (λ (ls : List Line). front version rows b ++ (Own (Opens c) ∷ map Inner ls)) (sym lines)
-          ∙ inner_more c (front version rows b) (said old) (said d) l says;
+          ∙ inner_more c (front version rows b) (lines_so_far old) (lines_so_far d) l says;
       sound = record { due_version = w.due_version; written = channel_written version rows b c old d.journal w.written o e.written e.whole.fitting };
     }
 
-open_still : (due : Option Version) (version : Version) (tables : List Table) (rows : List TableRow) (b : BundleValue) (c : Channel) (old d : Standing) (l : Line) → IsDueBundle due version rows b → IsOpen version b c old → said d ≡ said old ++ l ∷ [] → IsSound (Some b.start.schema) d → d.due ≡ Some version
+open_still : (due : Option Version) (version : Version) (tables : List Table) (rows : List TableRow) (b : BundleValue) (c : BundleChannel) (old d : Standing) (l : Line) → IsDueBundle due version rows b → IsOpen version b c old → lines_so_far d ≡ lines_so_far old ++ l ∷ [] → IsSound (Some b.start.schema) d → d.due ≡ Some version
     → d.stamps ≡ right_stamps version b.start.schema d.journal.entries → is_last d.place ≡ false
-    → KeepsBundle due (front version rows b ++ (Own (Opens c) ∷ map Inner (said old))) (Inner l) (state parts.Journal due version tables b (Some c) d)
+    → KeepsBundle due (front version rows b ++ (Own (Opens c) ∷ map Inner (lines_so_far old))) (Inner l) (state parts.Journal due version tables b (Some c) d)
 open_still due version tables rows b c old d l w o says sound same stamped more = record {
   rows = rows;
   same_due = refl;
-  says = inner_more c (front version rows b) (said old) (said d) l says;
+  says = inner_more c (front version rows b) (lines_so_far old) (lines_so_far d) l says;
   sound = (w, record { name = o.name; new = o.new; room = o.room; same_version = same; sound = sound; stamped = stamped; goes_on = more });
 }
 
@@ -429,14 +429,14 @@ misstamped_cause version tables s d line l text due goes e =
     let end = ends_entry s d l due goes p.0 (not-true (is_within d.place) q.0) in
     (text ∙ ap line_text end, within_is s.place p.0, λ same. (let k = sym (eq-eqb s.stamp right same) ∙ not-true (eqb s.stamp right) q.1 in cc))
 
-keeps_inner : (due : Option Version) (version : Version) (tables : List Table) (rows : List TableRow) (b : BundleValue) (channel : Option Channel) (draft : Standing) (line : List ℕ) → IsDueBundle due version rows b → OpenChannel version b channel draft
-    → MatchResult (judge_inner true (state parts.Journal due version tables b channel draft) line) (InnerTaken due (front version rows b ++ inner_said channel draft) line) (bundle_cause_at parts.Journal (state parts.Journal due version tables b channel draft) line)
+keeps_inner : (due : Option Version) (version : Version) (tables : List Table) (rows : List TableRow) (b : BundleValue) (channel : Option BundleChannel) (draft : Standing) (line : List ℕ) → IsDueBundle due version rows b → OpenChannel version b channel draft
+    → MatchResult (judge_inner true (state parts.Journal due version tables b channel draft) line) (InnerTaken due (front version rows b ++ inner_lines_so_far channel draft) line) (bundle_cause_at parts.Journal (state parts.Journal due version tables b channel draft) line)
 unfolding judge_inner after_inner
 keeps_inner due version tables rows b None draft line w o = absurd o
 keeps_inner due version tables rows b (Some c) draft line w o =
     let s = state parts.Journal due version tables b (Some c) draft in
     let schema = b.start.schema in
-    let old = front version rows b ++ (Own (Opens c) ∷ map Inner (said draft)) in
+    let old = front version rows b ++ (Own (Opens c) ∷ map Inner (lines_so_far draft)) in
     let Taken = InnerTaken due old line in
     let Caused = bundle_cause_at parts.Journal s line in
     then_both Taken Caused (judge (Some schema) draft line) _ (MatchResult-weaker (judge (Some schema) draft line) (judged_line (Some schema) draft line o.sound) (λ d k. k) (λ x k. inl k)) (λ d k.
@@ -453,19 +453,19 @@ keeps_inner due version tables rows b (Some c) draft line w o =
       ] refl;
     }))
 
-own_taken : (part : Part) (due : Option Version) (version : Version) (tables : List Table) (rows : List TableRow) (b : BundleValue) (channel : Option Channel) (draft : Standing) (line : List ℕ) → SoundAt part due version tables rows b channel draft
-    → MatchResult (judge_own (state part due version tables b channel draft) line) (InnerTaken due (bundle_said rows (state part due version tables b channel draft)) line) (HasCauseBy (own_wording (state part due version tables b channel draft)) line)
+own_taken : (part : Part) (due : Option Version) (version : Version) (tables : List Table) (rows : List TableRow) (b : BundleValue) (channel : Option BundleChannel) (draft : Standing) (line : List ℕ) → SoundAt part due version tables rows b channel draft
+    → MatchResult (judge_own (state part due version tables b channel draft) line) (InnerTaken due (bundle_lines_so_far rows (state part due version tables b channel draft)) line) (HasCauseBy (own_wording (state part due version tables b channel draft)) line)
 own_taken part due version tables rows b channel draft line h =
     let s = state part due version tables b channel draft in
-    rw (own_reads s line) (judged_both (own_wording s) (own_body s.due) (own_laws s) (InnerTaken due (bundle_said rows s) line) (own_put s) line
+    rw (own_reads s line) (judged_both (own_wording s) (own_body s.due) (own_laws s) (InnerTaken due (bundle_lines_so_far rows s) line) (own_put s) line
     (λ l k. MatchResult-weaker (own_put s l) (keeps_own part due version tables rows b channel draft line l h k.due k) (λ t m. record { l = Own l; text = k.text; keeps = m }) (λ c m. m)))
 
-taken_at : (part : Part) (due : Option Version) (version : Version) (tables : List Table) (rows : List TableRow) (b : BundleValue) (channel : Option Channel) (draft : Standing) (line : List ℕ) → SoundAt part due version tables rows b channel draft
-    → MatchResult (judge_part part true (state part due version tables b channel draft) line) (InnerTaken due (bundle_said rows (state part due version tables b channel draft)) line) (bundle_cause_at part (state part due version tables b channel draft) line)
+taken_at : (part : Part) (due : Option Version) (version : Version) (tables : List Table) (rows : List TableRow) (b : BundleValue) (channel : Option BundleChannel) (draft : Standing) (line : List ℕ) → SoundAt part due version tables rows b channel draft
+    → MatchResult (judge_part part true (state part due version tables b channel draft) line) (InnerTaken due (bundle_lines_so_far rows (state part due version tables b channel draft)) line) (bundle_cause_at part (state part due version tables b channel draft) line)
 taken_at parts.Journal due version tables rows b channel draft line h = keeps_inner due version tables rows b channel draft line h.0 h.1
 taken_at part due version tables rows b channel draft line h = own_taken part due version tables rows b channel draft line h
 
 -- a line that is taken is the spelling of one more line
-pub bundle_taken : (rows : List TableRow) (s : BundleStanding) (line : List ℕ) → IsBundleSound rows s → MatchResult (judge_bundle s line) (InnerTaken s.due (bundle_said rows s) line) (HasBundleCause s line)
+pub bundle_taken : (rows : List TableRow) (s : BundleStanding) (line : List ℕ) → IsBundleSound rows s → MatchResult (judge_bundle s line) (InnerTaken s.due (bundle_lines_so_far rows s) line) (HasBundleCause s line)
 unfolding judge_bundle
 bundle_taken rows s line h = taken_at s.part s.due s.version s.tables rows s.bundle s.channel s.draft line h

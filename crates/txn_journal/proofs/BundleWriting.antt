@@ -17,7 +17,7 @@ use Rattle.txn_journal.specs.BundleStates.{BundleValue}
 use Rattle.txn_journal.specs.WrittenSets.{set_text}
 use Rattle.txn_journal.specs.BundleText.{Heads, Names, Starts, Has, Puts, Opens, Done, BundleLine, Own, Inner, preserve_text, ended_bundle_line, bundle_text, table_lines, row_lines, channel_lines, channels_lines, start_lines, bundle_spelling}
 use Rattle.txn_journal.specs.Texts.{columns_behind, uniques_text, tables_text, rows_text, channel_and_journal_text, channels_and_journals_text, head_text, start_text}
-use Rattle.txn_journal.specs.declared.bundle.Channel.{Channel}
+use Rattle.txn_journal.specs.declared.bundle.BundleChannel.{BundleChannel}
 use Rattle.txn_journal.specs.declared.lines.Version.TheVariants.{Two}
 
 -- ---- the first lines
@@ -80,12 +80,12 @@ table_appended out t =
 channel_parts : (out name word : List ℕ) → ((out ++ codes "channel ") ++ name) ++ (word ++ 10 ∷ []) ≡ out ++ ((codes "channel" ++ 32 ∷ (name ++ word)) ++ 10 ∷ [])
 channel_parts out name word = simp append_assoc
 
-pub preserving_appended : (out : List ℕ) (c : Channel) → c.preserve ≡ true → ((out ++ codes "channel ") ++ c.name) ++ codes " preserve\n" ≡ out ++ ended_bundle_line (Own (Opens c))
+pub preserving_appended : (out : List ℕ) (c : BundleChannel) → c.preserve ≡ true → ((out ++ codes "channel ") ++ c.name) ++ codes " preserve\n" ≡ out ++ ended_bundle_line (Own (Opens c))
 preserving_appended out c preserves =
     channel_parts out c.name (codes " preserve")
     ∙ ap (λ (b : Bool). out ++ ((codes "channel" ++ 32 ∷ (c.name ++ preserve_text b)) ++ 10 ∷ [])) (sym preserves)
 
-pub channel_appended : (out : List ℕ) (c : Channel) → c.preserve ≡ false → ((out ++ codes "channel ") ++ c.name) ++ codes "\n" ≡ out ++ ended_bundle_line (Own (Opens c))
+pub channel_appended : (out : List ℕ) (c : BundleChannel) → c.preserve ≡ false → ((out ++ codes "channel ") ++ c.name) ++ codes "\n" ≡ out ++ ended_bundle_line (Own (Opens c))
 channel_appended out c preserves_not =
     channel_parts out c.name []
     ∙ ap (λ (b : Bool). out ++ ((codes "channel" ++ 32 ∷ (c.name ++ preserve_text b)) ++ 10 ∷ [])) (sym preserves_not)
@@ -95,19 +95,19 @@ inner_text : (ls : List Line) → bundle_text (map Inner ls) ≡ lines_text ls
 inner_text [] = refl
 inner_text (l ∷ ls) = ap (λ (t : List ℕ). ended_line l ++ t) (inner_text ls)
 
-pub brought_appended : (out : List ℕ) (tables : List Table) (c : Channel) (j : JournalValue) → (out ++ ended_bundle_line (Own (Opens c))) ++ spelling_as Two (right_stamps Two tables j.entries) j ≡ out ++ channel_and_journal_text tables c j
+pub brought_appended : (out : List ℕ) (tables : List Table) (c : BundleChannel) (j : JournalValue) → (out ++ ended_bundle_line (Own (Opens c))) ++ spelling_as Two (right_stamps Two tables j.entries) j ≡ out ++ channel_and_journal_text tables c j
 unfolding channel_and_journal_text
 brought_appended out tables c j =
     append_assoc out (ended_bundle_line (Own (Opens c))) (spelling_as Two (right_stamps Two tables j.entries) j)
     ∙ ap (λ (t : List ℕ). out ++ (ended_bundle_line (Own (Opens c)) ++ t)) (sym (inner_text (journal_lines Two (right_stamps Two tables j.entries) j)))
 
-none_brought : (tables : List Table) (cs : List Channel) (js : List JournalValue) → min (length cs) (length js) ≡ 0 → channels_and_journals_text tables cs js ≡ []
+none_brought : (tables : List Table) (cs : List BundleChannel) (js : List JournalValue) → min (length cs) (length js) ≡ 0 → channels_and_journals_text tables cs js ≡ []
 none_brought tables [] js none = refl
 none_brought tables (c ∷ cs) [] none = refl
 none_brought tables (c ∷ cs) (j ∷ js) none = absurd (omega arith)
 
 -- no channel or no journal is left
-pub all_brought : (out whole : List ℕ) (tables : List Table) (cs : List Channel) (js : List JournalValue) (n : ℕ) → n ≡ min (length cs) (length js) → out ++ channels_and_journals_text tables (drop n cs) (drop n js) ≡ whole → out ≡ whole
+pub all_brought : (out whole : List ℕ) (tables : List Table) (cs : List BundleChannel) (js : List JournalValue) (n : ℕ) → n ≡ min (length cs) (length js) → out ++ channels_and_journals_text tables (drop n cs) (drop n js) ≡ whole → out ≡ whole
 all_brought out whole tables cs js n is so_far =
     let none : min (length (drop n cs)) (length (drop n js)) ≡ 0 = rw (length-drop n cs, length-drop n js) omega (arith, is) in
     sym (ap (λ (t : List ℕ). out ++ t) (none_brought tables (drop n cs) (drop n js) none) ∙ append-nil out) ∙ so_far
@@ -129,7 +129,7 @@ lines_of_rows : (rows : List TableRow) → rows_text rows ≡ bundle_text (row_l
 lines_of_rows [] = refl
 lines_of_rows (r ∷ rs) = ap (λ (u : List ℕ). ended_bundle_line (Own (Puts r)) ++ u) (lines_of_rows rs)
 
-lines_of_channels : (tables : List Table) (cs : List Channel) (js : List JournalValue) → channels_and_journals_text tables cs js ≡ bundle_text (channels_lines Two cs (all_stamps Two tables js) js)
+lines_of_channels : (tables : List Table) (cs : List BundleChannel) (js : List JournalValue) → channels_and_journals_text tables cs js ≡ bundle_text (channels_lines Two cs (all_stamps Two tables js) js)
 unfolding channel_and_journal_text
 lines_of_channels tables [] js = refl
 lines_of_channels tables (c ∷ cs) [] = refl

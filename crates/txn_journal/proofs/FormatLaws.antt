@@ -3,7 +3,7 @@ use Rattle.std.proofs.Common.{◌≡◌, ℕ, List, [], ◌∷◌, ◌++◌, Res
 use Rattle.std.specs.List.{flat_map, AllByRecursion, list_all}
 use Rattle.txn_journal.specs.Words.{IsOneLine}
 use Rattle.txn_journal.specs.Lines.{◌>>=◌}
-use Rattle.txn_journal.specs.Stream.{Judge, Progress, Reading, progress_after, next_number, eats, Stopped, eat, end_of_text, at_end, IsAfter, answer, IsWhole, IsWholeOr, IsRead}
+use Rattle.txn_journal.specs.Stream.{Judge, Progress, Reading, progress_after, next_number, feed_bytes, Stopped, feed_byte, end_of_text, at_end, IsAfter, answer, IsWhole, IsWholeOr, IsRead}
 use Rattle.txn_journal.specs.declared.fault.Cause.{Cause}
 use Rattle.txn_journal.proofs.Judged.{bind_ok, ok_is}
 use Rattle.txn_journal.proofs.Pieces.{eats_append, eats_line, stopped_stays}
@@ -13,7 +13,7 @@ use Rattle.std.proofs.lemmas.List.Concat.{flat_map-append}
 use Rattle.std.proofs.lemmas.Bool.{eqb-true, and_parts}
 use Rattle.gtid_set.specs.declared.fault.SetFault.{SetFault}
 use Rattle.rows.proofs.Lists.{all_push, all_append}
-use Rattle.txn_journal.specs.Formats.{Format, ended_line_of, text_of, AreWhole, start_of, eats_by, IsFaultBy, closing_by, whole_by, MayWrite, BeginsBy, cap_line_number, RefusesBy, SpellsBy}
+use Rattle.txn_journal.specs.Formats.{Format, ended_line_of, text_of, AreWhole, start_of, feed_bytes_by, IsFaultBy, closing_by, whole_by, MayWrite, BeginsBy, cap_line_number, RefusesBy, ParsesBy}
 use Rattle.txn_journal.specs.declared.fault.JournalFault.{JournalFault}
 use Rattle.txn_journal.specs.declared.fault.JournalFault.TheVariants as faults
 
@@ -29,7 +29,7 @@ runs_then {S} judge s t (k ∷ ks) ls e =
     ap (λ (r : Result S Cause). r >>= λ u. runs judge u (ks ++ ls)) a.1 ∙ runs_then judge a.0 t ks ls a.2
 
 -- lines, each with its line feed
-eats_runs : {S L : Type 0} (judge : Judge S) (text : L → List ℕ) (s t : S) (ls : List L) (n : ℕ) → AllByRecursion (λ l. IsOneLine (text l)) ls → runs judge s (map text ls) ≡ Ok t → (m : ℕ) × (eats judge (Reading s n []) (flat_map (λ l. text l ++ 10 ∷ []) ls) ≡ Reading t m [])
+eats_runs : {S L : Type 0} (judge : Judge S) (text : L → List ℕ) (s t : S) (ls : List L) (n : ℕ) → AllByRecursion (λ l. IsOneLine (text l)) ls → runs judge s (map text ls) ≡ Ok t → (m : ℕ) × (feed_bytes judge (Reading s n []) (flat_map (λ l. text l ++ 10 ∷ []) ls) ≡ Reading t m [])
 eats_runs {S} judge text s t [] n whole e = (n, ap (λ (u : S). Reading u n []) (ok_is s t e))
 eats_runs {S} judge text s t (l ∷ ls) n whole e =
     let rest = flat_map (λ l. text l ++ 10 ∷ []) ls in
@@ -37,7 +37,7 @@ eats_runs {S} judge text s t (l ∷ ls) n whole e =
     let more = eats_runs judge text a.0 t ls (next_number n) whole.1 a.2 in (
       more.0,
       eats_append judge (Reading s n []) (text l ++ 10 ∷ []) rest
-          ∙ ap (λ (p : Progress S). eats judge p rest) (eats_line judge s n [] (text l) whole.0 ∙ ap (λ (r : Result S Cause). progress_after r (next_number n)) a.1)
+          ∙ ap (λ (p : Progress S). feed_bytes judge p rest) (eats_line judge s n [] (text l) whole.0 ∙ ap (λ (r : Result S Cause). progress_after r (next_number n)) a.1)
           ∙ more.1,
     )
 
@@ -85,7 +85,7 @@ pub record CanGoOn (f : Format) (inside : Bool) (ls : List f.Line) : Type 0 wher
 -- Sound is what is known of lines and of what they have made. Judging loosely takes more: it doesn't look at entries as a whole.
 pub record Laws (f : Format) (Sound : f.State → List f.Line → Type 0) : Type 0 where
   pub starts : Sound f.start []
-  pub heard : (s : f.State) (ls : List f.Line) → Sound s ls → f.HasHeard s ls
+  pub has_lines : (s : f.State) (ls : List f.Line) → Sound s ls → f.HasLines s ls
   pub begins : (s : f.State) (ls : List f.Line) → Sound s ls → CanGoOn f (f.is_open s) ls
   pub judges : (s : f.State) (ls : List f.Line) (line : List ℕ) → Sound s ls → MatchResult (f.judge s line) (OneMore f Sound ls line) (f.HasCause s line)
   pub ends : (s : f.State) (ls : List f.Line) → Sound s ls → f.is_last s ≡ true → f.Writes (text_of f ls) (f.value s)
@@ -108,14 +108,14 @@ one_line_more [] b ne h = rw ne refl
 one_line_more (c ∷ cs) b ne h = let p = and_parts (not (eqb c 10)) (list_all (λ x. not (eqb x 10)) cs) h in rw p.0 (one_line_more cs b ne p.1)
 
 -- the fault of a feed is that of the whole
-pub stopped_with : (f : Format) (bytes : List ℕ) (e : JournalFault) (p : Progress f.State) → Err e ≡ answer p → IsAfter (IsFaultBy f (start_of f) bytes) p (eats_by f (start_of f) bytes) → IsWholeOr (IsFaultBy f (start_of f) bytes) (Err e) (whole_by f bytes)
+pub stopped_with : (f : Format) (bytes : List ℕ) (e : JournalFault) (p : Progress f.State) → Err e ≡ answer p → IsAfter (IsFaultBy f (start_of f) bytes) p (feed_bytes_by f (start_of f) bytes) → IsWholeOr (IsFaultBy f (start_of f) bytes) (Err e) (whole_by f bytes)
 unfolding closing_by
 stopped_with f bytes e (Reading s n rest) a h = absurd cc
 stopped_with f bytes e (Stopped g) a (inl x) = inl (x.0, let k = x.1 in cc, x.2)
 stopped_with f bytes e (Stopped g) a (inr x) = inr (let k : Err g ≡ whole_by f bytes = ap (closing_by f) x in cc)
 
 -- so is the end of what a feed has left
-pub closed_after : (f : Format) (bytes : List ℕ) (p : Progress f.State) → IsAfter (IsFaultBy f (start_of f) bytes) p (eats_by f (start_of f) bytes) → IsWholeOr (IsFaultBy f (start_of f) bytes) (closing_by f p) (whole_by f bytes)
+pub closed_after : (f : Format) (bytes : List ℕ) (p : Progress f.State) → IsAfter (IsFaultBy f (start_of f) bytes) p (feed_bytes_by f (start_of f) bytes) → IsWholeOr (IsFaultBy f (start_of f) bytes) (closing_by f p) (whole_by f bytes)
 unfolding closing_by
 closed_after f bytes p (inl x) = inl (x.0, ap (closing_by f) x.1, x.2)
 closed_after f bytes p (inr x) = inr (ap (closing_by f) x)
@@ -126,7 +126,7 @@ whole_of may r w (inl x) = inl (x.0, x.1)
 whole_of may r w (inr x) = inr x
 
 module _ (f : Format) (Sound : f.State → List f.Line → Type 0) (laws : Laws f Sound) where
-  -- ---- what is spelled is read
+  -- ---- reading is complete
 
   pub reads_back : (bytes : List ℕ) (v : f.Value) → f.Writes bytes v → whole_by f bytes ≡ Ok v
   unfolding closing_by
@@ -138,19 +138,19 @@ module _ (f : Format) (Sound : f.State → List f.Line → Type 0) (laws : Laws 
   pub one_value : (bytes : List ℕ) (v w : f.Value) → f.Writes bytes v → f.Writes bytes w → v ≡ w
   one_value bytes v w a b = let k = sym (reads_back bytes v a) ∙ reads_back bytes w b in cc
 
-  -- what is almost spelled is read loosely
-  reads_loosely : (bytes : List ℕ) (v : f.Value) → f.AlmostWrites bytes v → (t : f.State) × (n : ℕ) × (eats laws.loose (start_of f) bytes ≡ Reading t n [])
+  -- what is almost a text is read loosely
+  reads_loosely : (bytes : List ℕ) (v : f.Value) → f.AlmostWrites bytes v → (t : f.State) × (n : ℕ) × (feed_bytes laws.loose (start_of f) bytes ≡ Reading t n [])
   reads_loosely bytes v w =
       let r = laws.reads_open bytes v w in
       let eaten = eats_runs laws.loose f.line_text f.start r.last r.lines 0 r.leads.whole r.leads.run in
-      (r.last, eaten.0, ap (eats laws.loose (start_of f)) r.parts ∙ eaten.1)
+      (r.last, eaten.0, ap (feed_bytes laws.loose (start_of f)) r.parts ∙ eaten.1)
 
   begins : (s : f.State) (ls : List f.Line) → Sound s ls → BeginsBy f (f.is_open s) (text_of f ls)
   begins s ls h =
       let k = laws.begins s ls h in
       (k.value, text_of f k.more, subst (λ (x : List ℕ). MayWrite f (f.is_open s) x k.value) (flat_map-append (ended_line_of f) ls k.more) k.writes)
 
-  -- ---- what is read is spelled
+  -- ---- reading is sound
 
   -- so much of the text was read, and this is left
   record Stands (bytes : List ℕ) (s : f.State) (n : ℕ) (rest left : List ℕ) : Type 0 where
@@ -160,13 +160,13 @@ module _ (f : Format) (Sound : f.State → List f.Line → Type 0) (laws : Laws 
     part : IsOneLine rest
     number : n ≡ cap_line_number (length lines)
     sound : Sound s lines
-    eaten : (more : List ℕ) → eats_by f (start_of f) (text_of f lines ++ (rest ++ more)) ≡ eats_by f (Reading s n rest) more
-    loosely : (more : List ℕ) → eats laws.loose (start_of f) (text_of f lines ++ (rest ++ more)) ≡ eats laws.loose (Reading s n rest) more
+    eaten : (more : List ℕ) → feed_bytes_by f (start_of f) (text_of f lines ++ (rest ++ more)) ≡ feed_bytes_by f (Reading s n rest) more
+    loosely : (more : List ℕ) → feed_bytes laws.loose (start_of f) (text_of f lines ++ (rest ++ more)) ≡ feed_bytes laws.loose (Reading s n rest) more
 
   -- the text ends here
-  ends_here : (bytes : List ℕ) (s : f.State) (n : ℕ) (rest : List ℕ) (v : Bool) → f.is_last s ≡ v → Stands bytes s n rest [] → whole_by f bytes ≡ at_end (end_of_text v rest n) (f.value s) → SpellsBy f bytes (at_end (end_of_text v rest n) (f.value s))
+  ends_here : (bytes : List ℕ) (s : f.State) (n : ℕ) (rest : List ℕ) (v : Bool) → f.is_last s ≡ v → Stands bytes s n rest [] → whole_by f bytes ≡ at_end (end_of_text v rest n) (f.value s) → ParsesBy f bytes (at_end (end_of_text v rest n) (f.value s))
   ends_here bytes s n rest false last h e = (
-    record { before = h.lines; rest = rest; parts = h.parts ∙ ap (λ (x : List ℕ). text_of f h.lines ++ x) (append-nil rest); lines = h.whole; part = h.part; state = s; heard = laws.heard s h.lines h.sound; number = omega (arith, h.number); begins = begins s h.lines h.sound },
+    record { before = h.lines; rest = rest; parts = h.parts ∙ ap (λ (x : List ℕ). text_of f h.lines ++ x) (append-nil rest); lines = h.whole; part = h.part; state = s; has_lines = laws.has_lines s h.lines h.sound; number = omega (arith, h.number); begins = begins s h.lines h.sound },
     λ v w. absurd (let k = sym e ∙ reads_back bytes v w in cc),
   )
   ends_here bytes s n [] true last h e = subst (λ (x : List ℕ). f.Writes x (f.value s)) (sym (h.parts ∙ append-nil (text_of f h.lines))) (laws.ends s h.lines h.sound last)
@@ -182,26 +182,26 @@ module _ (f : Format) (Sound : f.State → List f.Line → Type 0) (laws : Laws 
   -- no value's text begins with a line that is refused
   no_value : (bytes bs : List ℕ) (s : f.State) (n : ℕ) (rest : List ℕ) (h : Stands bytes s n rest (10 ∷ bs)) (c : Cause) → f.judge s rest ≡ Err c → (inside : Bool) → f.is_inside rest ≡ inside → (v : f.Value) (more : List ℕ)
       → MayWrite f inside ((text_of f h.lines ++ (rest ++ 10 ∷ [])) ++ more) v → ⊥
-  unfolding closing_by eat
+  unfolding closing_by feed_byte
   no_value bytes bs s n rest h c j false e v more w =
       let fault = faults.Line (next_number n) c in
       let front = text_of f h.lines ++ (rest ++ 10 ∷ []) in
-      let stopped : eats_by f (Reading s n rest) (10 ∷ []) ≡ Stopped fault = ap (λ (x : Result f.State Cause). eats_by f (progress_after x (next_number n)) []) j in
-      let at : eats_by f (start_of f) (front ++ more) ≡ Stopped fault = eats_append f.judge (start_of f) front more ∙ ap (λ (p : Progress f.State). eats_by f p more) (h.eaten (10 ∷ []) ∙ stopped) ∙ stopped_stays f.judge fault more in
+      let stopped : feed_bytes_by f (Reading s n rest) (10 ∷ []) ≡ Stopped fault = ap (λ (x : Result f.State Cause). feed_bytes_by f (progress_after x (next_number n)) []) j in
+      let at : feed_bytes_by f (start_of f) (front ++ more) ≡ Stopped fault = eats_append f.judge (start_of f) front more ∙ ap (λ (p : Progress f.State). feed_bytes_by f p more) (h.eaten (10 ∷ []) ∙ stopped) ∙ stopped_stays f.judge fault more in
       let k = sym (reads_back (front ++ more) v w) ∙ ap (closing_by f) at in cc
   no_value bytes bs s n rest h c j true e v more w =
       let fault = faults.Line (next_number n) c in
       let front = text_of f h.lines ++ (rest ++ 10 ∷ []) in
-      let stopped : eats laws.loose (Reading s n rest) (10 ∷ []) ≡ Stopped fault = ap (λ (x : Result f.State Cause). eats laws.loose (progress_after x (next_number n)) []) (laws.refuses s h.lines rest c h.sound j e) in
-      let at : eats laws.loose (start_of f) (front ++ more) ≡ Stopped fault = eats_append laws.loose (start_of f) front more ∙ ap (λ (p : Progress f.State). eats laws.loose p more) (h.loosely (10 ∷ []) ∙ stopped) ∙ stopped_stays laws.loose fault more in
+      let stopped : feed_bytes laws.loose (Reading s n rest) (10 ∷ []) ≡ Stopped fault = ap (λ (x : Result f.State Cause). feed_bytes laws.loose (progress_after x (next_number n)) []) (laws.refuses s h.lines rest c h.sound j e) in
+      let at : feed_bytes laws.loose (start_of f) (front ++ more) ≡ Stopped fault = eats_append laws.loose (start_of f) front more ∙ ap (λ (p : Progress f.State). feed_bytes laws.loose p more) (h.loosely (10 ∷ []) ∙ stopped) ∙ stopped_stays laws.loose fault more in
       let read = reads_loosely (front ++ more) v w in
       let k = sym read.2 ∙ at in cc
 
   -- a line that is taken, or the first that is not
   next_line : (bytes bs : List ℕ) (s : f.State) (n : ℕ) (rest : List ℕ) (h : Stands bytes s n rest (10 ∷ bs)) (r : Result f.State Cause) → f.judge s rest ≡ r → MatchResult r (OneMore f Sound h.lines rest) (f.HasCause s rest)
-      → ((t : f.State) (m : ℕ) (new : List ℕ) → Stands bytes t m new bs → SpellsBy f bytes (closing_by f (eats_by f (Reading t m new) bs)))
-      → SpellsBy f bytes (closing_by f (eats_by f (progress_after r (next_number n)) bs))
-  unfolding closing_by eat
+      → ((t : f.State) (m : ℕ) (new : List ℕ) → Stands bytes t m new bs → ParsesBy f bytes (closing_by f (feed_bytes_by f (Reading t m new) bs)))
+      → ParsesBy f bytes (closing_by f (feed_bytes_by f (progress_after r (next_number n)) bs))
+  unfolding closing_by feed_byte
   next_line bytes bs s n rest h (Ok t) j k more =
       more t (next_number n) [] (record {
         lines = h.lines ++ k.l ∷ [];
@@ -210,12 +210,12 @@ module _ (f : Format) (Sound : f.State → List f.Line → Type 0) (laws : Laws 
         part = refl;
         number = omega (arith, h.number, length-append h.lines (k.l ∷ []));
         sound = k.sound;
-        eaten = λ m. ap (eats_by f (start_of f)) (sym (line_more h.lines k.l rest m k.text)) ∙ h.eaten (10 ∷ m) ∙ ap (λ (x : Result f.State Cause). eats_by f (progress_after x (next_number n)) m) j;
-        loosely = λ m. ap (eats laws.loose (start_of f)) (sym (line_more h.lines k.l rest m k.text)) ∙ h.loosely (10 ∷ m) ∙ ap (λ (x : Result f.State Cause). eats laws.loose (progress_after x (next_number n)) m) (laws.follows s t rest j);
+        eaten = λ m. ap (feed_bytes_by f (start_of f)) (sym (line_more h.lines k.l rest m k.text)) ∙ h.eaten (10 ∷ m) ∙ ap (λ (x : Result f.State Cause). feed_bytes_by f (progress_after x (next_number n)) m) j;
+        loosely = λ m. ap (feed_bytes laws.loose (start_of f)) (sym (line_more h.lines k.l rest m k.text)) ∙ h.loosely (10 ∷ m) ∙ ap (λ (x : Result f.State Cause). feed_bytes laws.loose (progress_after x (next_number n)) m) (laws.follows s t rest j);
       })
   next_line bytes bs s n rest h (Err c) j cause more =
       let fault = faults.Line (next_number n) c in
-      subst (λ (p : Progress f.State). SpellsBy f bytes (closing_by f p)) (sym (stopped_stays f.judge fault bs)) (inl (record {
+      subst (λ (p : Progress f.State). ParsesBy f bytes (closing_by f p)) (sym (stopped_stays f.judge fault bs)) (inl (record {
         before = h.lines;
         line = rest;
         rest = bs;
@@ -224,16 +224,16 @@ module _ (f : Format) (Sound : f.State → List f.Line → Type 0) (laws : Laws 
         whole = h.part;
         number = omega (arith, h.number);
         state = s;
-        heard = laws.heard s h.lines h.sound;
+        has_lines = laws.has_lines s h.lines h.sound;
         begins = begins s h.lines h.sound;
         faulty = λ b. no_value bytes bs s n rest h c j (f.is_inside rest) refl b.0 b.1 b.2;
         has_cause = cause;
       }))
 
   next_byte : (bytes bs : List ℕ) (s : f.State) (n : ℕ) (rest : List ℕ) (b : ℕ) (v : Bool) → eqb b 10 ≡ v → Stands bytes s n rest (b ∷ bs)
-      → ((t : f.State) (m : ℕ) (new : List ℕ) → Stands bytes t m new bs → SpellsBy f bytes (closing_by f (eats_by f (Reading t m new) bs)))
-      → SpellsBy f bytes (closing_by f (eats_by f (cond v (progress_after (f.judge s rest) (next_number n)) (Reading s n (rest ++ b ∷ []))) bs))
-  unfolding eat
+      → ((t : f.State) (m : ℕ) (new : List ℕ) → Stands bytes t m new bs → ParsesBy f bytes (closing_by f (feed_bytes_by f (Reading t m new) bs)))
+      → ParsesBy f bytes (closing_by f (feed_bytes_by f (cond v (progress_after (f.judge s rest) (next_number n)) (Reading s n (rest ++ b ∷ []))) bs))
+  unfolding feed_byte
   next_byte bytes bs s n rest b true e h more =
       let k : Stands bytes s n rest (10 ∷ bs) = subst (λ (x : ℕ). Stands bytes s n rest (x ∷ bs)) (eqb-true b 10 e) h in
       next_line bytes bs s n rest k (f.judge s rest) refl (laws.judges s k.lines rest k.sound) more
@@ -245,25 +245,25 @@ module _ (f : Format) (Sound : f.State → List f.Line → Type 0) (laws : Laws 
     number = h.number;
     sound = h.sound;
     eaten = λ m.
-        ap (λ (x : List ℕ). eats_by f (start_of f) (text_of f h.lines ++ x)) (append_assoc rest (b ∷ []) m)
+        ap (λ (x : List ℕ). feed_bytes_by f (start_of f) (text_of f h.lines ++ x)) (append_assoc rest (b ∷ []) m)
         ∙ h.eaten (b ∷ m)
-        ∙ ap (λ (x : Bool). eats_by f (cond x (progress_after (f.judge s rest) (next_number n)) (Reading s n (rest ++ b ∷ []))) m) e;
+        ∙ ap (λ (x : Bool). feed_bytes_by f (cond x (progress_after (f.judge s rest) (next_number n)) (Reading s n (rest ++ b ∷ []))) m) e;
     loosely = λ m.
-        ap (λ (x : List ℕ). eats laws.loose (start_of f) (text_of f h.lines ++ x)) (append_assoc rest (b ∷ []) m)
+        ap (λ (x : List ℕ). feed_bytes laws.loose (start_of f) (text_of f h.lines ++ x)) (append_assoc rest (b ∷ []) m)
         ∙ h.loosely (b ∷ m)
-        ∙ ap (λ (x : Bool). eats laws.loose (cond x (progress_after (laws.loose s rest) (next_number n)) (Reading s n (rest ++ b ∷ []))) m) e;
+        ∙ ap (λ (x : Bool). feed_bytes laws.loose (cond x (progress_after (laws.loose s rest) (next_number n)) (Reading s n (rest ++ b ∷ []))) m) e;
   })
 
-  goes_on : (bytes left : List ℕ) (s : f.State) (n : ℕ) (rest : List ℕ) → Stands bytes s n rest left → SpellsBy f bytes (closing_by f (eats_by f (Reading s n rest) left))
-  unfolding closing_by eat
+  goes_on : (bytes left : List ℕ) (s : f.State) (n : ℕ) (rest : List ℕ) → Stands bytes s n rest left → ParsesBy f bytes (closing_by f (feed_bytes_by f (Reading s n rest) left))
+  unfolding closing_by feed_byte
   goes_on bytes [] s n rest h = ends_here bytes s n rest (f.is_last s) refl h (ap (whole_by f) h.parts ∙ ap (closing_by f) (h.eaten []))
   goes_on bytes (b ∷ bs) s n rest h = next_byte bytes bs s n rest b (eqb b 10) refl h (λ t m new k. goes_on bytes bs t m new k)
 
   -- ---- what the calls answer
 
-  spells : (r : Result f.Value JournalFault) (bytes : List ℕ) → IsWholeOr (IsFaultBy f (start_of f) bytes) r (whole_by f bytes) → SpellsBy f bytes r
-  spells r bytes (inl e) = subst (SpellsBy f bytes) (sym e.1) e.2
-  spells r bytes (inr e) = subst (SpellsBy f bytes) (sym e) (goes_on bytes bytes f.start 0 [] (record { lines = []; parts = refl; whole = tt; part = refl; number = omega arith; sound = laws.starts; eaten = λ m. refl; loosely = λ m. refl }))
+  spells : (r : Result f.Value JournalFault) (bytes : List ℕ) → IsWholeOr (IsFaultBy f (start_of f) bytes) r (whole_by f bytes) → ParsesBy f bytes r
+  spells r bytes (inl e) = subst (ParsesBy f bytes) (sym e.1) e.2
+  spells r bytes (inr e) = subst (ParsesBy f bytes) (sym e) (goes_on bytes bytes f.start 0 [] (record { lines = []; parts = refl; whole = tt; part = refl; number = omega arith; sound = laws.starts; eaten = λ m. refl; loosely = λ m. refl }))
 
   pub is_found : (r : Result f.Value JournalFault) (bytes : List ℕ) → IsWholeOr (IsFaultBy f (start_of f) bytes) r (whole_by f bytes) → IfOk r (λ v. f.Writes bytes v)
   is_found (Ok v) bytes h = spells (Ok v) bytes h

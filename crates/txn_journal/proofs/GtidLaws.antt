@@ -1,4 +1,4 @@
--- Sources, GTIDs and sets as words: what is read is spelled so, and what is spelled so is read.
+-- Sources, GTIDs and sets as words: reading is sound and complete.
 use Rattle.std.proofs.Common.{◌≡◌, ℕ, zero, suc, ◌+◌, ◌*◌, ◌^◌, ◌<◌, Bool, true, false, cond, eqb, not, List, [], ◌∷◌, ◌++◌, length, get_or, Option, Some, None, Result, Ok, Err, refl, ap, subst, arith, inl, inr, ◌≤◌, leb, sym, ◌∙◌}
 use Rattle.std.specs.Prelude.{◌&&◌, ◌||◌, decimal, option_map, codes}
 use Rattle.std.specs.List.{list_all}
@@ -12,7 +12,7 @@ use Rattle.gtid_text.specs.declared.Gtid.{Gtid}
 use Rattle.gtid_text.specs.declared.scan.ScanFault.{ScanFault}
 use Rattle.gtid_text.specs.Scan.{is_uuid_byte, source_of}
 use Rattle.gtid_text.specs.Reading.{gtid_in, spans_in, turn_at, element_at}
-use Rattle.gtid_text.specs.Grammar.{SpellsGtid, Number, Interval, Element, IsNumber, IsUpper, IsInterval, AreIntervals, IsElement, AreElements, Spells}
+use Rattle.gtid_text.specs.Grammar.{ParsesAsGtid, Number, Interval, Element, IsNumber, IsUpper, IsInterval, AreIntervals, IsElement, AreElements, ParsesAs}
 use Rattle.gtid_text.specs.Written.{IsSource, IsUsable, IsSpaced, gtid_tokens, IsNumbered, IsUsableSpan, AreUsable, spans_tokens}
 use Rattle.gtid_text.specs.Canonical.{source_text, gtid_text, numbers_text, span_text, next_text, text_behind, spans_text}
 use Rattle.gtid_text.proofs.RoundTrip.{source_bytes}
@@ -137,8 +137,8 @@ ascii_found w o x e = elim (chosen (list_all is_ascii_byte w) o None (Some x) e)
 pub gtid_found : (w : List ℕ) (g : Gtid) → gtid_of_word w ≡ Some g → (w ≡ gtid_text g) × IsUsable g
 gtid_found w g e =
     let f = same_found gtid_text w (gtid_in w) g (ascii_found w (same_or_none gtid_text w (gtid_in w)) g e) in
-    let s : SpellsGtid w g = gtid_spelled w g f.1 in
-    (f.0, record { source = source_small s.uuid g.source s.is_uuid.names; number = numbered s.number.digits g.number s.is_number.spells })
+    let s : ParsesAsGtid w g = gtid_spelled w g f.1 in
+    (f.0, record { source = source_small s.uuid g.source s.is_uuid.names; number = numbered s.number.digits g.number s.is_number.parses })
 
 pub gtid_again : (g : Gtid) → IsUsable g → gtid_of_word (gtid_text g) ≡ Some g
 gtid_again g u =
@@ -154,7 +154,7 @@ usable_append [] ys a b = b
 usable_append (x ∷ xs) ys a b = (a.0, usable_append xs ys a.1 b)
 
 number_is : (n : Number) (value : ℕ) → IsNumber n value → IsNumbered value
-number_is n value h = numbered n.digits value h.spells
+number_is n value h = numbered n.digits value h.parses
 
 upper_is : (u : Option (List ℕ × Number)) (s : Span) → IsUpper u s → IsNumbered s.lo → IsNumbered s.hi × (s.lo ≤ s.hi)
 upper_is None s h low = (subst IsNumbered (sym h) low, omega (arith, h))
@@ -236,7 +236,7 @@ tidy_found w (u ∷ us) ss read e =
     elim (chosen (are_tidy_behind None (u ∷ us)) (where_same spans_text w (u ∷ us)) None (Some ss) e) [
       | inl p ↦
           let f = where_same-found spans_text w (u ∷ us) ss p.1 in
-          let spelt : Spells w (u ∷ us) = read_spells w (u ∷ us) read in
+          let spelt : ParsesAs w (u ∷ us) = read_spells w (u ∷ us) read in
           let usable = elements_are spelt.elements (u ∷ us) spelt.says in
           subst (SpansFound w) f.1 (record { text = f.0 ∙ ap spans_text (sym f.1); merged = tidy_merged u us p.0 usable; usable = usable })
       | inr p ↦ absurd cc

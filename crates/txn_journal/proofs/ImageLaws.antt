@@ -1,4 +1,4 @@
--- Images: what is read is spelled so, and what is spelled so is read.
+-- Images: reading is sound and complete.
 use Rattle.std.proofs.Common.{◌≡◌, ℕ, ◌<◌, inl, inr, true, false, List, [], ◌∷◌, ◌++◌, length, map, Option, Some, None, Ok, refl, sym, ap, subst, ◌∙◌, append_assoc, arith}
 use Rattle.std.specs.Prelude.{codes, MatchResult}
 use Rattle.std.proofs.lemmas.Bool.{false_from_ne_true}
@@ -165,7 +165,7 @@ images_both text = found_weaker (images_in text) _ _ _ (λ p b.
       after_some = g.stands;
     }) (both_both (values_from [] (words_of text)))
 
--- ---- what is spelled
+-- ---- texts
 
 not_bar : (v : Value) → FitsValue v → is_bar (value_text v) ≡ false
 not_bar v fits = false_from_ne_true (is_bar (value_text v)) (λ e. let k = ap value_of (sym (bar_word (value_text v) e)) ∙ value_of-text v fits in let n = no_bar in absurd cc)

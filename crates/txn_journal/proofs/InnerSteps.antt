@@ -19,7 +19,7 @@ use Rattle.txn_journal.specs.Spelling.{Line, Header, Previous, Begin, Makes, End
 use Rattle.txn_journal.specs.Stamps.{right_stamp}
 use Rattle.txn_journal.specs.Stream.{GivesFull, TakesLine}
 use Rattle.txn_journal.specs.BundleStates.{BundleStanding, IsFullBundle, close_channel, after_inner, is_misstamped, unless_misstamped, end_entry, judge_inner}
-use Rattle.txn_journal.specs.Wordings.{Says}
+use Rattle.txn_journal.specs.Wordings.{ParsesAsLine}
 use Rattle.txn_journal.specs.Causes.{word_for, wording, HasCause}
 use Rattle.txn_journal.specs.declared.fault.Cause.{Cause}
 use Rattle.txn_journal.specs.declared.fault.Cause.TheVariants as causes
@@ -49,7 +49,7 @@ Makes_of (Previous p) s t = Unit {0}
 Makes_of (Makes c) s t = SameOpen s t
 Makes_of _ s t = t.journal.entries ≡ s.journal.entries
 
-put_makes : (schema : Option (List Table)) (s : Standing) (line : List ℕ) (l : Line) → Says (wording schema s) line l → MatchResult (put schema s l) (Makes_of l s) (HasCause schema s line)
+put_makes : (schema : Option (List Table)) (s : Standing) (line : List ℕ) (l : Line) → ParsesAsLine (wording schema s) line l → MatchResult (put schema s l) (Makes_of l s) (HasCause schema s line)
 unfolding put
 put_makes schema s line (Header v) h = refl
 put_makes schema s line (Previous p) h = tt

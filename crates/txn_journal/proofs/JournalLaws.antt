@@ -1,4 +1,4 @@
--- Journals obey the laws of formats: what is spelled is read to its end, and what has been read can be gone on with.
+-- Journals obey the laws of formats: a text is read to its end, and what has been read can be gone on with.
 use Rattle.std.proofs.Common.{◌≡◌, ℕ, ◌+◌, ◌^◌, ◌<◌, ◌≤◌, Bool, true, false, not, eqb, leb, List, [], ◌∷◌, ◌++◌, length, map, Option, Some, None, Ok, refl, sym, ap, subst, ◌∙◌, append_assoc, arith}
 use Rattle.std.specs.List.{list_all, AllByRecursion}
 use Rattle.std.specs.FinSet as set
@@ -41,7 +41,7 @@ use Rattle.txn_journal.proofs.LineReads.{body_of, put, judge_reads, rest_laws}
 use Rattle.txn_journal.proofs.WordLaws.{judged_again}
 use Rattle.txn_journal.proofs.SoundLines.{placed, fits_in, seen_after, Whole, Sound_at, IsSound, whole_more, ended_entry, whole_written, judged_line}
 use Rattle.std.proofs.lemmas.Result.{MatchResult-weaker}
-use Rattle.txn_journal.specs.Heard.{said}
+use Rattle.txn_journal.specs.LinesSoFar.{lines_so_far}
 use Rattle.txn_journal.specs.declared.lines.Place.{Place}
 
 -- ---- no line feed is in a line
@@ -136,7 +136,7 @@ with_entries j es = record j { entries = j.entries ++ es }
 abbrev pub at : Place → Option Version → Version → JournalValue → List ℕ → Gtids → ℕ → Gtid → ℕ → List Change → Standing
 at place due version j stamps seen count g stamp cs = record { place = place; due = due; version = version; journal = j; stamps = stamps; seen = seen; count = count; gtid = g; stamp = stamp; changes = cs }
 
--- a line that is spelled is read, and then it acts
+-- the text of a line is read, and then it acts
 pub spelled_judged : (schema : Option (List Table)) (s t : Standing) (l : Line) → is_due s.place (word_for l) ≡ true → FitsAt s.due s.version l → put schema s l ≡ Ok t → judge schema s (line_text l) ≡ Ok t
 spelled_judged schema s t l is fit step = judge_reads schema s (line_text l) ∙ judged_again (wording schema s) (body_of s.due s.version) (rest_laws schema s) (put schema s) l is fit ∙ step
 
@@ -303,7 +303,7 @@ pub record Completes (schema : Option (List Table)) (due : Option Version) (plac
   pub fits : IsWritten journal
   pub stamps_fit : AreStamps version 1 (last_stamps place s) journal.entries
   pub fitting : list_all (fits_in schema) journal.entries ≡ true
-  pub whole : journal_lines version (last_stamps place s) journal ≡ said (placed place s) ++ more
+  pub whole : journal_lines version (last_stamps place s) journal ≡ lines_so_far (placed place s) ++ more
 
 pub some_version : (due : Option Version) → (version : Version) × (takes due version ≡ true)
 some_version None = (One, refl)
@@ -327,17 +327,17 @@ completes_at schema places.Within s o =
       fits = whole_written schema (close_entry s) whole;
       stamps_fit = whole.stamped;
       fitting = whole.fitting;
-      whole = ap (λ (ls : List Line). ls ++ Close ∷ []) (ended_entry schema s o.whole) ∙ append_assoc (said (placed places.Within s)) (End ∷ []) (Close ∷ []);
+      whole = ap (λ (ls : List Line). ls ++ Close ∷ []) (ended_entry schema s o.whole) ∙ append_assoc (lines_so_far (placed places.Within s)) (End ∷ []) (Close ∷ []);
     }
 completes_at schema places.Ended s h = record { version = s.version; journal = s.journal; more = []; takes_version = h.0.due; entries = refl; fits = whole_written schema s h.0; stamps_fit = h.0.stamped; fitting = h.0.fitting; whole = sym (append-nil (journal_lines s.version s.stamps s.journal)) }
 
 -- a journal that has come to its end
 pub record Ended (schema : Option (List Table)) (s : Standing) : Type 0 where
   pub whole : Whole schema s
-  pub lines : said s ≡ journal_lines s.version s.stamps s.journal
+  pub lines : lines_so_far s ≡ journal_lines s.version s.stamps s.journal
   pub written : IsWritten s.journal
 
-ended_at : (schema : Option (List Table)) (place : Place) (s : Standing) → Sound_at schema place s → is_last place ≡ true → (Whole schema s) × (said (placed place s) ≡ journal_lines s.version s.stamps s.journal)
+ended_at : (schema : Option (List Table)) (place : Place) (s : Standing) → Sound_at schema place s → is_last place ≡ true → (Whole schema s) × (lines_so_far (placed place s) ≡ journal_lines s.version s.stamps s.journal)
 ended_at schema places.Ended s h last = (h.0, refl)
 ended_at schema place s h last = absurd cc
 
@@ -347,9 +347,9 @@ ended schema s h last = let e = ended_at schema s.place s h last in record { who
 -- ---- journals that stand alone
 
 abbrev pub IsSoundAlone : Option Version → Standing → List Line → Type 0
-IsSoundAlone due s ls = (s.due ≡ due) × (said s ≡ ls) × IsSound None s
+IsSoundAlone due s ls = (s.due ≡ due) × (lines_so_far s ≡ ls) × IsSound None s
 
--- of whatever is looked at in the end: where it is spelled it is read, and the other way round
+-- of whatever is looked at in the end: where there is a text of it, it is read, and the other way round
 pub record Seen {V : Type 0} (due : Option Version) (value : Standing → V) (Spelled : List ℕ → V → Type 0) : Type 0 where
   pub spelled : (bytes : List ℕ) (s : Standing) → IsWrittenAs due bytes (as_written s) → Spelled bytes (value s)
   pub written : (bytes : List ℕ) (v : V) → Spelled bytes v → (w : WrittenJournal) × IsWrittenAs due bytes w × ((s : Standing) → as_written s ≡ w → value s ≡ v)
@@ -359,7 +359,7 @@ laws_as {V} due value Spelled seen =
     let f = journals_as due value Spelled in
     record {
       starts = (refl, refl, record { none_stamped = refl; none_counted = refl; none_open = refl });
-      heard = λ s ls h. h.1;
+      has_lines = λ s ls h. h.1;
       begins = λ s ls h.
           let k = completes_at None s.place s h.2 in
           let is : takes due k.version ≡ true = subst (λ (d : Option Version). takes d k.version ≡ true) h.0 k.takes_version in

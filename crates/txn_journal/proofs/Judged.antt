@@ -26,7 +26,7 @@ abbrev pub IsSchema : Cause → Type 0
 IsSchema causes.Schema = Unit {0}
 IsSchema _ = ⊥
 
--- what is found, said in other words
+-- what is found, in other words
 pub found_weaker : {A : Type 0} (r : Result A Cause) (P P' : A → Type 0) (Q : Cause → Type 0) → ((x : A) → P x → P' x) → MatchResult r P Q → MatchResult r P' Q
 found_weaker (Ok x) P P' Q more h = more x h
 found_weaker (Err c) P P' Q more h = h

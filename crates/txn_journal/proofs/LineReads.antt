@@ -1,4 +1,4 @@
--- Lines: what is read is spelled so, and what is spelled so is read.
+-- Lines: reading is sound and complete.
 use Rattle.std.proofs.Common.{◌≡◌, ℕ, inl, inr, true, List, [], ◌∷◌, ◌++◌, Option, Some, None, Result, Ok, Err, refl, sym, ap, ◌∙◌, ◌+◌, not, eqb}
 use Rattle.std.specs.Prelude.{codes, MatchResult, ◌&&◌}
 use Rattle.std.proofs.lemmas.Bool.{and_parts}
@@ -32,13 +32,13 @@ use Rattle.txn_journal.specs.declared.lines.Version.TheVariants.{One, Two}
 use Rattle.txn_journal.proofs.NameLemmas.{name_no_blank}
 use Rattle.txn_journal.proofs.ImageLaws.{image_both, images_both, image_again, images_again}
 use Rattle.txn_journal.proofs.Judged.{then_both, if_both, some_both, IsBody, one_step, two_steps, bind_assoc}
-use Rattle.txn_journal.proofs.WordLaws.{among_found, IsVersionFault, IsRestFault, Spells, read_by, read_at, RestLaws, of_body, of_header}
+use Rattle.txn_journal.proofs.WordLaws.{among_found, IsVersionFault, IsRestFault, ParsesAs, read_by, read_at, RestLaws, of_body, of_header}
 use Rattle.std.proofs.lemmas.Option.{same_Some}
 use Rattle.gtid_text.proofs.Turns.{chosen}
 
 -- ---- a line is read, and then it acts
 
--- what the rest of a line says
+-- what the rest of a line parses as
 unfoldable pub body_of : Option Version → Version → Keyword → Option (List ℕ) → Result Line Cause
 body_of due version keywords.Journal rest = version_in due rest >>= λ v. Ok (Header v)
 body_of due version keywords.Previous rest = set_in rest >>= λ s. Ok (Previous s)
@@ -158,34 +158,34 @@ with_none line w first rest = word_alone line rest ∙ first
 pub with_table : (line w name text r : List ℕ) → first_word line ≡ w → others line ≡ Some (name ++ 32 ∷ text) → text ≡ r → line ≡ w ++ 32 ∷ (name ++ 32 ∷ r)
 with_table line w name text r first rest is = with_more line w (name ++ 32 ∷ text) first rest ∙ ap (λ (t : List ℕ). w ++ 32 ∷ (name ++ 32 ∷ t)) is
 
-rest_both : (schema : Option (List Table)) (s : Standing) (k : Keyword) (line : List ℕ) → first_word line ≡ keyword_text k → MatchResult (body_of s.due s.version k (others line)) (Spells (wording schema s) k line) (IsRestFault (wording schema s) k (others line))
+rest_both : (schema : Option (List Table)) (s : Standing) (k : Keyword) (line : List ℕ) → first_word line ≡ keyword_text k → MatchResult (body_of s.due s.version k (others line)) (ParsesAs (wording schema s) k line) (IsRestFault (wording schema s) k (others line))
 unfolding body_of
 rest_both schema s keywords.Journal line first =
-    of_header (wording schema s) (others line) (Spells (wording schema s) keywords.Journal line) _
+    of_header (wording schema s) (others line) (ParsesAs (wording schema s) keywords.Journal line) _
     (then_both _ _ (version_in s.due (others line)) _ (version_both s.due (others line)) (λ v f. record { text = with_more line (codes "journal") (version_text v) first f.0; fits = record { words = tt; images = tt; of_version = f.1 }; word = refl }))
 rest_both schema s keywords.Previous line first =
-    of_body (wording schema s) keywords.Previous (others line) (Spells (wording schema s) keywords.Previous line) _
+    of_body (wording schema s) keywords.Previous (others line) (ParsesAs (wording schema s) keywords.Previous line) _
     (then_both _ _ (set_in (others line)) _ (set_both (others line)) (λ p f. record { text = with_more line (codes "previous") (set_text p) first f.0; fits = record { words = f.1; images = tt; of_version = tt }; word = refl }))
 rest_both schema s keywords.Txn line first =
-    of_body (wording schema s) keywords.Txn (others line) (Spells (wording schema s) keywords.Txn line) _
+    of_body (wording schema s) keywords.Txn (others line) (ParsesAs (wording schema s) keywords.Txn line) _
     (then_both _ _ (beginning_in s.version (others line)) _ (beginning_both s.version (others line))
     (λ b f. record { text = with_more line (codes "txn") (gtid_text b.gtid ++ numbers_text b.numbers) first f.text; fits = record { words = (f.usable, f.counts); images = tt; of_version = f.of_version }; word = refl }))
 rest_both schema s keywords.Ins line first =
-    of_body (wording schema s) keywords.Ins (others line) (Spells (wording schema s) keywords.Ins line) _
+    of_body (wording schema s) keywords.Ins (others line) (ParsesAs (wording schema s) keywords.Ins line) _
     (then_both _ _ (table_in (others line)) _ (table_both (others line)) (λ t h. then_both _ _ (image_in t.1) _ (image_both t.1) (λ after f. record { text = with_table line (codes "ins") t.0 t.1 (values_text after) first h.0 f.0; fits = record { words = (h.1, f.1); images = f.2; of_version = tt }; word = refl })))
 rest_both schema s keywords.Del line first =
-    of_body (wording schema s) keywords.Del (others line) (Spells (wording schema s) keywords.Del line) _
+    of_body (wording schema s) keywords.Del (others line) (ParsesAs (wording schema s) keywords.Del line) _
     (then_both _ _ (table_in (others line)) _ (table_both (others line)) (λ t h. then_both _ _ (image_in t.1) _ (image_both t.1) (λ before f. record { text = with_table line (codes "del") t.0 t.1 (values_text before) first h.0 f.0; fits = record { words = (h.1, f.1); images = f.2; of_version = tt }; word = refl })))
 rest_both schema s keywords.Upd line first =
-    of_body (wording schema s) keywords.Upd (others line) (Spells (wording schema s) keywords.Upd line) _
+    of_body (wording schema s) keywords.Upd (others line) (ParsesAs (wording schema s) keywords.Upd line) _
     (then_both _ _ (table_in (others line)) _ (table_both (others line)) (λ t h. then_both _ _ (images_in t.1) _ (images_both t.1)
     (λ p f. record { text = with_table line (codes "upd") t.0 t.1 (values_text p.0 ++ 32 ∷ (124 ∷ 32 ∷ values_text p.1)) first h.0 f.spelt; fits = record { words = (h.1, f.before_fits, f.after_fits); images = (f.before_some, f.after_some); of_version = tt }; word = refl })))
 rest_both schema s keywords.End line first =
-    of_body (wording schema s) keywords.End (others line) (Spells (wording schema s) keywords.End line) _ (then_both _ _ (nothing_in (others line)) _ (nothing_both (others line)) (λ u none. record { text = with_none line (codes "end") first none; fits = record { words = tt; images = tt; of_version = tt }; word = refl }))
+    of_body (wording schema s) keywords.End (others line) (ParsesAs (wording schema s) keywords.End line) _ (then_both _ _ (nothing_in (others line)) _ (nothing_both (others line)) (λ u none. record { text = with_none line (codes "end") first none; fits = record { words = tt; images = tt; of_version = tt }; word = refl }))
 rest_both schema s keywords.Close line first =
-    of_body (wording schema s) keywords.Close (others line) (Spells (wording schema s) keywords.Close line) _ (then_both _ _ (nothing_in (others line)) _ (nothing_both (others line)) (λ u none. record { text = with_none line (codes "close") first none; fits = record { words = tt; images = tt; of_version = tt }; word = refl }))
+    of_body (wording schema s) keywords.Close (others line) (ParsesAs (wording schema s) keywords.Close line) _ (then_both _ _ (nothing_in (others line)) _ (nothing_both (others line)) (λ u none. record { text = with_none line (codes "close") first none; fits = record { words = tt; images = tt; of_version = tt }; word = refl }))
 
--- ---- what is spelled is read
+-- ---- reading is complete
 
 pub table_again : (name text : List ℕ) → is_name name ≡ true → table_in (Some (name ++ 32 ∷ text)) ≡ Ok (name, text)
 table_again name text e = rw (others-front name text (name_no_blank name e), first_word-front name text (name_no_blank name e), e) refl

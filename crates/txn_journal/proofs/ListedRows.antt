@@ -17,7 +17,7 @@ use Rattle.rows.specs.Apply.{Rows, ◌>>=◌ as ◌andthen◌, with_row, or_else
 use Rattle.rows.specs.Carriers.{AreCarriers}
 use Rattle.rows.specs.Database.{Database, opening}
 use Rattle.rows.specs.Fits.{misfit}
-use Rattle.rows.specs.Keys.{values_in, unique_keys, keys_of_row, table_named, keys_in, carried_keys}
+use Rattle.rows.specs.Keys.{values_in, unique_keys, keys_of_row, find_table, keys_in, carried_keys}
 use Rattle.row_images.specs.Values.{is_null}
 use Rattle.rows.specs.Listing.{primary_rows, rows_listed}
 use Rattle.rows.specs.Order.{key_cmp, key_eq}
@@ -238,7 +238,7 @@ next_put schema rows put e es w b z free =
       ];
       carriers = carriers_put (record { schema = schema; rows = put }) (row_at e.0 e.1) b.carriers free;
       ahead = λ k row y f. get-with_row K e.1 put k ∙ elim (is_among K k) as (λ v. is_among K k ≡ v → cond v (Some e.1) (get put k) ≡ None) [
-        | true ↦ λ i. not_first e es k row b.sorted f (one_primary (table_named e.0.table schema) e.1 k e.0 y z i (w.carriers.carried e.0 e.1 at))
+        | true ↦ λ i. not_first e es k row b.sorted f (one_primary (find_table e.0.table schema) e.1 k e.0 y z i (w.carriers.carried e.0 e.1 at))
         | false ↦ λ i. b.ahead k row y (later e es k row b.sorted f)
       ] refl;
     }

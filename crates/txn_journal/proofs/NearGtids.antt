@@ -1,4 +1,4 @@
--- A GTID that is spelled by the text of a source that is known.
+-- A GTID that begins with the text of a source that is known.
 use Rattle.std.proofs.Common.{◌≡◌, ℕ, ◌<◌, ◌≤◌, List, ◌∷◌, ◌++◌, length, get_or, take, drop, Some, refl, subst, sym, ap, ◌∙◌, arith}
 use Rattle.std.specs.Prelude.{codes}
 use Rattle.std.proofs.Math.Seq.{drop-cons, take-append_seam}

@@ -12,7 +12,7 @@ use Rattle.row_images.specs.declared.value.Value.{Value}
 use Rattle.rows.specs.Apply.{Rows, ◌>>=◌ as ◌andthen◌, with_row, first_taken, insert_if_free, apply_from, apply}
 use Rattle.rows.specs.Database.{Database, opening}
 use Rattle.rows.specs.Fits.{misfit, misfit_in, first_cause, count_misfit, or_later}
-use Rattle.rows.specs.Keys.{keys_in, carried_keys, table_named, values_in}
+use Rattle.rows.specs.Keys.{keys_in, carried_keys, find_table, values_in}
 use Rattle.rows.specs.Order.{key_cmp}
 use Rattle.rows.specs.WriteSet.{is_among}
 use Rattle.rows.specs.Total.{key_eq_self}
@@ -69,7 +69,7 @@ key_in (Some t) r e =
     (k, rw (key_eq_self k) refl)
 
 has_key : (schema : List Table) (r : TableRow) → misfit schema (opening r.table r.row) ≡ None → HasKey schema r
-has_key schema r e = let k = key_in (table_named r.table schema) r e in record { key = k.0; among = k.1 }
+has_key schema r e = let k = key_in (find_table r.table schema) r e in record { key = k.0; among = k.1 }
 
 -- ---- rows that are put in turn
 
@@ -80,7 +80,7 @@ pub record IsPut (schema : List Table) (rs : List TableRow) (k : Key) (row : Lis
   pub row_is : one.row ≡ row
   pub carries : is_among (carried_keys schema one.table one.row) k ≡ true
 
--- a row that stands stays
+-- a row that is there stays
 pub stays : (d : Database) (rs : List TableRow) (new : Rows) (k : Key) (row : List Value) → put_all d rs ≡ Ok new → get d.rows k ≡ Some row → get new k ≡ Some row
 stays d [] new k row e g = ap (λ (m : Rows). get m k) (sym (ok_is d.rows new e)) ∙ g
 stays d (r ∷ rs) new k row e g =

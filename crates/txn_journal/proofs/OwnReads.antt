@@ -1,4 +1,4 @@
--- A bundle's own lines: what is read is spelled so, what is spelled so is read, and then it acts.
+-- A bundle's own lines: reading is sound and complete, and then the line acts.
 use Rattle.std.proofs.Common.{◌≡◌, ℕ, Bool, true, false, not, cond, eqb, List, [], ◌∷◌, ◌++◌, Option, Some, None, Ok, Err, refl, sym, ap, subst, ◌∙◌, Result}
 use Rattle.std.specs.Prelude.{codes, MatchResult}
 use Rattle.std.specs.List.{list_all}
@@ -8,7 +8,7 @@ use Rattle.std.proofs.lemmas.Slice.Eq.{bytes_eq-Decides}
 use Rattle.gtid_text.specs.Canonical.{source_text}
 use Rattle.gtid_text.specs.Written.{IsSource, IsSpaced, source_tokens}
 use Rattle.gtid_text.specs.Reading.{source_in}
-use Rattle.gtid_text.specs.Grammar.{SpellsSource}
+use Rattle.gtid_text.specs.Grammar.{ParsesAsSource}
 use Rattle.gtid_text.proofs.Shown.{source_shown, spaced_joined}
 use Rattle.gtid_text.proofs.Single.{source_reads_back, source_spelled}
 use Rattle.gtid_set.proofs.SpanLemmas.{all_weaker}
@@ -39,17 +39,17 @@ use Rattle.txn_journal.specs.declared.bundle_draft.Word.TheVariants as words
 use Rattle.txn_journal.specs.declared.fault.Cause.TheVariants as causes
 use Rattle.txn_journal.specs.declared.bundle_draft.Part.TheVariants as parts
 use Rattle.txn_journal.proofs.Judged.{then_both, if_both, some_both, found_weaker, IsBody, one_step, two_steps, bind_assoc}
-use Rattle.txn_journal.proofs.WordLaws.{among_found, IsRestFault, Spells, read_by, read_at, RestLaws, of_body, of_header}
+use Rattle.txn_journal.proofs.WordLaws.{among_found, IsRestFault, ParsesAs, read_by, read_at, RestLaws, of_body, of_header}
 use Rattle.txn_journal.proofs.ImageLaws.{image_both, image_again}
 use Rattle.txn_journal.proofs.LineReads.{version_both, set_both, nothing_both, name_both, table_both, table_again, with_more, with_none, with_table as table_line}
 use Rattle.txn_journal.proofs.ShapeLaws.{shape_both, shape_again, shape_one}
 
--- what the rest of a table's line says
+-- what the rest of a table's line parses as
 abbrev pub shape_behind : Option (List ℕ) → Result Shape Cause
 shape_behind None = Err causes.Body
 shape_behind (Some text) = shape_in text
 
--- what the rest of a line says
+-- what the rest of a line parses as
 unfoldable pub own_body : Option Version → Word → Option (List ℕ) → Result OwnLine Cause
 own_body due words.Bundle rest = version_in due rest >>= λ version. Ok (Heads version)
 own_body due words.Replica rest = replica_in rest >>= λ replica. Ok (Names replica)
@@ -98,7 +98,7 @@ every_word = words.Bundle ∷ words.Replica ∷ words.Opening ∷ words.Table �
 source_word_found : (w : List ℕ) (id : ℕ) → source_of_word w ≡ Some id → (w ≡ source_text id) × IsSource id
 source_word_found w id e =
     let f = same_found source_text w (source_in w) id (ascii_found w (same_or_none source_text w (source_in w)) id e) in
-    let s : SpellsSource w id = source_spelled w id f.1 in
+    let s : ParsesAsSource w id = source_spelled w id f.1 in
     (f.0, source_small s.uuid id s.is_uuid.names)
 
 source_word_again : (id : ℕ) → IsSource id → source_of_word (source_text id) ≡ Some id
@@ -108,7 +108,7 @@ source_word_again id small =
     let ascii : list_all is_ascii_byte (source_text id) ≡ true = all_weaker is_set_byte is_ascii_byte (source_text id) set_ascii (source_set id) in
     rw (ascii, read) (where_same-again source_text id)
 
--- ---- what is read is spelled so
+-- ---- reading is sound
 
 replica_both : (rest : Option (List ℕ)) → MatchResult (replica_in rest) (λ id. (rest ≡ Some (source_text id)) × IsSource id) IsBody
 replica_both None = tt
@@ -128,25 +128,25 @@ channel_both None = tt
 channel_both (Some text) = then_both _ _ (some_or_body (name_of (first_word text))) _ (name_both (first_word text)) (λ name n. then_both _ _ (preserve_in (others text)) _ (preserve_both text (others text) refl)
     (λ p f. (ap Some (f ∙ ap (λ (w : List ℕ). w ++ preserve_text p) n.0), n.1)))
 
-rest_both : (s : BundleStanding) (k : Word) (line : List ℕ) → first_word line ≡ own_word_text k → MatchResult (own_body s.due k (others line)) (Spells (own_wording s) k line) (IsRestFault (own_wording s) k (others line))
+rest_both : (s : BundleStanding) (k : Word) (line : List ℕ) → first_word line ≡ own_word_text k → MatchResult (own_body s.due k (others line)) (ParsesAs (own_wording s) k line) (IsRestFault (own_wording s) k (others line))
 unfolding own_body
 rest_both s words.Bundle line first =
-    of_header (own_wording s) (others line) (Spells (own_wording s) words.Bundle line) _ (then_both _ _ (version_in s.due (others line)) _ (version_both s.due (others line)) (λ v f. record { text = with_more line (codes "bundle") (version_text v) first f.0; fits = f.1; word = refl }))
+    of_header (own_wording s) (others line) (ParsesAs (own_wording s) words.Bundle line) _ (then_both _ _ (version_in s.due (others line)) _ (version_both s.due (others line)) (λ v f. record { text = with_more line (codes "bundle") (version_text v) first f.0; fits = f.1; word = refl }))
 rest_both s words.Replica line first =
-    of_body (own_wording s) words.Replica (others line) (Spells (own_wording s) words.Replica line) _ (then_both _ _ (replica_in (others line)) _ (replica_both (others line)) (λ id f. record { text = with_more line (codes "replica") (source_text id) first f.0; fits = f.1; word = refl }))
+    of_body (own_wording s) words.Replica (others line) (ParsesAs (own_wording s) words.Replica line) _ (then_both _ _ (replica_in (others line)) _ (replica_both (others line)) (λ id f. record { text = with_more line (codes "replica") (source_text id) first f.0; fits = f.1; word = refl }))
 rest_both s words.Opening line first =
-    of_body (own_wording s) words.Opening (others line) (Spells (own_wording s) words.Opening line) _ (then_both _ _ (set_in (others line)) _ (set_both (others line)) (λ p f. record { text = with_more line (codes "opening") (set_text p) first f.0; fits = f.1; word = refl }))
+    of_body (own_wording s) words.Opening (others line) (ParsesAs (own_wording s) words.Opening line) _ (then_both _ _ (set_in (others line)) _ (set_both (others line)) (λ p f. record { text = with_more line (codes "opening") (set_text p) first f.0; fits = f.1; word = refl }))
 rest_both s words.Table line first =
-    of_body (own_wording s) words.Table (others line) (Spells (own_wording s) words.Table line) _ (then_both _ _ (shape_behind (others line)) _ (shape_behind_both (others line)) (λ shape f. record { text = with_more line (codes "table") (shape_text shape) first f.0; fits = f.1; word = refl }))
+    of_body (own_wording s) words.Table (others line) (ParsesAs (own_wording s) words.Table line) _ (then_both _ _ (shape_behind (others line)) _ (shape_behind_both (others line)) (λ shape f. record { text = with_more line (codes "table") (shape_text shape) first f.0; fits = f.1; word = refl }))
 rest_both s words.Row line first =
-    of_body (own_wording s) words.Row (others line) (Spells (own_wording s) words.Row line) _ (then_both _ _ (table_in (others line)) _ (table_both (others line)) (λ t h. then_both _ _ (image_in t.1) _ (image_both t.1)
+    of_body (own_wording s) words.Row (others line) (ParsesAs (own_wording s) words.Row line) _ (then_both _ _ (table_in (others line)) _ (table_both (others line)) (λ t h. then_both _ _ (image_in t.1) _ (image_both t.1)
     (λ row f. record { text = table_line line (codes "row") t.0 t.1 (values_text row) first h.0 f.0; fits = record { name = h.1; values = f.1; some = f.2 }; word = refl })))
 rest_both s words.Channel line first =
-    of_body (own_wording s) words.Channel (others line) (Spells (own_wording s) words.Channel line) _ (then_both _ _ (channel_in (others line)) _ (channel_both (others line)) (λ c f. record { text = with_more line (codes "channel") (c.name ++ preserve_text c.preserve) first f.0; fits = f.1; word = refl }))
+    of_body (own_wording s) words.Channel (others line) (ParsesAs (own_wording s) words.Channel line) _ (then_both _ _ (channel_in (others line)) _ (channel_both (others line)) (λ c f. record { text = with_more line (codes "channel") (c.name ++ preserve_text c.preserve) first f.0; fits = f.1; word = refl }))
 rest_both s words.Done line first =
-    of_body (own_wording s) words.Done (others line) (Spells (own_wording s) words.Done line) _ (then_both _ _ (nothing_in (others line)) _ (nothing_both (others line)) (λ u none. record { text = with_none line (codes "done") first none; fits = tt; word = refl }))
+    of_body (own_wording s) words.Done (others line) (ParsesAs (own_wording s) words.Done line) _ (then_both _ _ (nothing_in (others line)) _ (nothing_both (others line)) (λ u none. record { text = with_none line (codes "done") first none; fits = tt; word = refl }))
 
--- ---- what is spelled is read
+-- ---- reading is complete
 
 channel_again : (name : List ℕ) (p : Bool) → is_name name ≡ true → channel_in (Some (name ++ preserve_text p)) ≡ Ok (record { name = name; preserve = p })
 unfolding channel_in

@@ -10,59 +10,59 @@ use Rattle.txn_journal.specs.declared.fault.Cause.{Cause}
 use Rattle.txn_journal.specs.declared.fault.JournalFault.{JournalFault}
 use Rattle.txn_journal.specs.declared.fault.JournalFault.TheVariants as faults
 use Rattle.txn_journal.specs.Words.{IsOneLine}
-use Rattle.txn_journal.specs.Stream.{Fills, Judge, Progress, Reading, Stopped, unless_stopped, next_number, progress_after, eat, eats, GivesFull, HasFull, IsPieceFault, IsAfter, TakesPiece, answer}
+use Rattle.txn_journal.specs.Stream.{Fills, Judge, Progress, Reading, Stopped, unless_stopped, next_number, progress_after, feed_byte, feed_bytes, GivesFull, HasFull, IsPieceFault, IsAfter, TakesPiece, answer}
 use Rattle.std.proofs.lemmas.Bool.{and_parts, not-true}
 
-pub stopped_stays : {S : Type 0} (judge : Judge S) (f : JournalFault) (bs : List ℕ) → eats judge (Stopped f) bs ≡ Stopped f
-unfolding eat
+pub stopped_stays : {S : Type 0} (judge : Judge S) (f : JournalFault) (bs : List ℕ) → feed_bytes judge (Stopped f) bs ≡ Stopped f
+unfolding feed_byte
 stopped_stays judge f [] = refl
 stopped_stays judge f (b ∷ bs) = stopped_stays judge f bs
 
 -- It doesn't matter where a text is cut.
-pub eats_append : {S : Type 0} (judge : Judge S) (p : Progress S) (xs ys : List ℕ) → eats judge p (xs ++ ys) ≡ eats judge (eats judge p xs) ys
+pub eats_append : {S : Type 0} (judge : Judge S) (p : Progress S) (xs ys : List ℕ) → feed_bytes judge p (xs ++ ys) ≡ feed_bytes judge (feed_bytes judge p xs) ys
 eats_append judge p [] ys = refl
-eats_append judge p (x ∷ xs) ys = eats_append judge (eat judge p x) xs ys
+eats_append judge p (x ∷ xs) ys = eats_append judge (feed_byte judge p x) xs ys
 
 -- the bytes of a line are kept until its line feed
-pub eats_rest : {S : Type 0} (judge : Judge S) (s : S) (n : ℕ) (rest bs : List ℕ) → IsOneLine bs → eats judge (Reading s n rest) bs ≡ Reading s n (rest ++ bs)
-unfolding eat
+pub eats_rest : {S : Type 0} (judge : Judge S) (s : S) (n : ℕ) (rest bs : List ℕ) → IsOneLine bs → feed_bytes judge (Reading s n rest) bs ≡ Reading s n (rest ++ bs)
+unfolding feed_byte
 eats_rest judge s n rest [] one = ap (Reading s n) (sym (append-nil rest))
 eats_rest judge s n rest (b ∷ bs) one =
     let p = and_parts (not (eqb b 10)) (list_all (λ c. not (eqb c 10)) bs) one in
     rw (not-true (eqb b 10) p.0) (eats_rest judge s n (rest ++ b ∷ []) bs p.1 ∙ ap (Reading s n) (append_assoc rest (b ∷ []) bs))
 
-pub eats_line : {S : Type 0} (judge : Judge S) (s : S) (n : ℕ) (rest line : List ℕ) → IsOneLine line → eats judge (Reading s n rest) (line ++ 10 ∷ []) ≡ progress_after (judge s (rest ++ line)) (next_number n)
-unfolding eat
+pub eats_line : {S : Type 0} (judge : Judge S) (s : S) (n : ℕ) (rest line : List ℕ) → IsOneLine line → feed_bytes judge (Reading s n rest) (line ++ 10 ∷ []) ≡ progress_after (judge s (rest ++ line)) (next_number n)
+unfolding feed_byte
 eats_line {S} judge s n rest line one =
-    eats_append judge (Reading s n rest) line (10 ∷ []) ∙ ap (λ (p : Progress S). eat judge p 10) (eats_rest judge s n rest line one)
+    eats_append judge (Reading s n rest) line (10 ∷ []) ∙ ap (λ (p : Progress S). feed_byte judge p 10) (eats_rest judge s n rest line one)
 
 -- ---- what each step of the code leaves
 
 pub line_ok : {S : Type 0} (judge : Judge S) (o q : Option JournalFault) (s t : S) (n m : ℕ) (rest new line : List ℕ)
     → o ≡ None → q ≡ o → IsOneLine line → judge s (rest ++ line) ≡ Ok t → new ≡ [] → m ≡ next_number n
-    → eats judge (unless_stopped o (Reading s n rest)) (line ++ 10 ∷ []) ≡ unless_stopped q (Reading t m new)
+    → feed_bytes judge (unless_stopped o (Reading s n rest)) (line ++ 10 ∷ []) ≡ unless_stopped q (Reading t m new)
 line_ok {S} judge o q s t n m rest new line goes same one made none next =
-    ap (λ (k : Option JournalFault). eats judge (unless_stopped k (Reading s n rest)) (line ++ 10 ∷ [])) goes
+    ap (λ (k : Option JournalFault). feed_bytes judge (unless_stopped k (Reading s n rest)) (line ++ 10 ∷ [])) goes
     ∙ eats_line judge s n rest line one
     ∙ ap (λ (r : Result S Cause). progress_after r (next_number n)) made
     ∙ sym (λ i. unless_stopped ((same ∙ goes) i) (Reading t (next i) (none i)))
 
 pub line_wrong : {S : Type 0} (judge : Judge S) (o : Option JournalFault) (s : S) (n m : ℕ) (rest line : List ℕ) (cause : Cause)
     → o ≡ None → IsOneLine line → judge s (rest ++ line) ≡ Err cause → m ≡ next_number n
-    → eats judge (unless_stopped o (Reading s n rest)) (line ++ 10 ∷ []) ≡ Stopped (faults.Line m cause)
+    → feed_bytes judge (unless_stopped o (Reading s n rest)) (line ++ 10 ∷ []) ≡ Stopped (faults.Line m cause)
 line_wrong {S} judge o s n m rest line cause goes one made next =
-    ap (λ (k : Option JournalFault). eats judge (unless_stopped k (Reading s n rest)) (line ++ 10 ∷ [])) goes
+    ap (λ (k : Option JournalFault). feed_bytes judge (unless_stopped k (Reading s n rest)) (line ++ 10 ∷ [])) goes
     ∙ eats_line judge s n rest line one
     ∙ ap (λ (r : Result S Cause). progress_after r (next_number n)) made
     ∙ sym (λ i. Stopped (faults.Line (next i) cause))
 
 -- a line before what is left
 pub line_taken : {S : Type 0} (judge : Judge S) (now then total : Progress S) (left line after : List ℕ)
-    → left ≡ line ++ 10 ∷ after → eats judge now (line ++ 10 ∷ []) ≡ then → eats judge now left ≡ total → eats judge then after ≡ total
+    → left ≡ line ++ 10 ∷ after → feed_bytes judge now (line ++ 10 ∷ []) ≡ then → feed_bytes judge now left ≡ total → feed_bytes judge then after ≡ total
 line_taken {S} judge now then total left line after parts took so_far =
-    sym (ap (λ (p : Progress S). eats judge p after) took)
+    sym (ap (λ (p : Progress S). feed_bytes judge p after) took)
     ∙ sym (eats_append judge now (line ++ 10 ∷ []) after)
-    ∙ sym (ap (eats judge now) (parts ∙ sym (append_assoc line (10 ∷ []) after)))
+    ∙ sym (ap (feed_bytes judge now) (parts ∙ sym (append_assoc line (10 ∷ []) after)))
     ∙ so_far
 
 -- ---- faults that may be
@@ -79,7 +79,7 @@ line_fault {S} full judge f o s n rest line goes one h =
   where
     fills : (large : S → Type 0) → GivesFull large (judge s (rest ++ line)) → Fills large judge (unless_stopped o (Reading s n rest)) (line ++ 10 ∷ [])
     fills large k =
-        let is = ap (λ (k : Option JournalFault). eats judge (unless_stopped k (Reading s n rest)) (line ++ 10 ∷ [])) goes ∙ eats_line judge s n rest line one in
+        let is = ap (λ (k : Option JournalFault). feed_bytes judge (unless_stopped k (Reading s n rest)) (line ++ 10 ∷ [])) goes ∙ eats_line judge s n rest line one in
         record {
           front = line ++ 10 ∷ [];
           rest = [];
@@ -102,7 +102,7 @@ line_in_front {S} full judge f now left line after parts h = fault_map f (fills 
 
 -- a line that was taken may come before
 pub behind_line : {S : Type 0} (full : SetFault → S → Type 0) (judge : Judge S) (f : SetFault) (now then : Progress S) (left line after : List ℕ)
-    → left ≡ line ++ 10 ∷ after → eats judge now (line ++ 10 ∷ []) ≡ then → IsPieceFault full judge then after f → IsPieceFault full judge now left f
+    → left ≡ line ++ 10 ∷ after → feed_bytes judge now (line ++ 10 ∷ []) ≡ then → IsPieceFault full judge then after f → IsPieceFault full judge now left f
 behind_line {S} full judge f now then left line after parts took h =
     fault_map f (fills (full SourcesFull)) (fills (full PoolFull)) h
   where
@@ -113,11 +113,11 @@ behind_line {S} full judge f now then left line after parts took h =
           front = whole ++ k.front;
           rest = k.rest;
           parts = parts ∙ sym (append_assoc line (10 ∷ []) after) ∙ ap (λ x. whole ++ x) k.parts ∙ sym (append_assoc whole k.front k.rest);
-          is_full = subst (λ (p : Progress S). HasFull large p) (sym (eats_append judge now whole k.front ∙ ap (λ (p : Progress S). eats judge p k.front) took)) k.is_full;
+          is_full = subst (λ (p : Progress S). HasFull large p) (sym (eats_append judge now whole k.front ∙ ap (λ (p : Progress S). feed_bytes judge p k.front) took)) k.is_full;
         }
 
 pub line_fails : {S : Type 0} (full : SetFault → S → Type 0) (judge : Judge S) (fault : JournalFault) (may : SetFault → Type 0) (now new newer total : Progress S) (left line after : List ℕ)
-    → left ≡ line ++ 10 ∷ after → TakesPiece (IsPieceFault full judge now (line ++ 10 ∷ [])) (Err fault) new (eats judge now (line ++ 10 ∷ [])) → eats judge now left ≡ total
+    → left ≡ line ++ 10 ∷ after → TakesPiece (IsPieceFault full judge now (line ++ 10 ∷ [])) (Err fault) new (feed_bytes judge now (line ++ 10 ∷ [])) → feed_bytes judge now left ≡ total
     → ((f : SetFault) → IsPieceFault full judge now left f → may f) → TakesPiece may (Err fault) newer total
 line_fails full judge (faults.Set fault) may now new newer total left line after parts took so_far wider = wider fault (line_in_front full judge fault now left line after parts took)
 line_fails full judge (faults.Line n cause) may now new newer total left line after parts took so_far wider =
@@ -125,13 +125,13 @@ line_fails full judge (faults.Line n cause) may now new newer total left line af
 line_fails full judge (faults.Truncated n) may now new newer total left line after parts took so_far wider = absurd took
 
 pub rest_kept : {S : Type 0} (judge : Judge S) (o : Option JournalFault) (s : S) (n : ℕ) (rest new left : List ℕ) (total : Progress S)
-    → o ≡ None → IsOneLine left → new ≡ rest ++ left → eats judge (unless_stopped o (Reading s n rest)) left ≡ total → total ≡ unless_stopped o (Reading s n new)
+    → o ≡ None → IsOneLine left → new ≡ rest ++ left → feed_bytes judge (unless_stopped o (Reading s n rest)) left ≡ total → total ≡ unless_stopped o (Reading s n new)
 rest_kept {S} judge o s n rest new left total goes one kept so_far =
     sym so_far
-    ∙ ap (λ (k : Option JournalFault). eats judge (unless_stopped k (Reading s n rest)) left) goes
+    ∙ ap (λ (k : Option JournalFault). feed_bytes judge (unless_stopped k (Reading s n rest)) left) goes
     ∙ eats_rest judge s n rest left one
     ∙ sym (λ i. unless_stopped (goes i) (Reading s n (kept i)))
 
-pub stopped_at : {S : Type 0} (judge : Judge S) (may : SetFault → Type 0) (p : Progress S) (f : JournalFault) (bs : List ℕ) → answer p ≡ Err f → IsAfter may p (eats judge p bs)
+pub stopped_at : {S : Type 0} (judge : Judge S) (may : SetFault → Type 0) (p : Progress S) (f : JournalFault) (bs : List ℕ) → answer p ≡ Err f → IsAfter may p (feed_bytes judge p bs)
 stopped_at judge may (Reading s n rest) f bs e = absurd cc
 stopped_at judge may (Stopped g) f bs e = inr (sym (stopped_stays judge g bs))

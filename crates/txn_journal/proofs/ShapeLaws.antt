@@ -1,4 +1,4 @@
--- A table's line: what is read is spelled so, and what is spelled so is read.
+-- A table's line: reading is sound and complete.
 use Rattle.std.proofs.Common.{◌≡◌, ℕ, ◌<◌, ◌≤◌, inl, inr, Bool, true, false, not, cond, leb, ltb, List, [], ◌∷◌, ◌++◌, length, map, Option, Some, None, Result, Ok, Err, refl, sym, ap, ◌∙◌, append_assoc, arith}
 use Rattle.std.specs.Prelude.{◌&&◌, ◌||◌, codes, MatchResult}
 use Rattle.std.specs.List.{list_all}
@@ -28,7 +28,7 @@ use Rattle.txn_journal.proofs.LineReads.{name_both}
 use Rattle.row_images.proofs.PartLaws.{parts_joined, parts_cut, AllLack, parts_again}
 use Rattle.txn_journal.proofs.SplitLaws.{joined_lacks, count_no_blank, count_no_feed, columns_no_blank, columns_no_feed, are_small, new_distinct, columns_parts, columns_written}
 
--- ---- what is read is spelled so
+-- ---- reading is sound
 
 record UniquesFound (before words us : List (List ℕ)) : Type 0 where
   read : List (List ℕ)
@@ -71,7 +71,7 @@ pub shape_both : (text : List ℕ) → MatchResult (shape_in text) (λ s. (text 
 unfolding shape_in
 shape_both text = found_weaker (shape_of (parts_of 32 text)) _ _ _ (λ s f. (sym (parts_joined 32 text) ∙ ap (joined_by 32) f.spelt, f.fits)) (words_both (parts_of 32 text))
 
--- ---- what is spelled is read
+-- ---- reading is complete
 
 abbrev ok_list : List (List ℕ) → Result (List (List ℕ)) Cause
 ok_list x = Ok x
@@ -166,7 +166,7 @@ keys_both limit before (t ∷ ts) fits =
       lists = rw c.list more.lists;
     }) (keys_both limit (before ++ columns ∷ []) ts p.1))
 
--- the table of a shape is spelled so
+-- the table of a shape has this text
 record TableFound (s : Shape) (n : ℕ) (t : Table) : Type 0 where
   shape : s ≡ shape_for t
   lists : has_column_lists t ≡ true

@@ -1,4 +1,4 @@
--- What the lines so far have said is kept by one line more.
+-- One line more keeps the invariant of the lines so far.
 use Rattle.std.proofs.Common.{◌≡◌, ℕ, ◌+◌, ◌<◌, ◌≤◌, inl, inr, Bool, true, false, not, leb, List, [], ◌∷◌, ◌++◌, length, map, Option, Some, None, refl, sym, ap, subst, ◌∙◌, append_assoc, arith}
 use Rattle.std.specs.Prelude.{◌||◌, MatchResult, nat_lt}
 use Rattle.std.specs.List.{list_all, AllByRecursion}
@@ -24,12 +24,12 @@ use Rattle.txn_journal.specs.Due.{is_due}
 use Rattle.txn_journal.specs.Lines.{Numbers, takes, is_place, below, stamp_in}
 use Rattle.txn_journal.specs.Machine.{Standing, fits, open_entry, close_entry, add, begin_stamped, begin, judge}
 use Rattle.txn_journal.specs.Spelling.{Line, Header, Previous, Begin, Makes, End, Close, line_text, numbers_of, entry_lines, entries_lines, opening_lines, front_lines, FitsChange, FitsEntry, IsWritten, IsStamp, AreStamps}
-use Rattle.txn_journal.specs.Heard.{said}
+use Rattle.txn_journal.specs.LinesSoFar.{lines_so_far}
 use Rattle.txn_journal.specs.declared.lines.Place.{Place}
 use Rattle.txn_journal.specs.declared.lines.Place.TheVariants as places
 use Rattle.txn_journal.specs.declared.lines.Version.{Version}
 use Rattle.txn_journal.specs.declared.lines.Version.TheVariants.{One, Two}
-use Rattle.txn_journal.specs.Wordings.{Says}
+use Rattle.txn_journal.specs.Wordings.{ParsesAsLine}
 use Rattle.txn_journal.specs.Causes.{word_for, HasNumbers, PassesLimit, wording, HasCause}
 use Rattle.txn_journal.proofs.GtidLaws.{written_numbers}
 use Rattle.txn_journal.proofs.Judged.{if_both}
@@ -144,7 +144,7 @@ whole_more schema s o =
     }
 
 -- the lines with a whole entry more
-pub ended_entry : (schema : Option (List Table)) (s : Standing) → Whole schema s → said (close_entry s) ≡ said (placed places.Within s) ++ End ∷ []
+pub ended_entry : (schema : Option (List Table)) (s : Standing) → Whole schema s → lines_so_far (close_entry s) ≡ lines_so_far (placed places.Within s) ++ End ∷ []
 ended_entry schema s w =
     let j = s.journal in
     let at : 1 + length j.entries ≡ s.count + 1 = omega (arith, w.counted) in
@@ -207,11 +207,11 @@ EntriesGo _ s t = SameEntries s t
 -- what a line leaves
 pub record Keeps (schema : Option (List Table)) (s : Standing) (l : Line) (t : Standing) : Type 0 where
   pub same_due : t.due ≡ s.due
-  pub says : said t ≡ said s ++ l ∷ []
+  pub says : lines_so_far t ≡ lines_so_far s ++ l ∷ []
   pub goes : EntriesGo l s t
   pub sound : IsSound schema t
 
-pub begin_both : (schema : Option (List Table)) (s : Standing) (line : List ℕ) (g : Gtid) (numbers : Option Numbers) (P : Standing → Type 0) → Says (wording schema s) line (Begin g numbers)
+pub begin_both : (schema : Option (List Table)) (s : Standing) (line : List ℕ) (g : Gtid) (numbers : Option Numbers) (P : Standing → Type 0) → ParsesAsLine (wording schema s) line (Begin g numbers)
     → (is_number g.number ≡ true → s.count < 4294967294 → (stamp : ℕ) → stamp_in (s.count + 1) numbers ≡ Some stamp → set.contains s.seen g ≡ false → P (record s { place = places.Within; gtid = g; stamp = stamp }))
     → MatchResult (begin s g (stamp_in (s.count + 1) numbers)) P (HasCause schema s line)
 unfolding begin greatest
@@ -227,7 +227,7 @@ begin_both schema s line g numbers P h more =
         if_both P (HasCause schema s line) (set.contains s.seen g) _ _ (λ twice. (Begin g numbers, h, λ full. (let k = le-leb 4294967294 s.count full in cc), λ wrong. (let k = sym wrong ∙ e in cc), (refl, twice)))
         (λ unseen. found stamp e unseen)
 
-pub add_both : (schema : Option (List Table)) (s : Standing) (line : List ℕ) (c : Change) (P : Standing → Type 0) → Says (wording schema s) line (Makes c)
+pub add_both : (schema : Option (List Table)) (s : Standing) (line : List ℕ) (c : Change) (P : Standing → Type 0) → ParsesAsLine (wording schema s) line (Makes c)
     → (length s.changes < 65536 → is_change_writable c ≡ true → fits schema c ≡ true → P (record s { changes = s.changes ++ c ∷ [] })) → MatchResult (add schema s c) P (HasCause schema s line)
 unfolding add
 add_both schema s line c P h more =
@@ -253,7 +253,7 @@ no_change place c e = grind arith
 again : (schema : Option (List Table)) (s : Standing) (place : Place) (g : Gtid) (stamp : ℕ) (cs : List Change) → Whole schema s → Whole schema (record s { place = place; gtid = g; stamp = stamp; changes = cs })
 again schema s place g stamp cs w = record { due = w.due; new = w.new; writable = w.writable; previous = w.previous; fits = w.fits; fitting = w.fitting; stamped = w.stamped; all_seen = w.all_seen; counted = w.counted; few = w.few }
 
-keeps_at : (schema : Option (List Table)) (place : Place) (s : Standing) (line : List ℕ) (l : Line) → Sound_at schema place s → is_due place (word_for l) ≡ true → Says (wording schema (placed place s)) line l
+keeps_at : (schema : Option (List Table)) (place : Place) (s : Standing) (line : List ℕ) (l : Line) → Sound_at schema place s → is_due place (word_for l) ≡ true → ParsesAsLine (wording schema (placed place s)) line l
     → MatchResult (put schema (placed place s) l) (Keeps schema (placed place s) l) (HasCause schema (placed place s) line)
 unfolding put
 keeps_at schema places.Header s line (Header v) h is k = record { same_due = refl; says = refl; goes = record { stamps = refl; entries = refl }; sound = (record { none_stamped = h.none_stamped; none_counted = h.none_counted; none_open = h.none_open }, k.fits.of_version) }

@@ -10,11 +10,11 @@ use Rattle.txn_journal.specs.Due.{is_due}
 use Rattle.gtid_text.specs.declared.Gtid.{Gtid}
 use Rattle.txn_journal.specs.Lines.{◌>>=◌, stamp_in}
 use Rattle.txn_journal.specs.Machine.{Standing, is_last, close_entry, add, begin_stamped, begin, judge}
-use Rattle.txn_journal.specs.Stream.{Progress, Reading, Stopped, progress_after, next_number, eat, end_of_text, at_end}
+use Rattle.txn_journal.specs.Stream.{Progress, Reading, Stopped, progress_after, next_number, feed_byte, end_of_text, at_end}
 use Rattle.txn_journal.specs.Formats.{closing_by}
-use Rattle.txn_journal.specs.Reading.{Stamped, eats_alone, stamped_of, without_entries, closing, in_front, behind_entries, with_front, has_begun, HasBegun}
+use Rattle.txn_journal.specs.Reading.{Stamped, feed_journal_bytes, stamped_of, without_entries, closing, in_front, behind_entries, with_front, has_begun, HasBegun}
 use Rattle.txn_journal.specs.Spelling.{Line, Header, Previous, Begin, Makes, End, Close}
-use Rattle.txn_journal.specs.Wordings.{Says}
+use Rattle.txn_journal.specs.Wordings.{ParsesAsLine}
 use Rattle.txn_journal.specs.Causes.{word_for, wording, HasCause}
 use Rattle.txn_journal.specs.declared.fault.Cause.{Cause}
 use Rattle.txn_journal.specs.declared.fault.Cause.TheVariants as causes
@@ -67,7 +67,7 @@ put_behind front s End b e =
     λ i. ok_standing (record (close_entry s) { journal = record s.journal { entries = append_assoc front.entries s.journal.entries (one ∷ []) i }; stamps = append_assoc front.stamps s.stamps (s.stamp ∷ []) i })
 put_behind front s Close b e = refl
 
-then_behind : (front : Stamped) (s : Standing) (line : List ℕ) (r : Result Line Cause) → has_begun s.place ≡ true → MatchResult r (Says (wording None s) line) (HasCause None s line) → (r >>= put None (with_taken front s)) ≡ behind_ok front (r >>= put None s)
+then_behind : (front : Stamped) (s : Standing) (line : List ℕ) (r : Result Line Cause) → has_begun s.place ≡ true → MatchResult r (ParsesAsLine (wording None s) line) (HasCause None s line) → (r >>= put None (with_taken front s)) ≡ behind_ok front (r >>= put None s)
 then_behind front s line (Ok l) b h = put_behind front s l b h.due
 then_behind front s line (Err c) b h = refl
 
@@ -82,7 +82,7 @@ judge_behind front s line b =
 abbrev StaysBegun : Standing → Type 0
 StaysBegun t = has_begun t.place ≡ true
 
-put_begun : (s : Standing) (line : List ℕ) (l : Line) → has_begun s.place ≡ true → is_due s.place (word_for l) ≡ true → Says (wording None s) line l → MatchResult (put None s l) StaysBegun (HasCause None s line)
+put_begun : (s : Standing) (line : List ℕ) (l : Line) → has_begun s.place ≡ true → is_due s.place (word_for l) ≡ true → ParsesAsLine (wording None s) line l → MatchResult (put None s l) StaysBegun (HasCause None s line)
 unfolding put
 put_begun s line (Header v) b due h = absurd (no_header s.place b due)
 put_begun s line (Previous p) b due h = absurd (no_previous s.place b due)
@@ -104,8 +104,8 @@ judged_begun : (s : Standing) (line : List ℕ) (r : Result Standing Cause) (n :
 judged_begun s line (Ok t) n h = h
 judged_begun s line (Err c) n h = tt
 
-eat_behind : (front : Stamped) (p : Progress Standing) (b : ℕ) → HasBegun p → (eat (judge None) (behind_entries front p) b ≡ behind_entries front (eat (judge None) p b)) × HasBegun (eat (judge None) p b)
-unfolding eat
+eat_behind : (front : Stamped) (p : Progress Standing) (b : ℕ) → HasBegun p → (feed_byte (judge None) (behind_entries front p) b ≡ behind_entries front (feed_byte (judge None) p b)) × HasBegun (feed_byte (judge None) p b)
+unfolding feed_byte
 eat_behind front (Reading s n rest) b h =
     elim (eqb b 10) as (λ v. (cond v (progress_after (judge None (with_taken front s) rest) (next_number n)) (Reading (with_taken front s) n (rest ++ b ∷ [])) ≡ behind_entries front (cond v (progress_after (judge None s rest) (next_number n)) (Reading s n (rest ++ b ∷ [])))) × HasBegun (cond v (progress_after (judge None s rest) (next_number n)) (Reading s n (rest ++ b ∷ [])))) [
       | true ↦ (ap (λ (r : Result Standing Cause). progress_after r (next_number n)) (judge_behind front s rest h) ∙ judged_behind front (judge None s rest) (next_number n), judged_begun s rest (judge None s rest) (next_number n) (judge_begun s rest h))
@@ -113,11 +113,11 @@ eat_behind front (Reading s n rest) b h =
     ]
 eat_behind front (Stopped f) b h = (refl, tt)
 
-pub eats_behind : (front : Stamped) (p : Progress Standing) (bytes : List ℕ) → HasBegun p → eats_alone (behind_entries front p) bytes ≡ behind_entries front (eats_alone p bytes)
+pub eats_behind : (front : Stamped) (p : Progress Standing) (bytes : List ℕ) → HasBegun p → feed_journal_bytes (behind_entries front p) bytes ≡ behind_entries front (feed_journal_bytes p bytes)
 eats_behind front p [] h = refl
 eats_behind front p (b ∷ bs) h =
     let one = eat_behind front p b h in
-    ap (λ (q : Progress Standing). eats_alone q bs) one.0 ∙ eats_behind front (eat (judge None) p b) bs one.1
+    ap (λ (q : Progress Standing). feed_journal_bytes q bs) one.0 ∙ eats_behind front (feed_byte (judge None) p b) bs one.1
 
 -- ---- the whole
 

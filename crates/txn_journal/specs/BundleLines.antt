@@ -6,12 +6,12 @@ use Rattle.txn_journal.specs.declared.fault.Cause.{Cause}
 use Rattle.txn_journal.specs.declared.lines.Version.{Version}
 
 -- what these lines make, the last of them first
-abbrev pub made_by : Option Version → List (List ℕ) → Result BundleStanding Cause
-made_by due [] = Ok (no_bundle due)
-made_by due (line ∷ earlier) = made_by due earlier >>= λ s. judge_bundle s line
+abbrev pub standing_after : Option Version → List (List ℕ) → Result BundleStanding Cause
+standing_after due [] = Ok (no_bundle due)
+standing_after due (line ∷ earlier) = standing_after due earlier >>= λ s. judge_bundle s line
 
 -- some lines have made it
 pub record HasCome (s : BundleStanding) : Type 0 where
   pub due : Option Version
   pub lines : List (List ℕ)
-  pub made : made_by due lines ≡ Ok s
+  pub made : standing_after due lines ≡ Ok s

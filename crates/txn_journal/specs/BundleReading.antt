@@ -4,7 +4,7 @@ use Rattle.gtid_set.specs.declared.fault.SetFault.{SetFault}
 use Rattle.rows.specs.declared.change.TableRow.{TableRow}
 use Rattle.txn_journal.specs.declared.fault.JournalFault.{JournalFault}
 use Rattle.txn_journal.specs.Stream.{Progress}
-use Rattle.txn_journal.specs.Formats.{Format, start_of, eats_by, IsFaultBy, closing_by}
+use Rattle.txn_journal.specs.Formats.{Format, start_of, feed_bytes_by, IsFaultBy, closing_by}
 use Rattle.txn_journal.specs.BundleStates.{BundleValue, BundleStanding, no_bundle, is_done, judge_bundle, IsFullBundle}
 use Rattle.row_images.specs.Words.{first_word}
 use Rattle.txn_journal.specs.Lines.{keyword_of}
@@ -16,7 +16,7 @@ use Rattle.txn_journal.specs.declared.lines.Place.{Place}
 use Rattle.txn_journal.specs.declared.bundle_draft.Part.{Part}
 use Rattle.txn_journal.specs.declared.bundle_draft.Part.TheVariants as parts
 use Rattle.txn_journal.specs.BundleText.{BundleLine, bundle_line_text, WritesBundleBy, AlmostWritesBundle}
-use Rattle.txn_journal.specs.BundleHeard.{bundle_said}
+use Rattle.txn_journal.specs.BundleLinesSoFar.{bundle_lines_so_far}
 use Rattle.txn_journal.specs.BundleCauses.{HasBundleCause}
 
 abbrev pub is_inside : Option Keyword → Bool
@@ -47,7 +47,7 @@ bundles due = record {
   AlmostWrites = AlmostWritesBundle due;
   is_open = λ s. is_entry_open s.part s.draft.place;
   is_inside = λ line. is_inside (keyword_of (first_word line));
-  HasHeard = λ s ls. (rows : List TableRow) × (bundle_said rows s ≡ ls);
+  HasLines = λ s ls. (rows : List TableRow) × (bundle_lines_so_far rows s ≡ ls);
   HasCause = HasBundleCause;
 }
 
@@ -56,8 +56,8 @@ abbrev pub bundle_start : Option Version → Progress BundleStanding
 bundle_start due = start_of (bundles due)
 
 -- a bundle, byte by byte
-abbrev pub eats_bundle : Progress BundleStanding → List ℕ → Progress BundleStanding
-eats_bundle p bytes = eats_by (bundles None) p bytes
+abbrev pub feed_bundle_bytes : Progress BundleStanding → List ℕ → Progress BundleStanding
+feed_bundle_bytes p bytes = feed_bytes_by (bundles None) p bytes
 
 -- why bytes are not taken, though nothing is wrong with them: memory was refused, or the opening set or that of a channel's journal has too many sources or intervals after some of them
 abbrev pub IsFaultOfBundle : Progress BundleStanding → List ℕ → SetFault → Type 0
@@ -69,4 +69,4 @@ closing_bundle p = closing_by (bundles None) p
 
 -- the bytes are read as this bundle, by the fold over them
 abbrev pub IsReadAs : List ℕ → BundleValue → Type 0
-IsReadAs bytes b = closing_bundle (eats_bundle (bundle_start None) bytes) ≡ Ok b
+IsReadAs bytes b = closing_bundle (feed_bundle_bytes (bundle_start None) bytes) ≡ Ok b

@@ -24,7 +24,7 @@ use Rattle.txn_journal.specs.Lines.{◌>>=◌, some_or_body, due, version_in, se
 use Rattle.txn_journal.specs.Machine.{Standing, empty, is_last, is_within, open_entry, close_entry, IsFull, IsInEntry, judge}
 use Rattle.txn_journal.specs.Stamps.{right_stamp}
 use Rattle.txn_journal.specs.Shapes.{added_table}
-use Rattle.txn_journal.specs.declared.bundle.Channel.{Channel}
+use Rattle.txn_journal.specs.declared.bundle.BundleChannel.{BundleChannel}
 use Rattle.txn_journal.specs.declared.bundle_draft.Part.{Part}
 use Rattle.txn_journal.specs.declared.bundle_draft.Part.TheVariants as parts
 use Rattle.txn_journal.specs.declared.bundle_draft.Word.{Word}
@@ -39,7 +39,7 @@ pub record BundleValue : Type 0 where
   pub replica : ℕ
   pub opened : Gtids
   pub start : Database
-  pub channels : List Channel
+  pub channels : List BundleChannel
   pub journals : List JournalValue
 
 -- a bundle without rows and channels
@@ -54,7 +54,7 @@ pub record BundleStanding : Type 0 where
   pub version : Version
   pub tables : List Table
   pub bundle : BundleValue
-  pub channel : Option Channel
+  pub channel : Option BundleChannel
   pub draft : Standing
 
 -- before the first line
@@ -115,7 +115,7 @@ abbrev pub preserve_in : Option (List ℕ) → Result Bool Cause
 preserve_in None = Ok false
 preserve_in (Some word) = if bytes_eq word (codes "preserve") then Ok true else Err causes.Body
 
-unfoldable pub channel_in : Option (List ℕ) → Result Channel Cause
+unfoldable pub channel_in : Option (List ℕ) → Result BundleChannel Cause
 channel_in None = Err causes.Body
 channel_in (Some text) = do
   name ← some_or_body (name_of (first_word text))
@@ -145,7 +145,7 @@ put_row s r = do
   rows ← with_opening s.bundle.start r
   Ok (record s { bundle = record s.bundle { start = record s.bundle.start { rows = rows } } })
 
-abbrev pub has_channel : List Channel → List ℕ → Bool
+abbrev pub has_channel : List BundleChannel → List ℕ → Bool
 has_channel channels name = list_any (λ c. eq_by_cmp (slice_cmp nat_cmp) c.name name) channels
 
 unfoldable pub version_line : BundleStanding → Option (List ℕ) → Result BundleStanding Cause
@@ -180,7 +180,7 @@ row_line s rest = do
   row ← image_in table.1
   if is_image_writable row then put_row (after_tables s) (record { table = table.0; row = row }) else Err causes.Limit
 
-unfoldable pub join_channel : BundleStanding → Channel → Result BundleStanding Cause
+unfoldable pub join_channel : BundleStanding → BundleChannel → Result BundleStanding Cause
 join_channel s channel =
     if nat_le 256 (length s.bundle.channels) then Err causes.Limit
     else if has_channel s.bundle.channels channel.name then Err causes.Schema
@@ -212,7 +212,7 @@ judge_own s line = do
   own_step s word (others line)
 
 -- the channel that is open joins the others with its journal
-abbrev pub with_journal : Option Channel → BundleValue → JournalValue → BundleValue
+abbrev pub with_journal : Option BundleChannel → BundleValue → JournalValue → BundleValue
 with_journal None b journal = b
 with_journal (Some channel) b journal = record b { channels = b.channels ++ channel ∷ []; journals = b.journals ++ journal ∷ [] }
 

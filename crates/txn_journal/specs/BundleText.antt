@@ -24,7 +24,7 @@ use Rattle.txn_journal.specs.Spelling.{Line, version_text, image_text, line_text
 use Rattle.row_images.specs.Images.{AreValues}
 use Rattle.txn_journal.specs.Stamps.{right_stamps, all_stamps}
 use Rattle.txn_journal.specs.WrittenSets.{set_text, IsWrittenSet}
-use Rattle.txn_journal.specs.declared.bundle.Channel.{Channel}
+use Rattle.txn_journal.specs.declared.bundle.BundleChannel.{BundleChannel}
 use Rattle.txn_journal.specs.declared.fault.Cause.{Cause}
 use Rattle.txn_journal.specs.declared.lines.Version.{Version}
 use Rattle.txn_journal.specs.declared.lines.Version.TheVariants.{One, Two}
@@ -38,7 +38,7 @@ pub data OwnLine : Type 0 where
   Starts : Gtids → OwnLine
   Has : Shape → OwnLine
   Puts : TableRow → OwnLine
-  Opens : Channel → OwnLine
+  Opens : BundleChannel → OwnLine
   Done : OwnLine
 
 pub data BundleLine : Type 0 where
@@ -79,11 +79,11 @@ abbrev pub row_lines : List TableRow → List BundleLine
 row_lines rows = map (λ r. Own (Puts r)) rows
 
 -- a channel, and the journal that it brings
-abbrev pub channel_lines : Version → Channel → List ℕ → JournalValue → List BundleLine
+abbrev pub channel_lines : Version → BundleChannel → List ℕ → JournalValue → List BundleLine
 channel_lines version c stamps j = Own (Opens c) ∷ map Inner (journal_lines version stamps j)
 
 -- with the last_committed of each entry of each journal
-abbrev pub channels_lines : Version → List Channel → List (List ℕ) → List JournalValue → List BundleLine
+abbrev pub channels_lines : Version → List BundleChannel → List (List ℕ) → List JournalValue → List BundleLine
 channels_lines version (c ∷ cs) (stamps ∷ all) (j ∷ js) = channel_lines version c stamps j ++ channels_lines version cs all js
 channels_lines version _ _ _ = []
 
@@ -136,7 +136,7 @@ pub record AreOpening (schema : List Table) (rs : List TableRow) (rows : Rows) :
   pub put : put_all (record { schema = schema; rows = map_of.empty }) rs ≡ Ok rows
 
 -- each channel has a name that none before it has
-abbrev pub AreNamed : List Channel → List Channel → Type 0
+abbrev pub AreNamed : List BundleChannel → List BundleChannel → Type 0
 AreNamed before [] = Unit {0}
 AreNamed before (c ∷ cs) = (is_name c.name ≡ true) × (has_channel before c.name ≡ false) × AreNamed (before ++ c ∷ []) cs
 
@@ -149,7 +149,7 @@ pub record IsWrittenIn (tables : List Table) (j : JournalValue) : Type 0 where
   pub fitting : list_all (entry_fits tables) j.entries ≡ true
 
 -- a journal for each channel, with what its tables take
-abbrev pub AreBrought : List Table → List Channel → List JournalValue → Type 0
+abbrev pub AreBrought : List Table → List BundleChannel → List JournalValue → Type 0
 AreBrought tables [] [] = Unit {0}
 AreBrought tables (c ∷ cs) (j ∷ js) = IsWrittenIn tables j × AreBrought tables cs js
 AreBrought tables _ _ = ⊥

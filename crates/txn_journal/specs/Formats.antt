@@ -3,7 +3,7 @@ use Rattle.std.specs.Prelude.{◌≡◌, ◌⊎◌, ℕ, ◌+◌, ◌-◌, ◌^�
 use Rattle.std.specs.List.{flat_map, AllByRecursion}
 use Rattle.gtid_set.specs.declared.fault.SetFault.{SetFault}
 use Rattle.txn_journal.specs.Words.{IsOneLine}
-use Rattle.txn_journal.specs.Stream.{Judge, Progress, Reading, Stopped, eats, end_of_text, at_end, IsPieceFault, Feeds}
+use Rattle.txn_journal.specs.Stream.{Judge, Progress, Reading, Stopped, feed_bytes, end_of_text, at_end, IsPieceFault, Feeds}
 use Rattle.txn_journal.specs.declared.fault.Cause.{Cause}
 use Rattle.txn_journal.specs.declared.fault.Cause.TheVariants as causes
 use Rattle.txn_journal.specs.declared.fault.JournalFault.{JournalFault}
@@ -35,7 +35,7 @@ pub record Format : Type 1 where
   -- the line begins an entry, or is within one
   pub is_inside : List ℕ → Bool
   -- the lines that have made this, in order
-  pub HasHeard : State → List Line → Type 0
+  pub HasLines : State → List Line → Type 0
   -- what is wrong with a line after those that have made this
   pub HasCause : State → List ℕ → Cause → Type 0
 
@@ -59,8 +59,8 @@ abbrev pub start_of : (f : Format) → Progress f.State
 start_of f = Reading f.start 0 []
 
 -- byte by byte
-abbrev pub eats_by : (f : Format) → Progress f.State → List ℕ → Progress f.State
-eats_by f p bytes = eats f.judge p bytes
+abbrev pub feed_bytes_by : (f : Format) → Progress f.State → List ℕ → Progress f.State
+feed_bytes_by f p bytes = feed_bytes f.judge p bytes
 
 -- why bytes are not taken, though nothing is wrong with them: memory was refused, or a set has too many sources or intervals after some of them
 abbrev pub IsFaultBy : (f : Format) → Progress f.State → List ℕ → SetFault → Type 0
@@ -77,7 +77,7 @@ closing_by f (Stopped fault) = Err fault
 
 -- what all of the bytes are read as
 abbrev pub whole_by : (f : Format) → List ℕ → Result f.Value JournalFault
-whole_by f bytes = closing_by f (eats_by f (start_of f) bytes)
+whole_by f bytes = closing_by f (feed_bytes_by f (start_of f) bytes)
 
 -- ---- texts that are refused
 
@@ -105,7 +105,7 @@ pub record IsFirstFaulty (f : Format) (bytes : List ℕ) (n : ℕ) (cause : Caus
   pub lines : AreWhole f before
   pub whole : IsOneLine line
   pub state : f.State
-  pub heard : f.HasHeard state before
+  pub has_lines : f.HasLines state before
   pub number : n ≡ cap_line_number (length before + 1)
   pub begins : BeginsBy f (f.is_open state) (text_of f before)
   pub faulty : BeginsBy f (f.is_inside line) (text_of f before ++ (line ++ 10 ∷ [])) → ⊥
@@ -119,7 +119,7 @@ pub record IsFront (f : Format) (bytes : List ℕ) (n : ℕ) : Type 0 where
   pub lines : AreWhole f before
   pub part : IsOneLine rest
   pub state : f.State
-  pub heard : f.HasHeard state before
+  pub has_lines : f.HasLines state before
   pub number : n ≡ cap_line_number (length before + 1)
   pub begins : BeginsBy f (f.is_open state) (text_of f before)
 
@@ -142,6 +142,6 @@ RefusesBy f (faults.Line n cause) bytes = IsFirstFaulty f bytes n cause ⊎ (IsT
 RefusesBy f (faults.Truncated n) bytes = IsFront f bytes n × ((v : f.Value) → f.Writes bytes v → ⊥)
 
 -- what the bytes parse as, or why they are refused
-abbrev pub SpellsBy : (f : Format) → List ℕ → Result f.Value JournalFault → Type 0
-SpellsBy f bytes (Ok v) = f.Writes bytes v
-SpellsBy f bytes (Err fault) = RefusesBy f fault bytes
+abbrev pub ParsesBy : (f : Format) → List ℕ → Result f.Value JournalFault → Type 0
+ParsesBy f bytes (Ok v) = f.Writes bytes v
+ParsesBy f bytes (Err fault) = RefusesBy f fault bytes

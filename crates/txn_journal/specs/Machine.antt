@@ -9,7 +9,7 @@ use Rattle.row_images.specs.declared.value.Value.{Value}
 use Rattle.rows.specs.declared.change.Change.{Change}
 use Rattle.rows.specs.declared.change.Change.TheVariants.{Insert, Delete, Update}
 use Rattle.rows.specs.declared.schema.Table.{Table}
-use Rattle.rows.specs.Keys.{table_named}
+use Rattle.rows.specs.Keys.{find_table}
 use Rattle.rows.specs.Fits.{has_primary_null, table_of}
 use Rattle.journal.specs.declared.Entry.{Entry}
 use Rattle.journal.specs.Journals.{JournalValue}
@@ -98,7 +98,7 @@ takes_change (Some table) change = are_rows_of table change
 -- a journal that stands alone has no schema
 abbrev pub fits : Option (List Table) → Change → Bool
 fits None change = true
-fits (Some tables) change = takes_change (table_named (table_of change) tables) change
+fits (Some tables) change = takes_change (find_table (table_of change) tables) change
 
 -- ---- one line more
 

@@ -5,11 +5,11 @@ use Rattle.journal.specs.declared.Entry.{Entry}
 use Rattle.journal.specs.Journals.{JournalValue}
 use Rattle.txn_journal.specs.declared.fault.JournalFault.{JournalFault}
 use Rattle.txn_journal.specs.Stream.{Progress, Reading, Stopped}
-use Rattle.txn_journal.specs.Formats.{Format, eats_by, IsFaultBy, closing_by}
+use Rattle.txn_journal.specs.Formats.{Format, feed_bytes_by, IsFaultBy, closing_by}
 use Rattle.txn_journal.specs.Machine.{Standing, empty, is_last, drop_entries, judge, IsFull}
 use Rattle.txn_journal.specs.Lines.{takes}
 use Rattle.txn_journal.specs.Spelling.{Line, line_text, WritesAs, Writes}
-use Rattle.txn_journal.specs.Heard.{said}
+use Rattle.txn_journal.specs.LinesSoFar.{lines_so_far}
 use Rattle.txn_journal.specs.Causes.{HasCause}
 use Rattle.txn_journal.specs.declared.lines.Version.{Version}
 use Rattle.txn_journal.specs.declared.lines.Place.{Place}
@@ -31,7 +31,7 @@ journals_as {V} due value Writes = record {
   AlmostWrites = Writes;
   is_open = λ s. false;
   is_inside = λ line. false;
-  HasHeard = λ s ls. said s ≡ ls;
+  HasLines = λ s ls. lines_so_far s ≡ ls;
   HasCause = HasCause None;
 }
 
@@ -63,8 +63,8 @@ abbrev pub before_first : Progress Standing
 before_first = alone_start None
 
 -- a journal that stands alone, byte by byte
-abbrev pub eats_alone : Progress Standing → List ℕ → Progress Standing
-eats_alone p bytes = eats_by journals p bytes
+abbrev pub feed_journal_bytes : Progress Standing → List ℕ → Progress Standing
+feed_journal_bytes p bytes = feed_bytes_by journals p bytes
 
 -- why bytes are not taken, though nothing is wrong with them: memory was refused, or a journal's set has too many sources or intervals after some of them
 abbrev pub IsFaultAlone : Progress Standing → List ℕ → SetFault → Type 0
@@ -115,5 +115,5 @@ HasBegun (Reading s n rest) = has_begun s.place ≡ true
 HasBegun (Stopped fault) = Unit {0}
 
 -- earlier entries make no difference to what bytes do
-abbrev pub EatsBehind : Stamped → Progress Standing → List ℕ → Type 0
-EatsBehind front p bytes = eats_alone (behind_entries front p) bytes ≡ behind_entries front (eats_alone p bytes)
+abbrev pub FeedsBehind : Stamped → Progress Standing → List ℕ → Type 0
+FeedsBehind front p bytes = feed_journal_bytes (behind_entries front p) bytes ≡ behind_entries front (feed_journal_bytes p bytes)

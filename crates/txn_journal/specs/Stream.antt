@@ -61,13 +61,13 @@ progress_after (Ok s) n = Reading s n []
 progress_after (Err cause) n = Stopped (faults.Line n cause)
 
 -- a line feed ends a line
-unfoldable pub eat : {S : Type 0} → Judge S → Progress S → ℕ → Progress S
-eat judge (Reading s n rest) b = if b == 10 then progress_after (judge s rest) (next_number n) else Reading s n (rest ++ b ∷ [])
-eat judge (Stopped fault) b = Stopped fault
+unfoldable pub feed_byte : {S : Type 0} → Judge S → Progress S → ℕ → Progress S
+feed_byte judge (Reading s n rest) b = if b == 10 then progress_after (judge s rest) (next_number n) else Reading s n (rest ++ b ∷ [])
+feed_byte judge (Stopped fault) b = Stopped fault
 
-abbrev pub eats : {S : Type 0} → Judge S → Progress S → List ℕ → Progress S
-eats judge p [] = p
-eats judge p (b ∷ bs) = eats judge (eat judge p b) bs
+abbrev pub feed_bytes : {S : Type 0} → Judge S → Progress S → List ℕ → Progress S
+feed_bytes judge p [] = p
+feed_bytes judge p (b ∷ bs) = feed_bytes judge (feed_byte judge p b) bs
 
 -- what the whole lines have made is full
 abbrev pub HasFull : {S : Type 0} → (S → Type 0) → Progress S → Type 0
@@ -79,7 +79,7 @@ pub record Fills {S : Type 0} (full : S → Type 0) (judge : Judge S) (p : Progr
   pub front : List ℕ
   pub rest : List ℕ
   pub parts : bytes ≡ front ++ rest
-  pub is_full : HasFull full (eats judge p front)
+  pub is_full : HasFull full (feed_bytes judge p front)
 
 -- why bytes are not taken, though nothing is wrong with them: memory was refused, or what some of them make is full
 abbrev pub IsPieceFault : {S : Type 0} → (SetFault → S → Type 0) → Judge S → Progress S → List ℕ → SetFault → Type 0
@@ -91,7 +91,7 @@ IsAfter may new after = ((fault : SetFault) × (new ≡ Stopped (faults.Set faul
 
 -- what has come after a piece is what eating it gives, or the reading has stopped at a fault that may be
 abbrev pub Feeds : {S : Type 0} → (SetFault → S → Type 0) → Judge S → Progress S → List ℕ → Progress S → Type 0
-Feeds full judge old piece new = IsAfter (IsPieceFault full judge old piece) new (eats judge old piece)
+Feeds full judge old piece new = IsAfter (IsPieceFault full judge old piece) new (feed_bytes judge old piece)
 
 abbrev pub answer : {S : Type 0} → Progress S → Result (Unit {0}) JournalFault
 answer (Reading s n rest) = Ok tt

@@ -11,7 +11,7 @@ use Rattle.txn_journal.specs.Shapes.{shape_for}
 use Rattle.txn_journal.specs.Stamps.{right_stamps}
 use Rattle.txn_journal.specs.Spelling.{Makes, ended_line, lines_text, entry_lines, numbers_of, opening_lines}
 use Rattle.txn_journal.specs.BundleText.{Heads, Names, Starts, Has, Puts, Own, ended_bundle_line, bundle_text, channel_lines}
-use Rattle.txn_journal.specs.declared.bundle.Channel.{Channel}
+use Rattle.txn_journal.specs.declared.bundle.BundleChannel.{BundleChannel}
 use Rattle.txn_journal.specs.declared.lines.Version.{Version}
 use Rattle.txn_journal.specs.declared.lines.Version.TheVariants.{Two}
 
@@ -64,10 +64,10 @@ rows_text [] = []
 rows_text (r ∷ rs) = ended_bundle_line (Own (Puts r)) ++ rows_text rs
 
 -- a channel, and its journal by version 2 of the format
-unfoldable pub channel_and_journal_text : List Table → Channel → JournalValue → List ℕ
+unfoldable pub channel_and_journal_text : List Table → BundleChannel → JournalValue → List ℕ
 channel_and_journal_text tables c j = bundle_text (channel_lines Two c (right_stamps Two tables j.entries) j)
 
-abbrev pub channels_and_journals_text : List Table → List Channel → List JournalValue → List ℕ
+abbrev pub channels_and_journals_text : List Table → List BundleChannel → List JournalValue → List ℕ
 channels_and_journals_text tables (c ∷ cs) (j ∷ js) = channel_and_journal_text tables c j ++ channels_and_journals_text tables cs js
 channels_and_journals_text tables _ _ = []
 

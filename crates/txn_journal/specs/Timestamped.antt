@@ -5,7 +5,7 @@ use Rattle.journal.specs.Journals.{JournalValue}
 use Rattle.txn_journal.specs.Stream.{Progress}
 use Rattle.txn_journal.specs.Formats.{Format, closing_by, RefusesBy}
 use Rattle.txn_journal.specs.Machine.{Standing}
-use Rattle.txn_journal.specs.Reading.{journals_as, alone_start, eats_alone}
+use Rattle.txn_journal.specs.Reading.{journals_as, alone_start, feed_journal_bytes}
 use Rattle.txn_journal.specs.Spelling.{WritesAs, spelling_as}
 use Rattle.txn_journal.specs.Stamps.{right_stamps}
 use Rattle.txn_journal.specs.declared.fault.Cause.TheVariants as causes
@@ -63,4 +63,4 @@ HasText v = WritesTimestamped (timestamped_text v) v
 
 -- that text is read as it, by the fold over its bytes
 abbrev pub IsReadBack : TimestampedValue → Type 0
-IsReadBack v = closing_timestamped (eats_alone timestamped_start (timestamped_text v)) ≡ Ok v
+IsReadBack v = closing_timestamped (feed_journal_bytes timestamped_start (timestamped_text v)) ≡ Ok v

@@ -29,23 +29,23 @@ pub record Wording : Type 1 where
   pub IsTwice : Line → Gtid → Type 0
 
 -- the line is the text of l, which is due there
-pub record Says (w : Wording) (line : List ℕ) (l : w.Line) : Type 0 where
+pub record ParsesAsLine (w : Wording) (line : List ℕ) (l : w.Line) : Type 0 where
   pub text : line ≡ w.line_text l
   pub fits : w.Fits l
   pub due : w.is_due (w.word l) ≡ true
 
 -- it parses as no line that is due there
-abbrev pub SaysNothing : (w : Wording) → List ℕ → Type 0
-SaysNothing w line = (l : w.Line) → Says w line l → ⊥
+abbrev pub ParsesAsNoLine : (w : Wording) → List ℕ → Type 0
+ParsesAsNoLine w line = (l : w.Line) → ParsesAsLine w line l → ⊥
 
 abbrev pub HasCauseBy : (w : Wording) → List ℕ → Cause → Type 0
 -- the first word is none of those due there
 HasCauseBy w line causes.Keyword = (k : w.Word) → w.word_of (first_word line) ≡ Some k → w.is_due k ≡ true → ⊥
 -- a header is due and is there, with a count that is no version known there
-HasCauseBy w line causes.Version = (n : List ℕ) × (line ≡ w.word_text w.header ++ 32 ∷ n) × (is_count n ≡ true) × (w.is_due w.header ≡ true) × SaysNothing w line
+HasCauseBy w line causes.Version = (n : List ℕ) × (line ≡ w.word_text w.header ++ 32 ∷ n) × (is_count n ≡ true) × (w.is_due w.header ≡ true) × ParsesAsNoLine w line
 -- a word is due and comes first, and the line parses as nothing
-HasCauseBy w line causes.Body = (k : w.Word) × (w.word_of (first_word line) ≡ Some k) × (w.is_due k ≡ true) × SaysNothing w line
-HasCauseBy w line causes.Limit = (l : w.Line) × Says w line l × w.PassesLimit l
-HasCauseBy w line causes.Schema = (l : w.Line) × Says w line l × (w.PassesLimit l → ⊥) × w.Clashes l
-HasCauseBy w line causes.Stamp = (l : w.Line) × Says w line l × (w.PassesLimit l → ⊥) × w.IsMisnumbered l
-HasCauseBy w line (causes.Twice g) = (l : w.Line) × Says w line l × (w.PassesLimit l → ⊥) × (w.IsMisnumbered l → ⊥) × w.IsTwice l g
+HasCauseBy w line causes.Body = (k : w.Word) × (w.word_of (first_word line) ≡ Some k) × (w.is_due k ≡ true) × ParsesAsNoLine w line
+HasCauseBy w line causes.Limit = (l : w.Line) × ParsesAsLine w line l × w.PassesLimit l
+HasCauseBy w line causes.Schema = (l : w.Line) × ParsesAsLine w line l × (w.PassesLimit l → ⊥) × w.Clashes l
+HasCauseBy w line causes.Stamp = (l : w.Line) × ParsesAsLine w line l × (w.PassesLimit l → ⊥) × w.IsMisnumbered l
+HasCauseBy w line (causes.Twice g) = (l : w.Line) × ParsesAsLine w line l × (w.PassesLimit l → ⊥) × (w.IsMisnumbered l → ⊥) × w.IsTwice l g

@@ -11,7 +11,7 @@ use std::marker::Model;
 
 /// A channel of a replica.
 #[derive(Drop)]
-pub struct Channel {
+pub struct BundleChannel {
     /// Names it within its replica.
     pub name: Name,
     /// Whether its transactions commit in the order of their places.
@@ -65,10 +65,10 @@ impl Bundle {
     }
 
     /// The opening set: the GTIDs that are executed from the start, and purged. Version 1 of the format has no other than the empty one.
-    pub fn opened(&self) -> &GtidSet
+    pub fn opening_set(&self) -> &GtidSet
         ensures { result.now ≡ self.now.opened }
     {
-        self.parts.opened()
+        self.parts.opening_set()
     }
 
     /// The tables.
@@ -86,7 +86,7 @@ impl Bundle {
     }
 
     /// The channels, in order.
-    pub fn channels(&self) -> &[Channel]
+    pub fn channels(&self) -> &[BundleChannel]
         ensures { result.now ≡ self.now.channels }
     {
         self.parts.channels()

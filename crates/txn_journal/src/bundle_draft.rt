@@ -4,7 +4,7 @@ ghost use Rattle.txn_journal.specs.Stream.{Finds};
 ghost use Rattle.txn_journal.specs.Writers.{AreWriters};
 ghost use Rattle.txn_journal.specs.BundleStates.{word_of, replica_in, preserve_in, channel_in, has_channel};
 
-use crate::bundle::Channel;
+use crate::bundle::BundleChannel;
 use crate::draft::{Draft, version_in};
 use crate::fault::{Cause, LineFault};
 use crate::images::{image, table_at};
@@ -104,7 +104,7 @@ pub struct BundleDraft {
     schema: Schema,
     bundle: OpenBundle,
     /// The channel that is open, and its journal.
-    channel: Option<Channel>,
+    channel: Option<BundleChannel>,
     draft: Draft,
     /// The last writers of the keys of that journal, or none: then they are made anew.
     writers: Option<LastWriters>,
@@ -126,7 +126,11 @@ fn replica_in(alloc: Global, rest: Option<&[u8]>) -> Result<SourceId, LineFault>
 
 /// A channel's name, and whether it preserves order.
 #[tactic(auto, unfolding(crate::specs::BundleStates::channel_in))]
-fn channel_in(alloc: Global, names: &mut Names, rest: Option<&[u8]>) -> Result<Channel, LineFault>
+fn channel_in(
+    alloc: Global,
+    names: &mut Names,
+    rest: Option<&[u8]>,
+) -> Result<BundleChannel, LineFault>
     ensures { Finds (λ c. c) result (channel_in (option_map (λ r. r.now) rest.entry)) }
 {
     let Some(text) = rest else {
@@ -137,7 +141,7 @@ fn channel_in(alloc: Global, names: &mut Names, rest: Option<&[u8]>) -> Result<C
         return Err(LineFault::Wrong(Cause::Body));
     };
     let preserve = preserve_in(more)?;
-    Ok(Channel { name, preserve })
+    Ok(BundleChannel { name, preserve })
 }
 
 /// Whether order is preserved, by the word after a channel's name.
@@ -154,7 +158,7 @@ fn preserve_in(rest: Option<&[u8]>) -> Result<bool, LineFault>
     }
 }
 
-fn has_channel(channels: &[Channel], name: &Name) -> bool
+fn has_channel(channels: &[BundleChannel], name: &Name) -> bool
     ensures { result ≡ has_channel channels.now name.now }
 {
     channels.iter().any(|channel| channel.name == *name)
@@ -338,7 +342,7 @@ impl BundleDraft {
     }
 
     #[tactic(auto, unfolding(crate::specs::BundleStates::join_channel))]
-    fn join(&mut self, alloc: Global, channel: Channel) -> Result<(), LineFault>
+    fn join(&mut self, alloc: Global, channel: BundleChannel) -> Result<(), LineFault>
         ensures { TakesLine IsFullBundle result (join_channel (bundle_standing self.old) channel) (bundle_standing self.new) }
     {
         if self.bundle.channels().len() >= MAX_CHANNELS {

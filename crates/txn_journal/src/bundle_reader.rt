@@ -5,7 +5,7 @@ ghost use Rattle.txn_journal.specs.BundleText.{WritesBundleBy, WritesBundle};
 ghost use Rattle.txn_journal.specs.Stream.{Progress, IsWhole, IsWholeOr, IsRead};
 ghost use Rattle.txn_journal.specs.BundleRefused.{RefusesBundleBy, RefusesBundle};
 ghost use Rattle.txn_journal.specs.declared.lines.Version.TheVariants.{One};
-ghost use Rattle.txn_journal.specs.BundleReading.{bundle_start, IsFaultOfBundle, eats_bundle, closing_bundle};
+ghost use Rattle.txn_journal.specs.BundleReading.{bundle_start, IsFaultOfBundle, feed_bundle_bytes, closing_bundle};
 
 use crate::bundle::Bundle;
 use crate::bundle_draft::BundleDraft;
@@ -139,7 +139,7 @@ impl BundleReader {
 }
 
 fn read_bundle(alloc: Global, due: Option<Version>, bytes: &[u8]) -> Result<Bundle, JournalFault>
-    ensures { IsWholeOr (IsFaultOfBundle (bundle_start due) bytes.now) result (closing_bundle (eats_bundle (bundle_start due) bytes.now)) }
+    ensures { IsWholeOr (IsFaultOfBundle (bundle_start due) bytes.now) result (closing_bundle (feed_bundle_bytes (bundle_start due) bytes.now)) }
 {
     let mut reader = BundleReader::start_as(alloc, due);
     match reader.feed(alloc, bytes) {
@@ -157,7 +157,7 @@ pub fn decode_bundle(alloc: Global, bytes: &[u8]) -> Result<Bundle, JournalFault
     // A refusal names the first faulty line, and what is wrong with it.
     ensures refused { IfErr result (λ fault. RefusesBundle fault bytes.now) }
     // The same, by the fold over the bytes.
-    ensures exact { IsWhole result (closing_bundle (eats_bundle (bundle_start None) bytes.now)) }
+    ensures exact { IsWhole result (closing_bundle (feed_bundle_bytes (bundle_start None) bytes.now)) }
 {
     read_bundle(alloc, None, bytes)
 }
@@ -171,12 +171,12 @@ pub fn decode_bundle_v1(alloc: Global, bytes: &[u8]) -> Result<Bundle, JournalFa
     // A refusal names the first faulty line, and what is wrong with it.
     ensures refused { IfErr result (λ fault. RefusesBundleBy (Some One) fault bytes.now) }
     // The same, by the fold over the bytes.
-    ensures exact { IsWhole result (closing_bundle (eats_bundle (bundle_start (Some One)) bytes.now)) }
+    ensures exact { IsWhole result (closing_bundle (feed_bundle_bytes (bundle_start (Some One)) bytes.now)) }
 {
     read_bundle(alloc, Some(Version::One), bytes)
 }
 
 /// A bundle's text is read alike however it is cut.
 pub fn any_cut_of_bundles()
-    ensures { (p : Progress BundleStanding) (front back : List ℕ) → eats_bundle p (front ++ back) ≡ eats_bundle (eats_bundle p front) back }
+    ensures { (p : Progress BundleStanding) (front back : List ℕ) → feed_bundle_bytes p (front ++ back) ≡ feed_bundle_bytes (feed_bundle_bytes p front) back }
 {}

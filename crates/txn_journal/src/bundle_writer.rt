@@ -8,7 +8,7 @@ ghost use Rattle.txn_journal.specs.BundleText.{upgrade_of, Names, Starts, Has, P
 ghost use Rattle.txn_journal.specs.Texts.{columns_behind, uniques_text, tables_text, rows_text, channel_and_journal_text, channels_and_journals_text, head_text, start_text};
 ghost use Rattle.txn_journal.specs.declared.lines.Version.TheVariants.{Two};
 
-use crate::bundle::{Bundle, Channel};
+use crate::bundle::{Bundle, BundleChannel};
 use crate::writer::{write_image, write_journal_v2, write_next_number, write_number, write_set};
 use gtid_set::GtidSet;
 use gtid_text::{SourceId, write_source};
@@ -28,7 +28,7 @@ fn write_replica(out: &mut String, replica: SourceId) -> Result<(), AllocError>
 
 /// Appends the line of an opening set.
 #[tactic(auto, using(crate::proofs::BundleWriting::opened_appended))]
-fn write_opened(alloc: Global, out: &mut String, opened: &GtidSet) -> Result<(), AllocError>
+fn write_opening_set(alloc: Global, out: &mut String, opened: &GtidSet) -> Result<(), AllocError>
     ensures { OnOk result (string_bytes out.new ≡ string_bytes out.old ++ ended_bundle_line (Own (Starts opened.now))) }
 {
     out.push_str("opening ")?;
@@ -48,7 +48,7 @@ fn write_head(
 {
     out.push_str("bundle 2\n")?;
     write_replica(out, replica)?;
-    write_opened(alloc, out, opened)
+    write_opening_set(alloc, out, opened)
 }
 
 /// Appends a column after a comma.
@@ -142,7 +142,7 @@ fn write_rows(alloc: Global, out: &mut String, rows: &[TableRow]) -> Result<(), 
 
 /// Appends the line of a channel.
 #[tactic(auto, using(crate::proofs::BundleWriting::preserving_appended, crate::proofs::BundleWriting::channel_appended))]
-fn write_channel(out: &mut String, channel: &Channel) -> Result<(), AllocError>
+fn write_channel(out: &mut String, channel: &BundleChannel) -> Result<(), AllocError>
     ensures { OnOk result (string_bytes out.new ≡ string_bytes out.old ++ ended_bundle_line (Own (Opens channel.now))) }
 {
     out.push_str("channel ")?;
@@ -156,11 +156,11 @@ fn write_channel(out: &mut String, channel: &Channel) -> Result<(), AllocError>
 
 /// Appends the lines of a channel and its journal.
 #[tactic(auto, using(crate::proofs::BundleWriting::brought_appended))]
-fn write_brought(
+fn write_channel_and_journal(
     alloc: Global,
     out: &mut String,
     schema: &Schema,
-    channel: &Channel,
+    channel: &BundleChannel,
     journal: &Journal,
 ) -> Result<(), AllocError>
     ensures { OnOk result (string_bytes out.new ≡ string_bytes out.old ++ channel_and_journal_text schema.now channel.now journal.now) }
@@ -174,13 +174,13 @@ fn write_channels(
     alloc: Global,
     out: &mut String,
     schema: &Schema,
-    channels: &[Channel],
+    channels: &[BundleChannel],
     journals: &[Journal],
 ) -> Result<(), AllocError>
     ensures { OnOk result (string_bytes out.new ≡ string_bytes out.old ++ channels_and_journals_text schema.now channels.now journals.now) }
 {
     for (channel, journal) in channels.iter().zip(journals) {
-        write_brought(alloc, out, schema, channel, journal)?;
+        write_channel_and_journal(alloc, out, schema, channel, journal)?;
     }
     Ok(())
 }
@@ -217,7 +217,7 @@ fn write_bundle(
         alloc,
         out,
         bundle.replica(),
-        bundle.opened(),
+        bundle.opening_set(),
         schema.tables(),
         rows,
     )?;

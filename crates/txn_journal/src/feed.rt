@@ -121,7 +121,7 @@ impl<T: TakeLine> Feed<T> {
 
     fn take_piece(&mut self, alloc: Global, piece: &[u8]) -> Result<(), JournalFault>
         requires { self.old.stopped ≡ None }
-        ensures next { TakesPiece (IsPieceFault T.full T.judge (progress self.old) piece.now) result (progress self.new) (eats T.judge (progress self.old) piece.now) }
+        ensures next { TakesPiece (IsPieceFault T.full T.judge (progress self.old) piece.now) result (progress self.new) (feed_bytes T.judge (progress self.old) piece.now) }
         ensures goes { self.new.stopped ≡ None }
         ensures room { NamesSources T.counts T.full T.judge (progress self.old) piece.now result }
     {
@@ -144,7 +144,7 @@ impl<T: TakeLine> Feed<T> {
     fn take_line(&mut self, alloc: Global, bytes: &[u8]) -> Result<(), JournalFault>
         requires goes { self.old.stopped ≡ None }
         requires whole { IsOneLine bytes.now }
-        ensures next { TakesPiece (IsPieceFault T.full T.judge (progress self.old) (bytes.now ++ 10 ∷ [])) result (progress self.new) (eats T.judge (progress self.old) (bytes.now ++ 10 ∷ [])) }
+        ensures next { TakesPiece (IsPieceFault T.full T.judge (progress self.old) (bytes.now ++ 10 ∷ [])) result (progress self.new) (feed_bytes T.judge (progress self.old) (bytes.now ++ 10 ∷ [])) }
         ensures goes { self.new.stopped ≡ None }
         ensures room { T.counts self.old.made → GivesFull (T.full SourcesFull) (T.judge self.old.made bytes.now) → self.old.rest.items ≡ [] → result ≡ Err (Set SourcesFull) }
     {

@@ -28,7 +28,7 @@ pub fn one_spelling()
 /// Entries that were taken are those that would have come first.
 pub fn taken_in_front()
     ensures taken { (p : Progress Standing) → behind_entries (stamped_of p) (without_entries p) ≡ p }
-    ensures eats { (front : Stamped) (p : Progress Standing) (bytes : List ℕ) → HasBegun p → EatsBehind front p bytes }
+    ensures feed_bytes { (front : Stamped) (p : Progress Standing) (bytes : List ℕ) → HasBegun p → FeedsBehind front p bytes }
     ensures closing { (front : Stamped) (p : Progress Standing) → closing (behind_entries front p) ≡ with_front front.entries (closing p) }
 {}
 
@@ -44,7 +44,7 @@ pub fn rows_in_listed_order()
 {}
 
 /// A bundle of version 1 has a text by version 2, which is read as the same bundle.
-pub fn upgraded()
+pub fn upgrade_keeps_bundle()
     ensures text { (bytes : List ℕ) (b : BundleValue) → WritesBundleBy (Some One) bytes b → WritesBundleBy (Some Two) (upgrade_of b) b }
     ensures read { (bytes : List ℕ) (b : BundleValue) → WritesBundleBy (Some One) bytes b → IsReadAs (upgrade_of b) b }
 {}

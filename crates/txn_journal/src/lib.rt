@@ -40,7 +40,7 @@ mod tables;
 mod timestamped_journal;
 mod writer;
 
-pub use bundle::{Bundle, Channel};
+pub use bundle::{Bundle, BundleChannel};
 pub use bundle_reader::{BundleReader, any_cut_of_bundles, decode_bundle, decode_bundle_v1};
 pub use bundle_writer::{bundle_text_v2, encode_bundle_v2};
 pub use draft::MAX_ENTRIES;

@@ -5,7 +5,7 @@ ghost use Rattle.gtid_text.specs.Written.{IsSource};
 ghost use Rattle.journal_words.specs.Gtids.{gtid_of_word};
 ghost use Rattle.txn_journal.specs.Stream.{Finds};
 ghost use Rattle.txn_journal.specs.Lines.{some_or_body, numbers_in, stamp_in, beginning_at};
-ghost use Rattle.txn_journal.specs.Numbered.{numbers_said, beginning_said};
+ghost use Rattle.txn_journal.specs.Numbered.{numbers_value, beginning_value};
 
 use crate::fault::{Cause, LineFault};
 use crate::lines::Version;
@@ -38,7 +38,7 @@ pub struct Beginning {
 impl Numbers<'_> {
     /// The last_committed, where these may be at a place, counted from 1.
     fn stamp(&self, place: u64) -> Option<u64>
-        ensures { result ≡ stamp_in place (Some (numbers_said self.now)) }
+        ensures { result ≡ stamp_in place (Some (numbers_value self.now)) }
     {
         if count(self.sequence_number) != Some(place) {
             return None;
@@ -52,24 +52,24 @@ impl Numbers<'_> {
 
 /// A source, and its text.
 #[derive(Drop)]
-pub struct SpelledSource {
+pub struct SourceText {
     source: SourceId,
     text: [u8; SOURCE_LEN],
     ghost small: { IsSource source },
     ghost spelled: { text ≡ source_text source },
 }
 
-impl SpelledSource {
+impl SourceText {
     /// The source whose bits are all 0.
-    pub fn zero() -> SpelledSource {
-        SpelledSource {
+    pub fn zero() -> SourceText {
+        SourceText {
             source: SourceId::from_bits(0),
             text: *b"00000000-0000-0000-0000-000000000000",
         }
     }
 
     /// The source of a GTID, with its text in the word of the GTID.
-    fn of_word(gtid: &Gtid, word: &[u8]) -> Option<SpelledSource>
+    fn of_word(gtid: &Gtid, word: &[u8]) -> Option<SourceText>
         requires { gtid_of_word word.now ≡ Some gtid.now }
     {
         if word.len() <= SOURCE_LEN {
@@ -78,7 +78,7 @@ impl SpelledSource {
         let (front, _back) = word.split_at(SOURCE_LEN);
         let mut text = [0; SOURCE_LEN];
         text.copy_from_slice(front);
-        Some(SpelledSource {
+        Some(SourceText {
             source: gtid.source,
             text,
         })
@@ -111,7 +111,7 @@ impl SpelledSource {
 
 /// The GTID that the word parses as. It is looked for as one of the source that is near first, for GTIDs of one source often follow one
 /// another; its own source is near then.
-fn gtid_in(alloc: Global, near: &mut SpelledSource, word: &[u8]) -> Result<Gtid, LineFault>
+fn gtid_in(alloc: Global, near: &mut SourceText, word: &[u8]) -> Result<Gtid, LineFault>
     ensures { Finds (λ g. g) result (some_or_body (gtid_of_word word.now)) }
 {
     if let Some(gtid) = near.gtid_in(word) {
@@ -120,14 +120,14 @@ fn gtid_in(alloc: Global, near: &mut SpelledSource, word: &[u8]) -> Result<Gtid,
     let Some(gtid) = gtid_word(alloc, word)? else {
         return Err(LineFault::Wrong(Cause::Body));
     };
-    if let Some(source) = SpelledSource::of_word(&gtid, word) {
+    if let Some(source) = SourceText::of_word(&gtid, word) {
         *near = source;
     }
     Ok(gtid)
 }
 
 fn numbers_in(rest: Option<&[u8]>) -> Result<Numbers<'_>, LineFault>
-    ensures { Finds numbers_said result (numbers_in (option_map (λ r. r.now) rest.entry)) }
+    ensures { Finds numbers_value result (numbers_in (option_map (λ r. r.now) rest.entry)) }
 {
     let Some(text) = rest else {
         return Err(LineFault::Wrong(Cause::Body));
@@ -147,12 +147,12 @@ fn numbers_in(rest: Option<&[u8]>) -> Result<Numbers<'_>, LineFault>
 
 fn beginning_text(
     alloc: Global,
-    near: &mut SpelledSource,
+    near: &mut SourceText,
     version: Version,
     place: u64,
     text: &[u8],
 ) -> Result<Beginning, LineFault>
-    ensures { Finds beginning_said result (beginning_at version place (Some text.now)) }
+    ensures { Finds beginning_value result (beginning_at version place (Some text.now)) }
 {
     match version {
         Version::One => {
@@ -176,12 +176,12 @@ fn beginning_text(
 /// guess of the GTID's source.
 pub fn beginning_at(
     alloc: Global,
-    near: &mut SpelledSource,
+    near: &mut SourceText,
     version: Version,
     place: u64,
     rest: Option<&[u8]>,
 ) -> Result<Beginning, LineFault>
-    ensures { Finds beginning_said result (beginning_at version place (option_map (λ r. r.now) rest.entry)) }
+    ensures { Finds beginning_value result (beginning_at version place (option_map (λ r. r.now) rest.entry)) }
 {
     match rest {
         Some(text) => beginning_text(alloc, near, version, place, text),

@@ -3,7 +3,7 @@ ghost use Rattle.std.specs.Prelude.{◌≡◌, ◌∷◌, ◌++◌, [], OnOk};
 ghost use Rattle.txn_journal.specs.Stream.{TakesPart};
 ghost use Rattle.txn_journal.specs.BundleStates.{bare, with_opening};
 
-use crate::bundle::Channel;
+use crate::bundle::BundleChannel;
 use crate::fault::{Cause, LineFault};
 use gtid_set::{GtidSet, SetFault};
 use gtid_text::SourceId;
@@ -17,7 +17,7 @@ pub struct OpenBundle {
     replica: SourceId,
     opened: GtidSet,
     rows: Rows,
-    channels: Vec<Channel>,
+    channels: Vec<BundleChannel>,
     journals: Vec<Journal>,
 }
 
@@ -71,7 +71,7 @@ impl OpenBundle {
     }
 
     /// Adds a channel after the others.
-    pub fn add(&mut self, channel: Channel, journal: Journal) -> Result<(), AllocError>
+    pub fn add(&mut self, channel: BundleChannel, journal: Journal) -> Result<(), AllocError>
         ensures ok { OnOk result (self.new ≡ record self.old { channels = self.old.channels ++ channel ∷ []; journals = self.old.journals ++ journal ∷ [] }) }
     {
         self.journals.reserve(1)?;
@@ -101,7 +101,7 @@ impl OpenBundle {
     }
 
     /// The opening set.
-    pub fn opened(&self) -> &GtidSet
+    pub fn opening_set(&self) -> &GtidSet
         ensures { result.now ≡ self.now.opened }
     {
         &self.opened
@@ -122,7 +122,7 @@ impl OpenBundle {
     }
 
     /// The channels, in order.
-    pub fn channels(&self) -> &[Channel]
+    pub fn channels(&self) -> &[BundleChannel]
         ensures { result.now ≡ self.now.channels }
     {
         &self.channels

@@ -5,7 +5,7 @@ ghost use Rattle.txn_journal.specs.Spelling.{Writes};
 ghost use Rattle.txn_journal.specs.Refused.{Refuses};
 ghost use Rattle.txn_journal.specs.Stream.{Progress, IsWhole, IsRead};
 ghost use Rattle.txn_journal.specs.Machine.{Standing};
-ghost use Rattle.txn_journal.specs.Reading.{before_first, eats_alone, closing};
+ghost use Rattle.txn_journal.specs.Reading.{before_first, feed_journal_bytes, closing};
 ghost use Rattle.txn_journal.specs.Timestamped.{TimestampedValue, WritesTimestamped, RefusesTimestamped, BeginsAsVersionOne, first_line_version, timestamped_start, closing_timestamped};
 
 use crate::draft::Draft;
@@ -95,7 +95,7 @@ impl Reader {
     ghost use Rattle.txn_journal.specs.Machine.{judge, IsFull, IsInEntry};
     ghost use Rattle.txn_journal.specs.Stream.{answer, IsAfter, NamesSources};
     ghost use Rattle.txn_journal.specs.Formats.{FeedsBy};
-    ghost use Rattle.txn_journal.specs.Reading.{journals, alone_start, before_first, entries_of, without_entries, eats_alone, IsFaultAlone, closing};
+    ghost use Rattle.txn_journal.specs.Reading.{journals, alone_start, before_first, entries_of, without_entries, feed_journal_bytes, IsFaultAlone, closing};
     ghost use Rattle.txn_journal.specs.Timestamped.{closing_timestamped};
     ghost use Rattle.txn_journal.specs.Readers.{reading};
 
@@ -165,7 +165,7 @@ impl Reader {
 
     /// The reader of all of these bytes. It keeps a fault, which its end returns.
     fn over(alloc: Global, due: Option<Version>, bytes: &[u8]) -> Reader
-        ensures { IsAfter (IsFaultAlone (alone_start due) bytes.now) (reading result) (eats_alone (alone_start due) bytes.now) }
+        ensures { IsAfter (IsFaultAlone (alone_start due) bytes.now) (reading result) (feed_journal_bytes (alone_start due) bytes.now) }
     {
         let mut reader = Reader::start_as(alloc, due);
         let _ = reader.feed(alloc, bytes);
@@ -182,7 +182,7 @@ pub fn decode(alloc: Global, bytes: &[u8]) -> Result<Journal, JournalFault>
     // A refusal names the first faulty line, and what is wrong with it.
     ensures refused { IfErr result (λ fault. Refuses fault bytes.now) }
     // The same, by the fold over the bytes.
-    ensures exact { IsWhole result (closing (eats_alone before_first bytes.now)) }
+    ensures exact { IsWhole result (closing (feed_journal_bytes before_first bytes.now)) }
 {
     Reader::over(alloc, None, bytes).finish()
 }
@@ -198,7 +198,7 @@ pub fn decode_v2(alloc: Global, bytes: &[u8]) -> Result<TimestampedJournal, Jour
     // A refusal names the first faulty line, and what is wrong with it.
     ensures refused { IfErr result (λ fault. RefusesTimestamped fault bytes.now) }
     // The same, by the fold over the bytes.
-    ensures exact { IsWhole result (closing_timestamped (eats_alone timestamped_start bytes.now)) }
+    ensures exact { IsWhole result (closing_timestamped (feed_journal_bytes timestamped_start bytes.now)) }
     // A text of version 1 is refused at its first line.
     ensures version { BeginsAsVersionOne bytes.now → IsWhole result (Err first_line_version) }
 {
@@ -207,5 +207,5 @@ pub fn decode_v2(alloc: Global, bytes: &[u8]) -> Result<TimestampedJournal, Jour
 
 /// A text is read alike however it is cut.
 pub fn any_cut()
-    ensures { (p : Progress Standing) (front back : List ℕ) → eats_alone p (front ++ back) ≡ eats_alone (eats_alone p front) back }
+    ensures { (p : Progress Standing) (front back : List ℕ) → feed_journal_bytes p (front ++ back) ≡ feed_journal_bytes (feed_journal_bytes p front) back }
 {}

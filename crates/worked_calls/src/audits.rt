@@ -53,7 +53,7 @@ fn is_printed(alloc: Global, verdict: &Verdict, want: &str) -> bool {
 }
 
 /// Whether the printed verdict of the audit over this opening set is this.
-fn says(alloc: Global, bundle: &Bundle, opened: &str, want: &str) -> bool {
+fn has_verdict(alloc: Global, bundle: &Bundle, opened: &str, want: &str) -> bool {
     match GtidSet::from_text(alloc, opened) {
         Ok(opened) => match audit_verdict(alloc, bundle, &opened, bundle.journals()) {
             Some(verdict) => is_printed(alloc, &verdict, want),
@@ -64,7 +64,7 @@ fn says(alloc: Global, bundle: &Bundle, opened: &str, want: &str) -> bool {
 }
 
 /// Whether the printed verdict of the audit of these entries' journal, in the world of a bundle, is this.
-fn says_of(alloc: Global, bundle: &Bundle, entries: &str, want: &str) -> bool {
+fn has_verdict_of(alloc: Global, bundle: &Bundle, entries: &str, want: &str) -> bool {
     let Ok(text) = text(alloc, "-", entries) else {
         return false;
     };
@@ -83,22 +83,22 @@ fn what_was_purged_may_be_executed_from_the_start(rt: HostRuntime) -> Result<(),
     let alloc = rt.alloc();
     let text = text(alloc, "aaaaaaaa-aaaa-aaaa-aaaa-aaaaaaaaaaaa:1-2", A3)?;
     let bundle = decode_bundle(alloc, text.as_bytes())?;
-    let said = says(
+    let said = has_verdict(
         alloc,
         &bundle,
         "",
         "purged 0 aaaaaaaa-aaaa-aaaa-aaaa-aaaaaaaaaaaa:1-2",
-    ) && says(
+    ) && has_verdict(
         alloc,
         &bundle,
         "aaaaaaaa-aaaa-aaaa-aaaa-aaaaaaaaaaaa:2",
         "purged 0 aaaaaaaa-aaaa-aaaa-aaaa-aaaaaaaaaaaa:1",
-    ) && says(
+    ) && has_verdict(
         alloc,
         &bundle,
         "aaaaaaaa-aaaa-aaaa-aaaa-aaaaaaaaaaaa:1-2",
         "sound",
-    ) && says(
+    ) && has_verdict(
         alloc,
         &bundle,
         "aaaaaaaa-aaaa-aaaa-aaaa-aaaaaaaaaaaa:1-3",
@@ -114,17 +114,17 @@ fn what_is_executed_from_the_start_is_not_missing(rt: HostRuntime) -> Result<(),
     let alloc = rt.alloc();
     let text = text(alloc, "-", A3)?;
     let bundle = decode_bundle(alloc, text.as_bytes())?;
-    let said = says(
+    let said = has_verdict(
         alloc,
         &bundle,
         "",
         "missing aaaaaaaa-aaaa-aaaa-aaaa-aaaaaaaaaaaa:1",
-    ) && says(
+    ) && has_verdict(
         alloc,
         &bundle,
         "aaaaaaaa-aaaa-aaaa-aaaa-aaaaaaaaaaaa:1",
         "missing aaaaaaaa-aaaa-aaaa-aaaa-aaaaaaaaaaaa:2",
-    ) && says(
+    ) && has_verdict(
         alloc,
         &bundle,
         "aaaaaaaa-aaaa-aaaa-aaaa-aaaaaaaaaaaa:1-2",
@@ -140,21 +140,21 @@ fn a_world_may_be_that_of_other_journals(rt: HostRuntime) -> Result<(), Fail> {
     let alloc = rt.alloc();
     let text = text(alloc, "-", A1_AND_A3)?;
     let bundle = decode_bundle(alloc, text.as_bytes())?;
-    let said = says_of(alloc, &bundle, "", "sound")
-        && says_of(alloc, &bundle, A1, "sound")
-        && says_of(
+    let said = has_verdict_of(alloc, &bundle, "", "sound")
+        && has_verdict_of(alloc, &bundle, A1, "sound")
+        && has_verdict_of(
             alloc,
             &bundle,
             A1_OTHERWISE,
             "unequal aaaaaaaa-aaaa-aaaa-aaaa-aaaaaaaaaaaa:1",
         )
-        && says_of(
+        && has_verdict_of(
             alloc,
             &bundle,
             A3,
             "missing aaaaaaaa-aaaa-aaaa-aaaa-aaaaaaaaaaaa:1",
         )
-        && says_of(
+        && has_verdict_of(
             alloc,
             &bundle,
             A1_AND_A3,

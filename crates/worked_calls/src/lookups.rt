@@ -11,7 +11,7 @@ fn table(alloc: Global) -> Option<Name> {
 }
 
 /// Whether a row of `t` is stored under this primary key.
-fn stands(alloc: Global, rows: &Rows, key: KeyValues) -> bool {
+fn has_row(alloc: Global, rows: &Rows, key: KeyValues) -> bool {
     match table(alloc) {
         Some(table) => rows.get(table, key).is_some(),
         None => false,
@@ -26,12 +26,12 @@ fn key_of_nine(alloc: Global) -> Result<KeyValues, AllocError> {
 /// Whether the row 9 is stored under its primary key, be that one value or a list of one, and no row 1.
 fn are_found(alloc: Global, rows: &Rows) -> bool {
     let is_found = match key_of_nine(alloc) {
-        Ok(key) => stands(alloc, rows, key),
+        Ok(key) => has_row(alloc, rows, key),
         Err(_) => false,
     };
     is_found
-        && stands(alloc, rows, KeyValues::one(Value::Int(9)))
-        && !stands(alloc, rows, KeyValues::one(Value::Int(1)))
+        && has_row(alloc, rows, KeyValues::one(Value::Int(9)))
+        && !has_row(alloc, rows, KeyValues::one(Value::Int(1)))
 }
 
 #[test]

@@ -97,7 +97,7 @@ fn commits<N: Naming, R: Wait>(
 }
 
 /// What the seat holds, prepared without the lock; None where it holds nothing.
-fn prepared<N: Naming, R: Wait>(
+fn prepare_held<N: Naming, R: Wait>(
     rt: &R,
     alloc: Global,
     replica: &SharedReplica<N>,
@@ -130,7 +130,7 @@ fn commits_prepared<N: Naming, R: Wait>(
     replica: &SharedReplica<N>,
     pass: &mut Pass<N>,
 ) -> bool {
-    match prepared(rt, alloc, replica, &*pass) {
+    match prepare_held(rt, alloc, replica, &*pass) {
         Some(patch) => is_installed(rt, alloc, replica, pass, patch),
         None => false,
     }
@@ -184,7 +184,7 @@ fn ends_late<N: Naming, R: Wait>(
     first: &mut Pass<N>,
     second: &mut Pass<N>,
 ) -> bool {
-    let held = prepared(rt, alloc, replica, &*first);
+    let held = prepare_held(rt, alloc, replica, &*first);
     let commits = second_commits(rt, alloc, replica, second);
     match held {
         Some(patch) => commits && is_late(rt, alloc, replica, first, patch),
@@ -293,7 +293,7 @@ fn wanted_ending(wish: Task) -> Ending {
 }
 
 /// Whether the places of receipts are ascending.
-fn rise(receipts: &[Receipt]) -> bool {
+fn are_ascending(receipts: &[Receipt]) -> bool {
     receipts.windows(2).all(|two| two[0].place < two[1].place)
 }
 
@@ -314,9 +314,9 @@ fn has_receipts(book: &ClosedBook, second: Option<&'static [u64]>) -> bool {
     let receipts = book.receipts(2);
     let are_wanted = match second {
         Some(places) => are_at(receipts, places),
-        None => receipts.len() == 2 && rise(receipts),
+        None => receipts.len() == 2 && are_ascending(receipts),
     };
-    are_wanted && rise(book.receipts(1))
+    are_wanted && are_ascending(book.receipts(1))
 }
 
 fn shows(alloc: Global, book: &ClosedBook, want: Ending) -> bool {

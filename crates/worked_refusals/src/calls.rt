@@ -154,7 +154,7 @@ pub(crate) fn answer<N: Naming, R: Abort + Wait>(
 }
 
 /// The reply to a call that is made again where memory was refused.
-pub(crate) fn insist<N: Naming, R: Abort + Wait>(
+pub(crate) fn retry<N: Naming, R: Abort + Wait>(
     rt: &R,
     alloc: Global,
     replica: &SharedReplica<N>,

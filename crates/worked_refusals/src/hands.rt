@@ -1,9 +1,9 @@
 //! One seat holds a place by hand, the other's worker works alone, and the drain does what is left.
 ghost use Rattle.std.specs.Prelude.{◌≡◌};
 
-use crate::calls::{Call, insist};
+use crate::calls::{Call, retry};
 use crate::ends::{drain_again, shows};
-use crate::start::{NOTHING_BEGAN, THREE, bundle, core_of, entries, tell};
+use crate::start::{NOTHING_BEGAN, THREE, bundle, core_of, entries, report};
 use applier::{NoGate, WorkersEnd, run_workers};
 use commit_ledger::{Blanks, Counts};
 use gtid_set::SetFault;
@@ -45,7 +45,7 @@ fn take_by_hand<N: Naming, R: Abort + Wait>(
         panic!(rt; "no second pass");
     };
     for call in BY_HAND {
-        let _reply = insist(rt, alloc, replica, pass, entries, call);
+        let _reply = retry(rt, alloc, replica, pass, entries, call);
     }
     match pass.receipts().last() {
         Some(receipt) => {
@@ -121,10 +121,10 @@ fn one_works_alone<N: Naming + Send + Sync, R: Threads + Wait + Abort + Print + 
     requires two { N.seats ≡ 2 }
 {
     let Ok((replica, mut passes)) = SharedReplica::<N>::open(alloc, blanks, core, 2) else {
-        return tell(rt, NOTHING_BEGAN);
+        return report(rt, NOTHING_BEGAN);
     };
     let Ok(alone) = Vec::with_capacity(alloc, 1) else {
-        return tell(rt, NOTHING_BEGAN);
+        return report(rt, NOTHING_BEGAN);
     };
     take_by_hand(rt, alloc, &replica, passes.as_mut_slice(), entries);
     let stopped = work_alone(rt, alloc, &replica, &mut passes, alone);
@@ -133,7 +133,7 @@ fn one_works_alone<N: Naming + Send + Sync, R: Threads + Wait + Abort + Print + 
     };
     let met = end(rt, alloc, &mut book, stopped);
     drop(book);
-    tell(rt, met)
+    report(rt, met)
 }
 
 /// Whatever is refused to the worker or to the drain, a further drain ends in the state in which the first
@@ -142,10 +142,10 @@ fn one_works_alone<N: Naming + Send + Sync, R: Threads + Wait + Abort + Print + 
 fn a_drain_goes_on(rt: HostRuntime) -> Result<(), Fail> {
     let alloc = rt.alloc();
     let Ok(bundle) = bundle(&rt, alloc, THREE) else {
-        return tell(&rt, NOTHING_BEGAN);
+        return report(&rt, NOTHING_BEGAN);
     };
     let Ok(core) = core_of(alloc, &bundle) else {
-        return tell(&rt, NOTHING_BEGAN);
+        return report(&rt, NOTHING_BEGAN);
     };
     one_works_alone::<Brand, _>(&rt, alloc, Blanks::new(2), core, entries(&bundle))
 }

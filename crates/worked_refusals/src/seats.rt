@@ -1,8 +1,8 @@
 //! Two seats of one replica by turns on one thread.
 ghost use Rattle.std.specs.Prelude.{◌≡◌};
 
-use crate::calls::{Call, answer, insist};
-use crate::start::{NOTHING_BEGAN, THREE, bundle, core_of, entries, tell};
+use crate::calls::{Call, answer, retry};
+use crate::start::{NOTHING_BEGAN, THREE, bundle, core_of, entries, report};
 use commit_ledger::{Blanks, Counts};
 use gtid_text::{Gtid, SourceId};
 use journal::Entry;
@@ -71,7 +71,7 @@ fn is_gtid(gtid: &Gtid, source: u128, number: u64) -> bool {
 }
 
 /// Whether a reply is this one.
-fn is_said(reply: &Reply, said: Said) -> bool {
+fn is_reply(reply: &Reply, said: Said) -> bool {
     match said {
         Said::Opened => matches!(reply, Reply::Opened(0)),
         Said::Asked => matches!(reply, Reply::Ask(set) if set.count() == 0),
@@ -119,12 +119,12 @@ fn is_event(event: &Event, seat: u8, call: Call) -> bool {
 /// Whether a step is that of a turn.
 fn is_turn(turn: &Turn, step: &Step) -> bool {
     let (seat, call, said, _) = *turn;
-    is_event(&step.event, seat, call) && is_said(&step.reply, said)
+    is_event(&step.event, seat, call) && is_reply(&step.reply, said)
 }
 
 /// Whether a step is a look that shows so many GTIDs.
 fn is_look(step: &Step, executed: u128) -> bool {
-    matches!(&step.event, Event::Look) && is_said(&step.reply, Said::Shown(executed))
+    matches!(&step.event, Event::Look) && is_reply(&step.reply, Said::Shown(executed))
 }
 
 /// Whether the steps are the turns in order, with nothing between them but looks at what was executed.
@@ -160,17 +160,17 @@ fn take_turn<N: Naming, R: Abort + Wait>(
 ) -> bool {
     let (_, call, said, _) = *turn;
     if let Some(reply) = answer(rt, alloc, replica, pass, entries, call) {
-        assert!(rt; is_said(&reply, said), "the answer to a call");
+        assert!(rt; is_reply(&reply, said), "the answer to a call");
         return false;
     }
-    let shown = insist(rt, alloc, replica, pass, entries, Call::Look);
+    let shown = retry(rt, alloc, replica, pass, entries, Call::Look);
     assert!(rt;
-        is_said(&shown, Said::Shown(executed)),
+        is_reply(&shown, Said::Shown(executed)),
         "a refused call executes nothing"
     );
-    let reply = insist(rt, alloc, replica, pass, entries, call);
+    let reply = retry(rt, alloc, replica, pass, entries, call);
     assert!(rt;
-        is_said(&reply, said),
+        is_reply(&reply, said),
         "the answer to a call that was refused before"
     );
     true
@@ -236,7 +236,7 @@ fn two_seats<N: Naming, R: Abort + Wait + Print>(
     requires two { N.seats ≡ 2 }
 {
     let Ok((replica, mut passes)) = SharedReplica::<N>::open(alloc, blanks, core, 2) else {
-        return tell(rt, NOTHING_BEGAN);
+        return report(rt, NOTHING_BEGAN);
     };
     let refused = take_turns(rt, alloc, &replica, passes.as_mut_slice(), entries);
     let Ok(book) = replica.close(passes) else {
@@ -249,7 +249,7 @@ fn two_seats<N: Naming, R: Abort + Wait + Print>(
     } else {
         "a call refused"
     };
-    tell(rt, met)
+    report(rt, met)
 }
 
 /// A call that was refused memory has changed nothing, and has its reply when it is made again.
@@ -257,10 +257,10 @@ fn two_seats<N: Naming, R: Abort + Wait + Print>(
 fn two_seats_by_turns(rt: HostRuntime) -> Result<(), Fail> {
     let alloc = rt.alloc();
     let Ok(bundle) = bundle(&rt, alloc, THREE) else {
-        return tell(&rt, NOTHING_BEGAN);
+        return report(&rt, NOTHING_BEGAN);
     };
     let Ok(core) = core_of(alloc, &bundle) else {
-        return tell(&rt, NOTHING_BEGAN);
+        return report(&rt, NOTHING_BEGAN);
     };
     two_seats::<Brand, _>(&rt, alloc, Blanks::new(2), core, entries(&bundle))
 }

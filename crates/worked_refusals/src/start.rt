@@ -55,7 +55,7 @@ pub(crate) fn entries(bundle: &Bundle) -> &[Entry] {
 }
 
 /// Reports which case a test met.
-pub(crate) fn tell<R: Print>(rt: &R, met: &str) -> Result<(), Fail> {
+pub(crate) fn report<R: Print>(rt: &R, met: &str) -> Result<(), Fail> {
     println!(rt; "met: {met}")?;
     Ok(())
 }

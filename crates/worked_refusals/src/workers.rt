@@ -2,7 +2,7 @@
 ghost use Rattle.std.specs.Prelude.{◌≡◌};
 
 use crate::ends::{drain_again, owned_gtids, shows};
-use crate::start::{NOTHING_BEGAN, bundle, core_of, entries, tell};
+use crate::start::{NOTHING_BEGAN, bundle, core_of, entries, report};
 use applier::{Gate, WorkersEnd, run_workers};
 use commit_ledger::Blanks;
 use gtid_set::SetFault;
@@ -183,7 +183,7 @@ fn two_work<N: Naming + Send + Sync, R: Threads + Wait + Abort + Print + Sync>(
     requires two { N.seats ≡ 2 }
 {
     let Ok((replica, passes)) = SharedReplica::<N>::open(alloc, blanks, core, 2) else {
-        return tell(rt, NOTHING_BEGAN);
+        return report(rt, NOTHING_BEGAN);
     };
     let WorkersEnd { passes, fault } = run_workers(rt, alloc, &replica, passes, marks);
     let Ok(mut book) = replica.close(passes) else {
@@ -191,7 +191,7 @@ fn two_work<N: Naming + Send + Sync, R: Threads + Wait + Abort + Print + Sync>(
     };
     let met = end(rt, alloc, &mut book, fault, marks);
     drop(book);
-    tell(rt, met)
+    report(rt, met)
 }
 
 /// A worker that is refused memory leaves at most its own GTID: its pass comes back, the other worker goes
@@ -200,10 +200,10 @@ fn two_work<N: Naming + Send + Sync, R: Threads + Wait + Abort + Print + Sync>(
 fn the_other_worker_goes_on(rt: HostRuntime) -> Result<(), Fail> {
     let alloc = rt.alloc();
     let Ok(bundle) = bundle(&rt, alloc, FOUR) else {
-        return tell(&rt, NOTHING_BEGAN);
+        return report(&rt, NOTHING_BEGAN);
     };
     let Ok(core) = received_core(&rt, alloc, &bundle) else {
-        return tell(&rt, NOTHING_BEGAN);
+        return report(&rt, NOTHING_BEGAN);
     };
     let marks = Marks {
         first: Moments::new(),

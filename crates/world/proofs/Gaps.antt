@@ -25,7 +25,7 @@ use Rattle.ordered_journals.proofs.Lists.{get_take}
 use Rattle.world.specs.declared.verdict.Verdict.{Verdict}
 use Rattle.world.specs.declared.verdict.Verdict.TheVariants.{Unequal, Purged, NotClosed}
 use Rattle.world.specs.Search.{or_next, first_at, first}
-use Rattle.world.specs.Audit.{all_entries, world_of, is_content, is_unequal, unequal, purged, stands_in, stands_before, is_left_out}
+use Rattle.world.specs.Audit.{all_entries, world_of, is_content, is_unequal, unequal, purged, is_recorded_in, is_recorded_before, is_left_out}
 use Rattle.world.specs.Folds.{last_toucher, has_gap, least_left_out, OnePassCloses}
 use Rattle.world.proofs.Finding.{when_none, none_when, first_none, none_first, taken, filtered, left_by_filter, below_test}
 use Rattle.world.proofs.Contents.{entry_at, entry_from, at_content, contents_outside}
@@ -130,14 +130,14 @@ same_gtids : (g h : Gtid) → g.source ≡ h.source → g.number ≡ h.number �
 same_gtids g h s n = λ i. record { source = s i; number = n i }
 
 -- what comes before a place comes before a later one
-stands_later : (j : JournalValue) (q place : ℕ) (g : Gtid) → q < place → stands_before j q g ≡ true → stands_before j place g ≡ true
-stands_later j q place g l h = elim (or_cases (set.contains j.previous g) (stands_in (take q j.entries) g) h) [
-  | inl p ↦ or_left (set.contains j.previous g) (stands_in (take place j.entries) g) p
+stands_later : (j : JournalValue) (q place : ℕ) (g : Gtid) → q < place → is_recorded_before j q g ≡ true → is_recorded_before j place g ≡ true
+stands_later j q place g l h = elim (or_cases (set.contains j.previous g) (is_recorded_in (take q j.entries) g) h) [
+  | inl p ↦ or_left (set.contains j.previous g) (is_recorded_in (take place j.entries) g) p
   | inr e ↦
       let a = entry_at (take q j.entries) g e in
       let b = taken j.entries q a.0 a.1 a.2 in
-      or_right (set.contains j.previous g) (stands_in (take place j.entries) g)
-      (subst (λ (x : Gtid). stands_in (take place j.entries) x ≡ true) a.3 (entry_from (take place j.entries) a.0 a.1 (get_take j.entries place a.0 a.1 b.0 (less a.0 q place b.1 l))))
+      or_right (set.contains j.previous g) (is_recorded_in (take place j.entries) g)
+      (subst (λ (x : Gtid). is_recorded_in (take place j.entries) x ≡ true) a.3 (entry_from (take place j.entries) a.0 a.1 (get_take j.entries place a.0 a.1 b.0 (less a.0 q place b.1 l))))
 ]
   where
     less : (a b c : ℕ) → a < b → b < c → a < c
@@ -161,7 +161,7 @@ module _ (w : World) (journals : List JournalValue) (outside : (g : Gtid) (t : T
     module _ (i : ℕ) (j : JournalValue) (hj : slice_get journals i ≡ Some j) (place : ℕ) (e : Entry) (he : slice_get j.entries place ≡ Some e)
         (before : (q : ℕ) (x : Entry) → q < place → slice_get j.entries q ≡ Some x → least_left_out w j q x ≡ None) (shut : has_gap w j place e ≡ false) where
       -- what precedes the last toucher of a common key comes before it, and it comes before the entry
-      stands_too : (l : ℕ) (h : history.Entry) → slice_get (finmap.entries w.contents) l ≡ Some h → is_opened w e.gtid ≡ false → h.0.source ≡ e.gtid.source → h.0.number < e.gtid.number → shares_key w.schema h.1 e.txn ≡ true → stands_before j place h.0 ≡ true
+      stands_too : (l : ℕ) (h : history.Entry) → slice_get (finmap.entries w.contents) l ≡ Some h → is_opened w e.gtid ≡ false → h.0.source ≡ e.gtid.source → h.0.number < e.gtid.number → shares_key w.schema h.1 e.txn ≡ true → is_recorded_before j place h.0 ≡ true
       stands_too l h hl out same less shares =
           let k = shared_key w.schema h.1 e.txn shares in
           let p : history.Entry → Bool = λ x. (x.0.source == e.gtid.source) && (nat_lt x.0.number e.gtid.number && touches w.schema x.1 k.0) in
@@ -174,15 +174,15 @@ module _ (w : World) (journals : List JournalValue) (outside : (g : Gtid) (t : T
           let parts = and_parts (f.0.source == e.gtid.source) _ ok.0 in
           let rest = and_parts (nat_lt f.0.number e.gtid.number) (touches w.schema f.1 k.0) parts.1 in
           let is_source : f.0.source ≡ h.0.source = eqb-true f.0.source e.gtid.source parts.0 ∙ sym same in
-          let closed : list_any (λ key. option_map_or (λ (x : history.Entry). not (stands_before j place x.0)) (last_toucher w e.gtid key) false) (write_set w.schema e.txn) ≡ false = and_false (not (is_opened w e.gtid)) _ (not_from_false (is_opened w e.gtid) out) shut in
-          let f_stands : stands_before j place f.0 ≡ true = true_from_ne_false (stands_before j place f.0) (λ no.
-          not_both (list_any (λ key. option_map_or (λ (x : history.Entry). not (stands_before j place x.0)) (last_toucher w e.gtid key) false) (write_set w.schema e.txn))
-          (any_passes_from_place (λ key. option_map_or (λ (x : history.Entry). not (stands_before j place x.0)) (last_toucher w e.gtid key) false) (write_set w.schema e.txn) k.2 k.0 k.3
-          (ap (λ o. option_map_or (λ (x : history.Entry). not (stands_before j place x.0)) o false) last.1 ∙ not_from_false (stands_before j place f.0) no)) closed) in
+          let closed : list_any (λ key. option_map_or (λ (x : history.Entry). not (is_recorded_before j place x.0)) (last_toucher w e.gtid key) false) (write_set w.schema e.txn) ≡ false = and_false (not (is_opened w e.gtid)) _ (not_from_false (is_opened w e.gtid) out) shut in
+          let f_stands : is_recorded_before j place f.0 ≡ true = true_from_ne_false (is_recorded_before j place f.0) (λ no.
+          not_both (list_any (λ key. option_map_or (λ (x : history.Entry). not (is_recorded_before j place x.0)) (last_toucher w e.gtid key) false) (write_set w.schema e.txn))
+          (any_passes_from_place (λ key. option_map_or (λ (x : history.Entry). not (is_recorded_before j place x.0)) (last_toucher w e.gtid key) false) (write_set w.schema e.txn) k.2 k.0 k.3
+          (ap (λ o. option_map_or (λ (x : history.Entry). not (is_recorded_before j place x.0)) o false) last.1 ∙ not_from_false (is_recorded_before j place f.0) no)) closed) in
           let cf = at_content w ok.1 f ok.2 in
           elim (le_cases h.0.number f.0.number last.2) [
-            | inr equal_number ↦ subst (λ (x : Gtid). stands_before j place x ≡ true) (same_gtids f.0 h.0 is_source (sym equal_number)) f_stands
-            | inl lower ↦ elim (or_cases (set.contains j.previous f.0) (stands_in (take place j.entries) f.0) f_stands) [
+            | inr equal_number ↦ subst (λ (x : Gtid). is_recorded_before j place x ≡ true) (same_gtids f.0 h.0 is_source (sym equal_number)) f_stands
+            | inl lower ↦ elim (or_cases (set.contains j.previous f.0) (is_recorded_in (take place j.entries) f.0) f_stands) [
               | inl purged_it ↦ absurd (not_previous i j f.0 f.1 hj cf purged_it)
               | inr earlier ↦
                   let a = entry_at (take place j.entries) f.0 earlier in
@@ -192,12 +192,12 @@ module _ (w : World) (journals : List JournalValue) (outside : (g : Gtid) (t : T
                   let is_txn : f.1 ≡ a.1.txn = same_Some f.1 a.1.txn (sym cf ∙ (ap (content w) (sym a.3) ∙ cx)) in
                   let none = first_none _ (finmap.entries w.contents) (before a.0 a.1 b.1 b.0) l h hl in
                   let test : is_left_out w j a.0 a.1 h ≡ false = when_none (is_left_out w j a.0 a.1 h) (NotClosed a.1.gtid h.0) none in
-                  let stands : stands_before j a.0 h.0 ≡ true = true_from_ne_false (stands_before j a.0 h.0) (λ no.
+                  let stands : is_recorded_before j a.0 h.0 ≡ true = true_from_ne_false (is_recorded_before j a.0 h.0) (λ no.
                   not_both (is_left_out w j a.0 a.1 h)
                   (and_from (not (is_opened w a.1.gtid)) _ (not_from_false (is_opened w a.1.gtid) x_out)
                   (and_from (h.0.source == a.1.gtid.source) _ (eq-eqb h.0.source a.1.gtid.source (sym is_source ∙ ap (λ (y : Gtid). y.source) (sym a.3)))
                   (and_from (nat_lt h.0.number a.1.gtid.number) _ (below_test h.0.number a.1.gtid.number (subst (λ (y : Gtid). h.0.number < y.number) (sym a.3) lower))
-                  (and_from (shares_key w.schema h.1 a.1.txn) (not (stands_before j a.0 h.0)) (shares_by w.schema h.1 a.1.txn k.0 k.1 (ap (λ (y : Transaction). touches w.schema y k.0) (sym is_txn) ∙ rest.1)) (not_from_false (stands_before j a.0 h.0) no))))) test) in
+                  (and_from (shares_key w.schema h.1 a.1.txn) (not (is_recorded_before j a.0 h.0)) (shares_by w.schema h.1 a.1.txn k.0 k.1 (ap (λ (y : Transaction). touches w.schema y k.0) (sym is_txn) ∙ rest.1)) (not_from_false (is_recorded_before j a.0 h.0) no))))) test) in
                   stands_later j a.0 place h.0 b.1 stands
             ]
           ]
@@ -211,10 +211,10 @@ module _ (w : World) (journals : List JournalValue) (outside : (g : Gtid) (t : T
           let a = and_parts (not (is_opened w e.gtid)) _ t in
           let b = and_parts (h.0.source == e.gtid.source) _ a.1 in
           let c = and_parts (nat_lt h.0.number e.gtid.number) _ b.1 in
-          let d = and_parts (shares_key w.schema h.1 e.txn) (not (stands_before j place h.0)) c.1 in
-          not_both (stands_before j place h.0)
+          let d = and_parts (shares_key w.schema h.1 e.txn) (not (is_recorded_before j place h.0)) c.1 in
+          not_both (is_recorded_before j place h.0)
           (stands_too l h hl (not-true (is_opened w e.gtid) a.0) (eqb-true h.0.source e.gtid.source b.0) (number_lt h.0.number e.gtid.number c.0) d.0)
-          (not-true (stands_before j place h.0) d.1))))
+          (not-true (is_recorded_before j place h.0) d.1))))
 
     of_journal : (i : ℕ) (j : JournalValue) → slice_get journals i ≡ Some j → first_at (least_left_out w j) j.entries ≡ first_at (λ place e. cond (has_gap w j place e) (least_left_out w j place e) None) j.entries
     of_journal i j hj = guarded (least_left_out w j) (has_gap w j) j.entries (λ place e he before shut. nothing_left_out i j hj place e he before shut)

@@ -19,11 +19,11 @@ use Rattle.rows.specs.WriteSet.{write_set, touches}
 use Rattle.source_history.specs.World.{World, content, of_source, entries_in, rows_of, is_opened}
 use Rattle.source_history.specs.World as history
 use Rattle.source_history.proofs.Gtids.{number_less}
-use Rattle.source_history.proofs.Entries.{IsRising, rising}
+use Rattle.source_history.proofs.Entries.{IsAscending, rising}
 use Rattle.ordered_journals.proofs.Lists.{get_map, all_at}
 use Rattle.world.specs.declared.verdict.Verdict.TheVariants.{Missing, Shared, DoesNotApply}
 use Rattle.world.specs.Search.{first, when}
-use Rattle.world.specs.Audit.{all_entries, world_of, stands_in, present, is_absent, below, first_fault}
+use Rattle.world.specs.Audit.{all_entries, world_of, is_recorded_in, present, is_absent, below, first_fault}
 use Rattle.world.specs.Cases.{IsShared}
 use Rattle.world.specs.Least.{MissingIsLeast, SharedIsLeast, FirstSourceFails}
 use Rattle.world.proofs.Finding.{when_none, when_some, first_none, first_some, below_test, get_range, filtered}
@@ -48,7 +48,7 @@ never_before a b p q = by (gtid_cmp a b) (gtid_cmp b a) (gtid_total.antisymm a b
     by Equal s e p q = cc
     by Greater s e p q = cc
 
-pub index_less : (es : List history.Entry) → IsRising es → (i j : ℕ) (a b : history.Entry) → slice_get es i ≡ Some a → slice_get es j ≡ Some b → gtid_cmp a.0 b.0 ≡ Less → i < j
+pub index_less : (es : List history.Entry) → IsAscending es → (i j : ℕ) (a b : history.Entry) → slice_get es i ≡ Some a → slice_get es j ≡ Some b → gtid_cmp a.0 b.0 ≡ Less → i < j
 index_less [] r i j a b p q l = none_some a p
 index_less (x ∷ es) r zero zero a b p q l =
     let same : a ≡ b = same_Some a b (sym p ∙ q) in
@@ -96,7 +96,7 @@ missing_is_least world journals g found h m less =
     let of_g = below_number a.element.0 b.element b.place b.there in
     let g_source : g.source ≡ a.element.0.source = ap (λ (x : Gtid). x.source) (sym is_g) ∙ of_g.1 in
     let g_number : g.number ≡ 1 + b.place = ap (λ (x : Gtid). x.number) (sym is_g) ∙ of_g.0 in
-    let absent : is_absent world journals h ≡ true = and_from (not (is_opened world h)) (not (stands_in (all_entries journals) h)) (not_from_false (is_opened world h) m.new) (not_from_false (stands_in (all_entries journals) h) m.absent) in
+    let absent : is_absent world journals h ≡ true = and_from (not (is_opened world h)) (not (is_recorded_in (all_entries journals) h)) (not_from_false (is_opened world h) m.new) (not_from_false (is_recorded_in (all_entries journals) h) m.absent) in
     elim (source_le h g less) [
       | inl smaller ↦
           let t = some_of (content w m.greater) (entry_content world.opening_set (all_entries journals) m.greater m.there m.beyond) in

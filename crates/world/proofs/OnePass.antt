@@ -21,7 +21,7 @@ use Rattle.source_history.specs.World.{World, content, is_opened, of_source, ent
 use Rattle.source_history.specs.World as history
 use Rattle.ordered_history.proofs.Commuting.{frame}
 use Rattle.ordered_history.proofs.Placing.{all_map, chosen_applies}
-use Rattle.source_history.proofs.Entries.{IsRising, AreFound, rising, found, apart_sources}
+use Rattle.source_history.proofs.Entries.{IsAscending, AreFound, rising, found, apart_sources}
 use Rattle.source_history.proofs.Alone.{source_closed, alone_or_together}
 use Rattle.world.specs.declared.verdict.Verdict.{Verdict}
 use Rattle.world.specs.declared.verdict.Verdict.TheVariants.{DoesNotApply}
@@ -65,7 +65,7 @@ all_parts P [] ys h = (tt, h)
 all_parts P (x ∷ xs) ys h = let r = all_parts P xs ys h.1 in ((h.0, r.0), r.1)
 
 -- what comes before an entry is less, and what comes after it is greater
-pub rising_parts : (xs : List history.Entry) (y : history.Entry) (ys : List history.Entry) → IsRising (xs ++ y ∷ ys) → AllByRecursion (λ (x : history.Entry). gtid_cmp x.0 y.0 ≡ Less) xs × AllByRecursion (λ (z : history.Entry). gtid_cmp y.0 z.0 ≡ Less) ys
+pub rising_parts : (xs : List history.Entry) (y : history.Entry) (ys : List history.Entry) → IsAscending (xs ++ y ∷ ys) → AllByRecursion (λ (x : history.Entry). gtid_cmp x.0 y.0 ≡ Less) xs × AllByRecursion (λ (z : history.Entry). gtid_cmp y.0 z.0 ≡ Less) ys
 rising_parts [] y ys h = (tt, h.0)
 rising_parts (x ∷ xs) y ys h =
     let r = rising_parts xs y ys h.1 in
@@ -140,7 +140,7 @@ module _ (world : World) (sound : AreKeysSound world) where
 
   module _ (before later : List history.Entry) (g : Gtid) (t : Transaction) (fault : RowFault) (r : Rows) (parts : es ≡ before ++ (g, t) ∷ later) (reached : apply_all world.schema before world.opening_rows ≡ Ok r) (refused : apply world.schema t r ≡ Err fault) where
     order : AllByRecursion (λ (x : history.Entry). gtid_cmp x.0 g ≡ Less) before × AllByRecursion (λ (z : history.Entry). gtid_cmp g z.0 ≡ Less) later
-    order = rising_parts before (g, t) later (subst IsRising parts (rising world))
+    order = rising_parts before (g, t) later (subst IsAscending parts (rising world))
 
     known : AreFound world before × AreFound world ((g, t) ∷ later)
     known = all_parts (λ e. content world e.0 ≡ Some e.1) before ((g, t) ∷ later) (subst (AreFound world) parts (found world))

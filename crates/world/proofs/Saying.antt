@@ -24,7 +24,7 @@ use Rattle.source_history.proofs.Fronts.{front, fronts_of}
 use Rattle.world.specs.declared.verdict.Verdict.TheVariants.{Unequal, Purged, Missing, Shared, NotClosed, DoesNotApply, Sound}
 use Rattle.world.specs.Equal.{txn_eq}
 use Rattle.world.specs.Audit.{all_entries, world_of, is_content, is_unequal, unequal, purged, present, is_absent, below, missing, shared, is_left_out, not_closed, fault_after, first_fault, does_not_apply, found_in_keys}
-use Rattle.world.specs.Meaning.{SoundIsSaid}
+use Rattle.world.specs.Meaning.{FaithfulIsSound}
 use Rattle.world.proofs.Finding.{none_next, none_when, none_first, taken, range_above}
 use Rattle.world.proofs.Same.{txn_self}
 use Rattle.world.proofs.Contents.{entry_at, entry_from, at_content, some_of, contents_entry}
@@ -124,7 +124,7 @@ pub applies_none : (world : World) → ((s : ℕ) → IsOk (rows_of world (of_so
 applies_none world alone = none_first _ (finmap.entries world.contents) (λ i e h.
     ap (option_map (λ (fault : Gtid × RowFault). DoesNotApply fault.0 fault.1)) (fault_free world.schema (entries_in world (of_source e.0.source)) world.opening_rows (alone e.0.source)))
 
-pub sound_is_said : SoundIsSaid
+pub sound_is_said : FaithfulIsSound
 sound_is_said schema opened rows journals sound faithful within =
     ap (λ o. unwrap_or o Sound) (none_next (found_in_keys (world_of schema opened rows journals) journals) (does_not_apply (world_of schema opened rows journals))
     (keys_said schema opened rows journals sound.keys faithful within) (applies_none (world_of schema opened rows journals) sound.alone))

@@ -23,7 +23,7 @@ use Rattle.world.specs.declared.verdict.Verdict.TheVariants.{Unequal, Purged, Mi
 use Rattle.world.specs.Search.{or_next}
 use Rattle.world.specs.Equal.{txn_eq}
 use Rattle.world.specs.Audit.{all_entries, world_of, is_content, is_unequal, unequal, purged, present, is_absent, below, missing, shared, is_left_out, not_closed, fault_after, first_fault, does_not_apply, found_in_keys}
-use Rattle.world.specs.Cases.{Stands, VerdictsStand}
+use Rattle.world.specs.Cases.{NamesFault, VerdictsNameFaults}
 use Rattle.world.proofs.Finding.{next_some, when_some, first_some, range_above}
 use Rattle.world.proofs.Same.{txn_self}
 use Rattle.world.proofs.Contents.{at_content, contents_outside, contents_entry}
@@ -34,13 +34,13 @@ use Rattle.rows.proofs.Lists.{none_some, map_some, get_map_cases}
 use Rattle.world.proofs.Gaps.{number_lt}
 
 module _ (world : World) (journals : List JournalValue) where
-  pub unequal_stands : (v : Verdict) → unequal world journals ≡ Some v → Stands world journals v
+  pub unequal_stands : (v : Verdict) → unequal world journals ≡ Some v → NamesFault world journals v
   unequal_stands v f =
       let a = first_some _ journals v f in
       let b = first_some _ a.element.entries v a.gives in
       let c = when_some (is_unequal world b.element) (Unequal b.element.gtid) v b.gives in
       let p = and_parts (not (is_opened world b.element.gtid)) (not (is_content world b.element)) c.0 in
-      subst (Stands world journals) c.1 (record {
+      subst (NamesFault world journals) c.1 (record {
         entry = b.element;
         there = record { number = a.place; journal = a.element; place = b.place; listed = a.there; there = b.there };
         named = refl;
@@ -48,13 +48,13 @@ module _ (world : World) (journals : List JournalValue) where
         differs = λ e. not_both (is_content world b.element) (ap (λ o. option_map_or (txn_eq b.element.txn) o false) e ∙ txn_self b.element.txn) (not-true (is_content world b.element) p.1);
       })
 
-  pub purged_stands : (v : Verdict) → purged world journals ≡ Some v → Stands world journals v
+  pub purged_stands : (v : Verdict) → purged world journals ≡ Some v → NamesFault world journals v
   purged_stands v f =
       let a = first_some _ journals v f in
       let c = when_some (not (set.is_subset a.element.previous world.opening_set)) (Purged a.place (set.difference a.element.previous world.opening_set)) v a.gives in
-      subst (Stands world journals) c.1 (record { journal = a.element; there = a.there; named = refl; more = not-true (set.is_subset a.element.previous world.opening_set) c.0 })
+      subst (NamesFault world journals) c.1 (record { journal = a.element; there = a.there; named = refl; more = not-true (set.is_subset a.element.previous world.opening_set) c.0 })
 
-  pub missing_stands : (v : Verdict) → missing world journals ≡ Some v → Stands world journals v
+  pub missing_stands : (v : Verdict) → missing world journals ≡ Some v → NamesFault world journals v
   missing_stands v f =
       let a = first_some _ (present world journals) v f in
       let there = at_content (world_of world.schema world.opening_set world.opening_rows journals) a.place a.element a.there in
@@ -65,7 +65,7 @@ module _ (world : World) (journals : List JournalValue) where
       let r = get_map_cases (λ (n : ℕ). record { source = a.element.0.source; number = n }) (range_with_len 1 (a.element.0.number - 1)) b.place h b.there in
       let q = range_above 1 (a.element.0.number - 1) b.place r.0 r.1 in
       let is_number : r.0 ≡ h.number = ap (λ (x : Gtid). x.number) r.2 in
-      subst (Stands world journals) c.1 (record {
+      subst (NamesFault world journals) c.1 (record {
         new = not-true (is_opened world h) p.0;
         absent = not-true (is_entry (all_entries journals) h) p.1;
         positive = omega arith;
@@ -76,14 +76,14 @@ module _ (world : World) (journals : List JournalValue) where
         below = omega arith;
       })
 
-  shared_stands : (v : Verdict) → shared world ≡ Some v → Stands world journals v
+  shared_stands : (v : Verdict) → shared world ≡ Some v → NamesFault world journals v
   shared_stands v f =
       let a = first_some _ (finmap.entries world.contents) v f in
       let b = first_some _ (write_set world.schema a.element.1) v a.gives in
       let g = first_some _ (finmap.entries world.contents) v b.gives in
       let c = when_some (nat_lt g.element.0.source a.element.0.source && touches world.schema g.element.1 b.element) (Shared g.element.0 a.element.0 b.element) v g.gives in
       let p = and_parts (nat_lt g.element.0.source a.element.0.source) (touches world.schema g.element.1 b.element) c.0 in
-      subst (Stands world journals) c.1 (record {
+      subst (NamesFault world journals) c.1 (record {
         t = g.element.1;
         u = a.element.1;
         first = at_content world g.place g.element g.there;
@@ -93,7 +93,7 @@ module _ (world : World) (journals : List JournalValue) where
         touches_second = any_passes_from_place (key_eq b.element) (write_set world.schema a.element.1) b.place b.element b.there (key_eq_self b.element);
       })
 
-  closed_stands : (v : Verdict) → not_closed world journals ≡ Some v → Stands world journals v
+  closed_stands : (v : Verdict) → not_closed world journals ≡ Some v → NamesFault world journals v
   closed_stands v f =
       let a = first_some _ journals v f in
       let b = first_some _ a.element.entries v a.gives in
@@ -103,7 +103,7 @@ module _ (world : World) (journals : List JournalValue) where
       let q = and_parts (g.element.0.source == b.element.gtid.source) _ p.1 in
       let r = and_parts (nat_lt g.element.0.number b.element.gtid.number) _ q.1 in
       let s = and_parts (shares_key world.schema g.element.1 b.element.txn) (not (covered a.element.previous (take b.place a.element.entries) g.element.0)) r.1 in
-      subst (Stands world journals) c.1 (record {
+      subst (NamesFault world journals) c.1 (record {
         entry = b.element;
         there = record { number = a.place; journal = a.element; place = b.place; listed = a.there; there = b.there };
         named = refl;
@@ -136,21 +136,21 @@ pub fails_in : (schema : List Table) (es : List history.Entry) (rows : Rows) (f 
 fails_in schema [] rows f h = none_some f h
 fails_in schema (e ∷ es) rows f h = fault_some schema e es rows f (apply schema e.1 rows) refl (λ new g. fails_in schema es new f g) h
 
-applies_stands : (world : World) (journals : List JournalValue) (v : Verdict) → does_not_apply world ≡ Some v → Stands world journals v
+applies_stands : (world : World) (journals : List JournalValue) (v : Verdict) → does_not_apply world ≡ Some v → NamesFault world journals v
 applies_stands world journals v f =
     let a = first_some _ (finmap.entries world.contents) v f in
     let r = map_some (λ (fault : Gtid × RowFault). DoesNotApply fault.0 fault.1) (first_fault world.schema (entries_in world (of_source a.element.0.source)) world.opening_rows) v a.gives in
     let x = fails_in world.schema (entries_in world (of_source a.element.0.source)) world.opening_rows r.0 r.1 in
-    subst (Stands world journals) r.2 (record { before = x.before; later = x.later; t = x.t; rows = x.reached_rows; source = a.element.0.source; parts = x.parts; reached = x.reached; refused = x.refused })
+    subst (NamesFault world journals) r.2 (record { before = x.before; later = x.later; t = x.t; rows = x.reached_rows; source = a.element.0.source; parts = x.parts; reached = x.reached; refused = x.refused })
 
-stands_by : (world : World) (journals : List JournalValue) (o : Option Verdict) → ((v : Verdict) → o ≡ Some v → Stands world journals v) → Stands world journals (unwrap_or o Sound)
+stands_by : (world : World) (journals : List JournalValue) (o : Option Verdict) → ((v : Verdict) → o ≡ Some v → NamesFault world journals v) → NamesFault world journals (unwrap_or o Sound)
 stands_by world journals None h = tt
 stands_by world journals (Some v) h = h v refl
 
-either : (world : World) (journals : List JournalValue) (o p : Option Verdict) → ((v : Verdict) → o ≡ Some v → Stands world journals v) → ((v : Verdict) → p ≡ Some v → Stands world journals v) → (v : Verdict) → or_next o p ≡ Some v → Stands world journals v
+either : (world : World) (journals : List JournalValue) (o p : Option Verdict) → ((v : Verdict) → o ≡ Some v → NamesFault world journals v) → ((v : Verdict) → p ≡ Some v → NamesFault world journals v) → (v : Verdict) → or_next o p ≡ Some v → NamesFault world journals v
 either world journals o p h g v e = elim (next_some o p v e) [ inl x ↦ h v x | inr y ↦ g v y.1 ]
 
-pub verdicts_stand : VerdictsStand
+pub verdicts_stand : VerdictsNameFaults
 verdicts_stand world journals =
     stands_by world journals (or_next (found_in_keys world journals) (does_not_apply world))
     (either world journals (found_in_keys world journals) (does_not_apply world)

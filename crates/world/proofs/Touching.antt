@@ -16,7 +16,7 @@ use Rattle.rows.specs.WriteSet.{write_set, touches, is_among}
 use Rattle.source_history.specs.World.{World}
 use Rattle.source_history.specs.World as history
 use Rattle.ordered_history.proofs.Placing.{all_map}
-use Rattle.source_history.proofs.Entries.{IsRising, rising}
+use Rattle.source_history.proofs.Entries.{IsAscending, rising}
 use Rattle.world.specs.declared.verdict.Verdict.{Verdict}
 use Rattle.world.specs.declared.verdict.Verdict.TheVariants.{Shared}
 use Rattle.world.specs.Search.{or_next, when, first}
@@ -122,13 +122,13 @@ before_by schema h key g es true false p q up rest =
 before_by schema h key g es false true p q up rest = rest
 before_by schema h key g es false false p q up rest = rest
 
-before_shares : (schema : List Table) (h : history.Entry) (key : Key) (es : List history.Entry) → IsRising es → first (shares_at schema h key) es ≡ shares_with h.0 key (first_toucher schema es key)
+before_shares : (schema : List Table) (h : history.Entry) (key : Key) (es : List history.Entry) → IsAscending es → first (shares_at schema h key) es ≡ shares_with h.0 key (first_toucher schema es key)
 before_shares schema h key [] r = refl
 before_shares schema h key (g ∷ es) r =
     before_by schema h key g es (touches schema g.1 key) (nat_lt g.0.source h.0.source) refl refl
     (all_map (λ x. gtid_cmp g.0 x.0 ≡ Less) (λ x. g.0.source ≤ x.0.source) es (λ x l. source_up g.0 x.0 l) r.0) (before_shares schema h key es r.1)
 
-pub rising_front : (xs ys : List history.Entry) → IsRising (xs ++ ys) → IsRising xs
+pub rising_front : (xs ys : List history.Entry) → IsAscending (xs ++ ys) → IsAscending xs
 rising_front [] ys h = tt
 rising_front (x ∷ xs) ys h = (front xs ys h.0, rising_front xs ys h.1)
   where
@@ -138,7 +138,7 @@ rising_front (x ∷ xs) ys h = (front xs ys h.0, rising_front xs ys h.1)
 
 module _ (schema : List Table) where
   -- a transaction's key against all others
-  key_shares : (before : List history.Entry) (h : history.Entry) (later : List history.Entry) (key : Key) → IsRising (before ++ h ∷ later) → first (shares_at schema h key) (before ++ h ∷ later) ≡ shares_with h.0 key (first_toucher schema before key)
+  key_shares : (before : List history.Entry) (h : history.Entry) (later : List history.Entry) (key : Key) → IsAscending (before ++ h ∷ later) → first (shares_at schema h key) (before ++ h ∷ later) ≡ shares_with h.0 key (first_toucher schema before key)
   key_shares before h later key r =
       let parts = rising_parts before h later r in
       let up : AllByRecursion (λ (g : history.Entry). h.0.source ≤ g.0.source) (h ∷ later) = (itself h.0.source, all_map (λ z. gtid_cmp h.0 z.0 ≡ Less) (λ z. h.0.source ≤ z.0.source) later (λ z l. source_up h.0 z.0 l) parts.1) in
@@ -153,7 +153,7 @@ module _ (schema : List Table) where
   shares_in es h = first (λ key. first (shares_at schema h key) es) (write_set schema h.1)
 
   -- the pass over what is left
-  passes : (before rest : List history.Entry) (seen : FirstTouch) → IsRising (before ++ rest) → ((k : Key) → finmap.get seen k ≡ first_toucher schema before k)
+  passes : (before rest : List history.Entry) (seen : FirstTouch) → IsAscending (before ++ rest) → ((k : Key) → finmap.get seen k ≡ first_toucher schema before k)
       → first (shares_in (before ++ rest)) rest ≡ shared_from schema seen rest
   passes before [] seen r inv = refl
   passes before (h ∷ rest) seen r inv =
@@ -164,7 +164,7 @@ module _ (schema : List Table) where
       ∙ (ap (λ o. or_next o (when (touches schema h.1 k) h.0)) (inv k)
       ∙ (ap (or_next (first_toucher schema before k)) (sym (next_nothing (when (touches schema h.1 k) h.0))) ∙ sym (first_parts (λ (g : history.Entry). when (touches schema g.1 k) g.0) before (h ∷ [])))) in
       (λ i. or_next (here i) (first (shares_in (moved i)) rest))
-      ∙ ap (or_next (first (λ key. shares_with h.0 key (finmap.get seen key)) (write_set schema h.1))) (passes (before ++ h ∷ []) rest (touched_by h.0 (write_set schema h.1) seen) (subst IsRising moved r) next)
+      ∙ ap (or_next (first (λ key. shares_with h.0 key (finmap.get seen key)) (write_set schema h.1))) (passes (before ++ h ∷ []) rest (touched_by h.0 (write_set schema h.1) seen) (subst IsAscending moved r) next)
 
 pub one_pass_shares : OnePassShares
 one_pass_shares world = passes world.schema [] (finmap.entries world.contents) finmap.empty (rising world) (λ k. get-empty key_cmp k)

@@ -62,15 +62,15 @@ purged world journals =
 -- ---- Missing
 
 -- one of these entries has this GTID
-abbrev pub stands_in : List Entry → Gtid → Bool
-stands_in entries g = list_any (λ (e : Entry). same_gtid g e.gtid) entries
+abbrev pub is_recorded_in : List Entry → Gtid → Bool
+is_recorded_in entries g = list_any (λ (e : Entry). same_gtid g e.gtid) entries
 
 -- what is in the journals beyond the opening set, in the order of GTIDs
 abbrev pub present : World → List JournalValue → List history.Entry
 present world journals = finmap.entries (first_contents world.opening_set (all_entries journals))
 
 abbrev pub is_absent : World → List JournalValue → Gtid → Bool
-is_absent world journals g = not (is_opened world g) && not (stands_in (all_entries journals) g)
+is_absent world journals g = not (is_opened world g) && not (is_recorded_in (all_entries journals) g)
 
 -- the lower numbers of the same source, ascending
 abbrev pub below : Gtid → List Gtid
@@ -93,13 +93,13 @@ shared world =
 -- ---- NotClosed
 
 -- in the previous set, or earlier in the journal than a place
-abbrev pub stands_before : JournalValue → ℕ → Gtid → Bool
-stands_before journal place g = set.contains journal.previous g || stands_in (take place journal.entries) g
+abbrev pub is_recorded_before : JournalValue → ℕ → Gtid → Bool
+is_recorded_before journal place g = set.contains journal.previous g || is_recorded_in (take place journal.entries) g
 
 -- h has a smaller number of the same source and a common key, and does not come before the entry
 abbrev pub is_left_out : World → JournalValue → ℕ → Entry → history.Entry → Bool
 is_left_out world journal place e h =
-    not (is_opened world e.gtid) && (h.0.source == e.gtid.source && (nat_lt h.0.number e.gtid.number && (shares_key world.schema h.1 e.txn && not (stands_before journal place h.0))))
+    not (is_opened world e.gtid) && (h.0.source == e.gtid.source && (nat_lt h.0.number e.gtid.number && (shares_key world.schema h.1 e.txn && not (is_recorded_before journal place h.0))))
 
 -- the first entry for which something is left out, and the least such
 abbrev pub not_closed : World → List JournalValue → Option Verdict

@@ -14,7 +14,7 @@ use Rattle.source_history.specs.World.{World, content, is_opened, of_source, ent
 use Rattle.source_history.specs.World as history
 use Rattle.world.specs.declared.verdict.Verdict.{Verdict}
 use Rattle.world.specs.declared.verdict.Verdict.TheVariants.{Unequal, Purged, Missing, Shared, Reordered, NotClosed, Concurrent, DoesNotApply, Sound}
-use Rattle.world.specs.Audit.{all_entries, stands_in, stands_before, verdict}
+use Rattle.world.specs.Audit.{all_entries, is_recorded_in, is_recorded_before, verdict}
 
 -- an entry of a journal
 pub record IsEntryOf (journals : List JournalValue) (e : Entry) : Type 0 where
@@ -42,11 +42,11 @@ pub record IsPurged (world : World) (journals : List JournalValue) (i : ℕ) (gt
 -- no journal has this GTID, and one has a greater number of its source
 pub record IsMissing (world : World) (journals : List JournalValue) (g : Gtid) : Type 0 where
   pub new : is_opened world g ≡ false
-  pub absent : stands_in (all_entries journals) g ≡ false
+  pub absent : is_recorded_in (all_entries journals) g ≡ false
   pub positive : 0 < g.number
   pub greater : Gtid
   pub beyond : is_opened world greater ≡ false
-  pub there : stands_in (all_entries journals) greater ≡ true
+  pub there : is_recorded_in (all_entries journals) greater ≡ true
   pub same : greater.source ≡ g.source
   pub below : g.number < greater.number
 
@@ -70,7 +70,7 @@ pub record IsLeftOut (world : World) (journals : List JournalValue) (g h : Gtid)
   pub source : h.source ≡ g.source
   pub smaller : h.number < g.number
   pub shares : shares_key world.schema u entry.txn ≡ true
-  pub left_out : stands_before there.journal there.place h ≡ false
+  pub left_out : is_recorded_before there.journal there.place h ≡ false
 
 -- after the earlier transactions of its source, taken alone, this one is refused
 pub record Fails (world : World) (g : Gtid) (fault : RowFault) : Type 0 where
@@ -84,17 +84,17 @@ pub record Fails (world : World) (g : Gtid) (fault : RowFault) : Type 0 where
   pub refused : apply world.schema t rows ≡ Err fault
 
 -- Two of the verdicts are those of the audit in one order, and never of this one.
-abbrev pub Stands : World → List JournalValue → Verdict → Type 0
-Stands world journals (Unequal g) = DiffersAt world journals g
-Stands world journals (Purged i gtids) = IsPurged world journals i gtids
-Stands world journals (Missing g) = IsMissing world journals g
-Stands world journals (Shared g h key) = IsShared world g h key
-Stands world journals (Reordered g h key) = ⊥
-Stands world journals (NotClosed g h) = IsLeftOut world journals g h
-Stands world journals (Concurrent g h key) = ⊥
-Stands world journals (DoesNotApply g fault) = Fails world g fault
-Stands world journals Sound = Unit {0}
+abbrev pub NamesFault : World → List JournalValue → Verdict → Type 0
+NamesFault world journals (Unequal g) = DiffersAt world journals g
+NamesFault world journals (Purged i gtids) = IsPurged world journals i gtids
+NamesFault world journals (Missing g) = IsMissing world journals g
+NamesFault world journals (Shared g h key) = IsShared world g h key
+NamesFault world journals (Reordered g h key) = ⊥
+NamesFault world journals (NotClosed g h) = IsLeftOut world journals g h
+NamesFault world journals (Concurrent g h key) = ⊥
+NamesFault world journals (DoesNotApply g fault) = Fails world g fault
+NamesFault world journals Sound = Unit {0}
 
 -- Each verdict but Sound names a fault that is there, in every world.
-abbrev pub VerdictsStand : Type 0
-VerdictsStand = (world : World) (journals : List JournalValue) → Stands world journals (verdict world journals)
+abbrev pub VerdictsNameFaults : Type 0
+VerdictsNameFaults = (world : World) (journals : List JournalValue) → NamesFault world journals (verdict world journals)

@@ -18,7 +18,7 @@ use Rattle.source_history.specs.LastWriter.{latest}
 use Rattle.world.specs.declared.verdict.Verdict.{Verdict}
 use Rattle.world.specs.declared.verdict.Verdict.TheVariants.{Shared, NotClosed, DoesNotApply}
 use Rattle.world.specs.Search.{or_next, when, first_at, first}
-use Rattle.world.specs.Audit.{world_of, unequal, purged, shared, stands_before, is_left_out, not_closed, first_fault, does_not_apply}
+use Rattle.world.specs.Audit.{world_of, unequal, purged, shared, is_recorded_before, is_left_out, not_closed, first_fault, does_not_apply}
 
 -- Where the keys are sound, one pass over all transactions finds the first that fails in its own source's list.
 abbrev pub OnePassApplies : Type 0
@@ -60,7 +60,7 @@ last_toucher world g key =
 -- one of the keys of an entry was touched last by a transaction that does not come before it
 abbrev pub has_gap : World → JournalValue → ℕ → Entry → Bool
 has_gap world journal place e =
-    not (is_opened world e.gtid) && list_any (λ key. option_map_or (λ (h : history.Entry). not (stands_before journal place h.0)) (last_toucher world e.gtid key) false) (write_set world.schema e.txn)
+    not (is_opened world e.gtid) && list_any (λ key. option_map_or (λ (h : history.Entry). not (is_recorded_before journal place h.0)) (last_toucher world e.gtid key) false) (write_set world.schema e.txn)
 
 -- the least that is left out before an entry
 abbrev pub least_left_out : World → JournalValue → ℕ → Entry → Option Verdict

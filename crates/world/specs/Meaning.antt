@@ -22,8 +22,8 @@ SoundMeansSound = (schema : List Table) (opened : Gtids) (rows : Rows) (journals
     → IsSound (world_of schema opened rows journals) × AllByRecursion (IsFaithful (world_of schema opened rows journals)) journals
 
 -- The other way, where no journal's previous set goes beyond the opening set.
-abbrev pub SoundIsSaid : Type 0
-SoundIsSaid = (schema : List Table) (opened : Gtids) (rows : Rows) (journals : List JournalValue)
+abbrev pub FaithfulIsSound : Type 0
+FaithfulIsSound = (schema : List Table) (opened : Gtids) (rows : Rows) (journals : List JournalValue)
     → IsSound (world_of schema opened rows journals) → AllByRecursion (IsFaithful (world_of schema opened rows journals)) journals
     → AllByRecursion (λ (j : JournalValue). set.is_subset j.previous opened ≡ true) journals
     → verdict (world_of schema opened rows journals) journals ≡ Sound

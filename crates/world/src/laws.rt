@@ -1,8 +1,8 @@
 //! What the verdicts mean. Each function's contract is a law, and its body is empty.
-ghost use Rattle.world.specs.Cases.{VerdictsStand};
+ghost use Rattle.world.specs.Cases.{VerdictsNameFaults};
 ghost use Rattle.world.specs.Folds.{OnePassApplies, OnePassShares, OnePassCloses};
 ghost use Rattle.world.specs.Least.{MissingIsLeast, SharedIsLeast, FirstSourceFails};
-ghost use Rattle.world.specs.Meaning.{SoundMeansSound, SoundIsSaid, KeysSoundMeans};
+ghost use Rattle.world.specs.Meaning.{SoundMeansSound, FaithfulIsSound, KeysSoundMeans};
 
 /// Where the audit of journals reports Sound, their world is sound and each journal is faithful.
 pub fn sound_means_sound()
@@ -11,8 +11,8 @@ pub fn sound_means_sound()
 
 /// The other way, where each journal's previous set lies within the opening set. Without that the
 /// converse is false: a journal that begins where another ends is faithful, and is reported as Purged.
-pub fn sound_is_said()
-    ensures { SoundIsSaid }
+pub fn faithful_is_sound()
+    ensures { FaithfulIsSound }
 {}
 
 /// Where the audit of keys reports Sound, the keys of the journals' world are sound, and each journal
@@ -22,8 +22,8 @@ pub fn keys_sound_mean()
 {}
 
 /// Each verdict but Sound names a fault that is there.
-pub fn verdicts_stand()
-    ensures { VerdictsStand }
+pub fn verdicts_name_faults()
+    ensures { VerdictsNameFaults }
 {}
 
 /// Where the keys are sound, one pass over all transactions, in the order of GTIDs, finds the first

@@ -7,8 +7,8 @@
 //! that it depends on (NotClosed); a transaction does not apply after the earlier ones of its source (DoesNotApply).
 //!
 //! `sound_means_sound`: where the verdict is Sound, the world of the journals is sound and each journal is faithful (`source_history`).
-//! `verdicts_stand`: every other verdict names a fault that is there. `missing_is_least`, `shared_is_least`, `first_source_fails`: the one
-//! that is named is the least. The converse of the first law needs previous sets within the opening set (`sound_is_said`).
+//! `verdicts_name_faults`: every other verdict names a fault that is there. `missing_is_least`, `shared_is_least`, `first_source_fails`: the one
+//! that is named is the least. The converse of the first law needs previous sets within the opening set (`faithful_is_sound`).
 //!
 //! The one-pass laws (`one_pass_shares`, `one_pass_closes`, `one_pass_applies`) state by which single pass an audit finds the same in n log
 //! n steps.
@@ -18,7 +18,7 @@ mod laws;
 mod verdict;
 
 pub use laws::{
-    first_source_fails, keys_sound_mean, missing_is_least, one_pass_applies, one_pass_closes,
-    one_pass_shares, shared_is_least, sound_is_said, sound_means_sound, verdicts_stand,
+    faithful_is_sound, first_source_fails, keys_sound_mean, missing_is_least, one_pass_applies,
+    one_pass_closes, one_pass_shares, shared_is_least, sound_means_sound, verdicts_name_faults,
 };
 pub use verdict::Verdict;

@@ -14,7 +14,7 @@ use Rattle.rows.specs.Total.{key_total, key_eq_same}
 use Rattle.rows.specs.WriteSet.{is_among}
 use Rattle.rows.proofs.Equal.{key_test, keys-Decide}
 use Rattle.rows.proofs.Hashed.{same_tests}
-use Rattle.write_set.specs.FirstTouch.{added, each_once}
+use Rattle.write_set.specs.FirstTouch.{add_key, each_once}
 
 pub tested : (key : Key) (keys : List Key) → list_any (key_test key) keys ≡ is_among keys key
 tested key [] = refl
@@ -75,10 +75,10 @@ all_inserted keys = inserted_once keys [] ∙ none_left (each_once keys)
 one_more_way : (b c : Bool) (x : Key) (keys : List Key) → b ≡ c → cond b keys (keys ++ x ∷ []) ≡ cond c keys (keys ++ x ∷ [])
 one_more_way b c x keys e = ap (λ a. cond a keys (keys ++ x ∷ [])) e
 
-both_ways : insert_key key_test ≡ added
+both_ways : insert_key key_test ≡ add_key
 both_ways = λ i keys x. one_more_way (list_any (key_test x) keys) (is_among keys x) x keys (tested x keys) i
 
-pub all_added : (keys : List Key) → fold added [] keys ≡ each_once keys
+pub all_added : (keys : List Key) → fold add_key [] keys ≡ each_once keys
 all_added keys = sym (ap (λ f. fold f [] keys) both_ways) ∙ all_inserted keys
 
 -- ---- the members

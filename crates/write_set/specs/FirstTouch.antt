@@ -10,5 +10,5 @@ each_once [] = []
 each_once (key ∷ keys) = key ∷ filter (λ k. not (key_eq k key)) (each_once keys)
 
 -- with this key at the end, unless it is among them
-abbrev pub added : List Key → Key → List Key
-added keys key = cond (is_among keys key) keys (keys ++ key ∷ [])
+abbrev pub add_key : List Key → Key → List Key
+add_key keys key = cond (is_among keys key) keys (keys ++ key ∷ [])

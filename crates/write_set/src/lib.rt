@@ -18,7 +18,7 @@ ghost use Rattle.std.specs.List.{find};
 ghost use Rattle.std.specs.Option.{option_copied};
 ghost use Rattle.rows.specs.declared.change.Key.{Key as KeyValue};
 ghost use Rattle.rows.specs.WriteSet.{is_among, touches, write_set};
-ghost use Rattle.write_set.specs.FirstTouch.{added, each_once};
+ghost use Rattle.write_set.specs.FirstTouch.{add_key, each_once};
 
 mod prepared;
 
@@ -80,7 +80,7 @@ fn is_among(keys: &[Key], key: &Key) -> bool
 
 /// Puts a key at the end of a list, unless it is there.
 fn add(list: &mut Vec<Key>, key: Key) -> Result<(), AllocError>
-    ensures { OnOk result (list.new.items ≡ added list.old.items key) }
+    ensures { OnOk result (list.new.items ≡ add_key list.old.items key) }
 {
     if !is_among(list, &key) {
         list.push(key)?;

@@ -4,5 +4,5 @@ use Rattle.audit.proofs.other_gaps.gaps_beside.Given as goal
 
 abbrev pub invariant-loop-journal : goal.invariant-loop-journal
 invariant-loop-journal l =
-    l.found.items ++ unreported l.said (gaps_in l.needs (drop l.journal-index l.journals))
+    l.found.items ++ unreported l.reported (gaps_in l.needs (drop l.journal-index l.journals))
     ≡ unreported (gap_of_verdict l.verdict) (gaps_in l.needs l.journals)

@@ -6,5 +6,5 @@ use Rattle.conflict_audit.proofs.conflict.first_conflict.Goals as goal
 pub returns : goal.returns
 returns c =
     IfOk-weaker c.first_out_of_turn.result _ _
-    (λ found is. conflict_is c.args.world.now c.args.journals.now c.schema.result.now c.opened.result.now found c.requires.journals c.requires.equal (c.schema.ensures.value ∙ c.rows.ensures.schema) c.opened.ensures is)
+    (λ found is. conflict_is c.args.world.now c.args.journals.now c.schema.result.now c.opening_set.result.now found c.requires.journals c.requires.equal (c.schema.ensures.value ∙ c.rows.ensures.schema) c.opening_set.ensures is)
     c.first_out_of_turn.ensures

@@ -5,12 +5,12 @@ use Rattle.conflict_audit.proofs.finding.does_not_apply.Goals as goal
 
 pub first_refusal-requires : goal.first_refusal-requires
 first_refusal-requires c =
-    taken_is c.args.world.now c.args.journals.now c.in_order-fitting.result.now c.in_ok-rows.rows.schema c.opened.result.now c.in_ok-order.order.entries c.keep_rules.ensures c.requires c.in_order-fitting.ensures
-    ((λ i. (c.in_ok-rows.ensures i).schema) ∙ c.rows.ensures.schema) c.opened.ensures c.in_ok-order.ensures
+    taken_is c.args.world.now c.args.journals.now c.in_order-fitting.result.now c.in_ok-rows.rows.schema c.opening_set.result.now c.in_ok-order.order.entries c.keep_rules.ensures c.requires c.in_order-fitting.ensures
+    ((λ i. (c.in_ok-rows.ensures i).schema) ∙ c.rows.ensures.schema) c.opening_set.ensures c.in_ok-order.ensures
 
 pub returns : goal.returns
 returns c =
     IfOk-weaker c.first_refusal.result _ _
-    (λ found is. applies_is c.args.world.now c.args.journals.now c.in_ok-rows.rows.schema c.opened.result.now c.in_ok-rows.rows.rows c.in_ok-order.order.entries found c.keep_rules.ensures
-    ((λ i. (c.in_ok-rows.ensures i).schema) ∙ c.rows.ensures.schema) c.opened.ensures ((λ i. (c.in_ok-rows.ensures i).rows) ∙ c.rows.ensures.rows) c.in_ok-order.ensures is)
+    (λ found is. applies_is c.args.world.now c.args.journals.now c.in_ok-rows.rows.schema c.opening_set.result.now c.in_ok-rows.rows.rows c.in_ok-order.order.entries found c.keep_rules.ensures
+    ((λ i. (c.in_ok-rows.ensures i).schema) ∙ c.rows.ensures.schema) c.opening_set.ensures ((λ i. (c.in_ok-rows.ensures i).rows) ∙ c.rows.ensures.rows) c.in_ok-order.ensures is)
     c.first_refusal.ensures

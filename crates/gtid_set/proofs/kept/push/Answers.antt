@@ -6,7 +6,7 @@ use Rattle.gtid_set.proofs.OrderLemmas.{take_all}
 use Rattle.gtid_set.proofs.KeptGrowth.{ends_at}
 use Rattle.gtid_set.proofs.kept.push.Goals as goal
 
--- what was found of the slices, said of the vectors
+-- what was found of the slices, for the vectors
 none_found : (sources sources' : List Source) (order order' : List (List ℕ)) (id : ℕ) → sources' ≡ sources → order' ≡ order → IsNoSourceAt (sources_at sources' (concat order')) (length (concat order') - 1) id → IsNoSourceAt (sources_at sources (concat order)) (length (concat order) - 1) id
 none_found sources sources' order order' id s o none =
     subst (λ is. IsNoSourceAt (sources_at sources (concat is)) (length (concat is) - 1) id) o (subst (λ ss. IsNoSourceAt (sources_at ss (concat order')) (length (concat order') - 1) id) s none)

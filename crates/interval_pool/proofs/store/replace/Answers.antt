@@ -1,7 +1,7 @@
 use Rattle.std.proofs.Common.{◌≡◌, ℕ, ap, ◌∙◌, sym, subst, List, [], ◌∷◌, ◌++◌, length, take, drop, arith}
 use Rattle.std.proofs.Math.Seq.{take-append_seam}
 use Rattle.interval_pool.specs.declared.cells.Cell.{Cell}
-use Rattle.interval_pool.specs.Intervals.{listed}
+use Rattle.interval_pool.specs.Intervals.{list_of_pieces}
 use Rattle.interval_pool.specs.declared.interval.Interval.{Interval}
 use Rattle.interval_pool.specs.Pools.{chain_of}
 use Rattle.interval_pool.specs.Changes.{MakesRoom, Puts, Renews, Replaced}
@@ -23,7 +23,7 @@ returns-clause-ok c = λ xs ys h small not_free lt parts is_before few more.
     let size = put_length items c.make_room.new.cells.items c.put.new.cells heads c.make_room.new.heads c.put.new.heads c.args.list c.args.count c.args.before c.args.pieces room puts xs ys h small not_free lt parts is_before few more in
     let same : c.make_room.new.cells.len ≡ length c.put.new.cells = (let l = c.deref_mut-2.ensures.len in let v = ap length c.deref_mut-2.ensures.value in omega (size, l, v, arith)) in
     let whole : take c.make_room.new.cells.len (c.put.new.cells ++ rest) ≡ c.put.new.cells = ap (λ m. take m (c.put.new.cells ++ rest)) same ∙ take-append_seam c.put.new.cells rest in
-    let S : List Cell → Type 0 = λ cs. Replaced items heads c.args.list xs ys c.args.count (listed c.args.pieces) cs c.put.new.heads in
+    let S : List Cell → Type 0 = λ cs. Replaced items heads c.args.list xs ys c.args.count (list_of_pieces c.args.pieces) cs c.put.new.heads in
     subst S (sym whole) done
 
 pub returns-in-Some-clause-ok : goal.returns-in-Some-clause-ok
@@ -43,5 +43,5 @@ returns-in-Some-clause-ok c = λ xs ys h small not_free lt parts is_before few m
     let Q : List ℕ → Type 0 = λ is. Replaced items heads k xs is 1 (s ∷ []) c.renew.new.cells heads in
     let R : ℕ → Type 0 = λ n. Replaced items heads k xs ys n (s ∷ []) c.renew.new.cells heads in
     let S : List Interval → Type 0 = λ ss. Replaced items heads k xs ys c.args.count ss c.renew.new.cells heads in
-    let T : List Cell → Type 0 = λ cs. Replaced items heads k xs ys c.args.count (listed c.args.pieces) cs heads in
+    let T : List Cell → Type 0 = λ cs. Replaced items heads k xs ys c.args.count (list_of_pieces c.args.pieces) cs heads in
     subst T (sym (seamed c.renew.new.cells items c.args.cells.now.len size)) (subst S (sym c.in-Some.ensures) (subst R (sym one) (subst Q (sym first.1.1) done)))

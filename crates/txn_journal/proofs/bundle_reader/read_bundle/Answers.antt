@@ -3,7 +3,7 @@ use Rattle.std.specs.Prelude.{Result}
 use Rattle.txn_journal.specs.BundleStates.{BundleValue, BundleStanding}
 use Rattle.txn_journal.specs.declared.fault.JournalFault.{JournalFault}
 use Rattle.txn_journal.specs.Stream.{Progress, IsAfter, IsWholeOr}
-use Rattle.txn_journal.specs.BundleReading.{bundles, bundle_start, IsFaultOfBundle, eats_bundle}
+use Rattle.txn_journal.specs.BundleReading.{bundles, bundle_start, IsFaultOfBundle, feed_bundle_bytes}
 use Rattle.txn_journal.specs.BundleReaders.{bundle_reading}
 use Rattle.txn_journal.proofs.FormatLaws.{stopped_with}
 use Rattle.txn_journal.proofs.BundleLaws.{closing_same}
@@ -13,6 +13,6 @@ pub returns-in-Err : goal.returns-in-Err
 returns-in-Err c =
     let bytes = c.args.bytes.now in
     let due = c.args.due in
-    let after = subst (λ (p : Progress BundleStanding). IsAfter (IsFaultOfBundle p bytes) (bundle_reading c.feed.new.self) (eats_bundle p bytes)) c.start_as-reader.ensures c.feed.ensures.next in
+    let after = subst (λ (p : Progress BundleStanding). IsAfter (IsFaultOfBundle p bytes) (bundle_reading c.feed.new.self) (feed_bundle_bytes p bytes)) c.start_as-reader.ensures c.feed.ensures.next in
     let stopped = stopped_with (bundles due) bytes c.in-Err.fault (bundle_reading c.feed.new.self) c.in-Err.ensures.answer after in
-    subst (λ (w : Result BundleValue JournalFault). IsWholeOr (IsFaultOfBundle (bundle_start due) bytes) (Err c.in-Err.fault) w) (sym (closing_same due (eats_bundle (bundle_start due) bytes))) stopped
+    subst (λ (w : Result BundleValue JournalFault). IsWholeOr (IsFaultOfBundle (bundle_start due) bytes) (Err c.in-Err.fault) w) (sym (closing_same due (feed_bundle_bytes (bundle_start due) bytes))) stopped

@@ -1,6 +1,6 @@
 use Rattle.std.proofs.Common.{Some, Result, subst, sym}
 use Rattle.txn_journal.specs.Stream.{IsWholeOr}
-use Rattle.txn_journal.specs.Reading.{eats_alone, IsFaultAlone}
+use Rattle.txn_journal.specs.Reading.{feed_journal_bytes, IsFaultAlone}
 use Rattle.txn_journal.specs.Readers.{reading}
 use Rattle.txn_journal.specs.Timestamped.{TimestampedValue, timestamped_journals, timestamped_start, closing_timestamped}
 use Rattle.txn_journal.specs.declared.fault.JournalFault.{JournalFault}
@@ -14,7 +14,7 @@ pub returns : goal.returns
 returns c =
     let bytes = c.args.bytes.now in
     let closed = closed_after timestamped_journals bytes (reading c.over.result) c.over.ensures in
-    let read = subst (λ (r : Result TimestampedValue JournalFault). IsWholeOr (IsFaultAlone timestamped_start bytes) r (closing_timestamped (eats_alone timestamped_start bytes))) (sym c.finish_timestamped.ensures) closed in
+    let read = subst (λ (r : Result TimestampedValue JournalFault). IsWholeOr (IsFaultAlone timestamped_start bytes) r (closing_timestamped (feed_journal_bytes timestamped_start bytes))) (sym c.finish_timestamped.ensures) closed in
     record {
       found = is_found timestamped_journals (IsSoundAlone (Some Two)) timestamped_laws c.finish_timestamped.result bytes read;
       only = is_only timestamped_journals (IsSoundAlone (Some Two)) timestamped_laws c.finish_timestamped.result bytes read;

@@ -15,7 +15,7 @@ returns-then-ordered-clause-ok c =
 pub returns-clause-ok : goal.returns-clause-ok
 returns-clause-ok c =
     IfOk-weaker c.subtract.result _ _
-    (λ missing e. e ∙ (λ i. set.difference (c.in_ok-skipped.ensures.ok i) (c.opened.ensures i)))
+    (λ missing e. e ∙ (λ i. set.difference (c.in_ok-skipped.ensures.ok i) (c.opening_set.ensures i)))
     c.subtract.ensures.ok
 
 pub returns-clause-fault : goal.returns-clause-fault

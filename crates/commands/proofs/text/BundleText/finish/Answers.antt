@@ -16,7 +16,7 @@ returns c = λ bytes come.
     let read = subst (λ (r : Result BundleValue JournalFault). IsWholeOr (IsFaultOfBundle (bundle_start None) bytes) r (bundle_in bytes)) (sym c.finish.ensures) (closed_after (bundles None) bytes (bundle_reading c.args.reader) come) in
     let found = is_found (bundles None) (IsSoundBundle None) (bundle_laws None) c.finish.result bytes read in
     record {
-      spelled = bundle_spelled bytes c.finish.result found (is_refused (bundles None) (IsSoundBundle None) (bundle_laws None) c.finish.result bytes read);
+      parsed = bundle_spelled bytes c.finish.result found (is_refused (bundles None) (IsSoundBundle None) (bundle_laws None) c.finish.result bytes read);
       exact = whole_of _ _ _ read;
       holds = bundle_servable bytes c.finish.result c.written_is_servable.ensures found;
     }

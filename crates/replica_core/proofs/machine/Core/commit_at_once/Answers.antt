@@ -4,7 +4,7 @@ use Rattle.std.specs.Prelude.{Some}
 use Rattle.gtid_set.specs.declared.fault.SetFault.TheVariants.{Memory}
 use Rattle.gtid_set.specs.Full.{IsFaultOf}
 use Rattle.replica_core.specs.State.{Replica}
-use Rattle.replica_core.specs.Faults.{IsFaultIn, HasRoomFor, executing_too}
+use Rattle.replica_core.specs.Faults.{IsFaultIn, HasRoomFor, executed_with}
 use Rattle.replica_core.specs.AtOnce.{IsLeft, IsFaultAtOnce, HasRoomAtOnce}
 use Rattle.replica_core.proofs.AtOnceLemmas.{makes_executed, commit_takes, done_ahead, fault_ahead, room_ahead, executed_as}
 use Rattle.replica_core.proofs.machine.Core.commit_at_once.Goals as goal
@@ -19,7 +19,7 @@ returns-in-Err-clause-fault c =
     let f = c.in-Err.fault in
     inr (record {
       cause = subst (IsFaultIn f) (sym (makes_executed r c.args.seat c.args.channel c.args.place e may kept))
-          (subst (λ (x : Entry). IsFaultOf f (executing_too r.state x.gtid)) c.in_ok-copy.ensures.cases c.in-Err.ensures.fault);
+          (subst (λ (x : Entry). IsFaultOf f (executed_with r.state x.gtid)) c.in_ok-copy.ensures.cases c.in-Err.ensures.fault);
       instead = commit_takes r c.args.seat c.args.channel c.args.place e may kept;
     })
 
@@ -80,7 +80,7 @@ returns-in-Err-clause-room c =
     let kept = c.entries_are_kept.ensures in
     let f = c.in-Err.fault in
     inr (subst (HasRoomFor f) (sym (makes_executed r c.args.seat c.args.channel c.args.place e may kept))
-    (subst (λ (x : Entry). HasRoomFor f (Some (executing_too r.state x.gtid))) c.in_ok-copy.ensures.cases c.in-Err.ensures.room))
+    (subst (λ (x : Entry). HasRoomFor f (Some (executed_with r.state x.gtid))) c.in_ok-copy.ensures.cases c.in-Err.ensures.room))
 
 pub returns-in_err-reply-clause-room : goal.returns-in_err-reply-clause-room
 returns-in_err-reply-clause-room c =

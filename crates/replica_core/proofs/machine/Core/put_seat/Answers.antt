@@ -2,7 +2,7 @@ use Rattle.std.proofs.Common.{◌≡◌, ℕ, ◌≤◌, true, sym, ap, subst, �
 use Rattle.std.specs.FinMap as finmap
 use Rattle.journal.specs.Journals.{whole}
 use Rattle.std.proofs.lemmas.Bool.Decides.{nat_tests}
-use Rattle.replica_core.specs.Machine.{taking, is_seat}
+use Rattle.replica_core.specs.Machine.{take_seat, is_seat}
 use Rattle.replica_core.specs.State.{Seats, State, Replica}
 use Rattle.replica_core.specs.Slots.{seats_of}
 use Rattle.replica_core.specs.Seated.{AreSeated, MayHave}
@@ -34,4 +34,4 @@ returns-clause-state c =
     let number : c.args.seat - 1 + 1 ≡ c.args.seat = omega arith in
     let seats = of_slots-put core.seats (c.args.seat - 1) c.args.spot there ∙ ap (λ n. finmap.insert (seats_of c.self.inside.seats) n c.args.spot) number in
     ap (λ (m : Seats). let s : State = record { executed = whole core.journal.journal; rows = core.rows.rows; seats = m; channels = core.channels.list; journal = core.journal.journal } in s) seats
-    ∙ ap (λ (r : Replica). taking c.args.seat c.args.spot.channel c.args.spot.place r.state) c.self.view_is
+    ∙ ap (λ (r : Replica). take_seat c.args.seat c.args.spot.channel c.args.spot.place r.state) c.self.view_is

@@ -1,6 +1,6 @@
 use Rattle.std.proofs.Common.{◌≡◌, None, length}
 use Rattle.gtid_set.specs.declared.fault.SetFault.{SetFault}
-use Rattle.txn_journal.specs.Stream.{eats, IsPieceFault}
+use Rattle.txn_journal.specs.Stream.{feed_bytes, IsPieceFault}
 use Rattle.txn_journal.specs.Feeds.{progress}
 use Rattle.txn_journal.proofs.FirstLines.{IsAtFirst}
 use Rattle.txn_journal.proofs.feed.Feed.take_piece.Given as goal

@@ -1,0 +1,225 @@
+-- Each line adds what it means to what the entries and what is open denote.
+use Rattle.std.proofs.Common.{◌≡◌, ℕ, Bool, true, false, cond, List, [], ◌∷◌, ◌++◌, Option, Some, None, Result, Ok, Err, refl, sym, ap, ◌∙◌, subst, append_assoc, append-nil}
+use Rattle.std.specs.FinSet as set
+use Rattle.gtid_set.specs.Sets.{Gtids}
+use Rattle.journal_words.specs.Gtids.{set_of_word}
+use Rattle.rows.specs.Names.{is_name}
+use Rattle.txn_journal.specs.Words.{name_of}
+use Rattle.binlog_text.specs.declared.types.ColumnType.{ColumnType}
+use Rattle.binlog_text.specs.Types.{parse_type}
+use Rattle.binlog_text.specs.declared.lines.Event.{Event}
+use Rattle.binlog_text.specs.declared.lines.Event.TheVariants as events
+use Rattle.binlog_text.specs.declared.lines.Mark.{Mark}
+use Rattle.binlog_text.specs.declared.lines.Mark.TheVariants as marks
+use Rattle.binlog_text.specs.declared.lines.Operation.{Operation}
+use Rattle.binlog_text.specs.Lines.{Column, Content, OfMark, OfHead, OfTable, OfColumn, OfGtid, OfSources, OfRow, OfValue}
+use Rattle.binlog_entries.specs.Tables.{Table}
+use Rattle.binlog_entries.specs.Bodies.{kind_of, takes, body_of, behind, next_body}
+use Rattle.binlog_entries.specs.Machine.{Standing, ◌>>=◌, or_refused, is_idle, is_begun, same_stage, may_be_database, map_table, table_line, add_column, note_varied, column_line, sources_line, head_line, mark_line, take_content, step, runs, start, is_closed}
+use Rattle.binlog_entries.specs.Meaning.{Meaning, Context, nowhere, means, with_column, context_behind, meaning, meaning_of_entries}
+use Rattle.binlog_entries.specs.declared.bodies.Body.TheVariants as bodies
+use Rattle.binlog_entries.specs.declared.bodies.Kind.{Kind}
+use Rattle.binlog_entries.specs.declared.bodies.Kind.TheVariants as kinds
+use Rattle.binlog_entries.specs.declared.draft.Stage.{Stage}
+use Rattle.binlog_entries.specs.declared.draft.Stage.TheVariants as stages
+use Rattle.binlog_entries.specs.declared.fault.EntryRefusal.{EntryRefusal}
+use Rattle.binlog_entries.specs.declared.fault.EntryRefusal.TheVariants as refusals
+use Rattle.binlog_entries.proofs.TransactionLaws.{bind_ok, same_ok, done, if_ok, spelled_open, row_of, spelled_state, context_of, is_rows, Sound, Tells, place_law, automatic_law, still, IsQuiet, closed_not, comment_quiet, setting_quiet, frame_quiet, sources_quiet, ended_quiet, statement_quiet, committed_quiet, column_quiet, tablemap_quiet, between_only, rows_only, neutral, closed_law, begin_law, commit_law, gtid_law}
+use Rattle.binlog_entries.proofs.RowLaws.{sound_rows, where_law, set_law, value_law, named_is, unless_not, row_law}
+
+-- ---- heads of events, tables and columns
+
+rows_head_law : (s t : Standing) (operation : Operation) → Sound s → takes s.body kinds.Head ≡ true → head_line s (events.Rows operation) ≡ Ok t → Tells s (OfHead (events.Rows operation)) (record t { body = bodies.Rows operation })
+unfolding head_line
+rows_head_law s t operation sound at h =
+    let p = if_ok (is_begun s.stage) (record s { is_over = true }) refusals.Transaction t h in
+    subst (λ (u : Standing). Tells s (OfHead (events.Rows operation)) (record u { body = bodies.Rows operation })) p.1 (record {
+      spells = sym (append-nil (spelled_state s));
+      context = refl;
+      sound = sound_rows (record s { is_over = true; body = bodies.Rows operation }) refl p.0 sound.fits;
+    })
+
+-- any other head
+plain_head : (s t : Standing) (event : Event) → Sound s → takes s.body kinds.Head ≡ true → done s ≡ Ok t → is_rows (body_of event) ≡ false → is_closed (body_of event) ≡ false → context_behind (context_of s) (OfHead event) ≡ context_of s → Tells s (OfHead event) (record t { body = body_of event })
+plain_head s t event sound at h rows closed same =
+    let between : is_rows s.body ≡ false = ap is_rows (between_only s.body kinds.Head at) in
+    subst (λ (u : Standing). Tells s (OfHead event) (record u { body = body_of event })) (same_ok s t h)
+    (still s (OfHead event) (body_of event) sound between rows (λ c. absurd (let bad : true ≡ false = sym c ∙ closed in cc)) refl same)
+
+head_law : (s t : Standing) (event : Event) → Sound s → takes s.body kinds.Head ≡ true → head_line s event ≡ Ok t → Tells s (OfHead event) (record t { body = body_of event })
+unfolding head_line
+head_law s t (events.Rows operation) sound at h = rows_head_law s t operation sound at h
+head_law s t events.Start sound at h = plain_head s t events.Start sound at h refl refl refl
+head_law s t events.PreviousGtids sound at h = plain_head s t events.PreviousGtids sound at h refl refl refl
+head_law s t events.Gtid sound at h = plain_head s t events.Gtid sound at h refl refl refl
+head_law s t events.Query sound at h = plain_head s t events.Query sound at h refl refl refl
+head_law s t events.Xid sound at h = plain_head s t events.Xid sound at h refl refl refl
+head_law s t events.Payload sound at h = plain_head s t events.Payload sound at h refl refl refl
+head_law s t events.Rotate sound at h = plain_head s t events.Rotate sound at h refl refl refl
+head_law s t events.Stop sound at h = plain_head s t events.Stop sound at h refl refl refl
+
+sound_tables : (s : Standing) (over : Bool) (database : Option (List ℕ)) (mapping : Option Table) (tables : List Table) → Sound s → is_rows s.body ≡ false → Sound (record s { is_over = over; database = database; mapping = mapping; tables = tables; body = bodies.TableMap })
+sound_tables s over database mapping tables sound outside = record {
+  quiet = sound.quiet;
+  inside = λ b. sound.inside outside;
+  begun = λ b. closed_not b;
+  closed = λ c. closed_not c;
+  fits = sound.fits;
+}
+
+pub mapped_is : (s t : Standing) (database : List ℕ) (o : Option (List ℕ)) → map_table s database o ≡ Ok t → (name : List ℕ) × (o ≡ Some name) × (record s { is_over = false; database = Some database; mapping = Some (record { name = name; columns = [] }); tables = cond s.is_over [] s.tables } ≡ t)
+mapped_is s t database None e = absurd cc
+mapped_is s t database (Some name) e = (name, refl, same_ok _ t e)
+
+table_law : (s t : Standing) (database table : List ℕ) → Sound s → takes s.body kinds.TableMap ≡ true → table_line s database table ≡ Ok t → Tells s (OfTable database table) (record t { body = bodies.TableMap })
+unfolding table_line
+table_law s t database table sound at h =
+    let a = unless_not (is_begun s.stage) refusals.Transaction _ t h in
+    let b = unless_not (may_be_database database s.database) refusals.Table _ t a.1 in
+    let m = mapped_is s t database (name_of table) b.1 in
+    let name = named_is (is_name table) table m.0 m.1 in
+    let outside = (tablemap_quiet s.body at).0 in
+    subst (λ (u : Standing). Tells s (OfTable database table) (record u { body = bodies.TableMap })) m.2 (record {
+      spells = sym (append-nil (spelled_state s));
+      context = ap (λ (xs : List ℕ). record { is_over = false; mapping = Some (record { name = xs; columns = [] }); tables = cond s.is_over [] s.tables; row = s.row }) (sym name);
+      sound = sound_tables s false (Some database) (Some (record { name = m.0; columns = [] })) (cond s.is_over [] s.tables) sound outside;
+    })
+
+pub added_is : (s t : Standing) (o : Option Table) (first : Bool) (type : ColumnType) → add_column s o first type ≡ Ok t → (x : Table) × (o ≡ Some x) × (record s { mapping = Some (record { name = x.name; columns = x.columns ++ type ∷ [] }) } ≡ t)
+added_is s t None first type e = absurd cc
+added_is s t (Some x) first type e = let p = if_ok _ (record s { mapping = Some (record { name = x.name; columns = x.columns ++ type ∷ [] }) }) refusals.Format t e in (x, refl, p.1)
+
+pub refused_is : {A : Type 0} (e : EntryRefusal) (o : Option A) (x : A) → or_refused e o ≡ Ok x → o ≡ Some x
+refused_is e None x h = absurd cc
+refused_is e (Some y) x h = ap Some (same_ok y x h)
+
+column_law : (s t : Standing) (c : Column) → Sound s → takes s.body kinds.Column ≡ true → column_line s c ≡ Ok t → Tells s (OfColumn c) t
+unfolding column_line
+column_law s t c sound at h =
+    let a = bind_ok (or_refused refusals.Type (parse_type c.column_type)) _ t h in
+    let type = refused_is refusals.Type (parse_type c.column_type) a.0 a.1 in
+    let m = added_is (note_varied s c.column_type) t s.mapping c.is_first a.0 a.2 in
+    let q = column_quiet s.body at in
+    subst (λ (u : Standing). Tells s (OfColumn c) u) m.2 (record {
+      spells = sym (append-nil (spelled_state s));
+      context = ap (λ (o : Option Table). record { is_over = s.is_over; mapping = o; tables = s.tables; row = s.row }) (λ i. with_column (sym m.1 i) (sym type i));
+      sound = record {
+        quiet = sound.quiet;
+        inside = sound.inside;
+        begun = sound.begun;
+        closed = sound.closed;
+        fits = sound.fits;
+      };
+    })
+
+-- ---- each line
+
+-- a line that changes nothing
+unchanged : (s t : Standing) (l : Content) (kind : Kind) → Sound s → IsQuiet s.body (behind s.body kind) → means (context_of s) l ≡ [] → context_behind (context_of s) l ≡ context_of s → done s ≡ Ok t → Tells s l (record t { body = behind t.body kind })
+unchanged s t l kind sound q nothing same h = subst (λ (u : Standing). Tells s l (record u { body = behind u.body kind })) (same_ok s t h) (neutral s l kind sound q nothing same)
+
+savepoint_law : (s t : Standing) → Sound s → takes s.body kinds.Statement ≡ true → cond (same_stage s.stage stages.Begun) (Ok s) (Err refusals.Transaction) ≡ Ok t → Tells s (OfMark marks.Savepoint) (record t { body = bodies.Statement })
+savepoint_law s t sound at h = let p = if_ok (same_stage s.stage stages.Begun) s refusals.Transaction t h in
+    subst (λ (u : Standing). Tells s (OfMark marks.Savepoint) (record u { body = bodies.Statement })) p.1 (neutral s (OfMark marks.Savepoint) kinds.Statement sound (statement_quiet s.body at) refl refl)
+
+idle_same : (stage : Stage) → same_stage stage stages.Idle ≡ true → is_idle stage ≡ true
+idle_same stages.Idle e = refl
+idle_same stages.Named e = absurd cc
+idle_same stages.Begun e = absurd cc
+
+end_law : (s t : Standing) → Sound s → takes s.body kinds.Closed ≡ true → cond (same_stage s.stage stages.Idle) (Ok s) (Err refusals.Transaction) ≡ Ok t → Tells s (OfMark marks.Closed) (record t { body = bodies.Closed })
+end_law s t sound at h = let p = if_ok (same_stage s.stage stages.Idle) s refusals.Transaction t h in
+    subst (λ (u : Standing). Tells s (OfMark marks.Closed) (record u { body = bodies.Closed })) p.1 (closed_law s sound at (idle_same s.stage p.0))
+
+sources_law : (s t : Standing) (word : List ℕ) (more : Bool) → Sound s → takes s.body kinds.Sources ≡ true → sources_line s word ≡ Ok t → Tells s (OfSources word more) t
+unfolding sources_line
+sources_law s t word more sound at h = either s.is_fresh h
+  where
+    with_previous : (p : Gtids) → Tells s (OfSources word more) (record s { previous = p })
+    with_previous p = record {
+      spells = sym (append-nil (spelled_state s));
+      context = refl;
+      sound = record { quiet = sound.quiet; inside = sound.inside; begun = sound.begun; closed = sound.closed; fits = sound.fits };
+    }
+
+    either : (b : Bool) → cond b (or_refused refusals.Gtid (set_of_word word) >>= λ gtids. Ok (record s { previous = set.union s.previous gtids })) (Ok s) ≡ Ok t → Tells s (OfSources word more) t
+    either true e = let a = bind_ok (or_refused refusals.Gtid (set_of_word word)) _ t e in subst (Tells s (OfSources word more)) (same_ok _ t a.2) (with_previous (set.union s.previous a.0))
+    either false e = subst (Tells s (OfSources word more)) (same_ok s t e) (with_previous s.previous)
+
+-- a mark
+mark_law : (s t : Standing) (mark : Mark) → Sound s → takes s.body (kind_of (OfMark mark)) ≡ true → mark_line s mark ≡ Ok t → Tells s (OfMark mark) (record t { body = next_body t.body (OfMark mark) })
+mark_law s t marks.Place sound at h = place_law s t sound h
+mark_law s t marks.Automatic sound at h = automatic_law s t sound h
+mark_law s t marks.Where sound at h = where_law s t sound (rows_only s.body at) h
+mark_law s t marks.Set sound at h = set_law s t sound (rows_only s.body at) h
+mark_law s t marks.Begin sound at h = begin_law s t sound at h
+mark_law s t marks.Commit sound at h = commit_law s t marks.Commit bodies.Statement sound (statement_quiet s.body at).0 refl refl refl refl h
+mark_law s t marks.Committed sound at h = commit_law s t marks.Committed bodies.Done sound (committed_quiet s.body at).0 refl refl refl refl h
+mark_law s t marks.Savepoint sound at h = savepoint_law s t sound at h
+mark_law s t marks.Closed sound at h = end_law s t sound at h
+mark_law s t marks.Ended sound at h = unchanged s t (OfMark marks.Ended) kinds.Ended sound (ended_quiet s.body at) refl refl h
+mark_law s t marks.Empty sound at h = unchanged s t (OfMark marks.Empty) kinds.Sources sound (sources_quiet s.body at) refl refl h
+mark_law s t marks.Comment sound at h = unchanged s t (OfMark marks.Comment) kinds.Comment sound (comment_quiet s.body at) refl refl h
+mark_law s t marks.Setting sound at h = unchanged s t (OfMark marks.Setting) kinds.Setting sound (setting_quiet s.body at) refl refl h
+mark_law s t marks.Frame sound at h = unchanged s t (OfMark marks.Frame) kinds.Frame sound (frame_quiet s.body at) refl refl h
+
+told_law : (s t : Standing) (l : Content) → Sound s → takes s.body (kind_of l) ≡ true → take_content s l ≡ Ok t → Tells s l (record t { body = next_body t.body l })
+told_law s t (OfMark mark) sound at h = mark_law s t mark sound at h
+told_law s t (OfHead event) sound at h = head_law s t event sound at h
+told_law s t (OfTable database table) sound at h = table_law s t database table sound at h
+told_law s t (OfColumn c) sound at h = column_law s t c sound at h
+told_law s t (OfGtid gtid) sound at h = gtid_law s t gtid sound at h
+told_law s t (OfSources sources more) sound at h = sources_law s t sources more sound at h
+told_law s t (OfRow operation database table) sound at h = row_law s t operation database table sound (rows_only s.body at) h
+told_law s t (OfValue n text) sound at h = value_law s t n text sound (rows_only s.body at) h
+
+pub test_ok : {A : Type 0} (b : Bool) (r : Result A EntryRefusal) (e : EntryRefusal) (x : A) → cond b r (Err e) ≡ Ok x → (b ≡ true) × (r ≡ Ok x)
+test_ok true r e x h = (refl, h)
+test_ok false r e x h = absurd cc
+
+pub step_law : (s t : Standing) (l : Content) → Sound s → step s l ≡ Ok t → Tells s l t
+unfolding step
+step_law s t l sound h =
+    let p = test_ok (takes s.body (kind_of l)) _ refusals.Format t h in
+    let a = bind_ok (take_content s l) _ t p.1 in
+    subst (Tells s l) (same_ok _ t a.2) (told_law s a.0 l sound p.0 a.1)
+
+-- ---- all lines
+
+pub record AllTold (s : Standing) (ls : List Content) (t : Standing) : Type 0 where
+  pub spells : spelled_state t ≡ spelled_state s ++ meaning (context_of s) ls
+  pub sound : Sound t
+
+runs_law : (s : Standing) (ls : List Content) (t : Standing) → Sound s → runs s ls ≡ Ok t → AllTold s ls t
+runs_law s [] t sound h = subst (AllTold s []) (same_ok s t h) (record { spells = sym (append-nil (spelled_state s)); sound = sound })
+runs_law s (l ∷ ls) t sound h =
+    let a = bind_ok (step s l) _ t h in
+    let first = step_law s a.0 l sound a.1 in
+    let rest = runs_law a.0 ls t first.sound a.2 in
+    record {
+      spells = rest.spells
+          ∙ ap (λ (xs : List Meaning). xs ++ meaning (context_of a.0) ls) first.spells
+          ∙ ap (λ (c : Context). (spelled_state s ++ means (context_of s) l) ++ meaning c ls) first.context
+          ∙ append_assoc (spelled_state s) (means (context_of s) l) (meaning (context_behind (context_of s) l) ls);
+      sound = rest.sound;
+    }
+
+pub sound_start : Sound start
+sound_start = record {
+  quiet = λ b. (refl, refl);
+  inside = λ b. refl;
+  begun = λ b. closed_not b;
+  closed = λ c. closed_not c;
+  fits = (refl, refl);
+}
+
+-- what the lines of a whole log mean is what its entries denote
+pub entries_told : (ls : List Content) (s : Standing) → runs start ls ≡ Ok s → is_closed s.body ≡ true → meaning nowhere ls ≡ meaning_of_entries s.entries
+entries_told ls s h closed =
+    let all = runs_law start ls s sound_start h in
+    sym all.spells ∙ idle_spelled s.stage (all.sound.closed closed)
+  where
+    idle_spelled : (stage : Stage) → is_idle stage ≡ true → meaning_of_entries s.entries ++ spelled_open stage s.gtid s.changes (row_of s) ≡ meaning_of_entries s.entries
+    idle_spelled stages.Idle e = append-nil (meaning_of_entries s.entries)
+    idle_spelled stages.Named e = absurd cc
+    idle_spelled stages.Begun e = absurd cc

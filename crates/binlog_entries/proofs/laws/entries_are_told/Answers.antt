@@ -1,5 +1,0 @@
-use Rattle.binlog_entries.proofs.Told.{entries_told}
-use Rattle.binlog_entries.proofs.laws.entries_are_told.Goals as goal
-
-pub returns : goal.returns
-returns c = entries_told

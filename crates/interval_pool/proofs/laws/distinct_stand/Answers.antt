@@ -1,5 +1,0 @@
-use Rattle.interval_pool.proofs.laws.distinct_stand.Goals as goal
-use Rattle.interval_pool.proofs.Within as within
-
-pub returns : goal.returns
-returns c = λ p lists once. within.distinct_stand p lists once

@@ -1,5 +1,0 @@
-use Rattle.interval_pool.proofs.laws.standing_within.Goals as goal
-use Rattle.interval_pool.proofs.Within.{stand_within}
-
-pub returns : goal.returns
-returns c = λ p lists all. stand_within p lists all

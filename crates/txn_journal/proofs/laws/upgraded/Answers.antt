@@ -1,5 +1,0 @@
-use Rattle.txn_journal.proofs.BundleLaws.{upgraded, upgraded_read}
-use Rattle.txn_journal.proofs.laws.upgraded.Goals as goal
-
-pub returns : goal.returns
-returns c = record { text = upgraded; read = upgraded_read }

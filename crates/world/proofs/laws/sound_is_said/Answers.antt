@@ -1,5 +1,0 @@
-use Rattle.world.proofs.Saying.{sound_is_said}
-use Rattle.world.proofs.laws.sound_is_said.Goals as goal
-
-pub returns : goal.returns
-returns c = sound_is_said
