@@ -22,7 +22,7 @@ use Rattle.gtid_set.specs.Spans.{set_of, has, is_merged}
 use Rattle.gtid_set.specs.Sweep.{within}
 use Rattle.gtid_set.specs.Runs.{runs, canonical}
 use Rattle.gtid_set.specs.Full.{interval_count, most_intervals, HasManySources, HasManyIntervals}
-use Rattle.gtid_set.specs.Texts.{SpellsSet, check_size, set_from, set_in}
+use Rattle.gtid_set.specs.Texts.{ParsesAsSet, check_size, set_from, set_in}
 use Rattle.gtid_set.specs.Laws.{AreUsable, HaveSources, HaveNumbers}
 use Rattle.gtid_set.proofs.SetLemmas.{contains-set_of}
 use Rattle.gtid_set.proofs.SpanLemmas.{merged_head}
@@ -120,11 +120,11 @@ member_numbered (s ∷ ss) q n e = split (within s q) refl (member_numbered ss q
     split true w later = between s q n.0 n.1 w
     split false w later = later (sym (ap (λ b. b || has ss q) w) ∙ e)
 
-pub spelled_in_range : (text : List ℕ) (s : Gtids) → SpellsSet text s → HaveNumbers s
+pub spelled_in_range : (text : List ℕ) (s : Gtids) → ParsesAsSet text s → HaveNumbers s
 spelled_in_range text s h g e =
     member_numbered h.0 g (elements_numbered h.1.elements h.0 h.1.says) (sym (contains-set_of h.0 g) ∙ ap (λ t. set.contains t g) h.2 ∙ e)
 
-pub spelled_again : (text : List ℕ) (s : Gtids) → HaveSources s → SpellsSet text s → SpellsSet (canonical s) s
+pub spelled_again : (text : List ℕ) (s : Gtids) → HaveSources s → ParsesAsSet text s → ParsesAsSet (canonical s) s
 spelled_again text s sources h =
     canonical_spells s (λ g e. record { source = sources g e; number = spelled_in_range text s h g e })
 

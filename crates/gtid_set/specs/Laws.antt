@@ -76,7 +76,7 @@ CanonicalParsesAgain = (text : List ℕ) (s : Gtids) → HaveSources s → Parse
 
 -- a set that has a text has numbers in range
 abbrev pub SpelledInRange : Type 0
-SpelledInRange = (text : List ℕ) (s : Gtids) → SpellsSet text s → HaveNumbers s
+SpelledInRange = (text : List ℕ) (s : Gtids) → ParsesAsSet text s → HaveNumbers s
 
 -- sets with one canonical text are one
 abbrev pub CanonicalIsInjective : Type 0

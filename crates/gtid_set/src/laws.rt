@@ -1,7 +1,7 @@
 //! Laws of sets of GTIDs and of their text.
 //!
 //! Each law is the contract of a function that does nothing.
-ghost use Rattle.gtid_set.specs.Laws.{UnionCommutes, UnionAssociates, UnionRepeats, UnionIsUpper, UnionIsLeast, UnionLess, LessUnion, LessBoth, BothOfUnion, BothOfLess, SpellsOne, CanonicalSpells, SpelledAgain, SpelledInRange, CanonicalTells, AnswersSpelled, SpelledIsAnswered, SpelledIsFull, SpelledIsCrowded};
+ghost use Rattle.gtid_set.specs.Laws.{UnionCommutes, UnionAssociates, UnionRepeats, UnionIsUpper, UnionIsLeast, UnionLess, LessUnion, LessBoth, BothOfUnion, BothOfLess, ParsesAsOneSet, CanonicalParses, CanonicalParsesAgain, SpelledInRange, CanonicalIsInjective, FoundIsSetText, SetTextIsFound, SetTextIsFull, SetTextIsCrowded};
 ghost use Rattle.gtid_set.specs.Edges.{EdgesAreChanges, EdgesAreTwice, EdgesOfUnion, EdgesOfDifference, EdgesOfIntersection, IntervalsOfUnion, IntervalsOfDifference, IntervalsOfIntersection, IntervalsOfInsert};
 
 /// Union depends neither on the order of the sets nor on how often one is named.
@@ -32,11 +32,11 @@ pub fn intersect_distributes()
 
 /// A text parses as one set at most, whose numbers are in range. The canonical text of a set parses as it, and no two sets have the same.
 pub fn text_reads_back()
-    ensures one { SpellsOne }
-    ensures spells { CanonicalSpells }
-    ensures again { SpelledAgain }
+    ensures one { ParsesAsOneSet }
+    ensures parses { CanonicalParses }
+    ensures again { CanonicalParsesAgain }
     ensures numbers { SpelledInRange }
-    ensures tells { CanonicalTells }
+    ensures injective { CanonicalIsInjective }
 {}
 
 /// The one answer to a text is the set that it parses as, where that has not too many sources or intervals, and is a set for no other text.

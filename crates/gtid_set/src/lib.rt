@@ -26,7 +26,7 @@ ghost use Rattle.gtid_set.specs.Sets.{Gtids, IsRunEnd, gtid, interval, only, wit
 ghost use Rattle.gtid_set.specs.Spans.{set_of, is_merged, has};
 ghost use Rattle.gtid_set.specs.Runs.{runs, canonical};
 ghost use Rattle.gtid_set.specs.Laws.{HaveSources, HaveNumbers};
-ghost use Rattle.gtid_set.specs.Texts.{SpellsSet, RefusesSet, IsReadAs, GivesSet, set_in};
+ghost use Rattle.gtid_set.specs.Texts.{ParsesAsSet, RefusesSet, IsReadAs, GivesSet, set_in};
 ghost use Rattle.gtid_set.specs.Sweep.{is_sorted};
 ghost use Rattle.gtid_set.specs.BySource.{combination};
 ghost use Rattle.gtid_set.specs.Full.{IsFullExactly, IsCrowdedExactly, IsKept, HasManySources, interval_count, most_intervals};

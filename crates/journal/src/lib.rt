@@ -19,7 +19,7 @@ ghost use Rattle.std.specs.List.{list_all, list_any};
 ghost use Rattle.gtid_text.specs.Gtids.{same_gtid};
 ghost use Rattle.std.specs.FinSet as set;
 ghost use Rattle.gtid_set.specs.Laws.{HaveNumbers};
-ghost use Rattle.journal.specs.Journals.{gtids_of, purged, whole, IsJournal};
+ghost use Rattle.journal.specs.Journals.{gtids_of, previous_after_purge, whole, IsJournal};
 ghost use Rattle.journal.specs.Faults.{IsAddingFault, IsPurgedFault};
 ghost use Rattle.journal.specs.Writing.{is_value_writable, is_image_writable, is_change_writable, is_txn_writable, is_writable, is_number};
 

@@ -128,7 +128,7 @@ impl Core {
     ) -> Result<Reply, SetFault>
         requires number { is_number entry.now.gtid.number ≡ true }
         requires fits { Fits self.old.site.schema entry.now.txn }
-        ensures told { IfOk result (λ reply. reply ≡ (receive self.old.site channel entry.now self.old.state).0) }
+        ensures reply { IfOk result (λ reply. reply ≡ (receive self.old.site channel entry.now self.old.state).0) }
         ensures state { OnOk result (self.new.state ≡ received_and_committed self.old.site seat channel place entry.now self.old.state) }
         ensures site { self.new.site ≡ self.old.site }
         ensures err { OnErr result (IsLeft self.old.site seat channel place entry.now self.old.state self.new.state) }

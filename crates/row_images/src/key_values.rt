@@ -344,7 +344,7 @@ impl Clone for KeyValues {
         let held = match &self.held {
             HeldValues::Null => HeldValues::Null,
             HeldValues::Int(number) => HeldValues::Int(*number),
-            HeldValues::Short(short) => HeldValues::Short(short.copied()),
+            HeldValues::Short(short) => HeldValues::Short(short.copy()),
             HeldValues::Shared(items) => HeldValues::Shared(items.clone()?),
             HeldValues::Several(items) => HeldValues::Several(items.clone()?),
         };

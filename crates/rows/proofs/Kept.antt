@@ -13,8 +13,8 @@ use Rattle.row_images.specs.Values.{is_null}
 use Rattle.row_images.proofs.Equal.{values-Decide}
 use Rattle.rows.specs.declared.change.Key.{Key}
 use Rattle.rows.specs.declared.schema.Table.{Table}
-use Rattle.rows.specs.Keys.{values_in, unique_keys, table_named, keys_in, carried_keys}
-use Rattle.rows.specs.Making.{same_in, keeps_keys, updated}
+use Rattle.rows.specs.Keys.{values_in, unique_keys, find_table, keys_in, carried_keys}
+use Rattle.rows.specs.Making.{same_in, keeps_keys, update_row}
 use Rattle.rows.specs.Order.{key_eq}
 use Rattle.rows.specs.declared.change.Change.{Change}
 use Rattle.rows.specs.declared.change.Change.TheVariants.{Update}
@@ -48,13 +48,13 @@ kept_in (Some table) a b e =
     let later = kept_uniques table.name 1 table.uniques a b p.1 in
     λ i. record { table = table.name; index = 0; values = here i } ∷ later i
 
-pub kept : (schema : List Table) (name : List ℕ) (a b : List Value) → keeps_keys a b (table_named name schema) ≡ true → carried_keys schema name a ≡ carried_keys schema name b
-kept schema name a b e = kept_in (table_named name schema) a b e
+pub kept : (schema : List Table) (name : List ℕ) (a b : List Value) → keeps_keys a b (find_table name schema) ≡ true → carried_keys schema name a ≡ carried_keys schema name b
+kept schema name a b e = kept_in (find_table name schema) a b e
 
 -- so an update puts the after image under the keys of the before image
-pub kept_updated : (schema : List Table) (name : List ℕ) (n : ℕ) (a b : List Value) (rows : Rows) → keeps_keys a b (table_named name schema) ≡ true
-    → apply_change schema n (Update name a b) rows ≡ updated n (carried_keys schema name a) a (carried_keys schema name a) b rows
-kept_updated schema name n a b rows e = ap (λ (ks : List Key). updated n (carried_keys schema name a) a ks b rows) (sym (kept schema name a b e))
+pub kept_updated : (schema : List Table) (name : List ℕ) (n : ℕ) (a b : List Value) (rows : Rows) → keeps_keys a b (find_table name schema) ≡ true
+    → apply_change schema n (Update name a b) rows ≡ update_row n (carried_keys schema name a) a (carried_keys schema name a) b rows
+kept_updated schema name n a b rows e = ap (λ (ks : List Key). update_row n (carried_keys schema name a) a ks b rows) (sym (kept schema name a b e))
 
 nothing_more : (schema : List Table) (r : Result Rows RowFault) → (r >>= apply_from schema 1 []) ≡ r
 nothing_more schema (Ok rows) = refl
@@ -62,8 +62,8 @@ nothing_more schema (Err fault) = refl
 
 -- a transaction of that update alone
 pub kept_alone : (schema : List Table) (name : List ℕ) (a b : List Value) (rows : Rows) (changes : List Change) (r : Result Rows RowFault)
-    → changes ≡ Update name a b ∷ [] → keeps_keys a b (table_named name schema) ≡ true
-    → updated 0 (carried_keys schema name a) a (carried_keys schema name a) b rows ≡ r → apply_from schema 0 changes rows ≡ r
+    → changes ≡ Update name a b ∷ [] → keeps_keys a b (find_table name schema) ≡ true
+    → update_row 0 (carried_keys schema name a) a (carried_keys schema name a) b rows ≡ r → apply_from schema 0 changes rows ≡ r
 kept_alone schema name a b rows changes r is e made =
     ap (λ (cs : List Change). apply_from schema 0 cs rows) is
     ∙ ap (λ (x : Result Rows RowFault). x >>= apply_from schema 1 []) (kept_updated schema name 0 a b rows e ∙ made)

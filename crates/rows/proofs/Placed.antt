@@ -14,7 +14,7 @@ use Rattle.row_images.specs.Values.{is_null}
 use Rattle.rows.specs.declared.change.Key.{Key}
 use Rattle.rows.specs.Order.{key_eq}
 use Rattle.rows.specs.Keys.{values_in, unique_keys}
-use Rattle.rows.specs.Apply.{Rows, insert_if_free, inserted}
+use Rattle.rows.specs.Apply.{Rows, insert_if_free, insert_row}
 use Rattle.rows.specs.Making.{IsPut, Extends}
 use Rattle.rows.specs.WriteSet.{is_among}
 use Rattle.rows.proofs.Carriers.{all_free}
@@ -59,7 +59,7 @@ put_more done more row a b c first next =
       taken_of_free (done ++ more) a free,
     )
 
-pub put_inserted : (n : ℕ) (keys : List Key) (row : List Value) (a b : Rows) → IsPut keys row a b → inserted n keys row a ≡ Ok b
+pub put_inserted : (n : ℕ) (keys : List Key) (row : List Value) (a b : Rows) → IsPut keys row a b → insert_row n keys row a ≡ Ok b
 put_inserted n keys row a b put = ap (λ (o : Option ℕ). insert_if_free o n keys row a) put.1 ∙ ap Ok (sym put.0)
 
 pub none_put : (row : List Value) (a : Rows) → IsPut [] row a a

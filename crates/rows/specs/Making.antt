@@ -10,7 +10,7 @@ use Rattle.row_images.specs.declared.value.Value.{Value}
 use Rattle.row_images.specs.declared.value.Value.TheVariants.{Null}
 use Rattle.row_images.specs.Order.{value_cmp}
 use Rattle.rows.specs.declared.schema.Table.{Table}
-use Rattle.rows.specs.Apply.{Rows, ◌>>=◌, with_row, first_taken, inserted, deleted}
+use Rattle.rows.specs.Apply.{Rows, ◌>>=◌, with_row, first_taken, insert_row, delete_row}
 use Rattle.rows.specs.Coding.{rows_code}
 use Rattle.rows.specs.Patch.{put}
 
@@ -28,8 +28,8 @@ abbrev pub course_code : Coded Course
 course_code = code_by (Rows × Rows) (coded× rows_code rows_code) (λ c. (c.made, c.before)) (λ p. record { made = p.0; before = p.1 }) (λ _. refl)
 
 -- an update by the keys of both images
-abbrev pub updated : ℕ → List Key → List Value → List Key → List Value → Rows → Result Rows RowFault
-updated n keys before keys_after after rows = deleted n keys before rows >>= inserted n keys_after after
+abbrev pub update_row : ℕ → List Key → List Value → List Key → List Value → Rows → Result Rows RowFault
+update_row n keys before keys_after after rows = delete_row n keys before rows >>= insert_row n keys_after after
 
 -- ---- an insert
 

@@ -3,11 +3,11 @@ ghost use Rattle.std.specs.Prelude.{◌≡◌, ◌≤◌, ◌<◌, ◌+◌, ◌^
 ghost use Rattle.std.specs.Bool.{Decides};
 ghost use Rattle.std.specs.Option.{option_copied};
 ghost use Rattle.std.specs.FinMap as map;
-ghost use Rattle.rows.specs.Apply.{first_taken, first_row, with_row, without_keys, inserted, deleted, apply_change, apply_from};
+ghost use Rattle.rows.specs.Apply.{first_taken, first_row, with_row, without_keys, insert_row, delete_row, apply_change, apply_from};
 ghost use Rattle.rows.specs.declared.change.Change.TheVariants.{Update};
 ghost use Rattle.rows.specs.Keys.{carried_keys};
 ghost use Rattle.rows.specs.Listing.{rows_listed};
-ghost use Rattle.rows.specs.Making.{IsPut, updated};
+ghost use Rattle.rows.specs.Making.{IsPut, update_row};
 ghost use Rattle.rows.specs.Patch.{put_over};
 ghost use Rattle.rows.specs.Refusal.{Refuses};
 
@@ -142,8 +142,8 @@ impl KeyMap {
 
     /// Puts a row under its keys, if each of them is free.
     fn insert_row(&mut self, keys: Vec<Key>, row: &Row, change: u32) -> Result<(), PrepareFault>
-        ensures ok { OnOk result (inserted change keys.items row.now self.old ≡ Ok self.new) }
-        ensures refused { Refuses result (inserted change keys.items row.now self.old) }
+        ensures ok { OnOk result (insert_row change keys.items row.now self.old ≡ Ok self.new) }
+        ensures refused { Refuses result (insert_row change keys.items row.now self.old) }
         ensures err { OnErr result (self.new ≡ self.old) }
     {
         if let Some(key) = first_taken(&self.carriers, &keys) {
@@ -157,8 +157,8 @@ impl KeyMap {
 
     /// Puts a row in the place of another that carries the same keys, if that is there.
     fn replace_row(&mut self, keys: Vec<Key>, before: &Row, after: &Row) -> Result<(), PrepareFault>
-        ensures ok { OnOk result (updated 0 keys.items before.now keys.items after.now self.old ≡ Ok self.new) }
-        ensures refused { Refuses result (updated 0 keys.items before.now keys.items after.now self.old) }
+        ensures ok { OnOk result (update_row 0 keys.items before.now keys.items after.now self.old ≡ Ok self.new) }
+        ensures refused { Refuses result (update_row 0 keys.items before.now keys.items after.now self.old) }
         ensures err { OnErr result (self.new ≡ self.old) }
     {
         if let Err(fault) = holds(&self.carriers, &keys, before, 0) {
@@ -218,8 +218,8 @@ impl KeyMap {
         table: &Name,
         row: &Row,
     ) -> Result<(), PrepareFault>
-        ensures ok { OnOk result (inserted change (carried_keys schema.now table.now row.now) row.now self.old ≡ Ok self.new) }
-        ensures refused { Refuses result (inserted change (carried_keys schema.now table.now row.now) row.now self.old) }
+        ensures ok { OnOk result (insert_row change (carried_keys schema.now table.now row.now) row.now self.old ≡ Ok self.new) }
+        ensures refused { Refuses result (insert_row change (carried_keys schema.now table.now row.now) row.now self.old) }
         ensures err { OnErr result (self.new ≡ self.old) }
     {
         if self.put_if_free(alloc, schema, table, row) {
@@ -259,8 +259,8 @@ impl KeyMap {
         before: &Row,
         after: &Row,
     ) -> Result<(), PrepareFault>
-        ensures ok { OnOk result (updated 0 (carried_keys schema.now table.now before.now) before.now (carried_keys schema.now table.now before.now) after.now self.old ≡ Ok self.new) }
-        ensures refused { Refuses result (updated 0 (carried_keys schema.now table.now before.now) before.now (carried_keys schema.now table.now before.now) after.now self.old) }
+        ensures ok { OnOk result (update_row 0 (carried_keys schema.now table.now before.now) before.now (carried_keys schema.now table.now before.now) after.now self.old ≡ Ok self.new) }
+        ensures refused { Refuses result (update_row 0 (carried_keys schema.now table.now before.now) before.now (carried_keys schema.now table.now before.now) after.now self.old) }
         ensures err { OnErr result (self.new ≡ self.old) }
     {
         match carried_keys(alloc, schema, table, before) {

@@ -5,7 +5,7 @@ ghost use Rattle.std.specs.FinMap as map;
 ghost use Rattle.std.specs.Vec.{vec_capacity};
 ghost use Rattle.indexmap.specs.IndexMap.{spare};
 ghost use Rattle.rows.specs.declared.change.Change.TheVariants.{Update};
-ghost use Rattle.rows.specs.Apply.{with_row, without_keys, inserted, deleted, apply_change, apply_from};
+ghost use Rattle.rows.specs.Apply.{with_row, without_keys, insert_row, delete_row, apply_change, apply_from};
 ghost use Rattle.rows.specs.Keys.{carried_keys};
 ghost use Rattle.rows.specs.Making.{put_back, update_row};
 ghost use Rattle.rows.specs.Order.{key_cmp};

@@ -11,7 +11,7 @@ use Rattle.txn_journal.specs.Machine.{Standing, IsFull, is_last, open_entry, clo
 use Rattle.txn_journal.specs.Stamps.{right_stamp}
 use Rattle.txn_journal.specs.Stream.{GivesFull}
 use Rattle.txn_journal.specs.BundleStates.{BundleStanding, BundleValue, IsFullBundle, with_journal, after_inner, unless_misstamped, end_entry, judge_inner}
-use Rattle.txn_journal.specs.declared.bundle.Channel.{Channel}
+use Rattle.txn_journal.specs.declared.bundle.BundleChannel.{BundleChannel}
 use Rattle.txn_journal.specs.declared.fault.Cause.{Cause}
 use Rattle.txn_journal.specs.declared.fault.Cause.TheVariants as causes
 use Rattle.txn_journal.specs.declared.lines.Version.{Version}
@@ -21,7 +21,7 @@ use Rattle.txn_journal.proofs.InnerSteps.{ends, ended_or_not, judged_on}
 
 -- ---- a line that ends no entry
 
-same_opened : (c : Option Channel) (b : BundleValue) (j : JournalValue) → (with_journal c b j).opened ≡ b.opened
+same_opened : (c : Option BundleChannel) (b : BundleValue) (j : JournalValue) → (with_journal c b j).opened ≡ b.opened
 same_opened None b j = refl
 same_opened (Some c) b j = refl
 

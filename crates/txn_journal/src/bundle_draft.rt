@@ -426,7 +426,7 @@ impl BundleDraft {
         ensures full { result ≡ true → GivesFull (IsFullBundle SourcesFull) (end_entry (bundle_standing self.now)) }
         ensures room { result ≡ false → self.now.version ≡ One → GivesFull (IsFullBundle SourcesFull) (end_entry (bundle_standing self.now)) → ⊥ }
     {
-        self.bundle.opened().keeps_limits();
+        self.bundle.opening_set().keeps_limits();
         match self.version {
             Version::One => self.draft.stamp() == 0 && !self.draft.has_room(),
             Version::Two => false,
@@ -487,7 +487,7 @@ impl BundleDraft {
             None
         };
         self.writers = None;
-        self.bundle.opened().keeps_limits();
+        self.bundle.opening_set().keeps_limits();
         let schema = Some(self.bundle.schema());
         match self.draft.take_line(alloc, schema, &mut self.names, line) {
             Ok(()) => {

@@ -101,7 +101,7 @@ impl<T: TakeLine> Feed<T> {
     ghost use Rattle.std.specs.Prelude.{[], ◌∷◌, ◌++◌, None, Err, OnOk};
     ghost use Rattle.gtid_set.specs.declared.fault.SetFault.TheVariants.{SourcesFull};
     ghost use Rattle.txn_journal.specs.declared.fault.JournalFault.TheVariants.{Set};
-    ghost use Rattle.txn_journal.specs.Stream.{eats, IsPieceFault, Feeds, TakesPiece, GivesFull, NamesSources, answer};
+    ghost use Rattle.txn_journal.specs.Stream.{feed_bytes, IsPieceFault, Feeds, TakesPiece, GivesFull, NamesSources, answer};
     ghost use Rattle.txn_journal.specs.Feeds.{progress};
 
     /// Takes the next piece. After an error every later call returns that error.

@@ -7,7 +7,7 @@ ghost use Rattle.rows.specs.declared.schema.Table.{Table};
 ghost use Rattle.journal.specs.Journals.{JournalValue};
 ghost use Rattle.txn_journal.specs.Machine.{Standing};
 ghost use Rattle.txn_journal.specs.Stream.{Progress};
-ghost use Rattle.txn_journal.specs.Reading.{Stamped, stamped_of, without_entries, behind_entries, closing, WrittenJournal, IsWrittenAs, with_front, HasBegun, EatsBehind};
+ghost use Rattle.txn_journal.specs.Reading.{Stamped, stamped_of, without_entries, behind_entries, closing, WrittenJournal, IsWrittenAs, with_front, HasBegun, FeedsBehind};
 ghost use Rattle.txn_journal.specs.Spelling.{IsWritten, WritesAs, Writes};
 ghost use Rattle.txn_journal.specs.Timestamped.{with_timestamps, HasText, IsReadBack};
 ghost use Rattle.txn_journal.specs.declared.lines.Version.{Version};

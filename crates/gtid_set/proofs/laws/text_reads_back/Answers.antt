@@ -2,4 +2,4 @@ use Rattle.gtid_set.proofs.RoundTrip.{spells_one, canonical_spells, spelled_agai
 use Rattle.gtid_set.proofs.laws.text_reads_back.Goals as goal
 
 pub returns : goal.returns
-returns c = record { one = spells_one; spells = canonical_spells; again = spelled_again; numbers = spelled_in_range; tells = canonical_tells }
+returns c = record { one = spells_one; parses = canonical_spells; again = spelled_again; numbers = spelled_in_range; injective = canonical_tells }

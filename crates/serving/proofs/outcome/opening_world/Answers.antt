@@ -3,4 +3,4 @@ use Rattle.serving.proofs.outcome.opening_world.Goals as goal
 
 pub world_of_fitting-requires : goal.world_of_fitting-requires
 world_of_fitting-requires c =
-    all_taken c.args.bundle.now c.rows.result.now c.opened.result.now c.journals.result.now c.rows.ensures c.opened.ensures c.journals.ensures c.requires
+    all_taken c.args.bundle.now c.rows.result.now c.opening_set.result.now c.journals.result.now c.rows.ensures c.opening_set.ensures c.journals.ensures c.requires

@@ -9,7 +9,7 @@ abbrev pub invariant-lines : goal.invariant-lines
 invariant-lines g l = record {
   goes : l.self.stopped ≡ None;
   may : (f : SetFault) → IsPieceFault g.T.TakeLine.full g.T.TakeLine.judge (progress l.self) l.left f → IsPieceFault g.T.TakeLine.full g.T.TakeLine.judge (progress l.fn.self) l.fn.piece f;
-  so_far : eats g.T.TakeLine.judge (progress l.self) l.left ≡ eats g.T.TakeLine.judge (progress l.fn.self) l.fn.piece;
+  so_far : feed_bytes g.T.TakeLine.judge (progress l.self) l.left ≡ feed_bytes g.T.TakeLine.judge (progress l.fn.self) l.fn.piece;
   first : IsAtFirst g.T.TakeLine.counts g.T.TakeLine.full g.T.TakeLine.judge (progress l.fn.self) l.fn.piece (progress l.self) l.left;
 }
 
