@@ -5,6 +5,8 @@ ghost use Rattle.gtid_set.specs.declared.fault.SetFault.{SetFault};
 ghost use Rattle.gtid_set.specs.declared.fault.SetFault.TheVariants as sets;
 ghost use Rattle.txn_journal.specs.declared.fault.JournalFault.{JournalFault};
 ghost use Rattle.txn_journal.specs.declared.fault.JournalFault.TheVariants as journals;
+ghost use Rattle.txn_journal.specs.BundleReaders.{bundle_reading};
+ghost use Rattle.txn_journal.specs.BundleReading.{closing_bundle};
 ghost use Rattle.serving.specs.Servable.{IsServable};
 ghost use Rattle.commands.specs.Bundles.{ParsesAsBundle, ParsesAsOldBundle, bundle_in, old_bundle_in};
 ghost use Rattle.commands.specs.Positions.{ParsesAsJournal, journal_in};
@@ -14,6 +16,7 @@ use journal::Journal;
 use serving::written_is_servable;
 use std::alloc::{AllocError, Global};
 use std::marker::Model;
+use std::mem;
 use txn_journal::{Bundle, BundleReader, JournalFault, decode, decode_bundle_v1};
 
 /// What bytes parse as: a bundle or a journal.
@@ -73,7 +76,20 @@ impl Text for Bundle {
 
     fn finish(_: Global, reader: BundleReader) -> Result<Bundle, JournalFault> {
         written_is_servable();
-        reader.finish()
+        finish_or_leave(reader)
+    }
+}
+
+/// The bundle that was read, or what is wrong with its text: then what was read is left to the end of the process.
+fn finish_or_leave(reader: BundleReader) -> Result<Bundle, JournalFault>
+    ensures { result ≡ closing_bundle (bundle_reading reader) }
+{
+    match reader.fault() {
+        None => reader.finish(),
+        Some(fault) => {
+            mem::forget(reader);
+            Err(fault)
+        }
     }
 }
 

@@ -94,6 +94,7 @@ pub struct BundleReader {
 }
 
 impl BundleReader {
+    ghost use Rattle.std.specs.Prelude.{IfSome, Err};
     ghost use Rattle.txn_journal.specs.Stream.{answer, NamesSources};
     ghost use Rattle.txn_journal.specs.BundleStates.{judge_bundle, IsFullBundle, IsInFirstVersion};
     ghost use Rattle.txn_journal.specs.Formats.{FeedsBy};
@@ -124,6 +125,17 @@ impl BundleReader {
         ensures room { NamesSources IsInFirstVersion IsFullBundle judge_bundle (bundle_reading self.old) piece.now result }
     {
         self.feed.feed(alloc, piece)
+    }
+
+    /// What is wrong with the text as a whole, if anything is: the fault that `finish` returns.
+    #[tactic(auto, unfolding(crate::specs::Formats::closing_by))]
+    pub fn fault(&self) -> Option<JournalFault>
+        ensures { IfSome result (λ fault. closing_bundle (bundle_reading self.now) ≡ Err fault) }
+    {
+        match self.feed.end(self.feed.made.is_ended()) {
+            Ok(()) => None,
+            Err(fault) => Some(fault),
+        }
     }
 
     /// The bundle, where its last line has come.

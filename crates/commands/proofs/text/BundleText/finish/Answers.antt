@@ -13,10 +13,10 @@ use Rattle.commands.proofs.text.BundleText.finish.Goals as goal
 
 pub returns : goal.returns
 returns c = λ bytes come.
-    let read = subst (λ (r : Result BundleValue JournalFault). IsWholeOr (IsFaultOfBundle (bundle_start None) bytes) r (bundle_in bytes)) (sym c.finish.ensures) (closed_after (bundles None) bytes (bundle_reading c.args.reader) come) in
-    let found = is_found (bundles None) (IsSoundBundle None) (bundle_laws None) c.finish.result bytes read in
+    let read = subst (λ (r : Result BundleValue JournalFault). IsWholeOr (IsFaultOfBundle (bundle_start None) bytes) r (bundle_in bytes)) (sym c.finish_or_leave.ensures) (closed_after (bundles None) bytes (bundle_reading c.args.reader) come) in
+    let found = is_found (bundles None) (IsSoundBundle None) (bundle_laws None) c.finish_or_leave.result bytes read in
     record {
-      parsed = bundle_spelled bytes c.finish.result found (is_refused (bundles None) (IsSoundBundle None) (bundle_laws None) c.finish.result bytes read);
+      parsed = bundle_spelled bytes c.finish_or_leave.result found (is_refused (bundles None) (IsSoundBundle None) (bundle_laws None) c.finish_or_leave.result bytes read);
       exact = whole_of _ _ _ read;
-      holds = bundle_servable bytes c.finish.result c.written_is_servable.ensures found;
+      holds = bundle_servable bytes c.finish_or_leave.result c.written_is_servable.ensures found;
     }
