@@ -6,7 +6,7 @@ ghost use Rattle.replica_core.specs.Machine.{step};
 ghost use Rattle.replica_core.specs.declared.event.Event.TheVariants as events;
 ghost use Rattle.replica_core.specs.declared.event.Reply.TheVariants as replies;
 ghost use Rattle.serving.specs.Faults.{IsFaultWhere, Knows, KnowsWith};
-ghost use Rattle.serving.specs.Servable.{IsOpen};
+ghost use Rattle.serving.specs.Servable.{IsOpen, IsTaken};
 ghost use Rattle.serving.specs.Serving.{run, with_opened, apply_events_at};
 ghost use Rattle.serving.specs.declared.receiving.Apply.TheVariants.{AtOnce};
 
@@ -62,7 +62,7 @@ fn receive_only(
     Ok(())
 }
 
-/// A channel receives an entry, and seat 1 takes it at this place and commits it, if the place is its own.
+/// A channel receives an entry that the tables take, and seat 1 takes it at this place and commits it, if the place is its own.
 #[tactic(auto, using(crate::proofs::Knowing::fault_at_once))]
 fn receive_and_apply(
     alloc: Global,
@@ -71,7 +71,7 @@ fn receive_and_apply(
     place: usize,
     entry: &Entry,
 ) -> Result<(), SetFault>
-    requires { is_number entry.now.gtid.number ≡ true }
+    requires { IsTaken core.old.site.schema entry.now }
     ensures now { OnOk result (core.new ≡ run core.old (events.Receive channel entry.now ∷ apply_events_at AtOnce channel place)) }
     ensures fault { IfErr result (IsFaultWhere (KnowsWith core.old.state (entry.now ∷ []))) }
 {
@@ -79,7 +79,7 @@ fn receive_and_apply(
     Ok(())
 }
 
-/// A channel receives an entry at this place, which is applied at once or later.
+/// A channel receives an entry that the tables take at this place, which is applied at once or later.
 pub(crate) fn receive(
     alloc: Global,
     core: &mut Core,
@@ -88,7 +88,7 @@ pub(crate) fn receive(
     entry: &Entry,
     apply: Apply,
 ) -> Result<(), SetFault>
-    requires { is_number entry.now.gtid.number ≡ true }
+    requires { IsTaken core.old.site.schema entry.now }
     ensures now { OnOk result (core.new ≡ run core.old (events.Receive channel entry.now ∷ apply_events_at apply channel place)) }
     ensures fault { IfErr result (IsFaultWhere (KnowsWith core.old.state (entry.now ∷ []))) }
 {

@@ -46,7 +46,8 @@ pub use bundle_writer::{bundle_text_v2, encode_bundle_v2};
 pub use draft::MAX_ENTRIES;
 pub use fault::{Cause, JournalFault};
 pub use laws::{
-    one_bundle, one_spelling, rows_in_listed_order, taken_in_front, timestamped_read_back, upgrade_keeps_bundle,
+    one_bundle, one_spelling, rows_in_listed_order, taken_in_front, timestamped_read_back,
+    upgrade_keeps_bundle,
 };
 pub use reader::{Reader, any_cut, decode, decode_v2};
 pub use timestamped_journal::TimestampedJournal;
