@@ -1,5 +1,6 @@
 //! Declarations: tables, rows, and the replica or the network that has them.
 ghost use Rattle.std.specs.Prelude.{◌≡◌, IfOk, IfErr, option_map};
+ghost use Rattle.gtid_set.specs.Laws.{HaveNumbers};
 ghost use Rattle.row_images.specs.Images.{words_of};
 ghost use Rattle.network.specs.Nodes.{ids_distinct, new_nodes};
 ghost use Rattle.replica_script.specs.Declarations.{sources_of, IsStopOfIds};
@@ -77,8 +78,11 @@ impl Declared {
     }
 }
 
-/// The executed set of a replica that is declared: empty where no word denotes it.
-pub fn executed_word(alloc: Global, word: Option<&[u8]>) -> Result<GtidSet, Stop> {
+/// The executed set of a replica that is declared: empty where no word denotes it. Its numbers are 1 to 2^63 - 1.
+#[tactic(auto, using(journal::proofs::EntryLemmas::no_numbers))]
+pub fn executed_word(alloc: Global, word: Option<&[u8]>) -> Result<GtidSet, Stop>
+    ensures { IfOk result HaveNumbers }
+{
     let Some(word) = word else {
         return Ok(GtidSet::empty(alloc));
     };
@@ -114,7 +118,9 @@ pub fn core_on(
     bundle: &Bundle,
     own: SourceId,
     executed: GtidSet,
-) -> Result<Core, Stop> {
+) -> Result<Core, Stop>
+    requires { HaveNumbers executed }
+{
     match Core::open_snapshot(alloc, own, bundle.rows().copy()?, executed) {
         Ok(core) => Ok(core),
         Err(_) => Err(Stop::Memory),

@@ -138,10 +138,12 @@ fn unsound_keys(alloc: Global, bundle: &Bundle, order: Order) -> Result<Option<V
 }
 
 /// The replica of a bundle, with its opening rows and opening set and no channel yet.
+#[tactic(auto, using(txn_journal::proofs::GtidLaws::written_numbers))]
 fn open_replica(alloc: Global, bundle: &Bundle) -> Result<Core, SetFault>
     ensures ok { IfOk result (λ core. core ≡ opening bundle.now) }
     ensures fault { IsOkUnless result Memory }
 {
+    bundle.keeps_rules();
     let rows = bundle.rows().copy()?;
     let executed = bundle.opening_set().copy(alloc)?;
     Core::open_snapshot(alloc, bundle.replica(), rows, executed)
