@@ -13,7 +13,7 @@ ghost use Rattle.rows.specs.Patch.{put};
 ghost use Rattle.rows.specs.Refusal.{Refuses};
 
 use crate::change::{Change, Key, PrepareFault, RowFault};
-use crate::keys::{carried_keys, keeps_keys};
+use crate::keys::{carried_keys, keeps_keys, push_carried};
 use crate::name::Name;
 use crate::patch::Seen;
 use crate::schema::Schema;
@@ -192,11 +192,11 @@ impl Making {
     }
 
     /// Puts a row under each of these keys, the last first.
-    fn place(&mut self, keys: Vec<Key>, row: &Row) -> Result<(), AllocError>
-        ensures ok { OnOk result (self.new.made ≡ with_row keys.items row.now self.old.made) }
+    fn place(&mut self, keys: &mut Vec<Key>, row: &Row) -> Result<(), AllocError>
+        ensures ok { OnOk result (self.new.made ≡ with_row keys.old.items row.now self.old.made) }
+        ensures none { OnOk result (keys.new.items ≡ []) }
         ensures before { self.new.before ≡ self.old.before }
     {
-        let mut keys = keys;
         while let Some(key) = keys.pop() {
             let row = row.clone()?;
             self.put(key, row)?;
@@ -205,11 +205,11 @@ impl Making {
     }
 
     /// Takes away what is stored under each of these keys, the last first.
-    fn clear(&mut self, keys: Vec<Key>) -> Result<(), AllocError>
-        ensures ok { OnOk result (self.new.made ≡ without_keys keys.items self.old.made) }
+    fn clear(&mut self, keys: &mut Vec<Key>) -> Result<(), AllocError>
+        ensures ok { OnOk result (self.new.made ≡ without_keys keys.old.items self.old.made) }
+        ensures none { OnOk result (keys.new.items ≡ []) }
         ensures before { self.new.before ≡ self.old.before }
     {
-        let mut keys = keys;
         while let Some(key) = keys.pop() {
             self.take(key)?;
         }
@@ -217,12 +217,18 @@ impl Making {
     }
 
     /// Puts a row under its keys, if each of them is free.
-    fn insert_row(&mut self, keys: Vec<Key>, row: &Row, change: u32) -> Result<(), PrepareFault>
-        ensures ok { OnOk result (insert_row change keys.items row.now self.old.made ≡ Ok self.new.made) }
-        ensures refused { Refuses result (insert_row change keys.items row.now self.old.made) }
+    fn insert_row(
+        &mut self,
+        keys: &mut Vec<Key>,
+        row: &Row,
+        change: u32,
+    ) -> Result<(), PrepareFault>
+        ensures ok { OnOk result (inserted change keys.old.items row.now self.old.made ≡ Ok self.new.made) }
+        ensures none { OnOk result (keys.new.items ≡ []) }
+        ensures refused { Refuses result (inserted change keys.old.items row.now self.old.made) }
         ensures before { self.new.before ≡ self.old.before }
     {
-        if let Some(key) = first_taken(&self.carriers, &keys) {
+        if let Some(key) = first_taken(&self.carriers, keys.as_slice()) {
             return Err(PrepareFault::Row(RowFault::DuplicateKey { change, key }));
         }
         match self.place(keys, row) {
@@ -232,12 +238,18 @@ impl Making {
     }
 
     /// Takes away a row under its keys, if it is there.
-    fn delete_row(&mut self, keys: Vec<Key>, row: &Row, change: u32) -> Result<(), PrepareFault>
-        ensures ok { OnOk result (delete_row change keys.items row.now self.old.made ≡ Ok self.new.made) }
-        ensures refused { Refuses result (delete_row change keys.items row.now self.old.made) }
+    fn delete_row(
+        &mut self,
+        keys: &mut Vec<Key>,
+        row: &Row,
+        change: u32,
+    ) -> Result<(), PrepareFault>
+        ensures ok { OnOk result (deleted change keys.old.items row.now self.old.made ≡ Ok self.new.made) }
+        ensures none { OnOk result (keys.new.items ≡ []) }
+        ensures refused { Refuses result (deleted change keys.old.items row.now self.old.made) }
         ensures before { self.new.before ≡ self.old.before }
     {
-        if let Err(fault) = holds(&self.carriers, &keys, row, change) {
+        if let Err(fault) = holds(&self.carriers, keys.as_slice(), row, change) {
             return Err(PrepareFault::Row(fault));
         }
         match self.clear(keys) {
@@ -249,16 +261,17 @@ impl Making {
     /// Puts a row in the place of another that carries the same keys, if that is there.
     fn replace_row(
         &mut self,
-        keys: Vec<Key>,
+        keys: &mut Vec<Key>,
         before: &Row,
         after: &Row,
         change: u32,
     ) -> Result<(), PrepareFault>
-        ensures ok { OnOk result (update_row change keys.items before.now keys.items after.now self.old.made ≡ Ok self.new.made) }
-        ensures refused { Refuses result (update_row change keys.items before.now keys.items after.now self.old.made) }
+        ensures ok { OnOk result (updated change keys.old.items before.now keys.old.items after.now self.old.made ≡ Ok self.new.made) }
+        ensures none { OnOk result (keys.new.items ≡ []) }
+        ensures refused { Refuses result (updated change keys.old.items before.now keys.old.items after.now self.old.made) }
         ensures before { self.new.before ≡ self.old.before }
     {
-        if let Err(fault) = holds(&self.carriers, &keys, before, change) {
+        if let Err(fault) = holds(&self.carriers, keys.as_slice(), before, change) {
             return Err(PrepareFault::Row(fault));
         }
         match self.place(keys, after) {
@@ -270,9 +283,9 @@ impl Making {
     /// Puts a row in the place of another.
     fn update_row(
         &mut self,
-        keys: Vec<Key>,
+        mut keys: Vec<Key>,
         before: &Row,
-        keys_after: Vec<Key>,
+        mut keys_after: Vec<Key>,
         after: &Row,
         change: u32,
     ) -> Result<(), PrepareFault>
@@ -281,10 +294,10 @@ impl Making {
         ensures before { self.new.before ≡ self.old.before }
     {
         if are_same_keys(&keys, &keys_after) {
-            return self.replace_row(keys, before, after, change);
+            return self.replace_row(&mut keys, before, after, change);
         }
-        match self.delete_row(keys, before, change) {
-            Ok(()) => self.insert_row(keys_after, after, change),
+        match self.delete_row(&mut keys, before, change) {
+            Ok(()) => self.insert_row(&mut keys_after, after, change),
             Err(fault) => Err(fault),
         }
     }
@@ -294,17 +307,20 @@ impl Making {
         &mut self,
         alloc: Global,
         schema: &Schema,
+        keys: &mut Vec<Key>,
         n: u32,
         table: &Name,
         before: &Row,
         after: &Row,
     ) -> Result<(), PrepareFault>
+        requires { keys.old.items ≡ [] }
+        ensures none { OnOk result (keys.new.items ≡ []) }
         ensures ok { OnOk result (updated n (carried_keys schema.now table.now before.now) before.now (carried_keys schema.now table.now before.now) after.now self.old.made ≡ Ok self.new.made) }
         ensures refused { Refuses result (updated n (carried_keys schema.now table.now before.now) before.now (carried_keys schema.now table.now before.now) after.now self.old.made) }
         ensures before { self.new.before ≡ self.old.before }
     {
-        match carried_keys(alloc, schema, table, before) {
-            Ok(keys) => self.replace_row(keys, before, after, n),
+        match push_carried(alloc, schema, keys, table, before) {
+            Ok(()) => self.replace_row(keys, before, after, n),
             Err(_) => Err(PrepareFault::Memory),
         }
     }
@@ -314,50 +330,62 @@ impl Making {
         &mut self,
         alloc: Global,
         schema: &Schema,
+        keys: &mut Vec<Key>,
         n: u32,
         table: &Name,
         before: &Row,
         after: &Row,
     ) -> Result<(), PrepareFault>
+        requires { keys.old.items ≡ [] }
+        ensures none { OnOk result (keys.new.items ≡ []) }
         ensures ok { OnOk result (apply_change schema.now n (Update table.now before.now after.now) self.old.made ≡ Ok self.new.made) }
         ensures refused { Refuses result (apply_change schema.now n (Update table.now before.now after.now) self.old.made) }
         ensures before { self.new.before ≡ self.old.before }
     {
         if keeps_keys(schema, table, before, after) {
-            return self.replace_image(alloc, schema, n, table, before, after);
+            return self.replace_image(alloc, schema, keys, n, table, before, after);
         }
         match keys_of_both(alloc, schema, table, before, after) {
-            Ok((keys, keys_after)) => self.update_row(keys, before, keys_after, after, n),
+            Ok((keys_before, keys_after)) => {
+                self.update_row(keys_before, before, keys_after, after, n)
+            }
             Err(_) => Err(PrepareFault::Memory),
         }
     }
 
-    /// Makes one change.
+    /// Makes one change. The list of keys is empty before it, and after it where it is made.
     fn make(
         &mut self,
         alloc: Global,
         schema: &Schema,
+        keys: &mut Vec<Key>,
         n: u32,
         change: &Change,
     ) -> Result<(), PrepareFault>
+        requires { keys.old.items ≡ [] }
+        ensures none { OnOk result (keys.new.items ≡ []) }
         ensures ok { OnOk result (apply_change schema.now n change.now self.old.made ≡ Ok self.new.made) }
         ensures refused { Refuses result (apply_change schema.now n change.now self.old.made) }
         ensures before { self.new.before ≡ self.old.before }
     {
         match change {
-            Change::Insert { table, after } => match carried_keys(alloc, schema, table, after) {
-                Ok(keys) => self.insert_row(keys, after, n),
-                Err(_) => Err(PrepareFault::Memory),
-            },
-            Change::Delete { table, before } => match carried_keys(alloc, schema, table, before) {
-                Ok(keys) => self.delete_row(keys, before, n),
-                Err(_) => Err(PrepareFault::Memory),
-            },
+            Change::Insert { table, after } => {
+                match push_carried(alloc, schema, keys, table, after) {
+                    Ok(()) => self.insert_row(keys, after, n),
+                    Err(_) => Err(PrepareFault::Memory),
+                }
+            }
+            Change::Delete { table, before } => {
+                match push_carried(alloc, schema, keys, table, before) {
+                    Ok(()) => self.delete_row(keys, before, n),
+                    Err(_) => Err(PrepareFault::Memory),
+                }
+            }
             Change::Update {
                 table,
                 before,
                 after,
-            } => self.update_image(alloc, schema, n, table, before, after),
+            } => self.update_image(alloc, schema, keys, n, table, before, after),
         }
     }
 
@@ -373,8 +401,10 @@ impl Making {
         ensures refused { Refuses result (apply_from schema.now 0 changes.now self.old.made) }
         ensures before { self.new.before ≡ self.old.before }
     {
+        // (one list for the keys of each change)
+        let mut keys = Vec::new(alloc);
         for (n, change) in changes.iter().enumerate() {
-            self.make(alloc, schema, n as u32, change)?;
+            self.make(alloc, schema, &mut keys, n as u32, change)?;
         }
         Ok(())
     }

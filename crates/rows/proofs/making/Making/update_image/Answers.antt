@@ -1,4 +1,4 @@
-use Rattle.std.proofs.Common.{Ok, Err, sym, ◌∙◌}
+use Rattle.std.proofs.Common.{sym, ◌∙◌}
 use Rattle.rows.proofs.Kept.{kept_updated, on_ok}
 use Rattle.rows.proofs.making.Making.update_image.Goals as goal
 
