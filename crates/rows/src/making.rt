@@ -223,9 +223,9 @@ impl Making {
         row: &Row,
         change: u32,
     ) -> Result<(), PrepareFault>
-        ensures ok { OnOk result (inserted change keys.old.items row.now self.old.made ≡ Ok self.new.made) }
+        ensures ok { OnOk result (insert_row change keys.old.items row.now self.old.made ≡ Ok self.new.made) }
         ensures none { OnOk result (keys.new.items ≡ []) }
-        ensures refused { Refuses result (inserted change keys.old.items row.now self.old.made) }
+        ensures refused { Refuses result (insert_row change keys.old.items row.now self.old.made) }
         ensures before { self.new.before ≡ self.old.before }
     {
         if let Some(key) = first_taken(&self.carriers, keys.as_slice()) {
@@ -244,9 +244,9 @@ impl Making {
         row: &Row,
         change: u32,
     ) -> Result<(), PrepareFault>
-        ensures ok { OnOk result (deleted change keys.old.items row.now self.old.made ≡ Ok self.new.made) }
+        ensures ok { OnOk result (delete_row change keys.old.items row.now self.old.made ≡ Ok self.new.made) }
         ensures none { OnOk result (keys.new.items ≡ []) }
-        ensures refused { Refuses result (deleted change keys.old.items row.now self.old.made) }
+        ensures refused { Refuses result (delete_row change keys.old.items row.now self.old.made) }
         ensures before { self.new.before ≡ self.old.before }
     {
         if let Err(fault) = holds(&self.carriers, keys.as_slice(), row, change) {
@@ -266,9 +266,9 @@ impl Making {
         after: &Row,
         change: u32,
     ) -> Result<(), PrepareFault>
-        ensures ok { OnOk result (updated change keys.old.items before.now keys.old.items after.now self.old.made ≡ Ok self.new.made) }
+        ensures ok { OnOk result (update_row change keys.old.items before.now keys.old.items after.now self.old.made ≡ Ok self.new.made) }
         ensures none { OnOk result (keys.new.items ≡ []) }
-        ensures refused { Refuses result (updated change keys.old.items before.now keys.old.items after.now self.old.made) }
+        ensures refused { Refuses result (update_row change keys.old.items before.now keys.old.items after.now self.old.made) }
         ensures before { self.new.before ≡ self.old.before }
     {
         if let Err(fault) = holds(&self.carriers, keys.as_slice(), before, change) {
@@ -315,8 +315,8 @@ impl Making {
     ) -> Result<(), PrepareFault>
         requires { keys.old.items ≡ [] }
         ensures none { OnOk result (keys.new.items ≡ []) }
-        ensures ok { OnOk result (updated n (carried_keys schema.now table.now before.now) before.now (carried_keys schema.now table.now before.now) after.now self.old.made ≡ Ok self.new.made) }
-        ensures refused { Refuses result (updated n (carried_keys schema.now table.now before.now) before.now (carried_keys schema.now table.now before.now) after.now self.old.made) }
+        ensures ok { OnOk result (update_row n (carried_keys schema.now table.now before.now) before.now (carried_keys schema.now table.now before.now) after.now self.old.made ≡ Ok self.new.made) }
+        ensures refused { Refuses result (update_row n (carried_keys schema.now table.now before.now) before.now (carried_keys schema.now table.now before.now) after.now self.old.made) }
         ensures before { self.new.before ≡ self.old.before }
     {
         match push_carried(alloc, schema, keys, table, before) {

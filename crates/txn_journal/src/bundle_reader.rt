@@ -132,7 +132,8 @@ impl BundleReader {
     pub fn fault(&self) -> Option<JournalFault>
         ensures { IfSome result (λ fault. closing_bundle (bundle_reading self.now) ≡ Err fault) }
     {
-        match self.feed.end(self.feed.made.is_ended()) {
+        let is_ended = self.feed.made.is_ended();
+        match self.feed.end(is_ended) {
             Ok(()) => None,
             Err(fault) => Some(fault),
         }
