@@ -10,7 +10,8 @@ use Rattle.journal.specs.Journals.{JournalValue}
 abbrev pub HasEndsOf : Gtids → List Entry → Type 0
 HasEndsOf places entries = AllByRecursion (λ (e : Entry). HasEnds places e.gtid) entries
 
--- the GTID of each entry and the next, and the edges of the previous set, are among these places: so are those of any set that is made of it and of some of the entries
+-- the GTID of each entry and the next, and the edges of the previous set, are among these places: so are those of any set that is made of
+-- it and of some of the entries
 pub record HasEdgesOf (places : Gtids) (journal : JournalValue) : Type 0 where
   pub previous : HasEdges places journal.previous
   pub entries : HasEndsOf places journal.entries

@@ -7,8 +7,8 @@
 //! Kept by the type (`IsJournal`): no GTID is there twice or in the previous set, and each entry can be written as text: its number is 1
 //! to 2^63 - 1, it has at most 65,536 changes, images of 1 to 64 values, and values of at most 65,535 bytes.
 //!
-//! The contract of each call is one equation. `previous_after_purge` and the like fail where memory is refused, or where a set that is made on the way
-//! is full (`fault`).
+//! The contract of each call is one equation. `previous_after_purge` and the like fail where memory is refused, or where a set that is made
+//! on the way is full (`fault`).
 //!
 //! Cost: `contains` looks at each entry. Readers and the own journal of a replica keep a set beside the journal instead.
 #![tactic(auto)]

@@ -96,7 +96,8 @@ HasReceived order apply b core = (keys_over order b ≡ Sound) × ServesEach app
 abbrev pub IsReady : Order → BundleValue → Replica → Type 0
 IsReady order b core = HasReceived order Later b core
 
--- the replica of a bundle whose keys are sound has received all that its journals send, and may have applied some of it: seats took, committed and rolled back while it came, and afterwards
+-- the replica of a bundle whose keys are sound has received all that its journals send, and may have applied some of it: seats took,
+-- committed and rolled back while it came, and afterwards
 pub record IsRun (order : Order) (b : BundleValue) (core : Replica) : Type 0 where
   pub apply : Apply
   pub served : Replica
