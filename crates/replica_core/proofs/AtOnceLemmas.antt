@@ -220,7 +220,7 @@ module _ (r : Replica) (seat c p : ℕ) (e : Entry) (may : IsReadyAtOnce r seat 
     pub done_ahead : (site : Site) (s t : State) (answer : Reply) → apply r.site.schema e.txn r.state.rows ≡ Ok rows → site ≡ r.site → s ≡ ahead → ◌≡◌ {A = Step} (answer, t) (receive site c e s)
         → IsAtOnce r seat c p e answer t
     done_ahead site s t answer applies one now is = record {
-      told = ap (λ (x : Step). x.0) (is ∙ same_received site s one now) ∙ sym told_same;
+      replied = ap (λ (x : Step). x.0) (is ∙ same_received site s one now) ∙ sym told_same;
       state = ap (λ (x : Step). x.1) (is ∙ same_received site s one now) ∙ sym (left_same applies);
     }
 
