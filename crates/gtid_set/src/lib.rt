@@ -233,7 +233,7 @@ impl GtidSet {
         self.spans.is_kept();
     }
 
-    /// A law, which does nothing: the sources have 128 bits.
+    /// A law, which changes nothing: the sources have 128 bits. One pass over the intervals.
     pub fn keeps_sources(&self)
         ensures { HaveSources self.now }
     {

@@ -103,7 +103,7 @@ fn source_fits(span: &Span)
     let _bits = span.source.bits();
 }
 
-/// A law, which does nothing: the sources of spans have 128 bits.
+/// A law, which changes nothing: the sources of spans have 128 bits.
 pub fn sources_fit(spans: Cursor<'_>)
     ensures { AllByRecursion HasSource spans.entry }
 {
