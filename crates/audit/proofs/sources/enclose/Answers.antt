@@ -7,5 +7,5 @@ use Rattle.audit.proofs.sources.enclose.Goals as goal
 
 pub invariant_of-result : goal.invariant_of-result
 invariant_of-result c =
-    let fit : AllFit c.in-Ok-copy-2.rows.schema (in_order c.args.contents) = search rules in
-    (fit, subst (λ (opened : Gtids). LieBeyond opened c.args.contents) (sym c.in-Ok-copy.ensures.ok) (firsts_lie_beyond c.args.opened.now c.args.journals.now c.args.contents c.keep_rules.ensures c.requires.brought))
+    let fit : AllFit c.in_ok-rows.rows.schema (in_order c.args.contents) = search rules in
+    (fit, subst (λ (opened : Gtids). LieBeyond opened c.args.contents) (sym c.in-Ok.ensures.ok) (firsts_lie_beyond c.args.opened.now c.args.journals.now c.args.contents c.keep_rules.ensures c.requires.brought))
