@@ -481,20 +481,17 @@ impl BundleDraft {
         ensures line { TakesLine IsFullBundle result (judge_inner true (bundle_standing self.old) line.now) (bundle_standing self.new) }
         ensures room { IsInEntry (standing self.old.draft) → IsRefusedWhereFull IsFullBundle result (judge_inner true (bundle_standing self.old) line.now) }
     {
-        let writers = if self.draft.has_begun() {
-            self.writers.take()
-        } else {
-            None
-        };
-        self.writers = None;
+        if !self.draft.has_begun() {
+            self.writers = None;
+        }
         self.bundle.opening_set().keeps_limits();
         let schema = Some(self.bundle.schema());
         match self.draft.take_line(alloc, schema, &mut self.names, line) {
-            Ok(()) => {
-                self.writers = writers;
-                self.add_open_channel(alloc)
+            Ok(()) => self.add_open_channel(alloc),
+            Err(fault) => {
+                self.writers = None;
+                Err(fault)
             }
-            Err(fault) => Err(fault),
         }
     }
 

@@ -185,8 +185,18 @@ impl Draft {
         ensures line { TakesIn (option_map (λ tables. tables.now) schema.entry) (standing self.old) line.now result (standing self.new) }
         ensures room { IsInEntry (standing self.old) → IsRefusedWhereFull IsFull result (judge (option_map (λ tables. tables.now) schema.entry) (standing self.old) line.now) }
     {
-        let (word, rest) = cut(line);
-        match keyword_at(word) {
+        // (nearly all lines begin with one of these words)
+        let (keyword, rest) = match line {
+            [b't', b'x', b'n', b' ', rest @ ..] => (Some(Keyword::Txn), Some(rest)),
+            [b'i', b'n', b's', b' ', rest @ ..] => (Some(Keyword::Ins), Some(rest)),
+            [b'u', b'p', b'd', b' ', rest @ ..] => (Some(Keyword::Upd), Some(rest)),
+            [b'd', b'e', b'l', b' ', rest @ ..] => (Some(Keyword::Del), Some(rest)),
+            _ => {
+                let (word, rest) = cut(line);
+                (keyword_at(word), rest)
+            }
+        };
+        match keyword {
             Some(keyword) if self.place.takes(keyword) => {
                 self.take(alloc, schema, names, keyword, rest)
             }

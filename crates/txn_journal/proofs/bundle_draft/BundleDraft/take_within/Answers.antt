@@ -6,7 +6,7 @@ use Rattle.txn_journal.specs.Drafts.{standing}
 use Rattle.txn_journal.specs.BundleDrafts.{bundle_standing}
 use Rattle.txn_journal.proofs.InnerSteps.{inner_taken, inner_failed, writers_stay}
 use Rattle.txn_journal.proofs.CountedEnds.{inner_full_of}
-use Rattle.txn_journal.proofs.bundle_draft.BundleDraft.take_within.Goals.{then-has_begun, else-has_begun}
+use Rattle.txn_journal.proofs.bundle_draft.BundleDraft.take_within.Goals.{then-not-has_begun+in-Some-1, then-not-has_begun+in-None-1, else-not-has_begun}
 use Rattle.txn_journal.proofs.bundle_draft.BundleDraft.take_within.Goals as goal
 
 pub returns-in-Ok-clause-line : goal.returns-in-Ok-clause-line
@@ -29,12 +29,13 @@ returns-in-Err-clause-room c inside full =
 
 pub invariant_of-self : goal.invariant_of-self
 invariant_of-self c = record {
-  written = elim c.if-has_begun.branch [
-    | then-has_begun w ↦
+  written = elim c.if-not-has_begun.branch [
+    | then-not-has_begun+in-Some-1 w ↦ λ writers is. absurd (let k = sym (λ i. (w.self-is i).1.1.1.1.1.1.1.1.1.0) ∙ is in cc)
+    | then-not-has_begun+in-None-1 w ↦ λ writers is. absurd (let k = sym (λ i. (w.self-is i).1.1.1.1.1.1.1.1.1.0) ∙ is in cc)
+    | else-not-has_begun w ↦
         let b = c.args.self.now in
         let judged : judge (Some b.bundle.start.schema) (standing b.draft) c.args.line.now ≡ Ok (standing c.take_line.new.self) = ap (λ (t : List Table). judge (Some t) (standing b.draft) c.args.line.now) (sym c.schema.ensures) ∙ c.in-Ok.ensures.line in
-        let begun = sym c.has_begun.ensures ∙ w.if-has_begun.true in
-        λ writers is. writers_stay b.version b.bundle.start.schema (standing b.draft) (standing c.take_line.new.self) c.args.line.now b.writers c.requires judged begun b.written writers (sym (w.writers-is ∙ w.take-writers.ensures.value) ∙ is)
-    | else-has_begun w ↦ λ writers is. absurd (let k = sym w.writers-is ∙ is in cc)
+        let begun = sym c.has_begun.ensures ∙ w.if-not-has_begun.false in
+        λ writers is. writers_stay b.version b.bundle.start.schema (standing b.draft) (standing c.take_line.new.self) c.args.line.now b.writers c.requires judged begun b.written writers (sym (λ i. (w.self-is i).1.1.1.1.1.1.1.1.1.0) ∙ is)
   ];
 }
