@@ -1,7 +1,6 @@
 -- The last places of GTIDs that are not executed.
 use Rattle.std.proofs.Common.{◌≡◌, ◌≢◌, ℕ, ◌+◌, ◌<◌, ◌≤◌, suc, zero, Bool, true, false, true≢false, cond, ◌&&◌, ◌⊎◌, inl, inr, List, [], ◌∷◌, ◌++◌, map, length, refl, sym, ap, subst, ◌∙◌, arith}
-use Rattle.std.proofs.lemmas.Bool.Decides.{nat_tests}
-use Rattle.std.specs.Prelude.{◌==◌, Option, Some, None, is_some, slice_get, slice_set}
+use Rattle.std.specs.Prelude.{Option, Some, None, is_some, slice_get, slice_set}
 use Rattle.std.specs.Option.{option_map_or}
 use Rattle.std.proofs.lemmas.List.{length_push}
 use Rattle.rows.specs.declared.change.Transaction.{Transaction}
@@ -78,12 +77,12 @@ push_cases [] s (suc i) t e = none_some t e
 push_cases (x ∷ slots) s zero t e = inl e
 push_cases (x ∷ slots) s (suc i) t e = elim (push_cases slots s i t e) [ inl p ↦ inl p | inr q ↦ inr (ap suc q.0, q.1) ]
 
-pub linked_push : (slots : List Slot) (s : Slot) → AreLinked slots → IsLastOpen (entries_of slots) s.gtid (length slots) s.earlier → AreLinked (slots ++ s ∷ [])
+pub linked_push : (slots : List Slot) (s : Slot) → AreLinked slots → (is_some s.txn ≡ true → IsLastOpen (entries_of slots) s.gtid (length slots) s.earlier) → AreLinked (slots ++ s ∷ [])
 linked_push slots s linked last = λ i t is there. elim (push_cases slots s i t is) [
   | inl old ↦ (let below = slice_get_within slots i t old in last_alike t.gtid (entries_of slots) (entries_of (slots ++ s ∷ [])) i t.earlier (λ j lt. open_push t.gtid slots s j (omega (lt, below, arith))) (linked i t old there))
   | inr new ↦ subst (λ (x : Slot). IsLastOpen (entries_of (slots ++ s ∷ [])) x.gtid i x.earlier) new.1
       (subst (λ m. IsLastOpen (entries_of (slots ++ s ∷ [])) s.gtid m s.earlier) (sym new.0)
-      (last_alike s.gtid (entries_of slots) (entries_of (slots ++ s ∷ [])) (length slots) s.earlier (λ j lt. open_push s.gtid slots s j lt) last))
+      (last_alike s.gtid (entries_of slots) (entries_of (slots ++ s ∷ [])) (length slots) s.earlier (λ j lt. open_push s.gtid slots s j lt) (last (ap (λ (x : Slot). is_some x.txn) new.1 ∙ there))))
 ]
 
 more : (slots : List Slot) (s : Slot) (g : Gtid) (o : Option ℕ) → IsLastOpen (entries_of slots) g (length slots) o → is_open_of g (received_of s) ≡ false → IsLastOpen (entries_of (slots ++ s ∷ [])) g (length (slots ++ s ∷ [])) o

@@ -3,14 +3,14 @@ use Rattle.std.proofs.Common.{◌≡◌, ℕ, ◌+◌, ◌<◌, ◌≤◌, suc, 
 use Rattle.std.specs.Prelude.{Option, Some, None, position, find, option_and_then, option_map, is_some, is_none, nat_lt, nat_le, slice_get}
 use Rattle.std.specs.List.{list_any, prefix_len, range_with_len}
 use Rattle.std.specs.Option.{option_map_or}
-use Rattle.std.proofs.lemmas.Bool.{lt-ltb, le-ltb, ltb-true, ltb-false, le-leb, leb-true}
+use Rattle.std.proofs.lemmas.Bool.{and_parts, lt-ltb, le-ltb, ltb-true, ltb-false, le-leb, leb-true}
 use Rattle.rows.specs.declared.schema.Table.{Table}
 use Rattle.rows.specs.declared.change.Key.{Key}
 use Rattle.rows.specs.declared.change.Transaction.{Transaction}
 use Rattle.rows.specs.Order.{key_eq}
 use Rattle.rows.specs.WriteSet.{write_set, shares_key, touches, is_among}
 use Rattle.dependency_graph.specs.Graphs as graphs
-use Rattle.dependency_graph.specs.Graphs.{Point, gone, unfinished, drop_finished, mark_at, finish_at, point_at, least, may_go, IsNextReady}
+use Rattle.dependency_graph.specs.Graphs.{Point, gone, are_finished, unfinished, drop_finished, mark_at, finish_at, point_at, least, may_go, IsNextReady}
 use Rattle.dependency_graph.proofs.Entries.{flip}
 use Rattle.apply_channel.specs.Channels.{Received, holds_back, txn_at, blocker, is_ready, next_ready, first_waiting, are_settled, map_at, as_executed}
 use Rattle.apply_channel.specs.Kept.{AreKeysOf, IsNodeOf, AreNodesOf}
@@ -42,6 +42,19 @@ marked_last (q ∷ ps) p = ap (λ qs. q ∷ qs) (marked_last ps p)
 keys_by : (schema : List Table) (keys : List Key) (o : Option Transaction) → is_none o ≡ true → AreKeysOf schema keys o
 keys_by schema keys None h = tt
 keys_by schema keys (Some t) h = absurd (true≢false (sym h))
+
+-- the node of an executed entry
+pub node_done : (schema : List Table) (e : Received) → e.txn ≡ None → IsNodeOf schema gone e
+node_done schema e is = record { finished = sym (ap is_none is); keys = keys_by schema [] e.txn (ap is_none is) }
+
+-- where every entry is executed, every node is finished
+pub all_finished : (schema : List Table) (ps : List Point) (es : List Received) → AreNodesOf schema ps es → are_settled es ≡ true → are_finished ps ≡ true
+all_finished schema [] [] h done = refl
+all_finished schema [] (e ∷ es) h done = absurd h
+all_finished schema (p ∷ ps) [] h done = absurd h
+all_finished schema (p ∷ ps) (e ∷ es) h done =
+    let both = and_parts (is_none e.txn) (are_settled es) done in
+    ap (λ b. b && are_finished ps) (h.0.finished ∙ both.0) ∙ all_finished schema ps es h.1 both.1
 
 by_finished : (schema : List Table) (p : Point) (e : Received) (ps : List Point) (es : List Received) (b : Bool) → p.finished ≡ b → IsNodeOf schema p e → AreNodesOf schema ps es → AreNodesOf schema (drop_finished ps) es → AreNodesOf schema (cond b (gone ∷ drop_finished ps) (p ∷ ps)) (e ∷ es)
 by_finished schema p e ps es true is n h d = let executed : is_none e.txn ≡ true = sym n.finished ∙ is in (record { finished = sym executed; keys = keys_by schema [] e.txn executed }, d)

@@ -95,6 +95,10 @@ settle_at place c = record c { received = map_at place as_executed c.received }
 abbrev pub with_received : Received → ChannelValue → ChannelValue
 with_received e c = record c { received = c.received ++ e ∷ [] }
 
+-- an executed entry
+abbrev pub executed_gtid : Gtid → Received
+executed_gtid gtid = record { gtid = gtid; txn = None }
+
 -- an entry as it is kept: an executed one without its transaction
 abbrev pub received_as : Bool → Entry → Received
 received_as executed entry = record { gtid = entry.gtid; txn = (if executed then None else Some entry.txn) }

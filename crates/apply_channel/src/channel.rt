@@ -3,7 +3,7 @@ ghost use Rattle.std.specs.Prelude.{◌≡◌, ◌≤◌, ◌<◌, ◌↔◌, su
 ghost use Rattle.std.specs.Bool.{Decides};
 ghost use Rattle.std.specs.Option.{option_copied, option_map_or};
 ghost use Rattle.std.specs.FinSet as set;
-ghost use Rattle.apply_channel.specs.Channels.{new_channel, blocker, next_ready, first_waiting, are_settled, settle_channel, settle_at, received_gtids, IsPlace, IsNoPlace, is_full, with_stopped, with_asked, with_entry, with_received};
+ghost use Rattle.apply_channel.specs.Channels.{new_channel, blocker, next_ready, first_waiting, are_settled, executed_gtid, settle_channel, settle_at, received_gtids, IsPlace, IsNoPlace, is_full, with_stopped, with_asked, with_entry, with_received};
 ghost use Rattle.apply_channel.specs.Kept.{IsLastOpen, received_of};
 ghost use Rattle.apply_channel.specs.Full.{IsFull, gtids_with, IsReceiveFault};
 ghost use Rattle.gtid_set.specs.Full.{IsFullExactly};
@@ -204,13 +204,26 @@ impl Channel {
         if self.is_full() {
             return Err(ReceiveFault::Full);
         }
-        match self.put(alloc, entry, executed) {
+        match self.put_entry(alloc, entry, executed) {
             Ok(()) => Ok(place),
             Err(fault) => Err(ReceiveFault::Set(fault)),
         }
     }
 
     /// Puts an entry at the next place.
+    fn put_entry(&mut self, alloc: Global, entry: &Entry, executed: bool) -> Result<(), SetFault>
+        requires { is_full self.old.channel ≡ false }
+        ensures put { OnOk result (self.new ≡ with_entry executed entry.now self.old) }
+        ensures fault { IsFullExactly result (gtids_with entry.now self.old.channel) }
+        ensures err { OnErr result (self.new ≡ self.old) }
+    {
+        if executed && self.is_settled() {
+            return self.put_settled(entry.gtid);
+        }
+        self.put(alloc, entry, executed)
+    }
+
+    /// Puts an entry at the next place, with its node's keys and its transaction, unless it is executed.
     fn put(&mut self, alloc: Global, entry: &Entry, executed: bool) -> Result<(), SetFault>
         requires { is_full self.old.channel ≡ false }
         ensures put { OnOk result (self.new ≡ with_entry executed entry.now self.old) }
@@ -241,6 +254,28 @@ impl Channel {
             return Ok(());
         }
         put_place(&mut self.places, &entry.gtid, place);
+        Ok(())
+    }
+
+    /// Puts an executed GTID at the next place, where every GTID is executed.
+    fn put_settled(&mut self, gtid: Gtid) -> Result<(), SetFault>
+        requires room { is_full self.old.channel ≡ false }
+        requires settled { are_settled self.old.channel.received ≡ true }
+        ensures put { OnOk result (self.new ≡ record self.old { channel = with_received (executed_gtid gtid) self.old.channel }) }
+        ensures fault { IsFullExactly result (set.insert (received_gtids self.old.channel.received) gtid) }
+        ensures err { OnErr result (self.new ≡ self.old) }
+    {
+        if !self.received.has_room_for(&gtid) {
+            return Err(SetFault::SourcesFull);
+        }
+        self.slots.reserve(1)?;
+        self.received.add(gtid)?;
+        let _ = self.slots.push(Slot {
+            gtid,
+            txn: None,
+            earlier: None,
+        });
+        self.graph.add_finished();
         Ok(())
     }
 }

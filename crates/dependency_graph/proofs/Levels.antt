@@ -4,7 +4,7 @@ use Rattle.std.specs.Prelude.{nat_lt, nat_eq, slice_set, Result}
 use Rattle.std.proofs.Math.Dec.{ltb, eqb}
 use Rattle.std.proofs.Math.Nat.{mul-le-mul_right, le_of_mul-le-mul_right}
 use Rattle.std.proofs.lemmas.Bool.{ltb-true, ltb-false, eqb-true, eq-eqb}
-use Rattle.dependency_graph.specs.Ready.{tally, count_at, IsLevelOf, Turns, IsBlock, Opens, Raises, Lowers, Passes}
+use Rattle.dependency_graph.specs.Ready.{tally, count_at, IsLevelOf, Turns, IsBlock, Opens, Raises, Lowers, Passes, Restarts}
 use Rattle.dependency_graph.specs.declared.ready.Level.{Level}
 use Rattle.dependency_graph.proofs.Tally.{tally_same, tally_small, tally_nothing, tally_none, tally_more, in_block, other_block, from_block, below_block, to_block_end}
 
@@ -174,3 +174,21 @@ level_new w l p first bare none =
       high = omega arith;
       tells = λ b. either_way (nat_lt b l.first) (get_or l.counts.items (b - l.first) 0) (none_at l.counts.items (b - l.first) bare) ∙ sym (tally_nothing p (b * w) w (λ m lo hi. none m));
     }
+
+-- one block, where no number passes
+pub level_restart : (w : ℕ) → 0 < w → (l : Level) (n : ℕ) (p : ℕ → Bool) → Restarts l (n / w) → ((m : ℕ) → p m ≡ false) → IsLevelOf w l n (n + 1) p
+level_restart w pos l n p r none =
+    let first = ap (λ b. b * w) r.first in
+    let inside = in_block w n pos in
+    let from = inside.0 in
+    let to = inside.1 in
+    let long = ap length r.bare in
+    let end : (l.first + length l.counts.items) * w ≡ (n / w + 1) * w = ap (λ b. b * w) (sum r.first long) in
+    record {
+      low = omega (first, from, arith);
+      high = omega (end, to, arith);
+      tells = λ b. either_way (nat_lt b l.first) (get_or l.counts.items (b - l.first) 0) (ap (λ xs. get_or xs (b - l.first) 0) r.bare ∙ push_zero [] (b - l.first)) ∙ sym (tally_nothing p (b * w) w (λ m lo hi. none m));
+    }
+  where
+    sum : l.first ≡ n / w → length l.counts.items ≡ 1 → l.first + length l.counts.items ≡ n / w + 1
+    sum a b = omega (a, b, arith)

@@ -3,6 +3,7 @@ pub mod Linked
 pub mod Least
 pub mod Kept
 pub mod Chained
+pub mod Passing
 pub mod Popping
 pub mod Marking
 pub mod Settling

@@ -1,9 +1,9 @@
 -- The listed nodes, as the nodes change.
 use Rattle.std.proofs.Common.{◌≡◌, ℕ, zero, suc, ◌+◌, ◌-◌, ◌/◌, ◌<◌, ◌≤◌, Bool, true, false, not, ◌&&◌, cond, List, [], ◌∷◌, ◌++◌, length, drop, take, replicate, refl, sym, ap, subst, ◌∙◌, arith, true≢false}
-use Rattle.std.specs.Prelude.{nat_eq, slice_index_or, slice_set}
+use Rattle.std.specs.Prelude.{nat_eq, nat_lt, slice_index_or, slice_set, Result, Ok, Err, OnOk}
 use Rattle.std.proofs.Math.Dec.{ltb, eqb}
 use Rattle.std.proofs.lemmas.Bool.{ltb-true, ltb-false, eqb-true, eq-eqb}
-use Rattle.dependency_graph.specs.Ready.{IsListing, IsListed, Raises, Lowers, Turns, is_unblocked, is_unblocked_in, is_unblocked_at}
+use Rattle.dependency_graph.specs.Ready.{IsListing, IsListed, IsListedWithRoom, HasRoomAt, Raises, Lowers, Turns, is_unblocked, is_unblocked_in, is_unblocked_at}
 use Rattle.dependency_graph.specs.declared.ready.Ready.{Ready}
 use Rattle.dependency_graph.specs.declared.graph.Node.{Node}
 use Rattle.std.proofs.lemmas.List.{length_push}
@@ -174,13 +174,13 @@ listed_pushed d nodes pushed x y at mid new now at_is is go h put =
     let listed = put d (d + at + 1) (is_unblocked_at d nodes) (is_unblocked_at d (nodes ++ y ∷ [])) (omega arith) (omega arith) turned h in
     let longer = length_push nodes y in
     let ends : d + at + 1 ≡ d + length (nodes ++ y ∷ []) = omega (longer, at_is, arith) in
-    subst (λ ns. IsListed d ns new) (sym set_now) (subst (λ e. IsListing new d e (is_unblocked_at d (nodes ++ y ∷ []))) ends listed)
+    subst (λ ns. IsListed d ns new) (sym set_now) (λ some. subst (λ e. IsListing new d e (is_unblocked_at d (nodes ++ y ∷ []))) ends listed)
 
 -- a node that waits for one key less
 pub listed_lowered : (d : ℕ) (nodes : List Node) (node : ℕ) (x : Node) (old new : Ready) → is_finished_at (points d nodes) node ≡ false → x ≡ slice_index_or nodes (node - d) x → 1 ≤ x.waits
     → ((base end : ℕ) (p q : ℕ → Bool) → base ≤ node → node < end → Turns p q node (nat_eq (x.waits - 1) 0) → IsListing old base end p → IsListing new base end q)
     → IsListed d nodes old → IsListed d (slice_set nodes (node - d) (record x { waits = x.waits - 1 })) new
-listed_lowered d nodes node x old new open_one at waits put h =
+listed_lowered d nodes node x old new open_one at waits put h = λ some.
     let inside = unfinished_kept d nodes node open_one in
     let y : Node = record x { waits = x.waits - 1 } in
     let place : d + (node - d) ≡ node = let le = inside.0 in omega (le, arith) in
@@ -189,7 +189,7 @@ listed_lowered d nodes node x old new open_one at waits put h =
     let size = length_set nodes (node - d) y in
     let ends : d + length nodes ≡ d + length (slice_set nodes (node - d) y) = omega (size, arith) in
     subst (λ e. IsListing new d e (is_unblocked_at d (slice_set nodes (node - d) y))) ends
-    (put d (d + length nodes) (is_unblocked_at d nodes) (is_unblocked_at d (slice_set nodes (node - d) y)) inside.0 (let le = inside.0 in let lt = inside.1 in omega (le, lt, arith)) now h)
+    (put d (d + length nodes) (is_unblocked_at d nodes) (is_unblocked_at d (slice_set nodes (node - d) y)) inside.0 (let le = inside.0 in let lt = inside.1 in omega (le, lt, arith)) now (h (let lt = inside.1 in omega (lt, arith))))
   where
     open_here : (node - d) < length nodes → x.finished ≡ false
     open_here lt = ap (λ (p : Point). p.finished) (sym (kept_now d nodes node x (unfinished_kept d nodes node open_one).0 lt at)) ∙ open_one
@@ -198,13 +198,13 @@ listed_lowered d nodes node x old new open_one at waits put h =
 pub listed_marked : (d : ℕ) (nodes : List Node) (at : ℕ) (x : Node) (old new : Ready) → x ≡ slice_index_or nodes at x → at < length nodes
     → ((base end : ℕ) (p q : ℕ → Bool) → base ≤ d + at → d + at < end → Turns p q (d + at) (is_unblocked x) → IsListing old base end q → IsListing new base end p)
     → IsListed d nodes old → IsListed d (slice_set nodes at (record x { finished = true })) new
-listed_marked d nodes at x old new read lt take h =
+listed_marked d nodes at x old new read lt take h = λ some.
     let y : Node = record x { finished = true } in
     let turned = goes_turns_back d nodes at x y (is_unblocked x) read lt refl refl in
     let size = length_set nodes at y in
     let ends : d + length nodes ≡ d + length (slice_set nodes at y) = omega (size, arith) in
     subst (λ e. IsListing new d e (is_unblocked_at d (slice_set nodes at y))) ends
-    (take d (d + length nodes) (is_unblocked_at d (slice_set nodes at y)) (is_unblocked_at d nodes) (omega arith) (omega (lt, arith)) turned h)
+    (take d (d + length nodes) (is_unblocked_at d (slice_set nodes at y)) (is_unblocked_at d nodes) (omega arith) (omega (lt, arith)) turned (h (omega (lt, arith))))
 
 -- the prefix, which is finished, is gone
 pub listed_dropped : (d : ℕ) (nodes new : List Node) (old ready : Ready) → is_finished_first nodes ≡ true → new ≡ drop 1 nodes
@@ -213,10 +213,38 @@ pub listed_dropped : (d : ℕ) (nodes new : List Node) (old ready : Ready) → i
 listed_dropped d [] new old ready first is pass h = absurd (true≢false (sym first))
 listed_dropped d (x ∷ nodes) new old ready first is pass h =
     let same = goes_dropped d x nodes first in
-    let now = listing_same old d (d + length (x ∷ nodes)) (is_unblocked_at d (x ∷ nodes)) (is_unblocked_at (d + 1) nodes) same h in
+    let now = listing_same old d (d + length (x ∷ nodes)) (is_unblocked_at d (x ∷ nodes)) (is_unblocked_at (d + 1) nodes) same (h (omega arith)) in
     let passed = pass d (d + length (x ∷ nodes)) (is_unblocked_at (d + 1) nodes) (omega arith) (omega arith) (λ m lt. goes_before (d + 1) m nodes lt) now in
     let ends : d + length (x ∷ nodes) ≡ d + 1 + length nodes = omega arith in
-    subst (λ ns. IsListed (d + 1) ns ready) (sym is) (subst (λ e. IsListing ready (d + 1) e (is_unblocked_at (d + 1) nodes)) ends passed)
+    subst (λ ns. IsListed (d + 1) ns ready) (sym is) (λ some. subst (λ e. IsListing ready (d + 1) e (is_unblocked_at (d + 1) nodes)) ends passed)
+
+-- no nodes, and room for the next one
+none_listed : (d : ℕ) (nodes : List Node) (r : Ready) → length nodes ≡ 0 → ((p : ℕ → Bool) → ((m : ℕ) → p m ≡ false) → IsListing r d (d + 1) p) → IsListedWithRoom d nodes r
+none_listed d [] r e h = subst (λ n. IsListing r d n (is_unblocked_at d [])) ends (h (is_unblocked_at d []) none)
+  where
+    ends : d + 1 ≡ d + length {A = Node} [] + 1
+    ends = omega arith
+
+    none_by : (b : Bool) (n : ℕ) → cond b false (is_unblocked_in [] n) ≡ false
+    none_by true n = refl
+    none_by false n = refl
+
+    none : (m : ℕ) → is_unblocked_at d [] m ≡ false
+    none m = none_by (nat_lt m d) (m - d)
+none_listed d (x ∷ nodes) r e h = absurd (omega (e, arith))
+
+pub restarted : {E : Type 0} (d : ℕ) (nodes : List Node) (old new : Ready) (result : Result (Unit {0}) E) → length nodes ≡ 0 → OnOk result ((p : ℕ → Bool) → ((m : ℕ) → p m ≡ false) → IsListing new d (d + 1) p)
+    → OnOk result (IsListed d nodes old → IsListedWithRoom d nodes new)
+restarted d nodes old new (Ok done) e h = λ listed. none_listed d nodes new e h
+restarted d nodes old new (Err fault) e h = tt
+
+-- some nodes, and room for the next one
+pub reserved : {E : Type 0} (d : ℕ) (nodes : List Node) (n : ℕ) (old new : Ready) (result : Result (Unit {0}) E) → n ≡ length nodes → 0 < length nodes → OnOk result (HasRoomAt (d + n) old new)
+    → OnOk result (IsListed d nodes old → IsListedWithRoom d nodes new)
+reserved d nodes n old new (Ok done) at some h = λ listed.
+    subst (λ m. IsListing new d (d + m + 1) (is_unblocked_at d nodes)) at
+    (h d (is_unblocked_at d nodes) (omega arith) (subst (λ m. IsListing old d (d + m) (is_unblocked_at d nodes)) (sym at) (listed some)))
+reserved d nodes n old new (Err fault) at some h = tt
 
 any_read : (nodes : List Node) (i : ℕ) → i < length nodes → (x : Node) × (x ≡ slice_index_or nodes i x)
 any_read [] i lt = absurd (omega (lt, arith))

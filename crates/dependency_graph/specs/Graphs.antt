@@ -1,6 +1,6 @@
 -- A graph as its callers see it: the list of its nodes, each finished or not, with its keys.
 use Rattle.std.specs.Prelude.{ℕ, suc, ◌≡◌, ◌<◌, ◌≤◌, Bool, true, false, not, ◌&&◌, cond, List, [], ◌∷◌, length, take, Option, Some, None, is_none, slice_index_or, slice_set, refl}
-use Rattle.std.specs.List.{list_any}
+use Rattle.std.specs.List.{list_all, list_any}
 use Rattle.std.specs.Coded.{Coded, code_by, coded×, coded_bool, coded_list}
 use Rattle.rows.specs.declared.change.Key.{Key}
 use Rattle.rows.specs.Coding.{key_code}
@@ -52,6 +52,10 @@ may_go ps n = not (point_at ps n).finished && is_ready ps n
 abbrev pub IsNextReady : List Point → ℕ → Option ℕ → Type 0
 IsNextReady ps from None = (m : ℕ) → from ≤ m → m < length ps → may_go ps m ≡ false
 IsNextReady ps from (Some n) = (from ≤ n) × (n < length ps) × (may_go ps n ≡ true) × ((m : ℕ) → from ≤ m → m < n → may_go ps m ≡ false)
+
+-- every node is finished
+abbrev pub are_finished : List Point → Bool
+are_finished ps = list_all (λ p. p.finished) ps
 
 -- without the keys of the longest finished prefix
 abbrev pub drop_finished : List Point → List Point

@@ -1,7 +1,7 @@
 -- What a graph keeps, with the list of the nodes that may go.
-use Rattle.std.specs.Prelude.{ℕ, ◌+◌, List, [], length}
+use Rattle.std.specs.Prelude.{ℕ, List, []}
 use Rattle.dependency_graph.specs.Kept.{IsKept, IsReserved}
-use Rattle.dependency_graph.specs.Ready.{IsListed, IsListing, is_unblocked_at}
+use Rattle.dependency_graph.specs.Ready.{IsListed, IsListedWithRoom}
 use Rattle.dependency_graph.specs.declared.graph.Node.{Node}
 use Rattle.dependency_graph.specs.declared.chains.Chains.{Chains}
 use Rattle.dependency_graph.specs.declared.ready.Ready.{Ready}
@@ -13,4 +13,4 @@ pub record IsHeld (before : ℕ) (nodes : List Node) (c : Chains) (r : Ready) : 
 -- with room for the last of these nodes
 pub record IsRoom (before : ℕ) (nodes : List Node) (c : Chains) (r : Ready) : Type 0 where
   pub reserved : IsReserved before nodes c
-  pub listed : IsListing r before (before + length reserved.old + 1) (is_unblocked_at before reserved.old)
+  pub listed : IsListedWithRoom before reserved.old r

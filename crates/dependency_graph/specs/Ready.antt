@@ -88,6 +88,15 @@ is_unblocked_in (x ∷ xs) (suc i) = is_unblocked_in xs i
 abbrev pub is_unblocked_at : ℕ → List Node → ℕ → Bool
 is_unblocked_at before nodes n = cond (nat_lt n before) false (is_unblocked_in nodes (n - before))
 
--- the nodes that may go are listed
+-- the nodes that may go are listed, where there are nodes
 abbrev pub IsListed : ℕ → List Node → Ready → Type 0
-IsListed before nodes r = IsListing r before (before + length nodes) (is_unblocked_at before nodes)
+IsListed before nodes r = 0 < length nodes → IsListing r before (before + length nodes) (is_unblocked_at before nodes)
+
+-- the nodes that may go are listed, with room for the next one
+abbrev pub IsListedWithRoom : ℕ → List Node → Ready → Type 0
+IsListedWithRoom before nodes r = IsListing r before (before + length nodes + 1) (is_unblocked_at before nodes)
+
+-- one block is kept, with none
+pub record Restarts (new : Level) (block : ℕ) : Type 0 where
+  pub first : new.first ≡ block
+  pub bare : new.counts.items ≡ 0 ∷ []

@@ -4,9 +4,9 @@ ghost use Rattle.std.specs.Prelude.{◌≡◌, ◌≢◌, ℕ, Some, true, false
 ghost use Rattle.std.specs.List.{AllPairs};
 ghost use Rattle.std.specs.Bool.{OnTrue, OnFalse};
 ghost use Rattle.slab.specs.Slab.{slab_len};
-ghost use Rattle.dependency_graph.specs.Graphs.{blocker, is_ready, IsNextReady, drop_finished, finish_at, mark_at, unfinished};
+ghost use Rattle.dependency_graph.specs.Graphs.{are_finished, blocker, gone, is_ready, IsNextReady, drop_finished, finish_at, mark_at, unfinished};
 ghost use Rattle.dependency_graph.specs.Chains.{HasRoom};
-ghost use Rattle.dependency_graph.specs.Ready.{IsListed, is_unblocked};
+ghost use Rattle.dependency_graph.specs.Ready.{IsListed, IsListedWithRoom, is_unblocked};
 ghost use Rattle.dependency_graph.specs.Kept.{is_finished_first, is_finished_at, points, point_of, keys_at, IsKept, IsFrontOpen, CanRelease, Releases, LinksAll, CountsAll};
 
 use crate::chains::Chains;
@@ -87,6 +87,18 @@ fn release(dropped: usize, nodes: &mut VecDeque<Node>, ready: &mut Ready, first:
             ready.insert_if(node, free);
         }
     }
+}
+
+/// Makes room to list one node more.
+fn make_room(dropped: usize, nodes: &VecDeque<Node>, ready: &mut Ready) -> Result<(), AllocError>
+    requires { dropped + length nodes.now.items < 4294967294 }
+    ensures same { IsListed dropped nodes.now.items ready.old → IsListed dropped nodes.now.items ready.new }
+    ensures room { OnOk result (IsListed dropped nodes.now.items ready.old → IsListedWithRoom dropped nodes.now.items ready.new) }
+{
+    if nodes.is_empty() {
+        return ready.restart(dropped);
+    }
+    ready.reserve(dropped + nodes.len())
 }
 
 /// Whether there is a node, and it is finished.
@@ -231,7 +243,7 @@ impl Graph {
         self.chains.reserve(&keys)?;
         let at = self.nodes.len();
         let number = self.dropped + at;
-        self.ready.reserve(number)?;
+        make_room(self.dropped, &self.nodes, &mut self.ready)?;
         let node = Node {
             finished: false,
             waits: 0,
@@ -242,6 +254,16 @@ impl Graph {
         self.nodes[at].waits = waits;
         self.ready.insert_if(number, waits == 0);
         Ok(number)
+    }
+
+    /// Adds a finished node without keys, where all nodes are finished. Does not allocate.
+    pub fn add_finished(&mut self)
+        requires room { length self.old < 4294967294 }
+        requires finished { are_finished self.old ≡ true }
+        ensures { self.new ≡ drop_finished (self.old ++ gone ∷ []) }
+    {
+        self.dropped += self.nodes.len() + 1;
+        self.nodes.clear();
     }
 
     /// The node is finished, and the longest finished prefix is dropped.
@@ -376,7 +398,7 @@ impl Graph {
                 ready,
             });
         };
-        let Ok(()) = ready.reserve(dropped + nodes.len()) else {
+        let Ok(()) = make_room(dropped, &nodes, &mut ready) else {
             return Err(Graph {
                 dropped,
                 nodes,

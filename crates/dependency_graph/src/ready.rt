@@ -1,7 +1,7 @@
 //! Which numbers are ready, counted in blocks of three sizes, so that a search passes over blocks without any.
 
 ghost use Rattle.std.specs.Prelude.{◌≡◌, ◌≤◌, ◌<◌, ◌+◌, ℕ, Bool, true, false, length, OnOk};
-ghost use Rattle.dependency_graph.specs.Ready.{Forgets, HasRoomAt, Inserts, IsListing, Lowers, Opens, Passes, Raises, Removes, count_at};
+ghost use Rattle.dependency_graph.specs.Ready.{Forgets, HasRoomAt, Inserts, IsListing, Lowers, Opens, Passes, Raises, Removes, Restarts, count_at};
 
 use std::alloc::{AllocError, Global};
 use std::collections::VecDeque;
@@ -38,6 +38,16 @@ impl Level {
         if block.saturating_sub(self.first) >= self.counts.len() {
             self.counts.push_back(0)?;
         }
+        Ok(())
+    }
+
+    /// Keeps one block, which has none.
+    fn restart(&mut self, block: usize) -> Result<(), AllocError>
+        ensures { OnOk result (Restarts self.new block) }
+    {
+        self.counts.clear();
+        self.counts.push_back(0)?;
+        self.first = block;
         Ok(())
     }
 
@@ -114,6 +124,16 @@ impl Ready {
         self.small.open(number / SMALL)?;
         self.middle.open(number / MIDDLE)?;
         self.large.open(number / LARGE)?;
+        Ok(())
+    }
+
+    /// Makes room for a number, where none is ready. What was kept of others is forgotten.
+    pub fn restart(&mut self, number: usize) -> Result<(), AllocError>
+        ensures { OnOk result ((p : ℕ → Bool) → ((m : ℕ) → p m ≡ false) → IsListing self.new number (number + 1) p) }
+    {
+        self.small.restart(number / SMALL)?;
+        self.middle.restart(number / MIDDLE)?;
+        self.large.restart(number / LARGE)?;
         Ok(())
     }
 

@@ -18,13 +18,19 @@ invariant_of-self c = record {
   listed = c.self.invariant.listed;
 }
 
-pub invariant_of-self-in_err-reserve-2 : goal.invariant_of-self-in_err-reserve-2
-invariant_of-self-in_err-reserve-2 c =
+pub make_room-requires : goal.make_room-requires
+make_room-requires c =
+    let size = length_points c.self.inside.dropped c.self.inside.nodes.items in
+    let same = ap length c.self.view_is in
+    omega (size, same, c.requires.room, arith)
+
+pub invariant_of-self-in_err-make_room : goal.invariant_of-self-in_err-make_room
+invariant_of-self-in_err-make_room c =
     let d = c.self.inside.dropped in
     let nodes = c.self.inside.nodes.items in
     record {
       kept = kept_reserved d nodes c.self.inside.chains c.reserve.new.self c.reserve.ensures.same c.self.invariant.kept;
-      listed = c.reserve-2.ensures.same d (d + length nodes) (is_unblocked_at d nodes) c.self.invariant.listed;
+      listed = c.make_room.ensures.same c.self.invariant.listed;
     }
 
 pub link-waits-requires-clause-distinct : goal.link-waits-requires-clause-distinct
@@ -39,9 +45,9 @@ pub invariant_of-self-in_err-push_back : goal.invariant_of-self-in_err-push_back
 invariant_of-self-in_err-push_back c =
     let d = c.self.inside.dropped in
     let nodes = c.self.inside.nodes.items in
-    subst (λ ns. IsHeld d ns c.reserve.new.self c.reserve-2.new.self) (sym c.in_err-push_back.ensures.items) (record {
+    subst (λ ns. IsHeld d ns c.reserve.new.self c.make_room.new.ready) (sym c.in_err-push_back.ensures.items) (record {
       kept = kept_reserved d nodes c.self.inside.chains c.reserve.new.self c.reserve.ensures.same c.self.invariant.kept;
-      listed = c.reserve-2.ensures.same d (d + length nodes) (is_unblocked_at d nodes) c.self.invariant.listed;
+      listed = c.make_room.ensures.same c.self.invariant.listed;
     })
 
 pub invariant_of-self-2 : goal.invariant_of-self-2
@@ -64,9 +70,9 @@ invariant_of-self-2 c =
           (subst (λ ks. LinksAll c.reserve.new.self c.link-waits.new.chains ks (d + c.len-at.result)) keys c.link-waits.ensures.holds)
           (subst (λ ks. CountsAll c.reserve.new.self ks (d + c.len-at.result) c.link-waits.result) keys c.link-waits.ensures.waits);
       listed =
-          listed_pushed d nodes c.push_back.new.self.items node (record c.index_mut.result.now { waits = c.link-waits.result }) c.len-at.result c.reserve-2.new.self c.insert_if.new.self (nat_eq c.link-waits.result 0) at pushed
+          listed_pushed d nodes c.push_back.new.self.items node (record c.index_mut.result.now { waits = c.link-waits.result }) c.len-at.result c.make_room.new.ready c.insert_if.new.self (nat_eq c.link-waits.result 0) at pushed
           (ap (λ (n : Node). not n.finished && nat_eq c.link-waits.result 0) read)
-          (c.in_ok-reserve-2.ensures.room d (is_unblocked_at d nodes) (omega arith) (subst (λ n. IsListing c.self.inside.ready d (d + n) (is_unblocked_at d nodes)) (sym at) c.self.invariant.listed))
+          (subst (λ n. IsListing c.make_room.new.ready d (d + n + 1) (is_unblocked_at d nodes)) (sym at) (c.in_ok-make_room.ensures.room c.self.invariant.listed))
           c.insert_if.ensures;
     }
 

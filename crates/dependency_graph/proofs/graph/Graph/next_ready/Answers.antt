@@ -40,7 +40,7 @@ loop-node-preserved c =
       from = omega (before, arith);
       none = fails_on (may_go c.args.self.now) c.args.from node c.skip-node.result c.len-end.result c.loop-node.invariant.none (is ∙ sym c.is_unblocked.ensures ∙ c.if-is_unblocked.false)
           (λ m lo hi end. ap (λ ps. may_go ps m) (sym c.self.view_is) ∙ goes_as_told d nodes c.self.inside.chains m sound (omega (lo, kept, arith)) (omega (lo, kept, end, c.len-end.ensures, size, same, arith))
-          ∙ c.skip-node.ensures.bare d (d + length nodes) (is_unblocked_at d nodes) c.self.invariant.listed m lo hi);
+          ∙ c.skip-node.ensures.bare d (d + length nodes) (is_unblocked_at d nodes) (c.self.invariant.listed (omega (below, arith))) m lo hi);
     }
 
 pub returns-then-is_unblocked : goal.returns-then-is_unblocked

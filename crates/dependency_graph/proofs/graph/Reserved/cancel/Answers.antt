@@ -16,5 +16,5 @@ invariant_of-result c =
     let left : c.pop_back.new.self.items ≡ held.old = c.pop_back.ensures.rest ∙ ap (λ n. take n c.self.inside.nodes.items) fewer ∙ ap (take (length held.old)) held.is ∙ take_front held.old (held.node ∷ []) in
     subst (λ ns. IsHeld d ns c.self.inside.chains c.self.inside.ready) (sym left) (record {
       kept = held.kept;
-      listed = listing_less c.self.inside.ready d (d + length held.old + 1) (d + length held.old) (is_unblocked_at d held.old) (omega arith) c.self.invariant.listed;
+      listed = λ some. listing_less c.self.inside.ready d (d + length held.old + 1) (d + length held.old) (is_unblocked_at d held.old) (omega arith) c.self.invariant.listed;
     })
