@@ -7,7 +7,7 @@ use Rattle.rows.specs.declared.change.Transaction.{Transaction}
 use Rattle.gtid_text.specs.declared.Gtid.{Gtid}
 use Rattle.gtid_text.specs.Gtids.{same_gtid}
 use Rattle.gtid_text.proofs.SameGtid.{same_itself, same_flip, same_is_equal}
-use Rattle.apply_channel.specs.declared.slot.Slot.{Slot}
+use Rattle.apply_channel.specs.Slots.{Placed}
 use Rattle.apply_channel.specs.Channels.{Received, settle, map_at, as_executed}
 use Rattle.apply_channel.specs.Kept.{entries_of, received_of, is_open_of, is_open_at, IsLastOpen, AreLinked, AreLast}
 use Rattle.std.proofs.lemmas.Bool.{and_parts, false_from_ne_true}
@@ -62,30 +62,30 @@ below_of g es n (Some p) h = let below = h.0 in omega (below, arith)
 
 -- ---- an entry more
 
-open_push : (g : Gtid) (slots : List Slot) (s : Slot) (i : ℕ) → i < length slots → is_open_at g (entries_of (slots ++ s ∷ [])) i ≡ is_open_at g (entries_of slots) i
+open_push : (g : Gtid) (slots : List Placed) (s : Placed) (i : ℕ) → i < length slots → is_open_at g (entries_of (slots ++ s ∷ [])) i ≡ is_open_at g (entries_of slots) i
 open_push g [] s i lt = absurd (omega (lt, arith))
 open_push g (x ∷ slots) s zero lt = refl
 open_push g (x ∷ slots) s (suc i) lt = open_push g slots s i (omega (lt, arith))
 
-open_end : (g : Gtid) (slots : List Slot) (s : Slot) → is_open_at g (entries_of (slots ++ s ∷ [])) (length slots) ≡ is_open_of g (received_of s)
+open_end : (g : Gtid) (slots : List Placed) (s : Placed) → is_open_at g (entries_of (slots ++ s ∷ [])) (length slots) ≡ is_open_of g (received_of s)
 open_end g [] s = refl
 open_end g (x ∷ slots) s = open_end g slots s
 
-push_cases : (slots : List Slot) (s : Slot) (i : ℕ) (t : Slot) → slice_get (slots ++ s ∷ []) i ≡ Some t → (slice_get slots i ≡ Some t) ⊎ ((i ≡ length slots) × (s ≡ t))
+push_cases : (slots : List Placed) (s : Placed) (i : ℕ) (t : Placed) → slice_get (slots ++ s ∷ []) i ≡ Some t → (slice_get slots i ≡ Some t) ⊎ ((i ≡ length slots) × (s ≡ t))
 push_cases [] s zero t e = inr (refl, same_Some s t e)
 push_cases [] s (suc i) t e = none_some t e
 push_cases (x ∷ slots) s zero t e = inl e
 push_cases (x ∷ slots) s (suc i) t e = elim (push_cases slots s i t e) [ inl p ↦ inl p | inr q ↦ inr (ap suc q.0, q.1) ]
 
-pub linked_push : (slots : List Slot) (s : Slot) → AreLinked slots → (is_some s.txn ≡ true → IsLastOpen (entries_of slots) s.gtid (length slots) s.earlier) → AreLinked (slots ++ s ∷ [])
+pub linked_push : (slots : List Placed) (s : Placed) → AreLinked slots → (is_some s.txn ≡ true → IsLastOpen (entries_of slots) s.gtid (length slots) s.earlier) → AreLinked (slots ++ s ∷ [])
 linked_push slots s linked last = λ i t is there. elim (push_cases slots s i t is) [
   | inl old ↦ (let below = slice_get_within slots i t old in last_alike t.gtid (entries_of slots) (entries_of (slots ++ s ∷ [])) i t.earlier (λ j lt. open_push t.gtid slots s j (omega (lt, below, arith))) (linked i t old there))
-  | inr new ↦ subst (λ (x : Slot). IsLastOpen (entries_of (slots ++ s ∷ [])) x.gtid i x.earlier) new.1
+  | inr new ↦ subst (λ (x : Placed). IsLastOpen (entries_of (slots ++ s ∷ [])) x.gtid i x.earlier) new.1
       (subst (λ m. IsLastOpen (entries_of (slots ++ s ∷ [])) s.gtid m s.earlier) (sym new.0)
-      (last_alike s.gtid (entries_of slots) (entries_of (slots ++ s ∷ [])) (length slots) s.earlier (λ j lt. open_push s.gtid slots s j lt) (last (ap (λ (x : Slot). is_some x.txn) new.1 ∙ there))))
+      (last_alike s.gtid (entries_of slots) (entries_of (slots ++ s ∷ [])) (length slots) s.earlier (λ j lt. open_push s.gtid slots s j lt) (last (ap (λ (x : Placed). is_some x.txn) new.1 ∙ there))))
 ]
 
-more : (slots : List Slot) (s : Slot) (g : Gtid) (o : Option ℕ) → IsLastOpen (entries_of slots) g (length slots) o → is_open_of g (received_of s) ≡ false → IsLastOpen (entries_of (slots ++ s ∷ [])) g (length (slots ++ s ∷ [])) o
+more : (slots : List Placed) (s : Placed) (g : Gtid) (o : Option ℕ) → IsLastOpen (entries_of slots) g (length slots) o → is_open_of g (received_of s) ≡ false → IsLastOpen (entries_of (slots ++ s ∷ [])) g (length (slots ++ s ∷ [])) o
 more slots s g o last shut =
     let longer : length (slots ++ s ∷ []) ≡ length slots + 1 = let more = length_push slots s in omega (more, arith) in
     subst (λ n. IsLastOpen (entries_of (slots ++ s ∷ [])) g n o) (sym longer)
@@ -93,10 +93,10 @@ more slots s g o last shut =
     (last_alike g (entries_of slots) (entries_of (slots ++ s ∷ [])) (length slots) o (λ j lt. open_push g slots s j lt) last)
     (open_end g slots s ∙ shut))
 
-pub last_push_done : (slots : List Slot) (s : Slot) (last : Gtid → Option ℕ) → is_some s.txn ≡ false → AreLast slots last → AreLast (slots ++ s ∷ []) last
+pub last_push_done : (slots : List Placed) (s : Placed) (last : Gtid → Option ℕ) → is_some s.txn ≡ false → AreLast slots last → AreLast (slots ++ s ∷ []) last
 last_push_done slots s last done h = λ g. more slots s g (last g) (h g) (ap (λ b. b && same_gtid s.gtid g) done)
 
-module _ (slots : List Slot) (s : Slot) (last next : Gtid → Option ℕ) (there : is_some s.txn ≡ true) (h : AreLast slots last) where
+module _ (slots : List Placed) (s : Placed) (last next : Gtid → Option ℕ) (there : is_some s.txn ≡ true) (h : AreLast slots last) where
   push_by : (g : Gtid) (b : Bool) → same_gtid g s.gtid ≡ b → IsLastOpen (entries_of (slots ++ s ∷ [])) g (length (slots ++ s ∷ [])) (cond b (Some (length slots)) (last g))
   push_by g true e =
       let longer : length (slots ++ s ∷ []) ≡ length slots + 1 = let more = length_push slots s in omega (more, arith) in
@@ -110,43 +110,43 @@ module _ (slots : List Slot) (s : Slot) (last next : Gtid → Option ℕ) (there
 
 -- ---- the last place of a GTID is executed
 
-open_other : (g : Gtid) (slots : List Slot) (p : ℕ) (s : Slot) (i : ℕ) → i ≢ p → is_open_at g (entries_of (slice_set slots p s)) i ≡ is_open_at g (entries_of slots) i
+open_other : (g : Gtid) (slots : List Placed) (p : ℕ) (s : Placed) (i : ℕ) → i ≢ p → is_open_at g (entries_of (slice_set slots p s)) i ≡ is_open_at g (entries_of slots) i
 open_other g [] p s i apart = refl
 open_other g (x ∷ slots) zero s zero apart = absurd (apart refl)
 open_other g (x ∷ slots) zero s (suc i) apart = refl
 open_other g (x ∷ slots) (suc p) s zero apart = refl
 open_other g (x ∷ slots) (suc p) s (suc i) apart = open_other g slots p s i (λ e. apart (ap suc e))
 
-open_here : (g : Gtid) (slots : List Slot) (p : ℕ) (s : Slot) → is_some s.txn ≡ false → is_open_at g (entries_of (slice_set slots p s)) p ≡ false
+open_here : (g : Gtid) (slots : List Placed) (p : ℕ) (s : Placed) → is_some s.txn ≡ false → is_open_at g (entries_of (slice_set slots p s)) p ≡ false
 open_here g [] p s done = refl
 open_here g (x ∷ slots) zero s done = ap (λ b. b && same_gtid s.gtid g) done
 open_here g (x ∷ slots) (suc p) s done = open_here g slots p s done
 
-set_length : (slots : List Slot) (p : ℕ) (s : Slot) → length (slice_set slots p s) ≡ length slots
+set_length : (slots : List Placed) (p : ℕ) (s : Placed) → length (slice_set slots p s) ≡ length slots
 set_length [] p s = refl
 set_length (x ∷ slots) zero s = refl
 set_length (x ∷ slots) (suc p) s = ap suc (set_length slots p s)
 
-set_cases : (slots : List Slot) (p : ℕ) (s : Slot) (i : ℕ) (t : Slot) → slice_get (slice_set slots p s) i ≡ Some t → (s ≡ t) ⊎ ((i ≢ p) × (slice_get slots i ≡ Some t))
+set_cases : (slots : List Placed) (p : ℕ) (s : Placed) (i : ℕ) (t : Placed) → slice_get (slice_set slots p s) i ≡ Some t → (s ≡ t) ⊎ ((i ≢ p) × (slice_get slots i ≡ Some t))
 set_cases [] p s i t e = none_some t e
 set_cases (x ∷ slots) zero s zero t e = inl (same_Some s t e)
 set_cases (x ∷ slots) zero s (suc i) t e = inr (λ same. absurd (omega (same, arith)), e)
 set_cases (x ∷ slots) (suc p) s zero t e = inr (λ same. absurd (omega (same, arith)), e)
 set_cases (x ∷ slots) (suc p) s (suc i) t e = elim (set_cases slots p s i t e) [ inl q ↦ inl q | inr q ↦ inr (λ same. q.0 (omega (same, arith)), q.1) ]
 
-open_slot : (g : Gtid) (slots : List Slot) (i : ℕ) (t : Slot) → slice_get slots i ≡ Some t → is_open_at g (entries_of slots) i ≡ is_open_of g (received_of t)
+open_slot : (g : Gtid) (slots : List Placed) (i : ℕ) (t : Placed) → slice_get slots i ≡ Some t → is_open_at g (entries_of slots) i ≡ is_open_of g (received_of t)
 open_slot g [] i t e = none_some t e
-open_slot g (x ∷ slots) zero t e = ap (λ (y : Slot). is_open_of g (received_of y)) (same_Some x t e)
+open_slot g (x ∷ slots) zero t e = ap (λ (y : Placed). is_open_of g (received_of y)) (same_Some x t e)
 open_slot g (x ∷ slots) (suc i) t e = open_slot g slots i t e
 
 open_gtid : (g h : Gtid) (o : Option Received) → option_map_or (is_open_of g) o false ≡ true → option_map_or (is_open_of h) o false ≡ true → g ≡ h
 open_gtid g h None a b = absurd (true≢false (sym a))
 open_gtid g h (Some e) a b = sym (same_is_equal e.gtid g (and_parts (is_some e.txn) (same_gtid e.gtid g) a).1) ∙ same_is_equal e.gtid h (and_parts (is_some e.txn) (same_gtid e.gtid h) b).1
 
-module _ (g : Gtid) (slots : List Slot) (p : ℕ) (s : Slot) (done : is_some s.txn ≡ false) (linked : AreLinked slots) (is_last : IsLastOpen (entries_of slots) g (length slots) (Some p)) where
+module _ (g : Gtid) (slots : List Placed) (p : ℕ) (s : Placed) (done : is_some s.txn ≡ false) (linked : AreLinked slots) (is_last : IsLastOpen (entries_of slots) g (length slots) (Some p)) where
   pub linked_settle : AreLinked (slice_set slots p s)
   linked_settle = λ i t is there. elim (set_cases slots p s i t is) [
-    | inl same ↦ absurd (true≢false (sym there ∙ sym (ap (λ (x : Slot). is_some x.txn) same) ∙ done))
+    | inl same ↦ absurd (true≢false (sym there ∙ sym (ap (λ (x : Placed). is_some x.txn) same) ∙ done))
     | inr old ↦ last_alike t.gtid (entries_of slots) (entries_of (slice_set slots p s)) i t.earlier
         (λ j lt. elim (three j p) [
           | inl less ↦ open_other t.gtid slots p s j (λ e. absurd (omega (e, less, arith)))
@@ -163,19 +163,19 @@ module _ (g : Gtid) (slots : List Slot) (p : ℕ) (s : Slot) (done : is_some s.t
         (linked i t old.1 there)
   ]
 
-  pub before_last : (x : Slot) → slice_get slots p ≡ Some x → IsLastOpen (entries_of slots) g p x.earlier
+  pub before_last : (x : Placed) → slice_get slots p ≡ Some x → IsLastOpen (entries_of slots) g p x.earlier
   before_last x is =
       let opens : is_open_of g (received_of x) ≡ true = sym (open_slot g slots p x is) ∙ is_last.1 in
       let parts = and_parts (is_some x.txn) (same_gtid x.gtid g) opens in
       subst (λ k. IsLastOpen (entries_of slots) k p x.earlier) (same_is_equal x.gtid g parts.1) (linked p x is parts.0)
 
   -- the place before is the last one now
-  pub last_left : (x : Slot) → slice_get slots p ≡ Some x → IsLastOpen (entries_of (slice_set slots p s)) g (length (slice_set slots p s)) x.earlier
+  pub last_left : (x : Placed) → slice_get slots p ≡ Some x → IsLastOpen (entries_of (slice_set slots p s)) g (length (slice_set slots p s)) x.earlier
   last_left x is =
       subst (λ n. IsLastOpen (entries_of (slice_set slots p s)) g n x.earlier) (sym (set_length slots p s))
       (last_before g (entries_of slots) (entries_of (slice_set slots p s)) (length slots) p x.earlier (λ i apart. open_other g slots p s i apart) (open_here g slots p s done) is_last (before_last x is))
 
-  left_by : (last : Gtid → Option ℕ) (x : Slot) → slice_get slots p ≡ Some x → AreLast slots last → (k : Gtid) (b : Bool) → same_gtid k g ≡ b → IsLastOpen (entries_of (slice_set slots p s)) k (length (slice_set slots p s)) (cond b x.earlier (last k))
+  left_by : (last : Gtid → Option ℕ) (x : Placed) → slice_get slots p ≡ Some x → AreLast slots last → (k : Gtid) (b : Bool) → same_gtid k g ≡ b → IsLastOpen (entries_of (slice_set slots p s)) k (length (slice_set slots p s)) (cond b x.earlier (last k))
   left_by last x is h k true e = subst (λ q. IsLastOpen (entries_of (slice_set slots p s)) q (length (slice_set slots p s)) x.earlier) (sym (same_is_equal k g e)) (last_left x is)
   left_by last x is h k false e =
       subst (λ n. IsLastOpen (entries_of (slice_set slots p s)) k n (last k)) (sym (set_length slots p s))
@@ -192,14 +192,14 @@ module _ (g : Gtid) (slots : List Slot) (p : ℕ) (s : Slot) (done : is_some s.t
       ])
       (h k))
 
-  pub last_settle : (last next : Gtid → Option ℕ) (x : Slot) → slice_get slots p ≡ Some x → ((k : Gtid) → next k ≡ cond (same_gtid k g) x.earlier (last k)) → AreLast slots last → AreLast (slice_set slots p s) next
+  pub last_settle : (last next : Gtid → Option ℕ) (x : Placed) → slice_get slots p ≡ Some x → ((k : Gtid) → next k ≡ cond (same_gtid k g) x.earlier (last k)) → AreLast slots last → AreLast (slice_set slots p s) next
   last_settle last next x is new h = λ k. subst (λ o. IsLastOpen (entries_of (slice_set slots p s)) k (length (slice_set slots p s)) o) (sym (new k)) (left_by last x is h k (same_gtid k g) refl)
 
 -- the entries, once one is executed
-pub entries_settled : (slots : List Slot) (p : ℕ) (x s : Slot) → slice_get slots p ≡ Some x → s.gtid ≡ x.gtid → s.txn ≡ None → entries_of (slice_set slots p s) ≡ map_at p as_executed (entries_of slots)
+pub entries_settled : (slots : List Placed) (p : ℕ) (x s : Placed) → slice_get slots p ≡ Some x → s.gtid ≡ x.gtid → s.txn ≡ None → entries_of (slice_set slots p s) ≡ map_at p as_executed (entries_of slots)
 entries_settled [] p x s is gtid txn = none_some x is
 entries_settled (y ∷ slots) zero x s is gtid txn =
-    let same : s.gtid ≡ y.gtid = gtid ∙ sym (ap (λ (z : Slot). z.gtid) (same_Some y x is)) in
+    let same : s.gtid ≡ y.gtid = gtid ∙ sym (ap (λ (z : Placed). z.gtid) (same_Some y x is)) in
     λ i. (record { gtid = same i; txn = txn i }) ∷ entries_of slots
 entries_settled (y ∷ slots) (suc p) x s is gtid txn = ap (λ es. received_of y ∷ es) (entries_settled slots p x s is gtid txn)
 

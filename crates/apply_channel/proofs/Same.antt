@@ -5,7 +5,7 @@ use Rattle.std.specs.Ordering.{nat_cmp, is_eq, eq_by_cmp}
 use Rattle.std.specs.Cmp.Lexicographic.{slice_cmp, nat_list_cmp_total}
 use Rattle.std.proofs.lemmas.Cmp.{tied_itself}
 use Rattle.std.proofs.lemmas.List.{take_more}
-use Rattle.apply_channel.specs.declared.slot.Slot.{Slot}
+use Rattle.apply_channel.specs.Slots.{Placed}
 use Rattle.apply_channel.specs.Channels.{Keyed, Received}
 use Rattle.apply_channel.specs.Kept.{entries_of, received_of}
 use Rattle.row_images.proofs.Equal.{eq_of}
@@ -19,13 +19,13 @@ same_keyed a b schema name preserve stopped asked received = λ i. record {
   channel = record { name = name i; preserve = preserve i; stopped = stopped i; asked = asked i; received = received i };
 }
 
-read_entry : (items : List Slot) (i : ℕ) (x : Slot) → x ≡ get_or items i x → i < length items → get_or (entries_of items) i (received_of x) ≡ received_of x
+read_entry : (items : List Placed) (i : ℕ) (x : Placed) → x ≡ get_or items i x → i < length items → get_or (entries_of items) i (received_of x) ≡ received_of x
 read_entry [] i x e lt = absurd (omega (lt, arith))
 read_entry (y ∷ items) zero x e lt = ap received_of (sym e)
 read_entry (y ∷ items) (suc i) x e lt = read_entry items i x e (omega (lt, arith))
 
 -- one entry more
-pub take_entry : (slots items : List Slot) (received : List Received) (i : ℕ) (x : Slot) → items ≡ slots → entries_of slots ≡ received → x ≡ get_or items i x → i < length items
+pub take_entry : (slots items : List Placed) (received : List Received) (i : ℕ) (x : Placed) → items ≡ slots → entries_of slots ≡ received → x ≡ get_or items i x → i < length items
     → take i received ++ received_of x ∷ [] ≡ take (i + 1) received
 take_entry slots items received i x same seen e lt =
     let all : entries_of items ≡ received = ap entries_of same ∙ seen in

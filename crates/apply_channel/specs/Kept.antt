@@ -10,14 +10,14 @@ use Rattle.gtid_text.specs.declared.Gtid.{Gtid}
 use Rattle.gtid_text.specs.Gtids.{same_gtid}
 use Rattle.gtid_set.specs.Sets.{Gtids}
 use Rattle.dependency_graph.specs.Graphs.{Point}
-use Rattle.apply_channel.specs.declared.slot.Slot.{Slot}
+use Rattle.apply_channel.specs.Slots.{Placed}
 use Rattle.apply_channel.specs.Channels.{Received, received_gtids}
 
-abbrev pub received_of : Slot → Received
+abbrev pub received_of : Placed → Received
 received_of slot = record { gtid = slot.gtid; txn = slot.txn }
 
 -- the entries in their slots
-abbrev pub entries_of : List Slot → List Received
+abbrev pub entries_of : List Placed → List Received
 entries_of slots = map received_of slots
 
 -- the keys that a transaction touches; of an executed one any
@@ -67,15 +67,15 @@ abbrev pub IsOpened : Gtid → List (Gtid × Option ℕ) → List (Gtid × Optio
 IsOpened gtid old new = (g : Gtid) → entry_of new g ≡ cond (same_gtid gtid g) (Some (place_of old gtid)) (entry_of old g)
 
 -- each slot that is not executed has the place before it with its GTID
-abbrev pub AreLinked : List Slot → Type 0
-AreLinked slots = (i : ℕ) (s : Slot) → slice_get slots i ≡ Some s → is_some s.txn ≡ true → IsLastOpen (entries_of slots) s.gtid i s.earlier
+abbrev pub AreLinked : List Placed → Type 0
+AreLinked slots = (i : ℕ) (s : Placed) → slice_get slots i ≡ Some s → is_some s.txn ≡ true → IsLastOpen (entries_of slots) s.gtid i s.earlier
 
 -- the table has the last place of each GTID that is not executed
-abbrev pub AreLast : List Slot → (Gtid → Option ℕ) → Type 0
+abbrev pub AreLast : List Placed → (Gtid → Option ℕ) → Type 0
 AreLast slots last = (g : Gtid) → IsLastOpen (entries_of slots) g (length slots) (last g)
 
 -- each place has its node; the places of a GTID are linked; the received set is that of the entries
-pub record IsKept (schema : List Table) (slots : List Slot) (places : List (Gtid × Option ℕ)) (graph : List Point) (received : Gtids) : Type 0 where
+pub record IsKept (schema : List Table) (slots : List Placed) (places : List (Gtid × Option ℕ)) (graph : List Point) (received : Gtids) : Type 0 where
   pub nodes : AreNodesOf schema graph (entries_of slots)
   pub linked : AreLinked slots
   pub last : AreLast slots (place_of places)

@@ -1,3 +1,4 @@
 pub mod Channels
+pub mod Slots
 pub mod Kept
 pub mod Full

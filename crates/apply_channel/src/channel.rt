@@ -171,10 +171,7 @@ impl Channel {
         ensures { MatchOption result (IsNoPlace self.now place) (λ e. IsPlace self.now place e.0 (option_copied e.1)) }
     {
         let slot = self.slots.get(place)?;
-        match &slot.txn {
-            Some(txn) => Some((slot.gtid, Some(txn))),
-            None => Some((slot.gtid, None)),
-        }
+        Some((slot.gtid(), slot.txn()))
     }
 }
 
@@ -237,11 +234,7 @@ impl Channel {
         let txn = copy_unless(executed, &entry.txn)?;
         let earlier = open_unless(executed, &mut self.places, &entry.gtid)?;
         let place = self.slots.len();
-        self.slots.push(Slot {
-            gtid: entry.gtid,
-            txn,
-            earlier,
-        })?;
+        self.slots.push(Slot::new(entry.gtid, txn, earlier))?;
         match put_node(alloc, &mut self.graph, &mut self.received, keys, entry.gtid) {
             Ok(()) => {}
             Err(fault) => {
@@ -270,11 +263,7 @@ impl Channel {
         }
         self.slots.reserve(1)?;
         self.received.add(gtid)?;
-        let _ = self.slots.push(Slot {
-            gtid,
-            txn: None,
-            earlier: None,
-        });
+        let _ = self.slots.push(Slot::new(gtid, None, None));
         self.graph.add_finished();
         Ok(())
     }
@@ -288,9 +277,7 @@ impl Channel {
         ensures last { IsLastOpen self.new.channel.received gtid.now (length self.new.channel.received) result }
         ensures below { option_map_or suc result 0 ≤ place }
     {
-        let slot = &mut self.slots[place];
-        slot.txn = None;
-        let earlier = slot.earlier;
+        let earlier = self.slots[place].settle();
         take_place(&mut self.places, gtid, earlier);
         self.graph.finish(place);
         earlier
@@ -321,7 +308,7 @@ impl Channel {
         requires { place < length self.now.channel.received }
         ensures { result ≡ blocker self.now.schema self.now.channel.received place }
     {
-        match &self.slots[place].txn {
+        match self.slots[place].txn() {
             Some(_) => self.graph.blocker(place),
             None => None,
         }
@@ -387,8 +374,8 @@ impl Channel {
     fn put_slot(&mut self, alloc: Global, slot: &Slot) -> Result<(), AllocError>
         ensures { OnOk result (self.new ≡ record self.old { channel = with_received (received_of slot.now) self.old.channel }) }
     {
-        let gtid = slot.gtid;
-        match &slot.txn {
+        let gtid = slot.gtid();
+        match slot.txn() {
             Some(txn) => {
                 let txn = txn.clone()?;
                 let Ok(_) = self.receive(alloc, &Entry { gtid, txn }, false) else {

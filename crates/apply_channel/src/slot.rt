@@ -1,22 +1,120 @@
 //! Received entries in their slots, and the keys for which they wait.
-ghost use Rattle.std.specs.Prelude.{◌≡◌, ◌≢◌, AllPairs, None, IfOk, Some, if◌then◌else◌};
+ghost use Rattle.std.specs.Prelude.{◌≡◌, ◌≢◌, ◌<◌, suc, AllPairs, None, IfOk, Some, if◌then◌else◌};
+ghost use Rattle.std.specs.Option.{option_copied, option_map_or};
 ghost use Rattle.std.specs.Bool.{Decides};
 ghost use Rattle.rows.specs.declared.change.Key.{Key as KeyValue};
 ghost use Rattle.rows.specs.WriteSet.{is_among, touches};
 ghost use Rattle.apply_channel.specs.Kept.{AreKeysOf, entries_of, received_of};
+ghost use Rattle.apply_channel.specs.Slots.{last_of, placed};
 
 use gtid_text::Gtid;
 use rows::{Key, Schema, Transaction};
 use std::alloc::{AllocError, Global};
+use std::marker::Model;
 use write_set::list_keys;
 
-/// A received entry. An executed one has no transaction. Another knows the last place before it with the same GTID that
-/// is not executed.
+/// Whether a received entry is executed. Another has its transaction, and the number of places up to the last one before it
+/// with the same GTID that is not executed (0: there is none). The number comes first, so that a state takes 16 bytes.
 #[derive(Drop)]
+enum State {
+    Executed,
+    Open(u32, Transaction),
+}
+
+/// A received entry.
 pub(crate) struct Slot {
-    pub(crate) gtid: Gtid,
-    pub(crate) txn: Option<Transaction>,
-    pub(crate) earlier: Option<usize>,
+    gtid: Gtid,
+    state: State,
+}
+
+impl Drop for Slot {
+    // (by hand: for a caller the end of a Slot is one call)
+    fn drop(self) {
+        let Slot {
+            gtid: _gtid,
+            state: _state,
+        } = self;
+    }
+}
+
+impl Model for Slot {
+    ghost use Rattle.std.specs.Coded.{codes};
+    ghost use Rattle.apply_channel.specs.Slots.{Placed, placed_in};
+
+    ghost Value = { Placed };
+
+    ghost coded = { Prim.hlevel codes };
+
+    ghost view = { λ s. placed_in s.gtid s.state };
+}
+
+/// So many places have this one as the last.
+fn count_to(earlier: Option<usize>) -> u32
+    requires { option_map_or suc earlier 0 < 4294967296 }
+    ensures { last_of result ≡ earlier }
+{
+    match earlier {
+        Some(place) => (place + 1) as u32,
+        None => 0,
+    }
+}
+
+/// The last of so many places.
+fn last_of(places: u32) -> Option<usize>
+    ensures { result ≡ last_of places }
+{
+    if places == 0 {
+        return None;
+    }
+    Some(places as usize - 1)
+}
+
+impl Slot {
+    /// A slot with an entry. One that has no transaction is executed.
+    pub(crate) fn new(gtid: Gtid, txn: Option<Transaction>, earlier: Option<usize>) -> Slot
+        requires { option_map_or suc earlier 0 < 4294967296 }
+        ensures { result ≡ placed gtid txn earlier }
+    {
+        match txn {
+            Some(txn) => Slot {
+                gtid,
+                state: State::Open(count_to(earlier), txn),
+            },
+            None => Slot {
+                gtid,
+                state: State::Executed,
+            },
+        }
+    }
+
+    pub(crate) fn gtid(&self) -> Gtid
+        ensures { result ≡ self.now.gtid }
+    {
+        self.gtid
+    }
+
+    /// Its transaction, where it is not executed.
+    pub(crate) fn txn(&self) -> Option<&Transaction>
+        ensures { option_copied result ≡ self.now.txn }
+    {
+        match &self.state {
+            State::Open(_, txn) => Some(txn),
+            State::Executed => None,
+        }
+    }
+
+    /// Drops its transaction: the place before it.
+    pub(crate) fn settle(&mut self) -> Option<usize>
+        ensures settled { self.new ≡ record { gtid = self.old.gtid; txn = None; earlier = None } }
+        ensures earlier { result ≡ self.old.earlier }
+    {
+        let places = match &self.state {
+            State::Open(places, _) => *places,
+            State::Executed => 0,
+        };
+        self.state = State::Executed;
+        last_of(places)
+    }
 }
 
 /// The keys for which a transaction waits; an executed one waits for none.
@@ -49,16 +147,16 @@ pub(crate) fn copy_unless(
     Ok(Some(copied))
 }
 
-/// Whether two transactions are the same, or both are missing.
-fn same_txn(left: &Option<Transaction>, right: &Option<Transaction>) -> bool
-    ensures { Decides result (left.now ≡ right.now) }
+/// Whether the transactions of two slots are the same, or both are missing.
+fn same_txn(left: &Slot, right: &Slot) -> bool
+    ensures { Decides result (left.now.txn ≡ right.now.txn) }
 {
-    match left {
-        Some(txn) => match right {
+    match left.txn() {
+        Some(txn) => match right.txn() {
             Some(other) => txn.is_equal(other),
             None => false,
         },
-        None => right.is_none(),
+        None => right.txn().is_none(),
     }
 }
 
@@ -66,10 +164,10 @@ fn same_txn(left: &Option<Transaction>, right: &Option<Transaction>) -> bool
 fn same_entry(left: &Slot, right: &Slot) -> bool
     ensures { Decides result (received_of left.now ≡ received_of right.now) }
 {
-    if left.gtid != right.gtid {
+    if left.gtid() != right.gtid() {
         return false;
     }
-    same_txn(&left.txn, &right.txn)
+    same_txn(left, right)
 }
 
 /// Whether two lists of slots have the same entries.

@@ -1,5 +1,5 @@
 use Rattle.std.proofs.Common.{rules, ◌≡◌, ◌<◌, false, [], ◌∷◌, ◌++◌, None, length, refl, sym, ap, subst, ◌∙◌}
-use Rattle.apply_channel.specs.declared.slot.Slot.{Slot}
+use Rattle.apply_channel.specs.Slots.{Placed, placed}
 use Rattle.apply_channel.specs.Channels.{Keyed, is_full, are_settled}
 use Rattle.apply_channel.specs.Kept.{entries_of}
 use Rattle.apply_channel.proofs.Nodes.{nodes_length, all_finished}
@@ -20,6 +20,6 @@ add_finished-requires-clause-finished c =
 pub invariant_of-self-2 : goal.invariant_of-self-2
 invariant_of-self-2 c =
     let s = c.self.inside in
-    let y : Slot = record { gtid = c.args.gtid; txn = None; earlier = None } in
+    let y : Placed = placed c.args.gtid None None in
     let is : c.push.new.self.items ≡ s.slots.items ++ y ∷ [] = search rules in
     kept_settled s.schema s.slots.items s.places.entries s.graph s.received c.self.invariant y c.push.new.self.items is refl c.add_finished.new.self c.add_finished.ensures c.add.new.self c.in_ok-add.ensures.ok
