@@ -320,9 +320,9 @@ world_fits b fits =
     let schema : List Table = b.start.schema in
     let es : List Entry = in_order (first_contents b.opened (all_entries b.journals)) in
     let one : (i : ℕ) (e : Entry) → slice_get es i ≡ Some e → Fits schema e.txn =
-        λ i e there.
-            let at = get_map_cases as_entry (finmap.entries (first_contents b.opened (all_entries b.journals))) i e there in
-            subst (λ (x : Entry). Fits schema x.txn) at.2 (contents_fit schema b.opened (all_entries b.journals) at.0.0 at.0.1 (all_fit schema b.journals fits) (at_content (world_over b) i at.0 at.1)) in
+    λ i e there.
+    let at = get_map_cases as_entry (finmap.entries (first_contents b.opened (all_entries b.journals))) i e there in
+    subst (λ (x : Entry). Fits schema x.txn) at.2 (contents_fit schema b.opened (all_entries b.journals) at.0.0 at.0.1 (all_fit schema b.journals fits) (at_content (world_over b) i at.0 at.1)) in
     All-from_recursion (λ (e : Entry). Fits schema e.txn) es (all_from (λ (e : Entry). Fits schema e.txn) es one)
 
 pub all_taken : (b : BundleValue) (d : Database) (opened : Gtids) (js : List JournalValue) → d ≡ b.start → opened ≡ b.opened → js ≡ b.journals → IsFitting b

@@ -61,7 +61,12 @@ pub(crate) fn opening_world(alloc: Global, bundle: &Bundle) -> Result<World, All
     requires { IsFitting bundle.now }
     ensures { IfOk result (λ world. world ≡ world_over bundle.now) }
 {
-    world_of_fitting(alloc, bundle.opening_set(), bundle.rows(), bundle.journals())
+    world_of_fitting(
+        alloc,
+        bundle.opening_set(),
+        bundle.rows(),
+        bundle.journals(),
+    )
 }
 
 /// What the audit of keys that asks for an order finds first in a world and journals.
