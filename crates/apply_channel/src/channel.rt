@@ -235,7 +235,7 @@ impl Channel {
         let earlier = open_unless(executed, &mut self.places, &entry.gtid)?;
         let place = self.slots.len();
         self.slots.push(Slot::new(entry.gtid, txn, earlier))?;
-        match put_node(alloc, &mut self.graph, &mut self.received, keys, entry.gtid) {
+        match put_node(&mut self.graph, &mut self.received, keys, entry.gtid) {
             Ok(()) => {}
             Err(fault) => {
                 self.slots.truncate(place);

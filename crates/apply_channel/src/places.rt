@@ -13,8 +13,7 @@ use gtid_set::{GtidSet, SetFault};
 use gtid_text::Gtid;
 use indexmap::IndexMap;
 use rows::Key;
-use std::alloc::{AllocError, Global};
-use std::mem;
+use std::alloc::AllocError;
 
 /// The last place of a GTID.
 pub(crate) fn last_place(places: &IndexMap<Gtid, Option<usize>>, gtid: &Gtid) -> Option<usize>
@@ -95,7 +94,6 @@ pub(crate) fn take_place(
 
 /// Adds a node with these keys to the graph and a GTID to the set, or leaves both as they are.
 pub(crate) fn put_node(
-    alloc: Global,
     graph: &mut Graph,
     received: &mut GtidSet,
     keys: Vec<Key>,
@@ -112,21 +110,8 @@ pub(crate) fn put_node(
     if !received.has_room_for(&gtid) {
         return Err(SetFault::SourcesFull);
     }
-    let reserved = match mem::replace(graph, Graph::start(alloc)).reserve(keys) {
-        Ok(reserved) => reserved,
-        Err(same) => {
-            *graph = same;
-            return Err(SetFault::Memory);
-        }
-    };
-    match received.add(gtid) {
-        Ok(()) => {
-            *graph = reserved.add();
-            return Ok(());
-        }
-        Err(fault) => {
-            *graph = reserved.cancel();
-            return Err(fault);
-        }
+    match graph.add_with(keys, received, |set| set.add(gtid)) {
+        Ok(added) => added,
+        Err(_) => Err(SetFault::Memory),
     }
 }

@@ -1,5 +1,5 @@
 -- A node is added after the others, and linked at each of its keys.
-use Rattle.std.proofs.Common.{◌≡◌, ℕ, zero, suc, ◌+◌, ◌-◌, ◌<◌, ◌≤◌, ◌⊎◌, Bool, true, false, ◌||◌, cond, List, [], ◌∷◌, ◌++◌, map, length, replicate, Option, is_some, refl, sym, ap, subst, ◌∙◌, ⊎_elim, inl, inr, arith, take, drop, append_assoc, nat_eq, eq-eqb}
+use Rattle.std.proofs.Common.{◌≡◌, ℕ, zero, suc, ◌+◌, ◌<◌, ◌≤◌, ◌⊎◌, Bool, true, false, ◌||◌, cond, List, [], ◌∷◌, ◌++◌, map, length, replicate, Option, is_some, refl, sym, ap, subst, ◌∙◌, ⊎_elim, inl, inr, arith, take, drop, append_assoc, nat_eq, eq-eqb}
 use Rattle.std.proofs.lemmas.Bool.{lt-ltb, le-ltb, cases_lt, both_ways}
 use Rattle.std.proofs.lemmas.List.{take_more, drop_more, map-append, length_push, get_or_append_left, get_or_push, get_or_past}
 use Rattle.std.specs.Prelude.{slice_index_or, slice_set}
@@ -8,9 +8,9 @@ use Rattle.rows.specs.declared.change.Key.{Key}
 use Rattle.rows.specs.Order.{key_eq}
 use Rattle.rows.specs.Total.{key_eq_same}
 use Rattle.rows.specs.WriteSet.{is_among}
-use Rattle.dependency_graph.specs.Graphs.{Awaiting, Point, gone, point_at, is_open_at, unfinished}
+use Rattle.dependency_graph.specs.Graphs.{Point, gone, point_at, is_open_at, unfinished}
 use Rattle.dependency_graph.specs.Chains.{Holds, HasEntry, HasLast, HasRoom, KeepsRoom, Pushes, IsSame, IsAscending, ends_at, with_chain, with_node, first_number}
-use Rattle.dependency_graph.specs.Kept.{points, point_of, is_below, waiting, is_finished_at, Has, StartsOpen, IsChained, IsKept, IsBelow, LinksAll, CountsAll, awaiting_of, keys_at}
+use Rattle.dependency_graph.specs.Kept.{points, point_of, is_below, waiting, is_finished_at, Has, StartsOpen, IsChained, IsKept, IsBelow, LinksAll, CountsAll}
 use Rattle.dependency_graph.specs.declared.graph.Node.{Node}
 use Rattle.dependency_graph.specs.declared.chains.Chains.{Chains}
 use Rattle.dependency_graph.proofs.Entries.{flip, all_stay}
@@ -300,26 +300,3 @@ module _ (d : ℕ) (nodes now : List Node) (x y : Node) (at : ℕ) (keys : List 
       ap (points d) set_now ∙ points_push d nodes counting
       ∙ ap (λ b. points d nodes ++ (record { finished = b; keys = y.keys.items }) ∷ []) open_now
       ∙ ap (λ ks. points d nodes ++ (unfinished ks) ∷ []) keys_now
-
--- ---- a node that is still to come
-take_front : (nodes : List Node) (x : Node) → take (length nodes) (nodes ++ x ∷ []) ≡ nodes
-take_front [] x = refl
-take_front (n ∷ nodes) x = ap (λ ns. n ∷ ns) (take_front nodes x)
-
-keys_last : (nodes : List Node) (x : Node) → keys_at (nodes ++ x ∷ []) (length nodes) ≡ x.keys.items
-keys_last [] x = refl
-keys_last (n ∷ nodes) x = keys_last nodes x
-
-made : List Point → List Key → Awaiting
-made ps ks = record { nodes = ps; keys = ks }
-
-pub awaiting_is : (d : ℕ) (nodes old : List Node) (x : Node) → nodes ≡ old ++ x ∷ [] → awaiting_of d nodes ≡ record { nodes = points d old; keys = x.keys.items }
-unfolding made
-awaiting_is d nodes old x is =
-    let more = length_push old x in
-    let same : length (old ++ x ∷ []) - 1 ≡ length old = omega (more, arith) in
-    let front : points d (take (length old) (old ++ x ∷ [])) ≡ points d old = ap (points d) (take_front old x) in
-    let last : keys_at (old ++ x ∷ []) (length old) ≡ x.keys.items = keys_last old x in
-    ap (awaiting_of d) is
-    ∙ ap (λ n. made (points d (take n (old ++ x ∷ []))) (keys_at (old ++ x ∷ []) n)) same
-    ∙ (λ j. made (front j) (last j))

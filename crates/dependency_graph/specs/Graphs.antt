@@ -69,11 +69,3 @@ mark_at ps n = slice_set ps n (record (point_at ps n) { finished = true })
 -- once this node is finished
 abbrev pub finish_at : List Point → ℕ → List Point
 finish_at ps n = drop_finished (mark_at ps n)
-
--- a graph with room for a node that touches these keys
-pub record Awaiting : Type 0 where
-  pub nodes : List Point
-  pub keys : List Key
-
-abbrev pub awaiting_code : Coded Awaiting
-awaiting_code = code_by (List Point × List Key) (coded× (coded_list point_code) (coded_list key_code)) (λ a. (a.nodes, a.keys)) (λ p. record { nodes = p.0; keys = p.1 }) (λ _. refl)

@@ -1,12 +1,12 @@
 -- What a graph keeps: its nodes after those that were dropped, and the chains of their keys.
-use Rattle.std.specs.Prelude.{ℕ, ◌+◌, ◌-◌, ◌≡◌, ◌<◌, ◌≤◌, ◌⊎◌, ⊤, Bool, true, false, cond, nat_lt, nat_eq, List, [], ◌∷◌, ◌++◌, map, length, replicate, slice_index_or, slice_set, Option, Some, take, ◌≢◌}
+use Rattle.std.specs.Prelude.{ℕ, ◌+◌, ◌-◌, ◌≡◌, ◌<◌, ◌≤◌, ◌⊎◌, ⊤, Bool, true, false, cond, nat_lt, nat_eq, List, [], ◌∷◌, ◌++◌, map, length, replicate, slice_index_or, slice_set, Option, Some}
 use Rattle.std.specs.Option.{option_map_or}
-use Rattle.std.specs.List.{list_any, AllByRecursion, AllPairs, IsDistinct}
+use Rattle.std.specs.List.{list_any, AllByRecursion, IsDistinct}
 use Rattle.rows.specs.declared.change.Key.{Key}
 use Rattle.rows.specs.Order.{key_eq}
 use Rattle.rows.specs.WriteSet.{is_among}
-use Rattle.dependency_graph.specs.Graphs.{Awaiting, Point, gone, least, is_open_at, point_at}
-use Rattle.dependency_graph.specs.Chains.{HasRoom, Holds, IsAscending, with_node, first_number, first_of}
+use Rattle.dependency_graph.specs.Graphs.{Point, gone, least, is_open_at, point_at}
+use Rattle.dependency_graph.specs.Chains.{Holds, IsAscending, with_node, first_number, first_of}
 use Rattle.dependency_graph.specs.declared.graph.Node.{Node}
 use Rattle.dependency_graph.specs.declared.chains.Chains.{Chains}
 
@@ -103,18 +103,3 @@ LinksAll old new keys node = (f : Key → List ℕ) → Holds old f → IsBelow 
 -- so many of these keys have an earlier node
 abbrev pub CountsAll : Chains → List Key → ℕ → ℕ → Type 0
 CountsAll old keys node waits = (f : Key → List ℕ) → Holds old f → IsBelow f node → waits ≡ waiting (λ k. first_number (f k)) node keys
-
--- the nodes, of which the last is still to come
-abbrev pub awaiting_of : ℕ → List Node → Awaiting
-awaiting_of before nodes = record { nodes = points before (take (length nodes - 1) nodes); keys = keys_at nodes (length nodes - 1) }
-
--- room for the last of these nodes, after those that are kept
-pub record IsReserved (before : ℕ) (nodes : List Node) (c : Chains) : Type 0 where
-  pub old : List Node
-  pub node : Node
-  pub is : nodes ≡ old ++ node ∷ []
-  pub unfinished : node.finished ≡ false
-  pub few : before + length old < 4294967294
-  pub distinct : AllPairs (λ a b. a ≢ b) node.keys.items
-  pub kept : IsKept before old c []
-  pub room : HasRoom c node.keys.items

@@ -1,11 +1,12 @@
 //! The nodes, above the chains of their keys.
 
-ghost use Rattle.std.specs.Prelude.{◌≡◌, ◌≢◌, ℕ, Some, true, false, ◌+◌, ◌<◌, [], ◌∷◌, ◌++◌, length, map, drop, IfOk, IfErr, OnOk, OnErr};
+ghost use Rattle.std.specs.Prelude.{◌≡◌, ◌≢◌, ℕ, Some, true, false, ◌+◌, ◌<◌, [], ◌∷◌, ◌++◌, length, map, drop, IfOk, OnOk, OnErr};
 ghost use Rattle.std.specs.List.{AllPairs};
 ghost use Rattle.std.specs.Bool.{OnTrue, OnFalse};
 ghost use Rattle.slab.specs.Slab.{slab_len};
 ghost use Rattle.dependency_graph.specs.Graphs.{are_finished, blocker, gone, is_ready, IsNextReady, drop_finished, finish_at, mark_at, unfinished};
 ghost use Rattle.dependency_graph.specs.Chains.{HasRoom};
+ghost use Rattle.std.specs.Fn.{FnOnceReturnsAtMut};
 ghost use Rattle.dependency_graph.specs.Ready.{IsListed, IsListedWithRoom, is_unblocked};
 ghost use Rattle.dependency_graph.specs.Kept.{is_finished_first, is_finished_at, points, point_of, keys_at, IsKept, IsFrontOpen, CanRelease, Releases, LinksAll, CountsAll};
 
@@ -232,28 +233,41 @@ impl Graph {
         self.dropped + self.nodes.len()
     }
 
-    /// Adds a node that touches these keys, each named once: its number.
-    pub fn add(&mut self, keys: Vec<Key>) -> Result<usize, AllocError>
+    /// Adds a node that touches these keys, each named once, if a change elsewhere succeeds. The change is made once there is
+    /// room for the node; without memory for it nothing changes.
+    pub fn add_with<V, E, F: FnOnce(&mut V) -> Result<(), E>>(
+        &mut self,
+        keys: Vec<Key>,
+        value: &mut V,
+        change: F,
+    ) -> Result<Result<(), E>, AllocError>
         requires room { length self.old < 4294967294 }
         requires distinct { AllPairs (λ a b. a ≢ b) keys.items }
-        ensures added { OnOk result (self.new ≡ self.old ++ unfinished keys.items ∷ []) }
-        ensures number { IfOk result (λ node. node ≡ length self.old) }
+        requires callable { F.IsAlwaysCallable change }
+        ensures changed { IfOk result (λ r. FnOnceReturnsAtMut F.FnOnce change value.old r value.new) }
+        ensures added { IfOk result (λ r. OnOk r (self.new ≡ self.old ++ unfinished keys.items ∷ [])) }
+        ensures left_out { IfOk result (λ r. OnErr r (self.new ≡ self.old)) }
         ensures err { OnErr result (self.new ≡ self.old) }
+        ensures unchanged { OnErr result (value.new ≡ value.old) }
     {
         self.chains.reserve(&keys)?;
+        make_room(self.dropped, &self.nodes, &mut self.ready)?;
         let at = self.nodes.len();
         let number = self.dropped + at;
-        make_room(self.dropped, &self.nodes, &mut self.ready)?;
         let node = Node {
             finished: false,
             waits: 0,
             keys,
         };
         self.nodes.push_back(node)?;
+        if let Err(fault) = change(value) {
+            let _ = self.nodes.pop_back();
+            return Ok(Err(fault));
+        }
         let waits = link(&mut self.chains, &self.nodes[at].keys, number);
         self.nodes[at].waits = waits;
         self.ready.insert_if(number, waits == 0);
-        Ok(number)
+        Ok(Ok(()))
     }
 
     /// Adds a finished node without keys, where all nodes are finished. Does not allocate.
@@ -350,123 +364,5 @@ impl Graph {
             node += self.ready.skip(node);
         }
         None
-    }
-}
-
-/// A graph with room for one node more, which can then be added, or not, without memory.
-#[derive(Drop)]
-pub struct Reserved {
-    dropped: usize,
-    nodes: VecDeque<Node>,
-    chains: Chains,
-    ready: Ready,
-}
-
-impl Model for Reserved {
-    ghost use Rattle.dependency_graph.specs.Graphs.{Awaiting, awaiting_code};
-    ghost use Rattle.dependency_graph.specs.Kept.{awaiting_of};
-    ghost use Rattle.dependency_graph.specs.Held.{IsRoom};
-
-    ghost Value = { Awaiting };
-
-    ghost coded = { awaiting_code };
-
-    ghost view = { λ r. awaiting_of r.dropped r.nodes.items };
-
-    ghost invariant = { λ r. IsRoom r.dropped r.nodes.items r.chains r.ready };
-}
-
-impl Graph {
-    /// Makes room for a node that touches these keys, each named once. Without memory the graph comes back.
-    pub fn reserve(self, keys: Vec<Key>) -> Result<Reserved, Graph>
-        requires room { length self < 4294967294 }
-        requires distinct { AllPairs (λ a b. a ≢ b) keys.items }
-        ensures ok { IfOk result (λ r. r ≡ record { nodes = self; keys = keys.items }) }
-        ensures err { IfErr result (λ graph. graph ≡ self) }
-    {
-        let Graph {
-            dropped,
-            mut nodes,
-            mut chains,
-            mut ready,
-        } = self;
-        let Ok(()) = chains.reserve(&keys) else {
-            return Err(Graph {
-                dropped,
-                nodes,
-                chains,
-                ready,
-            });
-        };
-        let Ok(()) = make_room(dropped, &nodes, &mut ready) else {
-            return Err(Graph {
-                dropped,
-                nodes,
-                chains,
-                ready,
-            });
-        };
-        let node = Node {
-            finished: false,
-            waits: 0,
-            keys,
-        };
-        let Ok(()) = nodes.push_back(node) else {
-            return Err(Graph {
-                dropped,
-                nodes,
-                chains,
-                ready,
-            });
-        };
-        Ok(Reserved {
-            dropped,
-            nodes,
-            chains,
-            ready,
-        })
-    }
-}
-
-impl Reserved {
-    /// Adds the node.
-    pub fn add(self) -> Graph
-        ensures { result ≡ self.nodes ++ unfinished self.keys ∷ [] }
-    {
-        let Reserved {
-            dropped,
-            mut nodes,
-            mut chains,
-            mut ready,
-        } = self;
-        let at = nodes.len() - 1;
-        let waits = link(&mut chains, &nodes[at].keys, dropped + at);
-        nodes[at].waits = waits;
-        ready.insert_if(dropped + at, waits == 0);
-        Graph {
-            dropped,
-            nodes,
-            chains,
-            ready,
-        }
-    }
-
-    /// Leaves the node out.
-    pub fn cancel(self) -> Graph
-        ensures { result ≡ self.nodes }
-    {
-        let Reserved {
-            dropped,
-            mut nodes,
-            chains,
-            ready,
-        } = self;
-        let _ = nodes.pop_back();
-        Graph {
-            dropped,
-            nodes,
-            chains,
-            ready,
-        }
     }
 }

@@ -1,4 +1,5 @@
-use Rattle.std.proofs.Common.{rules, ◌≡◌, ◌≢◌, not, ◌&&◌, ◌∷◌, ◌++◌, [], ◌+◌, ◌<◌, refl, sym, ap, ◌∙◌, subst, length, false, arith}
+use Rattle.std.proofs.lemmas.List.{length_push}
+use Rattle.std.proofs.Common.{rules, ◌-◌, take, deque_len, ◌≡◌, ◌≢◌, not, ◌&&◌, ◌∷◌, ◌++◌, [], ◌+◌, ◌<◌, refl, sym, ap, ◌∙◌, subst, length, false, arith}
 use Rattle.dependency_graph.specs.Graphs.{unfinished}
 use Rattle.dependency_graph.specs.Kept.{LinksAll, CountsAll}
 use Rattle.dependency_graph.proofs.Kept.{length_points}
@@ -9,23 +10,23 @@ use Rattle.std.specs.Prelude.{nat_eq}
 use Rattle.std.specs.List.{AllPairs}
 use Rattle.dependency_graph.specs.Held.{IsHeld}
 use Rattle.dependency_graph.specs.Ready.{IsListing, is_unblocked_at}
-use Rattle.dependency_graph.proofs.Listing.{listed_pushed}
-use Rattle.dependency_graph.proofs.graph.Graph.add.Goals as goal
+use Rattle.dependency_graph.proofs.Listing.{listed_pushed, take_front}
+use Rattle.dependency_graph.proofs.graph.Graph.add_with.Goals as goal
 
 pub invariant_of-self : goal.invariant_of-self
-invariant_of-self c = record {
+invariant_of-self g c = record {
   kept = kept_reserved c.self.inside.dropped c.self.inside.nodes.items c.self.inside.chains c.reserve.new.self c.reserve.ensures.same c.self.invariant.kept;
   listed = c.self.invariant.listed;
 }
 
 pub make_room-requires : goal.make_room-requires
-make_room-requires c =
+make_room-requires g c =
     let size = length_points c.self.inside.dropped c.self.inside.nodes.items in
     let same = ap length c.self.view_is in
     omega (size, same, c.requires.room, arith)
 
 pub invariant_of-self-in_err-make_room : goal.invariant_of-self-in_err-make_room
-invariant_of-self-in_err-make_room c =
+invariant_of-self-in_err-make_room g c =
     let d = c.self.inside.dropped in
     let nodes = c.self.inside.nodes.items in
     record {
@@ -34,7 +35,7 @@ invariant_of-self-in_err-make_room c =
     }
 
 pub link-waits-requires-clause-distinct : goal.link-waits-requires-clause-distinct
-link-waits-requires-clause-distinct c =
+link-waits-requires-clause-distinct g c =
     let nodes = c.self.inside.nodes.items in
     let node : Node = record { finished = false; waits = 0; keys = c.args.keys } in
     let at : c.len-at.result ≡ length nodes = search rules in
@@ -42,7 +43,7 @@ link-waits-requires-clause-distinct c =
     subst (AllPairs (λ a b. a ≢ b)) (sym keys) c.requires.distinct
 
 pub invariant_of-self-in_err-push_back : goal.invariant_of-self-in_err-push_back
-invariant_of-self-in_err-push_back c =
+invariant_of-self-in_err-push_back g c =
     let d = c.self.inside.dropped in
     let nodes = c.self.inside.nodes.items in
     subst (λ ns. IsHeld d ns c.reserve.new.self c.make_room.new.ready) (sym c.in_err-push_back.ensures.items) (record {
@@ -51,7 +52,7 @@ invariant_of-self-in_err-push_back c =
     })
 
 pub invariant_of-self-2 : goal.invariant_of-self-2
-invariant_of-self-2 c =
+invariant_of-self-2 g c =
     let d = c.self.inside.dropped in
     let nodes = c.self.inside.nodes.items in
     let node : Node = record { finished = false; waits = 0; keys = c.args.keys } in
@@ -77,10 +78,26 @@ invariant_of-self-2 c =
     }
 
 pub returns-clause-added : goal.returns-clause-added
-returns-clause-added c =
+returns-clause-added g c =
     let d = c.self.inside.dropped in
     let nodes = c.self.inside.nodes.items in
     let node : Node = record { finished = false; waits = 0; keys = c.args.keys } in
     let at : c.len-at.result ≡ length nodes = search rules in
     points_pushed d nodes c.push_back.new.self.items node c.index_mut.result.now c.len-at.result c.args.keys.items c.link-waits.result at c.in_ok-push_back.ensures.items c.index_mut.ensures.value refl refl
     ∙ ap (λ ps. ps ++ unfinished c.args.keys.items ∷ []) c.self.view_is
+
+pub invariant_of-self-in-Err : goal.invariant_of-self-in-Err
+invariant_of-self-in-Err g c =
+    let d = c.self.inside.dropped in
+    let nodes = c.self.inside.nodes.items in
+    let node : Node = record { finished = false; waits = 0; keys = c.args.keys } in
+    let pushed : c.push_back.new.self.items ≡ nodes ++ node ∷ [] = c.in_ok-push_back.ensures.items in
+    let longer = ap length pushed in
+    let more = length_push nodes node in
+    let size : deque_len c.push_back.new.self ≡ length c.push_back.new.self.items = search rules in
+    let fewer : deque_len c.push_back.new.self - 1 ≡ length nodes = omega (size, longer, more, arith) in
+    let left : c.pop_back.new.self.items ≡ nodes = c.pop_back.ensures.rest ∙ ap (λ n. take n c.push_back.new.self.items) fewer ∙ ap (take (length nodes)) pushed ∙ take_front nodes (node ∷ []) in
+    subst (λ ns. IsHeld d ns c.reserve.new.self c.make_room.new.ready) (sym left) (record {
+      kept = kept_reserved d nodes c.self.inside.chains c.reserve.new.self c.reserve.ensures.same c.self.invariant.kept;
+      listed = c.make_room.ensures.same c.self.invariant.listed;
+    })
