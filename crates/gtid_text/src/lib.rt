@@ -16,6 +16,7 @@
 //! before.
 #![tactic(auto)]
 
+mod counting;
 mod fault;
 pub mod laws;
 mod scan;
@@ -29,6 +30,7 @@ ghost use Rattle.std.specs.Cmp.Rules.{comparing, hashing};
 ghost use Rattle.std.specs.Hash as fed;
 ghost use Rattle.std.proofs.Common.{rules};
 
+pub use counting::count_sources;
 pub use fault::TextFault;
 pub use set_text::{parse_gtid, parse_source, parse_spans};
 use std::cmp::Ordering;

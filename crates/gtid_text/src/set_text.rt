@@ -144,7 +144,7 @@ fn element(rest: &[u8]) -> Result<(Option<SourceId>, &[u8]), ScanFault>
 }
 
 #[tactic(auto, unfolding(crate::specs::Reading::turn_at))]
-fn turn(
+pub(crate) fn turn(
     inside: Option<SourceId>,
     rest: &[u8],
 ) -> Result<Option<(Option<Span>, Option<SourceId>, &[u8])>, ScanFault>

@@ -10,6 +10,7 @@ use Rattle.std.proofs.lemmas.Option.{same_Some}
 use Rattle.gtid_text.specs.declared.Span.{Span}
 use Rattle.gtid_text.specs.declared.scan.ScanFault.{ScanFault}
 use Rattle.gtid_text.specs.Canonical.{spans_text}
+use Rattle.gtid_text.specs.Counting.{are_tidy_behind}
 use Rattle.gtid_text.specs.Reading.{spans_in}
 use Rattle.gtid_text.proofs.Found.{read_spells}
 use Rattle.gtid_text.proofs.Turns.{chosen}
@@ -26,7 +27,7 @@ use Rattle.gtid_set.proofs.SetLemmas.{same_members, union_empty}
 use Rattle.gtid_set.proofs.SetSources.{fewer_sources}
 use Rattle.gtid_set.proofs.SpanLemmas.{all_weaker, before_trans, merged_front}
 use Rattle.gtid_set.proofs.TextLemmas.{spelled_filled}
-use Rattle.journal_words.specs.Gtids.{is_ascii_byte, if_ascii, are_tidy_behind, some_tidy, tidy_or_none, spans_of_word, set_with, IsWordFault}
+use Rattle.journal_words.specs.Gtids.{is_ascii_byte, if_ascii, some_tidy, tidy_or_none, spans_of_word, set_with, IsWordFault}
 use Rattle.row_images.specs.Values.{where_same}
 use Rattle.row_images.proofs.ValueLaws.{where_same-found}
 

@@ -7,6 +7,7 @@ use Rattle.gtid_text.specs.declared.Gtid.{Gtid}
 use Rattle.gtid_text.specs.declared.Span.{Span}
 use Rattle.gtid_text.specs.declared.scan.ScanFault.{ScanFault}
 use Rattle.gtid_text.specs.Canonical.{source_text, gtid_text, spans_text}
+use Rattle.gtid_text.specs.Counting.{are_tidy_behind}
 use Rattle.gtid_text.specs.Reading.{source_in, gtid_in, spans_in}
 use Rattle.gtid_set.specs.declared.fault.SetFault.{SetFault}
 use Rattle.gtid_set.specs.Full.{HasManySources, HasManyIntervals, IsMemoryOr}
@@ -32,16 +33,6 @@ abbrev pub gtid_of_word : List ℕ → Option Gtid
 gtid_of_word word = if_ascii word (same_or_none gtid_text word (gtid_in word))
 
 -- ---- sets
-
--- an interval comes after another, with a number missing between where both are of one source
-abbrev pub is_behind : Span → Span → Bool
-is_behind earlier span = nat_lt earlier.source span.source || ((earlier.source == span.source) && nat_lt (earlier.hi + 1) span.lo)
-
--- each interval comes after the one before it
-abbrev pub are_tidy_behind : Option Span → List Span → Bool
-are_tidy_behind before [] = true
-are_tidy_behind None (s ∷ ss) = are_tidy_behind (Some s) ss
-are_tidy_behind (Some earlier) (s ∷ ss) = is_behind earlier s && are_tidy_behind (Some s) ss
 
 abbrev pub some_tidy : List ℕ → List Span → Option (List Span)
 some_tidy word [] = None

@@ -3,11 +3,12 @@ ghost use Rattle.std.specs.Prelude.{◌≡◌, ◌++◌, true, false, IfOk, IfEr
 ghost use Rattle.std.specs.String.{string_bytes};
 ghost use Rattle.std.specs.List.{list_all};
 ghost use Rattle.gtid_text.specs.Canonical.{source_text, gtid_text, spans_text};
+ghost use Rattle.gtid_text.specs.Counting.{are_tidy_behind};
 ghost use Rattle.row_images.specs.Values.{where_same};
 ghost use Rattle.std.specs.Str.{bytes_eq};
 ghost use Rattle.std.specs.FinSet as set;
 ghost use Rattle.gtid_set.specs.Spans.{is_merged};
-ghost use Rattle.journal_words.specs.Gtids.{is_ascii_byte, source_of_word, gtid_of_word, is_behind, are_tidy_behind, some_tidy, spans_of_word, set_with, set_of_word, IsWordFault};
+ghost use Rattle.journal_words.specs.Gtids.{is_ascii_byte, source_of_word, gtid_of_word, some_tidy, spans_of_word, set_with, set_of_word, IsWordFault};
 
 use gtid_set::{GtidSet, SetFault};
 use gtid_text::{
@@ -90,14 +91,6 @@ pub fn gtid_word(alloc: Global, word: &[u8]) -> Result<Option<Gtid>, AllocError>
     }
 }
 
-/// Whether a span comes after another, with a gap between where both are of one source.
-fn is_behind(earlier: &Span, span: &Span) -> bool
-    ensures { result ≡ is_behind earlier.now span.now }
-{
-    earlier.source < span.source
-        || (earlier.source == span.source && earlier.hi < span.lo && 1 < span.lo - earlier.hi)
-}
-
 /// Whether each span comes after the one before it.
 fn are_tidy(spans: &[Span]) -> bool
     ensures { result ≡ are_tidy_behind None spans.now }
@@ -105,7 +98,7 @@ fn are_tidy(spans: &[Span]) -> bool
     let mut before: Option<&Span> = None;
     for span in spans {
         if let Some(earlier) = before
-            && !is_behind(earlier, span)
+            && !span.is_behind(earlier)
         {
             return false;
         }

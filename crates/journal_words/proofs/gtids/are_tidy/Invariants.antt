@@ -1,5 +1,5 @@
 use Rattle.std.proofs.Common.{◌≡◌, drop, None, option_map}
-use Rattle.journal_words.specs.Gtids.{are_tidy_behind}
+use Rattle.gtid_text.specs.Counting.{are_tidy_behind}
 use Rattle.journal_words.proofs.gtids.are_tidy.Given as goal
 
 abbrev pub invariant-loop-span : goal.invariant-loop-span
