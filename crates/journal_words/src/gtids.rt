@@ -1,5 +1,5 @@
 //! Sources, GTIDs and sets of them as words.
-ghost use Rattle.std.specs.Prelude.{◌≡◌, ◌++◌, true, false, IfOk, IfErr, OnOk, IfSome, IfNone, Some, None, option_map};
+ghost use Rattle.std.specs.Prelude.{◌≡◌, ◌++◌, true, false, Err, IfOk, IfErr, OnOk, IfSome, IfNone, Some, None, option_map};
 ghost use Rattle.std.specs.String.{string_bytes};
 ghost use Rattle.std.specs.List.{list_all};
 ghost use Rattle.gtid_text.specs.Canonical.{source_text, gtid_text, spans_text};
@@ -8,12 +8,14 @@ ghost use Rattle.row_images.specs.Values.{where_same};
 ghost use Rattle.std.specs.Str.{bytes_eq};
 ghost use Rattle.std.specs.FinSet as set;
 ghost use Rattle.gtid_set.specs.Spans.{is_merged};
-ghost use Rattle.journal_words.specs.Gtids.{is_ascii_byte, source_of_word, gtid_of_word, some_tidy, spans_of_word, set_with, set_of_word, IsWordFault};
+ghost use Rattle.journal_words.specs.Gtids.{is_ascii_byte, source_of_word, gtid_of_word, some_tidy, spans_of_word, set_with, set_of_word, OfParsed, IsWordFault};
+ghost use Rattle.gtid_set.specs.Full.{HasManySources};
+ghost use Rattle.gtid_set.specs.declared.fault.SetFault.TheVariants.{SourcesFull};
 
 use gtid_set::{GtidSet, SetFault};
 use gtid_text::{
-    Gtid, SourceId, Span, TextFault, parse_gtid, parse_source, parse_spans, write_gtid,
-    write_next_span, write_source,
+    Gtid, SourceId, Span, TextFault, count_sources, parse_gtid, parse_source, parse_spans,
+    write_gtid, write_next_span, write_source,
 };
 use std::alloc::{AllocError, Global};
 
@@ -173,13 +175,58 @@ fn set_of(alloc: Global, spans: &[Span]) -> Result<GtidSet, SetFault>
     Ok(set)
 }
 
-/// The set that the word parses as: canonical set text, or `-` for the empty set.
-pub fn set_word(alloc: Global, word: &[u8]) -> Result<Option<GtidSet>, SetFault>
+/// The most sources that a set may have.
+const MOST_SOURCES: usize = 65_536;
+
+/// Whether the set that the word parses as has too many sources. It does not allocate.
+#[tactic(auto, using(crate::proofs::SourceCount::empty_set, crate::proofs::SourceCount::no_set, crate::proofs::SourceCount::many_counted, crate::proofs::SourceCount::few_counted, crate::proofs::SourceCount::none_counted))]
+#[cold]
+#[inline(never)]
+fn has_many_sources(word: &[u8]) -> bool
+    ensures many { result ≡ true → OfParsed HasManySources (set_of_word word.now) }
+    ensures few { result ≡ false → OfParsed HasManySources (set_of_word word.now) → ⊥ }
+{
+    if word == b"-".as_slice() {
+        return false;
+    }
+    if !is_ascii(word) {
+        return false;
+    }
+    match count_sources(word) {
+        Some(sources) => sources > MOST_SOURCES,
+        None => false,
+    }
+}
+
+/// The set that the word parses as. A fault is the first that was met.
+fn parse_set(alloc: Global, word: &[u8]) -> Result<Option<GtidSet>, SetFault>
     ensures found { IfOk result (λ found. found ≡ set_of_word word.now) }
     ensures fault { IfErr result (λ f. IsWordFault f (set_of_word word.now)) }
 {
     match spans_word(alloc, word)? {
         Some(spans) => Ok(Some(set_of(alloc, &spans)?)),
         None => Ok(None),
+    }
+}
+
+/// The set that the word parses as: canonical set text, or `-` for the empty set. One with too many sources is refused for them, whatever
+/// memory there is.
+pub fn set_word(alloc: Global, word: &[u8]) -> Result<Option<GtidSet>, SetFault>
+    ensures found { IfOk result (λ found. found ≡ set_of_word word.now) }
+    ensures fault { IfErr result (λ f. IsWordFault f (set_of_word word.now)) }
+    ensures room { OfParsed HasManySources (set_of_word word.now) → result ≡ Err SourcesFull }
+{
+    match parse_set(alloc, word) {
+        Ok(Some(set)) => {
+            set.keeps_limits();
+            Ok(Some(set))
+        }
+        Ok(None) => Ok(None),
+        Err(fault) => {
+            if has_many_sources(word) {
+                return Err(SetFault::SourcesFull);
+            }
+            Err(fault)
+        }
     }
 }
