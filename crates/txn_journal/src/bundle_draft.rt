@@ -557,7 +557,12 @@ impl BundleDraft {
     }
 
     /// Takes the next line, which writes this change, or returns its first fault.
-    pub fn take_change(&mut self, alloc: Global, line: &[u8], change: Change) -> Result<(), LineFault>
+    pub fn take_change(
+        &mut self,
+        alloc: Global,
+        line: &[u8],
+        change: Change,
+    ) -> Result<(), LineFault>
         requires { change_in line.now ≡ Ok change }
         ensures { TakesLine IsFullBundle result (judge_bundle (bundle_standing self.old) line.now) (bundle_standing self.new) }
     {

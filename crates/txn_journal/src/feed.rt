@@ -202,9 +202,7 @@ impl<T: TakeChange> Feed<T> {
         if let Err(fault) = self.answer() {
             return Err(fault);
         }
-        if let Err(fault) = self.take_parsed(alloc, piece) {
-            self.stopped = Some(fault);
-        }
+        self.stopped = self.take_parsed(alloc, piece).err();
         self.answer()
     }
 
@@ -225,7 +223,12 @@ impl<T: TakeChange> Feed<T> {
     }
 
     /// Takes a line, and the change that it writes, where that was read.
-    fn take_either(&mut self, alloc: Global, line: &[u8], change: Option<Change>) -> Result<(), JournalFault>
+    fn take_either(
+        &mut self,
+        alloc: Global,
+        line: &[u8],
+        change: Option<Change>,
+    ) -> Result<(), JournalFault>
         requires goes { self.old.stopped ≡ None }
         requires whole { IsOneLine line.now }
         requires written { HasChange line.now change }
@@ -244,7 +247,12 @@ impl<T: TakeChange> Feed<T> {
     }
 
     /// Takes the line that writes this change.
-    fn take_change(&mut self, alloc: Global, line: &[u8], change: Change) -> Result<(), JournalFault>
+    fn take_change(
+        &mut self,
+        alloc: Global,
+        line: &[u8],
+        change: Change,
+    ) -> Result<(), JournalFault>
         requires goes { self.old.stopped ≡ None }
         requires first { self.old.rest.items ≡ [] }
         requires whole { IsOneLine line.now }
@@ -252,12 +260,13 @@ impl<T: TakeChange> Feed<T> {
         ensures next { TakesPiece (IsPieceFault T.full T.judge (progress self.old) (line.now ++ 10 ∷ [])) result (progress self.new) (feed_bytes T.judge (progress self.old) (line.now ++ 10 ∷ [])) }
         ensures goes { self.new.stopped ≡ None }
     {
-        self.lines = self.lines.saturating_add(1);
+        let number = self.lines.saturating_add(1);
+        self.lines = number;
         match self.made.take_change(alloc, line, change) {
             Ok(()) => Ok(()),
             Err(LineFault::Set(fault)) => Err(JournalFault::Set(fault)),
             Err(LineFault::Wrong(cause)) => Err(JournalFault::Line {
-                line: self.lines,
+                line: number,
                 cause,
             }),
         }

@@ -12,4 +12,4 @@ pub returns-then-is_within : goal.returns-then-is_within
 returns-then-is_within c =
     let part : c.args.self.now.part ≡ parts.Journal = search rules in
     subst (λ (r : Result BundleStanding Cause). TakesLine IsFullBundle c.add_change.result r (bundle_standing c.add_change.new.self))
-      (sym (bundle_adds (bundle_standing c.args.self.now) c.args.line.now c.args.change c.requires part (sym c.is_within.ensures ∙ c.if-is_within.true))) c.add_change.ensures
+    (sym (bundle_adds (bundle_standing c.args.self.now) c.args.line.now c.args.change c.requires part (sym c.is_within.ensures ∙ c.if-is_within.true))) c.add_change.ensures
