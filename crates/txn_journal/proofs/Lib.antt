@@ -1,6 +1,7 @@
 pub mod Seen
 pub mod LineCuts
 pub mod Pieces
+pub mod ParsedLaws
 pub mod NameLemmas
 pub mod ImageLaws
 pub mod ImageParts
@@ -21,6 +22,7 @@ pub mod ShapeLaws
 pub mod OwnReads
 pub mod TableSteps
 pub mod InnerSteps
+pub mod ChangeSteps
 pub mod BundleSound
 pub mod BundleLaws
 pub mod BundleKept

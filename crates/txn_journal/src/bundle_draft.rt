@@ -18,7 +18,7 @@ use journal::Entry;
 use journal_words::{set_word, source_word};
 use logical_timestamps::LastWriters;
 use row_images::cut;
-use rows::{Name, Row, Rows, Schema};
+use rows::{Change, Name, Row, Rows, Schema};
 use std::alloc::{AllocError, Global};
 use std::mem;
 
@@ -177,6 +177,8 @@ impl BundleDraft {
     ghost use Rattle.txn_journal.specs.Stream.{TakesLine, GivesFull, IsRefusedWhereFull};
     ghost use Rattle.txn_journal.specs.BundleStates.{IsFullBundle, IsInFirstVersion, no_bundle, is_done, version_line, replica_line, opening_line, add_table_line, row_line, put_row, after_tables, channel_line, join_channel, done_line, own_step, judge_own, after_inner, end_entry, close_channel, judge_inner, judge_bundle};
     ghost use Rattle.txn_journal.specs.BundleDrafts.{bundle_standing};
+    ghost use Rattle.txn_journal.specs.ChangeLines.{change_in};
+    ghost use Rattle.txn_journal.specs.BundleChanges.{with_change};
 
     /// Before the first line.
     pub fn start(alloc: Global, due: Option<Version>) -> BundleDraft
@@ -544,5 +546,29 @@ impl BundleDraft {
             return self.take_inside(alloc, line);
         }
         self.take_own(alloc, line)
+    }
+
+    /// Adds a change to the entry that is open.
+    fn add_change(&mut self, change: Change) -> Result<(), LineFault>
+        requires { is_within (standing self.old.draft).place ≡ true }
+        ensures { TakesLine IsFullBundle result (with_change (bundle_standing self.old) change) (bundle_standing self.new) }
+    {
+        self.draft.add(Some(self.bundle.schema()), change)
+    }
+
+    /// Takes the next line, which writes this change, or returns its first fault.
+    pub fn take_change(
+        &mut self,
+        alloc: Global,
+        line: &[u8],
+        change: Change,
+    ) -> Result<(), LineFault>
+        requires { change_in line.now ≡ Ok change }
+        ensures { TakesLine IsFullBundle result (judge_bundle (bundle_standing self.old) line.now) (bundle_standing self.new) }
+    {
+        if self.part == Part::Journal && self.draft.is_within() {
+            return self.add_change(change);
+        }
+        self.take_line(alloc, line)
     }
 }

@@ -10,8 +10,10 @@ ghost use Rattle.txn_journal.specs.BundleReading.{bundle_start, IsFaultOfBundle,
 use crate::bundle::Bundle;
 use crate::bundle_draft::BundleDraft;
 use crate::fault::{JournalFault, LineFault};
-use crate::feed::{Feed, TakeLine};
+use crate::feed::{Feed, TakeChange, TakeLine};
 use crate::lines::Version;
+use crate::parsed_lines::ParsedLines;
+use rows::Change;
 use std::alloc::Global;
 use std::marker::Model;
 
@@ -87,6 +89,18 @@ impl TakeLine for Lines {
     }
 }
 
+impl TakeChange for Lines {
+    fn take_change(&mut self, alloc: Global, line: &[u8], change: Change) -> Result<(), LineFault> {
+        match self.draft.take_change(alloc, line, change) {
+            Ok(()) => Ok(()),
+            Err(fault) => {
+                self.draft.start_again(alloc);
+                Err(fault)
+            }
+        }
+    }
+}
+
 /// Reads a bundle that comes in pieces, cut anywhere.
 #[derive(Drop)]
 pub struct BundleReader {
@@ -94,7 +108,7 @@ pub struct BundleReader {
 }
 
 impl BundleReader {
-    ghost use Rattle.std.specs.Prelude.{IfSome, Err};
+    ghost use Rattle.std.specs.Prelude.{IfSome, IfNone, IsOk, Err};
     ghost use Rattle.txn_journal.specs.Stream.{answer, NamesSources};
     ghost use Rattle.txn_journal.specs.BundleStates.{judge_bundle, IsFullBundle, IsInFirstVersion};
     ghost use Rattle.txn_journal.specs.Formats.{FeedsBy};
@@ -127,10 +141,19 @@ impl BundleReader {
         self.feed.feed(alloc, piece)
     }
 
+    /// Takes the next piece, whose lines were parsed. After an error every later call returns that error.
+    pub fn feed_parsed(&mut self, alloc: Global, piece: ParsedLines<'_>) -> Result<(), JournalFault>
+        ensures next { FeedsBy (bundles None) (bundle_reading self.old) piece.entry (bundle_reading self.new) }
+        ensures answer { result ≡ answer (bundle_reading self.new) }
+    {
+        self.feed.feed_parsed(alloc, piece)
+    }
+
     /// What is wrong with the text as a whole, if anything is: the fault that `finish` returns.
     #[tactic(auto, unfolding(crate::specs::Formats::closing_by))]
     pub fn fault(&self) -> Option<JournalFault>
-        ensures { IfSome result (λ fault. closing_bundle (bundle_reading self.now) ≡ Err fault) }
+        ensures some { IfSome result (λ fault. closing_bundle (bundle_reading self.now) ≡ Err fault) }
+        ensures none { IfNone result (IsOk (closing_bundle (bundle_reading self.now))) }
     {
         let is_ended = self.feed.made.is_ended();
         match self.feed.end(is_ended) {

@@ -308,8 +308,10 @@ impl Draft {
     }
 
     #[tactic(auto, unfolding(crate::specs::Machine::add))]
-    fn add(&mut self, schema: Option<&Schema>, change: Change) -> Result<(), LineFault>
-        ensures { TakesLine IsFull result (add (option_map (λ tables. tables.now) schema.entry) (standing self.old) change) (standing self.new) }
+    /// Adds a change to the entry that is open.
+    pub fn add(&mut self, schema: Option<&Schema>, change: Change) -> Result<(), LineFault>
+        ensures line { TakesLine IsFull result (add (option_map (λ tables. tables.now) schema.entry) (standing self.old) change) (standing self.new) }
+        ensures journal { (standing self.new).journal ≡ (standing self.old).journal }
     {
         if self.changes.len() >= MAX_CHANGES || !is_change_writable(&change) {
             return Err(LineFault::Wrong(Cause::Limit));
@@ -343,6 +345,13 @@ impl Draft {
         ensures { result ≡ (is_within (standing self.now).place && bytes_eq line.now (codes "end")) }
     {
         self.place == Place::Within && line == b"end".as_slice()
+    }
+
+    /// Whether an entry is open.
+    pub fn is_within(&self) -> bool
+        ensures { result ≡ is_within (standing self.now).place }
+    {
+        self.place == Place::Within
     }
 
     /// Whether the lines before the first entry have come.

@@ -1,11 +1,14 @@
 //! Lines out of pieces.
-ghost use Rattle.std.specs.Prelude.{◌≡◌, IfSome, IfNone};
+ghost use Rattle.std.specs.Prelude.{◌≡◌, Ok, IfSome, IfNone};
 ghost use Rattle.gtid_set.specs.declared.fault.SetFault.{SetFault};
 ghost use Rattle.txn_journal.specs.Words.{IsOneLine, BeginsWithLine};
 ghost use Rattle.txn_journal.specs.Stream.{Judge, TakesLine, IsRefusedWhereFull};
+ghost use Rattle.txn_journal.specs.ChangeLines.{change_in};
 
 use crate::fault::{Cause, JournalFault, LineFault};
+use crate::parsed_lines::{ParsedLine, ParsedLines};
 use memchr::memchr;
+use rows::Change;
 use std::alloc::Global;
 
 /// The first line of a text, and what follows its line feed.
@@ -37,6 +40,14 @@ pub trait TakeLine {
     fn take_line(&mut self, alloc: Global, line: &[u8]) -> Result<(), LineFault>
         ensures line { TakesLine full result (judge self.old line.now) self.new }
         ensures room { counts self.old → IsRefusedWhereFull full result (judge self.old line.now) };
+}
+
+/// What takes lines of changes that were read beforehand, too.
+pub trait TakeChange: TakeLine {
+    /// Takes the next line, which writes this change, or returns its first fault.
+    fn take_change(&mut self, alloc: Global, line: &[u8], change: Change) -> Result<(), LineFault>
+        requires { change_in line.now ≡ Ok change }
+        ensures { TakesLine Self.full result (Self.judge self.old line.now) self.new };
 }
 
 /// A text that comes in pieces, as far as it has come.
@@ -173,5 +184,91 @@ impl<T: TakeLine> Feed<T> {
         self.made.take_line(alloc, &self.rest)?;
         self.rest.clear();
         Ok(())
+    }
+}
+
+impl<T: TakeChange> Feed<T> {
+    ghost use Rattle.std.specs.Prelude.{[], ◌∷◌, ◌++◌, None, OnOk};
+    ghost use Rattle.txn_journal.specs.Stream.{feed_bytes, IsPieceFault, Feeds, TakesPiece, answer};
+    ghost use Rattle.txn_journal.specs.ChangeLines.{HasChange};
+    ghost use Rattle.txn_journal.specs.ParsedTexts.{lines_in};
+    ghost use Rattle.txn_journal.specs.Feeds.{progress};
+
+    /// Takes the next piece, whose lines were parsed. After an error every later call returns that error.
+    pub fn feed_parsed(&mut self, alloc: Global, piece: ParsedLines<'_>) -> Result<(), JournalFault>
+        ensures next { Feeds T.full T.judge (progress self.old) piece.entry (progress self.new) }
+        ensures answer { result ≡ answer (progress self.new) }
+    {
+        if let Err(fault) = self.answer() {
+            return Err(fault);
+        }
+        self.stopped = self.take_parsed(alloc, piece).err();
+        self.answer()
+    }
+
+    fn take_parsed(&mut self, alloc: Global, piece: ParsedLines<'_>) -> Result<(), JournalFault>
+        requires { self.old.stopped ≡ None }
+        ensures next { TakesPiece (IsPieceFault T.full T.judge (progress self.old) piece.entry) result (progress self.new) (feed_bytes T.judge (progress self.old) piece.entry) }
+        ensures goes { self.new.stopped ≡ None }
+    {
+        let (mut lines, rest) = piece.into_parts();
+        'parsed: while let Some(parsed) = lines.pop_front() {
+            let ParsedLine { line, change } = parsed;
+            match self.take_either(alloc, line, change) {
+                Ok(()) => {}
+                Err(fault) => return Err(fault),
+            }
+        }
+        self.take_piece(alloc, rest)
+    }
+
+    /// Takes a line, and the change that it writes, where that was read.
+    fn take_either(
+        &mut self,
+        alloc: Global,
+        line: &[u8],
+        change: Option<Change>,
+    ) -> Result<(), JournalFault>
+        requires goes { self.old.stopped ≡ None }
+        requires whole { IsOneLine line.now }
+        requires written { HasChange line.now change }
+        ensures next { TakesPiece (IsPieceFault T.full T.judge (progress self.old) (line.now ++ 10 ∷ [])) result (progress self.new) (feed_bytes T.judge (progress self.old) (line.now ++ 10 ∷ [])) }
+        ensures goes { self.new.stopped ≡ None }
+    {
+        match change {
+            Some(change) => if self.rest.is_empty() {
+                self.take_change(alloc, line, change)
+            } else {
+                // (the line's first bytes came in an earlier piece)
+                self.take_line(alloc, line)
+            },
+            None => self.take_line(alloc, line),
+        }
+    }
+
+    /// Takes the line that writes this change.
+    fn take_change(
+        &mut self,
+        alloc: Global,
+        line: &[u8],
+        change: Change,
+    ) -> Result<(), JournalFault>
+        requires goes { self.old.stopped ≡ None }
+        requires first { self.old.rest.items ≡ [] }
+        requires whole { IsOneLine line.now }
+        requires written { change_in line.now ≡ Ok change }
+        ensures next { TakesPiece (IsPieceFault T.full T.judge (progress self.old) (line.now ++ 10 ∷ [])) result (progress self.new) (feed_bytes T.judge (progress self.old) (line.now ++ 10 ∷ [])) }
+        ensures goes { self.new.stopped ≡ None }
+    {
+        let number = self.lines.saturating_add(1);
+        self.lines = number;
+        match self.made.take_change(alloc, line, change) {
+            Ok(()) => Ok(()),
+            Err(LineFault::Set(fault)) => Err(JournalFault::Set(fault)),
+            Err(LineFault::Wrong(cause)) => Err(JournalFault::Line {
+                line: number,
+                cause,
+            }),
+        }
     }
 }

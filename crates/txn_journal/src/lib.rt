@@ -35,6 +35,7 @@ mod lines;
 mod names;
 mod numbers;
 mod open_bundle;
+mod parsed_lines;
 mod reader;
 mod tables;
 mod timestamped_journal;
@@ -49,6 +50,7 @@ pub use laws::{
     one_bundle, one_spelling, rows_in_listed_order, taken_in_front, timestamped_read_back,
     upgrade_keeps_bundle,
 };
+pub use parsed_lines::ParsedLines;
 pub use reader::{Reader, any_cut, decode, decode_v2};
 pub use timestamped_journal::TimestampedJournal;
 pub use writer::{encode, encode_v2};

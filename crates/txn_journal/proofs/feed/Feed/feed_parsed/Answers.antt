@@ -1,0 +1,7 @@
+use Rattle.std.proofs.Common.{sym, ◌∙◌}
+use Rattle.txn_journal.specs.Feeds.{progress}
+use Rattle.txn_journal.proofs.Pieces.{stopped_at}
+use Rattle.txn_journal.proofs.feed.Feed.feed_parsed.Goals as goal
+
+pub returns-in-Err-clause-next : goal.returns-in-Err-clause-next
+returns-in-Err-clause-next g c = stopped_at g.T.TakeLine.judge _ (progress c.args.self.now) c.in-Err.fault c.args.piece (sym c.answer.ensures ∙ c.in-Err.is)
