@@ -1,16 +1,20 @@
 -- Where a bundle's line makes too many sources.
-use Rattle.std.proofs.Common.{◌≡◌, ℕ, ◌≤◌, inl, inr, Bool, true, false, cond, eqb, List, Option, Some, None, Result, Ok, Err, refl, sym, ap, subst, ◌∙◌, arith}
+use Rattle.std.proofs.Common.{◌≡◌, ℕ, ◌≤◌, inl, inr, Bool, true, false, cond, eqb, List, [], Option, Some, None, Result, Ok, Err, refl, sym, ap, subst, ◌∙◌, arith}
 use Rattle.std.specs.FinSet as set
 use Rattle.gtid_set.specs.declared.fault.SetFault.TheVariants.{SourcesFull}
-use Rattle.gtid_set.specs.Sets.{source_count, most_sources}
+use Rattle.gtid_set.specs.Sets.{Gtids, source_count, most_sources}
 use Rattle.gtid_set.specs.Full.{HasManySources}
 use Rattle.rows.specs.declared.schema.Table.{Table}
 use Rattle.journal.specs.Journals.{JournalValue}
-use Rattle.txn_journal.specs.Lines.{◌>>=◌}
+use Rattle.txn_journal.specs.Lines.{◌>>=◌, some_or_body}
 use Rattle.txn_journal.specs.Machine.{Standing, IsFull, is_last, open_entry, close_entry, judge}
 use Rattle.txn_journal.specs.Stamps.{right_stamp}
 use Rattle.txn_journal.specs.Stream.{GivesFull}
-use Rattle.txn_journal.specs.BundleStates.{BundleStanding, BundleValue, IsFullBundle, with_journal, after_inner, unless_misstamped, end_entry, judge_inner}
+use Rattle.journal_words.specs.Gtids.{set_of_word, OfParsed}
+use Rattle.txn_journal.specs.declared.bundle_draft.Part.TheVariants as parts
+use Rattle.txn_journal.specs.declared.bundle_draft.Word.{Word}
+use Rattle.txn_journal.specs.declared.bundle_draft.Word.TheVariants as words
+use Rattle.txn_journal.specs.BundleStates.{BundleStanding, BundleValue, bare, is_due_in, opening_line, IsFullBundle, with_journal, after_inner, unless_misstamped, end_entry, judge_inner}
 use Rattle.txn_journal.specs.declared.bundle.BundleChannel.{BundleChannel}
 use Rattle.txn_journal.specs.declared.fault.Cause.{Cause}
 use Rattle.txn_journal.specs.declared.fault.Cause.TheVariants as causes
@@ -63,3 +67,24 @@ full_ended s false room few h = h
 
 pub first_fits : (s : BundleStanding) → s.version ≡ One → (eqb s.draft.stamp 0 ≡ true → source_count (set.insert s.draft.seen s.draft.gtid) ≤ most_sources) → source_count s.bundle.opened ≤ most_sources → GivesFull (IsFullBundle SourcesFull) (end_entry s) → ⊥
 first_fits s one room few h = full_ended s (eqb s.draft.stamp 0) room few (subst (GivesFull (IsFullBundle SourcesFull)) (ended_first s one) h)
+
+-- ---- the line of the opening set
+
+opened_many : (s : BundleStanding) (found : Option Gtids) → (IsFull SourcesFull s.draft → ⊥) → GivesFull (IsFullBundle SourcesFull) (some_or_body found >>= λ opened. done (record s { part = parts.Tables; bundle = bare s.bundle.replica opened [] })) → OfParsed HasManySources found
+opened_many s None few h = h
+opened_many s (Some opened) few (inl h) = absurd (few h)
+opened_many s (Some opened) few (inr h) = h
+
+pub opening_many : (s : BundleStanding) (word : List ℕ) → (IsFull SourcesFull s.draft → ⊥) → GivesFull (IsFullBundle SourcesFull) (opening_line s (Some word)) → OfParsed HasManySources (set_of_word word)
+unfolding opening_line
+opening_many s word few h = opened_many s (set_of_word word) few h
+
+-- nothing else is due there
+pub opening_due : (w : Word) → is_due_in parts.Opening w ≡ true → w ≡ words.Opening
+opening_due words.Bundle e = absurd cc
+opening_due words.Replica e = absurd cc
+opening_due words.Opening e = refl
+opening_due words.Table e = absurd cc
+opening_due words.Row e = absurd cc
+opening_due words.Channel e = absurd cc
+opening_due words.Done e = absurd cc

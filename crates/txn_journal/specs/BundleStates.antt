@@ -65,12 +65,10 @@ no_bundle due = record { part = parts.Header; due = due; version = One; tables =
 abbrev pub IsFullBundle : SetFault → BundleStanding → Type 0
 IsFullBundle f s = IsFull f s.draft ⊎ IsFaultOf f s.bundle.opened
 
--- The next line is within an entry, in version 1. Where it ends the entry, the sources are counted before memory is asked for; in version 2
--- the entry's last_committed is computed first, which takes memory.
-pub record IsInFirstVersion (s : BundleStanding) : Type 0 where
-  pub part : s.part ≡ parts.Journal
-  pub version : s.version ≡ One
-  pub entry : IsInEntry s.draft
+-- Sources are counted before memory is asked for at the line of the opening set and at the lines of a journal, but for the one that ends an
+-- entry in version 2: its last_committed is computed first, which takes memory.
+abbrev pub CountsFirst : BundleStanding → Type 0
+CountsFirst s = (s.part ≡ parts.Opening) ⊎ ((s.part ≡ parts.Journal) × (IsInEntry s.draft → s.version ≡ One))
 
 abbrev pub is_done : Part → Bool
 is_done parts.Ended = true

@@ -72,7 +72,7 @@ is_within _ = false
 abbrev pub IsFull : SetFault → Standing → Type 0
 IsFull f s = (s.place ≡ places.Between) × IsFaultOf f s.seen
 
--- The next line is within an entry. Where it ends the entry, the sources are counted before memory is asked for.
+-- the next line is within an entry
 abbrev pub IsInEntry : Standing → Type 0
 IsInEntry s = s.place ≡ places.Within
 

@@ -173,9 +173,11 @@ impl BundleDraft {
     ghost use Rattle.txn_journal.specs.Drafts.{standing};
     ghost use Rattle.txn_journal.specs.Stamps.{right_stamp};
     ghost use Rattle.txn_journal.specs.declared.lines.Place.TheVariants.{Within};
+    ghost use Rattle.txn_journal.specs.declared.bundle_draft.Word.TheVariants as words;
+    ghost use Rattle.txn_journal.specs.declared.bundle_draft.Part.TheVariants as parts;
     ghost use Rattle.txn_journal.specs.declared.lines.Version.TheVariants.{One, Two};
     ghost use Rattle.txn_journal.specs.Stream.{TakesLine, GivesFull, IsRefusedWhereFull};
-    ghost use Rattle.txn_journal.specs.BundleStates.{IsFullBundle, IsInFirstVersion, no_bundle, is_done, version_line, replica_line, opening_line, add_table_line, row_line, put_row, after_tables, channel_line, join_channel, done_line, own_step, judge_own, after_inner, end_entry, close_channel, judge_inner, judge_bundle};
+    ghost use Rattle.txn_journal.specs.BundleStates.{IsFullBundle, CountsFirst, no_bundle, is_done, version_line, replica_line, opening_line, add_table_line, row_line, put_row, after_tables, channel_line, join_channel, done_line, own_step, judge_own, after_inner, end_entry, close_channel, judge_inner, judge_bundle};
     ghost use Rattle.txn_journal.specs.BundleDrafts.{bundle_standing};
     ghost use Rattle.txn_journal.specs.ChangeLines.{change_in};
     ghost use Rattle.txn_journal.specs.BundleChanges.{with_change};
@@ -228,7 +230,8 @@ impl BundleDraft {
     #[tactic(auto, unfolding(crate::specs::BundleStates::own_step))]
     /// Takes a line of the bundle's own.
     fn take(&mut self, alloc: Global, word: Word, rest: Option<&[u8]>) -> Result<(), LineFault>
-        ensures { TakesLine IsFullBundle result (own_step (bundle_standing self.old) word (option_map (λ r. r.now) rest.entry)) (bundle_standing self.new) }
+        ensures line { TakesLine IsFullBundle result (own_step (bundle_standing self.old) word (option_map (λ r. r.now) rest.entry)) (bundle_standing self.new) }
+        ensures room { word ≡ words.Opening → IsRefusedWhereFull IsFullBundle result (own_step (bundle_standing self.old) word (option_map (λ r. r.now) rest.entry)) }
     {
         match word {
             Word::Bundle => self.read_header(rest),
@@ -276,8 +279,10 @@ impl BundleDraft {
 
     #[tactic(auto, unfolding(crate::specs::BundleStates::opening_line))]
     fn begin_with(&mut self, alloc: Global, rest: Option<&[u8]>) -> Result<(), LineFault>
-        ensures { TakesLine IsFullBundle result (opening_line (bundle_standing self.old) (option_map (λ r. r.now) rest.entry)) (bundle_standing self.new) }
+        ensures line { TakesLine IsFullBundle result (opening_line (bundle_standing self.old) (option_map (λ r. r.now) rest.entry)) (bundle_standing self.new) }
+        ensures room { IsRefusedWhereFull IsFullBundle result (opening_line (bundle_standing self.old) (option_map (λ r. r.now) rest.entry)) }
     {
+        self.draft.keeps_limits();
         let Some(word) = rest else {
             return Err(LineFault::Wrong(Cause::Body));
         };
@@ -468,7 +473,7 @@ impl BundleDraft {
     /// Takes a line of the open channel's journal.
     fn take_inside(&mut self, alloc: Global, line: &[u8]) -> Result<(), LineFault>
         ensures line { TakesLine IsFullBundle result (judge_inner true (bundle_standing self.old) line.now) (bundle_standing self.new) }
-        ensures room { self.old.version ≡ One → IsInEntry (standing self.old.draft) → IsRefusedWhereFull IsFullBundle result (judge_inner true (bundle_standing self.old) line.now) }
+        ensures room { (IsInEntry (standing self.old.draft) → self.old.version ≡ One) → IsRefusedWhereFull IsFullBundle result (judge_inner true (bundle_standing self.old) line.now) }
     {
         if self.draft.ends_entry(line) {
             return self.end_counted(alloc);
@@ -481,7 +486,7 @@ impl BundleDraft {
     fn take_within(&mut self, alloc: Global, line: &[u8]) -> Result<(), LineFault>
         requires { (is_within (standing self.old.draft).place && bytes_eq line.now (codes "end")) ≡ false }
         ensures line { TakesLine IsFullBundle result (judge_inner true (bundle_standing self.old) line.now) (bundle_standing self.new) }
-        ensures room { IsInEntry (standing self.old.draft) → IsRefusedWhereFull IsFullBundle result (judge_inner true (bundle_standing self.old) line.now) }
+        ensures room { IsRefusedWhereFull IsFullBundle result (judge_inner true (bundle_standing self.old) line.now) }
     {
         if !self.draft.has_begun() {
             self.writers = None;
@@ -527,7 +532,8 @@ impl BundleDraft {
     #[tactic(auto, unfolding(crate::specs::BundleStates::judge_own))]
     #[inline(never)]
     fn take_own(&mut self, alloc: Global, line: &[u8]) -> Result<(), LineFault>
-        ensures { TakesLine IsFullBundle result (judge_own (bundle_standing self.old) line.now) (bundle_standing self.new) }
+        ensures line { TakesLine IsFullBundle result (judge_own (bundle_standing self.old) line.now) (bundle_standing self.new) }
+        ensures room { self.old.part ≡ parts.Opening → IsRefusedWhereFull IsFullBundle result (judge_own (bundle_standing self.old) line.now) }
     {
         let (word, rest) = cut(line);
         match word_at(word) {
@@ -540,7 +546,7 @@ impl BundleDraft {
     /// Takes the next line, or returns its first fault.
     pub fn take_line(&mut self, alloc: Global, line: &[u8]) -> Result<(), LineFault>
         ensures line { TakesLine IsFullBundle result (judge_bundle (bundle_standing self.old) line.now) (bundle_standing self.new) }
-        ensures room { IsInFirstVersion (bundle_standing self.old) → IsRefusedWhereFull IsFullBundle result (judge_bundle (bundle_standing self.old) line.now) }
+        ensures room { CountsFirst (bundle_standing self.old) → IsRefusedWhereFull IsFullBundle result (judge_bundle (bundle_standing self.old) line.now) }
     {
         if self.part == Part::Journal {
             return self.take_inside(alloc, line);

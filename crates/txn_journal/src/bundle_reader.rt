@@ -70,13 +70,13 @@ impl Lines {
 }
 
 impl TakeLine for Lines {
-    ghost use Rattle.txn_journal.specs.BundleStates.{judge_bundle, IsFullBundle, IsInFirstVersion};
+    ghost use Rattle.txn_journal.specs.BundleStates.{judge_bundle, IsFullBundle, CountsFirst};
 
     ghost judge = { judge_bundle };
 
     ghost full = { IsFullBundle };
 
-    ghost counts = { IsInFirstVersion };
+    ghost counts = { CountsFirst };
 
     fn take_line(&mut self, alloc: Global, line: &[u8]) -> Result<(), LineFault> {
         match self.draft.take_line(alloc, line) {
@@ -110,7 +110,7 @@ pub struct BundleReader {
 impl BundleReader {
     ghost use Rattle.std.specs.Prelude.{IfSome, IfNone, IsOk, Err};
     ghost use Rattle.txn_journal.specs.Stream.{answer, NamesSources};
-    ghost use Rattle.txn_journal.specs.BundleStates.{judge_bundle, IsFullBundle, IsInFirstVersion};
+    ghost use Rattle.txn_journal.specs.BundleStates.{judge_bundle, IsFullBundle, CountsFirst};
     ghost use Rattle.txn_journal.specs.Formats.{FeedsBy};
     ghost use Rattle.txn_journal.specs.BundleReading.{bundles, bundle_start, closing_bundle};
     ghost use Rattle.txn_journal.specs.BundleReaders.{bundle_reading};
@@ -136,7 +136,7 @@ impl BundleReader {
         ensures next { FeedsBy (bundles None) (bundle_reading self.old) piece.now (bundle_reading self.new) }
         ensures answer { result ≡ answer (bundle_reading self.new) }
         // In version 1 a line that ends an entry, and is the first of the piece, is refused for too many sources whatever memory there is.
-        ensures room { NamesSources IsInFirstVersion IsFullBundle judge_bundle (bundle_reading self.old) piece.now result }
+        ensures room { NamesSources CountsFirst IsFullBundle judge_bundle (bundle_reading self.old) piece.now result }
     {
         self.feed.feed(alloc, piece)
     }

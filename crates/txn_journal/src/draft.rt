@@ -115,8 +115,9 @@ impl Draft {
     ghost use Rattle.std.specs.FinSet as set;
     ghost use Rattle.gtid_set.specs.Sets.{source_count, most_sources};
     ghost use Rattle.gtid_set.specs.Full.{HasManySources};
+    ghost use Rattle.gtid_set.specs.declared.fault.SetFault.TheVariants.{SourcesFull};
     ghost use Rattle.txn_journal.specs.Stream.{TakesLine, IsRefusedWhereFull};
-    ghost use Rattle.txn_journal.specs.Machine.{Standing, IsFull, IsInEntry, TakesIn, judge, empty, is_last, is_within, open_entry, join_entry, drop_entries, add, header_line, previous_line, txn_line, end_line, close_line, step};
+    ghost use Rattle.txn_journal.specs.Machine.{Standing, IsFull, TakesIn, judge, empty, is_last, is_within, open_entry, join_entry, drop_entries, add, header_line, previous_line, txn_line, end_line, close_line, step};
     ghost use Rattle.txn_journal.specs.Drafts.{standing};
     ghost use Rattle.txn_journal.specs.Timestamped.{timestamped_of};
 
@@ -183,7 +184,7 @@ impl Draft {
         line: &[u8],
     ) -> Result<(), LineFault>
         ensures line { TakesIn (option_map (λ tables. tables.now) schema.entry) (standing self.old) line.now result (standing self.new) }
-        ensures room { IsInEntry (standing self.old) → IsRefusedWhereFull IsFull result (judge (option_map (λ tables. tables.now) schema.entry) (standing self.old) line.now) }
+        ensures room { IsRefusedWhereFull IsFull result (judge (option_map (λ tables. tables.now) schema.entry) (standing self.old) line.now) }
     {
         // (nearly all lines begin with one of these words)
         let (keyword, rest) = match line {
@@ -204,7 +205,7 @@ impl Draft {
         }
     }
 
-    #[tactic(auto, unfolding(crate::specs::Machine::step), using(crate::proofs::FullSets::open_not_full))]
+    #[tactic(auto, unfolding(crate::specs::Machine::step), using(crate::proofs::FullSets::not_full))]
     /// Takes the line of a keyword that is due.
     fn take(
         &mut self,
@@ -216,7 +217,7 @@ impl Draft {
     ) -> Result<(), LineFault>
         requires { is_due self.old.place keyword ≡ true }
         ensures line { TakesLine IsFull result (step (option_map (λ tables. tables.now) schema.entry) (standing self.old) keyword (option_map (λ r. r.now) rest.entry)) (standing self.new) }
-        ensures room { IsInEntry (standing self.old) → IsRefusedWhereFull IsFull result (step (option_map (λ tables. tables.now) schema.entry) (standing self.old) keyword (option_map (λ r. r.now) rest.entry)) }
+        ensures room { IsRefusedWhereFull IsFull result (step (option_map (λ tables. tables.now) schema.entry) (standing self.old) keyword (option_map (λ r. r.now) rest.entry)) }
     {
         match keyword {
             Keyword::Journal => self.open(rest),
@@ -267,7 +268,8 @@ impl Draft {
     #[tactic(auto, unfolding(crate::specs::Machine::previous_line))]
     #[inline(never)]
     fn follow(&mut self, alloc: Global, rest: Option<&[u8]>) -> Result<(), LineFault>
-        ensures { TakesLine IsFull result (previous_line (standing self.old) (option_map (λ r. r.now) rest.entry)) (standing self.new) }
+        ensures line { TakesLine IsFull result (previous_line (standing self.old) (option_map (λ r. r.now) rest.entry)) (standing self.new) }
+        ensures room { IsRefusedWhereFull IsFull result (previous_line (standing self.old) (option_map (λ r. r.now) rest.entry)) }
     {
         let Some(word) = rest else {
             return Err(LineFault::Wrong(Cause::Body));
@@ -392,6 +394,13 @@ impl Draft {
         }
         let changes = mem::replace(&mut self.changes, Vec::new(alloc));
         Changes::new(changes)
+    }
+
+    /// A law, which does nothing: what was seen has not too many sources.
+    pub fn keeps_limits(&self)
+        ensures { IsFull SourcesFull (standing self.now) → ⊥ }
+    {
+        self.seen.keeps_limits();
     }
 
     /// Whether what was seen has not too many sources once the entry that is open ends. It does not allocate.

@@ -71,13 +71,13 @@ impl Alone {
 
 impl TakeLine for Alone {
     ghost use Rattle.std.specs.Prelude.{None};
-    ghost use Rattle.txn_journal.specs.Machine.{judge, IsFull, IsInEntry};
+    ghost use Rattle.txn_journal.specs.Machine.{judge, IsFull};
 
     ghost judge = { judge None };
 
     ghost full = { IsFull };
 
-    ghost counts = { IsInEntry };
+    ghost counts = { λ _. Unit {0} };
 
     fn take_line(&mut self, alloc: Global, line: &[u8]) -> Result<(), LineFault> {
         self.draft.take_line(alloc, None, &mut self.names, line)
@@ -92,7 +92,7 @@ pub struct Reader {
 
 impl Reader {
     ghost use Rattle.std.specs.Prelude.{None, Ok, Err, IfOk, IfErr, OnOk};
-    ghost use Rattle.txn_journal.specs.Machine.{judge, IsFull, IsInEntry};
+    ghost use Rattle.txn_journal.specs.Machine.{judge, IsFull};
     ghost use Rattle.txn_journal.specs.Stream.{answer, IsAfter, NamesSources};
     ghost use Rattle.txn_journal.specs.Formats.{FeedsBy};
     ghost use Rattle.txn_journal.specs.Reading.{journals, alone_start, before_first, entries_of, without_entries, feed_journal_bytes, IsFaultAlone, closing};
@@ -124,7 +124,7 @@ impl Reader {
         ensures next { FeedsBy journals (reading self.old) piece.now (reading self.new) }
         ensures answer { result ≡ answer (reading self.new) }
         // A line that ends an entry, and is the first of the piece, is refused for too many sources whatever memory there is.
-        ensures room { NamesSources IsInEntry IsFull (judge None) (reading self.old) piece.now result }
+        ensures room { NamesSources (λ _. Unit {0}) IsFull (judge None) (reading self.old) piece.now result }
     {
         self.feed.feed(alloc, piece)
     }

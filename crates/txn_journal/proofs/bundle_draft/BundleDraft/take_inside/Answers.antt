@@ -1,9 +1,11 @@
-use Rattle.std.proofs.Common.{sym, subst, ◌∙◌}
+use Rattle.std.proofs.Common.{rules, sym, subst, ◌∙◌}
 use Rattle.std.specs.Prelude.{Result}
 use Rattle.txn_journal.specs.declared.fault.Cause.{Cause}
 use Rattle.txn_journal.specs.Stream.{TakesLine, IsRefusedWhereFull}
 use Rattle.txn_journal.specs.BundleStates.{BundleStanding, IsFullBundle}
 use Rattle.txn_journal.specs.BundleDrafts.{bundle_standing}
+use Rattle.txn_journal.specs.Drafts.{standing}
+use Rattle.txn_journal.specs.Machine.{IsInEntry}
 use Rattle.txn_journal.proofs.InnerSteps.{ends_is}
 use Rattle.txn_journal.proofs.bundle_draft.BundleDraft.take_inside.Goals as goal
 
@@ -13,6 +15,7 @@ returns-then-ends_entry-clause-line c =
     subst (λ (x : Result BundleStanding Cause). TakesLine IsFullBundle c.end_counted.result x (bundle_standing c.end_counted.new.self)) (sym is) c.end_counted.ensures.line
 
 pub returns-then-ends_entry-clause-room : goal.returns-then-ends_entry-clause-room
-returns-then-ends_entry-clause-room c one inside =
+returns-then-ends_entry-clause-room c counts =
+    let within : IsInEntry (standing c.args.self.now.draft) = search rules in
     let is = ends_is (bundle_standing c.args.self.now) c.args.line.now (sym c.ends_entry.ensures ∙ c.if-ends_entry.true) in
-    subst (λ (x : Result BundleStanding Cause). IsRefusedWhereFull IsFullBundle c.end_counted.result x) (sym is) (c.end_counted.ensures.room one)
+    subst (λ (x : Result BundleStanding Cause). IsRefusedWhereFull IsFullBundle c.end_counted.result x) (sym is) (c.end_counted.ensures.room (counts within))

@@ -16,16 +16,16 @@ pub returns-in-Err-clause-line : goal.returns-in-Err-clause-line
 returns-in-Err-clause-line c = inner_failed (bundle_standing c.args.self.now) c.schema.result.now _ c.args.line.now c.in-Err.fault _ c.requires c.schema.ensures c.in-Err.ensures.line
 
 pub returns-in-Ok-clause-room : goal.returns-in-Ok-clause-room
-returns-in-Ok-clause-room c inside full =
+returns-in-Ok-clause-room c full =
     let s = bundle_standing c.args.self.now in
     let few = subst (λ (x : Gtids). source_count x ≤ most_sources) c.opening_set.ensures c.keeps_limits.ensures.sources in
-    absurd (let refused = c.in-Ok.ensures.room inside (inner_full_of s c.schema.result.now c.args.line.now c.requires c.schema.ensures few full) in cc)
+    absurd (let refused = c.in-Ok.ensures.room (inner_full_of s c.schema.result.now c.args.line.now c.requires c.schema.ensures few full) in cc)
 
 pub returns-in-Err-clause-room : goal.returns-in-Err-clause-room
-returns-in-Err-clause-room c inside full =
+returns-in-Err-clause-room c full =
     let s = bundle_standing c.args.self.now in
     let few = subst (λ (x : Gtids). source_count x ≤ most_sources) c.opening_set.ensures c.keeps_limits.ensures.sources in
-    c.in-Err.ensures.room inside (inner_full_of s c.schema.result.now c.args.line.now c.requires c.schema.ensures few full)
+    c.in-Err.ensures.room (inner_full_of s c.schema.result.now c.args.line.now c.requires c.schema.ensures few full)
 
 pub invariant_of-self : goal.invariant_of-self
 invariant_of-self c = record {
