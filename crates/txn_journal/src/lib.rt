@@ -7,8 +7,9 @@
 //! have made, or the fault at which it stopped. A grammar defines which lines write a value (`Writes`, `WritesBundle`). A text is read
 //! exactly where it writes one (`found`, `only`), and a refusal names the first line with which no text begins, and its cause
 //! (`refused`); `exact` states the same by the fold over bytes, so pieces make no difference (`any_cut`). After a fault every later call
-//! gives that fault. A text has one value (`one_spelling`, `one_bundle`). A line that ends an entry is refused for too many sources before
-//! memory is asked for, where it is the first of its piece, but for a bundle of version 2 (`room` of `feed`).
+//! gives that fault. A text has one value (`one_spelling`, `one_bundle`). A line that makes a set with too many
+//! sources is refused for them, whatever memory there is, where it is the first of its piece, but for the end of an entry in a bundle of
+//! version 2 (`room` of `feed`).
 //!
 //! What is written is a text of its value by the grammar (`writes`). For a bundle this always holds: its type keeps what the grammar
 //! requires (`Bundle::keeps_rules`). For a journal it holds where it has at most `MAX_ENTRIES` entries, the one limit of a text that the
