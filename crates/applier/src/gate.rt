@@ -6,6 +6,9 @@ pub trait Gate {
     /// The seat has taken this GTID; its transaction is prepared next, and then committed.
     fn before_prepare(&self, seat: u8, gtid: Gtid);
 
+    /// The seat has prepared the transaction of this GTID without the lock, and commits it by its patch next.
+    fn after_prepare(&self, seat: u8, gtid: Gtid);
+
     /// The seat has committed this GTID.
     fn after_commit(&self, seat: u8, gtid: Gtid);
 
@@ -19,6 +22,8 @@ pub struct NoGate;
 
 impl Gate for NoGate {
     fn before_prepare(&self, _seat: u8, _gtid: Gtid) {}
+
+    fn after_prepare(&self, _seat: u8, _gtid: Gtid) {}
 
     fn after_commit(&self, _seat: u8, _gtid: Gtid) {}
 

@@ -201,6 +201,9 @@ fn commit_taken<N: Naming, G: Gate, R: Wait>(
 {
     gate.before_prepare(pass.seat(), gtid);
     let mut patch = patch_of(alloc, footprint)?;
+    if patch.is_some() {
+        gate.after_prepare(pass.seat(), gtid);
+    }
     let backoff = Backoff::new();
     for _ in 0..TRIES {
         match commit(rt, alloc, replica, pass, patch)? {

@@ -147,6 +147,8 @@ impl Gate for Meeting {
         }
     }
 
+    fn after_prepare(&self, _seat: u8, _gtid: Gtid) {}
+
     fn after_commit(&self, _seat: u8, _gtid: Gtid) {
         self.committed.fetch_add(1, Ordering::SeqCst);
     }
@@ -181,11 +183,11 @@ fn count_rows(alloc: Global, book: &ClosedBook) -> Option<usize> {
 
 /// How many rows two workers with a gate leave of a bundle, and how many commits are in their history; None where they leave
 /// a verdict.
-fn rows_applied<R: Threads + Wait + Sync>(
+pub(crate) fn rows_applied<G: Gate + Sync, R: Threads + Wait + Sync>(
     rt: &R,
     alloc: Global,
     bundle: &Bundle,
-    gate: &Meeting,
+    gate: &G,
 ) -> Option<(usize, u64)>
     requires can { IsServable bundle.now }
 {

@@ -51,6 +51,8 @@ impl Gate for Bait {
         }
     }
 
+    fn after_prepare(&self, _seat: u8, _gtid: Gtid) {}
+
     fn after_commit(&self, _seat: u8, _gtid: Gtid) {}
 
     fn after_steal(&self, _seat: u8) {

@@ -1,0 +1,86 @@
+//! A worker prepares a transaction of many changes without the lock, and one of few under it.
+
+use super::gates::rows_applied;
+use applier::Gate;
+use gtid_text::Gtid;
+use serving::written_is_servable;
+use std::sync::Wait;
+use std::sync::atomic::{AtomicU64, Ordering};
+use std::test::Fail;
+use std::thread::Threads;
+use txn_journal::decode_bundle;
+
+/// How many transactions were prepared without the lock, and how many were committed.
+#[derive(Drop)]
+struct Count {
+    prepared: AtomicU64,
+    committed: AtomicU64,
+}
+
+impl Gate for Count {
+    fn before_prepare(&self, _seat: u8, _gtid: Gtid) {}
+
+    fn after_prepare(&self, _seat: u8, _gtid: Gtid) {
+        self.prepared.fetch_add(1, Ordering::SeqCst);
+    }
+
+    fn after_commit(&self, _seat: u8, _gtid: Gtid) {
+        self.committed.fetch_add(1, Ordering::SeqCst);
+    }
+
+    fn after_steal(&self, _seat: u8) {}
+}
+
+/// A bundle of one channel with a transaction of eight changes, one of seven, and one of one.
+const EIGHT_SEVEN_ONE: &str = "bundle 1
+replica cccccccc-cccc-cccc-cccc-cccccccccccc
+table t 2 pk 0
+channel x
+journal 1
+previous -
+txn aaaaaaaa-aaaa-aaaa-aaaa-aaaaaaaaaaaa:1
+ins t 1 null
+ins t 2 null
+ins t 3 null
+ins t 4 null
+ins t 5 null
+ins t 6 null
+ins t 7 null
+ins t 8 null
+end
+txn aaaaaaaa-aaaa-aaaa-aaaa-aaaaaaaaaaaa:2
+ins t 11 null
+ins t 12 null
+ins t 13 null
+ins t 14 null
+ins t 15 null
+ins t 16 null
+ins t 17 null
+end
+txn aaaaaaaa-aaaa-aaaa-aaaa-aaaaaaaaaaaa:3
+ins t 21 null
+end
+close
+done
+";
+
+/// Of transactions of eight, seven and one changes the first alone is prepared without the lock, and committed by its patch; all three
+/// are committed.
+#[test]
+fn eight_changes_are_prepared(rt: HostRuntime) -> Result<(), Fail> {
+    let alloc = rt.alloc();
+    let Ok(bundle) = decode_bundle(alloc, EIGHT_SEVEN_ONE.as_bytes()) else {
+        return Err(Fail::from("no bundle"));
+    };
+    let gate = Count {
+        prepared: AtomicU64::new(0),
+        committed: AtomicU64::new(0),
+    };
+    written_is_servable();
+    let rows = rows_applied(&rt, alloc, &bundle, &gate);
+    drop(bundle);
+    assert_eq!(rt; rows, Some((16, 3)));
+    assert_eq!(rt; gate.committed.load(Ordering::SeqCst), 3);
+    assert_eq!(rt; gate.prepared.load(Ordering::SeqCst), 1);
+    Ok(())
+}
