@@ -13,9 +13,11 @@
 //! Not proved: what is left of a text when an allocation fails within `write_value`; its callers drop the text then.
 #![tactic(auto)]
 
+mod first_value;
 mod key_values;
 mod packed;
 mod row;
+mod runs;
 mod short_bytes;
 mod value;
 mod value_words;
