@@ -1,11 +1,15 @@
 -- Runs of bytes of one class.
-use Rattle.std.specs.Prelude.{◌≡◌, ℕ, ◌+◌, ◌<◌, ◌≤◌, ◌==◌, ◌&&◌, nat_lt, Bool, true, false, List, length, slice_index, Option, Some, None, is_some, if◌then◌else◌}
+use Rattle.std.specs.Prelude.{◌≡◌, ◌≢◌, ℕ, ◌+◌, ◌<◌, ◌≤◌, ◌==◌, ◌&&◌, nat_lt, Bool, true, false, List, length, slice_index, Option, Some, None, is_some, if◌then◌else◌}
 use Rattle.std.specs.Int.{w64, trailing_zeros}
 use Rattle.row_images.specs.Words.{first_word}
 
 -- no blank
 abbrev pub is_word_byte : ℕ → Bool
 is_word_byte b = if b == 32 then false else true
+
+-- no line feed
+abbrev pub is_line_byte : ℕ → Bool
+is_line_byte b = if b == 10 then false else true
 
 -- the bytes from at up to end are of the class
 abbrev pub AreBetween : (ℕ → Bool) → List ℕ → ℕ → ℕ → Type 0
@@ -26,6 +30,10 @@ IsRunIn class text at n run =
 -- the place of the lowest bit that is set, or n
 abbrev pub first_set : ℕ → ℕ → ℕ
 first_set mask n = if mask == 0 then n else trailing_zeros w64 mask
+
+-- the mask has a bit for each of the n bytes from at, which is set where the byte is not of the class
+abbrev pub MarksStops : (ℕ → Bool) → List ℕ → ℕ → ℕ → ℕ → Type 0
+MarksStops class text at n mask = IsRunIn class text at n (first_set mask n) × (mask ≢ 0 → first_set mask n < n)
 
 -- a word that goes on up to n ends there
 abbrev pub is_word_end : List ℕ → ℕ → Bool

@@ -25,6 +25,7 @@ mod words;
 
 pub use key_values::KeyValues;
 pub use row::Row;
+pub use runs::first_line_feed;
 pub use value::{ByteString, Value};
 pub use value_words::{value_word, write_value};
 pub use words::{count, cut, is_count};

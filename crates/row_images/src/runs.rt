@@ -1,8 +1,9 @@
 //! Runs of bytes of one class, which are found 16 bytes at a time.
 ghost use Rattle.std.specs.Prelude.{◌≡◌, ◌+◌, ◌≤◌, ℕ, Bool, length};
 ghost use Rattle.std.specs.Char.{is_ascii_digit};
+ghost use Rattle.memchr.specs.Find.{IsFirstByte, is_byte};
 ghost use Rattle.row_images.specs.Values.{is_lower_digit};
-ghost use Rattle.row_images.specs.Runs.{is_word_byte, first_set, IsRunIn, IsRunAt};
+ghost use Rattle.row_images.specs.Runs.{is_word_byte, is_line_byte, first_set, MarksStops, IsRunAt};
 
 use std::simd::prelude::*;
 
@@ -20,15 +21,15 @@ pub(crate) trait ByteClass {
     fn has(byte: u8) -> bool
         ensures { result ≡ holds byte };
 
-    /// How many of the 16 bytes at a place come before the first that is not of the class.
-    fn run(text: &[u8], at: usize) -> usize
+    /// A bit for each of the 16 bytes at a place, set where the byte is not of the class.
+    fn stops(text: &[u8], at: usize) -> u64
         requires { at + 16 ≤ length text.now }
-        ensures { IsRunIn holds text.now at 16 result };
+        ensures { MarksStops holds text.now at 16 result };
 
-    /// How many of the 8 bytes at a place come before the first that is not of the class.
-    fn short_run(text: &[u8], at: usize) -> usize
+    /// A bit for each of the 8 bytes at a place, set where the byte is not of the class.
+    fn few_stops(text: &[u8], at: usize) -> u64
         requires { at + 8 ≤ length text.now }
-        ensures { IsRunIn holds text.now at 8 result };
+        ensures { MarksStops holds text.now at 8 result };
 }
 
 /// The place of the lowest bit that is set, or the number of lanes.
@@ -55,15 +56,39 @@ impl ByteClass for WordBytes {
     }
 
     #[inline(always)]
-    fn run(text: &[u8], at: usize) -> usize {
-        let stops = u8x16::from_slice(&text[at..]).simd_eq(u8x16::splat(b' '));
-        first_set(stops.to_bitmask(), LANES)
+    fn stops(text: &[u8], at: usize) -> u64 {
+        let bytes = u8x16::from_slice(&text[at..]);
+        bytes.simd_eq(u8x16::splat(b' ')).to_bitmask()
     }
 
     #[inline(always)]
-    fn short_run(text: &[u8], at: usize) -> usize {
-        let stops = u8x8::from_slice(&text[at..]).simd_eq(u8x8::splat(b' '));
-        first_set(stops.to_bitmask(), FEW_LANES)
+    fn few_stops(text: &[u8], at: usize) -> u64 {
+        let bytes = u8x8::from_slice(&text[at..]);
+        bytes.simd_eq(u8x8::splat(b' ')).to_bitmask()
+    }
+}
+
+/// The bytes of a line: all but the line feed.
+pub(crate) struct LineBytes;
+
+impl ByteClass for LineBytes {
+    ghost holds = { is_line_byte };
+
+    #[inline(always)]
+    fn has(byte: u8) -> bool {
+        byte != b'\n'
+    }
+
+    #[inline(always)]
+    fn stops(text: &[u8], at: usize) -> u64 {
+        let bytes = u8x16::from_slice(&text[at..]);
+        bytes.simd_eq(u8x16::splat(b'\n')).to_bitmask()
+    }
+
+    #[inline(always)]
+    fn few_stops(text: &[u8], at: usize) -> u64 {
+        let bytes = u8x8::from_slice(&text[at..]);
+        bytes.simd_eq(u8x8::splat(b'\n')).to_bitmask()
     }
 }
 
@@ -79,15 +104,15 @@ impl ByteClass for DecimalDigits {
     }
 
     #[inline(always)]
-    fn run(text: &[u8], at: usize) -> usize {
+    fn stops(text: &[u8], at: usize) -> u64 {
         let from_zero = u8x16::from_slice(&text[at..]) - u8x16::splat(b'0');
-        first_set(from_zero.simd_ge(u8x16::splat(10)).to_bitmask(), LANES)
+        from_zero.simd_ge(u8x16::splat(10)).to_bitmask()
     }
 
     #[inline(always)]
-    fn short_run(text: &[u8], at: usize) -> usize {
+    fn few_stops(text: &[u8], at: usize) -> u64 {
         let from_zero = u8x8::from_slice(&text[at..]) - u8x8::splat(b'0');
-        first_set(from_zero.simd_ge(u8x8::splat(10)).to_bitmask(), FEW_LANES)
+        from_zero.simd_ge(u8x8::splat(10)).to_bitmask()
     }
 }
 
@@ -103,19 +128,19 @@ impl ByteClass for LowerDigits {
     }
 
     #[inline(always)]
-    fn run(text: &[u8], at: usize) -> usize {
+    fn stops(text: &[u8], at: usize) -> u64 {
         let bytes = u8x16::from_slice(&text[at..]);
         let no_digit = (bytes - u8x16::splat(b'0')).simd_ge(u8x16::splat(10));
         let no_letter = (bytes - u8x16::splat(b'a')).simd_ge(u8x16::splat(6));
-        first_set((no_digit & no_letter).to_bitmask(), LANES)
+        (no_digit & no_letter).to_bitmask()
     }
 
     #[inline(always)]
-    fn short_run(text: &[u8], at: usize) -> usize {
+    fn few_stops(text: &[u8], at: usize) -> u64 {
         let bytes = u8x8::from_slice(&text[at..]);
         let no_digit = (bytes - u8x8::splat(b'0')).simd_ge(u8x8::splat(10));
         let no_letter = (bytes - u8x8::splat(b'a')).simd_ge(u8x8::splat(6));
-        first_set((no_digit & no_letter).to_bitmask(), FEW_LANES)
+        (no_digit & no_letter).to_bitmask()
     }
 }
 
@@ -127,17 +152,29 @@ pub(crate) fn run_end<C: ByteClass>(text: &[u8], at: usize) -> usize
 {
     let mut end = at;
     'blocks: while text.len() - end >= LANES {
-        let run = C::run(text, end);
-        if run < LANES {
-            return end + run;
+        let stops = C::stops(text, end);
+        if stops != 0 {
+            return end + first_set(stops, LANES);
         }
         end += LANES;
     }
     if text.len() - end >= FEW_LANES {
-        end += C::short_run(text, end);
+        end += first_set(C::few_stops(text, end), FEW_LANES);
     }
     while end < text.len() && C::has(text[end]) {
         end += 1;
     }
     end
+}
+
+/// The first line feed of a text.
+pub fn first_line_feed(text: &[u8]) -> Option<usize>
+    ensures { IsFirstByte (is_byte 10) text.now result }
+{
+    let end = run_end::<LineBytes>(text, 0);
+    if end < text.len() {
+        Some(end)
+    } else {
+        None
+    }
 }
