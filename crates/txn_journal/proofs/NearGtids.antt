@@ -29,10 +29,6 @@ near_spelled w front back digits id n long f b colon rest spelled number small l
 
 -- ---- the text of a source, in the text of a GTID
 
-pub zero_spelled : codes "00000000-0000-0000-0000-000000000000" ≡ source_text 0
-unfolding source_text by_index
-zero_spelled = refl
-
 source_length : (id : ℕ) → length (source_text id) ≡ 36
 unfolding source_text
 source_length id = by_index_length 36 _

@@ -13,7 +13,7 @@ use crate::fault::{Cause, LineFault};
 use crate::images::{image, table_at, two_images};
 use crate::lines::{Keyword, Place, Version, keyword_at};
 use crate::names::Names;
-use crate::numbers::{SourceText, beginning_at};
+use crate::numbers::{NearSources, beginning_at};
 use crate::timestamped_journal::TimestampedJournal;
 use gtid_set::{GtidSet, SetFault};
 use gtid_text::{Gtid, SourceId};
@@ -44,8 +44,8 @@ pub struct Draft {
     seen: GtidSet,
     /// How many entries have come, those that were taken too.
     count: u64,
-    /// The source of the last GTID.
-    near: SourceText,
+    /// The sources of the last GTIDs.
+    near: NearSources,
     /// The entry that is open.
     gtid: Gtid,
     stamp: u64,
@@ -132,7 +132,7 @@ impl Draft {
             stamps: Vec::new(alloc),
             seen: GtidSet::empty(alloc),
             count: 0,
-            near: SourceText::zero(),
+            near: NearSources::start(alloc),
             gtid: Gtid {
                 source: SourceId::from_bits(0),
                 number: 0,

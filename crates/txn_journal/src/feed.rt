@@ -5,7 +5,7 @@ ghost use Rattle.txn_journal.specs.Words.{IsOneLine, BeginsWithLine};
 ghost use Rattle.txn_journal.specs.Stream.{Judge, TakesLine, IsRefusedWhereFull};
 
 use crate::fault::{Cause, JournalFault, LineFault};
-use memchr::memchr;
+use row_images::first_line_feed;
 use std::alloc::Global;
 
 /// The first line of a text, and what follows its line feed.
@@ -13,7 +13,7 @@ pub fn cut_line(text: &[u8]) -> Option<(&[u8], &[u8])>
     ensures found { IfSome result (λ r. BeginsWithLine text.now r.0.now r.1.now) }
     ensures none { IfNone result (IsOneLine text.now) }
 {
-    let Some(at) = memchr(b'\n', text) else {
+    let Some(at) = first_line_feed(text) else {
         return None;
     };
     let (line, rest) = text.split_at(at);
