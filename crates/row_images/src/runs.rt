@@ -172,9 +172,5 @@ pub fn first_line_feed(text: &[u8]) -> Option<usize>
     ensures { IsFirstByte (is_byte 10) text.now result }
 {
     let end = run_end::<LineBytes>(text, 0);
-    if end < text.len() {
-        Some(end)
-    } else {
-        None
-    }
+    if end < text.len() { Some(end) } else { None }
 }
