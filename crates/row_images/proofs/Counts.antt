@@ -83,7 +83,7 @@ starts_well (suc n) lt =
 passes : (a b d : Bool) → a ≡ false → b ≡ false → d ≡ true → cond (a || b) false d ≡ true
 passes a b d x y z = rw (x, y, z) refl
 
-digits_count : (w : List ℕ) → 0 < length w → (ltb 1 (length w) && eqb (get_or w 0 0) 48) ≡ false → list_all is_ascii_digit w ≡ true → is_count w ≡ true
+pub digits_count : (w : List ℕ) → 0 < length w → (ltb 1 (length w) && eqb (get_or w 0 0) 48) ≡ false → list_all is_ascii_digit w ≡ true → is_count w ≡ true
 digits_count w some well all = passes (eqb (length w) 0) _ _ (ne_eqb (length w) 0 (omega arith)) well all
 
 pub is_count_decimal : (n : ℕ) → n < 2 ^ 64 → is_count (decimal n) ≡ true

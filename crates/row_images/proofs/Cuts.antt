@@ -1,6 +1,7 @@
 -- Where the first word of a line ends.
-use Rattle.std.proofs.Common.{◌≡◌, ℕ, zero, suc, ◌+◌, ◌<◌, true, false, eqb, List, [], ◌∷◌, length, get_or, take, drop, Some, None, refl, ap, ◌∙◌, arith, inl, inr}
+use Rattle.std.proofs.Common.{◌≡◌, ℕ, zero, suc, ◌+◌, ◌<◌, ◌≤◌, true, false, cond, eqb, List, [], ◌∷◌, length, get_or, take, drop, Some, None, refl, ap, ◌∙◌, arith, inl, inr}
 use Rattle.row_images.specs.Words.{first_word, others}
+use Rattle.row_images.specs.Runs.{is_word_byte, IsRunAt}
 use Rattle.std.proofs.lemmas.Option.{same_Some}
 use Rattle.gtid_text.proofs.Turns.{chosen}
 
@@ -35,3 +36,18 @@ at_blank (suc n) (b ∷ bs) lt before here =
       rw other (ap (λ (t : List ℕ). b ∷ t) later.0),
       rw other (ap (λ m. Some (drop m (b ∷ bs))) one ∙ later.1),
     )
+
+-- ---- a run of word bytes from the first on
+
+no_blank_at : (b : ℕ) → is_word_byte b ≡ true → eqb b 32 ≡ true → ⊥
+no_blank_at b word blank = absurd (let e : is_word_byte b ≡ false = rw blank refl in cc)
+
+a_blank : (b : ℕ) → is_word_byte b ≡ false → eqb b 32 ≡ true
+a_blank b h = elim (eqb b 32) as (λ v. cond v false true ≡ false → v ≡ true) [ true ↦ λ e. refl | false ↦ λ e. absurd cc ] h
+
+-- what the run is, and what follows its blank
+pub run_cut : (line : List ℕ) (n : ℕ) → IsRunAt is_word_byte line 0 n → n < length line → (take n line ≡ first_word line) × (Some (drop (n + 1) line) ≡ others line)
+run_cut line n run lt = at_blank n line lt (λ k less. no_blank_at (get_or line k 0) (run.pass k (omega arith) less)) (a_blank (get_or line n 0) (run.stops lt))
+
+pub run_alone : (line : List ℕ) (n : ℕ) → IsRunAt is_word_byte line 0 n → length line ≤ n → (line ≡ first_word line) × (None ≡ others line)
+run_alone line n run all = no_blank line (λ k less. no_blank_at (get_or line k 0) (run.pass k (omega arith) (omega arith)))

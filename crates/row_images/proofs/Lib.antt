@@ -11,3 +11,5 @@ pub mod RowLaws
 pub mod Equal
 mod FewDigits
 mod Ranks
+mod Lanes
+mod FirstValue

@@ -168,7 +168,7 @@ written_lower (b ∷ bs) fits =
     let low = lower_at 16 (b % 16) refl (omega arith) in
     rw (high, low) (written_lower bs (λ k. fits (suc k)))
 
-other_spells_none : (ds : List ℕ) → list_all is_lower_digit ds ≡ false → bytes_of ds ≡ None
+pub other_spells_none : (ds : List ℕ) → list_all is_lower_digit ds ≡ false → bytes_of ds ≡ None
 other_spells_none ds other = sym (none_is (bytes_of ds) (λ bs e. let f = bytes_found-same ds bs e in let all = ap (list_all is_lower_digit) f.0 ∙ written_lower bs f.1 in cc))
 
 -- ---- what digits parse as

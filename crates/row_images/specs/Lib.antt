@@ -6,3 +6,4 @@ pub mod Order
 pub mod Total
 pub mod Hashing
 pub mod Held
+pub mod Runs

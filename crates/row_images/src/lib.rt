@@ -8,14 +8,19 @@
 //! copy, equality is that of the texts, and writing it is a copy. A value is read from its word where it is asked for (`value_at`). A byte
 //! string of up to 22 bytes is held in place, and decoded and written on the stack; a longer one is one shared vector.
 //!
+//! How it is read: the end of a word, of digits and of a line is looked for 16 bytes at a time (`runs`), so an image is tested in one pass
+//! over its text (`first_value`).
+//!
 //! A count of any length is recognised by its form, apart from its value (`is_count`, `count`).
 //!
 //! Not proved: what is left of a text when an allocation fails within `write_value`; its callers drop the text then.
 #![tactic(auto)]
 
+mod first_value;
 mod key_values;
 mod packed;
 mod row;
+mod runs;
 mod short_bytes;
 mod value;
 mod value_words;
@@ -23,6 +28,7 @@ mod words;
 
 pub use key_values::KeyValues;
 pub use row::Row;
+pub use runs::first_line_feed;
 pub use value::{ByteString, Value};
 pub use value_words::{value_word, write_value};
 pub use words::{count, cut, is_count};

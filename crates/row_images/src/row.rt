@@ -7,9 +7,10 @@ ghost use Rattle.row_images.specs.declared.value.Value.TheVariants.{Null};
 ghost use Rattle.row_images.specs.Values.{value_text, is_null, is_too_long, is_long_word};
 ghost use Rattle.row_images.specs.Images.{words_of, values_text, image_of, AreValues};
 
+use crate::first_value::{rest_from, value_len};
 use crate::packed::pack;
 use crate::value::Value;
-use crate::value_words::{all_fit, is_value, value_word, write_values};
+use crate::value_words::{all_fit, value_word, write_values};
 use crate::words::cut;
 use std::alloc::{AllocError, Global};
 use std::marker::Model;
@@ -91,17 +92,14 @@ fn image_len(text: &[u8]) -> Option<usize>
     let mut count = 1;
     let mut left = text;
     'words: loop {
-        let (word, more) = cut(left);
-        if !is_value(word) {
+        let Some(len) = value_len(left) else {
             return None;
+        };
+        if len >= left.len() {
+            return Some(count);
         }
-        match more {
-            Some(after) => {
-                left = after;
-                count += 1;
-            }
-            None => return Some(count),
-        }
+        left = rest_from(left, len + 1);
+        count += 1;
     }
 }
 

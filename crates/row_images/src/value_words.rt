@@ -55,7 +55,7 @@ fn int_from_zero(word: &[u8]) -> Option<i64>
 }
 
 /// So many digits are those of a number below 2^63.
-const FEW_DECIMAL_DIGITS: usize = 18;
+pub(crate) const FEW_DECIMAL_DIGITS: usize = 18;
 
 /// Whether a word without a minus parses as a number. The number of few digits is not asked for.
 fn is_int_from_zero(word: &[u8]) -> bool

@@ -4,7 +4,7 @@ ghost use Rattle.std.specs.List.{list_all};
 ghost use Rattle.std.specs.Char.{is_ascii_digit};
 ghost use Rattle.row_images.specs.Words.{is_count, begins_well, count_of, first_word, others};
 
-use memchr::memchr;
+use crate::runs::{WordBytes, run_end};
 
 fn all_digits(word: &[u8]) -> bool
     ensures { result ≡ list_all is_ascii_digit word.now }
@@ -78,8 +78,10 @@ pub fn cut(line: &[u8]) -> (&[u8], Option<&[u8]>)
     ensures word { result.0.now ≡ first_word line.now }
     ensures rest { option_map (λ r. r.now) result.1 ≡ others line.now }
 {
-    match memchr(b' ', line) {
-        Some(at) => (&line[..at], Some(&line[at + 1..])),
-        None => (line, None),
+    let end = run_end::<WordBytes>(line, 0);
+    if end < line.len() {
+        (&line[..end], Some(&line[end + 1..]))
+    } else {
+        (line, None)
     }
 }

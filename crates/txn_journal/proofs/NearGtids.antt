@@ -1,6 +1,5 @@
 -- A GTID that begins with the text of a source that is known.
-use Rattle.std.proofs.Common.{◌≡◌, ℕ, ◌<◌, ◌≤◌, List, ◌∷◌, ◌++◌, length, get_or, take, drop, Some, refl, subst, sym, ap, ◌∙◌, arith}
-use Rattle.std.specs.Prelude.{codes}
+use Rattle.std.proofs.Common.{◌≡◌, ℕ, ◌<◌, ◌≤◌, List, ◌∷◌, ◌++◌, length, get_or, take, drop, Some, sym, ap, ◌∙◌, arith}
 use Rattle.std.proofs.Math.Seq.{drop-cons, take-append_seam}
 use Rattle.std.proofs.lemmas.List.{take-append-drop, length-drop}
 use Rattle.std.specs.Fmt.{decimal}
@@ -10,7 +9,6 @@ use Rattle.gtid_text.specs.Written.{IsSource}
 use Rattle.journal_words.specs.Gtids.{gtid_of_word}
 use Rattle.row_images.specs.Words.{count_of}
 use Rattle.row_images.proofs.Counts.{count_found}
-use Rattle.uuid.specs.Text.{by_index}
 use Rattle.uuid.proofs.TextLemmas.{by_index_length}
 use Rattle.txn_journal.proofs.GtidLaws.{gtid_found, gtid_again}
 
@@ -28,10 +26,6 @@ near_spelled w front back digits id n long f b colon rest spelled number small l
     ap gtid_of_word text ∙ gtid_again g (record { source = small; number = (low, high) })
 
 -- ---- the text of a source, in the text of a GTID
-
-pub zero_spelled : codes "00000000-0000-0000-0000-000000000000" ≡ source_text 0
-unfolding source_text by_index
-zero_spelled = refl
 
 source_length : (id : ℕ) → length (source_text id) ≡ 36
 unfolding source_text

@@ -1,5 +1,5 @@
 //! A bundle as far as its lines have come.
-ghost use Rattle.std.specs.Prelude.{◌≡◌, option_map};
+ghost use Rattle.std.specs.Prelude.{◌≡◌, None, option_map};
 ghost use Rattle.txn_journal.specs.Stream.{Finds};
 ghost use Rattle.txn_journal.specs.Writers.{AreWriters};
 ghost use Rattle.txn_journal.specs.BundleStates.{word_of, replica_in, preserve_in, channel_in, has_channel};
@@ -162,6 +162,15 @@ fn has_channel(channels: &[BundleChannel], name: &Name) -> bool
     ensures { result ≡ has_channel channels.now name.now }
 {
     channels.iter().any(|channel| channel.name == *name)
+}
+
+/// Drops the last writers, where there are any.
+fn forget(writers: &mut Option<LastWriters>)
+    ensures { writers.new ≡ None }
+{
+    if writers.is_some() {
+        *writers = None;
+    }
 }
 
 impl BundleDraft {
@@ -390,25 +399,6 @@ impl BundleDraft {
         }
     }
 
-    /// The last_committed that an entry after the others has to have, and the last writers with it.
-    fn next_stamp(
-        &mut self,
-        alloc: Global,
-        entry: &Entry,
-    ) -> Result<(u64, Option<LastWriters>), AllocError>
-        ensures stamp { IfOk result (λ r. r.0 ≡ right_stamp self.old.version self.old.bundle.start.schema self.old.draft.journal.entries entry.now) }
-        ensures writers { IfOk result (λ r. AreWriters self.old.bundle.start.schema (self.old.draft.journal.entries ++ entry.now ∷ []) r.1) }
-        ensures left { bundle_standing self.new ≡ bundle_standing self.old }
-    {
-        match self.version {
-            Version::One => {
-                self.writers = None;
-                Ok((0, None))
-            }
-            Version::Two => self.next_written(alloc, entry),
-        }
-    }
-
     /// The last_committed of an entry after the others by the last writers of its keys, and the last writers with it.
     #[inline(never)]
     fn next_written(
@@ -453,13 +443,41 @@ impl BundleDraft {
     }
 
     /// Ends the entry that is open, where it has the last_committed that it has to have.
-    #[inline(never)]
     fn end_entry(&mut self, alloc: Global) -> Result<(), LineFault>
         requires { (standing self.old.draft).place ≡ Within }
         ensures { TakesLine IsFullBundle result (end_entry (bundle_standing self.old)) (bundle_standing self.new) }
     {
+        match self.version {
+            Version::One => self.end_unnumbered(alloc),
+            Version::Two => self.end_numbered(alloc),
+        }
+    }
+
+    /// The same in version 1, which writes no numbers. No last writers are looked for.
+    #[inline(never)]
+    fn end_unnumbered(&mut self, alloc: Global) -> Result<(), LineFault>
+        requires place { (standing self.old.draft).place ≡ Within }
+        requires version { self.old.version ≡ One }
+        ensures { TakesLine IsFullBundle result (end_entry (bundle_standing self.old)) (bundle_standing self.new) }
+    {
         let entry = self.draft.take_entry(alloc)?;
-        let (stamp, writers) = self.next_stamp(alloc, &entry)?;
+        forget(&mut self.writers);
+        if self.draft.stamp() != 0 {
+            return Err(LineFault::Wrong(Cause::Stamp));
+        }
+        self.draft.join(entry)?;
+        Ok(())
+    }
+
+    /// The same in version 2.
+    #[inline(never)]
+    fn end_numbered(&mut self, alloc: Global) -> Result<(), LineFault>
+        requires place { (standing self.old.draft).place ≡ Within }
+        requires version { self.old.version ≡ Two }
+        ensures { TakesLine IsFullBundle result (end_entry (bundle_standing self.old)) (bundle_standing self.new) }
+    {
+        let entry = self.draft.take_entry(alloc)?;
+        let (stamp, writers) = self.next_written(alloc, &entry)?;
         self.writers = None;
         if self.draft.stamp() != stamp {
             return Err(LineFault::Wrong(Cause::Stamp));

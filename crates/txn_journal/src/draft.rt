@@ -7,13 +7,14 @@ ghost use Rattle.journal.specs.Writing.{is_number};
 ghost use Rattle.txn_journal.specs.Kept.{IsSeen, IsOpenNew, AreWritable};
 ghost use Rattle.txn_journal.specs.Due.{is_due};
 ghost use Rattle.txn_journal.specs.declared.lines.Place.TheVariants.{Within};
+ghost use Rattle.txn_journal.specs.declared.lines.Keyword.TheVariants.{Ins, Upd, Del};
 ghost use Rattle.txn_journal.specs.declared.fault.Cause.{Cause};
 
 use crate::fault::{Cause, LineFault};
 use crate::images::{image, table_at, two_images};
 use crate::lines::{Keyword, Place, Version, keyword_at};
 use crate::names::Names;
-use crate::numbers::{SourceText, beginning_at};
+use crate::numbers::{NearSources, beginning_at};
 use crate::timestamped_journal::TimestampedJournal;
 use gtid_set::{GtidSet, SetFault};
 use gtid_text::{Gtid, SourceId};
@@ -44,8 +45,8 @@ pub struct Draft {
     seen: GtidSet,
     /// How many entries have come, those that were taken too.
     count: u64,
-    /// The source of the last GTID.
-    near: SourceText,
+    /// The sources of the last GTIDs.
+    near: NearSources,
     /// The entry that is open.
     gtid: Gtid,
     stamp: u64,
@@ -133,7 +134,7 @@ impl Draft {
             stamps: Vec::new(alloc),
             seen: GtidSet::empty(alloc),
             count: 0,
-            near: SourceText::zero(),
+            near: NearSources::start(alloc),
             gtid: Gtid {
                 source: SourceId::from_bits(0),
                 number: 0,
@@ -223,31 +224,73 @@ impl Draft {
             Keyword::Journal => self.open(rest),
             Keyword::Previous => self.follow(alloc, rest),
             Keyword::Txn => self.begin(alloc, rest),
-            Keyword::Ins => {
-                let (table, text) = table_at(names, alloc, rest)?;
-                let after = image(alloc, text)?;
-                self.add(schema, Change::Insert { table, after })
-            }
-            Keyword::Del => {
-                let (table, text) = table_at(names, alloc, rest)?;
-                let before = image(alloc, text)?;
-                self.add(schema, Change::Delete { table, before })
-            }
-            Keyword::Upd => {
-                let (table, text) = table_at(names, alloc, rest)?;
-                let (before, after) = two_images(alloc, text)?;
-                self.add(
-                    schema,
-                    Change::Update {
-                        table,
-                        before,
-                        after,
-                    },
-                )
-            }
+            Keyword::Ins => self.insert(alloc, schema, names, rest),
+            Keyword::Del => self.delete(alloc, schema, names, rest),
+            Keyword::Upd => self.update(alloc, schema, names, rest),
             Keyword::End => self.end(alloc, rest),
             Keyword::Close => self.close(rest),
         }
+    }
+
+    #[tactic(auto, unfolding(crate::specs::Machine::step))]
+    /// Takes the line of a new row. (Out of `take`, whose other lines need none of its locals.)
+    #[inline(never)]
+    fn insert(
+        &mut self,
+        alloc: Global,
+        schema: Option<&Schema>,
+        names: &mut Names,
+        rest: Option<&[u8]>,
+    ) -> Result<(), LineFault>
+        requires { is_due self.old.place Ins ≡ true }
+        ensures { TakesLine IsFull result (step (option_map (λ tables. tables.now) schema.entry) (standing self.old) Ins (option_map (λ r. r.now) rest.entry)) (standing self.new) }
+    {
+        let (table, text) = table_at(names, alloc, rest)?;
+        let after = image(alloc, text)?;
+        self.add(schema, Change::Insert { table, after })
+    }
+
+    #[tactic(auto, unfolding(crate::specs::Machine::step))]
+    /// Takes the line of a row that is taken away.
+    #[inline(never)]
+    fn delete(
+        &mut self,
+        alloc: Global,
+        schema: Option<&Schema>,
+        names: &mut Names,
+        rest: Option<&[u8]>,
+    ) -> Result<(), LineFault>
+        requires { is_due self.old.place Del ≡ true }
+        ensures { TakesLine IsFull result (step (option_map (λ tables. tables.now) schema.entry) (standing self.old) Del (option_map (λ r. r.now) rest.entry)) (standing self.new) }
+    {
+        let (table, text) = table_at(names, alloc, rest)?;
+        let before = image(alloc, text)?;
+        self.add(schema, Change::Delete { table, before })
+    }
+
+    #[tactic(auto, unfolding(crate::specs::Machine::step))]
+    /// Takes the line of a row in the place of another.
+    #[inline(never)]
+    fn update(
+        &mut self,
+        alloc: Global,
+        schema: Option<&Schema>,
+        names: &mut Names,
+        rest: Option<&[u8]>,
+    ) -> Result<(), LineFault>
+        requires { is_due self.old.place Upd ≡ true }
+        ensures { TakesLine IsFull result (step (option_map (λ tables. tables.now) schema.entry) (standing self.old) Upd (option_map (λ r. r.now) rest.entry)) (standing self.new) }
+    {
+        let (table, text) = table_at(names, alloc, rest)?;
+        let (before, after) = two_images(alloc, text)?;
+        self.add(
+            schema,
+            Change::Update {
+                table,
+                before,
+                after,
+            },
+        )
     }
 
     #[tactic(auto, unfolding(crate::specs::Machine::header_line))]

@@ -7,7 +7,7 @@ ghost use Rattle.txn_journal.specs.ChangeLines.{change_in};
 
 use crate::fault::{Cause, JournalFault, LineFault};
 use crate::parsed_lines::{ParsedLine, ParsedLines};
-use memchr::memchr;
+use row_images::first_line_feed;
 use rows::Change;
 use std::alloc::Global;
 
@@ -16,7 +16,7 @@ pub fn cut_line(text: &[u8]) -> Option<(&[u8], &[u8])>
     ensures found { IfSome result (λ r. BeginsWithLine text.now r.0.now r.1.now) }
     ensures none { IfNone result (IsOneLine text.now) }
 {
-    let Some(at) = memchr(b'\n', text) else {
+    let Some(at) = first_line_feed(text) else {
         return None;
     };
     let (line, rest) = text.split_at(at);

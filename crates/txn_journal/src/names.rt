@@ -1,5 +1,5 @@
 //! Names, each allocated once.
-ghost use Rattle.std.specs.Prelude.{◌≡◌, ◌<◌, ◌≤◌, IfOk, IfErr, length};
+ghost use Rattle.std.specs.Prelude.{◌≡◌, ◌<◌, ◌≤◌, Some, IfOk, IfErr, IfSome, length};
 ghost use Rattle.txn_journal.specs.Words.{name_of};
 
 use rows::{Name, NameFault};
@@ -12,6 +12,8 @@ const KEPT: usize = 256;
 #[derive(Drop)]
 pub struct Names {
     kept: Vec<Name>,
+    /// The place of the name that was read last: a guess.
+    last: usize,
 }
 
 fn new_name(alloc: Global, word: &[u8]) -> Result<Option<Name>, AllocError>
@@ -34,11 +36,24 @@ fn place_of(names: &[Name], word: &[u8]) -> Result<usize, usize>
     names.binary_search_by(|name| name.as_str().as_bytes().cmp(word))
 }
 
+/// The name at a place, where the word is that name.
+fn name_at<'a>(names: &'a [Name], place: usize, word: &[u8]) -> Option<&'a Name>
+    ensures { IfSome result (λ name. name_of word.now ≡ Some name.now) }
+{
+    let name = names.get(place)?;
+    if name.as_str().as_bytes() == word {
+        Some(name)
+    } else {
+        None
+    }
+}
+
 impl Names {
     /// No names.
     pub fn start(alloc: Global) -> Names {
         Names {
             kept: Vec::new(alloc),
+            last: 0,
         }
     }
 
@@ -46,10 +61,13 @@ impl Names {
     pub fn read(&mut self, alloc: Global, word: &[u8]) -> Result<Option<Name>, AllocError>
         ensures { IfOk result (λ found. found ≡ name_of word.now) }
     {
+        if let Some(name) = name_at(&self.kept, self.last, word) {
+            return Ok(Some(name.clone()?));
+        }
         match place_of(&self.kept, word) {
             Ok(place) => {
-                let name = &self.kept[place];
-                if name.as_str().as_bytes() == word {
+                self.last = place;
+                if let Some(name) = name_at(&self.kept, place, word) {
                     return Ok(Some(name.clone()?));
                 }
                 new_name(alloc, word)

@@ -12,7 +12,7 @@ use crate::lines::Version;
 use gtid_text::{Gtid, SourceId};
 use journal_words::gtid_word;
 use row_images::{count, cut, is_count};
-use std::alloc::Global;
+use std::alloc::{AllocError, Global};
 
 /// The bytes of a source's text.
 const SOURCE_LEN: usize = 36;
@@ -52,7 +52,7 @@ impl Numbers<'_> {
 
 /// A source, and its text.
 #[derive(Drop)]
-pub struct SourceText {
+struct SourceText {
     source: SourceId,
     text: [u8; SOURCE_LEN],
     ghost small: { IsSource source },
@@ -60,14 +60,6 @@ pub struct SourceText {
 }
 
 impl SourceText {
-    /// The source whose bits are all 0.
-    pub fn zero() -> SourceText {
-        SourceText {
-            source: SourceId::from_bits(0),
-            text: *b"00000000-0000-0000-0000-000000000000",
-        }
-    }
-
     /// The source of a GTID, with its text in the word of the GTID.
     fn of_word(gtid: &Gtid, word: &[u8]) -> Option<SourceText>
         requires { gtid_of_word word.now ≡ Some gtid.now }
@@ -109,11 +101,88 @@ impl SourceText {
     }
 }
 
-/// The GTID that the word parses as. It is looked for as one of the source that is near first, for GTIDs of one source often follow one
-/// another; its own source is near then.
-fn gtid_in(alloc: Global, near: &mut SourceText, word: &[u8]) -> Result<Gtid, LineFault>
+/// So many sources are kept.
+const KEPT: usize = 16;
+
+/// Sources of the last GTIDs, with their texts. GTIDs of few sources often follow one another, as in the relay log of a replica.
+pub struct NearSources {
+    kept: Vec<SourceText>,
+    /// The place of the last one: a guess.
+    last: usize,
+}
+
+/// The GTID of the first of these sources that the word parses as, and the place of the source.
+fn find_gtid(sources: &[SourceText], word: &[u8]) -> Option<(usize, Gtid)>
+    ensures { IfSome result (λ found. gtid_of_word word.now ≡ Some found.1) }
+{
+    for (place, source) in sources.iter().enumerate() {
+        if let Some(gtid) = source.gtid_in(word) {
+            return Some((place, gtid));
+        }
+    }
+    None
+}
+
+impl Drop for NearSources {
+    // (by hand: for a caller the end of a NearSources is one call)
+    fn drop(self) {
+        let NearSources {
+            kept: _kept,
+            last: _last,
+        } = self;
+    }
+}
+
+impl NearSources {
+    /// No sources.
+    pub fn start(alloc: Global) -> NearSources {
+        NearSources {
+            kept: Vec::new(alloc),
+            last: 0,
+        }
+    }
+
+    /// The GTID of the last source that the word parses as, where it does.
+    fn last_gtid_in(&self, word: &[u8]) -> Option<Gtid>
+        ensures { IfSome result (λ gtid. gtid_of_word word.now ≡ Some gtid) }
+    {
+        let source = self.kept.get(self.last)?;
+        source.gtid_in(word)
+    }
+
+    /// The GTID of one of the sources that the word parses as, where it does.
+    fn gtid_in(&mut self, word: &[u8]) -> Option<Gtid>
+        ensures { IfSome result (λ gtid. gtid_of_word word.now ≡ Some gtid) }
+    {
+        let (place, gtid) = find_gtid(&self.kept, word)?;
+        self.last = place;
+        Some(gtid)
+    }
+
+    /// Keeps a source, in the place of one that was kept where there are many.
+    fn keep(&mut self, source: SourceText) -> Result<(), AllocError> {
+        let count = self.kept.len();
+        if count < KEPT {
+            self.kept.push(source)?;
+            self.last = count;
+            return Ok(());
+        }
+        let next = self.last.saturating_add(1);
+        self.last = if next < count { next } else { 0 };
+        if let Some(kept) = self.kept.get_mut(self.last) {
+            *kept = source;
+        }
+        Ok(())
+    }
+}
+
+/// The GTID that the word parses as. It is looked for among those of the sources that are near first; its own source is near then.
+fn gtid_in(alloc: Global, near: &mut NearSources, word: &[u8]) -> Result<Gtid, LineFault>
     ensures { Finds (λ g. g) result (some_or_body (gtid_of_word word.now)) }
 {
+    if let Some(gtid) = near.last_gtid_in(word) {
+        return Ok(gtid);
+    }
     if let Some(gtid) = near.gtid_in(word) {
         return Ok(gtid);
     }
@@ -121,7 +190,7 @@ fn gtid_in(alloc: Global, near: &mut SourceText, word: &[u8]) -> Result<Gtid, Li
         return Err(LineFault::Wrong(Cause::Body));
     };
     if let Some(source) = SourceText::of_word(&gtid, word) {
-        *near = source;
+        near.keep(source)?;
     }
     Ok(gtid)
 }
@@ -147,7 +216,7 @@ fn numbers_in(rest: Option<&[u8]>) -> Result<Numbers<'_>, LineFault>
 
 fn beginning_text(
     alloc: Global,
-    near: &mut SourceText,
+    near: &mut NearSources,
     version: Version,
     place: u64,
     text: &[u8],
@@ -172,11 +241,10 @@ fn beginning_text(
     }
 }
 
-/// The content of the line that begins the entry at a place, counted from 1, from the rest of the line. Any source may be given as a
-/// guess of the GTID's source.
+/// The content of the line that begins the entry at a place, counted from 1, from the rest of the line. Any sources may be near.
 pub fn beginning_at(
     alloc: Global,
-    near: &mut SourceText,
+    near: &mut NearSources,
     version: Version,
     place: u64,
     rest: Option<&[u8]>,

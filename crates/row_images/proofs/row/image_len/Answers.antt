@@ -1,38 +1,39 @@
-use Rattle.std.proofs.Common.{◌≡◌, true, false, is_some, Some, option_map, sym, ap, ◌∙◌, arith}
-use Rattle.row_images.specs.Words.{others}
+use Rattle.std.proofs.Common.{◌≡◌, ◌+◌, drop, Some, refl, sym, ap, ◌∙◌, arith}
+use Rattle.row_images.specs.Words.{first_word, others}
 use Rattle.row_images.specs.Values.{value_of}
-use Rattle.row_images.proofs.Cuts.{others-shorter}
+use Rattle.row_images.proofs.FirstValue.{value_there, no_value_there, others_after, others_none}
 use Rattle.row_images.proofs.ImageSteps.{image_ends, image_last, image_next, words_more, words_last}
+use Rattle.row_images.proofs.Cuts.{others-shorter}
 use Rattle.row_images.proofs.row.image_len.Goals as goal
 
-pub returns-then-not-is_value-clause-some : goal.returns-then-not-is_value-clause-some
-returns-then-not-is_value-clause-some c =
-    let none : is_some (value_of c.cut.result.0.now) ≡ false = cc in
-    image_ends c.words.left.now c.cut.result.0.now _ c.cut.ensures.word c.cut.ensures.rest none ∙ c.words.invariant.some
+pub returns-in_default-clause-some : goal.returns-in_default-clause-some
+returns-in_default-clause-some c =
+    let t = c.words.left.now in
+    image_ends t (first_word t) (others t) refl refl (no_value_there value_of t (sym c.in_default.is ∙ c.value_len.ensures.len)) ∙ c.words.invariant.some
 
-pub words-smaller : goal.words-smaller
-words-smaller c =
-    let e : others c.words.left.now ≡ Some c.in-Some.after.now = sym c.cut.ensures.rest ∙ ap (option_map (λ r. r.now)) c.in-Some.is in
-    others-shorter _ _ e
+pub returns-then-len-left-clause-some : goal.returns-then-len-left-clause-some
+returns-then-len-left-clause-some c =
+    let t = c.words.left.now in
+    let there = value_there value_of t c.in-Some.len c.in-Some.ensures.len in
+    let last = others_none t (omega (arith, there.1, c.if-len-left.true)) in
+    image_last t (first_word t) (others t) refl refl there.0 last ∙ c.words.invariant.some
+
+pub returns-then-len-left-clause-len : goal.returns-then-len-left-clause-len
+returns-then-len-left-clause-len c =
+    let t = c.words.left.now in
+    let there = value_there value_of t c.in-Some.len c.in-Some.ensures.len in
+    let one = words_last t (others_none t (omega (arith, there.1, c.if-len-left.true))) in
+    omega (arith, c.words.invariant.words, one)
 
 pub words-preserved : goal.words-preserved
 words-preserved c =
-    let value : is_some (value_of c.cut.result.0.now) ≡ true = cc in
-    let e : others c.words.left.now ≡ Some c.in-Some.after.now = sym c.cut.ensures.rest ∙ ap (option_map (λ r. r.now)) c.in-Some.is in
-    let less = others-shorter c.words.left.now c.in-Some.after.now e in
-    let one = words_more c.words.left.now c.in-Some.after.now e in
+    let t = c.words.left.now in
+    let there = value_there value_of t c.in-Some.len c.in-Some.ensures.len in
+    let more : others t ≡ Some c.rest_from-left.result.now = others_after t (omega (arith, there.1, c.if-len-left.false)) ∙ ap (λ k. Some (drop (k + 1) t)) (sym there.1) ∙ ap Some (sym c.rest_from-left.ensures) in
+    let less = others-shorter t c.rest_from-left.result.now more in
+    let one = words_more t c.rest_from-left.result.now more in
     record {
-      some = image_next c.words.left.now c.cut.result.0.now c.in-Some.after.now _ c.cut.ensures.word c.cut.ensures.rest value (ap (option_map (λ r. r.now)) c.in-Some.is) ∙ c.words.invariant.some;
+      some = image_next t (first_word t) c.rest_from-left.result.now (others t) refl refl there.0 more ∙ c.words.invariant.some;
       words = omega (arith, c.words.invariant.words, one);
       few = omega (arith, c.words.invariant.few, less);
     }
-
-pub returns-in-None-clause-some : goal.returns-in-None-clause-some
-returns-in-None-clause-some c =
-    let value : is_some (value_of c.cut.result.0.now) ≡ true = cc in
-    image_last c.words.left.now c.cut.result.0.now _ c.cut.ensures.word c.cut.ensures.rest value (ap (option_map (λ r. r.now)) c.in-None.is) ∙ c.words.invariant.some
-
-pub returns-in-None-clause-len : goal.returns-in-None-clause-len
-returns-in-None-clause-len c =
-    let one = words_last c.words.left.now (sym c.cut.ensures.rest ∙ ap (option_map (λ r. r.now)) c.in-None.is) in
-    omega (arith, c.words.invariant.words, one)

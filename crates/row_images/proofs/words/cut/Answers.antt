@@ -1,19 +1,18 @@
-use Rattle.std.proofs.Common.{◌+◌, Some, ap, ◌∙◌, arith}
+use Rattle.std.proofs.Common.{Some, ap, ◌+◌, ◌∙◌}
 use Rattle.std.proofs.lemmas.List.{take_rest}
-use Rattle.row_images.proofs.Cuts.{no_blank, at_blank}
+use Rattle.row_images.proofs.Cuts.{run_cut, run_alone}
 use Rattle.row_images.proofs.words.cut.Goals as goal
 
-pub returns-in-Some-clause-word : goal.returns-in-Some-clause-word
-returns-in-Some-clause-word c =
-    (at_blank c.in-Some.at c.args.line.now c.in-Some.ensures.0.high (λ k lt h. c.in-Some.ensures.0.before k (omega arith) lt h) c.in-Some.ensures.1).0
+pub returns-then-end-line-clause-word : goal.returns-then-end-line-clause-word
+returns-then-end-line-clause-word c = (run_cut c.args.line.now c.run_end-end.result c.run_end-end.ensures c.if-end-line.true).0
 
-pub returns-in-Some-clause-rest : goal.returns-in-Some-clause-rest
-returns-in-Some-clause-rest c =
-    ap Some (take_rest c.args.line.now (c.in-Some.at + 1))
-    ∙ (at_blank c.in-Some.at c.args.line.now c.in-Some.ensures.0.high (λ k lt h. c.in-Some.ensures.0.before k (omega arith) lt h) c.in-Some.ensures.1).1
+pub returns-then-end-line-clause-rest : goal.returns-then-end-line-clause-rest
+returns-then-end-line-clause-rest c =
+    ap Some (take_rest c.args.line.now (c.run_end-end.result + 1))
+    ∙ (run_cut c.args.line.now c.run_end-end.result c.run_end-end.ensures c.if-end-line.true).1
 
-pub returns-in-None-clause-word : goal.returns-in-None-clause-word
-returns-in-None-clause-word c = (no_blank c.args.line.now (λ k lt h. c.in-None.ensures k (omega arith) lt h)).0
+pub returns-else-end-line-clause-word : goal.returns-else-end-line-clause-word
+returns-else-end-line-clause-word c = (run_alone c.args.line.now c.run_end-end.result c.run_end-end.ensures c.if-end-line.false).0
 
-pub returns-in-None-clause-rest : goal.returns-in-None-clause-rest
-returns-in-None-clause-rest c = (no_blank c.args.line.now (λ k lt h. c.in-None.ensures k (omega arith) lt h)).1
+pub returns-else-end-line-clause-rest : goal.returns-else-end-line-clause-rest
+returns-else-end-line-clause-rest c = (run_alone c.args.line.now c.run_end-end.result c.run_end-end.ensures c.if-end-line.false).1
