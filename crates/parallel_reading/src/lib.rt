@@ -1,0 +1,19 @@
+//! Bundles that several threads read: their lines are parsed side by side, and taken in order.
+//!
+//! What a contract sees: the bytes of the text, and the bundle or the fault that they are. The clauses of `decode_beside` are those of
+//! `decode_bundle` of `txn_journal`: the same text is accepted as the same bundle, and refused at the same line for the same cause,
+//! whatever the number of threads, whichever of them could be started and however the text is cut into parts. `read_beside` gives the
+//! reader that has come so far, for callers that end it themselves.
+//!
+//! How it goes: a text is cut into blocks of 1 MiB for each thread that parses, and a block into as many parts, cut anywhere. What a
+//! line of a change writes is read on those threads (`ParsedLines` of `txn_journal`), while the caller's lines of the block before are
+//! taken in order, since each line is judged by what those before it have made. Where memory is refused for the parts of a block, its
+//! bytes are taken as they are.
+//!
+//! Not proved: speed, and that a thread runs.
+#![tactic(auto)]
+
+mod parts;
+mod reading;
+
+pub use reading::{decode_beside, read_beside};

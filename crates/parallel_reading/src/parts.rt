@@ -1,0 +1,70 @@
+//! The parts of a text, and the lines of each, parsed on a thread of its own.
+ghost use Rattle.std.specs.Prelude.{◌≡◌, ◌++◌, ◌<◌, IfOk, map, length, slice_index_or};
+ghost use Rattle.std.specs.List.{concat};
+
+use std::alloc::{AllocError, Global};
+use std::thread;
+use std::thread::Threads;
+use txn_journal::ParsedLines;
+
+/// The first bytes of a text, so many or all, and what follows them.
+pub fn cut_block(text: &[u8], size: usize) -> (&[u8], &[u8])
+    ensures parts { text.now ≡ result.0.now ++ result.1.now }
+    ensures smaller { 0 < size → 0 < length text.now → length result.1.now < length text.now }
+{
+    if text.len() <= size {
+        return (text, &text[text.len()..]);
+    }
+    text.split_at(size)
+}
+
+/// The parts of a text, of so many bytes each but the last.
+fn parts_of(alloc: Global, text: &[u8], size: usize) -> Result<Vec<&[u8]>, AllocError>
+    requires { 0 < size }
+    ensures { IfOk result (λ parts. concat (map (λ p. p.now) parts.items) ≡ text.now) }
+{
+    let mut parts = Vec::new(alloc);
+    let mut left = text;
+    'parts: while left.len() > size {
+        let (part, more) = left.split_at(size);
+        parts.push(part)?;
+        left = more;
+    }
+    parts.push(left)?;
+    Ok(parts)
+}
+
+/// The lines of each part, parsed on a thread of its own where one can be started.
+fn parse_all<'a, R: Threads + Sync>(
+    rt: &R,
+    alloc: Global,
+    parts: &[&'a [u8]],
+) -> Result<Vec<ParsedLines<'a>>, AllocError>
+    ensures { IfOk result (λ parsed. parsed.items ≡ map (λ p. p.now) parts.now) }
+{
+    let parsed = thread::map_indices(
+        rt,
+        alloc,
+        parts.len(),
+        &|i: usize| -> ParsedLines<'_>
+            requires { i < length parts.now }
+            ensures { (d : _) → result ≡ (slice_index_or parts.entry.now i d).now }
+        { ParsedLines::parse(alloc, parts[i]) },
+    )?;
+    Ok(parsed)
+}
+
+/// The lines of a block, parsed in parts of so many bytes.
+pub fn parse_block<'a, R: Threads + Sync>(
+    rt: &R,
+    alloc: Global,
+    block: &'a [u8],
+    size: usize,
+) -> Result<Vec<ParsedLines<'a>>, AllocError>
+    requires { 0 < size }
+    ensures { IfOk result (λ parsed. concat parsed.items ≡ block.now) }
+{
+    let parts = parts_of(alloc, block, size)?;
+    let parsed = parse_all(rt, alloc, &parts)?;
+    Ok(parsed)
+}

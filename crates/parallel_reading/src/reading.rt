@@ -1,0 +1,118 @@
+//! A reader of bundles that is fed with parsed lines.
+ghost use Rattle.std.specs.Prelude.{◌≡◌, ◌++◌, ◌≤◌, ℕ, List, None, IfOk, IfErr};
+ghost use Rattle.std.specs.List.{concat};
+ghost use Rattle.txn_journal.specs.BundleStates.{BundleValue};
+ghost use Rattle.txn_journal.specs.BundleText.{WritesBundle};
+ghost use Rattle.txn_journal.specs.BundleRefused.{RefusesBundle};
+ghost use Rattle.txn_journal.specs.Stream.{IsWhole, IsRead};
+ghost use Rattle.txn_journal.specs.BundleReading.{bundle_start, feed_bundle_bytes, closing_bundle};
+ghost use Rattle.parallel_reading.specs.Coming.{HasCome};
+
+use crate::parts::{cut_block, parse_block};
+use std::alloc::{AllocError, Global};
+use std::thread;
+use std::thread::Threads;
+use txn_journal::{Bundle, BundleReader, JournalFault, ParsedLines};
+
+/// How many bytes a thread parses at a time.
+const PART: usize = 1_048_576;
+
+/// Takes parts in their order.
+fn take_all(alloc: Global, reader: &mut BundleReader, parsed: Vec<ParsedLines<'_>>)
+    ensures { (bytes : List ℕ) → HasCome reader.old bytes → HasCome reader.new (bytes ++ concat parsed.entry.items) }
+{
+    for part in parsed {
+        let _ = reader.feed_parsed(alloc, part);
+    }
+}
+
+/// Takes a block, whose lines were parsed, or not where memory was refused for them.
+fn take_block(
+    alloc: Global,
+    reader: &mut BundleReader,
+    block: &[u8],
+    parsed: Result<Vec<ParsedLines<'_>>, AllocError>,
+)
+    requires { IfOk parsed (λ parsed. concat parsed.items ≡ block.now) }
+    ensures { (bytes : List ℕ) → HasCome reader.old bytes → HasCome reader.new (bytes ++ block.now) }
+{
+    match parsed {
+        Ok(parsed) => take_all(alloc, reader, parsed),
+        Err(_) => {
+            let _ = reader.feed(alloc, block);
+        }
+    }
+}
+
+/// Takes a block, while the lines of the next one are parsed.
+fn take_and_parse<'a, R: Threads + Sync>(
+    rt: &R,
+    alloc: Global,
+    reader: BundleReader,
+    block: &'a [u8],
+    parsed: Result<Vec<ParsedLines<'a>>, AllocError>,
+    next: &'a [u8],
+) -> (BundleReader, Result<Vec<ParsedLines<'a>>, AllocError>)
+    requires { IfOk parsed (λ parsed. concat parsed.items ≡ block.now) }
+    ensures taken { (bytes : List ℕ) → HasCome reader bytes → HasCome result.0 (bytes ++ block.now) }
+    ensures parsed { IfOk result.1 (λ parsed. concat parsed.items ≡ next.now) }
+{
+    thread::join(
+        rt,
+        move || -> BundleReader
+            requires { IfOk parsed (λ parsed. concat parsed.items ≡ block.now) }
+            ensures { (bytes : List ℕ) → HasCome reader bytes → HasCome result (bytes ++ block.entry.now) }
+        {
+            let mut reader = reader;
+            take_block(alloc, &mut reader, block, parsed);
+            reader
+        },
+        || parse_block(rt, alloc, next, PART),
+    )
+}
+
+/// A reader of bundles after all bytes of a text. Its lines are parsed by one thread less than there are workers, but by one at least,
+/// while the lines before them are taken.
+pub fn read_beside<R: Threads + Sync>(
+    rt: &R,
+    alloc: Global,
+    text: &[u8],
+    workers: u8,
+) -> BundleReader
+    ensures { HasCome result text.now }
+{
+    let parsers = usize::from(workers).saturating_sub(1).max(1);
+    let size = PART * parsers;
+    let mut reader = BundleReader::start(alloc);
+    let (mut block, mut left) = cut_block(text, size);
+    let mut parsed = parse_block(rt, alloc, block, PART);
+    'reading: while !left.is_empty() {
+        let (next, after) = cut_block(left, size);
+        let (taken, ahead) = take_and_parse(rt, alloc, reader, block, parsed, next);
+        reader = taken;
+        parsed = ahead;
+        block = next;
+        left = after;
+    }
+    take_block(alloc, &mut reader, block, parsed);
+    reader
+}
+
+/// The bundle that the bytes parse as, all of the bytes, by either version of the format. Its lines are parsed by several threads.
+pub fn decode_beside<R: Threads + Sync>(
+    rt: &R,
+    alloc: Global,
+    bytes: &[u8],
+    workers: u8,
+) -> Result<Bundle, JournalFault>
+    // Accepted bytes are a text of this value by the grammar.
+    ensures found { IfOk result (λ b. WritesBundle bytes.now b) }
+    // A text of a value by the grammar is accepted as it, if memory and the sources of a set allow.
+    ensures only { (b : BundleValue) → WritesBundle bytes.now b → IsRead result b }
+    // A refusal names the first faulty line, and what is wrong with it.
+    ensures refused { IfErr result (λ fault. RefusesBundle fault bytes.now) }
+    // The same, by the fold over the bytes.
+    ensures exact { IsWhole result (closing_bundle (feed_bundle_bytes (bundle_start None) bytes.now)) }
+{
+    read_beside(rt, alloc, bytes, workers).finish()
+}
