@@ -53,10 +53,10 @@ use Rattle.ordered_bundles.proofs.Sounding as sounding
 use Rattle.serving.specs.declared.order.Order.{Order}
 use Rattle.serving.specs.declared.order.Order.TheVariants.{BySource, ByConflict}
 use Rattle.serving.specs.declared.receiving.Apply.{Apply}
-use Rattle.serving.specs.Servable.{FitsJournal, IsFitting, HasRoom, IsServable, CanOpen, IsTaken, CanReceive, CanSend, CanServe, CanServeEach}
+use Rattle.serving.specs.Servable.{FitsJournal, IsFitting, HasRoom, IsServable, can_be_sent, CanOpen, IsTaken, CanReceive, CanSend, CanServe, CanServeEach}
 use Rattle.serving.specs.Serving.{run, IsBetween, with_opened, Asks, ServesOne, opening}
 use Rattle.serving.specs.Verdicts.{Naming, names_of, world_over, keys_over}
-use Rattle.serving.proofs.Runs.{all_by, all_true, one_run, one_keeps}
+use Rattle.serving.proofs.Runs.{all_by, all_true, true_from, one_run, one_keeps}
 use Rattle.serving.proofs.Shapes.{applies_can, one_named}
 
 not_below : (m n : ℕ) → n < m → nat_le m n ≡ false
@@ -276,16 +276,20 @@ can_send schema executed j unpurged rules fits room = record {
   room = room;
 }
 
--- a bundle that can be served, and whose keys are sound, can be served to its replica
-pub can_serve_all : (order : Order) (b : BundleValue) → IsServable b → keys_over order b ≡ Sound → AreJournals b.journals → CanServeEach 0 b.channels b.journals (opening b)
-can_serve_all order b can sound rules = record {
+-- the sources of a bundle whose keys are sound send their journals
+pub sound_is_sent : (order : Order) (b : BundleValue) → keys_over order b ≡ Sound → can_be_sent b ≡ true
+sound_is_sent order b sound = true_from (λ (j : JournalValue). set.is_subset j.previous b.opened) b.journals (λ i j at. unpurged order b sound i j at)
+
+-- a bundle that can be served, and whose sources send their journals, can be served to its replica
+pub can_serve_all : (b : BundleValue) → IsServable b → can_be_sent b ≡ true → AreJournals b.journals → CanServeEach 0 b.channels b.journals (opening b)
+can_serve_all b can sent rules = record {
   before = [];
   named = refl;
   next = refl;
   few = let few = can.few in omega (arith, few);
   have = can.have;
   send = all_from (CanSend b.start.schema b.opened) b.journals (λ i j at.
-      can_send b.start.schema b.opened j (unpurged order b sound i j at) (all_at (λ (x : JournalValue). IsJournal x.previous x.entries) b.journals i j rules at)
+      can_send b.start.schema b.opened j (all_true (λ (x : JournalValue). set.is_subset x.previous b.opened) b.journals i j sent at) (all_at (λ (x : JournalValue). IsJournal x.previous x.entries) b.journals i j rules at)
       (all_at (FitsJournal b.start.schema) b.journals i j can.fits at) (all_at HasRoom b.journals i j can.room at));
 }
 

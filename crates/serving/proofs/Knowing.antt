@@ -54,7 +54,7 @@ use Rattle.serving.specs.declared.receiving.Apply.{Apply}
 use Rattle.serving.specs.declared.receiving.Apply.TheVariants.{AtOnce}
 use Rattle.serving.specs.Faults.{Cover, IsFaultWhere, HasGtid, HasSet, IsReceived, Knows, HasEntries, KnowsWith, HasJournal, KnowsToo, intervals_of, IsBundleFault, IsVerdictFault}
 use Rattle.serving.specs.declared.order.Order.{Order}
-use Rattle.serving.specs.Serving.{run, IsBetween, IsFeed, Applies, Receives, with_opened, Asks, ServesOne, ServesEach, opening, IsRun}
+use Rattle.serving.specs.Serving.{run, IsBetween, IsFeed, Applies, Receives, with_opened, Asks, ServesOne, ServesEach, opening, IsServed, IsRun}
 use Rattle.serving.proofs.Conditions.{sent_all}
 use Rattle.serving.proofs.Runs.{all_by, IsApart, no_receipts, no_locals, no_commits, between_apart, feed_apart}
 
@@ -248,11 +248,13 @@ knows_opening b = (known, journals_in b.opened b.journals)
       received = λ g h. none_some h.1 h.2;
     }
 
-knows_all : (order : Order) (b : BundleValue) (core : Replica) → IsRun order b core → Knows core.state (cover_of b.opened b.journals)
-knows_all order b core r =
-    let cover = cover_of b.opened b.journals in
+knows_served : (apply : Apply) (b : BundleValue) (served : Replica) → IsServed apply b served → Knows served.state (cover_of b.opened b.journals)
+knows_served apply b served received =
     let start = knows_opening b in
-    knows_applied cover AtOnce r.served core r.applies (knows_each cover r.apply (opening b) 0 b.channels b.journals r.served r.received.1 start.1 start.0)
+    knows_each (cover_of b.opened b.journals) apply (opening b) 0 b.channels b.journals served received start.1 start.0
+
+knows_all : (order : Order) (b : BundleValue) (core : Replica) → IsRun order b core → Knows core.state (cover_of b.opened b.journals)
+knows_all order b core r = knows_applied (cover_of b.opened b.journals) AtOnce r.served core r.applies (knows_served r.apply b r.served r.received.1)
 
 take_all_of : (P : Entry → Type 0) (n : ℕ) (es : List Entry) → AllByRecursion P es → AllByRecursion P (take n es)
 take_all_of P zero es h = tt
@@ -408,7 +410,11 @@ pub later_fault : (f : SetFault) (apply : Apply) (r t : Replica) → Applies app
 later_fault f apply r t applies h = weaker f (Knows t.state) (Knows r.state) (λ cover within. knows_applied cover apply r t applies within) h
 
 -- a fault of a replica that was served the journals of a bundle
-pub run_fault : (f : SetFault) (order : Order) (b : BundleValue) (core : Replica) → IsRun order b core → IsFaultWhere (Knows core.state) f → IsBundleFault b f
+pub served_fault : (f : SetFault) (apply : Apply) (b : BundleValue) (served : Replica) → IsServed apply b served → IsFaultWhere (Knows served.state) f → IsBundleFault b f
+served_fault f apply b served received h = bundle_fault f b (Knows served.state) (knows_served apply b served received) h
+
+-- ... and to which was applied since
+run_fault : (f : SetFault) (order : Order) (b : BundleValue) (core : Replica) → IsRun order b core → IsFaultWhere (Knows core.state) f → IsBundleFault b f
 run_fault f order b core r h = bundle_fault f b (Knows core.state) (knows_all order b core r) h
 
 -- ... by which a commit of some seat is answered

@@ -34,7 +34,7 @@ use Rattle.txn_journal.specs.BundleStates.{BundleValue}
 use Rattle.txn_journal.specs.declared.bundle.BundleChannel.{BundleChannel}
 use Rattle.serving.specs.declared.receiving.Apply.{Apply}
 use Rattle.serving.specs.declared.receiving.Apply.TheVariants.{Later, AtOnce}
-use Rattle.serving.specs.Serving.{run, IsBetween, apply_events_at, IsFeed, Applies, Receives, with_opened, ServesOne, ServesEach, opening, HasReceived, IsReady, IsRun}
+use Rattle.serving.specs.Serving.{run, IsBetween, apply_events_at, IsFeed, Applies, Receives, with_opened, ServesOne, ServesEach, opening, IsServed, IsApplied, IsReady, IsRun}
 use Rattle.ordered_bundles.specs.Audit as in_order
 use Rattle.faithful_runs.specs.InOrder.{WorkersDecideInOrder, ServedHoldsAllInOrder}
 use Rattle.serving.specs.declared.order.Order.{Order}
@@ -320,7 +320,7 @@ all_true p [] i x h at = none_some x at
 all_true p (y ∷ ys) zero x h at = ap p (same_Some x y (sym at)) ∙ (and_parts (p y) (list_all p ys) h).0
 all_true p (y ∷ ys) (suc i) x h at = all_true p ys i x (and_parts (p y) (list_all p ys) h).1 at
 
-true_from : {A : Type 0} (p : A → Bool) (xs : List A) → ((i : ℕ) (x : A) → slice_get xs i ≡ Some x → p x ≡ true) → list_all p xs ≡ true
+pub true_from : {A : Type 0} (p : A → Bool) (xs : List A) → ((i : ℕ) (x : A) → slice_get xs i ≡ Some x → p x ≡ true) → list_all p xs ≡ true
 true_from p [] h = refl
 true_from p (x ∷ xs) h = and_from (p x) (list_all p xs) (h 0 x refl) (true_from p xs (λ i y at. h (suc i) y at))
 
@@ -413,14 +413,14 @@ audit_concluded order b core v r rules undone ends is laws = (
 
 -- ---- what the code served
 
--- what was received, before more is applied
-pub run_begun : (order : Order) (apply : Apply) (b : BundleValue) (core : Replica) → HasReceived order apply b core → IsRun order b core
-run_begun order apply b core received = record { apply = apply; served = core; received = received; applies = applies_none AtOnce core }
-
--- a run that went on
-pub run_further : (order : Order) (b : BundleValue) (core next : Replica) → IsRun order b core → Applies AtOnce core next → IsRun order b next
-run_further order b core next r applies = record { apply = r.apply; served = r.served; received = r.received; applies = applies_more AtOnce r.served core next r.applies applies }
-
 -- a replica that was ready, and to which was applied since
 pub ready_applied : (order : Order) (b : BundleValue) (ready core : Replica) → IsReady order b ready → Applies AtOnce ready core → IsRun order b core
-ready_applied order b ready core received applies = run_further order b ready core (run_begun order Later b ready received) applies
+ready_applied order b ready core received applies = record { apply = Later; served = ready; received = received; applies = applies }
+
+-- a replica that was served so, and to which what was left was applied
+pub is_applied : (b : BundleValue) (served core : Replica) → IsServed AtOnce b served → Applies AtOnce served core → AreStoppedOrDone core.state → IsApplied b core
+is_applied b served core received applies ends = record { served = served; received = received; applies = applies; ends = ends }
+
+-- ... is a run, where the keys are sound
+pub applied_is_run : (order : Order) (b : BundleValue) (core : Replica) → keys_over order b ≡ Sound → IsApplied b core → IsRun order b core
+applied_is_run order b core sound a = record { apply = AtOnce; served = a.served; received = (sound, a.received); applies = a.applies }

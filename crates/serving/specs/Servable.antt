@@ -1,6 +1,6 @@
 -- What can be served to a replica.
-use Rattle.std.specs.Prelude.{◌≡◌, ℕ, ◌+◌, ◌<◌, ◌≤◌, true, false, List, [], ◌∷◌, ◌++◌, length, slice_get, is_some, Some}
-use Rattle.std.specs.List.{list_any, AllByRecursion}
+use Rattle.std.specs.Prelude.{◌≡◌, ℕ, ◌+◌, ◌<◌, ◌≤◌, Bool, true, false, List, [], ◌∷◌, ◌++◌, length, slice_get, is_some, Some}
+use Rattle.std.specs.List.{list_all, list_any, AllByRecursion}
 use Rattle.std.specs.FinSet as set
 use Rattle.rows.specs.declared.schema.Table.{Table}
 use Rattle.rows.specs.Fits.{Fits}
@@ -41,6 +41,10 @@ pub record IsServable (b : BundleValue) : Type 0 where
   pub have : HaveChannels [] b.channels b.journals
   pub fits : IsFitting b
   pub room : AllByRecursion HasRoom b.journals
+
+-- what was purged of each journal is in the opening set, so that its source sends it to the replica
+abbrev pub can_be_sent : BundleValue → Bool
+can_be_sent b = list_all (λ (j : JournalValue). set.is_subset j.previous b.opened) b.journals
 
 -- a bundle that can be written, as each that was read can, can be served
 abbrev pub WrittenIsServable : Type 0

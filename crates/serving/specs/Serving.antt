@@ -11,6 +11,7 @@ use Rattle.replica_core.specs.declared.event.Reply.TheVariants.{Opened, Ask}
 use Rattle.replica_core.specs.State.{Replica}
 use Rattle.replica_core.specs.Machine.{step, after}
 use Rattle.replica_core.specs.Core.{new_replica_with}
+use Rattle.replica_core.specs.Draining.{AreStoppedOrDone}
 use Rattle.auto_position.specs.Sending.{sent}
 use Rattle.ordered_replicas.specs.Served.{received_on}
 use Rattle.world.specs.declared.verdict.Verdict.TheVariants.{Sound}
@@ -88,9 +89,20 @@ ServesEach apply r c (ch ∷ channels) (j ∷ js) t = (s : Replica) × ServesOne
 abbrev pub opening : BundleValue → Replica
 opening b = new_replica_with b.replica b.start b.opened
 
+-- the replica of the bundle has received all that its journals send
+abbrev pub IsServed : Apply → BundleValue → Replica → Type 0
+IsServed apply b core = ServesEach apply (opening b) 0 b.channels b.journals core
+
+-- ... and each entry was applied as it came, and what was left afterwards: each channel is stopped, or has executed all that it received
+pub record IsApplied (b : BundleValue) (core : Replica) : Type 0 where
+  pub served : Replica
+  pub received : IsServed AtOnce b served
+  pub applies : Applies AtOnce served core
+  pub ends : AreStoppedOrDone core.state
+
 -- the audit of keys reports Sound, and the replica of the bundle has received all that its journals send
 abbrev pub HasReceived : Order → Apply → BundleValue → Replica → Type 0
-HasReceived order apply b core = (keys_over order b ≡ Sound) × ServesEach apply (opening b) 0 b.channels b.journals core
+HasReceived order apply b core = (keys_over order b ≡ Sound) × IsServed apply b core
 
 -- the replica of a bundle whose keys are sound has received all that its journals send, and has applied nothing
 abbrev pub IsReady : Order → BundleValue → Replica → Type 0

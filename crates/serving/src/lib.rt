@@ -1,9 +1,11 @@
 //! The journals of a bundle served to its replica, each on a channel of its own, and what they result in.
 //!
 //! An audit asks for an `Order`: of sources that share no key (`audit`), or of what shares a key, whichever sources wrote it
-//! (`conflict_audit`). `begin` audits the keys by it, opens a replica and its channels, and lets each receive what `plan` of
-//! `auto_position` sends. `conclude` decides what a replica results in on which seats have worked since. `serve` lets seat 1 commit each
-//! entry as it is received. `begin` and `serve` give a `StateOrVerdict`: a replica, or the verdict of the audit, which is not Sound.
+//! (`conflict_audit`). `begin` audits the keys by it (`audit_of_keys`), opens a replica and its channels, and lets each receive what `plan` of
+//! `auto_position` sends (`receive_all`). `conclude` decides what a replica results in on which seats have worked since. `serve` lets seat 1
+//! commit each entry as it is received (`apply_all`). `begin` and `serve` give a `StateOrVerdict`: a replica, or the verdict of the audit,
+//! which is not Sound. Their parts only read the bundle and need nothing of one another, so that they may go side by side: the audit decides
+//! whether what was served counts. Serving asks only that no source has purged what the opening set lacks (`can_be_sent`).
 //!
 //! What a contract sees: the bundle as its value, and the replica. A bundle must be one that can be served (`IsServable`: at most 256
 //! journals, each with a channel of its own name and transactions that the tables take), and each bundle that was read is one
@@ -29,5 +31,8 @@ mod working;
 
 pub use listing::faults_over;
 pub use order::Order;
-pub use outcome::{StateOrVerdict, begin, conclude, serve, verdict_over, written_is_servable};
+pub use outcome::{
+    StateOrVerdict, apply_all, audit_of_keys, begin, can_be_sent, conclude, conclude_applied,
+    receive_all, serve, verdict_over, written_is_servable,
+};
 pub use receiving::entries_sent;

@@ -1,11 +1,15 @@
 //! What the journals of a bundle result in.
-ghost use Rattle.std.specs.Prelude.{◌≡◌, IfOk, IfErr, IsOkUnless};
+ghost use Rattle.std.specs.Prelude.{◌≡◌, true, IfOk, IfErr, IsOkUnless};
+ghost use Rattle.std.specs.List.{list_all};
+ghost use Rattle.std.specs.FinSet as set;
 ghost use Rattle.gtid_set.specs.declared.fault.SetFault.TheVariants.{Memory};
 ghost use Rattle.world.specs.Meaning.{AreJournals};
 ghost use Rattle.replica_core.specs.Draining.{AreStoppedOrDone};
 ghost use Rattle.serving.specs.Faults.{IsFaultWhere, KnowsToo, IsBundleFault, IsVerdictFault};
-ghost use Rattle.serving.specs.Servable.{IsFitting, IsServable, CanServeEach, WrittenIsServable};
-ghost use Rattle.serving.specs.Serving.{opening, ServesEach, HasReceived, IsReady, IsRun};
+ghost use Rattle.serving.specs.Servable.{IsFitting, IsServable, can_be_sent, CanServeEach, WrittenIsServable};
+ghost use Rattle.serving.specs.Serving.{opening, ServesEach, IsServed, IsReady, IsRun, IsApplied};
+ghost use Rattle.serving.specs.declared.receiving.Apply.TheVariants.{Later};
+ghost use Rattle.world.specs.declared.verdict.Verdict.TheVariants.{Sound};
 ghost use Rattle.audit.specs.Faults.{IsAuditFault};
 ghost use Rattle.serving.specs.Verdicts.{is_sound, world_over, keys_by, verdict_by, keys_over, verdict_over, IsFoundInKeys, IsStateOrVerdict, HasMerged, IsConcluded};
 
@@ -17,7 +21,7 @@ use conflict_audit::{audit_in_order, audit_keys_in_order};
 use faithful_runs::{
     served_holds_all, served_holds_all_in_order, workers_decide, workers_decide_in_order,
 };
-use gtid_set::SetFault;
+use gtid_set::{GtidSet, SetFault};
 use journal::Journal;
 use replica_core::Core;
 use std::alloc::{AllocError, Global};
@@ -127,9 +131,15 @@ pub fn verdict_over(alloc: Global, bundle: &Bundle, order: Order) -> Result<Verd
     found
 }
 
-/// What an audit of the journals' keys finds, where that isn't Sound: the whole audit finds it too.
+/// What an audit of the journals' keys finds by an order, where that isn't Sound: the whole audit finds it too.
+/// It needs nothing of a replica, so that it may go on beside `receive_all` or `apply_all`. The tables take
+/// the transactions, as those of a bundle that was read do. The faults are those of `begin`.
 #[tactic(auto, using(crate::proofs::Runs::keys_found, crate::proofs::Runs::keys_sound))]
-fn unsound_keys(alloc: Global, bundle: &Bundle, order: Order) -> Result<Option<Verdict>, SetFault>
+pub fn audit_of_keys(
+    alloc: Global,
+    bundle: &Bundle,
+    order: Order,
+) -> Result<Option<Verdict>, SetFault>
     requires { IsFitting bundle.now }
     ensures found { IfOk result (IsFoundInKeys order bundle.now) }
     ensures fault { IfErr result (IsBundleFault bundle.now) }
@@ -140,6 +150,23 @@ fn unsound_keys(alloc: Global, bundle: &Bundle, order: Order) -> Result<Option<V
     } else {
         Ok(Some(keys))
     }
+}
+
+/// Whether the previous set of each journal is in a set.
+fn have_previous(opened: &GtidSet, journals: &[Journal]) -> bool
+    ensures { result ≡ list_all (λ j. set.is_subset j.previous opened.now) journals.now }
+{
+    journals
+        .iter()
+        .all(|journal| journal.previous().is_subset(opened))
+}
+
+/// Whether each source sends its journal to the replica: what was purged of it is in the opening set.
+/// Where the audit of keys is Sound it is. (MySQL 8.0 Reference Manual, "GTID Auto-Positioning".)
+pub fn can_be_sent(bundle: &Bundle) -> bool
+    ensures { result ≡ can_be_sent bundle.now }
+{
+    have_previous(bundle.opening_set(), bundle.journals())
 }
 
 /// The replica of a bundle, with its opening rows and opening set and no channel yet.
@@ -155,7 +182,7 @@ fn open_replica(alloc: Global, bundle: &Bundle) -> Result<Core, SetFault>
 }
 
 /// The replica of a bundle, once it was served all journals.
-fn serve_all(alloc: Global, bundle: &Bundle, apply: Apply) -> Result<Core, SetFault>
+fn serve_each(alloc: Global, bundle: &Bundle, apply: Apply) -> Result<Core, SetFault>
     requires { CanServeEach 0 bundle.now.channels bundle.now.journals (opening bundle.now) }
     ensures served { IfOk result (ServesEach apply (opening bundle.now) 0 bundle.now.channels bundle.now.journals) }
     ensures fault { IfErr result (IsFaultWhere (KnowsToo (opening bundle.now).state bundle.now.journals)) }
@@ -172,24 +199,42 @@ fn serve_all(alloc: Global, bundle: &Bundle, apply: Apply) -> Result<Core, SetFa
     Ok(core)
 }
 
-/// The replica of a bundle, once it was served all journals, where the audit of their keys is Sound.
+/// The replica of a bundle whose sources send their journals, once it was served all of them.
 #[tactic(auto, using(crate::proofs::Conditions::can_serve_all))]
-fn receive_all(
-    alloc: Global,
-    bundle: &Bundle,
-    order: Order,
-    apply: Apply,
-) -> Result<StateOrVerdict<Core>, SetFault>
-    requires { IsServable bundle.now }
-    ensures received { IfOk result (IsStateOrVerdict (HasReceived order apply bundle.now) order bundle.now) }
+fn serve_all(alloc: Global, bundle: &Bundle, apply: Apply) -> Result<Core, SetFault>
+    requires can { IsServable bundle.now }
+    requires sent { can_be_sent bundle.now ≡ true }
+    ensures served { IfOk result (IsServed apply bundle.now) }
     ensures fault { IfErr result (IsBundleFault bundle.now) }
 {
-    if let Some(verdict) = unsound_keys(alloc, bundle, order)? {
-        return Ok(StateOrVerdict::Verdict(verdict));
-    }
     keep_rules(bundle.journals());
-    let core = serve_all(alloc, bundle, apply)?;
-    Ok(StateOrVerdict::State(core))
+    serve_each(alloc, bundle, apply)
+}
+
+/// The replica of a bundle, once each channel was opened and positioned and has received what its journal sends.
+/// Nothing is applied, and the keys are not audited. The faults are those of `begin`.
+pub fn receive_all(alloc: Global, bundle: &Bundle) -> Result<Core, SetFault>
+    requires can { IsServable bundle.now }
+    requires sent { can_be_sent bundle.now ≡ true }
+    ensures received { IfOk result (IsServed Later bundle.now) }
+    ensures fault { IfErr result (IsBundleFault bundle.now) }
+{
+    serve_all(alloc, bundle, Apply::Later)
+}
+
+/// The replica of a bundle, once it was served all journals. Channel by channel, one seat applies each entry as it is received,
+/// and what is left at the end: each channel is stopped then, or has executed all that it received. The keys
+/// are not audited. The faults are those of `begin`.
+#[tactic(auto, using(crate::proofs::Runs::is_applied))]
+pub fn apply_all(alloc: Global, bundle: &Bundle) -> Result<Core, SetFault>
+    requires can { IsServable bundle.now }
+    requires sent { can_be_sent bundle.now ≡ true }
+    ensures applied { IfOk result (IsApplied bundle.now) }
+    ensures fault { IfErr result (IsBundleFault bundle.now) }
+{
+    let mut core = serve_all(alloc, bundle, Apply::AtOnce)?;
+    finish(alloc, &mut core)?;
+    Ok(core)
 }
 
 /// Audits the keys of a bundle's journals by an order, opens its replica over the opening rows and set, opens and positions
@@ -200,12 +245,17 @@ fn receive_all(
 /// `Memory` is a failed allocation, `SourcesFull` comes only where the GTIDs of all journals together are of
 /// more than 65,536 sources, and `PoolFull` only where the intervals of the opening set and of the
 /// previous sets and the entries are together more than 4,294,967,294.
+#[tactic(auto, using(crate::proofs::Conditions::sound_is_sent))]
 pub fn begin(alloc: Global, bundle: &Bundle, order: Order) -> Result<StateOrVerdict<Core>, SetFault>
     requires { IsServable bundle.now }
     ensures begun { IfOk result (IsStateOrVerdict (IsReady order bundle.now) order bundle.now) }
     ensures fault { IfErr result (IsBundleFault bundle.now) }
 {
-    receive_all(alloc, bundle, order, Apply::Later)
+    if let Some(verdict) = audit_of_keys(alloc, bundle, order)? {
+        return Ok(StateOrVerdict::Verdict(verdict));
+    }
+    let core = receive_all(alloc, bundle)?;
+    Ok(StateOrVerdict::State(core))
 }
 
 /// What a replica that was served all journals results in, once each of its channels is stopped or has
@@ -235,38 +285,22 @@ pub fn conclude(
     Ok(Some(verdict))
 }
 
-/// What a replica that was served all journals results in, once one seat has applied what is left.
-#[tactic(auto, using(crate::proofs::Runs::run_further))]
-fn finish_and_conclude(
+/// What a replica results in to which all journals were applied (`apply_all`), where the audit of their keys is Sound
+/// (`audit_of_keys`): the replica where all is executed, or else the verdict of the audit. The faults are those of `verdict_over`.
+#[tactic(auto, using(crate::proofs::Runs::applied_is_run))]
+pub fn conclude_applied(
     alloc: Global,
     bundle: &Bundle,
     order: Order,
-    core: &mut Core,
-) -> Result<Option<Verdict>, SetFault>
+    core: Core,
+) -> Result<StateOrVerdict<Core>, SetFault>
     requires fits { IsFitting bundle.now }
-    requires run { IsRun order bundle.now core.old }
-    ensures found { IfOk result (IsConcluded order bundle.now core.new) }
-    ensures fault { IfErr result (IsBundleFault bundle.now) }
+    requires sound { keys_over order bundle.now ≡ Sound }
+    requires applied { IsApplied bundle.now core }
+    ensures found { IfOk result (IsStateOrVerdict (HasMerged order bundle.now) order bundle.now) }
+    ensures fault { IfErr result (IsVerdictFault bundle.now) }
 {
-    finish(alloc, core)?;
-    Ok(conclude(alloc, bundle, order, core)?)
-}
-
-/// What the journals of a bundle result in over its opening rows and set: all of them executed together, or the
-/// verdict of their audit, where that is not Sound. Channel by channel, one seat applies each entry as
-/// it is received, and what is left at the end. Where not everything was executed, the audit gives the reason.
-/// What is required, and the faults, are those of `begin`.
-#[tactic(auto, using(crate::proofs::Runs::run_begun))]
-pub fn serve(alloc: Global, bundle: &Bundle, order: Order) -> Result<StateOrVerdict<Core>, SetFault>
-    requires { IsServable bundle.now }
-    ensures served { IfOk result (IsStateOrVerdict (HasMerged order bundle.now) order bundle.now) }
-    ensures fault { IfErr result (IsBundleFault bundle.now) }
-{
-    let mut core = match receive_all(alloc, bundle, order, Apply::AtOnce)? {
-        StateOrVerdict::State(core) => core,
-        StateOrVerdict::Verdict(verdict) => return Ok(StateOrVerdict::Verdict(verdict)),
-    };
-    let concluded = finish_and_conclude(alloc, bundle, order, &mut core);
+    let concluded = conclude(alloc, bundle, order, &core);
     match concluded {
         Ok(None) => Ok(StateOrVerdict::State(core)),
         Ok(Some(verdict)) => {
@@ -278,4 +312,21 @@ pub fn serve(alloc: Global, bundle: &Bundle, order: Order) -> Result<StateOrVerd
             Err(fault)
         }
     }
+}
+
+/// What the journals of a bundle result in over its opening rows and set: all of them executed together, or the
+/// verdict of their audit, where that is not Sound. It is made of `audit_of_keys`, `apply_all` and `conclude_applied`:
+/// where not everything was executed, the audit gives the reason.
+/// What is required, and the faults, are those of `begin`.
+#[tactic(auto, using(crate::proofs::Conditions::sound_is_sent))]
+pub fn serve(alloc: Global, bundle: &Bundle, order: Order) -> Result<StateOrVerdict<Core>, SetFault>
+    requires { IsServable bundle.now }
+    ensures served { IfOk result (IsStateOrVerdict (HasMerged order bundle.now) order bundle.now) }
+    ensures fault { IfErr result (IsBundleFault bundle.now) }
+{
+    if let Some(verdict) = audit_of_keys(alloc, bundle, order)? {
+        return Ok(StateOrVerdict::Verdict(verdict));
+    }
+    let core = apply_all(alloc, bundle)?;
+    Ok(conclude_applied(alloc, bundle, order, core)?)
 }
