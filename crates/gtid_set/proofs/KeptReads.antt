@@ -77,9 +77,6 @@ span_here p ss at s i q rising merged is one here = record {
 pub missing_here : (p : PoolValue) (ss : List Source) (at : ℕ) (s : Source) (q : Gtid) → are_ascending ss ≡ true → IsSourceAt ss at q.source s → has_number (spans p s.list) q.number ≡ false → has (spans_of p ss) q ≡ false
 missing_here p ss at s q rising is none = has_spans_of p ss q ∙ knows_at p ss at s q rising is.got (sym is.same) ∙ none
 
-pub missing_source : (p : PoolValue) (ss : List Source) (at : ℕ) (q : Gtid) → are_ascending ss ≡ true → IsSourcePlace ss q.source at → IsNoSourceAt ss at q.source → has (spans_of p ss) q ≡ false
-missing_source p ss at q rising place none = has_spans_of p ss q ∙ knows_none p ss q (others_at ss q.source at rising place none)
-
 -- ---- the place of a source
 
 -- a source that is there has its place

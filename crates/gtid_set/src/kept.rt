@@ -1,5 +1,5 @@
 //! Merged spans in a pool, by source and number.
-ghost use Rattle.std.specs.Prelude.{◌≡◌, ◌≤◌, ◌+◌, ◌++◌, ◌||◌, [], true, false, IfOk, IfErr, OnOk, OnErr, IfSome, IfNone, IsOkUnless};
+ghost use Rattle.std.specs.Prelude.{◌≡◌, ◌≤◌, ◌<◌, ◌+◌, ◌++◌, ◌||◌, [], true, false, IfOk, IfErr, OnOk, OnErr, IfSome, IfNone, IsOkUnless};
 ghost use Rattle.std.specs.List.{concat};
 ghost use Rattle.std.specs.FinSet as set;
 ghost use Rattle.gtid_set.specs.declared.fault.SetFault.TheVariants.{Memory};
@@ -14,8 +14,8 @@ ghost use Rattle.gtid_set.specs.Order.{IsSeat, index_of};
 use crate::by_source::SourceLists;
 use crate::cursor::Cursor;
 use crate::fault::SetFault;
-use crate::order::{Block, Seat, copy_order, put};
-use crate::sources::{Source, find, find_last, seat_of};
+use crate::order::{Block, Seat, copy_order, place_at, put};
+use crate::sources::{Source, find, find_in_place, find_last, find_near, seat_of};
 use gtid_text::{Gtid, SourceId, Span};
 use interval_pool::{Interval, ListId, Pool};
 use std::alloc::{AllocError, Global};
@@ -32,8 +32,22 @@ pub struct Kept {
     sources: Vec<Source>,
     // their places in blocks, by source
     order: Vec<Block>,
-    // the seat that was last added to: a guess
-    near: Seat,
+    // at which place a source is looked for first: guesses, by `slot_of`
+    guesses: [u16; 16],
+}
+
+/// The slot with the guess of a source. Some sources share one. (The UUIDs of one server's instances differ in their first bits.)
+#[inline(always)]
+fn slot_of(id: SourceId) -> usize
+    ensures { result < 16 }
+{
+    let bits = id.bits();
+    ((bits ^ (bits >> 95)) % 16) as usize
+}
+
+/// The last place of a source.
+fn last_of(sources: &[Source]) -> u16 {
+    (sources.len().saturating_sub(1) % 65_536) as u16
 }
 
 impl Model for Kept {
@@ -263,10 +277,7 @@ impl Kept {
             pool: Pool::open(alloc),
             sources: Vec::new(alloc),
             order: Vec::new(alloc),
-            near: Seat {
-                block: 0,
-                offset: 0,
-            },
+            guesses: [0; 16],
         }
     }
 
@@ -292,6 +303,7 @@ impl Kept {
         ensures full { IfErr result (IsTooLong (self.old ++ spans_as id run.now)) }
     {
         put_run(&mut self.pool, &mut self.sources, &mut self.order, id, run)?;
+        self.guesses[slot_of(id)] = last_of(&self.sources);
         Ok(())
     }
 
@@ -314,8 +326,8 @@ impl Kept {
         ensures none { IfNone result (has self.now gtid.now ≡ false) }
         ensures some { IfSome result (HasSpan self.now gtid.now) }
     {
-        let at = seat_of(&self.sources, &self.order, gtid.source, self.near);
-        let Some(source) = find(&self.sources, &self.order, at, gtid.source) else {
+        let guess = self.guesses[slot_of(gtid.source)];
+        let Some(source) = find_near(&self.sources, &self.order, guess, gtid.source) else {
             return None;
         };
         self.pool.partition();
@@ -334,8 +346,8 @@ impl Kept {
         ensures { KnowsSource result self.now id }
     {
         self.pool.partition();
-        let at = seat_of(&self.sources, &self.order, id, self.near);
-        match find(&self.sources, &self.order, at, id) {
+        let guess = self.guesses[slot_of(id)];
+        match find_near(&self.sources, &self.order, guess, id) {
             Some(_source) => true,
             None => false,
         }
@@ -348,7 +360,22 @@ impl Kept {
         ensures err { OnErr result (self.new ≡ self.old) }
         ensures full { IsFullExactly result (set.union (set_of self.old) (interval span.source span.lo span.hi)) }
     {
-        let at = seat_of(&self.sources, &self.order, span.source, self.near);
+        let guess = self.guesses[slot_of(span.source)];
+        match find_in_place(&self.sources, &self.order, guess, span.source) {
+            Some(source) => add_to(&mut self.pool, &self.sources, &self.order, source, &span),
+            None => self.add_by_search(span),
+        }
+    }
+
+    /// Joins a span to the others, once the seat of its source was searched for. An error leaves them as they were.
+    #[inline(never)]
+    fn add_by_search(&mut self, span: Span) -> Result<(), SetFault>
+        requires filled { span.lo ≤ span.hi }
+        ensures ok { OnOk result (IsListOf (λ q. within span q || has self.old q) self.new) }
+        ensures err { OnErr result (self.new ≡ self.old) }
+        ensures full { IsFullExactly result (set.union (set_of self.old) (interval span.source span.lo span.hi)) }
+    {
+        let at = seat_of(&self.sources, &self.order, span.source);
         match find(&self.sources, &self.order, at, span.source) {
             Some(source) => add_to(&mut self.pool, &self.sources, &self.order, source, &span)?,
             None => insert(
@@ -359,8 +386,18 @@ impl Kept {
                 &span,
             )?,
         }
-        self.near = at;
+        self.note(span.source, at);
         Ok(())
+    }
+
+    /// Keeps the place at a seat as the guess of a source; past all seats it is the last place.
+    fn note(&mut self, id: SourceId, at: Seat)
+        ensures { self.new ≡ self.old }
+    {
+        self.guesses[slot_of(id)] = match place_at(&self.order, at) {
+            Some(place) => place,
+            None => last_of(&self.sources),
+        };
     }
 
     /// The same spans.
@@ -371,12 +408,11 @@ impl Kept {
         let pool = self.pool.copy(alloc)?;
         let sources = Vec::from_slice(alloc, &self.sources)?;
         let order = copy_order(alloc, &self.order)?;
-        let near = self.near;
         Ok(Kept {
             pool,
             sources,
             order,
-            near,
+            guesses: self.guesses,
         })
     }
 }

@@ -1,7 +1,7 @@
 //! The sources of a set, and their order.
 ghost use Rattle.std.specs.Prelude.{◌≡◌, ◌<◌, ◌-◌, length, take, true, Some, None, IfSome, IfNone, IsSome, IsTrue, MatchBool};
 ghost use Rattle.std.specs.List.{concat, slice_get};
-ghost use Rattle.gtid_set.specs.Kept.{comes_before, are_places, are_ascending, sources_at, source_at, IsSourceAt, IsNoSourceAt, IsSourcePlace};
+ghost use Rattle.gtid_set.specs.Kept.{comes_before, are_places, are_ascending, sources_at, source_at, IsSourceAt, IsNoSourceAt, IsSourceOf, IsSourcePlace, are_others};
 ghost use Rattle.gtid_set.specs.Order.{IsSeat, IsBlockOf, BeginsBelow, HasFrom, are_below, index_of};
 
 use crate::order::{Block, Seat, last_place, place_at};
@@ -116,16 +116,13 @@ fn block_of(sources: &[Source], order: &[Block], id: SourceId) -> usize
     at
 }
 
-/// The seat of a source in the order. Any guess of it serves; a good one saves the search.
-pub fn seat_of(sources: &[Source], order: &[Block], id: SourceId, guess: Seat) -> Seat
+/// The seat of a source in the order.
+pub fn seat_of(sources: &[Source], order: &[Block], id: SourceId) -> Seat
     requires places { are_places sources.now (concat order.now) ≡ true }
     requires rising { are_ascending (sources_at sources.now (concat order.now)) ≡ true }
     ensures place { IsSourcePlace (sources_at sources.now (concat order.now)) id (index_of order.now result) }
     ensures seat { IsSeat order.now result }
 {
-    if let Some(_source) = find(sources, order, guess, id) {
-        return guess;
-    }
     let block = block_of(sources, order, id);
     if block >= order.len() {
         return Seat { block, offset: 0 };
@@ -134,4 +131,48 @@ pub fn seat_of(sources: &[Source], order: &[Block], id: SourceId, guess: Seat) -
         .places()
         .partition_point(|at| comes_before(sources, *at, id));
     Seat { block, offset }
+}
+
+/// The source at a place, if it has this identifier. (`order` is read by the clauses alone.)
+#[inline(always)]
+pub fn find_in_place(sources: &[Source], order: &[Block], at: u16, id: SourceId) -> Option<Source>
+    requires places { are_places sources.now (concat order.now) ≡ true }
+    requires many { length (concat order.now) ≡ length sources.now }
+    requires rising { are_ascending (sources_at sources.now (concat order.now)) ≡ true }
+    ensures { IfSome result (λ s. IsSourceOf (sources_at sources.now (concat order.now)) s id) }
+{
+    if at as usize >= sources.len() {
+        return None;
+    }
+    let source = source_of(sources, at);
+    if source.id != id {
+        return None;
+    }
+    Some(source)
+}
+
+/// The source with this identifier, if there is one. Any guess of its place serves; a good one saves the search.
+#[inline(always)]
+pub fn find_near(sources: &[Source], order: &[Block], guess: u16, id: SourceId) -> Option<Source>
+    requires places { are_places sources.now (concat order.now) ≡ true }
+    requires many { length (concat order.now) ≡ length sources.now }
+    requires rising { are_ascending (sources_at sources.now (concat order.now)) ≡ true }
+    ensures some { IfSome result (λ s. IsSourceOf (sources_at sources.now (concat order.now)) s id) }
+    ensures none { IfNone result (are_others id (sources_at sources.now (concat order.now)) ≡ true) }
+{
+    if let Some(source) = find_in_place(sources, order, guess, id) {
+        return Some(source);
+    }
+    find_by_search(sources, order, id)
+}
+
+/// The source with this identifier, if there is one.
+fn find_by_search(sources: &[Source], order: &[Block], id: SourceId) -> Option<Source>
+    requires places { are_places sources.now (concat order.now) ≡ true }
+    requires rising { are_ascending (sources_at sources.now (concat order.now)) ≡ true }
+    ensures some { IfSome result (λ s. IsSourceOf (sources_at sources.now (concat order.now)) s id) }
+    ensures none { IfNone result (are_others id (sources_at sources.now (concat order.now)) ≡ true) }
+{
+    let at = seat_of(sources, order, id);
+    find(sources, order, at, id)
 }

@@ -26,7 +26,7 @@ use Rattle.rows.proofs.Replacing.{taken_of_free}
 
 -- ---- more keys after those that were put
 
-among_more : (xs ys : List Key) (k : Key) → is_among (xs ++ ys) k ≡ (is_among xs k || is_among ys k)
+pub among_more : (xs ys : List Key) (k : Key) → is_among (xs ++ ys) k ≡ (is_among xs k || is_among ys k)
 among_more [] ys k = refl
 among_more (x ∷ xs) ys k = ap (λ b. key_eq k x || b) (among_more xs ys k) ∙ or_assoc (key_eq k x) (is_among xs k) (is_among ys k)
   where
@@ -34,7 +34,7 @@ among_more (x ∷ xs) ys k = ap (λ b. key_eq k x || b) (among_more xs ys k) ∙
     or_assoc true q r = refl
     or_assoc false q r = refl
 
-both_put : (p q : Bool) (x y : Carrier) → cond q x (cond p x y) ≡ cond (p || q) x y
+pub both_put : (p q : Bool) (x y : Carrier) → cond q x (cond p x y) ≡ cond (p || q) x y
 both_put true true x y = refl
 both_put true false x y = refl
 both_put false q x y = refl

@@ -12,6 +12,7 @@ ghost use Rattle.rows.specs.Patch.{put_over};
 ghost use Rattle.rows.specs.Refusal.{Refuses};
 
 use crate::change::{Change, Key, PrepareFault, RowFault, TableRow};
+use crate::in_place::make_all_in_place;
 use crate::keys::{carried_keys, keeps_keys};
 use crate::listing::list_primary;
 use crate::making::Making;
@@ -291,8 +292,10 @@ impl KeyMap {
         }
     }
 
-    /// Makes changes in order, wholly or not at all.
-    pub(crate) fn make_all(
+    /// Makes changes in order with a list of the keys of each, wholly or not at all.
+    #[cold]
+    #[inline(never)]
+    fn make_by_lists(
         &mut self,
         alloc: Global,
         schema: &Schema,
@@ -318,5 +321,31 @@ impl KeyMap {
                 Err(refusal)
             }
         }
+    }
+
+    /// Makes changes in order, if all can be made and there is memory; else nothing changes.
+    fn make_in_place(&mut self, alloc: Global, schema: &Schema, changes: &[Change]) -> bool
+        ensures made { result ≡ true → apply_from schema.now 0 changes.now self.old ≡ Ok self.new }
+        ensures kept { result ≡ false → self.new ≡ self.old }
+    {
+        make_all_in_place(alloc, &mut self.carriers, schema, changes)
+    }
+
+    /// Makes changes in order, wholly or not at all. Why one can't be made is looked for only where one can't.
+    pub(crate) fn make_all(
+        &mut self,
+        alloc: Global,
+        schema: &Schema,
+        changes: &[Change],
+    ) -> Result<(), PrepareFault>
+        requires { length changes.now ≤ 65536 }
+        ensures ok { OnOk result (apply_from schema.now 0 changes.now self.old ≡ Ok self.new) }
+        ensures refused { Refuses result (apply_from schema.now 0 changes.now self.old) }
+        ensures err { OnErr result (self.new ≡ self.old) }
+    {
+        if self.make_in_place(alloc, schema, changes) {
+            return Ok(());
+        }
+        self.make_by_lists(alloc, schema, changes)
     }
 }

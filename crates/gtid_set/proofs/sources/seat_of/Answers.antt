@@ -5,17 +5,10 @@ use Rattle.std.proofs.lemmas.List.{get_or_default}
 use Rattle.std.proofs.lemmas.List.Sorted.{IsPartitionPoint-from_clause}
 use Rattle.gtid_set.specs.Kept.{comes_before, sources_at, are_places, are_ascending, IsSourcePlace}
 use Rattle.gtid_set.specs.Order.{block_at, index_of}
-use Rattle.gtid_set.proofs.KeptReads.{place_there, parted_places, placed_source}
+use Rattle.gtid_set.proofs.KeptReads.{parted_places, placed_source}
 use Rattle.gtid_set.proofs.BlockLemmas.{all_block, rising_block, seated, seat_within}
 use Rattle.gtid_set.proofs.sources.seat_of.Goals as goal
 use Rattle.gtid_set.proofs.sources.seat_of.Goals.{After-partition_point-offset}
-
-pub returns-in-Some-clause-place : goal.returns-in-Some-clause-place
-returns-in-Some-clause-place c =
-    let is = c.in-Some.ensures.some in
-    let ss = sources_at c.args.sources.now (concat c.args.order.now) in
-    let at = index_of c.args.order.now c.args.guess in
-    subst (λ id. IsSourcePlace ss id at) is.same (place_there ss at c.in-Some._source c.requires.rising is.got)
 
 -- the place within its block
 within : (c : After-partition_point-offset) → IsSourcePlace (sources_at c.args.sources.now (block_at c.args.order.now c.block_of-block.result)) c.args.id c.partition_point-offset.result

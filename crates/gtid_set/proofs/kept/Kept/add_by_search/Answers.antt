@@ -4,7 +4,7 @@ use Rattle.gtid_set.specs.declared.sources.Source.{Source}
 use Rattle.gtid_set.specs.Kept.{sources_at, IsSourcePlace, IsNoSourceAt}
 use Rattle.gtid_set.specs.Order.{IsSeat, index_of}
 use Rattle.gtid_set.proofs.KeptLemmas.{others_at}
-use Rattle.gtid_set.proofs.kept.Kept.add.Goals as goal
+use Rattle.gtid_set.proofs.kept.Kept.add_by_search.Goals as goal
 
 pub insert-requires-clause-new : goal.insert-requires-clause-new
 insert-requires-clause-new c =
