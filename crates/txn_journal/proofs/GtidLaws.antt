@@ -8,6 +8,7 @@ use Rattle.std.proofs.lemmas.Bool.{and_parts, le-leb, false_from_ne_true}
 use Rattle.std.proofs.lemmas.Bool.Decides.{nat_tests}
 use Rattle.std.proofs.lemmas.Fmt.{digits_decimal}
 use Rattle.uuid.specs.Text.{by_index, is_hex_digit, value_of, byte_of_digits, digits_of, parsed_hyphenated, parsed_simple, has_hyphens}
+use Rattle.gtid_text.specs.Counting.{are_tidy_behind}
 use Rattle.gtid_text.specs.declared.Gtid.{Gtid}
 use Rattle.gtid_text.specs.declared.scan.ScanFault.{ScanFault}
 use Rattle.gtid_text.specs.Scan.{is_uuid_byte, source_of}
@@ -19,7 +20,7 @@ use Rattle.gtid_text.proofs.RoundTrip.{source_bytes}
 use Rattle.gtid_text.proofs.Shown.{gtid_shown, joined_gtid, spaced_joined, spans_shown, joined_spans}
 use Rattle.gtid_text.proofs.Single.{gtid_reads_back, gtid_spelled}
 use Rattle.gtid_set.proofs.SpanLemmas.{all_weaker, before_trans}
-use Rattle.journal_words.specs.Gtids.{is_ascii_byte, same_or_none, if_ascii, gtid_of_word, are_tidy_behind, some_tidy, tidy_or_none, spans_of_word, set_with, set_of_word}
+use Rattle.journal_words.specs.Gtids.{is_ascii_byte, same_or_none, if_ascii, gtid_of_word, some_tidy, tidy_or_none, spans_of_word, set_with, set_of_word}
 use Rattle.journal_words.proofs.SpanLaws.{with_none}
 use Rattle.row_images.proofs.ValueLaws.{where_same-again, where_same-found}
 use Rattle.std.proofs.lemmas.Option.{same_Some}
