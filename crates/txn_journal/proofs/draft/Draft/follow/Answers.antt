@@ -14,8 +14,8 @@ invariant_of-self c = record {
   few = c.args.self.now.few;
 }
 
-pub returns-in_err-previous : goal.returns-in_err-previous
-returns-in_err-previous c =
+pub returns-in_err-previous-clause-line : goal.returns-in_err-previous-clause-line
+returns-in_err-previous-clause-line c =
     let p = err_from_is_err_and c.from_residual.result c.from_residual.ensures.1 in
     rw (p.1, p.2, c.in-Some.is) (previous_full (standing c.args.self.now) c.in-Some.word.now c.in_err-previous.field-0.0 c.in_err-previous.ensures.fault)
 
