@@ -287,6 +287,10 @@ impl Channel {
     fn last_open(&self, gtid: &Gtid) -> Option<usize>
         ensures { IsLastOpen self.now.channel.received gtid.now (length self.now.channel.received) result }
     {
+        // (where all is executed, no set is asked)
+        if self.is_settled() {
+            return None;
+        }
         if !self.received.contains(gtid) {
             return None;
         }

@@ -5,7 +5,7 @@ use Rattle.std.specs.List.{list_all}
 use Rattle.std.specs.Option.{option_map, option_map_or}
 use Rattle.std.specs.FinMap as finmap
 use Rattle.std.specs.FinMap.{get-insert}
-use Rattle.std.proofs.lemmas.Bool.{eqb-true, eq-eqb, and_parts, and_from}
+use Rattle.std.proofs.lemmas.Bool.{eqb-true, eq-eqb, and_parts}
 use Rattle.gtid_text.specs.declared.Gtid.{Gtid}
 use Rattle.rows.specs.declared.change.Key.{Key}
 use Rattle.rows.specs.declared.schema.Table.{Table}
@@ -18,7 +18,7 @@ use Rattle.world.specs.Search.{or_next, first}
 use Rattle.world.specs.Folds.{FirstTouch, touched_by, shares_with, shared_from}
 use Rattle.journal.specs.declared.Entry.{Entry}
 use Rattle.audit.specs.Contents.{as_pair}
-use Rattle.audit.specs.Gaps.{Needs, needs_over, touch_last, last_of_keys, is_own, own_in_turn}
+use Rattle.audit.specs.Gaps.{Needs, needs_over, touch_last, last_of_keys, is_own}
 use Rattle.rows.proofs.Lists.{not_less}
 use Rattle.world.proofs.Finding.{none_next}
 
@@ -69,30 +69,6 @@ own_keys g key last [] e = refl
 own_keys g key last (k ∷ keys) e =
     let parts = and_parts (is_own g last k) (list_all (is_own g last) keys) e in
     λ i. own_stays g key last k parts.0 i && own_keys g key last keys parts.1 i
-
-was_at : (g : Gtid) (b : Bool) (o : Option Gtid) → (b ≡ true → is_of g (option_map source_of o) ≡ true) → is_of g (option_map source_of (cond b (Some g) o)) ≡ true → is_of g (option_map source_of o) ≡ true
-was_at g true o here e = here refl
-was_at g false o here e = e
-
--- what is own once a key more is touched was so before, if that key was
-own_before : (g : Gtid) (key : Key) (last : FirstTouch) (k : Key) → is_own g last key ≡ true → is_own g (finmap.insert last key g) k ≡ true → is_own g last k ≡ true
-own_before g key last k own e =
-    own_source g (finmap.get last k)
-    ∙ was_at g (key_eq k key) (finmap.get last k)
-    (λ same. ap (λ q. is_of g (option_map source_of (finmap.get last q))) (key_eq_same k key same) ∙ sym (own_source g (finmap.get last key)) ∙ own)
-    (ap (λ o. is_of g (option_map source_of o)) (sym (get-insert key_total last key g k)) ∙ sym (own_source g (finmap.get (finmap.insert last key g) k)) ∙ e)
-
-all_before : (g : Gtid) (key : Key) (last : FirstTouch) (keys : List Key) → is_own g last key ≡ true → list_all (is_own g (finmap.insert last key g)) keys ≡ true → list_all (is_own g last) keys ≡ true
-all_before g key last [] own e = refl
-all_before g key last (k ∷ keys) own e =
-    let parts = and_parts (is_own g (finmap.insert last key g) k) (list_all (is_own g (finmap.insert last key g)) keys) e in
-    λ i. own_before g key last k own parts.0 i && all_before g key last keys own parts.1 i
-
-pub all_own : (g : Gtid) (keys : List Key) (last : FirstTouch) → own_in_turn g keys last ≡ true → list_all (is_own g last) keys ≡ true
-all_own g [] last e = refl
-all_own g (key ∷ keys) last e =
-    let parts = and_parts (is_own g last key) (own_in_turn g keys (finmap.insert last key g)) e in
-    and_from (is_own g last key) (list_all (is_own g last) keys) parts.0 (all_before g key last keys parts.0 (all_own g keys (finmap.insert last key g) parts.1))
 
 -- a key that was touched is touched by the own source
 was_own : (g : Gtid) (o p : Option Gtid) → is_some o ≡ true → option_map source_of o ≡ option_map source_of p → is_of g (option_map source_of p) ≡ true

@@ -20,3 +20,4 @@ pub mod OtherUnequals
 pub mod Nearest
 pub mod Gapped
 pub mod Refusals
+pub mod MarkLemmas

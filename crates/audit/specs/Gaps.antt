@@ -45,11 +45,6 @@ last_of_keys g (key ∷ keys) last = with_some (of_source g (finmap.get last key
 abbrev pub is_own : Gtid → FirstTouch → Key → Bool
 is_own g last key = option_map_or (λ before. before.source == g.source) (finmap.get last key) true
 
--- the same for each of these keys, the earlier ones being touched by g then
-abbrev pub own_in_turn : Gtid → List Key → FirstTouch → Bool
-own_in_turn g [] last = true
-own_in_turn g (key ∷ keys) last = is_own g last key && own_in_turn g keys (finmap.insert last key g)
-
 -- for each GTID what it needs
 abbrev pub Needs : Type 0
 Needs = finmap.FinMap gtid_cmp (List Gtid)

@@ -9,3 +9,4 @@ pub mod Others
 pub mod OtherUnequal
 pub mod OtherGaps
 pub mod OtherRefusals
+pub mod Marks

@@ -5,8 +5,11 @@ ghost use Rattle.world.specs.Audit.{shared};
 ghost use Rattle.world.specs.Folds.{shared_from};
 ghost use Rattle.audit.specs.Contents.{as_pair};
 
+use crate::marks::push_marks;
+use crate::owners::touch_all;
 use crate::sources::World;
 use crate::touches::Touches;
+use indexmap::IndexMap;
 use journal::Entry;
 use rows::{Schema, keys_touched};
 use std::alloc::{AllocError, Global};
@@ -32,14 +35,18 @@ fn first_shared(
     Ok(None)
 }
 
-/// Whether these entries, in turn, are found to touch no key that another source touched before.
+/// Whether these entries, in turn, are found to touch no key that another source touched before. Keys are not made: their marks
+/// are looked for, which equal keys share.
 fn are_apart(alloc: Global, schema: &Schema, entries: &[Entry]) -> Result<bool, AllocError>
     ensures { IfOk result (λ yes. yes ≡ true → shared_from schema.now finmap.empty (map as_pair entries.now) ≡ None) }
 {
-    let mut last = Touches::new(alloc);
+    let mut owners = IndexMap::new(alloc);
+    // (one list for the marks of each transaction)
+    let mut marks = Vec::new(alloc);
     for entry in entries {
-        let keys = keys_touched(alloc, schema, &entry.txn)?;
-        if !last.touch_all_own(&entry.gtid, keys)? {
+        marks.clear();
+        push_marks(&mut marks, schema, &entry.txn)?;
+        if !touch_all(&mut owners, &marks, entry.gtid.source)? {
             return Ok(false);
         }
     }
@@ -47,7 +54,7 @@ fn are_apart(alloc: Global, schema: &Schema, entries: &[Entry]) -> Result<bool, 
 }
 
 impl World {
-    /// Whether sources are found to touch no key in common. It looks for each key once.
+    /// Whether sources are found to touch no key in common. It looks for the mark of each key once.
     fn are_apart(&self, alloc: Global) -> Result<bool, AllocError>
         ensures { IfOk result (λ yes. yes ≡ true → shared self.now ≡ None) }
     {

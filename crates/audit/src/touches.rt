@@ -6,7 +6,7 @@ ghost use Rattle.std.specs.FinMap as finmap;
 ghost use Rattle.rows.specs.WriteSet.{write_set};
 ghost use Rattle.world.specs.Search.{first};
 ghost use Rattle.world.specs.Folds.{touched_by, shares_with};
-ghost use Rattle.audit.specs.Gaps.{touch_last, last_of_keys, is_own, own_in_turn};
+ghost use Rattle.audit.specs.Gaps.{touch_last, last_of_keys, is_own};
 
 use gtid_text::Gtid;
 use indexmap::IndexMap;
@@ -55,41 +55,6 @@ impl Touches {
             return Err(AllocError);
         };
         Ok(())
-    }
-
-    /// A GTID touches a key. The result is what touched it before.
-    fn replace(&mut self, key: Key, gtid: &Gtid) -> Result<Option<Gtid>, AllocError>
-        ensures put { OnOk result (self.new ≡ finmap.insert self.old key gtid.now) }
-        ensures before { IfOk result (λ before. before ≡ finmap.get self.old key) }
-    {
-        let Ok(before) = self.last.insert(key, *gtid) else {
-            return Err(AllocError);
-        };
-        Ok(before)
-    }
-
-    /// A GTID touches a key; whether nothing of another source touched it before.
-    fn touch_own(&mut self, key: Key, gtid: &Gtid) -> Result<bool, AllocError>
-        ensures put { OnOk result (self.new ≡ finmap.insert self.old key gtid.now) }
-        ensures own { IfOk result (λ own. own ≡ is_own gtid.now self.old key) }
-    {
-        match self.replace(key, gtid)? {
-            Some(before) => Ok(before.source == gtid.source),
-            None => Ok(true),
-        }
-    }
-
-    /// A GTID touches keys, in the place of what touched them before; whether none of it was of another source.
-    pub(crate) fn touch_all_own(&mut self, gtid: &Gtid, keys: Vec<Key>) -> Result<bool, AllocError>
-        ensures touched { OnOk result (self.new ≡ touch_last gtid.now keys.items self.old) }
-        ensures own { IfOk result (λ own. own ≡ own_in_turn gtid.now keys.items self.old) }
-    {
-        let mut own = true;
-        for key in keys {
-            let is_own = self.touch_own(key, gtid)?;
-            own = own && is_own;
-        }
-        Ok(own)
     }
 
     /// A GTID touches keys; what touched them before stays.

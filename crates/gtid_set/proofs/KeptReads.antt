@@ -13,10 +13,10 @@ use Rattle.gtid_set.specs.declared.sources.Source.{Source}
 use Rattle.gtid_set.specs.Sets.{gtid}
 use Rattle.gtid_set.specs.Spans.{has}
 use Rattle.gtid_set.specs.Sweep.{HasSpan}
-use Rattle.gtid_set.specs.Kept.{span_of, spans_of, source_at, sources_at, are_places, are_ascending, comes_before, IsSourcePlace, IsSourceAt, IsNoSourceAt}
+use Rattle.gtid_set.specs.Kept.{span_of, spans_of, source_at, sources_at, are_places, are_ascending, comes_before, IsSourcePlace, IsSourceAt}
 use Rattle.gtid_set.proofs.PlaceLemmas.{all_take, all_drop}
 use Rattle.gtid_set.proofs.SpanLemmas.{all_weaker}
-use Rattle.gtid_set.proofs.KeptLemmas.{has_spans_of, got_all, knows_none, knows_at, others_at}
+use Rattle.gtid_set.proofs.KeptLemmas.{has_spans_of, got_all, knows_at}
 
 -- ---- the span that has a number
 

@@ -10,8 +10,9 @@
 //!
 //! How it is kept: the intervals are in one pool (`interval_pool`), a list of merged intervals for each source; the sources are kept as
 //! they came, and their places in order in blocks (`order`). A pass over two sets goes source by source, compares numbers alone, and writes
-//! the numbers of each source at once; its proof is about merged lists of spans. Where a source was last added to is a guess that is tested
-//! where it is used. A text is parsed, its spans are sorted once, and the set is built once.
+//! the numbers of each source at once; its proof is about merged lists of spans. At which place a source is looked for first is a guess,
+//! one for each of 16 slots by its bits, and tested where it is used; else it is searched for. A text is parsed, its
+//! spans are sorted once, and the set is built once.
 //!
 //! Cost, from the code and not proved: `add`, `contains` and `run_end` take as many steps as the number of intervals has binary digits, a
 //! source's next number a few; union, difference, intersection and the tests are one pass over both; a new source moves some hundred

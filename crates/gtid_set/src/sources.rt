@@ -144,11 +144,11 @@ pub fn find_in_place(sources: &[Source], order: &[Block], at: u16, id: SourceId)
     if at as usize >= sources.len() {
         return None;
     }
-    let source = source_of(sources, at);
-    if source.id != id {
+    let found = source_of(sources, at);
+    if found.id != id {
         return None;
     }
-    Some(source)
+    Some(found)
 }
 
 /// The source with this identifier, if there is one. Any guess of its place serves; a good one saves the search.

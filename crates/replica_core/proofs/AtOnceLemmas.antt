@@ -1,8 +1,8 @@
 -- What is left of an entry that is received, taken and committed at once.
-use Rattle.std.proofs.Common.{◌≡◌, ℕ, ◌+◌, ◌<◌, Bool, true, cond, List, [], ◌∷◌, ◌++◌, length, map, refl, sym, ap, ◌∙◌, subst, arith, get_or-set_same}
-use Rattle.std.specs.Prelude.{Option, Some, None, All, Result, Ok, Err, slice_get, slice_set, option_map, is_none, nat_le}
+use Rattle.std.proofs.Common.{◌≡◌, ℕ, zero, suc, ◌+◌, ◌<◌, Bool, true, false, cond, List, [], ◌∷◌, ◌++◌, length, map, refl, sym, ap, ◌∙◌, subst, arith, get_or-set_same}
+use Rattle.std.specs.Prelude.{Option, Some, None, All, Result, Ok, Err, slice_get, slice_set, option_map, is_none, is_some, nat_le}
 use Rattle.std.specs.List.{list_all}
-use Rattle.std.specs.Option.{option_map_or}
+use Rattle.std.specs.Option.{option_map_or, option_and_then}
 use Rattle.std.specs.FinSet as set
 use Rattle.std.specs.FinMap as finmap
 use Rattle.std.specs.FinMap.{nat_cmp-IsAntisymmetric}
@@ -18,10 +18,11 @@ use Rattle.gtid_text.proofs.SameGtid.{same_itself}
 use Rattle.gtid_set.specs.declared.fault.SetFault.{SetFault}
 use Rattle.ownership.specs.Slots.{taken_from}
 use Rattle.rows.specs.declared.change.RowFault.{RowFault}
+use Rattle.rows.specs.declared.change.Transaction.{Transaction}
 use Rattle.rows.specs.Apply.{Rows, apply}
 use Rattle.journal.specs.declared.Entry.{Entry}
 use Rattle.journal.specs.Writing.{is_number}
-use Rattle.apply_channel.specs.Channels.{ChannelValue, Received, settle, settle_channel, with_received, received_as, most_received}
+use Rattle.apply_channel.specs.Channels.{ChannelValue, Received, are_settled, settle, settle_channel, with_received, received_as, most_received}
 use Rattle.apply_channel.specs.Full.{gtids_with}
 use Rattle.replica_core.specs.declared.event.Spot.{Spot}
 use Rattle.replica_core.specs.declared.event.Reply.{Reply}
@@ -29,7 +30,7 @@ use Rattle.replica_core.specs.declared.event.Reply.TheVariants as reply
 use Rattle.replica_core.specs.State.{Site, State, Seats, Replica}
 use Rattle.replica_core.specs.Slots.{seats_of}
 use Rattle.replica_core.specs.Kept.{IsKept, AreKept}
-use Rattle.replica_core.specs.Seated.{IsUnowned}
+use Rattle.replica_core.specs.Seated.{AreSeated, IsUnowned, txn_of}
 use Rattle.replica_core.specs.Committing.{IsCommittable, Executes}
 use Rattle.replica_core.specs.Draining.{NothingIsOwned, IsWaiting}
 use Rattle.replica_core.specs.Faults.{IsFaultIn, IsFault, HasRoomFor, allocates, received_set, committed_set, executed_with}
@@ -249,3 +250,32 @@ committable_at_once r seat c p e copy same may number = subst (IsCommittable r N
 -- the state in which it is executed
 pub executed_as : (old new : Replica) (e copy : Entry) → copy ≡ e → Executes old None copy new → Executes old None e new
 executed_as old new e copy same done = subst (λ (x : Entry). Executes old None x new) same done
+
+-- ---- where all is executed, no seat has a place
+
+executed_at : (es : List Received) (i : ℕ) → are_settled es ≡ true → is_some (option_and_then (λ (e : Received). e.txn) (slice_get es i)) ≡ false
+executed_at [] zero done = refl
+executed_at [] (suc i) done = refl
+executed_at (e ∷ es) zero done = executed e.txn (first_of_and (is_none e.txn) (are_settled es) done)
+  where
+    executed : (o : Option Transaction) → is_none o ≡ true → is_some o ≡ false
+    executed None is = refl
+    executed (Some t) is = absurd cc
+executed_at (e ∷ es) (suc i) done = executed_at es i (and_second (is_none e.txn) (are_settled es) done)
+
+executed_in : (cs : List ChannelValue) (i p : ℕ) → list_all (λ c. are_settled c.received) cs ≡ true
+    → is_some (option_and_then (λ (e : Received). e.txn) (option_and_then (λ (c : ChannelValue). slice_get c.received p) (slice_get cs i))) ≡ false
+executed_in [] zero p done = refl
+executed_in [] (suc i) p done = refl
+executed_in (c ∷ cs) zero p done = executed_at c.received p (first_of_and (are_settled c.received) (list_all (λ d. are_settled d.received) cs) done)
+executed_in (c ∷ cs) (suc i) p done = executed_in cs i p (and_second (are_settled c.received) (list_all (λ d. are_settled d.received) cs) done)
+
+pub nothing_taken : (cs : List ChannelValue) (seats : Seats) → AreSeated cs seats → list_all (λ c. are_settled c.received) cs ≡ true → (seat : ℕ) → finmap.get seats seat ≡ None
+nothing_taken cs seats seated done seat = by_case (finmap.get seats seat) refl
+  where
+    never : (b : Bool) → b ≡ true → b ≡ false → ⊥
+    never b is isnt = cc
+
+    by_case : (o : Option Spot) → finmap.get seats seat ≡ o → o ≡ None
+    by_case None is = refl
+    by_case (Some x) is = absurd (never (is_some (txn_of cs x)) (seated.busy seat x is) (executed_in cs x.channel x.place done))

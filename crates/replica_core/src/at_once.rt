@@ -5,6 +5,7 @@ ghost use Rattle.journal.specs.Writing.{is_number};
 ghost use Rattle.rows.specs.Fits.{Fits};
 ghost use Rattle.replica_core.specs.Machine.{receive};
 ghost use Rattle.replica_core.specs.AtOnce.{received_and_committed, IsLeft, IsFaultAtOnce, HasRoomAtOnce, IsAtOnce, IsNext, IsReadyAtOnce};
+ghost use Rattle.replica_core.specs.Draining.{NothingIsOwned};
 
 use crate::event::{Reply, Spot};
 use crate::machine::{Core, is_seat};
@@ -12,6 +13,9 @@ use apply_channel::Channel;
 use gtid_set::SetFault;
 use journal::Entry;
 use std::alloc::Global;
+
+/// So many channels are asked faster than 64 seats. Our own rule.
+const FEW: usize = 16;
 
 /// Whether no seat has a place.
 fn are_idle(seats: &[Option<Spot>]) -> bool
@@ -33,6 +37,16 @@ fn is_next(channel: &Channel, place: usize) -> bool
 }
 
 impl Core {
+    /// Whether no seat has a place. Of few channels it is asked first whether they have executed all: then no seat has one.
+    fn is_idle(&self) -> bool
+        ensures { result ≡ true → NothingIsOwned self.now.state }
+    {
+        if self.channels.len() <= FEW && self.channels.are_settled() {
+            return true;
+        }
+        are_idle(&self.seats)
+    }
+
     /// Whether an entry that a channel receives at this place needs to wait for nothing: then a seat can
     /// take and commit it at once, unless its transaction does not apply.
     fn is_ready_at_once(&self, seat: u8, channel: usize, place: usize, entry: &Entry) -> bool
@@ -42,7 +56,7 @@ impl Core {
         if !is_seat(seat) {
             return false;
         }
-        if !are_idle(&self.seats) {
+        if !self.is_idle() {
             return false;
         }
         let Some(one) = self.kept_channel(channel) else {

@@ -1,5 +1,5 @@
 -- Keys that are put or removed in place, one after another.
-use Rattle.std.proofs.Common.{◌≡◌, ℕ, Bool, true, false, cond, ◌||◌, List, [], ◌∷◌, ◌++◌, Option, Some, None, IsSomeAnd, Ok, Err, refl, sym, ap, ◌∙◌}
+use Rattle.std.proofs.Common.{◌≡◌, ℕ, Bool, true, false, cond, ◌||◌, List, [], ◌∷◌, ◌++◌, Some, None, IsSomeAnd, Ok, Err, refl, sym, ap, ◌∙◌}
 use Rattle.std.specs.FinMap as map
 use Rattle.row_images.specs.declared.value.Value.{Value}
 use Rattle.row_images.specs.Order.{row_eq}
@@ -8,13 +8,13 @@ use Rattle.rows.specs.declared.change.RowFault.TheVariants.{RowDiffers}
 use Rattle.rows.specs.declared.schema.Table.{Table}
 use Rattle.rows.specs.declared.steps.Expected.{Expected}
 use Rattle.rows.specs.declared.steps.Expected.TheVariants.{Nothing, This, Anything}
-use Rattle.rows.specs.Keys.{keys_of_row, unique_keys}
-use Rattle.rows.specs.Apply.{Rows, with_row, without_keys, or_else, first_taken, delete_if_same, delete_row, insert_row}
+use Rattle.rows.specs.Keys.{keys_of_row}
+use Rattle.rows.specs.Apply.{Rows, with_row, without_keys, or_else, delete_if_same, delete_row}
 use Rattle.rows.specs.Steps.{IsExpected, IsPlaced, primary_key}
 use Rattle.rows.specs.WriteSet.{is_among}
 use Rattle.rows.proofs.Local.{same_rows, get-with_row, get-without_keys}
 use Rattle.rows.proofs.Patching.{Carrier}
-use Rattle.rows.proofs.Placed.{among_more, both_put, put_more, put_inserted}
+use Rattle.rows.proofs.Placed.{among_more, both_put, put_more}
 
 -- ---- more keys after those that were put
 

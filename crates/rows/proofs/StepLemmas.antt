@@ -1,5 +1,5 @@
 -- Steps that were made in place, and the way back.
-use Rattle.std.proofs.Common.{◌≡◌, ◌≢◌, ◌≤◌, ◌<◌, ◌+◌, ◌-◌, ℕ, zero, suc, Bool, true, false, not, cond, ◌⊎◌, inl, inr, nat_lt, List, [], ◌∷◌, ◌++◌, length, take, drop, set, get_or, Option, Some, None, IsSomeAnd, option_map, refl, sym, ap, subst, ◌∙◌, arith, append_assoc}
+use Rattle.std.proofs.Common.{◌≡◌, ◌≤◌, ◌<◌, ◌+◌, ◌-◌, ℕ, zero, suc, Bool, true, false, not, cond, ◌⊎◌, inl, inr, nat_lt, List, [], ◌∷◌, ◌++◌, length, take, set, get_or, Option, Some, None, refl, sym, ap, subst, ◌∙◌, arith}
 use Rattle.std.specs.List.{swap, swap_remove, position_or_len, position}
 use Rattle.std.specs.Map.{lookup, lookup_key, keys_of}
 use Rattle.std.proofs.Math.Seq.{take-length, take-append_seam, set-append_seam, get_or-append_seam}
@@ -11,9 +11,8 @@ use Rattle.indexmap.specs.IndexMap.{insert_entry, set_value_at, swap_remove_entr
 use Rattle.row_images.specs.declared.value.Value.{Value}
 use Rattle.rows.specs.declared.change.Key.{Key}
 use Rattle.rows.specs.declared.steps.Step.{Step}
-use Rattle.rows.specs.declared.steps.Step.TheVariants.{Added, Wrote, Removed}
-use Rattle.rows.specs.Steps.{Entries, same_key, moved_last, undone, all_undone, step_of}
-use Rattle.rows.specs.Total.{key_eq_self}
+use Rattle.rows.specs.declared.steps.Step.TheVariants.{Removed}
+use Rattle.rows.specs.Steps.{Entries, moved_last, undone, all_undone, step_of}
 use Rattle.rows.proofs.Equal.{key_test}
 use Rattle.rows.proofs.Placed.{set_back}
 

@@ -39,7 +39,8 @@ impl PartialEq for Name {
     ghost laws = { partial_equiv_from_equiv (eq_by_cmp_equiv nat_list_cmp_total) };
 
     fn eq(&self, other: &Name) -> bool {
-        self.text.as_str().as_bytes() == other.text.as_str().as_bytes()
+        let text = self.text.as_str();
+        text.as_bytes() == other.text.as_str().as_bytes()
     }
 }
 

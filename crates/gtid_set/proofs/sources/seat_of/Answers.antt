@@ -1,10 +1,9 @@
 use Rattle.std.proofs.Common.{[], rules, ◌≡◌, length, true, inl, ap, subst, ◌∙◌, List, ℕ}
 use Rattle.std.specs.Prelude.{nat_lt}
-use Rattle.std.specs.List.{concat}
 use Rattle.std.proofs.lemmas.List.{get_or_default}
 use Rattle.std.proofs.lemmas.List.Sorted.{IsPartitionPoint-from_clause}
 use Rattle.gtid_set.specs.Kept.{comes_before, sources_at, are_places, are_ascending, IsSourcePlace}
-use Rattle.gtid_set.specs.Order.{block_at, index_of}
+use Rattle.gtid_set.specs.Order.{block_at}
 use Rattle.gtid_set.proofs.KeptReads.{parted_places, placed_source}
 use Rattle.gtid_set.proofs.BlockLemmas.{all_block, rising_block, seated, seat_within}
 use Rattle.gtid_set.proofs.sources.seat_of.Goals as goal

@@ -1,6 +1,6 @@
-use Rattle.std.proofs.Common.{◌≡◌, [], ◌∷◌, List, Option, Ok, sym, ap, ◌∙◌}
+use Rattle.std.proofs.Common.{◌≡◌, [], ◌∷◌, Option, Ok, sym, ap, ◌∙◌}
 use Rattle.rows.specs.declared.schema.Table.{Table}
-use Rattle.rows.specs.Apply.{Rows, without_keys, delete_row}
+use Rattle.rows.specs.Apply.{without_keys, delete_row}
 use Rattle.rows.specs.Keys.{keys_in, keys_of_row, unique_keys}
 use Rattle.rows.specs.Steps.{primary_key, rows_in}
 use Rattle.rows.proofs.InPlaceLemmas.{deleted, without_more}

@@ -1,4 +1,4 @@
-use Rattle.std.proofs.Common.{◌+◌, ◌≡◌, List, [], ◌∷◌, take, sym, ap, ◌∙◌}
+use Rattle.std.proofs.Common.{◌+◌, List, [], ◌∷◌, take, sym, ap, ◌∙◌}
 use Rattle.rows.specs.declared.change.Key.{Key}
 use Rattle.rows.specs.Apply.{without_keys}
 use Rattle.rows.specs.Keys.{unique_keys}

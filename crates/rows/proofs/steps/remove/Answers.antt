@@ -2,7 +2,7 @@ use Rattle.std.proofs.Common.{[], ◌∷◌, ◌++◌, List, sym, ap, subst, ◌
 use Rattle.std.specs.FinMap as map
 use Rattle.rows.specs.declared.steps.Step.{Step}
 use Rattle.rows.specs.declared.steps.Step.TheVariants.{Removed}
-use Rattle.rows.specs.Steps.{Entries, IsExpected, all_undone, rows_in, undone}
+use Rattle.rows.specs.Steps.{Entries, IsExpected, all_undone, rows_in}
 use Rattle.rows.proofs.Hashed.{hashed_taken, get_hashed}
 use Rattle.rows.proofs.StepLemmas.{all_undone_last, undone_removed}
 use Rattle.rows.proofs.steps.remove.Goals as goal

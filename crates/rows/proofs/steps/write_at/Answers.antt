@@ -1,4 +1,4 @@
-use Rattle.std.proofs.Common.{◌≤◌, length, ◌∙◌, sym, arith, rules}
+use Rattle.std.proofs.Common.{rules}
 use Rattle.rows.proofs.StepLemmas.{set_past}
 use Rattle.rows.proofs.steps.write_at.Goals as goal
 

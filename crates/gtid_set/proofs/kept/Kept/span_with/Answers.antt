@@ -7,7 +7,7 @@ use Rattle.gtid_text.specs.declared.Span.{Span}
 use Rattle.gtid_set.specs.declared.sources.Source.{Source}
 use Rattle.gtid_set.specs.Spans.{has}
 use Rattle.gtid_set.specs.Sweep.{HasSpan}
-use Rattle.gtid_set.specs.Kept.{sources_at, is_filled, are_others, IsSourceAt, IsSourceOf}
+use Rattle.gtid_set.specs.Kept.{sources_at, is_filled, are_others, IsSourceOf}
 use Rattle.gtid_set.proofs.KeptLemmas.{got_all, has_spans_of, knows_none}
 use Rattle.gtid_set.proofs.KeptReads.{span_here, missing_here}
 use Rattle.gtid_set.proofs.GuessLemmas.{placed}

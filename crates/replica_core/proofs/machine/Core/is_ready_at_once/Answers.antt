@@ -12,7 +12,7 @@ pub returns : goal.returns
 returns c = λ yes.
     let r = c.args.self.now in
     let one : is_seat c.args.seat ≡ true = search rules in
-    let idle : list_all (λ s. is_none s) c.self.inside.seats ≡ true = search rules in
+    let idle : c.is_idle.result ≡ true = search rules in
     let next : c.is_next.result ≡ true = search rules in
     let new : set.contains c.executed.result.now c.args.entry.now.gtid ≡ false = search rules in
     record {
@@ -20,7 +20,7 @@ returns c = λ yes.
       at = c.in-Some.ensures.found.value;
       next = c.is_next.ensures next;
       one = one;
-      idle = idle_slots c.self.inside.seats r.state.seats (ap (λ (x : Replica). x.state.seats) c.self.view_is) idle;
+      idle = c.is_idle.ensures idle;
       fits = c.requires;
       new = ap (λ (s : Gtids). set.contains s c.args.entry.now.gtid) (sym c.executed.ensures) ∙ new;
       room = search rules;
