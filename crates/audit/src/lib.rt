@@ -17,11 +17,12 @@
 //! nothing can be missing or left out, and no table is made for either. Else Missing goes over the world's list where each of its
 //! transactions is found in a journal, for which it marks them, and over a list of what the journals bring where not.
 //! That no key is shared is found by marks (`marks`): a hash of the words of a key's values, which equal keys share, kept with its source
-//! (`owners`). Only where two sources touch one mark are keys made and looked for. DoesNotApply is one application of all sources together, which by `one_pass_applies` names the same transaction. Between two numbers
-//! of a source the end of a run of the opening set is looked up, so that the set's size costs nothing.
+//! (`owners`). Only where two sources touch one mark are keys made and looked for. DoesNotApply is one application of all sources
+//! together, which by `one_pass_applies` names the same transaction. Between two numbers of a source the end of a run of the opening set
+//! is looked up, so that the set's size costs nothing.
 //!
-//! Cost, from the code and not proved: n log n in entries at most; the mark of each key is looked for once. Measured: 225,000 transactions a second of
-//! 1,000,000. The hash has a fixed seed: whoever writes a journal can make an audit slow, never wrong.
+//! Cost, from the code and not proved: n log n in entries at most; the mark of each key is looked for once. Measured: 225,000
+//! transactions a second of 1,000,000. The hash has a fixed seed: whoever writes a journal can make an audit slow, never wrong.
 #![tactic(auto)]
 
 mod applying;

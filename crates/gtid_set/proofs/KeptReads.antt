@@ -1,6 +1,6 @@
 -- What is read of spans that are kept in a pool.
-use Rattle.std.proofs.Common.{◌≡◌, ◌≤◌, ◌<◌, ◌+◌, ℕ, zero, suc, Bool, true, false, not, ◌&&◌, ◌||◌, nat_lt, List, [], ◌∷◌, length, take, drop, Some, get_or, refl, sym, ap, subst, ◌∙◌, arith}
-use Rattle.std.specs.List.{list_all, slice_get, AllByRecursion, Contains}
+use Rattle.std.proofs.Common.{◌≡◌, ◌≤◌, ◌<◌, ◌+◌, ℕ, zero, suc, Bool, true, false, not, ◌&&◌, ◌||◌, nat_lt, List, [], ◌∷◌, length, take, drop, get_or, refl, sym, ap, subst, ◌∙◌, arith}
+use Rattle.std.specs.List.{list_all, AllByRecursion, Contains}
 use Rattle.std.proofs.lemmas.Bool.{and_parts, and_from}
 use Rattle.std.proofs.lemmas.Bool.Decides.{nat_tests}
 use Rattle.std.specs.List.Sorted.{IsPartitionedBy, IsPartitionPoint}
@@ -16,7 +16,7 @@ use Rattle.gtid_set.specs.Sweep.{HasSpan}
 use Rattle.gtid_set.specs.Kept.{span_of, spans_of, source_at, sources_at, are_places, are_ascending, comes_before, IsSourcePlace, IsSourceAt}
 use Rattle.gtid_set.proofs.PlaceLemmas.{all_take, all_drop}
 use Rattle.gtid_set.proofs.SpanLemmas.{all_weaker}
-use Rattle.gtid_set.proofs.KeptLemmas.{has_spans_of, got_all, knows_at}
+use Rattle.gtid_set.proofs.KeptLemmas.{has_spans_of, knows_at}
 
 -- ---- the span that has a number
 
@@ -78,34 +78,6 @@ pub missing_here : (p : PoolValue) (ss : List Source) (at : ℕ) (s : Source) (q
 missing_here p ss at s q rising is none = has_spans_of p ss q ∙ knows_at p ss at s q rising is.got (sym is.same) ∙ none
 
 -- ---- the place of a source
-
--- a source that is there has its place
-pub place_there : (ss : List Source) (at : ℕ) (s : Source) → are_ascending ss ≡ true → slice_get ss at ≡ Some s → IsSourcePlace ss s.id at
-place_there [] zero s r e = absurd cc
-place_there [] (suc n) s r e = absurd cc
-place_there (t ∷ ts) zero s r e =
-    let is : t ≡ s = cc in
-    let w = and_parts (list_all (λ u. nat_lt t.id u.id) ts) (are_ascending ts) r in
-    subst (λ (u : Source). IsSourcePlace (t ∷ ts) u.id zero) is (record {
-      bound = omega arith;
-      before = refl;
-      behind = and_from (not (nat_lt t.id t.id)) (list_all (λ u. not (nat_lt u.id t.id)) ts) itself (all_weaker (λ u. nat_lt t.id u.id) (λ u. not (nat_lt u.id t.id)) ts (λ u lt. later u lt) w.0);
-    })
-  where
-    itself : not (nat_lt t.id t.id) ≡ true
-    itself = grind (arith, nat_tests)
-
-    later : (u : Source) → nat_lt t.id u.id ≡ true → not (nat_lt u.id t.id) ≡ true
-    later u lt = grind (arith, nat_tests)
-place_there (t ∷ ts) (suc n) s r e =
-    let w = and_parts (list_all (λ u. nat_lt t.id u.id) ts) (are_ascending ts) r in
-    let rest = place_there ts n s w.1 e in
-    let bound = rest.bound in
-    record {
-      bound = omega (arith, bound);
-      before = and_from (nat_lt t.id s.id) (list_all (λ u. nat_lt u.id s.id) (take n ts)) (got_all (λ u. nat_lt t.id u.id) ts n s w.0 e) rest.before;
-      behind = rest.behind;
-    }
 
 -- what a test shows of places, for the sources there
 all_listed : (test : Source → Bool) (sources : List Source) (is : List ℕ) → list_all test (sources_at sources is) ≡ list_all (λ i. test (source_at sources i)) is
