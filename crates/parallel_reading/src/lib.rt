@@ -5,10 +5,10 @@
 //! whatever the number of threads, whichever of them could be started and however the text is cut into parts. `read_beside` gives the
 //! reader that has come so far, for callers that end it themselves.
 //!
-//! How it goes: a text is cut into blocks of 1 MiB for each thread that parses, and a block into as many parts, cut anywhere. What a
-//! line of a change writes is read on those threads (`ParsedLines` of `txn_journal`), while the caller's lines of the block before are
-//! taken in order, since each line is judged by what those before it have made. Where memory is refused for the parts of a block, its
-//! bytes are taken as they are.
+//! How it goes: a text is cut into blocks of 1 MiB for each thread that parses, and a block into as many parts, cut anywhere. What the
+//! lines of changes write is read on those threads (`ParsedLines` of `txn_journal`), while another takes the lines of the block before
+//! in order, since each line is judged by what those before it have made. Where memory is refused for the parts of a block, its bytes
+//! are taken as they are. A thread that can't be started leaves its work to the caller's.
 //!
 //! Not proved: speed, and that a thread runs.
 #![tactic(auto)]
