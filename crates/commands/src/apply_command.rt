@@ -9,9 +9,10 @@ ghost use Rattle.commands.specs.Bundles.{printed_state, apply_answer, Applies};
 
 use crate::answer::Answer;
 use crate::audit_command::verdict_answer;
+use crate::beside::read_bundle;
 use crate::edge::{Outcome, RunFault, Sink, Source};
 use crate::parallel::apply_journals;
-use crate::request::{Request, run};
+use crate::request::{Request, answer_decoded, run};
 use crate::streams::Streams;
 use applier::{Gate, NoGate};
 use gtid_report::{Fault, render_state};
@@ -154,6 +155,7 @@ impl<'a, R: Threads + Wait + Sync> Request for Apply<'a, R> {
 
 /// Reads a bundle, and writes the state in which all its journals are executed, or the line of the
 /// verdict of the audit that asks for this order, where that is not Sound, or the line of its refusal, and nothing else.
+/// With two workers and more, the lines of the bundle are parsed by threads too.
 pub fn apply_bundle<S: Source, W: Sink, R: Threads + Wait + Sync>(
     rt: &R,
     alloc: Global,
@@ -171,5 +173,10 @@ pub fn apply_bundle<S: Source, W: Sink, R: Threads + Wait + Sync>(
         order,
         workers,
     };
-    run(alloc, &request, streams)
+    if workers == 1 {
+        return run(alloc, &request, streams);
+    }
+    let decoded = read_bundle(rt, alloc, workers, streams)?;
+    let answer = answer_decoded(alloc, &request, decoded)?;
+    streams.send(&answer)
 }

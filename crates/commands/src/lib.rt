@@ -22,6 +22,7 @@
 mod answer;
 mod apply_command;
 mod audit_command;
+mod beside;
 mod edge;
 mod explain_command;
 mod history;

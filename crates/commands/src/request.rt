@@ -57,7 +57,7 @@ fn find<Q: Request>(
 }
 
 /// What is written for what the bytes parse as.
-fn answer_decoded<Q: Request>(
+pub(crate) fn answer_decoded<Q: Request>(
     alloc: Global,
     request: &Q,
     decoded: Result<Q::Value, JournalFault>,

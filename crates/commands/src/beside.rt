@@ -1,0 +1,34 @@
+//! A bundle that several threads read.
+ghost use Rattle.std.specs.Prelude.{◌≡◌, IfOk, IfErr};
+ghost use Rattle.serving.specs.Servable.{IsServable};
+ghost use Rattle.commands.specs.Bundles.{ParsesAsBundle, bundle_in};
+ghost use Rattle.commands.specs.Edge.{ReadFault};
+ghost use Rattle.commands.specs.Texts.{HasFound};
+
+use crate::edge::{RunFault, Sink, Source};
+use crate::streams::Streams;
+use crate::text::Text;
+use parallel_reading::read_beside;
+use std::alloc::Global;
+use std::thread::Threads;
+use txn_journal::{Bundle, JournalFault};
+
+/// What all bytes that a reader has left parse as. Their lines are parsed by several threads.
+pub(crate) fn read_bundle<S: Source, W: Sink, R: Threads + Sync>(
+    rt: &R,
+    alloc: Global,
+    workers: u8,
+    streams: &mut Streams<S, W>,
+) -> Result<Result<Bundle, JournalFault>, RunFault>
+    ensures output { streams.new.output ≡ streams.old.output }
+    ensures read { IfOk result (HasFound ParsesAsBundle bundle_in IsServable streams.old.input.left streams.new.input.left) }
+    ensures fault { IfErr result (ReadFault streams.old.input streams.new.input) }
+{
+    match streams.read_all(alloc) {
+        Ok(bytes) => {
+            let reader = read_beside(rt, alloc, &bytes, workers);
+            Ok(<Bundle as Text>::finish(alloc, reader))
+        }
+        Err(fault) => Err(fault),
+    }
+}
