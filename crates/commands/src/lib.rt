@@ -33,6 +33,7 @@ mod position_command;
 mod reading;
 mod request;
 mod set_command;
+mod side_by_side;
 mod states_command;
 mod streams;
 mod text;
