@@ -1,9 +1,6 @@
 -- What bytes that come in pieces parse as.
-use Rattle.std.specs.Prelude.{ℕ, List, Option, None, Result, IfOk}
-use Rattle.txn_journal.specs.Stream.{IsAfter, IsWhole}
-use Rattle.txn_journal.specs.BundleReading.{bundle_start, feed_bundle_bytes, IsFaultOfBundle}
-use Rattle.txn_journal.specs.BundleReaders.{bundle_reading}
-use Rattle.txn_journal.specs.declared.bundle_reader.BundleReader.{BundleReader}
+use Rattle.std.specs.Prelude.{ℕ, List, Option, Result, IfOk}
+use Rattle.txn_journal.specs.Stream.{IsWhole}
 use Rattle.txn_journal.specs.declared.fault.JournalFault.{JournalFault}
 use Rattle.commands.specs.Edge.{HasRead}
 
@@ -18,7 +15,3 @@ pub record HasFound {V : Type 0} (Parses : List ℕ → Result V JournalFault �
   pub bytes : List ℕ
   pub all : HasRead old new bytes
   pub text : IsTextOf Parses decoded IsRead bytes found
-
--- a reader of bundles is after these bytes, or has stopped at a fault of a set that may be
-abbrev pub HasCome : BundleReader → List ℕ → Type 0
-HasCome reader bytes = IsAfter (IsFaultOfBundle (bundle_start None) bytes) (bundle_reading reader) (feed_bundle_bytes (bundle_start None) bytes)

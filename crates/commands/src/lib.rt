@@ -22,7 +22,7 @@
 mod answer;
 mod apply_command;
 mod audit_command;
-mod beside;
+mod bundle_reading;
 mod edge;
 mod explain_command;
 mod history;
@@ -34,6 +34,7 @@ mod position_command;
 mod reading;
 mod request;
 mod set_command;
+mod side_by_side;
 mod states_command;
 mod streams;
 mod text;

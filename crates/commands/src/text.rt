@@ -10,7 +10,8 @@ ghost use Rattle.txn_journal.specs.BundleReading.{closing_bundle};
 ghost use Rattle.serving.specs.Servable.{IsServable};
 ghost use Rattle.commands.specs.Bundles.{ParsesAsBundle, ParsesAsOldBundle, bundle_in, old_bundle_in};
 ghost use Rattle.commands.specs.Positions.{ParsesAsJournal, journal_in};
-ghost use Rattle.commands.specs.Texts.{IsTextOf, HasCome};
+ghost use Rattle.commands.specs.Texts.{IsTextOf};
+ghost use Rattle.parallel_reading.specs.Coming.{HasCome};
 
 use journal::Journal;
 use serving::written_is_servable;
