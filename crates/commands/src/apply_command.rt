@@ -3,7 +3,7 @@ ghost use Rattle.std.specs.Prelude.{◌≤◌, IfOk, IfErr};
 ghost use Rattle.std.specs.Thread.{IsSync};
 ghost use Rattle.serving.specs.Faults.{IsBundleFault};
 ghost use Rattle.serving.specs.Servable.{IsServable};
-ghost use Rattle.serving.specs.Verdicts.{IsUnsound};
+ghost use Rattle.serving.specs.Verdicts.{HasMerged, IsStateOrVerdict, IsUnsound};
 ghost use Rattle.commands.specs.Printed.{Holds, GivesUp, to_all, IsDone, HasFailed};
 ghost use Rattle.commands.specs.Bundles.{printed_state, apply_answer, Applies};
 
@@ -12,9 +12,11 @@ use crate::audit_command::verdict_answer;
 use crate::edge::{Outcome, RunFault, Sink, Source};
 use crate::parallel::apply_journals;
 use crate::request::{Request, run};
+use crate::side_by_side::serve_beside;
 use crate::streams::Streams;
 use applier::{Gate, NoGate};
 use gtid_report::{Fault, render_state};
+use journal::{Entry, Journal};
 use replica_core::Core;
 use serving::{Order, StateOrVerdict, serve};
 use std::alloc::{AllocError, Global};
@@ -49,25 +51,53 @@ fn unsound_answer(
     verdict_answer(alloc, verdict)
 }
 
-/// What a bundle results in where one thread applies it. What was served is left to the end of the
-/// process.
+/// The lines of what a bundle results in. What was served is left to the end of the process.
+fn merged_answer(
+    alloc: Global,
+    order: Order,
+    bundle: &Bundle,
+    merged: StateOrVerdict<Core>,
+) -> Result<Answer, AllocError>
+    requires { IsStateOrVerdict (HasMerged order bundle.now) order bundle.now merged }
+    ensures { IfOk result (λ answer. Holds answer (apply_answer order bundle.now)) }
+{
+    match merged {
+        StateOrVerdict::State(core) => {
+            let answer = state_answer(alloc, &core);
+            mem::forget(core);
+            answer
+        }
+        StateOrVerdict::Verdict(verdict) => {
+            let answer = unsound_answer(alloc, order, bundle, &verdict);
+            mem::forget(verdict);
+            answer
+        }
+    }
+}
+
+/// What a bundle results in where one thread audits and applies it.
 fn apply_alone(alloc: Global, bundle: &Bundle, order: Order) -> Result<Answer, Fault>
     requires { IsServable bundle.now }
     ensures comes { IfOk result (λ answer. Holds answer (apply_answer order bundle.now)) }
     ensures fault { IfErr result (GivesUp (IsBundleFault bundle.now)) }
 {
-    match serve(alloc, bundle, order)? {
-        StateOrVerdict::State(core) => {
-            let answer = state_answer(alloc, &core);
-            mem::forget(core);
-            Ok(answer?)
-        }
-        StateOrVerdict::Verdict(verdict) => {
-            let answer = unsound_answer(alloc, order, bundle, &verdict);
-            mem::forget(verdict);
-            Ok(answer?)
-        }
-    }
+    let merged = serve(alloc, bundle, order)?;
+    Ok(merged_answer(alloc, order, bundle, merged)?)
+}
+
+/// What a bundle results in where one thread applies it, and another audits its keys meanwhile.
+fn apply_beside<R: Threads>(
+    rt: &R,
+    alloc: Global,
+    bundle: &Bundle,
+    order: Order,
+) -> Result<Answer, Fault>
+    requires { IsServable bundle.now }
+    ensures comes { IfOk result (λ answer. Holds answer (apply_answer order bundle.now)) }
+    ensures fault { IfErr result (GivesUp (IsBundleFault bundle.now)) }
+{
+    let merged = serve_beside(rt, alloc, bundle, order)?;
+    Ok(merged_answer(alloc, order, bundle, merged)?)
 }
 
 /// What a bundle results in where workers apply it. What they leave is left to the end of the process.
@@ -98,11 +128,37 @@ fn apply_together<G: Gate + Sync, R: Threads + Wait + Sync>(
     }
 }
 
+/// How many changes a transaction has at least, on average, where sharing a replica pays.
+const LEAST_SHARED: usize = 4_096;
+
+/// How many changes entries have together.
+fn count_changes(entries: &[Entry]) -> usize {
+    let mut count: usize = 0;
+    for entry in entries {
+        count = count.saturating_add(entry.txn.changes.as_slice().len());
+    }
+    count
+}
+
+/// Whether the transactions of journals have fewer changes than `LEAST_SHARED` on average.
+fn are_small(journals: &[Journal]) -> bool {
+    let mut changes: usize = 0;
+    let mut entries: usize = 0;
+    for journal in journals {
+        changes = changes.saturating_add(count_changes(journal.entries()));
+        entries = entries.saturating_add(journal.entries().len());
+    }
+    changes / LEAST_SHARED < entries
+}
+
 /// What a bundle results in: the same for every number of workers and every order of their steps. One
-/// worker is the calling thread, which passes no gate. The bundle can be served, as each that was read
-/// can. A refusal is `SourcesFull`, where the GTIDs of all journals together are of more than 65,536
-/// sources, or `PoolFull`, where the intervals of the opening set and of the previous sets and the entries
-/// are together more than 4,294,967,294.
+/// worker is the calling thread. With more, a second thread audits the keys while the first serves the
+/// journals and applies what it receives. Where transactions have 4,096 changes and more on average so many
+/// workers apply them, once all are received, and these alone pass the gate: with smaller ones receiving
+/// all first takes longer than applying each at once. The bundle can be served, as each that was read can.
+/// A refusal is `SourcesFull`, where the GTIDs of all journals together are of more than 65,536 sources, or
+/// `PoolFull`, where the intervals of the opening set and of the previous sets and the entries are together
+/// more than 4,294,967,294.
 pub fn apply_decoded<G: Gate + Sync, R: Threads + Wait + Sync>(
     rt: &R,
     alloc: Global,
@@ -118,6 +174,8 @@ pub fn apply_decoded<G: Gate + Sync, R: Threads + Wait + Sync>(
 {
     if workers == 1 {
         apply_alone(alloc, bundle, order)
+    } else if are_small(bundle.journals()) {
+        apply_beside(rt, alloc, bundle, order)
     } else {
         apply_together(rt, alloc, bundle, order, workers, gate)
     }

@@ -8,6 +8,7 @@ ghost use Rattle.serving.specs.Verdicts.{IsConcluded, IsStateOrVerdict};
 ghost use Rattle.commands.specs.Applying.{HasMergedIn};
 
 use crate::history::run_history;
+use crate::side_by_side::begin_beside;
 use applier::{Gate, drain};
 use gtid_set::SetFault;
 use serving::{Order, StateOrVerdict, begin, conclude};
@@ -85,8 +86,9 @@ fn drain_anew(
 }
 
 /// What the journals of a bundle result in over its opening rows: all of them executed together, or the
-/// verdict of the audit that asks for this order, where that is not Sound. So many workers apply them, each on a thread of
-/// its own where one can be started; what they leave is applied when they have ended. The answer
+/// verdict of the audit that asks for this order, where that is not Sound. One thread audits their keys while another receives them.
+/// Then so many workers apply them, each on a thread of its own where one can be started; what they leave is
+/// applied when they have ended. The answer
 /// does not depend on their number, nor on the order of their steps. The bundle can be served, as each
 /// that was read can.
 ///
@@ -107,7 +109,7 @@ pub fn apply_journals<G: Gate + Sync, R: Threads + Wait + Sync>(
     ensures applied { IfOk result (IsStateOrVerdict (HasMergedIn order bundle.now) order bundle.now) }
     ensures fault { IfErr result (IsBundleFault bundle.now) }
 {
-    let core = match begin(alloc, bundle, order)? {
+    let core = match begin_beside(rt, alloc, bundle, order)? {
         StateOrVerdict::State(core) => core,
         StateOrVerdict::Verdict(verdict) => return Ok(StateOrVerdict::Verdict(verdict)),
     };
