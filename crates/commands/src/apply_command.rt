@@ -52,41 +52,36 @@ fn unsound_answer(
     verdict_answer(alloc, verdict)
 }
 
-/// The lines of what a bundle results in. What was served is left to the end of the process.
+/// The lines of what a bundle results in.
 fn merged_answer(
     alloc: Global,
     order: Order,
     bundle: &Bundle,
-    merged: StateOrVerdict<Core>,
+    merged: &StateOrVerdict<Core>,
 ) -> Result<Answer, AllocError>
-    requires { IsStateOrVerdict (HasMerged order bundle.now) order bundle.now merged }
+    requires { IsStateOrVerdict (HasMerged order bundle.now) order bundle.now merged.now }
     ensures { IfOk result (λ answer. Holds answer (apply_answer order bundle.now)) }
 {
     match merged {
-        StateOrVerdict::State(core) => {
-            let answer = state_answer(alloc, &core);
-            mem::forget(core);
-            answer
-        }
-        StateOrVerdict::Verdict(verdict) => {
-            let answer = unsound_answer(alloc, order, bundle, &verdict);
-            mem::forget(verdict);
-            answer
-        }
+        StateOrVerdict::State(core) => state_answer(alloc, core),
+        StateOrVerdict::Verdict(verdict) => unsound_answer(alloc, order, bundle, verdict),
     }
 }
 
-/// What a bundle results in where one thread audits and applies it.
+/// What a bundle results in where one thread audits and applies it. What was served is left to the end of the process.
 fn apply_alone(alloc: Global, bundle: &Bundle, order: Order) -> Result<Answer, Fault>
     requires { IsServable bundle.now }
     ensures comes { IfOk result (λ answer. Holds answer (apply_answer order bundle.now)) }
     ensures fault { IfErr result (GivesUp (IsBundleFault bundle.now)) }
 {
     let merged = serve(alloc, bundle, order)?;
-    Ok(merged_answer(alloc, order, bundle, merged)?)
+    let answer = merged_answer(alloc, order, bundle, &merged);
+    mem::forget(merged);
+    Ok(answer?)
 }
 
-/// What a bundle results in where one thread applies it, and another audits its keys meanwhile.
+/// What a bundle results in where one thread applies it, and another audits its keys meanwhile. What was served is left to the end of the
+/// process.
 fn apply_beside<R: Threads>(
     rt: &R,
     alloc: Global,
@@ -98,7 +93,9 @@ fn apply_beside<R: Threads>(
     ensures fault { IfErr result (GivesUp (IsBundleFault bundle.now)) }
 {
     let merged = serve_beside(rt, alloc, bundle, order)?;
-    Ok(merged_answer(alloc, order, bundle, merged)?)
+    let answer = merged_answer(alloc, order, bundle, &merged);
+    mem::forget(merged);
+    Ok(answer?)
 }
 
 /// What a bundle results in where workers apply it. What they leave is left to the end of the process.
