@@ -263,7 +263,7 @@ fn apply_command<'a>(alloc: Global) -> Result<clap::Command<'a>, AllocError> {
         .action(ArgAction::Set)
         .value_parser(ValueParser::unsigned(1, 64))
         .default_value("1")
-        .help("how many workers apply, from 1 to 64; the answer is the same");
+        .help("how many workers share the work, from 1 to 64; the answer is the same");
     clap::Command::new(alloc, "apply")
         .about("Applies a bundle from standard input: apply < examples/first.bundle")
         .after_help(APPLY_EXAMPLE)
