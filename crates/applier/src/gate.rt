@@ -6,8 +6,8 @@ pub trait Gate {
     /// The seat has taken this GTID; its transaction is prepared next, and then committed.
     fn before_prepare(&self, seat: u8, gtid: Gtid);
 
-    /// The seat has prepared the transaction of this GTID without the lock, and commits it by its patch next.
-    fn after_prepare(&self, seat: u8, gtid: Gtid);
+    /// The seat has prepared the transaction that it took last, without the lock, and commits it by its patch next.
+    fn after_prepare(&self, seat: u8);
 
     /// The seat has committed this GTID.
     fn after_commit(&self, seat: u8, gtid: Gtid);
@@ -23,7 +23,7 @@ pub struct NoGate;
 impl Gate for NoGate {
     fn before_prepare(&self, _seat: u8, _gtid: Gtid) {}
 
-    fn after_prepare(&self, _seat: u8, _gtid: Gtid) {}
+    fn after_prepare(&self, _seat: u8) {}
 
     fn after_commit(&self, _seat: u8, _gtid: Gtid) {}
 

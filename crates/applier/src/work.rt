@@ -202,7 +202,7 @@ fn commit_taken<N: Naming, G: Gate, R: Wait>(
     gate.before_prepare(pass.seat(), gtid);
     let mut patch = patch_of(alloc, footprint)?;
     if patch.is_some() {
-        gate.after_prepare(pass.seat(), gtid);
+        gate.after_prepare(pass.seat());
     }
     let backoff = Backoff::new();
     for _ in 0..TRIES {

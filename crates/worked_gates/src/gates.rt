@@ -147,7 +147,7 @@ impl Gate for Meeting {
         }
     }
 
-    fn after_prepare(&self, _seat: u8, _gtid: Gtid) {}
+    fn after_prepare(&self, _seat: u8) {}
 
     fn after_commit(&self, _seat: u8, _gtid: Gtid) {
         self.committed.fetch_add(1, Ordering::SeqCst);

@@ -20,7 +20,7 @@ struct Count {
 impl Gate for Count {
     fn before_prepare(&self, _seat: u8, _gtid: Gtid) {}
 
-    fn after_prepare(&self, _seat: u8, _gtid: Gtid) {
+    fn after_prepare(&self, _seat: u8) {
         self.prepared.fetch_add(1, Ordering::SeqCst);
     }
 

@@ -44,7 +44,7 @@ impl Gate for Assembly {
         }
     }
 
-    fn after_prepare(&self, _seat: u8, _gtid: Gtid) {}
+    fn after_prepare(&self, _seat: u8) {}
 
     fn after_commit(&self, seat: u8, _gtid: Gtid) {
         self.committed.fetch_or(mark_of(seat), Ordering::SeqCst);

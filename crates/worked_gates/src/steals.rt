@@ -51,7 +51,7 @@ impl Gate for Bait {
         }
     }
 
-    fn after_prepare(&self, _seat: u8, _gtid: Gtid) {}
+    fn after_prepare(&self, _seat: u8) {}
 
     fn after_commit(&self, _seat: u8, _gtid: Gtid) {}
 

@@ -90,7 +90,7 @@ impl Gate for Marks {
         self.of(seat).prepared.fetch_add(1, Ordering::SeqCst);
     }
 
-    fn after_prepare(&self, _seat: u8, _gtid: Gtid) {}
+    fn after_prepare(&self, _seat: u8) {}
 
     fn after_commit(&self, seat: u8, _gtid: Gtid) {
         self.of(seat).committed.fetch_add(1, Ordering::SeqCst);
