@@ -4,5 +4,6 @@ pub mod Receipts
 pub mod Written
 pub mod Importing
 pub mod Coming
+pub mod Answering
 pub mod Explaining
 pub mod Unsound
