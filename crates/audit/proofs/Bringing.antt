@@ -56,7 +56,7 @@ module _ (opened : Gtids) (m : Contents) where
   same_options (Some x) p f b = sym (f x refl)
   same_options None (Some y) f b = b y refl
 
-  firsts_are : (es : List Entry) → AreKnown es → AreAllIn m es → ((g : Gtid) (t : Transaction) → finmap.get m g ≡ Some t → finset.contains opened g ≡ false) → m ≡ first_contents opened es
+  pub firsts_are : (es : List Entry) → AreKnown es → AreAllIn m es → ((g : Gtid) (t : Transaction) → finmap.get m g ≡ Some t → finset.contains opened g ≡ false) → m ≡ first_contents opened es
   firsts_are es known all outside = same_map gtid_total gtid_exact m (first_contents opened es) (λ g.
       same_options (finmap.get m g) (finmap.get (first_contents opened es) g)
       (λ t h.

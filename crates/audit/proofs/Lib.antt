@@ -21,3 +21,4 @@ pub mod Nearest
 pub mod Gapped
 pub mod Refusals
 pub mod MarkLemmas
+pub mod Gatherings

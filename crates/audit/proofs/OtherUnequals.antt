@@ -49,7 +49,7 @@ entry_of (j ∷ js) m e h = elim (get_append j.entries (all_entries js) m e h) [
   | inr later ↦ one_more js j e (entry_of js later.0 e later.1)
 ]
 
-of_entry : (js : List JournalValue) (i : ℕ) (j : JournalValue) (k : ℕ) (e : Entry) → slice_get js i ≡ Some j → slice_get j.entries k ≡ Some e → (m : ℕ) × (slice_get (all_entries js) m ≡ Some e)
+pub of_entry : (js : List JournalValue) (i : ℕ) (j : JournalValue) (k : ℕ) (e : Entry) → slice_get js i ≡ Some j → slice_get j.entries k ≡ Some e → (m : ℕ) × (slice_get (all_entries js) m ≡ Some e)
 of_entry [] i j k e hj he = none_some j hj
 of_entry (x ∷ js) zero j k e hj he = (k, get_append_left x.entries (all_entries js) k e (ap (λ (y : JournalValue). slice_get y.entries k) (same_Some x j hj) ∙ he))
 of_entry (x ∷ js) (suc i) j k e hj he = let r = of_entry js i j k e hj he in get_behind x.entries (all_entries js) r.0 e r.1

@@ -10,3 +10,4 @@ pub mod OtherUnequal
 pub mod OtherGaps
 pub mod OtherRefusals
 pub mod Marks
+pub mod Gathering

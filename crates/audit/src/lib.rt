@@ -5,6 +5,8 @@
 //! (`found`), and `audit_keys` all of it but the application. So the laws of `world` hold of their results. The journals that are
 //! audited may be others than those that the world was made of: Unequal then means that one differs from what the world has.
 //!
+//! `audit_keys_of` gives what `audit_keys` finds in the world of the same journals, and makes no world where that is nothing.
+//!
 //! `audit_all` gives the verdict and, after it, the other GTIDs under which journals differ from the world, the other journals that begin after the
 //! opening set, the other missing GTIDs, the other shared keys, the other GTIDs that are in a journal without the nearest earlier one at
 //! a key, and, where the verdict is that a transaction does not apply, the first that does not of each other source: `faults_are_all`
@@ -17,7 +19,9 @@
 //! nothing can be missing or left out, and no table is made for either. Else Missing goes over the world's list where each of its
 //! transactions is found in a journal, for which it marks them, and over a list of what the journals bring where not.
 //! That no key is shared is found by marks (`marks`): a hash of the words of a key's values, which equal keys share, kept with its source
-//! (`owners`). Only where two sources touch one mark are keys made and looked for. DoesNotApply is one application of all sources
+//! (`owners`), in slots of the marks' lowest bits. Only where two sources touch one mark are keys made and looked for.
+//! `audit_keys_of` goes over journals that are in order once (`gathering`): each first entry of a GTID touches its marks, and each
+//! further one is compared with the first, which is looked for in the run of its source by its number. DoesNotApply is one application of all sources
 //! together, which by `one_pass_applies` names the same transaction. Between two numbers of a source the end of a run of the opening set
 //! is looked up, so that the set's size costs nothing.
 //!
@@ -28,9 +32,11 @@
 mod applying;
 mod brought;
 mod contents;
+mod direct;
 mod equal;
 mod finding;
 mod gaps;
+mod gathering;
 mod laws;
 mod listing;
 mod marks;
@@ -50,6 +56,7 @@ mod standing;
 mod touches;
 mod unequal;
 
+pub use direct::audit_keys_of;
 pub use finding::{audit, audit_gtids, audit_keys, keep_rules};
 pub use laws::faults_are_all;
 pub use listing::{AllFaults, audit_all};

@@ -1,6 +1,7 @@
 //! Marks of keys: numbers that equal keys share. A key is marked by the words of its values, so that none of them is read.
-ghost use Rattle.std.specs.Prelude.{◌≡◌, ◌≤◌, ◌<◌, ◌++◌, [], ◌∷◌, length, map, option_map, slice_get, slice_index_or, OnOk};
-ghost use Rattle.std.specs.List.{list_any};
+ghost use Rattle.std.specs.Prelude.{◌≡◌, ◌≤◌, ◌<◌, ◌++◌, ℕ, List, [], ◌∷◌, length, map, option_map, slice_get, slice_index_or, OnOk};
+ghost use Rattle.std.specs.List.{fold, list_any};
+ghost use Rattle.std.specs.Hash.FoldHasher as folding;
 ghost use Rattle.row_images.specs.declared.value.Value.TheVariants.{Null};
 ghost use Rattle.row_images.specs.Images.{values_text, words_of};
 ghost use Rattle.row_images.specs.Values.{is_null, value_text};
@@ -42,13 +43,21 @@ fn word_at<'a>(row: &Row, text: &'a [u8], column: u32) -> &'a [u8]
     }
 }
 
-/// The mark of a key of these columns. The text is the row's.
-fn mark_of(name: &Name, index: u8, columns: &Columns, row: &Row, text: &[u8]) -> u64
-    requires { text.now ≡ values_text row.now }
-    ensures { result ≡ key_mark (record { table = name.now; index = index; values = values_in columns.now row.now }) }
+/// The hash of a table's name.
+fn hash_name(name: &Name) -> FoldHasher
+    ensures { result ≡ folding.write folding.initial name.now }
 {
     let mut state = FoldHasher::default();
     state.write(name.as_str().as_bytes());
+    state
+}
+
+/// The mark of a key of these columns. The hash is that of the table's name, and the text is the row's.
+fn mark_of(hash: &FoldHasher, index: u8, columns: &Columns, row: &Row, text: &[u8]) -> u64
+    requires { text.now ≡ values_text row.now }
+    ensures { result ≡ folding.finish (fold folding.write (folding.write hash.now (index ∷ [])) (map value_text (values_in columns.now row.now))) }
+{
+    let mut state = *hash;
     state.write(&[index]);
     for column in columns.as_slice() {
         state.write(word_at(row, text, *column));
@@ -68,22 +77,22 @@ fn has_null(columns: &Columns, row: &Row) -> bool
     false
 }
 
-/// Adds the mark of a unique key, if it has no null.
+/// Adds the mark of a unique key, if it has no null. The hash is that of the table's name.
 fn push_unique(
     marks: &mut Vec<u64>,
-    name: &Name,
+    hash: &FoldHasher,
     index: u8,
     columns: &Columns,
     row: &Row,
     text: &[u8],
 ) -> Result<(), AllocError>
     requires { text.now ≡ values_text row.now }
-    ensures { OnOk result (marks.new.items ≡ marks.old.items ++ map key_mark (unique_keys name.now index (columns.now ∷ []) row.now)) }
+    ensures { OnOk result ((name : List ℕ) → hash.now ≡ folding.write folding.initial name → marks.new.items ≡ marks.old.items ++ map key_mark (unique_keys name index (columns.now ∷ []) row.now)) }
 {
     if has_null(columns, row) {
         return Ok(());
     }
-    marks.push(mark_of(name, index, columns, row, text))?;
+    marks.push(mark_of(hash, index, columns, row, text))?;
     Ok(())
 }
 
@@ -94,9 +103,10 @@ fn push_marks_of(marks: &mut Vec<u64>, table: &Table, row: &Row) -> Result<(), A
 {
     let text = row.as_str().as_bytes();
     let uniques = table.uniques.as_slice();
-    marks.push(mark_of(&table.name, 0, &table.primary, row, text))?;
+    let hash = hash_name(&table.name);
+    marks.push(mark_of(&hash, 0, &table.primary, row, text))?;
     for (i, columns) in uniques.iter().enumerate() {
-        push_unique(marks, &table.name, i as u8 + 1, columns, row, text)?;
+        push_unique(marks, &hash, i as u8 + 1, columns, row, text)?;
     }
     Ok(())
 }
@@ -116,6 +126,25 @@ fn push_carried(
     }
 }
 
+/// Adds the marks of the keys that two rows of one table carry.
+fn push_both(
+    marks: &mut Vec<u64>,
+    schema: &Schema,
+    name: &Name,
+    before: &Row,
+    after: &Row,
+) -> Result<(), AllocError>
+    ensures { OnOk result (marks.new.items ≡ marks.old.items ++ map key_mark (carried_keys schema.now name.now before.now ++ carried_keys schema.now name.now after.now)) }
+{
+    match schema.find(name) {
+        Some(table) => {
+            push_marks_of(marks, table, before)?;
+            push_marks_of(marks, table, after)
+        }
+        None => Ok(()),
+    }
+}
+
 /// Adds the marks of the keys that a change touches.
 fn push_change(marks: &mut Vec<u64>, schema: &Schema, change: &Change) -> Result<(), AllocError>
     ensures { OnOk result (marks.new.items ≡ marks.old.items ++ map key_mark (keys_of_change schema.now change.now)) }
@@ -127,10 +156,7 @@ fn push_change(marks: &mut Vec<u64>, schema: &Schema, change: &Change) -> Result
             table,
             before,
             after,
-        } => {
-            push_carried(marks, schema, table, before)?;
-            push_carried(marks, schema, table, after)
-        }
+        } => push_both(marks, schema, table, before, after),
     }
 }
 

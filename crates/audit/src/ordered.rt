@@ -84,6 +84,22 @@ fn is_in_order(alloc: Global, opened: &GtidSet, entries: &[Entry]) -> Result<boo
     Ok(true)
 }
 
+/// Whether each journal is found to bring the numbers of each source one after another.
+pub(crate) fn are_in_order(
+    alloc: Global,
+    opened: &GtidSet,
+    journals: &[Journal],
+) -> Result<bool, AllocError>
+    ensures { IfOk result (λ yes. yes ≡ true → AreInOrder opened.now journals.now) }
+{
+    for journal in journals {
+        if !is_in_order(alloc, opened, journal.entries())? {
+            return Ok(false);
+        }
+    }
+    Ok(true)
+}
+
 impl World {
     /// Whether each journal is found to bring the numbers of each source one after another.
     pub(crate) fn are_in_order(
@@ -93,11 +109,6 @@ impl World {
     ) -> Result<bool, AllocError>
         ensures { IfOk result (λ yes. yes ≡ true → AreInOrder self.now.opening_set journals.now) }
     {
-        for journal in journals {
-            if !is_in_order(alloc, self.opening_set(), journal.entries())? {
-                return Ok(false);
-            }
-        }
-        Ok(true)
+        are_in_order(alloc, self.opening_set(), journals)
     }
 }

@@ -1,40 +1,119 @@
 //! Which source touched each mark of a key.
-ghost use Rattle.std.specs.Prelude.{◌≡◌, ℕ, true, cond, nat_eq, Some, IfOk, OnOk};
+ghost use Rattle.std.specs.Prelude.{◌≡◌, ◌≤◌, ◌==◌, ℕ, [], ◌∷◌, true, false, cond, nat_eq, Some, IfOk, OnOk};
 ghost use Rattle.indexmap.specs.IndexMap.{get};
-ghost use Rattle.audit.specs.Marks.{TouchesMarks};
+ghost use Rattle.audit.specs.Marks.{TouchesMarks, owner_of};
 
 use gtid_text::SourceId;
 use indexmap::IndexMap;
-use std::alloc::AllocError;
+use std::alloc::{AllocError, Global};
 
-/// A source touches a mark; whether no other source touched it before.
-fn touch(
-    owners: &mut IndexMap<u64, SourceId>,
+/// A mark, and the source that touched it: 0 where the slot is free.
+#[derive(Clone, Copy)]
+struct Slot {
+    mark: u64,
+    owner: SourceId,
+}
+
+/// Which source touched each mark: in the slot of its lowest bits, and among the rest where another mark is there.
+#[derive(Drop)]
+pub(crate) struct Owners {
+    mask: u64,
+    slots: Vec<Slot>,
+    rest: IndexMap<u64, SourceId>,
+}
+
+/// How many bits of a mark name its slot, for so many slots or more; at most 22.
+fn slot_bits(count: usize) -> u32
+    ensures { result ≤ 22 }
+{
+    for bits in 6..22 {
+        if 1_usize << bits >= count {
+            return bits;
+        }
+    }
+    22
+}
+
+/// A source touches a mark of the rest; whether no other source touched it before.
+fn touch_rest(
+    rest: &mut IndexMap<u64, SourceId>,
     mark: u64,
     source: SourceId,
 ) -> Result<bool, AllocError>
-    ensures own { IfOk result (λ own. own ≡ true → (owner : ℕ) → get nat_eq owners.old mark ≡ Some owner → owner ≡ source) }
-    ensures touched { OnOk result ((m : ℕ) → get nat_eq owners.new m ≡ cond (nat_eq mark m) (Some source) (get nat_eq owners.old m)) }
+    ensures own { IfOk result (λ own. own ≡ true → (owner : ℕ) → get nat_eq rest.old mark ≡ Some owner → owner ≡ source) }
+    ensures touched { OnOk result ((m : ℕ) → get nat_eq rest.new m ≡ cond (nat_eq mark m) (Some source) (get nat_eq rest.old m)) }
 {
-    match owners.insert(mark, source) {
+    match rest.insert(mark, source) {
         Ok(Some(before)) => Ok(before == source),
         Ok(None) => Ok(true),
         Err(_) => Err(AllocError),
     }
 }
 
-/// A source touches marks; whether no other source touched one of them before.
-pub(crate) fn touch_all(
-    owners: &mut IndexMap<u64, SourceId>,
-    marks: &[u64],
-    source: SourceId,
-) -> Result<bool, AllocError>
-    ensures { IfOk result (λ own. own ≡ true → TouchesMarks (get nat_eq owners.old) marks.now source (get nat_eq owners.new)) }
+fn is_none(source: SourceId) -> bool
+    ensures { result ≡ (source == 0) }
 {
-    for mark in marks {
-        if !touch(owners, *mark, source)? {
+    source.bits() == 0
+}
+
+fn are_same(a: u64, b: u64) -> bool
+    ensures { result ≡ (a == b) }
+{
+    a == b
+}
+
+impl Owners {
+    /// No mark was touched yet. About so many are expected.
+    pub(crate) fn for_marks(alloc: Global, count: usize) -> Result<Owners, AllocError> {
+        let bits = slot_bits(count);
+        let free = Slot {
+            mark: 0,
+            owner: SourceId::from_bits(0),
+        };
+        let slots = vec![in alloc; free; 1_usize << bits]?;
+        Ok(Owners {
+            mask: (1_u64 << bits).wrapping_sub(1),
+            slots,
+            rest: IndexMap::new(alloc),
+        })
+    }
+
+    /// A source touches a mark; whether no other source touched it before.
+    fn touch(&mut self, mark: u64, source: SourceId) -> Result<bool, AllocError>
+        requires { (source == 0) ≡ false }
+        ensures { IfOk result (λ own. own ≡ true → TouchesMarks (owner_of self.old) (mark ∷ []) source (owner_of self.new)) }
+    {
+        let at = (mark & self.mask) as usize;
+        if at >= self.slots.len() {
+            return touch_rest(&mut self.rest, mark, source);
+        }
+        let slot = self.slots[at];
+        if is_none(slot.owner) {
+            self.slots[at] = Slot {
+                mark,
+                owner: source,
+            };
+            return Ok(true);
+        }
+        if are_same(slot.mark, mark) {
+            return Ok(slot.owner == source);
+        }
+        let own = touch_rest(&mut self.rest, mark, source)?;
+        Ok(own)
+    }
+
+    /// A source touches marks; whether no other source touched one of them before. Nothing is found of source 0.
+    pub(crate) fn touch_all(&mut self, marks: &[u64], source: SourceId) -> Result<bool, AllocError>
+        ensures { IfOk result (λ own. own ≡ true → TouchesMarks (owner_of self.old) marks.now source (owner_of self.new)) }
+    {
+        if is_none(source) {
             return Ok(false);
         }
+        for mark in marks {
+            if !self.touch(*mark, source)? {
+                return Ok(false);
+            }
+        }
+        Ok(true)
     }
-    Ok(true)
 }

@@ -5,11 +5,11 @@ ghost use Rattle.world.specs.Audit.{shared};
 ghost use Rattle.world.specs.Folds.{shared_from};
 ghost use Rattle.audit.specs.Contents.{as_pair};
 
+use crate::gathering::usual_keys;
 use crate::marks::push_marks;
-use crate::owners::touch_all;
+use crate::owners::Owners;
 use crate::sources::World;
 use crate::touches::Touches;
-use indexmap::IndexMap;
 use journal::Entry;
 use rows::{Schema, keys_touched};
 use std::alloc::{AllocError, Global};
@@ -40,13 +40,13 @@ fn first_shared(
 fn are_apart(alloc: Global, schema: &Schema, entries: &[Entry]) -> Result<bool, AllocError>
     ensures { IfOk result (λ yes. yes ≡ true → shared_from schema.now finmap.empty (map as_pair entries.now) ≡ None) }
 {
-    let mut owners = IndexMap::new(alloc);
+    let mut owners = Owners::for_marks(alloc, usual_keys(entries))?;
     // (one list for the marks of each transaction)
     let mut marks = Vec::new(alloc);
     for entry in entries {
         marks.clear();
         push_marks(&mut marks, schema, &entry.txn)?;
-        if !touch_all(&mut owners, &marks, entry.gtid.source)? {
+        if !owners.touch_all(&marks, entry.gtid.source)? {
             return Ok(false);
         }
     }

@@ -1,5 +1,5 @@
 -- The tokens of set text.
-use Rattle.std.proofs.Common.{◌≡◌, ℕ, ◌+◌, ◌-◌, ◌*◌, ◌^◌, ◌<◌, ◌≤◌, Bool, take, get_or, subst, arith, true, false, cond, eqb, List, [], ◌∷◌, length, Option, Some, None, refl, sym, ap, ◌∙◌, inl, inr, rules, eq-eqb}
+use Rattle.std.proofs.Common.{◌≡◌, ℕ, suc, ◌+◌, ◌-◌, ◌*◌, ◌^◌, ◌<◌, ◌≤◌, Bool, take, get_or, subst, arith, true, false, cond, eqb, List, [], ◌∷◌, length, Option, Some, None, refl, sym, ap, ◌∙◌, inl, inr, rules, eq-eqb}
 use Rattle.std.specs.List.{list_all}
 use Rattle.std.specs.Char.{is_ascii_digit, digit_value}
 use Rattle.std.specs.Str.Parse.{digits_value}
@@ -10,6 +10,7 @@ use Rattle.std.specs.Int.{w128, from_be_bytes}
 use Rattle.uuid.specs.Text.{parsed, parsed_hyphenated}
 use Rattle.gtid_text.specs.declared.SourceId.{SourceId}
 use Rattle.std.proofs.lemmas.List.{take_all}
+use Rattle.std.proofs.Math.Nat.{pow-le-pow_right}
 use Rattle.std.proofs.lemmas.List.Folds.{list_all_at}
 use Rattle.std.proofs.lemmas.Int.Digits.{digits_value_more}
 use Rattle.std.proofs.lemmas.Bool.Decides.{nat_tests}
@@ -50,9 +51,27 @@ digit_is : (c : ℕ) → is_ascii_digit c ≡ true → digit_value c ≡ c - 48
 digit_is c e = grind (arith, nat_tests)
 
 -- one digit more
-one_more : (digits : List ℕ) (i n : ℕ) → list_all is_ascii_digit digits ≡ true → i < length digits → n ≡ digits_value 10 (take i digits) → n * 10 + (get_or digits i 0 - 48) ≡ digits_value 10 (take (i + 1) digits)
+pub one_more : (digits : List ℕ) (i n : ℕ) → list_all is_ascii_digit digits ≡ true → i < length digits → n ≡ digits_value 10 (take i digits) → n * 10 + (get_or digits i 0 - 48) ≡ digits_value 10 (take (i + 1) digits)
 one_more digits i n all within is =
     sym (digits_value_more 10 digits i within ∙ ap (λ (m : ℕ). m * 10 + digit_value (get_or digits i 0)) (sym is) ∙ ap (λ (d : ℕ). n * 10 + d) (digit_is (get_or digits i 0) (digit_at digits i all within)))
+
+digit_small : (c : ℕ) → is_ascii_digit c ≡ true → c - 48 < 10
+digit_small c e = grind (arith, nat_tests)
+
+pub digit_below : (digits : List ℕ) (i d : ℕ) → list_all is_ascii_digit digits ≡ true → i < length digits → d ≡ get_or digits i 0 - 48 → d < 10
+digit_below digits i d all within is = subst (λ (x : ℕ). x < 10) (sym is) (digit_small (get_or digits i 0) (digit_at digits i all within))
+
+-- a number of so many digits, and one more
+pub stays_below : (i n d : ℕ) → n < 10 ^ i → d < 10 → n * 10 + d < 10 ^ (i + 1)
+stays_below i n d below digit =
+    let more : n * 10 + d < 10 ^ suc i = omega arith in
+    let next : suc i ≡ i + 1 = omega arith in
+    subst (λ (j : ℕ). n * 10 + d < 10 ^ j) next more
+
+pub fits_below : (i n d : ℕ) → i < 19 → n < 10 ^ i → d < 10 → n * 10 + d < 2 ^ 64
+fits_below i n d few below digit =
+    let most : 10 ^ suc i ≤ 10 ^ 19 = pow-le-pow_right {n = 10} (omega arith) few in
+    omega arith
 
 pub digit_read : (digits : List ℕ) (i n m : ℕ) → list_all is_ascii_digit digits ≡ true → i < length digits → n ≡ digits_value 10 (take i digits) → Some m ≡ small (n * 10 + (get_or digits i 0 - 48)) → m ≡ digits_value 10 (take (i + 1) digits)
 digit_read digits i n m all within is e = small_some (n * 10 + (get_or digits i 0 - 48)) m e ∙ one_more digits i n all within is

@@ -111,11 +111,21 @@ fn with_digit(number: u64, digit: u8) -> Option<u64>
     number.checked_mul(10)?.checked_add(u64::from(digit - b'0'))
 }
 
+/// So many digits are those of a number below 2^64, whichever they are.
+const SAFE_DIGITS: usize = 19;
+
 /// The number that digits parse as, where it is below 2 ^ 64.
 fn parse_digits(digits: &[u8]) -> Option<u64>
     requires { list_all is_ascii_digit digits.now ≡ true }
     ensures { result ≡ small (digits_value 10 digits.now) }
 {
+    if digits.len() <= SAFE_DIGITS {
+        let mut number: u64 = 0;
+        'few: for digit in digits {
+            number = number * 10 + u64::from(*digit - b'0');
+        }
+        return Some(number);
+    }
     let mut number = 0;
     'digits: for digit in digits {
         let Some(more) = with_digit(number, *digit) else {

@@ -124,7 +124,7 @@ fn write_spans(out: &mut String, spans: &[Span]) -> Result<(), AllocError>
 fn is_text_of(alloc: Global, spans: &[Span], word: &[u8]) -> Result<bool, AllocError>
     ensures { IfOk result (λ same. same ≡ bytes_eq (spans_text spans.now) word.now) }
 {
-    let mut text = String::new(alloc);
+    let mut text = String::with_capacity(alloc, word.len())?;
     write_spans(&mut text, spans)?;
     Ok(text.as_bytes() == word)
 }

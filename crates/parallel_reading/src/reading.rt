@@ -17,6 +17,9 @@ use txn_journal::{Bundle, BundleReader, JournalFault, ParsedLines};
 /// How many bytes a thread parses at a time.
 const PART: usize = 1_048_576;
 
+/// So many threads parse lines faster than one takes them.
+const MOST_PARSERS: usize = 4;
+
 /// Takes parts in their order.
 fn take_all(alloc: Global, reader: &mut BundleReader, parsed: Vec<ParsedLines<'_>>)
     ensures { (bytes : List ℕ) → HasCome reader.old bytes → HasCome reader.new (bytes ++ concat parsed.entry.items) }
@@ -71,8 +74,8 @@ fn take_and_parse<'a, R: Threads + Sync>(
     )
 }
 
-/// A reader of bundles after all bytes of a text. Its lines are parsed by one thread less than there are workers, but by one at least,
-/// while the lines before them are taken.
+/// A reader of bundles after all bytes of a text. Its lines are parsed by one thread less than there are workers, but by one at least
+/// and four at most, while the lines before them are taken.
 pub fn read_beside<R: Threads + Sync>(
     rt: &R,
     alloc: Global,
@@ -81,7 +84,9 @@ pub fn read_beside<R: Threads + Sync>(
 ) -> BundleReader
     ensures { HasCome result text.now }
 {
-    let parsers = usize::from(workers).saturating_sub(1).max(1);
+    let parsers = usize::from(workers)
+        .saturating_sub(1)
+        .clamp(1, MOST_PARSERS);
     let size = PART * parsers;
     let mut reader = BundleReader::start(alloc);
     let (mut block, mut left) = cut_block(text, size);

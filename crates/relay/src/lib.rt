@@ -57,6 +57,18 @@ struct Known {
 impl Known {
     ghost use Rattle.relay.specs.Known.{IsNear, equal_to, ahead_by, step_back, keep_step};
 
+    /// Makes the spare set anew.
+    #[cold]
+    #[inline(never)]
+    fn renew(&mut self, alloc: Global) -> Result<(), SetFault>
+        ensures ok { OnOk result (self.new ≡ record self.old { spare = self.old.executed }) }
+        ensures err { OnErr result (self.new ≡ self.old) }
+        ensures fault { IsOkUnless result Memory }
+    {
+        self.spare = self.executed.copy(alloc)?;
+        Ok(())
+    }
+
     /// Makes the spare set equal to the executed set.
     fn catch_up(&mut self, alloc: Global) -> Result<(), SetFault>
         requires { IsNear self.old }
@@ -68,7 +80,7 @@ impl Known {
             Behind::Equal => {}
             Behind::ByLast(gtid) => self.spare.add(gtid)?,
             Behind::By(gtid) => self.spare.add(gtid)?,
-            Behind::Ahead(_) => self.spare = self.executed.copy(alloc)?,
+            Behind::Ahead(_) => self.renew(alloc)?,
         }
         self.behind = Behind::Equal;
         Ok(())
@@ -81,8 +93,7 @@ impl Known {
         ensures err { OnErr result (self.new ≡ self.old) }
         ensures full { IsFullExactly result (set.insert self.old.executed gtid.now) }
     {
-        self.spare.add(*gtid)?;
-        mem::swap(&mut self.executed, &mut self.spare);
+        self.executed.add(*gtid)?;
         self.behind = Behind::ByLast(*gtid);
         Ok(())
     }

@@ -35,7 +35,7 @@ use Rattle.replica_core.specs.Committing.{IsCommittable, Executes}
 use Rattle.replica_core.specs.Draining.{NothingIsOwned, IsWaiting}
 use Rattle.replica_core.specs.Faults.{IsFaultIn, IsFault, HasRoomFor, allocates, received_set, committed_set, executed_with}
 use Rattle.replica_core.specs.Machine.{Step, Held, held, change_at, receive, take_place, take_seat, commit, commit_answer, execute, without_seat, open_before}
-use Rattle.replica_core.specs.AtOnce.{received_and_taken, received_and_committed, IsAtOnce, IsReadyAtOnce}
+use Rattle.replica_core.specs.AtOnce.{received_and_taken, received_and_committed, IsAtOnce, IsReadyAtOnce, IsReceiving}
 use Rattle.replica_core.proofs.KeptLemmas.{found, gone_by}
 use Rattle.replica_core.proofs.ReceiveLemmas.{received_is, was_asked}
 use Rattle.replica_core.proofs.TakeLemmas.{commit_is}
@@ -217,11 +217,23 @@ module _ (r : Replica) (seat c p : ℕ) (e : Entry) (may : IsReadyAtOnce r seat 
     same_received : (site : Site) (s : State) → site ≡ r.site → s ≡ ahead → receive site c e s ≡ receive r.site c e ahead
     same_received site s one now = λ i. receive (one i) c e (now i)
 
+    -- where it is executed, its channel has room for it
+    pub receiving_ahead : (t : Replica) → t.state ≡ ahead → IsReceiving t c
+    receiving_ahead t now = record {
+      channel = settle_channel e.gtid may.channel;
+      at = ap (λ (s : State). slice_get s.channels c) now ∙ at_settled;
+      asked = may.next.asked;
+      room = ap (nat_le most_received) same_len ∙ may.next.room;
+    }
+
+    pub executed_ahead : (s : State) → s ≡ ahead → set.contains s.executed e.gtid ≡ true
+    executed_ahead s now = ap (λ (x : State). set.contains x.executed e.gtid) now ∙ has_itself r.state.executed e.gtid
+
     -- what its channel answers afterwards, and what is left then
-    pub done_ahead : (site : Site) (s t : State) (answer : Reply) → apply r.site.schema e.txn r.state.rows ≡ Ok rows → site ≡ r.site → s ≡ ahead → ◌≡◌ {A = Step} (answer, t) (receive site c e s)
-        → IsAtOnce r seat c p e answer t
-    done_ahead site s t answer applies one now is = record {
-      replied = ap (λ (x : Step). x.0) (is ∙ same_received site s one now) ∙ sym told_same;
+    pub done_ahead : (site : Site) (s t : State) (place : ℕ) → apply r.site.schema e.txn r.state.rows ≡ Ok rows → site ≡ r.site → s ≡ ahead → ◌≡◌ {A = Step} (reply.Received place, t) (receive site c e s)
+        → IsAtOnce r seat c p e (reply.Received p) t
+    done_ahead site s t place applies one now is = record {
+      replied = ap (λ n. reply.Received n) may.next.last ∙ ap (λ (x : Step). x.0) is_received;
       state = ap (λ (x : Step). x.1) (is ∙ same_received site s one now) ∙ sym (left_same applies);
     }
 

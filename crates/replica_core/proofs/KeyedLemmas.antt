@@ -1,15 +1,19 @@
 -- Channels with their schema, and the channels alone.
-use Rattle.std.proofs.Common.{◌≡◌, ℕ, zero, suc, Bool, false, ◌||◌, List, [], ◌∷◌, ◌++◌, map, length, refl, sym, ap, ◌∙◌}
-use Rattle.std.specs.Prelude.{Option, Some, None, slice_get, slice_set, option_map}
-use Rattle.std.specs.List.{list_any}
+use Rattle.std.proofs.Common.{◌≡◌, ℕ, zero, suc, Bool, true, false, cond, ◌||◌, List, [], ◌∷◌, ◌++◌, map, length, refl, sym, ap, ◌∙◌}
+use Rattle.std.specs.Prelude.{Option, Some, None, is_none, slice_get, slice_set, option_map}
+use Rattle.std.specs.List.{list_all, list_any}
 use Rattle.std.specs.Option.{option_map_or}
 use Rattle.std.proofs.lemmas.List.Elements.{All-map, All-append, All-cons, All-nil}
 use Rattle.std.proofs.lemmas.Option.{slice_get-map}
 use Rattle.rows.specs.declared.schema.Table.{Table}
 use Rattle.gtid_text.specs.declared.Gtid.{Gtid}
+use Rattle.gtid_text.specs.Gtids.{same_gtid}
 use Rattle.gtid_set.specs.Sets.{Gtids}
+use Rattle.gtid_set.proofs.SetSources.{first_of_and}
+use Rattle.rows.specs.declared.change.Transaction.{Transaction}
+use Rattle.rows.proofs.Patching.{and_second}
 use Rattle.journal.specs.declared.Entry.{Entry}
-use Rattle.apply_channel.specs.Channels.{Keyed, ChannelValue, settle_channel, same_name, with_stopped, with_asked, with_received, with_entry, received_as, is_full}
+use Rattle.apply_channel.specs.Channels.{Keyed, ChannelValue, Received, are_settled, settle, settle_channel, same_name, with_stopped, with_asked, with_received, with_entry, received_as, is_full}
 use Rattle.replica_core.specs.Kept.{AreOf}
 use Rattle.replica_core.specs.Keyed.{keyed_settled, keyed_stopped, keyed_asked, keyed_len_at, keyed_full_at, len_at, full_at}
 use Rattle.replica_core.specs.Machine.{change_at}
@@ -44,6 +48,27 @@ received_as_one c executed e ks = map-changed_at channel_of (with_entry executed
 pub settled_as : (g : Gtid) (ks : List Keyed) → map channel_of (map (keyed_settled g) ks) ≡ map (settle_channel g) (map channel_of ks)
 settled_as g [] = refl
 settled_as g (k ∷ ks) = ap (λ cs. settle_channel g k.channel ∷ cs) (settled_as g ks)
+
+none_is : (o : Option Transaction) → is_none o ≡ true → None ≡ o
+none_is None h = refl
+none_is (Some t) h = absurd cc
+
+executed_stays : (g : Gtid) (e : Received) (b : Bool) → is_none e.txn ≡ true → cond b (record e { txn = None }) e ≡ e
+executed_stays g e true none = λ i. record e { txn = none_is e.txn none i }
+executed_stays g e false none = refl
+
+entries_stay : (g : Gtid) (es : List Received) → are_settled es ≡ true → map (settle g) es ≡ es
+entries_stay g [] all = refl
+entries_stay g (e ∷ es) all =
+    λ i. executed_stays g e (same_gtid e.gtid g) (first_of_and (is_none e.txn) (are_settled es) all) i ∷ entries_stay g es (and_second (is_none e.txn) (are_settled es) all) i
+
+-- where all is executed, no channel changes
+pub settled_stay : (g : Gtid) (ks : List Keyed) → list_all (λ (k : Keyed). are_settled k.channel.received) ks ≡ true → ks ≡ map (keyed_settled g) ks
+settled_stay g [] all = refl
+settled_stay g (k ∷ ks) all =
+    let first = entries_stay g k.channel.received (first_of_and (are_settled k.channel.received) (list_all (λ (x : Keyed). are_settled x.channel.received) ks) all) in
+    let rest = settled_stay g ks (and_second (are_settled k.channel.received) (list_all (λ (x : Keyed). are_settled x.channel.received) ks) all) in
+    λ i. record k { channel = record k.channel { received = sym first i } } ∷ rest i
 
 pub pushed_as : (k : Keyed) (ks : List Keyed) → map channel_of (ks ++ k ∷ []) ≡ map channel_of ks ++ k.channel ∷ []
 pushed_as k [] = refl

@@ -57,6 +57,13 @@ pub record IsNext (channel : ChannelValue) (p : ℕ) : Type 0 where
   pub last : p ≡ length channel.received
   pub settled : are_settled channel.received ≡ true
 
+-- a channel has asked, and has room for one entry more
+pub record IsReceiving (r : Replica) (c : ℕ) : Type 0 where
+  pub channel : ChannelValue
+  pub at : slice_get r.state.channels c ≡ Some channel
+  pub asked : is_none channel.asked ≡ false
+  pub room : is_full channel ≡ false
+
 -- no seat has a place, the schema takes the entry, and its GTID is new, and the executed set has room for it
 pub record IsReadyAtOnce (r : Replica) (seat c p : ℕ) (e : Entry) : Type 0 where
   pub channel : ChannelValue

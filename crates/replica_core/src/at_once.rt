@@ -1,17 +1,23 @@
 //! An entry that is received, taken and committed at once.
-ghost use Rattle.std.specs.Prelude.{◌≡◌, true, is_none, IfOk, OnOk, OnErr, IfErr, MatchOption};
+ghost use Rattle.std.specs.Prelude.{◌≡◌, true, is_none, Some, None, IfOk, OnOk, OnErr, IfErr, MatchBool};
 ghost use Rattle.std.specs.List.{list_all};
+ghost use Rattle.std.specs.FinSet as set;
+ghost use Rattle.gtid_set.specs.Full.{IsFaultOf};
 ghost use Rattle.journal.specs.Writing.{is_number};
 ghost use Rattle.rows.specs.Fits.{Fits};
 ghost use Rattle.replica_core.specs.Machine.{receive};
-ghost use Rattle.replica_core.specs.AtOnce.{received_and_committed, IsLeft, IsFaultAtOnce, HasRoomAtOnce, IsAtOnce, IsNext, IsReadyAtOnce};
+ghost use Rattle.replica_core.specs.AtOnce.{received_and_committed, IsLeft, IsFaultAtOnce, HasRoomAtOnce, IsAtOnce, IsNext, IsReadyAtOnce, IsReceiving};
+ghost use Rattle.replica_core.specs.Committing.{IsCommittable, Executes};
 ghost use Rattle.replica_core.specs.Draining.{NothingIsOwned};
+ghost use Rattle.replica_core.specs.Faults.{IsFault, IsFaultIn, HasRoomFor, received_set, executed_with};
+ghost use Rattle.replica_core.specs.declared.event.Reply.TheVariants.{Received};
 
 use crate::event::{Reply, Spot};
 use crate::machine::{Core, is_seat};
-use apply_channel::Channel;
+use apply_channel::{Channel, ReceiveFault};
 use gtid_set::SetFault;
 use journal::Entry;
+use rows::{PrepareFault, Transaction};
 use std::alloc::Global;
 
 /// So many channels are asked faster than 64 seats. Our own rule.
@@ -71,9 +77,67 @@ impl Core {
         self.executed().has_room_for(&entry.gtid)
     }
 
-    /// Executes an entry that needs to wait for nothing and then lets its channel receive it, which keeps
-    /// neither its keys nor its transaction: the result is the reply to its Receive. Where it has to wait, or does not
-    /// apply, nothing is done.
+    /// Executes an entry, where no seat is freed. The result is false where its transaction does not apply, and then nothing
+    /// has changed.
+    fn execute_now(
+        &mut self,
+        alloc: Global,
+        entry: Entry,
+        txn: &Transaction,
+    ) -> Result<bool, SetFault>
+        requires may { IsCommittable self.old None entry }
+        requires same { txn.now ≡ entry.txn }
+        ensures ok { IfOk result (λ made. MatchBool made (Executes self.old None entry self.new) (self.new ≡ self.old)) }
+        ensures err { OnErr result (self.new ≡ self.old) }
+        ensures fault { IfErr result (λ f. IsFaultOf f (executed_with self.old.state entry.gtid)) }
+        ensures room { IfErr result (λ f. HasRoomFor f (Some (executed_with self.old.state entry.gtid))) }
+    {
+        let gtid = entry.gtid;
+        let _ = self.rows.schema().tables();
+        self.journal.append(alloc, entry)?;
+        match self.rows.apply_fitting(alloc, txn) {
+            Ok(()) => {
+                self.channels.mark_executed(&gtid);
+                return Ok(true);
+            }
+            Err(PrepareFault::Row(_)) => {
+                self.journal.take_back();
+                return Ok(false);
+            }
+            Err(PrepareFault::Memory) => {
+                self.journal.take_back();
+                return Err(SetFault::Memory);
+            }
+        }
+    }
+
+    /// The event Receive of an entry that is executed, by a channel that has asked and has room: its place.
+    fn receive_executed(
+        &mut self,
+        alloc: Global,
+        channel: usize,
+        entry: &Entry,
+    ) -> Result<usize, SetFault>
+        requires number { is_number entry.now.gtid.number ≡ true }
+        requires fits { Fits self.old.site.schema entry.now.txn }
+        requires executed { set.contains self.old.state.executed entry.now.gtid ≡ true }
+        requires receives { IsReceiving self.old channel }
+        ensures ok { IfOk result (λ place. (Received place, self.new.state) ≡ receive self.old.site channel entry.now self.old.state) }
+        ensures site { self.new.site ≡ self.old.site }
+        ensures err { OnErr result (self.new ≡ self.old) }
+        ensures fault { IfErr result (λ f. IsFault (IsFaultIn f (received_set channel entry.now self.old.state)) (receive self.old.site channel entry.now self.old.state)) }
+        ensures room { IfErr result (λ f. HasRoomFor f (received_set channel entry.now self.old.state)) }
+    {
+        match self.channels.receive(alloc, channel, entry, true) {
+            Ok(place) => return Ok(place),
+            Err(ReceiveFault::Full) => unreachable!(),
+            Err(ReceiveFault::Set(fault)) => return Err(fault),
+        }
+    }
+
+    /// Executes an entry that needs to wait for nothing and then lets its channel receive it at this place, which keeps
+    /// neither its keys nor its transaction. The result is false where it has to wait, or does not apply, and then nothing
+    /// is done.
     fn commit_at_once(
         &mut self,
         alloc: Global,
@@ -81,10 +145,10 @@ impl Core {
         channel: usize,
         place: usize,
         entry: &Entry,
-    ) -> Result<Option<Reply>, SetFault>
+    ) -> Result<bool, SetFault>
         requires number { is_number entry.now.gtid.number ≡ true }
         requires fits { Fits self.old.site.schema entry.now.txn }
-        ensures done { IfOk result (λ r. MatchOption r (self.new ≡ self.old) (λ reply. IsAtOnce self.old seat channel place entry.now reply self.new.state)) }
+        ensures done { IfOk result (λ made. MatchBool made (IsAtOnce self.old seat channel place entry.now (Received place) self.new.state) (self.new ≡ self.old)) }
         ensures site { self.new.site ≡ self.old.site }
         ensures err { OnErr result (IsLeft self.old.site seat channel place entry.now self.old.state self.new.state) }
         ensures fault { IfErr result (λ f. IsFaultAtOnce f self.old.site seat channel place entry.now self.old.state) }
@@ -92,19 +156,20 @@ impl Core {
     {
         self.entries_are_kept();
         if !self.is_ready_at_once(seat, channel, place, entry) {
-            return Ok(None);
+            return Ok(false);
         }
         let copy = entry.clone()?;
-        match self.execute(alloc, None, copy, &entry.txn, None) {
-            Ok(Ok(())) => {}
-            Ok(Err(_)) => return Ok(None),
+        match self.execute_now(alloc, copy, &entry.txn) {
+            Ok(true) => {}
+            Ok(false) => return Ok(false),
             Err(fault) => return Err(fault),
         }
-        let reply = self.receive_fitting(alloc, channel, entry)?;
-        Ok(Some(reply))
+        let _place = self.receive_executed(alloc, channel, entry)?;
+        Ok(true)
     }
 
     /// The events Receive, Take and Commit, one after another.
+    #[inline(never)]
     fn commit_in_turn(
         &mut self,
         alloc: Global,
@@ -149,8 +214,8 @@ impl Core {
         ensures fault { IfErr result (λ f. IsFaultAtOnce f self.old.site seat channel place entry.now self.old.state) }
         ensures room { IfErr result (λ f. HasRoomAtOnce f self.old.site seat channel place entry.now self.old.state) }
     {
-        if let Some(reply) = self.commit_at_once(alloc, seat, channel, place, entry)? {
-            return Ok(reply);
+        if self.commit_at_once(alloc, seat, channel, place, entry)? {
+            return Ok(Reply::Received(place));
         }
         self.commit_in_turn(alloc, seat, channel, place, entry)
     }

@@ -37,9 +37,14 @@ impl Model for Channels {
     ghost invariant = { λ c. AreOf c.schema c.list.items };
 }
 
+#[tactic(auto, using(crate::proofs::KeyedLemmas::settled_stay))]
 fn settle_each(channels: &mut [Channel], gtid: &Gtid)
     ensures { channels.new ≡ map (keyed_settled gtid.now) channels.old }
 {
+    // (where all is executed, nothing changes)
+    if all_settled(channels) {
+        return;
+    }
     for channel in channels.iter_mut() {
         channel.mark_executed(gtid);
     }

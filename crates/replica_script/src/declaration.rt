@@ -1,9 +1,9 @@
 //! Declarations: tables, rows, and the replica or the network that has them.
-ghost use Rattle.std.specs.Prelude.{◌≡◌, IfOk, IfErr, option_map};
+ghost use Rattle.std.specs.Prelude.{◌≡◌, Some, IfOk, IfErr, option_map};
 ghost use Rattle.gtid_set.specs.Laws.{HaveNumbers};
 ghost use Rattle.row_images.specs.Images.{words_of};
 ghost use Rattle.network.specs.Nodes.{ids_distinct, new_nodes};
-ghost use Rattle.replica_script.specs.Declarations.{sources_of, IsStopOfIds};
+ghost use Rattle.replica_script.specs.Declarations.{sources_of, executed_of, IsStopOfIds};
 ghost use Rattle.replica_script.specs.declared.answer.Stop.{Stop};
 ghost use Rattle.replica_script.specs.declared.answer.Stop.TheVariants.{Memory};
 
@@ -81,7 +81,8 @@ impl Declared {
 /// The executed set of a replica that is declared: empty where no word denotes it. Its numbers are 1 to 2^63 - 1.
 #[tactic(auto, using(journal::proofs::EntryLemmas::no_numbers))]
 pub fn executed_word(alloc: Global, word: Option<&[u8]>) -> Result<GtidSet, Stop>
-    ensures { IfOk result HaveNumbers }
+    ensures numbers { IfOk result HaveNumbers }
+    ensures denotes { IfOk result (λ executed. executed_of (option_map (λ w. w.now) word.entry) ≡ Some executed) }
 {
     let Some(word) = word else {
         return Ok(GtidSet::empty(alloc));

@@ -10,6 +10,7 @@ use Rattle.std.specs.Cmp.Lexicographic.{slice_cmp, pointwise, nat_list_cmp_total
 use Rattle.std.proofs.lemmas.Cmp.{tied_itself}
 use Rattle.std.proofs.lemmas.Slice.Eq.{slice_eq-Decides}
 use Rattle.row_images.specs.declared.value.Value.{Value}
+use Rattle.row_images.specs.declared.value.Value.TheVariants.{Bytes}
 use Rattle.row_images.specs.Order.{value_cmp, row_eq}
 use Rattle.row_images.specs.Total.{value_total, value_exact, row_eq_same, row_eq_self}
 
@@ -59,3 +60,7 @@ one_compared a b = then_equal (value_cmp a b)
 
 pub one_told : (a b : Value) → eq_by_cmp value_cmp a b ≡ row_eq (a ∷ []) (b ∷ [])
 one_told a b = ap is_eq (one_compared a b)
+
+-- a list of one byte string is compared as its bytes are
+pub byte_strings_told : (a b : List ℕ) → pointwise nat_eq a b ≡ row_eq (Bytes a ∷ []) (Bytes b ∷ [])
+byte_strings_told a b = bytes_told a b ∙ one_told (Bytes a) (Bytes b)

@@ -6,7 +6,7 @@ ghost use Rattle.std.specs.Cmp.Lexicographic.{slice_cmp};
 ghost use Rattle.row_images.specs.declared.value.Value.{Value as Cell};
 ghost use Rattle.row_images.specs.declared.value.Value.TheVariants.{Null, Int, Bytes};
 ghost use Rattle.row_images.specs.Held.{held_values};
-ghost use Rattle.row_images.specs.Order.{value_cmp, IsRankOf, IsFirstRank};
+ghost use Rattle.row_images.specs.Order.{value_cmp, row_eq, IsRankOf, IsFirstRank};
 ghost use Rattle.row_images.specs.Values.{is_null};
 
 use crate::packed::pack;
@@ -249,6 +249,13 @@ fn compare_held(a: &HeldValues, b: &HeldValues) -> Ordering
     }
 }
 
+/// Whether both are the same byte string.
+fn are_same(a: &ShortBytes, b: &ShortBytes) -> bool
+    ensures { result ≡ row_eq (Bytes a.now ∷ []) (Bytes b.now ∷ []) }
+{
+    a.as_slice() == b.as_slice()
+}
+
 impl PartialEq for KeyValues {
     ghost use Rattle.std.specs.Ordering.{eq_by_cmp};
     ghost use Rattle.std.specs.Cmp.{eq_by_cmp_equiv, partial_equiv_from_equiv};
@@ -261,7 +268,11 @@ impl PartialEq for KeyValues {
     ghost laws = { partial_equiv_from_equiv (eq_by_cmp_equiv (lists_total value_total)) };
 
     fn eq(&self, other: &KeyValues) -> bool {
-        self.cmp(other).is_eq()
+        match (&self.held, &other.held) {
+            (HeldValues::Int(a), HeldValues::Int(b)) => a == b,
+            (HeldValues::Short(a), HeldValues::Short(b)) => are_same(a, b),
+            (a, b) => compare_held(a, b).is_eq(),
+        }
     }
 }
 

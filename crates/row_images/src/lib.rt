@@ -17,11 +17,13 @@
 #![tactic(auto)]
 
 mod first_value;
+mod image_text;
 mod key_values;
 mod packed;
 mod row;
 mod runs;
 mod short_bytes;
+mod short_text;
 mod value;
 mod value_words;
 mod words;

@@ -8,42 +8,37 @@ ghost use Rattle.row_images.specs.Values.{value_text, is_null, is_too_long, is_l
 ghost use Rattle.row_images.specs.Images.{words_of, values_text, image_of, AreValues};
 
 use crate::first_value::{rest_from, value_len};
-use crate::packed::pack;
+use crate::image_text::ImageText;
 use crate::value::Value;
 use crate::value_words::{all_fit, value_word, write_values};
 use crate::words::cut;
 use std::alloc::{AllocError, Global};
 use std::marker::Model;
-use std::sync::ArcSlice;
 
 /// A value for each column. It is kept as the text of them, which a clone shares.
 pub struct Row {
-    text: ArcSlice<u8>,
-    columns: usize,
+    text: ImageText,
 }
 
 impl Drop for Row {
     // (by hand: for a caller the end of a Row is one call)
     fn drop(self) {
-        let Row {
-            text: _text,
-            columns: _columns,
-        } = self;
+        let Row { text: _text } = self;
     }
 }
 
 impl Model for Row {
     ghost use Rattle.std.specs.Prelude.{◌≡◌, List, length};
-    ghost use Rattle.std.specs.Arc.{arc_slice_items};
+    ghost use Rattle.row_images.specs.Held.{image_bytes, image_values};
     ghost use Rattle.row_images.specs.Images.{values_in, values_text};
     ghost use Rattle.row_images.specs.declared.value.Value.{Value as Cell};
 
     ghost Value = { List Cell };
 
-    ghost view = { λ a. values_in (arc_slice_items a.text) };
+    ghost view = { λ a. values_in (image_bytes a.text) };
 
     // The text has the values, and nothing else. Each column has one.
-    ghost invariant = { λ a. (values_text (values_in (arc_slice_items a.text)) ≡ arc_slice_items a.text) × (a.columns ≡ length (values_in (arc_slice_items a.text))) };
+    ghost invariant = { λ a. (values_text (values_in (image_bytes a.text)) ≡ image_bytes a.text) × (image_values a.text ≡ length (values_in (image_bytes a.text))) };
 }
 
 impl PartialEq for Row {
@@ -76,10 +71,8 @@ impl Clone for Row {
     ghost is_clone = { λ a b. b ≡ a };
 
     fn clone(&self) -> Result<Row, AllocError> {
-        let text = self.text.clone()?;
         Ok(Row {
-            text,
-            columns: self.columns,
+            text: self.text.share()?,
         })
     }
 }
@@ -152,9 +145,8 @@ impl Row {
         all_fit(values.as_slice());
         let mut text = String::new(alloc);
         write_values(alloc, &mut text, values.as_slice())?;
-        let columns = values.as_slice().len();
-        let text = pack(text.into_bytes())?;
-        Ok(Row { text, columns })
+        let text = ImageText::of(alloc, text.as_bytes(), values.as_slice().len())?;
+        Ok(Row { text })
     }
 
     /// The values that a text has: the words of one or more values, with one blank between.
@@ -164,8 +156,8 @@ impl Row {
         let Some(columns) = image_len(text) else {
             return Ok(None);
         };
-        let text = ArcSlice::from_slice(alloc, text)?;
-        Ok(Some(Row { text, columns }))
+        let text = ImageText::of(alloc, text, columns)?;
+        Ok(Some(Row { text }))
     }
 
     /// The words of the values, with one blank between.
@@ -189,14 +181,14 @@ impl Row {
     pub fn len(&self) -> usize
         ensures { result ≡ length self.now }
     {
-        self.columns
+        self.text.values()
     }
 
     /// Whether there is no value.
     pub fn is_empty(&self) -> bool
         ensures { result ≡ (length self.now == 0) }
     {
-        self.columns == 0
+        self.text.values() == 0
     }
 
     /// The word of the value in a column.

@@ -41,21 +41,21 @@ fn long_count(word: &[u8]) -> Option<u64>
     }
 }
 
-/// A number up to this one takes any digit after it, and stays below 2^64.
-const GREATEST_FRONT: u64 = 1_844_674_407_370_955_160;
+/// So many digits are those of a number below 2^64, whichever they are.
+const SAFE_DIGITS: usize = 19;
 
 /// The number that the word parses as in digits, however it begins.
 fn digits_count(word: &[u8]) -> Option<u64>
     requires { begins_well word.now ≡ true }
     ensures { result ≡ count_of word.now }
 {
+    if word.len() > SAFE_DIGITS {
+        return long_count(word);
+    }
     let mut value: u64 = 0;
     for digit in word {
         if !digit.is_ascii_digit() {
             return None;
-        }
-        if value > GREATEST_FRONT {
-            return long_count(word);
         }
         value = 10 * value + (*digit - b'0') as u64;
     }

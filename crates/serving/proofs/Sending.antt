@@ -57,6 +57,37 @@ below_at entries [] i all lt = absurd (omega arith)
 below_at entries (p ∷ ps) zero all lt = ltb-true _ _ (and_parts (nat_lt p (length entries)) (list_all (λ q. nat_lt q (length entries)) ps) all).0
 below_at entries (p ∷ ps) (suc k) all lt = below_at entries ps k (and_parts (nat_lt p (length entries)) (list_all (λ q. nat_lt q (length entries)) ps) all).1 (omega (arith, lt))
 
+there : (entries : List Entry) (p : ℕ) → p < length entries → (e : Entry) × (slice_get entries p ≡ Some e)
+there [] p h = absurd (omega (arith, h))
+there (e ∷ es) zero h = (e, refl)
+there (e ∷ es) (suc p) h = there es p (omega (arith, h))
+
+-- what is at the first of the places, and what is at the others
+picked_first : (entries : List Entry) (p : ℕ) (ps : List ℕ) → p < length entries → (e : Entry) × (pick_entries entries (p ∷ ps) ≡ e ∷ pick_entries entries ps)
+picked_first entries p ps h = let at = there entries p h in (at.0, taken (slice_get entries p) at.0 (pick_entries entries ps) at.1)
+
+-- one entry for each place
+pub picked_length : (entries : List Entry) (ps : List ℕ) → list_all (λ p. nat_lt p (length entries)) ps ≡ true → length (pick_entries entries ps) ≡ length ps
+picked_length entries [] all = refl
+picked_length entries (p ∷ ps) all =
+    let both = and_parts (nat_lt p (length entries)) (list_all (λ q. nat_lt q (length entries)) ps) all in
+    let first = picked_first entries p ps (ltb-true _ _ both.0) in
+    ap (λ (xs : List Entry). length xs) first.1 ∙ ap suc (picked_length entries ps both.1)
+
+-- the entry at a place is picked by it
+picked_at : (entries : List Entry) (ps : List ℕ) (i : ℕ) (e : Entry) → list_all (λ p. nat_lt p (length entries)) ps ≡ true → i < length ps
+    → slice_get entries (slice_index_or ps i 0) ≡ Some e → e ≡ get_or (pick_entries entries ps) i e
+picked_at entries [] i e all few at = absurd (omega (arith, few))
+picked_at entries (p ∷ ps) zero e all few at = sym (ap (λ (xs : List Entry). get_or xs 0 e) (taken (slice_get entries p) e (pick_entries entries ps) at))
+picked_at entries (p ∷ ps) (suc k) e all few at =
+    let both = and_parts (nat_lt p (length entries)) (list_all (λ q. nat_lt q (length entries)) ps) all in
+    let first = picked_first entries p ps (ltb-true _ _ both.0) in
+    picked_at entries ps k e both.1 (omega (arith, few)) at ∙ sym (ap (λ (xs : List Entry). get_or xs (suc k) e) first.1)
+
+pub picked_is_at : (entries : List Entry) (ps : List ℕ) (i : ℕ) (e : Entry) → list_all (λ p. nat_lt p (length entries)) ps ≡ true → i < length ps
+    → e ≡ get_or entries (slice_index_or ps i 0) e → e ≡ get_or (pick_entries entries ps) i e
+picked_is_at entries ps i e all few is = picked_at entries ps i e all few (slice_get_read entries (length entries) (slice_index_or ps i 0) e refl (below_at entries ps i all few) is)
+
 abbrev pub sent_ok : List Entry → Result (List Entry) PositionFault
 sent_ok es = Ok es
 

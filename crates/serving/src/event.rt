@@ -47,6 +47,7 @@ pub(crate) fn position(alloc: Global, core: &mut Core, channel: usize) -> Result
 
 /// A channel receives an entry.
 #[tactic(auto, using(crate::proofs::Knowing::receive_fault, crate::proofs::Runs::ran))]
+#[inline(never)]
 fn receive_only(
     alloc: Global,
     core: &mut Core,
@@ -75,8 +76,10 @@ fn receive_and_apply(
     ensures now { OnOk result (core.new ≡ run core.old (events.Receive channel entry.now ∷ apply_events_at AtOnce channel place)) }
     ensures fault { IfErr result (IsFaultWhere (KnowsWith core.old.state (entry.now ∷ []))) }
 {
-    core.receive_and_commit(alloc, 1, channel, place, entry)?;
-    Ok(())
+    match core.receive_and_commit(alloc, 1, channel, place, entry) {
+        Ok(_) => Ok(()),
+        Err(fault) => Err(fault),
+    }
 }
 
 /// A channel receives an entry that the tables take at this place, which is applied at once or later.

@@ -11,12 +11,13 @@ ghost use Rattle.serving.specs.Serving.{opening, ServesEach, IsServed, IsReady, 
 ghost use Rattle.serving.specs.declared.receiving.Apply.TheVariants.{Later};
 ghost use Rattle.world.specs.declared.verdict.Verdict.TheVariants.{Sound};
 ghost use Rattle.audit.specs.Faults.{IsAuditFault};
-ghost use Rattle.serving.specs.Verdicts.{is_sound, world_over, keys_by, verdict_by, keys_over, verdict_over, IsFoundInKeys, IsStateOrVerdict, HasMerged, IsConcluded};
+ghost use Rattle.serving.specs.declared.order.Order.TheVariants.{BySource, ByConflict};
+ghost use Rattle.serving.specs.Verdicts.{is_sound, world_over, verdict_by, keys_over, verdict_over, IsFoundInKeys, IsStateOrVerdict, HasMerged, IsConcluded};
 
 use crate::order::Order;
 use crate::receiving::{Apply, serve_journals};
 use crate::working::finish;
-use audit::{World, audit, audit_keys, world_of_fitting};
+use audit::{World, audit, audit_keys_of, world_of_fitting};
 use conflict_audit::{audit_in_order, audit_keys_in_order};
 use faithful_runs::{
     served_holds_all, served_holds_all_in_order, workers_decide, workers_decide_in_order,
@@ -73,22 +74,6 @@ pub(crate) fn opening_world(alloc: Global, bundle: &Bundle) -> Result<World, All
     )
 }
 
-/// What the audit of keys that asks for an order finds first in a world and journals.
-fn audit_keys_by(
-    alloc: Global,
-    order: Order,
-    world: &World,
-    journals: &[Journal],
-) -> Result<Verdict, SetFault>
-    ensures found { IfOk result (λ found. found ≡ keys_by order world.now journals.now) }
-    ensures fault { IfErr result (IsAuditFault world.now.opening_set journals.now) }
-{
-    match order {
-        Order::BySource => audit_keys(alloc, world, journals),
-        Order::ByConflict => audit_keys_in_order(alloc, world, journals),
-    }
-}
-
 /// What the audit that asks for an order finds first in a world and journals.
 fn audit_by(
     alloc: Global,
@@ -105,16 +90,39 @@ fn audit_by(
     }
 }
 
+/// What the audit of the journals' keys finds first over the opening rows, where sources may share no key. Where that is nothing, no world
+/// is made.
+fn source_keys_verdict(alloc: Global, bundle: &Bundle) -> Result<Verdict, SetFault>
+    requires { IsFitting bundle.now }
+    ensures found { IfOk result (λ found. found ≡ keys_over BySource bundle.now) }
+    ensures fault { IfErr result (IsBundleFault bundle.now) }
+{
+    let opened = bundle.opening_set();
+    audit_keys_of(alloc, opened, bundle.rows(), bundle.journals())
+}
+
+/// What the audit of the journals' keys finds first over the opening rows, where transactions that share a key are in one order.
+fn conflict_keys_verdict(alloc: Global, bundle: &Bundle) -> Result<Verdict, SetFault>
+    requires { IsFitting bundle.now }
+    ensures found { IfOk result (λ found. found ≡ keys_over ByConflict bundle.now) }
+    ensures fault { IfErr result (IsBundleFault bundle.now) }
+{
+    let world = opening_world(alloc, bundle)?;
+    let found = audit_keys_in_order(alloc, &world, bundle.journals());
+    drop(world);
+    found
+}
+
 /// What an audit of the journals' keys over the opening rows finds first.
 fn keys_verdict(alloc: Global, bundle: &Bundle, order: Order) -> Result<Verdict, SetFault>
     requires { IsFitting bundle.now }
     ensures found { IfOk result (λ found. found ≡ keys_over order bundle.now) }
     ensures fault { IfErr result (IsBundleFault bundle.now) }
 {
-    let world = opening_world(alloc, bundle)?;
-    let found = audit_keys_by(alloc, order, &world, bundle.journals());
-    drop(world);
-    found
+    match order {
+        Order::BySource => source_keys_verdict(alloc, bundle),
+        Order::ByConflict => conflict_keys_verdict(alloc, bundle),
+    }
 }
 
 /// What the audit that asks for an order finds first in a bundle's journals over its opening rows and

@@ -58,15 +58,16 @@ pub fn entries_sent(
     }
 }
 
-/// What a journal sends to a replica that asks with this set, where no source's UUID is known.
-#[tactic(auto, using(crate::proofs::Sending::never_refuses))]
-fn sent_to(alloc: Global, journal: &Journal, asked: &GtidSet) -> Result<Vec<Entry>, SetFault>
+/// The places of what a journal sends to a replica that asks with this set, where no source's UUID is known.
+#[tactic(auto, using(crate::proofs::Sending::never_refuses, crate::proofs::Sending::places_below))]
+fn places_sent(alloc: Global, journal: &Journal, asked: &GtidSet) -> Result<Vec<u64>, SetFault>
     requires { set.is_subset journal.now.previous asked.now ≡ true }
-    ensures ok { IfOk result (λ entries. sent journal.now asked.now None ≡ Ok entries.items) }
+    ensures ok { IfOk result (λ places. sent journal.now asked.now None ≡ Ok (pick_entries journal.now.entries places.items)) }
+    ensures below { IfOk result (λ places. list_all (λ p. nat_lt p (length journal.now.entries)) places.items ≡ true) }
     ensures fault { IfErr result (IsPlanFault journal.now asked.now) }
 {
-    match entries_sent(alloc, None, journal, asked) {
-        Ok(entries) => Ok(entries),
+    match plan(alloc, None, journal, asked) {
+        Ok(places) => Ok(places),
         Err(PositionFault::Set(fault)) => Err(fault),
         Err(PositionFault::PurgedRequired(_)) => unreachable!(),
         Err(PositionFault::ReplicaHasMore(_)) => unreachable!(),
@@ -82,27 +83,32 @@ pub(crate) enum Apply {
     AtOnce,
 }
 
-/// A channel receives these entries. Where each is applied before the next is received, only one waits,
+/// A channel receives the entries at these places. Where each is applied before the next is received, only one waits,
 /// whatever their number.
-#[tactic(auto, using(crate::proofs::Runs::receives_none, crate::proofs::Conditions::can_next))]
+#[tactic(auto, using(crate::proofs::Runs::receives_none, crate::proofs::Sending::below_at))]
 fn feed(
     alloc: Global,
     core: &mut Core,
     channel: usize,
     entries: &[Entry],
+    places: &[u64],
     apply: Apply,
 ) -> Result<(), SetFault>
-    requires { CanReceive channel entries.now core.old }
-    ensures received { OnOk result (Receives apply core.old channel entries.now core.new) }
-    ensures fault { IfErr result (IsFaultWhere (KnowsWith core.old.state entries.now)) }
+    requires below { list_all (λ p. nat_lt p (length entries.now)) places.now ≡ true }
+    requires can { CanReceive channel (pick_entries entries.now places.now) core.old }
+    ensures received { OnOk result (Receives apply core.old channel (pick_entries entries.now places.now) core.new) }
+    ensures fault { IfErr result (IsFaultWhere (KnowsWith core.old.state (pick_entries entries.now places.now))) }
 {
-    for (place, entry) in entries.iter().enumerate() {
+    for (place, at) in places.iter().enumerate() {
+        let Some(entry) = entries.get(*at as usize) else {
+            unreachable!()
+        };
         receive(alloc, core, channel, place, entry, apply)?;
     }
     Ok(())
 }
 
-/// A channel is opened and positioned: what its journal sends to one that asks so.
+/// A channel is opened and positioned: the places of what its journal sends to one that asks so.
 #[tactic(auto, using(crate::proofs::Conditions::asked_has, crate::proofs::Conditions::asks))]
 fn ask_for(
     alloc: Global,
@@ -110,18 +116,18 @@ fn ask_for(
     number: usize,
     channel: &BundleChannel,
     journal: &Journal,
-) -> Result<Vec<Entry>, SetFault>
+) -> Result<Vec<u64>, SetFault>
     requires { CanServe number channel.now.name journal.now core.old }
-    ensures asks { IfOk result (λ entries. Asks core.old number channel.now journal.now entries.items core.new) }
+    ensures asks { IfOk result (λ places. Asks core.old number channel.now journal.now (pick_entries journal.now.entries places.items) core.new) }
+    ensures below { IfOk result (λ places. list_all (λ p. nat_lt p (length journal.now.entries)) places.items ≡ true) }
     ensures fault { IfErr result (IsFaultWhere (KnowsToo core.old.state (journal.now ∷ []))) }
 {
     open_channel(alloc, core, channel)?;
     let asked = position(alloc, core, number)?;
-    sent_to(alloc, journal, &asked)
+    places_sent(alloc, journal, &asked)
 }
 
 /// A channel is opened and positioned, and receives all that its journal sends.
-#[tactic(auto, using(crate::proofs::Conditions::can_receive, crate::proofs::Knowing::sent_fault))]
 fn serve_journal(
     alloc: Global,
     core: &mut Core,
@@ -134,8 +140,8 @@ fn serve_journal(
     ensures served { OnOk result (ServesOne apply core.old number channel.now journal.now core.new) }
     ensures fault { IfErr result (IsFaultWhere (KnowsToo core.old.state (journal.now ∷ []))) }
 {
-    let entries = ask_for(alloc, core, number, channel, journal)?;
-    feed(alloc, core, number, &entries, apply)
+    let places = ask_for(alloc, core, number, channel, journal)?;
+    feed(alloc, core, number, journal.entries(), &places, apply)
 }
 
 /// Each journal in turn, on a channel of its own; the first has this number.

@@ -1,9 +1,10 @@
 -- What lines have made of a bundle can be written, once the last has come.
-use Rattle.std.proofs.Common.{◌≡◌, ℕ, true, List, [], ◌∷◌, Option, Result, Ok, refl, ap, subst, ◌∙◌}
+use Rattle.std.proofs.Common.{◌≡◌, ℕ, Bool, true, false, List, [], ◌∷◌, Option, Result, Ok, refl, sym, ap, subst, ◌∙◌}
 use Rattle.std.specs.Prelude.{MatchResult}
 use Rattle.rows.specs.declared.change.TableRow.{TableRow}
 use Rattle.txn_journal.specs.Lines.{◌>>=◌}
 use Rattle.txn_journal.specs.BundleStates.{BundleStanding, no_bundle, is_done, judge_bundle}
+use Rattle.txn_journal.specs.Stream.{TakesPlain}
 use Rattle.txn_journal.specs.BundleLinesSoFar.{bundle_lines_so_far}
 use Rattle.txn_journal.specs.BundleLines.{standing_after, HasCome}
 use Rattle.txn_journal.specs.BundleText.{IsBundle}
@@ -19,6 +20,10 @@ come_start due = record { due = due; lines = []; made = refl }
 
 pub come_more : (s t : BundleStanding) (line : List ℕ) → HasCome s → judge_bundle s line ≡ Ok t → HasCome t
 come_more s t line h e = record { due = h.due; lines = line ∷ h.lines; made = ap (λ (r : Result BundleStanding Cause). r >>= λ x. judge_bundle x line) h.made ∙ e }
+
+pub come_plain : (s t : BundleStanding) (line : List ℕ) (made : Bool) → HasCome s → TakesPlain (Ok made) (judge_bundle s line) s t → HasCome t
+come_plain s t line true h e = come_more s t line h e
+come_plain s t line false h e = subst HasCome (sym e) h
 
 -- what lines have made is sound
 come_sound : (due : Option Version) (lines : List (List ℕ)) (s : BundleStanding) → standing_after due lines ≡ Ok s → (rows : List TableRow) × IsBundleSound rows s

@@ -1,5 +1,5 @@
 -- Lines whose changes were read beforehand.
-use Rattle.std.proofs.Common.{◌≡◌, ℕ, inl, Bool, true, false, not, cond, eqb, List, ◌∷◌, ◌++◌, [], length, Option, Some, Result, Ok, Err, refl, sym, ap, subst, ◌∙◌}
+use Rattle.std.proofs.Common.{◌≡◌, ℕ, inl, Bool, true, not, cond, eqb, List, length, Option, Some, Result, Ok, Err, refl, sym, ap, subst, ◌∙◌}
 use Rattle.std.specs.Prelude.{MatchResult, ◌&&◌, ◌||◌, nat_le}
 use Rattle.gtid_set.specs.declared.fault.SetFault.{SetFault}
 use Rattle.gtid_set.specs.declared.fault.SetFault.TheVariants.{PoolFull, SourcesFull}

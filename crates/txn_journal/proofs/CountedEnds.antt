@@ -1,6 +1,8 @@
 -- Where a bundle's line makes too many sources.
 use Rattle.std.proofs.Common.{◌≡◌, ℕ, ◌≤◌, inl, inr, Bool, true, false, cond, eqb, List, [], Option, Some, None, Result, Ok, Err, refl, sym, ap, subst, ◌∙◌, arith}
 use Rattle.std.specs.FinSet as set
+use Rattle.std.specs.declared.alloc.AllocError.{AllocError}
+use Rattle.std.proofs.lemmas.Bool.{eq-eqb}
 use Rattle.gtid_set.specs.declared.fault.SetFault.TheVariants.{SourcesFull}
 use Rattle.gtid_set.specs.Sets.{Gtids, source_count, most_sources}
 use Rattle.gtid_set.specs.Full.{HasManySources}
@@ -9,18 +11,19 @@ use Rattle.journal.specs.Journals.{JournalValue}
 use Rattle.txn_journal.specs.Lines.{◌>>=◌, some_or_body}
 use Rattle.txn_journal.specs.Machine.{Standing, IsFull, is_last, open_entry, close_entry, judge}
 use Rattle.txn_journal.specs.Stamps.{right_stamp}
-use Rattle.txn_journal.specs.Stream.{GivesFull}
+use Rattle.txn_journal.specs.Stream.{GivesFull, TakesPlain}
 use Rattle.journal_words.specs.Gtids.{set_of_word, OfParsed}
 use Rattle.txn_journal.specs.declared.bundle_draft.Part.TheVariants as parts
 use Rattle.txn_journal.specs.declared.bundle_draft.Word.{Word}
 use Rattle.txn_journal.specs.declared.bundle_draft.Word.TheVariants as words
 use Rattle.txn_journal.specs.BundleStates.{BundleStanding, BundleValue, bare, is_due_in, opening_line, IsFullBundle, with_journal, after_inner, unless_misstamped, end_entry, judge_inner}
 use Rattle.txn_journal.specs.declared.bundle.BundleChannel.{BundleChannel}
+use Rattle.txn_journal.specs.declared.lines.Place.TheVariants as places
 use Rattle.txn_journal.specs.declared.fault.Cause.{Cause}
 use Rattle.txn_journal.specs.declared.fault.Cause.TheVariants as causes
 use Rattle.txn_journal.specs.declared.lines.Version.{Version}
 use Rattle.txn_journal.specs.declared.lines.Version.TheVariants.{One}
-use Rattle.txn_journal.proofs.Judged.{done}
+use Rattle.txn_journal.proofs.Judged.{done, ok_is}
 use Rattle.txn_journal.proofs.InnerSteps.{ends, ended_or_not, judged_on}
 
 -- ---- a line that ends no entry
@@ -50,6 +53,9 @@ inner_full_of s tables line none same few h =
 
 -- ---- a line that ends an entry, in version 1
 
+abbrev done_draft : Standing → Result Standing Cause
+done_draft d = Ok d
+
 abbrev ended_by : BundleStanding → Bool → Result BundleStanding Cause
 ended_by s b = cond b (done (record s { draft = close_entry s.draft })) (Err causes.Stamp)
 
@@ -67,6 +73,23 @@ full_ended s false room few h = h
 
 pub first_fits : (s : BundleStanding) → s.version ≡ One → (eqb s.draft.stamp 0 ≡ true → source_count (set.insert s.draft.seen s.draft.gtid) ≤ most_sources) → source_count s.bundle.opened ≤ most_sources → GivesFull (IsFullBundle SourcesFull) (end_entry s) → ⊥
 first_fits s one room few h = full_ended s (eqb s.draft.stamp 0) room few (subst (GivesFull (IsFullBundle SourcesFull)) (ended_first s one) h)
+
+-- what a call did with the draft at the end of a plain entry is what it did with the bundle
+pub plain_ended : (s : BundleStanding) (r : Result Bool AllocError) (d : Standing) → s.version ≡ One → s.draft.stamp ≡ 0 → TakesPlain r (done_draft (close_entry s.draft)) s.draft d → TakesPlain r (end_entry s) s (record s { draft = d })
+plain_ended s (Ok true) d one zero h = ended_first s one ∙ ap (ended_by s) (eq-eqb s.draft.stamp 0 zero) ∙ ap (λ (x : Standing). done (record s { draft = x })) (ok_is (close_entry s.draft) d h)
+plain_ended s (Ok false) d one zero h = ap (λ (x : Standing). record s { draft = x }) h
+plain_ended s (Err e) d one zero h = tt
+
+-- where an entry is open, what was seen is not too much
+open_fits : (s : BundleStanding) (d : Standing) → d.place ≡ places.Within → source_count s.bundle.opened ≤ most_sources → GivesFull (IsFullBundle SourcesFull) (done (record s { draft = d })) → ⊥
+open_fits s d within few (inl h) = absurd (let k = sym within ∙ h.0 in cc)
+open_fits s d within few (inr h) = let m = h in omega (arith, m, few)
+
+-- so a line after which an entry is open was taken, or left
+pub left_where_full : (s : BundleStanding) (d : Standing) (line : List ℕ) (taken : Bool) → (taken ≡ true → judge_inner true s line ≡ done (record s { draft = d })) → (taken ≡ true → d.place ≡ places.Within) → source_count s.bundle.opened ≤ most_sources
+    → GivesFull (IsFullBundle SourcesFull) (judge_inner true s line) → taken ≡ false
+left_where_full s d line true made within few full = absurd (open_fits s d (within refl) few (subst (GivesFull (IsFullBundle SourcesFull)) (made refl) full))
+left_where_full s d line false made within few full = refl
 
 -- ---- the line of the opening set
 

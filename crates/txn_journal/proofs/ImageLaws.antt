@@ -6,14 +6,13 @@ use Rattle.std.proofs.lemmas.List.{append-nil, length-append}
 use Rattle.std.proofs.lemmas.Slice.Eq.{bytes_eq-Decides}
 use Rattle.row_images.specs.declared.value.Value.{Value}
 use Rattle.row_images.specs.Values.{value_text, value_of, FitsValue}
-use Rattle.row_images.proofs.Counts.{lacks}
-use Rattle.row_images.proofs.ValueLaws.{value_of-text, value_of-found, value_lacks, blank_is_none, no_bar}
+use Rattle.row_images.proofs.ValueLaws.{value_of-text, value_of-found, no_bar}
 use Rattle.row_images.specs.Images.{words_of, values_text, AreValues}
 use Rattle.txn_journal.specs.Lines.{Image, stop_at, and_value, is_bar, values_from, one_image, with_after, both_images, image_in, images_in}
 use Rattle.txn_journal.proofs.Judged.{IsBody, found_weaker}
 use Rattle.row_images.specs.Parts.{joined_by}
 use Rattle.row_images.proofs.ImageLaws.{texts, no_blank, words_texts}
-use Rattle.row_images.proofs.PartLaws.{AllLack, parts_joined, parts_again, parts_more}
+use Rattle.row_images.proofs.PartLaws.{parts_joined, parts_more}
 use Rattle.std.proofs.lemmas.Option.{same_Some}
 use Rattle.gtid_text.proofs.Turns.{chosen}
 

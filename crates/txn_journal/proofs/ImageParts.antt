@@ -1,9 +1,8 @@
 -- An image alone, and two with a bar between.
-use Rattle.std.proofs.Common.{◌≡◌, ℕ, zero, suc, ◌+◌, ◌-◌, ◌<◌, ◌≤◌, Bool, true, false, not, cond, eqb, List, [], ◌∷◌, ◌++◌, length, map, get_or, take, drop, Option, Some, None, Result, Ok, Err, refl, sym, ap, subst, ◌∙◌, append_assoc, arith}
-use Rattle.std.specs.Prelude.{option_map, MatchResult}
-use Rattle.std.specs.List.{list_all}
+use Rattle.std.proofs.Common.{◌≡◌, ℕ, zero, suc, ◌+◌, ◌-◌, ◌<◌, ◌≤◌, Bool, true, false, cond, eqb, List, [], ◌∷◌, ◌++◌, length, map, get_or, take, drop, Option, Some, None, Result, Ok, Err, refl, sym, ap, subst, ◌∙◌, append_assoc, arith}
+use Rattle.std.specs.Prelude.{option_map, MatchResult, IfSome}
 use Rattle.std.proofs.Math.Seq.{drop-cons}
-use Rattle.std.proofs.lemmas.Bool.{and_parts, eqb-true, ne_eqb}
+use Rattle.std.proofs.lemmas.Bool.{ne_eqb}
 use Rattle.std.proofs.lemmas.List.{take-append-drop}
 use Rattle.row_images.specs.declared.value.Value.{Value}
 use Rattle.row_images.specs.Values.{value_text, value_of}
@@ -66,6 +65,10 @@ from_start (Some vs) = refl
 
 pub image_is : (t : List ℕ) → image_in t ≡ some_or_body (image_of t)
 image_is t = from_words [] (words_of t) (words_stand t) ∙ from_start (image_of t)
+
+pub image_where : (t : List ℕ) (found : Option (List Value)) → found ≡ image_of t → IfSome found (λ row. image_in t ≡ Ok row)
+image_where t None e = tt
+image_where t (Some row) e = image_is t ∙ ap some_or_body (sym e)
 
 -- ---- the first bar
 

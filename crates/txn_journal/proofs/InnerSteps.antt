@@ -128,6 +128,12 @@ leaves_entries version tables s t line none e = MatchResult-at_ok (LeavesEntries
 pub writers_stay : (version : Version) (tables : List Table) (s t : Standing) (line : List ℕ) (kept : Option Writers) → ends s.place line ≡ false → judge (Some tables) s line ≡ Ok t → has_begun s.place ≡ true → AreWriters tables s.journal.entries kept → AreWriters tables t.journal.entries kept
 writers_stay version tables s t line kept none e begun h writers is = h writers is ∙ ap (writers_after tables) (sym ((leaves_entries version tables s t line none e).same begun))
 
+-- so it is where a line was taken or left
+pub writers_left : (version : Version) (tables : List Table) (s t : Standing) (line : List ℕ) (kept : Option Writers) (taken : Bool) → ends s.place line ≡ false → (taken ≡ true → judge (Some tables) s line ≡ Ok t) → (taken ≡ false → t ≡ s) → has_begun s.place ≡ true
+    → AreWriters tables s.journal.entries kept → AreWriters tables t.journal.entries kept
+writers_left version tables s t line kept true none made left begun h = writers_stay version tables s t line kept none (made refl) begun h
+writers_left version tables s t line kept false none made left begun h = λ writers is. h writers is ∙ ap (λ (d : Standing). writers_after tables d.journal.entries) (sym (left refl))
+
 -- ---- a line that ends no entry
 
 abbrev pub ended_or_not : BundleStanding → Standing → Bool → BundleStanding
@@ -152,6 +158,14 @@ unfolding after_inner
 inner_taken s tables d line r new none same judged h =
     let taken : judge (Some s.bundle.start.schema) s.draft line ≡ Ok d = ap (λ (t : List Table). judge (Some t) s.draft line) (sym same) ∙ judged in
     subst (λ (x : Result BundleStanding Cause). TakesLine IsFullBundle r x new) (sym (judged_on s d line none taken ∙ ap done (sym (inner_again s d (is_last d.place))))) h
+
+-- a line after which an entry is open
+pub plain_taken : (s : BundleStanding) (tables : List Table) (d : Standing) (line : List ℕ) → ends s.draft.place line ≡ false → tables ≡ s.bundle.start.schema → judge (Some tables) s.draft line ≡ Ok d → d.place ≡ places.Within
+    → judge_inner true s line ≡ done (record s { draft = d })
+unfolding after_inner
+plain_taken s tables d line none same judged within =
+    let taken : judge (Some s.bundle.start.schema) s.draft line ≡ Ok d = ap (λ (t : List Table). judge (Some t) s.draft line) (sym same) ∙ judged in
+    judged_on s d line none taken ∙ ap (λ (v : Bool). done (ended_or_not s d v)) (ap is_last within)
 
 inner_full : (cause : SetFault) (s : BundleStanding) (line : List ℕ) (r : Result Standing Cause) → judge (Some s.bundle.start.schema) s.draft line ≡ r → ends s.draft.place line ≡ false → GivesFull (IsFull cause) r → GivesFull (IsFullBundle cause) (judge_inner true s line)
 unfolding after_inner

@@ -38,3 +38,8 @@ pub seen_more : (j k : JournalValue) (s t : Gtids) (x : Gtid) → IsSeen j s →
 seen_more j k s t x seen is added = λ g h.
     let p = or_parts (eq_by_cmp gtid_cmp g x) (set.contains s g) (sym (ap (λ (u : Gtids). set.contains u g) added ∙ set.contains-insert gtid_total s x g) ∙ h) in
     ap (λ (k : JournalValue). set.contains (whole k) g) is ∙ seen g p.1
+
+-- a GTID was seen, and then its entry joined the others
+pub seen_joined : (j i k : JournalValue) (s u t : Gtids) (e : Entry) (x : Gtid) → IsSeen j s → i ≡ j → k ≡ record i { entries = i.entries ++ e ∷ [] } → u ≡ set.insert s x → t ≡ u → e.gtid ≡ x → IsSeen k t
+seen_joined j i k s u t e x seen same pushed added still own =
+    seen_pushed j k s t e seen (pushed ∙ ap (λ (q : JournalValue). record q { entries = q.entries ++ e ∷ [] }) same) (still ∙ added ∙ ap (set.insert s) (sym own))

@@ -1,5 +1,5 @@
 -- Lists of column numbers in a text.
-use Rattle.std.proofs.Common.{◌≡◌, ℕ, ◌<◌, ◌^◌, Bool, true, false, not, cond, eqb, List, [], ◌∷◌, ◌++◌, length, Option, Some, None, refl, sym, ap, subst, ◌∙◌, arith}
+use Rattle.std.proofs.Common.{◌≡◌, ℕ, ◌<◌, ◌^◌, Bool, true, false, not, eqb, List, [], ◌∷◌, length, refl, sym, ap, subst, ◌∙◌, arith}
 use Rattle.std.specs.Prelude.{◌||◌, decimal}
 use Rattle.std.specs.List.{list_all, list_any, AllByRecursion}
 use Rattle.std.specs.Char.{is_ascii_digit}
@@ -11,7 +11,7 @@ use Rattle.gtid_set.proofs.SpanLemmas.{all_weaker}
 use Rattle.rows.specs.Tables.{are_distinct}
 use Rattle.row_images.specs.Words.{is_count}
 use Rattle.row_images.proofs.Numerals.{digits_in}
-use Rattle.row_images.proofs.Counts.{lacks, is_count_decimal, lacks-parts}
+use Rattle.row_images.proofs.Counts.{lacks, is_count_decimal}
 use Rattle.row_images.specs.Parts.{parts_of, joined_by}
 use Rattle.row_images.proofs.PartLaws.{AllLack, parts_joined, parts_again}
 use Rattle.txn_journal.specs.Splits.{are_new_to, are_columns, is_columns_text, column_words, columns_text}

@@ -1,7 +1,7 @@
 -- Lines that are written one after another.
-use Rattle.std.proofs.Common.{◌≡◌, ℕ, ◌+◌, ◌≤◌, ◌-◌, List, [], ◌∷◌, ◌++◌, Option, None, length, map, take, drop, get_or, refl, sym, ap, ◌∙◌, append_assoc, arith}
+use Rattle.std.proofs.Common.{◌≡◌, ℕ, ◌+◌, List, [], ◌∷◌, ◌++◌, Option, None, map, refl, sym, ap, ◌∙◌, append_assoc}
 use Rattle.std.specs.Prelude.{codes}
-use Rattle.std.proofs.lemmas.List.{append-nil, take_rest}
+use Rattle.std.proofs.lemmas.List.{append-nil}
 use Rattle.std.proofs.lemmas.List.Concat.{flat_map-append}
 use Rattle.gtid_text.specs.declared.Gtid.{Gtid}
 use Rattle.gtid_text.specs.Canonical.{gtid_text}
@@ -11,7 +11,6 @@ use Rattle.rows.specs.declared.change.Change.{Change}
 use Rattle.rows.specs.declared.change.Change.TheVariants.{Update}
 use Rattle.journal.specs.declared.Entry.{Entry}
 use Rattle.journal.specs.Journals.{JournalValue}
-use Rattle.row_images.specs.Values.{value_text}
 use Rattle.txn_journal.specs.WrittenSets.{set_text}
 use Rattle.txn_journal.specs.Lines.{Numbers}
 use Rattle.txn_journal.specs.Stamps.{no_stamps}

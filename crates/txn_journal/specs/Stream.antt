@@ -1,5 +1,6 @@
 -- A text that comes byte by byte. S is what its whole lines have made.
 use Rattle.std.specs.Prelude.{◌≡◌, ◌⊎◌, ℕ, ◌+◌, ◌-◌, ◌^◌, min, Bool, true, false, ◌==◌, List, [], ◌∷◌, ◌++◌, Option, Some, None, Result, Ok, Err, if◌then◌else◌}
+use Rattle.std.specs.declared.alloc.AllocError.{AllocError}
 use Rattle.gtid_set.specs.declared.fault.SetFault.{SetFault}
 use Rattle.gtid_set.specs.declared.fault.SetFault.TheVariants.{Memory, PoolFull, SourcesFull}
 use Rattle.gtid_set.specs.Full.{IsMemoryOr}
@@ -30,6 +31,16 @@ TakesLine full (Err (wrong.Set fault)) judged new = IsMemoryOr (GivesFull (full 
 -- A line that makes what is full of sources is refused for them.
 abbrev pub IsRefusedWhereFull : {S : Type 0} → (SetFault → S → Type 0) → Result (Unit {0}) LineFault → Result S Cause → Type 0
 IsRefusedWhereFull full result judged = GivesFull (full SourcesFull) judged → result ≡ Err (wrong.Set SourcesFull)
+
+-- A call that takes a plain line has made what judging it gives, or, with false, left all as it was, unless memory was refused.
+abbrev pub TakesPlain : {S : Type 0} → Result Bool AllocError → Result S Cause → S → S → Type 0
+TakesPlain (Ok true) judged old new = judged ≡ Ok new
+TakesPlain (Ok false) judged old new = new ≡ old
+TakesPlain (Err _) judged old new = Unit {0}
+
+-- A line that makes what is full of sources is left.
+abbrev pub IsLeftWhereFull : {S : Type 0} → (SetFault → S → Type 0) → Result Bool AllocError → Result S Cause → Type 0
+IsLeftWhereFull full result judged = GivesFull (full SourcesFull) judged → result ≡ Ok false
 
 -- What a call did with a part of a line is what judging it gives, unless memory ran out.
 abbrev pub TakesPart : {S : Type 0} → Result (Unit {0}) LineFault → Result S Cause → S → Type 0

@@ -1,6 +1,6 @@
 -- The words of a line.
 use Rattle.std.specs.List.{list_all}
-use Rattle.std.specs.Prelude.{◌≡◌, ◌++◌, true, not, ℕ, List, [], ◌∷◌, Option, Some, None, ◌==◌, if◌then◌else◌}
+use Rattle.std.specs.Prelude.{◌≡◌, ◌++◌, true, not, ℕ, List, ◌∷◌, Option, Some, None, ◌==◌, if◌then◌else◌}
 use Rattle.rows.specs.Names.{is_name}
 
 -- the name that a word is

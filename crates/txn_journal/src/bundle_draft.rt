@@ -185,7 +185,7 @@ impl BundleDraft {
     ghost use Rattle.txn_journal.specs.declared.bundle_draft.Word.TheVariants as words;
     ghost use Rattle.txn_journal.specs.declared.bundle_draft.Part.TheVariants as parts;
     ghost use Rattle.txn_journal.specs.declared.lines.Version.TheVariants.{One, Two};
-    ghost use Rattle.txn_journal.specs.Stream.{TakesLine, GivesFull, IsRefusedWhereFull};
+    ghost use Rattle.txn_journal.specs.Stream.{TakesLine, GivesFull, IsRefusedWhereFull, TakesPlain, IsLeftWhereFull};
     ghost use Rattle.txn_journal.specs.BundleStates.{IsFullBundle, CountsFirst, no_bundle, is_done, version_line, replica_line, opening_line, add_table_line, row_line, put_row, after_tables, channel_line, join_channel, done_line, own_step, judge_own, after_inner, end_entry, close_channel, judge_inner, judge_bundle};
     ghost use Rattle.txn_journal.specs.BundleDrafts.{bundle_standing};
     ghost use Rattle.txn_journal.specs.ChangeLines.{change_in};
@@ -570,6 +570,71 @@ impl BundleDraft {
             return self.take_inside(alloc, line);
         }
         self.take_own(alloc, line)
+    }
+
+    #[tactic(auto, using(crate::proofs::CountedEnds::first_fits))]
+    /// Whether the entry that is open is of version 1, which writes no numbers, and its source is not one too many.
+    fn ends_plainly(&self) -> bool
+        ensures first { result ≡ true → self.now.version ≡ One }
+        ensures stamp { result ≡ true → (standing self.now.draft).stamp ≡ 0 }
+        ensures room { result ≡ true → GivesFull (IsFullBundle SourcesFull) (end_entry (bundle_standing self.now)) → ⊥ }
+    {
+        self.bundle.opening_set().keeps_limits();
+        match self.version {
+            Version::One => self.draft.stamp() == 0 && self.draft.has_room(),
+            Version::Two => false,
+        }
+    }
+
+    /// Ends the entry that is open, where its version writes no numbers and there is room. With false all is left as it was.
+    fn end_plain(&mut self, alloc: Global) -> Result<bool, AllocError>
+        requires { (standing self.old.draft).place ≡ Within }
+        ensures line { TakesPlain result (end_entry (bundle_standing self.old)) (bundle_standing self.old) (bundle_standing self.new) }
+        ensures room { self.old.version ≡ One → IsLeftWhereFull IsFullBundle result (end_entry (bundle_standing self.old)) }
+    {
+        if !self.ends_plainly() {
+            return Ok(false);
+        }
+        forget(&mut self.writers);
+        self.draft.end_plain(alloc)
+    }
+
+    /// Takes a line of the open channel's journal that begins an entry or writes a change, and has no fault. With false all is left as it was.
+    fn go_on_plain(&mut self, alloc: Global, line: &[u8]) -> bool
+        requires { (is_within (standing self.old.draft).place && bytes_eq line.now (codes "end")) ≡ false }
+        ensures made { result ≡ true → judge_inner true (bundle_standing self.old) line.now ≡ Ok (bundle_standing self.new) }
+        ensures left { result ≡ false → bundle_standing self.new ≡ bundle_standing self.old }
+        ensures room { GivesFull (IsFullBundle SourcesFull) (judge_inner true (bundle_standing self.old) line.now) → result ≡ false }
+    {
+        if !self.draft.has_begun() {
+            return false;
+        }
+        self.bundle.opening_set().keeps_limits();
+        let schema = self.bundle.schema();
+        self.draft.take_plain(alloc, schema, &mut self.names, line)
+    }
+
+    /// Takes a plain line of the open channel's journal. With false all is left as it was.
+    fn take_plain_inside(&mut self, alloc: Global, line: &[u8]) -> Result<bool, AllocError>
+        ensures line { TakesPlain result (judge_inner true (bundle_standing self.old) line.now) (bundle_standing self.old) (bundle_standing self.new) }
+        ensures room { (IsInEntry (standing self.old.draft) → self.old.version ≡ One) → IsLeftWhereFull IsFullBundle result (judge_inner true (bundle_standing self.old) line.now) }
+    {
+        if self.draft.ends_entry(line) {
+            return self.end_plain(alloc);
+        }
+        Ok(self.go_on_plain(alloc, line))
+    }
+
+    #[tactic(auto, unfolding(crate::specs::BundleStates::judge_bundle))]
+    /// Takes the next line, where it is a plain one: it begins an entry, writes a change or ends an entry of version 1, and has no fault. With false all is left as it was.
+    pub fn take_plain(&mut self, alloc: Global, line: &[u8]) -> Result<bool, AllocError>
+        ensures line { TakesPlain result (judge_bundle (bundle_standing self.old) line.now) (bundle_standing self.old) (bundle_standing self.new) }
+        ensures room { CountsFirst (bundle_standing self.old) → IsLeftWhereFull IsFullBundle result (judge_bundle (bundle_standing self.old) line.now) }
+    {
+        if self.part != Part::Journal {
+            return Ok(false);
+        }
+        self.take_plain_inside(alloc, line)
     }
 
     /// Adds a change to the entry that is open.

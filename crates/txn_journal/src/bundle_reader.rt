@@ -14,7 +14,7 @@ use crate::feed::{Feed, TakeChange, TakeLine};
 use crate::lines::Version;
 use crate::parsed_lines::ParsedLines;
 use rows::Change;
-use std::alloc::Global;
+use std::alloc::{AllocError, Global};
 use std::marker::Model;
 
 /// A bundle, as far as its lines have come.
@@ -81,6 +81,17 @@ impl TakeLine for Lines {
     fn take_line(&mut self, alloc: Global, line: &[u8]) -> Result<(), LineFault> {
         match self.draft.take_line(alloc, line) {
             Ok(()) => Ok(()),
+            Err(fault) => {
+                self.draft.start_again(alloc);
+                Err(fault)
+            }
+        }
+    }
+
+    #[inline(always)]
+    fn take_plain(&mut self, alloc: Global, line: &[u8]) -> Result<bool, AllocError> {
+        match self.draft.take_plain(alloc, line) {
+            Ok(made) => Ok(made),
             Err(fault) => {
                 self.draft.start_again(alloc);
                 Err(fault)

@@ -6,12 +6,12 @@ ghost use Rattle.txn_journal.specs.Machine.{is_row_of, are_rows_of, fits};
 ghost use Rattle.journal.specs.Writing.{is_number};
 ghost use Rattle.txn_journal.specs.Kept.{IsSeen, IsOpenNew, AreWritable};
 ghost use Rattle.txn_journal.specs.Due.{is_due};
-ghost use Rattle.txn_journal.specs.declared.lines.Place.TheVariants.{Within};
+ghost use Rattle.txn_journal.specs.declared.lines.Place.TheVariants.{Between, Within};
 ghost use Rattle.txn_journal.specs.declared.lines.Keyword.TheVariants.{Ins, Upd, Del};
 ghost use Rattle.txn_journal.specs.declared.fault.Cause.{Cause};
 
 use crate::fault::{Cause, LineFault};
-use crate::images::{image, table_at, two_images};
+use crate::images::{find_image, find_images, find_table, image, table_at, two_images};
 use crate::lines::{Keyword, Place, Version, keyword_at};
 use crate::names::Names;
 use crate::numbers::{NearSources, beginning_at};
@@ -75,12 +75,14 @@ pub fn version_in(due: Option<Version>, rest: Option<&[u8]>) -> Result<Version, 
 }
 
 /// Whether a row has the columns of its table, and no null in its primary key.
+#[inline(always)]
 fn is_row_of(table: &Table, row: &Row) -> bool
     ensures { result ≡ is_row_of table.now row.now }
 {
     row.len() == table.columns as usize && !has_null_at(table.primary.as_slice(), row)
 }
 
+#[inline(always)]
 fn are_rows_of(table: &Table, change: &Change) -> bool
     ensures { result ≡ are_rows_of table.now change.now }
 {
@@ -96,6 +98,7 @@ fn are_rows_of(table: &Table, change: &Change) -> bool
 }
 
 /// Whether the schema, where there is one, takes the images of a change.
+#[inline(always)]
 fn fits(schema: Option<&Schema>, change: &Change) -> bool
     ensures { result ≡ fits (option_map (λ tables. tables.now) schema.entry) change.now }
 {
@@ -109,7 +112,7 @@ fn fits(schema: Option<&Schema>, change: &Change) -> bool
 }
 
 impl Draft {
-    ghost use Rattle.std.specs.Prelude.{option_map, [], Ok, IfOk, false, ◌&&◌, codes};
+    ghost use Rattle.std.specs.Prelude.{option_map, [], Some, Ok, IfOk, false, ◌&&◌, codes};
     ghost use Rattle.std.specs.Str.{bytes_eq};
     ghost use Rattle.journal.specs.Writing.{is_writable};
     ghost use Rattle.txn_journal.specs.Reading.{has_begun};
@@ -117,8 +120,8 @@ impl Draft {
     ghost use Rattle.gtid_set.specs.Sets.{source_count, most_sources};
     ghost use Rattle.gtid_set.specs.Full.{HasManySources};
     ghost use Rattle.gtid_set.specs.declared.fault.SetFault.TheVariants.{SourcesFull};
-    ghost use Rattle.txn_journal.specs.Stream.{TakesLine, IsRefusedWhereFull};
-    ghost use Rattle.txn_journal.specs.Machine.{Standing, IsFull, TakesIn, judge, empty, is_last, is_within, open_entry, join_entry, drop_entries, add, header_line, previous_line, txn_line, end_line, close_line, step};
+    ghost use Rattle.txn_journal.specs.Stream.{TakesLine, IsRefusedWhereFull, TakesPlain};
+    ghost use Rattle.txn_journal.specs.Machine.{Standing, IsFull, TakesIn, judge, empty, is_last, is_within, open_entry, join_entry, close_entry, drop_entries, add, header_line, previous_line, txn_line, end_line, close_line, step};
     ghost use Rattle.txn_journal.specs.Drafts.{standing};
     ghost use Rattle.txn_journal.specs.Timestamped.{timestamped_of};
 
@@ -483,6 +486,200 @@ impl Draft {
         self.stamps.push(self.stamp)?;
         self.count += 1;
         Ok(())
+    }
+
+    #[tactic(auto, unfolding(crate::specs::Machine::txn_line, crate::specs::Machine::begin))]
+    /// Begins an entry of version 1, where its source is near and nothing is wrong with it. With false all is left as it was.
+    fn begin_plain(&mut self, word: &[u8]) -> bool
+        requires { self.old.place ≡ Between }
+        ensures made { result ≡ true → txn_line (standing self.old) (Some word.now) ≡ Ok (standing self.new) }
+        ensures open { result ≡ true → self.new.place ≡ Within }
+        ensures left { result ≡ false → standing self.new ≡ standing self.old }
+    {
+        if self.version != Version::One || self.count >= MAX_ENTRIES {
+            return false;
+        }
+        let Some(gtid) = self.near.find(word) else {
+            return false;
+        };
+        if !is_number(gtid.number) || self.seen.contains(&gtid) {
+            return false;
+        }
+        self.gtid = gtid;
+        self.stamp = 0;
+        self.place = Place::Within;
+        true
+    }
+
+    #[tactic(auto, unfolding(crate::specs::Machine::add))]
+    /// Adds a change to the entry that is open, where nothing is wrong with it. With false all is left as it was.
+    #[inline(always)]
+    fn add_plain(&mut self, schema: &Schema, change: Change) -> bool
+        ensures made { result ≡ true → add (Some schema.now) (standing self.old) change ≡ Ok (standing self.new) }
+        ensures place { self.new.place ≡ self.old.place }
+        ensures left { result ≡ false → standing self.new ≡ standing self.old }
+    {
+        if self.changes.len() >= MAX_CHANGES || !is_change_writable(&change) {
+            return false;
+        }
+        if !fits(Some(schema), &change) {
+            return false;
+        }
+        let Ok(()) = self.changes.push(change) else {
+            return false;
+        };
+        true
+    }
+
+    #[tactic(auto, unfolding(crate::specs::Machine::step))]
+    /// Takes the rest of the line of a new row, where nothing is wrong with it. With false all is left as it was.
+    #[inline(never)]
+    fn insert_plain(
+        &mut self,
+        alloc: Global,
+        schema: &Schema,
+        names: &mut Names,
+        rest: &[u8],
+    ) -> bool
+        ensures made { result ≡ true → step (Some schema.now) (standing self.old) Ins (Some rest.now) ≡ Ok (standing self.new) }
+        ensures place { self.new.place ≡ self.old.place }
+        ensures left { result ≡ false → standing self.new ≡ standing self.old }
+    {
+        let Some((table, text)) = find_table(names, alloc, rest) else {
+            return false;
+        };
+        let Some(after) = find_image(alloc, text) else {
+            return false;
+        };
+        self.add_plain(schema, Change::Insert { table, after })
+    }
+
+    #[tactic(auto, unfolding(crate::specs::Machine::step))]
+    /// The same of a row that is taken away.
+    #[inline(never)]
+    fn delete_plain(
+        &mut self,
+        alloc: Global,
+        schema: &Schema,
+        names: &mut Names,
+        rest: &[u8],
+    ) -> bool
+        ensures made { result ≡ true → step (Some schema.now) (standing self.old) Del (Some rest.now) ≡ Ok (standing self.new) }
+        ensures place { self.new.place ≡ self.old.place }
+        ensures left { result ≡ false → standing self.new ≡ standing self.old }
+    {
+        let Some((table, text)) = find_table(names, alloc, rest) else {
+            return false;
+        };
+        let Some(before) = find_image(alloc, text) else {
+            return false;
+        };
+        self.add_plain(schema, Change::Delete { table, before })
+    }
+
+    #[tactic(auto, unfolding(crate::specs::Machine::step))]
+    /// The same of a row in the place of another.
+    #[inline(never)]
+    fn update_plain(
+        &mut self,
+        alloc: Global,
+        schema: &Schema,
+        names: &mut Names,
+        rest: &[u8],
+    ) -> bool
+        ensures made { result ≡ true → step (Some schema.now) (standing self.old) Upd (Some rest.now) ≡ Ok (standing self.new) }
+        ensures place { self.new.place ≡ self.old.place }
+        ensures left { result ≡ false → standing self.new ≡ standing self.old }
+    {
+        let Some((table, text)) = find_table(names, alloc, rest) else {
+            return false;
+        };
+        let Some((before, after)) = find_images(alloc, text) else {
+            return false;
+        };
+        self.add_plain(
+            schema,
+            Change::Update {
+                table,
+                before,
+                after,
+            },
+        )
+    }
+
+    #[tactic(auto, unfolding(crate::specs::Machine::judge, crate::specs::Machine::step))]
+    /// Takes a line between two entries, where it begins one and nothing is wrong with it. With false all is left as it was. (`schema` is
+    /// read by the clauses alone.)
+    fn take_between(&mut self, schema: &Schema, line: &[u8]) -> bool
+        requires { self.old.place ≡ Between }
+        ensures made { result ≡ true → judge (Some schema.now) (standing self.old) line.now ≡ Ok (standing self.new) }
+        ensures open { result ≡ true → self.new.place ≡ Within }
+        ensures left { result ≡ false → standing self.new ≡ standing self.old }
+    {
+        match line {
+            [b't', b'x', b'n', b' ', rest @ ..] => self.begin_plain(rest),
+            _ => false,
+        }
+    }
+
+    #[tactic(auto, unfolding(crate::specs::Machine::judge))]
+    /// Takes a line within an entry, where it writes a change and nothing is wrong with it. With false all is left as it was.
+    fn take_within(
+        &mut self,
+        alloc: Global,
+        schema: &Schema,
+        names: &mut Names,
+        line: &[u8],
+    ) -> bool
+        requires { self.old.place ≡ Within }
+        ensures made { result ≡ true → judge (Some schema.now) (standing self.old) line.now ≡ Ok (standing self.new) }
+        ensures open { result ≡ true → self.new.place ≡ Within }
+        ensures left { result ≡ false → standing self.new ≡ standing self.old }
+    {
+        match line {
+            [b'i', b'n', b's', b' ', rest @ ..] => self.insert_plain(alloc, schema, names, rest),
+            [b'u', b'p', b'd', b' ', rest @ ..] => self.update_plain(alloc, schema, names, rest),
+            [b'd', b'e', b'l', b' ', rest @ ..] => self.delete_plain(alloc, schema, names, rest),
+            _ => false,
+        }
+    }
+
+    /// Takes a line that begins an entry or writes a change, where nothing is wrong with it. With false all is left as it was.
+    pub fn take_plain(
+        &mut self,
+        alloc: Global,
+        schema: &Schema,
+        names: &mut Names,
+        line: &[u8],
+    ) -> bool
+        ensures made { result ≡ true → judge (Some schema.now) (standing self.old) line.now ≡ Ok (standing self.new) }
+        ensures open { result ≡ true → (standing self.new).place ≡ Within }
+        ensures left { result ≡ false → standing self.new ≡ standing self.old }
+    {
+        match self.place {
+            Place::Between => self.take_between(schema, line),
+            Place::Within => self.take_within(alloc, schema, names, line),
+            Place::Header | Place::Previous | Place::Ended => false,
+        }
+    }
+
+    /// Ends the entry that is open, where its GTID can be added to what was seen. With false all is left as it was.
+    pub fn end_plain(&mut self, alloc: Global) -> Result<bool, AllocError>
+        requires { (standing self.old).place ≡ Within }
+        ensures { TakesPlain result (Ok (close_entry (standing self.old))) (standing self.old) (standing self.new) }
+    {
+        let Ok(()) = self.seen.add(self.gtid) else {
+            return Ok(false);
+        };
+        self.place = Place::Between;
+        let changes = self.take_changes(alloc)?;
+        self.journal.push(Entry {
+            gtid: self.gtid,
+            txn: Transaction { changes },
+        })?;
+        self.stamps.push(self.stamp)?;
+        self.count += 1;
+        Ok(true)
     }
 
     #[tactic(auto, unfolding(crate::specs::Machine::close_line))]

@@ -2,14 +2,14 @@
 ghost use Rattle.std.specs.Prelude.{◌≡◌, Ok, IfSome, IfNone};
 ghost use Rattle.gtid_set.specs.declared.fault.SetFault.{SetFault};
 ghost use Rattle.txn_journal.specs.Words.{IsOneLine, BeginsWithLine};
-ghost use Rattle.txn_journal.specs.Stream.{Judge, TakesLine, IsRefusedWhereFull};
+ghost use Rattle.txn_journal.specs.Stream.{Judge, TakesLine, IsRefusedWhereFull, TakesPlain, IsLeftWhereFull};
 ghost use Rattle.txn_journal.specs.ChangeLines.{change_in};
 
 use crate::fault::{Cause, JournalFault, LineFault};
 use crate::parsed_lines::{ParsedLine, ParsedLines};
 use row_images::first_line_feed;
 use rows::Change;
-use std::alloc::Global;
+use std::alloc::{AllocError, Global};
 
 /// The first line of a text, and what follows its line feed.
 pub fn cut_line(text: &[u8]) -> Option<(&[u8], &[u8])>
@@ -40,6 +40,11 @@ pub trait TakeLine {
     fn take_line(&mut self, alloc: Global, line: &[u8]) -> Result<(), LineFault>
         ensures line { TakesLine full result (judge self.old line.now) self.new }
         ensures room { counts self.old → IsRefusedWhereFull full result (judge self.old line.now) };
+
+    /// Takes the next line, where it is a plain one: most are, and nothing is wrong with it. With false all is left as it was.
+    fn take_plain(&mut self, alloc: Global, line: &[u8]) -> Result<bool, AllocError>
+        ensures line { TakesPlain result (judge self.old line.now) self.old self.new }
+        ensures room { counts self.old → IsLeftWhereFull full result (judge self.old line.now) };
 }
 
 /// What takes lines of changes that were read beforehand, too.
@@ -63,7 +68,7 @@ pub struct Feed<T> {
 }
 
 impl<T> Feed<T> {
-    ghost use Rattle.std.specs.Prelude.{[]};
+    ghost use Rattle.std.specs.Prelude.{[], true};
     ghost use Rattle.txn_journal.specs.Stream.{Reading, answer, end_of};
     ghost use Rattle.txn_journal.specs.Feeds.{progress};
 
@@ -87,6 +92,13 @@ impl<T> Feed<T> {
             None => Ok(()),
             Some(fault) => Err(fault),
         }
+    }
+
+    /// Whether no byte of the next line has come.
+    fn is_at_line(&self) -> bool
+        ensures { result ≡ true → self.now.rest.items ≡ [] }
+    {
+        self.rest.is_empty()
     }
 
     /// What is wrong with the text as a whole.
@@ -139,7 +151,7 @@ impl<T: TakeLine> Feed<T> {
         let mut left = piece;
         'lines: loop {
             match cut_line(left) {
-                Some((line, after)) => match self.take_line(alloc, line) {
+                Some((line, after)) => match self.take_next(alloc, line) {
                     Ok(()) => left = after,
                     Err(fault) => return Err(fault),
                 },
@@ -151,7 +163,29 @@ impl<T: TakeLine> Feed<T> {
         }
     }
 
+    /// Takes the line whose last bytes are these. A plain one is taken at once, where none of its bytes came before.
+    #[inline(always)]
+    fn take_next(&mut self, alloc: Global, bytes: &[u8]) -> Result<(), JournalFault>
+        requires goes { self.old.stopped ≡ None }
+        requires whole { IsOneLine bytes.now }
+        ensures next { TakesPiece (IsPieceFault T.full T.judge (progress self.old) (bytes.now ++ 10 ∷ [])) result (progress self.new) (feed_bytes T.judge (progress self.old) (bytes.now ++ 10 ∷ [])) }
+        ensures goes { self.new.stopped ≡ None }
+        ensures room { T.counts self.old.made → GivesFull (T.full SourcesFull) (T.judge self.old.made bytes.now) → self.old.rest.items ≡ [] → result ≡ Err (Set SourcesFull) }
+    {
+        if !self.is_at_line() {
+            // (the line's first bytes came in an earlier piece)
+            return self.take_line(alloc, bytes);
+        }
+        if self.made.take_plain(alloc, bytes)? {
+            let number = self.lines.saturating_add(1);
+            self.lines = number;
+            return Ok(());
+        }
+        self.take_line(alloc, bytes)
+    }
+
     /// Takes the line whose last bytes are these.
+    #[inline(never)]
     fn take_line(&mut self, alloc: Global, bytes: &[u8]) -> Result<(), JournalFault>
         requires goes { self.old.stopped ≡ None }
         requires whole { IsOneLine bytes.now }
@@ -242,7 +276,7 @@ impl<T: TakeChange> Feed<T> {
                 // (the line's first bytes came in an earlier piece)
                 self.take_line(alloc, line)
             },
-            None => self.take_line(alloc, line),
+            None => self.take_next(alloc, line),
         }
     }
 

@@ -1,5 +1,5 @@
 //! Images of rows as words.
-ghost use Rattle.std.specs.Prelude.{◌≡◌, IfSome, IfNone, ℕ, List, option_map};
+ghost use Rattle.std.specs.Prelude.{◌≡◌, Some, Ok, IfSome, IfNone, ℕ, List, option_map};
 ghost use Rattle.txn_journal.specs.Stream.{Finds};
 ghost use Rattle.txn_journal.specs.Lines.{IsAroundBar, image_in, images_in, table_in};
 
@@ -18,6 +18,47 @@ pub fn image(alloc: Global, text: &[u8]) -> Result<Row, LineFault>
     match Row::from_text(alloc, text)? {
         Some(row) => Ok(row),
         None => Err(LineFault::Wrong(Cause::Body)),
+    }
+}
+
+/// The image that a text has, where it has one and there is memory for it.
+#[inline(always)]
+pub fn find_image(alloc: Global, text: &[u8]) -> Option<Row>
+    ensures { IfSome result (λ row. image_in text.now ≡ Ok row) }
+{
+    let Ok(found) = Row::from_text(alloc, text) else {
+        return None;
+    };
+    found
+}
+
+/// The two images that a text has, with a bar between, where there is memory for them.
+pub fn find_images(alloc: Global, text: &[u8]) -> Option<(Row, Row)>
+    ensures { IfSome result (λ rows. images_in text.now ≡ Ok (rows.0, rows.1)) }
+{
+    let Some((before, after)) = around_bar(text) else {
+        return None;
+    };
+    let Some(before) = find_image(alloc, before) else {
+        return None;
+    };
+    let Some(after) = find_image(alloc, after) else {
+        return None;
+    };
+    Some((before, after))
+}
+
+/// The table's name at the start of a line's rest, and what follows it, where both are there and there is memory.
+pub fn find_table<'a>(names: &mut Names, alloc: Global, rest: &'a [u8]) -> Option<(Name, &'a [u8])>
+    ensures { IfSome result (λ found. table_in (Some rest.now) ≡ Ok (found.0, found.1.now)) }
+{
+    let (word, more) = cut(rest);
+    let Some(text) = more else {
+        return None;
+    };
+    match names.read(alloc, word) {
+        Ok(Some(name)) => Some((name, text)),
+        _ => None,
     }
 }
 

@@ -150,6 +150,16 @@ impl NearSources {
         source.gtid_in(word)
     }
 
+    /// The GTID that the word parses as, where its source is one of these.
+    pub fn find(&mut self, word: &[u8]) -> Option<Gtid>
+        ensures { IfSome result (λ gtid. gtid_of_word word.now ≡ Some gtid) }
+    {
+        match self.last_gtid_in(word) {
+            Some(gtid) => Some(gtid),
+            None => self.gtid_in(word),
+        }
+    }
+
     /// The GTID of one of the sources that the word parses as, where it does.
     fn gtid_in(&mut self, word: &[u8]) -> Option<Gtid>
         ensures { IfSome result (λ gtid. gtid_of_word word.now ≡ Some gtid) }
@@ -180,10 +190,7 @@ impl NearSources {
 fn gtid_in(alloc: Global, near: &mut NearSources, word: &[u8]) -> Result<Gtid, LineFault>
     ensures { Finds (λ g. g) result (some_or_body (gtid_of_word word.now)) }
 {
-    if let Some(gtid) = near.last_gtid_in(word) {
-        return Ok(gtid);
-    }
-    if let Some(gtid) = near.gtid_in(word) {
+    if let Some(gtid) = near.find(word) {
         return Ok(gtid);
     }
     let Some(gtid) = gtid_word(alloc, word)? else {

@@ -15,7 +15,7 @@ use crate::lines::Version;
 use crate::names::Names;
 use crate::timestamped_journal::TimestampedJournal;
 use journal::{Entry, Journal};
-use std::alloc::Global;
+use std::alloc::{AllocError, Global};
 use std::marker::Model;
 
 /// A journal that stands alone, as far as its lines have come.
@@ -81,6 +81,11 @@ impl TakeLine for Alone {
 
     fn take_line(&mut self, alloc: Global, line: &[u8]) -> Result<(), LineFault> {
         self.draft.take_line(alloc, None, &mut self.names, line)
+    }
+
+    // (none is plain here)
+    fn take_plain(&mut self, _alloc: Global, _line: &[u8]) -> Result<bool, AllocError> {
+        Ok(false)
     }
 }
 

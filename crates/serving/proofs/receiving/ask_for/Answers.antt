@@ -20,6 +20,6 @@ pub returns-clause-fault : goal.returns-clause-fault
 returns-clause-fault c =
     let core = c.args.core.now in
     let j = c.args.journal.now in
-    IfErr-weaker c.sent_to.result (IsPlanFault j c.in_ok-asked.asked) (IsFaultWhere (KnowsToo core.state (j ∷ [])))
+    IfErr-weaker c.places_sent.result (IsPlanFault j c.in_ok-asked.asked) (IsFaultWhere (KnowsToo core.state (j ∷ [])))
     (λ f h. plan_fault f core.state j c.in_ok-asked.asked (asked_is core c.args.number c.args.channel.now j c.requires c.open_channel.new.core c.in_ok-asked.asked c.in_ok-open_channel.ensures.now c.in_ok-asked.ensures.asked) h)
-    c.sent_to.ensures.fault
+    c.places_sent.ensures.fault

@@ -1,4 +1,3 @@
-use Rattle.std.proofs.Common.{Err, List, sym, subst, ap, ◌∙◌}
 use Rattle.std.proofs.lemmas.Result.{err_from_is_err_and}
 use Rattle.txn_journal.proofs.ImageParts.{images_nowhere, found_both, first_not_found, second_not_found}
 use Rattle.txn_journal.proofs.images.two_images.Goals as goal

@@ -1,5 +1,5 @@
 use Rattle.std.proofs.Common.{subst, sym, ◌∙◌}
-use Rattle.std.specs.Arc.{arc_slice_items}
+use Rattle.row_images.specs.Held.{image_bytes}
 use Rattle.std.specs.Str.{IsUtf8}
 use Rattle.row_images.specs.Images.{values_in}
 use Rattle.row_images.proofs.ImageLaws.{values_fit}
@@ -8,5 +8,5 @@ use Rattle.row_images.proofs.row.Row.as_str.Goals as goal
 
 pub unreachable-requires : goal.unreachable-requires
 unreachable-requires c =
-    let t = arc_slice_items c.self.inside.text in
+    let t = image_bytes c.self.inside.text in
     c.in-Err.ensures.cases.0 (subst IsUtf8 (c.self.invariant.0 ∙ sym c.as_slice.ensures.value) (values_utf8 (values_in t) (values_fit t)))

@@ -9,5 +9,7 @@ pub invariant_of-result : goal.invariant_of-result
 invariant_of-result c =
     let some : is_some (image_of c.args.text.now) ≡ true = sym c.image_len.ensures.some ∙ ap is_some c.in-Some.is in
     let len : c.in-Some.columns ≡ length (words_of c.args.text.now) = subst (λ r. IfSome r (λ n. n ≡ length (words_of c.args.text.now))) c.in-Some.is c.image_len.ensures.len in
-    subst (λ t. (values_text (values_in t) ≡ t) × (c.in-Some.columns ≡ length (values_in t))) (sym c.in_ok-text.ensures.ok)
-    (read_text c.args.text.now some, len ∙ counted c.args.text.now some)
+    let h = c.in_ok-text.ensures in (
+      subst (λ t. values_text (values_in t) ≡ t) (sym h.0) (read_text c.args.text.now some),
+      h.1 ∙ len ∙ counted c.args.text.now some ∙ ap (λ t. length (values_in t)) (sym h.0),
+    )

@@ -2,4 +2,4 @@ use Rattle.std.proofs.Common.{◌==◌, length, ap, ◌∙◌}
 use Rattle.row_images.proofs.row.Row.is_empty.Goals as goal
 
 pub returns : goal.returns
-returns c = ap (λ n. n == 0) (c.self.invariant.1 ∙ ap (λ vs. length vs) c.self.view_is)
+returns c = ap (λ n. n == 0) (c.values.ensures ∙ c.self.invariant.1 ∙ ap (λ vs. length vs) c.self.view_is)

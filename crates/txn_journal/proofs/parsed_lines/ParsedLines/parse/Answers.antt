@@ -1,4 +1,4 @@
-use Rattle.std.proofs.Common.{◌≡◌, ◌++◌, List, ap, sym, ◌∙◌}
+use Rattle.std.proofs.Common.{◌++◌, List, ap, sym, ◌∙◌}
 use Rattle.txn_journal.specs.declared.parsed_lines.ParsedLine.{ParsedLine}
 use Rattle.txn_journal.specs.ParsedTexts.{lines_in}
 use Rattle.txn_journal.proofs.ParsedLaws.{line_cut}

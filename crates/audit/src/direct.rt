@@ -1,0 +1,87 @@
+//! The audit of keys without a world, where one pass finds that nothing is wrong.
+ghost use Rattle.std.specs.Prelude.{◌≡◌, IfOk, IfErr, true};
+ghost use Rattle.std.specs.List.{list_all};
+ghost use Rattle.std.specs.FinSet as set;
+ghost use Rattle.rows.specs.Apply as apply;
+ghost use Rattle.world.specs.declared.verdict.Verdict.TheVariants.{Sound};
+ghost use Rattle.world.specs.Audit.{all_entries, first_contents, verdict_of_keys, world_of};
+ghost use Rattle.audit.specs.Contents.{in_order};
+ghost use Rattle.audit.specs.Faults.{IsAuditFault};
+ghost use Rattle.audit.specs.Worlds.{AllFit};
+
+use crate::finding::{audit_keys, keep_rules};
+use crate::gathering::agree_apart;
+use crate::ordered::are_in_order;
+use crate::sources::world_of_fitting;
+use gtid_set::{GtidSet, SetFault};
+use journal::Journal;
+use rows::{Rows, Schema};
+use std::alloc::{AllocError, Global};
+use world::Verdict;
+
+/// Whether the previous set of each journal is in the opening set.
+fn have_previous(opened: &GtidSet, journals: &[Journal]) -> bool
+    ensures { result ≡ list_all (λ j. set.is_subset j.previous opened.now) journals.now }
+{
+    journals
+        .iter()
+        .all(|journal| journal.previous().is_subset(opened))
+}
+
+/// Whether the keys of journals are found to be sound by one pass over them.
+fn are_keys_sound(
+    alloc: Global,
+    opened: &GtidSet,
+    schema: &Schema,
+    journals: &[Journal],
+) -> Result<bool, AllocError>
+    ensures { IfOk result (λ yes. yes ≡ true → (rows : apply.Rows) → verdict_of_keys (world_of schema.now opened.now rows journals.now) journals.now ≡ Sound) }
+{
+    keep_rules(journals);
+    if !have_previous(opened, journals) {
+        return Ok(false);
+    }
+    if !are_in_order(alloc, opened, journals)? {
+        return Ok(false);
+    }
+    let sound = agree_apart(alloc, opened, schema, journals)?;
+    Ok(sound)
+}
+
+/// The audit of keys by a world that is made for it.
+#[cold]
+#[inline(never)]
+fn audit_with_world(
+    alloc: Global,
+    opened: &GtidSet,
+    rows: &Rows,
+    journals: &[Journal],
+) -> Result<Verdict, SetFault>
+    requires { AllFit rows.now.schema (in_order (first_contents opened.now (all_entries journals.now))) }
+    ensures found { IfOk result (λ found. found ≡ verdict_of_keys (world_of rows.now.schema opened.now rows.now.rows journals.now) journals.now) }
+    ensures fault { IfErr result (IsAuditFault opened.now journals.now) }
+{
+    let world = world_of_fitting(alloc, opened, rows, journals)?;
+    let found = audit_keys(alloc, &world, journals);
+    drop(world);
+    found
+}
+
+/// What an audit of the keys of journals finds first in their own world over an opening set and rows, whose schema takes each
+/// transaction beyond that set: what `audit_keys` finds in the world that `world_of_fitting` makes. Where the keys are sound,
+/// which one pass over the journals shows, no world is made. The faults are those of `audit_keys`.
+pub fn audit_keys_of(
+    alloc: Global,
+    opened: &GtidSet,
+    rows: &Rows,
+    journals: &[Journal],
+) -> Result<Verdict, SetFault>
+    requires { AllFit rows.now.schema (in_order (first_contents opened.now (all_entries journals.now))) }
+    ensures found { IfOk result (λ found. found ≡ verdict_of_keys (world_of rows.now.schema opened.now rows.now.rows journals.now) journals.now) }
+    ensures fault { IfErr result (IsAuditFault opened.now journals.now) }
+{
+    if are_keys_sound(alloc, opened, rows.schema(), journals)? {
+        return Ok(Verdict::Sound);
+    }
+    audit_with_world(alloc, opened, rows, journals)
+}

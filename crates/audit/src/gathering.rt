@@ -1,0 +1,311 @@
+//! One pass over journals: no two of their transactions under one GTID differ, and no key is touched by two sources.
+ghost use Rattle.std.specs.Prelude.{◌≡◌, ◌<◌, ◌++◌, true, false, List, ◌∷◌, [], map, length, IfOk, IfSome, OnOk, None};
+ghost use Rattle.std.specs.FinSet as set;
+ghost use Rattle.gtid_text.specs.Gtids.{same_gtid};
+ghost use Rattle.gtid_set.specs.Sets.{Gtids};
+ghost use Rattle.rows.specs.Apply.{Rows};
+ghost use Rattle.rows.specs.WriteSet.{write_set};
+ghost use Rattle.journal.specs.declared.Entry.{Entry};
+ghost use Rattle.world.specs.Audit.{all_entries, shared, unequal, world_of};
+ghost use Rattle.audit.specs.Contents.{Contents};
+ghost use Rattle.audit.specs.Gathering.{AreRuns, HasNoRun, IsGathered, IsListed, IsPut, IsRunAt, begun, longer};
+ghost use Rattle.audit.specs.Marks.{TouchesMarks, key_mark, owner_of};
+
+use crate::equal::is_equal;
+use crate::marks::push_marks;
+use crate::owners::Owners;
+use gtid_set::GtidSet;
+use gtid_text::{Gtid, SourceId};
+use journal::{Entry, Journal};
+use rows::Schema;
+use std::alloc::{AllocError, Global};
+use std::marker::Model;
+
+/// The greatest number of sources that are gone over (our own limit): a run is looked for among as many.
+const MOST_RUNS: usize = 64;
+
+/// What journals brought of one source: the number that came last, and the first entry of each GTID.
+#[derive(Drop)]
+struct Run<'a> {
+    source: SourceId,
+    last: u64,
+    entries: Vec<&'a Entry>,
+}
+
+impl<'a> Model for Run<'a> {
+    ghost use Rattle.std.specs.Prelude.{map};
+    ghost use Rattle.audit.specs.Gathering.{Run};
+
+    ghost Value = { Run };
+
+    ghost view = { λ a. record { source = a.source; last = a.last; entries = map (λ e. e.now) a.entries.items } };
+}
+
+fn is_same(a: &Gtid, b: &Gtid) -> bool
+    ensures { result ≡ same_gtid a.now b.now }
+{
+    a.source == b.source && a.number == b.number
+}
+
+impl<'a> Run<'a> {
+    /// Nothing came yet.
+    fn begin(alloc: Global, source: SourceId) -> Run<'a>
+        ensures { result ≡ begun source }
+    {
+        Run {
+            source,
+            last: 0,
+            entries: Vec::new(alloc),
+        }
+    }
+
+    fn source(&self) -> SourceId
+        ensures { result ≡ self.now.source }
+    {
+        self.source
+    }
+
+    fn last(&self) -> u64
+        ensures { result ≡ self.now.last }
+    {
+        self.last
+    }
+
+    /// The first entry of a further GTID.
+    fn put(&mut self, entry: &'a Entry) -> Result<(), AllocError>
+        ensures { OnOk result (self.new ≡ longer self.old entry.now) }
+    {
+        self.entries.push(entry)?;
+        self.last = entry.gtid.number;
+        Ok(())
+    }
+
+    /// An entry that has perhaps this number: it is at the place where it is if no number was passed over.
+    fn entry_near(&self, number: u64) -> Option<&Entry>
+        ensures { IfSome result (λ e. IsListed self.now.entries e.now) }
+    {
+        let Some(first) = self.entries.first() else {
+            return None;
+        };
+        let Some(behind) = number.checked_sub(first.gtid.number) else {
+            return None;
+        };
+        match self.entries.get(behind as usize) {
+            Some(entry) => Some(*entry),
+            None => None,
+        }
+    }
+
+    /// Whether an equal entry is found.
+    fn has(&self, entry: &Entry) -> bool
+        ensures { result ≡ true → IsListed self.now.entries entry.now }
+    {
+        match self.entry_near(entry.gtid.number) {
+            Some(first) => is_same(&first.gtid, &entry.gtid) && is_equal(&first.txn, &entry.txn),
+            None => false,
+        }
+    }
+}
+
+/// The place of a source's run.
+fn place_of(runs: &[Run<'_>], source: SourceId) -> Option<usize>
+    ensures found { IfSome result (IsRunAt runs.now source) }
+    ensures none { result ≡ None → HasNoRun runs.now source }
+{
+    for (place, run) in runs.iter().enumerate() {
+        if run.source() == source {
+            return Some(place);
+        }
+    }
+    None
+}
+
+/// The place of a source's run, which is looked for at a guess first.
+fn place_near(runs: &[Run<'_>], guess: usize, source: SourceId) -> Option<usize>
+    ensures found { IfSome result (IsRunAt runs.now source) }
+    ensures none { result ≡ None → HasNoRun runs.now source }
+{
+    if let Some(run) = runs.get(guess) {
+        if run.source() == source {
+            return Some(guess);
+        }
+    }
+    place_of(runs, source)
+}
+
+/// The place of a source's run, which is begun if there is none and there are not too many.
+fn run_of<'a>(
+    alloc: Global,
+    runs: &mut Vec<Run<'a>>,
+    guess: usize,
+    source: SourceId,
+) -> Result<Option<usize>, AllocError>
+    ensures place { IfOk result (λ found. IfSome found (IsRunAt runs.new.items source)) }
+    ensures kept { OnOk result ((contents : Contents) → AreRuns contents runs.old.items → AreRuns contents runs.new.items) }
+{
+    if let Some(place) = place_near(runs, guess, source) {
+        return Ok(Some(place));
+    }
+    let place = runs.len();
+    if place >= MOST_RUNS {
+        return Ok(None);
+    }
+    runs.push(Run::begin(alloc, source))?;
+    Ok(Some(place))
+}
+
+/// Puts an entry behind a run.
+fn put<'a>(runs: &mut Vec<Run<'a>>, place: usize, entry: &'a Entry) -> Result<(), AllocError>
+    requires { place < length runs.old.items }
+    ensures { OnOk result (IsPut runs.old.items runs.new.items place entry.now) }
+{
+    runs[place].put(entry)
+}
+
+/// The source of an entry touches the marks of its keys; whether no other source touched one of them before.
+fn touch_keys(
+    owners: &mut Owners,
+    marks: &mut Vec<u64>,
+    schema: &Schema,
+    entry: &Entry,
+) -> Result<bool, AllocError>
+    ensures { IfOk result (λ own. own ≡ true → TouchesMarks (owner_of owners.old) (map key_mark (write_set schema.now entry.now.txn)) entry.now.gtid.source (owner_of owners.new)) }
+{
+    marks.clear();
+    push_marks(marks, schema, &entry.txn)?;
+    owners.touch_all(marks, entry.gtid.source)
+}
+
+/// How many changes a transaction has, by the first ones. (A guess.)
+fn usual_changes(entries: &[Entry]) -> usize {
+    let mut count: usize = 63;
+    for place in 0..64 {
+        if let Some(entry) = entries.get(place) {
+            count = count.saturating_add(entry.txn.changes.as_slice().len());
+        }
+    }
+    count / 64
+}
+
+/// About how many keys entries touch. (A guess.)
+pub(crate) fn usual_keys(entries: &[Entry]) -> usize {
+    let count = entries.len().saturating_mul(usual_changes(entries));
+    count.saturating_mul(2)
+}
+
+/// About how many keys journals touch. (A guess.)
+fn usual_keys_of_all(journals: &[Journal]) -> usize {
+    let mut count: usize = 0;
+    for journal in journals {
+        count = count.saturating_add(usual_keys(journal.entries()));
+    }
+    count
+}
+
+/// What a pass gathers: runs, the place of the last one, and the source that touched each mark.
+#[derive(Drop)]
+struct Gathering<'a> {
+    runs: Vec<Run<'a>>,
+    place: usize,
+    owners: Owners,
+    /// (one list for the marks of each transaction)
+    marks: Vec<u64>,
+}
+
+/// An entry comes that was not executed from the start, of the source of this run: whether it is the first of its GTID and
+/// touches no key of another source, or is found to be equal to the first.
+fn gather_new<'a>(
+    state: &mut Gathering<'a>,
+    schema: &Schema,
+    place: usize,
+    entry: &'a Entry,
+) -> Result<bool, AllocError>
+    requires { IsRunAt state.old.runs.items entry.now.gtid.source place }
+    ensures { IfOk result (λ yes. yes ≡ true → (opened : Gtids) (es : List Entry) → set.contains opened entry.now.gtid ≡ false → IsGathered opened schema.now es state.old.runs.items (owner_of state.old.owners) → IsGathered opened schema.now (es ++ entry.now ∷ []) state.new.runs.items (owner_of state.new.owners)) }
+{
+    if entry.gtid.number <= state.runs[place].last() {
+        return Ok(state.runs[place].has(entry));
+    }
+    put(&mut state.runs, place, entry)?;
+    touch_keys(&mut state.owners, &mut state.marks, schema, entry)
+}
+
+/// An entry comes: whether it was executed from the start, is found to be equal to the first of its GTID, or is that first
+/// one and touches no key of another source.
+fn gather<'a>(
+    alloc: Global,
+    state: &mut Gathering<'a>,
+    opened: &GtidSet,
+    schema: &Schema,
+    entry: &'a Entry,
+) -> Result<bool, AllocError>
+    ensures { IfOk result (λ yes. yes ≡ true → (es : List Entry) → IsGathered opened.now schema.now es state.old.runs.items (owner_of state.old.owners) → IsGathered opened.now schema.now (es ++ entry.now ∷ []) state.new.runs.items (owner_of state.new.owners)) }
+{
+    if opened.contains(&entry.gtid) {
+        return Ok(true);
+    }
+    match run_of(alloc, &mut state.runs, state.place, entry.gtid.source)? {
+        Some(place) => {
+            state.place = place;
+            gather_new(state, schema, place, entry)
+        }
+        None => Ok(false),
+    }
+}
+
+/// Entries come, one after another.
+fn gather_each<'a>(
+    alloc: Global,
+    state: &mut Gathering<'a>,
+    opened: &GtidSet,
+    schema: &Schema,
+    entries: &'a [Entry],
+) -> Result<bool, AllocError>
+    ensures { IfOk result (λ yes. yes ≡ true → (es : List Entry) → IsGathered opened.now schema.now es state.old.runs.items (owner_of state.old.owners) → IsGathered opened.now schema.now (es ++ entries.now) state.new.runs.items (owner_of state.new.owners)) }
+{
+    for entry in entries {
+        if !gather(alloc, state, opened, schema, entry)? {
+            return Ok(false);
+        }
+    }
+    Ok(true)
+}
+
+/// The entries of journals come, one journal after another.
+fn gather_all<'a>(
+    alloc: Global,
+    state: &mut Gathering<'a>,
+    opened: &GtidSet,
+    schema: &Schema,
+    journals: &'a [Journal],
+) -> Result<bool, AllocError>
+    ensures { IfOk result (λ yes. yes ≡ true → IsGathered opened.now schema.now [] state.old.runs.items (owner_of state.old.owners) → IsGathered opened.now schema.now (all_entries journals.now) state.new.runs.items (owner_of state.new.owners)) }
+{
+    for journal in journals {
+        if !gather_each(alloc, state, opened, schema, journal.entries())? {
+            return Ok(false);
+        }
+    }
+    Ok(true)
+}
+
+/// Whether it is found in one pass that no two transactions of journals under one GTID differ, and that no two sources touch one
+/// key. Nothing is looked for where they have more than 64 sources.
+pub(crate) fn agree_apart(
+    alloc: Global,
+    opened: &GtidSet,
+    schema: &Schema,
+    journals: &[Journal],
+) -> Result<bool, AllocError>
+    ensures equal { IfOk result (λ yes. yes ≡ true → (rows : Rows) → unequal (world_of schema.now opened.now rows journals.now) journals.now ≡ None) }
+    ensures apart { IfOk result (λ yes. yes ≡ true → (rows : Rows) → shared (world_of schema.now opened.now rows journals.now) ≡ None) }
+{
+    let owners = Owners::for_marks(alloc, usual_keys_of_all(journals))?;
+    let mut state = Gathering {
+        runs: Vec::new(alloc),
+        place: 0,
+        owners,
+        marks: Vec::new(alloc),
+    };
+    gather_all(alloc, &mut state, opened, schema, journals)
+}
