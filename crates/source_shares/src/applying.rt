@@ -1,0 +1,83 @@
+//! One share of the sources, applied.
+ghost use Rattle.std.specs.Prelude.{◌≡◌, ◌==◌, IfSome, Ok, map, true};
+ghost use Rattle.source_history.specs.World.{apply_all};
+ghost use Rattle.audit.specs.Worlds.{AllFit};
+ghost use Rattle.source_shares.specs.Shares.{is_in_share, of_share};
+
+use crate::sharing::share_of;
+use gtid_text::SourceId;
+use journal::Entry;
+use rows::Rows;
+use std::alloc::Global;
+
+/// A source, and whether it is in the share.
+#[derive(Clone, Copy)]
+struct Turn {
+    source: SourceId,
+    own: bool,
+}
+
+/// From the source of an entry to that of the next.
+fn turn_to(turn: Turn, shares: &[(SourceId, usize)], share: usize, source: SourceId) -> Turn
+    requires { turn.own ≡ is_in_share shares.now share turn.source }
+    ensures source { result.source ≡ source }
+    ensures own { result.own ≡ is_in_share shares.now share source }
+{
+    if turn.source == source {
+        return turn;
+    }
+    Turn {
+        source,
+        own: share_of(shares, source) == share,
+    }
+}
+
+/// Applies those entries that are of a share, one after another; whether all of them apply. Nothing is said where memory is refused.
+fn apply_each(
+    alloc: Global,
+    rows: &mut Rows,
+    entries: &[&Entry],
+    shares: &[(SourceId, usize)],
+    share: usize,
+) -> bool
+    requires { AllFit rows.old.schema (map (λ e. e.now) entries.now) }
+    ensures schema { rows.new.schema ≡ rows.old.schema }
+    ensures applied { result ≡ true → apply_all rows.old.schema (of_share shares.now share (map (λ e. e.now) entries.now)) rows.old.rows ≡ Ok rows.new.rows }
+{
+    let first = SourceId::from_bits(0);
+    let mut turn = Turn {
+        source: first,
+        own: share_of(shares, first) == share,
+    };
+    for entry in entries {
+        turn = turn_to(turn, shares, share, entry.gtid.source);
+        if !turn.own {
+            continue;
+        }
+        if rows.apply_fitting(alloc, &entry.txn).is_err() {
+            return false;
+        }
+    }
+    true
+}
+
+/// The rows after the entries of a share, from the opening rows, where all of them apply.
+pub(crate) fn apply_share(
+    alloc: Global,
+    opening: &Rows,
+    entries: &[&Entry],
+    shares: &[(SourceId, usize)],
+    share: usize,
+) -> Option<Rows>
+    requires { AllFit opening.now.schema (map (λ e. e.now) entries.now) }
+    ensures schema { IfSome result (λ rows. rows.schema ≡ opening.now.schema) }
+    ensures applied { IfSome result (λ rows. apply_all opening.now.schema (of_share shares.now share (map (λ e. e.now) entries.now)) opening.now.rows ≡ Ok rows.rows) }
+{
+    let Ok(mut rows) = opening.copy() else {
+        return None;
+    };
+    if !apply_each(alloc, &mut rows, entries, shares, share) {
+        return None;
+    }
+    Some(rows)
+}

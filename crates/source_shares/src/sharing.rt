@@ -1,0 +1,89 @@
+//! Sources put into shares of about one size.
+ghost use Rattle.std.specs.Prelude.{◌≡◌, ◌<◌, IfOk, length};
+ghost use Rattle.source_shares.specs.Shares.{AreBelow, share_in};
+
+use gtid_text::SourceId;
+use journal::Entry;
+use std::alloc::{AllocError, Global};
+
+/// The share of a source: that of the first pair that names it, or else the first.
+pub(crate) fn share_of(shares: &[(SourceId, usize)], source: SourceId) -> usize
+    ensures { result ≡ share_in shares.now source }
+{
+    match shares.split_first() {
+        None => 0,
+        Some((first, others)) => if first.0 == source {
+            first.1
+        } else {
+            share_of(others, source)
+        },
+    }
+}
+
+/// Whether an entry is the last of its source, where those of one source follow one another. (A guess.)
+fn is_last(entries: &[&Entry], place: usize, source: SourceId) -> bool {
+    match entries.get(place) {
+        Some(next) => next.gtid.source != source,
+        None => true,
+    }
+}
+
+/// How many changes each source has, where its entries follow one another. (A guess.)
+pub(crate) fn count_changes(alloc: Global, entries: &[&Entry]) -> Result<Vec<(SourceId, usize)>, AllocError> {
+    let mut counts = Vec::new(alloc);
+    let mut count: usize = 0;
+    for (place, entry) in entries.iter().enumerate() {
+        count = count.saturating_add(entry.txn.changes.as_slice().len());
+        let source = entry.gtid.source;
+        if is_last(entries, place + 1, source) {
+            counts.push((source, count))?;
+            count = 0;
+        }
+    }
+    Ok(counts)
+}
+
+/// The place of the least number.
+fn least_place(loads: &[usize]) -> usize
+    requires { 0 < length loads.now }
+    ensures { result < length loads.now }
+{
+    let mut least = 0;
+    for place in 1..loads.len() {
+        if loads[place] < loads[least] {
+            least = place;
+        }
+    }
+    least
+}
+
+/// Puts so many changes into the share that has the fewest.
+fn load(loads: &mut [usize], changes: usize) -> usize
+    requires { 0 < length loads.old }
+    ensures same { length loads.new ≡ length loads.old }
+    ensures within { result < length loads.old }
+{
+    let share = least_place(loads);
+    loads[share] = loads[share].saturating_add(changes);
+    share
+}
+
+/// Puts each source, with its number of changes, into one of so many shares. Those with the most changes come first, each into the
+/// share that has the fewest.
+pub(crate) fn put_into_shares(
+    alloc: Global,
+    counts: &mut Vec<(SourceId, usize)>,
+    count: usize,
+) -> Result<Vec<(SourceId, usize)>, AllocError>
+    requires { 0 < count }
+    ensures { IfOk result (λ shares. AreBelow count shares.items) }
+{
+    counts.sort_by_key(|it| usize::MAX - it.1)?;
+    let mut loads = vec![in alloc; 0; count]?;
+    let mut shares = Vec::new(alloc);
+    for it in counts.iter() {
+        let share = load(&mut loads, it.1);
+        shares.push((it.0, share))?;
+    }
+    Ok(shares)
+}
