@@ -16,6 +16,7 @@ use Rattle.ordered_history.proofs.Merging.{got}
 use Rattle.ordered_history.proofs.Closing.{is_ok_of}
 use Rattle.source_history.specs.World.{World, Entry, content, apply_all, rows_of, of_source, AreKeysSound, IsSound}
 use Rattle.source_history.specs.Laws.{AloneOrTogether}
+use Rattle.source_history.specs.Shares.{of_sources}
 use Rattle.source_history.proofs.Entries.{AreFound, found, apart_sources}
 
 -- Each source's transactions share no key with another's.
@@ -88,14 +89,18 @@ sources_apart world sound (e ∷ es) h = (
   sources_apart world sound es h.1,
 )
 
--- the transactions of one source, of a list: those that are left out are another's
-pub source_closed : (world : World) → AreKeysSound world → (s : ℕ) (es : List Entry) → AreFound world es → IsClosedIn world.schema (of_source s) es
-source_closed world sound s [] h = tt
-source_closed world sound s (e ∷ es) h = (
-  λ n. all_map (λ f. content world f.0 ≡ Some f.1) (λ f. of_source s f.0 ≡ true → AreApart world.schema e.1 f.1) es
-      (λ f k y. apart_sources world sound e.0 f.0 e.1 f.1 h.0 k (λ same. not_both (of_source s e.0) (ap (eqb s) same ∙ y) n)) h.1,
-  source_closed world sound s es h.1,
+-- the transactions of some sources, of a list: those that are left out are other sources'
+pub sources_closed : (world : World) → AreKeysSound world → (p : ℕ → Bool) (es : List Entry) → AreFound world es → IsClosedIn world.schema (of_sources p) es
+sources_closed world sound p [] h = tt
+sources_closed world sound p (e ∷ es) h = (
+  λ n. all_map (λ f. content world f.0 ≡ Some f.1) (λ f. of_sources p f.0 ≡ true → AreApart world.schema e.1 f.1) es
+      (λ f k y. apart_sources world sound e.0 f.0 e.1 f.1 h.0 k (λ same. not_both (of_sources p e.0) (ap p same ∙ y) n)) h.1,
+  sources_closed world sound p es h.1,
 )
+
+-- the same of one source
+pub source_closed : (world : World) → AreKeysSound world → (s : ℕ) (es : List Entry) → AreFound world es → IsClosedIn world.schema (of_source s) es
+source_closed world sound s es h = sources_closed world sound (eqb s) es h
 
 agrees_itself : (schema : List Table) (rows : Rows) (s : ℕ) (es : List Entry) → AllByRecursion (λ e. of_source s e.0 ≡ true → AgreeOn (touches schema e.1) rows rows) es
 agrees_itself schema rows s [] = tt

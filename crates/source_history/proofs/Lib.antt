@@ -3,6 +3,7 @@ pub mod Gtids
 pub mod Framing
 pub mod Entries
 pub mod Alone
+pub mod Shares
 pub mod Writing
 pub mod Closing
 pub mod Fronts

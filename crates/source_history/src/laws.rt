@@ -3,6 +3,7 @@
 ghost use Rattle.source_history.specs.Join.{JoinLaws};
 ghost use Rattle.source_history.specs.SmallWorld.{SoundWorldsExist};
 ghost use Rattle.source_history.specs.InOrder.{SourcesAreAnOrder};
+ghost use Rattle.source_history.specs.Shares.{SharesJoin};
 ghost use Rattle.source_history.specs.Laws.{UntouchedStays, TouchedDecides, ApartCommute, CommitOrderIsFree, CommitOrdersAgree, LateCommit, EarlyCommit, OpeningIsClosed, ClosedSetsApply, AloneOrTogether, RowIsOfLastWriter, RowsAreCarriers, ClosedUnderUnion, ClosedUnderIntersection, ClosedSetsAreALattice};
 
 /// A transaction leaves what is stored under the keys that it does not touch.
@@ -59,6 +60,12 @@ pub fn closed_sets_apply()
 /// alone. Only the keys need be sound.
 pub fn alone_or_together()
     ensures { AloneOrTogether }
+{}
+
+/// Where the keys are sound, shares of the sources that are applied each to the opening rows, without
+/// the others, change different keys, and joined they are the rows of all.
+pub fn shares_join()
+    ensures { SharesJoin }
 {}
 
 /// Under each key is the row that its last writer left. Only the keys need be sound.
