@@ -1,6 +1,7 @@
 //! Rows that came from the same opening rows and changed under different keys are joined.
 ghost use Rattle.std.specs.Prelude.{◌≡◌, Some, OnOk, IfOk};
 ghost use Rattle.std.specs.FinMap as map;
+ghost use Rattle.std.specs.Option.{option_copied};
 ghost use Rattle.rows.specs.JoinSteps.{unless_kept, without_deleted, if_changed, with_changed};
 ghost use Rattle.rows.specs.Joining.{IsJoined};
 ghost use Rattle.rows.specs.Patch.{same_row};
@@ -12,24 +13,41 @@ use indexmap::IndexMap;
 use row_images::Row;
 use std::alloc::AllocError;
 
+/// The row that carries a key. It is looked for at this place first, for rows and their copy have most keys at the same places.
+fn carrier_near<'a>(carriers: &'a IndexMap<Key, Row>, place: usize, key: &Key) -> Option<&'a Row>
+    ensures { option_copied result ≡ map.get (rows_in carriers.now.entries) key.now }
+{
+    if let Some((found, row)) = carriers.get_index(place) {
+        if *found == *key {
+            return Some(row);
+        }
+    }
+    carrier(carriers, key)
+}
+
 /// Whether the opening rows have this row under this key. Where there are none, no hash is computed.
-fn was_there(opening: &IndexMap<Key, Row>, key: &Key, row: &Row) -> bool
+fn was_there(opening: &IndexMap<Key, Row>, place: usize, key: &Key, row: &Row) -> bool
     ensures { result ≡ same_row (map.get (rows_in opening.now.entries) key.now) (Some row.now) }
 {
     if opening.is_empty() {
         return false;
     }
-    match carrier(opening, key) {
+    match carrier_near(opening, place, key) {
         Some(found) => *found == *row,
         None => false,
     }
 }
 
 /// Takes away what is stored under a key, unless the other rows have a row there.
-fn remove_unless_kept(carriers: &mut IndexMap<Key, Row>, other: &IndexMap<Key, Row>, key: &Key)
+fn remove_unless_kept(
+    carriers: &mut IndexMap<Key, Row>,
+    other: &IndexMap<Key, Row>,
+    place: usize,
+    key: &Key,
+)
     ensures { rows_in carriers.new.entries ≡ unless_kept (rows_in other.now.entries) key.now (rows_in carriers.old.entries) }
 {
-    if carrier(other, key).is_some() {
+    if carrier_near(other, place, key).is_some() {
         return;
     }
     carriers.swap_remove(key);
@@ -43,8 +61,10 @@ fn remove_deleted(
 )
     ensures { rows_in carriers.new.entries ≡ without_deleted opening.now.entries (rows_in other.now.entries) (rows_in carriers.old.entries) }
 {
+    let mut place = 0;
     for (key, _row) in opening.iter() {
-        remove_unless_kept(carriers, other, key);
+        remove_unless_kept(carriers, other, place, key);
+        place = place.wrapping_add(1);
     }
 }
 
@@ -52,12 +72,13 @@ fn remove_deleted(
 fn put_if_changed(
     carriers: &mut IndexMap<Key, Row>,
     opening: &IndexMap<Key, Row>,
+    place: usize,
     key: Key,
     row: Row,
 ) -> Result<(), AllocError>
     ensures { OnOk result (rows_in carriers.new.entries ≡ if_changed (rows_in opening.now.entries) key row (rows_in carriers.old.entries)) }
 {
-    if was_there(opening, &key, &row) {
+    if was_there(opening, place, &key, &row) {
         return Ok(());
     }
     match carriers.insert(key, row) {
@@ -74,8 +95,10 @@ fn put_changed(
 ) -> Result<(), AllocError>
     ensures { OnOk result (rows_in carriers.new.entries ≡ with_changed (rows_in opening.now.entries) other.entries (rows_in carriers.old.entries)) }
 {
+    let mut place = 0;
     for (key, row) in other {
-        put_if_changed(carriers, opening, key, row)?;
+        put_if_changed(carriers, opening, place, key, row)?;
+        place = place.wrapping_add(1);
     }
     Ok(())
 }
