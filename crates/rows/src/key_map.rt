@@ -5,6 +5,7 @@ ghost use Rattle.std.specs.Option.{option_copied};
 ghost use Rattle.std.specs.FinMap as map;
 ghost use Rattle.rows.specs.Apply.{first_taken, first_row, with_row, without_keys, insert_row, delete_row, apply_change, apply_from};
 ghost use Rattle.rows.specs.declared.change.Change.TheVariants.{Update};
+ghost use Rattle.rows.specs.Joining.{IsJoined};
 ghost use Rattle.rows.specs.Keys.{carried_keys};
 ghost use Rattle.rows.specs.Listing.{rows_listed};
 ghost use Rattle.rows.specs.Making.{IsPut, update_row};
@@ -13,6 +14,7 @@ ghost use Rattle.rows.specs.Refusal.{Refuses};
 
 use crate::change::{Change, Key, PrepareFault, RowFault, TableRow};
 use crate::in_place::make_all_in_place;
+use crate::joining::join;
 use crate::keys::{carried_keys, keeps_keys};
 use crate::listing::list_primary;
 use crate::making::Making;
@@ -120,6 +122,17 @@ impl KeyMap {
         ensures { self.new ≡ map.remove self.old key.now }
     {
         self.carriers.swap_remove(key);
+    }
+
+    /// These rows with what others changed since the opening rows, from which both came.
+    pub(crate) fn joined(self, opening: &KeyMap, other: KeyMap) -> Result<KeyMap, AllocError>
+        ensures { IfOk result (λ joined. IsJoined opening.now self other joined) }
+    {
+        let KeyMap { carriers } = self;
+        let KeyMap { carriers: others } = other;
+        let mut carriers = carriers;
+        join(&mut carriers, &opening.carriers, others)?;
+        Ok(KeyMap { carriers })
     }
 
     /// Puts a row under each of these keys, or under none.

@@ -6,6 +6,7 @@ ghost use Rattle.std.specs.Option.{option_copied};
 ghost use Rattle.std.specs.FinMap as map;
 ghost use Rattle.rows.specs.Apply.{apply};
 ghost use Rattle.rows.specs.Fits.{misfit, Fits};
+ghost use Rattle.rows.specs.Joining.{ChangedApart, IsJoined};
 ghost use Rattle.rows.specs.Listing.{rows_listed};
 ghost use Rattle.rows.specs.Patch.{seen_of_keys};
 ghost use Rattle.rows.specs.Prepared.{IsStillTrue};
@@ -124,6 +125,25 @@ impl Rows {
     {
         let schema = self.schema.clone()?;
         let carriers = self.carriers.copy()?;
+        Ok(Rows { schema, carriers })
+    }
+
+    /// The rows of both, which came from the same opening rows and changed under different keys. Under each key is what the one has that
+    /// changed there, be it none, and else what there was from the start. The rows of the one are kept, and those of the other move over:
+    /// no row is copied. Where there were no opening rows, each row of the other is put, and nothing is looked up.
+    pub fn joined(self, opening: &Rows, other: Rows) -> Result<Rows, AllocError>
+        requires schema { other.schema ≡ self.schema }
+        requires opening { opening.now.schema ≡ self.schema }
+        requires apart { ChangedApart opening.now.rows self.rows other.rows }
+        ensures schema { IfOk result (λ joined. joined.schema ≡ self.schema) }
+        ensures joined { IfOk result (λ joined. IsJoined opening.now.rows self.rows other.rows joined.rows) }
+    {
+        let Rows { schema, carriers } = self;
+        let Rows {
+            schema: _schema,
+            carriers: others,
+        } = other;
+        let carriers = carriers.joined(&opening.carriers, others)?;
         Ok(Rows { schema, carriers })
     }
 
