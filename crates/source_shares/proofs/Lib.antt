@@ -1,1 +1,3 @@
 pub mod Unions
+pub mod Merging
+pub mod Joining

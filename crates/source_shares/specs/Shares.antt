@@ -1,7 +1,9 @@
 -- Sources put into shares.
-use Rattle.std.specs.Prelude.{◌≡◌, ◌==◌, ◌<◌, ℕ, Bool, List, [], ◌∷◌, if◌then◌else◌, map}
+use Rattle.std.specs.Prelude.{◌≡◌, ◌==◌, ◌<◌, ℕ, Bool, List, [], ◌∷◌, Option, Some, IfSome, Ok, if◌then◌else◌, map, slice_get}
 use Rattle.std.specs.List.{filter, AllByRecursion}
 use Rattle.journal.specs.declared.Entry.{Entry}
+use Rattle.rows.specs.Database.{Database}
+use Rattle.source_history.specs.World.{apply_all}
 use Rattle.source_history.specs.World as history
 use Rattle.audit.specs.Contents.{as_pair}
 
@@ -21,3 +23,12 @@ of_share pairs share entries = filter (λ (e : history.Entry). is_in_share pairs
 -- there are more shares than each of these
 abbrev pub AreBelow : ℕ → List (ℕ × ℕ) → Type 0
 AreBelow count pairs = AllByRecursion (λ (p : ℕ × ℕ). p.1 < count) pairs
+
+-- the rows after the transactions of a share, if they were found
+abbrev pub IsApplied : Database → List (ℕ × ℕ) → List Entry → ℕ → Option Database → Type 0
+IsApplied start pairs entries share found =
+    IfSome found (λ (d : Database). (d.schema ≡ start.schema) × (apply_all start.schema (of_share pairs share entries) start.rows ≡ Ok d.rows))
+
+-- those of each share
+abbrev pub AreApplied : Database → List (ℕ × ℕ) → List Entry → List (Option Database) → Type 0
+AreApplied start pairs entries parts = (i : ℕ) (found : Option Database) → slice_get parts i ≡ Some found → IsApplied start pairs entries i found

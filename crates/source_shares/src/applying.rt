@@ -1,8 +1,8 @@
 //! One share of the sources, applied.
-ghost use Rattle.std.specs.Prelude.{◌≡◌, ◌==◌, IfSome, Ok, map, true};
+ghost use Rattle.std.specs.Prelude.{◌≡◌, Ok, map, true};
 ghost use Rattle.source_history.specs.World.{apply_all};
 ghost use Rattle.audit.specs.Worlds.{AllFit};
-ghost use Rattle.source_shares.specs.Shares.{is_in_share, of_share};
+ghost use Rattle.source_shares.specs.Shares.{IsApplied, is_in_share, of_share};
 
 use crate::sharing::share_of;
 use gtid_text::SourceId;
@@ -54,8 +54,9 @@ fn apply_each(
         if !turn.own {
             continue;
         }
-        if rows.apply_fitting(alloc, &entry.txn).is_err() {
-            return false;
+        match rows.apply_fitting(alloc, &entry.txn) {
+            Ok(()) => {}
+            Err(_) => return false,
         }
     }
     true
@@ -70,8 +71,7 @@ pub(crate) fn apply_share(
     share: usize,
 ) -> Option<Rows>
     requires { AllFit opening.now.schema (map (λ e. e.now) entries.now) }
-    ensures schema { IfSome result (λ rows. rows.schema ≡ opening.now.schema) }
-    ensures applied { IfSome result (λ rows. apply_all opening.now.schema (of_share shares.now share (map (λ e. e.now) entries.now)) opening.now.rows ≡ Ok rows.rows) }
+    ensures { IsApplied opening.now shares.now (map (λ e. e.now) entries.now) share result }
 {
     let Ok(mut rows) = opening.copy() else {
         return None;

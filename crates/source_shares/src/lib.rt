@@ -14,8 +14,8 @@
 
 mod applying;
 mod executing;
-// mod joining;
-// mod merging;
+mod joining;
+mod merging;
 mod sharing;
 
-// pub use merging::{Merged, merge_by_shares};
+pub use merging::{Merged, merge_by_shares};

@@ -1,0 +1,143 @@
+-- The rows of shares, joined, are those of all journals together.
+use Rattle.std.proofs.Common.{◌≡◌, ℕ, zero, suc, ◌<◌, ◌+◌, ◌==◌, Bool, true, false, cond, ◌&&◌, inl, inr, List, [], ◌∷◌, length, map, Option, Some, None, Ok, refl, sym, ap, ◌∙◌, subst, arith}
+use Rattle.std.specs.Prelude.{slice_get, is_some, IsOk}
+use Rattle.std.specs.List.{filter, list_all, AllByRecursion}
+use Rattle.std.specs.Option.{unwrap_or}
+use Rattle.std.specs.FinMap as finmap
+use Rattle.std.specs.FinSet as set
+use Rattle.std.proofs.lemmas.Bool.{and_parts, or_cases, or_left, or_right}
+use Rattle.gtid_text.specs.declared.Gtid.{Gtid}
+use Rattle.gtid_text.proofs.SameGtid.{gtid_total}
+use Rattle.gtid_set.specs.Sets.{Gtids}
+use Rattle.rows.specs.Apply.{Rows}
+use Rattle.rows.specs.Database.{Database}
+use Rattle.journal.specs.declared.Entry.{Entry}
+use Rattle.journal.specs.Journals.{JournalValue, whole}
+use Rattle.ordered_history.proofs.Placing.{all_map}
+use Rattle.ordered_history.proofs.Closing.{is_ok_of}
+use Rattle.ordered_history.proofs.Merging.{got}
+use Rattle.ordered_journals.proofs.Covering.{is_entry, entries_append, in_whole}
+use Rattle.ordered_replicas.specs.Deciding.{all_of}
+use Rattle.source_history.specs.World.{World, content, apply_all, entries_in, rows_of, AreKeysSound, IsSound}
+use Rattle.source_history.specs.World as history
+use Rattle.source_history.specs.Shares.{HoldsShare, of_sources}
+use Rattle.source_history.proofs.Entries.{AreFound, found}
+use Rattle.source_history.proofs.Shares.{shares_join}
+use Rattle.world.specs.declared.verdict.Verdict.TheVariants.{Sound}
+use Rattle.world.specs.Audit.{all_entries, does_not_apply, first_contents, found_in_keys, verdict, verdict_of_keys, world_of}
+use Rattle.world.specs.Meaning.{AreJournals}
+use Rattle.world.specs.Search.{or_next}
+use Rattle.world.proofs.Contents.{contents_entry}
+use Rattle.world.proofs.Finding.{none_next}
+use Rattle.world.proofs.Meanings.{keys_not, keys_sound_mean, none_of_sound}
+use Rattle.world.proofs.Saying.{applies_none}
+use Rattle.audit.specs.Contents.{as_pair, in_order}
+use Rattle.audit.proofs.Made.{pairs_of}
+use Rattle.source_shares.specs.Merging.{AreMerged, AreShares}
+use Rattle.source_shares.specs.Shares.{AreApplied, AreBelow, IsApplied, is_in_share, of_share, share_in}
+
+-- ---- lists
+
+keeps_all_by : (e : history.Entry) (F es : List history.Entry) (b : Bool) → b ≡ true → F ≡ es → cond b (e ∷ F) F ≡ e ∷ es
+keeps_all_by e F es true h f = ap (λ (zs : List history.Entry). e ∷ zs) f
+keeps_all_by e F es false h f = cc
+
+-- where each passes, nothing is lost
+keeps_all : (p : history.Entry → Bool) (es : List history.Entry) → AllByRecursion (λ (e : history.Entry). p e ≡ true) es → filter p es ≡ es
+keeps_all p [] h = refl
+keeps_all p (e ∷ es) h = keeps_all_by e (filter p es) es (p e) h.0 (keeps_all p es h.1)
+
+-- each is below
+pub share_below : (count : ℕ) (pairs : List (ℕ × ℕ)) → 0 < count → AreBelow count pairs → (source : ℕ) → share_in pairs source < count
+share_below count [] some are source = some
+share_below count ((named, share) ∷ pairs) some are source = by (named == source)
+  where
+    by : (b : Bool) → cond b share (share_in pairs source) < count
+    by true = are.0
+    by false = share_below count pairs some are.1 source
+
+some_by : (o : Option Database) → is_some o ≡ true → (d : Database) × (o ≡ Some d)
+some_by (Some d) h = (d, refl)
+some_by None h = cc
+
+there_at : (parts : List (Option Database)) (i : ℕ) → list_all is_some parts ≡ true → i < length parts → (d : Database) × (slice_get parts i ≡ Some (Some d))
+there_at [] i all within = absurd (omega arith)
+there_at (p ∷ parts) zero all within = let d = some_by p (and_parts (is_some p) (list_all is_some parts) all).0 in (d.0, ap Some d.1)
+there_at (p ∷ parts) (suc i) all within = there_at parts i (and_parts (is_some p) (list_all is_some parts) all).1 (omega arith)
+
+-- ---- what journals have a record of is in their union
+
+recorded_in : (opened : Gtids) (js : List JournalValue) (g : Gtid) → is_entry (all_entries js) g ≡ true → set.contains (all_of opened js) g ≡ true
+recorded_in opened [] g h = cc
+recorded_in opened (j ∷ js) g h =
+    set.contains-union gtid_total (whole j) (all_of opened js) g
+    ∙ elim (or_cases (is_entry j.entries g) (is_entry (all_entries js) g) (sym (entries_append j.entries (all_entries js) g) ∙ h)) [
+      | inl here ↦ or_left (set.contains (whole j) g) (set.contains (all_of opened js) g) (in_whole j g ∙ or_right (set.contains j.previous g) (is_entry j.entries g) here)
+      | inr later ↦ or_right (set.contains (whole j) g) (set.contains (all_of opened js) g) (recorded_in opened js g later)
+    ]
+
+-- ---- the shares
+
+module _ (start : Database) (opened : Gtids) (journals : List JournalValue) (are : AreJournals journals) where
+  abbrev w : World
+  w = world_of start.schema opened start.rows journals
+
+  module _ (said : verdict_of_keys w journals ≡ Sound) where
+    keys : AreKeysSound w
+    keys = (keys_sound_mean start.schema opened start.rows journals are said).0
+
+    sound_verdict : IsSound w → verdict w journals ≡ Sound
+    sound_verdict sound =
+        ap (λ o. unwrap_or o Sound)
+        (none_next (found_in_keys w journals) (does_not_apply w) (none_of_sound (found_in_keys w journals) (keys_not w journals) said) (applies_none w sound.alone))
+
+    all_recorded : AllByRecursion (λ (e : history.Entry). set.contains (all_of opened journals) e.0 ≡ true) (finmap.entries w.contents)
+    all_recorded = all_map (λ e. content w e.0 ≡ Some e.1) (λ e. set.contains (all_of opened journals) e.0 ≡ true) (finmap.entries w.contents)
+        (λ e h. recorded_in opened journals e.0 (contents_entry opened (all_entries journals) e.0 e.1 h)) (found w)
+
+    all_true : (es : List history.Entry) → AllByRecursion (λ (e : history.Entry). ◌≡◌ {A = Bool} true true) es
+    all_true [] = tt
+    all_true (e ∷ es) = (refl, all_true es)
+
+    -- the rows of the union are those of all
+    union_rows : (end : Rows) → rows_of w (λ g. true) ≡ Ok end → rows_of w (set.contains (all_of opened journals)) ≡ Ok end
+    union_rows end is =
+        ap (λ (es : List history.Entry). apply_all start.schema es start.rows)
+        (keeps_all (λ e. set.contains (all_of opened journals) e.0) (finmap.entries w.contents) all_recorded ∙ sym (keeps_all (λ e. true) (finmap.entries w.contents) (all_true (finmap.entries w.contents))))
+        ∙ is
+
+    module _ (list : List Entry) (listed : list ≡ in_order w.contents) (pairs : List (ℕ × ℕ)) (parts : List (Option Database)) (some : 0 < length parts) (below : AreBelow (length parts) pairs)
+        (applied : AreApplied start pairs list parts) (all : list_all is_some parts ≡ true) where
+      abbrev test : ℕ → ℕ → Bool
+      test i s = share_in pairs s == i
+
+      part_rows : (i : ℕ) (part : Database) → slice_get parts i ≡ Some (Some part) → rows_of w (of_sources (test i)) ≡ Ok part.rows
+      part_rows i part at =
+          ap (λ (es : List history.Entry). apply_all start.schema (filter (λ (e : history.Entry). is_in_share pairs i e.0.source) es) start.rows) (sym (pairs_of list w.contents listed))
+          ∙ (applied i (Some part) at).1
+
+      pub world_sound : IsSound w
+      world_sound = shares_join.sound w (share_in pairs) (length parts) keys (share_below (length parts) pairs some below)
+          (λ i within. let d = there_at parts i all within in is_ok_of (rows_of w (of_sources (test i))) d.0.rows (part_rows i d.0 d.1))
+
+      end : (rows : Rows) × (rows_of w (λ g. true) ≡ Ok rows)
+      end = got (rows_of w (λ g. true)) (shares_join.applies w (λ s. true) world_sound)
+
+      pub shares : AreShares start parts
+      shares = record {
+        world = w;
+        whole = end.0;
+        share = share_in pairs;
+        keys = keys;
+        opened = refl;
+        below = share_below (length parts) pairs some below;
+        each = λ i part at. shares_join.share w end.0 part.rows (test i) keys end.1 (part_rows i part at);
+        schemas = λ i part at. (applied i (Some part) at).0;
+      }
+
+      pub merged : (executed : Gtids) (rows : Database) → executed ≡ all_of opened journals → HoldsShare w end.0 (λ g. true) rows.rows → AreMerged opened start journals executed rows
+      merged executed rows is holds = record {
+        sound = sound_verdict world_sound;
+        executed_by = is;
+        rows_are = union_rows end.0 end.1 ∙ ap Ok (sym (shares_join.whole w end.0 rows.rows end.1 holds));
+      }

@@ -1,0 +1,106 @@
+//! Journals merged by several threads.
+ghost use Rattle.std.specs.Prelude.{◌≡◌, ◌<◌, [], IfOk, IfSome, length, map};
+ghost use Rattle.world.specs.Audit.{all_entries, first_contents};
+ghost use Rattle.audit.specs.Contents.{in_order};
+ghost use Rattle.audit.specs.Worlds.{AllFit};
+ghost use Rattle.source_shares.specs.Merging.{AreMerged};
+ghost use Rattle.source_shares.specs.Shares.{AreApplied, IsApplied};
+
+use crate::applying::apply_share;
+use crate::executing::union_of;
+use crate::joining::{are_all_there, join_all};
+use crate::sharing::{count_changes, put_into_shares};
+use audit::{keep_rules, list_sound};
+use gtid_set::GtidSet;
+use gtid_text::SourceId;
+use journal::{Entry, Journal};
+use rows::Rows;
+use std::alloc::{AllocError, Global};
+use std::thread;
+use std::thread::Threads;
+
+/// What journals together result in: the executed set, and the rows.
+#[derive(Drop)]
+pub struct Merged {
+    pub executed: GtidSet,
+    pub rows: Rows,
+}
+
+/// The rows of each share, applied on a thread of its own where one can be started.
+fn apply_shares<R: Threads + Sync>(
+    rt: &R,
+    alloc: Global,
+    opening: &Rows,
+    entries: &[&Entry],
+    shares: &[(SourceId, usize)],
+    count: usize,
+) -> Result<Vec<Option<Rows>>, AllocError>
+    requires { AllFit opening.now.schema (map (λ e. e.now) entries.now) }
+    ensures count { IfOk result (λ parts. length parts.items ≡ count) }
+    ensures applied { IfOk result (λ parts. AreApplied opening.now shares.now (map (λ e. e.now) entries.now) parts.items) }
+{
+    thread::map_indices(
+        rt,
+        alloc,
+        count,
+        &|share: usize| -> Option<Rows>
+            requires { AllFit opening.now.schema (map (λ e. e.now) entries.now) }
+            ensures { IsApplied opening.entry.now shares.entry.now (map (λ e. e.now) entries.entry.now) share result }
+        { apply_share(alloc, opening, entries, shares, share) },
+    )
+}
+
+/// What `merge_by_shares` gives, where one pass over the journals lists what they bring: the list is empty at first.
+fn merge_listed<'a, R: Threads + Sync>(
+    rt: &R,
+    alloc: Global,
+    list: &mut Vec<&'a Entry>,
+    opened: &GtidSet,
+    rows: &Rows,
+    journals: &'a [Journal],
+    most: usize,
+) -> Option<Merged>
+    requires empty { list.old.items ≡ [] }
+    requires some { 0 < most }
+    requires fitting { AllFit rows.now.schema (in_order (first_contents opened.now (all_entries journals.now))) }
+    ensures { IfSome result (λ merged. AreMerged opened.now rows.now journals.now merged.executed merged.rows) }
+{
+    keep_rules(journals);
+    let Ok(true) = list_sound(alloc, list, opened, rows.schema(), journals) else {
+        return None;
+    };
+    let Ok(mut counts) = count_changes(alloc, list) else {
+        return None;
+    };
+    let count = counts.len().clamp(1, most);
+    let Ok(shares) = put_into_shares(alloc, &mut counts, count) else {
+        return None;
+    };
+    let Ok(parts) = apply_shares(rt, alloc, rows, list, &shares, count) else {
+        return None;
+    };
+    if !are_all_there(&parts) {
+        return None;
+    }
+    let rows = join_all(rows, parts)?;
+    let executed = union_of(alloc, opened, journals)?;
+    Some(Merged { executed, rows })
+}
+
+/// What journals together result in, where the audit of them is Sound and one pass over them shows that their keys are: the executed set
+/// of all of them, and its rows. So many threads at most apply them. The schema takes each transaction beyond the opening set.
+pub fn merge_by_shares<R: Threads + Sync>(
+    rt: &R,
+    alloc: Global,
+    opened: &GtidSet,
+    rows: &Rows,
+    journals: &[Journal],
+    most: usize,
+) -> Option<Merged>
+    requires some { 0 < most }
+    requires fitting { AllFit rows.now.schema (in_order (first_contents opened.now (all_entries journals.now))) }
+    ensures { IfSome result (λ merged. AreMerged opened.now rows.now journals.now merged.executed merged.rows) }
+{
+    let mut list = Vec::new(alloc);
+    merge_listed(rt, alloc, &mut list, opened, rows, journals, most)
+}
