@@ -31,11 +31,7 @@ fn have_previous(opened: &GtidSet, journals: &[Journal]) -> bool
 }
 
 /// Whether journals begin within the opening set and are found to be in order.
-fn begin_in_order(
-    alloc: Global,
-    opened: &GtidSet,
-    journals: &[Journal],
-) -> Result<bool, AllocError>
+fn begin_in_order(alloc: Global, opened: &GtidSet, journals: &[Journal]) -> Result<bool, AllocError>
     ensures within { IfOk result (λ yes. yes ≡ true → list_all (λ j. set.is_subset j.previous opened.now) journals.now ≡ true) }
     ensures ordered { IfOk result (λ yes. yes ≡ true → AreInOrder opened.now journals.now) }
 {
