@@ -28,6 +28,12 @@ use Rattle.gtid_set.specs.Sets.{Gtids}
 use Rattle.gtid_set.proofs.SetLemmas.{gtid_tied}
 use Rattle.rows.proofs.Lists.{none_some}
 
+-- options that give the same
+pub same_options : (o p : Option Transaction) → ((t : Transaction) → o ≡ Some t → p ≡ Some t) → ((t : Transaction) → p ≡ Some t → o ≡ Some t) → o ≡ p
+same_options None None f b = refl
+same_options (Some x) p f b = sym (f x refl)
+same_options None (Some y) f b = b y refl
+
 -- ---- what is the world's, whatever came first
 
 module _ (opened : Gtids) (m : Contents) where
@@ -50,11 +56,6 @@ module _ (opened : Gtids) (m : Contents) where
   first_known (e ∷ es) known g t h =
       known_by e (finmap.get (first_contents opened es) g) g t (finset.contains opened e.gtid) (same_gtid g e.gtid) refl (known 0 e refl) (first_known es (λ k x. known (suc k) x) g t)
       (sym (get_more e es g (finset.contains opened e.gtid)) ∙ h)
-
-  same_options : (o p : Option Transaction) → ((t : Transaction) → o ≡ Some t → p ≡ Some t) → ((t : Transaction) → p ≡ Some t → o ≡ Some t) → o ≡ p
-  same_options None None f b = refl
-  same_options (Some x) p f b = sym (f x refl)
-  same_options None (Some y) f b = b y refl
 
   pub firsts_are : (es : List Entry) → AreKnown es → AreAllIn m es → ((g : Gtid) (t : Transaction) → finmap.get m g ≡ Some t → finset.contains opened g ≡ false) → m ≡ first_contents opened es
   firsts_are es known all outside = same_map gtid_total gtid_exact m (first_contents opened es) (λ g.

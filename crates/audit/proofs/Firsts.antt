@@ -120,16 +120,21 @@ all_above : (g h : Gtid) (gs : List Gtid) → gtid_cmp g h ≡ Less → AllByRec
 all_above g h [] l a = tt
 all_above g h (x ∷ gs) l a = (gtid_total.trans g h x l a.0, all_above g h gs l a.1)
 
-pub adjacent_rise : (es : List Entry) → AllAdjacentBelow (λ a b. true ≡ less a b) es (length es) → IsAscending es
-unfolding IsStrictlySortedBy
-adjacent_rise [] h = tt
-adjacent_rise (e ∷ []) h = (tt, tt)
-adjacent_rise (e ∷ f ∷ es) h =
-    let first : gtid_cmp e.gtid f.gtid ≡ Less = less_is (gtid_cmp e.gtid f.gtid) (h 0 e (omega arith)) in
-    let rest = adjacent_rise (f ∷ es) (λ k d within.
-    let next : suc k + 1 ≡ suc (k + 1) = omega arith in
-    subst (λ (n : ℕ). true ≡ less (get_or (f ∷ es) k d) (get_or (e ∷ f ∷ es) n d)) next (h (suc k) d (omega arith))) in
-    ((first, all_above e.gtid f.gtid (map gtid_of es) first rest.0), rest)
+module _ {X : Type 0} (f : X → Entry) where
+  pub adjacent_rise : (xs : List X) → AllAdjacentBelow (λ a b. true ≡ less (f a) (f b)) xs (length xs) → IsAscending (map f xs)
+  unfolding IsStrictlySortedBy
+  adjacent_rise [] h = tt
+  adjacent_rise (x ∷ []) h = (tt, tt)
+  adjacent_rise (x ∷ y ∷ xs) h =
+      let first : gtid_cmp (f x).gtid (f y).gtid ≡ Less = less_is (gtid_cmp (f x).gtid (f y).gtid) (h 0 x (omega arith)) in
+      let rest = adjacent_rise (y ∷ xs) (λ k d within.
+      let next : suc k + 1 ≡ suc (k + 1) = omega arith in
+      subst (λ (n : ℕ). true ≡ less (f (get_or (y ∷ xs) k d)) (f (get_or (x ∷ y ∷ xs) n d))) next (h (suc k) d (omega arith))) in
+      ((first, all_above (f x).gtid (f y).gtid (map gtid_of (map f xs)) first rest.0), rest)
+
+pub each_itself : (es : List Entry) → map (λ e. e) es ≡ es
+each_itself [] = refl
+each_itself (e ∷ es) = ap (λ rest. e ∷ rest) (each_itself es)
 
 -- ---- in order
 

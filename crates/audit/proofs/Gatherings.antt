@@ -3,7 +3,8 @@ use Rattle.std.proofs.Common.{◌≡◌, ◌<◌, ◌+◌, ℕ, zero, suc, Bool,
 use Rattle.std.proofs.lemmas.List.{append-nil}
 use Rattle.std.specs.Prelude.{slice_get, slice_set, nat_lt}
 use Rattle.std.specs.Option.{option_map_or, unwrap_or}
-use Rattle.std.specs.List.{list_all}
+use Rattle.std.specs.List.{Contains, list_all}
+use Rattle.std.proofs.lemmas.List.Elements.{Contains-append_left, Contains-push}
 use Rattle.std.specs.FinMap as finmap
 use Rattle.std.specs.FinMap.{get-empty, get-insert}
 use Rattle.std.specs.FinSet as set
@@ -30,7 +31,7 @@ use Rattle.ordered_journals.proofs.Lists.{get_push_cases, get_set_cases, get_set
 use Rattle.source_history.specs.World.{World, content, is_opened}
 use Rattle.source_history.specs.World as history
 use Rattle.world.specs.declared.verdict.Verdict.TheVariants.{Unequal, Purged, Shared, Sound}
-use Rattle.world.specs.Audit.{all_entries, first_contents, is_content, is_recorded_in, is_unequal, missing, not_closed, purged, shared, unequal, verdict_of_keys, world_of}
+use Rattle.world.specs.Audit.{all_entries, first_contents, found_in_keys, is_content, is_recorded_in, is_unequal, missing, not_closed, purged, shared, unequal, verdict_of_keys, world_of}
 use Rattle.world.specs.Meaning.{AreJournals}
 use Rattle.world.specs.Search.{or_next}
 use Rattle.world.specs.Equal.{txn_eq}
@@ -38,7 +39,7 @@ use Rattle.world.proofs.Contents.{at_content}
 use Rattle.world.proofs.Finding.{none_first, none_next, none_when, taken}
 use Rattle.world.proofs.Same.{txn_same, txn_self}
 use Rattle.audit.specs.Contents.{Contents}
-use Rattle.audit.specs.Gathering.{AreOwned, AreRuns, HasNoRun, IsGathered, IsListed, IsPut, IsRunAt, Run, begun, longer}
+use Rattle.audit.specs.Gathering.{AgreeApart, AreOwned, AreRuns, HasNoRun, IsGathered, IsListed, IsPut, IsRunAt, Run, begun, longer}
 use Rattle.audit.specs.Marks.{TouchesMarks, key_mark}
 use Rattle.audit.specs.Ordered.{AreInOrder}
 use Rattle.audit.proofs.Bringing.{firsts_are}
@@ -78,6 +79,7 @@ no_runs = record {
   firsts = λ place run h. none_some run h;
   below = λ g t h. none_some t (sym (get-empty gtid_cmp g) ∙ h);
   of_each = λ g t h. none_some t (sym (get-empty gtid_cmp g) ∙ h);
+  listed = λ g t h. none_some t (sym (get-empty gtid_cmp g) ∙ h);
   once = λ i j a b h. none_some a h;
 }
 
@@ -95,6 +97,10 @@ module _ (m : Contents) (runs : List Run) (are : AreRuns m runs) where
         | inr new ↦ let other = are.of_each g t at in absurd (no other.0 other.1.run other.1.there (other.1.own ∙ (sym own ∙ sym (ap (λ (r : Run). r.source) new.1))))
       ];
       of_each = λ g t at. let r = are.of_each g t at in (r.0, record { run = r.1.run; there = get_append_left runs (begun source ∷ []) r.0 r.1.run r.1.there; own = r.1.own });
+      listed = λ g t at place run h own. elim (get_push_cases runs (begun source) place run h) [
+        | inl old ↦ are.listed g t at place run old own
+        | inr new ↦ let other = are.of_each g t at in absurd (no other.0 other.1.run other.1.there (other.1.own ∙ (sym own ∙ sym (ap (λ (r : Run). r.source) new.1))))
+      ];
       once = λ i j a b ha hb same. elim (get_push_cases runs (begun source) i a ha) [
         | inl old ↦ elim (get_push_cases runs (begun source) j b hb) [
           | inl both ↦ are.once i j a b old both same
@@ -161,6 +167,20 @@ module _ (m : Contents) (runs : List Run) (are : AreRuns m runs) where
         of_each = λ g t at. elim (put_cases m e g t at) [
           | inl here ↦ (place, new_run g.source place (record { run = run; there = there; own = own ∙ sym (ap (λ (x : Gtid). x.source) here.0) }))
           | inr old ↦ let r = are.of_each g t old in (r.0, new_run g.source r.0 r.1)
+        ];
+        listed = λ g t at i r h same. elim (put_cases m e g t at) [
+          | inl here ↦ elim (get_set_cases runs place (longer run e) i r h) [
+            | inl now ↦
+                subst (λ (q : Run). Contains q.entries (record { gtid = g; txn = t })) now.1
+                (subst (Contains (run.entries ++ e ∷ [])) (λ k. record { gtid = sym here.0 k; txn = here.1 k }) (Contains-push run.entries e))
+            | inr other ↦ absurd (other.0 (are.once i place r run other.1 there (same ∙ (ap (λ (x : Gtid). x.source) here.0 ∙ sym own))))
+          ]
+          | inr old ↦ elim (get_set_cases runs place (longer run e) i r h) [
+            | inl now ↦
+                subst (λ (q : Run). Contains q.entries (record { gtid = g; txn = t })) now.1
+                (Contains-append_left run.entries (e ∷ []) (record { gtid = g; txn = t }) (are.listed g t old place run there (ap (λ (q : Run). q.source) now.1 ∙ same)))
+            | inr other ↦ are.listed g t old i r other.1 same
+          ]
         ];
         once = λ i j a b ha hb same. let p = old_run i a ha in let q = old_run j b hb in are.once i j p.run q.run p.there q.there (p.own ∙ (same ∙ sym q.own));
       }
@@ -299,7 +319,7 @@ module _ (opened : Gtids) (schema : List Table) (journals : List JournalValue) (
   neither true c h = refl
   neither false c h = ap not (h refl)
 
-  pub gathered_equal : unequal theirs journals ≡ None
+  gathered_equal : unequal theirs journals ≡ None
   gathered_equal = none_first _ journals (λ i j hj. none_first _ j.entries (λ k e he.
       let at = of_entry journals i j k e hj he in
       none_when (is_unequal theirs e) (Unequal e.gtid) (neither (is_opened theirs e.gtid) (is_content theirs e) (λ out.
@@ -313,12 +333,19 @@ module _ (opened : Gtids) (schema : List Table) (journals : List JournalValue) (
   among_at (x ∷ keys) zero key e = or_left (key_eq key x) (is_among keys key) (ap (key_eq key) (same_Some x key e) ∙ key_eq_self key)
   among_at (x ∷ keys) (suc k) key e = or_right (key_eq key x) (is_among keys key) (among_at keys k key e)
 
-  pub gathered_apart : shared theirs ≡ None
+  gathered_apart : shared theirs ≡ None
   gathered_apart = none_first _ (finmap.entries theirs.contents) (λ i h hi. none_first _ (write_set schema h.1) (λ k key hk. none_first _ (finmap.entries theirs.contents) (λ l b hl.
       none_when (nat_lt b.0.source h.0.source && touches schema b.1 key) (Shared b.0 h.0 key) (false_from_ne_true (nat_lt b.0.source h.0.source && touches schema b.1 key) (λ both.
       let p = and_parts (nat_lt b.0.source h.0.source) (touches schema b.1 key) both in
       let same : b.0.source ≡ h.0.source = same_Some b.0.source h.0.source (sym (source_owns l b hl key p.1) ∙ source_owns i h hi key (among_at (write_set schema h.1) k key hk)) in
       not_both (nat_lt b.0.source h.0.source) p.0 (ap (λ n. nat_lt n h.0.source) same ∙ not_less h.0.source))))))
+
+-- what was gathered agrees
+pub gathered_agree : (opened : Gtids) (schema : List Table) (journals : List JournalValue) (runs : List Run) (owner : ℕ → Option ℕ) → IsGathered opened schema (all_entries journals) runs owner → AgreeApart opened schema journals
+gathered_agree opened schema journals runs owner g = record {
+  equal = λ rows. gathered_equal opened schema journals runs owner g rows;
+  apart = λ rows. gathered_apart opened schema journals runs owner g rows;
+}
 
 -- ---- the verdict
 
@@ -327,17 +354,20 @@ passes_at p [] all i j e = none_some j e
 passes_at p (k ∷ js) all zero j e = ap p (sym (same_Some k j e)) ∙ (and_parts (p k) (list_all p js) all).0
 passes_at p (k ∷ js) all (suc i) j e = passes_at p js (and_parts (p k) (list_all p js) all).1 i j e
 
--- where journals are in order, begin before the opening set, agree, and no two sources touch one key, the keys are sound
-pub keys_sound : (schema : List Table) (opened : Gtids) (rows : Rows) (journals : List JournalValue) → AreJournals journals → list_all (λ (j : JournalValue). set.is_subset j.previous opened) journals ≡ true
-    → AreInOrder opened journals → unequal (world_of schema opened rows journals) journals ≡ None → shared (world_of schema opened rows journals) ≡ None
-    → verdict_of_keys (world_of schema opened rows journals) journals ≡ Sound
-keys_sound schema opened rows journals are within ordered equal apart =
+-- where journals are in order, begin before the opening set, agree, and no two sources touch one key, nothing is found in keys
+pub none_in_keys : (schema : List Table) (opened : Gtids) (rows : Rows) (journals : List JournalValue) → AreJournals journals → list_all (λ (j : JournalValue). set.is_subset j.previous opened) journals ≡ true
+    → AreInOrder opened journals → AgreeApart opened schema journals → found_in_keys (world_of schema opened rows journals) journals ≡ None
+none_in_keys schema opened rows journals are within ordered agree =
     let world : World = world_of schema opened rows journals in
     let beyond = firsts_lie_beyond opened journals world.contents are refl in
     let begins : purged world journals ≡ None = none_first _ journals (λ i j hj.
     none_when (not (set.is_subset j.previous opened)) (Purged i (set.difference j.previous opened)) (ap not (passes_at (λ (x : JournalValue). set.is_subset x.previous opened) journals within i j hj))) in
-    ap (λ o. unwrap_or o Sound)
-    (none_next (unequal world journals) (or_next (purged world journals) (or_next (missing world journals) (or_next (shared world) (not_closed world journals)))) equal
+    none_next (unequal world journals) (or_next (purged world journals) (or_next (missing world journals) (or_next (shared world) (not_closed world journals)))) (agree.equal rows)
     (none_next (purged world journals) (or_next (missing world journals) (or_next (shared world) (not_closed world journals))) begins
     (none_next (missing world journals) (or_next (shared world) (not_closed world journals)) (order_misses_none world journals ordered)
-    (none_next (shared world) (not_closed world journals) apart (order_closes world beyond journals ordered)))))
+    (none_next (shared world) (not_closed world journals) (agree.apart rows) (order_closes world beyond journals ordered))))
+
+-- so the keys are sound
+pub keys_sound : (schema : List Table) (opened : Gtids) (rows : Rows) (journals : List JournalValue) → AreJournals journals → list_all (λ (j : JournalValue). set.is_subset j.previous opened) journals ≡ true
+    → AreInOrder opened journals → AgreeApart opened schema journals → verdict_of_keys (world_of schema opened rows journals) journals ≡ Sound
+keys_sound schema opened rows journals are within ordered agree = ap (λ o. unwrap_or o Sound) (none_in_keys schema opened rows journals are within ordered agree)

@@ -22,3 +22,4 @@ pub mod Gapped
 pub mod Refusals
 pub mod MarkLemmas
 pub mod Gatherings
+pub mod Listings

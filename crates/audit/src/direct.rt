@@ -1,20 +1,22 @@
-//! The audit of keys without a world, where one pass finds that nothing is wrong.
-ghost use Rattle.std.specs.Prelude.{◌≡◌, IfOk, IfErr, true};
+//! The audit without a world, where one pass finds that nothing is wrong with keys.
+ghost use Rattle.std.specs.Prelude.{◌≡◌, IfOk, IfErr, IfSome, [], true};
 ghost use Rattle.std.specs.List.{list_all};
 ghost use Rattle.std.specs.FinSet as set;
 ghost use Rattle.rows.specs.Apply as apply;
 ghost use Rattle.world.specs.declared.verdict.Verdict.TheVariants.{Sound};
-ghost use Rattle.world.specs.Audit.{all_entries, first_contents, verdict_of_keys, world_of};
+ghost use Rattle.world.specs.Audit.{all_entries, first_contents, verdict, verdict_of_keys, world_of};
 ghost use Rattle.audit.specs.Contents.{in_order};
 ghost use Rattle.audit.specs.Faults.{IsAuditFault};
+ghost use Rattle.audit.specs.Ordered.{AreInOrder};
 ghost use Rattle.audit.specs.Worlds.{AllFit};
 
-use crate::finding::{audit_keys, keep_rules};
-use crate::gathering::agree_apart;
+use crate::finding::{audit, audit_keys, keep_rules};
+use crate::gathering::{agree_apart, list_apart};
+use crate::listed::{are_ascending, verdict_applied};
 use crate::ordered::are_in_order;
 use crate::sources::world_of_fitting;
 use gtid_set::{GtidSet, SetFault};
-use journal::Journal;
+use journal::{Entry, Journal};
 use rows::{Rows, Schema};
 use std::alloc::{AllocError, Global};
 use world::Verdict;
@@ -28,6 +30,17 @@ fn have_previous(opened: &GtidSet, journals: &[Journal]) -> bool
         .all(|journal| journal.previous().is_subset(opened))
 }
 
+/// Whether journals begin within the opening set and are found to be in order.
+fn begin_in_order(alloc: Global, opened: &GtidSet, journals: &[Journal]) -> Result<bool, AllocError>
+    ensures within { IfOk result (λ yes. yes ≡ true → list_all (λ j. set.is_subset j.previous opened.now) journals.now ≡ true) }
+    ensures ordered { IfOk result (λ yes. yes ≡ true → AreInOrder opened.now journals.now) }
+{
+    if !have_previous(opened, journals) {
+        return Ok(false);
+    }
+    are_in_order(alloc, opened, journals)
+}
+
 /// Whether the keys of journals are found to be sound by one pass over them.
 fn are_keys_sound(
     alloc: Global,
@@ -38,10 +51,7 @@ fn are_keys_sound(
     ensures { IfOk result (λ yes. yes ≡ true → (rows : apply.Rows) → verdict_of_keys (world_of schema.now opened.now rows journals.now) journals.now ≡ Sound) }
 {
     keep_rules(journals);
-    if !have_previous(opened, journals) {
-        return Ok(false);
-    }
-    if !are_in_order(alloc, opened, journals)? {
+    if !begin_in_order(alloc, opened, journals)? {
         return Ok(false);
     }
     let sound = agree_apart(alloc, opened, schema, journals)?;
@@ -51,7 +61,7 @@ fn are_keys_sound(
 /// The audit of keys by a world that is made for it.
 #[cold]
 #[inline(never)]
-fn audit_with_world(
+fn audit_keys_with_world(
     alloc: Global,
     opened: &GtidSet,
     rows: &Rows,
@@ -82,6 +92,87 @@ pub fn audit_keys_of(
 {
     if are_keys_sound(alloc, opened, rows.schema(), journals)? {
         return Ok(Verdict::Sound);
+    }
+    audit_keys_with_world(alloc, opened, rows, journals)
+}
+
+/// The verdict on journals that begin within the opening set and are in order, where one pass over them finds their keys to be
+/// sound: what the pass listed is applied once. The list is empty at first.
+fn verdict_listed<'a>(
+    alloc: Global,
+    list: &mut Vec<&'a Entry>,
+    opened: &GtidSet,
+    rows: &Rows,
+    journals: &'a [Journal],
+) -> Result<Option<Verdict>, AllocError>
+    requires empty { list.old.items ≡ [] }
+    requires fitting { AllFit rows.now.schema (in_order (first_contents opened.now (all_entries journals.now))) }
+    requires within { list_all (λ j. set.is_subset j.previous opened.now) journals.now ≡ true }
+    requires ordered { AreInOrder opened.now journals.now }
+    ensures { IfOk result (λ found. IfSome found (λ v. v ≡ verdict (world_of rows.now.schema opened.now rows.now.rows journals.now) journals.now)) }
+{
+    keep_rules(journals);
+    if !list_apart(alloc, list, opened, rows.schema(), journals)? {
+        return Ok(None);
+    }
+    if !are_ascending(list) {
+        return Ok(None);
+    }
+    let found = verdict_applied(alloc, rows, list)?;
+    Ok(Some(found))
+}
+
+/// The verdict on journals, where one pass over them finds their keys to be sound.
+fn verdict_in_one_pass(
+    alloc: Global,
+    opened: &GtidSet,
+    rows: &Rows,
+    journals: &[Journal],
+) -> Result<Option<Verdict>, AllocError>
+    requires { AllFit rows.now.schema (in_order (first_contents opened.now (all_entries journals.now))) }
+    ensures { IfOk result (λ found. IfSome found (λ v. v ≡ verdict (world_of rows.now.schema opened.now rows.now.rows journals.now) journals.now)) }
+{
+    if !begin_in_order(alloc, opened, journals)? {
+        return Ok(None);
+    }
+    let mut list = Vec::new(alloc);
+    verdict_listed(alloc, &mut list, opened, rows, journals)
+}
+
+/// The audit by a world that is made for it.
+#[cold]
+#[inline(never)]
+fn audit_with_world(
+    alloc: Global,
+    opened: &GtidSet,
+    rows: &Rows,
+    journals: &[Journal],
+) -> Result<Verdict, SetFault>
+    requires { AllFit rows.now.schema (in_order (first_contents opened.now (all_entries journals.now))) }
+    ensures found { IfOk result (λ found. found ≡ verdict (world_of rows.now.schema opened.now rows.now.rows journals.now) journals.now) }
+    ensures fault { IfErr result (IsAuditFault opened.now journals.now) }
+{
+    let world = world_of_fitting(alloc, opened, rows, journals)?;
+    let found = audit(alloc, &world, journals);
+    drop(world);
+    found
+}
+
+/// What an audit of journals finds first in their own world over an opening set and rows, whose schema takes each transaction
+/// beyond that set: what `audit` finds in the world that `world_of_fitting` makes. Where one pass over the journals shows that
+/// their keys are sound, no world is made, and what the pass lists is applied once. The faults are those of `audit_keys`.
+pub fn audit_of(
+    alloc: Global,
+    opened: &GtidSet,
+    rows: &Rows,
+    journals: &[Journal],
+) -> Result<Verdict, SetFault>
+    requires { AllFit rows.now.schema (in_order (first_contents opened.now (all_entries journals.now))) }
+    ensures found { IfOk result (λ found. found ≡ verdict (world_of rows.now.schema opened.now rows.now.rows journals.now) journals.now) }
+    ensures fault { IfErr result (IsAuditFault opened.now journals.now) }
+{
+    if let Some(found) = verdict_in_one_pass(alloc, opened, rows, journals)? {
+        return Ok(found);
     }
     audit_with_world(alloc, opened, rows, journals)
 }

@@ -1,14 +1,15 @@
 //! One pass over journals: no two of their transactions under one GTID differ, and no key is touched by two sources.
 ghost use Rattle.std.specs.Prelude.{◌≡◌, ◌<◌, ◌++◌, true, false, List, ◌∷◌, [], map, length, IfOk, IfSome, OnOk, None};
+ghost use Rattle.std.specs.List.Sorted.{IsPermutation};
 ghost use Rattle.std.specs.FinSet as set;
 ghost use Rattle.gtid_text.specs.Gtids.{same_gtid};
 ghost use Rattle.gtid_set.specs.Sets.{Gtids};
-ghost use Rattle.rows.specs.Apply.{Rows};
+ghost use Rattle.rows.specs.declared.schema.Table.{Table};
 ghost use Rattle.rows.specs.WriteSet.{write_set};
 ghost use Rattle.journal.specs.declared.Entry.{Entry};
-ghost use Rattle.world.specs.Audit.{all_entries, shared, unequal, world_of};
+ghost use Rattle.world.specs.Audit.{all_entries, first_contents};
 ghost use Rattle.audit.specs.Contents.{Contents};
-ghost use Rattle.audit.specs.Gathering.{AreRuns, HasNoRun, IsGathered, IsListed, IsPut, IsRunAt, begun, longer};
+ghost use Rattle.audit.specs.Gathering.{AgreeApart, AreListed, AreRuns, HasNoRun, IsGathered, IsListed, IsPut, IsRunAt, begun, entries_of, longer};
 ghost use Rattle.audit.specs.Marks.{TouchesMarks, key_mark, owner_of};
 
 use crate::equal::is_equal;
@@ -104,6 +105,13 @@ impl<'a> Run<'a> {
             Some(first) => is_same(&first.gtid, &entry.gtid) && is_equal(&first.txn, &entry.txn),
             None => false,
         }
+    }
+
+    /// Puts the entries behind a list.
+    fn push_to(&self, list: &mut Vec<&'a Entry>) -> Result<(), AllocError>
+        ensures { OnOk result (map (λ e. e.now) list.new.items ≡ map (λ e. e.now) list.old.items ++ self.now.entries) }
+    {
+        list.extend_from_slice(&self.entries)
     }
 }
 
@@ -289,6 +297,18 @@ fn gather_all<'a>(
     Ok(true)
 }
 
+/// Nothing came yet.
+fn begin<'a>(alloc: Global, owners: Owners) -> Gathering<'a>
+    ensures { (opened : Gtids) (schema : List Table) → IsGathered opened schema [] result.runs.items (owner_of result.owners) }
+{
+    Gathering {
+        runs: Vec::new(alloc),
+        place: 0,
+        owners,
+        marks: Vec::new(alloc),
+    }
+}
+
 /// Whether it is found in one pass that no two transactions of journals under one GTID differ, and that no two sources touch one
 /// key. Nothing is looked for where they have more than 64 sources.
 pub(crate) fn agree_apart(
@@ -297,15 +317,66 @@ pub(crate) fn agree_apart(
     schema: &Schema,
     journals: &[Journal],
 ) -> Result<bool, AllocError>
-    ensures equal { IfOk result (λ yes. yes ≡ true → (rows : Rows) → unequal (world_of schema.now opened.now rows journals.now) journals.now ≡ None) }
-    ensures apart { IfOk result (λ yes. yes ≡ true → (rows : Rows) → shared (world_of schema.now opened.now rows journals.now) ≡ None) }
+    ensures { IfOk result (λ yes. yes ≡ true → AgreeApart opened.now schema.now journals.now) }
 {
     let owners = Owners::for_marks(alloc, usual_keys_of_all(journals))?;
-    let mut state = Gathering {
-        runs: Vec::new(alloc),
-        place: 0,
-        owners,
-        marks: Vec::new(alloc),
-    };
+    let mut state = begin(alloc, owners);
     gather_all(alloc, &mut state, opened, schema, journals)
+}
+
+/// Puts the entries of runs behind a list, run after run.
+fn push_runs<'a>(list: &mut Vec<&'a Entry>, runs: &[Run<'a>]) -> Result<(), AllocError>
+    ensures { OnOk result (map (λ e. e.now) list.new.items ≡ map (λ e. e.now) list.old.items ++ entries_of runs.now) }
+{
+    for run in runs {
+        run.push_to(list)?;
+    }
+    Ok(())
+}
+
+/// Sorts runs by their sources.
+fn sort_runs(runs: &mut Vec<Run<'_>>) -> Result<(), AllocError>
+    ensures { IsPermutation runs.old.items runs.new.items }
+{
+    runs.sort_by_key(|run| run.source)
+}
+
+/// What `list_apart` does, over a state to which nothing came yet.
+fn gather_list<'a>(
+    alloc: Global,
+    state: &mut Gathering<'a>,
+    list: &mut Vec<&'a Entry>,
+    opened: &GtidSet,
+    schema: &Schema,
+    journals: &'a [Journal],
+) -> Result<bool, AllocError>
+    requires begun { IsGathered opened.now schema.now [] state.old.runs.items (owner_of state.old.owners) }
+    requires empty { list.old.items ≡ [] }
+    ensures agree { IfOk result (λ yes. yes ≡ true → AgreeApart opened.now schema.now journals.now) }
+    ensures listed { IfOk result (λ yes. yes ≡ true → AreListed (first_contents opened.now (all_entries journals.now)) (map (λ e. e.now) list.new.items)) }
+{
+    if !gather_all(alloc, state, opened, schema, journals)? {
+        return Ok(false);
+    }
+    sort_runs(&mut state.runs)?;
+    push_runs(list, &state.runs)?;
+    Ok(true)
+}
+
+/// What `agree_apart` finds. Where it is found, the first entry of each GTID beyond the opening set is put into a list that is
+/// empty: sources are ascending in it, and the numbers of each are too.
+pub(crate) fn list_apart<'a>(
+    alloc: Global,
+    list: &mut Vec<&'a Entry>,
+    opened: &GtidSet,
+    schema: &Schema,
+    journals: &'a [Journal],
+) -> Result<bool, AllocError>
+    requires { list.old.items ≡ [] }
+    ensures agree { IfOk result (λ yes. yes ≡ true → AgreeApart opened.now schema.now journals.now) }
+    ensures listed { IfOk result (λ yes. yes ≡ true → AreListed (first_contents opened.now (all_entries journals.now)) (map (λ e. e.now) list.new.items)) }
+{
+    let owners = Owners::for_marks(alloc, usual_keys_of_all(journals))?;
+    let mut state = begin(alloc, owners);
+    gather_list(alloc, &mut state, list, opened, schema, journals)
 }

@@ -5,7 +5,8 @@
 //! (`found`), and `audit_keys` all of it but the application. So the laws of `world` hold of their results. The journals that are
 //! audited may be others than those that the world was made of: Unequal then means that one differs from what the world has.
 //!
-//! `audit_keys_of` gives what `audit_keys` finds in the world of the same journals, and makes no world where that is nothing.
+//! `audit_of` gives what `audit` finds in the world of the same journals, and `audit_keys_of` what `audit_keys` finds. Where nothing is
+//! wrong with keys, mostly neither of them makes a world.
 //!
 //! `audit_all` gives the verdict and, after it, the other GTIDs under which journals differ from the world, the other journals that begin after the
 //! opening set, the other missing GTIDs, the other shared keys, the other GTIDs that are in a journal without the nearest earlier one at
@@ -20,10 +21,12 @@
 //! transactions is found in a journal, for which it marks them, and over a list of what the journals bring where not.
 //! That no key is shared is found by marks (`marks`): a hash of the words of a key's values, which equal keys share, kept with its source
 //! (`owners`), in slots of the marks' lowest bits. Only where two sources touch one mark are keys made and looked for.
-//! `audit_keys_of` goes over journals that are in order once (`gathering`): each first entry of a GTID touches its marks, and each
-//! further one is compared with the first, which is looked for in the run of its source by its number. DoesNotApply is one application of all sources
-//! together, which by `one_pass_applies` names the same transaction. Between two numbers of a source the end of a run of the opening set
-//! is looked up, so that the set's size costs nothing.
+//! `audit_of` and `audit_keys_of` go over journals that are in order once (`gathering`): each first entry of a GTID touches its marks, and
+//! each further one is compared with the first, which is looked for in the run of its source by its number. `audit_of` then puts the runs
+//! one after another into a list of references, sources ascending (`listed`). A list that is not in the order of GTIDs is not used. Where the
+//! pass does not find all that it has to, and where there are more than 64 sources, they make a world.
+//! DoesNotApply is one application of all sources together, which by `one_pass_applies` names the same transaction. Between two numbers
+//! of a source the end of a run of the opening set is looked up, so that the set's size costs nothing.
 //!
 //! Cost, from the code and not proved: n log n in entries at most; the mark of each key is looked for once. Measured: 225,000
 //! transactions a second of 1,000,000. The hash has a fixed seed: whoever writes a journal can make an audit slow, never wrong.
@@ -38,6 +41,7 @@ mod finding;
 mod gaps;
 mod gathering;
 mod laws;
+mod listed;
 mod listing;
 mod marks;
 mod missing;
@@ -56,7 +60,7 @@ mod standing;
 mod touches;
 mod unequal;
 
-pub use direct::audit_keys_of;
+pub use direct::{audit_keys_of, audit_of};
 pub use finding::{audit, audit_gtids, audit_keys, keep_rules};
 pub use laws::faults_are_all;
 pub use listing::{AllFaults, audit_all};

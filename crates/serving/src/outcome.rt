@@ -10,14 +10,13 @@ ghost use Rattle.serving.specs.Servable.{IsFitting, IsServable, can_be_sent, Can
 ghost use Rattle.serving.specs.Serving.{opening, ServesEach, IsServed, IsReady, IsRun, IsApplied};
 ghost use Rattle.serving.specs.declared.receiving.Apply.TheVariants.{Later};
 ghost use Rattle.world.specs.declared.verdict.Verdict.TheVariants.{Sound};
-ghost use Rattle.audit.specs.Faults.{IsAuditFault};
 ghost use Rattle.serving.specs.declared.order.Order.TheVariants.{BySource, ByConflict};
-ghost use Rattle.serving.specs.Verdicts.{is_sound, world_over, verdict_by, keys_over, verdict_over, IsFoundInKeys, IsStateOrVerdict, HasMerged, IsConcluded};
+ghost use Rattle.serving.specs.Verdicts.{is_sound, world_over, keys_over, verdict_over, IsFoundInKeys, IsStateOrVerdict, HasMerged, IsConcluded};
 
 use crate::order::Order;
 use crate::receiving::{Apply, serve_journals};
 use crate::working::finish;
-use audit::{World, audit, audit_keys_of, world_of_fitting};
+use audit::{World, audit_keys_of, audit_of, world_of_fitting};
 use conflict_audit::{audit_in_order, audit_keys_in_order};
 use faithful_runs::{
     served_holds_all, served_holds_all_in_order, workers_decide, workers_decide_in_order,
@@ -74,22 +73,6 @@ pub(crate) fn opening_world(alloc: Global, bundle: &Bundle) -> Result<World, All
     )
 }
 
-/// What the audit that asks for an order finds first in a world and journals.
-fn audit_by(
-    alloc: Global,
-    order: Order,
-    world: &World,
-    journals: &[Journal],
-) -> Result<Verdict, SetFault>
-    ensures found { IfOk result (λ found. found ≡ verdict_by order world.now journals.now) }
-    ensures fault { IfErr result (IsAuditFault world.now.opening_set journals.now) }
-{
-    match order {
-        Order::BySource => audit(alloc, world, journals),
-        Order::ByConflict => audit_in_order(alloc, world, journals),
-    }
-}
-
 /// What the audit of the journals' keys finds first over the opening rows, where sources may share no key. Where that is nothing, no world
 /// is made.
 fn source_keys_verdict(alloc: Global, bundle: &Bundle) -> Result<Verdict, SetFault>
@@ -125,6 +108,29 @@ fn keys_verdict(alloc: Global, bundle: &Bundle, order: Order) -> Result<Verdict,
     }
 }
 
+/// What the audit finds first in a bundle's journals, where sources may share no key. Where one pass shows that the keys are sound, no
+/// world is made.
+fn source_verdict(alloc: Global, bundle: &Bundle) -> Result<Verdict, SetFault>
+    requires { IsFitting bundle.now }
+    ensures found { IfOk result (λ found. found ≡ verdict_over BySource bundle.now) }
+    ensures fault { IfErr result (IsVerdictFault bundle.now) }
+{
+    let opened = bundle.opening_set();
+    audit_of(alloc, opened, bundle.rows(), bundle.journals())
+}
+
+/// What the audit finds first in a bundle's journals, where transactions that share a key are in one order.
+fn conflict_verdict(alloc: Global, bundle: &Bundle) -> Result<Verdict, SetFault>
+    requires { IsFitting bundle.now }
+    ensures found { IfOk result (λ found. found ≡ verdict_over ByConflict bundle.now) }
+    ensures fault { IfErr result (IsVerdictFault bundle.now) }
+{
+    let world = opening_world(alloc, bundle)?;
+    let found = audit_in_order(alloc, &world, bundle.journals());
+    drop(world);
+    found
+}
+
 /// What the audit that asks for an order finds first in a bundle's journals over its opening rows and
 /// opening set. The tables take the transactions, as those of a bundle that was read do. The error is a failed allocation, or `PoolFull`
 /// where the set that the verdict would name has too many intervals.
@@ -133,10 +139,10 @@ pub fn verdict_over(alloc: Global, bundle: &Bundle, order: Order) -> Result<Verd
     ensures found { IfOk result (λ found. found ≡ verdict_over order bundle.now) }
     ensures fault { IfErr result (IsVerdictFault bundle.now) }
 {
-    let world = opening_world(alloc, bundle)?;
-    let found = audit_by(alloc, order, &world, bundle.journals());
-    drop(world);
-    found
+    match order {
+        Order::BySource => source_verdict(alloc, bundle),
+        Order::ByConflict => conflict_verdict(alloc, bundle),
+    }
 }
 
 /// What an audit of the journals' keys finds by an order, where that isn't Sound: the whole audit finds it too.
