@@ -128,9 +128,9 @@ impl Rows {
         Ok(Rows { schema, carriers })
     }
 
-    /// The rows of both, which came from the same opening rows and changed under different keys. Under each key is what the one has that
-    /// changed there, be it none, and else what there was from the start. The rows of the one are kept, and those of the other move over:
-    /// no row is copied. Where there were no opening rows, each row of the other is put, and nothing is looked up.
+    /// The rows of both, which came from the same opening rows and changed under different keys. Under each key is the row, or none, of
+    /// the one that changed there, and else the opening row. The rows of `other` move over and are not copied; where there are no opening
+    /// rows, none is looked for. After a failed allocation both are given up.
     pub fn joined(self, opening: &Rows, other: Rows) -> Result<Rows, AllocError>
         requires schema { other.schema ≡ self.schema }
         requires opening { opening.now.schema ≡ self.schema }
